@@ -1,0 +1,24 @@
+//! The world outside of a charging site: what it tells, what may be done to it, and fakes of it in memory.
+//!
+//! The core of a station or of a car meets the world through three traits: `Wire` (connections, datagrams,
+//! the charger and the clock), `Source` (files that are read) and `Sink` (files that are written). What they
+//! tell is written down in their ghost members, which the contracts of the core speak of.
+#![tactic(auto)]
+
+pub mod entry;
+pub mod failed;
+pub mod heard;
+pub mod numbers;
+pub mod offer;
+pub mod outside;
+pub mod piece;
+pub mod ports;
+
+pub use entry::Entry;
+pub use failed::{Failed, NoMemory};
+pub use heard::{Heard, IsolationLevel, PilotState, PlantEvent, What};
+pub use numbers::Tenths;
+pub use offer::{Dialect, Offer};
+pub use outside::{Sink, Source, Wire};
+pub use piece::Piece;
+pub use ports::{Order, PortPair, Ports};

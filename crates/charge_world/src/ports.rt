@@ -1,0 +1,41 @@
+//! What a site is started with, and what it orders.
+
+use crate::numbers::Tenths;
+use arrayvec::ArrayVec;
+
+/// An order to the charger of a post or to the car's contactor.
+#[derive(Clone, Copy, Debug, PartialEq, Eq)]
+pub enum Order {
+    /// Open the contactor.
+    Open,
+    /// Close the contactor.
+    Close,
+    /// Charge with at most this voltage and current (tenths) and these watts.
+    Limits {
+        voltage: Tenths,
+        current: Tenths,
+        watts: u32,
+    },
+}
+
+/// The ports of one post: TCP for the session and UDP for discovery, 0 for no discovery.
+#[derive(Clone, Copy, Debug, Default, PartialEq, Eq)]
+pub struct PortPair {
+    pub tcp: u16,
+    pub sdp: u16,
+}
+
+/// Where a wire listens, or what a car dials.
+#[derive(Debug, Drop)]
+pub enum Ports {
+    /// A station's posts, in order of number, and the connections that it serves in all.
+    Posts {
+        pairs: ArrayVec<PortPair, 8>,
+        sessions: u32,
+    },
+    /// A car's TCP and discovery ports; with `sdp` 0 it dials its TCP port at once.
+    Car {
+        tcp: u16,
+        sdp: u16,
+    },
+}
