@@ -1,6 +1,6 @@
 -- Own: reading the frame at the front of a stream, field by field. That it is what the frames of the stream are is the
 -- contract of `split`.
-use Rattle.std.specs.Prelude.{◌≡◌, ℕ, ◌+◌, List, length, take, drop, not, ◌==◌, nat_lt, if◌then◌else◌, Option, Some, None, Result, Ok, Err}
+use Rattle.std.specs.Prelude.{◌≡◌, ℕ, zero, suc, ◌+◌, List, length, take, drop, not, ◌==◌, nat_lt, if◌then◌else◌, Option, Some, None, Result, Ok, Err}
 use Rattle.std.specs.Borrow.{Bor}
 use Rattle.byteorder.specs.Endian.{big_number}
 use Rattle.v2gtp_frames.specs.declared.FrameFault.{FrameFault}
@@ -33,3 +33,12 @@ abbrev pub IsNext : List ℕ → Result (Option (Bor (List ℕ))) FrameFault →
 IsNext bytes (Ok (Some p)) = (whole_at bytes ≡ Ok (Some (length p.now))) × (p.now ≡ payload_at (length p.now) bytes)
 IsNext bytes (Ok None) = whole_at bytes ≡ Ok None
 IsNext bytes (Err fault) = whole_at bytes ≡ Err fault
+
+-- what is left of the bytes once the frame at their front is taken
+abbrev pub behind_front : List ℕ → List ℕ
+behind_front bytes = behind (whole_at bytes) bytes
+
+-- what stands behind the first n whole frames
+abbrev pub behind_frames : ℕ → List ℕ → List ℕ
+behind_frames zero bytes = bytes
+behind_frames (suc n) bytes = behind_front (behind_frames n bytes)
