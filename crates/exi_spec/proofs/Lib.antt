@@ -1,2 +1,3 @@
 pub mod BitLaws
 pub mod OctetLaws
+pub mod PlaceLaws
