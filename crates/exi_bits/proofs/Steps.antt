@@ -1,10 +1,10 @@
 -- Facts that several proofs here cite.
 use Rattle.std.proofs.Common.{◌≡◌, ℕ, ◌+◌, ◌-◌, ◌*◌, ◌^◌, ◌<◌, ◌≤◌, Bool, true, false, cond, List, [], ◌∷◌, ◌++◌, length, drop, refl, sym, ap, subst, ◌∙◌, arith, inl, inr, append_assoc, suc}
-use Rattle.std.proofs.lemmas.List.{length-append, length-drop}
+use Rattle.std.proofs.lemmas.List.{length-append, length-drop, append-nil, length_push}
 use Rattle.exi_spec.specs.declared.BitCause.{BitCause}
 use Rattle.exi_spec.specs.declared.BitCause.TheVariants.{ShortInput, WiderInteger}
 use Rattle.exi_spec.specs.Bits.{number_bits}
-use Rattle.exi_spec.specs.Items.{octet, SpellsOctets, RefusesOctets, PassesOctets, IsWideInOctets}
+use Rattle.exi_spec.specs.Items.{octet, SpellsOctets, RefusesOctets, PassesOctets, IsWideInOctets, SpellsChar, SpellsChars, RefusesChar, RefusesChars}
 use Rattle.exi_spec.proofs.BitLaws.{length-number_bits, low_octet, high_octet}
 use Rattle.exi_spec.proofs.OctetLaws.{only_octet, more_octets, short_octet, none_allowed, wide_octets, refused_later}
 use Rattle.exi_bits.specs.Reading.{ItemAt, StandsAt}
@@ -76,3 +76,34 @@ refused_wide most v high place n bits m big range wide there item =
 
 pub refused_short : (most place : ℕ) (bits : List Bool) → 0 < most → length bits < place + 8 → RefusesOctets most (drop place bits) ShortInput
 refused_short most place bits m short = short_octet most (drop place bits) m (omega (arith, length-drop place bits))
+
+-- ---- code points, one behind the others
+
+push_char : (chars : List ℕ) (char : ℕ) (front last : List Bool) → SpellsChars chars front → SpellsChar char last → SpellsChars (chars ++ char ∷ []) (front ++ last)
+push_char [] char front last s one = (last, [], one, refl, ap (λ (l : List Bool). l ++ last) s ∙ sym (append-nil last))
+push_char (first ∷ chars) char front last s one =
+    (s.0, s.1 ++ last, s.2, push_char chars char s.1 last s.3 one, ap (λ (l : List Bool). l ++ last) s.4 ∙ append_assoc s.0 s.1 last)
+
+-- so many code points stand at a bit, and take so many bits
+abbrev pub CharsAt : List Bool → ℕ → ℕ → ℕ → Type 0
+CharsAt bits bit n found = (chars : List ℕ) × (length chars ≡ n) × ItemAt (SpellsChars chars) bits bit found
+
+pub chars_none : (bits : List Bool) (bit : ℕ) → CharsAt bits bit 0 0
+chars_none bits bit = ([], refl, ([], refl, record { long = refl; there = ap (λ (k : ℕ). drop k bits) (let e : bit ≡ bit + 0 = omega arith in e) }))
+
+pub chars_more : (bits : List Bool) (bit n found char more : ℕ) → CharsAt bits bit n found → ItemAt (SpellsChar char) bits (bit + found) more → CharsAt bits bit (n + 1) (found + more)
+chars_more bits bit n found char more c one =
+    let item = c.2 in
+    let front = item.0 in
+    let on : bit + found + more ≡ bit + (found + more) = omega arith in
+    let there : drop bit bits ≡ (front ++ one.0) ++ drop (bit + (found + more)) bits =
+        item.2.there
+        ∙ ap (λ (l : List Bool). front ++ l) (one.2.there ∙ ap (λ (k : ℕ). one.0 ++ drop k bits) on)
+        ∙ sym (append_assoc front one.0 (drop (bit + (found + more)) bits)) in
+    (c.0 ++ char ∷ [], length_push c.0 char ∙ ap (λ (k : ℕ). k + 1) c.1,
+     (front ++ one.0, push_char c.0 char front one.0 item.1 one.1,
+      record { long = length-append front one.0 ∙ (let e : length front + length one.0 ≡ found + more = omega (arith, item.2.long, one.2.long) in e); there = there }))
+
+pub chars_refused : (bits : List Bool) (bit n most found : ℕ) (cause : BitCause) → CharsAt bits bit n found → n < most → RefusesChar (drop (bit + found) bits) cause → (at : ℕ) × RefusesChars most (drop bit bits) cause at × (bit + found ≡ bit + at)
+chars_refused bits bit n most found cause c less r =
+    (found, record { chars = c.0; front = c.2.0; rest = drop (bit + found) bits; fewer = omega (arith, c.1, less); spelled = c.2.1; there = c.2.2.there; refused = r; place = sym c.2.2.long }, refl)

@@ -3,4 +3,10 @@
 //! Bits are numbered from 0, the highest bit of the first byte first. No call takes memory.
 #![tactic(auto)]
 
+mod cursor;
 mod octets;
+mod span;
+
+pub use cursor::BitCursor;
+pub use exi_spec::{BitCause, BitFault};
+pub use span::{BitSpan, SpanAt};

@@ -1,11 +1,11 @@
 //! Numbers at a bit of a payload.
 
-ghost use Rattle.std.specs.Prelude.{◌≡◌, ℕ, ◌+◌, ◌*◌, ◌<◌, ◌≤◌, ◌^◌, List, Bool, ◌∷◌, ◌++◌, length, drop, MatchResult, MatchOption};
+ghost use Rattle.std.specs.Prelude.{◌≡◌, ℕ, ◌+◌, ◌*◌, ◌<◌, ◌≤◌, ◌^◌, List, Bool, ◌∷◌, ◌++◌, length, drop, MatchResult, MatchOption, IfOk};
 ghost use Rattle.exi_spec.specs.Bits.{bits_of, number_bits};
-ghost use Rattle.exi_spec.specs.Items.{SpellsOctets, RefusesOctets};
+ghost use Rattle.exi_spec.specs.Items.{SpellsOctets, RefusesOctets, SpellsChar, RefusesChar, SpellsChars, RefusesChars};
 ghost use Rattle.exi_bits.specs.Reading.{ItemAt};
 
-use exi_spec::BitCause;
+use exi_spec::{BitCause, BitFault};
 
 /// The bit at a place.
 pub fn bit_at(payload: &[u8], bit: u32) -> bool
@@ -51,7 +51,7 @@ pub fn octets_at(payload: &[u8], bit: u32, most: u32) -> Result<(u64, u32), BitC
     requires few { most ≤ 10 }
     requires room { length payload.now ≤ 65536 }
     requires within { bit ≤ 8 * length payload.now }
-    ensures within { MatchResult result (λ found. bit + found.1 ≤ 8 * length payload.now) (λ _. 0 < most) }
+    ensures within { IfOk result (λ found. bit + found.1 ≤ 8 * length payload.now) }
     ensures found { MatchResult result
         (λ found. ItemAt (SpellsOctets most found.0) (bits_of payload.now) bit found.1)
         (λ cause. RefusesOctets most (drop bit (bits_of payload.now)) cause) }
@@ -70,4 +70,47 @@ pub fn octets_at(payload: &[u8], bit: u32, most: u32) -> Result<(u64, u32), BitC
         return Err(BitCause::WiderInteger);
     }
     Ok((u64::from(octet - 128) + 128 * high, bits + 8))
+}
+
+/// The code point at a bit, and how many bits spell it.
+pub fn char_at(payload: &[u8], bit: u32) -> Result<(char, u32), BitCause>
+    requires room { length payload.now ≤ 65536 }
+    requires within { bit ≤ 8 * length payload.now }
+    ensures within { IfOk result (λ found. bit + found.1 ≤ 8 * length payload.now) }
+    ensures found { MatchResult result
+        (λ found. ItemAt (SpellsChar found.0) (bits_of payload.now) bit found.1)
+        (λ cause. RefusesChar (drop bit (bits_of payload.now)) cause) }
+{
+    let (value, bits) = octets_at(payload, bit, 10)?;
+    if value > 0x10_FFFF {
+        return Err(BitCause::BadChar);
+    }
+    match char::from_u32(value as u32) {
+        Some(c) => Ok((c, bits)),
+        None => Err(BitCause::BadChar),
+    }
+}
+
+/// How many bits spell the n code points at a bit.
+pub fn chars_at(payload: &[u8], bit: u32, n: u32) -> Result<u32, BitFault>
+    requires room { length payload.now ≤ 65536 }
+    requires within { bit ≤ 8 * length payload.now }
+    ensures within { IfOk result (λ found. bit + found ≤ 8 * length payload.now) }
+    ensures found { MatchResult result
+        (λ found. (chars : List ℕ) × (length chars ≡ n) × ItemAt (SpellsChars chars) (bits_of payload.now) bit found)
+        (λ fault. (at : ℕ) × RefusesChars n (drop bit (bits_of payload.now)) fault.cause at × (fault.bit ≡ bit + at)) }
+{
+    let mut found = 0;
+    for _ in 0..n {
+        match char_at(payload, bit + found) {
+            Ok((_, bits)) => found += bits,
+            Err(cause) => {
+                return Err(BitFault {
+                    cause,
+                    bit: bit + found,
+                });
+            }
+        }
+    }
+    Ok(found)
 }
