@@ -9,7 +9,7 @@ use Rattle.v2gtp_frames.specs.declared.FrameFault.TheVariants.{BadVersion, BadTy
 use Rattle.v2gtp_frames.specs.Reading.{whole_at, behind, payload_at}
 
 -- the seven tests of a front, over variables for its length and fields
-chain : (len v t n : ℕ) → Result (Option ℕ) FrameFault
+unfoldable pub chain : (len v t n : ℕ) → Result (Option ℕ) FrameFault
 chain len v t n =
     cond (ltb len 2) (Ok None) (cond (not (eqb v 510)) (Err (BadVersion v)) (cond (ltb len 4) (Ok None) (cond (not (eqb t 32769)) (Err (BadType t))
     (cond (ltb len 8) (Ok None) (cond (ltb 65536 n) (Err (LongPayload n)) (cond (ltb len (8 + n)) (Ok None) (Ok (Some n))))))))
