@@ -1,13 +1,13 @@
-// A library with one function.
+//! A site of one post: from what is heard to what is sent, while a session is no more than its negotiation.
 #![tactic(auto)]
 
-ghost use Rattle.std.specs.Prelude.{◌≡◌};
-ghost use Rattle.site_core.specs.Echo.{echo_of};
+mod ending;
+mod judging;
+mod site;
+mod report;
+mod serving;
 
-// The `ensures` clause is the contract: what `echo` returns is `echo_of` of its argument, a definition
-// in `specs/Echo.antt`, which a caller's clause can cite too.
-pub fn echo(x: usize) -> usize
-    ensures { result ≡ echo_of x }
-{
-    x
-}
+pub use ending::Ending;
+
+pub use report::{CauseSet, PostReport};
+
