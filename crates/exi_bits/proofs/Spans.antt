@@ -50,11 +50,13 @@ bytes_there (suc n) bits h =
     let below : v < 256 = subst (λ (k : ℕ). v < 2 ^ k) long (number_of-lt (take 8 bits)) in
     let first : take 8 bits ≡ number_bits 8 v = sym (number_bits-number_of (take 8 bits)) ∙ ap (λ (k : ℕ). number_bits k v) long in
     let split : take (8 * suc n) bits ≡ take 8 bits ++ take (8 * n) (drop 8 bits) =
-        ap (λ (k : ℕ). take k bits) (let e : 8 * suc n ≡ 8 + 8 * n = omega arith in e) ∙ take-add 8 (8 * n) bits in
-    (ap suc later.0, record {
-      range = (below, later.1.range);
-      spelled = split ∙ ap (λ (l : List Bool). l ++ take (8 * n) (drop 8 bits)) first ∙ ap (λ (l : List Bool). number_bits 8 v ++ l) later.1.spelled;
-    })
+    ap (λ (k : ℕ). take k bits) (let e : 8 * suc n ≡ 8 + 8 * n = omega arith in e) ∙ take-add 8 (8 * n) bits in (
+      ap suc later.0,
+      record {
+        range = (below, later.1.range);
+        spelled = split ∙ ap (λ (l : List Bool). l ++ take (8 * n) (drop 8 bits)) first ∙ ap (λ (l : List Bool). number_bits 8 v ++ l) later.1.spelled;
+      },
+    )
 
 pub binary_held : (bits : List Bool) (bit n : ℕ) → bit + 8 * n ≤ length bits → Holds (record { bits = bits; bit = bit; count = n; is_text = false }) (bytes_in n (drop bit bits))
 binary_held bits bit n h =

@@ -47,7 +47,7 @@ pub fn octet_at(payload: &[u8], bit: u32) -> Option<u32>
     requires within { bit ≤ 8 * length payload.now }
     ensures { MatchOption result (8 * length payload.now < bit + 8)
         (λ octet. (octet < 256) × (bit + 8 ≤ 8 * length payload.now)
-            × (drop bit (bits_of payload.now) ≡ number_bits 8 octet ++ drop (bit + 8) (bits_of payload.now))) }
+        × (drop bit (bits_of payload.now) ≡ number_bits 8 octet ++ drop (bit + 8) (bits_of payload.now))) }
 {
     if bits_left(payload, bit) < 8 {
         return None;
