@@ -39,16 +39,17 @@ item_more most v high place n bits m big range fits there item =
     let spelled : SpellsOctets (suc (most - 1)) ((v - 128) + 128 * high) (octet true (v - 128) ++ front) = more_octets (most - 1) (v - 128) high front group_fits (omega arith) item.1 in
     let most_is : suc (most - 1) ≡ most = omega arith in
     let on : place + 8 + n ≡ place + (n + 8) = omega arith in
-    let long : length (octet true (v - 128) ++ front) ≡ n + 8 = omega (arith, length-append (octet true (v - 128)) front, length-number_bits 7 (v - 128), item.2.long) in
-    (octet true (v - 128) ++ front,
-     subst (λ (k : ℕ). SpellsOctets k ((v - 128) + 128 * high) (octet true (v - 128) ++ front)) most_is spelled,
-     record {
-       long = long;
-       there =
-           followed_there v place bits big range there
-           ∙ ap (λ (l : List Bool). octet true (v - 128) ++ l) (item.2.there ∙ ap (λ (k : ℕ). front ++ drop k bits) on)
-           ∙ sym (append_assoc (octet true (v - 128)) front (drop (place + (n + 8)) bits));
-     })
+    let long : length (octet true (v - 128) ++ front) ≡ n + 8 = omega (arith, length-append (octet true (v - 128)) front, length-number_bits 7 (v - 128), item.2.long) in (
+      octet true (v - 128) ++ front,
+      subst (λ (k : ℕ). SpellsOctets k ((v - 128) + 128 * high) (octet true (v - 128) ++ front)) most_is spelled,
+      record {
+        long = long;
+        there =
+            followed_there v place bits big range there
+            ∙ ap (λ (l : List Bool). octet true (v - 128) ++ l) (item.2.there ∙ ap (λ (k : ℕ). front ++ drop k bits) on)
+            ∙ sym (append_assoc (octet true (v - 128)) front (drop (place + (n + 8)) bits));
+      },
+    )
 
 pub refused_more : (most v place : ℕ) (bits : List Bool) (cause : BitCause) → 0 < most → 128 ≤ v → v < 256 → drop place bits ≡ number_bits 8 v ++ drop (place + 8) bits → RefusesOctets (most - 1) (drop (place + 8) bits) cause → RefusesOctets most (drop place bits) cause
 refused_more most v place bits cause m big range there r =
@@ -69,9 +70,9 @@ refused_wide most v high place n bits m big range wide there item =
     let group_fits : v - 128 < 128 = omega arith in
     let most_is : suc (most - 1) ≡ most = omega arith in
     let found : IsWideInOctets (suc (most - 1)) (octet true (v - 128) ++ (item.0 ++ drop (place + 8 + n) bits)) =
-        wide_octets (most - 1) (v - 128) high item.0 (drop (place + 8 + n) bits) group_fits (omega arith) item.1 in
+    wide_octets (most - 1) (v - 128) high item.0 (drop (place + 8 + n) bits) group_fits (omega arith) item.1 in
     let there_is : octet true (v - 128) ++ (item.0 ++ drop (place + 8 + n) bits) ≡ drop place bits =
-        ap (λ (l : List Bool). octet true (v - 128) ++ l) (sym item.2.there) ∙ sym (followed_there v place bits big range there) in
+    ap (λ (l : List Bool). octet true (v - 128) ++ l) (sym item.2.there) ∙ sym (followed_there v place bits big range there) in
     inr (subst (λ (k : ℕ). IsWideInOctets k (drop place bits)) most_is (subst (λ (l : List Bool). IsWideInOctets (suc (most - 1)) l) there_is found))
 
 pub refused_short : (most place : ℕ) (bits : List Bool) → 0 < most → length bits < place + 8 → RefusesOctets most (drop place bits) ShortInput
@@ -97,12 +98,17 @@ chars_more bits bit n found char more c one =
     let front = item.0 in
     let on : bit + found + more ≡ bit + (found + more) = omega arith in
     let there : drop bit bits ≡ (front ++ one.0) ++ drop (bit + (found + more)) bits =
-        item.2.there
-        ∙ ap (λ (l : List Bool). front ++ l) (one.2.there ∙ ap (λ (k : ℕ). one.0 ++ drop k bits) on)
-        ∙ sym (append_assoc front one.0 (drop (bit + (found + more)) bits)) in
-    (c.0 ++ char ∷ [], length_push c.0 char ∙ ap (λ (k : ℕ). k + 1) c.1,
-     (front ++ one.0, push_char c.0 char front one.0 item.1 one.1,
-      record { long = length-append front one.0 ∙ (let e : length front + length one.0 ≡ found + more = omega (arith, item.2.long, one.2.long) in e); there = there }))
+    item.2.there
+    ∙ ap (λ (l : List Bool). front ++ l) (one.2.there ∙ ap (λ (k : ℕ). one.0 ++ drop k bits) on)
+    ∙ sym (append_assoc front one.0 (drop (bit + (found + more)) bits)) in (
+      c.0 ++ char ∷ [],
+      length_push c.0 char ∙ ap (λ (k : ℕ). k + 1) c.1,
+      (
+        front ++ one.0,
+        push_char c.0 char front one.0 item.1 one.1,
+        record { long = length-append front one.0 ∙ (let e : length front + length one.0 ≡ found + more = omega (arith, item.2.long, one.2.long) in e); there = there },
+      ),
+    )
 
 pub chars_refused : (bits : List Bool) (bit n most found : ℕ) (cause : BitCause) → CharsAt bits bit n found → n < most → RefusesChar (drop (bit + found) bits) cause → (at : ℕ) × RefusesChars most (drop bit bits) cause at × (bit + found ≡ bit + at)
 chars_refused bits bit n most found cause c less r =

@@ -19,6 +19,10 @@ pub record Holds (span : Span) (items : List ℕ) : Type 0 where
   pub long : length items ≡ span.count
   pub spelled : Begins (SpellsItems span.is_text items) (drop span.bit span.bits)
 
+-- a text or a Binary is spelled there
+abbrev pub IsSpan : Span → Type 0
+IsSpan span = (items : List ℕ) × Holds span items
+
 abbrev pub items_in : Bool → ℕ → List Bool → List ℕ
 items_in true n bits = chars_in n bits
 items_in false n bits = bytes_in n bits

@@ -7,6 +7,16 @@ ghost use Rattle.exi_bits.specs.Reading.{ItemAt};
 
 use exi_spec::{BitCause, BitFault};
 
+/// How many bits are left from a place on.
+pub fn bits_left(payload: &[u8], bit: u32) -> u32
+    requires room { length payload.now ≤ 65536 }
+    requires within { bit ≤ 8 * length payload.now }
+    ensures sum { bit + result ≡ 8 * length payload.now }
+    ensures left { result ≡ length (drop bit (bits_of payload.now)) }
+{
+    8 * payload.len() as u32 - bit
+}
+
 /// The bit at a place.
 pub fn bit_at(payload: &[u8], bit: u32) -> bool
     requires { bit < 8 * length payload.now }
@@ -37,9 +47,9 @@ pub fn octet_at(payload: &[u8], bit: u32) -> Option<u32>
     requires within { bit ≤ 8 * length payload.now }
     ensures { MatchOption result (8 * length payload.now < bit + 8)
         (λ octet. (octet < 256) × (bit + 8 ≤ 8 * length payload.now)
-            × (drop bit (bits_of payload.now) ≡ number_bits 8 octet ++ drop (bit + 8) (bits_of payload.now))) }
+        × (drop bit (bits_of payload.now) ≡ number_bits 8 octet ++ drop (bit + 8) (bits_of payload.now))) }
 {
-    if bit + 8 > 8 * payload.len() as u32 {
+    if bits_left(payload, bit) < 8 {
         return None;
     }
     Some(number_at(payload, bit, 8))

@@ -1,6 +1,6 @@
 //! Texts and Binaries that are lent from the payload in which they stand.
 
-ghost use Rattle.std.specs.Prelude.{◌≡◌, ℕ, ◌≤◌, length, true, false};
+ghost use Rattle.std.specs.Prelude.{◌≡◌, ℕ, ◌+◌, ◌*◌, ◌≤◌, length, true, false};
 ghost use Rattle.exi_spec.specs.Bits.{bits_of};
 
 use crate::cursor::BitCursor;
@@ -41,8 +41,36 @@ impl<'a> Model for BitSpan<'a> {
 }
 
 impl<'a> BitSpan<'a> {
-    ghost use Rattle.exi_bits.specs.Lent.{Span, Holds, items_of};
+    ghost use Rattle.exi_bits.specs.Lent.{Span, Holds, IsSpan, items_of};
     ghost use Rattle.exi_bits.specs.Reading.{Cursor};
+
+    /// The n bytes of a Binary at a bit.
+    pub(crate) fn binary_at(payload: &'a [u8], bit: u32, n: u32) -> BitSpan<'a>
+        requires room { length payload.now ≤ 65536 }
+        requires within { bit + 8 * n ≤ 8 * length payload.now }
+        ensures { result ≡ record { bits = bits_of payload.now; bit = bit; count = n; is_text = false } }
+    {
+        BitSpan {
+            payload,
+            bit,
+            count: n,
+            is_text: false,
+        }
+    }
+
+    /// The n code points of a text at a bit.
+    pub(crate) fn text_at(payload: &'a [u8], bit: u32, n: u32) -> BitSpan<'a>
+        requires room { length payload.now ≤ 65536 }
+        requires spelled { IsSpan (record { bits = bits_of payload.now; bit = bit; count = n; is_text = true }) }
+        ensures { result ≡ record { bits = bits_of payload.now; bit = bit; count = n; is_text = true } }
+    {
+        BitSpan {
+            payload,
+            bit,
+            count: n,
+            is_text: true,
+        }
+    }
 
     /// How many code points a text has, or bytes a Binary.
     pub fn len(&self) -> u32

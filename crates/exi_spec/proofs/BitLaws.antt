@@ -21,7 +21,7 @@ number_bits-high (suc n) a v =
     let head : (a * 2 ^ suc n + v) / 2 ^ n % 2 ≡ v / 2 ^ n % 2 = bit_at_cat_low a (suc n) v n (omega arith) in
     let same : a * 2 ^ suc n + v ≡ (a * 2) * 2 ^ n + v = rw (pow-suc 2 n) (omega arith) in
     let tail : number_bits n (a * 2 ^ suc n + v) ≡ number_bits n v =
-        ap (λ (w : ℕ). number_bits n w) same ∙ number_bits-high n (a * 2) v in
+    ap (λ (w : ℕ). number_bits n w) same ∙ number_bits-high n (a * 2) v in
     ap (λ (w : ℕ). eqb w 1 ∷ number_bits n (a * 2 ^ suc n + v)) head ∙ ap (λ (w : List Bool). eqb (v / 2 ^ n % 2) 1 ∷ w) tail
 
 weight-at : (d p : ℕ) → d < 2 → (cond (eqb d 1) p 0) ≡ d * p
@@ -37,7 +37,7 @@ number_of-number_bits_mod (suc n) v =
     let split : v % 2 ^ (1 + n) ≡ (v / 2 ^ n % 2) * 2 ^ n + v % 2 ^ n = mod-pow-add v 1 n in
     let one : 1 + n ≡ suc n = omega arith in
     let high : (cond (eqb (v / 2 ^ n % 2) 1) (2 ^ length (number_bits n v)) 0) ≡ (v / 2 ^ n % 2) * 2 ^ n =
-        rw (length-number_bits n v) (weight-at (v / 2 ^ n % 2) (2 ^ n) (omega arith)) in
+    rw (length-number_bits n v) (weight-at (v / 2 ^ n % 2) (2 ^ n) (omega arith)) in
     ap (λ (w : ℕ). w + number_of (number_bits n v)) high
     ∙ ap (λ (w : ℕ). (v / 2 ^ n % 2) * 2 ^ n + w) (number_of-number_bits_mod n v)
     ∙ sym (subst (λ (m : ℕ). v % 2 ^ m ≡ (v / 2 ^ n % 2) * 2 ^ n + v % 2 ^ n) one split)
@@ -61,7 +61,7 @@ number_bits-number_of (true ∷ bits) =
     let high : (2 ^ n + number_of bits) / 2 ^ n ≡ 1 = ap (λ (w : ℕ). w / 2 ^ n) one ∙ shr_high 1 n (number_of bits) (number_of-lt bits) in
     let head : eqb ((2 ^ n + number_of bits) / 2 ^ n % 2) 1 ≡ true = ap (λ (w : ℕ). eqb (w % 2) 1) high in
     let tail : number_bits n (2 ^ n + number_of bits) ≡ bits =
-        ap (λ (w : ℕ). number_bits n w) one ∙ number_bits-high n 1 (number_of bits) ∙ number_bits-number_of bits in
+    ap (λ (w : ℕ). number_bits n w) one ∙ number_bits-high n 1 (number_of bits) ∙ number_bits-number_of bits in
     ap (λ (w : Bool). w ∷ number_bits n (2 ^ n + number_of bits)) head ∙ ap (λ (w : List Bool). true ∷ w) tail
 number_bits-number_of (false ∷ bits) =
     let n = length bits in
@@ -69,7 +69,7 @@ number_bits-number_of (false ∷ bits) =
     let high : (0 + number_of bits) / 2 ^ n ≡ 0 = ap (λ (w : ℕ). w / 2 ^ n) none ∙ shr_high 0 n (number_of bits) (number_of-lt bits) in
     let head : eqb ((0 + number_of bits) / 2 ^ n % 2) 1 ≡ false = ap (λ (w : ℕ). eqb (w % 2) 1) high in
     let tail : number_bits n (0 + number_of bits) ≡ bits =
-        ap (λ (w : ℕ). number_bits n w) none ∙ number_bits-high n 0 (number_of bits) ∙ number_bits-number_of bits in
+    ap (λ (w : ℕ). number_bits n w) none ∙ number_bits-high n 0 (number_of bits) ∙ number_bits-number_of bits in
     ap (λ (w : Bool). w ∷ number_bits n (0 + number_of bits)) head ∙ ap (λ (w : List Bool). false ∷ w) tail
 
 -- one more bit behind

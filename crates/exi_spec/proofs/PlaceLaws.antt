@@ -12,10 +12,10 @@ pub drop-bits_of : (bytes : List ℕ) (p : ℕ) → p < 8 * length bytes → dro
 drop-bits_of bytes p h =
     let place : 8 * (p / 8) + p % 8 ≡ p = omega arith in
     let here : get_or (bits_of bytes) p false ≡ eqb (get_or bytes (p / 8) 0 / 2 ^ (7 - p % 8) % 2) 1 =
-        ap (λ (k : ℕ). get_or (bits_of bytes) k false) (sym place)
-        ∙ get_or-bits_of bytes (p / 8) (p % 8) false (omega arith) (omega arith) in
+    ap (λ (k : ℕ). get_or (bits_of bytes) k false) (sym place)
+    ∙ get_or-bits_of bytes (p / 8) (p % 8) false (omega arith) (omega arith) in
     let and_one : get_or bytes (p / 8) 0 / 2 ^ (7 - p % 8) % 2 ≡ bit_and (get_or bytes (p / 8) 0 / 2 ^ (7 - p % 8)) 1 =
-        sym (shr_and_one (get_or bytes (p / 8) 0) (7 - p % 8)) in
+    sym (shr_and_one (get_or bytes (p / 8) 0) (7 - p % 8)) in
     drop_more (bits_of bytes) p false (omega (arith, length-bits_of bytes))
     ∙ ap (λ (b : Bool). b ∷ drop (p + 1) (bits_of bytes)) (here ∙ ap (λ (n : ℕ). eqb n 1) and_one)
 
@@ -50,9 +50,9 @@ pub number_there : (bits : List Bool) (place n value : ℕ) → place + n ≤ le
 number_there bits place n value h v =
     let long : length (take n (drop place bits)) ≡ n = length-take-le n (drop place bits) (omega (arith, length-drop place bits)) in
     let front : number_bits n value ≡ take n (drop place bits) =
-        ap (λ (w : ℕ). number_bits n w) v
-        ∙ ap (λ (w : ℕ). number_bits w (number_of (take n (drop place bits)))) (sym long)
-        ∙ number_bits-number_of (take n (drop place bits)) in
+    ap (λ (w : ℕ). number_bits n w) v
+    ∙ ap (λ (w : ℕ). number_bits w (number_of (take n (drop place bits)))) (sym long)
+    ∙ number_bits-number_of (take n (drop place bits)) in
     sym (ap (λ (l : List Bool). l ++ drop (place + n) bits) front
     ∙ ap (λ (l : List Bool). take n (drop place bits) ++ l) (sym (drop-drop n place bits))
     ∙ take-append-drop n (drop place bits))

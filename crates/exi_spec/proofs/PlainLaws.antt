@@ -109,16 +109,16 @@ wide_read zero groups last rest count fit low wide = absurd (omega (arith, count
 wide_read (suc most) [] last rest count fit low wide = absurd (omega (arith, wide, low))
 wide_read (suc most) (group ∷ groups) last rest count fit low wide =
     let there = ap (λ (l : List Bool). octets_in (suc most) (l ++ rest)) (append_assoc (octet true group) (followed groups) (octet false last))
-        ∙ step most group (followed groups ++ octet false last) rest fit.0 in
+    ∙ step most group (followed groups ++ octet false last) rest fit.0 in
     elim (cases_lt (grouped groups last) (2 ^ 64)) [
       | inl fits ↦
-        there
-        ∙ ap (λ (r : Result (ℕ × List Bool) BitCause). behind_group group r) (grouped_read most groups last rest (omega (arith, count)) fit.1 low fits)
-        ∙ behind_group-wide group (grouped groups last) rest wide
+          there
+          ∙ ap (λ (r : Result (ℕ × List Bool) BitCause). behind_group group r) (grouped_read most groups last rest (omega (arith, count)) fit.1 low fits)
+          ∙ behind_group-wide group (grouped groups last) rest wide
       | inr over ↦
-        there
-        ∙ ap (λ (r : Result (ℕ × List Bool) BitCause). behind_group group r) (wide_read most groups last rest (omega (arith, count)) fit.1 low over)
-        ∙ behind_group-err group WiderInteger
+          there
+          ∙ ap (λ (r : Result (ℕ × List Bool) BitCause). behind_group group r) (wide_read most groups last rest (omega (arith, count)) fit.1 low over)
+          ∙ behind_group-err group WiderInteger
     ]
 
 -- what is refused is refused in reading, for the same cause
@@ -143,7 +143,7 @@ octet_there bits h =
     let v = number_of (take 8 bits) in
     let below : v < 256 = subst (λ (n : ℕ). v < 2 ^ n) long (number_of-lt (take 8 bits)) in
     let front : bits ≡ number_bits 8 v ++ drop 8 bits =
-        sym (take-append-drop 8 bits) ∙ ap (λ (l : List Bool). l ++ drop 8 bits) (sym (number_bits-number_of (take 8 bits)) ∙ ap (λ (n : ℕ). number_bits n v) long) in
+    sym (take-append-drop 8 bits) ∙ ap (λ (l : List Bool). l ++ drop 8 bits) (sym (number_bits-number_of (take 8 bits)) ∙ ap (λ (n : ℕ). number_bits n v) long) in
     elim (cases_lt v 128) [
       | inl low ↦ record { more = false; group = v; low = low; there = front ∙ ap (λ (l : List Bool). l ++ drop 8 bits) (low_octet v low) }
       | inr high ↦ record { more = true; group = v - 128; low = omega arith; there = front ∙ ap (λ (l : List Bool). l ++ drop 8 bits) ((let back : v ≡ (v - 128) + 128 = omega arith in ap (λ (n : ℕ). number_bits 8 n) back) ∙ high_octet (v - 128) (omega arith)) }
@@ -185,8 +185,8 @@ chars_in-spelled (char ∷ chars) front rest s =
     let first = s.0 in
     let more = s.1 in
     let read : octets_in 10 (front ++ rest) ≡ Ok (char, more ++ rest) =
-        ap (λ (l : List Bool). octets_in 10 l) (ap (λ (l : List Bool). l ++ rest) s.4 ∙ append_assoc first more rest)
-        ∙ octets_in-spelled 10 char first (more ++ rest) s.2.spelled in
+    ap (λ (l : List Bool). octets_in 10 l) (ap (λ (l : List Bool). l ++ rest) s.4 ∙ append_assoc first more rest)
+    ∙ octets_in-spelled 10 char first (more ++ rest) s.2.spelled in
     ap (λ (r : Result (ℕ × List Bool) BitCause). first_char (λ (l : List Bool). chars_in (length chars) l) r) read
     ∙ ap (λ (l : List ℕ). char ∷ l) (chars_in-spelled chars more rest s.3)
 
@@ -196,11 +196,11 @@ again [] rest fit = refl
 again (byte ∷ bytes) rest fit =
     let regroup : (number_bits 8 byte ++ bits_of bytes) ++ rest ≡ number_bits 8 byte ++ (bits_of bytes ++ rest) = append_assoc (number_bits 8 byte) (bits_of bytes) rest in
     let first : number_of (take 8 ((number_bits 8 byte ++ bits_of bytes) ++ rest)) ≡ byte =
-        ap (λ (l : List Bool). number_of (take 8 l)) regroup
-        ∙ ap number_of (take_at (number_bits 8 byte) (bits_of bytes ++ rest) 8 (length-number_bits 8 byte))
-        ∙ number_of-number_bits 8 byte fit.0 in
+    ap (λ (l : List Bool). number_of (take 8 l)) regroup
+    ∙ ap number_of (take_at (number_bits 8 byte) (bits_of bytes ++ rest) 8 (length-number_bits 8 byte))
+    ∙ number_of-number_bits 8 byte fit.0 in
     let others : drop 8 ((number_bits 8 byte ++ bits_of bytes) ++ rest) ≡ bits_of bytes ++ rest =
-        ap (λ (l : List Bool). drop 8 l) regroup ∙ drop_at (number_bits 8 byte) (bits_of bytes ++ rest) 8 (length-number_bits 8 byte) in
+    ap (λ (l : List Bool). drop 8 l) regroup ∙ drop_at (number_bits 8 byte) (bits_of bytes ++ rest) 8 (length-number_bits 8 byte) in
     ap (λ (n : ℕ). n ∷ bytes_in (length bytes) (drop 8 ((number_bits 8 byte ++ bits_of bytes) ++ rest))) first
     ∙ ap (λ (l : List ℕ). byte ∷ l) (ap (λ (l : List Bool). bytes_in (length bytes) l) others ∙ again bytes rest fit.1)
 
