@@ -1,2 +1,5 @@
 pub mod Growth
 pub mod Heard
+pub mod Sent
+pub mod Carry
+pub mod Words

@@ -3,11 +3,10 @@
 
 mod ending;
 mod judging;
-mod site;
 mod report;
 mod serving;
+mod site;
 
 pub use ending::Ending;
-
 pub use report::{CauseSet, PostReport};
-
+pub use serving::Ended;

@@ -4,13 +4,14 @@ ghost use Rattle.std.specs.Prelude.{◌≡◌, ◌+◌, ◌*◌, ◌<◌, ◌≤
 ghost use Rattle.charge_world.specs.declared.entry.Entry.{Entry};
 ghost use Rattle.charge_world.specs.declared.entry.Entry.TheVariants as entry;
 ghost use Rattle.charge_world.specs.Outside.{bytes_of, HasCount};
-ghost use Rattle.v2gtp_frames.specs.Reading.{whole_at};
+ghost use Rattle.v2gtp_frames.specs.Reading.{whole_at, behind_front};
 ghost use Rattle.session_spec.specs.Acts.{cause_heard};
 ghost use Rattle.site_core.specs.Standing.{EndsAs};
 
 use crate::ending::Ending;
+use crate::judging::{Reply, reply_to};
 use crate::report::{CauseSet, PostReport};
-use charge_world::{Heard, NoMemory, What};
+use charge_world::{Heard, NoMemory, Offer, What};
 use std::alloc::Global;
 use v2gtp_frames::FrameReader;
 
@@ -25,6 +26,17 @@ pub enum Stage {
     Reading,
     /// One is to end.
     Closing(Ending),
+}
+
+/// What the front of a stream asks for.
+#[derive(Drop)]
+pub enum Word {
+    /// No further frame is whole.
+    NotYet,
+    /// The session ends.
+    Refused(Ending),
+    /// A reply to the session's first payload.
+    Reply(Reply),
 }
 
 /// A site of one post: its session and what it counted. All memory of serving is taken when it is made.
@@ -58,10 +70,11 @@ impl Site {
     ghost use Rattle.session_spec.specs.Past.{with_entry};
     ghost use Rattle.session_spec.specs.Words.{is_bytes};
     ghost use Rattle.site_core.specs.Judging.{Judges};
+    ghost use Rattle.site_core.specs.Replies.{IsWord};
     ghost use Rattle.site_core.specs.Standing.{RestsAs, StandsAs, IsCalm};
 
     /// Takes in what was heard, where a session lives; nothing is done about it yet.
-    fn take_in(&mut self, heard: &Heard, room: &[u8])
+    pub fn take_in(&mut self, heard: &Heard, room: &[u8])
         requires room { length room.now ≡ 4096 }
         requires count { HasCount heard.now.what }
         requires calm { IsCalm self.old.stage self.old.frames }
@@ -73,6 +86,29 @@ impl Site {
             match ending_heard(heard.what) {
                 Some(ending) => self.stage = Stage::Closing(ending),
                 None => self.take_piece(heard.what, room),
+            }
+        }
+    }
+
+    /// Reads the next word of the session's stream.
+    pub fn read_word(&mut self, offer: &Offer) -> Word
+        ensures word { IsWord offer.now.entries.items self.old.answered self.old.frames result }
+        ensures frames { self.new.frames ≡ behind_front self.old.frames }
+        ensures stage { self.new.stage ≡ self.old.stage }
+        ensures answered { self.new.answered ≡ self.old.answered }
+        ensures report { self.new.report ≡ self.old.report }
+    {
+        match self.frames.next() {
+            Err(_) => Word::Refused(Ending::BadFrame),
+            Ok(None) => Word::NotYet,
+            Ok(Some(payload)) => {
+                if self.answered {
+                    return Word::Refused(Ending::NotBuilt);
+                }
+                match reply_to(payload, offer) {
+                    None => Word::Refused(Ending::NotBuilt),
+                    Some(reply) => Word::Reply(reply),
+                }
             }
         }
     }

@@ -119,6 +119,7 @@ impl FrameReader {
     /// A fault is answered again until `clear`.
     pub fn next(&mut self) -> Result<Option<&[u8]>, FrameFault>
         ensures value { IsNext self.old result }
+        ensures short { IfOk result (λ answer. IfSome answer (λ payload. length payload.now ≤ 65536)) }
         ensures* after { sem 𝓛 (Rests the_row self.entry (λ new. new ≡ behind (whole_at self.old) self.old)) }
     {
         match whole(&self.buf[self.start..])? {
