@@ -1,6 +1,7 @@
 -- What holds of a past that is told, over one call and over several.
 use Rattle.std.proofs.Common.{◌≡◌, ℕ, List, ◌∷◌, Option, Some, None, refl, sym, subst}
 use Rattle.charge_world.specs.declared.entry.Entry.{Entry}
+use Rattle.std.specs.Prelude.{IsSome}
 use Rattle.charge_world.specs.Outside.{GrowsByOne}
 use Rattle.site_core.specs.Serving.{Carries}
 
@@ -32,3 +33,9 @@ pub carries_to : (a b : Option (List Entry)) (P Q R : List Entry → Type 0) →
 carries_to a None P Q R step h = tt
 carries_to None (Some new) P Q R step h = absurd h
 carries_to (Some old) (Some new) P Q R step h = λ p. step new (h p)
+
+-- what is told now was told before
+pub carries_told : (a b : Option (List Entry)) (P Q : List Entry → Type 0) → Carries a b P Q → IsSome b → IsSome a
+carries_told a None P Q h told = cc
+carries_told None (Some new) P Q h told = absurd h
+carries_told (Some old) (Some new) P Q h told = refl

@@ -3,3 +3,4 @@ pub mod Heard
 pub mod Sent
 pub mod Carry
 pub mod Words
+pub mod Settled

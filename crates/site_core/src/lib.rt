@@ -10,3 +10,4 @@ mod site;
 pub use ending::Ending;
 pub use report::{CauseSet, PostReport};
 pub use serving::Ended;
+pub use site::Site;

@@ -42,10 +42,10 @@ pub enum Word {
 /// A site of one post: its session and what it counted. All memory of serving is taken when it is made.
 #[derive(Drop)]
 pub struct Site {
-    pub frames: FrameReader,
-    pub stage: Stage,
-    pub answered: bool,
-    pub report: PostReport,
+    pub(crate) frames: FrameReader,
+    pub(crate) stage: Stage,
+    pub(crate) answered: bool,
+    pub(crate) report: PostReport,
 }
 
 /// The cause by which a hearing itself ends the session of post 1.
@@ -71,7 +71,33 @@ impl Site {
     ghost use Rattle.session_spec.specs.Words.{is_bytes};
     ghost use Rattle.site_core.specs.Judging.{Judges};
     ghost use Rattle.site_core.specs.Replies.{IsWord};
+    ghost use Rattle.site_core.specs.Serving.{IsFresh};
     ghost use Rattle.site_core.specs.Standing.{RestsAs, StandsAs, IsCalm};
+
+    /// A site that heard nothing yet. It takes all the memory that serving needs.
+    pub fn make(alloc: Global) -> Result<Site, NoMemory>
+        ensures { IfOk result IsFresh }
+    {
+        Ok(Site {
+            frames: FrameReader::make(alloc)?,
+            stage: Stage::Idle,
+            answered: false,
+            report: PostReport {
+                sessions: 0,
+                closed: 0,
+                causes: CauseSet::empty(),
+            },
+        })
+    }
+
+    /// What the site tells of a post, which is 1.
+    pub fn report(&self, post: u8) -> PostReport
+        requires { post ≡ 1 }
+        ensures { result ≡ self.now.report }
+    {
+        let _ = post;
+        self.report
+    }
 
     /// Takes in what was heard, where a session lives; nothing is done about it yet.
     pub fn take_in(&mut self, heard: &Heard, room: &[u8])
@@ -80,6 +106,7 @@ impl Site {
         requires calm { IsCalm self.old.stage self.old.frames }
         ensures state { (offer : List Dialect) (session : Option (List Entry)) → RestsAs self.old.stage self.old.frames self.old.answered session
             → StandsAs (Judges offer) self.new.stage self.new.frames self.new.answered (with_entry (entry.Heard heard.now (bytes_of heard.now.what room.now)) session) }
+        ensures calm { IsCalm self.new.stage self.new.frames }
         ensures report { self.new.report ≡ self.old.report }
     {
         if let Stage::Waiting = self.stage {
@@ -122,6 +149,7 @@ impl Site {
         ensures piece { MatchBool (is_bytes 1 what)
             ((self.new.frames ≡ self.old.frames ++ bytes_of what room.now) × (self.new.stage ≡ Stage.Reading))
             ((self.new.frames ≡ self.old.frames) × (self.new.stage ≡ Stage.Waiting)) }
+        ensures calm { IsCalm self.new.stage self.new.frames }
         ensures answered { self.new.answered ≡ self.old.answered }
         ensures report { self.new.report ≡ self.old.report }
     {
