@@ -12,23 +12,24 @@ pub fn write_response(response: &AppRes, room: &mut [u8; 4]) -> usize
     ensures most { result ≤ 4 }
     ensures encoding { IsEncoding (response_bits response.now) (take result room.new) }
 {
-    room[0] = 0x80;
-    room[1] = 0x40 | ordinal(response.code) << 2;
+    // the header, then document 1, two codes 0, the ResponseCode and a code 0
+    let code = 0x40 + 4 * ordinal(response.code);
     match response.schema {
         None => {
-            room[2] = 0x80;
+            *room = [0x80, code, 0x80, 0];
             3
         }
         Some(schema) => {
-            room[2] = schema >> 2;
-            room[3] = (schema & 3) << 6;
+            *room = [0x80, code, schema / 4, schema % 4 * 64];
             4
         }
     }
 }
 
+/// The place of a ResponseCode in its enumeration.
 fn ordinal(code: AppCode) -> u8
-    ensures { result ≡ ordinal_of code }
+    ensures place { result ≡ ordinal_of code }
+    ensures few { result ≤ 2 }
 {
     match code {
         AppCode::Successful => 0,
