@@ -1,5 +1,5 @@
 -- Own: the first form read from the front of bits. Each reader gives what it reads and the bits behind it, or nothing.
-use Rattle.std.specs.Prelude.{◌≡◌, ℕ, zero, suc, ◌+◌, ◌-◌, ◌^◌, nat_lt, nat_le, ◌==◌, if◌then◌else◌, Bool, List, [], ◌∷◌, length, take, drop, Option, Some, None, Result, Ok, Err, encode_utf8_all}
+use Rattle.std.specs.Prelude.{◌≡◌, ℕ, zero, suc, ◌+◌, ◌-◌, ◌^◌, nat_lt, ◌==◌, if◌then◌else◌, Bool, List, [], ◌∷◌, ◌++◌, length, take, drop, Option, Some, None, Result, Ok, Err, encode_utf8}
 use Rattle.std.specs.Str.{all_scalars}
 use Rattle.exi_spec.specs.Bits.{number_of}
 use Rattle.exi_spec.specs.Plain.{octets_in}
@@ -27,22 +27,26 @@ code_in n code bits = do
   read ← number_in n bits
   if read.0 == code then Some read.1 else None
 
+abbrev pub if_taken : Result (ℕ × List Bool) BitCause → Option (ℕ × List Bool)
+if_taken (Ok read) = Some read
+if_taken (Err cause) = None
+
 -- an Unsigned Integer
 unfoldable pub unsigned_in : List Bool → Option (ℕ × List Bool)
-unsigned_in bits = elim (octets_in 10 bits) [ Ok read ↦ Some read | Err cause ↦ None ]
+unsigned_in bits = if_taken (octets_in 10 bits)
 
 unfoldable pub char_in : List Bool → Option (ℕ × List Bool)
 char_in bits = do
   read ← unsigned_in bits
   if all_scalars (read.0 ∷ []) then Some read else None
 
--- n code points
+-- n code points, as UTF-8
 unfoldable pub text_in : ℕ → List Bool → Option (List ℕ × List Bool)
 text_in zero bits = Some ([], bits)
 text_in (suc n) bits = do
   first ← char_in bits
   others ← text_in n first.1
-  Some (first.0 ∷ others.0, others.1)
+  Some (encode_utf8 first.0 ++ others.0, others.1)
 
 -- the start of an element of a simple type, and its characters
 unfoldable pub start_in : List Bool → Option (List Bool)
@@ -50,13 +54,18 @@ start_in bits = do
   inside ← code_in 1 0 bits
   code_in 1 0 inside
 
+-- a text of at most 100 code points that is spelled out, behind their number plus 2
+unfoldable pub sized_text_in : List Bool → Option (List ℕ × List Bool)
+sized_text_in bits = do
+  size ← unsigned_in bits
+  if nat_lt size.0 2 then None else if nat_lt 102 size.0 then None else text_in (size.0 - 2) size.1
+
 unfoldable pub namespace_in : List Bool → Option (List ℕ × List Bool)
 namespace_in bits = do
   inside ← start_in bits
-  size ← unsigned_in inside
-  text ← if nat_lt size.0 2 then None else if nat_lt 102 size.0 then None else text_in (size.0 - 2) size.1
+  text ← sized_text_in inside
   behind ← code_in 1 0 text.1
-  Some (encode_utf8_all text.0, behind)
+  Some (text.0, behind)
 
 unfoldable pub version_in : List Bool → Option (ℕ × List Bool)
 version_in bits = do

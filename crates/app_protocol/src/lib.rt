@@ -11,3 +11,6 @@ pub use message::{AppCode, AppProtocol, AppReq, AppRes};
 pub use negotiation::negotiate;
 pub use reading::{NotBuilt, read_app};
 pub use writing::write_response;
+
+#[cfg(test)]
+mod tests;

@@ -5,12 +5,15 @@ use arrayvec::{ArrayString, ArrayVec};
 /// One protocol that a car offers.
 #[derive(Debug, Drop)]
 pub struct AppProtocol {
-    /// At most 100 characters.
+    /// ProtocolNamespace: at most 100 characters.
     pub namespace: ArrayString<400>,
+    /// VersionNumberMajor.
     pub major: u32,
+    /// VersionNumberMinor.
     pub minor: u32,
+    /// SchemaID: the car's short name for this protocol, which the response repeats.
     pub schema: u8,
-    /// From 1, the most wanted, to 20.
+    /// Priority: from 1, the most wanted, to 20.
     pub priority: u8,
 }
 
@@ -29,6 +32,7 @@ impl Default for AppProtocol {
 /// A car's request: what it offers, 1 to 20 protocols.
 #[derive(Debug, Drop)]
 pub struct AppReq {
+    /// In the order of the request.
     pub protocols: ArrayVec<AppProtocol, 20>,
 }
 
@@ -43,9 +47,11 @@ pub enum AppCode {
     Failed,
 }
 
-/// A station's response; the SchemaID is the chosen protocol's.
+/// A station's response.
 #[derive(Clone, Copy, Debug, PartialEq, Eq)]
 pub struct AppRes {
+    /// ResponseCode.
     pub code: AppCode,
+    /// SchemaID: the chosen protocol's, and none where none is chosen.
     pub schema: Option<u8>,
 }
