@@ -1,5 +1,5 @@
 -- What holds of a past that is told, over one call and over several.
-use Rattle.std.proofs.Common.{◌≡◌, ℕ, List, ◌∷◌, Option, Some, None, refl, sym, subst}
+use Rattle.std.proofs.Common.{◌≡◌, ℕ, List, ◌∷◌, Option, Some, None, refl, sym, subst, ◌∙◌}
 use Rattle.charge_world.specs.declared.entry.Entry.{Entry}
 use Rattle.std.specs.Prelude.{IsSome}
 use Rattle.charge_world.specs.Outside.{GrowsByOne}
@@ -39,3 +39,13 @@ pub carries_told : (a b : Option (List Entry)) (P Q : List Entry → Type 0) →
 carries_told a None P Q h told = cc
 carries_told None (Some new) P Q h told = absurd h
 carries_told (Some old) (Some new) P Q h told = refl
+
+-- with what is known besides
+pub carries_know : (a b : Option (List Entry)) (P Q S : List Entry → Type 0) (R : Type 0) → (IsSome b → (past : List Entry) → R → Q past → S past) → Carries a b P Q → Carries a b (λ past. P past × R) S
+carries_know a None P Q S R step h = tt
+carries_know None (Some new) P Q S R step h = absurd h
+carries_know (Some old) (Some new) P Q S R step h = λ p. step refl new p.1 (h p.0)
+
+-- an `until` through a part of a block
+pub told_until : (mid after : Option (List Entry)) (P Q : List Entry → Type 0) (until : ℕ) (u0 u1 u2 : List ℕ) → Carries mid after P Q → (IsSome after → u2 ≡ u1) → (IsSome mid → u1 ≡ until ∷ u0) → IsSome after → u2 ≡ until ∷ u0
+told_until mid after P Q until u0 u1 u2 h late early told = late told ∙ early (carries_told mid after P Q h told)

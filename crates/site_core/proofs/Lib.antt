@@ -4,3 +4,4 @@ pub mod Sent
 pub mod Carry
 pub mod Words
 pub mod Settled
+pub mod Served

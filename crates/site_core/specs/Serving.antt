@@ -118,3 +118,8 @@ pub record Served (offer : List Dialect) (turns : ℕ) (how : Ended) (report : P
   pub run : IsSiteRun (Judges offer) 1 turns past
   pub ended : EndedAs turns how past
   pub reports : Reports 1 report past
+
+-- behind one turn more: it was the last one, or the site rests
+abbrev pub Turned : List Dialect → ℕ → ℕ → Option Ended → Site → List Entry → Type 0
+Turned offer turns n None site past = AtRest offer turns (n + 1) site past
+Turned offer turns n (Some how) site past = Served offer turns how site.report past × (hearings past ≡ n + 1)

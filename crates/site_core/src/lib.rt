@@ -9,5 +9,5 @@ mod site;
 
 pub use ending::Ending;
 pub use report::{CauseSet, PostReport};
-pub use serving::Ended;
+pub use serving::{Ended, Plan, serve};
 pub use site::Site;

@@ -1,16 +1,17 @@
 //! From what a wire tells to what is done on it.
 
-ghost use Rattle.std.specs.Prelude.{◌≡◌, ◌+◌, ◌<◌, ◌≤◌, ◌^◌, length, ℕ, List, [], ◌∷◌, Option, Some, IsTrue, IsSome, IfSome};
+ghost use Rattle.std.specs.Prelude.{◌≡◌, ◌+◌, ◌<◌, ◌≤◌, ◌^◌, ◌-◌, length, replicate, ℕ, List, [], ◌∷◌, Option, Some, IsTrue, IsSome, IfSome};
 ghost use Rattle.std.specs.Bool.{OnFalse};
 ghost use Rattle.charge_world.specs.declared.entry.Entry.{Entry};
 ghost use Rattle.charge_world.specs.declared.offer.Dialect.{Dialect};
 ghost use Rattle.charge_world.specs.declared.entry.Entry.TheVariants as entry;
 ghost use Rattle.charge_world.specs.declared.heard.Heard.{Heard};
 ghost use Rattle.charge_world.specs.Outside.{bytes_of, HasCount, IsOfPosts};
-ghost use Rattle.session_spec.specs.Past.{is_came};
+ghost use Rattle.session_spec.specs.Past.{is_came, hearings};
 ghost use Rattle.session_spec.specs.Acts.{End};
+ghost use Rattle.session_spec.specs.SiteRun.{is_over};
 ghost use Rattle.site_core.specs.Standing.{number_of, IsCalm};
-ghost use Rattle.site_core.specs.Serving.{Carries, InBlock, Owes, MaySend, work_of, stage_of, IsQuiet, AtRest, Behind, Hears};
+ghost use Rattle.site_core.specs.Serving.{Carries, InBlock, Owes, MaySend, work_of, stage_of, IsQuiet, AtRest, Behind, Hears, IsFresh, Served, Turned};
 
 use crate::ending::Ending;
 use crate::judging::Reply;
@@ -129,6 +130,21 @@ fn comes(what: What) -> bool
     }
 }
 
+/// Whether nothing more will be heard.
+fn ends(what: What) -> bool
+    ensures { result ≡ is_over what }
+{
+    match what {
+        What::Over => true,
+        What::Came { .. }
+        | What::Bytes { .. }
+        | What::Gone { .. }
+        | What::Datagram { .. }
+        | What::Plant { .. }
+        | What::Tick => false,
+    }
+}
+
 /// Takes in what was heard, and counts it.
 fn begin(site: &mut Site, heard: &Heard, room: &[u8])
     requires room { length room.now ≡ 4096 }
@@ -189,4 +205,63 @@ pub enum Ended {
     Lost,
     /// The last turn was made.
     Turns,
+}
+
+/// What a site is served by, at this stage.
+#[derive(Drop)]
+pub struct Plan {
+    /// The dialects on offer.
+    pub offer: Offer,
+    /// The hearings after which serving ends.
+    pub turns: u64,
+}
+
+/// Serves until the wire says Over, a hearing fails, or the last turn is made.
+///
+/// Where the wire tells its past, that is a run of the site, and the report counts it. Each `until` is the greatest moment,
+/// since nothing is due at this stage. `Lost` comes only where a call of the wire failed.
+pub fn serve<W: Wire>(wire: &mut W, site: &mut Site, plan: &Plan) -> Ended
+    requires posts { W.posts wire.old ≡ 1 }
+    requires fresh { IsFresh site.old }
+    requires turns { plan.now.turns ≤ 2 ^ 32 }
+    ensures served { Carries (W.past wire.old) (W.past wire.new) (λ past. past ≡ []) (Served plan.now.offer.entries.items plan.now.turns result site.new.report) }
+    ensures untils { Carries (W.past wire.old) (W.past wire.new) (λ past. (past ≡ []) × (W.untils wire.old ≡ [])) (λ past. W.untils wire.new ≡ replicate (hearings past) (2 ^ 64 - 1)) }
+    ensures lost { result ≡ Ended.Lost → W.faults wire.old < W.faults wire.new }
+    ensures faults { W.faults wire.old ≤ W.faults wire.new }
+{
+    let mut room = [0u8; 4096];
+    for _ in 0..plan.turns {
+        if let Some(how) = turn(wire, site, plan, &mut room) {
+            return how;
+        }
+    }
+    Ended::Turns
+}
+
+/// Hears once, and does all that is asked for; says how serving ended, where it did.
+fn turn<W: Wire>(wire: &mut W, site: &mut Site, plan: &Plan, room: &mut [u8]) -> Option<Ended>
+    requires room { length room.old ≡ 4096 }
+    requires posts { W.posts wire.old ≡ 1 }
+    requires calm { IsCalm site.old.stage site.old.frames }
+    requires few { site.old.report.sessions < 2 ^ 63 }
+    ensures carried { (n : ℕ) → n < plan.now.turns → Carries (W.past wire.old) (W.past wire.new)
+        (AtRest plan.now.offer.entries.items plan.now.turns n site.old) (Turned plan.now.offer.entries.items plan.now.turns n result site.new) }
+    ensures untils { IsSome (W.past wire.new) → W.untils wire.new ≡ (2 ^ 64 - 1) ∷ W.untils wire.old }
+    ensures calm { IsCalm site.new.stage site.new.frames }
+    ensures sessions { site.new.report.sessions ≤ site.old.report.sessions + 1 }
+    ensures posts { W.posts wire.new ≡ 1 }
+    ensures faults { W.faults wire.old ≤ W.faults wire.new }
+    ensures lost { result ≡ Some Ended.Lost → W.faults wire.old < W.faults wire.new }
+{
+    match wire.next(u64::MAX, room) {
+        Err(_) => Some(Ended::Lost),
+        Ok(heard) => {
+            hear(site, &heard, room, wire, &plan.offer);
+            if ends(heard.what) {
+                Some(Ended::Over)
+            } else {
+                None
+            }
+        }
+    }
 }
