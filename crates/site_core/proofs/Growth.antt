@@ -1,7 +1,7 @@
 -- A stream that goes on keeps its whole frames.
-use Rattle.std.proofs.Common.{◌≡◌, ℕ, zero, suc, ◌+◌, ◌≤◌, List, ◌++◌, drop, Option, Some, None, Result, Ok, Err, refl, sym, ap, ◌∙◌, arith}
+use Rattle.std.proofs.Common.{◌≡◌, ℕ, zero, suc, ◌+◌, List, ◌++◌, Some, Ok, refl, ap, ◌∙◌}
 use Rattle.std.proofs.lemmas.List.{drop-append-le}
-use Rattle.v2gtp_frames.specs.Reading.{whole_at, behind, behind_front, behind_frames}
+use Rattle.v2gtp_frames.specs.Reading.{whole_at, behind_front, behind_frames}
 use Rattle.v2gtp_frames.proofs.Growing.{whole_fits, whole_stays}
 use Rattle.site_core.specs.Standing.{AreWhole}
 

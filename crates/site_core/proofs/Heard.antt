@@ -1,18 +1,18 @@
 -- A hearing is taken in.
-use Rattle.std.proofs.Common.{◌≡◌, ℕ, zero, suc, ◌+◌, ◌≤◌, Bool, true, false, cond, List, ◌++◌, ◌∷◌, Option, Some, None, Result, Ok, Err, refl, sym, ap, subst, ◌∙◌, arith}
+use Rattle.std.proofs.Common.{◌≡◌, ℕ, Bool, true, false, List, ◌++◌, ◌∷◌, Option, Some, None, Ok, refl, sym, ap, subst, ◌∙◌}
 use Rattle.charge_world.specs.declared.entry.Entry.{Entry}
 use Rattle.charge_world.specs.declared.entry.Entry.TheVariants as entry
 use Rattle.charge_world.specs.declared.heard.Heard.{Heard}
-use Rattle.v2gtp_frames.specs.Reading.{whole_at, behind_frames}
+use Rattle.v2gtp_frames.specs.Reading.{whole_at}
 use Rattle.session_spec.specs.Words.{is_bytes, stream, replies, unread}
-use Rattle.session_spec.specs.Acts.{Judged, Act, End, cause_heard, OnFront, OnWord, OnHearing, SessionActs}
+use Rattle.session_spec.specs.Acts.{Judged, Act, End, cause_heard, OnWord, SessionActs}
 use Rattle.std.specs.Prelude.{MatchBool}
 use Rattle.charge_world.specs.declared.offer.Dialect.{Dialect}
 use Rattle.session_spec.specs.Past.{with_entry}
 use Rattle.site_core.specs.declared.site.Stage.{Stage}
 use Rattle.site_core.specs.declared.site.Stage.TheVariants.{Waiting, Reading}
 use Rattle.site_core.specs.Judging.{Judges}
-use Rattle.site_core.specs.Standing.{AreWhole, IsLive, count_of, number_of, RestsAs, StandsAs, EndsAs}
+use Rattle.site_core.specs.Standing.{IsLive, RestsAs, StandsAs, EndsAs}
 use Rattle.site_core.proofs.Growth.{grown}
 
 -- nothing came for the stream

@@ -1,23 +1,18 @@
 -- The first reply of a session is sent.
-use Rattle.std.proofs.Common.{◌≡◌, ℕ, zero, suc, ◌+◌, Bool, true, false, cond, List, [], ◌∷◌, ◌++◌, Option, Some, None, Result, Ok, Err, refl, sym, ap, subst, ◌∙◌, arith}
-use Rattle.std.specs.Prelude.{MatchBool}
+use Rattle.std.proofs.Common.{◌≡◌, ℕ, suc, Bool, true, false, List, ◌∷◌, Option, Some, None, Ok, refl, sym, ap, subst, ◌∙◌}
 use Rattle.charge_world.specs.declared.entry.Entry.{Entry}
 use Rattle.charge_world.specs.declared.entry.Entry.TheVariants as entry
 use Rattle.charge_world.specs.declared.offer.Dialect.{Dialect}
 use Rattle.v2gtp_frames.specs.Frames.{frame}
 use Rattle.v2gtp_frames.specs.Reading.{whole_at, payload_at, behind_front, behind_frames}
-use Rattle.session_spec.specs.Past.{session, with_entry}
-use Rattle.session_spec.specs.Words.{stream, replies, unread}
-use Rattle.session_spec.specs.Acts.{Judged, Answer, Act, Send, End, OnFront, OnWord, OnReply, JudgesFront, SessionActs, ActsOf, PostActs}
-use Rattle.session_spec.specs.SiteRun.{Call, NextCall, Follows, IsCall}
+use Rattle.session_spec.specs.Past.{session}
+use Rattle.session_spec.specs.Words.{stream, replies}
+use Rattle.session_spec.specs.Acts.{Judged, Answer, Act, Send, OnWord, JudgesFront, SessionActs, PostActs}
+use Rattle.session_spec.specs.SiteRun.{NextCall, IsCall}
 use Rattle.site_core.specs.declared.judging.Reply.{Reply}
 use Rattle.site_core.specs.declared.site.Site.{Site}
-use Rattle.site_core.specs.declared.site.Stage.{Stage}
-use Rattle.site_core.specs.declared.site.Stage.TheVariants.{Closing, Reading}
-use Rattle.site_core.specs.declared.ending.Ending.TheVariants.{SendFailed, NoNegotiation}
 use Rattle.site_core.specs.Judging.{Judges}
-use Rattle.site_core.specs.Replies.{IsReply, Replies}
-use Rattle.site_core.specs.Standing.{AreWhole, IsLive, count_of, StandsAs, Stands, Counts}
+use Rattle.site_core.specs.Standing.{IsLive, StandsAs}
 use Rattle.site_core.specs.Serving.{InBlock, MaySend, stage_of}
 
 -- one reply more

@@ -1,19 +1,19 @@
 -- Serving from one hearing to the next, and how it ends.
-use Rattle.std.proofs.Common.{◌≡◌, ℕ, zero, suc, ◌+◌, ◌<◌, ◌≤◌, Bool, true, false, cond, List, [], ◌∷◌, ◌++◌, Option, Some, None, inl, inr, replicate, add-one, refl, sym, ap, subst, ◌∙◌, arith}
+use Rattle.std.proofs.Common.{◌≡◌, ℕ, ◌+◌, ◌<◌, true, false, List, [], ◌∷◌, ◌++◌, Option, None, inl, inr, replicate, add-one, refl, sym, ap, subst, ◌∙◌, arith}
 use Rattle.std.proofs.lemmas.List.{append-nil}
 use Rattle.charge_world.specs.declared.entry.Entry.{Entry}
 use Rattle.charge_world.specs.declared.entry.Entry.TheVariants as entry
 use Rattle.charge_world.specs.declared.heard.Heard.{Heard}
 use Rattle.charge_world.specs.declared.offer.Dialect.{Dialect}
-use Rattle.session_spec.specs.Past.{session, next_session, newest_hearing, hearings}
-use Rattle.session_spec.specs.Acts.{Act, PostActs}
-use Rattle.session_spec.specs.SiteRun.{NextCall, MayHear, IsRun, IsSiteRun, is_last, is_over}
+use Rattle.session_spec.specs.Past.{next_session}
+use Rattle.session_spec.specs.Acts.{PostActs}
+use Rattle.session_spec.specs.SiteRun.{NextCall, is_last, is_over}
 use Rattle.site_core.specs.declared.site.Site.{Site}
 use Rattle.site_core.specs.declared.site.Stage.{Stage}
-use Rattle.site_core.specs.declared.site.Stage.TheVariants.{Idle, Waiting, Reading, Closing}
+use Rattle.site_core.specs.declared.site.Stage.TheVariants.{Idle}
 use Rattle.site_core.specs.declared.serving.Ended.TheVariants as ended
 use Rattle.site_core.specs.Judging.{Judges}
-use Rattle.site_core.specs.Standing.{Rests, RestsAs, Counts, IsCalm}
+use Rattle.site_core.specs.Standing.{RestsAs, Counts, IsCalm}
 use Rattle.charge_world.specs.Outside.{GrowsByOne}
 use Rattle.site_core.specs.Serving.{Carries, AtRest, Behind, Hears, IsFresh, Reports, Served}
 use Rattle.site_core.proofs.Carry.{carries_one, carries_then}

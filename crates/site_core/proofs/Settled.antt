@@ -1,5 +1,5 @@
 -- A block is over.
-use Rattle.std.proofs.Common.{◌≡◌, ℕ, zero, suc, ◌+◌, Bool, true, false, cond, List, [], ◌∷◌, ◌++◌, Option, Some, None, Result, Ok, Err, refl, sym, ap, subst, ◌∙◌}
+use Rattle.std.proofs.Common.{◌≡◌, ℕ, Bool, true, false, List, [], ◌∷◌, Option, Some, None, Ok, refl}
 use Rattle.charge_world.specs.declared.entry.Entry.{Entry}
 use Rattle.charge_world.specs.declared.entry.Entry.TheVariants as entry
 use Rattle.charge_world.specs.declared.heard.Heard.{Heard}
@@ -7,14 +7,14 @@ use Rattle.charge_world.specs.declared.heard.What.{What}
 use Rattle.charge_world.specs.declared.heard.What.TheVariants as what
 use Rattle.charge_world.specs.declared.offer.Dialect.{Dialect}
 use Rattle.v2gtp_frames.specs.Reading.{whole_at}
-use Rattle.session_spec.specs.Past.{session, next_session, session_behind, newest_hearing, is_came, opens, entries_from}
-use Rattle.session_spec.specs.Words.{is_bytes, stream}
-use Rattle.session_spec.specs.Acts.{Act, SessionActs, PostActs}
+use Rattle.session_spec.specs.Past.{session, next_session, is_came}
+use Rattle.session_spec.specs.Words.{is_bytes}
+use Rattle.session_spec.specs.Acts.{PostActs}
 use Rattle.site_core.specs.declared.site.Site.{Site}
 use Rattle.site_core.specs.declared.site.Stage.{Stage}
 use Rattle.site_core.specs.declared.site.Stage.TheVariants.{Idle, Waiting, Reading, Closing}
 use Rattle.site_core.specs.Judging.{Judges}
-use Rattle.site_core.specs.Standing.{IsLive, StandsAs, RestsAs, Counts}
+use Rattle.site_core.specs.Standing.{IsLive, StandsAs}
 use Rattle.site_core.specs.Serving.{InBlock, Behind, IsQuiet}
 use Rattle.site_core.proofs.Words.{counts_same}
 

@@ -1,5 +1,5 @@
 -- The next word is looked at.
-use Rattle.std.proofs.Common.{◌≡◌, ℕ, zero, suc, ◌+◌, ◌*◌, ◌<◌, ◌≤◌, Bool, true, false, cond, List, [], ◌∷◌, ◌++◌, length, drop, Option, Some, None, Result, Ok, Err, refl, sym, ap, subst, ◌∙◌, arith}
+use Rattle.std.proofs.Common.{◌≡◌, ℕ, ◌+◌, ◌<◌, ◌≤◌, Bool, false, List, length, drop, Option, Some, None, Result, Ok, Err, refl, sym, ap, subst, ◌∙◌, arith}
 use Rattle.std.proofs.lemmas.List.{length-drop}
 use Rattle.charge_world.specs.declared.entry.Entry.{Entry}
 use Rattle.charge_world.specs.declared.offer.Dialect.{Dialect}
@@ -7,7 +7,6 @@ use Rattle.v2gtp_frames.specs.declared.FrameFault.{FrameFault}
 use Rattle.v2gtp_frames.specs.Reading.{whole_at, payload_at, behind, behind_front}
 use Rattle.v2gtp_frames.proofs.Growing.{whole_fits}
 use Rattle.session_spec.specs.Past.{session}
-use Rattle.session_spec.specs.Words.{replies}
 use Rattle.session_spec.specs.Acts.{Act, End, NotBuilt, OnWord, SessionActs, PostActs}
 use Rattle.site_core.specs.declared.ending.Ending.{Ending}
 use Rattle.site_core.specs.declared.judging.Reply.{Reply}
@@ -16,7 +15,7 @@ use Rattle.site_core.specs.declared.site.Stage.{Stage}
 use Rattle.site_core.specs.declared.site.Stage.TheVariants.{Idle, Waiting, Reading, Closing}
 use Rattle.site_core.specs.Judging.{Judges}
 use Rattle.site_core.specs.Replies.{Replies}
-use Rattle.site_core.specs.Standing.{IsLive, number_of, count_of, StandsAs, Stands, Counts}
+use Rattle.site_core.specs.Standing.{IsLive, number_of, count_of, StandsAs, Counts}
 use Rattle.site_core.specs.Serving.{InBlock, Owes, MaySend, rank_of}
 
 pub counts_same : (site new : Site) (past : List Entry) → new.report ≡ site.report → Counts site past → Counts new past

@@ -1,5 +1,5 @@
 -- Own: what the station's judgement of a payload and of a word is.
-use Rattle.std.specs.Prelude.{◌≡◌, ℕ, Bool, true, false, List, Option, Some, None, Ok}
+use Rattle.std.specs.Prelude.{◌≡◌, ℕ, Bool, false, List, Option, Some, None, Ok}
 use Rattle.charge_world.specs.declared.offer.Dialect.{Dialect}
 use Rattle.v2gtp_frames.specs.Frames.{frame}
 use Rattle.v2gtp_frames.specs.Reading.{whole_at, payload_at}

@@ -1,8 +1,8 @@
 -- Own: what the state of a post stands for, as a function of the past.
-use Rattle.std.specs.Prelude.{◌≡◌, ℕ, zero, suc, ◌≤◌, Bool, true, false, List, [], ◌∷◌, Option, Some, None, Result, Ok, Err, cond}
+use Rattle.std.specs.Prelude.{◌≡◌, ℕ, zero, suc, Bool, List, Option, Some, None, Ok, cond}
 use Rattle.charge_world.specs.declared.entry.Entry.{Entry}
 use Rattle.v2gtp_frames.specs.Reading.{whole_at, behind_frames}
-use Rattle.session_spec.specs.Past.{session, next_session, hearings}
+use Rattle.session_spec.specs.Past.{session, next_session}
 use Rattle.session_spec.specs.Words.{stream, replies, unread}
 use Rattle.session_spec.specs.Acts.{Judged, Act, End, OnWord, SessionActs, PostActs}
 use Rattle.session_spec.specs.Report.{sessions, closed, causes}

@@ -54,11 +54,7 @@ fn ending_heard(what: What) -> Option<Ending>
 {
     match what {
         What::Came { post, token: _ } | What::Gone { post } => {
-            if post == 1 {
-                Some(Ending::Gone)
-            } else {
-                None
-            }
+            if post == 1 { Some(Ending::Gone) } else { None }
         }
         What::Over => Some(Ending::RunOver),
         What::Bytes { .. } | What::Datagram { .. } | What::Plant { .. } | What::Tick => None,

@@ -1,4 +1,4 @@
-use Rattle.std.proofs.Common.{[], ◌∷◌, List, subst}
+use Rattle.std.proofs.Common.{List, subst}
 use Rattle.app_protocol.specs.Messages.{Protocol}
 use Rattle.app_protocol.specs.Negotiation.{Negotiates}
 use Rattle.site_core.proofs.judging.reply_to.Goals as goal

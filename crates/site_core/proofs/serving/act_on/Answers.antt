@@ -1,6 +1,5 @@
-use Rattle.std.proofs.Common.{ℕ, ◌∙◌, ap, ◌<◌, ◌*◌, length, List, arith}
+use Rattle.std.proofs.Common.{ℕ, ◌∙◌, ap, length, List, arith}
 use Rattle.session_spec.specs.Acts.{End}
-use Rattle.site_core.specs.declared.site.Stage.{Stage}
 use Rattle.site_core.specs.Standing.{number_of}
 use Rattle.site_core.specs.Serving.{InBlock, Owes, MaySend, rank_of}
 use Rattle.site_core.proofs.Carry.{carries_from}

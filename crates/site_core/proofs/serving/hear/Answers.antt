@@ -1,8 +1,8 @@
-use Rattle.std.proofs.Common.{◌≡◌, ◌+◌, ◌<◌, ◌≤◌, ℕ, List, ◌∷◌, Option, Some, None, sym, subst, ◌∙◌, arith, refl}
+use Rattle.std.proofs.Common.{◌+◌, List, Option, Some, None, sym, subst, ◌∙◌, arith, refl}
 use Rattle.charge_world.specs.declared.entry.Entry.{Entry}
 use Rattle.charge_world.specs.declared.entry.Entry.TheVariants as entry
 use Rattle.charge_world.specs.Outside.{bytes_of}
-use Rattle.site_core.specs.Serving.{InBlock, Hears, Behind, AtRest}
+use Rattle.site_core.specs.Serving.{InBlock, Hears, Behind}
 use Rattle.site_core.proofs.Carry.{carries_then, carries_from, carries_to, carries_told}
 use Rattle.site_core.proofs.serving.hear.Goals as goal
 

@@ -1,6 +1,5 @@
-use Rattle.std.proofs.Common.{◌≡◌, ◌∙◌, ap, sym, refl, is_ok}
-use Rattle.charge_world.specs.declared.entry.Entry.TheVariants as entry
-use Rattle.site_core.specs.Serving.{InBlock, MaySend, stage_of}
+use Rattle.std.proofs.Common.{◌∙◌, ap, refl, is_ok}
+use Rattle.site_core.specs.Serving.{MaySend, stage_of}
 use Rattle.site_core.proofs.Sent.{sent_is}
 use Rattle.site_core.proofs.Carry.{carries_one}
 use Rattle.site_core.proofs.serving.send.Goals as goal

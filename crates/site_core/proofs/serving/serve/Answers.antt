@@ -1,6 +1,4 @@
-use Rattle.std.proofs.Common.{◌≡◌, ◌+◌, ◌-◌, ◌^◌, ◌<◌, ◌≤◌, ℕ, List, [], ◌∷◌, ◌++◌, Option, Some, None, replicate, sym, subst, ◌∙◌, arith, refl}
-use Rattle.std.specs.Prelude.{IsSome}
-use Rattle.charge_world.specs.declared.entry.Entry.{Entry}
+use Rattle.std.proofs.Common.{◌≡◌, ◌+◌, ℕ, [], Some, replicate, arith, refl}
 use Rattle.session_spec.specs.Past.{hearings}
 use Rattle.site_core.specs.Serving.{AtRest, Served, Turned}
 use Rattle.site_core.proofs.Carry.{carries_then, carries_to, carries_told, carries_know}
@@ -49,6 +47,6 @@ returns-in-Some-clause-untils g c =
     let t = rw c.in-Some.is at c.turn.ensures.carried i c.loop-test.true in
     carries_know before after (λ past. past ≡ []) (Turned offer plan.turns i (Some c.in-Some.how) c.turn.new.site) (λ past. g.W.Wire.untils c.turn.new.wire ≡ replicate {A = ℕ} (hearings past) 18446744073709551615) (g.W.Wire.untils c.args.wire.now ≡ [])
     (λ told past none s. all_untils 18446744073709551615 (hearings past) (i + 1) (g.W.Wire.untils c.args.wire.now) (g.W.Wire.untils c.turn.new.wire) none s.1
-        (one_until 18446744073709551615 i (g.W.Wire.untils c.args.wire.now) (g.W.Wire.untils c.loop.wire) (g.W.Wire.untils c.turn.new.wire) (g.W.Wire.untils c.turn.new.wire) refl (c.turn.ensures.untils told)
-        (c.loop.invariant.untils (carries_told mid after (AtRest offer plan.turns i c.loop.site) (Turned offer plan.turns i (Some c.in-Some.how) c.turn.new.site) t told))))
+    (one_until 18446744073709551615 i (g.W.Wire.untils c.args.wire.now) (g.W.Wire.untils c.loop.wire) (g.W.Wire.untils c.turn.new.wire) (g.W.Wire.untils c.turn.new.wire) refl (c.turn.ensures.untils told)
+    (c.loop.invariant.untils (carries_told mid after (AtRest offer plan.turns i c.loop.site) (Turned offer plan.turns i (Some c.in-Some.how) c.turn.new.site) t told))))
     (carries_then before mid after (λ past. past ≡ []) (AtRest offer plan.turns i c.loop.site) (Turned offer plan.turns i (Some c.in-Some.how) c.turn.new.site) c.loop.invariant.carried t)

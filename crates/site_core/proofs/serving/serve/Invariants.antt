@@ -1,6 +1,5 @@
-use Rattle.std.proofs.Common.{◌≡◌, ◌+◌, ◌<◌, ◌≤◌, ◌^◌, ◌-◌, ◌++◌, replicate, ℕ, List, []}
+use Rattle.std.proofs.Common.{◌≡◌, ◌≤◌, ◌^◌, ◌-◌, ◌++◌, replicate, []}
 use Rattle.std.specs.Prelude.{IsSome}
-use Rattle.charge_world.specs.declared.entry.Entry.{Entry}
 use Rattle.site_core.specs.Standing.{IsCalm}
 use Rattle.site_core.specs.Serving.{Carries, AtRest}
 use Rattle.site_core.proofs.serving.serve.Given as goal

@@ -1,4 +1,4 @@
-use Rattle.std.proofs.Common.{◌≡◌, ◌+◌, ℕ, Option, Some, None, sym, refl, arith}
+use Rattle.std.proofs.Common.{◌+◌, Some, None, sym, arith}
 use Rattle.charge_world.specs.Outside.{bytes_of}
 use Rattle.site_core.specs.declared.serving.Ended.TheVariants as ended
 use Rattle.site_core.specs.Serving.{AtRest, Hears, Behind, Turned}
