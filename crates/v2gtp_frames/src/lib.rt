@@ -1,7 +1,7 @@
 //! The frames of V2GTP (ISO 15118-2:2014, section 7.8.3): their header, and the frames of a TCP stream in any cutting.
 #![tactic(auto)]
 
-ghost use Rattle.std.specs.Prelude.{◌≡◌, ◌≤◌, ◌++◌, ◌+◌, ◌<◌, [], length, take, drop, Ok, Err, None, Some, IfOk, IfSome, vec_len, vec_capacity};
+ghost use Rattle.std.specs.Prelude.{ℕ, List, ◌≡◌, ◌≤◌, ◌++◌, ◌+◌, ◌<◌, [], length, take, drop, Ok, Err, None, Some, IfOk, IfSome, vec_len, vec_capacity};
 ghost use Rattle.std.specs.Borrow.{sem};
 ghost use Rattle.std.specs.Io.BufRead.{Rests};
 ghost use Rattle.v2gtp_frames.specs.Frames.{header};
@@ -119,6 +119,7 @@ impl FrameReader {
     /// A fault is answered again until `clear`.
     pub fn next(&mut self) -> Result<Option<&[u8]>, FrameFault>
         ensures value { IsNext self.old result }
+        ensures short { IfOk result (λ answer. IfSome answer (λ payload. length payload.now ≤ 65536)) }
         ensures* after { sem 𝓛 (Rests the_row self.entry (λ new. new ≡ behind (whole_at self.old) self.old)) }
     {
         match whole(&self.buf[self.start..])? {
@@ -148,3 +149,8 @@ fn drop_front(buf: &mut Vec<u8>, n: usize)
 {
     drop(buf.drain(..n));
 }
+
+/// What is whole at the front of a stream stays so, whatever comes behind it.
+pub fn whole_frames_stay()
+    ensures { (bytes more : List ℕ) (n : ℕ) → whole_at bytes ≡ Ok (Some n) → whole_at (bytes ++ more) ≡ Ok (Some n) }
+{}
