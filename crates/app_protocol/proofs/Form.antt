@@ -1,12 +1,11 @@
 -- The first form: what is spelled so is read, and what is read is spelled so.
-use Rattle.std.proofs.Common.{◌≡◌, ℕ, ◌+◌, ◌-◌, ◌^◌, ◌<◌, ◌≤◌, Bool, true, false, cond, eqb, ltb, List, [], ◌∷◌, ◌++◌, length, Option, Some, None, refl, sym, ap, subst, ◌∙◌, append_assoc, arith}
+use Rattle.std.proofs.Common.{◌≡◌, ℕ, ◌+◌, ◌^◌, ◌<◌, Bool, true, cond, ltb, List, ◌++◌, length, Some, None, refl, sym, ap, subst, ◌∙◌, arith}
 use Rattle.std.proofs.lemmas.Bool.{ltb-true, lt-ltb}
 use Rattle.exi_spec.specs.Bits.{number_bits, bits_of}
-use Rattle.exi_spec.specs.Items.{SpellsNumber, SpellsUnsigned}
 use Rattle.app_protocol.specs.Messages.{Protocol}
 use Rattle.app_protocol.specs.FirstForm.{header, element, SpellsNamespace, SpellsVersion, SpellsSchema, SpellsPriority, SpellsFirstForm}
 use Rattle.app_protocol.specs.Reading.{◌>>=◌, number_in, code_in, unsigned_in, start_in, sized_text_in, namespace_in, version_in, schema_in, priority_in, protocol_in, front_in, back_in, form_in}
-use Rattle.app_protocol.proofs.Items.{bind_some, passed, given_is, number_again, number_takes, code_again, code_takes, unsigned_again, unsigned_takes, start_again, start_takes, regrouped, whole_element}
+use Rattle.app_protocol.proofs.Items.{bind_some, passed, given_is, number_again, number_takes, code_again, code_takes, unsigned_again, unsigned_takes, start_again, regrouped, whole_element}
 use Rattle.app_protocol.proofs.Texts.{sized_again, sized_takes}
 
 -- an element stands in front, whose value is spelled so

@@ -1,10 +1,9 @@
 -- Numbers and codes: what is spelled is read, and what is read is spelled.
-use Rattle.std.proofs.Common.{◌≡◌, ℕ, ◌+◌, ◌^◌, ◌<◌, ◌≤◌, ◌⊎◌, Bool, true, false, cond, eqb, ltb, List, [], ◌∷◌, ◌++◌, length, take, drop, Option, Some, None, Result, Ok, Err, refl, sym, ap, subst, ◌∙◌, append_assoc, arith, inl, inr}
-use Rattle.std.proofs.lemmas.Bool.{cases_lt, ltb-false, le-ltb, lt-ltb, eqb-true}
+use Rattle.std.proofs.Common.{◌≡◌, ℕ, ◌^◌, ◌<◌, Bool, true, false, cond, eqb, ltb, List, ◌++◌, length, take, drop, Option, Some, None, refl, sym, ap, subst, ◌∙◌, append_assoc, arith, inl, inr}
+use Rattle.std.proofs.lemmas.Bool.{ltb-false, le-ltb, lt-ltb, eqb-true}
 use Rattle.std.proofs.lemmas.List.{take_at, drop_at, take-append-drop, length-append, length-take-le}
 use Rattle.exi_spec.specs.Bits.{number_bits, number_of}
 use Rattle.exi_spec.specs.Items.{SpellsNumber, SpellsUnsigned, RefusesBits, RefusesUnsigned}
-use Rattle.exi_spec.specs.Plain.{octets_in}
 use Rattle.exi_spec.specs.declared.BitCause.{BitCause}
 use Rattle.exi_spec.specs.declared.BitCause.TheVariants.{ShortInput, WiderInteger, BadChar}
 use Rattle.exi_spec.proofs.BitLaws.{length-number_bits, number_of-number_bits, number_of-lt, number_bits-number_of}

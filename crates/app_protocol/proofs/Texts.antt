@@ -1,5 +1,5 @@
 -- Texts: what is spelled is read, and what is read is spelled.
-use Rattle.std.proofs.Common.{◌≡◌, ℕ, zero, suc, ◌+◌, ◌-◌, ◌*◌, ◌^◌, ◌<◌, ◌≤◌, Bool, true, false, cond, eqb, ltb, List, [], ◌∷◌, ◌++◌, length, Option, Some, None, refl, sym, ap, subst, ◌∙◌, append_assoc, arith, encode_utf8_all}
+use Rattle.std.proofs.Common.{◌≡◌, ℕ, zero, suc, ◌+◌, ◌-◌, ◌<◌, ◌≤◌, Bool, true, false, cond, ltb, List, [], ◌∷◌, ◌++◌, length, Option, Some, None, refl, sym, ap, subst, ◌∙◌, append_assoc, arith, encode_utf8_all}
 use Rattle.std.proofs.lemmas.Bool.{ltb-false, le-ltb}
 use Rattle.std.proofs.lemmas.List.{append-nil}
 use Rattle.std.specs.Str.{all_scalars}
@@ -7,7 +7,7 @@ use Rattle.std.specs.Char.{IsScalar, encode_utf8}
 use Rattle.exi_spec.specs.Items.{SpellsUnsigned, SpellsChar, SpellsChars}
 use Rattle.app_protocol.specs.FirstForm.{SpellsNamespace}
 use Rattle.app_protocol.specs.Reading.{◌>>=◌, unsigned_in, char_in, text_in, sized_text_in}
-use Rattle.app_protocol.proofs.Items.{bind_some, passed, survived, given_is, unsigned_again, unsigned_takes, Unsigned}
+use Rattle.app_protocol.proofs.Items.{bind_some, passed, survived, given_is, unsigned_again, unsigned_takes}
 
 only_scalar : (c : ℕ) → IsScalar c → all_scalars (c ∷ []) ≡ true
 only_scalar c h = rw h refl

@@ -54,8 +54,8 @@ pub record SpellsFirstForm (p : Protocol) (payload : List ℕ) : Type 0 where
   pub schema_is : SpellsSchema p.schema schema
   pub priority_is : SpellsPriority p.priority priority
   pub few : length pad < 8
-  -- document 0 of 4 is the request, it starts with an AppProtocol, whose end is its only event behind Priority;
-  -- then another AppProtocol has code 0 of 2 bits, and the end of the request code 1
+  -- document number 0, in 2 bits, is the request. It starts with an AppProtocol, which behind its Priority can only end.
+  -- Behind that another AppProtocol has code 0 in 2 bits, and the end of the request code 1
   pub spelled : bits_of payload ≡ header ++ (number_bits 2 0 ++ (number_bits 1 0
       ++ (element namespace ++ (element major ++ (element minor ++ (element schema ++ (element priority
       ++ (number_bits 1 0 ++ (number_bits 2 1 ++ pad)))))))))

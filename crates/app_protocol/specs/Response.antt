@@ -1,6 +1,6 @@
 -- The one encoding of a supportedAppProtocolRes, ISO 15118-2:2014 section 8.2, in the bits of schema-informed EXI
 -- (W3C EXI 1.0, Second Edition, 8.5.4).
-use Rattle.std.specs.Prelude.{◌≡◌, ℕ, ◌<◌, Bool, false, List, ◌++◌, length, replicate, Option, Some, None}
+use Rattle.std.specs.Prelude.{◌≡◌, ℕ, ◌<◌, Bool, false, List, ◌++◌, replicate, Option, Some, None}
 use Rattle.exi_spec.specs.Bits.{number_bits, bits_of}
 use Rattle.app_protocol.specs.declared.message.AppCode.{AppCode}
 use Rattle.app_protocol.specs.declared.message.AppCode.TheVariants.{Successful, MinorDeviation, Failed}
@@ -19,7 +19,7 @@ abbrev pub schema_bits : Option ℕ → List Bool
 schema_bits None = number_bits 2 1
 schema_bits (Some schema) = number_bits 2 0 ++ (number_bits 1 0 ++ (number_bits 8 schema ++ (number_bits 1 0 ++ number_bits 1 0)))
 
--- document 1 of 4 is the response
+-- document number 1, in 2 bits, is the response
 abbrev pub response_bits : AppRes → List Bool
 response_bits response =
     header ++ (number_bits 2 1 ++ (element (number_bits 2 (ordinal_of response.code)) ++ schema_bits response.schema))

@@ -1,7 +1,7 @@
-use Rattle.std.proofs.Common.{◌≡◌, Option, Some, None, Result, Ok, Err, OnErr, refl, sym, ap, ◌∙◌}
+use Rattle.std.proofs.Common.{◌≡◌, None, Result, Ok, Err, OnErr, refl, sym, ◌∙◌}
 use Rattle.exi_spec.specs.Bits.{bits_of}
 use Rattle.app_protocol.specs.declared.reading.NotBuilt.{NotBuilt}
-use Rattle.app_protocol.specs.Messages.{Protocol, protocol_of}
+use Rattle.app_protocol.specs.Messages.{protocol_of}
 use Rattle.app_protocol.specs.Reading.{form_in}
 use Rattle.app_protocol.proofs.Items.{given_is}
 use Rattle.app_protocol.proofs.Form.{form_again, form_takes}

@@ -1,4 +1,4 @@
-use Rattle.app_protocol.proofs.Items.{number_taken, number_refused}
+use Rattle.app_protocol.proofs.Items.{number_taken}
 use Rattle.app_protocol.proofs.reading.take_number.Goals as goal
 
 pub returns-in-Ok-clause-found : goal.returns-in-Ok-clause-found
