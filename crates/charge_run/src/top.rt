@@ -106,12 +106,10 @@ fn tell<K: Sink>(ended: Ended, report: &PostReport, out: &mut K) -> Status
     let line = line_of(1, report);
     match ended {
         Ended::Lost => Status::WireFault,
-        Ended::Over => {
-            if out.write(line.as_slice()).is_err() {
-                return Status::SinkFault;
-            }
-            Status::Done
-        }
+        Ended::Over => match out.write(line.as_slice()) {
+            Err(_) => Status::SinkFault,
+            Ok(()) => Status::Done,
+        },
         Ended::Turns => {
             if out.write(line.as_slice()).is_err() {
                 return Status::SinkFault;
