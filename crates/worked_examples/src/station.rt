@@ -12,8 +12,14 @@ fn the_published_request_is_answered(rt: HostRuntime) -> Result<(), Fail> {
     script.push(piece(rt.alloc(), REQUEST)?)?;
     let left = station(rt.alloc(), script, &[], &[])?;
     assert_eq!(rt; left.status, Status::Done);
-    assert_eq!(rt; left.done.as_str(), " sent 1 01fe80010000000480400040 true ended 1 18");
-    assert_eq!(rt; left.out.as_str(), "post 1 sessions 1 closed 0 causes 00040000\n");
+    assert_eq!(rt;
+        left.done.as_str(),
+        " sent 1 01fe80010000000480400040 true ended 1 18"
+    );
+    assert_eq!(rt;
+        left.out.as_str(),
+        "post 1 sessions 1 closed 0 causes 00040000\n"
+    );
     assert_eq!(rt; left.untils, 3);
     Ok(())
 }
@@ -28,7 +34,10 @@ fn one_byte_per_hearing_with_a_tick_between(rt: HostRuntime) -> Result<(), Fail>
         script.push(event(rt.alloc(), What::Tick))?;
     }
     let left = station(rt.alloc(), script, &[], &[])?;
-    assert_eq!(rt; left.done.as_str(), " sent 1 01fe80010000000480400040 true ended 1 18");
+    assert_eq!(rt;
+        left.done.as_str(),
+        " sent 1 01fe80010000000480400040 true ended 1 18"
+    );
     Ok(())
 }
 
@@ -80,8 +89,20 @@ fn each_failing_call(rt: HostRuntime) -> Result<(), Fail> {
     let table = [
         ([1u32; 1], [9u32; 1], Status::WireFault, "", ""),
         ([2; 1], [9; 1], Status::WireFault, " lost", ""),
-        ([4; 1], [9; 1], Status::Done, " sent 1 01fe80010000000480400040 false ended 1 16", done),
-        ([9; 1], [1; 1], Status::SinkFault, " sent 1 01fe80010000000480400040 true ended 1 18", ""),
+        (
+            [4; 1],
+            [9; 1],
+            Status::Done,
+            " sent 1 01fe80010000000480400040 false ended 1 16",
+            done,
+        ),
+        (
+            [9; 1],
+            [1; 1],
+            Status::SinkFault,
+            " sent 1 01fe80010000000480400040 true ended 1 18",
+            "",
+        ),
     ];
     for (failing, unwritten, status, want, out) in table {
         let mut script = Vec::new(rt.alloc());
@@ -97,13 +118,23 @@ fn each_failing_call(rt: HostRuntime) -> Result<(), Fail> {
 
 #[test]
 fn other_words(rt: HostRuntime) -> Result<(), Fail> {
-    for (word, want) in [("station", Status::Done), ("Station", Status::Words), ("", Status::Words)] {
+    for (word, want) in [
+        ("station", Status::Done),
+        ("Station", Status::Words),
+        ("", Status::Words),
+    ] {
         let mut words = Vec::new(rt.alloc());
         words.push(String::from_str(rt.alloc(), word)?)?;
         let left = ran(rt.alloc(), words, Vec::new(rt.alloc()), &[], &[])?;
         assert_eq!(rt; left.status, want);
     }
-    let left = ran(rt.alloc(), Vec::new(rt.alloc()), Vec::new(rt.alloc()), &[], &[])?;
+    let left = ran(
+        rt.alloc(),
+        Vec::new(rt.alloc()),
+        Vec::new(rt.alloc()),
+        &[],
+        &[],
+    )?;
     assert_eq!(rt; left.status, Status::Words);
     assert_eq!(rt; left.status.number(), 2);
     Ok(())
