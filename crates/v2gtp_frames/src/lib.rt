@@ -1,13 +1,16 @@
 //! The frames of V2GTP (ISO 15118-2:2014, section 7.8.3): their header, and the frames of a TCP stream in any cutting.
 #![tactic(auto)]
 
-ghost use Rattle.std.specs.Prelude.{ℕ, List, ◌≡◌, ◌≤◌, ◌++◌, ◌+◌, ◌<◌, [], length, take, drop, Ok, Err, None, Some, IfOk, IfSome, vec_len, vec_capacity};
+ghost use Rattle.std.specs.Prelude.{ℕ, List, ◌≡◌, ◌≤◌, ◌++◌, ◌+◌, ◌<◌, ◌↔◌, [], length, take, drop, slice_index_or, All, Ok, Err, None, Some, IfOk, IfSome, OnOk, vec_len, vec_capacity};
 ghost use Rattle.std.specs.Borrow.{sem};
 ghost use Rattle.std.specs.Io.BufRead.{Rests};
-ghost use Rattle.v2gtp_frames.specs.Frames.{header};
-ghost use Rattle.v2gtp_frames.specs.Reading.{whole_at, behind, IsNext};
+ghost use Rattle.v2gtp_frames.specs.Frames.{header, Frames, IsFault, IsRest, IsRight};
+ghost use Rattle.v2gtp_frames.specs.Reading.{whole_at, behind, payload_at, behind_front, behind_frames, IsNext};
+
+mod splitting;
 
 use byteorder::{BigEndian, ByteOrder};
+pub use splitting::{StreamFrames, split};
 pub use std::alloc::AllocError as NoMemory;
 use std::alloc::Global;
 use std::marker::Model;
@@ -149,6 +152,17 @@ fn drop_front(buf: &mut Vec<u8>, n: usize)
 {
     drop(buf.drain(..n));
 }
+
+/// The words of a stream: reading frame by frame gives the payloads one after another, and then the rest.
+pub fn words_of_a_stream()
+    ensures word { (stream : List ℕ) (payloads : List (List ℕ)) (rest : List ℕ) (n : ℕ) → Frames stream payloads rest → n < length payloads
+        → let payload = slice_index_or payloads n [] in (whole_at (behind_frames n stream) ≡ Ok (Some (length payload)))
+        × (payload_at (length payload) (behind_frames n stream) ≡ payload) }
+    ensures rest { (stream : List ℕ) (payloads : List (List ℕ)) (rest : List ℕ) → Frames stream payloads rest
+        → behind_frames (length payloads) stream ≡ rest }
+    ensures fault { (rest : List ℕ) (fault : FrameFault) → (whole_at rest ≡ Err fault) ↔ IsFault rest fault }
+    ensures waits { (rest : List ℕ) → All (λ byte. byte < 256) rest → (whole_at rest ≡ Ok None) ↔ (IsRest rest × IsRight rest) }
+{}
 
 /// What is whole at the front of a stream stays so, whatever comes behind it.
 pub fn whole_frames_stay()
