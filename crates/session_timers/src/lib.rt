@@ -3,5 +3,7 @@
 #![tactic(auto)]
 
 pub mod deadlines;
+pub mod law;
 
 pub use deadlines::{Deadlines, Last};
+pub use law::law_of_deadlines;
