@@ -6,5 +6,4 @@ ghost use Rattle.contactor.specs.Law.{StandsRight, IsLiveRight};
 pub fn law_of_contactor()
     ensures stands { StandsRight }
     ensures live { IsLiveRight }
-{
-}
+{}

@@ -10,3 +10,6 @@ pub use contactor::Contactor;
 pub use law::law_of_contactor;
 pub use right::{CloseRight, is_ready};
 pub use session_words::Standing;
+
+#[cfg(test)]
+mod tests;

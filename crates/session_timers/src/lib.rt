@@ -7,3 +7,6 @@ pub mod law;
 
 pub use deadlines::{Deadlines, Last};
 pub use law::law_of_deadlines;
+
+#[cfg(test)]
+mod tests;

@@ -24,3 +24,6 @@ pub use phase::{Phase, Standing};
 pub use plan::{CarPlan, PostPlan, SitePlan, Stop};
 pub use session::SessionId;
 pub use word::{Ask, Reply, Request, Tell, Word};
+
+#[cfg(test)]
+mod tests;
