@@ -1,0 +1,12 @@
+//! Items of EXI at any bit of a payload (W3C EXI 1.0, Second Edition, 7.1): read, lent and written.
+//!
+//! Bits are numbered from 0, the highest bit of the first byte first. No call takes memory.
+#![tactic(auto)]
+
+mod cursor;
+mod octets;
+mod span;
+
+pub use cursor::BitCursor;
+pub use exi_spec::{BitCause, BitFault};
+pub use span::{BitSpan, SpanAt};

@@ -1,0 +1,4 @@
+pub mod BitLaws
+pub mod OctetLaws
+pub mod PlaceLaws
+pub mod PlainLaws
