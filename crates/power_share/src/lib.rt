@@ -5,7 +5,7 @@
 #![tactic(auto)]
 
 pub mod laws;
-pub mod level;
+mod level;
 pub mod sharing;
 
 pub use laws::{one_level, within_limit};

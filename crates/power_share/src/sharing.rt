@@ -72,7 +72,8 @@ impl Shares {
         requires { IsPost self.now post }
         ensures { result ≡ at_post self.now.told post }
     {
-        self.told[usize::from(post) - 1]
+        let place = usize::from(post) - 1;
+        self.told[place]
     }
 
     /// The session of the post is over: it asks no more, and its watts are free.
