@@ -1,5 +1,5 @@
 -- Own: the events of a simulated charger, and what its calls do to them.
-use Rattle.std.specs.Prelude.{◌≡◌, ℕ, ◌+◌, ◌-◌, ◌*◌, ◌<◌, ◌≤◌, ◌^◌, ◌⊎◌, Bool, true, false, MatchBool, if◌then◌else◌, nat_lt, nat_le, min, max, List, [], ◌∷◌, Option, Some, None, MatchOption, replicate, slice_get, slice_set}
+use Rattle.std.specs.Prelude.{◌≡◌, ℕ, ◌+◌, ◌-◌, ◌*◌, ◌<◌, ◌≤◌, ◌^◌, ◌⊎◌, Bool, true, false, MatchBool, if◌then◌else◌, nat_lt, nat_le, min, max, List, [], ◌∷◌, Option, Some, None, replicate, slice_get, slice_set}
 use Rattle.charge_world.specs.declared.heard.PilotState.TheVariants as pilot
 use Rattle.charge_world.specs.declared.heard.IsolationLevel.TheVariants as isolation
 use Rattle.charge_world.specs.declared.heard.PlantEvent.{PlantEvent}
@@ -52,19 +52,21 @@ ordered s order.Open now =
     record s { moments = slice_set (slice_set s.moments 6 (later now 50)) 7 (later now 50); closed = false }
 
 -- the voltage moves by at most 100.0 V towards the ordered one
+abbrev pub towards : ℕ → ℕ → ℕ
+towards from to = if nat_le from to then min to (from + 1000) else max to (from - 1000)
+
 abbrev pub moved : Charger → ℕ
-moved s =
-    if nat_le s.voltage s.limits.voltage then min s.limits.voltage (s.voltage + 1000) else max s.limits.voltage (s.voltage - 1000)
+moved s = towards s.voltage s.limits.voltage
 
 -- the greatest current up to the ordered one at which the watts hold, at this voltage
-pub record IsCut (voltage : ℕ) (limits : Limits) (current : ℕ) : Type 0 where
-  pub ordered : current ≤ limits.current
-  pub held : voltage * current ≤ 100 * limits.watts
-  pub greatest : (other : ℕ) → other ≤ limits.current → voltage * other ≤ 100 * limits.watts → other ≤ current
+pub record IsCut (voltage most watts current : ℕ) : Type 0 where
+  pub ordered : current ≤ most
+  pub held : voltage * current ≤ 100 * watts
+  pub greatest : (other : ℕ) → other ≤ most → voltage * other ≤ 100 * watts → other ≤ current
 
--- the current that the charger then measures
+-- the current that the charger then measures: none while its contactor counts as open
 abbrev pub IsCurrent : Charger → ℕ → Type 0
-IsCurrent s current = MatchBool s.closed (IsCut (moved s) s.limits current) (current ≡ 0)
+IsCurrent s current = MatchBool s.closed (IsCut (moved s) s.limits.current s.limits.watts current) (current ≡ 0)
 
 -- the events of the eight places, in order
 abbrev pub events : ℕ → ℕ → List PlantEvent

@@ -1,10 +1,11 @@
 //! The simulated charger.
 
-ghost use Rattle.std.specs.Prelude.{◌≡◌, ◌≤◌, Bool, MatchOption, MatchBool};
-ghost use Rattle.plant_sim.specs.Charger.{Limits as Ordered, idle, came, ordered, towards, IsCut, IsDue, Comes, NoneReached};
+ghost use Rattle.std.specs.Prelude.{◌≡◌, MatchOption};
+ghost use Rattle.plant_sim.specs.Charger.{idle, came, ordered, IsDue, Comes, NoneReached};
 
+use crate::amounts::{current_of, event_of, moved, tenths, voltage_after};
 use crate::moments::{PLACES, first, later_by};
-use charge_world::{IsolationLevel, Order, PilotState, PlantEvent, Tenths};
+use charge_world::{Order, PlantEvent, Tenths};
 use std::marker::Model;
 
 /// What the charger was ordered last.
@@ -38,11 +39,11 @@ impl Model for Sim {
     ghost Value = { Charger };
 
     ghost view = { λ s. record {
-        free = s.free;
-        moments = s.moments;
-        limits = record { voltage = s.limits.voltage; current = s.limits.current; watts = s.limits.watts };
-        closed = s.closed;
-        voltage = s.voltage;
+      free = s.free;
+      moments = s.moments;
+      limits = record { voltage = s.limits.voltage; current = s.limits.current; watts = s.limits.watts };
+      closed = s.closed;
+      voltage = s.voltage;
     } };
 }
 
@@ -55,12 +56,12 @@ impl Sim {
             free,
             moments: [None; PLACES],
             limits: Limits {
-                voltage: Tenths::NONE,
-                current: Tenths::NONE,
+                voltage: tenths(0),
+                current: tenths(0),
                 watts: 0,
             },
             closed: false,
-            voltage: Tenths::NONE,
+            voltage: tenths(0),
         }
     }
 
@@ -123,11 +124,11 @@ impl Sim {
         if now < moment {
             return None;
         }
+        let voltage = moved(self.voltage, self.limits.voltage);
+        let current = current_of(self.closed, voltage, self.limits.current, self.limits.watts);
+        let event = event_of(place, voltage, current);
         self.moments[place] = None;
-        let event = self.event_of(place);
-        if let PlantEvent::Measured { voltage, .. } = event {
-            self.voltage = voltage;
-        }
+        self.voltage = voltage_after(&event, self.voltage);
         Some(event)
     }
 }

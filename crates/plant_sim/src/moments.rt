@@ -17,6 +17,7 @@ pub(crate) fn later_by(now: u64, delay: u64) -> Option<u64>
 /// The event that comes first: its place and its moment.
 pub(crate) fn first(moments: &[Option<u64>; PLACES]) -> Option<(usize, u64)>
     ensures some { IfSome result (λ found. IsFirst moments.now found.0 found.1) }
+    ensures place { IfSome result (λ found. found.0 < 8) }
     ensures none { IfNone result (NothingComes moments.now) }
 {
     let mut found = None;
