@@ -4,9 +4,21 @@ ghost use Rattle.std.specs.Prelude.{◌≡◌, MatchOption};
 ghost use Rattle.plant_sim.specs.Charger.{idle, came, ordered, IsDue, Comes, NoneReached};
 
 use crate::amounts::{current_of, event_of, moved, tenths, voltage_after};
-use crate::moments::{PLACES, first, later_by};
+use crate::moments::{PLACES, Place, first, later_by};
 use charge_world::{Order, PlantEvent, Tenths};
 use std::marker::Model;
+
+/// How long after a car came somebody pays, in milliseconds.
+const PAYMENT: u64 = 100;
+
+/// How long after a car came the isolation is found valid.
+const ISOLATION: u64 = 300;
+
+/// How long after limits the charger measures.
+const MEASUREMENT: u64 = 20;
+
+/// How long after an order the contactor has moved.
+const CONTACTOR: u64 = 50;
 
 /// What the charger was ordered last.
 #[derive(Clone, Copy, Debug)]
@@ -69,10 +81,14 @@ impl Sim {
     pub fn came(&mut self, now: u64)
         ensures { self.new ≡ came self.old now }
     {
-        self.moments[0] = Some(now);
-        self.moments[1] = Some(now);
-        self.moments[2] = if self.free { None } else { later_by(now, 100) };
-        self.moments[3] = later_by(now, 300);
+        self.moments[Place::Pilot as usize] = Some(now);
+        self.moments[Place::Isolation as usize] = Some(now);
+        self.moments[Place::Paid as usize] = if self.free {
+            None
+        } else {
+            later_by(now, PAYMENT)
+        };
+        self.moments[Place::Valid as usize] = later_by(now, ISOLATION);
     }
 
     /// An order at this moment (milliseconds). What is to come of an earlier one of its kind is dropped.
@@ -85,7 +101,7 @@ impl Sim {
                 current,
                 watts,
             } => {
-                self.moments[4] = later_by(now, 20);
+                self.moments[Place::Measured as usize] = later_by(now, MEASUREMENT);
                 self.limits = Limits {
                     voltage,
                     current,
@@ -93,12 +109,12 @@ impl Sim {
                 };
             }
             Order::Close => {
-                self.moments[5] = later_by(now, 50);
+                self.moments[Place::Closed as usize] = later_by(now, CONTACTOR);
                 self.closed = true;
             }
             Order::Open => {
-                self.moments[6] = later_by(now, 50);
-                self.moments[7] = later_by(now, 50);
+                self.moments[Place::Opened as usize] = later_by(now, CONTACTOR);
+                self.moments[Place::Dead as usize] = later_by(now, CONTACTOR);
                 self.closed = false;
             }
         }

@@ -7,6 +7,27 @@ ghost use Rattle.plant_sim.specs.Search.{FoundBelow};
 /// The number of places.
 pub(crate) const PLACES: usize = 8;
 
+/// The places of the events. Of events at one moment that of the earlier place comes first.
+#[derive(Clone, Copy)]
+pub(crate) enum Place {
+    /// Pilot C.
+    Pilot,
+    /// Isolation Invalid.
+    Isolation,
+    /// Somebody paid.
+    Paid,
+    /// Isolation Valid.
+    Valid,
+    /// Measured under the limits.
+    Measured,
+    /// Feedback closed.
+    Closed,
+    /// Feedback open.
+    Opened,
+    /// Measured with nothing at the outlet.
+    Dead,
+}
+
 /// So many milliseconds after a moment, if such a moment comes.
 pub(crate) fn later_by(now: u64, delay: u64) -> Option<u64>
     ensures { result ≡ later now delay }
