@@ -1,0 +1,10 @@
+//! Basic charging by the duty of the control pilot, after IEC 61851-1, in whole numbers.
+#![tactic(auto)]
+
+pub mod duty;
+pub mod laws;
+pub mod parts;
+pub mod words;
+
+pub use duty::{Offered, current_of, duty_of};
+pub use words::{BasicEvent, BasicOrder, Mode, Standing};
