@@ -3,8 +3,10 @@
 
 pub mod duty;
 pub mod laws;
-pub mod parts;
+mod machine;
+mod parts;
 pub mod words;
 
 pub use duty::{Offered, current_of, duty_of};
+pub use machine::Basic;
 pub use words::{BasicEvent, BasicOrder, Mode, Standing};

@@ -1,6 +1,7 @@
 //! The parts of a step.
 
-ghost use Rattle.std.specs.Prelude.{◌≡◌, ◌+◌, ◌≤◌, ◌++◌, fold};
+ghost use Rattle.std.specs.Prelude.{◌≡◌, ◌≤◌, ◌∷◌, [], ◌++◌, if◌then◌else◌, fold};
+ghost use Rattle.std.specs.Option.{option_to_list};
 ghost use Rattle.arrayvec.specs.ArrayVec.{array_vec_len};
 ghost use Rattle.pilot_basic.specs.Machine.{mode_at, mode_after, is_free, is_digital, is_ready, pilot_after, Acts, IsInRange, follows};
 ghost use Rattle.pilot_basic.specs.Contactor.{told, ordered, is_live};
@@ -88,8 +89,70 @@ fn after_order(standing: Standing, order: &BasicOrder) -> Standing
 }
 
 /// Whether a Close was ordered, and no Open since.
-fn live(standing: Standing) -> bool
+pub(crate) fn live(standing: Standing) -> bool
     ensures { result ≡ is_live standing }
 {
     matches!(standing, Standing::Closing | Standing::Closed)
+}
+
+/// What an event itself leads to.
+pub(crate) fn acted(mode: Mode, live: bool, event: &BasicEvent) -> ArrayVec<BasicOrder, 3>
+    requires { IsInRange event.now }
+    ensures acts { Acts mode live event.now result.items }
+    ensures few { array_vec_len result ≤ 2 }
+{
+    match event {
+        BasicEvent::Offer(amps) if free(mode) => one(BasicOrder::Duty(duty_of(*amps))),
+        BasicEvent::GoDigital if free(mode) => digital(live),
+        BasicEvent::DigitalEnded if matches!(mode, Mode::Digital) => one(BasicOrder::Duty(NO_DUTY)),
+        _ => ArrayVec::new(),
+    }
+}
+
+/// One order.
+fn one(order: BasicOrder) -> ArrayVec<BasicOrder, 3>
+    ensures { result.items ≡ order ∷ [] }
+{
+    let mut orders = ArrayVec::new();
+    orders.push(order);
+    orders
+}
+
+/// The orders before digital communication.
+fn digital(live: bool) -> ArrayVec<BasicOrder, 3>
+    ensures { result.items ≡ (if live then BasicOrder.Open ∷ BasicOrder.Duty 50 ∷ [] else BasicOrder.Duty 50 ∷ []) }
+{
+    if live {
+        let mut orders = one(BasicOrder::Open);
+        orders.push(BasicOrder::Duty(DIGITAL_DUTY));
+        orders
+    } else {
+        one(BasicOrder::Duty(DIGITAL_DUTY))
+    }
+}
+
+/// The order to the contactor after an event.
+pub(crate) fn following(mode: Mode, pilot: PilotState, standing: Standing) -> Option<BasicOrder>
+    ensures { option_to_list result ≡ follows mode pilot (is_live standing) standing }
+{
+    match (mode, pilot, standing) {
+        (Mode::Basic, PilotState::C | PilotState::D, Standing::Opened) => Some(BasicOrder::Close),
+        (Mode::Basic, PilotState::C | PilotState::D, _) => None,
+        (Mode::Basic, _, Standing::Closing | Standing::Closed) => Some(BasicOrder::Open),
+        _ => None,
+    }
+}
+
+/// Orders, and one more, if there is one.
+pub(crate) fn with_order(
+    mut orders: ArrayVec<BasicOrder, 3>,
+    order: Option<BasicOrder>,
+) -> ArrayVec<BasicOrder, 3>
+    requires { array_vec_len orders ≤ 2 }
+    ensures { result.items ≡ orders.items ++ option_to_list order }
+{
+    if let Some(order) = order {
+        orders.push(order);
+    }
+    orders
 }
