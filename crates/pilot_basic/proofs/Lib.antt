@@ -1,2 +1,4 @@
+pub mod Closes
+pub mod Pauses
 pub mod Standings
 pub mod Steps
