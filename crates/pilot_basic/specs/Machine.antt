@@ -1,6 +1,5 @@
 -- Own: basic charging as a machine over a past. A past is a list of steps, the newest first.
-use Rattle.std.specs.Prelude.{◌≡◌, ℕ, ◌+◌, ◌≤◌, ◌&&◌, nat_le, max, fold, is_some, if◌then◌else◌, MatchBool, Bool, true, false, List, [], ◌∷◌, ◌++◌, Option, Some, None}
-use Rattle.std.specs.List.{list_any}
+use Rattle.std.specs.Prelude.{◌≡◌, ℕ, ◌+◌, ◌≤◌, nat_le, max, fold, if◌then◌else◌, MatchBool, Bool, true, false, List, [], ◌∷◌, ◌++◌}
 use Rattle.charge_world.specs.declared.heard.PilotState.{PilotState}
 use Rattle.charge_world.specs.declared.heard.PilotState.TheVariants as pilot
 use Rattle.pilot_basic.specs.declared.words.BasicEvent.{BasicEvent}
@@ -9,8 +8,11 @@ use Rattle.pilot_basic.specs.declared.words.BasicOrder.{BasicOrder}
 use Rattle.pilot_basic.specs.declared.words.BasicOrder.TheVariants.{Open, Close, Duty}
 use Rattle.pilot_basic.specs.declared.words.Mode.{Mode}
 use Rattle.pilot_basic.specs.declared.words.Mode.TheVariants.{Off, Basic, Digital, Pause}
-use Rattle.pilot_basic.specs.declared.words.Standing.{Standing}
-use Rattle.pilot_basic.specs.declared.words.Standing.TheVariants as contactor
+use Rattle.session_words.specs.declared.phase.Standing.{Standing}
+use Rattle.session_words.specs.declared.phase.Standing.TheVariants as contactor
+use Rattle.contactor.specs.Standing.{standing_of, is_live}
+use Rattle.contactor.specs.Calls.{Call, close, release, hears, acts_of, Kept, kept_after}
+use Rattle.contactor.specs.Rights.{is_ready}
 use Rattle.pilot_basic.specs.Duty.{IsDuty}
 
 -- one event, the moment at which it was heard, and the orders that it led to
@@ -80,62 +82,32 @@ abbrev pub mode_of : List Step → Mode
 mode_of [] = Off
 mode_of (step ∷ past) = let now = max (now_of past) step.at in mode_after (mode_at (mode_of past) now) step.event now
 
--- whether an order to the contactor is a Close
-abbrev pub drive_of : BasicOrder → Option Bool
-drive_of Open = Some false
-drive_of Close = Some true
-drive_of (Duty d) = None
+-- what an event tells the contactor
+abbrev pub told_by : BasicEvent → List Call → List Call
+told_by (Feedback closed) calls = hears closed ∷ calls
+told_by (Offer amps) calls = calls
+told_by GoDigital calls = calls
+told_by DigitalEnded calls = calls
+told_by (Pilot state) calls = calls
+told_by Tick calls = calls
 
-abbrev pub newer : Option Bool → Option Bool → Option Bool
-newer before None = before
-newer before (Some closed) = Some closed
+-- the call that an order makes on the contactor
+abbrev pub ordered_by : List Call → BasicOrder → List Call
+ordered_by calls Open = release ∷ calls
+ordered_by calls Close = close ∷ calls
+ordered_by calls (Duty d) = calls
 
--- the last order to the contactor: whether it was a Close
-abbrev pub last_drive : List Step → Option Bool
-last_drive [] = None
-last_drive (step ∷ past) = fold (λ before order. newer before (drive_of order)) (last_drive past) step.orders
+-- the calls on the contactor in a past, the newest first; every order counts as taken
+abbrev pub calls_of : List Step → List Call
+calls_of [] = []
+calls_of (step ∷ past) = fold ordered_by (told_by step.event (calls_of past)) step.orders
 
--- a Close was ordered, and no Open since
-abbrev pub is_true : Option Bool → Bool
-is_true None = false
-is_true (Some b) = b
+-- how the contactor stands, and whether it is live
+abbrev pub standing_at : List Step → Standing
+standing_at past = standing_of (acts_of (calls_of past))
 
-abbrev pub live_of : List Step → Bool
-live_of past = is_true (last_drive past)
-
--- the feedback that an event tells, if it tells one
-abbrev pub feedback_in : BasicEvent → List Bool
-feedback_in (Feedback closed) = closed ∷ []
-feedback_in (Offer amps) = []
-feedback_in GoDigital = []
-feedback_in DigitalEnded = []
-feedback_in (Pilot state) = []
-feedback_in Tick = []
-
--- the feedbacks since the last order to the contactor, the newest first
-abbrev pub feedbacks_since : List Step → List Bool
-feedbacks_since [] = []
-feedbacks_since (step ∷ past) =
-    if list_any (λ order. is_some (drive_of order)) step.orders then [] else feedback_in step.event ++ feedbacks_since past
-
--- the last feedback is of a closed contactor
-abbrev pub ends_closed : List Bool → Bool
-ends_closed [] = false
-ends_closed (closed ∷ feedbacks) = closed
-
--- the last feedback is of an open contactor
-abbrev pub ends_open : List Bool → Bool
-ends_open [] = false
-ends_open (closed ∷ feedbacks) = if closed then false else true
-
--- the standing of the contactor, by its last order and the feedbacks since; each order counts as taken
-abbrev pub stands : Option Bool → List Bool → Standing
-stands None feedbacks = if ends_closed feedbacks then contactor.Opening else contactor.Opened
-stands (Some true) feedbacks = if list_any (λ closed. closed) feedbacks then contactor.Closed else contactor.Closing
-stands (Some false) feedbacks = if ends_open feedbacks then contactor.Opened else contactor.Opening
-
-abbrev pub standing_of : List Step → Standing
-standing_of past = stands (last_drive past) (feedbacks_since past)
+abbrev pub live_at : List Step → Bool
+live_at past = is_live (acts_of (calls_of past))
 
 -- what an event itself leads to, in a mode and with a live contactor or not
 abbrev pub Acts : Mode → Bool → BasicEvent → List BasicOrder → Type 0
@@ -148,20 +120,12 @@ Acts mode live (Pilot state) orders = orders ≡ []
 Acts mode live (Feedback closed) orders = orders ≡ []
 Acts mode live Tick orders = orders ≡ []
 
--- a vehicle that is ready to take energy
-abbrev pub is_ready : PilotState → Bool
-is_ready pilot.C = true
-is_ready pilot.D = true
-is_ready pilot.A = false
-is_ready pilot.B = false
-is_ready pilot.E = false
-is_ready pilot.F = false
-
 abbrev pub is_opened : Standing → Bool
 is_opened contactor.Opened = true
 is_opened contactor.Closing = false
 is_opened contactor.Closed = false
 is_opened contactor.Opening = false
+is_opened contactor.MustOpen = false
 
 -- after each event, in basic charging alone: close for a ready vehicle, open for another
 abbrev pub follows : Mode → PilotState → Bool → Standing → List BasicOrder
@@ -171,15 +135,15 @@ follows Off state live standing = []
 follows Digital state live standing = []
 follows (Pause since) state live standing = []
 
--- the past with an event that has led to no order yet
-abbrev pub heard : List Step → ℕ → BasicEvent → List Step
-heard past at event = record { at = at; event = event; orders = [] } ∷ past
+-- the past with an event that has led to these orders so far
+abbrev pub with_step : List Step → ℕ → BasicEvent → List BasicOrder → List Step
+with_step past at event orders = record { at = at; event = event; orders = orders } ∷ past
 
--- an event leads to these orders
+-- an event leads to these orders: those of the event itself, and then that to the contactor
 pub record LeadsTo (past : List Step) (at : ℕ) (event : BasicEvent) (orders : List BasicOrder) : Type 0 where
   pub acted : List BasicOrder
-  pub acts : Acts (mode_at (mode_of past) (now_of (heard past at event))) (live_of (heard past at event)) event acted
-  pub whole : orders ≡ acted ++ follows (mode_of (heard past at event)) (pilot_of (heard past at event)) (live_of (heard past at event)) (standing_of (heard past at event))
+  pub acts : Acts (mode_at (mode_of past) (now_of (with_step past at event []))) (live_at (with_step past at event [])) event acted
+  pub whole : orders ≡ acted ++ follows (mode_of (with_step past at event acted)) (pilot_of (with_step past at event acted)) (live_at (with_step past at event acted)) (standing_at (with_step past at event acted))
 
 -- a past of which each step was the machine's
 abbrev pub IsRun : List Step → Type 0
@@ -191,7 +155,7 @@ pub record State : Type 0 where
   pub now : ℕ
   pub mode : Mode
   pub pilot : PilotState
-  pub standing : Standing
+  pub contactor : Kept
 
 abbrev pub state_of : List Step → State
-state_of past = record { now = now_of past; mode = mode_of past; pilot = pilot_of past; standing = standing_of past }
+state_of past = record { now = now_of past; mode = mode_of past; pilot = pilot_of past; contactor = kept_after (calls_of past) }

@@ -2,11 +2,10 @@
 #![tactic(auto)]
 
 pub mod duty;
-pub mod laws;
 mod machine;
 mod parts;
 pub mod words;
 
 pub use duty::{Offered, current_of, duty_of};
 pub use machine::Basic;
-pub use words::{BasicEvent, BasicOrder, Mode, Standing};
+pub use words::{BasicEvent, BasicOrder, Mode};

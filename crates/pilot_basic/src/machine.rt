@@ -3,10 +3,11 @@
 ghost use Rattle.std.specs.Prelude.{◌≡◌, List, [], ◌∷◌};
 ghost use Rattle.pilot_basic.specs.Machine.{Step, State, IsInRange, LeadsTo, state_of};
 
-use crate::parts::{acted, after_orders, following, heard, live, next_mode, next_pilot, reached, with_order};
-use crate::words::{BasicEvent, BasicOrder, Mode, Standing};
+use crate::parts::{act, follow, hear, next_mode, next_pilot, reached, with_order};
+use crate::words::{BasicEvent, BasicOrder, Mode};
 use arrayvec::ArrayVec;
 use charge_world::PilotState;
+use contactor::{Contactor, law_of_contactor};
 use std::marker::Model;
 
 /// A post that charges by the duty of its pilot (own).
@@ -14,13 +15,13 @@ use std::marker::Model;
 /// It offers a current by the duty, closes its contactor for a vehicle that is ready and opens it for another. It may
 /// go over to digital communication, after whose end it pauses for 3,000 ms.
 ///
-/// Contracts see the moment as it counts, the mode, the pilot and the standing of the contactor.
-#[derive(Debug, Drop)]
+/// Contracts see the moment as it counts, the mode, the pilot and what the contactor keeps.
+#[derive(Drop)]
 pub struct Basic {
     now: u64,
     mode: Mode,
     pilot: PilotState,
-    standing: Standing,
+    contactor: Contactor,
 }
 
 impl Model for Basic {
@@ -28,7 +29,7 @@ impl Model for Basic {
 
     ghost Value = { State };
 
-    ghost view = { λ s. record { now = s.now; mode = s.mode; pilot = s.pilot; standing = s.standing } };
+    ghost view = { λ s. record { now = s.now; mode = s.mode; pilot = s.pilot; contactor = s.contactor } };
 }
 
 impl Basic {
@@ -40,7 +41,7 @@ impl Basic {
             now: 0,
             mode: Mode::Off,
             pilot: PilotState::A,
-            standing: Standing::Opened,
+            contactor: Contactor::new(),
         }
     }
 
@@ -52,15 +53,16 @@ impl Basic {
         ensures state { (past : List Step) → self.old ≡ state_of past →
             self.new ≡ state_of (record { at = now; event = event.now; orders = result.items } ∷ past) }
     {
+        // How the contactor stands, and whether it is live, is told by the calls on it.
+        law_of_contactor();
         let at = self.now.max(now);
         let mode = reached(self.mode, at);
-        let standing = heard(self.standing, event);
-        let first = acted(mode, live(standing), event);
         self.now = at;
         self.mode = next_mode(mode, event, at);
         self.pilot = next_pilot(self.pilot, event);
-        let orders = with_order(first, following(self.mode, self.pilot, standing));
-        self.standing = after_orders(standing, orders.as_slice());
-        orders
+        hear(&mut self.contactor, event);
+        let first = act(&mut self.contactor, mode, event);
+        let more = follow(&mut self.contactor, self.mode, self.pilot);
+        with_order(first, more)
     }
 }

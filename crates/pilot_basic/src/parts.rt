@@ -3,13 +3,14 @@
 ghost use Rattle.std.specs.Prelude.{◌≡◌, ◌≤◌, ◌∷◌, [], ◌++◌, if◌then◌else◌, fold};
 ghost use Rattle.std.specs.Option.{option_to_list};
 ghost use Rattle.arrayvec.specs.ArrayVec.{array_vec_len};
-ghost use Rattle.pilot_basic.specs.Machine.{mode_at, mode_after, is_free, is_digital, is_ready, pilot_after, Acts, IsInRange, follows};
-ghost use Rattle.pilot_basic.specs.Contactor.{told, ordered, is_live};
+ghost use Rattle.pilot_basic.specs.Machine.{mode_at, mode_after, is_free, pilot_after, Acts, IsInRange, follows};
+ghost use Rattle.pilot_basic.specs.Contactor.{told, driven};
 
 use crate::duty::duty_of;
-use crate::words::{BasicEvent, BasicOrder, Mode, Standing};
+use crate::words::{BasicEvent, BasicOrder, Mode};
 use arrayvec::ArrayVec;
 use charge_world::PilotState;
+use contactor::{CloseRight, Contactor, Standing, is_ready};
 
 /// How long a pause lasts, in milliseconds (own).
 const PAUSE: u64 = 3000;
@@ -59,51 +60,29 @@ pub(crate) fn next_pilot(pilot: PilotState, event: &BasicEvent) -> PilotState
     }
 }
 
-/// The standing after an event.
-pub(crate) fn heard(standing: Standing, event: &BasicEvent) -> Standing
-    ensures { result ≡ told standing event.now }
+/// What an event tells the contactor.
+pub(crate) fn hear(contactor: &mut Contactor, event: &BasicEvent)
+    ensures { contactor.new ≡ told contactor.old event.now }
 {
-    match (event, standing) {
-        (BasicEvent::Feedback { closed: true }, Standing::Opened) => Standing::Opening,
-        (BasicEvent::Feedback { closed: true }, Standing::Closing) => Standing::Closed,
-        (BasicEvent::Feedback { closed: false }, Standing::Opening) => Standing::Opened,
-        _ => standing,
+    if let BasicEvent::Feedback { closed } = event {
+        let _ = contactor.feedback(*closed);
     }
 }
 
-/// The standing after orders.
-pub(crate) fn after_orders(standing: Standing, orders: &[BasicOrder]) -> Standing
-    ensures { result ≡ fold ordered standing orders.now }
-{
-    orders.iter().fold(standing, |before, order| after_order(before, order))
-}
-
-fn after_order(standing: Standing, order: &BasicOrder) -> Standing
-    ensures { result ≡ ordered standing order.now }
-{
-    match order {
-        BasicOrder::Open => Standing::Opening,
-        BasicOrder::Close => Standing::Closing,
-        BasicOrder::Duty(_) => standing,
-    }
-}
-
-/// Whether a Close was ordered, and no Open since.
-pub(crate) fn live(standing: Standing) -> bool
-    ensures { result ≡ is_live standing }
-{
-    matches!(standing, Standing::Closing | Standing::Closed)
-}
-
-/// What an event itself leads to.
-pub(crate) fn acted(mode: Mode, live: bool, event: &BasicEvent) -> ArrayVec<BasicOrder, 3>
+/// What an event itself leads to. Every order to the contactor counts as taken.
+pub(crate) fn act(
+    contactor: &mut Contactor,
+    mode: Mode,
+    event: &BasicEvent,
+) -> ArrayVec<BasicOrder, 3>
     requires { IsInRange event.now }
-    ensures acts { Acts mode live event.now result.items }
+    ensures acts { Acts mode contactor.old.live event.now result.items }
     ensures few { array_vec_len result ≤ 2 }
+    ensures kept { contactor.new ≡ fold driven contactor.old result.items }
 {
     match event {
         BasicEvent::Offer(amps) if free(mode) => one(BasicOrder::Duty(duty_of(*amps))),
-        BasicEvent::GoDigital if free(mode) => digital(live),
+        BasicEvent::GoDigital if free(mode) => go_digital(contactor),
         BasicEvent::DigitalEnded if matches!(mode, Mode::Digital) => one(BasicOrder::Duty(NO_DUTY)),
         _ => ArrayVec::new(),
     }
@@ -119,10 +98,13 @@ fn one(order: BasicOrder) -> ArrayVec<BasicOrder, 3>
 }
 
 /// The orders before digital communication.
-fn digital(live: bool) -> ArrayVec<BasicOrder, 3>
-    ensures { result.items ≡ (if live then BasicOrder.Open ∷ BasicOrder.Duty 50 ∷ [] else BasicOrder.Duty 50 ∷ []) }
+fn go_digital(contactor: &mut Contactor) -> ArrayVec<BasicOrder, 3>
+    ensures orders { result.items ≡ (if contactor.old.live
+        then BasicOrder.Open ∷ BasicOrder.Duty 50 ∷ [] else BasicOrder.Duty 50 ∷ []) }
+    ensures kept { contactor.new ≡ fold driven contactor.old result.items }
 {
-    if live {
+    if contactor.live() {
+        let _ = contactor.release();
         let mut orders = one(BasicOrder::Open);
         orders.push(BasicOrder::Duty(DIGITAL_DUTY));
         orders
@@ -131,16 +113,38 @@ fn digital(live: bool) -> ArrayVec<BasicOrder, 3>
     }
 }
 
-/// The order to the contactor after an event.
-pub(crate) fn following(mode: Mode, pilot: PilotState, standing: Standing) -> Option<BasicOrder>
-    ensures { option_to_list result ≡ follows mode pilot (is_live standing) standing }
+/// The order to the contactor after an event. It counts as taken.
+pub(crate) fn follow(
+    contactor: &mut Contactor,
+    mode: Mode,
+    pilot: PilotState,
+) -> Option<BasicOrder>
+    ensures order { option_to_list result ≡ follows mode pilot contactor.old.live contactor.old.standing }
+    ensures kept { contactor.new ≡ fold driven contactor.old (option_to_list result) }
 {
-    match (mode, pilot, standing) {
-        (Mode::Basic, PilotState::C | PilotState::D, Standing::Opened) => Some(BasicOrder::Close),
-        (Mode::Basic, PilotState::C | PilotState::D, _) => None,
-        (Mode::Basic, _, Standing::Closing | Standing::Closed) => Some(BasicOrder::Open),
-        _ => None,
+    if !matches!(mode, Mode::Basic) {
+        return None;
     }
+    if !is_ready(pilot) {
+        return open_live(contactor);
+    }
+    if matches!(contactor.state(), Standing::Opened) {
+        let _ = contactor.close(CloseRight::ac(pilot));
+        return Some(BasicOrder::Close);
+    }
+    None
+}
+
+/// Opens the contactor where it is live.
+fn open_live(contactor: &mut Contactor) -> Option<BasicOrder>
+    ensures order { option_to_list result ≡ (if contactor.old.live then BasicOrder.Open ∷ [] else []) }
+    ensures kept { contactor.new ≡ fold driven contactor.old (option_to_list result) }
+{
+    if contactor.live() {
+        let _ = contactor.release();
+        return Some(BasicOrder::Open);
+    }
+    None
 }
 
 /// Orders, and one more, if there is one.

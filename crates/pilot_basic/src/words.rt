@@ -43,16 +43,3 @@ pub enum Mode {
     /// Not until 3,000 ms after this moment (own).
     Pause(u64),
 }
-
-/// The standing of a contactor, each order to which counts as taken.
-#[derive(Clone, Copy, Debug, PartialEq, Eq)]
-pub enum Standing {
-    /// Open, as far as is known.
-    Opened,
-    /// Ordered to close, and not yet seen closed.
-    Closing,
-    /// Ordered to close, and seen closed.
-    Closed,
-    /// To be open, and not yet seen so.
-    Opening,
-}

@@ -1,4 +1,0 @@
-pub mod Closes
-pub mod Pauses
-pub mod Standings
-pub mod Steps
