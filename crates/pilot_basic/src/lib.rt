@@ -2,6 +2,7 @@
 #![tactic(auto)]
 
 pub mod duty;
+pub mod laws;
 mod machine;
 mod parts;
 pub mod words;

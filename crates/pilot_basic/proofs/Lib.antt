@@ -1,0 +1,3 @@
+pub mod Closes
+pub mod Pauses
+pub mod Steps
