@@ -1,5 +1,5 @@
 -- A contactor is closed in basic charging alone, and for a vehicle that is ready.
-use Rattle.std.proofs.Common.{◌≡◌, ℕ, ◌⊎◌, max, Bool, true, false, cond, List, [], ◌∷◌, ◌++◌, Option, Some, None, fold, refl, sym, ap, ◌∙◌, subst, inl, inr}
+use Rattle.std.proofs.Common.{◌≡◌, ℕ, ◌⊎◌, max, Bool, true, false, List, [], ◌∷◌, ◌++◌, Some, fold, refl, sym, ap, ◌∙◌, inl, inr}
 use Rattle.std.proofs.lemmas.Bool.{false≢true}
 use Rattle.std.proofs.lemmas.List.Sums.{fold-append}
 use Rattle.charge_world.specs.declared.heard.PilotState.{PilotState}
@@ -14,7 +14,7 @@ use Rattle.session_words.specs.declared.phase.Standing.{Standing}
 use Rattle.contactor.specs.Standing as acts
 use Rattle.contactor.specs.Calls.{Call, close, release, acts_of}
 use Rattle.contactor.specs.Rights.{is_ready}
-use Rattle.pilot_basic.specs.Machine.{Step, IsRun, LeadsTo, with_step, now_of, mode_of, pilot_of, live_at, standing_at, calls_of, told_by, ordered_by, mode_at, mode_after, Acts, follows}
+use Rattle.pilot_basic.specs.Machine.{Step, IsRun, with_step, now_of, mode_of, pilot_of, live_at, standing_at, calls_of, told_by, ordered_by, mode_at, mode_after, Acts, follows}
 
 -- whether the contactor is live after an order
 abbrev live_then : Bool → BasicOrder → Bool
@@ -104,12 +104,13 @@ step_live mode now event state standing live acted orders before acts whole h =
     let after = live_after live acted in
     let f = follows (mode_after mode event now) state after standing in
     let split : live_after after f ≡ true =
-        sym (fold-append live_then live acted f) ∙ as_these live orders (acted ++ f) whole h in
+    sym (fold-append live_then live acted f) ∙ as_these live orders (acted ++ f) whole h in
     elim (followed_live (mode_after mode event now) state after standing split) [
-      inl ready ↦ ready
-    | inr more ↦
-        let was = acted_live mode now event live acted acts more.0 in
-        absurd (false≢true (sym (more.1 (was.1 (before was.0))) ∙ more.0)) ]
+      | inl ready ↦ ready
+      | inr more ↦
+          let was = acted_live mode now event live acted acts more.0 in
+          absurd (false≢true (sym (more.1 (was.1 (before was.0))) ∙ more.0))
+    ]
 
 pub closed_when_ready : (past : List Step) → IsRun past → live_at past ≡ true → (mode_of past ≡ Basic) × (is_ready (pilot_of past) ≡ true)
 closed_when_ready [] run h = absurd (false≢true h)
@@ -118,8 +119,8 @@ closed_when_ready (step ∷ past) run h =
     let told = told_by step.event (calls_of past) in
     let after = with_step past step.at step.event run.1.acted in
     step_live (mode_at (mode_of past) now) now step.event (pilot_of (step ∷ past)) (standing_at after) (acts.is_live (acts_of told)) run.1.acted step.orders
-        (λ live. ap (λ (m : Mode). mode_at m now) (closed_when_ready past run.0 (sym (live_told step.event (calls_of past)) ∙ live)).0)
-        run.1.acts
-        (run.1.whole
-          ∙ ap (λ (b : Bool). run.1.acted ++ follows (mode_of after) (pilot_of after) b (standing_at after)) (lives_after run.1.acted told))
-        (sym (lives_after step.orders told) ∙ h)
+    (λ live. ap (λ (m : Mode). mode_at m now) (closed_when_ready past run.0 (sym (live_told step.event (calls_of past)) ∙ live)).0)
+    run.1.acts
+    (run.1.whole
+    ∙ ap (λ (b : Bool). run.1.acted ++ follows (mode_of after) (pilot_of after) b (standing_at after)) (lives_after run.1.acted told))
+    (sym (lives_after step.orders told) ∙ h)

@@ -1,19 +1,20 @@
 -- Nothing is ordered for 3,000 ms after digital communication ended.
-use Rattle.std.proofs.Common.{◌≡◌, ◌≢◌, ℕ, ◌+◌, ◌<◌, ◌≤◌, ◌⊎◌, max, nat_le, Bool, true, false, cond, List, [], ◌∷◌, ◌++◌, refl, sym, ap, ◌∙◌, subst, inl, inr, arith}
+use Rattle.std.proofs.Common.{◌≡◌, ◌≢◌, ℕ, ◌+◌, ◌≤◌, ◌⊎◌, max, Bool, cond, List, [], ◌∷◌, ◌++◌, refl, ap, ◌∙◌, subst, inl, inr, arith}
 use Rattle.std.proofs.lemmas.Bool.{cases_lt, lt-leb}
 use Rattle.pilot_basic.specs.declared.words.BasicEvent.{BasicEvent}
 use Rattle.pilot_basic.specs.declared.words.BasicEvent.TheVariants.{Offer, GoDigital, DigitalEnded, Pilot, Feedback, Tick}
 use Rattle.pilot_basic.specs.declared.words.BasicOrder.{BasicOrder}
 use Rattle.pilot_basic.specs.declared.words.Mode.{Mode}
-use Rattle.pilot_basic.specs.declared.words.Mode.TheVariants.{Off, Basic, Digital, Pause}
-use Rattle.pilot_basic.specs.Machine.{Step, IsRun, LeadsTo, with_step, now_of, mode_of, pilot_of, live_at, standing_at, mode_at, mode_after, Acts, follows}
+use Rattle.pilot_basic.specs.declared.words.Mode.TheVariants.{Off, Digital, Pause}
+use Rattle.pilot_basic.specs.Machine.{Step, IsRun, with_step, now_of, mode_of, pilot_of, live_at, standing_at, mode_at, mode_after, Acts, follows}
 
 -- a pause at a moment: over, or as it was
 pause_at : (since now : ℕ) → (since + 3000 ≤ now) ⊎ (mode_at (Pause since) now ≡ Pause since)
 pause_at since now =
     elim (cases_lt now (since + 3000)) [
-      inl early ↦ inr (ap (λ (b : Bool). cond b Off (Pause since)) (lt-leb (since + 3000) now early))
-    | inr over ↦ inl over ]
+      | inl early ↦ inr (ap (λ (b : Bool). cond b Off (Pause since)) (lt-leb (since + 3000) now early))
+      | inr over ↦ inl over
+    ]
 
 -- no event changes a pause
 pause_after : (since now : ℕ) (event : BasicEvent) → mode_after (Pause since) event now ≡ Pause since
@@ -46,13 +47,15 @@ goes_on past (step ∷ later) ended e m =
     let since = now_of (ended ∷ past) in
     let now = max (now_of (later ++ ended ∷ past)) step.at in
     elim (goes_on past later ended e m) [
-      inr over ↦ inr (omega arith)
-    | inl pause ↦ elim (pause_at since now) [
-        inl over ↦ inr over
-      | inr still ↦ inl (
-          ap (λ (x : Mode). mode_after (mode_at x now) step.event now) pause
-          ∙ ap (λ (x : Mode). mode_after x step.event now) still
-          ∙ pause_after since now step.event) ] ]
+      | inr over ↦ inr (omega arith)
+      | inl pause ↦ elim (pause_at since now) [
+        | inl over ↦ inr over
+        | inr still ↦ inl (
+            ap (λ (x : Mode). mode_after (mode_at x now) step.event now) pause
+            ∙ ap (λ (x : Mode). mode_after x step.event now) still
+            ∙ pause_after since now step.event)
+      ]
+    ]
 
 pub pauses : (past later : List Step) (ended next : Step) → IsRun (next ∷ (later ++ ended ∷ past)) → ended.event ≡ DigitalEnded → mode_of past ≡ Digital → next.orders ≢ [] → now_of (ended ∷ past) + 3000 ≤ now_of (next ∷ (later ++ ended ∷ past))
 pauses past later ended next run e m some =
@@ -60,18 +63,20 @@ pauses past later ended next run e m some =
     let q = later ++ ended ∷ past in
     let now = max (now_of q) next.at in
     elim (goes_on past later ended e m) [
-      inr over ↦ omega arith
-    | inl pause ↦ elim (pause_at since now) [
-        inl over ↦ over
-      | inr still ↦
-          let after = with_step q next.at next.event run.1.acted in
-          let mode_is : mode_at (mode_of q) now ≡ Pause since = ap (λ (x : Mode). mode_at x now) pause ∙ still in
-          let after_is : mode_of after ≡ Pause since =
-              ap (λ (x : Mode). mode_after x next.event now) mode_is ∙ pause_after since now next.event in
-          let heard = live_at (with_step q next.at next.event []) in
-          let none : run.1.acted ≡ [] =
-              pause_acts since heard next.event run.1.acted (subst (λ (x : Mode). Acts x heard next.event run.1.acted) mode_is run.1.acts) in
-          absurd (some (
+      | inr over ↦ omega arith
+      | inl pause ↦ elim (pause_at since now) [
+        | inl over ↦ over
+        | inr still ↦
+            let after = with_step q next.at next.event run.1.acted in
+            let mode_is : mode_at (mode_of q) now ≡ Pause since = ap (λ (x : Mode). mode_at x now) pause ∙ still in
+            let after_is : mode_of after ≡ Pause since =
+            ap (λ (x : Mode). mode_after x next.event now) mode_is ∙ pause_after since now next.event in
+            let heard = live_at (with_step q next.at next.event []) in
+            let none : run.1.acted ≡ [] =
+            pause_acts since heard next.event run.1.acted (subst (λ (x : Mode). Acts x heard next.event run.1.acted) mode_is run.1.acts) in
+            absurd (some (
             run.1.whole
             ∙ ap (λ (x : Mode). run.1.acted ++ follows x (pilot_of after) (live_at after) (standing_at after)) after_is
-            ∙ ap (λ (a : List BasicOrder). a ++ []) none)) ] ]
+            ∙ ap (λ (a : List BasicOrder). a ++ []) none))
+      ]
+    ]

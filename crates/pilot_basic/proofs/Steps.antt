@@ -47,25 +47,25 @@ leads_at stands lives past at event orders new step =
     let mode = mode_of (with_step past at event step.acted) in
     let state = pilot_of (with_step past at event step.acted) in
     let live_heard : (told (kept_after (calls_of past)) event).live ≡ live_at (with_step past at event []) =
-        sym (ap (λ (k : Kept). k.live) (kept_of past at event [])) ∙ lives (calls_of (with_step past at event [])) in
+    sym (ap (λ (k : Kept). k.live) (kept_of past at event [])) ∙ lives (calls_of (with_step past at event [])) in
     let live_is : kept.live ≡ live_at (with_step past at event step.acted) =
-        sym (ap (λ (k : Kept). k.live) (kept_of past at event step.acted)) ∙ lives (calls_of (with_step past at event step.acted)) in
+    sym (ap (λ (k : Kept). k.live) (kept_of past at event step.acted)) ∙ lives (calls_of (with_step past at event step.acted)) in
     let standing_is : kept.standing ≡ standing_at (with_step past at event step.acted) =
-        sym (ap (λ (k : Kept). k.standing) (kept_of past at event step.acted)) ∙ stands (calls_of (with_step past at event step.acted)) in
+    sym (ap (λ (k : Kept). k.standing) (kept_of past at event step.acted)) ∙ stands (calls_of (with_step past at event step.acted)) in
     record {
       acted = step.acted;
       acts = subst (λ (b : Bool). Acts (mode_at (mode_of past) (max (now_of past) at)) b event step.acted) live_heard step.acts;
       whole =
-        step.whole
-        ∙ ap (λ (b : Bool). step.acted ++ follows mode state b kept.standing) live_is
-        ∙ ap (λ (t : Standing). step.acted ++ follows mode state (live_at (with_step past at event step.acted)) t) standing_is;
+          step.whole
+          ∙ ap (λ (b : Bool). step.acted ++ follows mode state b kept.standing) live_is
+          ∙ ap (λ (t : Standing). step.acted ++ follows mode state (live_at (with_step past at event step.acted)) t) standing_is;
     }
 
 state_at : (past : List Step) (at : ℕ) (event : BasicEvent) (orders : List BasicOrder) (new : State) → IsStep (state_of past) at event orders new → new ≡ state_of (with_step past at event orders)
 state_at past at event orders new step =
     step.new_is
     ∙ ap (λ (k : Kept). record { now = max (now_of past) at; mode = mode_of (with_step past at event orders); pilot = pilot_of (with_step past at event orders); contactor = k })
-        (sym (kept_of past at event orders))
+    (sym (kept_of past at event orders))
 
 pub step_leads : StandsRight → IsLiveRight → (past : List Step) (s : State) (at : ℕ) (event : BasicEvent) (orders : List BasicOrder) (new : State) → s ≡ state_of past → IsStep s at event orders new → LeadsTo past at event orders
 step_leads stands lives past s at event orders new same step =
@@ -87,27 +87,27 @@ made s at now event mode next pilot heard acted_on last acted orders more now_is
     let kept = fold driven (told s.contactor event) acted in
     let mode_is_at : mode ≡ m = mode_is ∙ ap (mode_at s.mode) now_is in
     let next_is_after : next ≡ mode_after m event (max s.now at) =
-        next_is ∙ ap (λ (x : Mode). mode_after x event now) mode_is_at ∙ ap (λ (n : ℕ). mode_after m event n) now_is in
+    next_is ∙ ap (λ (x : Mode). mode_after x event now) mode_is_at ∙ ap (λ (n : ℕ). mode_after m event n) now_is in
     let kept_is : acted_on ≡ kept = acted_is ∙ ap (λ (k : Kept). fold driven k acted) heard_is in
     let last_is_all : last ≡ fold driven (told s.contactor event) orders =
-        last_is
-        ∙ ap (λ (k : Kept). fold driven k (option_to_list more)) kept_is
-        ∙ sym (fold-append driven (told s.contactor event) acted (option_to_list more))
-        ∙ ap (λ (l : List BasicOrder). fold driven (told s.contactor event) l) (sym whole) in
+    last_is
+    ∙ ap (λ (k : Kept). fold driven k (option_to_list more)) kept_is
+    ∙ sym (fold-append driven (told s.contactor event) acted (option_to_list more))
+    ∙ ap (λ (l : List BasicOrder). fold driven (told s.contactor event) l) (sym whole) in
     record {
       acted = acted;
       acts = subst (λ (x : Mode). Acts x (told s.contactor event).live event acted) mode_is_at
-        (subst (λ (k : Kept). Acts mode k.live event acted) heard_is acts);
+          (subst (λ (k : Kept). Acts mode k.live event acted) heard_is acts);
       whole =
-        whole
-        ∙ ap (λ (l : List BasicOrder). acted ++ l)
-            (more_is
-              ∙ ap (λ (x : Mode). follows x pilot acted_on.live acted_on.standing) next_is_after
-              ∙ ap (λ (p : PilotState). follows (mode_after m event (max s.now at)) p acted_on.live acted_on.standing) pilot_is
-              ∙ ap (λ (k : Kept). follows (mode_after m event (max s.now at)) (pilot_after event s.pilot) k.live k.standing) kept_is);
+          whole
+          ∙ ap (λ (l : List BasicOrder). acted ++ l)
+          (more_is
+          ∙ ap (λ (x : Mode). follows x pilot acted_on.live acted_on.standing) next_is_after
+          ∙ ap (λ (p : PilotState). follows (mode_after m event (max s.now at)) p acted_on.live acted_on.standing) pilot_is
+          ∙ ap (λ (k : Kept). follows (mode_after m event (max s.now at)) (pilot_after event s.pilot) k.live k.standing) kept_is);
       new_is =
-        ap (λ (n : ℕ). record { now = n; mode = next; pilot = pilot; contactor = last }) now_is
-        ∙ ap (λ (x : Mode). record { now = max s.now at; mode = x; pilot = pilot; contactor = last }) next_is_after
-        ∙ ap (λ (p : PilotState). record { now = max s.now at; mode = mode_after m event (max s.now at); pilot = p; contactor = last }) pilot_is
-        ∙ ap (λ (k : Kept). record { now = max s.now at; mode = mode_after m event (max s.now at); pilot = pilot_after event s.pilot; contactor = k }) last_is_all;
+          ap (λ (n : ℕ). record { now = n; mode = next; pilot = pilot; contactor = last }) now_is
+          ∙ ap (λ (x : Mode). record { now = max s.now at; mode = x; pilot = pilot; contactor = last }) next_is_after
+          ∙ ap (λ (p : PilotState). record { now = max s.now at; mode = mode_after m event (max s.now at); pilot = p; contactor = last }) pilot_is
+          ∙ ap (λ (k : Kept). record { now = max s.now at; mode = mode_after m event (max s.now at); pilot = pilot_after event s.pilot; contactor = k }) last_is_all;
     }

@@ -1,6 +1,6 @@
 -- IEC 61851-1, annex A: the current that the duty of the control pilot offers. Duties are tenths of a percent, currents
 -- tenths of an ampere.
-use Rattle.std.specs.Prelude.{◌≡◌, ℕ, ◌+◌, ◌-◌, ◌*◌, ◌/◌, ◌<◌, ◌≤◌, ◌&&◌, nat_le, if◌then◌else◌}
+use Rattle.std.specs.Prelude.{ℕ, ◌-◌, ◌*◌, ◌/◌, ◌<◌, ◌≤◌, ◌&&◌, nat_le, if◌then◌else◌}
 use Rattle.pilot_basic.specs.declared.duty.Offered.{Offered}
 use Rattle.pilot_basic.specs.declared.duty.Offered.TheVariants.{Amps, Digital, Nothing}
 

@@ -114,11 +114,7 @@ fn go_digital(contactor: &mut Contactor) -> ArrayVec<BasicOrder, 3>
 }
 
 /// The order to the contactor after an event. It counts as taken.
-pub(crate) fn follow(
-    contactor: &mut Contactor,
-    mode: Mode,
-    pilot: PilotState,
-) -> Option<BasicOrder>
+pub(crate) fn follow(contactor: &mut Contactor, mode: Mode, pilot: PilotState) -> Option<BasicOrder>
     ensures order { option_to_list result ≡ follows mode pilot contactor.old.live contactor.old.standing }
     ensures kept { contactor.new ≡ fold driven contactor.old (option_to_list result) }
 {

@@ -32,7 +32,7 @@ impl Model for Shares {
 }
 
 impl Shares {
-    /// A site with this limit and so many posts, none of which asks.
+    /// A site with this limit (watts) and 1 to 8 posts, none of which asks (own).
     pub fn new(limit: u32, posts: u8) -> Shares
         requires some { 1 ≤ posts }
         requires most { posts ≤ 8 }
@@ -46,7 +46,7 @@ impl Shares {
         }
     }
 
-    /// From now on the post asks for these watts.
+    /// From now on the post, one of the site's, asks for these watts.
     pub fn ask(&mut self, post: u8, watts: u32)
         requires { IsPost self.old post }
         ensures { self.new ≡ asked self.old post watts }
@@ -54,7 +54,8 @@ impl Shares {
         self.asks[usize::from(post) - 1] = watts;
     }
 
-    /// Tells the post its share of now: the least of its ask, the level, and what the others' told watts leave.
+    /// Tells the post its share of now, in watts: the least of its ask, the level, and what the others' told watts leave
+    /// of the limit (own).
     pub fn tell(&mut self, post: u8) -> u32
         requires { IsPost self.old post }
         ensures shown { IsShown self.old post result }
@@ -67,10 +68,11 @@ impl Shares {
         watts
     }
 
-    /// What the post was told last, 0 before and after a session.
+    /// The watts that the post was told last, 0 where it was told none since it was released.
     pub fn told(&self, post: u8) -> u32
         requires { IsPost self.now post }
-        ensures { result ≡ at_post self.now.told post }
+        ensures value { result ≡ at_post self.now.told post }
+        ensures within { sum self.now.told ≤ self.now.limit }
     {
         let place = usize::from(post) - 1;
         self.told[place]
