@@ -1,3 +1,3 @@
-pub mod Closes
-pub mod Pauses
+pub mod CloseLaws
+pub mod PauseLaws
 pub mod Steps

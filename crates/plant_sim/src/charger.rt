@@ -120,7 +120,7 @@ impl Sim {
         }
     }
 
-    /// The moment of the next event, `u64::MAX` where none is to come.
+    /// The moment of the next event (milliseconds), `u64::MAX` where none is to come.
     pub fn due(&self) -> u64
         ensures { IsDue self.now.moments result }
     {
@@ -130,7 +130,8 @@ impl Sim {
         }
     }
 
-    /// The first event that is to come, if its moment is at most `now`. `None` changes nothing.
+    /// The first event that is to come, if its moment is at most `now` (milliseconds). `None` exactly where no event is due,
+    /// and it changes nothing.
     pub fn next(&mut self, now: u64) -> Option<PlantEvent>
         ensures { MatchOption result
             (NoneReached self.old.moments now × (self.new ≡ self.old))

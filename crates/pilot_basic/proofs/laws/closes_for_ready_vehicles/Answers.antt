@@ -1,6 +1,6 @@
 use Rattle.contactor.specs.Calls.{acts_of}
 use Rattle.pilot_basic.specs.Machine.{calls_of}
-use Rattle.pilot_basic.proofs.Closes.{live_by_last, closed_when_ready}
+use Rattle.pilot_basic.proofs.CloseLaws.{live_by_last, closed_when_ready}
 use Rattle.pilot_basic.proofs.laws.closes_for_ready_vehicles.Goals as goal
 
 pub returns : goal.returns
