@@ -1,0 +1,2 @@
+pub mod Pen
+pub mod TraceText
