@@ -1,8 +1,10 @@
 //! The lines of a trace (own): one for each entry of a past.
 #![tactic(auto)]
 
+mod parts;
 mod pen;
 mod putting;
+mod refused;
 pub mod writing;
 
 pub use writing::Full;
