@@ -1,6 +1,8 @@
 //! The lines of a trace (own): one for each entry of a past.
 #![tactic(auto)]
 
+mod entries;
+mod events;
 mod parts;
 mod pen;
 mod putting;
