@@ -218,6 +218,20 @@ line_at text =
       e ← entry_at text
       if bytes_eq e.1 (codes "\n") then Some e.0 else None
 
+-- whether an entry has a line of format 1
+abbrev pub is_what_of_format1 : What → Bool
+is_what_of_format1 (Plant post RenewAsked) = false
+is_what_of_format1 _ = true
+
+abbrev pub is_of_format1 : Entry → Bool
+is_of_format1 (entry.Heard heard bytes) = is_what_of_format1 heard.what
+is_of_format1 _ = true
+
+unfoldable pub line1_at : List ℕ → Option Entry
+line1_at text = do
+  e ← line_at text
+  if is_of_format1 e then Some e else None
+
 -- the number and the entry of a whole numbered line
 unfoldable pub numbered_line_at : List ℕ → Option (ℕ × Entry)
 numbered_line_at text = do

@@ -1,12 +1,12 @@
 //! Entries, read from lines.
 
 ghost use Rattle.std.specs.Prelude.{◌≡◌, []};
-ghost use Rattle.trace_text.specs.Reading.{Gives, at_post as at_post_of, what_at, heard_at, post_gap_at, post_hex_at, drove_at, call_at, ended_at, entry_at, line_at};
+ghost use Rattle.trace_text.specs.Reading.{Gives, at_post as at_post_of, what_at, heard_at, post_gap_at, post_hex_at, drove_at, call_at, ended_at, entry_at, line_at, line1_at, numbered_line_at, is_of_format1};
 
 use crate::events::{event, order, space};
 use crate::parts::{after, bytes, datagram, number, number_up_to, post, short_bytes, token};
 use crate::refused::Refused;
-use charge_world::{Entry, Heard, Piece, What};
+use charge_world::{Entry, Heard, Piece, PlantEvent, What};
 use std::alloc::Global;
 
 /// No bytes.
@@ -180,4 +180,44 @@ pub(crate) fn line(alloc: Global, text: &[u8]) -> Result<Entry, Refused>
         Ok(_) => Err(Refused::Bad),
         Err(refused) => Err(refused),
     }
+}
+
+/// Whether an entry has a line of format 1: it isn't the wish to negotiate anew.
+fn is_of_format_1(entry: &Entry) -> bool
+    ensures { result ≡ is_of_format1 entry.now }
+{
+    match entry {
+        Entry::Heard { heard, .. } => match heard.what {
+            What::Plant { event, .. } => match event {
+                PlantEvent::RenewAsked => false,
+                _ => true,
+            },
+            _ => true,
+        },
+        _ => true,
+    }
+}
+
+/// Reads a whole line of format 1, with its line feed.
+#[tactic(auto, unfolding(crate::specs::Reading::line1_at))]
+pub(crate) fn line_of_format_1(alloc: Global, text: &[u8]) -> Result<Entry, Refused>
+    ensures { Gives (λ e. e) result (line1_at text.now) }
+{
+    let entry = line(alloc, text)?;
+    if is_of_format_1(&entry) {
+        Ok(entry)
+    } else {
+        Err(Refused::Bad)
+    }
+}
+
+/// Reads a whole numbered line, with its line feed.
+#[tactic(auto, unfolding(crate::specs::Reading::numbered_line_at))]
+pub(crate) fn numbered_line(alloc: Global, text: &[u8]) -> Result<(u64, Entry), Refused>
+    ensures { Gives (λ x. (x.0, x.1)) result (numbered_line_at text.now) }
+{
+    let (hearing, rest) = number(text)?;
+    let gap = space(rest)?;
+    let entry = line(alloc, gap)?;
+    Ok((hearing, entry))
 }
