@@ -9,13 +9,13 @@ puts_then a b c i j k s t p q = record {
   same = q.same ∙ p.same;
   count = omega (arith, p.count, q.count, length-append s t);
   room = λ fits.
-    let mid : j ≤ length a = omega (arith, q.count) in
-    let first : b ≡ take i a ++ s ++ drop j a = p.room mid in
-    let len : length (take i a ++ s) ≡ j = omega (arith, length-append (take i a) s, length-take i a, p.count) in
-    let front : take j b ≡ take i a ++ s = ap (take j) first ∙ take_at (take i a ++ s) (drop j a) j len in
-    let back : drop j b ≡ drop j a = ap (drop j) first ∙ drop_at (take i a ++ s) (drop j a) j len in
-    let rest : drop k b ≡ drop k a = rw q.count (sym (drop-drop (length t) j b) ∙ ap (drop (length t)) back ∙ drop-drop (length t) j a) in
-    q.room (omega (arith, p.same)) ∙ rw (front, rest) (simp append_assoc);
+      let mid : j ≤ length a = omega (arith, q.count) in
+      let first : b ≡ take i a ++ s ++ drop j a = p.room mid in
+      let len : length (take i a ++ s) ≡ j = omega (arith, length-append (take i a) s, length-take i a, p.count) in
+      let front : take j b ≡ take i a ++ s = ap (take j) first ∙ take_at (take i a ++ s) (drop j a) j len in
+      let back : drop j b ≡ drop j a = ap (drop j) first ∙ drop_at (take i a ++ s) (drop j a) j len in
+      let rest : drop k b ≡ drop k a = rw q.count (sym (drop-drop (length t) j b) ∙ ap (drop (length t)) back ∙ drop-drop (length t) j a) in
+      q.room (omega (arith, p.same)) ∙ rw (front, rest) (simp append_assoc);
 }
 
 infixl 10 ◌▸◌

@@ -9,5 +9,4 @@ pub fn lines_are_unambiguous()
     ensures plain { (d e : Entry) → IsLine d → IsLine e → line_of d ≡ line_of e → d ≡ e }
     ensures numbered { (m n : ℕ) (d e : Entry) → m < 2 ^ 64 → n < 2 ^ 64 → IsLine d → IsLine e
         → numbered_line_of m d ≡ numbered_line_of n e → (m ≡ n) × (d ≡ e) }
-{
-}
+{}

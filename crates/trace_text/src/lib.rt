@@ -17,3 +17,6 @@ pub mod writing;
 pub use laws::lines_are_unambiguous;
 pub use reading::{LineFault, read_line, read_numbered};
 pub use writing::{Full, write_line, write_numbered};
+
+#[cfg(test)]
+mod tests;

@@ -52,9 +52,7 @@ fn value_of(digits: &[u8]) -> Option<u64>
 {
     let mut value: u64 = 0;
     for digit in digits {
-        value = value
-            .checked_mul(10)?
-            .checked_add((*digit - b'0') as u64)?;
+        value = value.checked_mul(10)?.checked_add((*digit - b'0') as u64)?;
     }
     Some(value)
 }
