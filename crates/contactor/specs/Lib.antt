@@ -1,0 +1,4 @@
+pub mod Calls
+pub mod Law
+pub mod Rights
+pub mod Standing

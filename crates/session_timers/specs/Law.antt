@@ -1,0 +1,76 @@
+-- ISO 15118-2:2014, 8.7: which deadline of a post runs after any calls, said of the calls alone. Large moments are own.
+use Rattle.std.specs.Prelude.{◌≡◌, ◌↔◌, ℕ, ◌+◌, ◌<◌, ◌≤◌, Bool, true, false, min, List, Some, find}
+use Rattle.session_words.specs.declared.cause.Timeout.{Timeout}
+use Rattle.session_words.specs.declared.cause.Timeout.TheVariants.{Setup, Sequence, Feedback}
+use Rattle.session_timers.specs.Due.{Call, came, set_up, replied, closing, stop, never, moments_of, hit_of, next_of}
+
+-- a call that begins or ends a session
+abbrev pub is_border : Call → Bool
+is_border (came now) = true
+is_border set_up = false
+is_border (replied now) = false
+is_border (closing now) = false
+is_border stop = true
+
+-- a call that tells whether SessionSetup is awaited
+abbrev pub is_of_setup : Call → Bool
+is_of_setup (came now) = true
+is_of_setup set_up = true
+is_of_setup (replied now) = false
+is_of_setup (closing now) = false
+is_of_setup stop = true
+
+-- a call that tells whether a reply waits
+abbrev pub is_of_reply : Call → Bool
+is_of_reply (came now) = true
+is_of_reply set_up = false
+is_of_reply (replied now) = true
+is_of_reply (closing now) = true
+is_of_reply stop = true
+
+-- a session stands: the newest call that begins or ends one begins it
+abbrev pub HasSession : List Call → Type 0
+HasSession calls = (now : ℕ) × (find is_border calls ≡ Some (came now))
+
+-- the deadline counts from that moment: from Came until SessionSetup is accepted, from the last reply while none waits, from
+-- Close while its reply waits. The newest call comes first in the list
+abbrev pub CountsFrom : List Call → Timeout → ℕ → Type 0
+CountsFrom calls Setup from = find is_of_setup calls ≡ Some (came from)
+CountsFrom calls Sequence from = HasSession calls × (find is_of_reply calls ≡ Some (replied from))
+CountsFrom calls Feedback from = HasSession calls × (find is_of_reply calls ≡ Some (closing from))
+
+-- no deadline that is named before this one counts
+abbrev pub IsFirst : List Call → Timeout → Type 0
+IsFirst calls Setup = Unit {0}
+IsFirst calls Sequence = (from : ℕ) → CountsFrom calls Setup from → ⊥
+IsFirst calls Feedback = (from : ℕ) → CountsFrom calls Setup from → ⊥
+
+abbrev pub span_of : Timeout → ℕ
+span_of Setup = 18000
+span_of Sequence = 60000
+span_of Feedback = 3000
+
+-- the deadline that runs, and the moment at which it is due
+pub record IsDue (calls : List Call) (timeout : Timeout) (moment : ℕ) : Type 0 where
+  pub from : ℕ
+  pub counts : CountsFrom calls timeout from
+  pub first : IsFirst calls timeout
+  pub sum : moment ≡ from + span_of timeout
+
+-- the deadline was reached: its moment isn't past now. One at or above the greatest moment never is
+pub record IsHit (calls : List Call) (now : ℕ) (timeout : Timeout) : Type 0 where
+  pub moment : ℕ
+  pub due : IsDue calls timeout moment
+  pub reached : moment ≤ now
+  pub can_come : moment < never
+
+-- what is answered after any calls
+abbrev pub AnswersHit : Type 0
+AnswersHit = (calls : List Call) (now : ℕ) (timeout : Timeout) → (hit_of (moments_of calls) now ≡ Some timeout) ↔ IsHit calls now timeout
+
+abbrev pub AnswersNext : Type 0
+AnswersNext = (calls : List Call) (timeout : Timeout) (moment : ℕ) → IsDue calls timeout moment → next_of (moments_of calls) ≡ min moment never
+
+-- where no deadline runs there is nothing to wait for
+abbrev pub AnswersNever : Type 0
+AnswersNever = (calls : List Call) → ((timeout : Timeout) (moment : ℕ) → IsDue calls timeout moment → ⊥) → next_of (moments_of calls) ≡ never

@@ -1,0 +1,10 @@
+//! What the deadlines answer, whatever was called.
+
+ghost use Rattle.session_timers.specs.Law.{AnswersHit, AnswersNext, AnswersNever};
+
+/// After any calls on the deadlines of a post, `hit` and `next_due` answer what the calls themselves say.
+pub fn law_of_deadlines()
+    ensures hit { AnswersHit }
+    ensures next { AnswersNext }
+    ensures never { AnswersNever }
+{}

@@ -1,0 +1,12 @@
+//! The deadlines of a post's session: how long it waits for SessionSetup, for the next request and for the
+//! contactor's feedback (ISO 15118-2:2014, 8.7; the last is own).
+#![tactic(auto)]
+
+pub mod deadlines;
+pub mod law;
+
+pub use deadlines::{Deadlines, Last};
+pub use law::law_of_deadlines;
+
+#[cfg(test)]
+mod tests;

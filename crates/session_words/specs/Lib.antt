@@ -1,0 +1,6 @@
+pub mod Amounts
+pub mod Causes
+pub mod Codes
+pub mod Modes
+pub mod Plans
+pub mod Sessions

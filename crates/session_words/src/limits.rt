@@ -1,0 +1,138 @@
+//! What the two ends tell of themselves.
+
+ghost use Rattle.std.specs.Prelude.{◌≡◌, ◌≤◌, length};
+
+use crate::amount::Amount;
+use crate::code::{Notify, StatusCode};
+use arrayvec::{ArrayString, ArrayVec};
+use charge_world::IsolationLevel;
+use std::marker::Model;
+
+/// A text of at most 148 bytes, which hold 37 code points. Contracts see its bytes.
+#[derive(Drop)]
+pub struct EvseText {
+    text: ArrayString<148>,
+}
+
+impl Model for EvseText {
+    ghost use Rattle.std.specs.Prelude.{ℕ, List};
+
+    ghost Value = { List ℕ };
+
+    ghost view = { λ t. t.text.bytes };
+}
+
+impl EvseText {
+    /// This text.
+    pub fn of(text: ArrayString<148>) -> EvseText
+        ensures { result ≡ text.bytes }
+    {
+        EvseText { text }
+    }
+
+    /// The text.
+    pub fn as_str(&self) -> &str
+        ensures value { result.now ≡ self.now }
+        ensures bound { length result.now ≤ 148 }
+    {
+        self.text.as_str()
+    }
+
+    /// The same text once more.
+    pub fn copied(&self) -> EvseText
+        ensures { result ≡ self.now }
+    {
+        EvseText { text: self.text }
+    }
+}
+
+/// The EVSEID of a post: a text in ISO 15118-2, bytes in DIN SPEC 70121.
+#[derive(Drop)]
+pub enum EvseId {
+    /// At most 37 code points.
+    Text(EvseText),
+    Bytes(ArrayVec<u8, 32>),
+}
+
+impl EvseId {
+    /// The same name once more.
+    pub fn copied(&self) -> EvseId
+        ensures { result ≡ self.now }
+    {
+        match self {
+            EvseId::Text(text) => EvseId::Text(text.copied()),
+            EvseId::Bytes(bytes) => EvseId::Bytes(ArrayVec::try_from(bytes.as_slice()).unwrap()),
+        }
+    }
+}
+
+/// What a car can take (EVChargeParameter). Voltages and currents are in tenths.
+#[derive(Clone, Copy, Debug, PartialEq, Eq)]
+pub enum CarLimits {
+    Ac {
+        most_current: Amount,
+        least_current: Amount,
+        most_voltage: Amount,
+    },
+    Dc {
+        ready: bool,
+        /// State of charge, 0 to 100 percent.
+        soc: u8,
+        /// The greatest current.
+        current: Amount,
+        /// The greatest power, where the car tells it.
+        watts: Option<Amount>,
+        /// The greatest voltage.
+        voltage: Amount,
+    },
+}
+
+/// One schedule of power that a post offers (SAScheduleTuple).
+#[derive(Clone, Copy, Debug, Default, PartialEq, Eq)]
+pub struct Tuple {
+    pub id: i16,
+    /// How many entries its schedule has.
+    pub entries: u32,
+    /// The least power of the entries, in watts, right where all their units are.
+    pub least: Amount,
+}
+
+/// The status of a DC post (DC_EVSEStatus).
+#[derive(Clone, Copy, Debug, PartialEq, Eq)]
+pub struct DcStatus {
+    pub notify: Notify,
+    pub isolation: Option<IsolationLevel>,
+    pub code: StatusCode,
+}
+
+/// The status of a post of either kind.
+#[derive(Clone, Copy, Debug, PartialEq, Eq)]
+pub enum PostStatus {
+    Ac { notify: Notify },
+    Dc(DcStatus),
+}
+
+/// What a post can give (EVSEChargeParameter). Currents are in tenths of an ampere.
+#[derive(Clone, Copy, Debug, PartialEq, Eq)]
+pub enum PostLimits {
+    Ac {
+        notify: Notify,
+        /// The nominal voltage, in tenths of a volt.
+        nominal: Amount,
+        /// The greatest current.
+        current: Amount,
+    },
+    Dc {
+        status: DcStatus,
+        /// The greatest current.
+        current: Amount,
+        /// The greatest power, which DIN may leave out.
+        watts: Option<Amount>,
+        /// The greatest voltage.
+        voltage: Amount,
+        least_current: Amount,
+        least_voltage: Amount,
+        /// The peak current ripple.
+        ripple: Amount,
+    },
+}

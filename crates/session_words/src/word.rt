@@ -1,0 +1,155 @@
+//! The messages of a session, the same for both dialects: what a car asks and what a post tells.
+
+use crate::amount::Amount;
+use crate::code::{Code, Notify, Processing, Progress};
+use crate::limits::{CarLimits, DcStatus, EvseId, PostLimits, PostStatus, Tuple};
+use crate::mode::{Mode, OfferedMode};
+use crate::session::SessionId;
+use arrayvec::ArrayVec;
+
+/// A request: the identifier in its header and what it asks.
+#[derive(Drop)]
+pub struct Request {
+    pub session: SessionId,
+    pub ask: Ask,
+}
+
+/// A reply: the identifier in its header, its code and what it tells.
+#[derive(Drop)]
+pub struct Reply {
+    pub session: SessionId,
+    pub code: Code,
+    pub tell: Tell,
+}
+
+/// A message of either side.
+#[derive(Drop)]
+pub enum Word {
+    Request(Request),
+    Reply(Reply),
+    /// A message without a body.
+    Nothing,
+}
+
+/// What a request asks. Each variant has the name of its pair of messages; `PaymentSelection` is
+/// PaymentServiceSelection in ISO and ServicePaymentSelection in DIN, `Authorization` is ContractAuthentication in
+/// DIN, and `ChargeParameters` is ChargeParameterDiscovery.
+#[derive(Drop)]
+pub enum Ask {
+    SessionSetup {
+        /// The EVCCID.
+        car: ArrayVec<u8, 8>,
+    },
+    ServiceDiscovery,
+    ServiceDetail {
+        service: u16,
+    },
+    PaymentSelection {
+        /// Whether the payment is external, so that nothing but the post is paid.
+        external: bool,
+        services: ArrayVec<u16, 16>,
+    },
+    Authorization,
+    ChargeParameters {
+        mode: Mode,
+        limits: CarLimits,
+    },
+    CableCheck {
+        ready: bool,
+        soc: u8,
+    },
+    PreCharge {
+        ready: bool,
+        soc: u8,
+        /// The target voltage and current, in tenths.
+        voltage: Amount,
+        current: Amount,
+    },
+    PowerDelivery {
+        progress: Progress,
+        /// The schedule tuple. In DIN it is there exactly with a profile.
+        tuple: Option<i16>,
+        /// The greatest power of the profile's entries, in watts, right where all their units are.
+        profile: Option<Amount>,
+    },
+    CurrentDemand {
+        ready: bool,
+        soc: u8,
+        /// The target voltage and current, in tenths.
+        voltage: Amount,
+        current: Amount,
+    },
+    ChargingStatus,
+    WeldingDetection {
+        ready: bool,
+        soc: u8,
+    },
+    SessionStop {
+        pause: bool,
+    },
+}
+
+/// What a reply tells, beside its code.
+#[derive(Drop)]
+pub enum Tell {
+    SessionSetup {
+        evse: EvseId,
+    },
+    ServiceDiscovery {
+        /// Whether charging is free.
+        free: bool,
+        modes: ArrayVec<OfferedMode, 6>,
+    },
+    ServiceDetail {
+        service: u16,
+    },
+    PaymentSelection,
+    Authorization {
+        processing: Processing,
+    },
+    ChargeParameters {
+        processing: Processing,
+        schedule: Option<ArrayVec<Tuple, 3>>,
+        limits: PostLimits,
+    },
+    CableCheck {
+        status: DcStatus,
+        processing: Processing,
+    },
+    PreCharge {
+        status: DcStatus,
+        /// The voltage at the outlet, in tenths of a volt.
+        voltage: Amount,
+    },
+    PowerDelivery {
+        status: PostStatus,
+    },
+    CurrentDemand {
+        status: DcStatus,
+        /// The voltage and the current at the outlet, in tenths.
+        voltage: Amount,
+        current: Amount,
+        /// Whether the car asks for more current, voltage or power than the post gives.
+        current_cut: bool,
+        voltage_cut: bool,
+        watts_cut: bool,
+        /// The greatest values, in tenths and in watts.
+        most_voltage: Option<Amount>,
+        most_current: Option<Amount>,
+        most_watts: Option<Amount>,
+        /// ISO alone.
+        evse: Option<EvseId>,
+    },
+    ChargingStatus {
+        notify: Notify,
+        evse: EvseId,
+        /// The greatest current, in tenths of an ampere.
+        current: Option<Amount>,
+    },
+    WeldingDetection {
+        status: DcStatus,
+        /// The voltage at the outlet, in tenths of a volt.
+        voltage: Amount,
+    },
+    SessionStop,
+}
