@@ -1,21 +1,21 @@
 -- Bytes that are read are the ones that are written, and are read again.
-use Rattle.std.proofs.Common.{◌≡◌, ℕ, zero, suc, ◌+◌, ◌*◌, ◌/◌, ◌%◌, ◌-◌, ◌^◌, ◌<◌, ◌≤◌, Bool, true, false, cond, eqb, ltb, leb, ◌&&◌, List, [], ◌∷◌, ◌++◌, length, take, drop, get_or, slice_index, ◌⊎◌, Option, Some, None, Result, Ok, Err, inl, inr, refl, sym, ap, subst, ◌∙◌, append_assoc, arith}
+use Rattle.std.proofs.Common.{◌≡◌, ℕ, zero, suc, ◌+◌, ◌*◌, ◌/◌, ◌%◌, ◌-◌, ◌^◌, ◌<◌, ◌≤◌, Bool, true, false, cond, eqb, ltb, leb, ◌&&◌, List, [], ◌∷◌, ◌++◌, length, drop, get_or, ◌⊎◌, Option, Some, None, Result, Ok, Err, inl, inr, refl, sym, ap, subst, ◌∙◌, arith}
 use Rattle.std.specs.Prelude.{unwrap_or, codes}
 use Rattle.std.specs.List.{prefix_len, take_while}
 use Rattle.std.specs.Int.{w64, to_be_bytes, from_be_bytes}
 use Rattle.std.specs.Result.{result_ok}
 use Rattle.std.proofs.lemmas.Bool.{and_parts, cases_lt, eqb-true, ltb-true, leb-true}
 use Rattle.std.proofs.lemmas.List.{length-take, take_at, drop_at, take-append-drop, get_or-take}
-use Rattle.std.proofs.lemmas.List.Sums.{prefix_len-le-length, prefix_len_is, prefix_len_passes}
-use Rattle.std.proofs.lemmas.List.Folds.{length-prefix_len, prefix_len-append}
+use Rattle.std.proofs.lemmas.List.Sums.{prefix_len-le-length, prefix_len_passes}
+use Rattle.std.proofs.lemmas.List.Folds.{length-prefix_len}
 use Rattle.std.proofs.lemmas.Nat.{be_bytes_8, from_be_bytes-to_be_bytes_8}
 use Rattle.hex.specs.Hex.{IsBytes, decode_of, decode_sized, decode_pairs, pair_value, value_at, digit_or_error, hex_digit_value, encode_lower, encode_with, lower_digits}
 use Rattle.hex.proofs.HexLemmas.{decode_of-encode_lower, decode_sized-encode_lower, decode_sized-ok, decode_sized-twice, decode_of-ok, decode_of-even, length-encode_with}
 use Rattle.hex.specs.Hex.{◌>>=◌ as ◌⇒◌}
 use Rattle.hex.specs.declared.error.FromHexError.{FromHexError}
-use Rattle.trace_text.specs.Reading.{◌>>=◌, either, after, is_lower_digit, hex_at, token_at, short_hex_at, datagram_at}
+use Rattle.trace_text.specs.Reading.{◌>>=◌, after, is_lower_digit, hex_at, token_at, short_hex_at, datagram_at}
 use Rattle.trace_text.specs.TraceText.{token_text, datagram_text}
-use Rattle.trace_text.proofs.Words.{after_again, bind_case, either_case, some_is, unless_some, when_some, after_takes, Begins, ◌⊳◌, Stops}
+use Rattle.trace_text.proofs.Words.{after_again, bind_case, either_case, some_is, unless_some, when_some, after_takes, Begins, Stops}
 
 -- ---- digits
 

@@ -1,16 +1,16 @@
 -- A number that is read is the one that is written, and is read again.
-use Rattle.std.proofs.Common.{◌≡◌, ℕ, zero, suc, ◌+◌, ◌*◌, ◌-◌, ◌^◌, ◌<◌, ◌≤◌, Bool, true, false, cond, eqb, ltb, leb, ◌&&◌, List, [], ◌∷◌, ◌++◌, length, take, drop, get_or, Option, Some, None, inl, inr, refl, sym, ap, subst, ◌∙◌, append_assoc, arith}
+use Rattle.std.proofs.Common.{◌≡◌, ℕ, ◌^◌, ◌<◌, ◌≤◌, true, false, cond, eqb, ltb, leb, ◌&&◌, List, ◌∷◌, ◌++◌, length, drop, get_or, Option, Some, None, inl, inr, refl, sym, ap, subst, ◌∙◌, append_assoc, arith}
 use Rattle.std.specs.Prelude.{decimal, codes}
 use Rattle.std.specs.Char.{is_ascii_digit}
 use Rattle.std.specs.List.{prefix_len, take_while}
-use Rattle.std.specs.Str.Parse.{digits_value, AllDigits}
-use Rattle.std.proofs.lemmas.Bool.{cases_lt, eqb-true, ltb-true, ltb-false, le-ltb, leb-true, leb-false}
-use Rattle.std.proofs.lemmas.List.{length-take, take_at, drop_at, take-append-drop}
-use Rattle.std.proofs.lemmas.List.Sums.{prefix_len-le-length, prefix_len_is}
+use Rattle.std.specs.Str.Parse.{digits_value}
+use Rattle.std.proofs.lemmas.Bool.{cases_lt, leb-true}
+use Rattle.std.proofs.lemmas.List.{take_at, drop_at, take-append-drop}
+use Rattle.std.proofs.lemmas.List.Sums.{prefix_len_is}
 use Rattle.std.proofs.lemmas.List.Folds.{length-prefix_len, prefix_len-append}
 use Rattle.std.proofs.lemmas.Fmt.{decimal-digits_value, decimal_is_IsNumeral, decimal_digit, first_decimal}
 use Rattle.std.proofs.lemmas.Str.Parse.{digit_at}
-use Rattle.trace_text.specs.Reading.{◌>>=◌, either, after, number_at, number_within, post_at, pair_at}
+use Rattle.trace_text.specs.Reading.{after, number_at, number_within, post_at, pair_at}
 use Rattle.trace_text.specs.TraceText.{pair_text, IsPost}
 use Rattle.trace_text.proofs.Digits.{run_digits, by_index}
 use Rattle.trace_text.proofs.Words.{bind_case, some_is, unless_some, when_some, after_takes, Begins, ◌⊳◌, Stops, stops_space}

@@ -1,5 +1,5 @@
 -- Entries and whole lines: what is read is what is written, and is read again.
-use Rattle.std.proofs.Common.{◌≡◌, ℕ, ◌+◌, ◌*◌, ◌^◌, ◌<◌, ◌≤◌, Bool, true, false, cond, eqb, leb, ltb, List, [], ◌∷◌, ◌++◌, length, Option, Some, None, refl, sym, ap, subst, ◌∙◌, append_assoc, arith}
+use Rattle.std.proofs.Common.{◌≡◌, ℕ, ◌+◌, ◌^◌, ◌<◌, ◌≤◌, Bool, true, false, eqb, ltb, List, [], ◌∷◌, ◌++◌, length, Option, Some, None, refl, sym, ap, subst, ◌∙◌, append_assoc, arith}
 use Rattle.std.specs.Prelude.{decimal, codes}
 use Rattle.std.specs.Str.{bytes_eq}
 use Rattle.std.proofs.lemmas.Slice.Eq.{bytes_eq-Decides}
@@ -7,14 +7,13 @@ use Rattle.std.proofs.lemmas.Fmt.{decimal_digit}
 use Rattle.hex.specs.Hex.{encode_lower, IsBytes}
 use Rattle.charge_world.specs.declared.entry.Entry.{Entry}
 use Rattle.charge_world.specs.declared.entry.Entry.TheVariants as entry
-use Rattle.charge_world.specs.declared.heard.Heard.{Heard}
 use Rattle.charge_world.specs.declared.heard.What.{What}
 use Rattle.charge_world.specs.declared.heard.What.TheVariants.{Came, Bytes, Gone, Datagram, Plant, Tick, Over}
 use Rattle.charge_world.specs.declared.heard.PlantEvent.{PlantEvent}
 use Rattle.charge_world.specs.declared.heard.PlantEvent.TheVariants.{Pilot, Isolation, Measured, Feedback, Paid, Emergency, StopAsked, RenewAsked}
 use Rattle.charge_world.specs.declared.ports.Order.{Order}
-use Rattle.trace_text.specs.Reading.{◌>>=◌, either, after, number_at, number_within, post_at, hex_at, token_at, short_hex_at, datagram_at, event_at, order_at, at_post, what_at, heard_at, post_gap_at, post_hex_at, drove_at, call_at, ended_at, entry_at, line_at, line1_at, numbered_line_at, is_what_of_format1, is_of_format1}
-use Rattle.trace_text.specs.TraceText.{token_text, datagram_text, event_text, order_text, what_text, heard_text, call_text, line_of, numbered_line_of, IsPost, HasBytes, InBounds, longest, IsWritable, IsWhatOfTypes, IsOrderOfTypes, IsOfTypes, IsLine, IsWhatOfFormat1, IsOfFormat1, IsLine1}
+use Rattle.trace_text.specs.Reading.{after, number_at, number_within, post_at, hex_at, token_at, short_hex_at, datagram_at, event_at, order_at, at_post, what_at, heard_at, post_gap_at, post_hex_at, drove_at, call_at, ended_at, entry_at, line_at, line1_at, numbered_line_at, is_what_of_format1, is_of_format1}
+use Rattle.trace_text.specs.TraceText.{token_text, datagram_text, event_text, order_text, what_text, call_text, line_of, numbered_line_of, IsPost, HasBytes, InBounds, longest, IsWhatOfTypes, IsOrderOfTypes, IsOfTypes, IsLine, IsWhatOfFormat1, IsOfFormat1, IsLine1}
 use Rattle.trace_text.proofs.Words.{bind_case, either_case, none_is, some_is, unless_some, when_some, after_takes, Begins, ◌⊳◌, Stops, stops_space, stops_line}
 use Rattle.trace_text.proofs.Numbers.{number_takes, number_again, within_takes, within_again, post_takes, post_again}
 use Rattle.trace_text.proofs.Hex.{hex_takes, hex_again, token_takes, token_again, short_takes, short_again, datagram_takes, datagram_again}

@@ -1,5 +1,5 @@
 -- What a charger tells and takes: what is read is what is written, and is read again.
-use Rattle.std.proofs.Common.{◌≡◌, ℕ, ◌+◌, ◌*◌, ◌^◌, ◌<◌, ◌≤◌, Bool, true, false, cond, eqb, leb, ltb, List, [], ◌∷◌, ◌++◌, length, Option, Some, None, refl, sym, ap, subst, ◌∙◌, append_assoc, arith}
+use Rattle.std.proofs.Common.{◌≡◌, ℕ, ◌^◌, ◌<◌, ◌≤◌, Bool, true, false, List, ◌∷◌, ◌++◌, Some, refl, ap, subst, ◌∙◌, append_assoc, arith}
 use Rattle.std.specs.Prelude.{decimal, codes}
 use Rattle.charge_world.specs.declared.heard.PlantEvent.{PlantEvent}
 use Rattle.charge_world.specs.declared.heard.PlantEvent.TheVariants.{Pilot, Isolation, Measured, Feedback, Paid, Emergency, StopAsked, RenewAsked}
@@ -9,7 +9,7 @@ use Rattle.charge_world.specs.declared.heard.IsolationLevel.{IsolationLevel}
 use Rattle.charge_world.specs.declared.heard.IsolationLevel.TheVariants as isolation
 use Rattle.charge_world.specs.declared.ports.Order.{Order}
 use Rattle.charge_world.specs.declared.ports.Order.TheVariants.{Open, Close, Limits}
-use Rattle.trace_text.specs.Reading.{◌>>=◌, either, after, number_within, pair_at, pilot_at, isolation_at, feedback_at, event_at, limits_at, order_at}
+use Rattle.trace_text.specs.Reading.{after, number_within, pair_at, pilot_at, isolation_at, feedback_at, event_at, limits_at, order_at}
 use Rattle.trace_text.specs.TraceText.{pilot_text, isolation_text, feedback_text, pair_text, event_text, order_text, IsEventOfTypes, IsOrderOfTypes}
 use Rattle.trace_text.proofs.Words.{bind_case, either_case, none_is, some_is, after_takes, Begins, ◌⊳◌, Stops, stops_space}
 use Rattle.trace_text.proofs.Numbers.{within_takes, within_again, pair_takes, pair_again}

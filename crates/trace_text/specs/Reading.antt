@@ -1,6 +1,6 @@
 -- Own: how a line is read, part by part. A part is a value and the text behind it; there is none where the text
 -- doesn't begin with one.
-use Rattle.std.specs.Prelude.{◌≡◌, ℕ, ◌+◌, ◌^◌, Bool, true, false, ◌==◌, ◌||◌, ◌&&◌, nat_lt, nat_le, nat_eq, if◌then◌else◌, List, [], ◌∷◌, length, drop, slice_index, codes, Option, Some, None, Result, Ok, Err}
+use Rattle.std.specs.Prelude.{◌≡◌, ℕ, ◌^◌, Bool, true, false, ◌==◌, ◌||◌, ◌&&◌, nat_lt, nat_le, nat_eq, if◌then◌else◌, List, [], length, drop, slice_index, codes, Option, Some, None, Result, Ok, Err}
 use Rattle.std.specs.Char.{is_ascii_digit}
 use Rattle.std.specs.List.{starts_with, take_while}
 use Rattle.std.specs.Result.{result_ok}
@@ -10,7 +10,6 @@ use Rattle.std.specs.Int.{w64, from_be_bytes}
 use Rattle.hex.specs.Hex.{decode_of, decode_sized}
 use Rattle.charge_world.specs.declared.entry.Entry.{Entry}
 use Rattle.charge_world.specs.declared.entry.Entry.TheVariants as entry
-use Rattle.charge_world.specs.declared.heard.Heard.{Heard}
 use Rattle.charge_world.specs.declared.heard.What.{What}
 use Rattle.charge_world.specs.declared.heard.What.TheVariants.{Came, Bytes, Gone, Datagram, Plant, Tick, Over}
 use Rattle.charge_world.specs.declared.heard.PlantEvent.{PlantEvent}

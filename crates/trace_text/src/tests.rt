@@ -1,7 +1,6 @@
 //! Lines good and bad, and the examples of the calls.
 
 use super::{Full, LineFault, read_line, read_numbered, write_line, write_numbered};
-use charge_world::Entry;
 use std::alloc::Global;
 use std::test::Fail;
 
@@ -321,8 +320,8 @@ fn numbered_lines(rt: HostRuntime) -> Result<(), Fail> {
 }
 
 #[test]
-fn a_room_that_is_too_small_stays_as_it_was(rt: HostRuntime) {
-    let ended = Entry::Ended { post: 1, cause: 11 };
+fn a_room_that_is_too_small_stays_as_it_was(rt: HostRuntime) -> Result<(), Fail> {
+    let ended = read_line(rt.alloc(), b"ended 1 11\n", 1)?;
     let mut room = [7u8; 12];
     assert_eq!(rt;
         write_line(&ended, &mut room[..10]),
@@ -335,4 +334,5 @@ fn a_room_that_is_too_small_stays_as_it_was(rt: HostRuntime) {
     assert_eq!(rt; room, [7u8; 12]);
     assert_eq!(rt; write_line(&ended, &mut room), Ok(11));
     assert_eq!(rt; &room, b"ended 1 11\n\x07");
+    Ok(())
 }

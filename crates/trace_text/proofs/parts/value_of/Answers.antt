@@ -1,5 +1,4 @@
-use Rattle.std.proofs.Common.{◌≤◌, ◌^◌, ◌+◌, ◌*◌, arith}
-use Rattle.std.specs.Str.Parse.{digits_value}
+use Rattle.std.proofs.Common.{◌+◌, arith}
 use Rattle.trace_text.proofs.Digits.{digit_lo, one_more, so_far}
 use Rattle.trace_text.proofs.parts.value_of.Goals as goal
 

@@ -1,0 +1,9 @@
+//! The plans of a charging site and of a car, read from TOML (own).
+#![tactic(auto)]
+
+mod fault;
+mod names;
+mod values;
+
+pub use fault::{Key, PlanFault};
+pub use session_words::{CarPlan, Mode, PostPlan, SitePlan, Stop};
