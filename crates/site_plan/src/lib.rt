@@ -2,6 +2,7 @@
 #![tactic(auto)]
 
 mod fault;
+mod keys;
 mod names;
 mod values;
 
