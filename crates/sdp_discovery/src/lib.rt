@@ -1,0 +1,17 @@
+//! Discovery of a charging post (SDP, ISO 15118-2:2014, section 7.10.1): the datagrams by which a car asks for
+//! the address of a post, and a post answers.
+#![tactic(auto)]
+
+pub mod fault;
+pub mod frame;
+pub mod message;
+pub mod reading;
+pub mod writing;
+
+pub use fault::SdpFault;
+pub use message::{LOOPBACK, SdpRequest, SdpResponse};
+pub use reading::{read_request, read_response};
+pub use writing::{write_request, write_response};
+
+#[cfg(test)]
+mod tests;

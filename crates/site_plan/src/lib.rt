@@ -1,0 +1,10 @@
+//! The plans of a charging site and of a car, read from TOML (own).
+#![tactic(auto)]
+
+mod fault;
+mod keys;
+mod names;
+mod values;
+
+pub use fault::{Key, PlanFault};
+pub use session_words::{CarPlan, Mode, PostPlan, SitePlan, Stop};

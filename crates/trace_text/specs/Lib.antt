@@ -1,0 +1,3 @@
+pub mod Pen
+pub mod TraceText
+pub mod Reading
