@@ -5,6 +5,7 @@
 
 mod cursor;
 mod octets;
+mod room;
 mod span;
 
 pub use cursor::BitCursor;
