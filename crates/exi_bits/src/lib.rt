@@ -5,9 +5,11 @@
 
 mod cursor;
 mod octets;
+mod pen;
 mod room;
 mod span;
 
 pub use cursor::BitCursor;
 pub use exi_spec::{BitCause, BitFault};
+pub use pen::{BitPen, Full};
 pub use span::{BitSpan, SpanAt};

@@ -81,3 +81,53 @@ pub fn put_octets(room: &mut [u8], at: u32, value: u64) -> u32
     put_number(room, at + wrote, rest as u32, 8);
     wrote + 8
 }
+
+/// Writes a sign bit and the shortest spelling of a magnitude (7.1.5), and tells how many bits they have.
+pub fn put_signed(room: &mut [u8], at: u32, negative: bool, magnitude: u64) -> u32
+    requires room { length room.old ≤ 65536 }
+    requires within { at + 1 + length (shortest_unsigned magnitude) ≤ 8 * length room.old }
+    requires clean { PadsZero room.old at }
+    ensures { Extends room.old room.new at result (negative ∷ shortest_unsigned magnitude) }
+{
+    push_bit(room, at, negative);
+    1 + put_octets(room, at + 1, magnitude)
+}
+
+/// Writes bytes.
+pub fn put_all_bytes(room: &mut [u8], at: u32, bytes: &[u8])
+    requires room { length room.old ≤ 65536 }
+    requires within { at + 8 * length bytes.now ≤ 8 * length room.old }
+    requires clean { PadsZero room.old at }
+    ensures { Extends room.old room.new at (8 * length bytes.now) (bits_of bytes.now) }
+{
+    for (i, byte) in bytes.iter().enumerate() {
+        put_number(room, at + 8 * i as u32, u32::from(*byte), 8);
+    }
+}
+
+/// How many bits the shortest spelling of a text has.
+pub fn chars_bits(text: &str) -> u64
+    requires { length text.now ≤ 2 ^ 40 }
+    ensures bits { result ≡ length (shortest_chars (chars text.now)) }
+    ensures few { result ≤ 80 * 2 ^ 40 }
+{
+    let mut bits = 0;
+    for c in text.chars() {
+        bits += 8 * u64::from(octet_count(u64::from(c)));
+    }
+    bits
+}
+
+/// Writes the shortest spelling of a text, and tells how many bits it has.
+pub fn put_all_chars(room: &mut [u8], at: u32, text: &str) -> u32
+    requires room { length room.old ≤ 65536 }
+    requires within { at + length (shortest_chars (chars text.now)) ≤ 8 * length room.old }
+    requires clean { PadsZero room.old at }
+    ensures { Extends room.old room.new at result (shortest_chars (chars text.now)) }
+{
+    let mut wrote = 0;
+    for c in text.chars() {
+        wrote += put_octets(room, at + wrote, u64::from(c));
+    }
+    wrote
+}
