@@ -1,7 +1,7 @@
 -- What a span contains is what is spelled there.
-use Rattle.std.proofs.Common.{◌≡◌, ℕ, zero, suc, ◌+◌, ◌-◌, ◌*◌, ◌^◌, ◌<◌, ◌≤◌, Bool, true, false, List, [], ◌∷◌, ◌++◌, length, take, drop, refl, sym, ap, subst, ◌∙◌, arith, append_assoc}
+use Rattle.std.proofs.Common.{◌≡◌, ℕ, zero, suc, ◌+◌, ◌-◌, ◌*◌, ◌^◌, ◌<◌, ◌≤◌, Bool, true, false, List, [], ◌∷◌, ◌++◌, length, take, drop, refl, sym, ap, subst, ◌∙◌, arith, get_or, Fits, w8}
 use Rattle.std.specs.List.{AllByRecursion}
-use Rattle.std.proofs.lemmas.List.{length-drop, length-take-le, take-append-drop, drop-drop}
+use Rattle.std.proofs.lemmas.List.{length-drop, length-take-le, take-append-drop, append-nil}
 use Rattle.exi_spec.specs.Bits.{number_bits, number_of, bits_of}
 use Rattle.exi_spec.specs.Items.{SpellsChars, SpellsBytes, Begins}
 use Rattle.exi_spec.specs.Plain.{chars_in, bytes_in}
@@ -61,4 +61,15 @@ bytes_there (suc n) bits h =
 pub binary_held : (bits : List Bool) (bit n : ℕ) → bit + 8 * n ≤ length bits → Holds (record { bits = bits; bit = bit; count = n; is_text = false }) (bytes_in n (drop bit bits))
 binary_held bits bit n h =
     let there = bytes_there n (drop bit bits) (omega (arith, length-drop bit bits)) in
-    record { long = there.0; spelled = (take (8 * n) (drop bit bits), drop (8 * n) (drop bit bits), there.1, sym (take-append-drop (8 * n) (drop bit bits))) }
+    record { within = omega (arith, h); long = there.0; spelled = (take (8 * n) (drop bit bits), drop (8 * n) (drop bit bits), there.1, sym (take-append-drop (8 * n) (drop bit bits))) }
+
+all_bytes : (bytes : List ℕ) → ((i : ℕ) → get_or bytes i 0 < 256) → AllByRecursion (λ byte. byte < 256) bytes
+all_bytes [] fits = tt
+all_bytes (byte ∷ bytes) fits = (fits 0, all_bytes bytes (λ i. fits (suc i)))
+
+-- the Binary of bytes contains them
+pub bytes_in_bytes : (bytes : List ℕ) → ((i : ℕ) → Fits w8 (get_or bytes i 0)) → bytes_in (length bytes) (bits_of bytes) ≡ bytes
+bytes_in_bytes bytes fits =
+    let below : (i : ℕ) → get_or bytes i 0 < 256 = λ i. omega (arith, fits i) in
+    ap (λ (l : List Bool). bytes_in (length bytes) l) (sym (append-nil (bits_of bytes)))
+    ∙ bytes_in-spelled bytes (bits_of bytes) [] (record { range = all_bytes bytes below; spelled = refl })

@@ -32,15 +32,15 @@ text_of bits place n = record { bits = bits; bit = place; count = n; is_text = t
 abbrev binary_of : List Bool → ℕ → ℕ → Span
 binary_of bits place n = record { bits = bits; bit = place; count = n; is_text = false }
 
-pub text_held : (bits : List Bool) (place n found : ℕ) (chars : CharsAt bits place n found) → Holds (record { bits = bits; bit = place; count = n; is_text = true }) chars.0
-text_held bits place n found chars =
+pub text_held : (bits : List Bool) (place n found : ℕ) (chars : CharsAt bits place n found) → place ≤ length bits → Holds (record { bits = bits; bit = place; count = n; is_text = true }) chars.0
+text_held bits place n found chars within =
     let item = chars.2 in
-    record { long = chars.1; spelled = (item.0, drop (place + found) bits, item.1, item.2.there) }
+    record { within = within; long = chars.1; spelled = (item.0, drop (place + found) bits, item.1, item.2.there) }
 
-pub chars_took : (bits : List Bool) (place n found : ℕ) → CharsAt bits place n found → Takes (SpellsChars (items_of (text_of bits place n))) (record { bits = bits; place = place }) (record { bits = bits; place = place + found })
-chars_took bits place n found chars =
+pub chars_took : (bits : List Bool) (place n found : ℕ) → CharsAt bits place n found → place ≤ length bits → Takes (SpellsChars (items_of (text_of bits place n))) (record { bits = bits; place = place }) (record { bits = bits; place = place + found })
+chars_took bits place n found chars within =
     subst (λ (items : List ℕ). Takes (SpellsChars items) (record { bits = bits; place = place }) (record { bits = bits; place = place + found }))
-    (sym (items_of-held (text_of bits place n) chars.0 (text_held bits place n found chars)))
+    (sym (items_of-held (text_of bits place n) chars.0 (text_held bits place n found chars within)))
     (took (SpellsChars chars.0) bits place found chars.2)
 
 pub bytes_took : (bits : List Bool) (place n : ℕ) → place + 8 * n ≤ length bits → Takes (SpellsBytes (items_of (binary_of bits place n))) (record { bits = bits; place = place }) (record { bits = bits; place = place + 8 * n })

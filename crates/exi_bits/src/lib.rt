@@ -3,6 +3,7 @@
 //! Bits are numbered from 0, the highest bit of the first byte first. No call takes memory.
 #![tactic(auto)]
 
+mod contents;
 mod cursor;
 mod octets;
 mod pen;
