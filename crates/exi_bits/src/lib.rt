@@ -14,3 +14,6 @@ pub use cursor::BitCursor;
 pub use exi_spec::{BitCause, BitFault};
 pub use pen::{BitPen, Full};
 pub use span::{BitSpan, SpanAt};
+
+#[cfg(test)]
+mod tests;
