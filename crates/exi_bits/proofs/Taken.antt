@@ -5,7 +5,8 @@ use Rattle.exi_spec.specs.Items.{SpellsUnsigned, SpellsInteger, SpellsChars, Spe
 use Rattle.exi_bits.specs.Lent.{Span, Holds, items_of}
 use Rattle.exi_bits.specs.Reading.{Cursor, ItemAt, StandsAt, Takes, Passes}
 use Rattle.exi_bits.proofs.Steps.{CharsAt}
-use Rattle.exi_bits.proofs.Spans.{items_of-held, binary_held, bytes_there}
+use Rattle.exi_spec.proofs.PlainLaws.{bytes_there}
+use Rattle.exi_bits.proofs.Spans.{items_of-held}
 
 pub took : (Spells : List Bool → Type 0) (bits : List Bool) (place n : ℕ) → ItemAt Spells bits place n → Takes Spells (record { bits = bits; place = place }) (record { bits = bits; place = place + n })
 took Spells bits place n item =
