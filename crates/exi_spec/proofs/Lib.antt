@@ -4,3 +4,4 @@ pub mod PlaceLaws
 pub mod PlainLaws
 pub mod Readers
 pub mod ShortestLaws
+pub mod PlainSteps

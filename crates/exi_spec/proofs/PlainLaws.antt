@@ -215,10 +215,10 @@ take-nil : (n : ℕ) → take n nothing ≡ []
 take-nil zero = refl
 take-nil (suc n) = refl
 
-take-add : (m n : ℕ) (l : List Bool) → take (m + n) l ≡ take m l ++ take n (drop m l)
-take-add zero n l = ap (λ (k : ℕ). take k l) (let e : 0 + n ≡ n = omega arith in e)
-take-add (suc m) n [] = ap (λ (k : ℕ). take k []) (let e : suc m + n ≡ suc (m + n) = omega arith in e) ∙ sym (take-nil n)
-take-add (suc m) n (b ∷ l) = ap (λ (k : ℕ). take k (b ∷ l)) (let e : suc m + n ≡ suc (m + n) = omega arith in e) ∙ ap (λ (t : List Bool). b ∷ t) (take-add m n l)
+pub take-split : (m n : ℕ) (l : List Bool) → take (m + n) l ≡ take m l ++ take n (drop m l)
+take-split zero n l = ap (λ (k : ℕ). take k l) (let e : 0 + n ≡ n = omega arith in e)
+take-split (suc m) n [] = ap (λ (k : ℕ). take k []) (let e : suc m + n ≡ suc (m + n) = omega arith in e) ∙ sym (take-nil n)
+take-split (suc m) n (b ∷ l) = ap (λ (k : ℕ). take k (b ∷ l)) (let e : suc m + n ≡ suc (m + n) = omega arith in e) ∙ ap (λ (t : List Bool). b ∷ t) (take-split m n l)
 
 pub bytes_there : (n : ℕ) (bits : List Bool) → 8 * n ≤ length bits → (length (bytes_in n bits) ≡ n) × SpellsBytes (bytes_in n bits) (take (8 * n) bits)
 unfolding bytes_in bits_of
@@ -230,7 +230,7 @@ bytes_there (suc n) bits h =
     let below : v < 256 = subst (λ (k : ℕ). v < 2 ^ k) long (number_of-lt (take 8 bits)) in
     let first : take 8 bits ≡ number_bits 8 v = sym (number_bits-number_of (take 8 bits)) ∙ ap (λ (k : ℕ). number_bits k v) long in
     let split : take (8 * suc n) bits ≡ take 8 bits ++ take (8 * n) (drop 8 bits) =
-    ap (λ (k : ℕ). take k bits) (let e : 8 * suc n ≡ 8 + 8 * n = omega arith in e) ∙ take-add 8 (8 * n) bits in (
+    ap (λ (k : ℕ). take k bits) (let e : 8 * suc n ≡ 8 + 8 * n = omega arith in e) ∙ take-split 8 (8 * n) bits in (
       ap suc later.0,
       record {
         range = (below, later.1.range);

@@ -2,6 +2,7 @@
 #![tactic(auto)]
 
 pub mod laws;
+pub mod plain;
 
 /// Why an item can't be taken from the bits at its place (own).
 #[derive(Clone, Copy, Debug, PartialEq, Eq)]
