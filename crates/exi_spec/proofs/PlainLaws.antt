@@ -1,5 +1,5 @@
 -- The plain functions give what the definitions say.
-use Rattle.std.proofs.Common.{◌≡◌, ℕ, zero, suc, ◌+◌, ◌-◌, ◌*◌, ◌^◌, ◌<◌, ◌≤◌, Bool, true, false, cond, ltb, List, [], ◌∷◌, ◌++◌, length, take, drop, Result, Ok, Err, refl, sym, ap, subst, ◌∙◌, arith, inl, inr, append_assoc, ⊎_elim}
+use Rattle.std.proofs.Common.{◌≡◌, ℕ, zero, suc, ◌+◌, ◌-◌, ◌*◌, ◌^◌, ◌<◌, ◌≤◌, Bool, true, false, cond, ltb, List, [], ◌∷◌, ◌++◌, length, take, drop, Result, Ok, Err, refl, sym, ap, subst, ◌∙◌, arith, inl, inr, append_assoc}
 use Rattle.std.proofs.lemmas.Bool.{cases_lt, lt-ltb, le-ltb}
 use Rattle.std.proofs.lemmas.List.{length-append, length-drop, length-take-le, take_at, drop_at, take-append-drop}
 use Rattle.std.specs.List.{AllByRecursion}
@@ -7,7 +7,7 @@ use Rattle.std.proofs.Common.{◌⊎◌}
 use Rattle.exi_spec.specs.declared.BitCause.{BitCause}
 use Rattle.exi_spec.specs.declared.BitCause.TheVariants.{ShortInput, WiderInteger, BadChar}
 use Rattle.exi_spec.specs.Bits.{number_bits, number_of, bits_of}
-use Rattle.exi_spec.specs.Items.{octet, followed, grouped, AreGroups, SpellsOctets, EndsInOctets, PassesOctets, IsWideInOctets, RefusesOctets, SpellsChar, SpellsChars, SpellsBytes}
+use Rattle.exi_spec.specs.Items.{octet, followed, grouped, AreGroups, SpellsOctets, IsWideInOctets, RefusesOctets, SpellsChars, SpellsBytes}
 use Rattle.exi_spec.specs.Plain.{behind_group, octets_in, first_char, chars_in, bytes_in}
 use Rattle.exi_spec.proofs.BitLaws.{length-number_bits, number_of-number_bits, number_of-lt, number_bits-number_of, low_octet, high_octet}
 use Rattle.exi_spec.proofs.OctetLaws.{only_octet, more_octets, short_octet, none_allowed, wide_octets, refused_later}
@@ -206,6 +206,7 @@ again (byte ∷ bytes) rest fit =
 
 pub bytes_in-spelled : (bytes : List ℕ) (front rest : List Bool) → SpellsBytes bytes front → bytes_in (length bytes) (front ++ rest) ≡ bytes
 bytes_in-spelled bytes front rest s = ap (λ (l : List Bool). bytes_in (length bytes) (l ++ rest)) s.spelled ∙ again bytes rest s.range
+
 -- ---- bytes at the front
 
 abbrev nothing : List Bool
@@ -237,4 +238,3 @@ bytes_there (suc n) bits h =
         spelled = split ∙ ap (λ (l : List Bool). l ++ take (8 * n) (drop 8 bits)) first ∙ ap (λ (l : List Bool). number_bits 8 v ++ l) later.1.spelled;
       },
     )
-

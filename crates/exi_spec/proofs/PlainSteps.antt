@@ -1,12 +1,12 @@
 -- The octets at the front of bits, by their number.
-use Rattle.std.proofs.Common.{◌≡◌, ℕ, zero, suc, ◌+◌, ◌-◌, ◌*◌, ◌^◌, ◌<◌, ◌≤◌, Bool, true, false, cond, List, [], ◌∷◌, ◌++◌, length, get_or, take, drop, refl, sym, ap, subst, ◌∙◌, arith, inl, inr}
-use Rattle.std.proofs.lemmas.List.{length-append, length-take-le, length-drop, take-append-drop, take_at, take_more}
+use Rattle.std.proofs.Common.{◌≡◌, ℕ, suc, ◌+◌, ◌-◌, ◌*◌, ◌^◌, ◌<◌, ◌≤◌, Bool, true, false, cond, List, ◌++◌, length, get_or, take, drop, refl, sym, ap, subst, ◌∙◌, arith, inl, inr}
+use Rattle.std.proofs.lemmas.List.{length-take-le, take-append-drop, take_more}
 use Rattle.exi_spec.specs.declared.BitCause.{BitCause}
-use Rattle.exi_spec.specs.declared.BitCause.TheVariants.{ShortInput, WiderInteger}
+use Rattle.exi_spec.specs.declared.BitCause.TheVariants.{WiderInteger}
 use Rattle.exi_spec.specs.Bits.{number_bits, number_of}
-use Rattle.exi_spec.specs.Items.{octet, SpellsOctets, RefusesOctets, PassesOctets, IsWideInOctets}
-use Rattle.exi_spec.proofs.BitLaws.{length-number_bits, number_bits-number_of, number_of-lt, number_of-push, low_octet, high_octet}
-use Rattle.exi_spec.proofs.OctetLaws.{only_octet, more_octets, short_octet, none_allowed, wide_octets, refused_later}
+use Rattle.exi_spec.specs.Items.{octet, SpellsOctets, RefusesOctets, IsWideInOctets}
+use Rattle.exi_spec.proofs.BitLaws.{number_bits-number_of, number_of-lt, number_of-push, low_octet, high_octet}
+use Rattle.exi_spec.proofs.OctetLaws.{only_octet, more_octets, none_allowed, wide_octets, refused_later}
 use Rattle.exi_spec.proofs.PlainLaws.{take-split}
 use mir.Val.{bool_byte}
 
@@ -62,17 +62,17 @@ later_refused most v bits cause m long is high r =
     let most_is : suc (most - 1) ≡ most = omega arith in
     subst (λ (k : ℕ). RefusesOctets k bits cause) most_is
     (subst (λ (l : List Bool). RefusesOctets (suc (most - 1)) l cause) (sym (whole bits v long is high))
-     (refused_later (most - 1) (v - 128) (drop 8 bits) cause (small_group bits v long is) r))
+    (refused_later (most - 1) (v - 128) (drop 8 bits) cause (small_group bits v long is) r))
 
 pub wide_high : (most v high used : ℕ) (bits : List Bool) → 0 < most → 8 ≤ length bits → v ≡ number_of (take 8 bits) → 128 ≤ v → 2 ^ 57 ≤ high → SpellsOctets (most - 1) high (take used (drop 8 bits)) → RefusesOctets most bits WiderInteger
 wide_high most v high used bits m long is big wide s =
     let most_is : suc (most - 1) ≡ most = omega arith in
     let rest = drop used (drop 8 bits) in
     let there : octet true (v - 128) ++ (take used (drop 8 bits) ++ rest) ≡ bits =
-        ap (λ (l : List Bool). octet true (v - 128) ++ l) (take-append-drop used (drop 8 bits)) ∙ sym (whole bits v long is big) in
+    ap (λ (l : List Bool). octet true (v - 128) ++ l) (take-append-drop used (drop 8 bits)) ∙ sym (whole bits v long is big) in
     inr (subst (λ (k : ℕ). IsWideInOctets k bits) most_is
     (subst (λ (l : List Bool). IsWideInOctets (suc (most - 1)) l) there
-     (wide_octets (most - 1) (v - 128) high (take used (drop 8 bits)) rest (small_group bits v long is) (omega (arith, wide)) s)))
+    (wide_octets (most - 1) (v - 128) high (take used (drop 8 bits)) rest (small_group bits v long is) (omega (arith, wide)) s)))
 
 take-add : (n : ℕ) (bits : List Bool) → take (n + 8) bits ≡ take 8 bits ++ take n (drop 8 bits)
 take-add n bits = ap (λ (k : ℕ). take k bits) (let e : n + 8 ≡ 8 + n = omega arith in e) ∙ take-split 8 n bits
@@ -82,7 +82,7 @@ first_high most v high used bits m long is big fits s =
     let most_is : suc (most - 1) ≡ most = omega arith in
     let group = small_group bits v long is in
     let front : octet true (v - 128) ++ take used (drop 8 bits) ≡ take (used + 8) bits =
-        ap (λ (l : List Bool). l ++ take used (drop 8 bits)) (sym (high_front bits v long is big)) ∙ sym (take-add used bits) in
+    ap (λ (l : List Bool). l ++ take used (drop 8 bits)) (sym (high_front bits v long is big)) ∙ sym (take-add used bits) in
     subst (λ (k : ℕ). SpellsOctets k (v - 128 + 128 * high) (take (used + 8) bits)) most_is
     (subst (λ (l : List Bool). SpellsOctets (suc (most - 1)) (v - 128 + 128 * high) l) front
-     (more_octets (most - 1) (v - 128) high (take used (drop 8 bits)) group (omega (arith, group, fits)) s))
+    (more_octets (most - 1) (v - 128) high (take used (drop 8 bits)) group (omega (arith, group, fits)) s))

@@ -1,14 +1,13 @@
 -- A reader that gives what is spelled and refuses what is refused shows that a code is exact.
-use Rattle.std.proofs.Common.{◌≡◌, ◌≢◌, ℕ, zero, suc, ◌+◌, ◌-◌, ◌*◌, ◌^◌, ◌<◌, ◌≤◌, ◌⊎◌, ℤ, pos, negsuc, Bool, true, false, cond, ltb, List, [], ◌∷◌, ◌++◌, length, take, drop, Result, Ok, Err, refl, sym, ap, subst, ◌∙◌, arith, inl, inr, append_assoc}
+use Rattle.std.proofs.Common.{◌≡◌, ℕ, zero, suc, ◌+◌, ◌-◌, ◌*◌, ◌^◌, ◌<◌, ◌⊎◌, ℤ, pos, negsuc, Bool, true, false, cond, ltb, List, [], ◌∷◌, ◌++◌, length, take, drop, Result, Ok, Err, refl, sym, ap, subst, ◌∙◌, arith, inl, inr, append_assoc}
 use Rattle.std.specs.Char.{IsScalar}
 use lib.Utf8.{scalar}
-use Rattle.std.specs.List.{AllByRecursion}
 use Rattle.std.proofs.lemmas.Bool.{cases_lt, cases_Bool, lt-ltb, le-ltb, cond-true, cond-false, both_ways}
-use Rattle.std.proofs.lemmas.List.{length-append, append_cancel_right, length-take-le, length-drop, take_at, drop_at, take-append-drop, nil_from_length}
+use Rattle.std.proofs.lemmas.List.{length-append, append_cancel_right, length-take-le, take_at, drop_at, take-append-drop}
 use Rattle.exi_spec.specs.declared.BitCause.{BitCause}
 use Rattle.exi_spec.specs.declared.BitCause.TheVariants.{ShortInput, WiderInteger, BadChar}
-use Rattle.exi_spec.specs.Bits.{number_bits, number_of, bits_of}
-use Rattle.exi_spec.specs.Items.{SpellsBool, SpellsNumber, SpellsUnsigned, SpellsInteger, SpellsBytes, SpellsChar, SpellsChars, SpellsNoChar, Begins, RefusesBits, RefusesUnsigned, RefusesInteger, RefusesChar, RefusesChars}
+use Rattle.exi_spec.specs.Bits.{number_bits, number_of}
+use Rattle.exi_spec.specs.Items.{SpellsBool, SpellsNumber, SpellsUnsigned, SpellsInteger, SpellsChar, SpellsChars, Begins, RefusesBits, RefusesUnsigned, RefusesInteger, RefusesChar, RefusesChars}
 use Rattle.exi_spec.specs.Plain.{octets_in, bytes_in}
 use Rattle.exi_spec.specs.Laws.{IsExact, AtBit, SpellsNBytes, SpellsNChars}
 use Rattle.exi_spec.proofs.BitLaws.{length-number_bits, number_of-number_bits, number_bits-number_of, number_of-lt, length-bits_of}
@@ -95,10 +94,10 @@ number_total n bits =
     elim (cases_lt (length bits) n) [
       | inl short ↦ inr (ShortInput, short)
       | inr enough ↦
-        let front = take n bits in
-        let long : length front ≡ n = length-take-le n bits enough in
-        let spelled : front ≡ number_bits n (number_of front) = sym (number_bits-number_of front) ∙ ap (λ (k : ℕ). number_bits k (number_of front)) long in
-        inl (number_of front, (front, drop n bits, record { range = subst (λ (k : ℕ). number_of front < 2 ^ k) long (number_of-lt front); spelled = spelled }, sym (take-append-drop n bits)))
+          let front = take n bits in
+          let long : length front ≡ n = length-take-le n bits enough in
+          let spelled : front ≡ number_bits n (number_of front) = sym (number_bits-number_of front) ∙ ap (λ (k : ℕ). number_bits k (number_of front)) long in
+          inl (number_of front, (front, drop n bits, record { range = subst (λ (k : ℕ). number_of front < 2 ^ k) long (number_of-lt front); spelled = spelled }, sym (take-append-drop n bits)))
     ]
 
 pub numbers_read : (n : ℕ) → Reads (SpellsNumber n) (RefusesBits n) (n_read n (λ bits. number_of (take n bits)))
@@ -276,22 +275,27 @@ chars_total (suc n) bits =
     elim (char_total bits) [
       | inr r ↦ inr ((r.0, 0), record { chars = []; front = []; rest = bits; fewer = omega arith; spelled = refl; there = refl; refused = r.1; place = refl })
       | inl f ↦
-        let b = f.1 in
-        elim (chars_total n b.1) [
-          | inl g ↦
-            let d = g.1 in
-            inl (f.0 ∷ g.0, (b.0 ++ d.0, d.1, (ap suc d.2.0, (b.0, d.0, b.2, d.2.1, refl)), b.3 ∙ ap (λ (l : List Bool). b.0 ++ l) d.3 ∙ sym (append_assoc b.0 d.0 d.1)))
-          | inr r ↦
-            let h = r.1 in
-            inr ((r.0.0, length b.0 + r.0.1), record {
-              chars = f.0 ∷ h.chars; front = b.0 ++ h.front; rest = h.rest;
-              fewer = omega (arith, h.fewer);
-              spelled = (b.0, h.front, b.2, h.spelled, refl);
-              there = b.3 ∙ ap (λ (l : List Bool). b.0 ++ l) h.there ∙ sym (append_assoc b.0 h.front h.rest);
-              refused = h.refused;
-              place = omega (arith, h.place, length-append b.0 h.front);
-            })
-        ]
+          let b = f.1 in
+          elim (chars_total n b.1) [
+            | inl g ↦
+                let d = g.1 in
+                inl (f.0 ∷ g.0, (b.0 ++ d.0, d.1, (ap suc d.2.0, (b.0, d.0, b.2, d.2.1, refl)), b.3 ∙ ap (λ (l : List Bool). b.0 ++ l) d.3 ∙ sym (append_assoc b.0 d.0 d.1)))
+            | inr r ↦
+                let h = r.1 in
+                inr (
+                  (r.0.0, length b.0 + r.0.1),
+                  record {
+                    chars = f.0 ∷ h.chars;
+                    front = b.0 ++ h.front;
+                    rest = h.rest;
+                    fewer = omega (arith, h.fewer);
+                    spelled = (b.0, h.front, b.2, h.spelled, refl);
+                    there = b.3 ∙ ap (λ (l : List Bool). b.0 ++ l) h.there ∙ sym (append_assoc b.0 h.front h.rest);
+                    refused = h.refused;
+                    place = omega (arith, h.place, length-append b.0 h.front);
+                  },
+                )
+          ]
     ]
 
 pub strings_read : (n : ℕ) → Reads (SpellsNChars n) (AtBit (RefusesChars n)) (chars_read n)

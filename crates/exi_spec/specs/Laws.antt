@@ -1,7 +1,7 @@
 -- Own: what makes spellings a code that is read in one way only.
-use Rattle.std.specs.Prelude.{◌≡◌, ℕ, ◌*◌, ◌≤◌, ◌^◌, ◌<◌, ◌⊎◌, ℤ, Bool, List, ◌++◌, length}
+use Rattle.std.specs.Prelude.{◌≡◌, ℕ, ◌≤◌, ◌⊎◌, Bool, List, ◌++◌, length}
 use Rattle.exi_spec.specs.declared.BitCause.{BitCause}
-use Rattle.exi_spec.specs.Items.{SpellsBool, SpellsNumber, SpellsUnsigned, SpellsInteger, SpellsBytes, SpellsChar, SpellsChars, Begins, RefusesBits, RefusesUnsigned, RefusesInteger, RefusesChar, RefusesChars, shortest_unsigned}
+use Rattle.exi_spec.specs.Items.{SpellsUnsigned, SpellsBytes, SpellsChars, Begins, shortest_unsigned}
 
 -- two spellings that begin one list of bits are one spelling of one value; each list of bits begins with a
 -- spelling or has a refusal, not both, and one refusal only

@@ -53,9 +53,10 @@ fn octet_of(bits: &[bool]) -> u64
 #[cfg(test)]
 mod tests {
     use super::*;
+    use std::process::Abort;
 
     // the bits of bytes, in order
-    fn read(rt: &HostRuntime, bits: &[u8], want: Result<(u64, usize), BitCause>) {
+    fn read(rt: &impl Abort, bits: &[u8], want: Result<(u64, usize), BitCause>) {
         let mut list = [false; 88];
         for (i, bit) in bits.iter().enumerate() {
             if i < 88 {
@@ -75,8 +76,20 @@ mod tests {
         read(&rt, b"1000000000000000", Ok((0, 16)));
         read(&rt, b"1010110", Err(BitCause::ShortInput));
         read(&rt, b"10101100", Err(BitCause::ShortInput));
-        read(&rt, b"11111111111111111111111111111111111111111111111111111111111111111111111100000001", Ok((u64::MAX, 80)));
-        read(&rt, b"11111111111111111111111111111111111111111111111111111111111111111111111100000010", Err(BitCause::WiderInteger));
-        read(&rt, b"11111111111111111111111111111111111111111111111111111111111111111111111110000000", Err(BitCause::WiderInteger));
+        read(
+            &rt,
+            b"11111111111111111111111111111111111111111111111111111111111111111111111100000001",
+            Ok((u64::MAX, 80)),
+        );
+        read(
+            &rt,
+            b"11111111111111111111111111111111111111111111111111111111111111111111111100000010",
+            Err(BitCause::WiderInteger),
+        );
+        read(
+            &rt,
+            b"11111111111111111111111111111111111111111111111111111111111111111111111110000000",
+            Err(BitCause::WiderInteger),
+        );
     }
 }

@@ -1,4 +1,4 @@
-use Rattle.std.proofs.Common.{◌+◌, ◌≤◌, arith, length}
+use Rattle.std.proofs.Common.{arith}
 use Rattle.std.proofs.lemmas.List.{length-drop, take_rest}
 use Rattle.std.proofs.lemmas.Result.{err_from_is_err_and}
 use Rattle.exi_spec.proofs.PlainSteps.{first_low, last_high, later_refused, wide_high, first_high}
@@ -22,6 +22,7 @@ returns-then-high t c =
     wide_high c.args.most c.octet_of-octet.result c.in_ok-high.high c.in_ok-high.used c.args.bits.now c.requires c.if-bits-lt8.false c.octet_of-octet.ensures.value c.if-octet-lt128.false c.if-high.true (rw (take_rest c.args.bits.now 8) at c.in_ok-high.ensures.1)
 
 pub returns : goal.returns
-returns t c =
-    (omega (arith, rw (take_rest c.args.bits.now 8) at c.in_ok-high.ensures.0, length-drop 8 c.args.bits.now, c.if-bits-lt8.false),
-     first_high c.args.most c.octet_of-octet.result c.in_ok-high.high c.in_ok-high.used c.args.bits.now c.requires c.if-bits-lt8.false c.octet_of-octet.ensures.value c.if-octet-lt128.false c.if-high.false (rw (take_rest c.args.bits.now 8) at c.in_ok-high.ensures.1))
+returns t c = (
+  omega (arith, rw (take_rest c.args.bits.now 8) at c.in_ok-high.ensures.0, length-drop 8 c.args.bits.now, c.if-bits-lt8.false),
+  first_high c.args.most c.octet_of-octet.result c.in_ok-high.high c.in_ok-high.used c.args.bits.now c.requires c.if-bits-lt8.false c.octet_of-octet.ensures.value c.if-octet-lt128.false c.if-high.false (rw (take_rest c.args.bits.now 8) at c.in_ok-high.ensures.1),
+)

@@ -1,7 +1,7 @@
-use Rattle.std.proofs.Common.{◌≡◌, ℕ, ◌+◌, ◌*◌, ◌^◌, ◌<◌, ◌≤◌, Bool, false, length, take, refl, get_or, subst, arith}
+use Rattle.std.proofs.Common.{◌≡◌, ℕ, ◌^◌, ◌<◌, false, refl, get_or, subst, arith}
 use Rattle.exi_spec.specs.Bits.{number_of}
 use Rattle.exi_spec.proofs.PlaceLaws.{number_of_take-lt, doubled_fits}
-use Rattle.exi_spec.proofs.PlainSteps.{number_more, number_small, bool_byte-le}
+use Rattle.exi_spec.proofs.PlainSteps.{number_more, bool_byte-le}
 use Rattle.exi_spec.proofs.plain.octet_of.Goals as goal
 
 pub loop-bit-init : goal.loop-bit-init

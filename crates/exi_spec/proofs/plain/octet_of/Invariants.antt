@@ -1,4 +1,4 @@
-use Rattle.std.proofs.Common.{◌≡◌, ◌^◌, ◌<◌, take}
+use Rattle.std.proofs.Common.{◌≡◌, take}
 use Rattle.exi_spec.specs.Bits.{number_of}
 use Rattle.exi_spec.proofs.plain.octet_of.Given as goal
 
