@@ -1,16 +1,16 @@
 -- The first of the code points or bytes that a span contains.
-use Rattle.std.proofs.Common.{◌≡◌, ℕ, zero, suc, ◌+◌, ◌-◌, ◌*◌, ◌<◌, ◌≤◌, Bool, true, false, List, [], ◌∷◌, ◌++◌, length, take, drop, Result, Ok, Err, refl, sym, ap, subst, ◌∙◌, arith, append_assoc, inl, inr}
-use Rattle.std.proofs.lemmas.List.{length-drop, length-append, drop-drop, take_at, drop_at}
+use Rattle.std.proofs.Common.{◌≡◌, ℕ, zero, suc, ◌+◌, ◌-◌, ◌*◌, ◌<◌, ◌≤◌, Bool, true, false, List, [], ◌∷◌, ◌++◌, length, take, drop, Result, Ok, refl, sym, ap, subst, ◌∙◌, arith, append_assoc}
+use Rattle.std.proofs.lemmas.List.{length-drop, length-append, drop-drop, take_at}
 use Rattle.std.specs.Char.{IsScalar}
 use Rattle.exi_spec.specs.declared.BitCause.{BitCause}
 use Rattle.exi_spec.specs.declared.BitCause.TheVariants.{ShortInput, WiderInteger, BadChar}
-use Rattle.exi_spec.specs.Bits.{number_bits, number_of, bits_of}
-use Rattle.exi_spec.specs.Items.{SpellsChar, SpellsChars, SpellsBytes, SpellsUnsigned, RefusesChar, Begins}
+use Rattle.exi_spec.specs.Bits.{number_bits, number_of}
+use Rattle.exi_spec.specs.Items.{SpellsChar, SpellsChars, RefusesChar}
 use Rattle.exi_spec.specs.Plain.{octets_in, first_char, chars_in, bytes_in}
 use Rattle.exi_spec.proofs.BitLaws.{length-number_bits, number_of-number_bits, length-bits_of}
 use Rattle.exi_spec.proofs.PlainLaws.{octets_in-spelled, octets_in-refused}
-use Rattle.exi_bits.specs.Lent.{Span, SpellsItems, Holds, IsSpan, items_in}
-use Rattle.exi_bits.specs.Reading.{ItemAt, StandsAt}
+use Rattle.exi_bits.specs.Lent.{Span, Holds, IsSpan, items_in}
+use Rattle.exi_bits.specs.Reading.{ItemAt}
 use Rattle.exi_bits.proofs.Spans.{binary_held}
 
 abbrev text_of : List Bool → ℕ → ℕ → Span
@@ -37,7 +37,13 @@ by_items bits bit n (char ∷ chars) some h =
     let b = h.spelled in
     let s = b.2 in
     record {
-      char = char; chars = chars; first = s.0; later = s.1; rest = b.1; spelled = s.2; others = s.3;
+      char = char;
+      chars = chars;
+      first = s.0;
+      later = s.1;
+      rest = b.1;
+      spelled = s.2;
+      others = s.3;
       there = b.3 ∙ ap (λ (l : List Bool). l ++ b.1) s.4 ∙ append_assoc s.0 s.1 b.1;
       long = h.long;
     }
@@ -84,7 +90,7 @@ unfolding chars_in first_char
 first_of_text bits bit zero m char some s item = absurd (omega arith)
 first_of_text bits bit (suc n) m char some s item =
     let read : octets_in 10 (drop bit bits) ≡ Ok (char, drop (bit + m) bits) =
-        ap (λ (l : List Bool). octets_in 10 l) item.2.there ∙ octets_in-spelled 10 char item.0 (drop (bit + m) bits) item.1.spelled in
+    ap (λ (l : List Bool). octets_in 10 l) item.2.there ∙ octets_in-spelled 10 char item.0 (drop (bit + m) bits) item.1.spelled in
     let less : suc n - 1 ≡ n = omega arith in
     ap (λ (r : Result (ℕ × List Bool) BitCause). first_char (λ (l : List Bool). chars_in n l) r) read
     ∙ ap (λ (k : ℕ). char ∷ chars_in k (drop (bit + m) bits)) (sym less)
@@ -94,7 +100,7 @@ rest_of_text bits bit n m char some s item =
     let t = begins_text bits bit n some s in
     let p = read_first bits bit n t in
     let q : octets_in 10 (drop bit bits) ≡ Ok (char, drop (bit + m) bits) =
-        ap (λ (l : List Bool). octets_in 10 l) item.2.there ∙ octets_in-spelled 10 char item.0 (drop (bit + m) bits) item.1.spelled in
+    ap (λ (l : List Bool). octets_in 10 l) item.2.there ∙ octets_in-spelled 10 char item.0 (drop (bit + m) bits) item.1.spelled in
     let same = ok_pair t.char char (t.later ++ t.rest) (drop (bit + m) bits) (octets_in 10 (drop bit bits)) p q in
     let passed : bit + m ≤ length bits = omega (arith, s.1.within, ap length item.2.there, item.2.long, length-append item.0 (drop (bit + m) bits), length-drop bit bits) in
     (t.chars, record { within = passed; long = omega (arith, t.long); spelled = (t.later, t.rest, t.others, sym same.1) })
@@ -117,9 +123,9 @@ first_of_binary bits bit zero byte some range there = absurd (omega arith)
 first_of_binary bits bit (suc n) byte some range there =
     let less : suc n - 1 ≡ n = omega arith in
     let first : number_of (take 8 (drop bit bits)) ≡ byte =
-        ap (λ (l : List Bool). number_of (take 8 l)) there
-        ∙ ap number_of (take_at (number_bits 8 byte) (drop (bit + 8) bits) 8 (length-number_bits 8 byte))
-        ∙ number_of-number_bits 8 byte range in
+    ap (λ (l : List Bool). number_of (take 8 l)) there
+    ∙ ap number_of (take_at (number_bits 8 byte) (drop (bit + 8) bits) 8 (length-number_bits 8 byte))
+    ∙ number_of-number_bits 8 byte range in
     ap (λ (k : ℕ). k ∷ bytes_in n (drop 8 (drop bit bits))) first
     ∙ ap (λ (l : List Bool). byte ∷ bytes_in n l) (drop-drop 8 bit bits)
     ∙ ap (λ (k : ℕ). byte ∷ bytes_in k (drop (bit + 8) bits)) (sym less)

@@ -1,10 +1,8 @@
 -- What a pen has written.
-use Rattle.std.proofs.Common.{◌≡◌, ℕ, zero, suc, ◌+◌, ◌-◌, ◌*◌, ◌/◌, ◌^◌, ◌<◌, ◌≤◌, Bool, true, false, List, [], ◌∷◌, ◌++◌, length, get_or, take, drop, replicate, refl, sym, ap, subst, ◌∙◌, arith, append_assoc}
-use Rattle.std.proofs.lemmas.Bool.{cases_lt}
-use Rattle.std.proofs.lemmas.List.{length-append, length-take-le, length-drop, length-replicate, take-append-drop, append-nil, ext_get_or, get_or-take, get_or-drop, get_or-replicate, take_more, take_at, drop_at, take-append-le, take-take}
+use Rattle.std.proofs.Common.{◌≡◌, ℕ, ◌+◌, ◌-◌, ◌*◌, ◌/◌, ◌<◌, ◌≤◌, Bool, false, List, [], ◌∷◌, ◌++◌, length, get_or, take, drop, replicate, refl, sym, ap, subst, ◌∙◌, arith, append_assoc}
+use Rattle.std.proofs.lemmas.List.{length-take-le, length-drop, length-replicate, take-append-drop, append-nil, ext_get_or, get_or-take, get_or-drop, get_or-replicate, take_more, take_at, take-take}
 use Rattle.exi_spec.specs.Bits.{number_bits, bits_of}
-use Rattle.exi_spec.specs.Items.{shortest_unsigned, shortest_chars}
-use Rattle.exi_spec.proofs.BitLaws.{length-bits_of, length-number_bits}
+use Rattle.exi_spec.proofs.BitLaws.{length-bits_of}
 use Rattle.exi_bits.specs.declared.pen.BitPen.{BitPen}
 use Rattle.exi_bits.specs.Pens.{written_bits}
 use Rattle.exi_bits.specs.Written.{PadsZero, Extends, HoldsBits}
@@ -44,12 +42,12 @@ holds_begun room at h clean =
     let long : length (take (8 * k) all) ≡ 8 * k = length-take-le (8 * k) all (omega (arith, length-bits_of room)) in
     let long_tail : length (drop at (take (8 * k) all)) ≡ pad = omega (arith, length-drop at (take (8 * k) all), long) in
     let tail : drop at (take (8 * k) all) ≡ replicate pad false =
-        ext_get_or false (drop at (take (8 * k) all)) (replicate pad false) (long_tail ∙ sym (length-replicate pad false))
-        (λ i less.
-          get_or-drop at (take (8 * k) all) i false
-          ∙ get_or-take (8 * k) all (at + i) false (omega (arith, long_tail))
-          ∙ clean (at + i) (omega arith) (omega (arith, long_tail))
-          ∙ sym (get_or-replicate pad i false false (omega (arith, long_tail)))) in
+    ext_get_or false (drop at (take (8 * k) all)) (replicate pad false) (long_tail ∙ sym (length-replicate pad false))
+    (λ i less.
+    get_or-drop at (take (8 * k) all) i false
+    ∙ get_or-take (8 * k) all (at + i) false (omega (arith, long_tail))
+    ∙ clean (at + i) (omega arith) (omega (arith, long_tail))
+    ∙ sym (get_or-replicate pad i false false (omega (arith, long_tail)))) in
     record {
       pad = pad;
       short = omega arith;
@@ -66,9 +64,9 @@ pub put_byte : (a b c bytes : List ℕ) (at i : ℕ) (byte : ℕ) → Extends a 
 put_byte a b c bytes at i byte p less byte_is q =
     let one : number_bits 8 byte ≡ bits_of (get_or bytes i 0 ∷ []) = ap (λ (n : ℕ). number_bits 8 n) byte_is ∙ sym (bits_of-one (get_or bytes i 0)) in
     let front : bits_of (take i bytes) ++ number_bits 8 byte ≡ bits_of (take (i + 1) bytes) =
-        ap (λ (l : List Bool). bits_of (take i bytes) ++ l) one
-        ∙ sym (bits_of-append (take i bytes) (get_or bytes i 0 ∷ []))
-        ∙ ap bits_of (sym (take_more bytes i 0 less)) in
+    ap (λ (l : List Bool). bits_of (take i bytes) ++ l) one
+    ∙ sym (bits_of-append (take i bytes) (get_or bytes i 0 ∷ []))
+    ∙ ap bits_of (sym (take_more bytes i 0 less)) in
     let eight : 8 * i + 8 ≡ 8 * (i + 1) = omega arith in
     subst (λ (k : ℕ). Extends a c at k (bits_of (take (i + 1) bytes))) eight
     (subst (λ (l : List Bool). Extends a c at (8 * i + 8) l) front (extended a b c at (8 * i) 8 (bits_of (take i bytes)) (number_bits 8 byte) p q))

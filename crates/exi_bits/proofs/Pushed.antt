@@ -1,10 +1,10 @@
 -- Bits behind those that are written.
-use Rattle.std.proofs.Common.{◌≡◌, ◌≢◌, ℕ, zero, suc, ◌+◌, ◌-◌, ◌*◌, ◌/◌, ◌%◌, ◌^◌, ◌<◌, ◌≤◌, max, Bool, true, false, cond, eqb, List, [], ◌∷◌, ◌++◌, length, get_or, take, drop, set, refl, sym, ap, subst, ◌∙◌, arith, inl, inr, append_assoc, bit_or}
+use Rattle.std.proofs.Common.{◌≡◌, ◌≢◌, ℕ, zero, suc, ◌+◌, ◌-◌, ◌*◌, ◌/◌, ◌%◌, ◌^◌, ◌<◌, ◌≤◌, max, Bool, true, false, cond, eqb, List, [], ◌∷◌, ◌++◌, length, get_or, take, set, refl, sym, ap, subst, ◌∙◌, arith, inl, inr, append_assoc, bit_or}
 use Rattle.std.proofs.lemmas.Bool.{cases_lt, cases_eq}
 use Rattle.std.proofs.lemmas.List.{length-append, length-set, get_or-set_same, get_or-set_other, get_or_past, get_or_at, ext_get_or, get_or-take, get_or_append_left, length-take-le, length_push}
 use Rattle.std.proofs.lemmas.Nat.Bits.{bit_at_or, bit_at-pow_same, bit_at-pow_other, bit_at-zero, bit_at-lt}
 use Rattle.std.specs.Int.{bit_at}
-use Rattle.exi_spec.specs.Bits.{number_bits, bits_of}
+use Rattle.exi_spec.specs.Bits.{bits_of}
 use Rattle.exi_spec.proofs.BitLaws.{length-bits_of, get_or-bits_of}
 use Rattle.exi_bits.specs.Written.{PadsZero, Extends}
 
@@ -22,9 +22,9 @@ bit_elsewhere : (bytes : List ℕ) (k v i : ℕ) → i / 8 ≢ k → get_or (bit
 bit_elsewhere bytes k v i other =
     elim (cases_lt i (8 * length bytes)) [
       | inl h ↦
-        bit_there (set bytes k v) i (omega (arith, length-set bytes k v, h))
-        ∙ ap (λ (b : ℕ). eqb (bit_at b (7 - i % 8)) 1) (get_or-set_other bytes k (i / 8) v 0 other)
-        ∙ sym (bit_there bytes i h)
+          bit_there (set bytes k v) i (omega (arith, length-set bytes k v, h))
+          ∙ ap (λ (b : ℕ). eqb (bit_at b (7 - i % 8)) 1) (get_or-set_other bytes k (i / 8) v 0 other)
+          ∙ sym (bit_there bytes i h)
       | inr h ↦ bit_past (set bytes k v) i (omega (arith, length-set bytes k v, h)) ∙ sym (bit_past bytes i h)
     ]
 
@@ -49,9 +49,9 @@ before_zero bytes at before i h clean b le same =
     elim (cases_eq (at % 8) 0) [
       | inl z ↦ ap (λ (n : ℕ). bit_at n (7 - i % 8)) (b.fresh z) ∙ bit_at-zero (7 - i % 8)
       | inr nz ↦
-        let pad : get_or (bits_of bytes) i false ≡ false = clean i le (omega arith) in
-        let there : eqb (bit_at (get_or bytes (i / 8) 0) (7 - i % 8)) 1 ≡ false = sym (bit_there bytes i (omega arith)) ∙ pad in
-        ap (λ (n : ℕ). bit_at n (7 - i % 8)) (b.kept nz ∙ ap (λ (k : ℕ). get_or bytes k 0) (sym same)) ∙ not_one _ (bit_at-lt _ _) there
+          let pad : get_or (bits_of bytes) i false ≡ false = clean i le (omega arith) in
+          let there : eqb (bit_at (get_or bytes (i / 8) 0) (7 - i % 8)) 1 ≡ false = sym (bit_there bytes i (omega arith)) ∙ pad in
+          ap (λ (n : ℕ). bit_at n (7 - i % 8)) (b.kept nz ∙ ap (λ (k : ℕ). get_or bytes k 0) (sym same)) ∙ not_one _ (bit_at-lt _ _) there
     ]
 
 one_at : (bit : Bool) (k : ℕ) → bit_at (cond bit (2 ^ k) 0) k ≡ cond bit 1 0
@@ -75,17 +75,17 @@ bit_before bytes at before i bit h b less =
     let one = cond bit (2 ^ (7 - at % 8)) 0 in
     elim (cases_eq (i / 8) (at / 8)) [
       | inl same ↦
-        let nz : at % 8 ≢ 0 = omega arith in
-        let apart : 7 - i % 8 ≢ 7 - at % 8 = omega arith in
-        let byte : before ≡ get_or bytes (i / 8) 0 = b.kept nz ∙ ap (λ (k : ℕ). get_or bytes k 0) (sym same) in
-        let merged : bit_at (bit_or before one) (7 - i % 8) ≡ bit_at (get_or bytes (i / 8) 0) (7 - i % 8) =
-            bit_at_or before one (7 - i % 8)
-            ∙ ap (λ (d : ℕ). max (bit_at before (7 - i % 8)) d) (one_elsewhere bit (7 - at % 8) (7 - i % 8) apart)
-            ∙ (let e : max (bit_at before (7 - i % 8)) 0 ≡ bit_at before (7 - i % 8) = omega arith in e)
-            ∙ ap (λ (n : ℕ). bit_at n (7 - i % 8)) byte in
-        bit_here bytes (at / 8) (bit_or before one) i (omega arith) same
-        ∙ ap (λ (d : ℕ). eqb d 1) merged
-        ∙ sym (bit_there bytes i (omega arith))
+          let nz : at % 8 ≢ 0 = omega arith in
+          let apart : 7 - i % 8 ≢ 7 - at % 8 = omega arith in
+          let byte : before ≡ get_or bytes (i / 8) 0 = b.kept nz ∙ ap (λ (k : ℕ). get_or bytes k 0) (sym same) in
+          let merged : bit_at (bit_or before one) (7 - i % 8) ≡ bit_at (get_or bytes (i / 8) 0) (7 - i % 8) =
+          bit_at_or before one (7 - i % 8)
+          ∙ ap (λ (d : ℕ). max (bit_at before (7 - i % 8)) d) (one_elsewhere bit (7 - at % 8) (7 - i % 8) apart)
+          ∙ (let e : max (bit_at before (7 - i % 8)) 0 ≡ bit_at before (7 - i % 8) = omega arith in e)
+          ∙ ap (λ (n : ℕ). bit_at n (7 - i % 8)) byte in
+          bit_here bytes (at / 8) (bit_or before one) i (omega arith) same
+          ∙ ap (λ (d : ℕ). eqb d 1) merged
+          ∙ sym (bit_there bytes i (omega arith))
       | inr other ↦ bit_elsewhere bytes (at / 8) (bit_or before one) i other
     ]
 
@@ -93,10 +93,10 @@ bit_new : (bytes : List ℕ) (at before : ℕ) (bit : Bool) → at < 8 * length 
 bit_new bytes at before bit h clean b =
     let one = cond bit (2 ^ (7 - at % 8)) 0 in
     let merged : bit_at (bit_or before one) (7 - at % 8) ≡ cond bit 1 0 =
-        bit_at_or before one (7 - at % 8)
-        ∙ ap (λ (d : ℕ). max d (bit_at one (7 - at % 8))) (before_zero bytes at before at h clean b (omega arith) refl)
-        ∙ (let e : max 0 (bit_at one (7 - at % 8)) ≡ bit_at one (7 - at % 8) = omega arith in e)
-        ∙ one_at bit (7 - at % 8) in
+    bit_at_or before one (7 - at % 8)
+    ∙ ap (λ (d : ℕ). max d (bit_at one (7 - at % 8))) (before_zero bytes at before at h clean b (omega arith) refl)
+    ∙ (let e : max 0 (bit_at one (7 - at % 8)) ≡ bit_at one (7 - at % 8) = omega arith in e)
+    ∙ one_at bit (7 - at % 8) in
     bit_here bytes (at / 8) (bit_or before one) at (omega arith) refl ∙ ap (λ (d : ℕ). eqb d 1) merged ∙ is_one bit
 
 bit_behind : (bytes : List ℕ) (at before i : ℕ) (bit : Bool) → at < 8 * length bytes → PadsZero bytes at → IsBegun bytes at before → at < i → i < 8 * ((at + 1 + 7) / 8) → get_or (bits_of (pushed_bytes bytes at before bit)) i false ≡ false
@@ -105,9 +105,9 @@ bit_behind bytes at before i bit h clean b more within =
     let same : i / 8 ≡ at / 8 = omega arith in
     let apart : 7 - i % 8 ≢ 7 - at % 8 = omega arith in
     let merged : bit_at (bit_or before one) (7 - i % 8) ≡ 0 =
-        bit_at_or before one (7 - i % 8)
-        ∙ ap (λ (d : ℕ). max d (bit_at one (7 - i % 8))) (before_zero bytes at before i h clean b (omega arith) same)
-        ∙ ap (λ (d : ℕ). max 0 d) (one_elsewhere bit (7 - at % 8) (7 - i % 8) apart) in
+    bit_at_or before one (7 - i % 8)
+    ∙ ap (λ (d : ℕ). max d (bit_at one (7 - i % 8))) (before_zero bytes at before i h clean b (omega arith) same)
+    ∙ ap (λ (d : ℕ). max 0 d) (one_elsewhere bit (7 - at % 8) (7 - i % 8) apart) in
     bit_here bytes (at / 8) (bit_or before one) i (omega arith) same ∙ ap (λ (d : ℕ). eqb d 1) merged
 
 -- one bit is written
@@ -117,22 +117,22 @@ bit_pushed bytes at before bit h clean b =
     let old = bits_of bytes in
     let long_old : length (take at old) ≡ at = length-take-le at old (omega (arith, length-bits_of bytes)) in
     let long_new : length (take (at + 1) new) ≡ at + 1 =
-        length-take-le (at + 1) new (omega (arith, length-bits_of (pushed_bytes bytes at before bit), length-set bytes (at / 8) (bit_or before (cond bit (2 ^ (7 - at % 8)) 0)))) in
+    length-take-le (at + 1) new (omega (arith, length-bits_of (pushed_bytes bytes at before bit), length-set bytes (at / 8) (bit_or before (cond bit (2 ^ (7 - at % 8)) 0)))) in
     record {
       long = refl;
       wrote = ext_get_or false (take (at + 1) new) (take at old ++ bit ∷ []) (omega (arith, long_new, long_old, length_push (take at old) bit))
           (λ i lt. elim (cases_lt i at) [
             | inl less ↦
-              get_or-take (at + 1) new i false (omega arith)
-              ∙ bit_before bytes at before i bit h b less
-              ∙ sym (get_or-take at old i false less)
-              ∙ sym (get_or_append_left (take at old) (bit ∷ []) false i (omega (arith, long_old)))
+                get_or-take (at + 1) new i false (omega arith)
+                ∙ bit_before bytes at before i bit h b less
+                ∙ sym (get_or-take at old i false less)
+                ∙ sym (get_or_append_left (take at old) (bit ∷ []) false i (omega (arith, long_old)))
             | inr le ↦
-              let here : i ≡ at = omega (arith, long_new) in
-              ap (λ (k : ℕ). get_or (take (at + 1) new) k false) here
-              ∙ get_or-take (at + 1) new at false (omega arith)
-              ∙ bit_new bytes at before bit h clean b
-              ∙ sym (get_or_at (take at old) bit [] false i (omega (arith, long_old)))
+                let here : i ≡ at = omega (arith, long_new) in
+                ap (λ (k : ℕ). get_or (take (at + 1) new) k false) here
+                ∙ get_or-take (at + 1) new at false (omega arith)
+                ∙ bit_new bytes at before bit h clean b
+                ∙ sym (get_or_at (take at old) bit [] false i (omega (arith, long_old)))
           ]);
       clean = λ k le lt. bit_behind bytes at before k bit h clean b (omega arith) lt;
     }

@@ -1,15 +1,11 @@
 -- What a span contains is what is spelled there.
-use Rattle.std.proofs.Common.{◌≡◌, ℕ, zero, suc, ◌+◌, ◌-◌, ◌*◌, ◌^◌, ◌<◌, ◌≤◌, Bool, true, false, List, [], ◌∷◌, ◌++◌, length, take, drop, refl, sym, ap, subst, ◌∙◌, arith, get_or, Fits, w8}
+use Rattle.std.proofs.Common.{◌≡◌, ℕ, suc, ◌+◌, ◌*◌, ◌<◌, ◌≤◌, Bool, true, false, List, [], ◌∷◌, ◌++◌, length, take, drop, refl, sym, ap, subst, ◌∙◌, arith, get_or, Fits, w8}
 use Rattle.std.specs.List.{AllByRecursion}
-use Rattle.std.proofs.lemmas.List.{length-drop, length-take-le, take-append-drop, append-nil}
-use Rattle.exi_spec.specs.Bits.{number_bits, number_of, bits_of}
-use Rattle.exi_spec.specs.Items.{SpellsChars, SpellsBytes, Begins}
-use Rattle.exi_spec.specs.Plain.{chars_in, bytes_in}
-use Rattle.exi_spec.proofs.BitLaws.{length-bits_of, number_of-lt, number_bits-number_of}
+use Rattle.std.proofs.lemmas.List.{length-drop, take-append-drop, append-nil}
+use Rattle.exi_spec.specs.Bits.{bits_of}
+use Rattle.exi_spec.specs.Plain.{bytes_in}
 use Rattle.exi_spec.proofs.PlainLaws.{chars_in-spelled, bytes_in-spelled, bytes_there}
 use Rattle.exi_bits.specs.Lent.{Span, SpellsItems, Holds, items_in, items_of}
-use Rattle.exi_bits.specs.Reading.{ItemAt, StandsAt}
-use Rattle.exi_bits.proofs.Steps.{CharsAt}
 
 items_in-spelled : (text : Bool) (items : List ℕ) (front rest : List Bool) → SpellsItems text items front → items_in text (length items) (front ++ rest) ≡ items
 items_in-spelled true items front rest s = chars_in-spelled items front rest s

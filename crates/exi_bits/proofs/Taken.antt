@@ -1,9 +1,9 @@
 -- What stands at a cursor's place is taken.
-use Rattle.std.proofs.Common.{◌≡◌, ℕ, zero, suc, ◌+◌, ◌*◌, ◌≤◌, Bool, true, false, List, [], ◌∷◌, ◌++◌, length, take, drop, refl, sym, ap, subst, ◌∙◌, arith, cond, ℤ, pos, negsuc}
+use Rattle.std.proofs.Common.{◌≡◌, ℕ, suc, ◌+◌, ◌*◌, ◌≤◌, Bool, true, false, List, ◌∷◌, ◌++◌, length, take, drop, refl, sym, ap, subst, ◌∙◌, arith, cond, ℤ, pos, negsuc}
 use Rattle.std.proofs.lemmas.List.{length-drop, length-take-le, take-append-drop, drop-drop}
 use Rattle.exi_spec.specs.Items.{SpellsUnsigned, SpellsInteger, SpellsChars, SpellsBytes}
 use Rattle.exi_bits.specs.Lent.{Span, Holds, items_of}
-use Rattle.exi_bits.specs.Reading.{Cursor, ItemAt, StandsAt, Takes, Passes}
+use Rattle.exi_bits.specs.Reading.{ItemAt, Takes}
 use Rattle.exi_bits.proofs.Steps.{CharsAt}
 use Rattle.exi_spec.proofs.PlainLaws.{bytes_there}
 use Rattle.exi_bits.proofs.Spans.{items_of-held}

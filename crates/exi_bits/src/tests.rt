@@ -45,7 +45,10 @@ fn each_item_is_taken_as_it_was_put(rt: HostRuntime) {
     assert_eq!(rt; pen.put_integer(-2), Ok(()));
     assert_eq!(rt; pen.put_bytes(b"\x0f"), Ok(()));
     assert_eq!(rt; pen.put_chars("z"), Ok(()));
-    assert_eq!(rt; pen.written(), [0xd6, 0x01, 0x40, 0x43, 0xde, 0x80].as_slice());
+    assert_eq!(rt;
+        pen.written(),
+        [0xd6, 0x01, 0x40, 0x43, 0xde, 0x80].as_slice()
+    );
     assert_eq!(rt; pen.finish(), 6);
     let mut cursor = BitCursor::new(&room);
     assert_eq!(rt; cursor.take_bit(), Ok(true));
@@ -61,19 +64,40 @@ fn each_item_is_taken_as_it_was_put(rt: HostRuntime) {
 #[test]
 fn an_item_that_cannot_be_taken_is_refused_at_its_bit(rt: HostRuntime) {
     let no_bytes = [];
-    let short = Err(BitFault { cause: BitCause::ShortInput, bit: 0 });
+    let short = Err(BitFault {
+        cause: BitCause::ShortInput,
+        bit: 0,
+    });
     assert_eq!(rt; BitCursor::new(&no_bytes).take_bit(), short);
     assert!(rt; BitCursor::new(&no_bytes).take_bytes(1).is_err());
     let wide = [0xff; 10];
     let mut cursor = BitCursor::new(&wide);
-    assert_eq!(rt; cursor.take_unsigned(), Err(BitFault { cause: BitCause::WiderInteger, bit: 0 }));
-    assert_eq!(rt; cursor.take_integer(), Err(BitFault { cause: BitCause::ShortInput, bit: 1 }));
+    assert_eq!(rt;
+        cursor.take_unsigned(),
+        Err(BitFault {
+            cause: BitCause::WiderInteger,
+            bit: 0
+        })
+    );
+    assert_eq!(rt;
+        cursor.take_integer(),
+        Err(BitFault {
+            cause: BitCause::ShortInput,
+            bit: 1
+        })
+    );
     // U+D800 behind the letter a
     let surrogate = [0x61, 0x80, 0xb0, 0x03];
     match BitCursor::new(&surrogate).take_chars(2) {
         Ok(_) => assert!(rt; false),
         Err(fault) => {
-            assert_eq!(rt; fault, BitFault { cause: BitCause::BadChar, bit: 8 });
+            assert_eq!(rt;
+                fault,
+                BitFault {
+                    cause: BitCause::BadChar,
+                    bit: 8
+                }
+            );
         }
     }
 }

@@ -1,4 +1,4 @@
-use Rattle.std.proofs.Common.{◌≡◌, ℕ, ◌+◌, ◌-◌, ◌*◌, ◌≤◌, Bool, true, false, ◌∷◌, drop, length, sym, subst, ap, ◌∙◌, arith}
+use Rattle.std.proofs.Common.{◌≡◌, ℕ, ◌+◌, ◌-◌, Bool, true, false, ◌∷◌, drop, sym, subst, arith}
 use Rattle.std.proofs.lemmas.List.{length-drop}
 use Rattle.exi_spec.specs.Bits.{bits_of}
 use Rattle.exi_spec.proofs.BitLaws.{length-bits_of}
@@ -23,7 +23,7 @@ returns-in-Ok-clause-first c =
     let span = as_kind c.args.is_text true bits c.args.bit c.args.n c.if-is_text.true c.requires.spelled in
     subst (λ (k : Bool). items_in k c.args.n (drop c.args.bit bits) ≡ c.from.result ∷ items_in k (c.args.n - 1) (drop (c.args.bit + c.in-Ok.bits) bits)) (sym c.if-is_text.true)
     (subst (λ (x : ℕ). items_in true c.args.n (drop c.args.bit bits) ≡ x ∷ items_in true (c.args.n - 1) (drop (c.args.bit + c.in-Ok.bits) bits)) (sym c.from.ensures)
-     (first_of_text bits c.args.bit c.args.n c.in-Ok.bits c.in-Ok.c c.requires.some span c.in-Ok.ensures.found))
+    (first_of_text bits c.args.bit c.args.n c.in-Ok.bits c.in-Ok.c c.requires.some span c.in-Ok.ensures.found))
 
 pub returns-in-Ok-clause-rest : goal.returns-in-Ok-clause-rest
 returns-in-Ok-clause-rest c =
@@ -43,4 +43,4 @@ returns-in-Some-clause-rest c =
     let bits = bits_of c.args.payload.now in
     as_kind false c.args.is_text bits (c.args.bit + 8) (c.args.n - 1) (sym c.if-is_text.false)
     (rest_of_binary bits c.args.bit c.args.n c.requires.some (omega (arith, length-bits_of c.args.payload.now, c.requires.within))
-     (as_kind c.args.is_text false bits c.args.bit c.args.n c.if-is_text.false c.requires.spelled))
+    (as_kind c.args.is_text false bits c.args.bit c.args.n c.if-is_text.false c.requires.spelled))

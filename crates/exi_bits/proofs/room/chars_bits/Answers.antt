@@ -1,7 +1,7 @@
 use Rattle.std.proofs.Common.{◌≡◌, ℕ, ◌*◌, Bool, length, ap, ◌∙◌, arith}
 use Rattle.std.proofs.lemmas.List.{length-append, nil_from_length}
 use Rattle.std.proofs.lemmas.Str.{IsUtf8-past_char}
-use Rattle.exi_spec.specs.Items.{shortest_unsigned, shortest_chars}
+use Rattle.exi_spec.specs.Items.{shortest_unsigned}
 use Rattle.exi_bits.proofs.Texts.{next_char, char_takes, no_char}
 use Rattle.exi_bits.proofs.room.chars_bits.Goals as goal
 

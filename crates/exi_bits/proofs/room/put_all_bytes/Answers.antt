@@ -1,4 +1,3 @@
-use Rattle.std.proofs.Common.{◌≡◌, get_or}
 use Rattle.exi_bits.proofs.Penned.{put_no_bytes, put_byte}
 use Rattle.exi_bits.proofs.room.put_all_bytes.Goals as goal
 

@@ -1,4 +1,4 @@
-use Rattle.std.proofs.Common.{◌≡◌, ℕ, ◌+◌, ◌*◌, ◌≤◌, length, ap, sym, subst, ◌∙◌, arith}
+use Rattle.std.proofs.Common.{ℕ, ◌+◌, length, ap, subst, arith}
 use Rattle.std.proofs.lemmas.List.{nil_from_length}
 use Rattle.std.proofs.lemmas.Str.{IsUtf8-past_char}
 use Rattle.exi_spec.specs.Items.{shortest_unsigned}
@@ -25,7 +25,7 @@ loop-c-preserved c =
     let held = c.loop-c.invariant in
     let parts = c.in-Some.ensures.steps.0 in
     let step : Extends c.loop-c.room c.put_octets-wrote.new.room (c.args.at + c.loop-c.wrote) c.put_octets-wrote.result (shortest_unsigned c.in-Some.c) =
-        subst (λ (n : ℕ). Extends c.loop-c.room c.put_octets-wrote.new.room (c.args.at + c.loop-c.wrote) c.put_octets-wrote.result (shortest_unsigned n)) c.from.ensures c.put_octets-wrote.ensures in
+    subst (λ (n : ℕ). Extends c.loop-c.room c.put_octets-wrote.new.room (c.args.at + c.loop-c.wrote) c.put_octets-wrote.result (shortest_unsigned n)) c.from.ensures c.put_octets-wrote.ensures in
     record {
       text = IsUtf8-past_char _ _ c.in-Some.c held.text parts;
       wrote = wrote_char c.args.room.now c.loop-c.room c.put_octets-wrote.new.room c.args.at c.loop-c.wrote c.put_octets-wrote.result c.in-Some.c c.args.text.now _ _ held.text parts held.wrote step;

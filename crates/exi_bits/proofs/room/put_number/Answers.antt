@@ -1,4 +1,4 @@
-use Rattle.std.proofs.Common.{◌≡◌, arith, refl}
+use Rattle.std.proofs.Common.{arith, refl}
 use Rattle.exi_bits.proofs.Shortest.{put_more, put_all}
 use Rattle.exi_bits.proofs.room.put_number.Goals as goal
 

@@ -1,5 +1,4 @@
-use Rattle.std.proofs.Common.{◌≡◌, ℕ, ◌+◌, ◌*◌, ◌<◌, length, refl, arith}
-use Rattle.exi_bits.specs.Pens.{written_bits, Needs}
+use Rattle.std.proofs.Common.{refl, arith}
 use Rattle.exi_bits.proofs.Penned.{length-written}
 use Rattle.exi_bits.proofs.pen.BitPen.room_for.Goals as goal
 

@@ -1,4 +1,3 @@
-use Rattle.std.proofs.Common.{◌≡◌, ap, chars}
 use Rattle.std.proofs.lemmas.List.{nil_from_length}
 use Rattle.std.proofs.lemmas.Str.{IsUtf8-past_char, chars_past_char}
 use Rattle.exi_bits.proofs.Texts.{next_is, same_behind, ends_both, no_chars}
