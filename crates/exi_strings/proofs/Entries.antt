@@ -1,5 +1,5 @@
 -- The global partition has the entries' items at their places.
-use Rattle.std.proofs.Common.{◌≡◌, ℕ, zero, suc, ◌<◌, ◌≤◌, List, [], ◌∷◌, length, get_or, Option, Some, None, refl, sym, ap, ◌∙◌, arith}
+use Rattle.std.proofs.Common.{◌≡◌, ℕ, zero, suc, ◌<◌, ◌≤◌, List, [], ◌∷◌, length, get_or, Some, None, refl, ap, arith}
 use Rattle.std.specs.Prelude.{slice_get}
 use Rattle.exi_strings.specs.Table.{global_of}
 

@@ -1,4 +1,4 @@
-use Rattle.std.proofs.Common.{◌∙◌, ap, length, sym}
+use Rattle.std.proofs.Common.{sym}
 use Rattle.exi_strings.proofs.Entries.{length-global_of}
 use Rattle.exi_strings.proofs.partitions.Partitions.globals.Goals as goal
 
