@@ -7,7 +7,7 @@ use Rattle.exi_spec.specs.Bits.{number_bits}
 use Rattle.exi_spec.specs.Items.{octet, SpellsOctets, RefusesOctets, PassesOctets, IsWideInOctets, SpellsChar, SpellsChars, RefusesChar, RefusesChars}
 use Rattle.exi_spec.proofs.BitLaws.{length-number_bits, low_octet, high_octet}
 use Rattle.exi_spec.proofs.OctetLaws.{only_octet, more_octets, short_octet, none_allowed, wide_octets, refused_later}
-use Rattle.exi_bits.specs.Reading.{ItemAt, StandsAt}
+use Rattle.exi_bits.specs.Reading.{ItemAt}
 use mir.Val.{bool_byte}
 
 pub bool_byte-is : (b : Bool) → bool_byte b ≡ cond b 1 0

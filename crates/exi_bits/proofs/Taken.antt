@@ -1,11 +1,12 @@
 -- What stands at a cursor's place is taken.
-use Rattle.std.proofs.Common.{◌≡◌, ℕ, zero, suc, ◌+◌, ◌*◌, ◌≤◌, Bool, true, false, List, [], ◌∷◌, ◌++◌, length, take, drop, refl, sym, ap, subst, ◌∙◌, arith, cond, ℤ, pos, negsuc}
+use Rattle.std.proofs.Common.{◌≡◌, ℕ, suc, ◌+◌, ◌*◌, ◌≤◌, Bool, true, false, List, ◌∷◌, ◌++◌, length, take, drop, refl, sym, ap, subst, ◌∙◌, arith, cond, ℤ, pos, negsuc}
 use Rattle.std.proofs.lemmas.List.{length-drop, length-take-le, take-append-drop, drop-drop}
 use Rattle.exi_spec.specs.Items.{SpellsUnsigned, SpellsInteger, SpellsChars, SpellsBytes}
 use Rattle.exi_bits.specs.Lent.{Span, Holds, items_of}
-use Rattle.exi_bits.specs.Reading.{Cursor, ItemAt, StandsAt, Takes, Passes}
+use Rattle.exi_bits.specs.Reading.{ItemAt, Takes}
 use Rattle.exi_bits.proofs.Steps.{CharsAt}
-use Rattle.exi_bits.proofs.Spans.{items_of-held, binary_held, bytes_there}
+use Rattle.exi_spec.proofs.PlainLaws.{bytes_there}
+use Rattle.exi_bits.proofs.Spans.{items_of-held}
 
 pub took : (Spells : List Bool → Type 0) (bits : List Bool) (place n : ℕ) → ItemAt Spells bits place n → Takes Spells (record { bits = bits; place = place }) (record { bits = bits; place = place + n })
 took Spells bits place n item =
@@ -32,15 +33,15 @@ text_of bits place n = record { bits = bits; bit = place; count = n; is_text = t
 abbrev binary_of : List Bool → ℕ → ℕ → Span
 binary_of bits place n = record { bits = bits; bit = place; count = n; is_text = false }
 
-pub text_held : (bits : List Bool) (place n found : ℕ) (chars : CharsAt bits place n found) → Holds (record { bits = bits; bit = place; count = n; is_text = true }) chars.0
-text_held bits place n found chars =
+pub text_held : (bits : List Bool) (place n found : ℕ) (chars : CharsAt bits place n found) → place ≤ length bits → Holds (record { bits = bits; bit = place; count = n; is_text = true }) chars.0
+text_held bits place n found chars within =
     let item = chars.2 in
-    record { long = chars.1; spelled = (item.0, drop (place + found) bits, item.1, item.2.there) }
+    record { within = within; long = chars.1; spelled = (item.0, drop (place + found) bits, item.1, item.2.there) }
 
-pub chars_took : (bits : List Bool) (place n found : ℕ) → CharsAt bits place n found → Takes (SpellsChars (items_of (text_of bits place n))) (record { bits = bits; place = place }) (record { bits = bits; place = place + found })
-chars_took bits place n found chars =
+pub chars_took : (bits : List Bool) (place n found : ℕ) → CharsAt bits place n found → place ≤ length bits → Takes (SpellsChars (items_of (text_of bits place n))) (record { bits = bits; place = place }) (record { bits = bits; place = place + found })
+chars_took bits place n found chars within =
     subst (λ (items : List ℕ). Takes (SpellsChars items) (record { bits = bits; place = place }) (record { bits = bits; place = place + found }))
-    (sym (items_of-held (text_of bits place n) chars.0 (text_held bits place n found chars)))
+    (sym (items_of-held (text_of bits place n) chars.0 (text_held bits place n found chars within)))
     (took (SpellsChars chars.0) bits place found chars.2)
 
 pub bytes_took : (bits : List Bool) (place n : ℕ) → place + 8 * n ≤ length bits → Takes (SpellsBytes (items_of (binary_of bits place n))) (record { bits = bits; place = place }) (record { bits = bits; place = place + 8 * n })

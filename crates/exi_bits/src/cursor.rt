@@ -3,7 +3,7 @@
 ghost use Rattle.std.specs.Prelude.{◌≡◌, ℕ, ◌+◌, ◌*◌, ◌≤◌, ◌/◌, ◌<◌, true, false, length, drop, pos, negsuc, if◌then◌else◌, IfOk, IfErr, OnErr};
 ghost use Rattle.exi_spec.specs.Bits.{bits_of};
 ghost use Rattle.exi_spec.specs.Items.{SpellsBool, SpellsNumber, SpellsUnsigned, SpellsInteger, SpellsBytes, SpellsChars, RefusesBits, RefusesUnsigned, RefusesInteger, RefusesChars};
-ghost use Rattle.exi_bits.specs.Lent.{items_of};
+ghost use Rattle.exi_bits.specs.Lent.{items_of, IsSpan};
 
 use crate::octets;
 use crate::span::BitSpan;
@@ -40,6 +40,15 @@ impl<'a> BitCursor<'a> {
         ensures { result ≡ record { bits = bits_of payload.now; place = 0 } }
     {
         BitCursor { payload, place: 0 }
+    }
+
+    /// A place of a payload.
+    pub(crate) fn at(payload: &'a [u8], place: u32) -> BitCursor<'a>
+        requires room { length payload.now ≤ 65536 }
+        requires within { place ≤ 8 * length payload.now }
+        ensures { result ≡ record { bits = bits_of payload.now; place = place } }
+    {
+        BitCursor { payload, place }
     }
 
     /// The number of the next bit.
@@ -139,6 +148,7 @@ impl<'a> BitCursor<'a> {
     pub fn take_bytes(&mut self, n: u32) -> Result<BitSpan<'a>, BitFault>
         ensures span { IfOk result (λ span. span ≡ record { bits = self.old.bits; bit = self.old.place; count = n; is_text = false }) }
         ensures count { IfOk result (λ span. length (items_of span) ≡ n) }
+        ensures held { IfOk result IsSpan }
         ensures ok { IfOk result (λ span. Takes (SpellsBytes (items_of span)) self.old self.new) }
         ensures refused { IfErr result (λ fault. RefusesBits (8 * n) (ahead self.old) fault.cause) }
         ensures at { IfErr result (λ fault. fault.bit ≡ self.old.place) }
@@ -159,6 +169,7 @@ impl<'a> BitCursor<'a> {
     pub fn take_chars(&mut self, n: u32) -> Result<BitSpan<'a>, BitFault>
         ensures span { IfOk result (λ span. span ≡ record { bits = self.old.bits; bit = self.old.place; count = n; is_text = true }) }
         ensures count { IfOk result (λ span. length (items_of span) ≡ n) }
+        ensures held { IfOk result IsSpan }
         ensures ok { IfOk result (λ span. Takes (SpellsChars (items_of span)) self.old self.new) }
         ensures refused { IfErr result (λ fault. (at : ℕ) × RefusesChars n (ahead self.old) fault.cause at
             × (fault.bit ≡ self.old.place + at)) }

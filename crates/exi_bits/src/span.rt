@@ -1,8 +1,10 @@
 //! Texts and Binaries that are lent from the payload in which they stand.
 
-ghost use Rattle.std.specs.Prelude.{◌≡◌, ℕ, ◌+◌, ◌*◌, ◌≤◌, length, true, false};
+ghost use Rattle.std.specs.Prelude.{◌≡◌, ℕ, ◌+◌, ◌*◌, ◌≤◌, ◌↔◌, List, IsTrue, length, true, false};
+ghost use Rattle.std.specs.Str.{chars};
 ghost use Rattle.exi_spec.specs.Bits.{bits_of};
 
+use crate::contents::Contents;
 use crate::cursor::BitCursor;
 use std::marker::Model;
 
@@ -41,7 +43,7 @@ impl<'a> Model for BitSpan<'a> {
 }
 
 impl<'a> BitSpan<'a> {
-    ghost use Rattle.exi_bits.specs.Lent.{Span, Holds, IsSpan, items_of};
+    ghost use Rattle.exi_bits.specs.Lent.{Span, Holds, IsSpan, items_of, text_at};
     ghost use Rattle.exi_bits.specs.Reading.{Cursor};
 
     /// The n bytes of a Binary at a bit.
@@ -78,5 +80,77 @@ impl<'a> BitSpan<'a> {
         ensures items { result ≡ length (items_of self.now) }
     {
         self.count
+    }
+
+    /// Where it stands; of a Binary `chars` is the number of bytes.
+    pub fn at(&self) -> SpanAt
+        ensures at { result ≡ record { bit = self.now.bit; chars = self.now.count } }
+        ensures spelled { IsSpan self.now }
+    {
+        SpanAt {
+            bit: self.bit,
+            chars: self.count,
+        }
+    }
+
+    /// A cursor at its first bit.
+    pub fn cursor(&self) -> BitCursor<'a>
+        ensures { result ≡ record { bits = self.now.bits; place = self.now.bit } }
+    {
+        BitCursor::at(self.payload, self.bit)
+    }
+
+    /// The text at a place of a payload. The bytes of an ASCII text spell its code points at bit 0.
+    pub fn of(payload: &'a [u8], at: SpanAt) -> BitSpan<'a>
+        requires room { length payload.now ≤ 65536 }
+        requires spelled { IsSpan (text_at (bits_of payload.now) at) }
+        ensures span { result ≡ text_at (bits_of payload.now) at }
+        ensures items { (chars : List ℕ) → Holds (text_at (bits_of payload.now) at) chars → items_of result ≡ chars }
+    {
+        BitSpan::text_at(payload, at.bit, at.chars)
+    }
+
+    /// The Binary of these bytes, at most 65,536.
+    pub fn of_bytes(bytes: &'a [u8]) -> BitSpan<'a>
+        requires { length bytes.now ≤ 65536 }
+        ensures span { result ≡ record { bits = bits_of bytes.now; bit = 0; count = length bytes.now; is_text = false } }
+        ensures items { items_of result ≡ bytes.now }
+    {
+        BitSpan::binary_at(bytes, 0, bytes.len() as u32)
+    }
+
+    /// Whether both are the same code points, or of Binaries the same bytes, however long they are spelled.
+    pub fn same(&self, other: &BitSpan<'_>) -> bool
+        requires { self.now.is_text ≡ other.now.is_text }
+        ensures { IsTrue result ↔ (items_of self.now ≡ items_of other.now) }
+    {
+        let mut mine = self.contents();
+        let mut theirs = other.contents();
+        while let Some(item) = mine.next() {
+            if theirs.next() != Some(item) {
+                return false;
+            }
+        }
+        theirs.next().is_none()
+    }
+
+    /// Whether this text is the other one.
+    pub fn same_str(&self, text: &str) -> bool
+        requires { IsTrue self.now.is_text }
+        ensures { IsTrue result ↔ (items_of self.now ≡ chars text.now) }
+    {
+        let mut mine = self.contents();
+        for c in text.chars() {
+            if mine.next() != Some(u32::from(c)) {
+                return false;
+            }
+        }
+        mine.next().is_none()
+    }
+
+    fn contents(&self) -> Contents<'a>
+        ensures { result ≡ items_of self.now }
+    {
+        Contents::new(self.payload, self.bit, self.count, self.is_text)
     }
 }

@@ -1,8 +1,8 @@
 -- Octets of an Unsigned Integer, one in front of what follows it.
-use Rattle.std.proofs.Common.{◌≡◌, ℕ, zero, suc, ◌+◌, ◌*◌, ◌^◌, ◌<◌, ◌≤◌, true, false, Bool, List, [], ◌∷◌, ◌++◌, length, refl, sym, ap, ◌∙◌, append_assoc, arith, inl, inr, ⊎_elim}
+use Rattle.std.proofs.Common.{ℕ, suc, ◌+◌, ◌*◌, ◌^◌, ◌<◌, ◌≤◌, true, false, Bool, List, [], ◌∷◌, ◌++◌, length, refl, sym, ap, ◌∙◌, append_assoc, arith, inl, inr}
 use Rattle.exi_spec.specs.declared.BitCause.{BitCause}
 use Rattle.exi_spec.specs.declared.BitCause.TheVariants.{ShortInput, WiderInteger, BadChar}
-use Rattle.exi_spec.specs.Items.{octet, followed, grouped, SpellsOctets, EndsInOctets, PassesOctets, IsWideInOctets, RefusesOctets}
+use Rattle.exi_spec.specs.Items.{octet, followed, SpellsOctets, EndsInOctets, PassesOctets, IsWideInOctets, RefusesOctets}
 
 -- an octet behind which none follows
 pub only_octet : (most group : ℕ) → 0 < most → group < 128 → SpellsOctets most group (octet false group)

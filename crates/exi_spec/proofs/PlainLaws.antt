@@ -1,13 +1,13 @@
 -- The plain functions give what the definitions say.
-use Rattle.std.proofs.Common.{◌≡◌, ℕ, zero, suc, ◌+◌, ◌-◌, ◌*◌, ◌^◌, ◌<◌, ◌≤◌, Bool, true, false, cond, ltb, List, [], ◌∷◌, ◌++◌, length, take, drop, Result, Ok, Err, refl, sym, ap, subst, ◌∙◌, arith, inl, inr, append_assoc, ⊎_elim}
+use Rattle.std.proofs.Common.{◌≡◌, ℕ, zero, suc, ◌+◌, ◌-◌, ◌*◌, ◌^◌, ◌<◌, ◌≤◌, Bool, true, false, cond, ltb, List, [], ◌∷◌, ◌++◌, length, take, drop, Result, Ok, Err, refl, sym, ap, subst, ◌∙◌, arith, inl, inr, append_assoc}
 use Rattle.std.proofs.lemmas.Bool.{cases_lt, lt-ltb, le-ltb}
-use Rattle.std.proofs.lemmas.List.{length-append, length-take-le, take_at, drop_at, take-append-drop}
+use Rattle.std.proofs.lemmas.List.{length-append, length-drop, length-take-le, take_at, drop_at, take-append-drop}
 use Rattle.std.specs.List.{AllByRecursion}
 use Rattle.std.proofs.Common.{◌⊎◌}
 use Rattle.exi_spec.specs.declared.BitCause.{BitCause}
 use Rattle.exi_spec.specs.declared.BitCause.TheVariants.{ShortInput, WiderInteger, BadChar}
 use Rattle.exi_spec.specs.Bits.{number_bits, number_of, bits_of}
-use Rattle.exi_spec.specs.Items.{octet, followed, grouped, AreGroups, SpellsOctets, EndsInOctets, PassesOctets, IsWideInOctets, RefusesOctets, SpellsChar, SpellsChars, SpellsBytes}
+use Rattle.exi_spec.specs.Items.{octet, followed, grouped, AreGroups, SpellsOctets, IsWideInOctets, RefusesOctets, SpellsChars, SpellsBytes}
 use Rattle.exi_spec.specs.Plain.{behind_group, octets_in, first_char, chars_in, bytes_in}
 use Rattle.exi_spec.proofs.BitLaws.{length-number_bits, number_of-number_bits, number_of-lt, number_bits-number_of, low_octet, high_octet}
 use Rattle.exi_spec.proofs.OctetLaws.{only_octet, more_octets, short_octet, none_allowed, wide_octets, refused_later}
@@ -206,3 +206,35 @@ again (byte ∷ bytes) rest fit =
 
 pub bytes_in-spelled : (bytes : List ℕ) (front rest : List Bool) → SpellsBytes bytes front → bytes_in (length bytes) (front ++ rest) ≡ bytes
 bytes_in-spelled bytes front rest s = ap (λ (l : List Bool). bytes_in (length bytes) (l ++ rest)) s.spelled ∙ again bytes rest s.range
+
+-- ---- bytes at the front
+
+abbrev nothing : List Bool
+nothing = []
+
+take-nil : (n : ℕ) → take n nothing ≡ []
+take-nil zero = refl
+take-nil (suc n) = refl
+
+pub take-split : (m n : ℕ) (l : List Bool) → take (m + n) l ≡ take m l ++ take n (drop m l)
+take-split zero n l = ap (λ (k : ℕ). take k l) (let e : 0 + n ≡ n = omega arith in e)
+take-split (suc m) n [] = ap (λ (k : ℕ). take k []) (let e : suc m + n ≡ suc (m + n) = omega arith in e) ∙ sym (take-nil n)
+take-split (suc m) n (b ∷ l) = ap (λ (k : ℕ). take k (b ∷ l)) (let e : suc m + n ≡ suc (m + n) = omega arith in e) ∙ ap (λ (t : List Bool). b ∷ t) (take-split m n l)
+
+pub bytes_there : (n : ℕ) (bits : List Bool) → 8 * n ≤ length bits → (length (bytes_in n bits) ≡ n) × SpellsBytes (bytes_in n bits) (take (8 * n) bits)
+unfolding bytes_in bits_of
+bytes_there zero bits h = (refl, record { range = tt; spelled = ap (λ (k : ℕ). take k bits) (let e : 8 * 0 ≡ 0 = omega arith in e) })
+bytes_there (suc n) bits h =
+    let later = bytes_there n (drop 8 bits) (omega (arith, length-drop 8 bits)) in
+    let long : length (take 8 bits) ≡ 8 = length-take-le 8 bits (omega arith) in
+    let v = number_of (take 8 bits) in
+    let below : v < 256 = subst (λ (k : ℕ). v < 2 ^ k) long (number_of-lt (take 8 bits)) in
+    let first : take 8 bits ≡ number_bits 8 v = sym (number_bits-number_of (take 8 bits)) ∙ ap (λ (k : ℕ). number_bits k v) long in
+    let split : take (8 * suc n) bits ≡ take 8 bits ++ take (8 * n) (drop 8 bits) =
+    ap (λ (k : ℕ). take k bits) (let e : 8 * suc n ≡ 8 + 8 * n = omega arith in e) ∙ take-split 8 (8 * n) bits in (
+      ap suc later.0,
+      record {
+        range = (below, later.1.range);
+        spelled = split ∙ ap (λ (l : List Bool). l ++ take (8 * n) (drop 8 bits)) first ∙ ap (λ (l : List Bool). number_bits 8 v ++ l) later.1.spelled;
+      },
+    )

@@ -1,6 +1,6 @@
 -- W3C EXI 1.0 (Second Edition) 7.1, Built-in EXI Datatype Representations: what bits spell an item, and
 -- which items can't be taken. A bit list "from an item on" is all that is left of a document there.
-use Rattle.std.specs.Prelude.{◌≡◌, ℕ, ℤ, pos, negsuc, ◌+◌, ◌*◌, ◌^◌, ◌<◌, ◌≤◌, ◌⊎◌, Bool, true, false, List, [], ◌∷◌, ◌++◌, length}
+use Rattle.std.specs.Prelude.{◌≡◌, ℕ, zero, suc, ℤ, pos, negsuc, ◌+◌, ◌*◌, ◌/◌, ◌%◌, ◌^◌, nat_lt, if◌then◌else◌, ◌<◌, ◌≤◌, ◌⊎◌, Bool, true, false, List, [], ◌∷◌, ◌++◌, length}
 use Rattle.std.specs.List.{AllByRecursion}
 use Rattle.std.specs.Char.{IsScalar}
 use Rattle.exi_spec.specs.Bits.{number_bits, bits_of}
@@ -48,11 +48,24 @@ pub record SpellsOctets (most value : ℕ) (bits : List Bool) : Type 0 where
 abbrev pub SpellsUnsigned : ℕ → List Bool → Type 0
 SpellsUnsigned value bits = SpellsOctets 10 value bits
 
+-- the shortest spelling (own): of groups behind which `more` may follow, no more than the value needs
+unfoldable pub shortest_within : ℕ → ℕ → List Bool
+shortest_within zero value = octet false value
+shortest_within (suc more) value =
+    if nat_lt value 128 then octet false value else octet true (value % 128) ++ shortest_within more (value / 128)
+
+abbrev pub shortest_unsigned : ℕ → List Bool
+shortest_unsigned value = shortest_within 9 value
+
 -- 7.1.5 Integer: a sign bit, and v or, where v is negative, -v - 1
 abbrev pub SpellsInteger : ℤ → List Bool → Type 0
 SpellsInteger value [] = ⊥
 SpellsInteger (pos n) (sign ∷ bits) = (sign ≡ false) × SpellsUnsigned n bits
 SpellsInteger (negsuc n) (sign ∷ bits) = (sign ≡ true) × SpellsUnsigned n bits
+
+abbrev pub shortest_integer : ℤ → List Bool
+shortest_integer (pos n) = false ∷ shortest_unsigned n
+shortest_integer (negsuc n) = true ∷ shortest_unsigned n
 
 -- 7.1.1 Binary, behind its length: the bytes, at any bit
 pub record SpellsBytes (bytes : List ℕ) (bits : List Bool) : Type 0 where
@@ -69,6 +82,10 @@ abbrev pub SpellsChars : List ℕ → List Bool → Type 0
 SpellsChars [] bits = bits ≡ []
 SpellsChars (char ∷ chars) bits =
     (first : List Bool) × (rest : List Bool) × SpellsChar char first × SpellsChars chars rest × (bits ≡ first ++ rest)
+
+abbrev pub shortest_chars : List ℕ → List Bool
+shortest_chars [] = []
+shortest_chars (char ∷ chars) = shortest_unsigned char ++ shortest_chars chars
 
 -- the bits from an item on begin with its spelling
 abbrev pub Begins : (List Bool → Type 0) → List Bool → Type 0

@@ -1,6 +1,9 @@
 //! How EXI spells its items as bits (W3C EXI 1.0, Second Edition, 7.1), as definitions that contracts cite.
 #![tactic(auto)]
 
+pub mod laws;
+pub mod plain;
+
 /// Why an item can't be taken from the bits at its place (own).
 #[derive(Clone, Copy, Debug, PartialEq, Eq)]
 pub enum BitCause {

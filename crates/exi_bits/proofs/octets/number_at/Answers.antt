@@ -1,5 +1,5 @@
-use Rattle.std.proofs.Common.{◌≡◌, ℕ, ◌+◌, ◌*◌, ◌<◌, ◌≤◌, ◌^◌, Bool, true, false, cond, List, drop, take, refl, ap, subst, ◌∙◌, arith}
-use Rattle.exi_spec.specs.Bits.{bits_of, number_bits, number_of}
+use Rattle.std.proofs.Common.{◌≡◌, ℕ, ◌+◌, ◌*◌, ◌<◌, ◌^◌, drop, take, refl, ap, subst, ◌∙◌, arith}
+use Rattle.exi_spec.specs.Bits.{bits_of, number_of}
 use Rattle.exi_spec.proofs.BitLaws.{length-bits_of}
 use Rattle.exi_spec.proofs.PlaceLaws.{number_of-more, number_of_take-lt, doubled_fits, number_there}
 use Rattle.exi_bits.proofs.Steps.{bool_byte-is, bool_byte-le}
