@@ -1,9 +1,9 @@
 -- What a contactor keeps is what happened.
 use Rattle.std.proofs.Common.{◌≡◌, Bool, true, false, cond, List, [], ◌∷◌, Option, Some, None, is_some, refl, sym, ap, ◌∙◌}
 use Rattle.session_words.specs.declared.phase.Standing.{Standing}
-use Rattle.session_words.specs.declared.phase.Standing.TheVariants.{Opened, Closing, Closed, MustOpen, Opening}
+use Rattle.session_words.specs.declared.phase.Standing.TheVariants.{Closing, Closed, MustOpen}
 use Rattle.contactor.specs.Standing.{Act, Kind, Close, Open, ordered, feedback, last_order, feedback_since, confirms, standing_by, standing_of, is_live}
-use Rattle.contactor.specs.Calls.{Call, close, release, told, hears, failed, acts_of, Kept, standing_heard, after_failure, after, kept_after}
+use Rattle.contactor.specs.Calls.{Call, close, release, told, hears, failed, acts_of, Kept, standing_heard, after_failure, kept_after}
 
 -- one more feedback
 heard_closed : (b : Bool) → Closed ≡ standing_heard (cond b Closed Closing) true

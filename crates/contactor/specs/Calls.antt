@@ -2,7 +2,7 @@
 use Rattle.std.specs.Prelude.{Bool, true, false, List, [], ◌∷◌}
 use Rattle.session_words.specs.declared.phase.Standing.{Standing}
 use Rattle.session_words.specs.declared.phase.Standing.TheVariants.{Opened, Closing, Closed, MustOpen, Opening}
-use Rattle.contactor.specs.Standing.{Act, Kind, Close, Open, ordered, feedback}
+use Rattle.contactor.specs.Standing.{Act, Close, Open, ordered, feedback}
 
 -- a call that changes a contactor; `told` says whether the last order was taken
 pub data Call : Type 0 where

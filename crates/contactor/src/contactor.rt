@@ -1,8 +1,9 @@
 //! The contactor.
 
-ghost use Rattle.std.specs.Prelude.{◌≡◌, List};
+ghost use Rattle.std.specs.Prelude.{◌≡◌, IsTrue, List};
 ghost use Rattle.charge_world.specs.declared.ports.Order.TheVariants as order;
 ghost use Rattle.session_words.specs.declared.phase.Standing.TheVariants.{Opened};
+ghost use Rattle.contactor.specs.Rights.{is_ready, is_safe};
 ghost use Rattle.contactor.specs.Standing.{standing_of, is_live, is_against};
 ghost use Rattle.contactor.specs.Calls.{Call, close, release, told, hears, acts_of, new_contactor, standing_heard, after, kept_after};
 
@@ -82,11 +83,14 @@ impl Contactor {
         self.live
     }
 
-    /// The order to close. It spends a right, and the contactor must stand open.
+    /// The order to close. It spends a right, whatever gave it, so its conditions held: the pilot was at C or D, and for
+    /// DC the isolation was valid and the voltage at most 20.0 V off. The contactor must stand open.
     pub fn close(&mut self, right: CloseRight) -> Order
         requires { self.old.standing ≡ Opened }
         ensures kept { self.new ≡ after self.old close }
         ensures order { result ≡ order.Close }
+        ensures pilot { IsTrue (is_ready right.pilot) }
+        ensures check { IsTrue (is_safe right.check) }
     {
         right.spend();
         self.standing = Standing::Closing;

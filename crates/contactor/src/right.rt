@@ -2,7 +2,7 @@
 
 ghost use Rattle.std.specs.Prelude.{◌≡◌, ◌≤◌, IsTrue, Some, None};
 ghost use Rattle.charge_world.specs.declared.heard.IsolationLevel.TheVariants.{Valid};
-ghost use Rattle.contactor.specs.Rights.{is_ready as is_ready_pilot};
+ghost use Rattle.contactor.specs.Rights.{is_ready as is_ready_pilot, is_safe};
 
 use charge_world::{IsolationLevel, PilotState, Tenths};
 use std::marker::Model;
@@ -57,8 +57,11 @@ impl CloseRight {
         }
     }
 
-    /// Spends the right.
-    pub(crate) fn spend(self) {
+    /// Spends the right. Whatever right it is, its conditions held.
+    pub(crate) fn spend(self)
+        ensures pilot { IsTrue (is_ready_pilot self.pilot) }
+        ensures check { IsTrue (is_safe self.check) }
+    {
         let CloseRight { pilot: _, check: _ } = self;
     }
 }

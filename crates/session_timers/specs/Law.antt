@@ -1,8 +1,8 @@
 -- ISO 15118-2:2014, 8.7: which deadline of a post runs after any calls, said of the calls alone. Large moments are own.
-use Rattle.std.specs.Prelude.{◌≡◌, ◌↔◌, ℕ, ◌+◌, ◌<◌, ◌≤◌, Bool, true, false, min, List, Some, find}
+use Rattle.std.specs.Prelude.{◌≡◌, ◌↔◌, ℕ, ◌+◌, ◌<◌, ◌≤◌, Bool, true, false, min, List, Some, find, [], ◌∷◌}
 use Rattle.session_words.specs.declared.cause.Timeout.{Timeout}
 use Rattle.session_words.specs.declared.cause.Timeout.TheVariants.{Setup, Sequence, Feedback}
-use Rattle.session_timers.specs.Due.{Call, came, set_up, replied, closing, stop, never, moments_of, hit_of, next_of}
+use Rattle.session_timers.specs.Due.{Call, came, set_up, replied, closing, stop, was_set_up, never, moments_of, hit_of, next_of}
 
 -- a call that begins or ends a session
 abbrev pub is_border : Call → Bool
@@ -74,3 +74,34 @@ AnswersNext = (calls : List Call) (timeout : Timeout) (moment : ℕ) → IsDue c
 -- where no deadline runs there is nothing to wait for
 abbrev pub AnswersNever : Type 0
 AnswersNever = (calls : List Call) → ((timeout : Timeout) (moment : ℕ) → IsDue calls timeout moment → ⊥) → next_of (moments_of calls) ≡ never
+
+-- calls as a session makes them, up to a moment: their moments never fall, and Close is ordered only once SessionSetup was
+-- accepted
+abbrev pub IsInOrder : ℕ → List Call → Type 0
+IsInOrder now [] = Unit {0}
+IsInOrder now (came at ∷ before) = (at ≤ now) × IsInOrder at before
+IsInOrder now (set_up ∷ before) = IsInOrder now before
+IsInOrder now (replied at ∷ before) = (at ≤ now) × IsInOrder at before
+IsInOrder now (closing at ∷ before) = (at ≤ now) × (was_set_up before ≡ true) × IsInOrder at before
+IsInOrder now (stop ∷ before) = IsInOrder now before
+
+-- a deadline that counts was reached, whichever others count
+pub record IsReached (calls : List Call) (now : ℕ) (timeout : Timeout) : Type 0 where
+  pub from : ℕ
+  pub counts : CountsFrom calls timeout from
+  pub reached : from + span_of timeout ≤ now
+  pub can_come : from + span_of timeout < never
+
+-- none that is named earlier was reached
+abbrev pub IsNoneBefore : List Call → ℕ → Timeout → Type 0
+IsNoneBefore calls now Setup = Unit {0}
+IsNoneBefore calls now Sequence = IsReached calls now Setup → ⊥
+IsNoneBefore calls now Feedback = (IsReached calls now Setup → ⊥) × (IsReached calls now Sequence → ⊥)
+
+-- of several deadlines that are reached, the one that is named first is told
+abbrev pub TellsFirst : Type 0
+TellsFirst = (calls : List Call) (now : ℕ) (timeout : Timeout) → IsInOrder now calls → (hit_of (moments_of calls) now ≡ Some timeout) ↔ (IsReached calls now timeout × IsNoneBefore calls now timeout)
+
+-- the moment to wait for is not past that of any deadline that counts
+abbrev pub WaitsForLeast : Type 0
+WaitsForLeast = (calls : List Call) (now : ℕ) (timeout : Timeout) (from : ℕ) → IsInOrder now calls → CountsFrom calls timeout from → next_of (moments_of calls) ≤ from + span_of timeout

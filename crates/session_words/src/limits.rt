@@ -1,6 +1,8 @@
 //! What the two ends tell of themselves.
 
-ghost use Rattle.std.specs.Prelude.{◌≡◌, ◌≤◌, length};
+ghost use Rattle.std.specs.Prelude.{◌≡◌, ◌≤◌, ℕ, List, length, nat_eq};
+ghost use Rattle.std.specs.Cmp.{on_equiv, on_per, partial_equiv_from_equiv};
+ghost use Rattle.std.specs.Cmp.Lexicographic.{pointwise, nat_list_eq_equiv};
 
 use crate::amount::Amount;
 use crate::code::{Notify, StatusCode};
@@ -9,7 +11,7 @@ use charge_world::IsolationLevel;
 use std::marker::Model;
 
 /// A text of at most 148 bytes, which hold 37 code points. Contracts see its bytes.
-#[derive(Drop)]
+#[derive(Debug, Drop)]
 pub struct EvseText {
     text: ArrayString<148>,
 }
@@ -46,8 +48,22 @@ impl EvseText {
     }
 }
 
+impl PartialEq for EvseText {
+    ghost eq = { λ s t. pointwise nat_eq s t };
+
+    ghost laws = { on_per (λ (s : List ℕ). s) (partial_equiv_from_equiv nat_list_eq_equiv) };
+
+    fn eq(&self, other: &Self) -> bool {
+        self.as_str() == other.as_str()
+    }
+}
+
+impl Eq for EvseText {
+    ghost laws = { on_equiv (λ (s : List ℕ). s) nat_list_eq_equiv };
+}
+
 /// The EVSEID of a post: a text in ISO 15118-2, bytes in DIN SPEC 70121.
-#[derive(Drop)]
+#[derive(Debug, Drop, PartialEq, Eq)]
 pub enum EvseId {
     /// At most 37 code points.
     Text(EvseText),

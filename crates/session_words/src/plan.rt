@@ -1,6 +1,8 @@
 //! What the owner of a site, or of a car, lays down. Contracts say by `IsSitePlan`, `IsPostPlan` and `IsCarPlan`
 //! of `specs/Plans.antt` when a plan is within its rules.
 
+ghost use Rattle.std.specs.Prelude.{◌≡◌};
+
 use crate::mode::Mode;
 use crate::session::SessionId;
 use arrayvec::{ArrayString, ArrayVec};
@@ -54,6 +56,8 @@ pub struct PostPlan {
 }
 
 impl Default for PostPlan {
+    ghost is_default = { λ post. post.tcp ≡ 0 };
+
     /// The blank place of a list of plans. It is within no rules, since it has no port.
     fn default() -> PostPlan {
         PostPlan {

@@ -63,8 +63,8 @@ fn causes_and_codes(rt: HostRuntime) {
 fn the_name_of_a_post_is_copied(rt: HostRuntime) -> Result<(), Fail> {
     let text = EvseText::of(ArrayString::from("ZZ00000")?);
     assert_eq!(rt; text.copied().as_str(), "ZZ00000");
-    let named = EvseId::Bytes(ArrayVec::from([7; 32])).copied();
-    assert!(rt; matches!(named, EvseId::Bytes(bytes) if bytes.len() == 32));
+    let named = EvseId::Bytes(ArrayVec::from([7; 32]));
+    assert_eq!(rt; named.copied(), named);
     assert_eq!(rt; PostPlan::default().tcp, 0);
     Ok(())
 }

@@ -1,0 +1,5 @@
+pub mod Winners
+pub mod Items
+pub mod Texts
+pub mod Form
+pub mod Responses

@@ -1,0 +1,57 @@
+//! The messages of the negotiation.
+
+use arrayvec::{ArrayString, ArrayVec};
+
+/// One protocol that a car offers.
+#[derive(Debug, Drop)]
+pub struct AppProtocol {
+    /// ProtocolNamespace: at most 100 characters.
+    pub namespace: ArrayString<400>,
+    /// VersionNumberMajor.
+    pub major: u32,
+    /// VersionNumberMinor.
+    pub minor: u32,
+    /// SchemaID: the car's short name for this protocol, which the response repeats.
+    pub schema: u8,
+    /// Priority: from 1, the most wanted, to 20.
+    pub priority: u8,
+}
+
+impl Default for AppProtocol {
+    fn default() -> AppProtocol {
+        AppProtocol {
+            namespace: ArrayString::new(),
+            major: 0,
+            minor: 0,
+            schema: 0,
+            priority: 1,
+        }
+    }
+}
+
+/// A car's request: what it offers, 1 to 20 protocols.
+#[derive(Debug, Drop)]
+pub struct AppReq {
+    /// In the order of the request.
+    pub protocols: ArrayVec<AppProtocol, 20>,
+}
+
+/// The response code.
+#[derive(Clone, Copy, Debug, PartialEq, Eq)]
+pub enum AppCode {
+    /// OK_SuccessfulNegotiation.
+    Successful,
+    /// OK_SuccessfulNegotiationWithMinorDeviation: the minor versions differ.
+    MinorDeviation,
+    /// Failed_NoNegotiation: no protocol of the request is on offer.
+    Failed,
+}
+
+/// A station's response.
+#[derive(Clone, Copy, Debug, PartialEq, Eq)]
+pub struct AppRes {
+    /// ResponseCode.
+    pub code: AppCode,
+    /// SchemaID: the chosen protocol's, and none where none is chosen.
+    pub schema: Option<u8>,
+}

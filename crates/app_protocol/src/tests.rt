@@ -1,0 +1,134 @@
+use super::*;
+use arrayvec::{ArrayString, ArrayVec};
+use std::test::Fail;
+
+const ISO: &str = "urn:iso:15118:2:2013:MsgDef";
+
+const DIN: &str = "urn:din:70121:2012:MsgDef";
+
+/// The published request of one protocol.
+const PUBLISHED: [u8; 34] = [
+    0x80, 0x00, 0xdb, 0xab, 0x93, 0x71, 0xd3, 0x23, 0x4b, 0x71, 0xd1, 0xb9, 0x81, 0x89, 0x91, 0x89,
+    0xd1, 0x91, 0x81, 0x89, 0x91, 0xd2, 0x6b, 0x9b, 0x3a, 0x23, 0x2b, 0x30, 0x02, 0x00, 0x00, 0x04,
+    0x00, 0x40,
+];
+
+#[test]
+fn the_published_request_is_read_whatever_its_pad_bits(rt: HostRuntime) {
+    let mut padded = PUBLISHED;
+    padded[33] = 0x7f;
+    for payload in [PUBLISHED, padded] {
+        let request = read_app(&payload);
+        assert!(rt; request.is_ok());
+        if let Ok(request) = request {
+            assert_eq!(rt; request.protocols.len(), 1);
+            for protocol in request.protocols.as_slice() {
+                assert_eq!(rt; protocol.namespace.as_str(), DIN);
+                assert_eq!(rt; (protocol.major, protocol.minor), (2, 0));
+                assert_eq!(rt; (protocol.schema, protocol.priority), (1, 1));
+            }
+        }
+    }
+}
+
+#[test]
+fn a_cut_a_longer_and_another_document_are_not_built(rt: HostRuntime) {
+    let mut longer = [0; 35];
+    longer[..34].copy_from_slice(&PUBLISHED);
+    assert!(rt; read_app(&PUBLISHED[..33]).is_err());
+    assert!(rt; read_app(&longer).is_err());
+    assert!(rt; read_app(&[0x80, 0x40, 0x00, 0x40]).is_err());
+}
+
+#[test]
+fn responses_are_written(rt: HostRuntime) {
+    for (code, schema, bytes, len) in [
+        (AppCode::Successful, Some(1), [0x80, 0x40, 0x00, 0x40], 4),
+        (AppCode::Successful, Some(2), [0x80, 0x40, 0x00, 0x80], 4),
+        (
+            AppCode::MinorDeviation,
+            Some(1),
+            [0x80, 0x44, 0x00, 0x40],
+            4,
+        ),
+        (AppCode::Failed, None, [0x80, 0x48, 0x80, 0x00], 3),
+    ] {
+        let mut room = [0xff; 4];
+        assert_eq!(rt; write_response(&AppRes { code, schema }, &mut room), len);
+        assert_eq!(rt; room, bytes);
+    }
+}
+
+#[test]
+fn the_least_priority_wins(rt: HostRuntime) -> Result<(), Fail> {
+    let request = request(protocol(DIN, 0, 1, 2)?, protocol(ISO, 0, 2, 1)?);
+    assert_eq!(rt;
+        negotiate(&request, &both()),
+        (response(AppCode::Successful, Some(2)), Some(Dialect::Iso))
+    );
+    Ok(())
+}
+
+#[test]
+fn a_tie_goes_to_the_earlier(rt: HostRuntime) -> Result<(), Fail> {
+    let request = request(protocol(DIN, 0, 1, 1)?, protocol(ISO, 0, 2, 1)?);
+    assert_eq!(rt;
+        negotiate(&request, &both()),
+        (response(AppCode::Successful, Some(1)), Some(Dialect::Din))
+    );
+    Ok(())
+}
+
+#[test]
+fn another_minor_version_is_a_minor_deviation(rt: HostRuntime) -> Result<(), Fail> {
+    let request = request(protocol(DIN, 1, 1, 1)?, protocol("urn:other", 0, 2, 1)?);
+    assert_eq!(rt;
+        negotiate(&request, &both()),
+        (
+            response(AppCode::MinorDeviation, Some(1)),
+            Some(Dialect::Din)
+        )
+    );
+    Ok(())
+}
+
+#[test]
+fn an_unknown_namespace_fails(rt: HostRuntime) -> Result<(), Fail> {
+    let request = request(protocol("urn:other", 0, 1, 1)?, protocol("", 0, 2, 1)?);
+    assert_eq!(rt;
+        negotiate(&request, &both()),
+        (response(AppCode::Failed, None), None)
+    );
+    Ok(())
+}
+
+/// Of major version 2.
+fn protocol(namespace: &str, minor: u32, schema: u8, priority: u8) -> Result<AppProtocol, Fail> {
+    Ok(AppProtocol {
+        namespace: ArrayString::from(namespace)
+            .ok()
+            .ok_or("the namespace has room")?,
+        major: 2,
+        minor,
+        schema,
+        priority,
+    })
+}
+
+fn request(first: AppProtocol, second: AppProtocol) -> AppReq {
+    let mut protocols = ArrayVec::new();
+    protocols.push(first);
+    protocols.push(second);
+    AppReq { protocols }
+}
+
+fn both() -> Offer {
+    let mut entries = ArrayVec::new();
+    entries.push(Dialect::Iso);
+    entries.push(Dialect::Din);
+    Offer { entries }
+}
+
+fn response(code: AppCode, schema: Option<u8>) -> AppRes {
+    AppRes { code, schema }
+}

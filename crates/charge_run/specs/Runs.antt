@@ -1,0 +1,62 @@
+-- Own: what a run of the program leaves.
+use Rattle.std.specs.Prelude.{◌≡◌, ◌⊎◌, ℕ, List, [], ◌∷◌, ◌++◌, Option, Some, None, IfSome, IsSomeAnd, codes}
+use Rattle.charge_world.specs.declared.entry.Entry.{Entry}
+use Rattle.charge_world.specs.declared.offer.Dialect.{Dialect}
+use Rattle.charge_world.specs.declared.offer.Dialect.TheVariants.{Iso, Din}
+use Rattle.charge_world.specs.Outside.{Appends, AppendsSome}
+use Rattle.site_core.specs.declared.report.PostReport.{PostReport}
+use Rattle.site_core.specs.declared.serving.Ended.{Ended}
+use Rattle.site_core.specs.declared.serving.Ended.TheVariants as ended
+use Rattle.site_core.specs.Serving.{EndedAs}
+use Rattle.charge_run.specs.ReportLine.{report_line}
+use Rattle.charge_run.specs.declared.status.Status.{Status}
+use Rattle.charge_run.specs.declared.status.Status.TheVariants as status
+
+abbrev pub number_of : Status → ℕ
+number_of status.Done = 0
+number_of status.NoMemory = 1
+number_of status.Words = 2
+number_of status.Plan = 3
+number_of status.Input = 4
+number_of status.WireFault = 5
+number_of status.SinkFault = 6
+number_of status.SourceFault = 7
+number_of status.TurnsSpent = 8
+
+abbrev pub both_dialects : List Dialect
+both_dialects = Iso ∷ Din ∷ []
+
+-- the status that a past has. A report line that was not written takes the place of the first two
+abbrev pub Ran : Status → List Entry → Type 0
+Ran status.Done past = EndedAs 1000000 ended.Over past
+Ran status.TurnsSpent past = EndedAs 1000000 ended.Turns past
+Ran status.WireFault past = EndedAs 1000000 ended.Lost past ⊎ (past ≡ [])
+Ran status.SinkFault past = EndedAs 1000000 ended.Over past ⊎ EndedAs 1000000 ended.Turns past
+Ran status.NoMemory past = past ≡ []
+Ran status.Words past = past ≡ []
+Ran status.Plan past = ⊥
+Ran status.Input past = ⊥
+Ran status.SourceFault past = ⊥
+
+-- the status of a way to end
+abbrev pub IsStatusOf : Ended → Status → Type 0
+IsStatusOf ended.Over s = (s ≡ status.Done) ⊎ (s ≡ status.SinkFault)
+IsStatusOf ended.Turns s = (s ≡ status.TurnsSpent) ⊎ (s ≡ status.SinkFault)
+IsStatusOf ended.Lost s = s ≡ status.WireFault
+
+-- behind the report line a front of the line `turns`, whose failure changes nothing
+abbrev pub AppendsTurns : Option (List ℕ) → Option (List ℕ) → List ℕ → Type 0
+AppendsTurns before after line =
+    IfSome after (λ new. IsSomeAnd before (λ old. (front : List ℕ) × (rest : List ℕ) × (codes "turns\n" ≡ front ++ rest) × (new ≡ old ++ line ++ front)))
+
+-- what the output holds then: the report line, or a front of it where it was not written, and nothing else
+abbrev pub Outputs : Status → PostReport → Option (List ℕ) → Option (List ℕ) → Type 0
+Outputs status.Done report before after = Appends before after (report_line 1 report)
+Outputs status.TurnsSpent report before after = AppendsTurns before after (report_line 1 report)
+Outputs status.SinkFault report before after = AppendsSome before after (report_line 1 report)
+Outputs status.WireFault report before after = after ≡ before
+Outputs status.NoMemory report before after = after ≡ before
+Outputs status.Words report before after = after ≡ before
+Outputs status.Plan report before after = ⊥
+Outputs status.Input report before after = ⊥
+Outputs status.SourceFault report before after = ⊥

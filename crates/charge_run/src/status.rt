@@ -1,0 +1,47 @@
+//! How the program ends.
+
+ghost use Rattle.std.specs.Prelude.{◌≡◌};
+
+/// The exit status.
+#[derive(Clone, Copy, Debug, PartialEq, Eq)]
+pub enum Status {
+    /// The job was done; for `station`, Over was heard.
+    Done,
+    /// Want of memory, before anything was begun.
+    NoMemory,
+    /// The words are no command.
+    Words,
+    /// A plan is refused.
+    Plan,
+    /// An input is refused.
+    Input,
+    /// The wire could not be started, or a hearing failed.
+    WireFault,
+    /// A report line could not be written.
+    SinkFault,
+    /// A file could not be read.
+    SourceFault,
+    /// The last turn was made, and Over wasn't heard in it.
+    TurnsSpent,
+}
+
+impl Status {
+    ghost use Rattle.charge_run.specs.Runs.{number_of};
+
+    /// Its number.
+    pub fn number(&self) -> u8
+        ensures { result ≡ number_of self.now }
+    {
+        match self {
+            Status::Done => 0,
+            Status::NoMemory => 1,
+            Status::Words => 2,
+            Status::Plan => 3,
+            Status::Input => 4,
+            Status::WireFault => 5,
+            Status::SinkFault => 6,
+            Status::SourceFault => 7,
+            Status::TurnsSpent => 8,
+        }
+    }
+}

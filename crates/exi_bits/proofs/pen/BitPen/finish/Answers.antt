@@ -1,0 +1,8 @@
+use Rattle.std.proofs.Common.{◌≡◌, ◌+◌, ◌/◌, arith}
+use Rattle.exi_bits.proofs.Penned.{holds_bits}
+use Rattle.exi_bits.proofs.pen.BitPen.finish.Goals as goal
+
+pub returns-clause-holds : goal.returns-clause-holds
+returns-clause-holds c =
+    let whole : c.div_ceil.result ≡ (c.args.self.bits + 7) / 8 = omega (arith, c.div_ceil.ensures) in
+    holds_bits c.args.self.room.now c.args.self.bits c.div_ceil.result whole c.args.self.within c.args.self.clean

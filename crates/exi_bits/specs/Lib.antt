@@ -1,0 +1,4 @@
+pub mod Reading
+pub mod Lent
+pub mod Written
+pub mod Pens

@@ -1,0 +1,126 @@
+//! Numbers at a bit of a payload.
+
+ghost use Rattle.std.specs.Prelude.{◌≡◌, ℕ, ◌+◌, ◌*◌, ◌<◌, ◌≤◌, ◌^◌, List, Bool, ◌∷◌, ◌++◌, length, drop, MatchResult, MatchOption, IfOk};
+ghost use Rattle.exi_spec.specs.Bits.{bits_of, number_bits};
+ghost use Rattle.exi_spec.specs.Items.{SpellsOctets, RefusesOctets, SpellsChar, RefusesChar, SpellsChars, RefusesChars};
+ghost use Rattle.exi_bits.specs.Reading.{ItemAt};
+
+use exi_spec::{BitCause, BitFault};
+
+/// How many bits are left from a place on.
+pub fn bits_left(payload: &[u8], bit: u32) -> u32
+    requires room { length payload.now ≤ 65536 }
+    requires within { bit ≤ 8 * length payload.now }
+    ensures sum { bit + result ≡ 8 * length payload.now }
+    ensures left { result ≡ length (drop bit (bits_of payload.now)) }
+{
+    8 * payload.len() as u32 - bit
+}
+
+/// The bit at a place.
+pub fn bit_at(payload: &[u8], bit: u32) -> bool
+    requires { bit < 8 * length payload.now }
+    ensures { drop bit (bits_of payload.now) ≡ result ∷ drop (bit + 1) (bits_of payload.now) }
+{
+    let byte = payload[(bit / 8) as usize];
+    (byte >> (7 - bit % 8)) & 1 == 1
+}
+
+/// The number that n bits spell.
+pub fn number_at(payload: &[u8], bit: u32, n: u32) -> u32
+    requires small { n ≤ 32 }
+    requires room { length payload.now ≤ 65536 }
+    requires within { bit + n ≤ 8 * length payload.now }
+    ensures range { result < 2 ^ n }
+    ensures there { drop bit (bits_of payload.now) ≡ number_bits n result ++ drop (bit + n) (bits_of payload.now) }
+{
+    let mut value: u32 = 0;
+    for i in 0..n {
+        value = 2 * value + u32::from(bit_at(payload, bit + i));
+    }
+    value
+}
+
+/// The octet at a bit, and `None` where fewer than 8 bits are left.
+pub fn octet_at(payload: &[u8], bit: u32) -> Option<u32>
+    requires room { length payload.now ≤ 65536 }
+    requires within { bit ≤ 8 * length payload.now }
+    ensures { MatchOption result (8 * length payload.now < bit + 8)
+        (λ octet. (octet < 256) × (bit + 8 ≤ 8 * length payload.now)
+        × (drop bit (bits_of payload.now) ≡ number_bits 8 octet ++ drop (bit + 8) (bits_of payload.now))) }
+{
+    if bits_left(payload, bit) < 8 {
+        return None;
+    }
+    Some(number_at(payload, bit, 8))
+}
+
+/// The Unsigned Integer at a bit, in at most so many octets, and how many bits spell it.
+pub fn octets_at(payload: &[u8], bit: u32, most: u32) -> Result<(u64, u32), BitCause>
+    requires some { 0 < most }
+    requires few { most ≤ 10 }
+    requires room { length payload.now ≤ 65536 }
+    requires within { bit ≤ 8 * length payload.now }
+    ensures within { IfOk result (λ found. bit + found.1 ≤ 8 * length payload.now) }
+    ensures found { MatchResult result
+        (λ found. ItemAt (SpellsOctets most found.0) (bits_of payload.now) bit found.1)
+        (λ cause. RefusesOctets most (drop bit (bits_of payload.now)) cause) }
+{
+    let Some(octet) = octet_at(payload, bit) else {
+        return Err(BitCause::ShortInput);
+    };
+    if octet < 128 {
+        return Ok((u64::from(octet), 8));
+    }
+    if most == 1 {
+        return Err(BitCause::WiderInteger);
+    }
+    let (high, bits) = octets_at(payload, bit + 8, most - 1)?;
+    if high >= 1 << 57 {
+        return Err(BitCause::WiderInteger);
+    }
+    Ok((u64::from(octet - 128) + 128 * high, bits + 8))
+}
+
+/// The code point at a bit, and how many bits spell it.
+pub fn char_at(payload: &[u8], bit: u32) -> Result<(char, u32), BitCause>
+    requires room { length payload.now ≤ 65536 }
+    requires within { bit ≤ 8 * length payload.now }
+    ensures within { IfOk result (λ found. bit + found.1 ≤ 8 * length payload.now) }
+    ensures found { MatchResult result
+        (λ found. ItemAt (SpellsChar found.0) (bits_of payload.now) bit found.1)
+        (λ cause. RefusesChar (drop bit (bits_of payload.now)) cause) }
+{
+    let (value, bits) = octets_at(payload, bit, 10)?;
+    if value > 0x10_FFFF {
+        return Err(BitCause::BadChar);
+    }
+    match char::from_u32(value as u32) {
+        Some(c) => Ok((c, bits)),
+        None => Err(BitCause::BadChar),
+    }
+}
+
+/// How many bits spell the n code points at a bit.
+pub fn chars_at(payload: &[u8], bit: u32, n: u32) -> Result<u32, BitFault>
+    requires room { length payload.now ≤ 65536 }
+    requires within { bit ≤ 8 * length payload.now }
+    ensures within { IfOk result (λ found. bit + found ≤ 8 * length payload.now) }
+    ensures found { MatchResult result
+        (λ found. (chars : List ℕ) × (length chars ≡ n) × ItemAt (SpellsChars chars) (bits_of payload.now) bit found)
+        (λ fault. (at : ℕ) × RefusesChars n (drop bit (bits_of payload.now)) fault.cause at × (fault.bit ≡ bit + at)) }
+{
+    let mut found = 0;
+    for _ in 0..n {
+        match char_at(payload, bit + found) {
+            Ok((_, bits)) => found += bits,
+            Err(cause) => {
+                return Err(BitFault {
+                    cause,
+                    bit: bit + found,
+                });
+            }
+        }
+    }
+    Ok(found)
+}

@@ -1,0 +1,181 @@
+//! A pen that writes items into a room of bytes.
+
+ghost use Rattle.std.specs.Prelude.{◌≡◌, ℕ, ◌+◌, ◌*◌, ◌<◌, ◌≤◌, ◌↔◌, ◌^◌, ◌++◌, [], ◌∷◌, length, take, pos, negsuc, ◌≤ℤ◌, if◌then◌else◌, OnOk, OnErr, IfErr, IsErr};
+ghost use Rattle.exi_spec.specs.Bits.{bits_of, number_bits};
+ghost use Rattle.exi_spec.specs.Items.{shortest_unsigned, shortest_integer, shortest_chars};
+ghost use Rattle.exi_bits.specs.Written.{PadsZero, HoldsBits};
+ghost use Rattle.std.specs.Str.{chars};
+
+use crate::room;
+
+/// The room is too small.
+#[derive(Clone, Copy, Debug, PartialEq, Eq)]
+pub struct Full {
+    /// How many bits all that is written and the item need.
+    pub bits: u64,
+}
+
+/// Writes items behind one another into a room of at most 65,536 bytes.
+#[derive(Drop)]
+pub struct BitPen<'b> {
+    room: &'b mut [u8],
+    bits: u32,
+    ghost small: { length room.now ≤ 65536 },
+    ghost within: { bits ≤ 8 * length room.now },
+    ghost clean: { PadsZero room.now bits },
+}
+
+impl<'b> BitPen<'b> {
+    ghost use Rattle.exi_bits.specs.Pens.{written_bits, Writes, Needs, SamePen};
+
+    /// A pen at the start of a room.
+    pub fn new(room: &'b mut [u8]) -> BitPen<'b>
+        requires { length room.old ≤ 65536 }
+        ensures same_reference { result.room.ghost_name ≡ room.entry.ghost_name }
+        ensures room { result.room.now ≡ room.old }
+        ensures nothing { written_bits result ≡ [] }
+    {
+        BitPen { room, bits: 0 }
+    }
+
+    /// Whether n bits more have room.
+    fn room_for(&self, n: u64) -> Result<(), Full>
+        requires { n < 2 ^ 63 }
+        ensures full { IsErr result ↔ Needs self.now n }
+        ensures bits { IfErr result (λ full. full.bits ≡ length (written_bits self.now) + n) }
+        ensures fits { OnOk result (self.now.bits + n ≤ 8 * length self.now.room.now) }
+    {
+        let needed = u64::from(self.bits) + n;
+        if needed > 8 * self.room.len() as u64 {
+            Err(Full { bits: needed })
+        } else {
+            Ok(())
+        }
+    }
+
+    /// Writes a Boolean (7.1.2).
+    ///
+    /// `Full` exactly where the room is too small.
+    pub fn put_bit(&mut self, bit: bool) -> Result<(), Full>
+        ensures ok { OnOk result (Writes self.old self.new (bit ∷ [])) }
+        ensures full { IsErr result ↔ Needs self.old 1 }
+        ensures bits { IfErr result (λ full. full.bits ≡ length (written_bits self.old) + 1) }
+        ensures stays { OnErr result (SamePen self.old self.new) }
+    {
+        self.room_for(1)?;
+        room::push_bit(self.room, self.bits, bit);
+        self.bits += 1;
+        Ok(())
+    }
+
+    /// Writes an n-bit Unsigned Integer (7.1.9), of at most 32 bits.
+    ///
+    /// `Full` exactly where the room is too small.
+    pub fn put_bits(&mut self, value: u32, n: u32) -> Result<(), Full>
+        requires few { n ≤ 32 }
+        requires range { value < 2 ^ n }
+        ensures ok { OnOk result (Writes self.old self.new (number_bits n value)) }
+        ensures full { IsErr result ↔ Needs self.old n }
+        ensures bits { IfErr result (λ full. full.bits ≡ length (written_bits self.old) + n) }
+        ensures stays { OnErr result (SamePen self.old self.new) }
+    {
+        self.room_for(u64::from(n))?;
+        room::put_number(self.room, self.bits, value, n);
+        self.bits += n;
+        Ok(())
+    }
+
+    /// Writes an Unsigned Integer (7.1.6), in its shortest spelling.
+    ///
+    /// `Full` exactly where the room is too small.
+    pub fn put_unsigned(&mut self, value: u64) -> Result<(), Full>
+        ensures ok { OnOk result (Writes self.old self.new (shortest_unsigned value)) }
+        ensures full { IsErr result ↔ Needs self.old (length (shortest_unsigned value)) }
+        ensures bits { IfErr result (λ full. full.bits ≡ length (written_bits self.old) + length (shortest_unsigned value)) }
+        ensures stays { OnErr result (SamePen self.old self.new) }
+    {
+        let count = room::octet_count(value);
+        self.room_for(8 * u64::from(count))?;
+        self.bits += room::put_octets(self.room, self.bits, value);
+        Ok(())
+    }
+
+    /// Writes an Integer (7.1.5) from -2^64 to 2^64 - 1, in its shortest spelling.
+    ///
+    /// `Full` exactly where the room is too small.
+    pub fn put_integer(&mut self, value: i128) -> Result<(), Full>
+        requires least { negsuc 18446744073709551615 ≤ℤ value }
+        requires most { value ≤ℤ pos 18446744073709551615 }
+        ensures ok { OnOk result (Writes self.old self.new (shortest_integer value)) }
+        ensures full { IsErr result ↔ Needs self.old (length (shortest_integer value)) }
+        ensures bits { IfErr result (λ full. full.bits ≡ length (written_bits self.old) + length (shortest_integer value)) }
+        ensures stays { OnErr result (SamePen self.old self.new) }
+    {
+        let (negative, magnitude) = parts_of(value);
+        self.room_for(1 + 8 * u64::from(room::octet_count(magnitude)))?;
+        self.bits += room::put_signed(self.room, self.bits, negative, magnitude);
+        Ok(())
+    }
+
+    /// Writes the bytes of a Binary behind its length (7.1.1), at most 2^40.
+    ///
+    /// `Full` exactly where the room is too small.
+    pub fn put_bytes(&mut self, bytes: &[u8]) -> Result<(), Full>
+        requires { length bytes.now ≤ 2 ^ 40 }
+        ensures ok { OnOk result (Writes self.old self.new (bits_of bytes.now)) }
+        ensures full { IsErr result ↔ Needs self.old (8 * length bytes.now) }
+        ensures bits { IfErr result (λ full. full.bits ≡ length (written_bits self.old) + 8 * length bytes.now) }
+        ensures stays { OnErr result (SamePen self.old self.new) }
+    {
+        self.room_for(8 * bytes.len() as u64)?;
+        room::put_all_bytes(self.room, self.bits, bytes);
+        self.bits += 8 * bytes.len() as u32;
+        Ok(())
+    }
+
+    /// Writes the code points of a String behind its length (7.1.10), each in its shortest spelling. The text has
+    /// at most 2^40 bytes.
+    ///
+    /// `Full` exactly where the room is too small.
+    pub fn put_chars(&mut self, text: &str) -> Result<(), Full>
+        requires { length text.now ≤ 2 ^ 40 }
+        ensures ok { OnOk result (Writes self.old self.new (shortest_chars (chars text.now))) }
+        ensures full { IsErr result ↔ Needs self.old (length (shortest_chars (chars text.now))) }
+        ensures bits { IfErr result (λ full. full.bits ≡ length (written_bits self.old) + length (shortest_chars (chars text.now))) }
+        ensures stays { OnErr result (SamePen self.old self.new) }
+    {
+        self.room_for(room::chars_bits(text))?;
+        self.bits += room::put_all_chars(self.room, self.bits, text);
+        Ok(())
+    }
+
+    /// The bytes begun so far, with 0 behind the bits that are written.
+    pub fn written(&self) -> &[u8]
+        ensures holds { HoldsBits result.now (written_bits self.now) }
+        ensures front { result.now ≡ take (length result.now) self.now.room.now }
+    {
+        &self.room[..self.bits.div_ceil(8) as usize]
+    }
+
+    /// Ends with 0 up to a whole byte, and tells how many bytes of the room are written.
+    pub fn finish(self) -> u32
+        ensures holds { HoldsBits (take result self.entry.room.now) (written_bits self.entry) }
+        ensures within { result ≤ length self.entry.room.now }
+        ensures stays { self.exit.0.now ≡ self.entry.room.now }
+    {
+        self.bits.div_ceil(8)
+    }
+}
+
+/// The sign of an Integer, and what it spells behind that: v, or -v - 1 (7.1.5).
+fn parts_of(value: i128) -> (bool, u64)
+    requires least { negsuc 18446744073709551615 ≤ℤ value }
+    requires most { value ≤ℤ pos 18446744073709551615 }
+    ensures { value ≡ (if result.0 then negsuc result.1 else pos result.1) }
+{
+    if value < 0 {
+        (true, (-1 - value) as u64)
+    } else {
+        (false, value as u64)
+    }
+}

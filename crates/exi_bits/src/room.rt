@@ -1,0 +1,133 @@
+//! Bits in a room of bytes, behind those that are written.
+
+ghost use Rattle.std.specs.Prelude.{◌≡◌, ◌≢◌, ℕ, ◌+◌, ◌-◌, ◌*◌, ◌/◌, ◌%◌, ◌<◌, ◌≤◌, ◌^◌, [], ◌∷◌, if◌then◌else◌, length, slice_index};
+ghost use Rattle.std.specs.Str.{chars};
+ghost use Rattle.exi_spec.specs.Bits.{bits_of, number_bits};
+ghost use Rattle.exi_spec.specs.Items.{shortest_within, shortest_unsigned, shortest_chars};
+ghost use Rattle.exi_bits.specs.Written.{PadsZero, Extends};
+
+/// The byte that a bit is put into: 0 where the bit begins it.
+fn begun_byte(room: &[u8], at: u32) -> u8
+    requires { at < 8 * length room.now }
+    ensures fresh { at % 8 ≡ 0 → result ≡ 0 }
+    ensures kept { at % 8 ≢ 0 → result ≡ slice_index room.now (at / 8) }
+{
+    if at % 8 == 0 {
+        0
+    } else {
+        room[(at / 8) as usize]
+    }
+}
+
+/// A bit at its place in a byte.
+fn placed_bit(bit: bool, at: u32) -> u8
+    ensures { result ≡ (if bit then 2 ^ (7 - at % 8) else 0) }
+{
+    if bit { 1 << (7 - at % 8) } else { 0 }
+}
+
+/// Writes one bit, and 0 behind it where it begins a byte.
+pub fn push_bit(room: &mut [u8], at: u32, bit: bool)
+    requires within { at < 8 * length room.old }
+    requires clean { PadsZero room.old at }
+    ensures { Extends room.old room.new at 1 (bit ∷ []) }
+{
+    let before = begun_byte(room, at);
+    let one = placed_bit(bit, at);
+    room[(at / 8) as usize] = before | one;
+}
+
+/// Writes a number in n bits.
+pub fn put_number(room: &mut [u8], at: u32, value: u32, n: u32)
+    requires small { n ≤ 32 }
+    requires room { length room.old ≤ 65536 }
+    requires within { at + n ≤ 8 * length room.old }
+    requires clean { PadsZero room.old at }
+    ensures { Extends room.old room.new at n (number_bits n value) }
+{
+    for i in 0..n {
+        push_bit(room, at + i, (value >> (n - 1 - i)) & 1 == 1);
+    }
+}
+
+/// How many octets the shortest spelling of an Unsigned Integer has: 1 to 10.
+pub fn octet_count(value: u64) -> u32
+    ensures count { 8 * result ≡ length (shortest_unsigned value) }
+    ensures few { result ≤ 10 }
+{
+    let mut rest = value;
+    let mut count = 1;
+    while rest >= 128 {
+        rest /= 128;
+        count += 1;
+    }
+    count
+}
+
+/// Writes the shortest spelling of an Unsigned Integer, and tells how many bits it has.
+pub fn put_octets(room: &mut [u8], at: u32, value: u64) -> u32
+    requires room { length room.old ≤ 65536 }
+    requires within { at + length (shortest_unsigned value) ≤ 8 * length room.old }
+    requires clean { PadsZero room.old at }
+    ensures { Extends room.old room.new at result (shortest_unsigned value) }
+{
+    let mut rest = value;
+    let mut wrote = 0;
+    while rest >= 128 {
+        put_number(room, at + wrote, (rest % 128) as u32 + 128, 8);
+        rest /= 128;
+        wrote += 8;
+    }
+    put_number(room, at + wrote, rest as u32, 8);
+    wrote + 8
+}
+
+/// Writes a sign bit and the shortest spelling of a magnitude (7.1.5), and tells how many bits they have.
+pub fn put_signed(room: &mut [u8], at: u32, negative: bool, magnitude: u64) -> u32
+    requires room { length room.old ≤ 65536 }
+    requires within { at + 1 + length (shortest_unsigned magnitude) ≤ 8 * length room.old }
+    requires clean { PadsZero room.old at }
+    ensures { Extends room.old room.new at result (negative ∷ shortest_unsigned magnitude) }
+{
+    push_bit(room, at, negative);
+    1 + put_octets(room, at + 1, magnitude)
+}
+
+/// Writes bytes.
+pub fn put_all_bytes(room: &mut [u8], at: u32, bytes: &[u8])
+    requires room { length room.old ≤ 65536 }
+    requires within { at + 8 * length bytes.now ≤ 8 * length room.old }
+    requires clean { PadsZero room.old at }
+    ensures { Extends room.old room.new at (8 * length bytes.now) (bits_of bytes.now) }
+{
+    for (i, byte) in bytes.iter().enumerate() {
+        put_number(room, at + 8 * i as u32, u32::from(*byte), 8);
+    }
+}
+
+/// How many bits the shortest spelling of a text has.
+pub fn chars_bits(text: &str) -> u64
+    requires { length text.now ≤ 2 ^ 40 }
+    ensures bits { result ≡ length (shortest_chars (chars text.now)) }
+    ensures few { result ≤ 80 * 2 ^ 40 }
+{
+    let mut bits = 0;
+    for c in text.chars() {
+        bits += 8 * u64::from(octet_count(u64::from(c)));
+    }
+    bits
+}
+
+/// Writes the shortest spelling of a text, and tells how many bits it has.
+pub fn put_all_chars(room: &mut [u8], at: u32, text: &str) -> u32
+    requires room { length room.old ≤ 65536 }
+    requires within { at + length (shortest_chars (chars text.now)) ≤ 8 * length room.old }
+    requires clean { PadsZero room.old at }
+    ensures { Extends room.old room.new at result (shortest_chars (chars text.now)) }
+{
+    let mut wrote = 0;
+    for c in text.chars() {
+        wrote += put_octets(room, at + wrote, u64::from(c));
+    }
+    wrote
+}

@@ -1,0 +1,2 @@
+pub mod Charger
+pub mod Search

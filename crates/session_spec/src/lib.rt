@@ -1,0 +1,2 @@
+//! What a site may hear and do, as relations over its whole past. All of it stands in `specs/`.
+#![tactic(auto)]

@@ -1,0 +1,7 @@
+//! Worked examples that cross the crates: scripts of hearings, and what a station does about them.
+#![tactic(auto)]
+
+#[cfg(test)]
+mod scripts;
+#[cfg(test)]
+mod station;

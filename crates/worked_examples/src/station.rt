@@ -1,0 +1,141 @@
+//! A station of this stage: one negotiation.
+
+use crate::scripts::{REQUEST, came, event, piece, ran, station};
+use charge_run::Status;
+use charge_world::What;
+use std::test::*;
+
+#[test]
+fn the_published_request_is_answered(rt: HostRuntime) -> Result<(), Fail> {
+    let mut script = Vec::new(rt.alloc());
+    script.push(came(rt.alloc()))?;
+    script.push(piece(rt.alloc(), REQUEST)?)?;
+    let left = station(rt.alloc(), script, &[], &[])?;
+    assert_eq!(rt; left.status, Status::Done);
+    assert_eq!(rt;
+        left.done.as_str(),
+        " sent 1 01fe80010000000480400040 true ended 1 18"
+    );
+    assert_eq!(rt;
+        left.out.as_str(),
+        "post 1 sessions 1 closed 0 causes 00040000\n"
+    );
+    assert_eq!(rt; left.untils, 3);
+    Ok(())
+}
+
+#[test]
+fn one_byte_per_hearing_with_a_tick_between(rt: HostRuntime) -> Result<(), Fail> {
+    let mut script = Vec::new(rt.alloc());
+    script.push(came(rt.alloc()))?;
+    for i in 0..REQUEST.len() / 2 {
+        let byte = REQUEST.get(2 * i..2 * i + 2).ok_or("two digits")?;
+        script.push(piece(rt.alloc(), byte)?)?;
+        script.push(event(rt.alloc(), What::Tick))?;
+    }
+    let left = station(rt.alloc(), script, &[], &[])?;
+    assert_eq!(rt;
+        left.done.as_str(),
+        " sent 1 01fe80010000000480400040 true ended 1 18"
+    );
+    Ok(())
+}
+
+#[test]
+fn other_scripts(rt: HostRuntime) -> Result<(), Fail> {
+    // the bytes in one piece, and what is done
+    let table = [
+        // the same request twice: one reply, and then a second payload isn't built
+        (
+            "01fe8001000000228000dbab9371d3234b71d1b981899189d191818991d26b9b3a232b30020000040040\
+01fe8001000000228000dbab9371d3234b71d1b981899189d191818991d26b9b3a232b30020000040040",
+            " sent 1 01fe80010000000480400040 true ended 1 21",
+        ),
+        // an unknown namespace
+        (
+            "01fe80010000000e80003bab9371d3c0020000040040",
+            " sent 1 01fe800100000003804880 true ended 1 5",
+        ),
+        // DIN 2.1 against 2.0
+        (
+            "01fe8001000000228000dbab9371d3234b71d1b981899189d191818991d26b9b3a232b30020020040040",
+            " sent 1 01fe80010000000480440040 true ended 1 18",
+        ),
+        // a response, and the empty payload, aren't of the form that this stage reads
+        ("01fe80010000000480400040", " ended 1 21"),
+        ("01fe800100000000", " ended 1 21"),
+        // a wrong version, type and length
+        ("02fe", " ended 1 3"),
+        ("01fe8002", " ended 1 3"),
+        ("01fe800100010001", " ended 1 3"),
+        // a frame that isn't whole
+        ("01fe80010000", " ended 1 18"),
+    ];
+    for (hex, want) in table {
+        let mut script = Vec::new(rt.alloc());
+        script.push(came(rt.alloc()))?;
+        script.push(piece(rt.alloc(), hex)?)?;
+        let left = station(rt.alloc(), script, &[], &[])?;
+        assert_eq!(rt; left.status, Status::Done);
+        assert_eq!(rt; left.done.as_str(), want, "at {hex}");
+    }
+    Ok(())
+}
+
+#[test]
+fn each_failing_call(rt: HostRuntime) -> Result<(), Fail> {
+    // the failing calls of the wire and of the output: the status, what is done, and the output
+    let done = "post 1 sessions 1 closed 0 causes 00010000\n";
+    let table = [
+        ([1u32; 1], [9u32; 1], Status::WireFault, "", ""),
+        ([2; 1], [9; 1], Status::WireFault, " lost", ""),
+        (
+            [4; 1],
+            [9; 1],
+            Status::Done,
+            " sent 1 01fe80010000000480400040 false ended 1 16",
+            done,
+        ),
+        (
+            [9; 1],
+            [1; 1],
+            Status::SinkFault,
+            " sent 1 01fe80010000000480400040 true ended 1 18",
+            "",
+        ),
+    ];
+    for (failing, unwritten, status, want, out) in table {
+        let mut script = Vec::new(rt.alloc());
+        script.push(came(rt.alloc()))?;
+        script.push(piece(rt.alloc(), REQUEST)?)?;
+        let left = station(rt.alloc(), script, &failing, &unwritten)?;
+        assert_eq!(rt; left.status, status);
+        assert_eq!(rt; left.done.as_str(), want);
+        assert_eq!(rt; left.out.as_str(), out);
+    }
+    Ok(())
+}
+
+#[test]
+fn other_words(rt: HostRuntime) -> Result<(), Fail> {
+    for (word, want) in [
+        ("station", Status::Done),
+        ("Station", Status::Words),
+        ("", Status::Words),
+    ] {
+        let mut words = Vec::new(rt.alloc());
+        words.push(String::from_str(rt.alloc(), word)?)?;
+        let left = ran(rt.alloc(), words, Vec::new(rt.alloc()), &[], &[])?;
+        assert_eq!(rt; left.status, want);
+    }
+    let left = ran(
+        rt.alloc(),
+        Vec::new(rt.alloc()),
+        Vec::new(rt.alloc()),
+        &[],
+        &[],
+    )?;
+    assert_eq!(rt; left.status, Status::Words);
+    assert_eq!(rt; left.status.number(), 2);
+    Ok(())
+}
