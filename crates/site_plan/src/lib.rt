@@ -1,9 +1,12 @@
 //! The plans of a charging site and of a car, read from TOML (own).
 #![tactic(auto)]
 
+mod car;
 mod fault;
 mod keys;
 mod names;
+mod post;
+mod site;
 mod values;
 
 pub use fault::{Key, PlanFault};
