@@ -2,6 +2,10 @@
 #![tactic(auto)]
 
 #[cfg(test)]
+mod fakes;
+#[cfg(test)]
 mod scripts;
 #[cfg(test)]
 mod station;
+#[cfg(test)]
+mod ticking;
