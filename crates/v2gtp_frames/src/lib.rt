@@ -155,14 +155,19 @@ fn drop_front(buf: &mut Vec<u8>, n: usize)
     drop(buf.drain(..n));
 }
 
-/// The words of a stream: reading frame by frame gives the payloads one after another, and then the rest.
+/// Reading a stream frame by frame gives its payloads one after another, and then its rest, where the reading says
+/// whether a field is wrong.
 pub fn words_of_a_stream()
+    // Behind n frames stands the frame of the payload at place n.
     ensures word { (stream : List ℕ) (payloads : List (List ℕ)) (rest : List ℕ) (n : ℕ) → Frames stream payloads rest → n < length payloads
         → let payload = slice_index_or payloads n [] in (whole_at (behind_frames n stream) ≡ Ok (Some (length payload)))
         × (payload_at (length payload) (behind_frames n stream) ≡ payload) }
+    // Behind them all stands the rest.
     ensures rest { (stream : List ℕ) (payloads : List (List ℕ)) (rest : List ℕ) → Frames stream payloads rest
         → behind_frames (length payloads) stream ≡ rest }
+    // A fault is read exactly where it is the first wrong whole field.
     ensures fault { (rest : List ℕ) (fault : FrameFault) → (whole_at rest ≡ Err fault) ↔ IsFault rest fault }
+    // Nothing is read yet exactly where no frame is whole and no whole field is wrong.
     ensures waits { (rest : List ℕ) → All (λ byte. byte < 256) rest → (whole_at rest ≡ Ok None) ↔ (IsRest rest × IsRight rest) }
 {}
 
