@@ -284,6 +284,9 @@ drive_of table = do
   counts ← counts_of table
   Ok (record { target = target; most = most; counts = counts })
 
+abbrev pub car_made : CallFields → List ℕ → DriveFields → Stop → List ℕ → CarFields
+car_made call car_id drive stop session = record { call = call; car_id = car_id; drive = drive; stop = stop; session = session }
+
 -- the plan of a car, by the keys in their order, and then the unknown ones
 unfoldable pub car_keys_of : Members → Result CarFields PlanFault
 car_keys_of table = do
@@ -292,7 +295,7 @@ car_keys_of table = do
   drive ← drive_of table
   stop ← stop_or Terminate None (codes "stop") table
   session ← hex_or 0 8 [] None (codes "session") table
-  Ok (record { call = call; car_id = car_id; drive = drive; stop = stop; session = session })
+  Ok (car_made call car_id drive stop session)
 
 unfoldable pub car_of : Members → Result CarFields PlanFault
 car_of table = do

@@ -3,7 +3,7 @@
 ghost use Rattle.std.specs.Prelude.{◌≡◌, ◌≤◌, length};
 ghost use Rattle.toml.specs.View.{table_view};
 ghost use Rattle.site_plan.specs.Keys.{Gives};
-ghost use Rattle.site_plan.specs.Plans.{call_fields, call_of, target_fields, target_of, most_fields, most_of, count_fields, counts_of, drive_fields, drive_of, ports_of, car_fields, car_keys_of, car_of};
+ghost use Rattle.site_plan.specs.Plans.{call_fields, call_of, target_fields, target_of, most_fields, most_of, count_fields, counts_of, drive_fields, drive_of, ports_of, car_fields, car_made, car_keys_of, car_of};
 
 use crate::fault::{PlanFault, Refused};
 use crate::keys::{Place, bytes, dialects, known, mode, number, stop};
@@ -12,7 +12,7 @@ use crate::post::tenths;
 use crate::values;
 use arrayvec::ArrayVec;
 use charge_world::{Dialect, Tenths};
-use session_words::{CarPlan, Mode, SessionId};
+use session_words::{CarPlan, Mode, SessionId, Stop};
 use std::alloc::Global;
 use toml::Table;
 
@@ -186,6 +186,60 @@ fn read_drive(alloc: Global, place: &Place<'_>) -> Result<Drive, Refused>
     })
 }
 
+/// The plan of these parts.
+fn made(call: Call, car_id: [u8; 6], drive: Drive, stop: Stop, session: SessionId) -> CarPlan
+    ensures { car_fields result ≡ car_made (call_fields call) car_id (drive_fields drive) stop session.bytes.items }
+{
+    let Call {
+        tcp,
+        sdp,
+        turns,
+        mode,
+        dialects,
+    } = call;
+    let Drive {
+        target,
+        most,
+        counts,
+    } = drive;
+    let Target {
+        soc,
+        target_voltage,
+        target_current,
+    } = target;
+    let Most {
+        max_voltage,
+        max_current,
+        min_current,
+        max_watts,
+    } = most;
+    let Counts {
+        cycles,
+        welding,
+        pace,
+    } = counts;
+    CarPlan {
+        tcp,
+        sdp,
+        turns,
+        mode,
+        dialects,
+        car_id,
+        soc,
+        target_voltage,
+        target_current,
+        max_voltage,
+        max_current,
+        min_current,
+        max_watts,
+        cycles,
+        welding,
+        pace,
+        stop,
+        session,
+    }
+}
+
 /// Reads the keys of a car's plan.
 #[tactic(auto, unfolding(crate::specs::Plans::car_keys_of))]
 fn car_keys(alloc: Global, place: &Place<'_>) -> Result<CarPlan, Refused>
@@ -199,26 +253,7 @@ fn car_keys(alloc: Global, place: &Place<'_>) -> Result<CarPlan, Refused>
     let session = bytes(alloc, place, "session", 0, 8, &[])?;
     let car_id = six(car_id.as_slice());
     let session = session_id(session.as_slice());
-    Ok(CarPlan {
-        tcp: call.tcp,
-        sdp: call.sdp,
-        turns: call.turns,
-        mode: call.mode,
-        dialects: call.dialects,
-        car_id,
-        soc: drive.target.soc,
-        target_voltage: drive.target.target_voltage,
-        target_current: drive.target.target_current,
-        max_voltage: drive.most.max_voltage,
-        max_current: drive.most.max_current,
-        min_current: drive.most.min_current,
-        max_watts: drive.most.max_watts,
-        cycles: drive.counts.cycles,
-        welding: drive.counts.welding,
-        pace: drive.counts.pace,
-        stop,
-        session,
-    })
+    Ok(made(call, car_id, drive, stop, session))
 }
 
 /// Reads the plan of a car.
