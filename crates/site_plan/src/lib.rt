@@ -6,8 +6,10 @@ mod fault;
 mod keys;
 mod names;
 mod post;
+mod reading;
 mod site;
 mod values;
 
 pub use fault::{Key, PlanFault};
+pub use reading::car_plan_of;
 pub use session_words::{CarPlan, Mode, PostPlan, SitePlan, Stop};
