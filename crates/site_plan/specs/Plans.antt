@@ -59,7 +59,11 @@ talk_fields t = record { tcp = t.tcp; sdp = t.sdp; mode = t.mode; dialects = t.d
 
 abbrev pub range_fields : Range → RangeFields
 range_fields r = record {
-  max_voltage = r.max_voltage; min_voltage = r.min_voltage; max_current = r.max_current; min_current = r.min_current }
+  max_voltage = r.max_voltage;
+  min_voltage = r.min_voltage;
+  max_current = r.max_current;
+  min_current = r.min_current;
+}
 
 abbrev pub power_fields : Power → PowerFields
 power_fields p = record { max_watts = p.max_watts; range = range_fields p.range; ripple = p.ripple; nominal = p.nominal }
@@ -68,12 +72,21 @@ power_fields p = record { max_watts = p.max_watts; range = range_fields p.range;
 abbrev pub post_fields : PostPlan → PostFields
 post_fields p = record {
   talk = record { tcp = p.tcp; sdp = p.sdp; mode = p.mode; dialects = p.dialects.items };
-  evse_id = p.evse_id.bytes; evse_id_din = p.evse_id_din.items; free = p.free;
+  evse_id = p.evse_id.bytes;
+  evse_id_din = p.evse_id_din.items;
+  free = p.free;
   power = record {
     max_watts = p.max_watts;
     range = record {
-      max_voltage = p.max_voltage; min_voltage = p.min_voltage; max_current = p.max_current; min_current = p.min_current };
-    ripple = p.ripple; nominal = p.nominal } }
+      max_voltage = p.max_voltage;
+      min_voltage = p.min_voltage;
+      max_current = p.max_current;
+      min_current = p.min_current;
+    };
+    ripple = p.ripple;
+    nominal = p.nominal;
+  };
+}
 
 unfoldable pub talk_of : Option ℕ → Members → Result TalkFields PlanFault
 talk_of post table = do
@@ -221,7 +234,11 @@ target_fields t = record { soc = t.soc; target_voltage = t.target_voltage; targe
 
 abbrev pub most_fields : Most → MostFields
 most_fields m = record {
-  max_voltage = m.max_voltage; max_current = m.max_current; min_current = m.min_current; max_watts = m.max_watts }
+  max_voltage = m.max_voltage;
+  max_current = m.max_current;
+  min_current = m.min_current;
+  max_watts = m.max_watts;
+}
 
 abbrev pub count_fields : Counts → CountFields
 count_fields c = record { cycles = c.cycles; welding = c.welding; pace = c.pace }
@@ -237,8 +254,11 @@ car_fields c = record {
   drive = record {
     target = record { soc = c.soc; target_voltage = c.target_voltage; target_current = c.target_current };
     most = record { max_voltage = c.max_voltage; max_current = c.max_current; min_current = c.min_current; max_watts = c.max_watts };
-    counts = record { cycles = c.cycles; welding = c.welding; pace = c.pace } };
-  stop = c.stop; session = c.session.bytes.items }
+    counts = record { cycles = c.cycles; welding = c.welding; pace = c.pace };
+  };
+  stop = c.stop;
+  session = c.session.bytes.items;
+}
 
 -- the ports of a car: that of its sessions has to be there where there is no discovery
 unfoldable pub ports_of : Members → Result (Option ℕ × ℕ) PlanFault

@@ -13,3 +13,6 @@ mod values;
 pub use fault::{Key, PlanFault};
 pub use reading::car_plan_of;
 pub use session_words::{CarPlan, Mode, PostPlan, SitePlan, Stop};
+
+#[cfg(test)]
+mod tests;

@@ -111,7 +111,11 @@ fn read_power(alloc: Global, place: &Place<'_>) -> Result<Power, Refused>
 
 /// Reads the plan of a post.
 #[tactic(auto, unfolding(crate::specs::Plans::post_of))]
-pub(crate) fn post_plan(alloc: Global, number_of_post: u8, table: &Table) -> Result<PostPlan, Refused>
+pub(crate) fn post_plan(
+    alloc: Global,
+    number_of_post: u8,
+    table: &Table,
+) -> Result<PostPlan, Refused>
     ensures { Gives post_fields result (post_of number_of_post (table_view table.now)) }
 {
     let place = Place {
