@@ -156,18 +156,22 @@ items_of d =
 unfoldable pub list_of : Members → Result Items PlanFault
 list_of table = on_some (get_member (codes "post") table) items_of (Err (Missing (codes "post")))
 
+-- the plan of the post with this number, and that it has no unknown key
+unfoldable pub post_at : ℕ → Data → Result PostFields PlanFault
+post_at number d = on_some (as_table d) (post_of number) (Err (BadValue (codes "post")))
+
+unfoldable pub known_at : ℕ → Data → Result (Unit {0}) PlanFault
+known_at number d = on_some (as_table d) (known_keys Post (Some number)) (Err (BadValue (codes "post")))
+
 -- the plans of the posts, the first of which has this number
 abbrev pub posts_of : ℕ → Items → Result (List PostFields) PlanFault
 posts_of number no_items = Ok []
-posts_of number (item d rest) =
-    on_some (as_table d) (post_of number) (Err (BadValue (codes "post"))) >>= λ post.
-    posts_of (number + 1) rest >>= λ posts. Ok (post ∷ posts)
+posts_of number (item d rest) = post_at number d >>= λ post. posts_of (number + 1) rest >>= λ posts. Ok (post ∷ posts)
 
 -- no post has an unknown key
 abbrev pub known_posts : ℕ → Items → Result (Unit {0}) PlanFault
 known_posts number no_items = Ok tt
-known_posts number (item d rest) =
-    on_some (as_table d) (known_keys Post (Some number)) (Err (BadValue (codes "post"))) >>= λ known. known_posts (number + 1) rest
+known_posts number (item d rest) = known_at number d >>= λ known. known_posts (number + 1) rest
 
 -- the plan of a station: the keys in their order, those of the posts one post after another, and then the unknown ones
 unfoldable pub posts_in : Members → Result (List PostFields) PlanFault

@@ -11,7 +11,7 @@ mod site;
 mod values;
 
 pub use fault::{Key, PlanFault};
-pub use reading::car_plan_of;
+pub use reading::{car_plan_of, site_plan_of};
 pub use session_words::{CarPlan, Mode, PostPlan, SitePlan, Stop};
 
 #[cfg(test)]

@@ -1,16 +1,44 @@
 //! Texts as plans.
 
 ghost use Rattle.std.specs.Prelude.{◌≡◌, ◌⊎◌, IfOk, IfErr};
-ghost use Rattle.site_plan.specs.Plans.{IsCarPlanOf, car_fields};
+ghost use Rattle.site_plan.specs.Plans.{IsSitePlanOf, IsCarPlanOf, site_fields, car_fields};
 
 use crate::car::car_plan;
 use crate::fault::{PlanFault, Refused};
 use crate::names::key;
-use session_words::CarPlan;
+use crate::site::site_plan;
+use session_words::{CarPlan, SitePlan};
 use std::alloc::Global;
 
 /// The longest text of a plan, in bytes.
 const LONGEST: usize = 65536;
+
+/// Reads the plan of a station from TOML, or names its first fault (own).
+pub fn site_plan_of(alloc: Global, text: &[u8]) -> Result<SitePlan, PlanFault>
+    ensures plan { IfOk result (λ plan. IsSitePlanOf text.now (Ok (site_fields plan))) }
+    ensures fault { IfErr result (λ fault. (fault ≡ PlanFault.Memory) ⊎ IsSitePlanOf text.now (Err fault)) }
+{
+    if text.len() > LONGEST {
+        return match key(alloc, None, "bytes") {
+            Ok(key) => Err(PlanFault::OverLimit(key)),
+            Err(_) => Err(PlanFault::Memory),
+        };
+    }
+    match toml::table_from_slice(alloc, text) {
+        Ok(table) => match site_plan(alloc, &table) {
+            Ok(plan) => Ok(plan),
+            Err(Refused::Plan(fault)) => Err(fault),
+            Err(Refused::Memory) => Err(PlanFault::Memory),
+        },
+        Err(e) => {
+            if e.is_memory() {
+                Err(PlanFault::Memory)
+            } else {
+                Err(PlanFault::NotToml)
+            }
+        }
+    }
+}
 
 /// Reads the plan of a car from TOML, or names its first fault (own).
 pub fn car_plan_of(alloc: Global, text: &[u8]) -> Result<CarPlan, PlanFault>
