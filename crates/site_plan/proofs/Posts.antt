@@ -1,14 +1,14 @@
 -- Posts that are read one after another.
-use Rattle.std.specs.Prelude.{◌≡◌, ℕ, ◌+◌, ◌<◌, drop, List, [], ◌∷◌, ◌++◌, length, map, Result, Ok, Err, refl}
+use Rattle.std.specs.Prelude.{◌≡◌, ℕ, ◌+◌, ◌<◌, drop, List, [], ◌∷◌, ◌++◌, length, map, Bool, true, codes, Some, Result, Ok, Err, refl}
 use Rattle.std.proofs.Common.{ap, sym, ◌∙◌, arith, append_assoc, get_or}
 use Rattle.std.proofs.lemmas.List.{drop_more}
-use Rattle.toml.specs.Data.{Data, Items, item}
+use Rattle.toml.specs.Data.{Data, Items, item, Members}
 use Rattle.toml.specs.View.{view, items_view}
 use Rattle.toml.specs.declared.value.Value.{Value}
 use Rattle.session_words.specs.declared.plan.PostPlan.{PostPlan}
 use Rattle.site_plan.specs.declared.fault.PlanFault.{PlanFault}
-use Rattle.site_plan.specs.Keys.{◌>>=◌}
-use Rattle.site_plan.specs.Plans.{PostFields, post_fields, posts_fields, post_at, posts_of, item_count}
+use Rattle.site_plan.specs.Keys.{◌>>=◌, ascii_or, hex_or, bool_or}
+use Rattle.site_plan.specs.Plans.{PostFields, TalkFields, PowerFields, talk_of, power_of, post_of, post_made, post_fields, posts_fields, post_at, posts_of, item_count}
 
 pub count_view : (vs : List Value) → item_count (items_view vs) ≡ length vs
 count_view [] = refl
@@ -46,3 +46,14 @@ read_more vs i v xs p below is read =
     let e : drop i vs ≡ v ∷ drop (i + 1) vs = drop_more vs i v below ∙ ap (λ x. x ∷ drop (i + 1) vs) is in
     rw e (rw (read_one (i + 1) (view v) (items_view (drop (i + 1) vs)) p read)
     (sym (after_one xs p (posts_of (i + 1 + 1) (items_view (drop (i + 1) vs))))))
+
+-- the plan of a post, by its parts
+pub post_steps : (n : ℕ) (table : Members) (talk : TalkFields) (evse_id evse_id_din : List ℕ) (free : Bool) (power : PowerFields)
+    → talk_of (Some n) table ≡ Ok talk
+    → ascii_or 7 37 (codes "ZZ00000") (Some n) (codes "evse_id") table ≡ Ok evse_id
+    → hex_or 1 32 (0 ∷ []) (Some n) (codes "evse_id_din") table ≡ Ok evse_id_din
+    → bool_or true (Some n) (codes "free") table ≡ Ok free
+    → power_of (Some n) table ≡ Ok power
+    → post_of n table ≡ Ok (post_made talk evse_id evse_id_din free power)
+unfolding post_of
+post_steps n table talk evse_id evse_id_din free power a b c d e = rw (a, b, c, d, e) refl

@@ -1,5 +1,5 @@
 -- Own: the keys of a plan, which is a TOML table: what a value may be, and what each fault of it is.
-use Rattle.std.specs.Prelude.{◌≡◌, ℕ, ◌+◌, ◌^◌, Bool, true, false, ◌&&◌, ◌||◌, not, nat_lt, nat_le, nat_eq, if◌then◌else◌, ℤ, pos, negsuc, List, [], ◌∷◌, ◌++◌, length, codes, decimal, Option, Some, None, is_some, Result, Ok, Err}
+use Rattle.std.specs.Prelude.{◌≡◌, ℕ, ◌+◌, ◌<◌, All, Contains, ◌^◌, Bool, true, false, ◌&&◌, ◌||◌, not, nat_lt, nat_le, nat_eq, if◌then◌else◌, ℤ, pos, negsuc, List, [], ◌∷◌, ◌++◌, length, codes, decimal, Option, Some, None, is_some, Result, Ok, Err}
 use Rattle.std.specs.List.{list_all, list_any}
 use Rattle.std.specs.Result.{result_ok}
 use Rattle.std.specs.Str.{bytes_eq}
@@ -7,6 +7,7 @@ use Rattle.hex.specs.Hex.{decode_of}
 use Rattle.toml.specs.Data.{Data, Items, no_items, item, Members, no_members, member, get_member, as_integer, as_str, as_bool, as_array, as_table, at}
 use Rattle.charge_world.specs.declared.offer.Dialect.{Dialect}
 use Rattle.charge_world.specs.declared.offer.Dialect.TheVariants.{Iso, Din}
+use Rattle.session_words.specs.Plans.{IsOfferOnce, IsWithin}
 use Rattle.session_words.specs.declared.mode.Mode.{Mode}
 use Rattle.session_words.specs.declared.mode.Mode.TheVariants.{AcSinglePhaseCore, AcThreePhaseCore, DcCore, DcExtended, DcComboCore, DcUnique}
 use Rattle.session_words.specs.declared.plan.Stop.{Stop}
@@ -141,6 +142,14 @@ decoded key s = on_some (result_ok (decode_of s)) (λ bytes. Ok bytes) (Err (Bad
 unfoldable pub hex_value : ℕ → ℕ → List ℕ → Data → Result (List ℕ) PlanFault
 hex_value least most key d =
     on_some (as_str d) (λ s. decoded key s >>= λ bytes. sized least most key bytes) (Err (BadValue key))
+
+-- at least one dialect, each at most once, DIN only where it goes with the mode
+abbrev pub IsOfferBy : Bool → List Dialect → Type 0
+IsOfferBy din dialects = IsOfferOnce dialects × (Contains dialects Din → din ≡ true)
+
+-- ASCII characters, from 7 to 37 of them
+unfoldable pub IsPlain : List ℕ → Type 0
+IsPlain text = All (λ c. c < 128) text × IsWithin 7 37 (length text)
 
 -- ---- keys
 

@@ -1,9 +1,10 @@
 -- Own: what a text says as the plan of a station or of a car: the plan, or its first fault.
-use Rattle.std.specs.Prelude.{◌≡◌, ℕ, ◌+◌, ◌<◌, ◌≤◌, Bool, true, false, ◌&&◌, ◌==◌, not, nat_lt, nat_le, if◌then◌else◌, List, [], ◌∷◌, length, codes, Option, Some, None, Result, Ok, Err, ◌⊎◌}
+use Rattle.std.specs.Prelude.{◌≡◌, ℕ, ◌+◌, ◌<◌, ◌≤◌, Bool, true, false, ◌&&◌, ◌==◌, not, nat_lt, nat_le, if◌then◌else◌, List, [], ◌∷◌, length, codes, IsSome, IfSome, Option, Some, None, Result, Ok, Err, ◌⊎◌}
 use Rattle.std.specs.Str.{IsUtf8}
 use Rattle.toml.specs.Data.{Data, Items, no_items, item, Members, get_member, as_array, as_table}
 use Rattle.toml.specs.Parse.{parse_document}
 use Rattle.charge_world.specs.declared.offer.Dialect.{Dialect}
+use Rattle.session_words.specs.Plans.{IsOffer, IsWithin}
 use Rattle.session_words.specs.declared.mode.Mode.{Mode}
 use Rattle.session_words.specs.declared.mode.Mode.TheVariants.{DcExtended}
 use Rattle.session_words.specs.declared.plan.Stop.{Stop}
@@ -23,6 +24,27 @@ use Rattle.site_plan.specs.declared.car.Most.{Most}
 use Rattle.site_plan.specs.declared.car.Counts.{Counts}
 use Rattle.site_plan.specs.declared.car.Drive.{Drive}
 use Rattle.site_plan.specs.Keys.{◌>>=◌, on_some, number_value, number_or, number_needed, bool_or, mode_or, stop_or, dialects_or, ascii_or, hex_or, known_keys}
+
+-- ---- the rules of a plan's parts
+
+unfoldable pub IsTalkWithin : Talk → Type 0
+IsTalkWithin talk = (1 ≤ talk.tcp) × IsOffer talk.mode talk.dialects.items
+
+unfoldable pub IsPowerWithin : Power → Type 0
+IsPowerWithin power = IsWithin 1 1000000 power.max_watts × IsWithin 1 1000 power.nominal
+
+pub record IsCallWithin (call : Call) : Type 0 where
+  pub tcp_there : call.sdp ≡ 0 → IsSome call.tcp
+  pub tcp : IfSome call.tcp (λ port. 1 ≤ port)
+  pub turns : IsWithin 1 4294967296 call.turns
+  pub dialects : IsOffer call.mode call.dialects.items
+
+pub record IsDriveWithin (drive : Drive) : Type 0 where
+  pub soc : drive.target.soc ≤ 100
+  pub max_watts : IsWithin 1 1000000 drive.most.max_watts
+  pub cycles : IsWithin 1 10000 drive.counts.cycles
+  pub welding : drive.counts.welding ≤ 10
+  pub pace : IsWithin 100 1000 drive.counts.pace
 
 -- ---- a post
 
@@ -112,6 +134,10 @@ power_of post table = do
   nominal ← number_or 1 1000 230 post (codes "nominal") table
   Ok (record { max_watts = max_watts; range = range; ripple = ripple; nominal = nominal })
 
+abbrev pub post_made : TalkFields → List ℕ → List ℕ → Bool → PowerFields → PostFields
+post_made talk evse_id evse_id_din free power =
+    record { talk = talk; evse_id = evse_id; evse_id_din = evse_id_din; free = free; power = power }
+
 -- the plan of a post, by the keys in their order
 unfoldable pub post_of : ℕ → Members → Result PostFields PlanFault
 post_of number table = do
@@ -120,7 +146,7 @@ post_of number table = do
   evse_id_din ← hex_or 1 32 (0 ∷ []) (Some number) (codes "evse_id_din") table
   free ← bool_or true (Some number) (codes "free") table
   power ← power_of (Some number) table
-  Ok (record { talk = talk; evse_id = evse_id; evse_id_din = evse_id_din; free = free; power = power })
+  Ok (post_made talk evse_id evse_id_din free power)
 
 -- ---- a station
 

@@ -1,9 +1,10 @@
 //! The plan of a car.
 
-ghost use Rattle.std.specs.Prelude.{◌≡◌, ◌≤◌, length};
+ghost use Rattle.std.specs.Prelude.{◌≡◌, ◌≤◌, IfOk, IfSome, IsSome, length};
+ghost use Rattle.session_words.specs.Plans.{IsCarPlan, IsWithin};
 ghost use Rattle.toml.specs.View.{table_view};
 ghost use Rattle.site_plan.specs.Keys.{Gives};
-ghost use Rattle.site_plan.specs.Plans.{call_fields, call_of, target_fields, target_of, most_fields, most_of, count_fields, counts_of, drive_fields, drive_of, ports_of, car_fields, car_made, car_keys_of, car_of};
+ghost use Rattle.site_plan.specs.Plans.{IsCallWithin, IsDriveWithin, call_fields, call_of, target_fields, target_of, most_fields, most_of, count_fields, counts_of, drive_fields, drive_of, ports_of, car_fields, car_made, car_keys_of, car_of};
 
 use crate::fault::{PlanFault, Refused};
 use crate::keys::{Place, bytes, dialects, known, mode, number, stop};
@@ -83,7 +84,8 @@ fn six(bytes: &[u8]) -> [u8; 6]
 #[tactic(auto, unfolding(crate::specs::Plans::ports_of))]
 fn ports(alloc: Global, place: &Place<'_>) -> Result<(Option<u16>, u16), Refused>
     requires { place.now.post ≡ None }
-    ensures { Gives (λ p. (p.0, p.1)) result (ports_of (table_view place.now.table.now)) }
+    ensures read { Gives (λ p. (p.0, p.1)) result (ports_of (table_view place.now.table.now)) }
+    ensures within { IfOk result (λ p. (p.1 ≡ 0 → IsSome p.0) × IfSome p.0 (λ port. 1 ≤ port)) }
 {
     match find(place.table, "tcp") {
         Some(value) => {
@@ -105,7 +107,8 @@ fn ports(alloc: Global, place: &Place<'_>) -> Result<(Option<u16>, u16), Refused
 #[tactic(auto, unfolding(crate::specs::Plans::call_of))]
 fn read_call(alloc: Global, place: &Place<'_>) -> Result<Call, Refused>
     requires { place.now.post ≡ None }
-    ensures { Gives call_fields result (call_of (table_view place.now.table.now)) }
+    ensures read { Gives call_fields result (call_of (table_view place.now.table.now)) }
+    ensures within { IfOk result IsCallWithin }
 {
     let (tcp, sdp) = ports(alloc, place)?;
     let turns = number(alloc, place, "turns", 1, 4294967296, 1000000)?;
@@ -124,7 +127,8 @@ fn read_call(alloc: Global, place: &Place<'_>) -> Result<Call, Refused>
 #[tactic(auto, unfolding(crate::specs::Plans::target_of))]
 fn read_target(alloc: Global, place: &Place<'_>) -> Result<Target, Refused>
     requires { place.now.post ≡ None }
-    ensures { Gives target_fields result (target_of (table_view place.now.table.now)) }
+    ensures read { Gives target_fields result (target_of (table_view place.now.table.now)) }
+    ensures within { IfOk result (λ t. t.soc ≤ 100) }
 {
     let soc = number(alloc, place, "soc", 0, 100, 20)?;
     let target_voltage = number(alloc, place, "target_voltage", 0, 30000, 4000)?;
@@ -140,7 +144,8 @@ fn read_target(alloc: Global, place: &Place<'_>) -> Result<Target, Refused>
 #[tactic(auto, unfolding(crate::specs::Plans::most_of))]
 fn read_most(alloc: Global, place: &Place<'_>) -> Result<Most, Refused>
     requires { place.now.post ≡ None }
-    ensures { Gives most_fields result (most_of (table_view place.now.table.now)) }
+    ensures read { Gives most_fields result (most_of (table_view place.now.table.now)) }
+    ensures within { IfOk result (λ m. IsWithin 1 1000000 m.max_watts) }
 {
     let max_voltage = number(alloc, place, "max_voltage", 0, 30000, 4500)?;
     let max_current = number(alloc, place, "max_current", 0, 30000, 2000)?;
@@ -158,7 +163,8 @@ fn read_most(alloc: Global, place: &Place<'_>) -> Result<Most, Refused>
 #[tactic(auto, unfolding(crate::specs::Plans::counts_of))]
 fn read_counts(alloc: Global, place: &Place<'_>) -> Result<Counts, Refused>
     requires { place.now.post ≡ None }
-    ensures { Gives count_fields result (counts_of (table_view place.now.table.now)) }
+    ensures read { Gives count_fields result (counts_of (table_view place.now.table.now)) }
+    ensures within { IfOk result (λ c. IsWithin 1 10000 c.cycles × (c.welding ≤ 10) × IsWithin 100 1000 c.pace) }
 {
     let cycles = number(alloc, place, "cycles", 1, 10000, 200)?;
     let welding = number(alloc, place, "welding", 0, 10, 1)?;
@@ -174,7 +180,8 @@ fn read_counts(alloc: Global, place: &Place<'_>) -> Result<Counts, Refused>
 #[tactic(auto, unfolding(crate::specs::Plans::drive_of))]
 fn read_drive(alloc: Global, place: &Place<'_>) -> Result<Drive, Refused>
     requires { place.now.post ≡ None }
-    ensures { Gives drive_fields result (drive_of (table_view place.now.table.now)) }
+    ensures read { Gives drive_fields result (drive_of (table_view place.now.table.now)) }
+    ensures within { IfOk result IsDriveWithin }
 {
     let target = read_target(alloc, place)?;
     let most = read_most(alloc, place)?;
@@ -188,7 +195,8 @@ fn read_drive(alloc: Global, place: &Place<'_>) -> Result<Drive, Refused>
 
 /// The plan of these parts.
 fn made(call: Call, car_id: [u8; 6], drive: Drive, stop: Stop, session: SessionId) -> CarPlan
-    ensures { car_fields result ≡ car_made (call_fields call) car_id (drive_fields drive) stop session.bytes.items }
+    ensures fields { car_fields result ≡ car_made (call_fields call) car_id (drive_fields drive) stop session.bytes.items }
+    ensures within { IsCallWithin call → IsDriveWithin drive → IsCarPlan result }
 {
     let Call {
         tcp,
@@ -244,7 +252,8 @@ fn made(call: Call, car_id: [u8; 6], drive: Drive, stop: Stop, session: SessionI
 #[tactic(auto, unfolding(crate::specs::Plans::car_keys_of))]
 fn car_keys(alloc: Global, place: &Place<'_>) -> Result<CarPlan, Refused>
     requires { place.now.post ≡ None }
-    ensures { Gives car_fields result (car_keys_of (table_view place.now.table.now)) }
+    ensures read { Gives car_fields result (car_keys_of (table_view place.now.table.now)) }
+    ensures within { IfOk result IsCarPlan }
 {
     let call = read_call(alloc, place)?;
     let car_id = bytes(alloc, place, "car_id", 6, 6, &[0, 1, 2, 3, 4, 5])?;
@@ -259,7 +268,8 @@ fn car_keys(alloc: Global, place: &Place<'_>) -> Result<CarPlan, Refused>
 /// Reads the plan of a car.
 #[tactic(auto, unfolding(crate::specs::Plans::car_of))]
 pub(crate) fn car_plan(alloc: Global, table: &Table) -> Result<CarPlan, Refused>
-    ensures { Gives car_fields result (car_of (table_view table.now)) }
+    ensures read { Gives car_fields result (car_of (table_view table.now)) }
+    ensures within { IfOk result IsCarPlan }
 {
     let place = Place { table, post: None };
     let car = car_keys(alloc, &place)?;

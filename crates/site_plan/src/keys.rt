@@ -1,8 +1,10 @@
 //! The keys of a plan, each with its default.
 
-ghost use Rattle.std.specs.Prelude.{◌≡◌, ◌≤◌, IfOk, length, vec_len, true};
+ghost use Rattle.std.specs.Prelude.{◌≡◌, ◌≤◌, IsTrue, codes, IfOk, length, vec_len, true};
+ghost use Rattle.session_words.specs.Modes.{CanSpeakDin};
+ghost use Rattle.session_words.specs.Plans.{IsOffer};
 ghost use Rattle.toml.specs.View.{table_view};
-ghost use Rattle.site_plan.specs.Keys.{Gives, speaks_din, default_dialects, number_or, number_needed, bool_or, mode_or, stop_or, dialects_or, ascii_or, hex_or, known_keys};
+ghost use Rattle.site_plan.specs.Keys.{Gives, IsOfferBy, IsPlain, speaks_din, default_dialects, number_or, number_needed, bool_or, mode_or, stop_or, dialects_or, ascii_or, hex_or, known_keys};
 
 use crate::fault::{PlanFault, Refused};
 use crate::names::{TableKind, find, key, unknown_key};
@@ -93,7 +95,8 @@ pub(crate) fn stop(alloc: Global, place: &Place<'_>, name: &str) -> Result<Stop,
 
 /// Whether DIN goes with a mode.
 fn with_din(mode: Mode) -> bool
-    ensures { result ≡ speaks_din mode }
+    ensures value { result ≡ speaks_din mode }
+    ensures din { IsTrue result → CanSpeakDin mode }
 {
     match mode {
         Mode::DcCore | Mode::DcExtended | Mode::DcComboCore => true,
@@ -104,7 +107,8 @@ fn with_din(mode: Mode) -> bool
 /// ISO, and DIN where it goes with the mode.
 #[tactic(auto, unfolding(crate::specs::Keys::default_dialects))]
 fn all_dialects(din: bool) -> ArrayVec<Dialect, 2>
-    ensures { result.items ≡ default_dialects din }
+    ensures value { result.items ≡ default_dialects din }
+    ensures fits { IsOfferBy din result.items }
 {
     let mut list = ArrayVec::new();
     list.push(Dialect::Iso);
@@ -122,7 +126,8 @@ pub(crate) fn dialects(
     name: &str,
     mode: Mode,
 ) -> Result<ArrayVec<Dialect, 2>, Refused>
-    ensures { Gives (λ v. v.items) result (dialects_or mode place.now.post name.now (table_view place.now.table.now)) }
+    ensures read { Gives (λ v. v.items) result (dialects_or mode place.now.post name.now (table_view place.now.table.now)) }
+    ensures fits { IfOk result (λ v. IsOffer mode v.items) }
 {
     let din = with_din(mode);
     match find(place.table, name) {
@@ -131,22 +136,21 @@ pub(crate) fn dialects(
     }
 }
 
-/// From 7 to 37 ASCII characters, or a default.
-#[tactic(auto, unfolding(crate::specs::Keys::ascii_or))]
+/// From 7 to 37 ASCII characters, or the identifier of no operator.
+#[tactic(auto, unfolding(crate::specs::Keys::ascii_or, crate::specs::Keys::IsPlain))]
 pub(crate) fn ascii(
     alloc: Global,
     place: &Place<'_>,
     name: &str,
-    default: &str,
 ) -> Result<ArrayString<148>, Refused>
-    requires { length default.now ≤ 148 }
-    ensures { Gives (λ s. s.bytes) result (ascii_or 7 37 default.now place.now.post name.now (table_view place.now.table.now)) }
+    ensures read { Gives (λ s. s.bytes) result (ascii_or 7 37 (codes "ZZ00000") place.now.post name.now (table_view place.now.table.now)) }
+    ensures fits { IfOk result (λ s. IsPlain s.bytes) }
 {
     match find(place.table, name) {
         Some(value) => values::ascii(alloc, place.post, name, value),
         None => {
             let mut text = ArrayString::new();
-            text.push_str(default);
+            text.push_str("ZZ00000");
             Ok(text)
         }
     }

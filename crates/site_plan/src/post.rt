@@ -1,13 +1,14 @@
 //! The plans of posts.
 
-ghost use Rattle.std.specs.Prelude.{◌≡◌, ◌≤◌, length};
+ghost use Rattle.std.specs.Prelude.{◌≡◌, ◌≤◌, IfOk, length};
+ghost use Rattle.session_words.specs.Plans.{IsPostPlan, IsWithin};
 ghost use Rattle.toml.specs.View.{table_view};
-ghost use Rattle.site_plan.specs.Keys.{Gives};
-ghost use Rattle.site_plan.specs.Plans.{talk_fields, talk_of, range_fields, range_of, power_fields, power_of, post_fields, post_of};
+ghost use Rattle.site_plan.specs.Keys.{Gives, IsPlain};
+ghost use Rattle.site_plan.specs.Plans.{IsTalkWithin, IsPowerWithin, talk_fields, talk_of, range_fields, range_of, power_fields, power_of, post_fields, post_made, post_of};
 
 use crate::fault::Refused;
 use crate::keys::{Place, ascii, bytes, dialects, mode, needed, number, truth};
-use arrayvec::ArrayVec;
+use arrayvec::{ArrayString, ArrayVec};
 use charge_world::{Dialect, Tenths};
 use session_words::{Mode, PostPlan};
 use std::alloc::Global;
@@ -59,9 +60,10 @@ fn short_list(bytes: &[u8]) -> ArrayVec<u8, 32>
 }
 
 /// Reads where a post is found and what it speaks.
-#[tactic(auto, unfolding(crate::specs::Plans::talk_of))]
+#[tactic(auto, unfolding(crate::specs::Plans::talk_of, crate::specs::Plans::IsTalkWithin))]
 fn read_talk(alloc: Global, place: &Place<'_>) -> Result<Talk, Refused>
-    ensures { Gives talk_fields result (talk_of place.now.post (table_view place.now.table.now)) }
+    ensures read { Gives talk_fields result (talk_of place.now.post (table_view place.now.table.now)) }
+    ensures within { IfOk result IsTalkWithin }
 {
     let tcp = needed(alloc, place, "tcp", 1, 65535)?;
     let sdp = number(alloc, place, "sdp", 0, 65535, 0)?;
@@ -93,9 +95,10 @@ fn read_range(alloc: Global, place: &Place<'_>) -> Result<Range, Refused>
 }
 
 /// Reads what a post gives.
-#[tactic(auto, unfolding(crate::specs::Plans::power_of))]
+#[tactic(auto, unfolding(crate::specs::Plans::power_of, crate::specs::Plans::IsPowerWithin))]
 fn read_power(alloc: Global, place: &Place<'_>) -> Result<Power, Refused>
-    ensures { Gives power_fields result (power_of place.now.post (table_view place.now.table.now)) }
+    ensures read { Gives power_fields result (power_of place.now.post (table_view place.now.table.now)) }
+    ensures within { IfOk result IsPowerWithin }
 {
     let max_watts = number(alloc, place, "max_watts", 1, 1000000, 50000)?;
     let range = read_range(alloc, place)?;
@@ -109,6 +112,54 @@ fn read_power(alloc: Global, place: &Place<'_>) -> Result<Power, Refused>
     })
 }
 
+/// The plan of these parts.
+#[tactic(auto, unfolding(crate::specs::Plans::IsTalkWithin, crate::specs::Plans::IsPowerWithin, crate::specs::Keys::IsPlain))]
+fn made(
+    talk: Talk,
+    evse_id: ArrayString<148>,
+    evse_id_din: ArrayVec<u8, 32>,
+    free: bool,
+    power: Power,
+) -> PostPlan
+    ensures fields { post_fields result ≡ post_made (talk_fields talk) evse_id.bytes evse_id_din.items free (power_fields power) }
+    ensures within { IsTalkWithin talk → IsPlain evse_id.bytes → IsWithin 1 32 (length evse_id_din.items) → IsPowerWithin power → IsPostPlan result }
+{
+    let Talk {
+        tcp,
+        sdp,
+        mode,
+        dialects,
+    } = talk;
+    let Power {
+        max_watts,
+        range,
+        ripple,
+        nominal,
+    } = power;
+    let Range {
+        max_voltage,
+        min_voltage,
+        max_current,
+        min_current,
+    } = range;
+    PostPlan {
+        tcp,
+        sdp,
+        mode,
+        dialects,
+        evse_id,
+        evse_id_din,
+        free,
+        max_watts,
+        max_voltage,
+        min_voltage,
+        max_current,
+        min_current,
+        ripple,
+        nominal,
+    }
+}
+
 /// Reads the plan of a post.
 #[tactic(auto, unfolding(crate::specs::Plans::post_of))]
 pub(crate) fn post_plan(
@@ -116,31 +167,18 @@ pub(crate) fn post_plan(
     number_of_post: u8,
     table: &Table,
 ) -> Result<PostPlan, Refused>
-    ensures { Gives post_fields result (post_of number_of_post (table_view table.now)) }
+    ensures read { Gives post_fields result (post_of number_of_post (table_view table.now)) }
+    ensures within { IfOk result IsPostPlan }
 {
     let place = Place {
         table,
         post: Some(number_of_post),
     };
     let talk = read_talk(alloc, &place)?;
-    let evse_id = ascii(alloc, &place, "evse_id", "ZZ00000")?;
+    let evse_id = ascii(alloc, &place, "evse_id")?;
     let evse_id_din = bytes(alloc, &place, "evse_id_din", 1, 32, &[0])?;
     let free = truth(alloc, &place, "free")?;
     let power = read_power(alloc, &place)?;
-    Ok(PostPlan {
-        tcp: talk.tcp,
-        sdp: talk.sdp,
-        mode: talk.mode,
-        dialects: talk.dialects,
-        evse_id,
-        evse_id_din: short_list(evse_id_din.as_slice()),
-        free,
-        max_watts: power.max_watts,
-        max_voltage: power.range.max_voltage,
-        min_voltage: power.range.min_voltage,
-        max_current: power.range.max_current,
-        min_current: power.range.min_current,
-        ripple: power.ripple,
-        nominal: power.nominal,
-    })
+    let evse_id_din = short_list(evse_id_din.as_slice());
+    Ok(made(talk, evse_id, evse_id_din, free, power))
 }

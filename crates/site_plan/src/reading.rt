@@ -1,6 +1,7 @@
 //! Texts as plans.
 
 ghost use Rattle.std.specs.Prelude.{◌≡◌, ◌⊎◌, IfOk, IfErr};
+ghost use Rattle.session_words.specs.Plans.{IsSitePlan, IsCarPlan};
 ghost use Rattle.site_plan.specs.Plans.{IsSitePlanOf, IsCarPlanOf, site_fields, car_fields};
 
 use crate::car::car_plan;
@@ -17,6 +18,7 @@ const LONGEST: usize = 65536;
 pub fn site_plan_of(alloc: Global, text: &[u8]) -> Result<SitePlan, PlanFault>
     ensures plan { IfOk result (λ plan. IsSitePlanOf text.now (Ok (site_fields plan))) }
     ensures fault { IfErr result (λ fault. (fault ≡ PlanFault.Memory) ⊎ IsSitePlanOf text.now (Err fault)) }
+    ensures within { IfOk result IsSitePlan }
 {
     if text.len() > LONGEST {
         return match key(alloc, None, "bytes") {
@@ -44,6 +46,7 @@ pub fn site_plan_of(alloc: Global, text: &[u8]) -> Result<SitePlan, PlanFault>
 pub fn car_plan_of(alloc: Global, text: &[u8]) -> Result<CarPlan, PlanFault>
     ensures plan { IfOk result (λ plan. IsCarPlanOf text.now (Ok (car_fields plan))) }
     ensures fault { IfErr result (λ fault. (fault ≡ PlanFault.Memory) ⊎ IsCarPlanOf text.now (Err fault)) }
+    ensures within { IfOk result IsCarPlan }
 {
     if text.len() > LONGEST {
         return match key(alloc, None, "bytes") {

@@ -1,6 +1,8 @@
 //! The plan of a station.
 
-ghost use Rattle.std.specs.Prelude.{◌≡◌, ◌≤◌, ◌&&◌, nat_le, IsTrue, IfOk, length};
+ghost use Rattle.std.specs.Prelude.{◌≡◌, ◌≤◌, ◌&&◌, nat_le, IsTrue, IfOk, All, length};
+ghost use Rattle.arrayvec.specs.ArrayVec.{array_vec_len};
+ghost use Rattle.session_words.specs.Plans.{IsPostPlan, IsSitePlan};
 ghost use Rattle.toml.specs.View.{view, table_view, items_view};
 ghost use Rattle.site_plan.specs.Keys.{Gives};
 ghost use Rattle.site_plan.specs.Plans.{site_fields, posts_fields, post_fields, all_tables, item_count, items_of, list_of, post_at, known_at, posts_of, known_posts, posts_in, site_of};
@@ -69,7 +71,8 @@ fn post_list(alloc: Global, table: &Table) -> Result<&[Value], Refused>
 /// Reads the plan of the post with this number.
 #[tactic(auto, unfolding(crate::specs::Plans::post_at))]
 fn read_post(alloc: Global, number: u8, item: &Value) -> Result<PostPlan, Refused>
-    ensures { Gives post_fields result (post_at number (view item.now)) }
+    ensures read { Gives post_fields result (post_at number (view item.now)) }
+    ensures within { IfOk result IsPostPlan }
 {
     match item.as_table() {
         Some(table) => post_plan(alloc, number, table),
@@ -97,7 +100,9 @@ fn known_post(alloc: Global, number: u8, item: &Value) -> Result<(), Refused>
 /// Reads the plans of the posts, one after another.
 fn read_posts(alloc: Global, items: &[Value]) -> Result<ArrayVec<PostPlan, 8>, Refused>
     requires { length items.now ≤ 8 }
-    ensures { Gives (λ v. posts_fields v.items) result (posts_of 1 (items_view items.now)) }
+    ensures read { Gives (λ v. posts_fields v.items) result (posts_of 1 (items_view items.now)) }
+    ensures count { IfOk result (λ v. array_vec_len v ≡ length items.now) }
+    ensures within { IfOk result (λ v. All IsPostPlan v.items) }
 {
     let mut posts = ArrayVec::new();
     let mut number: u8 = 1;
@@ -125,7 +130,9 @@ fn read_known(alloc: Global, items: &[Value]) -> Result<(), Refused>
 #[tactic(auto, unfolding(crate::specs::Plans::posts_in))]
 fn all_posts(alloc: Global, place: &Place<'_>) -> Result<ArrayVec<PostPlan, 8>, Refused>
     requires { place.now.post ≡ None }
-    ensures { Gives (λ v. posts_fields v.items) result (posts_in (table_view place.now.table.now)) }
+    ensures read { Gives (λ v. posts_fields v.items) result (posts_in (table_view place.now.table.now)) }
+    ensures count { IfOk result (λ v. (1 ≤ array_vec_len v) × (array_vec_len v ≤ 8)) }
+    ensures within { IfOk result (λ v. All IsPostPlan v.items) }
 {
     let items = post_list(alloc, place.table)?;
     let posts = read_posts(alloc, items)?;
@@ -137,7 +144,8 @@ fn all_posts(alloc: Global, place: &Place<'_>) -> Result<ArrayVec<PostPlan, 8>, 
 /// Reads the plan of a station.
 #[tactic(auto, unfolding(crate::specs::Plans::site_of))]
 pub(crate) fn site_plan(alloc: Global, table: &Table) -> Result<SitePlan, Refused>
-    ensures { Gives site_fields result (site_of (table_view table.now)) }
+    ensures read { Gives site_fields result (site_of (table_view table.now)) }
+    ensures within { IfOk result IsSitePlan }
 {
     let place = Place { table, post: None };
     let limit = number(alloc, &place, "limit", 1, 8000000, 150000)?;

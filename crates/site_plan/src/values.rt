@@ -1,9 +1,9 @@
 //! The values of a plan's keys.
 
-ghost use Rattle.std.specs.Prelude.{◌≡◌, ◌≤◌, IfOk, nat_lt, vec_len};
+ghost use Rattle.std.specs.Prelude.{◌≡◌, ◌≤◌, ◌<◌, All, IsTrue, IfOk, nat_lt, vec_len};
 ghost use Rattle.std.specs.List.{list_all};
 ghost use Rattle.toml.specs.View.{view};
-ghost use Rattle.site_plan.specs.Keys.{Gives, key_text, number_value, bool_value, mode_of_word, stop_of_word, dialect_of_word, mode_value, stop_value, dialect_value, speaks_din, one_dialect, two_dialects, dialects_value, default_dialects, ascii_value, hex_value};
+ghost use Rattle.site_plan.specs.Keys.{Gives, key_text, number_value, bool_value, mode_of_word, stop_of_word, dialect_of_word, mode_value, stop_value, dialect_value, speaks_din, one_dialect, two_dialects, dialects_value, default_dialects, IsOfferBy, IsPlain, ascii_value, hex_value};
 
 use crate::fault::{PlanFault, Refused};
 use crate::names::key;
@@ -163,7 +163,8 @@ fn one(
     name: &str,
     dialect: Dialect,
 ) -> Result<ArrayVec<Dialect, 2>, Refused>
-    ensures { Gives (λ v. v.items) result (one_dialect (key_text post name.now) din dialect) }
+    ensures read { Gives (λ v. v.items) result (one_dialect (key_text post name.now) din dialect) }
+    ensures fits { IfOk result (λ v. IsOfferBy din v.items) }
 {
     if dialect == Dialect::Din && !din {
         return Err(Refused::Plan(PlanFault::BadValue(key(alloc, post, name)?)));
@@ -182,7 +183,8 @@ fn two(
     first: Dialect,
     second: Dialect,
 ) -> Result<ArrayVec<Dialect, 2>, Refused>
-    ensures { Gives (λ v. v.items) result (two_dialects (key_text post name.now) din first second) }
+    ensures read { Gives (λ v. v.items) result (two_dialects (key_text post name.now) din first second) }
+    ensures fits { IfOk result (λ v. IsOfferBy din v.items) }
 {
     if first == second || !din {
         return Err(Refused::Plan(PlanFault::BadValue(key(alloc, post, name)?)));
@@ -202,7 +204,8 @@ pub(crate) fn dialects(
     name: &str,
     value: &Value,
 ) -> Result<ArrayVec<Dialect, 2>, Refused>
-    ensures { Gives (λ v. v.items) result (dialects_value din (key_text post name.now) (view value.now)) }
+    ensures read { Gives (λ v. v.items) result (dialects_value din (key_text post name.now) (view value.now)) }
+    ensures fits { IfOk result (λ v. IsOfferBy din v.items) }
 {
     if let Some(_) = value.get(2usize) {
         return Err(Refused::Plan(PlanFault::BadValue(key(alloc, post, name)?)));
@@ -222,20 +225,22 @@ pub(crate) fn dialects(
 
 /// Whether all bytes of a text are ASCII characters.
 fn is_ascii(text: &str) -> bool
-    ensures { result ≡ list_all (λ c. nat_lt c 128) text.now }
+    ensures value { result ≡ list_all (λ c. nat_lt c 128) text.now }
+    ensures each { IsTrue result → All (λ c. c < 128) text.now }
 {
     text.as_bytes().iter().all(|byte| *byte < 128)
 }
 
 /// From 7 to 37 ASCII characters.
-#[tactic(auto, unfolding(crate::specs::Keys::ascii_value))]
+#[tactic(auto, unfolding(crate::specs::Keys::ascii_value, crate::specs::Keys::IsPlain))]
 pub(crate) fn ascii(
     alloc: Global,
     post: Option<u8>,
     name: &str,
     value: &Value,
 ) -> Result<ArrayString<148>, Refused>
-    ensures { Gives (λ s. s.bytes) result (ascii_value 7 37 (key_text post name.now) (view value.now)) }
+    ensures read { Gives (λ s. s.bytes) result (ascii_value 7 37 (key_text post name.now) (view value.now)) }
+    ensures fits { IfOk result (λ s. IsPlain s.bytes) }
 {
     let Some(text) = value.as_str() else {
         return Err(Refused::Plan(PlanFault::BadValue(key(alloc, post, name)?)));
