@@ -94,7 +94,7 @@ pub(crate) fn stop(alloc: Global, place: &Place<'_>, name: &str) -> Result<Stop,
 }
 
 /// Whether DIN goes with a mode.
-fn with_din(mode: Mode) -> bool
+pub(crate) fn with_din(mode: Mode) -> bool
     ensures value { result ≡ speaks_din mode }
     ensures din { IsTrue result → CanSpeakDin mode }
 {
@@ -106,7 +106,7 @@ fn with_din(mode: Mode) -> bool
 
 /// ISO, and DIN where it goes with the mode.
 #[tactic(auto, unfolding(crate::specs::Keys::default_dialects))]
-fn all_dialects(din: bool) -> ArrayVec<Dialect, 2>
+pub(crate) fn all_dialects(din: bool) -> ArrayVec<Dialect, 2>
     ensures value { result.items ≡ default_dialects din }
     ensures fits { IsOfferBy din result.items }
 {

@@ -114,7 +114,7 @@ fn read_power(alloc: Global, place: &Place<'_>) -> Result<Power, Refused>
 
 /// The plan of these parts.
 #[tactic(auto, unfolding(crate::specs::Plans::IsTalkWithin, crate::specs::Plans::IsPowerWithin, crate::specs::Keys::IsPlain))]
-fn made(
+pub(crate) fn made(
     talk: Talk,
     evse_id: ArrayString<148>,
     evse_id_din: ArrayVec<u8, 32>,
