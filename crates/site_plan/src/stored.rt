@@ -71,8 +71,10 @@ fn fixed_post(ac: bool) -> PostPlan
 
 /// The plan of a station with one post at the TCP port 15120, and else the defaults (own). The post gives alternating
 /// current in three phases and speaks ISO alone where `ac` is true; else it gives direct current and speaks ISO and DIN.
+#[tactic(auto, using(crate::proofs::Texts::site_said))]
 pub fn fixed(ac: bool) -> SitePlan
     ensures fields { site_fields result ≡ spec.fixed_site ac }
+    ensures text { IsSitePlanOf (spec.site_text ac) (Ok (site_fields result)) }
     ensures within { IsSitePlan result }
 {
     let mut post = ArrayVec::new();
@@ -128,8 +130,10 @@ fn fixed_drive() -> Drive
 
 /// The plan of a car that dials the TCP port 15120, and else the defaults (own). It takes alternating current in three
 /// phases and speaks ISO alone where `ac` is true; else it takes direct current and speaks ISO and DIN.
+#[tactic(auto, using(crate::proofs::Texts::car_said))]
 pub fn fixed_car(ac: bool) -> CarPlan
     ensures fields { car_fields result ≡ spec.fixed_car_fields ac }
+    ensures text { IsCarPlanOf (spec.car_text ac) (Ok (car_fields result)) }
     ensures within { IsCarPlan result }
 {
     let session = SessionId {
