@@ -1,2 +1,3 @@
 mod Posts
+mod Says
 mod Texts

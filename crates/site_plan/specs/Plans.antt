@@ -13,7 +13,7 @@ use Rattle.session_words.specs.declared.plan.SitePlan.{SitePlan}
 use Rattle.session_words.specs.declared.plan.PostPlan.{PostPlan}
 use Rattle.session_words.specs.declared.plan.CarPlan.{CarPlan}
 use Rattle.site_plan.specs.declared.fault.PlanFault.{PlanFault}
-use Rattle.site_plan.specs.declared.fault.PlanFault.TheVariants.{NotToml, Missing, BadValue, OverLimit}
+use Rattle.site_plan.specs.declared.fault.PlanFault.TheVariants.{NotToml, Missing, BadValue, OverLimit, Memory}
 use Rattle.site_plan.specs.declared.names.TableKind.TheVariants.{Site, Post, Car}
 use Rattle.site_plan.specs.declared.post.Talk.{Talk}
 use Rattle.site_plan.specs.declared.post.Range.{Range}
@@ -365,6 +365,11 @@ PlanOf of_table text said =
     ((65536 < length text) × (said ≡ Err (OverLimit (codes "bytes"))))
     ⊎ ((length text ≤ 65536) × ((members : Members) → IsDocument text members → ⊥) × (said ≡ Err NotToml))
     ⊎ ((length text ≤ 65536) × (members : Members) × IsDocument text members × (said ≡ of_table members))
+
+-- what is answered, seen by view, is what a text says, unless memory ran out
+abbrev pub Answers : {X F : Type 0} → (X → F) → Result X PlanFault → Result F PlanFault → Type 0
+Answers view (Ok plan) said = said ≡ Ok (view plan)
+Answers view (Err fault) said = (fault ≡ Memory) ⊎ (said ≡ Err fault)
 
 abbrev pub IsSitePlanOf : List ℕ → Result SiteFields PlanFault → Type 0
 IsSitePlanOf text said = PlanOf site_of text said

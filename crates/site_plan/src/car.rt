@@ -194,7 +194,13 @@ fn read_drive(alloc: Global, place: &Place<'_>) -> Result<Drive, Refused>
 }
 
 /// The plan of these parts.
-pub(crate) fn made(call: Call, car_id: [u8; 6], drive: Drive, stop: Stop, session: SessionId) -> CarPlan
+pub(crate) fn made(
+    call: Call,
+    car_id: [u8; 6],
+    drive: Drive,
+    stop: Stop,
+    session: SessionId,
+) -> CarPlan
     ensures fields { car_fields result ≡ car_made (call_fields call) car_id (drive_fields drive) stop session.bytes.items }
     ensures within { IsCallWithin call → IsDriveWithin drive → IsCarPlan result }
 {

@@ -17,4 +17,6 @@ pub use session_words::{CarPlan, Mode, PostPlan, SitePlan, Stop};
 pub use stored::{fixed, fixed_car};
 
 #[cfg(test)]
+mod tables;
+#[cfg(test)]
 mod tests;

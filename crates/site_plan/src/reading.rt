@@ -1,8 +1,8 @@
 //! Texts as plans.
 
-ghost use Rattle.std.specs.Prelude.{◌≡◌, ◌⊎◌, IfOk, IfErr};
+ghost use Rattle.std.specs.Prelude.{◌≡◌, ◌⊎◌, IfOk, IfErr, Result};
 ghost use Rattle.session_words.specs.Plans.{IsSitePlan, IsCarPlan};
-ghost use Rattle.site_plan.specs.Plans.{IsSitePlanOf, IsCarPlanOf, site_fields, car_fields};
+ghost use Rattle.site_plan.specs.Plans.{SiteFields, CarFields, Answers, IsSitePlanOf, IsCarPlanOf, site_fields, car_fields};
 
 use crate::car::car_plan;
 use crate::fault::{PlanFault, Refused};
@@ -15,9 +15,11 @@ use std::alloc::Global;
 const LONGEST: usize = 65536;
 
 /// Reads the plan of a station from TOML, or names its first fault (own).
+#[tactic(auto, using(crate::proofs::Says::one_said))]
 pub fn site_plan_of(alloc: Global, text: &[u8]) -> Result<SitePlan, PlanFault>
     ensures plan { IfOk result (λ plan. IsSitePlanOf text.now (Ok (site_fields plan))) }
     ensures fault { IfErr result (λ fault. (fault ≡ PlanFault.Memory) ⊎ IsSitePlanOf text.now (Err fault)) }
+    ensures answered { (said : Result SiteFields PlanFault) → IsSitePlanOf text.now said → Answers site_fields result said }
     ensures within { IfOk result IsSitePlan }
 {
     if text.len() > LONGEST {
@@ -43,9 +45,11 @@ pub fn site_plan_of(alloc: Global, text: &[u8]) -> Result<SitePlan, PlanFault>
 }
 
 /// Reads the plan of a car from TOML, or names its first fault (own).
+#[tactic(auto, using(crate::proofs::Says::one_said))]
 pub fn car_plan_of(alloc: Global, text: &[u8]) -> Result<CarPlan, PlanFault>
     ensures plan { IfOk result (λ plan. IsCarPlanOf text.now (Ok (car_fields plan))) }
     ensures fault { IfErr result (λ fault. (fault ≡ PlanFault.Memory) ⊎ IsCarPlanOf text.now (Err fault)) }
+    ensures answered { (said : Result CarFields PlanFault) → IsCarPlanOf text.now said → Answers car_fields result said }
     ensures within { IfOk result IsCarPlan }
 {
     if text.len() > LONGEST {

@@ -11,10 +11,10 @@ pub loop-item-preserved : goal.loop-item-preserved
 loop-item-preserved c = record {
   number = omega arith;
   within =
-    let e = All-push IsPostPlan c.loop-item.posts.items c.in_ok-read_post.field-0 c.loop-item.invariant.within c.in_ok-read_post.ensures.within in
-    rw c.push.ensures.items e;
+      let e = All-push IsPostPlan c.loop-item.posts.items c.in_ok-read_post.field-0 c.loop-item.invariant.within c.in_ok-read_post.ensures.within in
+      rw c.push.ensures.items e;
   length = grind (arith, common_steps);
   read =
-    let more = read_more c.args.items.now c.loop-item.item-index c.item-item.result c.loop-item.posts.items c.in_ok-read_post.field-0 in
-    grind (arith, common_steps, more);
+      let more = read_more c.args.items.now c.loop-item.item-index c.item-item.result c.loop-item.posts.items c.in_ok-read_post.field-0 in
+      grind (arith, common_steps, more);
 }
