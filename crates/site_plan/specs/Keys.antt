@@ -13,7 +13,7 @@ use Rattle.session_words.specs.declared.mode.Mode.TheVariants.{AcSinglePhaseCore
 use Rattle.session_words.specs.declared.plan.Stop.{Stop}
 use Rattle.session_words.specs.declared.plan.Stop.TheVariants.{Terminate, Pause}
 use Rattle.site_plan.specs.declared.fault.PlanFault.{PlanFault}
-use Rattle.site_plan.specs.declared.fault.PlanFault.TheVariants.{NotToml, Missing, BadValue, OverLimit}
+use Rattle.site_plan.specs.declared.fault.PlanFault.TheVariants.{NotToml, Missing, BadValue, OverLimit, Memory}
 use Rattle.site_plan.specs.declared.fault.Refused.{Refused}
 use Rattle.site_plan.specs.declared.fault.Refused.TheVariants as refused
 use Rattle.site_plan.specs.declared.names.TableKind.{TableKind}
@@ -37,6 +37,11 @@ Fails (refused.Plan fault) read = read ≡ Err fault
 abbrev pub Gives : {X Y : Type 0} → (X → Y) → Result X Refused → Result Y PlanFault → Type 0
 Gives view (Ok x) read = read ≡ Ok (view x)
 Gives view (Err e) read = Fails e read
+
+-- the fault that a caller sees
+abbrev pub fault_of : Refused → PlanFault
+fault_of (refused.Plan fault) = fault
+fault_of refused.Memory = Memory
 
 -- a key's text in a fault: that of the key N of post K is `post.K.N`
 abbrev pub key_text : Option ℕ → List ℕ → List ℕ

@@ -14,6 +14,8 @@ use Rattle.session_words.specs.declared.plan.PostPlan.{PostPlan}
 use Rattle.session_words.specs.declared.plan.CarPlan.{CarPlan}
 use Rattle.site_plan.specs.declared.fault.PlanFault.{PlanFault}
 use Rattle.site_plan.specs.declared.fault.PlanFault.TheVariants.{NotToml, Missing, BadValue, OverLimit, Memory}
+use Rattle.site_plan.specs.declared.fault.Refused.{Refused}
+use Rattle.site_plan.specs.declared.fault.Refused.TheVariants as refused
 use Rattle.site_plan.specs.declared.names.TableKind.TheVariants.{Site, Post, Car}
 use Rattle.site_plan.specs.declared.post.Talk.{Talk}
 use Rattle.site_plan.specs.declared.post.Range.{Range}
@@ -358,6 +360,16 @@ car_of table = do
 -- the text is UTF-8 and a TOML document with these members
 abbrev pub IsDocument : List ℕ → Members → Type 0
 IsDocument text members = IsUtf8 text × (parse_document text ≡ Some members)
+
+-- the text is longer than 65,536 bytes, or no document
+abbrev pub IsNoPlan : List ℕ → PlanFault → Type 0
+IsNoPlan text fault =
+    ((65536 < length text) × (fault ≡ OverLimit (codes "bytes")))
+    ⊎ ((length text ≤ 65536) × ((members : Members) → IsDocument text members → ⊥) × (fault ≡ NotToml))
+
+abbrev pub IsRefusedText : List ℕ → Refused → Type 0
+IsRefusedText text refused.Memory = Unit {0}
+IsRefusedText text (refused.Plan fault) = IsNoPlan text fault
 
 -- What a text says is the plan or the fault of its table, if it has at most 65,536 bytes and is a document.
 abbrev pub PlanOf : {F : Type 0} → (Members → Result F PlanFault) → List ℕ → Result F PlanFault → Type 0

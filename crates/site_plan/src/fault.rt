@@ -39,3 +39,17 @@ impl From<AllocError> for Refused {
         Refused::Memory
     }
 }
+
+impl From<Refused> for PlanFault {
+    ghost use Rattle.std.specs.Prelude.{◌≡◌};
+    ghost use Rattle.site_plan.specs.Keys.{fault_of};
+
+    ghost from_gives = { λ refused fault. fault ≡ fault_of refused };
+
+    fn from(refused: Refused) -> PlanFault {
+        match refused {
+            Refused::Plan(fault) => fault,
+            Refused::Memory => PlanFault::Memory,
+        }
+    }
+}

@@ -1,8 +1,9 @@
 //! Texts as plans.
 
-ghost use Rattle.std.specs.Prelude.{◌≡◌, ◌⊎◌, IfOk, IfErr, Result};
+ghost use Rattle.std.specs.Prelude.{◌≡◌, ◌⊎◌, IfOk, IfErr, Result, ◌≤◌, length};
 ghost use Rattle.session_words.specs.Plans.{IsSitePlan, IsCarPlan};
-ghost use Rattle.site_plan.specs.Plans.{SiteFields, CarFields, Answers, IsSitePlanOf, IsCarPlanOf, site_fields, car_fields};
+ghost use Rattle.toml.specs.View.{table_view};
+ghost use Rattle.site_plan.specs.Plans.{SiteFields, CarFields, Answers, IsDocument, IsRefusedText, IsSitePlanOf, IsCarPlanOf, site_fields, car_fields};
 
 use crate::car::car_plan;
 use crate::fault::{PlanFault, Refused};
@@ -10,9 +11,29 @@ use crate::names::key;
 use crate::site::site_plan;
 use session_words::{CarPlan, SitePlan};
 use std::alloc::Global;
+use toml::Table;
 
 /// The longest text of a plan, in bytes.
 const LONGEST: usize = 65536;
+
+/// The table of a text of at most 65,536 bytes.
+fn document(alloc: Global, text: &[u8]) -> Result<Table, Refused>
+    ensures table { IfOk result (λ table. (length text.now ≤ 65536) × IsDocument text.now (table_view table)) }
+    ensures fault { IfErr result (λ fault. IsRefusedText text.now fault) }
+{
+    if text.len() > LONGEST {
+        return Err(Refused::Plan(PlanFault::OverLimit(key(alloc, None, "bytes")?)));
+    }
+    match toml::table_from_slice(alloc, text) {
+        Ok(table) => Ok(table),
+        Err(e) => {
+            if e.is_memory() {
+                return Err(Refused::Memory);
+            }
+            Err(Refused::Plan(PlanFault::NotToml))
+        }
+    }
+}
 
 /// Reads the plan of a station from TOML, or names its first fault (own).
 #[tactic(auto, using(crate::proofs::Says::one_said))]
@@ -22,26 +43,8 @@ pub fn site_plan_of(alloc: Global, text: &[u8]) -> Result<SitePlan, PlanFault>
     ensures answered { (said : Result SiteFields PlanFault) → IsSitePlanOf text.now said → Answers site_fields result said }
     ensures within { IfOk result IsSitePlan }
 {
-    if text.len() > LONGEST {
-        return match key(alloc, None, "bytes") {
-            Ok(key) => Err(PlanFault::OverLimit(key)),
-            Err(_) => Err(PlanFault::Memory),
-        };
-    }
-    match toml::table_from_slice(alloc, text) {
-        Ok(table) => match site_plan(alloc, &table) {
-            Ok(plan) => Ok(plan),
-            Err(Refused::Plan(fault)) => Err(fault),
-            Err(Refused::Memory) => Err(PlanFault::Memory),
-        },
-        Err(e) => {
-            if e.is_memory() {
-                Err(PlanFault::Memory)
-            } else {
-                Err(PlanFault::NotToml)
-            }
-        }
-    }
+    let table = document(alloc, text)?;
+    Ok(site_plan(alloc, &table)?)
 }
 
 /// Reads the plan of a car from TOML, or names its first fault (own).
@@ -52,24 +55,6 @@ pub fn car_plan_of(alloc: Global, text: &[u8]) -> Result<CarPlan, PlanFault>
     ensures answered { (said : Result CarFields PlanFault) → IsCarPlanOf text.now said → Answers car_fields result said }
     ensures within { IfOk result IsCarPlan }
 {
-    if text.len() > LONGEST {
-        return match key(alloc, None, "bytes") {
-            Ok(key) => Err(PlanFault::OverLimit(key)),
-            Err(_) => Err(PlanFault::Memory),
-        };
-    }
-    match toml::table_from_slice(alloc, text) {
-        Ok(table) => match car_plan(alloc, &table) {
-            Ok(plan) => Ok(plan),
-            Err(Refused::Plan(fault)) => Err(fault),
-            Err(Refused::Memory) => Err(PlanFault::Memory),
-        },
-        Err(e) => {
-            if e.is_memory() {
-                Err(PlanFault::Memory)
-            } else {
-                Err(PlanFault::NotToml)
-            }
-        }
-    }
+    let table = document(alloc, text)?;
+    Ok(car_plan(alloc, &table)?)
 }
