@@ -20,9 +20,18 @@ fn main(rt: HostRuntime) -> anyhow::Result<()> {
 
 /// One line for a station, and one for each of its posts.
 fn print_site(rt: &impl Print, plan: &SitePlan) -> io::Result<()> {
-    println!(rt; "posts {} limit {} turns {} sessions {}", plan.post.len(), plan.limit, plan.turns, plan.sessions)?;
+    println!(rt;
+        "posts {} limit {} turns {} sessions {}",
+        plan.post.len(),
+        plan.limit,
+        plan.turns,
+        plan.sessions
+    )?;
     for post in plan.post.as_slice() {
-        println!(rt; "tcp {} sdp {} mode {:?} watts {}", post.tcp, post.sdp, post.mode, post.max_watts)?;
+        println!(rt;
+            "tcp {} sdp {} mode {:?} watts {}",
+            post.tcp, post.sdp, post.mode, post.max_watts
+        )?;
     }
     Ok(())
 }
@@ -31,7 +40,10 @@ fn print_site(rt: &impl Print, plan: &SitePlan) -> io::Result<()> {
 fn print_car(rt: &impl Print, plan: &CarPlan) -> io::Result<()> {
     let volts = plan.target_voltage.get();
     let amperes = plan.target_current.get();
-    println!(rt; "car tcp {:?} mode {:?} target {volts} {amperes} cycles {}", plan.tcp, plan.mode, plan.cycles)
+    println!(rt;
+        "car tcp {:?} mode {:?} target {volts} {amperes} cycles {}",
+        plan.tcp, plan.mode, plan.cycles
+    )
 }
 
 /// The fault, and the key that it is at.

@@ -1,14 +1,13 @@
 -- What the texts of the plans that are there without a file say.
-use Rattle.std.specs.Prelude.{◌≡◌, ℕ, ◌<◌, ◌≤◌, Bool, true, false, List, [], ◌∷◌, ◌++◌, length, codes, pos, Some, Result, Ok, Err, refl, ◌⊎◌}
-use Rattle.std.proofs.Common.{arith, sym, inl, inr, subst, ◌∙◌}
+use Rattle.std.specs.Prelude.{◌≡◌, ◌≤◌, Bool, true, false, length, codes, pos, Some, Result, Ok, refl}
+use Rattle.std.proofs.Common.{arith, sym, inr, ◌∙◌}
 use Rattle.std.specs.Str.{IsUtf8}
-use Rattle.std.proofs.lemmas.Str.{IsUtf8-from_ascii}
 use Rattle.toml.specs.Data.{Members, no_members, member, no_items, item, string, integer, array, table}
 use Rattle.toml.specs.Parse.{parse_document}
 use Rattle.toml.proofs.OnLiterals.{toml_on_literals}
 use Rattle.site_plan.specs.declared.fault.PlanFault.{PlanFault}
 use Rattle.site_plan.specs.Keys.{in_bounds, number_value, bool_value, mode_of_word, mode_value, default_dialects, number_or, number_needed, bool_or, mode_or, stop_or, dialects_or, ascii_or, hex_or, is_known, known_keys}
-use Rattle.site_plan.specs.Plans.{IsDocument, PlanOf, IsSitePlanOf, IsCarPlanOf, SiteFields, CarFields, talk_of, range_of, power_of, post_of, items_of, list_of, post_at, known_at, posts_in, site_of, ports_of, call_of, target_of, most_of, counts_of, drive_of, car_keys_of, car_of}
+use Rattle.site_plan.specs.Plans.{IsSitePlanOf, IsCarPlanOf, SiteFields, CarFields, talk_of, range_of, power_of, post_of, items_of, list_of, post_at, known_at, posts_in, site_of, ports_of, call_of, target_of, most_of, counts_of, drive_of, car_keys_of, car_of}
 use Rattle.site_plan.specs.Fixed.{site_text, car_text, fixed_site, fixed_car_fields}
 
 abbrev site_members : Bool → Members

@@ -1,5 +1,5 @@
 -- Own: the plans of a station and of a car that are there without a file.
-use Rattle.std.specs.Prelude.{ℕ, Bool, true, false, List, [], ◌∷◌, ◌++◌, codes, Some, None}
+use Rattle.std.specs.Prelude.{ℕ, Bool, true, false, List, [], ◌∷◌, ◌++◌, codes, Some}
 use Rattle.charge_world.specs.declared.offer.Dialect.{Dialect}
 use Rattle.charge_world.specs.declared.offer.Dialect.TheVariants.{Iso, Din}
 use Rattle.session_words.specs.declared.mode.Mode.{Mode}

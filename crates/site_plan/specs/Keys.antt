@@ -1,10 +1,10 @@
 -- Own: the keys of a plan, which is a TOML table: what a value may be, and what each fault of it is.
-use Rattle.std.specs.Prelude.{◌≡◌, ℕ, ◌+◌, ◌<◌, All, Contains, ◌^◌, Bool, true, false, ◌&&◌, ◌||◌, not, nat_lt, nat_le, nat_eq, if◌then◌else◌, ℤ, pos, negsuc, List, [], ◌∷◌, ◌++◌, length, codes, decimal, Option, Some, None, is_some, Result, Ok, Err}
+use Rattle.std.specs.Prelude.{◌≡◌, ℕ, ◌<◌, All, Contains, Bool, true, false, ◌&&◌, nat_lt, nat_le, if◌then◌else◌, ℤ, pos, negsuc, List, [], ◌∷◌, ◌++◌, length, codes, decimal, Option, Some, None, Result, Ok, Err}
 use Rattle.std.specs.List.{list_all, list_any}
 use Rattle.std.specs.Result.{result_ok}
 use Rattle.std.specs.Str.{bytes_eq}
 use Rattle.hex.specs.Hex.{decode_of}
-use Rattle.toml.specs.Data.{Data, Items, no_items, item, Members, no_members, member, get_member, as_integer, as_str, as_bool, as_array, as_table, at}
+use Rattle.toml.specs.Data.{Data, Members, no_members, member, get_member, as_integer, as_str, as_bool, at}
 use Rattle.charge_world.specs.declared.offer.Dialect.{Dialect}
 use Rattle.charge_world.specs.declared.offer.Dialect.TheVariants.{Iso, Din}
 use Rattle.session_words.specs.Plans.{IsOfferOnce, IsWithin}
@@ -13,7 +13,7 @@ use Rattle.session_words.specs.declared.mode.Mode.TheVariants.{AcSinglePhaseCore
 use Rattle.session_words.specs.declared.plan.Stop.{Stop}
 use Rattle.session_words.specs.declared.plan.Stop.TheVariants.{Terminate, Pause}
 use Rattle.site_plan.specs.declared.fault.PlanFault.{PlanFault}
-use Rattle.site_plan.specs.declared.fault.PlanFault.TheVariants.{NotToml, Missing, BadValue, OverLimit, Memory}
+use Rattle.site_plan.specs.declared.fault.PlanFault.TheVariants.{Missing, BadValue, OverLimit, Memory}
 use Rattle.site_plan.specs.declared.fault.Refused.{Refused}
 use Rattle.site_plan.specs.declared.fault.Refused.TheVariants as refused
 use Rattle.site_plan.specs.declared.names.TableKind.{TableKind}

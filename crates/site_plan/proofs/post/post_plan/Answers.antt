@@ -1,4 +1,3 @@
-use Rattle.std.proofs.Common.{◌≡◌, Ok, ap, ◌∙◌}
 use Rattle.toml.specs.View.{table_view}
 use Rattle.site_plan.specs.Plans.{talk_fields, power_fields}
 use Rattle.site_plan.proofs.Posts.{post_steps}

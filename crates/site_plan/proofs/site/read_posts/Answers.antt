@@ -1,9 +1,7 @@
-use Rattle.std.proofs.Common.{arith, ◌∙◌, ◌≡◌, ◌+◌, Ok, subst}
+use Rattle.std.proofs.Common.{arith}
 use Rattle.std.proofs.lemmas.Grind.{common_steps}
 use Rattle.session_words.specs.Plans.{IsPostPlan}
 use Rattle.std.proofs.lemmas.List.Elements.{All-push}
-use Rattle.toml.specs.View.{view}
-use Rattle.site_plan.specs.Plans.{post_at, post_fields}
 use Rattle.site_plan.proofs.Posts.{read_more}
 use Rattle.site_plan.proofs.site.read_posts.Goals as goal
 
