@@ -1,0 +1,3 @@
+mod Posts
+mod Says
+mod Texts

@@ -1,0 +1,3 @@
+pub mod Keys
+pub mod Plans
+pub mod Fixed
