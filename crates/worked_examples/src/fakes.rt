@@ -1,11 +1,11 @@
 //! The fakes in memory: each call once, and each failing call once.
 
 use crate::scripts::{came, event, piece};
+use arrayvec::ArrayVec;
 use charge_world::{
     Failed, Heard, MemorySink, MemorySource, MemoryWire, NamedFile, Order, Piece, PortPair, Ports,
     Sink, Source, What, Wire,
 };
-use arrayvec::ArrayVec;
 use std::alloc::Global;
 use std::test::*;
 
