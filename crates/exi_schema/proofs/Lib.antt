@@ -1,0 +1,4 @@
+pub mod Walks
+pub mod Widths
+pub mod Conditions
+pub mod Fitting
