@@ -3,7 +3,8 @@ use Rattle.std.proofs.Common.{◌≡◌, ℕ, zero, suc, ◌+◌, ◌<◌, ◌�
 use Rattle.std.proofs.lemmas.Bool.{leb-true, ltb-true, le-leb, lt-ltb}
 use Rattle.std.proofs.lemmas.Bool.Decides.{leb_tells}
 use Rattle.std.specs.Prelude.{slice_get, ◌==◌, All}
-use Rattle.std.proofs.lemmas.Option.{slice_get-get_or}
+use Rattle.std.proofs.lemmas.Option.{slice_get-get_or, slice_get_cases}
+use Rattle.exi_schema.specs.declared.schema.Schema.{Schema}
 use Rattle.exi_schema.specs.declared.tables.Datatype.{Datatype}
 use Rattle.exi_schema.specs.declared.places.Step.TheVariants.{Characters, End}
 use Rattle.exi_schema.proofs.Walks.{through_short}
@@ -18,7 +19,7 @@ use Rattle.exi_schema.specs.declared.places.Step.{Step}
 use Rattle.exi_schema.specs.Offers.{through_required, attribute_step, attribute_steps, element_step, element_steps, behind_copy, leaves_room, FitsCopies, FitsParticles, IsPlaceAmong, IsPlaceIn, IsPlaceOf, IsPlace, simple_step, complex_steps}
 use Rattle.exi_schema.specs.Schemas.{is_attribute, is_particle, is_most, is_simple, can_be_there}
 use Rattle.exi_schema.specs.Steps.{IsStep}
-use Rattle.exi_schema.proofs.Conditions.{and-l, and-r, all_get, IsComplex}
+use Rattle.exi_schema.proofs.Conditions.{and-l, and-r, all_get, IsComplex, complex_in}
 
 abbrev pub EachStep : List Declaration → ℕ → List Step → Type 0
 EachStep kinds names [] = Unit {0}
@@ -197,3 +198,18 @@ simple_fits kinds names here datatype there place =
 pub first_code : (step : Step) (code : ℕ) → code < 1 → Some step ≡ slice_get (step ∷ []) code
 first_code step zero less = refl
 first_code step (suc code) less = absurd (omega (arith, less))
+
+-- the first place of a kind
+pub first_in : (s : Schema) (k : ℕ) (declaration : Declaration) → slice_get s.kinds.now k ≡ Some declaration → IsPlaceIn (record { kind = k; particle = 0; copies = 0; attributes = 0 }) declaration
+first_in s k (Simple datatype) is = let low : 0 ≤ 1 = omega arith in (refl, low, refl)
+first_in s k (Complex attributes particles) is =
+    let good = complex_in s k attributes particles is in
+    let low : 0 ≤ length attributes.now = omega arith in
+    let in_them : 0 ≤ length particles.now = omega arith in
+    (low, in_them, fits_first (length s.names.now) (length s.kinds.now) particles.now good.particles_fit)
+
+pub first_place : (s : Schema) (k : ℕ) → k < length s.kinds.now → IsPlace s.kinds.now (record { kind = k; particle = 0; copies = 0; attributes = 0 })
+first_place s k less =
+    elim (slice_get_cases s.kinds.now k).1
+    [ inl is ↦ let P : Option Declaration → Type 0 = λ d. IsPlaceOf (record { kind = k; particle = 0; copies = 0; attributes = 0 }) d in subst P (sym is.2) (first_in s k is.0 is.2)
+    | inr past ↦ let more = past.0 in absurd (omega (arith, less, more)) ]

@@ -2,3 +2,4 @@ pub mod Walks
 pub mod Widths
 pub mod Conditions
 pub mod Fitting
+pub mod Roots

@@ -1,5 +1,5 @@
 -- Own: what a step and a root say is the schema's.
-use Rattle.std.specs.Prelude.{◌≡◌, ℕ, ◌<◌, List, length, slice_get, Option, Some, None}
+use Rattle.std.specs.Prelude.{◌≡◌, ℕ, ◌<◌, List, [], length, slice_get, Option, Some, None}
 use Rattle.exi_schema.specs.declared.tables.Datatype.{Datatype}
 use Rattle.exi_schema.specs.declared.tables.Declaration.{Declaration}
 use Rattle.exi_schema.specs.declared.tables.Declaration.TheVariants.{Simple, Complex}
@@ -32,3 +32,11 @@ datatype_of None = None
 
 abbrev pub simple_at : List Declaration → ℕ → Option Datatype
 simple_at kinds kind = datatype_of (slice_get kinds kind)
+
+-- the texts of the values of a kind
+abbrev pub texts_of : Option (List (List ℕ)) → List (List ℕ)
+texts_of None = []
+texts_of (Some texts) = texts
+
+abbrev pub texts_at : List (List (List ℕ)) → ℕ → List (List ℕ)
+texts_at values kind = texts_of (slice_get values kind)

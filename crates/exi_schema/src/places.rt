@@ -15,6 +15,25 @@ pub struct Place {
     pub attributes: u16,
 }
 
+impl Place {
+    ghost use Rattle.std.specs.Prelude.{◌≡◌, ◌<◌, length};
+    ghost use Rattle.exi_schema.specs.declared.schema.Schema.{Schema};
+    ghost use Rattle.exi_schema.specs.Offers.{IsPlace};
+
+    /// The first place of an element of a kind. It is a place of each schema that has the kind.
+    pub fn first(kind: u16) -> Place
+        ensures first { result ≡ record { kind = kind; particle = 0; copies = 0; attributes = 0 } }
+        ensures of_schema { (s : Schema) → kind < length s.kinds.now → IsPlace s.kinds.now result }
+    {
+        Place {
+            kind,
+            particle: 0,
+            copies: 0,
+            attributes: 0,
+        }
+    }
+}
+
 /// What an event code means at a place.
 #[derive(Clone, Copy, Debug, PartialEq, Eq)]
 pub enum Step {

@@ -26,6 +26,28 @@ pub struct Schema<'s> {
     pub ghost fits: { is_schema kinds.now (map (λ t. t.now) names.now) (map (λ l. map (λ t. t.now) l.now) values.now) root_bits roots.now ≡ true },
 }
 
+impl<'s> Schema<'s> {
+    ghost use Rattle.std.specs.Prelude.{◌≡◌, ◌<◌, length, map, Some, slice_get};
+    ghost use Rattle.exi_schema.specs.Steps.{texts_at};
+
+    /// The text of a name of the schema.
+    pub fn name(&self, n: u16) -> &'s str
+        requires { n < length self.now.names.now }
+        ensures { Some result.now ≡ slice_get (map (λ t. t.now) self.now.names.now) n }
+    {
+        self.names[n as usize]
+    }
+
+    /// The text of a value of an enumeration of the schema.
+    pub fn value_name(&self, kind: u16, ordinal: u32) -> &'s str
+        requires { ordinal < length (texts_at (map (λ l. map (λ t. t.now) l.now) self.now.values.now) kind) }
+        ensures { Some result.now ≡ slice_get (texts_at (map (λ l. map (λ t. t.now) l.now) self.now.values.now) kind) ordinal }
+    {
+        let texts = self.values[kind as usize];
+        texts[ordinal as usize]
+    }
+}
+
 impl Places for Schema<'_> {
     ghost schema = { λ s. s };
 
