@@ -55,7 +55,7 @@ kinds_of kinds names values bits roots is =
 pub declared : (names : ℕ) (kinds : List Declaration) (k : ℕ) (declaration : Declaration) →
     are_kinds names kinds ≡ true → slice_get kinds k ≡ Some declaration → is_declaration names kinds declaration ≡ true
 declared names kinds k declaration is at =
-    all_get (is_declaration names kinds) kinds k declaration (and-l _ (nat_le (length kinds) 65536) (and-l _ _ is)) at
+    all_get (is_declaration names kinds) kinds k declaration (and-l _ _ is) at
 
 pub record IsComplex (names : ℕ) (kinds : List Declaration) (attributes : List AttributeOf) (particles : List Particle) : Type 0 where
   pub few_attributes : length attributes ≤ 65535

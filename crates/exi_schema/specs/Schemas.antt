@@ -143,7 +143,6 @@ are_roots bits names kinds roots =
 abbrev pub are_kinds : ℕ → List Declaration → Bool
 are_kinds names kinds =
     list_all (is_declaration names kinds) kinds
-    && nat_le (length kinds) 65536
     && each_to (length kinds) (λ kind. is_within kinds (length kinds) kind)
 
 -- ---- texts of names and of enumeration values

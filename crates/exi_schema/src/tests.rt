@@ -207,3 +207,22 @@ fn the_codes_of_the_published_request_and_response(rt: HostRuntime) {
     follow(&rt, &schema, 0, &[(1, 0, None), (1, 0, None)]);
     follow(&rt, &schema, 7, &[(1, 0, Some(8)), (2, 0, Some(6)), (1, 0, None)]);
 }
+
+#[test]
+fn what_the_negotiation_declares(rt: HostRuntime) {
+    let schema = Schema {
+        kinds: &KINDS,
+        names: &NAMES,
+        values: &VALUES,
+        root_bits: 2,
+        roots: &ROOTS,
+    };
+    assert_eq!(rt; schema.root_width(), 2);
+    assert_eq!(rt; schema.root(1), Root::Kind { name: 1, kind: 7 });
+    assert_eq!(rt; schema.root(2), Root::Unknown);
+    assert_eq!(rt; schema.root(3), Root::NoSuch);
+    assert_eq!(rt; schema.datatype(0), Some(Datatype::Text { most: 100 }));
+    assert_eq!(rt; schema.datatype(6), None);
+    assert_eq!(rt; schema.name(7), "Priority");
+    assert_eq!(rt; schema.value_name(4, 2), "Failed_NoNegotiation");
+}
