@@ -1,5 +1,5 @@
 -- Each step at a place of a schema is the schema's, and so is the place behind it.
-use Rattle.std.proofs.Common.{◌≡◌, ℕ, zero, suc, ◌+◌, ◌<◌, ◌≤◌, nat_lt, nat_le, not, Bool, true, false, ◌&&◌, if◌then◌else◌, List, [], ◌∷◌, ◌++◌, length, drop, map, get_or, Option, Some, None, refl, ap, subst, sym, ◌∙◌, inl, inr, ◌-◌, length-drop, arith}
+use Rattle.std.proofs.Common.{◌≡◌, ℕ, zero, suc, ◌+◌, ◌<◌, ◌≤◌, nat_lt, nat_le, not, Bool, true, false, ◌&&◌, if◌then◌else◌, List, [], ◌∷◌, ◌++◌, length, drop, map, get_or, Option, Some, None, refl, ap, subst, sym, ◌∙◌, inl, inr, ◌-◌, length-drop, arith, rules, IsSome}
 use Rattle.std.proofs.lemmas.Bool.{leb-true, ltb-true, le-leb, lt-ltb}
 use Rattle.std.proofs.lemmas.Bool.Decides.{leb_tells}
 use Rattle.std.specs.Prelude.{slice_get, ◌==◌, All}
@@ -17,28 +17,37 @@ use Rattle.exi_schema.specs.declared.tables.Particle.{Particle}
 use Rattle.exi_schema.specs.declared.places.Place.{Place}
 use Rattle.exi_schema.specs.declared.places.Step.{Step}
 use Rattle.exi_schema.specs.Offers.{through_required, attribute_step, attribute_steps, element_step, element_steps, behind_copy, leaves_room, FitsCopies, FitsParticles, IsPlaceAmong, IsPlaceIn, IsPlaceOf, IsPlace, simple_step, complex_steps}
-use Rattle.exi_schema.specs.Schemas.{is_attribute, is_particle, is_most, is_simple, can_be_there}
-use Rattle.exi_schema.specs.Steps.{IsStep}
+use Rattle.exi_schema.specs.Schemas.{is_attribute, is_particle, is_most, is_simple, can_be_there, is_within, particles_of}
+use Rattle.exi_schema.specs.Steps.{IsStep, datatype_of, simple_at}
 use Rattle.exi_schema.proofs.Conditions.{and-l, and-r, all_get, IsComplex, complex_in}
 
-abbrev pub EachStep : List Declaration → ℕ → List Step → Type 0
-EachStep kinds names [] = Unit {0}
-EachStep kinds names (step ∷ steps) = IsStep kinds names step × EachStep kinds names steps
+abbrev pub EachStep : List Declaration → ℕ → ℕ → List Step → Type 0
+EachStep kinds names here [] = Unit {0}
+EachStep kinds names here (step ∷ steps) = IsStep kinds names here step × EachStep kinds names here steps
 
-pub each_get : (kinds : List Declaration) (names : ℕ) (steps : List Step) (i : ℕ) (step : Step) → EachStep kinds names steps → Some step ≡ slice_get steps i → IsStep kinds names step
-each_get kinds names [] i step each is = absurd cc
-each_get kinds names (s ∷ steps) zero step each is =
-    let same : Some step ≡ Some s = is in let e : s ≡ step = cc in let P : Step → Type 0 = λ x. IsStep kinds names x in subst P e each.0
-each_get kinds names (s ∷ steps) (suc i) step each is = each_get kinds names steps i step each.1 is
+pub each_get : (kinds : List Declaration) (names here : ℕ) (steps : List Step) (i : ℕ) (step : Step) → EachStep kinds names here steps → Some step ≡ slice_get steps i → IsStep kinds names here step
+each_get kinds names here [] i step each is = absurd cc
+each_get kinds names here (s ∷ steps) zero step each is =
+    let same : Some step ≡ Some s = is in let e : s ≡ step = cc in let P : Step → Type 0 = λ x. IsStep kinds names here x in subst P e each.0
+each_get kinds names here (s ∷ steps) (suc i) step each is = each_get kinds names here steps i step each.1 is
 
-pub each_append : (kinds : List Declaration) (names : ℕ) (xs ys : List Step) → EachStep kinds names xs → EachStep kinds names ys → EachStep kinds names (xs ++ ys)
-each_append kinds names [] ys front back = back
-each_append kinds names (x ∷ xs) ys front back = (front.0, each_append kinds names xs ys front.1 back)
+pub each_append : (kinds : List Declaration) (names here : ℕ) (xs ys : List Step) → EachStep kinds names here xs → EachStep kinds names here ys → EachStep kinds names here (xs ++ ys)
+each_append kinds names here [] ys front back = back
+each_append kinds names here (x ∷ xs) ys front back = (front.0, each_append kinds names here xs ys front.1 back)
 
 pub simple_within : (kinds : List Declaration) (k : ℕ) → is_simple (slice_get kinds k) ≡ true → k < length kinds
 simple_within [] k is = absurd cc
 simple_within (x ∷ kinds) zero is = omega arith
 simple_within (x ∷ kinds) (suc k) is = let more : k < length kinds = simple_within kinds k is in omega (arith, more)
+
+pub simple_is : (o : Option Declaration) → is_simple o ≡ true → IsSome (datatype_of o)
+simple_is None is = absurd cc
+simple_is (Some (Simple datatype)) is = search rules
+simple_is (Some (Complex attributes particles)) is = absurd cc
+
+-- the members of a particle
+abbrev pub members_within : List Declaration → ℕ → Particle → Bool
+members_within kinds d particle = list_all (λ member. is_within kinds d member.kind) particle.members.now
 
 pub place_in : (kinds : List Declaration) (place : Place) (attributes : _) (particles : _) → slice_get kinds place.kind ≡ Some (Complex attributes particles) →
     IsPlaceAmong place attributes.now particles.now → IsPlace kinds place
@@ -68,7 +77,7 @@ fit_drop test (x ∷ xs) (suc n) all = fit_drop test xs n (and-r (test x) (list_
 
 pub each_attribute : (kinds : List Declaration) (names : ℕ) (here : Place) (all : _) (particles : _) (at : ℕ) (attributes : List AttributeOf) →
     slice_get kinds here.kind ≡ Some (Complex all particles) → IsPlaceAmong here all.now particles.now →
-    at + length attributes ≤ length all.now → list_all (is_attribute names kinds) attributes ≡ true → EachStep kinds names (attribute_steps here at attributes)
+    at + length attributes ≤ length all.now → list_all (is_attribute names kinds) attributes ≡ true → EachStep kinds names here.kind (attribute_steps here at attributes)
 each_attribute kinds names here all particles at [] is place within fits = tt
 each_attribute kinds names here all particles at (attribute ∷ attributes) is place within fits =
     let first : is_attribute names kinds attribute ≡ true = and-l (is_attribute names kinds attribute) (list_all (is_attribute names kinds) attributes) fits in
@@ -76,6 +85,7 @@ each_attribute kinds names here all particles at (attribute ∷ attributes) is p
     let low : at + 1 ≤ length all.now = omega (arith, within) in
     ((ltb-true attribute.name names (and-l (nat_lt attribute.name names) (is_simple (slice_get kinds attribute.kind)) first)
       , simple_within kinds attribute.kind (and-r (nat_lt attribute.name names) (is_simple (slice_get kinds attribute.kind)) first)
+      , simple_is (slice_get kinds attribute.kind) (and-r (nat_lt attribute.name names) (is_simple (slice_get kinds attribute.kind)) first)
       , place_in kinds next all particles is (low, place.1, place.2))
     , each_attribute kinds names here all particles (at + 1) attributes is place (omega (arith, within)) (and-r (is_attribute names kinds attribute) (list_all (is_attribute names kinds) attributes) fits))
 
@@ -130,57 +140,68 @@ next_by true kinds here all particles at copies particle more there place within
     behind_by (leaves_room particle.most (copies + 1)) kinds here all particles at copies particle more there within parts fits (ltb-true copies particle.profile is) refl
 next_by false kinds here all particles at copies particle more there place within parts fits is = place_in kinds here all particles there place
 
+pub members_of : (kinds : List Declaration) (k d : ℕ) (all : _) (particles : _) → slice_get kinds k ≡ Some (Complex all particles) → is_within kinds (suc d) k ≡ true →
+    list_all (members_within kinds d) particles.now ≡ true
+members_of kinds k d all particles there deep =
+    let P : Option Declaration → Type 0 = λ x. list_all (members_within kinds d) (particles_of x) ≡ true in subst P there deep
+
 pub each_member : (kinds : List Declaration) (names : ℕ) (here : Place) (attributes at copies : ℕ) (particle : Particle) (members : List Member) →
     IsPlace kinds (if nat_lt copies particle.profile then behind_copy here.kind attributes at copies particle.most else here) →
     list_all (λ member. nat_lt member.name names && nat_lt member.kind (length kinds)) members ≡ true →
-    EachStep kinds names (map (element_step here attributes at copies particle) members)
-each_member kinds names here attributes at copies particle [] next all = tt
-each_member kinds names here attributes at copies particle (member ∷ members) next all =
+    ((d : ℕ) → is_within kinds (suc d) here.kind ≡ true → list_all (λ member. is_within kinds d member.kind) members ≡ true) →
+    EachStep kinds names here.kind (map (element_step here attributes at copies particle) members)
+each_member kinds names here attributes at copies particle [] next all deep = tt
+each_member kinds names here attributes at copies particle (member ∷ members) next all deep =
     let first = and-l (nat_lt member.name names && nat_lt member.kind (length kinds)) (list_all (λ m. nat_lt m.name names && nat_lt m.kind (length kinds)) members) all in
     let more = and-r (nat_lt member.name names && nat_lt member.kind (length kinds)) (list_all (λ m. nat_lt m.name names && nat_lt m.kind (length kinds)) members) all in
     ((ltb-true member.name names (and-l (nat_lt member.name names) (nat_lt member.kind (length kinds)) first)
       , ltb-true member.kind (length kinds) (and-r (nat_lt member.name names) (nat_lt member.kind (length kinds)) first)
-      , next)
-    , each_member kinds names here attributes at copies particle members next more)
+      , next
+      , λ d is. and-l (is_within kinds d member.kind) (list_all (λ m. is_within kinds d m.kind) members) (deep d is))
+    , each_member kinds names here attributes at copies particle members next more (λ d is. and-r (is_within kinds d member.kind) (list_all (λ m. is_within kinds d m.kind) members) (deep d is)))
 
-pub each_by_flag : (b : Bool) (kinds : List Declaration) (names : ℕ) (steps : List Step) → EachStep kinds names steps → EachStep kinds names (if b then [] else steps)
-each_by_flag true kinds names steps each = tt
-each_by_flag false kinds names steps each = each
+pub each_by_flag : (b : Bool) (kinds : List Declaration) (names here : ℕ) (steps : List Step) → EachStep kinds names here steps → EachStep kinds names here (if b then [] else steps)
+each_by_flag true kinds names here steps each = tt
+each_by_flag false kinds names here steps each = each
 
 pub each_element : (kinds : List Declaration) (names : ℕ) (here : Place) (all : _) (particles : _) (at copies : ℕ) (rest : List Particle) →
     slice_get kinds here.kind ≡ Some (Complex all particles) → IsPlaceAmong here all.now particles.now →
     at + length rest ≡ length particles.now → drop at particles.now ≡ rest → list_all (is_particle names (length kinds)) rest ≡ true →
-    EachStep kinds names (element_steps here (length all.now) at copies rest)
-each_element kinds names here all particles at copies [] there place long parts fits = (tt, tt)
-each_element kinds names here all particles at copies (particle ∷ more) there place long parts fits =
+    ((d : ℕ) → is_within kinds (suc d) here.kind ≡ true → list_all (members_within kinds d) rest ≡ true) →
+    EachStep kinds names here.kind (element_steps here (length all.now) at copies rest)
+each_element kinds names here all particles at copies [] there place long parts fits deep = (tt, tt)
+each_element kinds names here all particles at copies (particle ∷ more) there place long parts fits deep =
     let first = and-l (is_particle names (length kinds) particle) (list_all (is_particle names (length kinds)) more) fits in
     let others = and-r (is_particle names (length kinds) particle) (list_all (is_particle names (length kinds)) more) fits in
     let within : at < length particles.now = omega (arith, long) in
     let next : suc at ≡ at + 1 = omega arith in
     let rest : drop (at + 1) particles.now ≡ more = ap (λ k. drop k particles.now) (sym next) ∙ drop_next particles.now at particle more parts in
-    each_append kinds names (map (element_step here (length all.now) at copies particle) particle.members.now) (if nat_lt copies particle.least then [] else element_steps here (length all.now) (at + 1) 0 more)
+    each_append kinds names here.kind (map (element_step here (length all.now) at copies particle) particle.members.now) (if nat_lt copies particle.least then [] else element_steps here (length all.now) (at + 1) 0 more)
     (each_member kinds names here (length all.now) at copies particle particle.members.now
         (next_by (nat_lt copies particle.profile) kinds here all particles at copies particle more there place within parts (fits_first names (length kinds) more others) refl)
-        (and-r (is_most particle.least particle.most && nat_lt particle.profile 65536 && can_be_there particle) _ first))
-    (each_by_flag (nat_lt copies particle.least) kinds names (element_steps here (length all.now) (at + 1) 0 more)
-        (each_element kinds names here all particles (at + 1) 0 more there place (omega (arith, long)) rest others))
+        (and-r (is_most particle.least particle.most && nat_lt particle.profile 65536 && can_be_there particle) _ first)
+        (λ d is. and-l (members_within kinds d particle) (list_all (members_within kinds d) more) (deep d is)))
+    (each_by_flag (nat_lt copies particle.least) kinds names here.kind (element_steps here (length all.now) (at + 1) 0 more)
+        (each_element kinds names here all particles (at + 1) 0 more there place (omega (arith, long)) rest others
+            (λ d is. and-r (members_within kinds d particle) (list_all (members_within kinds d) more) (deep d is))))
 
 pub each_complex : (kinds : List Declaration) (names : ℕ) (here : Place) (all : _) (particles : _) →
     slice_get kinds here.kind ≡ Some (Complex all particles) → IsPlaceAmong here all.now particles.now → IsComplex names kinds all.now particles.now →
-    EachStep kinds names (complex_steps here all.now particles.now)
+    EachStep kinds names here.kind (complex_steps here all.now particles.now)
 each_complex kinds names here all particles there place is =
     let short : length (through_required (drop here.attributes all.now)) ≤ length (drop here.attributes all.now) = through_short (drop here.attributes all.now) in
     let left : length (drop here.attributes all.now) ≡ length all.now - here.attributes = length-drop here.attributes all.now in
     let more : length (drop here.particle particles.now) ≡ length particles.now - here.particle = length-drop here.particle particles.now in
     let low = place.0 in let in_them = place.1 in
-    each_append kinds names (attribute_steps here here.attributes (through_required (drop here.attributes all.now)))
+    each_append kinds names here.kind (attribute_steps here here.attributes (through_required (drop here.attributes all.now)))
     (if list_any (λ attribute. attribute.required) (drop here.attributes all.now) then []
         else element_steps here (length all.now) here.particle here.copies (drop here.particle particles.now))
     (each_attribute kinds names here all particles here.attributes (through_required (drop here.attributes all.now)) there place (omega (arith, short, left, low))
         (fit_through (is_attribute names kinds) (drop here.attributes all.now) (fit_drop (is_attribute names kinds) all.now here.attributes is.attributes_fit)))
-    (each_by_flag (list_any (λ attribute. attribute.required) (drop here.attributes all.now)) kinds names (element_steps here (length all.now) here.particle here.copies (drop here.particle particles.now))
+    (each_by_flag (list_any (λ attribute. attribute.required) (drop here.attributes all.now)) kinds names here.kind (element_steps here (length all.now) here.particle here.copies (drop here.particle particles.now))
         (each_element kinds names here all particles here.particle here.copies (drop here.particle particles.now) there place (omega (arith, more, in_them)) refl
-            (fit_drop (is_particle names (length kinds)) particles.now here.particle is.particles_fit)))
+            (fit_drop (is_particle names (length kinds)) particles.now here.particle is.particles_fit)
+            (λ d deep. fit_drop (members_within kinds d) particles.now here.particle (members_of kinds here.kind d all particles there deep))))
 
 pub profile_fits : (names kinds : ℕ) (particles : List Particle) → list_all (is_particle names kinds) particles ≡ true → All (λ particle. particle.profile < 65536) particles
 profile_fits names kinds particles all = λ k d less.
@@ -188,12 +209,14 @@ profile_fits names kinds particles all = λ k d less.
     ltb-true _ 65536 (and-r (is_most (get_or particles k d).least (get_or particles k d).most) _ (and-l _ (can_be_there (get_or particles k d)) (and-l _ _ one)))
 
 pub simple_fits : (kinds : List Declaration) (names : ℕ) (here : Place) (datatype : Datatype) → slice_get kinds here.kind ≡ Some (Simple datatype) → IsPlaceIn here (Simple datatype) →
-    IsStep kinds names (simple_step here)
+    IsStep kinds names here.kind (simple_step here)
 simple_fits kinds names here datatype there place =
     let P : Option Declaration → Type 0 = λ d. IsPlaceOf (record { kind = here.kind; particle = 1; copies = 0; attributes = 0 }) d in
     let low : 1 ≤ 1 = omega arith in
     let next : IsPlace kinds (record { kind = here.kind; particle = 1; copies = 0; attributes = 0 }) = subst P (sym there) (refl, low, refl) in
-    elim (here.particle == 0) as (λ b. IsStep kinds names (if b then Characters (record { kind = here.kind; particle = 1; copies = 0; attributes = 0 }) else End)) [ true ↦ next | false ↦ tt ]
+    let Q : Option Declaration → Type 0 = λ d. IsSome (datatype_of d) in
+    let simple : IsSome (simple_at kinds here.kind) = subst Q (sym there) (simple_is (Some (Simple datatype)) refl) in
+    elim (here.particle == 0) as (λ b. IsStep kinds names here.kind (if b then Characters (record { kind = here.kind; particle = 1; copies = 0; attributes = 0 }) else End)) [ true ↦ (simple, next) | false ↦ tt ]
 
 pub first_code : (step : Step) (code : ℕ) → code < 1 → Some step ≡ slice_get (step ∷ []) code
 first_code step zero less = refl

@@ -63,7 +63,7 @@ pub trait Places {
     ghost use Rattle.std.specs.Prelude.{◌≡◌, ℕ, ◌<◌, ◌≤◌, ◌↔◌, Some, None, slice_get, length};
     ghost use Rattle.exi_schema.specs.declared.schema.Schema.{Schema};
     ghost use Rattle.exi_schema.specs.Offers.{IsPlace, IsWidth, offers};
-    ghost use Rattle.exi_schema.specs.Steps.{IsStep, IsRoot, simple_at};
+    ghost use Rattle.exi_schema.specs.Steps.{IsStep, IsRoot, IsRootOf, simple_at};
 
     /// The schema that the value means.
     ghost schema: { Self → Schema };
@@ -83,7 +83,7 @@ pub trait Places {
         requires place { IsPlace (schema self.now).kinds.now place }
         requires code { code < length (offers (schema self.now).kinds.now place) }
         ensures taken { Some result ≡ slice_get (offers (schema self.now).kinds.now place) code }
-        ensures of_schema { IsStep (schema self.now).kinds.now (length (schema self.now).names.now) result };
+        ensures of_schema { IsStep (schema self.now).kinds.now (length (schema self.now).names.now) place.kind result };
 
     /// The datatype of a kind of the schema, `None` exactly where it is complex.
     fn datatype(&self, kind: u16) -> Option<Datatype>
@@ -96,5 +96,6 @@ pub trait Places {
 
     /// What a document number names.
     fn root(&self, number: u32) -> Root
-        ensures { IsRoot (schema self.now).roots.now (schema self.now).root_bits number result };
+        ensures named { IsRoot (schema self.now).roots.now (schema self.now).root_bits number result }
+        ensures of_schema { IsRootOf (schema self.now).kinds.now (length (schema self.now).names.now) result };
 }

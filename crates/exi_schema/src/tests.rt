@@ -167,7 +167,7 @@ fn name_of(step: Step) -> Option<u16> {
 }
 
 fn next_of(step: Step, here: Place, schema: &Schema) -> Place
-    requires step { IsStep schema.now.kinds.now (length schema.now.names.now) step }
+    requires step { IsStep schema.now.kinds.now (length schema.now.names.now) here.kind step }
     requires here { IsPlace schema.now.kinds.now here }
     ensures { IsPlace schema.now.kinds.now result }
 {

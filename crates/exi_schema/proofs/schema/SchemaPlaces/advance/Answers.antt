@@ -23,7 +23,7 @@ returns-in-Simple-clause-taken c =
 pub returns-in-Simple-clause-of_schema : goal.returns-in-Simple-clause-of_schema
 returns-in-Simple-clause-of_schema c =
     let at = found_kind c.args.self.now.kinds.now c.args.place _ _ c.requires.place c.in-Simple.is in
-    let P : Step → Type 0 = λ step. IsStep c.args.self.now.kinds.now (length c.args.self.now.names.now) step in
+    let P : Step → Type 0 = λ step. IsStep c.args.self.now.kinds.now (length c.args.self.now.names.now) c.args.place.kind step in
     subst P (sym c.simple_step.ensures) (simple_fits c.args.self.now.kinds.now (length c.args.self.now.names.now) c.args.place c.in-Simple.field-0 at.0 at.1)
 
 pub returns-in-Complex-clause-taken : goal.returns-in-Complex-clause-taken
@@ -34,7 +34,7 @@ returns-in-Complex-clause-taken c =
 pub returns-in-Complex-clause-of_schema : goal.returns-in-Complex-clause-of_schema
 returns-in-Complex-clause-of_schema c =
     let at = found_kind c.args.self.now.kinds.now c.args.place _ _ c.requires.place c.in-Complex.is in
-    each_get c.args.self.now.kinds.now (length c.args.self.now.names.now) (complex_steps c.args.place c.in-Complex.attributes.now c.in-Complex.particles.now) c.args.code c.complex_step.result
+    each_get c.args.self.now.kinds.now (length c.args.self.now.names.now) c.args.place.kind (complex_steps c.args.place c.in-Complex.attributes.now c.in-Complex.particles.now) c.args.code c.complex_step.result
     (each_complex c.args.self.now.kinds.now (length c.args.self.now.names.now) c.args.place c.in-Complex.attributes c.in-Complex.particles at.0 at.1
         (complex_in c.args.self.now c.args.place.kind c.in-Complex.attributes c.in-Complex.particles at.0))
     c.complex_step.ensures
