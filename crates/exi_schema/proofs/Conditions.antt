@@ -1,6 +1,6 @@
 -- What the conditions on a schema give at one kind and one place.
-use Rattle.std.proofs.Common.{◌≡◌, ℕ, zero, suc, ◌+◌, ◌<◌, ◌≤◌, nat_lt, nat_le, Bool, true, false, ◌&&◌, if◌then◌else◌, List, [], ◌∷◌, length, drop, map, get_or, Option, Some, None, refl, ap, subst, sym, ◌∙◌, inl, inr, arith}
-use Rattle.std.proofs.lemmas.Bool.{leb-true, ltb-true, le-leb, lt-ltb}
+use Rattle.std.proofs.Common.{◌≡◌, ℕ, zero, suc, ◌+◌, ◌<◌, ◌≤◌, nat_lt, nat_le, Bool, true, false, ◌&&◌, if◌then◌else◌, List, [], ◌∷◌, length, drop, map, get_or, Option, Some, None, refl, ap, subst, sym, inl, inr, arith}
+use Rattle.std.proofs.lemmas.Bool.{leb-true, lt-ltb}
 use Rattle.std.proofs.lemmas.Bool.Decides.{leb_tells}
 use Rattle.std.specs.Prelude.{slice_get}
 use Rattle.std.specs.List.{list_any, list_all}
@@ -8,14 +8,13 @@ use Rattle.std.proofs.lemmas.List.{length-map}
 use Rattle.exi_schema.specs.declared.schema.Schema.{Schema}
 use Rattle.exi_schema.specs.declared.tables.AttributeOf.{AttributeOf}
 use Rattle.exi_schema.specs.declared.tables.Declaration.{Declaration}
-use Rattle.exi_schema.specs.declared.tables.Declaration.TheVariants.{Simple, Complex}
+use Rattle.exi_schema.specs.declared.tables.Declaration.TheVariants.{Complex}
 use Rattle.exi_schema.specs.declared.tables.Particle.{Particle}
 use Rattle.exi_schema.specs.declared.tables.RootOf.{RootOf}
 use Rattle.exi_schema.specs.declared.places.Place.{Place}
-use Rattle.exi_schema.specs.declared.places.Step.{Step}
 use Rattle.exi_schema.specs.Counts.{element_total}
 use Rattle.exi_schema.specs.Offers.{through_required, leaves_room, FitsCopies, FitsParticles, IsPlaceAmong, IsPlaceIn, IsPlaceOf, IsPlace, complex_steps}
-use Rattle.exi_schema.specs.Schemas.{is_schema, is_declaration, is_attribute, is_particle, is_most, can_be_there, each_to, widest, are_offers, are_kinds, are_roots, are_words, are_values, are_distinct, attribute_names, element_names}
+use Rattle.exi_schema.specs.Schemas.{is_schema, is_declaration, is_attribute, is_particle, each_to, widest, are_kinds, are_roots, are_words, are_values, are_distinct, attribute_names, element_names}
 use Rattle.exi_schema.proofs.Walks.{length_complex}
 
 pub and-l : (a b : Bool) → (a && b) ≡ true → a ≡ true
@@ -29,16 +28,17 @@ and-r false false is = is
 
 pub all_get : {X : Type 0} (test : X → Bool) (xs : List X) (i : ℕ) (x : X) → list_all test xs ≡ true → slice_get xs i ≡ Some x → test x ≡ true
 all_get test [] i x all is = cc
-all_get {X} test (y ∷ ys) zero x all is = 
+all_get {X} test (y ∷ ys) zero x all is =
     let same : Some y ≡ Some x = is in let e : y ≡ x = cc in let P : X → Type 0 = λ z. test z ≡ true in subst P e (and-l (test y) (list_all test ys) all)
 all_get test (y ∷ ys) (suc i) x all is = all_get test ys i x (and-r (test y) (list_all test ys) all) is
 
 pub each_at : (n : ℕ) (test : ℕ → Bool) (i : ℕ) → each_to n test ≡ true → i ≤ n → test i ≡ true
 each_at zero test i all within = let e : zero ≡ i = omega arith in let P : ℕ → Type 0 = λ k. test k ≡ true in subst P e all
 each_at (suc n) test i all within =
-    elim (leb_tells i n)
-    [ inl is ↦ each_at n test i (and-r (test (suc n)) (each_to n test) all) is.1
-    | inr is ↦ let e : suc n ≡ i = omega (arith, is.1) in let P : ℕ → Type 0 = λ k. test k ≡ true in subst P e (and-l (test (suc n)) (each_to n test) all) ]
+    elim (leb_tells i n) [
+      | inl is ↦ each_at n test i (and-r (test (suc n)) (each_to n test) all) is.1
+      | inr is ↦ let e : suc n ≡ i = omega (arith, is.1) in let P : ℕ → Type 0 = λ k. test k ≡ true in subst P e (and-l (test (suc n)) (each_to n test) all)
+    ]
 
 pub kind_at : (kinds : List Declaration) (k : ℕ) (d declaration : Declaration) → k < length kinds → get_or kinds k d ≡ declaration → slice_get kinds k ≡ Some declaration
 kind_at [] k d declaration within is = absurd (omega (arith, within))
@@ -75,11 +75,12 @@ complex_of names kinds attributes particles is =
       attributes_fit = and-r (nat_le (length attributes.now) 65535 && nat_le (length particles.now) 65535) _ three;
       particles_fit = and-r (nat_le (length attributes.now) 65535 && nat_le (length particles.now) 65535 && list_all (is_attribute names kinds) attributes.now) _ four;
       few_offers = λ a p within inside.
-        let here : Place = record { kind = 0; particle = p; copies = widest (drop p particles.now); attributes = a } in
-        let whole = and-r (nat_le (length attributes.now) 65535 && nat_le (length particles.now) 65535 && list_all (is_attribute names kinds) attributes.now && list_all (is_particle names (length kinds)) particles.now) _ is in
-        leb-true _ _ (and-l _ (are_distinct (attribute_names (complex_steps here attributes.now particles.now)))
+          let here : Place = record { kind = 0; particle = p; copies = widest (drop p particles.now); attributes = a } in
+          let whole = and-r (nat_le (length attributes.now) 65535 && nat_le (length particles.now) 65535 && list_all (is_attribute names kinds) attributes.now && list_all (is_particle names (length kinds)) particles.now) _ is in
+          leb-true _ _ (and-l _ (are_distinct (attribute_names (complex_steps here attributes.now particles.now)))
           (and-l _ (are_distinct (element_names (complex_steps here attributes.now particles.now)))
-            (each_at (length particles.now) _ p (each_at (length attributes.now) _ a whole within) inside))) }
+          (each_at (length particles.now) _ p (each_at (length attributes.now) _ a whole within) inside)));
+    }
 
 -- ---- the number of offers at any place
 
@@ -95,17 +96,18 @@ not_below n = elim (leb_tells (suc n) n) [ inl is ↦ absurd (omega (arith, is.1
 pub wide_room : (most : Option ℕ) (least copies profile : ℕ) → FitsCopies copies profile most → nat_lt copies least ≡ false → leaves_room most least ≡ true
 wide_room None least copies profile fits is = refl
 wide_room (Some most) least copies profile fits is =
-    elim (leb_tells (suc copies) least)
-    [ inl less ↦ let wrong : nat_lt copies least ≡ true = less.0 in absurd cc
-    | inr more ↦ lt-ltb least most (omega (arith, fits, more.1)) ]
+    elim (leb_tells (suc copies) least) [
+      | inl less ↦ let wrong : nat_lt copies least ≡ true = less.0 in absurd cc
+      | inr more ↦ lt-ltb least most (omega (arith, fits, more.1))
+    ]
 
 pub total_wide : (particles : List Particle) (copies : ℕ) → FitsParticles copies particles → element_total copies particles ≤ element_total (widest particles) particles
 total_wide [] copies fits = omega arith
 total_wide (particle ∷ particles) copies fits =
     wide_by (nat_lt copies particle.least) (nat_lt (widest (particle ∷ particles)) particle.least) (length particle.members.now) (element_total 0 particles)
     (λ is. let room : leaves_room particle.most particle.least ≡ true = wide_room particle.most particle.least copies particle.profile fits is in
-        let P : Bool → Type 0 = λ b. nat_lt (if b then particle.least else 0) particle.least ≡ false in
-        subst P (sym room) (not_below particle.least))
+    let P : Bool → Type 0 = λ b. nat_lt (if b then particle.least else 0) particle.least ≡ false in
+    subst P (sym room) (not_below particle.least))
 
 pub sum_by_flag : (b : Bool) (n small large : ℕ) → small ≤ large → n + (if b then 0 else small) ≤ n + (if b then 0 else large)
 sum_by_flag true n small large is = omega arith
@@ -119,8 +121,8 @@ few_steps names kinds attributes particles place is at =
     let long = length_complex wide attributes particles in
     let here = length_complex place attributes particles in
     let more = sum_by_flag (list_any (λ attribute. attribute.required) (drop place.attributes attributes)) (length (through_required (drop place.attributes attributes)))
-        (element_total place.copies (drop place.particle particles)) (element_total (widest (drop place.particle particles)) (drop place.particle particles))
-        (total_wide (drop place.particle particles) place.copies at.2) in
+    (element_total place.copies (drop place.particle particles)) (element_total (widest (drop place.particle particles)) (drop place.particle particles))
+    (total_wide (drop place.particle particles) place.copies at.2) in
     omega (arith, most, long, here, more)
 
 pub place_within : (kinds : List Declaration) (place : Place) (k : ℕ) → IsPlaceOf place (slice_get kinds k) → k < length kinds
@@ -142,5 +144,5 @@ complex_in s k attributes particles at =
     let n : length (map (λ t. t.now) s.names.now) ≡ length s.names.now = length-map s.names.now (λ t. t.now) in
     let P : ℕ → Type 0 = λ m. IsComplex m s.kinds.now attributes.now particles.now in
     subst P n (complex_of (length (map (λ t. t.now) s.names.now)) s.kinds.now attributes particles
-        (declared (length (map (λ t. t.now) s.names.now)) s.kinds.now k (Complex attributes particles)
-            (kinds_of s.kinds.now (map (λ t. t.now) s.names.now) (map (λ l. map (λ t. t.now) l.now) s.values.now) s.root_bits s.roots.now s.fits) at))
+    (declared (length (map (λ t. t.now) s.names.now)) s.kinds.now k (Complex attributes particles)
+    (kinds_of s.kinds.now (map (λ t. t.now) s.names.now) (map (λ l. map (λ t. t.now) l.now) s.values.now) s.root_bits s.roots.now s.fits) at))

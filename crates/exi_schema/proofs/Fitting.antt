@@ -1,7 +1,6 @@
 -- Each step at a place of a schema is the schema's, and so is the place behind it.
-use Rattle.std.proofs.Common.{◌≡◌, ℕ, zero, suc, ◌+◌, ◌<◌, ◌≤◌, nat_lt, nat_le, not, Bool, true, false, ◌&&◌, if◌then◌else◌, List, [], ◌∷◌, ◌++◌, length, drop, map, get_or, Option, Some, None, refl, ap, subst, sym, ◌∙◌, inl, inr, ◌-◌, length-drop, arith, rules, IsSome}
-use Rattle.std.proofs.lemmas.Bool.{leb-true, ltb-true, le-leb, lt-ltb}
-use Rattle.std.proofs.lemmas.Bool.Decides.{leb_tells}
+use Rattle.std.proofs.Common.{◌≡◌, ℕ, zero, suc, ◌+◌, ◌<◌, ◌≤◌, nat_lt, Bool, true, false, ◌&&◌, if◌then◌else◌, List, [], ◌∷◌, ◌++◌, length, drop, map, get_or, Option, Some, None, refl, ap, subst, sym, ◌∙◌, inl, inr, ◌-◌, length-drop, arith, rules, IsSome}
+use Rattle.std.proofs.lemmas.Bool.{leb-true, ltb-true}
 use Rattle.std.specs.Prelude.{slice_get, ◌==◌, All}
 use Rattle.std.proofs.lemmas.Option.{slice_get-get_or, slice_get_cases}
 use Rattle.exi_schema.specs.declared.schema.Schema.{Schema}
@@ -16,7 +15,7 @@ use Rattle.exi_schema.specs.declared.tables.Member.{Member}
 use Rattle.exi_schema.specs.declared.tables.Particle.{Particle}
 use Rattle.exi_schema.specs.declared.places.Place.{Place}
 use Rattle.exi_schema.specs.declared.places.Step.{Step}
-use Rattle.exi_schema.specs.Offers.{through_required, attribute_step, attribute_steps, element_step, element_steps, behind_copy, leaves_room, FitsCopies, FitsParticles, IsPlaceAmong, IsPlaceIn, IsPlaceOf, IsPlace, simple_step, complex_steps}
+use Rattle.exi_schema.specs.Offers.{through_required, attribute_steps, element_step, element_steps, behind_copy, leaves_room, FitsCopies, FitsParticles, IsPlaceAmong, IsPlaceIn, IsPlaceOf, IsPlace, simple_step, complex_steps}
 use Rattle.exi_schema.specs.Schemas.{is_attribute, is_particle, is_most, is_simple, can_be_there, is_within, particles_of}
 use Rattle.exi_schema.specs.Steps.{IsStep, datatype_of, simple_at}
 use Rattle.exi_schema.proofs.Conditions.{and-l, and-r, all_get, IsComplex, complex_in}
@@ -82,12 +81,15 @@ each_attribute kinds names here all particles at [] is place within fits = tt
 each_attribute kinds names here all particles at (attribute ∷ attributes) is place within fits =
     let first : is_attribute names kinds attribute ≡ true = and-l (is_attribute names kinds attribute) (list_all (is_attribute names kinds) attributes) fits in
     let next : Place = record { kind = here.kind; particle = here.particle; copies = here.copies; attributes = at + 1 } in
-    let low : at + 1 ≤ length all.now = omega (arith, within) in
-    ((ltb-true attribute.name names (and-l (nat_lt attribute.name names) (is_simple (slice_get kinds attribute.kind)) first)
-      , simple_within kinds attribute.kind (and-r (nat_lt attribute.name names) (is_simple (slice_get kinds attribute.kind)) first)
-      , simple_is (slice_get kinds attribute.kind) (and-r (nat_lt attribute.name names) (is_simple (slice_get kinds attribute.kind)) first)
-      , place_in kinds next all particles is (low, place.1, place.2))
-    , each_attribute kinds names here all particles (at + 1) attributes is place (omega (arith, within)) (and-r (is_attribute names kinds attribute) (list_all (is_attribute names kinds) attributes) fits))
+    let low : at + 1 ≤ length all.now = omega (arith, within) in (
+      (
+        ltb-true attribute.name names (and-l (nat_lt attribute.name names) (is_simple (slice_get kinds attribute.kind)) first),
+        simple_within kinds attribute.kind (and-r (nat_lt attribute.name names) (is_simple (slice_get kinds attribute.kind)) first),
+        simple_is (slice_get kinds attribute.kind) (and-r (nat_lt attribute.name names) (is_simple (slice_get kinds attribute.kind)) first),
+        place_in kinds next all particles is (low, place.1, place.2),
+      ),
+      each_attribute kinds names here all particles (at + 1) attributes is place (omega (arith, within)) (and-r (is_attribute names kinds attribute) (list_all (is_attribute names kinds) attributes) fits),
+    )
 
 -- ---- elements
 
@@ -100,7 +102,6 @@ pub fits_first : (names kinds : ℕ) (particles : List Particle) → list_all (i
 fits_first names kinds [] all = refl
 fits_first names kinds (particle ∷ particles) all =
     first_of particle.least particle.most particle.profile (and-l _ _ (and-l _ _ (and-l _ _ (and-l (is_particle names kinds particle) (list_all (is_particle names kinds) particles) all))))
-
 
 pub copy_fits : (copies profile : ℕ) (most : Option ℕ) → copies < profile → leaves_room most (copies + 1) ≡ true → FitsCopies (copies + 1) profile most
 copy_fits copies profile None less room = omega (arith, less)
@@ -116,7 +117,7 @@ pub behind_by : (r : Bool) (kinds : List Declaration) (here : Place) (all : _) (
     slice_get kinds here.kind ≡ Some (Complex all particles) → at < length particles.now → drop at particles.now ≡ particle ∷ more → FitsParticles 0 more →
     copies < particle.profile → leaves_room particle.most (copies + 1) ≡ r →
     IsPlace kinds (if r then record { kind = here.kind; particle = at; copies = copies + 1; attributes = length all.now }
-        else record { kind = here.kind; particle = at + 1; copies = 0; attributes = length all.now })
+    else record { kind = here.kind; particle = at + 1; copies = 0; attributes = length all.now })
 behind_by true kinds here all particles at copies particle more there within parts fits less room =
     let P : List Particle → Type 0 = λ xs. FitsParticles (copies + 1) xs in
     let low : length all.now ≤ length all.now = omega arith in
@@ -153,12 +154,15 @@ pub each_member : (kinds : List Declaration) (names : ℕ) (here : Place) (attri
 each_member kinds names here attributes at copies particle [] next all deep = tt
 each_member kinds names here attributes at copies particle (member ∷ members) next all deep =
     let first = and-l (nat_lt member.name names && nat_lt member.kind (length kinds)) (list_all (λ m. nat_lt m.name names && nat_lt m.kind (length kinds)) members) all in
-    let more = and-r (nat_lt member.name names && nat_lt member.kind (length kinds)) (list_all (λ m. nat_lt m.name names && nat_lt m.kind (length kinds)) members) all in
-    ((ltb-true member.name names (and-l (nat_lt member.name names) (nat_lt member.kind (length kinds)) first)
-      , ltb-true member.kind (length kinds) (and-r (nat_lt member.name names) (nat_lt member.kind (length kinds)) first)
-      , next
-      , λ d is. and-l (is_within kinds d member.kind) (list_all (λ m. is_within kinds d m.kind) members) (deep d is))
-    , each_member kinds names here attributes at copies particle members next more (λ d is. and-r (is_within kinds d member.kind) (list_all (λ m. is_within kinds d m.kind) members) (deep d is)))
+    let more = and-r (nat_lt member.name names && nat_lt member.kind (length kinds)) (list_all (λ m. nat_lt m.name names && nat_lt m.kind (length kinds)) members) all in (
+      (
+        ltb-true member.name names (and-l (nat_lt member.name names) (nat_lt member.kind (length kinds)) first),
+        ltb-true member.kind (length kinds) (and-r (nat_lt member.name names) (nat_lt member.kind (length kinds)) first),
+        next,
+        λ d is. and-l (is_within kinds d member.kind) (list_all (λ m. is_within kinds d m.kind) members) (deep d is),
+      ),
+      each_member kinds names here attributes at copies particle members next more (λ d is. and-r (is_within kinds d member.kind) (list_all (λ m. is_within kinds d m.kind) members) (deep d is)),
+    )
 
 pub each_by_flag : (b : Bool) (kinds : List Declaration) (names here : ℕ) (steps : List Step) → EachStep kinds names here steps → EachStep kinds names here (if b then [] else steps)
 each_by_flag true kinds names here steps each = tt
@@ -178,12 +182,12 @@ each_element kinds names here all particles at copies (particle ∷ more) there 
     let rest : drop (at + 1) particles.now ≡ more = ap (λ k. drop k particles.now) (sym next) ∙ drop_next particles.now at particle more parts in
     each_append kinds names here.kind (map (element_step here (length all.now) at copies particle) particle.members.now) (if nat_lt copies particle.least then [] else element_steps here (length all.now) (at + 1) 0 more)
     (each_member kinds names here (length all.now) at copies particle particle.members.now
-        (next_by (nat_lt copies particle.profile) kinds here all particles at copies particle more there place within parts (fits_first names (length kinds) more others) refl)
-        (and-r (is_most particle.least particle.most && nat_lt particle.profile 65536 && can_be_there particle) _ first)
-        (λ d is. and-l (members_within kinds d particle) (list_all (members_within kinds d) more) (deep d is)))
+    (next_by (nat_lt copies particle.profile) kinds here all particles at copies particle more there place within parts (fits_first names (length kinds) more others) refl)
+    (and-r (is_most particle.least particle.most && nat_lt particle.profile 65536 && can_be_there particle) _ first)
+    (λ d is. and-l (members_within kinds d particle) (list_all (members_within kinds d) more) (deep d is)))
     (each_by_flag (nat_lt copies particle.least) kinds names here.kind (element_steps here (length all.now) (at + 1) 0 more)
-        (each_element kinds names here all particles (at + 1) 0 more there place (omega (arith, long)) rest others
-            (λ d is. and-r (members_within kinds d particle) (list_all (members_within kinds d) more) (deep d is))))
+    (each_element kinds names here all particles (at + 1) 0 more there place (omega (arith, long)) rest others
+    (λ d is. and-r (members_within kinds d particle) (list_all (members_within kinds d) more) (deep d is))))
 
 pub each_complex : (kinds : List Declaration) (names : ℕ) (here : Place) (all : _) (particles : _) →
     slice_get kinds here.kind ≡ Some (Complex all particles) → IsPlaceAmong here all.now particles.now → IsComplex names kinds all.now particles.now →
@@ -195,13 +199,13 @@ each_complex kinds names here all particles there place is =
     let low = place.0 in let in_them = place.1 in
     each_append kinds names here.kind (attribute_steps here here.attributes (through_required (drop here.attributes all.now)))
     (if list_any (λ attribute. attribute.required) (drop here.attributes all.now) then []
-        else element_steps here (length all.now) here.particle here.copies (drop here.particle particles.now))
+    else element_steps here (length all.now) here.particle here.copies (drop here.particle particles.now))
     (each_attribute kinds names here all particles here.attributes (through_required (drop here.attributes all.now)) there place (omega (arith, short, left, low))
-        (fit_through (is_attribute names kinds) (drop here.attributes all.now) (fit_drop (is_attribute names kinds) all.now here.attributes is.attributes_fit)))
+    (fit_through (is_attribute names kinds) (drop here.attributes all.now) (fit_drop (is_attribute names kinds) all.now here.attributes is.attributes_fit)))
     (each_by_flag (list_any (λ attribute. attribute.required) (drop here.attributes all.now)) kinds names here.kind (element_steps here (length all.now) here.particle here.copies (drop here.particle particles.now))
-        (each_element kinds names here all particles here.particle here.copies (drop here.particle particles.now) there place (omega (arith, more, in_them)) refl
-            (fit_drop (is_particle names (length kinds)) particles.now here.particle is.particles_fit)
-            (λ d deep. fit_drop (members_within kinds d) particles.now here.particle (members_of kinds here.kind d all particles there deep))))
+    (each_element kinds names here all particles here.particle here.copies (drop here.particle particles.now) there place (omega (arith, more, in_them)) refl
+    (fit_drop (is_particle names (length kinds)) particles.now here.particle is.particles_fit)
+    (λ d deep. fit_drop (members_within kinds d) particles.now here.particle (members_of kinds here.kind d all particles there deep))))
 
 pub profile_fits : (names kinds : ℕ) (particles : List Particle) → list_all (is_particle names kinds) particles ≡ true → All (λ particle. particle.profile < 65536) particles
 profile_fits names kinds particles all = λ k d less.
@@ -233,6 +237,7 @@ first_in s k (Complex attributes particles) is =
 
 pub first_place : (s : Schema) (k : ℕ) → k < length s.kinds.now → IsPlace s.kinds.now (record { kind = k; particle = 0; copies = 0; attributes = 0 })
 first_place s k less =
-    elim (slice_get_cases s.kinds.now k).1
-    [ inl is ↦ let P : Option Declaration → Type 0 = λ d. IsPlaceOf (record { kind = k; particle = 0; copies = 0; attributes = 0 }) d in subst P (sym is.2) (first_in s k is.0 is.2)
-    | inr past ↦ let more = past.0 in absurd (omega (arith, less, more)) ]
+    elim (slice_get_cases s.kinds.now k).1 [
+      | inl is ↦ let P : Option Declaration → Type 0 = λ d. IsPlaceOf (record { kind = k; particle = 0; copies = 0; attributes = 0 }) d in subst P (sym is.2) (first_in s k is.0 is.2)
+      | inr past ↦ let more = past.0 in absurd (omega (arith, less, more))
+    ]

@@ -1,5 +1,5 @@
 -- The first root with a document number is the element that the number names.
-use Rattle.std.proofs.Common.{◌≡◌, ℕ, zero, suc, Bool, true, false, if◌then◌else◌, List, [], ◌∷◌, Some, refl, ap, sym, ◌∙◌, subst, inl, inr, eqb-true, nat_lt, nat_le, not, ◌&&◌, ◌^◌, length, map}
+use Rattle.std.proofs.Common.{◌≡◌, ℕ, zero, suc, Bool, true, false, if◌then◌else◌, List, [], ◌∷◌, Some, refl, ap, ◌∙◌, subst, inl, inr, eqb-true, nat_lt, nat_le, not, ◌&&◌, ◌^◌, length, map}
 use Rattle.std.proofs.lemmas.Bool.{ltb-true}
 use Rattle.std.proofs.lemmas.List.{length-map}
 use Rattle.std.specs.List.{list_all}
@@ -46,10 +46,11 @@ pub numbered_fits_by : (b : Bool) (kinds : List Declaration) (names bits : ℕ) 
     IsRootOf kinds names (root_numbered roots number) → IsRootOf kinds names (if b then Kind root.name root.kind else root_numbered roots number)
 numbered_fits_by true kinds names bits root roots number is more =
     let four = and-l _ (is_within kinds 16 root.kind) is in
-    let three = and-l _ (nat_lt root.kind (length kinds)) four in
-    (ltb-true root.name names (and-r (nat_lt root.number (2 ^ bits) && not (bits == 2 && root.number == 3)) (nat_lt root.name names) three)
-    , ltb-true root.kind (length kinds) (and-r (nat_lt root.number (2 ^ bits) && not (bits == 2 && root.number == 3) && nat_lt root.name names) (nat_lt root.kind (length kinds)) four)
-    , and-r (nat_lt root.number (2 ^ bits) && not (bits == 2 && root.number == 3) && nat_lt root.name names && nat_lt root.kind (length kinds)) (is_within kinds 16 root.kind) is)
+    let three = and-l _ (nat_lt root.kind (length kinds)) four in (
+      ltb-true root.name names (and-r (nat_lt root.number (2 ^ bits) && not (bits == 2 && root.number == 3)) (nat_lt root.name names) three),
+      ltb-true root.kind (length kinds) (and-r (nat_lt root.number (2 ^ bits) && not (bits == 2 && root.number == 3) && nat_lt root.name names) (nat_lt root.kind (length kinds)) four),
+      and-r (nat_lt root.number (2 ^ bits) && not (bits == 2 && root.number == 3) && nat_lt root.name names && nat_lt root.kind (length kinds)) (is_within kinds 16 root.kind) is,
+    )
 numbered_fits_by false kinds names bits root roots number is more = more
 
 pub numbered_fits : (kinds : List Declaration) (names bits : ℕ) (roots : List RootOf) (number : ℕ) → list_all (is_root bits names kinds) roots ≡ true → IsRootOf kinds names (root_numbered roots number)
@@ -67,4 +68,4 @@ root_fits s number =
     let rooted = and-r (are_kinds (length texts) s.kinds.now) (are_roots s.root_bits (length texts) s.kinds.now s.roots.now) two in
     let three = and-l _ _ (and-l _ _ rooted) in
     subst P n (numbered_fits s.kinds.now (length texts) s.root_bits s.roots.now number
-        (and-r (nat_le 1 (length s.roots.now) && nat_le s.root_bits 32) (list_all (is_root s.root_bits (length texts) s.kinds.now) s.roots.now) three))
+    (and-r (nat_le 1 (length s.roots.now) && nat_le s.root_bits 32) (list_all (is_root s.root_bits (length texts) s.kinds.now) s.roots.now) three))

@@ -1,7 +1,6 @@
 -- How the steps at a place are counted and found.
-use Rattle.std.proofs.Common.{◌≡◌, ℕ, zero, suc, ◌+◌, ◌-◌, ◌<◌, ◌≤◌, nat_lt, Bool, true, false, if◌then◌else◌, List, [], ◌∷◌, ◌++◌, length, drop, map, get_or, Option, Some, None, refl, ap, subst, sym, ◌∙◌, arith, rules, length-append, drop-cons}
+use Rattle.std.proofs.Common.{◌≡◌, ℕ, zero, suc, ◌+◌, ◌-◌, ◌<◌, ◌≤◌, nat_lt, Bool, true, false, if◌then◌else◌, List, [], ◌∷◌, ◌++◌, length, drop, map, get_or, Option, Some, refl, ap, subst, sym, ◌∙◌, arith, length-append, drop-cons}
 use Rattle.std.proofs.lemmas.List.{length-map}
-use Rattle.std.proofs.lemmas.Grind.{common_steps}
 use Rattle.std.specs.Prelude.{slice_get}
 use Rattle.std.specs.List.{list_any}
 use Rattle.exi_schema.specs.declared.tables.AttributeOf.{AttributeOf}
@@ -32,9 +31,10 @@ pub length_elements : (here : Place) (attributes at copies : ℕ) (particles : L
 length_elements here attributes at copies [] = refl
 length_elements here attributes at copies (particle ∷ particles) =
     let more : length (element_steps here attributes (at + 1) 0 particles) ≡ element_total 0 particles = length_elements here attributes (at + 1) 0 particles in
-    elim (nat_lt copies particle.least) as (λ b. length (map (element_step here attributes at copies particle) particle.members.now ++ (if b then [] else element_steps here attributes (at + 1) 0 particles)) ≡ length particle.members.now + (if b then 0 else element_total 0 particles))
-    [ true ↦ grind (arith, length-append, length-map)
-    | false ↦ grind (arith, length-append, length-map, more) ]
+    elim (nat_lt copies particle.least) as (λ b. length (map (element_step here attributes at copies particle) particle.members.now ++ (if b then [] else element_steps here attributes (at + 1) 0 particles)) ≡ length particle.members.now + (if b then 0 else element_total 0 particles)) [
+      | true ↦ grind (arith, length-append, length-map)
+      | false ↦ grind (arith, length-append, length-map, more)
+    ]
 
 pub length_attributes : (here : Place) (at : ℕ) (attributes : List AttributeOf) → length (attribute_steps here at attributes) ≡ length attributes
 length_attributes here at [] = refl
@@ -47,9 +47,10 @@ length_complex place attributes particles =
     let front : length (attribute_steps place place.attributes (through_required (drop place.attributes attributes))) ≡ length (through_required (drop place.attributes attributes)) = length_attributes place place.attributes (through_required (drop place.attributes attributes)) in
     let more : length (element_steps place (length attributes) place.particle place.copies (drop place.particle particles)) ≡ element_total place.copies (drop place.particle particles) = length_elements place (length attributes) place.particle place.copies (drop place.particle particles) in
     elim (list_any (λ attribute. attribute.required) (drop place.attributes attributes))
-    as (λ b. length (attribute_steps place place.attributes (through_required (drop place.attributes attributes)) ++ (if b then [] else element_steps place (length attributes) place.particle place.copies (drop place.particle particles))) ≡ length (through_required (drop place.attributes attributes)) + (if b then 0 else element_total place.copies (drop place.particle particles)))
-    [ true ↦ grind (arith, length-append, front)
-    | false ↦ grind (arith, length-append, front, more) ]
+    as (λ b. length (attribute_steps place place.attributes (through_required (drop place.attributes attributes)) ++ (if b then [] else element_steps place (length attributes) place.particle place.copies (drop place.particle particles))) ≡ length (through_required (drop place.attributes attributes)) + (if b then 0 else element_total place.copies (drop place.particle particles))) [
+      | true ↦ grind (arith, length-append, front)
+      | false ↦ grind (arith, length-append, front, more)
+    ]
 
 -- an element of the particle at hand
 pub found_at : (here : Place) (attributes at copies left : ℕ) (particles : List Particle) (d : Particle) (e : Member) → at < length particles →
@@ -57,7 +58,7 @@ pub found_at : (here : Place) (attributes at copies left : ℕ) (particles : Lis
     Some (element_step here attributes at copies (get_or particles at d) (get_or (get_or particles at d).members.now left e)) ≡ slice_get (element_steps here attributes at copies (drop at particles)) left
 found_at here attributes at copies left particles d e within less =
     rw (drop-cons particles at d within) (sym (get-map-append (element_step here attributes at copies (get_or particles at d)) (get_or particles at d).members.now
-        (if nat_lt copies (get_or particles at d).least then [] else element_steps here attributes (at + 1) 0 (drop (suc at) particles)) left e less))
+    (if nat_lt copies (get_or particles at d).least then [] else element_steps here attributes (at + 1) 0 (drop (suc at) particles)) left e less))
 
 pub passed_by : (b : Bool) (n left total : ℕ) (steps : List Step) (whole : Option Step) → n ≤ left → left < n + (if b then 0 else total) →
     slice_get (if b then [] else steps) (left - n) ≡ whole → (left - n < total) × (slice_get steps (left - n) ≡ whole)
@@ -71,22 +72,22 @@ pub passed_over : (here : Place) (attributes at copies left : ℕ) (particle : P
     × (slice_get (element_steps here attributes (at + 1) 0 particles) (left - length particle.members.now) ≡ slice_get (element_steps here attributes at copies (particle ∷ particles)) left)
 passed_over here attributes at copies left particle particles more less =
     let last : slice_get (if nat_lt copies particle.least then [] else element_steps here attributes (at + 1) 0 particles) (left - length particle.members.now) ≡ slice_get (element_steps here attributes at copies (particle ∷ particles)) left =
-        let long : length (map (element_step here attributes at copies particle) particle.members.now) ≡ length particle.members.now = length-map particle.members.now (element_step here attributes at copies particle) in
-        rw (← long) (get-append-past (map (element_step here attributes at copies particle) particle.members.now) (if nat_lt copies particle.least then [] else element_steps here attributes (at + 1) 0 particles) left (omega (arith, long, more))) in
+    let long : length (map (element_step here attributes at copies particle) particle.members.now) ≡ length particle.members.now = length-map particle.members.now (element_step here attributes at copies particle) in
+    rw (← long) (get-append-past (map (element_step here attributes at copies particle) particle.members.now) (if nat_lt copies particle.least then [] else element_steps here attributes (at + 1) 0 particles) left (omega (arith, long, more))) in
     passed_by (nat_lt copies particle.least) (length particle.members.now) left (element_total 0 particles) (element_steps here attributes (at + 1) 0 particles) (slice_get (element_steps here attributes at copies (particle ∷ particles)) left) more less last
 
 pub passed_at : (here : Place) (attributes at copies left : ℕ) (particles : List Particle) (d : Particle) → at < length particles →
     length (get_or particles at d).members.now ≤ left → left < element_total copies (drop at particles) →
     (left - length (get_or particles at d).members.now < element_total 0 (drop (at + 1) particles))
     × (slice_get (element_steps here attributes (at + 1) 0 (drop (at + 1) particles)) (left - length (get_or particles at d).members.now)
-        ≡ slice_get (element_steps here attributes at copies (drop at particles)) left)
+    ≡ slice_get (element_steps here attributes at copies (drop at particles)) left)
 passed_at here attributes at copies left particles d within more less =
     let next : suc at ≡ at + 1 = omega arith in
     let parts : drop at particles ≡ get_or particles at d ∷ drop (at + 1) particles = drop-cons particles at d within ∙ ap (λ k. get_or particles at d ∷ drop k particles) next in
     let Less : List Particle → Type 0 = λ xs. left < element_total copies xs in
     let Both : List Particle → Type 0 = λ xs. (left - length (get_or particles at d).members.now < element_total 0 (drop (at + 1) particles))
-        × (slice_get (element_steps here attributes (at + 1) 0 (drop (at + 1) particles)) (left - length (get_or particles at d).members.now)
-            ≡ slice_get (element_steps here attributes at copies xs) left) in
+    × (slice_get (element_steps here attributes (at + 1) 0 (drop (at + 1) particles)) (left - length (get_or particles at d).members.now)
+    ≡ slice_get (element_steps here attributes at copies xs) left) in
     subst Both (sym parts) (passed_over here attributes at copies left (get_or particles at d) (drop (at + 1) particles) more (subst Less parts less))
 
 pub through_short : (attributes : List AttributeOf) → length (through_required attributes) ≤ length attributes
@@ -95,7 +96,6 @@ through_short (attribute ∷ attributes) =
     let more : length (through_required attributes) ≤ length attributes = through_short attributes in
     elim attribute.required as (λ b. suc (length (if b then [] else through_required attributes)) ≤ suc (length attributes))
     [ true ↦ omega arith | false ↦ omega (arith, more) ]
-
 
 pub attribute_next : (b : Bool) (here : Place) (at : ℕ) (attributes : List AttributeOf) (i : ℕ) (d : AttributeOf) →
     (i < length (through_required attributes) → slice_get (attribute_steps here (at + 1) (through_required attributes)) i ≡ Some (attribute_step here ((at + 1) + i) (get_or attributes i d))) →
@@ -119,23 +119,23 @@ pub found_attribute : (place : Place) (attributes : List AttributeOf) (particles
 found_attribute place attributes particles code d less =
     let long : length (attribute_steps place place.attributes (through_required (drop place.attributes attributes))) ≡ length (through_required (drop place.attributes attributes)) = length_attributes place place.attributes (through_required (drop place.attributes attributes)) in
     sym (get-append-front (attribute_steps place place.attributes (through_required (drop place.attributes attributes)))
-        (if list_any (λ attribute. attribute.required) (drop place.attributes attributes) then [] else element_steps place (length attributes) place.particle place.copies (drop place.particle particles))
-        code (omega (arith, long, less))
-        ∙ attribute_get place place.attributes (drop place.attributes attributes) code d less)
+    (if list_any (λ attribute. attribute.required) (drop place.attributes attributes) then [] else element_steps place (length attributes) place.particle place.copies (drop place.particle particles))
+    code (omega (arith, long, less))
+    ∙ attribute_get place place.attributes (drop place.attributes attributes) code d less)
 
 pub found_element : (place : Place) (attributes : List AttributeOf) (particles : List Particle) (code : ℕ) →
     length (through_required (drop place.attributes attributes)) ≤ code → code < length (complex_steps place attributes particles) →
     (code - length (through_required (drop place.attributes attributes)) < element_total place.copies (drop place.particle particles))
     × (slice_get (element_steps place (length attributes) place.particle place.copies (drop place.particle particles)) (code - length (through_required (drop place.attributes attributes)))
-        ≡ slice_get (complex_steps place attributes particles) code)
+    ≡ slice_get (complex_steps place attributes particles) code)
 found_element place attributes particles code more less =
     let front : List Step = attribute_steps place place.attributes (through_required (drop place.attributes attributes)) in
     let long : length (attribute_steps place place.attributes (through_required (drop place.attributes attributes))) ≡ length (through_required (drop place.attributes attributes)) = length_attributes place place.attributes (through_required (drop place.attributes attributes)) in
     let all : length (complex_steps place attributes particles) ≡ length (through_required (drop place.attributes attributes))
-        + (if list_any (λ attribute. attribute.required) (drop place.attributes attributes) then 0 else element_total place.copies (drop place.particle particles)) = length_complex place attributes particles in
+    + (if list_any (λ attribute. attribute.required) (drop place.attributes attributes) then 0 else element_total place.copies (drop place.particle particles)) = length_complex place attributes particles in
     passed_by (list_any (λ attribute. attribute.required) (drop place.attributes attributes)) (length (through_required (drop place.attributes attributes))) code
-        (element_total place.copies (drop place.particle particles)) (element_steps place (length attributes) place.particle place.copies (drop place.particle particles))
-        (slice_get (complex_steps place attributes particles) code) more (rw (← all) less)
-        (rw (← long) (get-append-past (attribute_steps place place.attributes (through_required (drop place.attributes attributes)))
-            (if list_any (λ attribute. attribute.required) (drop place.attributes attributes) then [] else element_steps place (length attributes) place.particle place.copies (drop place.particle particles))
-            code (omega (arith, long, more))))
+    (element_total place.copies (drop place.particle particles)) (element_steps place (length attributes) place.particle place.copies (drop place.particle particles))
+    (slice_get (complex_steps place attributes particles) code) more (rw (← all) less)
+    (rw (← long) (get-append-past (attribute_steps place place.attributes (through_required (drop place.attributes attributes)))
+    (if list_any (λ attribute. attribute.required) (drop place.attributes attributes) then [] else element_steps place (length attributes) place.particle place.copies (drop place.particle particles))
+    code (omega (arith, long, more))))

@@ -1,14 +1,15 @@
 -- Widths of codes.
-use Rattle.std.proofs.Common.{◌≡◌, ℕ, suc, ◌+◌, ◌*◌, ◌^◌, ◌<◌, ◌≤◌, ◌⊎◌, arith, inl, inr, sym}
+use Rattle.std.proofs.Common.{◌≡◌, ℕ, suc, ◌+◌, ◌*◌, ◌^◌, ◌<◌, ◌≤◌, arith, inl, inr, sym}
 use Rattle.std.proofs.Math.Nat.{pow-suc}
 use Rattle.std.proofs.Math.Pow.{pow_mono}
 use Rattle.std.proofs.lemmas.Bool.Decides.{leb_tells}
 
 pub pow_below : (a b : ℕ) → 2 ^ a < 2 ^ b → a < b
 pow_below a b less =
-    elim (leb_tells (suc a) b)
-    [ inl is ↦ omega (arith, is.1)
-    | inr is ↦ let big : 2 ^ b ≤ 2 ^ a = pow_mono (omega (arith, is.1)) in absurd (omega (arith, less, big)) ]
+    elim (leb_tells (suc a) b) [
+      | inl is ↦ omega (arith, is.1)
+      | inr is ↦ let big : 2 ^ b ≤ 2 ^ a = pow_mono (omega (arith, is.1)) in absurd (omega (arith, less, big))
+    ]
 
 pub pow_next : (w : ℕ) → 2 ^ (w + 1) ≡ 2 ^ w * 2
 pow_next w = let e : w + 1 ≡ suc w = omega arith in rw e (pow-suc 2 w)

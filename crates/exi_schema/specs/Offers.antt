@@ -1,6 +1,6 @@
 -- W3C EXI 1.0 (Second Edition) 8.5.4, Schema-informed Element and Type Grammars, and 6.2, Event Codes: what may stand at a
 -- place of an element, in the order of the event codes.
-use Rattle.std.specs.Prelude.{◌≡◌, ℕ, zero, suc, ◌+◌, ◌^◌, ◌<◌, ◌≤◌, ◌==◌, nat_lt, not, Bool, true, false, if◌then◌else◌, List, [], ◌∷◌, ◌++◌, length, drop, map, Option, Some, None, slice_get}
+use Rattle.std.specs.Prelude.{◌≡◌, ℕ, ◌+◌, ◌^◌, ◌<◌, ◌≤◌, ◌==◌, nat_lt, not, Bool, true, if◌then◌else◌, List, [], ◌∷◌, ◌++◌, length, drop, map, Option, Some, None, slice_get}
 use Rattle.std.specs.List.{list_any}
 use Rattle.exi_schema.specs.declared.tables.AttributeOf.{AttributeOf}
 use Rattle.exi_schema.specs.declared.tables.Declaration.{Declaration}
@@ -63,7 +63,7 @@ abbrev pub complex_steps : Place → List AttributeOf → List Particle → List
 complex_steps here attributes particles =
     attribute_steps here here.attributes (through_required (drop here.attributes attributes))
     ++ (if list_any (λ attribute. attribute.required) (drop here.attributes attributes) then []
-        else element_steps here (length attributes) here.particle here.copies (drop here.particle particles))
+    else element_steps here (length attributes) here.particle here.copies (drop here.particle particles))
 
 -- what is offered at a place of a kind, in order of event code
 abbrev pub offers_in : Place → Declaration → List Step

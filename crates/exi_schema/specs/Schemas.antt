@@ -1,5 +1,5 @@
 -- Own: the conditions on the tables of a schema, each as a test, so that those of a written table are computed.
-use Rattle.std.specs.Prelude.{◌≡◌, ℕ, zero, suc, ◌+◌, ◌^◌, ◌<◌, ◌≤◌, ◌==◌, ◌&&◌, ◌||◌, nat_lt, nat_le, not, Bool, true, false, if◌then◌else◌, ℤ, List, [], ◌∷◌, length, drop, map, Option, Some, None, slice_get}
+use Rattle.std.specs.Prelude.{ℕ, zero, suc, ◌^◌, ◌==◌, ◌&&◌, ◌||◌, nat_lt, nat_le, not, Bool, true, false, if◌then◌else◌, List, [], ◌∷◌, length, drop, map, Option, Some, None, slice_get}
 use Rattle.std.specs.List.{list_any, list_all}
 use Rattle.std.specs.Int.Signed.{le_z}
 use Rattle.exi_schema.specs.declared.tables.AttributeOf.{AttributeOf}
@@ -7,12 +7,10 @@ use Rattle.exi_schema.specs.declared.tables.Datatype.{Datatype}
 use Rattle.exi_schema.specs.declared.tables.Datatype.TheVariants.{Bool as BoolType, Named, Bounded, Unsigned, Signed, Binary, Text}
 use Rattle.exi_schema.specs.declared.tables.Declaration.{Declaration}
 use Rattle.exi_schema.specs.declared.tables.Declaration.TheVariants.{Simple, Complex}
-use Rattle.exi_schema.specs.declared.tables.Member.{Member}
 use Rattle.exi_schema.specs.declared.tables.MemberStanding.{MemberStanding}
 use Rattle.exi_schema.specs.declared.tables.MemberStanding.TheVariants.{Taken, Abstract, OutOfProfile}
 use Rattle.exi_schema.specs.declared.tables.Particle.{Particle}
 use Rattle.exi_schema.specs.declared.tables.RootOf.{RootOf}
-use Rattle.exi_schema.specs.declared.places.Place.{Place}
 use Rattle.exi_schema.specs.declared.places.Step.{Step}
 use Rattle.exi_schema.specs.declared.places.Step.TheVariants.{Attribute, Element, End, Characters}
 use Rattle.exi_schema.specs.Offers.{offers_in, leaves_room}
@@ -105,8 +103,8 @@ is_declaration names kinds (Complex attributes particles) =
     && list_all (is_attribute names kinds) attributes.now
     && list_all (is_particle names (length kinds)) particles.now
     && each_to (length attributes.now) (λ a. each_to (length particles.now) (λ p. are_offers
-        (offers_in (record { kind = 0; particle = p; copies = widest (drop p particles.now); attributes = a })
-            (Complex attributes particles))))
+    (offers_in (record { kind = 0; particle = p; copies = widest (drop p particles.now); attributes = a })
+    (Complex attributes particles))))
 
 -- ---- depth: no element inside one of the kind stands deeper than so many
 

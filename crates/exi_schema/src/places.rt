@@ -37,20 +37,33 @@ impl Place {
 /// What an event code means at a place.
 #[derive(Clone, Copy, Debug, PartialEq, Eq)]
 pub enum Step {
-    /// An attribute.
-    Attribute { name: u16, kind: u16, next: Place },
-    /// An element.
-    Element { name: u16, kind: u16, next: Place, standing: MemberStanding, past_limit: bool },
+    /// An attribute with the numbers of its name and kind, and the place behind it.
+    Attribute {
+        name: u16,
+        kind: u16,
+        next: Place,
+    },
+    /// An element with the numbers of its name and kind, the place behind it and whether it may stand there. Where it passes
+    /// its particle's profile limit, the place behind it is the present one (own).
+    Element {
+        name: u16,
+        kind: u16,
+        next: Place,
+        standing: MemberStanding,
+        past_limit: bool,
+    },
     /// The end of the element.
     End,
-    /// The characters of a simple kind.
-    Characters { next: Place },
+    /// The characters of a simple kind, and the place behind them.
+    Characters {
+        next: Place,
+    },
 }
 
 /// What a document number names.
 #[derive(Clone, Copy, Debug, PartialEq, Eq)]
 pub enum Root {
-    /// An element of this name and kind.
+    /// The element with the numbers of its name and kind.
     Kind { name: u16, kind: u16 },
     /// No element of the schema.
     Unknown,

@@ -54,7 +54,10 @@ impl Places for Schema<'_> {
     fn alternatives(&self, place: Place) -> u16 {
         match &self.kinds[place.kind as usize] {
             Declaration::Simple(_) => 1,
-            Declaration::Complex { attributes, particles } => complex_count(attributes, particles, place),
+            Declaration::Complex {
+                attributes,
+                particles,
+            } => complex_count(attributes, particles, place),
         }
     }
 
@@ -65,7 +68,10 @@ impl Places for Schema<'_> {
     fn advance(&self, place: Place, code: u16) -> Step {
         match &self.kinds[place.kind as usize] {
             Declaration::Simple(_) => simple_step(place),
-            Declaration::Complex { attributes, particles } => complex_step(attributes, particles, place, code),
+            Declaration::Complex {
+                attributes,
+                particles,
+            } => complex_step(attributes, particles, place, code),
         }
     }
 

@@ -71,7 +71,10 @@ pub enum Declaration<'s> {
     /// A value.
     Simple(Datatype),
     /// Attributes in order of name, then elements.
-    Complex { attributes: &'s [AttributeOf], particles: &'s [Particle<'s>] },
+    Complex {
+        attributes: &'s [AttributeOf],
+        particles: &'s [Particle<'s>],
+    },
 }
 
 /// An element that may be the root of a document.

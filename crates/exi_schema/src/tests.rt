@@ -19,11 +19,17 @@ const NAMES: [&'static str; 9] = [
     "ResponseCode",
 ];
 
-const CODES: [&'static str; 3] = ["OK_SuccessfulNegotiation", "OK_SuccessfulNegotiationWithMinorDeviation", "Failed_NoNegotiation"];
+const CODES: [&'static str; 3] = [
+    "OK_SuccessfulNegotiation",
+    "OK_SuccessfulNegotiationWithMinorDeviation",
+    "Failed_NoNegotiation",
+];
 
 const NONE: [&'static str; 0] = [];
 
-const VALUES: [&'static [&'static str]; 8] = [&NONE, &NONE, &NONE, &NONE, &CODES, &NONE, &NONE, &NONE];
+const VALUES: [&'static [&'static str]; 8] = [
+    &NONE, &NONE, &NONE, &NONE, &CODES, &NONE, &NONE, &NONE,
+];
 
 const ROOTS: [RootOf; 2] = [
     RootOf {
@@ -113,14 +119,12 @@ const ENTRY: [Particle<'static>; 5] = [
     },
 ];
 
-const REQUEST: [Particle<'static>; 1] = [
-    Particle {
-        members: &PROTOCOL,
-        least: 1,
-        most: Some(20),
-        profile: 20,
-    },
-];
+const REQUEST: [Particle<'static>; 1] = [Particle {
+    members: &PROTOCOL,
+    least: 1,
+    most: Some(20),
+    profile: 20,
+}];
 
 const RESPONSE: [Particle<'static>; 2] = [
     Particle {
@@ -139,9 +143,17 @@ const RESPONSE: [Particle<'static>; 2] = [
 
 const KINDS: [Declaration<'static>; 8] = [
     Declaration::Simple(Datatype::Text { most: 100 }),
-    Declaration::Simple(Datatype::Unsigned { most: 4_294_967_295 }),
-    Declaration::Simple(Datatype::Bounded { least: 0, count: 256 }),
-    Declaration::Simple(Datatype::Bounded { least: 1, count: 20 }),
+    Declaration::Simple(Datatype::Unsigned {
+        most: 4_294_967_295,
+    }),
+    Declaration::Simple(Datatype::Bounded {
+        least: 0,
+        count: 256,
+    }),
+    Declaration::Simple(Datatype::Bounded {
+        least: 1,
+        count: 20,
+    }),
     Declaration::Simple(Datatype::Named { count: 3 }),
     Declaration::Complex {
         attributes: &[],
@@ -203,9 +215,26 @@ fn the_codes_of_the_published_request_and_response(rt: HostRuntime) {
         roots: &ROOTS,
     };
     follow(&rt, &schema, 6, &[(1, 0, Some(2)), (2, 1, None)]);
-    follow(&rt, &schema, 5, &[(1, 0, Some(3)), (1, 0, Some(4)), (1, 0, Some(5)), (1, 0, Some(6)), (1, 0, Some(7)), (1, 0, None)]);
+    follow(
+        &rt,
+        &schema,
+        5,
+        &[
+            (1, 0, Some(3)),
+            (1, 0, Some(4)),
+            (1, 0, Some(5)),
+            (1, 0, Some(6)),
+            (1, 0, Some(7)),
+            (1, 0, None),
+        ],
+    );
     follow(&rt, &schema, 0, &[(1, 0, None), (1, 0, None)]);
-    follow(&rt, &schema, 7, &[(1, 0, Some(8)), (2, 0, Some(6)), (1, 0, None)]);
+    follow(
+        &rt,
+        &schema,
+        7,
+        &[(1, 0, Some(8)), (2, 0, Some(6)), (1, 0, None)],
+    );
 }
 
 #[test]

@@ -38,7 +38,14 @@ fn element_count(particles: &[Particle], copies: u32) -> usize
 }
 
 /// A member as a copy of its particle. `here` is the present place, and `copies` of the particle are passed.
-fn element_step(here: Place, attributes: u16, at: u16, copies: u16, particle: &Particle, member: Member) -> Step
+fn element_step(
+    here: Place,
+    attributes: u16,
+    at: u16,
+    copies: u16,
+    particle: &Particle,
+    member: Member,
+) -> Step
     requires particles { at < 65535 }
     requires profile { particle.now.profile < 65536 }
     ensures { result ≡ step_of here attributes at copies particle.now member }
@@ -98,7 +105,14 @@ fn element_at(particles: &[Particle], here: Place, attributes: u16, code: usize)
     for at in here.particle as usize..particles.len() {
         let particle = &particles[at];
         if left < particle.members.len() {
-            return element_step(here, attributes, at as u16, copies, particle, particle.members[left]);
+            return element_step(
+                here,
+                attributes,
+                at as u16,
+                copies,
+                particle,
+                particle.members[left],
+            );
         }
         left -= particle.members.len();
         copies = 0;
@@ -147,7 +161,12 @@ pub(crate) fn complex_count(attributes: &[AttributeOf], particles: &[Particle], 
 }
 
 /// What a code means at a place of a complex kind.
-pub(crate) fn complex_step(attributes: &[AttributeOf], particles: &[Particle], place: Place, code: u16) -> Step
+pub(crate) fn complex_step(
+    attributes: &[AttributeOf],
+    particles: &[Particle],
+    place: Place,
+    code: u16,
+) -> Step
     requires place { IsPlaceAmong place attributes.now particles.now }
     requires offered { code < length (complex_steps place attributes.now particles.now) }
     requires attributes { length attributes.now ≤ 65535 }

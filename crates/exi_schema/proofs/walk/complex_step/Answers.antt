@@ -1,4 +1,4 @@
-use Rattle.std.proofs.Common.{◌≡◌, ◌<◌, ◌≤◌, ◌+◌, length, drop, get_or, arith, sym, ◌∙◌, length-drop}
+use Rattle.std.proofs.Common.{◌≤◌, length, arith, ◌∙◌}
 use Rattle.exi_schema.specs.Offers.{through_required}
 use Rattle.exi_schema.proofs.Walks.{through_short, found_attribute, found_element}
 use Rattle.exi_schema.proofs.walk.complex_step.Goals as goal

@@ -8,4 +8,4 @@ abbrev pub invariant-loop-at : goal.invariant-loop-at
 invariant-loop-at l =
     (l.left < element_total l.copies (drop l.at l.particles))
     × (slice_get (element_steps l.here l.attributes l.at l.copies (drop l.at l.particles)) l.left
-        ≡ slice_get (element_steps l.here l.attributes l.here.particle l.here.copies (drop l.here.particle l.particles)) l.code)
+    ≡ slice_get (element_steps l.here l.attributes l.here.particle l.here.copies (drop l.here.particle l.particles)) l.code)

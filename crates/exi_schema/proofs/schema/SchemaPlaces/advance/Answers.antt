@@ -1,4 +1,4 @@
-use Rattle.std.proofs.Common.{◌≡◌, ◌∙◌, ◌<◌, ℕ, ap, sym, subst, length, Option, Some, arith}
+use Rattle.std.proofs.Common.{◌∙◌, ◌<◌, ap, sym, subst, length, Option, Some}
 use Rattle.std.specs.Prelude.{slice_get}
 use Rattle.exi_schema.specs.declared.tables.Declaration.{Declaration}
 use Rattle.exi_schema.specs.declared.places.Step.{Step}
@@ -36,5 +36,5 @@ returns-in-Complex-clause-of_schema c =
     let at = found_kind c.args.self.now.kinds.now c.args.place _ _ c.requires.place c.in-Complex.is in
     each_get c.args.self.now.kinds.now (length c.args.self.now.names.now) c.args.place.kind (complex_steps c.args.place c.in-Complex.attributes.now c.in-Complex.particles.now) c.args.code c.complex_step.result
     (each_complex c.args.self.now.kinds.now (length c.args.self.now.names.now) c.args.place c.in-Complex.attributes c.in-Complex.particles at.0 at.1
-        (complex_in c.args.self.now c.args.place.kind c.in-Complex.attributes c.in-Complex.particles at.0))
+    (complex_in c.args.self.now c.args.place.kind c.in-Complex.attributes c.in-Complex.particles at.0))
     c.complex_step.ensures

@@ -1,4 +1,4 @@
-use Rattle.std.proofs.Common.{◌≡◌, ◌∙◌, ap, sym, length}
+use Rattle.std.proofs.Common.{◌∙◌, ap, sym, length}
 use Rattle.exi_schema.specs.Offers.{offers_of}
 use Rattle.exi_schema.proofs.Conditions.{complex_in, few_steps, found_kind}
 use Rattle.exi_schema.proofs.schema.SchemaPlaces.alternatives.Goals as goal

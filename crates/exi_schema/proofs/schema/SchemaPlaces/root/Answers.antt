@@ -8,9 +8,10 @@ use Rattle.exi_schema.proofs.schema.SchemaPlaces.root.Goals.{else-self-eq2-via-t
 pub returns-clause-named : goal.returns-clause-named
 returns-clause-named c =
     let P : Root → Type 0 = λ r. IsRoot c.args.self.now.roots.now c.args.self.now.root_bits c.args.number r in
-    let coded : ((c.args.self.now.root_bits ≡ 2) × (c.args.number ≡ 3)) → ⊥ = λ h. elim c.else-self-eq2.branch
-        [ else-self-eq2-via-then-self-eq2+else-number-eq3 w ↦ w.if-number-eq3.false h.1
-        | else-self-eq2-via-else-self-eq2 w ↦ w.if-self-eq2.false h.0 ] in
+    let coded : ((c.args.self.now.root_bits ≡ 2) × (c.args.number ≡ 3)) → ⊥ = λ h. elim c.else-self-eq2.branch [
+      | else-self-eq2-via-then-self-eq2+else-number-eq3 w ↦ w.if-number-eq3.false h.1
+      | else-self-eq2-via-else-self-eq2 w ↦ w.if-self-eq2.false h.0
+    ] in
     subst P (sym c.root_in.ensures) (is_numbered c.args.self.now.roots.now c.args.self.now.root_bits c.args.number coded)
 
 pub returns-clause-of_schema : goal.returns-clause-of_schema
