@@ -1,0 +1,5 @@
+pub mod Walks
+pub mod Widths
+pub mod Conditions
+pub mod Fitting
+pub mod Roots

@@ -1,0 +1,6 @@
+use Rattle.std.proofs.Common.{◌≡◌, ◌+◌, drop}
+use Rattle.exi_schema.specs.Counts.{element_total}
+use Rattle.exi_schema.proofs.walk.element_count.Given as goal
+
+abbrev pub invariant-loop-particle : goal.invariant-loop-particle
+invariant-loop-particle l = l.count + element_total l.passed (drop l.particle-index l.particles) ≡ element_total l.copies l.particles

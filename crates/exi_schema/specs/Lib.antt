@@ -1,0 +1,4 @@
+pub mod Offers
+pub mod Schemas
+pub mod Steps
+pub mod Counts

@@ -1,0 +1,114 @@
+//! Places in an element, and what is offered there.
+
+use crate::tables::{Datatype, MemberStanding};
+
+/// A place inside an element.
+#[derive(Clone, Copy, Debug, PartialEq, Eq)]
+pub struct Place {
+    /// The number of the element's kind.
+    pub kind: u16,
+    /// How many particles are passed. In a simple kind 0 is before the characters, and 1 behind them.
+    pub particle: u16,
+    /// How many copies of the next particle are passed.
+    pub copies: u16,
+    /// How many attributes are passed, taken or left out.
+    pub attributes: u16,
+}
+
+impl Place {
+    ghost use Rattle.std.specs.Prelude.{◌≡◌, ◌<◌, length};
+    ghost use Rattle.exi_schema.specs.declared.schema.Schema.{Schema};
+    ghost use Rattle.exi_schema.specs.Offers.{IsPlace};
+
+    /// The first place of an element of a kind. It is a place of each schema that has the kind.
+    pub fn first(kind: u16) -> Place
+        ensures first { result ≡ record { kind = kind; particle = 0; copies = 0; attributes = 0 } }
+        ensures of_schema { (s : Schema) → kind < length s.kinds.now → IsPlace s.kinds.now result }
+    {
+        Place {
+            kind,
+            particle: 0,
+            copies: 0,
+            attributes: 0,
+        }
+    }
+}
+
+/// What an event code means at a place.
+#[derive(Clone, Copy, Debug, PartialEq, Eq)]
+pub enum Step {
+    /// An attribute with the numbers of its name and kind, and the place behind it.
+    Attribute {
+        name: u16,
+        kind: u16,
+        next: Place,
+    },
+    /// An element with the numbers of its name and kind, the place behind it and whether it may stand there. Where it passes
+    /// its particle's profile limit, the place behind it is the present one (own).
+    Element {
+        name: u16,
+        kind: u16,
+        next: Place,
+        standing: MemberStanding,
+        past_limit: bool,
+    },
+    /// The end of the element.
+    End,
+    /// The characters of a simple kind, and the place behind them.
+    Characters {
+        next: Place,
+    },
+}
+
+/// What a document number names.
+#[derive(Clone, Copy, Debug, PartialEq, Eq)]
+pub enum Root {
+    /// The element with the numbers of its name and kind.
+    Kind { name: u16, kind: u16 },
+    /// No element of the schema.
+    Unknown,
+    /// The number 3 where document numbers have 2 bits, which is no code at all.
+    NoSuch,
+}
+
+/// What a reader or a writer asks of a schema, in whatever form the schema is kept.
+pub trait Places {
+    ghost use Rattle.std.specs.Prelude.{◌≡◌, ℕ, ◌<◌, ◌≤◌, ◌↔◌, Some, None, slice_get, length};
+    ghost use Rattle.exi_schema.specs.declared.schema.Schema.{Schema};
+    ghost use Rattle.exi_schema.specs.Offers.{IsPlace, IsWidth, offers};
+    ghost use Rattle.exi_schema.specs.Steps.{IsStep, IsRoot, IsRootOf, simple_at};
+
+    /// The schema that the value means.
+    ghost schema: { Self → Schema };
+
+    /// How many event codes are offered at a place of the schema.
+    fn alternatives(&self, place: Place) -> u16
+        requires { IsPlace (schema self.now).kinds.now place }
+        ensures { result ≡ length (offers (schema self.now).kinds.now place) };
+
+    /// How many bits an event code has at a place of the schema.
+    fn width(&self, place: Place) -> u32
+        requires { IsPlace (schema self.now).kinds.now place }
+        ensures { IsWidth (length (offers (schema self.now).kinds.now place)) result };
+
+    /// What an event code means at a place of the schema, where it is below the alternatives.
+    fn advance(&self, place: Place, code: u16) -> Step
+        requires place { IsPlace (schema self.now).kinds.now place }
+        requires code { code < length (offers (schema self.now).kinds.now place) }
+        ensures taken { Some result ≡ slice_get (offers (schema self.now).kinds.now place) code }
+        ensures of_schema { IsStep (schema self.now).kinds.now (length (schema self.now).names.now) place.kind result };
+
+    /// The datatype of a kind of the schema, `None` exactly where it is complex.
+    fn datatype(&self, kind: u16) -> Option<Datatype>
+        requires { kind < length (schema self.now).kinds.now }
+        ensures { result ≡ simple_at (schema self.now).kinds.now kind };
+
+    /// How many bits a document number has.
+    fn root_width(&self) -> u32
+        ensures { result ≡ (schema self.now).root_bits };
+
+    /// What a document number names.
+    fn root(&self, number: u32) -> Root
+        ensures named { IsRoot (schema self.now).roots.now (schema self.now).root_bits number result }
+        ensures of_schema { IsRootOf (schema self.now).kinds.now (length (schema self.now).names.now) result };
+}
