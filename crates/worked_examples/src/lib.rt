@@ -8,4 +8,6 @@ mod scripts;
 #[cfg(test)]
 mod station;
 #[cfg(test)]
+mod texts;
+#[cfg(test)]
 mod ticking;
