@@ -1,8 +1,31 @@
 //! Lines of a trace and texts of plans.
 
 use site_plan::{PlanFault, site_plan_of};
+use std::alloc::Global;
 use std::test::*;
-use trace_text::{LineFault, read_line, read_numbered, write_line, write_numbered};
+use trace_text::{LineFault, read_line, read_numbered, write_numbered};
+
+/// The line of format 2 that a line of format 1 is in that hearing.
+fn numbered_of(alloc: Global, plain: &[u8], hearing: u64) -> Result<Vec<u8>, Fail> {
+    let entry = read_line(alloc, plain, 2)?;
+    let mut room = [0u8; 40];
+    match write_numbered(hearing, &entry, &mut room) {
+        Ok(n) if (n as usize) <= room.len() => Ok(Vec::from_slice(alloc, &room[..n as usize])?),
+        _ => Ok(Vec::new(alloc)),
+    }
+}
+
+/// The number of the hearing and the line, as they are read and written.
+fn again(alloc: Global, numbered: &[u8]) -> Result<(u64, Vec<u8>), Fail> {
+    let (hearing, entry) = read_numbered(alloc, numbered, 2)?;
+    let mut room = [0u8; 40];
+    match write_numbered(hearing, &entry, &mut room) {
+        Ok(n) if (n as usize) <= room.len() => {
+            Ok((hearing, Vec::from_slice(alloc, &room[..n as usize])?))
+        }
+        _ => Ok((hearing, Vec::new(alloc))),
+    }
+}
 
 #[test]
 fn lines_and_their_numbered_lines(rt: HostRuntime) -> Result<(), Fail> {
@@ -17,16 +40,11 @@ fn lines_and_their_numbered_lines(rt: HostRuntime) -> Result<(), Fail> {
         (b"ended 1 18\n", 3, b"3 ended 1 18\n"),
     ];
     for (plain, hearing, numbered) in table {
-        let mut room = [0u8; 40];
-        let entry = read_line(rt.alloc(), plain, 2)?;
-        let written = write_numbered(hearing, &entry, &mut room);
-        assert_eq!(rt; written, Ok(numbered.len() as u32));
-        assert_eq!(rt; &room[..numbered.len().min(40)], numbered);
-        let (number, entry) = read_numbered(rt.alloc(), numbered, 2)?;
+        let line = numbered_of(rt.alloc(), plain, hearing)?;
+        assert_eq!(rt; line.as_slice(), numbered);
+        let (number, line) = again(rt.alloc(), numbered)?;
         assert_eq!(rt; number, hearing);
-        let written = write_line(&entry, &mut room);
-        assert_eq!(rt; written, Ok(plain.len() as u32));
-        assert_eq!(rt; &room[..plain.len().min(40)], plain);
+        assert_eq!(rt; line.as_slice(), numbered);
     }
     Ok(())
 }
