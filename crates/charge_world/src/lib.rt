@@ -18,6 +18,7 @@ mod outages;
 pub mod outside;
 pub mod piece;
 pub mod ports;
+mod reserved;
 
 pub use entry::Entry;
 pub use failed::{Failed, NoMemory};

@@ -1,14 +1,16 @@
 //! The past that a fake wire keeps, without taking memory for it.
 
-ghost use Rattle.std.specs.Prelude.{◌≡◌, [], ◌∷◌, List, reverse, IfOk, IfSome, Some, None, IsSome, ◌↔◌, IsTrue};
+ghost use Rattle.std.specs.Prelude.{◌≡◌, [], ◌∷◌, List, length, map, reverse, IfOk, IfSome, Some, None, IsSome, ◌↔◌, IsTrue};
+ghost use Rattle.charge_world.specs.Fakes.{Spends};
 ghost use Rattle.charge_world.specs.Outside.{GrowsByOne};
-ghost use Rattle.charge_world.specs.Logs.{entry_with};
+ghost use Rattle.charge_world.specs.Logs.{entry_with, entry_of, AllFit};
 
 use crate::entry::Entry;
 use crate::failed::NoMemory;
 use crate::heard::Heard;
 use crate::piece::Piece;
 use crate::ports::Order;
+use crate::reserved::Reserved;
 use std::alloc::Global;
 use std::marker::Model;
 
@@ -32,24 +34,23 @@ struct Kept {
     len: usize,
 }
 
-/// So many entries with so many bytes at most. Contracts see the past, the newest entry first, or none once the room was
-/// used up.
+/// Entries with their bytes. Contracts see the past, the newest entry first, or none once the room was used up, and the room
+/// that is left.
 #[derive(Drop)]
 pub(crate) struct Log {
-    kept: Vec<Kept>,
-    bytes: Vec<u8>,
+    kept: Reserved<Kept>,
+    bytes: Reserved<u8>,
     full: bool,
 }
 
 impl Model for Log {
-    ghost use Rattle.std.specs.Prelude.{Option, List};
-    ghost use Rattle.charge_world.specs.declared.entry.Entry.{Entry};
+    ghost use Rattle.charge_world.specs.Fakes.{Logged};
 
-    ghost Value = { Option (List Entry) };
+    ghost Value = { Logged };
 
     ghost use Rattle.charge_world.specs.Logs.{past_of, AllFit};
 
-    ghost view = { λ l. past_of l.full l.bytes.items l.kept.items };
+    ghost view = { λ l. record { past = past_of l.full l.bytes.items l.kept.items; entries = l.kept.left; bytes = l.bytes.left } };
 
     ghost invariant = { λ l. AllFit l.bytes.items l.kept.items };
 }
@@ -57,57 +58,62 @@ impl Model for Log {
 impl Log {
     /// An empty past, with room for so many entries and bytes.
     pub(crate) fn make(alloc: Global, entries: u32, bytes: u32) -> Result<Log, NoMemory>
-        ensures { IfOk result (λ l. l ≡ Some []) }
+        ensures { IfOk result (λ l. l ≡ record { past = Some []; entries = entries; bytes = bytes }) }
     {
         Ok(Log {
-            kept: Vec::with_capacity(alloc, entries as usize)?,
-            bytes: Vec::with_capacity(alloc, bytes as usize)?,
+            kept: Reserved::make(alloc, entries)?,
+            bytes: Reserved::make(alloc, bytes)?,
             full: false,
         })
     }
 
-    /// Adds an entry, or is full from now on.
+    /// Adds an entry where it has room, and else is full from now on.
     pub(crate) fn note(&mut self, note: Note, bytes: &[u8])
-        ensures { GrowsByOne self.old self.new (entry_with note bytes.now) }
+        ensures grows { GrowsByOne self.old.past self.new.past (entry_with note bytes.now) }
+        ensures room { Spends self.old self.new (length bytes.now) }
     {
-        let from = self.bytes.len();
-        let len = bytes.len();
-        let has_room = self.kept.len() < self.kept.capacity()
-            && from <= self.bytes.capacity()
-            && len <= self.bytes.capacity() - from;
-        if self.full || !has_room || self.bytes.extend_from_slice(bytes).is_err() {
+        if self.full || !self.kept.has_room(1) || !self.bytes.has_room(bytes.len()) {
             self.full = true;
             return;
         }
-        if self.kept.push(Kept { note, from, len }).is_err() {
-            self.full = true;
-        }
+        let from = self.bytes.items().len();
+        self.bytes.extend(bytes);
+        let len = bytes.len();
+        self.kept.push(Kept { note, from, len });
     }
 
     /// The entries, the oldest first.
     pub(crate) fn entries(&self, alloc: Global) -> Result<Vec<Entry>, NoMemory>
-        ensures { IfOk result (λ v. IfSome self.now (λ past. past ≡ reverse v.items)) }
+        ensures { IfOk result (λ v. IfSome self.now.past (λ past. past ≡ reverse v.items)) }
     {
-        let mut entries = Vec::with_capacity(alloc, self.kept.len())?;
-        for kept in &self.kept {
-            entries.push(entry(alloc, *kept, &self.bytes[kept.from..kept.from + kept.len])?)?;
-        }
-        Ok(entries)
+        entries(alloc, self.kept.items(), self.bytes.items())
     }
 
     /// Is full from now on.
     pub(crate) fn close(&mut self)
-        ensures { self.new ≡ None }
+        ensures { self.new ≡ record self.old { past = None } }
     {
         self.full = true;
     }
 
     /// Whether the room was used up.
     pub(crate) fn is_full(&self) -> bool
-        ensures { IsTrue result ↔ (self.now ≡ None) }
+        ensures { IsTrue result ↔ (self.now.past ≡ None) }
     {
         self.full
     }
+}
+
+/// The entries of these notes, whose bytes lie in `bytes`.
+fn entries(alloc: Global, kept: &[Kept], bytes: &[u8]) -> Result<Vec<Entry>, NoMemory>
+    requires { AllFit bytes.now kept.now }
+    ensures { IfOk result (λ v. v.items ≡ map (entry_of bytes.now) kept.now) }
+{
+    let mut entries = Vec::with_capacity(alloc, kept.len())?;
+    for one in kept {
+        entries.push(entry(alloc, *one, &bytes[one.from..one.from + one.len])?)?;
+    }
+    Ok(entries)
 }
 
 /// The entry of a note with these bytes.

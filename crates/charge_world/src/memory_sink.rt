@@ -5,13 +5,14 @@ ghost use Rattle.std.specs.Prelude.{◌≡◌, ◌+◌, ◌<◌, ◌≤◌, [], 
 use crate::failed::{Failed, NoMemory};
 use crate::outages::Outages;
 use crate::outside::Sink;
+use crate::reserved::Reserved;
 use std::alloc::Global;
 
 /// A sink in memory. It takes all its memory when it is made; where its room is used up it takes pieces without keeping them,
 /// and tells no bytes from then on. A call that fails takes nothing.
 #[derive(Drop)]
 pub struct MemorySink {
-    bytes: Vec<u8>,
+    bytes: Reserved<u8>,
     full: bool,
     outages: Outages,
 }
@@ -21,10 +22,10 @@ impl MemorySink {
 
     /// A sink whose writes of these numbers fail, counted from 1, with room for so many bytes.
     pub fn make(alloc: Global, failing: Vec<u32>, bytes: u32) -> Result<MemorySink, NoMemory>
-        ensures { IfOk result (λ s. IsEmptySink failing.items s) }
+        ensures { IfOk result (λ s. IsEmptySink failing.items bytes s) }
     {
         Ok(MemorySink {
-            bytes: Vec::with_capacity(alloc, bytes as usize)?,
+            bytes: Reserved::make(alloc, bytes)?,
             full: false,
             outages: Outages::of(failing),
         })
@@ -34,23 +35,32 @@ impl MemorySink {
     pub fn bytes(&self) -> &[u8]
         ensures { result.now ≡ self.now.bytes.items }
     {
-        self.bytes.as_slice()
+        self.bytes.items()
     }
 }
 
 impl Sink for MemorySink {
-    ghost taken = { λ s. if s.full then None else Some s.bytes.items };
+    ghost use Rattle.charge_world.specs.Outside.{IsFault, Appends, AppendsSome};
+    ghost use Rattle.charge_world.specs.Scripts.{SpendsBytes, bytes_told};
+
+    ghost taken = { bytes_told };
 
     ghost faults = { λ s. s.outages.faults };
 
-    fn write(&mut self, piece: &[u8]) -> Result<(), Failed> {
+    fn write(&mut self, piece: &[u8]) -> Result<(), Failed>
+        ensures ok { OnOk result (Appends (bytes_told self.old) (bytes_told self.new) piece.now) }
+        ensures failed { OnErr result (AppendsSome (bytes_told self.old) (bytes_told self.new) piece.now) }
+        ensures faults { IsFault self.old.outages.faults self.new.outages.faults result }
+        ensures room { OnOk result (SpendsBytes self.old self.new (length piece.now)) }
+        ensures same { OnErr result ((self.new.bytes ≡ self.old.bytes) × (self.new.full ≡ self.old.full)) }
+    {
         if self.outages.fails() {
             return Err(Failed);
         }
-        let has_room = self.bytes.len() <= self.bytes.capacity()
-            && piece.len() <= self.bytes.capacity() - self.bytes.len();
-        if self.full || !has_room || self.bytes.extend_from_slice(piece).is_err() {
+        if self.full || !self.bytes.has_room(piece.len()) {
             self.full = true;
+        } else {
+            self.bytes.extend(piece);
         }
         Ok(())
     }

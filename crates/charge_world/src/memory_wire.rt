@@ -4,6 +4,7 @@ ghost use Rattle.std.specs.Prelude.{◌≡◌, ◌+◌, ◌<◌, ◌≤◌, ◌�
 ghost use Rattle.charge_world.specs.declared.entry.Entry.{Entry};
 ghost use Rattle.charge_world.specs.declared.entry.Entry.TheVariants as entry;
 ghost use Rattle.charge_world.specs.Outside.{Grows, GrowsByOne, IsOfPosts, HasCount, bytes_of, posts_of, IsFault};
+ghost use Rattle.charge_world.specs.Fakes.{Spends};
 ghost use Rattle.charge_world.specs.Scripting.{Fits, FitsAt, NoneFits, moment_of};
 
 use crate::entry::Entry;
@@ -14,6 +15,7 @@ use crate::outages::Outages;
 use crate::outside::Wire;
 use crate::piece::Piece;
 use crate::ports::{Order, Ports};
+use crate::reserved::Reserved;
 use std::alloc::Global;
 
 /// An event of a script, with its bytes.
@@ -35,7 +37,7 @@ pub struct MemoryWire {
     posts: u8,
     outages: Outages,
     log: Log,
-    untils: Vec<u64>,
+    untils: Reserved<u64>,
 }
 
 impl MemoryWire {
@@ -50,7 +52,7 @@ impl MemoryWire {
         entries: u32,
         bytes: u32,
     ) -> Result<MemoryWire, NoMemory>
-        ensures { IfOk result (λ w. IsUnused script.items failing.items w) }
+        ensures { IfOk result (λ w. IsUnused script.items failing.items entries bytes w) }
     {
         Ok(MemoryWire {
             script,
@@ -58,13 +60,13 @@ impl MemoryWire {
             posts: 0,
             outages: Outages::of(failing),
             log: Log::make(alloc, entries, bytes)?,
-            untils: Vec::with_capacity(alloc, entries as usize)?,
+            untils: Reserved::make(alloc, entries)?,
         })
     }
 
     /// The entries that it kept, the oldest first.
     pub fn entries(&self, alloc: Global) -> Result<Vec<Entry>, NoMemory>
-        ensures { IfOk result (λ v. IfSome self.now.log (λ past. past ≡ reverse v.items)) }
+        ensures { IfOk result (λ v. IfSome self.now.log.past (λ past. past ≡ reverse v.items)) }
     {
         self.log.entries(alloc)
     }
@@ -73,15 +75,16 @@ impl MemoryWire {
     pub fn untils(&self) -> &[u64]
         ensures { result.now ≡ self.now.untils.items }
     {
-        self.untils.as_slice()
+        self.untils.items()
     }
 
     /// Keeps an `until`, or tells no past any more.
     fn keep_until(&mut self, until: u64)
         ensures kept { KeepsUntil until self.old self.new }
     {
-        let has_room = self.untils.len() < self.untils.capacity();
-        if !has_room || self.untils.push(until).is_err() {
+        if self.untils.has_room(1) {
+            self.untils.push(until);
+        } else {
             self.log.close();
         }
     }
@@ -96,7 +99,8 @@ impl MemoryWire {
 
     /// Keeps that a hearing was lost.
     fn lose(&mut self)
-        ensures kept { GrowsByOne self.old.log self.new.log entry.Lost }
+        ensures kept { GrowsByOne self.old.log.past self.new.log.past entry.Lost }
+        ensures room { Spends self.old.log self.new.log 0 }
         ensures same { (self.new.outages ≡ self.old.outages) × (self.new.untils ≡ self.old.untils) × (self.new.posts ≡ self.old.posts) }
     {
         self.log.note(Note::Lost, &[]);
@@ -106,7 +110,8 @@ impl MemoryWire {
     fn keep(&mut self, heard: &Heard, room: &[u8])
         requires room { length room.now ≡ 4096 }
         requires count { HasCount heard.now.what }
-        ensures kept { GrowsByOne self.old.log self.new.log (entry.Heard heard.now (bytes_of heard.now.what room.now)) }
+        ensures kept { GrowsByOne self.old.log.past self.new.log.past (entry.Heard heard.now (bytes_of heard.now.what room.now)) }
+        ensures room { Spends self.old.log self.new.log (length (bytes_of heard.now.what room.now)) }
         ensures untils { self.new.untils ≡ self.old.untils }
         ensures posts { self.new.posts ≡ self.old.posts }
         ensures outages { self.new.outages ≡ self.old.outages }
@@ -158,7 +163,9 @@ fn brought(what: What) -> usize
 }
 
 impl Wire for MemoryWire {
-    ghost past = { λ w. w.log };
+    ghost use Rattle.charge_world.specs.Scripts.{Notes, NotesHearing};
+
+    ghost past = { λ w. w.log.past };
 
     ghost untils = { λ w. reverse w.untils.items };
 
@@ -166,7 +173,13 @@ impl Wire for MemoryWire {
 
     ghost faults = { λ w. w.outages.faults };
 
-    fn start(&mut self, ports: &Ports) -> Result<(), Failed> {
+    fn start(&mut self, ports: &Ports) -> Result<(), Failed>
+        ensures past { Grows self.old.log.past self.new.log.past [] }
+        ensures untils { IsSome self.new.log.past → reverse self.new.untils.items ≡ reverse self.old.untils.items }
+        ensures posts { OnOk result (self.new.posts ≡ posts_of ports.now) }
+        ensures faults { IsFault self.old.outages.faults self.new.outages.faults result }
+        ensures room { (self.new.log ≡ self.old.log) × (self.new.untils ≡ self.old.untils) }
+    {
         if self.outages.fails() {
             return Err(Failed);
         }
@@ -177,7 +190,18 @@ impl Wire for MemoryWire {
         Ok(())
     }
 
-    fn next(&mut self, until: u64, room: &mut [u8]) -> Result<Heard, Failed> {
+    fn next(&mut self, until: u64, room: &mut [u8]) -> Result<Heard, Failed>
+        requires { length room.old ≡ 4096 }
+        ensures heard { IfOk result (λ heard. GrowsByOne self.old.log.past self.new.log.past (entry.Heard heard (bytes_of heard.what room.new))) }
+        ensures lost { OnErr result (GrowsByOne self.old.log.past self.new.log.past entry.Lost) }
+        ensures post { IfOk result (λ heard. IsOfPosts self.old.posts heard.what) }
+        ensures count { IfOk result (λ heard. HasCount heard.what) }
+        ensures untils { IsSome self.new.log.past → reverse self.new.untils.items ≡ until ∷ reverse self.old.untils.items }
+        ensures posts { self.new.posts ≡ self.old.posts }
+        ensures faults { IsFault self.old.outages.faults self.new.outages.faults result }
+        ensures room { IfOk result (λ heard. NotesHearing self.old self.new (length (bytes_of heard.what room.new))) }
+        ensures room_lost { OnErr result (NotesHearing self.old self.new 0) }
+    {
         self.keep_until(until);
         if self.fails() {
             self.lose();
@@ -188,31 +212,61 @@ impl Wire for MemoryWire {
         Ok(heard)
     }
 
-    fn send(&mut self, post: u8, bytes: &[u8]) -> Result<(), Failed> {
+    fn send(&mut self, post: u8, bytes: &[u8]) -> Result<(), Failed>
+        ensures sent { GrowsByOne self.old.log.past self.new.log.past (entry.Sent post bytes.now (is_ok result)) }
+        ensures untils { IsSome self.new.log.past → reverse self.new.untils.items ≡ reverse self.old.untils.items }
+        ensures posts { self.new.posts ≡ self.old.posts }
+        ensures faults { IsFault self.old.outages.faults self.new.outages.faults result }
+        ensures room { Notes self.old self.new (length bytes.now) }
+    {
         let taken = !self.outages.fails();
         self.log.note(Note::Sent { post, taken }, bytes);
         outcome(taken)
     }
 
-    fn answer(&mut self, post: u8, bytes: &[u8]) -> Result<(), Failed> {
+    fn answer(&mut self, post: u8, bytes: &[u8]) -> Result<(), Failed>
+        ensures answered { GrowsByOne self.old.log.past self.new.log.past (entry.Answered post bytes.now (is_ok result)) }
+        ensures untils { IsSome self.new.log.past → reverse self.new.untils.items ≡ reverse self.old.untils.items }
+        ensures posts { self.new.posts ≡ self.old.posts }
+        ensures faults { IsFault self.old.outages.faults self.new.outages.faults result }
+        ensures room { Notes self.old self.new (length bytes.now) }
+    {
         let taken = !self.outages.fails();
         self.log.note(Note::Answered { post, taken }, bytes);
         outcome(taken)
     }
 
-    fn drive(&mut self, post: u8, order: Order) -> Result<(), Failed> {
+    fn drive(&mut self, post: u8, order: Order) -> Result<(), Failed>
+        ensures drove { GrowsByOne self.old.log.past self.new.log.past (entry.Drove post order (is_ok result)) }
+        ensures untils { IsSome self.new.log.past → reverse self.new.untils.items ≡ reverse self.old.untils.items }
+        ensures posts { self.new.posts ≡ self.old.posts }
+        ensures faults { IsFault self.old.outages.faults self.new.outages.faults result }
+        ensures room { Notes self.old self.new 0 }
+    {
         let taken = !self.outages.fails();
         self.log.note(Note::Drove { post, order, taken }, &[]);
         outcome(taken)
     }
 
-    fn dial(&mut self, port: u16) -> Result<(), Failed> {
+    fn dial(&mut self, port: u16) -> Result<(), Failed>
+        ensures dialed { GrowsByOne self.old.log.past self.new.log.past (entry.Dialed port (is_ok result)) }
+        ensures untils { IsSome self.new.log.past → reverse self.new.untils.items ≡ reverse self.old.untils.items }
+        ensures posts { self.new.posts ≡ self.old.posts }
+        ensures faults { IsFault self.old.outages.faults self.new.outages.faults result }
+        ensures room { Notes self.old self.new 0 }
+    {
         let taken = !self.outages.fails();
         self.log.note(Note::Dialed { port, taken }, &[]);
         outcome(taken)
     }
 
-    fn end(&mut self, post: u8, cause: u8) {
+    fn end(&mut self, post: u8, cause: u8)
+        ensures ended { GrowsByOne self.old.log.past self.new.log.past (entry.Ended post cause) }
+        ensures untils { IsSome self.new.log.past → reverse self.new.untils.items ≡ reverse self.old.untils.items }
+        ensures posts { self.new.posts ≡ self.old.posts }
+        ensures faults { self.new.outages.faults ≡ self.old.outages.faults }
+        ensures room { Notes self.old self.new 0 }
+    {
         self.log.note(Note::Ended { post, cause }, &[]);
     }
 }
