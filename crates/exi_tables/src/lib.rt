@@ -7,3 +7,6 @@ mod filling;
 
 pub use charge_world::NoMemory;
 pub use compiled::{Rows, compile};
+
+#[cfg(test)]
+mod tests;
