@@ -1,6 +1,5 @@
 -- What is read at each step on the way to the row of a place.
-use Rattle.std.proofs.Common.{◌≡◌, ℕ, ◌<◌, ◌≤◌, List, length, get_or, Some, Vec, subst, sym, arith, min}
-use Rattle.std.specs.Prelude.{slice_get}
+use Rattle.std.proofs.Common.{◌≡◌, ◌<◌, List, length, get_or, Vec, subst, arith, min}
 use Rattle.std.specs.declared.alloc.Global.{Global}
 use Rattle.exi_schema.specs.declared.schema.Schema.{Schema}
 use Rattle.exi_schema.specs.declared.tables.Declaration.{Declaration}
@@ -34,7 +33,7 @@ at_particles_of s place tables xs ys at short holds first second =
     let within : place.kind < length s.kinds.now = place_within s.kinds.now place place.kind at in
     let low : place.kind < min (length s.kinds.now) 65536 = omega (arith, within, short) in
     let by_attributes : HoldsAttributes s found.0 (record { kind = place.kind; particle = 0; copies = 0; attributes = 0 }) xs.items =
-        table_at _ _ tables place.kind xs holds low first found.0 found.1 in
+    table_at _ _ tables place.kind xs holds low first found.0 found.1 in
     record { declaration = found.0; counted = counted; holds = table_at _ _ xs.items place.attributes ys by_attributes counted.attributes second }
 
 pub at_particles : (s v : Schema) (place : Place) (tables : List (Vec (Vec (Vec Row Global) Global) Global)) (xs : Vec (Vec (Vec Row Global) Global) Global) (ys : Vec (Vec Row Global) Global) →

@@ -2,12 +2,11 @@
 
 ghost use Rattle.std.specs.Prelude.{◌≡◌, IfOk};
 
+use crate::filling::{KindRows, Row, rows_of_kind};
 use charge_world::NoMemory;
 use exi_schema::{Datatype, Place, Places, Root, Schema, Step};
 use std::alloc::Global;
 use std::marker::Model;
-
-use crate::filling::{KindRows, Row, rows_of_kind};
 
 /// How many kinds a number of 16 bits tells apart.
 const KIND_NUMBERS: usize = 65_536;

@@ -5,11 +5,10 @@ ghost use Rattle.exi_schema.specs.Offers.{IsPlace};
 ghost use Rattle.exi_tables.specs.Counts.{attribute_places as places_by_attribute, particle_places as places_by_particle};
 ghost use Rattle.exi_tables.specs.Filled.{IsRow, HoldsCopies, HoldsParticles, HoldsAttributes};
 
+use crate::counts::{attribute_places, copy_places, particle_places};
 use charge_world::NoMemory;
 use exi_schema::{Declaration, Place, Places, Schema, Step};
 use std::alloc::Global;
-
-use crate::counts::{attribute_places, copy_places, particle_places};
 
 /// What is offered at a place: a step for each code, and how many bits a code has.
 #[derive(Drop)]

@@ -329,8 +329,21 @@ fn rows_answer_as_the_schema_at_each_place_of_the_negotiation(rt: HostRuntime) -
         roots: &ROOTS,
     };
     let rows = compile(rt.alloc(), &schema)?;
-    for (kind, places) in [(0, 2), (1, 2), (2, 2), (3, 2), (4, 2), (5, 6), (6, 21), (7, 3)] {
-        assert_eq!(rt; compare_kind(&rt, &schema, &rows, kind), places, "kind {kind}");
+    for (kind, places) in [
+        (0, 2),
+        (1, 2),
+        (2, 2),
+        (3, 2),
+        (4, 2),
+        (5, 6),
+        (6, 21),
+        (7, 3),
+    ] {
+        assert_eq!(rt;
+            compare_kind(&rt, &schema, &rows, kind),
+            places,
+            "kind {kind}"
+        );
     }
     Ok(())
 }
@@ -348,7 +361,11 @@ fn rows_answer_as_a_schema_with_attributes_a_choice_and_a_list_without_a_maximum
     };
     let rows = compile(rt.alloc(), &schema)?;
     for (kind, places) in [(0, 2), (1, 4), (2, 8)] {
-        assert_eq!(rt; compare_kind(&rt, &schema, &rows, kind), places, "kind {kind}");
+        assert_eq!(rt;
+            compare_kind(&rt, &schema, &rows, kind),
+            places,
+            "kind {kind}"
+        );
     }
     assert_eq!(rt; rows.root_width(), 1);
     assert_eq!(rt; rows.root(0), schema.root(0));

@@ -7,7 +7,7 @@ use Rattle.exi_tables.proofs.filling.rows_of_copies.Goals as goal
 pub overflow_cast-place : goal.overflow_cast-place
 overflow_cast-place c =
     let few : copy_places c.args.declaration.now c.args.here.particle ≤ 65536 =
-        (few_places c.args.schema.now c.args.here.kind c.args.declaration.now c.requires.declared).copies c.args.here.particle in
+    (few_places c.args.schema.now c.args.here.kind c.args.declaration.now c.requires.declared).copies c.args.here.particle in
     omega (arith, few)
 
 pub loop-copies-preserved : goal.loop-copies-preserved

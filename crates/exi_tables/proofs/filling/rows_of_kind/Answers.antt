@@ -7,7 +7,7 @@ use Rattle.exi_tables.proofs.filling.rows_of_kind.Goals as goal
 pub overflow_cast-place : goal.overflow_cast-place
 overflow_cast-place c =
     let few : attribute_places c.args.declaration.now ≤ 65536 =
-        (few_places c.args.schema.now c.args.here.kind c.args.declaration.now c.requires).attributes in
+    (few_places c.args.schema.now c.args.here.kind c.args.declaration.now c.requires).attributes in
     omega (arith, few)
 
 pub loop-attributes-preserved : goal.loop-attributes-preserved

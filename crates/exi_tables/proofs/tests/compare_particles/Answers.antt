@@ -6,5 +6,5 @@ use Rattle.exi_tables.proofs.tests.compare_particles.Goals as goal
 pub overflow_cast-place : goal.overflow_cast-place
 overflow_cast-place g c =
     let few : particle_places c.args.declaration.now ≤ 65536 =
-        (few_places c.args.schema.now c.args.here.kind c.args.declaration.now c.requires.declared).particles in
+    (few_places c.args.schema.now c.args.here.kind c.args.declaration.now c.requires.declared).particles in
     omega (arith, few)

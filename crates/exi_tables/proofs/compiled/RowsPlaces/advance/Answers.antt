@@ -12,6 +12,6 @@ returns-clause-of_schema c =
     let P : List Step → Type 0 = λ steps. c.args.code < length steps in
     let less : c.args.code < length c.row-row.result.now.steps.items = subst P (sym is) c.requires.code in
     let taken : Some c.index.result.now ≡ slice_get (offers c.args.self.now.kinds.now c.args.place) c.args.code =
-        ap Some c.index.ensures ∙ sym (slice_get-get_or c.row-row.result.now.steps.items c.args.code c.index.result.now less)
-        ∙ ap (λ steps. slice_get steps c.args.code) is in
+    ap Some c.index.ensures ∙ sym (slice_get-get_or c.row-row.result.now.steps.items c.args.code c.index.result.now less)
+    ∙ ap (λ steps. slice_get steps c.args.code) is in
     offer_fits c.args.self.now c.args.place c.args.code c.index.result.now c.requires.place taken

@@ -1,4 +1,4 @@
-use Rattle.std.proofs.Common.{arith, rules}
+use Rattle.std.proofs.Common.{arith}
 use Rattle.exi_tables.proofs.Offered.{few_offers}
 use Rattle.exi_tables.proofs.compiled.RowsPlaces.alternatives.Goals as goal
 
