@@ -1,0 +1,4 @@
+pub mod Offered
+pub mod Tables
+pub mod Counted
+pub mod Reading

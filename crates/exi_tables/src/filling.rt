@@ -1,0 +1,104 @@
+//! The rows of a schema, place by place.
+
+ghost use Rattle.std.specs.Prelude.{◌≡◌, ◌<◌, slice_get, Some, IfOk};
+ghost use Rattle.exi_schema.specs.Offers.{IsPlace};
+ghost use Rattle.exi_tables.specs.Counts.{attribute_places as places_by_attribute, particle_places as places_by_particle};
+ghost use Rattle.exi_tables.specs.Filled.{IsRow, HoldsCopies, HoldsParticles, HoldsAttributes};
+
+use crate::counts::{attribute_places, copy_places, particle_places};
+use charge_world::NoMemory;
+use exi_schema::{Declaration, Place, Places, Schema, Step};
+use std::alloc::Global;
+
+/// What is offered at a place: a step for each code, and how many bits a code has.
+#[derive(Drop)]
+pub(crate) struct Row {
+    pub(crate) steps: Vec<Step>,
+    pub(crate) width: u32,
+}
+
+/// The rows of a kind: by the attributes passed, by the particles passed, and by the copies passed.
+pub(crate) type KindRows = Vec<Vec<Vec<Row>>>;
+
+/// The row of a place.
+fn row_of(alloc: Global, schema: &Schema, place: Place) -> Result<Row, NoMemory>
+    requires { IsPlace schema.now.kinds.now place }
+    ensures { IfOk result (λ row. IsRow schema.now place row) }
+{
+    let count = schema.alternatives(place);
+    let mut steps = Vec::with_capacity(alloc, count as usize)?;
+    for code in 0..count {
+        steps.push(schema.advance(place, code))?;
+    }
+    let width = schema.width(place);
+    Ok(Row { steps, width })
+}
+
+/// The rows of the places of a kind that differ from `here` in the copies.
+fn rows_of_copies(
+    alloc: Global,
+    schema: &Schema,
+    declaration: &Declaration,
+    here: Place,
+) -> Result<Vec<Row>, NoMemory>
+    requires declared { slice_get schema.now.kinds.now here.kind ≡ Some declaration.now }
+    requires attributes { here.attributes < places_by_attribute declaration.now }
+    requires particle { here.particle < places_by_particle declaration.now }
+    ensures { IfOk result (λ rows. HoldsCopies schema.now declaration.now here rows.items) }
+{
+    let count = copy_places(declaration, here.particle);
+    let mut rows = Vec::with_capacity(alloc, count)?;
+    for copies in 0..count {
+        let place = Place {
+            copies: copies as u16,
+            ..here
+        };
+        rows.push(row_of(alloc, schema, place)?)?;
+    }
+    Ok(rows)
+}
+
+/// The rows of the places of a kind that differ from `here` in the particle and the copies.
+fn rows_of_particles(
+    alloc: Global,
+    schema: &Schema,
+    declaration: &Declaration,
+    here: Place,
+) -> Result<Vec<Vec<Row>>, NoMemory>
+    requires declared { slice_get schema.now.kinds.now here.kind ≡ Some declaration.now }
+    requires attributes { here.attributes < places_by_attribute declaration.now }
+    ensures { IfOk result (λ tables. HoldsParticles schema.now declaration.now here tables.items) }
+{
+    let count = particle_places(declaration);
+    let mut tables = Vec::with_capacity(alloc, count)?;
+    for particle in 0..count {
+        let place = Place {
+            particle: particle as u16,
+            ..here
+        };
+        tables.push(rows_of_copies(alloc, schema, declaration, place)?)?;
+    }
+    Ok(tables)
+}
+
+/// The rows of the places of a kind.
+pub(crate) fn rows_of_kind(
+    alloc: Global,
+    schema: &Schema,
+    declaration: &Declaration,
+    here: Place,
+) -> Result<KindRows, NoMemory>
+    requires { slice_get schema.now.kinds.now here.kind ≡ Some declaration.now }
+    ensures { IfOk result (λ tables. HoldsAttributes schema.now declaration.now here tables.items) }
+{
+    let count = attribute_places(declaration);
+    let mut tables = Vec::with_capacity(alloc, count)?;
+    for attributes in 0..count {
+        let place = Place {
+            attributes: attributes as u16,
+            ..here
+        };
+        tables.push(rows_of_particles(alloc, schema, declaration, place)?)?;
+    }
+    Ok(tables)
+}

@@ -1,0 +1,12 @@
+//! A schema compiled into rows: what is offered at each place (W3C EXI 1.0, Second Edition, 8.5.4), read off without a walk.
+#![tactic(auto)]
+
+mod compiled;
+mod counts;
+mod filling;
+
+pub use charge_world::NoMemory;
+pub use compiled::{Rows, compile};
+
+#[cfg(test)]
+mod tests;

@@ -1,0 +1,374 @@
+//! Rows against the schema that they were made of, at each place of two schemas.
+
+ghost use Rattle.std.specs.Prelude.{◌≡◌, ◌<◌, slice_get, Some, length};
+ghost use Rattle.exi_schema.specs.Offers.{IsPlace};
+ghost use Rattle.exi_tables.specs.Counts.{attribute_places as places_by_attribute, particle_places as places_by_particle};
+
+use super::*;
+use crate::counts::{attribute_places, copy_places, particle_places};
+use exi_schema::{
+    AttributeOf, Datatype, Declaration, Member, MemberStanding, Particle, Place, Places, RootOf,
+    Schema,
+};
+use std::process::Abort;
+use std::test::Fail;
+
+const NAMES: [&'static str; 9] = [
+    "supportedAppProtocolReq",
+    "supportedAppProtocolRes",
+    "AppProtocol",
+    "ProtocolNamespace",
+    "VersionNumberMajor",
+    "VersionNumberMinor",
+    "SchemaID",
+    "Priority",
+    "ResponseCode",
+];
+
+const CODES: [&'static str; 3] = [
+    "OK_SuccessfulNegotiation",
+    "OK_SuccessfulNegotiationWithMinorDeviation",
+    "Failed_NoNegotiation",
+];
+
+const NONE: [&'static str; 0] = [];
+
+const VALUES: [&'static [&'static str]; 8] = [
+    &NONE, &NONE, &NONE, &NONE, &CODES, &NONE, &NONE, &NONE,
+];
+
+const ROOTS: [RootOf; 2] = [
+    RootOf {
+        number: 0,
+        name: 0,
+        kind: 6,
+    },
+    RootOf {
+        number: 1,
+        name: 1,
+        kind: 7,
+    },
+];
+
+const PROTOCOL: [Member; 1] = [Member {
+    name: 2,
+    kind: 5,
+    standing: MemberStanding::Taken,
+}];
+
+const NAMESPACE: [Member; 1] = [Member {
+    name: 3,
+    kind: 0,
+    standing: MemberStanding::Taken,
+}];
+
+const MAJOR: [Member; 1] = [Member {
+    name: 4,
+    kind: 1,
+    standing: MemberStanding::Taken,
+}];
+
+const MINOR: [Member; 1] = [Member {
+    name: 5,
+    kind: 1,
+    standing: MemberStanding::Taken,
+}];
+
+const SCHEMA: [Member; 1] = [Member {
+    name: 6,
+    kind: 2,
+    standing: MemberStanding::Taken,
+}];
+
+const PRIORITY: [Member; 1] = [Member {
+    name: 7,
+    kind: 3,
+    standing: MemberStanding::Taken,
+}];
+
+const CODE: [Member; 1] = [Member {
+    name: 8,
+    kind: 4,
+    standing: MemberStanding::Taken,
+}];
+
+const ENTRY: [Particle<'static>; 5] = [
+    Particle {
+        members: &NAMESPACE,
+        least: 1,
+        most: Some(1),
+        profile: 1,
+    },
+    Particle {
+        members: &MAJOR,
+        least: 1,
+        most: Some(1),
+        profile: 1,
+    },
+    Particle {
+        members: &MINOR,
+        least: 1,
+        most: Some(1),
+        profile: 1,
+    },
+    Particle {
+        members: &SCHEMA,
+        least: 1,
+        most: Some(1),
+        profile: 1,
+    },
+    Particle {
+        members: &PRIORITY,
+        least: 1,
+        most: Some(1),
+        profile: 1,
+    },
+];
+
+const REQUEST: [Particle<'static>; 1] = [Particle {
+    members: &PROTOCOL,
+    least: 1,
+    most: Some(20),
+    profile: 20,
+}];
+
+const RESPONSE: [Particle<'static>; 2] = [
+    Particle {
+        members: &CODE,
+        least: 1,
+        most: Some(1),
+        profile: 1,
+    },
+    Particle {
+        members: &SCHEMA,
+        least: 0,
+        most: Some(1),
+        profile: 1,
+    },
+];
+
+const KINDS: [Declaration<'static>; 8] = [
+    Declaration::Simple(Datatype::Text { most: 100 }),
+    Declaration::Simple(Datatype::Unsigned {
+        most: 4_294_967_295,
+    }),
+    Declaration::Simple(Datatype::Bounded {
+        least: 0,
+        count: 256,
+    }),
+    Declaration::Simple(Datatype::Bounded {
+        least: 1,
+        count: 20,
+    }),
+    Declaration::Simple(Datatype::Named { count: 3 }),
+    Declaration::Complex {
+        attributes: &[],
+        particles: &ENTRY,
+    },
+    Declaration::Complex {
+        attributes: &[],
+        particles: &REQUEST,
+    },
+    Declaration::Complex {
+        attributes: &[],
+        particles: &RESPONSE,
+    },
+];
+
+const WORDS: [&'static str; 5] = ["Set", "Entry", "Name", "Small", "Large"];
+
+const NO_VALUES: [&'static [&'static str]; 3] = [&NONE, &NONE, &NONE];
+
+const SET_ROOTS: [RootOf; 1] = [RootOf {
+    number: 0,
+    name: 0,
+    kind: 2,
+}];
+
+const REQUIRED: [AttributeOf; 1] = [AttributeOf {
+    name: 2,
+    kind: 0,
+    required: true,
+}];
+
+const OPTIONAL: [AttributeOf; 1] = [AttributeOf {
+    name: 2,
+    kind: 0,
+    required: false,
+}];
+
+const SIZES: [Member; 2] = [
+    Member {
+        name: 3,
+        kind: 0,
+        standing: MemberStanding::Taken,
+    },
+    Member {
+        name: 4,
+        kind: 0,
+        standing: MemberStanding::OutOfProfile,
+    },
+];
+
+const ENTRIES: [Member; 1] = [Member {
+    name: 1,
+    kind: 1,
+    standing: MemberStanding::Taken,
+}];
+
+const CHOICE: [Particle<'static>; 1] = [Particle {
+    members: &SIZES,
+    least: 1,
+    most: Some(1),
+    profile: 1,
+}];
+
+const LIST: [Particle<'static>; 1] = [Particle {
+    members: &ENTRIES,
+    least: 1,
+    most: None,
+    profile: 2,
+}];
+
+const SET_KINDS: [Declaration<'static>; 3] = [
+    Declaration::Simple(Datatype::Text { most: 64 }),
+    Declaration::Complex {
+        attributes: &REQUIRED,
+        particles: &CHOICE,
+    },
+    Declaration::Complex {
+        attributes: &OPTIONAL,
+        particles: &LIST,
+    },
+];
+
+/// Sees that two forms of a schema offer the same at a place.
+fn compare_at<A: Places, B: Places>(rt: &impl Abort, plain: &A, compiled: &B, place: Place)
+    requires plain { IsPlace (A.schema plain.now).kinds.now place }
+    requires compiled { IsPlace (B.schema compiled.now).kinds.now place }
+{
+    let count = plain.alternatives(place);
+    assert_eq!(rt; compiled.alternatives(place), count);
+    assert_eq!(rt; compiled.width(place), plain.width(place));
+    for code in 0..count {
+        assert_eq!(rt; compiled.advance(place, code), plain.advance(place, code));
+    }
+}
+
+/// Compares at each place that differs from `here` in the copies, and counts these places.
+fn compare_copies(
+    rt: &impl Abort,
+    schema: &Schema,
+    rows: &Rows,
+    declaration: &Declaration,
+    here: Place,
+) -> usize
+    requires same { rows.now ≡ schema.now }
+    requires declared { slice_get schema.now.kinds.now here.kind ≡ Some declaration.now }
+    requires attributes { here.attributes < places_by_attribute declaration.now }
+    requires particle { here.particle < places_by_particle declaration.now }
+{
+    let count = copy_places(declaration, here.particle);
+    for copies in 0..count {
+        let place = Place {
+            copies: copies as u16,
+            ..here
+        };
+        compare_at(rt, schema, rows, place);
+    }
+    count
+}
+
+/// Compares at each place that differs from `here` in the particle or the copies, and counts these places.
+fn compare_particles(
+    rt: &impl Abort,
+    schema: &Schema,
+    rows: &Rows,
+    declaration: &Declaration,
+    here: Place,
+) -> usize
+    requires same { rows.now ≡ schema.now }
+    requires declared { slice_get schema.now.kinds.now here.kind ≡ Some declaration.now }
+    requires attributes { here.attributes < places_by_attribute declaration.now }
+{
+    let mut places: usize = 0;
+    for particle in 0..particle_places(declaration) {
+        let place = Place {
+            particle: particle as u16,
+            ..here
+        };
+        places = places.saturating_add(compare_copies(rt, schema, rows, declaration, place));
+    }
+    places
+}
+
+/// Compares at each place of a kind, and counts these places.
+fn compare_kind(rt: &impl Abort, schema: &Schema, rows: &Rows, kind: u16) -> usize
+    requires same { rows.now ≡ schema.now }
+    requires kind { kind < length schema.now.kinds.now }
+{
+    let declaration = &schema.kinds[kind as usize];
+    let mut places: usize = 0;
+    for attributes in 0..attribute_places(declaration) {
+        let place = Place {
+            attributes: attributes as u16,
+            ..Place::first(kind)
+        };
+        places = places.saturating_add(compare_particles(rt, schema, rows, declaration, place));
+    }
+    places
+}
+
+#[test]
+fn rows_answer_as_the_schema_at_each_place_of_the_negotiation(rt: HostRuntime) -> Result<(), Fail> {
+    let schema = Schema {
+        kinds: &KINDS,
+        names: &NAMES,
+        values: &VALUES,
+        root_bits: 2,
+        roots: &ROOTS,
+    };
+    let rows = compile(rt.alloc(), &schema)?;
+    for (kind, places) in [
+        (0, 2),
+        (1, 2),
+        (2, 2),
+        (3, 2),
+        (4, 2),
+        (5, 6),
+        (6, 21),
+        (7, 3),
+    ] {
+        assert_eq!(rt;
+            compare_kind(&rt, &schema, &rows, kind),
+            places,
+            "kind {kind}"
+        );
+    }
+    Ok(())
+}
+
+#[test]
+fn rows_answer_as_a_schema_with_attributes_a_choice_and_a_list_without_a_maximum(
+    rt: HostRuntime,
+) -> Result<(), Fail> {
+    let schema = Schema {
+        kinds: &SET_KINDS,
+        names: &WORDS,
+        values: &NO_VALUES,
+        root_bits: 1,
+        roots: &SET_ROOTS,
+    };
+    let rows = compile(rt.alloc(), &schema)?;
+    for (kind, places) in [(0, 2), (1, 4), (2, 8)] {
+        assert_eq!(rt;
+            compare_kind(&rt, &schema, &rows, kind),
+            places,
+            "kind {kind}"
+        );
+    }
+    assert_eq!(rt; rows.root_width(), 1);
+    assert_eq!(rt; rows.root(0), schema.root(0));
+    assert_eq!(rt; rows.datatype(0), schema.datatype(0));
+    Ok(())
+}
