@@ -1,2 +1,4 @@
-//! What a site may hear and do, as relations over its whole past. All of it stands in `specs/`.
+//! What a site may hear and do, as relations over its whole past, in `specs/`; and a plain reader of a past.
 #![tactic(auto)]
+
+pub mod plain;

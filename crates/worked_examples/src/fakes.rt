@@ -1,10 +1,11 @@
 //! The fakes in memory: each call once, and each failing call once.
 
-use crate::scripts::{came, event, piece};
+use crate::events::{came, event};
+use crate::scripts::piece;
 use arrayvec::ArrayVec;
 use charge_world::{
     Failed, Heard, MemorySink, MemorySource, MemoryWire, NamedFile, Order, Piece, PortPair, Ports,
-    Sink, Source, What, Wire,
+    Scripted, Sink, Source, What, Wire,
 };
 use std::alloc::Global;
 use std::test::*;
@@ -51,9 +52,7 @@ fn a_file_that_fails(rt: HostRuntime) -> Result<(), Fail> {
 
 #[test]
 fn a_sink_keeps_what_it_took(rt: HostRuntime) -> Result<(), Fail> {
-    let mut failing = Vec::new(rt.alloc());
-    failing.push(2)?;
-    let mut sink = MemorySink::make(rt.alloc(), failing, 8)?;
+    let mut sink = MemorySink::make(rt.alloc(), vec![in rt.alloc(); 2]?, 8)?;
     assert_eq!(rt; sink.write(b"one "), Ok(()));
     assert_eq!(rt; sink.write(b"two "), Err(Failed));
     assert_eq!(rt; sink.write(b"3"), Ok(()));
@@ -61,11 +60,21 @@ fn a_sink_keeps_what_it_took(rt: HostRuntime) -> Result<(), Fail> {
     Ok(())
 }
 
-/// Each call of a wire once, on post 1; true for each that didn't fail.
-fn calls(wire: &mut MemoryWire) -> [bool; 6] {
+/// Post 1 without discovery.
+fn post_1() -> Ports {
     let mut pairs = ArrayVec::new();
     pairs.push(PortPair { tcp: 15120, sdp: 0 });
-    let started = wire.start(&Ports::Posts { pairs, sessions: 1 });
+    Ports::Posts { pairs, sessions: 1 }
+}
+
+/// A wire with this script, whose calls of these numbers fail, and with room for 16 entries of 64 bytes in all.
+fn memory_wire(alloc: Global, script: Vec<Scripted>, failing: &[u32]) -> Result<MemoryWire, Fail> {
+    Ok(MemoryWire::make(alloc, script, failing.to_vec(alloc)?, 16, 64)?)
+}
+
+/// Each call of a wire once, on post 1; true for each that didn't fail.
+fn calls(wire: &mut MemoryWire) -> [bool; 6] {
+    let started = wire.start(&post_1());
     let mut room = [0u8; 4096];
     [
         started.is_ok(),
@@ -79,19 +88,15 @@ fn calls(wire: &mut MemoryWire) -> [bool; 6] {
 
 #[test]
 fn each_call_of_a_wire(rt: HostRuntime) -> Result<(), Fail> {
-    let mut script = Vec::new(rt.alloc());
-    script.push(came(rt.alloc()))?;
-    let mut wire = MemoryWire::make(rt.alloc(), script, Vec::new(rt.alloc()), 16, 64)?;
+    let script = vec![in rt.alloc(); came(rt.alloc())]?;
+    let mut wire = memory_wire(rt.alloc(), script, &[])?;
     assert_eq!(rt; calls(&mut wire), [true; 6]);
     wire.end(1, 18);
     assert_eq!(rt; wire.entries(rt.alloc())?.len(), 6);
     assert_eq!(rt; wire.untils(), [5].as_slice());
     for k in 0..6 {
-        let mut script = Vec::new(rt.alloc());
-        script.push(came(rt.alloc()))?;
-        let mut failing = Vec::new(rt.alloc());
-        failing.push(k as u32 + 1)?;
-        let mut wire = MemoryWire::make(rt.alloc(), script, failing, 16, 64)?;
+        let script = vec![in rt.alloc(); came(rt.alloc())]?;
+        let mut wire = memory_wire(rt.alloc(), script, &[k as u32 + 1])?;
         let mut wanted = [true; 6];
         wanted[k] = false;
         assert_eq!(rt; calls(&mut wire), wanted);
@@ -110,10 +115,8 @@ fn a_wire_leaves_out_what_does_not_fit(rt: HostRuntime) -> Result<(), Fail> {
     short.heard.what = What::Bytes { post: 1, n: 2 };
     script.push(short)?;
     script.push(event(rt.alloc(), What::Tick))?;
-    let mut wire = MemoryWire::make(rt.alloc(), script, Vec::new(rt.alloc()), 16, 64)?;
-    let mut pairs = ArrayVec::new();
-    pairs.push(PortPair { tcp: 15120, sdp: 0 });
-    assert_eq!(rt; wire.start(&Ports::Posts { pairs, sessions: 1 }), Ok(()));
+    let mut wire = memory_wire(rt.alloc(), script, &[])?;
+    assert_eq!(rt; wire.start(&post_1()), Ok(()));
     let mut room = [0u8; 4096];
     assert_eq!(rt;
         wire.next(0, &mut room),

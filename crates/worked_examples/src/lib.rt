@@ -1,6 +1,7 @@
-//! Worked examples that cross the crates: scripts of hearings, and what a station does about them.
+//! Worked examples that cross the crates: scripts of hearings, a wire that only ticks, and what a station does about them.
 #![tactic(auto)]
 
+pub mod events;
 #[cfg(test)]
 mod fakes;
 #[cfg(test)]
@@ -9,5 +10,4 @@ mod scripts;
 mod station;
 #[cfg(test)]
 mod texts;
-#[cfg(test)]
-mod ticking;
+pub mod ticking;

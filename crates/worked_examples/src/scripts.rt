@@ -1,8 +1,9 @@
 //! Scripts, and what a run of them leaves, as text.
 
+use crate::events::came;
 use charge_run::{Status, WordList, run};
 use charge_world::{
-    Entry, Heard, MemorySink, MemorySource, MemoryWire, NoMemory, Piece, Scripted, What,
+    Entry, Heard, MemorySink, MemorySource, MemoryWire, NoMemory, Piece, Scripted, What, Wire,
 };
 use std::alloc::Global;
 use std::test::Fail;
@@ -21,14 +22,6 @@ pub struct Left {
     pub untils: usize,
 }
 
-/// An event at moment 0 without bytes.
-pub fn event(alloc: Global, what: What) -> Scripted {
-    Scripted {
-        heard: Heard { at: 0, what },
-        bytes: Piece::of(Vec::new(alloc)),
-    }
-}
-
 /// A piece for post 1.
 pub fn piece(alloc: Global, hex: &str) -> Result<Scripted, Fail> {
     let bytes = hex::decode(alloc, hex)?;
@@ -42,8 +35,14 @@ pub fn piece(alloc: Global, hex: &str) -> Result<Scripted, Fail> {
     })
 }
 
-pub fn came(alloc: Global) -> Scripted {
-    event(alloc, What::Came { post: 1, token: 1 })
+/// The connection of post 1 begins, and then brings these bytes in one piece.
+pub fn brought(alloc: Global, hex: &str) -> Result<Vec<Scripted>, Fail> {
+    Ok(vec![in alloc; came(alloc), piece(alloc, hex)?]?)
+}
+
+/// The words of the command that serves a station.
+pub fn station_words(alloc: Global) -> Result<Vec<String>, NoMemory> {
+    Ok(vec![in alloc; String::from_str(alloc, "station")?]?)
 }
 
 /// Serves the script, whose calls of these numbers fail, with an output whose writes of these numbers fail.
@@ -53,11 +52,10 @@ pub fn station(
     failing: &[u32],
     unwritten: &[u32],
 ) -> Result<Left, Fail> {
-    let mut words = Vec::new(alloc);
-    words.push(String::from_str(alloc, "station")?)?;
-    ran(alloc, words, script, failing, unwritten)
+    ran(alloc, station_words(alloc)?, script, failing, unwritten)
 }
 
+/// Runs the words over that script.
 pub fn ran(
     alloc: Global,
     words: Vec<String>,
@@ -66,23 +64,31 @@ pub fn ran(
     unwritten: &[u32],
 ) -> Result<Left, Fail> {
     let mut wire = MemoryWire::make(alloc, script, failing.to_vec(alloc)?, 400, 4096)?;
-    let mut out = MemorySink::make(alloc, unwritten.to_vec(alloc)?, 256)?;
-    let mut trace = MemorySink::make(alloc, Vec::new(alloc), 0)?;
-    let mut files = MemorySource::of(Vec::new(alloc), Vec::new(alloc));
-    let status = run(
-        alloc,
-        &WordList::of(words),
-        &mut files,
-        &mut out,
-        &mut trace,
-        &mut wire,
-    );
+    let (status, out) = told(alloc, words, unwritten, &mut wire)?;
     Ok(Left {
         status,
-        out: String::from_str(alloc, str::from_utf8(out.bytes())?)?,
+        out,
         done: done(alloc, &wire)?,
         untils: wire.untils().len(),
     })
+}
+
+/// Runs the words over the wire, with an output whose writes of these numbers fail: the status, and the output.
+pub fn told<W: Wire>(
+    alloc: Global,
+    words: Vec<String>,
+    unwritten: &[u32],
+    wire: &mut W,
+) -> Result<(Status, String), Fail> {
+    let mut out = MemorySink::make(alloc, unwritten.to_vec(alloc)?, 256)?;
+    let mut trace = MemorySink::make(alloc, Vec::new(alloc), 0)?;
+    let mut files = MemorySource::of(Vec::new(alloc), Vec::new(alloc));
+    let words = WordList::of(words);
+    let status = run(alloc, &words, &mut files, &mut out, &mut trace, wire);
+    Ok((
+        status,
+        String::from_str(alloc, str::from_utf8(out.bytes())?)?,
+    ))
 }
 
 /// The entries but the hearings, in order.

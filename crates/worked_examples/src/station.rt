@@ -1,15 +1,15 @@
 //! A station of this stage: one negotiation.
 
-use crate::scripts::{REQUEST, came, event, piece, ran, station};
+use crate::events::{came, event};
+use crate::scripts::{REQUEST, brought, piece, ran, station, station_words, told};
+use crate::ticking::Ticking;
 use charge_run::Status;
 use charge_world::What;
 use std::test::*;
 
 #[test]
 fn the_published_request_is_answered(rt: HostRuntime) -> Result<(), Fail> {
-    let mut script = Vec::new(rt.alloc());
-    script.push(came(rt.alloc()))?;
-    script.push(piece(rt.alloc(), REQUEST)?)?;
+    let script = brought(rt.alloc(), REQUEST)?;
     let left = station(rt.alloc(), script, &[], &[])?;
     assert_eq!(rt; left.status, Status::Done);
     assert_eq!(rt;
@@ -72,9 +72,7 @@ fn other_scripts(rt: HostRuntime) -> Result<(), Fail> {
         ("01fe80010000", " ended 1 18"),
     ];
     for (hex, want) in table {
-        let mut script = Vec::new(rt.alloc());
-        script.push(came(rt.alloc()))?;
-        script.push(piece(rt.alloc(), hex)?)?;
+        let script = brought(rt.alloc(), hex)?;
         let left = station(rt.alloc(), script, &[], &[])?;
         assert_eq!(rt; left.status, Status::Done);
         assert_eq!(rt; left.done.as_str(), want, "at {hex}");
@@ -105,9 +103,7 @@ fn each_failing_call(rt: HostRuntime) -> Result<(), Fail> {
         ),
     ];
     for (failing, unwritten, status, want, out) in table {
-        let mut script = Vec::new(rt.alloc());
-        script.push(came(rt.alloc()))?;
-        script.push(piece(rt.alloc(), REQUEST)?)?;
+        let script = brought(rt.alloc(), REQUEST)?;
         let left = station(rt.alloc(), script, &failing, &unwritten)?;
         assert_eq!(rt; left.status, status);
         assert_eq!(rt; left.done.as_str(), want);
@@ -123,19 +119,27 @@ fn other_words(rt: HostRuntime) -> Result<(), Fail> {
         ("Station", Status::Words),
         ("", Status::Words),
     ] {
-        let mut words = Vec::new(rt.alloc());
-        words.push(String::from_str(rt.alloc(), word)?)?;
+        let words = vec![in rt.alloc(); String::from_str(rt.alloc(), word)?]?;
         let left = ran(rt.alloc(), words, Vec::new(rt.alloc()), &[], &[])?;
         assert_eq!(rt; left.status, want);
     }
-    let left = ran(
-        rt.alloc(),
-        Vec::new(rt.alloc()),
-        Vec::new(rt.alloc()),
-        &[],
-        &[],
-    )?;
+    let no_words = Vec::new(rt.alloc());
+    let left = ran(rt.alloc(), no_words, Vec::new(rt.alloc()), &[], &[])?;
     assert_eq!(rt; left.status, Status::Words);
     assert_eq!(rt; left.status.number(), 2);
+    Ok(())
+}
+
+#[test]
+fn a_station_stops_behind_its_last_turn(rt: HostRuntime) -> Result<(), Fail> {
+    let words = station_words(rt.alloc())?;
+    let mut wire = Ticking::new();
+    let (status, out) = told(rt.alloc(), words, &[], &mut wire)?;
+    assert_eq!(rt; status, Status::TurnsSpent);
+    assert_eq!(rt; wire.hearings(), 1_000_000);
+    assert_eq!(rt;
+        out.as_str(),
+        "post 1 sessions 0 closed 0 causes 00000000\nturns\n"
+    );
     Ok(())
 }

@@ -1,17 +1,45 @@
 //! A wire that ticks for ever.
 
-ghost use Rattle.std.specs.Prelude.{◌≡◌, None, [], ℕ, List, Option};
+ghost use Rattle.std.specs.Prelude.{◌≡◌, ◌+◌, ◌-◌, ◌^◌, [], None, Ok, min};
 ghost use Rattle.charge_world.specs.Outside.{posts_of};
 
-use charge_run::{Status, WordList, run};
-use charge_world::{Failed, Heard, MemorySink, MemorySource, Order, Ports, What, Wire};
-use std::test::*;
+use charge_world::{Failed, Heard, Order, Ports, What, Wire};
+use std::marker::Model;
 
-/// It tells no past, and nothing fails.
+/// A wire that hears a tick at each hearing, always at moment 0. It tells no past, and none of its calls fails.
+///
+/// Contracts see how many posts it started, and how many hearings it gave, at most 2^32 - 1.
 #[derive(Drop)]
-struct Ticking {
+pub struct Ticking {
     posts: u8,
     hearings: u32,
+}
+
+impl Model for Ticking {
+    ghost use Rattle.worked_examples.specs.Ticks.{Ticks};
+
+    ghost Value = { Ticks };
+
+    ghost view = { λ w. record { posts = w.posts; hearings = w.hearings } };
+}
+
+impl Ticking {
+    /// A wire that started no post and gave no hearing.
+    pub fn new() -> Ticking
+        ensures { result ≡ record { posts = 0; hearings = 0 } }
+    {
+        Ticking {
+            posts: 0,
+            hearings: 0,
+        }
+    }
+
+    /// How many hearings it gave, at most 2^32 - 1.
+    pub fn hearings(&self) -> u32
+        ensures { result ≡ self.now.hearings }
+    {
+        self.hearings
+    }
 }
 
 impl Wire for Ticking {
@@ -23,7 +51,10 @@ impl Wire for Ticking {
 
     ghost faults = { λ _. 0 };
 
-    fn start(&mut self, ports: &Ports) -> Result<(), Failed> {
+    fn start(&mut self, ports: &Ports) -> Result<(), Failed>
+        ensures done { result ≡ Ok tt }
+        ensures started { self.new ≡ record self.old { posts = posts_of ports.now } }
+    {
         self.posts = match ports {
             Ports::Posts { pairs, sessions: _ } => pairs.len() as u8,
             Ports::Car { .. } => 1,
@@ -31,7 +62,11 @@ impl Wire for Ticking {
         Ok(())
     }
 
-    fn next(&mut self, _until: u64, _room: &mut [u8]) -> Result<Heard, Failed> {
+    fn next(&mut self, _until: u64, _room: &mut [u8]) -> Result<Heard, Failed>
+        ensures tick { result ≡ Ok (record { at = 0; what = What.Tick }) }
+        ensures counted { self.new ≡ record self.old { hearings = min (self.old.hearings + 1) (2 ^ 32 - 1) } }
+        ensures room { _room.new ≡ _room.old }
+    {
         self.hearings = self.hearings.saturating_add(1);
         Ok(Heard {
             at: 0,
@@ -39,49 +74,35 @@ impl Wire for Ticking {
         })
     }
 
-    fn send(&mut self, _post: u8, _bytes: &[u8]) -> Result<(), Failed> {
+    fn send(&mut self, _post: u8, _bytes: &[u8]) -> Result<(), Failed>
+        ensures done { result ≡ Ok tt }
+        ensures stays { self.new ≡ self.old }
+    {
         Ok(())
     }
 
-    fn answer(&mut self, _post: u8, _bytes: &[u8]) -> Result<(), Failed> {
+    fn answer(&mut self, _post: u8, _bytes: &[u8]) -> Result<(), Failed>
+        ensures done { result ≡ Ok tt }
+        ensures stays { self.new ≡ self.old }
+    {
         Ok(())
     }
 
-    fn drive(&mut self, _post: u8, _order: Order) -> Result<(), Failed> {
+    fn drive(&mut self, _post: u8, _order: Order) -> Result<(), Failed>
+        ensures done { result ≡ Ok tt }
+        ensures stays { self.new ≡ self.old }
+    {
         Ok(())
     }
 
-    fn dial(&mut self, _port: u16) -> Result<(), Failed> {
+    fn dial(&mut self, _port: u16) -> Result<(), Failed>
+        ensures done { result ≡ Ok tt }
+        ensures stays { self.new ≡ self.old }
+    {
         Ok(())
     }
 
-    fn end(&mut self, _post: u8, _cause: u8) {}
-}
-
-#[test]
-fn a_station_stops_behind_its_last_turn(rt: HostRuntime) -> Result<(), Fail> {
-    let mut words = Vec::new(rt.alloc());
-    words.push(String::from_str(rt.alloc(), "station")?)?;
-    let mut wire = Ticking {
-        posts: 0,
-        hearings: 0,
-    };
-    let mut out = MemorySink::make(rt.alloc(), Vec::new(rt.alloc()), 256)?;
-    let mut trace = MemorySink::make(rt.alloc(), Vec::new(rt.alloc()), 0)?;
-    let mut files = MemorySource::of(Vec::new(rt.alloc()), Vec::new(rt.alloc()));
-    let status = run(
-        rt.alloc(),
-        &WordList::of(words),
-        &mut files,
-        &mut out,
-        &mut trace,
-        &mut wire,
-    );
-    assert_eq!(rt; status, Status::TurnsSpent);
-    assert_eq!(rt; wire.hearings, 1_000_000);
-    assert_eq!(rt;
-        out.bytes(),
-        b"post 1 sessions 0 closed 0 causes 00000000\nturns\n".as_slice()
-    );
-    Ok(())
+    fn end(&mut self, _post: u8, _cause: u8)
+        ensures stays { self.new ≡ self.old }
+    {}
 }
