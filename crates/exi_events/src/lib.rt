@@ -1,0 +1,6 @@
+//! The events of EXI documents (W3C EXI 1.0, Second Edition, 4 and 8), read from a payload and written into a room, over the places of
+//! any schema. No call takes memory.
+#![tactic(auto)]
+
+mod open;
+mod step;
