@@ -1,3 +1,5 @@
 pub mod Limits
 pub mod Front
 pub mod Codes
+pub mod Nexts
+pub mod Innermost

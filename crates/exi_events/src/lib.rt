@@ -2,5 +2,6 @@
 //! any schema. No call takes memory.
 #![tactic(auto)]
 
+mod inside;
 mod open;
 mod step;

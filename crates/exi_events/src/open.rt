@@ -1,7 +1,7 @@
 //! The elements that have started and not ended.
 
 ghost use Rattle.std.specs.Prelude.{◌≡◌, ◌<◌, ◌↔◌, ℕ, List, [], ◌∷◌, length, MatchOption, IsTrue};
-ghost use Rattle.exi_events.specs.Open.{opened_of};
+ghost use Rattle.exi_events.specs.Inside.{GoesTo, HasTop};
 
 use arrayvec::ArrayVec;
 use exi_schema::Place;
@@ -51,14 +51,14 @@ impl OpenElements {
 
     /// The innermost element.
     pub(crate) fn innermost(&self) -> Option<OpenElement>
-        ensures { MatchOption result (self.now ≡ []) (λ top. (above : List _) × (self.now ≡ opened_of top ∷ above)) }
+        ensures { MatchOption result (self.now ≡ []) (HasTop self.now) }
     {
         self.outermost_first.last().copied()
     }
 
     /// The innermost element has reached this place.
     pub(crate) fn goes_to(&mut self, place: Place)
-        ensures { (top : _) (above : List _) → self.old ≡ top ∷ above → self.new ≡ record { name = top.name; place = place } ∷ above }
+        ensures { GoesTo self.old place self.new }
     {
         if let Some(top) = self.outermost_first.last_mut() {
             top.place = place;
