@@ -1,2 +1,4 @@
 pub mod Widths
 pub mod Parts
+pub mod Places
+pub mod Hits
