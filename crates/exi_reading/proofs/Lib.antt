@@ -2,3 +2,4 @@ pub mod Widths
 pub mod Parts
 pub mod Places
 pub mod Hits
+pub mod Announced
