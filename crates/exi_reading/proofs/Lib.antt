@@ -3,3 +3,4 @@ pub mod Parts
 pub mod Places
 pub mod Hits
 pub mod Announced
+pub mod Values
