@@ -5,5 +5,6 @@
 
 mod items;
 mod reader;
+mod texts;
 
 pub use reader::PayloadReader;
