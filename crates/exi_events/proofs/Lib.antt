@@ -3,3 +3,4 @@ pub mod Front
 pub mod Codes
 pub mod Nexts
 pub mod Innermost
+pub mod Datatypes

@@ -35,12 +35,11 @@ fn take_value<'a, P: Places>(
     ensures refused { IfErr result (λ r. (at : ℕ) × RefusesValueOf (P.schema places.now).kinds.now kind (texts_in reader.old.bits table.old.entries) name (ahead reader.old) r.cause at × (r.bit ≡ reader.old.place + at)) }
 {
     match places.datatype(kind) {
-        Some(_) => unreachable!(),
+        Some(datatype) => reader.take_value(datatype, name, table),
         None => unreachable!(),
     }
 }
 
-#[tactic(auto, using(crate::proofs::Innermost::step_refused, crate::proofs::Innermost::attribute_refused, crate::proofs::Innermost::content_refused))]
 /// Takes the next event inside the innermost element, which is `top`.
 pub(crate) fn take_inside<'a, P: Places>(
     reader: &mut PayloadReader<'a>,
