@@ -1,11 +1,18 @@
 //! Laws of the documents of a schema (W3C EXI 1.0, Second Edition).
 
 ghost use Rattle.exi_schema.specs.declared.schema.Schema.{Schema};
-ghost use Rattle.exi_documents.specs.Values.{SpellsValue, WritesValue};
-ghost use Rattle.document_laws.specs.Laws.{TellTrees};
+ghost use Rattle.std.specs.Prelude.{ℕ, ◌≤◌, length};
+ghost use Rattle.exi_schema.specs.declared.tables.Datatype.{Datatype};
+ghost use Rattle.exi_documents.specs.Values.{Entries, most_entries, SpellsValue, WritesValue};
+ghost use Rattle.document_laws.specs.Laws.{TellTrees, IsValueExact};
 
 /// The events up to the end of a document are those of the tree that its bits spell, in any spelling and as it is written.
 pub fn events_tell_trees()
     ensures spelled { (s : Schema) → TellTrees SpellsValue s }
     ensures written { (s : Schema) → TellTrees WritesValue s }
+{}
+
+/// Each list of bits begins with one spelling of one value of a datatype, or has one refusal, at one of its bits.
+pub fn each_value()
+    ensures { (d : Datatype) (entries : Entries) (name : ℕ) → length entries ≤ most_entries → IsValueExact d entries name }
 {}
