@@ -122,7 +122,7 @@ RefusesChained {V} Spells Refuses Later bits fault =
     ⊎ ((v : V) × (front : List Bool) × (rest : List Bool) × (behind : ℕ)
     × Spells v front × (bits ≡ front ++ rest) × Later v rest (fault.0, behind) × (fault.1 ≡ length front + behind))
 
-module _ {V W : Type 0} (Spells : Spelling V) (Refuses : Refusing) (Then : V → Spelling W) (Later : V → Refusing) (h : IsExact Spells Refuses) (g : (v : V) → IsExact (Then v) (Later v)) where
+module _ {V W : Type 0} (Spells : Spelling V) (Refuses : Refusing) (Then : V → Spelling W) (Later : V → Refusing) (h : IsExact Spells Refuses) (g : (v : V) (front : List Bool) → Spells v front → IsExact (Then v) (Later v)) where
   -- what stands in front, and what is left behind it, are one
   fronts : (v w : V) (a b x y : List Bool) → Spells v a → Spells w b → a ++ x ≡ b ++ y → (a ≡ b) × (v ≡ w) × (x ≡ y)
   fronts v w a b x y s t e =
@@ -137,7 +137,7 @@ module _ {V W : Type 0} (Spells : Spelling V) (Refuses : Refusing) (Then : V →
       let s = begins.2 in
       let e : s.1 ++ (s.2 ++ begins.1) ≡ q.1 ++ q.2 = sym (begins.3 ∙ ap (λ (l : List Bool). l ++ begins.1) s.5 ∙ append_assoc s.1 s.2 begins.1) ∙ q.5 in
       let same = fronts s.0 q.0 s.1 q.1 (s.2 ++ begins.1) q.2 s.3 q.4 e in
-      (g q.0).apart w q.2 (r.0, q.3) (s.2, begins.1, subst (λ (v : V). Then v w s.2) same.1 s.4, sym same.2) q.6
+      (g q.0 q.1 q.4).apart w q.2 (r.0, q.3) (s.2, begins.1, subst (λ (v : V). Then v w s.2) same.1 s.4, sym same.2) q.6
 
   chained_once : (bits : List Bool) (r s : Fault) → RefusesChained Spells Refuses Later bits r → RefusesChained Spells Refuses Later bits s → r ≡ s
   chained_once bits r s (inl p) (inl q) = h.one_refusal bits r s p q
@@ -146,7 +146,7 @@ module _ {V W : Type 0} (Spells : Spelling V) (Refuses : Refusing) (Then : V →
   chained_once bits r s (inr p) (inr q) =
       let same = fronts p.0 q.0 p.1 q.1 p.2 q.2 p.4 q.4 (sym p.5 ∙ q.5) in
       let moved : Later q.0 q.2 (r.0, p.3) = subst (λ (v : V). Later v q.2 (r.0, p.3)) same.1 (subst (λ (l : List Bool). Later p.0 l (r.0, p.3)) same.2 p.6) in
-      let one : (r.0, p.3) ≡ (s.0, q.3) = (g q.0).one_refusal q.2 (r.0, p.3) (s.0, q.3) moved q.6 in
+      let one : (r.0, p.3) ≡ (s.0, q.3) = (g q.0 q.1 q.4).one_refusal q.2 (r.0, p.3) (s.0, q.3) moved q.6 in
       same_fault r s (ap (λ (f : Fault). f.0) one)
       (p.7 ∙ ap (λ (l : List Bool). length l + p.3) same.0 ∙ ap (λ (f : Fault). length q.1 + f.1) one ∙ sym q.7)
 
@@ -157,13 +157,13 @@ module _ {V W : Type 0} (Spells : Spelling V) (Refuses : Refusing) (Then : V →
             let whole : p.1 ++ (p.2 ++ c) ≡ q.1 ++ (q.2 ++ d) =
             sym (ap (λ (l : List Bool). l ++ c) p.5 ∙ append_assoc p.1 p.2 c) ∙ e ∙ (ap (λ (l : List Bool). l ++ d) q.5 ∙ append_assoc q.1 q.2 d) in
             let same = fronts p.0 q.0 p.1 q.1 (p.2 ++ c) (q.2 ++ d) p.3 q.3 whole in
-            let later = (g q.0).prefix w x p.2 q.2 c d (subst (λ (v : V). Then v w p.2) same.1 p.4) q.4 same.2 in
+            let later = (g q.0 q.1 q.3).prefix w x p.2 q.2 c d (subst (λ (v : V). Then v w p.2) same.1 p.4) q.4 same.2 in
             (p.5 ∙ ap₂ (λ (k l : List Bool). k ++ l) same.0 later.0 ∙ sym q.5, later.1);
         decided = λ bits.
             elim (h.decided bits) [
               | inl f ↦
                   let s = f.1 in
-                  elim ((g f.0).decided s.1) [
+                  elim ((g f.0 s.0 s.2).decided s.1) [
                     | inl t ↦
                         let u = t.1 in
                         inl (t.0, (s.0 ++ u.0, u.1, (f.0, s.0, u.0, s.2, u.2, refl), s.3 ∙ ap (λ (l : List Bool). s.0 ++ l) u.3 ∙ sym (append_assoc s.0 u.0 u.1)))
@@ -174,6 +174,17 @@ module _ {V W : Type 0} (Spells : Spelling V) (Refuses : Refusing) (Then : V →
         apart = chained_apart;
         one_refusal = chained_once;
       }
+
+-- ---- nothing at all, and what a known value says
+
+pub nothing : {W : Type 0} (w : W) → IsExact (λ (v : W) (bits : List Bool). (bits ≡ []) × (v ≡ w)) (λ (bits : List Bool) (r : Fault). ⊥)
+nothing {W} w =
+    record {
+      prefix = λ v x a b c d p q e. (p.0 ∙ sym q.0, p.1 ∙ sym q.1);
+      decided = λ bits. inl (w, ([], bits, (refl, refl), refl));
+      apart = λ v bits r begins refuses. refuses;
+      one_refusal = λ bits r s p q. absurd p;
+    }
 
 -- ---- the same in other words
 

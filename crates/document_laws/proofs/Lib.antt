@@ -5,3 +5,7 @@ pub mod Exact
 pub mod IndexWidths
 pub mod Values
 pub mod TextValues
+pub mod Fits
+pub mod Fronts
+pub mod Events
+pub mod Kept

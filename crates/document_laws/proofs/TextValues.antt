@@ -195,7 +195,8 @@ module _ (most : ℕ) (entries : Entries) (name : ℕ) where
   spelled_exact : IsExact (SpellsChained Opening Announced) (RefusesChained Opening RefusesOpening RefusesNext)
   spelled_exact =
       chained Opening RefusesOpening Announced RefusesNext
-      (sifted SpellsUnsigned (AtStart RefusesUnsigned) (IsOpening most entries) (Shuts most entries) (item _ RefusesUnsigned (exact _ _ _ unsigned_read)) (opening_sifts most entries)) announced_exact
+      (sifted SpellsUnsigned (AtStart RefusesUnsigned) (IsOpening most entries) (Shuts most entries) (item _ RefusesUnsigned (exact _ _ _ unsigned_read)) (opening_sifts most entries))
+      (λ n front counted. announced_exact n)
 
   -- a text that is entered has room
   enters_within : (chars : List ℕ) → length entries ≤ most_entries → (Overfills entries (length chars) → ⊥) → length (entered entries name chars) ≤ most_entries

@@ -220,7 +220,7 @@ binary most entries name =
     (λ n. SpellsSifted (SpellsNBytes n) (Given values)) (λ n. AtStart (RefusesBits (8 * n)))
     (sifted SpellsUnsigned (AtStart RefusesUnsigned) (IsMet Holds length_of) (IsUnmet Fails TooLong) (item _ RefusesUnsigned (exact _ _ _ unsigned_read))
     (by_condition Holds Fails length_of TooLong decide (λ v less more. omega (arith, less, more))))
-    (λ n. given (SpellsNBytes n) (AtStart (RefusesBits (8 * n))) values (item _ (RefusesBits (8 * n)) (exact _ _ _ (binaries_read n)))))
+    (λ n front counted. given (SpellsNBytes n) (AtStart (RefusesBits (8 * n))) values (item _ (RefusesBits (8 * n)) (exact _ _ _ (binaries_read n)))))
     forth
     (λ v bits h. back v.0 v.1 bits h)
     there

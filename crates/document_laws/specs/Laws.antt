@@ -1,13 +1,16 @@
 -- Own: what makes the events, trees and refusals of a payload one.
-use Rattle.std.specs.Prelude.{◌≡◌, ℕ, Bool, List, reverse}
+use Rattle.std.specs.Prelude.{◌≡◌, ℕ, ◌<◌, ◌≤◌, Bool, List, length, reverse}
+use Rattle.std.specs.List.{AllByRecursion}
 use Rattle.exi_spec.specs.Laws.{IsExact}
 use Rattle.exi_schema.specs.declared.tables.Datatype.{Datatype}
 use Rattle.exi_schema.specs.declared.schema.Schema.{Schema}
+use Rattle.exi_schema.specs.Offers.{IsPlace}
 use Rattle.exi_documents.specs.declared.refusal.RefusalCause.{RefusalCause}
 use Rattle.exi_documents.specs.Trees.{Value, Tree, Event, document_events}
-use Rattle.exi_documents.specs.Values.{Entries, SpellsValue, RefusesValue}
+use Rattle.exi_documents.specs.Values.{Entries, most_entries, SpellsValue, RefusesValue}
 use Rattle.exi_documents.specs.Documents.{Speller, SpellsDocument}
-use Rattle.exi_documents.specs.Grammar.{Behind, stands, Reaches}
+use Rattle.exi_documents.specs.Grammar.{Opened, Standing, Before, AtRoot, Inside, Behind, State, stands, Moves, Reaches}
+use Rattle.exi_documents.specs.Refusals.{RefusesNext}
 
 -- ---- events and trees
 
@@ -35,3 +38,27 @@ Fault = RefusalCause × ℕ
 abbrev pub IsValueExact : Datatype → Entries → ℕ → Type 0
 IsValueExact d entries name =
     IsExact (λ (v : Value × Entries) bits. SpellsValue d entries name v.0 bits v.1) (λ bits (r : Fault). RefusesValue d entries name bits r.0 r.1)
+
+-- ---- events
+
+abbrev pub IsStanding : Schema → Standing → Type 0
+IsStanding s Before = Unit {0}
+IsStanding s (AtRoot name kind) = kind < length s.kinds.now
+IsStanding s (Inside top above) = IsPlace s.kinds.now top.place × AllByRecursion (λ o. IsPlace s.kinds.now o.place) above
+IsStanding s Behind = Unit {0}
+
+-- a state of a document of the schema: its places are the schema's, and no more texts are entered than may be
+abbrev pub IsState : Schema → State → Type 0
+IsState s state = IsStanding s state.standing × (length state.entries ≤ most_entries)
+
+-- more events follow
+abbrev pub GoesOn : Standing → Type 0
+GoesOn Before = Unit {0}
+GoesOn (AtRoot name kind) = Unit {0}
+GoesOn (Inside top above) = Unit {0}
+GoesOn Behind = ⊥
+
+-- bits begin with one event, which leads to one state, or have one refusal
+abbrev pub IsEventExact : Schema → State → Type 0
+IsEventExact s state =
+    IsExact (λ (m : Event × State) bits. Moves SpellsValue s state m.0 bits m.1) (λ bits (r : Fault). RefusesNext s state bits r.0 r.1)
