@@ -9,3 +9,6 @@ pub mod Fits
 pub mod Fronts
 pub mod Events
 pub mod Kept
+pub mod Apart
+pub mod OneTree
+pub mod Payloads

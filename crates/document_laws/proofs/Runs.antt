@@ -137,7 +137,7 @@ module _ (V : Speller) (s : Schema) where
     are ∙ sym (append_assoc header front inside),
   )
 
-  document_runs : (number : ℕ) (tree : Tree) (bits : List Bool) (d : SpellsDocument V s number tree bits) → Runs V s start (document_events number tree) bits (stands Behind d.after)
+  pub document_runs : (number : ℕ) (tree : Tree) (bits : List Bool) (d : SpellsDocument V s number tree bits) → Runs V s start (document_events number tree) bits (stands Behind d.after)
   document_runs number (Simple name value) bits d =
       root_runs number name d.kind (Content value ∷ EndElement ∷ []) bits d.front d.inside (stands Behind d.after)
       (name, d.kind, d.front, d.named, d.numbered, refl, refl) (simple_runs name d.kind [] [] d.after value d.inside d.spelled) d.bits_are

@@ -312,7 +312,7 @@ module _ (V : Speller) (s : Schema) where
   none_behind entries (Content value) bits new h = h
   none_behind entries EndElement bits new h = h
 
-  behind_ends : (entries : Entries) (events : List Event) (bits : List Bool) (new : State) → Runs V s (stands Behind entries) events bits new → (events ≡ []) × (bits ≡ [])
+  pub behind_ends : (entries : Entries) (events : List Event) (bits : List Bool) (new : State) → Runs V s (stands Behind entries) events bits new → (events ≡ []) × (bits ≡ [])
   behind_ends entries [] bits new r = (refl, r.0)
   behind_ends entries (event ∷ events) bits new r = absurd (none_behind entries event r.1 r.0 r.3)
 

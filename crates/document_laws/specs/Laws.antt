@@ -1,5 +1,5 @@
 -- Own: what makes the events, trees and refusals of a payload one.
-use Rattle.std.specs.Prelude.{◌≡◌, ℕ, ◌<◌, ◌≤◌, Bool, List, length, reverse}
+use Rattle.std.specs.Prelude.{◌≡◌, ℕ, ◌<◌, ◌≤◌, ◌⊎◌, Bool, List, ◌++◌, length, reverse}
 use Rattle.std.specs.List.{AllByRecursion}
 use Rattle.exi_spec.specs.Laws.{IsExact}
 use Rattle.exi_schema.specs.declared.tables.Datatype.{Datatype}
@@ -8,9 +8,9 @@ use Rattle.exi_schema.specs.Offers.{IsPlace}
 use Rattle.exi_documents.specs.declared.refusal.RefusalCause.{RefusalCause}
 use Rattle.exi_documents.specs.Trees.{Value, Tree, Event, document_events}
 use Rattle.exi_documents.specs.Values.{Entries, most_entries, SpellsValue, RefusesValue}
-use Rattle.exi_documents.specs.Documents.{Speller, SpellsDocument}
+use Rattle.exi_documents.specs.Documents.{Speller, SpellsDocument, IsDocument}
 use Rattle.exi_documents.specs.Grammar.{Opened, Standing, Before, AtRoot, Inside, Behind, State, stands, Moves, Reaches}
-use Rattle.exi_documents.specs.Refusals.{RefusesNext}
+use Rattle.exi_documents.specs.Refusals.{RefusesNext, IsRefused}
 
 -- ---- events and trees
 
@@ -62,3 +62,17 @@ GoesOn Behind = ⊥
 abbrev pub IsEventExact : Schema → State → Type 0
 IsEventExact s state =
     IsExact (λ (m : Event × State) bits. Moves SpellsValue s state m.0 bits m.1) (λ bits (r : Fault). RefusesNext s state bits r.0 r.1)
+
+-- ---- documents
+
+-- two documents that begin one list of bits are one document of one tree
+abbrev pub IsPrefixFree : Schema → Type 0
+IsPrefixFree s =
+    (n m : ℕ) (t u : Tree) (a b x y : List Bool) → SpellsDocument SpellsValue s n t a → SpellsDocument SpellsValue s m u b → a ++ x ≡ b ++ y → (a ≡ b) × (n ≡ m) × (t ≡ u)
+
+-- a payload spells one tree or has one refusal, not both
+pub record IsDecided (s : Schema) (payload : List ℕ) : Type 0 where
+  pub decided : ((tree : Tree) × IsDocument s tree payload) ⊎ ((why : RefusalCause) × (bit : ℕ) × IsRefused s payload why bit)
+  pub apart : (tree : Tree) (why : RefusalCause) (bit : ℕ) → IsDocument s tree payload → IsRefused s payload why bit → ⊥
+  pub one_tree : (t u : Tree) → IsDocument s t payload → IsDocument s u payload → t ≡ u
+  pub one_refusal : (why other : RefusalCause) (bit place : ℕ) → IsRefused s payload why bit → IsRefused s payload other place → (why ≡ other) × (bit ≡ place)
