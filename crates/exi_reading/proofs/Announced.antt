@@ -1,5 +1,5 @@
 -- A text behind the number that announces it.
-use Rattle.std.proofs.Common.{◌≡◌, ℕ, suc, ◌+◌, ◌-◌, ◌<◌, ◌≤◌, Bool, false, ltb, List, [], length, refl, sym, ap, subst, ◌∙◌, arith, inl, inr, ◌⊎◌, Result, Ok, Err, IsTrue}
+use Rattle.std.proofs.Common.{◌≡◌, ℕ, suc, ◌+◌, ◌<◌, ◌≤◌, Bool, false, ltb, List, length, refl, subst, arith, inl, inr, ◌⊎◌, Result, Ok, Err, IsTrue}
 use Rattle.std.specs.Result.{IfOk, IfErr}
 use Rattle.std.proofs.lemmas.Bool.{ltb-true, ltb-false}
 use Rattle.std.proofs.lemmas.List.{length-map}
@@ -11,9 +11,8 @@ use Rattle.exi_bits.specs.declared.span.SpanAt.{SpanAt}
 use Rattle.exi_schema.specs.declared.tables.Datatype.TheVariants.{Text}
 use Rattle.exi_strings.specs.Table.{global_of, local_of}
 use Rattle.exi_strings.specs.Texts.{SpellsIndex, SpellsText, entered}
-use Rattle.exi_documents.specs.Values.{Entries, most_entries, cause_of, RefusesValue, RefusesIndex, RefusesBehind, RefusesAnnounced, Overfills}
+use Rattle.exi_documents.specs.Values.{Entries, most_entries, cause_of, RefusesValue, RefusesIndex, RefusesAnnounced, Overfills}
 use Rattle.exi_documents.specs.declared.refusal.Refusal.{Refusal}
-use Rattle.exi_documents.specs.declared.refusal.RefusalCause.{RefusalCause}
 use Rattle.exi_documents.specs.declared.refusal.RefusalCause.TheVariants.{TooLong, TableFull}
 use Rattle.exi_values.specs.Meaning.{texts_in}
 use Rattle.exi_reading.specs.Refusing.{Refused}

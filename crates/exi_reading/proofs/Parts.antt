@@ -1,5 +1,5 @@
 -- What is taken in two parts, and what is refused at the second one.
-use Rattle.std.proofs.Common.{◌≡◌, ℕ, ◌+◌, Bool, List, [], ◌++◌, length, refl, sym, ap, subst, ◌∙◌, arith, inl, append_assoc, length-append, ◌⊎◌, Result, Ok, Err, ℤ, ◌≤ℤ◌, ◌↔◌, inr, true, false, IsTrue}
+use Rattle.std.proofs.Common.{◌≡◌, ℕ, Bool, List, [], ◌++◌, length, refl, sym, ap, subst, ◌∙◌, arith, inl, append_assoc, length-append, ◌⊎◌, Result, Ok, Err, ℤ, ◌≤ℤ◌, ◌↔◌, inr, false, IsTrue}
 use Rattle.std.proofs.lemmas.Bool.{false≢true}
 use Rattle.std.specs.Result.{IfOk}
 use Rattle.exi_spec.specs.Items.{SpellsUnsigned, SpellsInteger, SpellsBytes, RefusesUnsigned}

@@ -1,8 +1,8 @@
 -- A value by its datatype, from the item that was taken.
-use Rattle.std.proofs.Common.{◌≡◌, ℕ, ◌+◌, ◌≤◌, ℤ, pos, ◌≤ℤ◌, Bool, List, [], length, refl, sym, ap, subst, Result, Ok, Err}
-use Rattle.std.specs.Result.{IfOk, IfErr}
+use Rattle.std.proofs.Common.{◌≡◌, ℕ, ◌≤◌, ℤ, pos, ◌≤ℤ◌, Bool, List, [], refl, sym, subst, Result, Ok}
+use Rattle.std.specs.Result.{IfOk}
 use Rattle.exi_spec.specs.Items.{SpellsUnsigned, SpellsInteger}
-use Rattle.exi_bits.specs.Reading.{Cursor, Takes, ahead}
+use Rattle.exi_bits.specs.Reading.{Cursor, Takes}
 use Rattle.exi_bits.specs.declared.span.SpanAt.{SpanAt}
 use Rattle.exi_schema.specs.declared.tables.Datatype.{Datatype}
 use Rattle.exi_schema.specs.declared.tables.Datatype.TheVariants.{Unsigned, Signed, Bounded}

@@ -8,3 +8,6 @@ mod reader;
 mod texts;
 
 pub use reader::PayloadReader;
+
+#[cfg(test)]
+mod tests;

@@ -80,7 +80,12 @@ impl<'a> PayloadReader<'a> {
     ///
     /// A text that is spelled out enters the table unless it is empty; a Binary and a text are lent from the payload.
     /// The first item that can't be taken decides, and leaves the table as it was.
-    pub fn take_value(&mut self, datatype: Datatype, name: u16, table: &mut Table) -> Result<Value<'a>, Refusal>
+    pub fn take_value(
+        &mut self,
+        datatype: Datatype,
+        name: u16,
+        table: &mut Table,
+    ) -> Result<Value<'a>, Refusal>
         requires datatype { is_datatype datatype ≡ true }
         requires cap { table.old.cap ≡ most_entries }
         requires texts { AreTexts self.old.bits table.old.entries }

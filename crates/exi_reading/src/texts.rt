@@ -170,7 +170,12 @@ fn accepted_length(n: u64, most: u32, has_room: bool, bit: u32) -> Result<u32, R
 }
 
 /// A text of n code points, behind its length. It is entered unless it is empty.
-fn take_spelled<'a>(cursor: &mut BitCursor<'a>, n: u32, name: u16, table: &mut Table) -> Result<BitSpan<'a>, Refusal>
+fn take_spelled<'a>(
+    cursor: &mut BitCursor<'a>,
+    n: u32,
+    name: u16,
+    table: &mut Table,
+) -> Result<BitSpan<'a>, Refusal>
     requires room { 0 < n → length table.old.entries < table.old.cap }
     requires texts { AreTexts cursor.old.bits table.old.entries }
     ensures count { IfOk result (λ span. length (items_of span) ≡ n) }

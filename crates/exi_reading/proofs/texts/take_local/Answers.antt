@@ -1,4 +1,4 @@
-use Rattle.std.proofs.Common.{◌≡◌, Bool, List, subst}
+use Rattle.std.proofs.Common.{Bool, List, subst}
 use Rattle.std.proofs.lemmas.Result.{err_from_is_err_and}
 use Rattle.exi_bits.specs.Lent.{IsSpan, text_at}
 use Rattle.exi_reading.proofs.Places.{local_of-texts, local_places, place_spelled}

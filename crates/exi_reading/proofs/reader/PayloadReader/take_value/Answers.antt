@@ -39,33 +39,33 @@ pub returns-clause-ok : goal.returns-clause-ok
 returns-clause-ok c =
     elim c.match-datatype.branch [
       | in-Bool+in_ok-take_truth-in-Bool w ↦
-        value_ok c.args.datatype (Bool) (value.Bool w.in_ok-take_truth-in-Bool.field-0) c.args.table.now.entries c.args.table.now.entries _ c.args.name _ _ _ _ c.match-datatype.result w.in-Bool.is w.result-is c.self.view_is
-        (ap (λ (t : Table SpanAt). t.entries) w.table-is) (ap (λ (i : Inside). i.cursor) w.self-inside-is)
-        (takes_too _ _ _ _ (λ bits s. (s, refl)) w.in_ok-take_truth-in-Bool.ensures.ok)
+          value_ok c.args.datatype (Bool) (value.Bool w.in_ok-take_truth-in-Bool.field-0) c.args.table.now.entries c.args.table.now.entries _ c.args.name _ _ _ _ c.match-datatype.result w.in-Bool.is w.result-is c.self.view_is
+          (ap (λ (t : Table SpanAt). t.entries) w.table-is) (ap (λ (i : Inside). i.cursor) w.self-inside-is)
+          (takes_too _ _ _ _ (λ bits s. (s, refl)) w.in_ok-take_truth-in-Bool.ensures.ok)
       | in-Named+in_ok-take_code-in-Named w ↦
-        value_ok c.args.datatype (Named w.in-Named.count) (value.Ordinal w.in_ok-take_code-in-Named.field-0) c.args.table.now.entries c.args.table.now.entries _ c.args.name _ _ _ _ c.match-datatype.result w.in-Named.is w.result-is c.self.view_is
-        (ap (λ (t : Table SpanAt). t.entries) w.table-is) (ap (λ (i : Inside). i.cursor) w.self-inside-is)
-        (takes_too _ _ _ _ (λ bits s. (s, refl)) w.in_ok-take_code-in-Named.ensures.ok)
+          value_ok c.args.datatype (Named w.in-Named.count) (value.Ordinal w.in_ok-take_code-in-Named.field-0) c.args.table.now.entries c.args.table.now.entries _ c.args.name _ _ _ _ c.match-datatype.result w.in-Named.is w.result-is c.self.view_is
+          (ap (λ (t : Table SpanAt). t.entries) w.table-is) (ap (λ (i : Inside). i.cursor) w.self-inside-is)
+          (takes_too _ _ _ _ (λ bits s. (s, refl)) w.in_ok-take_code-in-Named.ensures.ok)
       | in-Bounded+in_ok-take_bounded-in-Bounded w ↦
-        value_ok c.args.datatype (Bounded w.in-Bounded.least w.in-Bounded.count) (value.Number _) c.args.table.now.entries c.args.table.now.entries _ c.args.name _ _ _ _ c.match-datatype.result w.in-Bounded.is w.result-is c.self.view_is
-        (ap (λ (t : Table SpanAt). t.entries) w.table-is) (ap (λ (i : Inside). i.cursor) w.self-inside-is)
-        (bounded_takes w.in-Bounded.least _ w.in_ok-take_bounded-in-Bounded.field-0 _ _ c.args.name _ _ _ (to_z-of_z w64 w.in-Bounded.least (search rules))
-        (to_z-of_z w128 w.in_ok-take_bounded-in-Bounded.field-0 (search rules)) w.in_ok-take_bounded-in-Bounded.ensures.ok)
+          value_ok c.args.datatype (Bounded w.in-Bounded.least w.in-Bounded.count) (value.Number _) c.args.table.now.entries c.args.table.now.entries _ c.args.name _ _ _ _ c.match-datatype.result w.in-Bounded.is w.result-is c.self.view_is
+          (ap (λ (t : Table SpanAt). t.entries) w.table-is) (ap (λ (i : Inside). i.cursor) w.self-inside-is)
+          (bounded_takes w.in-Bounded.least _ w.in_ok-take_bounded-in-Bounded.field-0 _ _ c.args.name _ _ _ (to_z-of_z w64 w.in-Bounded.least (search rules))
+          (to_z-of_z w128 w.in_ok-take_bounded-in-Bounded.field-0 (search rules)) w.in_ok-take_bounded-in-Bounded.ensures.ok)
       | in-Unsigned+in_ok-value-in-Unsigned w ↦
-        value_ok c.args.datatype (Unsigned w.in-Unsigned.most) (value.Number _) c.args.table.now.entries c.args.table.now.entries _ c.args.name _ _ _ _ c.match-datatype.result w.in-Unsigned.is w.result-is c.self.view_is
-        (ap (λ (t : Table SpanAt). t.entries) w.table-is) (ap (λ (i : Inside). i.cursor) w.self-inside-is)
-        (unsigned_takes w.in-Unsigned.most w.in_ok-value-in-Unsigned.value c.args.name _ _ _ _ (to_z-of_z w128 w.from.result (search rules) ∙ w.from.ensures) w.in_ok-value-in-Unsigned.ensures.range w.in_ok-value-in-Unsigned.ensures.ok)
+          value_ok c.args.datatype (Unsigned w.in-Unsigned.most) (value.Number _) c.args.table.now.entries c.args.table.now.entries _ c.args.name _ _ _ _ c.match-datatype.result w.in-Unsigned.is w.result-is c.self.view_is
+          (ap (λ (t : Table SpanAt). t.entries) w.table-is) (ap (λ (i : Inside). i.cursor) w.self-inside-is)
+          (unsigned_takes w.in-Unsigned.most w.in_ok-value-in-Unsigned.value c.args.name _ _ _ _ (to_z-of_z w128 w.from.result (search rules) ∙ w.from.ensures) w.in_ok-value-in-Unsigned.ensures.range w.in_ok-value-in-Unsigned.ensures.ok)
       | in-Signed+in_ok-take_signed-in-Signed w ↦
-        value_ok c.args.datatype (Signed w.in-Signed.least w.in-Signed.most) (value.Number _) c.args.table.now.entries c.args.table.now.entries _ c.args.name _ _ _ _ c.match-datatype.result w.in-Signed.is w.result-is c.self.view_is
-        (ap (λ (t : Table SpanAt). t.entries) w.table-is) (ap (λ (i : Inside). i.cursor) w.self-inside-is)
-        (signed_takes w.in-Signed.least w.in-Signed.most _ _ w.in_ok-take_signed-in-Signed.field-0 _ c.args.name _ _ _ (to_z-of_z w64 w.in-Signed.least (search rules)) (to_z-of_z w64 w.in-Signed.most (search rules))
-        (to_z-of_z w128 w.in_ok-take_signed-in-Signed.field-0 (search rules)) w.in_ok-take_signed-in-Signed.ensures.low w.in_ok-take_signed-in-Signed.ensures.high w.in_ok-take_signed-in-Signed.ensures.ok)
+          value_ok c.args.datatype (Signed w.in-Signed.least w.in-Signed.most) (value.Number _) c.args.table.now.entries c.args.table.now.entries _ c.args.name _ _ _ _ c.match-datatype.result w.in-Signed.is w.result-is c.self.view_is
+          (ap (λ (t : Table SpanAt). t.entries) w.table-is) (ap (λ (i : Inside). i.cursor) w.self-inside-is)
+          (signed_takes w.in-Signed.least w.in-Signed.most _ _ w.in_ok-take_signed-in-Signed.field-0 _ c.args.name _ _ _ (to_z-of_z w64 w.in-Signed.least (search rules)) (to_z-of_z w64 w.in-Signed.most (search rules))
+          (to_z-of_z w128 w.in_ok-take_signed-in-Signed.field-0 (search rules)) w.in_ok-take_signed-in-Signed.ensures.low w.in_ok-take_signed-in-Signed.ensures.high w.in_ok-take_signed-in-Signed.ensures.ok)
       | in-Binary+in_ok-take_binary-in-Binary w ↦
-        value_ok c.args.datatype (Binary w.in-Binary.most) (value.Binary w.in_ok-take_binary-in-Binary.field-0) c.args.table.now.entries c.args.table.now.entries _ c.args.name _ _ _ _ c.match-datatype.result w.in-Binary.is w.result-is c.self.view_is
-        (ap (λ (t : Table SpanAt). t.entries) w.table-is) (ap (λ (i : Inside). i.cursor) w.self-inside-is)
-        (takes_too _ _ _ _ (λ bits s. (w.in_ok-take_binary-in-Binary.ensures.range, s, refl)) w.in_ok-take_binary-in-Binary.ensures.ok)
+          value_ok c.args.datatype (Binary w.in-Binary.most) (value.Binary w.in_ok-take_binary-in-Binary.field-0) c.args.table.now.entries c.args.table.now.entries _ c.args.name _ _ _ _ c.match-datatype.result w.in-Binary.is w.result-is c.self.view_is
+          (ap (λ (t : Table SpanAt). t.entries) w.table-is) (ap (λ (i : Inside). i.cursor) w.self-inside-is)
+          (takes_too _ _ _ _ (λ bits s. (w.in_ok-take_binary-in-Binary.ensures.range, s, refl)) w.in_ok-take_binary-in-Binary.ensures.ok)
       | in-Text+in_ok-text-in-Text w ↦
-        value_ok c.args.datatype (Text w.in-Text.most) (value.Text w.in_ok-text-in-Text.text) c.args.table.now.entries w.take_text.new.table.entries _ c.args.name _ _ _ _ c.match-datatype.result w.in-Text.is w.result-is c.self.view_is
-        (ap (λ (t : Table SpanAt). t.entries) w.table-is) (ap (λ (i : Inside). i.cursor) w.self-inside-is)
-        (takes_too _ _ _ _ (λ bits s. (s, w.in_ok-text-in-Text.ensures.few)) w.in_ok-text-in-Text.ensures.ok)
+          value_ok c.args.datatype (Text w.in-Text.most) (value.Text w.in_ok-text-in-Text.text) c.args.table.now.entries w.take_text.new.table.entries _ c.args.name _ _ _ _ c.match-datatype.result w.in-Text.is w.result-is c.self.view_is
+          (ap (λ (t : Table SpanAt). t.entries) w.table-is) (ap (λ (i : Inside). i.cursor) w.self-inside-is)
+          (takes_too _ _ _ _ (λ bits s. (s, w.in_ok-text-in-Text.ensures.few)) w.in_ok-text-in-Text.ensures.ok)
     ]
