@@ -4,3 +4,4 @@ pub mod Codes
 pub mod Nexts
 pub mod Innermost
 pub mod Datatypes
+pub mod Told

@@ -4,4 +4,9 @@
 
 mod inside;
 mod open;
+mod reader;
 mod step;
+
+pub use exi_documents::{Refusal, RefusalCause};
+pub use exi_values::{Event, Table, Value};
+pub use reader::EventReader;
