@@ -1,5 +1,5 @@
 -- Event codes that are not offered, or that name what can't stand there.
-use Rattle.std.proofs.Common.{◌≡◌, ℕ, zero, suc, ◌+◌, ◌<◌, ◌≤◌, nat_eq, ◌==◌, if◌then◌else◌, Bool, List, [], ◌∷◌, ◌++◌, length, Option, Some, None, refl, ap, subst, sym, ◌∙◌, inl, inr, arith}
+use Rattle.std.proofs.Common.{◌≡◌, ℕ, zero, suc, ◌≤◌, List, [], ◌∷◌, length, Some, None, refl, inr, arith}
 use Rattle.std.specs.Prelude.{slice_get}
 use Rattle.exi_spec.specs.Items.{SpellsNumber}
 use Rattle.exi_bits.specs.Reading.{Cursor, Takes, ahead}

@@ -1,15 +1,13 @@
 -- The header byte and the document number.
-use Rattle.std.proofs.Common.{◌≡◌, ℕ, zero, suc, ◌+◌, ◌^◌, ◌<◌, ◌≤◌, Bool, List, [], ◌∷◌, ◌++◌, length, take, drop, refl, ap, subst, sym, ◌∙◌, inl, inr, arith, length-append, append_assoc, Result, Ok, Err, IfOk, IfErr, OnOk}
-use Rattle.std.specs.Prelude.{◌≢◌}
+use Rattle.std.proofs.Common.{◌≡◌, ℕ, zero, suc, ◌+◌, ◌≤◌, Bool, List, [], ◌∷◌, ◌++◌, length, take, refl, ap, sym, ◌∙◌, inl, inr, arith, length-append, append_assoc, Result, Ok, Err, IfOk, IfErr}
 use Rattle.exi_spec.specs.Bits.{number_bits, number_of}
 use Rattle.exi_spec.specs.Items.{SpellsNumber}
 use Rattle.exi_spec.proofs.BitLaws.{length-number_bits, number_of-number_bits}
-use Rattle.exi_bits.specs.Reading.{Cursor, Passes, Takes, ahead}
+use Rattle.exi_bits.specs.Reading.{Cursor, Takes, ahead}
 use Rattle.exi_schema.specs.declared.schema.Schema.{Schema}
 use Rattle.exi_documents.specs.declared.refusal.Refusal.{Refusal}
 use Rattle.exi_documents.specs.declared.refusal.RefusalCause.{RefusalCause}
 use Rattle.exi_documents.specs.declared.refusal.RefusalCause.TheVariants.{BadHeader}
-use Rattle.exi_documents.specs.Documents.{header}
 use Rattle.exi_documents.specs.Refusals.{RefusesHeader, RefusesNumber, RefusesFront}
 use Rattle.exi_events.specs.declared.step.RootNumber.{RootNumber}
 use Rattle.exi_events.specs.Front.{SpellsHeader, SpellsFront}
@@ -35,9 +33,9 @@ pub takes_both : {A B : List Bool → Type 0} (old middle new : Cursor) → Take
     Takes (λ bits. (front : List Bool) × (rest : List Bool) × A front × B rest × (bits ≡ front ++ rest)) old new
 takes_both {A} {B} old middle new one two =
     let there : ahead old ≡ (one.0 ++ two.0) ++ ahead new =
-        one.2.there ∙ ap (λ xs. one.0 ++ xs) two.2.there ∙ sym (append_assoc one.0 two.0 (ahead new)) in
+    one.2.there ∙ ap (λ xs. one.0 ++ xs) two.2.there ∙ sym (append_assoc one.0 two.0 (ahead new)) in
     let moved : new.place ≡ old.place + length (one.0 ++ two.0) =
-        rw (length-append one.0 two.0) (let a : middle.place ≡ old.place + length one.0 = one.2.moved in let b : new.place ≡ middle.place + length two.0 = two.2.moved in omega (arith, a, b)) in
+    rw (length-append one.0 two.0) (let a : middle.place ≡ old.place + length one.0 = one.2.moved in let b : new.place ≡ middle.place + length two.0 = two.2.moved in omega (arith, a, b)) in
     (one.0 ++ two.0, (one.0, two.0, one.1, two.1, refl), record { same = two.2.same ∙ one.2.same; moved = moved; there = there })
 
 pub front_took : (s : Schema) (old middle new : Cursor) (number : ℕ) → Takes SpellsHeader old middle → Takes (SpellsNumber s.root_bits number) middle new → Takes (SpellsFront s number) old new

@@ -1,5 +1,5 @@
 -- Events inside the innermost element, from the code of a step and a value behind it.
-use Rattle.std.proofs.Common.{◌≡◌, ℕ, zero, suc, ◌+◌, ◌-◌, ◌<◌, ◌≤◌, Bool, true, false, List, [], ◌∷◌, ◌++◌, length, Option, Some, None, refl, ap, subst, sym, ◌∙◌, inl, inr, arith, append_assoc, length-append, IsSome}
+use Rattle.std.proofs.Common.{◌≡◌, ℕ, zero, suc, ◌+◌, ◌-◌, ◌<◌, Bool, true, false, List, ◌∷◌, length, None, refl, subst, inl, inr, arith}
 use Rattle.exi_bits.specs.Reading.{Cursor, Takes, ahead}
 use Rattle.exi_schema.specs.declared.places.Place.{Place}
 use Rattle.exi_schema.specs.declared.places.Step.{Step}
@@ -40,10 +40,11 @@ pub attribute_refused : (s : Schema) (old middle : Cursor) (elements : List Open
     (at : ℕ) × RefusesFrom s (around elements) entries (ahead old) why at × (bit ≡ old.place + at)
 attribute_refused s old middle elements top entries name kind next why bit has took refused =
     let moved : middle.place ≡ old.place + length took.0 = took.2.moved in
-    let is : bit ≡ middle.place + refused.0 = refused.2 in
-    (length took.0 + refused.0,
-    rw has.1 (inr (inl (name, kind, next, refused.1.0, refused.1.1, record { code = took.0; rest = ahead middle; behind = refused.0; taken = took.1; bits_are = took.2.there; refused = refused.1.2; place = refl }))),
-    omega (arith, moved, is))
+    let is : bit ≡ middle.place + refused.0 = refused.2 in (
+      length took.0 + refused.0,
+      rw has.1 (inr (inl (name, kind, next, refused.1.0, refused.1.1, record { code = took.0; rest = ahead middle; behind = refused.0; taken = took.1; bits_are = took.2.there; refused = refused.1.2; place = refl }))),
+      omega (arith, moved, is),
+    )
 
 pub content_refused : (s : Schema) (old middle : Cursor) (elements : List Opened) (top : OpenElement) (entries : Entries) (next : Place) (why : RefusalCause) (bit : ℕ) →
     HasTop elements top → Takes (SpellsStep s.kinds.now top.place (step.Characters next)) old middle →
@@ -51,10 +52,11 @@ pub content_refused : (s : Schema) (old middle : Cursor) (elements : List Opened
     (at : ℕ) × RefusesFrom s (around elements) entries (ahead old) why at × (bit ≡ old.place + at)
 content_refused s old middle elements top entries next why bit has took refused =
     let moved : middle.place ≡ old.place + length took.0 = took.2.moved in
-    let is : bit ≡ middle.place + refused.0 = refused.2 in
-    (length took.0 + refused.0,
-    rw has.1 (inr (inr (next, refused.1.0, refused.1.1, record { code = took.0; rest = ahead middle; behind = refused.0; taken = took.1; bits_are = took.2.there; refused = refused.1.2; place = refl }))),
-    omega (arith, moved, is))
+    let is : bit ≡ middle.place + refused.0 = refused.2 in (
+      length took.0 + refused.0,
+      rw has.1 (inr (inr (next, refused.1.0, refused.1.1, record { code = took.0; rest = ahead middle; behind = refused.0; taken = took.1; bits_are = took.2.there; refused = refused.1.2; place = refl }))),
+      omega (arith, moved, is),
+    )
 
 -- ---- what is taken
 
@@ -64,9 +66,15 @@ pub attribute_took : (s : Schema) (old middle new : Cursor) (elements moved : Li
     Takes (SpellsValueOf s.kinds.now kind entries name (value_of v) after) middle new →
     Takes (SpellsInside s elements entries (event.Attribute name v) moved after) old new
 attribute_took s old middle new elements moved top entries after name kind next v has goes code value =
-    let both = takes_both {A = SpellsStep s.kinds.now top.place (step.Attribute name kind next)} {B = SpellsValueOf s.kinds.now kind entries name (value_of v) after} old middle new code value in
-    (both.0, (Attribute name (value_of v), refl,
-    rw has.1 (rw (goes (opened_of top) has.0 has.1) (kind, next, both.1.3.0, after, both.1.0, both.1.1, both.1.2, both.1.3.1, both.1.3.2, both.1.4, refl))), both.2)
+    let both = takes_both {A = SpellsStep s.kinds.now top.place (step.Attribute name kind next)} {B = SpellsValueOf s.kinds.now kind entries name (value_of v) after} old middle new code value in (
+      both.0,
+      (
+        Attribute name (value_of v),
+        refl,
+        rw has.1 (rw (goes (opened_of top) has.0 has.1) (kind, next, both.1.3.0, after, both.1.0, both.1.1, both.1.2, both.1.3.1, both.1.3.2, both.1.4, refl)),
+      ),
+      both.2,
+    )
 
 pub content_took : (s : Schema) (old middle new : Cursor) (elements moved : List Opened) (top : OpenElement) (entries after : Entries) (next : Place) (v : Value) →
     HasTop elements top → GoesTo elements next moved →
@@ -74,9 +82,15 @@ pub content_took : (s : Schema) (old middle new : Cursor) (elements moved : List
     Takes (SpellsValueOf s.kinds.now top.place.kind entries top.name (value_of v) after) middle new →
     Takes (SpellsInside s elements entries (event.Value v) moved after) old new
 content_took s old middle new elements moved top entries after next v has goes code value =
-    let both = takes_both {A = SpellsStep s.kinds.now top.place (step.Characters next)} {B = SpellsValueOf s.kinds.now top.place.kind entries top.name (value_of v) after} old middle new code value in
-    (both.0, (Content (value_of v), refl,
-    rw has.1 (rw (goes (opened_of top) has.0 has.1) (next, both.1.3.0, after, both.1.0, both.1.1, both.1.2, both.1.3.1, both.1.3.2, both.1.4, refl))), both.2)
+    let both = takes_both {A = SpellsStep s.kinds.now top.place (step.Characters next)} {B = SpellsValueOf s.kinds.now top.place.kind entries top.name (value_of v) after} old middle new code value in (
+      both.0,
+      (
+        Content (value_of v),
+        refl,
+        rw has.1 (rw (goes (opened_of top) has.0 has.1) (next, both.1.3.0, after, both.1.0, both.1.1, both.1.2, both.1.3.1, both.1.3.2, both.1.4, refl)),
+      ),
+      both.2,
+    )
 
 -- ---- the elements that are open
 
@@ -97,9 +111,15 @@ element_took s old new elements moved pushed top entries name kind next place st
     let plain = no_cause name kind next standing past_limit cause in
     let P : MemberStanding → Bool → Type 0 = λ st p. SpellsStep s.kinds.now top.place (step.Element name kind next st p) code.0 in
     let one : P Taken past_limit = subst (λ st. P st past_limit) plain.0 code.1 in
-    let both : P Taken false = subst (λ p. P Taken p) plain.1 one in
-    (code.0, (Start name, refl,
-    rw has.1 (rw pushes (rw is_first (rw (goes (opened_of top) has.0 has.1) (kind, next, both, refl))))), code.2)
+    let both : P Taken false = subst (λ p. P Taken p) plain.1 one in (
+      code.0,
+      (
+        Start name,
+        refl,
+        rw has.1 (rw pushes (rw is_first (rw (goes (opened_of top) has.0 has.1) (kind, next, both, refl)))),
+      ),
+      code.2,
+    )
 
 pub within_child : (kinds : List Declaration) (d here child : ℕ) → is_within kinds d here ≡ true →
     ((depth : ℕ) → is_within kinds (suc depth) here ≡ true → is_within kinds depth child ≡ true) →

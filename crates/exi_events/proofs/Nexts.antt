@@ -1,5 +1,5 @@
 -- The place behind a step is one of the same kind.
-use Rattle.std.proofs.Common.{◌≡◌, ℕ, zero, suc, ◌+◌, ◌<◌, nat_lt, Bool, true, false, if◌then◌else◌, List, [], ◌∷◌, ◌++◌, length, drop, map, Option, Some, None, refl, ap, subst, sym, arith}
+use Rattle.std.proofs.Common.{◌≡◌, ℕ, zero, suc, ◌+◌, nat_lt, Bool, true, false, if◌then◌else◌, List, [], ◌∷◌, ◌++◌, length, drop, map, Option, Some, None, refl, subst}
 use Rattle.std.specs.Prelude.{slice_get, ◌==◌}
 use Rattle.std.specs.List.{list_any}
 use Rattle.exi_schema.specs.declared.tables.AttributeOf.{AttributeOf}
@@ -10,7 +10,7 @@ use Rattle.exi_schema.specs.declared.tables.Particle.{Particle}
 use Rattle.exi_schema.specs.declared.places.Place.{Place}
 use Rattle.exi_schema.specs.declared.places.Step.{Step}
 use Rattle.exi_schema.specs.declared.places.Step.TheVariants.{Attribute, Element, End, Characters}
-use Rattle.exi_schema.specs.Offers.{through_required, attribute_steps, element_step, element_steps, behind_copy, leaves_room, simple_step, complex_steps, offers_in, offers_of, offers}
+use Rattle.exi_schema.specs.Offers.{through_required, attribute_steps, element_step, element_steps, behind_copy, leaves_room, offers_of, offers}
 use Rattle.exi_schema.proofs.Fitting.{by_flag}
 
 abbrev pub StaysIn : ℕ → Step → Type 0
@@ -46,9 +46,10 @@ behind_kind k attributes at copies most = kind_by (leaves_room most (copies + 1)
 
 pub members_stay : (here : Place) (attributes at copies : ℕ) (particle : Particle) (members : List Member) → AllStay here.kind (map (element_step here attributes at copies particle) members)
 members_stay here attributes at copies particle [] = tt {0}
-members_stay here attributes at copies particle (member ∷ members) =
-    (kind_by (nat_lt copies particle.profile) here.kind (behind_copy here.kind attributes at copies particle.most) here (behind_kind here.kind attributes at copies particle.most) refl,
-    members_stay here attributes at copies particle members)
+members_stay here attributes at copies particle (member ∷ members) = (
+  kind_by (nat_lt copies particle.profile) here.kind (behind_copy here.kind attributes at copies particle.most) here (behind_kind here.kind attributes at copies particle.most) refl,
+  members_stay here attributes at copies particle members,
+)
 
 pub elements_stay : (here : Place) (attributes at copies : ℕ) (particles : List Particle) → AllStay here.kind (element_steps here attributes at copies particles)
 elements_stay here attributes at copies [] = (tt {0}, tt {0})

@@ -1,14 +1,14 @@
 -- What a reader tells next.
-use Rattle.std.proofs.Common.{◌≡◌, ℕ, ◌+◌, ◌<◌, Bool, List, [], ◌∷◌, ◌++◌, length, length-append, append_assoc, Option, Some, None, Result, Ok, Err, IfOk, refl, ap, subst, sym, ◌∙◌}
+use Rattle.std.proofs.Common.{◌≡◌, ℕ, ◌+◌, ◌<◌, Bool, List, ◌∷◌, ◌++◌, length, length-append, append_assoc, Option, Some, None, Result, Ok, Err, IfOk, refl, ap, subst, sym, ◌∙◌}
 use Rattle.exi_spec.specs.Bits.{bits_of}
 use Rattle.exi_bits.specs.Reading.{Cursor, Takes, ahead}
 use Rattle.exi_bits.specs.declared.span.SpanAt.{SpanAt}
 use Rattle.exi_schema.specs.declared.schema.Schema.{Schema}
 use Rattle.exi_documents.specs.declared.refusal.Refusal.{Refusal}
-use Rattle.exi_documents.specs.Grammar.{Opened, Standing, Behind, State, around, stands, Moves, Reaches}
+use Rattle.exi_documents.specs.Grammar.{Opened, Standing, Behind, State, stands, Moves, Reaches}
 use Rattle.exi_documents.specs.Refusals.{IsRefused}
 use Rattle.exi_documents.specs.Values.{SpellsValue}
-use Rattle.document_laws.specs.Laws.{TellTrees}
+use Rattle.document_laws.proofs.Told.{tell_trees}
 use Rattle.exi_documents.specs.Trees.{Event as TreeEvent}
 use Rattle.exi_values.specs.declared.Event.{Event}
 use Rattle.exi_values.specs.Meaning.{texts_in, event_of}
@@ -39,9 +39,9 @@ pub told_more : (s : Schema) (old new : State) (before after : Cursor) (e : Even
 told_more s old new before after e next events has told is =
     let took : Takes (λ bits. Moves SpellsValue s old told bits new) before after = subst (λ o. IsNext s old new before after o) is next in
     let there : after.bits ≡ (has.0 ++ took.0) ++ ahead after =
-        took.2.same ∙ has.2 ∙ ap (λ xs. has.0 ++ xs) took.2.there ∙ sym (append_assoc has.0 took.0 (ahead after)) in
+    took.2.same ∙ has.2 ∙ ap (λ xs. has.0 ++ xs) took.2.there ∙ sym (append_assoc has.0 took.0 (ahead after)) in
     let place : after.place ≡ length (has.0 ++ took.0) =
-        took.2.moved ∙ ap (λ n. n + length took.0) has.3 ∙ sym (length-append has.0 took.0) in
+    took.2.moved ∙ ap (λ n. n + length took.0) has.3 ∙ sym (length-append has.0 took.0) in
     (has.0 ++ took.0, (old, has.0, took.0, has.1, took.1, refl), there, place)
 
 pub told_all : (s : Schema) (old new : State) (before after : Cursor) (e : Event) → IsNext s old new before after (event_of e) →

@@ -1,5 +1,5 @@
 -- Own: the open elements of a document of a schema, and events inside the innermost of them.
-use Rattle.std.specs.Prelude.{◌≡◌, ℕ, ◌+◌, ◌-◌, ◌<◌, true, Bool, List, [], ◌∷◌, length, Option, Some, None}
+use Rattle.std.specs.Prelude.{◌≡◌, ℕ, ◌-◌, true, Bool, List, [], ◌∷◌, length, Some}
 use Rattle.exi_schema.specs.declared.places.Place.{Place}
 use Rattle.exi_schema.specs.declared.schema.Schema.{Schema}
 use Rattle.exi_schema.specs.declared.tables.Datatype.{Datatype}
@@ -8,7 +8,7 @@ use Rattle.exi_schema.specs.Offers.{IsPlace}
 use Rattle.exi_schema.specs.Schemas.{is_within}
 use Rattle.exi_schema.specs.Steps.{simple_at}
 use Rattle.exi_documents.specs.declared.refusal.RefusalCause.{RefusalCause}
-use Rattle.exi_documents.specs.Grammar.{Opened, Standing, MovesFrom, around, stands}
+use Rattle.exi_documents.specs.Grammar.{Opened, MovesFrom, around, stands}
 use Rattle.exi_documents.specs.Trees.{Event as TreeEvent, Value as TreeValue}
 use Rattle.exi_documents.specs.Values.{Entries, SpellsValue, RefusesValue}
 use Rattle.exi_values.specs.declared.Event.{Event}

@@ -1,6 +1,5 @@
 -- Own: where an event reader stands in a document.
-use Rattle.std.specs.Prelude.{◌≡◌, ℕ, ◌+◌, ◌<◌, true, Bool, List, [], ◌∷◌, ◌++◌, length, reverse, drop, Option, Some, None}
-use Rattle.exi_spec.specs.Bits.{bits_of}
+use Rattle.std.specs.Prelude.{◌≡◌, ℕ, ◌+◌, ◌<◌, true, Bool, List, [], ◌++◌, length, reverse, Option, Some, None}
 use Rattle.exi_bits.specs.Reading.{Cursor, Takes, ahead}
 use Rattle.exi_bits.specs.declared.span.SpanAt.{SpanAt}
 use Rattle.exi_schema.specs.declared.schema.Schema.{Schema}
@@ -11,9 +10,8 @@ use Rattle.exi_documents.specs.Values.{SpellsValue, most_entries}
 use Rattle.exi_documents.specs.Documents.{IsDocument}
 use Rattle.exi_documents.specs.Grammar.{Opened, Standing, Before, AtRoot, Behind, State, around, stands, Moves, Reaches}
 use Rattle.exi_documents.specs.Refusals.{RefusesNext}
-use Rattle.exi_values.specs.declared.Event.{Event}
 use Rattle.exi_strings.specs.Table.{Table}
-use Rattle.exi_values.specs.Meaning.{texts_in, AreTexts, event_of}
+use Rattle.exi_values.specs.Meaning.{texts_in, AreTexts}
 use Rattle.exi_events.specs.declared.reader.Phase.{Phase}
 use Rattle.exi_events.specs.declared.reader.Phase.TheVariants as phase
 use Rattle.exi_events.specs.Inside.{AreOpen}

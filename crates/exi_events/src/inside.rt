@@ -67,7 +67,10 @@ pub(crate) fn take_inside<'a, P: Places>(
             Ok(Event::Attribute(name, value))
         }
         Step::Element {
-            name, kind, next, ..
+            name,
+            kind,
+            next,
+            ..
         } => {
             elements.goes_to(next);
             elements.push(name, Place::first(kind));

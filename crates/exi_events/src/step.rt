@@ -63,7 +63,8 @@ fn wrong_with(step: &Step) -> Option<RefusalCause>
 {
     match step {
         Step::Element {
-            past_limit: true, ..
+            past_limit: true,
+            ..
         } => Some(RefusalCause::TooLong),
         Step::Element {
             name,

@@ -1,4 +1,4 @@
-use Rattle.std.proofs.Common.{◌≡◌, ◌<◌, length, sym, List, Bool, subst, ℕ}
+use Rattle.std.proofs.Common.{length}
 use Rattle.std.proofs.lemmas.Result.{err_from_is_err_and}
 use Rattle.exi_events.proofs.Innermost.{step_refused, attribute_refused, content_refused, attribute_took, content_took, element_took, goes_open, push_room, push_open, took_stays, as_step, is_step, is_plain, same_value, same_refused}
 use Rattle.exi_events.proofs.inside.take_inside.Goals as goal

@@ -1,4 +1,4 @@
-use Rattle.std.proofs.Common.{◌≡◌, ◌<◌, ◌≤◌, arith}
+use Rattle.std.proofs.Common.{arith}
 use Rattle.exi_events.proofs.Limits.{few_code_bits}
 use Rattle.exi_events.proofs.step.take_step.Goals as goal
 

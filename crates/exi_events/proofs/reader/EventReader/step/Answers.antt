@@ -1,4 +1,3 @@
-use Rattle.std.proofs.Common.{◌≡◌, ◌<◌, length}
 use Rattle.std.proofs.lemmas.Result.{err_from_is_err_and}
 use Rattle.exi_events.proofs.Told.{inside_next}
 use Rattle.exi_events.proofs.reader.EventReader.step.Goals as goal
