@@ -1,0 +1,14 @@
+pub mod Offered
+pub mod Runs
+pub mod Told
+pub mod Exact
+pub mod IndexWidths
+pub mod Values
+pub mod TextValues
+pub mod Fits
+pub mod Fronts
+pub mod Events
+pub mod Kept
+pub mod Apart
+pub mod OneTree
+pub mod Payloads

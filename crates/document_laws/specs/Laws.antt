@@ -1,0 +1,78 @@
+-- Own: what makes the events, trees and refusals of a payload one.
+use Rattle.std.specs.Prelude.{◌≡◌, ℕ, ◌<◌, ◌≤◌, ◌⊎◌, Bool, List, ◌++◌, length, reverse}
+use Rattle.std.specs.List.{AllByRecursion}
+use Rattle.exi_spec.specs.Laws.{IsExact}
+use Rattle.exi_schema.specs.declared.tables.Datatype.{Datatype}
+use Rattle.exi_schema.specs.declared.schema.Schema.{Schema}
+use Rattle.exi_schema.specs.Offers.{IsPlace}
+use Rattle.exi_documents.specs.declared.refusal.RefusalCause.{RefusalCause}
+use Rattle.exi_documents.specs.Trees.{Value, Tree, Event, document_events}
+use Rattle.exi_documents.specs.Values.{Entries, most_entries, SpellsValue, RefusesValue}
+use Rattle.exi_documents.specs.Documents.{Speller, SpellsDocument, IsDocument}
+use Rattle.exi_documents.specs.Grammar.{Opened, Standing, Before, AtRoot, Inside, Behind, State, stands, Moves, Reaches}
+use Rattle.exi_documents.specs.Refusals.{RefusesNext, IsRefused}
+
+-- ---- events and trees
+
+-- events up to the end of a root are those of a tree that the same bits spell
+abbrev pub TellsOf : Speller → Schema → List Event → List Bool → Type 0
+TellsOf V s events bits =
+    (number : ℕ) × (tree : Tree) × (events ≡ reverse (document_events number tree)) × SpellsDocument V s number tree bits
+
+-- the bits of a document spell the events of its tree, and lead behind its root
+abbrev pub IsToldBy : Speller → Schema → ℕ → Tree → List Bool → Type 0
+IsToldBy V s number tree bits =
+    (entries : Entries) × Reaches V s (reverse (document_events number tree)) bits (stands Behind entries)
+
+pub record TellTrees (V : Speller) (s : Schema) : Type 0 where
+  pub told : (events : List Event) (bits : List Bool) (entries : Entries) → Reaches V s events bits (stands Behind entries) → TellsOf V s events bits
+  pub tells : (number : ℕ) (tree : Tree) (bits : List Bool) → SpellsDocument V s number tree bits → IsToldBy V s number tree bits
+
+-- ---- values
+
+-- why an item can't be taken, and at which of its bits
+abbrev pub Fault : Type 0
+Fault = RefusalCause × ℕ
+
+-- bits begin with one value and what is entered behind it, or have one refusal
+abbrev pub IsValueExact : Datatype → Entries → ℕ → Type 0
+IsValueExact d entries name =
+    IsExact (λ (v : Value × Entries) bits. SpellsValue d entries name v.0 bits v.1) (λ bits (r : Fault). RefusesValue d entries name bits r.0 r.1)
+
+-- ---- events
+
+abbrev pub IsStanding : Schema → Standing → Type 0
+IsStanding s Before = Unit {0}
+IsStanding s (AtRoot name kind) = kind < length s.kinds.now
+IsStanding s (Inside top above) = IsPlace s.kinds.now top.place × AllByRecursion (λ o. IsPlace s.kinds.now o.place) above
+IsStanding s Behind = Unit {0}
+
+-- a state of a document of the schema: its places are the schema's, and no more texts are entered than may be
+abbrev pub IsState : Schema → State → Type 0
+IsState s state = IsStanding s state.standing × (length state.entries ≤ most_entries)
+
+-- more events follow
+abbrev pub GoesOn : Standing → Type 0
+GoesOn Before = Unit {0}
+GoesOn (AtRoot name kind) = Unit {0}
+GoesOn (Inside top above) = Unit {0}
+GoesOn Behind = ⊥
+
+-- bits begin with one event, which leads to one state, or have one refusal
+abbrev pub IsEventExact : Schema → State → Type 0
+IsEventExact s state =
+    IsExact (λ (m : Event × State) bits. Moves SpellsValue s state m.0 bits m.1) (λ bits (r : Fault). RefusesNext s state bits r.0 r.1)
+
+-- ---- documents
+
+-- two documents that begin one list of bits are one document of one tree
+abbrev pub IsPrefixFree : Schema → Type 0
+IsPrefixFree s =
+    (n m : ℕ) (t u : Tree) (a b x y : List Bool) → SpellsDocument SpellsValue s n t a → SpellsDocument SpellsValue s m u b → a ++ x ≡ b ++ y → (a ≡ b) × (n ≡ m) × (t ≡ u)
+
+-- a payload spells one tree or has one refusal, not both
+pub record IsDecided (s : Schema) (payload : List ℕ) : Type 0 where
+  pub decided : ((tree : Tree) × IsDocument s tree payload) ⊎ ((why : RefusalCause) × (bit : ℕ) × IsRefused s payload why bit)
+  pub apart : (tree : Tree) (why : RefusalCause) (bit : ℕ) → IsDocument s tree payload → IsRefused s payload why bit → ⊥
+  pub one_tree : (t u : Tree) → IsDocument s t payload → IsDocument s u payload → t ≡ u
+  pub one_refusal : (why other : RefusalCause) (bit place : ℕ) → IsRefused s payload why bit → IsRefused s payload other place → (why ≡ other) × (bit ≡ place)

@@ -1,0 +1,5 @@
+pub mod Trees
+pub mod Values
+pub mod Documents
+pub mod Grammar
+pub mod Refusals

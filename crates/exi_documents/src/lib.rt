@@ -1,0 +1,7 @@
+//! What an EXI document of a schema is (W3C EXI 1.0, Second Edition), as definitions that contracts cite: its tree, its events, the
+//! bits that spell it, and the refusal of a payload that spells none.
+#![tactic(auto)]
+
+mod refusal;
+
+pub use refusal::{Refusal, RefusalCause};

@@ -1,0 +1,6 @@
+use Rattle.std.proofs.Common.{arith}
+use Rattle.exi_events.proofs.Limits.{few_code_bits}
+use Rattle.exi_events.proofs.step.take_step.Goals as goal
+
+pub take_number-requires : goal.take_number-requires
+take_number-requires g c = few_code_bits _ _ c.width.ensures (omega (arith, c.alternatives.ensures, c.alternatives.type_inv))

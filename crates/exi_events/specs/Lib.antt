@@ -1,0 +1,4 @@
+pub mod Open
+pub mod Front
+pub mod Inside
+pub mod Reader

@@ -1,0 +1,89 @@
+//! The next event inside the innermost element.
+
+ghost use Rattle.std.specs.Prelude.{◌≡◌, ℕ, ◌+◌, IfOk, IfErr, IsSome};
+ghost use Rattle.exi_bits.specs.Reading.{Takes, ahead};
+ghost use Rattle.exi_schema.specs.Steps.{simple_at};
+ghost use Rattle.exi_documents.specs.Grammar.{around};
+ghost use Rattle.exi_documents.specs.Refusals.{RefusesFrom};
+ghost use Rattle.exi_documents.specs.Values.{most_entries};
+ghost use Rattle.exi_values.specs.Meaning.{texts_in, AreTexts, value_of, IsLent, IsLentEvent};
+ghost use Rattle.exi_events.specs.Inside.{AreOpen, HasTop, SpellsInside, SpellsValueOf, RefusesValueOf};
+
+use crate::open::{OpenElement, OpenElements};
+use crate::step::take_step;
+use exi_documents::Refusal;
+use exi_reading::PayloadReader;
+use exi_schema::{Place, Places, Step};
+use exi_values::{Event, Table, Value};
+
+/// Takes a value of a simple kind of the schema.
+fn take_value<'a, P: Places>(
+    reader: &mut PayloadReader<'a>,
+    places: &P,
+    kind: u16,
+    name: u16,
+    table: &mut Table,
+) -> Result<Value<'a>, Refusal>
+    requires simple { IsSome (simple_at (P.schema places.now).kinds.now kind) }
+    requires cap { table.old.cap ≡ most_entries }
+    requires texts { AreTexts reader.old.bits table.old.entries }
+    ensures ok { IfOk result (λ v. Takes (SpellsValueOf (P.schema places.now).kinds.now kind (texts_in reader.old.bits table.old.entries) name (value_of v) (texts_in reader.old.bits table.new.entries)) reader.old reader.new) }
+    ensures lent { IfOk result (λ v. IsLent reader.old.bits v) }
+    ensures same { reader.new.bits ≡ reader.old.bits }
+    ensures texts { AreTexts reader.old.bits table.new.entries }
+    ensures cap { table.new.cap ≡ most_entries }
+    ensures refused { IfErr result (λ r. (at : ℕ) × RefusesValueOf (P.schema places.now).kinds.now kind (texts_in reader.old.bits table.old.entries) name (ahead reader.old) r.cause at × (r.bit ≡ reader.old.place + at)) }
+{
+    match places.datatype(kind) {
+        Some(datatype) => reader.take_value(datatype, name, table),
+        None => unreachable!(),
+    }
+}
+
+/// Takes the next event inside the innermost element, which is `top`.
+pub(crate) fn take_inside<'a, P: Places>(
+    reader: &mut PayloadReader<'a>,
+    places: &P,
+    table: &mut Table,
+    elements: &mut OpenElements,
+    top: OpenElement,
+) -> Result<Event<'a>, Refusal>
+    requires top { HasTop elements.old top }
+    requires elements { AreOpen (P.schema places.now).kinds.now elements.old }
+    requires cap { table.old.cap ≡ most_entries }
+    requires texts { AreTexts reader.old.bits table.old.entries }
+    ensures ok { IfOk result (λ e. Takes (SpellsInside (P.schema places.now) elements.old (texts_in reader.old.bits table.old.entries) e elements.new (texts_in reader.old.bits table.new.entries)) reader.old reader.new) }
+    ensures lent { IfOk result (λ e. IsLentEvent reader.old.bits e) }
+    ensures elements { AreOpen (P.schema places.now).kinds.now elements.new }
+    ensures same { reader.new.bits ≡ reader.old.bits }
+    ensures texts { AreTexts reader.old.bits table.new.entries }
+    ensures cap { table.new.cap ≡ most_entries }
+    ensures refused { IfErr result (λ r. (at : ℕ) × RefusesFrom (P.schema places.now) (around elements.old) (texts_in reader.old.bits table.old.entries) (ahead reader.old) r.cause at × (r.bit ≡ reader.old.place + at)) }
+{
+    match take_step(reader, places, top.place)? {
+        Step::Attribute { name, kind, next } => {
+            let value = take_value(reader, places, kind, name, table)?;
+            elements.goes_to(next);
+            Ok(Event::Attribute(name, value))
+        }
+        Step::Element {
+            name,
+            kind,
+            next,
+            ..
+        } => {
+            elements.goes_to(next);
+            elements.push(name, Place::first(kind));
+            Ok(Event::Start(name))
+        }
+        Step::End => {
+            elements.pop();
+            Ok(Event::EndElement)
+        }
+        Step::Characters { next } => {
+            let value = take_value(reader, places, top.place.kind, top.name, table)?;
+            elements.goes_to(next);
+            Ok(Event::Value(value))
+        }
+    }
+}

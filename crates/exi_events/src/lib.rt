@@ -1,0 +1,12 @@
+//! The events of EXI documents (W3C EXI 1.0, Second Edition, 4 and 8), read from a payload and written into a room, over the places of
+//! any schema. No call takes memory.
+#![tactic(auto)]
+
+mod inside;
+mod open;
+mod reader;
+mod step;
+
+pub use exi_documents::{Refusal, RefusalCause};
+pub use exi_values::{Event, Table, Value};
+pub use reader::EventReader;

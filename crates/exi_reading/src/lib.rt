@@ -1,0 +1,13 @@
+//! A payload that is read item by item (W3C EXI 1.0, Second Edition, 7): numbers, and values of a datatype with the string table.
+//!
+//! No call takes memory. A refusal has the bit of the first item that can't be taken.
+#![tactic(auto)]
+
+mod items;
+mod reader;
+mod texts;
+
+pub use reader::PayloadReader;
+
+#[cfg(test)]
+mod tests;
