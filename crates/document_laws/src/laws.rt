@@ -4,9 +4,10 @@ ghost use Rattle.exi_schema.specs.declared.schema.Schema.{Schema};
 ghost use Rattle.std.specs.Prelude.{ℕ, ◌≤◌, Bool, List, length};
 ghost use Rattle.exi_schema.specs.declared.tables.Datatype.{Datatype};
 ghost use Rattle.exi_documents.specs.Values.{Entries, most_entries, SpellsValue, WritesValue};
-ghost use Rattle.exi_documents.specs.Trees.{Event};
+ghost use Rattle.exi_documents.specs.Trees.{Tree, Value, Event};
+ghost use Rattle.exi_documents.specs.Documents.{SpellsDocument, IsDocument, IsEncoding};
 ghost use Rattle.exi_documents.specs.Grammar.{State, Moves};
-ghost use Rattle.document_laws.specs.Laws.{TellTrees, IsValueExact, IsState, GoesOn, IsEventExact, IsPrefixFree, IsDecided};
+ghost use Rattle.document_laws.specs.Laws.{TellTrees, IsValueExact, IsState, GoesOn, IsEventExact, IsPrefixFree, IsDecided, IsInRange, AreInRange, IsSpelled, WritesOnce, IsOneEncoding};
 
 /// The events up to the end of a document are those of the tree that its bits spell, in any spelling and as it is written.
 pub fn events_tell_trees()
@@ -34,4 +35,13 @@ pub fn prefix_free()
 /// Each payload spells one tree, or has one refusal, at one of its bits.
 pub fn each_payload()
     ensures { (s : Schema) (payload : List ℕ) → IsDecided s payload }
+{}
+
+/// What is written spells its value or its document, and is the one thing that is written for it.
+pub fn encodings()
+    ensures value { (d : Datatype) (entries : Entries) (name : ℕ) (v : Value) → IsInRange d → IsSpelled d entries name v }
+    ensures value_once { WritesOnce WritesValue }
+    ensures document { (s : Schema) (number : ℕ) (tree : Tree) (bits : List Bool) → AreInRange s.kinds.now → SpellsDocument WritesValue s number tree bits → SpellsDocument SpellsValue s number tree bits }
+    ensures spelled { (s : Schema) (tree : Tree) (payload : List ℕ) → AreInRange s.kinds.now → IsEncoding s tree payload → IsDocument s tree payload }
+    ensures once { (s : Schema) → IsOneEncoding s }
 {}
