@@ -13,7 +13,8 @@ use Rattle.exi_schema.specs.declared.places.Step.TheVariants as step
 use Rattle.exi_schema.specs.Offers.{IsPlace}
 use Rattle.exi_schema.specs.Steps.{simple_at}
 use Rattle.exi_schema.proofs.Fitting.{first_place}
-use Rattle.exi_documents.specs.Trees.{Value, Trees, none, simple, complex, Tree, Simple, Complex}
+use Rattle.exi_documents.specs.Trees.{Value, Trees, none, simple, complex, Tree, Simple, Complex, Event, Document, Start, Attribute, Content, EndElement}
+use Rattle.exi_documents.specs.Grammar.{Opened, Standing, Before, AtRoot, Inside, Behind, State, stands, Moves}
 use Rattle.exi_documents.specs.Values.{Entries, SpellsValue, WritesValue}
 use Rattle.exi_documents.specs.Documents.{Speller, SpellsStep, SpellsSimple, SpellsAttributes, SpellsTrees, SpellsTree, SpellsDocument, IsDocument, IsEncoding, name_of, element, first, header}
 use Rattle.document_laws.specs.Laws.{AreInRange, WritesOnce, AreBytes, IsOneEncoding}
@@ -79,6 +80,20 @@ module _ (s : Schema) (fit : AreInRange s.kinds.now) where
   tree_spelled kind after (Simple name value) bits h = simple_spelled kind [] after name value bits h
   tree_spelled kind after (Complex name attributes children) bits h =
       (h.0, h.1, h.2, h.3, attributes_spelled (first kind) h.0 [] h.1 attributes h.2 h.4, trees_spelled h.0 h.1 after children h.3 h.5, h.6)
+
+  event_at : (standing : Standing) (entries : Entries) (new : State) (event : Event) (bits : List Bool) → Moves WritesValue s (stands standing entries) event bits new → Moves SpellsValue s (stands standing entries) event bits new
+  event_at Before entries new (Document number) bits m = m
+  event_at (AtRoot root kind) entries new (Start name) bits m = m
+  event_at (Inside top above) entries new (Start name) bits m = m
+  event_at (Inside top above) entries new (Attribute name value) bits m =
+      (m.0, m.1, m.2, m.3, m.4, m.5, m.6, m.7, value_spelled m.2 entries name value (fit m.0 m.2 m.7) m.5 m.3 m.8, m.9, m.10)
+  event_at (Inside top above) entries new (Content value) bits m =
+      (m.0, m.1, m.2, m.3, m.4, m.5, m.6, value_spelled m.1 entries top.name value (fit top.place.kind m.1 m.6) m.4 m.2 m.7, m.8, m.9)
+  event_at (Inside top above) entries new EndElement bits m = m
+  event_at standing entries new event bits m = absurd m
+
+  pub event_spelled : (old new : State) (event : Event) (bits : List Bool) → Moves WritesValue s old event bits new → Moves SpellsValue s old event bits new
+  event_spelled old new event bits m = event_at old.standing old.entries new event bits m
 
   pub document_spelled : (number : ℕ) (tree : Tree) (bits : List Bool) → SpellsDocument WritesValue s number tree bits → SpellsDocument SpellsValue s number tree bits
   document_spelled number tree bits d =

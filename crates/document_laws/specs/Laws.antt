@@ -1,4 +1,4 @@
--- Own: what makes the events, trees and refusals of a payload one.
+-- Own: what makes the events, the tree and the refusal of a payload one.
 use Rattle.std.specs.Prelude.{◌≡◌, ℕ, ◌^◌, ◌<◌, ◌≤◌, ◌⊎◌, Bool, List, ◌++◌, length, reverse, FitsSigned, Some}
 use Rattle.std.specs.Int.{w64}
 use Rattle.std.specs.List.{AllByRecursion}

@@ -1,5 +1,5 @@
 use Rattle.document_laws.proofs.Written.{value_spelled, value_once}
-use Rattle.document_laws.proofs.Encodings.{document_spelled, encoding_spelled, one_encoding}
+use Rattle.document_laws.proofs.Encodings.{event_spelled, document_spelled, encoding_spelled, one_encoding}
 use Rattle.document_laws.proofs.laws.encodings.Goals as goal
 
 pub returns-clause-value : goal.returns-clause-value
@@ -7,6 +7,9 @@ returns-clause-value c d entries name v fits = value_spelled d entries name v fi
 
 pub returns-clause-value_once : goal.returns-clause-value_once
 returns-clause-value_once c = value_once
+
+pub returns-clause-event : goal.returns-clause-event
+returns-clause-event c s old new event bits fit m = event_spelled s fit old new event bits m
 
 pub returns-clause-document : goal.returns-clause-document
 returns-clause-document c s number tree bits fit d = document_spelled s fit number tree bits d
