@@ -14,7 +14,7 @@ use Rattle.exi_schema.specs.Offers.{IsPlace}
 use Rattle.exi_schema.specs.Steps.{simple_at}
 use Rattle.exi_schema.proofs.Fitting.{first_place}
 use Rattle.exi_documents.specs.Trees.{Value, Trees, none, simple, complex, Tree, Simple, Complex, Event, Document, Start, Attribute, Content, EndElement}
-use Rattle.exi_documents.specs.Grammar.{Opened, Standing, Before, AtRoot, Inside, Behind, State, stands, Moves}
+use Rattle.exi_documents.specs.Grammar.{Standing, Before, AtRoot, Inside, State, stands, Moves}
 use Rattle.exi_documents.specs.Values.{Entries, SpellsValue, WritesValue}
 use Rattle.exi_documents.specs.Documents.{Speller, SpellsStep, SpellsSimple, SpellsAttributes, SpellsTrees, SpellsTree, SpellsDocument, IsDocument, IsEncoding, name_of, element, first, header}
 use Rattle.document_laws.specs.Laws.{AreInRange, WritesOnce, AreBytes, IsOneEncoding}

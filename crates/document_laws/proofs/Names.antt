@@ -16,6 +16,7 @@ use Rattle.exi_schema.specs.Schemas.{is_attribute, is_particle, widest, attribut
 use Rattle.exi_schema.proofs.Conditions.{and-l, and-r, each_at, kinds_of, declared, not_below, wide_room}
 use Rattle.exi_documents.specs.Documents.{SpellsStep}
 use Rattle.exi_spec.specs.Bits.{number_bits}
+use Rattle.document_laws.specs.Laws.{OffersOnce}
 use Rattle.document_laws.proofs.Fits.{not_any}
 use Rattle.document_laws.proofs.Offered.{same_width}
 
@@ -293,3 +294,11 @@ ones_by (Some (Complex attributes particles)) s here is at =
 
 pub ones_at : (s : Schema) (here : Place) → IsPlace s.kinds.now here → HasOnes s.kinds.now here
 ones_at s here at = let all = ones_by (slice_get s.kinds.now here.kind) s here refl at in record { elements = all.0; attributes = all.1; ends = all.2 }
+
+pub offers_once : (s : Schema) (here : Place) → IsPlace s.kinds.now here → OffersOnce s.kinds.now here
+offers_once s here at =
+    let ones = ones_at s here at in
+    record {
+      elements = distinct_by _ _ (elements_gathered (offers s.kinds.now here)) ones.elements;
+      attributes = distinct_by _ _ (attributes_gathered (offers s.kinds.now here)) ones.attributes;
+    }

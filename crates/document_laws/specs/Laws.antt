@@ -1,5 +1,5 @@
 -- Own: what makes the events, the tree and the refusal of a payload one.
-use Rattle.std.specs.Prelude.{◌≡◌, ℕ, ◌^◌, ◌<◌, ◌≤◌, ◌⊎◌, Bool, List, ◌++◌, length, reverse, FitsSigned, Some}
+use Rattle.std.specs.Prelude.{◌≡◌, ℕ, ◌^◌, ◌<◌, ◌≤◌, ◌⊎◌, Bool, true, List, ◌++◌, length, reverse, FitsSigned, Some}
 use Rattle.std.specs.Int.{w64}
 use Rattle.std.specs.List.{AllByRecursion}
 use Rattle.exi_spec.specs.Laws.{IsExact}
@@ -8,7 +8,9 @@ use Rattle.exi_schema.specs.declared.tables.Datatype.TheVariants.{Bool as BoolTy
 use Rattle.exi_schema.specs.declared.tables.Declaration.{Declaration}
 use Rattle.exi_schema.specs.Steps.{simple_at}
 use Rattle.exi_schema.specs.declared.schema.Schema.{Schema}
-use Rattle.exi_schema.specs.Offers.{IsPlace}
+use Rattle.exi_schema.specs.declared.places.Place.{Place}
+use Rattle.exi_schema.specs.Offers.{offers, IsPlace}
+use Rattle.exi_schema.specs.Schemas.{attribute_names, element_names, are_distinct}
 use Rattle.exi_documents.specs.declared.refusal.RefusalCause.{RefusalCause}
 use Rattle.exi_documents.specs.Trees.{Value, Tree, Event, document_events}
 use Rattle.exi_documents.specs.Values.{Entries, most_entries, SpellsValue, WritesValue, RefusesValue}
@@ -42,6 +44,13 @@ Fault = RefusalCause × ℕ
 abbrev pub IsValueExact : Datatype → Entries → ℕ → Type 0
 IsValueExact d entries name =
     IsExact (λ (v : Value × Entries) bits. SpellsValue d entries name v.0 bits v.1) (λ bits (r : Fault). RefusesValue d entries name bits r.0 r.1)
+
+-- ---- offers
+
+-- no two elements and no two attributes of one name are offered
+pub record OffersOnce (kinds : List Declaration) (here : Place) : Type 0 where
+  pub elements : are_distinct (element_names (offers kinds here)) ≡ true
+  pub attributes : are_distinct (attribute_names (offers kinds here)) ≡ true
 
 -- ---- events
 

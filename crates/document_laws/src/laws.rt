@@ -2,17 +2,24 @@
 
 ghost use Rattle.std.specs.Prelude.{ℕ, ◌≤◌, Bool, List, length};
 ghost use Rattle.exi_schema.specs.declared.schema.Schema.{Schema};
+ghost use Rattle.exi_schema.specs.declared.places.Place.{Place};
 ghost use Rattle.exi_schema.specs.declared.tables.Datatype.{Datatype};
+ghost use Rattle.exi_schema.specs.Offers.{IsPlace};
 ghost use Rattle.exi_documents.specs.Values.{Entries, most_entries, SpellsValue, WritesValue};
 ghost use Rattle.exi_documents.specs.Trees.{Tree, Value, Event};
 ghost use Rattle.exi_documents.specs.Documents.{SpellsDocument, IsDocument, IsEncoding};
 ghost use Rattle.exi_documents.specs.Grammar.{State, Moves};
-ghost use Rattle.document_laws.specs.Laws.{TellTrees, IsValueExact, IsState, GoesOn, IsEventExact, IsPrefixFree, IsDecided, IsInRange, AreInRange, IsSpelled, WritesOnce, IsOneEncoding};
+ghost use Rattle.document_laws.specs.Laws.{TellTrees, OffersOnce, IsValueExact, IsState, GoesOn, IsEventExact, IsPrefixFree, IsDecided, IsInRange, AreInRange, IsSpelled, WritesOnce, IsOneEncoding};
 
 /// The events up to the end of a document are those of the tree that its bits spell, in any spelling and as it is written.
 pub fn events_tell_trees()
     ensures spelled { (s : Schema) → TellTrees SpellsValue s }
     ensures written { (s : Schema) → TellTrees WritesValue s }
+{}
+
+/// At a place of a schema no two elements and no two attributes of one name are offered.
+pub fn distinct_offers()
+    ensures { (s : Schema) (here : Place) → IsPlace s.kinds.now here → OffersOnce s.kinds.now here }
 {}
 
 /// Each list of bits begins with one spelling of one value of a datatype, or has one refusal, at one of its bits.
