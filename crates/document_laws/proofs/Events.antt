@@ -1,5 +1,5 @@
 -- The bits of an event begin with one, which leads to one state, or have one refusal.
-use Rattle.std.proofs.Common.{◌≡◌, ℕ, ◌+◌, ◌<◌, ◌≤◌, ◌⊎◌, Bool, true, false, List, [], ◌∷◌, ◌++◌, length, Option, Some, None, IsSome, slice_get, refl, sym, ap, subst, ◌∙◌, append-nil, inl, inr}
+use Rattle.std.proofs.Common.{◌≡◌, ℕ, ◌+◌, ◌≤◌, ◌⊎◌, Bool, true, false, List, [], ◌∷◌, ◌++◌, length, Option, Some, None, IsSome, slice_get, refl, sym, ap, subst, ◌∙◌, append-nil, inl, inr}
 use Rattle.exi_spec.specs.Items.{SpellsNumber, Begins, RefusesBits}
 use Rattle.exi_spec.specs.Laws.{IsExact}
 use Rattle.exi_spec.proofs.Readers.{exact, numbers_read}
@@ -19,7 +19,7 @@ use Rattle.exi_documents.specs.Values.{Entries, most_entries, SpellsValue, Refus
 use Rattle.exi_documents.specs.Documents.{SpellsStep, element, first}
 use Rattle.exi_documents.specs.Grammar.{Opened, Standing, Before, AtRoot, Inside, Behind, State, opened, around, stands, Moves}
 use Rattle.exi_documents.specs.Refusals.{step_cause, code_cause, RefusesStep, RefusesFrom}
-use Rattle.document_laws.specs.Laws.{Fault, IsValueExact, IsState, GoesOn, IsEventExact}
+use Rattle.document_laws.specs.Laws.{Fault, IsState, GoesOn, IsEventExact}
 use Rattle.document_laws.proofs.Exact.{Spelling, Refusing, AtStart, same_fault, item, Sifts, SpellsSifted, RefusesSifted, sifted, Given, given, SpellsChained, RefusesChained, chained, nothing, same}
 use Rattle.document_laws.proofs.Offered.{same_width}
 use Rattle.document_laws.proofs.IndexWidths.{code_width}

@@ -1,9 +1,7 @@
 -- What the conditions on a schema say of its steps and roots.
-use Rattle.std.proofs.Common.{◌≡◌, ◌≢◌, ℕ, zero, suc, ◌<◌, ◌≤◌, ◌⊎◌, Bool, true, false, not, ◌&&◌, nat_lt, nat_le, List, [], ◌∷◌, length, map, Option, Some, None, slice_get, refl, sym, ap, subst, ◌∙◌, arith, inl, inr}
-use Rattle.std.proofs.lemmas.Bool.{cases_Bool, ltb-true, both_ways}
+use Rattle.std.proofs.Common.{◌≡◌, ◌≢◌, ℕ, zero, suc, ◌<◌, ◌⊎◌, Bool, true, false, not, ◌&&◌, nat_lt, nat_le, List, [], ◌∷◌, length, map, Option, Some, None, slice_get, refl, sym, ap, subst, ◌∙◌, inl, inr}
+use Rattle.std.proofs.lemmas.Bool.{ltb-true}
 use Rattle.std.proofs.lemmas.Bool.Decides.{eqb_tells}
-use Rattle.std.proofs.lemmas.List.{length-map}
-use Rattle.std.proofs.lemmas.Option.{slice_get_cases}
 use Rattle.std.specs.List.{list_any, list_all}
 use Rattle.std.specs.Prelude.{◌==◌, ◌^◌, ◌||◌}
 use Rattle.exi_schema.specs.declared.schema.Schema.{Schema}
@@ -12,15 +10,15 @@ use Rattle.exi_schema.specs.declared.tables.Declaration.TheVariants.{Simple, Com
 use Rattle.exi_schema.specs.declared.tables.RootOf.{RootOf}
 use Rattle.exi_schema.specs.declared.places.Place.{Place}
 use Rattle.exi_schema.specs.declared.places.Root.{Root}
-use Rattle.exi_schema.specs.declared.places.Root.TheVariants.{Kind, Unknown, NoSuch}
+use Rattle.exi_schema.specs.declared.places.Root.TheVariants.{Kind, NoSuch}
 use Rattle.exi_schema.specs.declared.places.Step.{Step}
 use Rattle.exi_schema.specs.Counts.{root_numbered}
 use Rattle.exi_schema.specs.Offers.{simple_step, complex_steps, offers_of, offers, IsPlaceOf, IsPlace}
 use Rattle.exi_schema.specs.Schemas.{is_root, is_within, are_roots, are_kinds, are_words, are_values, are_distinct}
-use Rattle.exi_schema.specs.Steps.{IsStep, IsRoot, IsRootOf}
+use Rattle.exi_schema.specs.Steps.{IsStep, IsRoot}
 use Rattle.exi_schema.proofs.Conditions.{and-l, and-r, all_get, complex_in}
-use Rattle.exi_schema.proofs.Fitting.{each_complex, each_get, simple_fits, first_place}
-use Rattle.exi_schema.proofs.Roots.{is_numbered, root_fits}
+use Rattle.exi_schema.proofs.Fitting.{each_complex, each_get, simple_fits}
+use Rattle.exi_schema.proofs.Roots.{is_numbered}
 use Rattle.document_laws.proofs.Offered.{only_code}
 
 -- ---- steps
@@ -41,7 +39,7 @@ step_fits s here code step at h = fits_by (slice_get s.kinds.now here.kind) s he
 
 -- ---- numbers that differ
 
-not_any : (n : ℕ) (ns : List ℕ) (i m : ℕ) → not (list_any (λ k. k == n) ns) ≡ true → slice_get ns i ≡ Some m → m ≡ n → ⊥
+pub not_any : (n : ℕ) (ns : List ℕ) (i m : ℕ) → not (list_any (λ k. k == n) ns) ≡ true → slice_get ns i ≡ Some m → m ≡ n → ⊥
 not_any n [] i m other h e = let wrong : None ≡ Some m = h in cc
 not_any n (x ∷ ns) zero m other h e =
     let is : Some x ≡ Some m = h in

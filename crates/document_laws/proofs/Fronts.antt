@@ -1,9 +1,9 @@
 -- The front of a document: the header, and the number that names the root.
-use Rattle.std.proofs.Common.{◌≡◌, ◌≢◌, ℕ, ◌+◌, ◌^◌, ◌<◌, ◌≤◌, ◌⊎◌, Bool, List, [], ◌∷◌, ◌++◌, length, take, Option, Some, None, refl, sym, ap, ap₂, subst, ◌∙◌, arith, inl, inr, length-append}
+use Rattle.std.proofs.Common.{◌≡◌, ◌≢◌, ℕ, ◌+◌, ◌^◌, ◌<◌, ◌≤◌, ◌⊎◌, Bool, List, ◌++◌, length, take, Some, None, refl, sym, ap, subst, ◌∙◌, arith, inl, inr, length-append}
 use Rattle.std.proofs.lemmas.List.{take_at}
 use Rattle.std.proofs.lemmas.Bool.Decides.{eqb_tells}
 use Rattle.exi_spec.specs.Bits.{number_bits, number_of}
-use Rattle.exi_spec.specs.Items.{SpellsNumber, Begins, RefusesBits}
+use Rattle.exi_spec.specs.Items.{SpellsNumber, RefusesBits}
 use Rattle.exi_spec.specs.Laws.{IsExact}
 use Rattle.exi_spec.proofs.BitLaws.{length-number_bits, number_of-number_bits}
 use Rattle.exi_spec.proofs.Readers.{exact, numbers_read}
@@ -16,10 +16,10 @@ use Rattle.exi_documents.specs.declared.refusal.RefusalCause.TheVariants as caus
 use Rattle.exi_spec.specs.declared.BitCause.{BitCause}
 use Rattle.exi_spec.specs.declared.BitCause.TheVariants as bit
 use Rattle.exi_documents.specs.Trees.{Event, Document, Start, Attribute, Content, EndElement}
-use Rattle.exi_documents.specs.Values.{Entries, SpellsValue, RefusesItem}
+use Rattle.exi_documents.specs.Values.{Entries, SpellsValue}
 use Rattle.exi_documents.specs.Documents.{header}
-use Rattle.exi_documents.specs.Grammar.{Before, AtRoot, State, stands, OpensDocument, Moves}
-use Rattle.exi_documents.specs.Refusals.{root_cause, RefusesNumber, RefusesHeader, RefusesFront, RefusesNext}
+use Rattle.exi_documents.specs.Grammar.{Before, AtRoot, State, stands, Moves}
+use Rattle.exi_documents.specs.Refusals.{root_cause, RefusesNumber, RefusesHeader, RefusesFront}
 use Rattle.document_laws.specs.Laws.{Fault, IsEventExact}
 use Rattle.document_laws.proofs.Exact.{Spelling, Refusing, AtStart, same_fault, item, Sifts, SpellsSifted, RefusesSifted, sifted, Given, given, SpellsChained, RefusesChained, chained, same}
 use Rattle.document_laws.proofs.Fits.{root_coded, one_root, some_root}

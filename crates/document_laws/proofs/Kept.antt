@@ -1,18 +1,17 @@
 -- An event leads from a state of the schema to one.
-use Rattle.std.proofs.Common.{◌≡◌, ℕ, ◌<◌, ◌≤◌, ℤ, pos, Bool, List, [], ◌∷◌, length, refl, sym, ap, subst, ◌∙◌}
+use Rattle.std.proofs.Common.{◌≡◌, ℕ, ◌≤◌, pos, Bool, List, [], ◌∷◌, length, sym, subst}
 use Rattle.std.specs.List.{AllByRecursion}
 use Rattle.exi_schema.specs.declared.schema.Schema.{Schema}
 use Rattle.exi_schema.specs.declared.tables.Datatype.{Datatype}
 use Rattle.exi_schema.specs.declared.tables.Datatype.TheVariants.{Bool as BoolType, Named, Bounded, Unsigned, Signed, Binary, Text as TextType}
-use Rattle.exi_schema.specs.declared.places.Place.{Place}
 use Rattle.exi_schema.specs.declared.places.Step.TheVariants as step
 use Rattle.exi_schema.specs.Offers.{IsPlace}
 use Rattle.exi_schema.proofs.Fitting.{first_place}
 use Rattle.exi_documents.specs.Trees.{Value, Truth, Ordinal, Number, Bytes, Text, Event, Document, Start, Attribute, Content, EndElement}
 use Rattle.exi_documents.specs.Values.{Entries, most_entries, SpellsValue}
 use Rattle.exi_documents.specs.Documents.{element, first}
-use Rattle.exi_documents.specs.Grammar.{Opened, Standing, Before, AtRoot, Inside, Behind, State, opened, around, stands, Moves}
-use Rattle.document_laws.specs.Laws.{IsStanding, IsState}
+use Rattle.exi_documents.specs.Grammar.{Opened, Standing, Before, AtRoot, Inside, State, opened, around, stands, Moves}
+use Rattle.document_laws.specs.Laws.{IsState}
 use Rattle.document_laws.proofs.Fits.{step_fits, root_kind}
 
 few_by : (entries after : Entries) → length entries ≤ most_entries → after ≡ entries → length after ≤ most_entries

@@ -12,3 +12,6 @@ pub mod Kept
 pub mod Apart
 pub mod OneTree
 pub mod Payloads
+pub mod Written
+pub mod Names
+pub mod Encodings

@@ -15,7 +15,7 @@ use Rattle.exi_schema.specs.declared.places.Step.{Step}
 use Rattle.exi_schema.specs.declared.places.Step.TheVariants.{Attribute, Element, End, Characters}
 use Rattle.exi_schema.specs.Offers.{through_required, attribute_steps, leaves_room, behind_copy, element_step, element_steps, simple_step, complex_steps, offers_of, offers, IsWidth}
 use Rattle.exi_schema.specs.Steps.{datatype_of, simple_at}
-use Rattle.exi_documents.specs.Documents.{SpellsStep, element, first}
+use Rattle.exi_documents.specs.Documents.{SpellsStep, element}
 
 -- ---- a width
 

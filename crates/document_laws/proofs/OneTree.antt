@@ -1,11 +1,10 @@
 -- Two runs along the same bits go the same way.
-use Rattle.std.proofs.Common.{◌≡◌, ℕ, ◌≤◌, ◌⊎◌, Bool, List, [], ◌∷◌, ◌++◌, length, refl, sym, ap, subst, ◌∙◌, append_assoc, append-nil, arith, inl, inr}
+use Rattle.std.proofs.Common.{◌≡◌, ◌≤◌, ◌⊎◌, Bool, List, [], ◌∷◌, ◌++◌, refl, sym, ap, subst, ◌∙◌, append_assoc, append-nil, arith, inl, inr}
 use Rattle.std.proofs.lemmas.List.{append_cancel_left, append_cancel_right}
 use Rattle.exi_schema.specs.declared.schema.Schema.{Schema}
-use Rattle.exi_documents.specs.Trees.{Tree, Event, document_events}
+use Rattle.exi_documents.specs.Trees.{Event, document_events}
 use Rattle.exi_documents.specs.Values.{Entries, SpellsValue}
-use Rattle.exi_documents.specs.Documents.{SpellsDocument}
-use Rattle.exi_documents.specs.Grammar.{Opened, Standing, Before, AtRoot, Inside, Behind, State, start, stands, Moves}
+use Rattle.exi_documents.specs.Grammar.{Standing, Before, AtRoot, Inside, Behind, State, start, stands, Moves}
 use Rattle.document_laws.specs.Laws.{IsState, GoesOn, IsPrefixFree}
 use Rattle.document_laws.proofs.Apart.{documents_apart}
 use Rattle.document_laws.proofs.Events.{event_exact}

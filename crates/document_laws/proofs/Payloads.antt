@@ -1,8 +1,8 @@
 -- A payload spells one tree, or has one refusal.
-use Rattle.std.proofs.Common.{◌≡◌, ℕ, zero, suc, ◌+◌, ◌%◌, ◌^◌, ◌<◌, ◌≤◌, ◌⊎◌, Bool, List, [], ◌∷◌, ◌++◌, length, reverse, Option, Some, None, slice_get, refl, sym, ap, ap₂, subst, ◌∙◌, append_assoc, arith, inl, inr, length-append}
+use Rattle.std.proofs.Common.{◌≡◌, ℕ, zero, suc, ◌+◌, ◌%◌, ◌^◌, ◌<◌, ◌≤◌, ◌⊎◌, Bool, List, [], ◌∷◌, ◌++◌, length, reverse, Some, None, slice_get, refl, sym, ap, ap₂, subst, ◌∙◌, append_assoc, arith, inl, inr, length-append}
 use Rattle.std.proofs.lemmas.Bool.{cases_lt}
 use Rattle.std.proofs.lemmas.List.{append_cancel_right}
-use Rattle.exi_spec.specs.Bits.{number_bits, bits_of}
+use Rattle.exi_spec.specs.Bits.{bits_of}
 use Rattle.exi_spec.proofs.BitLaws.{length-number_bits}
 use Rattle.exi_schema.specs.declared.schema.Schema.{Schema}
 use Rattle.exi_schema.specs.declared.tables.Declaration.{Declaration}
@@ -13,8 +13,8 @@ use Rattle.exi_documents.specs.declared.refusal.RefusalCause.{RefusalCause}
 use Rattle.exi_documents.specs.declared.refusal.RefusalCause.TheVariants as cause
 use Rattle.exi_documents.specs.Trees.{Tree, Event, Document, Start, Attribute, Content, EndElement, document_events}
 use Rattle.exi_documents.specs.Values.{Entries, SpellsValue}
-use Rattle.exi_documents.specs.Documents.{SpellsStep, header, IsDocument}
-use Rattle.exi_documents.specs.Grammar.{Opened, Standing, Before, AtRoot, Inside, Behind, State, start, around, stands, Moves, Reaches}
+use Rattle.exi_documents.specs.Documents.{SpellsStep, IsDocument}
+use Rattle.exi_documents.specs.Grammar.{Opened, Standing, Before, AtRoot, Inside, Behind, State, start, around, stands, Moves}
 use Rattle.exi_documents.specs.Refusals.{RefusesNext, IsRefused}
 use Rattle.document_laws.specs.Laws.{Fault, IsState, GoesOn, IsDecided}
 use Rattle.document_laws.proofs.Events.{event_exact}

@@ -5,10 +5,10 @@ use Rattle.exi_spec.specs.Bits.{number_bits}
 use Rattle.exi_schema.specs.declared.places.Place.{Place}
 use Rattle.exi_schema.specs.declared.places.Step.TheVariants.{End, Characters}
 use Rattle.exi_schema.specs.declared.schema.Schema.{Schema}
-use Rattle.exi_documents.specs.Trees.{Value, Trees, none, simple, complex, Tree, Simple, Complex, Event, Document, Start, Attribute, Content, EndElement, attribute_events, events_of, document_events}
+use Rattle.exi_documents.specs.Trees.{Value, Trees, none, simple, complex, Tree, Simple, Complex, Event, Document, Start, Content, EndElement, attribute_events, events_of, document_events}
 use Rattle.exi_documents.specs.Values.{Entries}
 use Rattle.exi_documents.specs.Documents.{Speller, SpellsSimple, SpellsAttributes, SpellsTrees, SpellsDocument, first, header}
-use Rattle.exi_documents.specs.Grammar.{Opened, Standing, Before, AtRoot, Inside, Behind, State, start, opened, around, stands, Moves, Reaches}
+use Rattle.exi_documents.specs.Grammar.{Opened, AtRoot, Inside, Behind, State, start, opened, around, stands, Moves, Reaches}
 use Rattle.document_laws.specs.Laws.{IsToldBy}
 use Rattle.document_laws.proofs.Offered.{offers_simple, one_offered}
 

@@ -1,18 +1,17 @@
 -- The bits of a text begin with one spelling of one text, or have one refusal; and so do those of any value.
-use Rattle.std.proofs.Common.{◌≡◌, ℕ, zero, suc, ◌+◌, ◌<◌, ◌≤◌, ◌⊎◌, Bool, true, List, [], ◌∷◌, ◌++◌, length, Option, Some, None, slice_get, refl, sym, ap, subst, ◌∙◌, arith, inl, inr, length-append}
+use Rattle.std.proofs.Common.{◌≡◌, ℕ, zero, suc, ◌+◌, ◌<◌, ◌≤◌, ◌⊎◌, Bool, List, [], ◌∷◌, ◌++◌, length, Option, Some, None, slice_get, refl, sym, ap, subst, ◌∙◌, arith, inl, inr, length-append}
 use Rattle.std.proofs.lemmas.Bool.{cases_lt}
-use Rattle.exi_spec.specs.declared.BitCause.{BitCause}
 use Rattle.exi_spec.specs.Items.{SpellsNumber, SpellsUnsigned, SpellsChars, Begins, RefusesBits, RefusesUnsigned, RefusesChars}
 use Rattle.exi_spec.specs.Laws.{IsExact, SpellsNChars}
 use Rattle.exi_spec.proofs.Readers.{exact, numbers_read, unsigned_read, strings_read}
 use Rattle.exi_schema.specs.declared.tables.Datatype.{Datatype}
 use Rattle.exi_schema.specs.declared.tables.Datatype.TheVariants.{Bool as BoolType, Named, Bounded, Unsigned, Signed, Binary, Text as TextType}
 use Rattle.exi_strings.specs.Table.{global_of, local_of}
-use Rattle.exi_strings.specs.Texts.{SpellsIndex, Announces, entered, SpellsHit, SpellsText}
+use Rattle.exi_strings.specs.Texts.{SpellsIndex, Announces, entered, SpellsHit}
 use Rattle.exi_documents.specs.Trees.{Value, Truth, Ordinal, Number, Bytes, Text}
 use Rattle.exi_documents.specs.declared.refusal.RefusalCause.{RefusalCause}
 use Rattle.exi_documents.specs.declared.refusal.RefusalCause.TheVariants.{NoSuchIndex, TooLong, TableFull}
-use Rattle.exi_documents.specs.Values.{Entries, most_entries, SpellsValue, RefusesItem, RefusesIndex, Overfills, RefusesBehind, RefusesAnnounced, RefusesLength, RefusesValue}
+use Rattle.exi_documents.specs.Values.{Entries, most_entries, SpellsValue, RefusesItem, RefusesIndex, Overfills, RefusesAnnounced, RefusesLength, RefusesValue}
 use Rattle.document_laws.specs.Laws.{Fault, IsValueExact}
 use Rattle.document_laws.proofs.Exact.{Spelling, Refusing, AtStart, Inward, same_fault, item, item_inward, Sifts, SpellsSifted, RefusesSifted, sifted, Given, given, SpellsChained, RefusesChained, chained, same}
 use Rattle.document_laws.proofs.IndexWidths.{same_index_width, index_width}

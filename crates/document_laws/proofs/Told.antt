@@ -1,5 +1,5 @@
 -- The events up to the end of a root are those of one tree.
-use Rattle.std.proofs.Common.{◌≡◌, ℕ, zero, suc, ◌+◌, ◌≤◌, ◌⊎◌, Bool, List, [], ◌∷◌, ◌++◌, length, reverse, Some, slice_get, refl, sym, ap, subst, ◌∙◌, append_assoc, append-nil, length-append, inl, inr, arith}
+use Rattle.std.proofs.Common.{◌≡◌, ℕ, zero, suc, ◌≤◌, ◌⊎◌, Bool, List, [], ◌∷◌, ◌++◌, length, reverse, Some, slice_get, refl, sym, ap, subst, ◌∙◌, append_assoc, append-nil, length-append, inl, inr, arith}
 use Rattle.std.proofs.lemmas.List.{reverse-reverse}
 use Rattle.exi_spec.specs.Bits.{number_bits}
 use Rattle.exi_spec.specs.Items.{SpellsNumber}
@@ -13,10 +13,10 @@ use Rattle.exi_schema.specs.Offers.{offers}
 use Rattle.exi_schema.specs.Steps.{IsRoot, simple_at}
 use Rattle.exi_documents.specs.Trees.{Value, Trees, none, simple, complex, Tree, Simple, Complex, Event, Document, Start, Attribute, Content, EndElement, attribute_events, events_of, document_events}
 use Rattle.exi_documents.specs.Values.{Entries}
-use Rattle.exi_documents.specs.Documents.{Speller, SpellsStep, SpellsSimple, SpellsAttributes, SpellsTrees, SpellsDocument, element, first, header}
+use Rattle.exi_documents.specs.Documents.{Speller, SpellsStep, SpellsAttributes, SpellsTrees, SpellsDocument, element, first, header}
 use Rattle.exi_documents.specs.Grammar.{Opened, Standing, Before, AtRoot, Inside, Behind, State, start, opened, around, stands, Moves, Reaches}
 use Rattle.document_laws.specs.Laws.{TellsOf, TellTrees}
-use Rattle.document_laws.proofs.Offered.{only_code, HasNoAttribute, HasNoValue, one_taken, behind_element, behind_attribute, behind_characters, offers_simple}
+use Rattle.document_laws.proofs.Offered.{only_code, HasNoAttribute, HasNoValue, one_taken, behind_element, behind_attribute, behind_characters}
 use Rattle.document_laws.proofs.Runs.{Runs, to_start, document_tells}
 
 abbrev standing_of : State → Standing

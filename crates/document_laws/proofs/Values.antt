@@ -1,21 +1,18 @@
 -- The bits of a value begin with one spelling of one value, or have one refusal.
-use Rattle.std.proofs.Common.{◌≡◌, ℕ, zero, suc, ◌+◌, ◌*◌, ◌^◌, ◌<◌, ◌≤◌, ◌⊎◌, ℤ, pos, negsuc, ◌+ℤ◌, ◌≤ℤ◌, Bool, true, false, T, List, [], ◌∷◌, ◌++◌, length, refl, sym, ap, subst, ◌∙◌, arith, inl, inr, lt_of_lt_of_le}
+use Rattle.std.proofs.Common.{◌≡◌, ℕ, ◌*◌, ◌<◌, ◌≤◌, ◌⊎◌, ℤ, pos, negsuc, ◌+ℤ◌, ◌≤ℤ◌, Bool, T, List, length, refl, sym, ap, subst, ◌∙◌, arith, inl, inr, lt_of_lt_of_le}
 use Rattle.std.specs.Int.Signed.{le_z}
 use Rattle.std.proofs.lemmas.Bool.{cases_lt, cases_Bool}
-use Rattle.exi_spec.specs.declared.BitCause.{BitCause}
 use Rattle.exi_spec.specs.Bits.{number_bits}
-use Rattle.exi_spec.specs.Items.{SpellsBool, SpellsNumber, SpellsUnsigned, SpellsInteger, SpellsBytes, Begins, RefusesBits, RefusesUnsigned, RefusesInteger}
-use Rattle.exi_spec.specs.Laws.{IsExact, AtBit, SpellsNBytes}
+use Rattle.exi_spec.specs.Items.{SpellsBool, SpellsNumber, SpellsUnsigned, SpellsInteger, Begins, RefusesBits, RefusesUnsigned, RefusesInteger}
+use Rattle.exi_spec.specs.Laws.{IsExact, SpellsNBytes}
 use Rattle.exi_spec.proofs.Readers.{exact, booleans_read, numbers_read, unsigned_read, integers_read, binaries_read}
-use Rattle.exi_schema.specs.declared.tables.Datatype.{Datatype}
-use Rattle.exi_schema.specs.declared.tables.Datatype.TheVariants.{Bool as BoolType, Named, Bounded, Unsigned, Signed, Binary, Text as TextType}
-use Rattle.exi_strings.specs.Texts.{IsIndexWidth, Announces}
+use Rattle.exi_schema.specs.declared.tables.Datatype.TheVariants.{Bool as BoolType, Named, Bounded, Unsigned, Signed, Binary}
 use Rattle.exi_documents.specs.Trees.{Value, Truth, Ordinal, Number, Bytes, Text}
 use Rattle.exi_documents.specs.declared.refusal.RefusalCause.{RefusalCause}
 use Rattle.exi_documents.specs.declared.refusal.RefusalCause.TheVariants.{NoSuchValue, TooLong, OutOfRange}
-use Rattle.exi_documents.specs.Values.{Entries, SpellsCode, SpellsValue, cause_of, RefusesItem, RefusesCode, Exceeds, IsOutside, RefusesBehind, RefusesBinary, RefusesValue}
+use Rattle.exi_documents.specs.Values.{Entries, SpellsCode, SpellsValue, RefusesItem, RefusesCode, Exceeds, RefusesValue}
 use Rattle.document_laws.specs.Laws.{Fault, IsValueExact}
-use Rattle.document_laws.proofs.Exact.{Spelling, Refusing, AtStart, Inward, same_fault, item, item_inward, Sifts, SpellsSifted, RefusesSifted, sifted, Given, given, SpellsChained, RefusesChained, chained, same}
+use Rattle.document_laws.proofs.Exact.{AtStart, Inward, same_fault, item, item_inward, Sifts, SpellsSifted, RefusesSifted, sifted, Given, given, SpellsChained, RefusesChained, chained, same}
 use Rattle.document_laws.proofs.IndexWidths.{same_index_width, index_width}
 
 -- the value, with the same entries

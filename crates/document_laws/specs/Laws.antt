@@ -1,15 +1,21 @@
--- Own: what makes the events, trees and refusals of a payload one.
-use Rattle.std.specs.Prelude.{◌≡◌, ℕ, ◌<◌, ◌≤◌, ◌⊎◌, Bool, List, ◌++◌, length, reverse}
+-- Own: what makes the events, the tree and the refusal of a payload one.
+use Rattle.std.specs.Prelude.{◌≡◌, ℕ, ◌^◌, ◌<◌, ◌≤◌, ◌⊎◌, Bool, true, List, ◌++◌, length, reverse, FitsSigned, Some}
+use Rattle.std.specs.Int.{w64}
 use Rattle.std.specs.List.{AllByRecursion}
 use Rattle.exi_spec.specs.Laws.{IsExact}
 use Rattle.exi_schema.specs.declared.tables.Datatype.{Datatype}
+use Rattle.exi_schema.specs.declared.tables.Datatype.TheVariants.{Bool as BoolType, Named, Bounded, Unsigned, Signed, Binary, Text}
+use Rattle.exi_schema.specs.declared.tables.Declaration.{Declaration}
+use Rattle.exi_schema.specs.Steps.{simple_at}
 use Rattle.exi_schema.specs.declared.schema.Schema.{Schema}
-use Rattle.exi_schema.specs.Offers.{IsPlace}
+use Rattle.exi_schema.specs.declared.places.Place.{Place}
+use Rattle.exi_schema.specs.Offers.{offers, IsPlace}
+use Rattle.exi_schema.specs.Schemas.{attribute_names, element_names, are_distinct}
 use Rattle.exi_documents.specs.declared.refusal.RefusalCause.{RefusalCause}
 use Rattle.exi_documents.specs.Trees.{Value, Tree, Event, document_events}
-use Rattle.exi_documents.specs.Values.{Entries, most_entries, SpellsValue, RefusesValue}
-use Rattle.exi_documents.specs.Documents.{Speller, SpellsDocument, IsDocument}
-use Rattle.exi_documents.specs.Grammar.{Opened, Standing, Before, AtRoot, Inside, Behind, State, stands, Moves, Reaches}
+use Rattle.exi_documents.specs.Values.{Entries, most_entries, SpellsValue, WritesValue, RefusesValue}
+use Rattle.exi_documents.specs.Documents.{Speller, SpellsDocument, IsDocument, IsEncoding}
+use Rattle.exi_documents.specs.Grammar.{Standing, Before, AtRoot, Inside, Behind, State, stands, Moves, Reaches}
 use Rattle.exi_documents.specs.Refusals.{RefusesNext, IsRefused}
 
 -- ---- events and trees
@@ -38,6 +44,13 @@ Fault = RefusalCause × ℕ
 abbrev pub IsValueExact : Datatype → Entries → ℕ → Type 0
 IsValueExact d entries name =
     IsExact (λ (v : Value × Entries) bits. SpellsValue d entries name v.0 bits v.1) (λ bits (r : Fault). RefusesValue d entries name bits r.0 r.1)
+
+-- ---- offers
+
+-- no two elements and no two attributes of one name are offered
+pub record OffersOnce (kinds : List Declaration) (here : Place) : Type 0 where
+  pub elements : are_distinct (element_names (offers kinds here)) ≡ true
+  pub attributes : are_distinct (attribute_names (offers kinds here)) ≡ true
 
 -- ---- events
 
@@ -76,3 +89,38 @@ pub record IsDecided (s : Schema) (payload : List ℕ) : Type 0 where
   pub apart : (tree : Tree) (why : RefusalCause) (bit : ℕ) → IsDocument s tree payload → IsRefused s payload why bit → ⊥
   pub one_tree : (t u : Tree) → IsDocument s t payload → IsDocument s u payload → t ≡ u
   pub one_refusal : (why other : RefusalCause) (bit place : ℕ) → IsRefused s payload why bit → IsRefused s payload other place → (why ≡ other) × (bit ≡ place)
+
+-- ---- what is written
+
+-- the bounds of a datatype are numbers of their types
+abbrev pub IsInRange : Datatype → Type 0
+IsInRange BoolType = Unit {0}
+IsInRange (Named count) = Unit {0}
+IsInRange (Bounded least count) = Unit {0}
+IsInRange (Unsigned most) = most < 2 ^ 64
+IsInRange (Signed least most) = FitsSigned w64 least × FitsSigned w64 most
+IsInRange (Binary most) = most < 2 ^ 32
+IsInRange (Text most) = most < 2 ^ 32
+
+abbrev pub AreInRange : List Declaration → Type 0
+AreInRange kinds = (kind : ℕ) (d : Datatype) → simple_at kinds kind ≡ Some d → IsInRange d
+
+-- a value is spelled in one way
+abbrev pub WritesOnce : Speller → Type 0
+WritesOnce V =
+    (d : Datatype) (entries : Entries) (name : ℕ) (v : Value) (a b : List Bool) (after other : Entries) →
+    V d entries name v a after → V d entries name v b other → (a ≡ b) × (after ≡ other)
+
+-- what is written is a spelling
+abbrev pub IsSpelled : Datatype → Entries → ℕ → Value → Type 0
+IsSpelled d entries name v =
+    (bits : List Bool) (after : Entries) → WritesValue d entries name v bits after → SpellsValue d entries name v bits after
+
+-- a payload is bytes
+abbrev pub AreBytes : List ℕ → Type 0
+AreBytes payload = AllByRecursion (λ byte. byte < 256) payload
+
+-- a tree has one encoding at most
+abbrev pub IsOneEncoding : Schema → Type 0
+IsOneEncoding s =
+    (tree : Tree) (payload other : List ℕ) → AreBytes payload → AreBytes other → IsEncoding s tree payload → IsEncoding s tree other → payload ≡ other
