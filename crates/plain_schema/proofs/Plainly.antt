@@ -1,12 +1,12 @@
 -- A schema and its plain declarations offer the same.
-use Rattle.std.proofs.Common.{◌≡◌, ℕ, zero, suc, ◌+◌, nat_lt, Bool, true, false, if◌then◌else◌, List, [], ◌∷◌, ◌++◌, length, drop, map, Option, Some, None, refl, ap, sym, ◌∙◌}
+use Rattle.std.proofs.Common.{◌≡◌, ℕ, zero, suc, ◌+◌, nat_lt, if◌then◌else◌, List, [], ◌∷◌, ◌++◌, length, drop, map, Option, Some, None, refl, ap, ◌∙◌}
 use Rattle.std.specs.Prelude.{slice_get}
 use Rattle.std.specs.List.{list_any}
 use Rattle.exi_schema.specs.declared.tables.Declaration.{Declaration}
 use Rattle.exi_schema.specs.declared.tables.Declaration.TheVariants.{Simple, Complex}
 use Rattle.exi_schema.specs.declared.tables.Particle.{Particle}
 use Rattle.exi_schema.specs.declared.places.Place.{Place}
-use Rattle.exi_schema.specs.Offers.{element_step, element_steps, attribute_steps, through_required, offers, offers_of, offers_in}
+use Rattle.exi_schema.specs.Offers.{element_step, element_steps, attribute_steps, through_required, offers, offers_of}
 use Rattle.exi_schema.specs.Steps.{simple_at, datatype_of}
 use Rattle.plain_schema.specs.Plain.{PlainKind, plain_particle, plain_kind, plain_kinds, plain_elements, plain_offers, plain_offers_of, plain_simple_at, plain_datatype}
 
