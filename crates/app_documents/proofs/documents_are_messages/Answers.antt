@@ -1,0 +1,5 @@
+use Rattle.app_documents.proofs.Shapes.{of_message}
+use Rattle.app_documents.proofs.documents_are_messages.Goals as goal
+
+pub returns : goal.returns
+returns c s is number tree bits spelled = of_message s is number tree bits spelled

@@ -1,0 +1,17 @@
+//! The documents of the negotiation (ISO 15118-2:2014, section 8.2), as definitions that contracts cite: its declarations, and the trees of
+//! its messages.
+#![tactic(auto)]
+
+ghost use Rattle.std.specs.Prelude.{◌≡◌, ℕ, Bool, List};
+ghost use Rattle.exi_schema.specs.declared.schema.Schema.{Schema};
+ghost use Rattle.exi_documents.specs.Documents.{SpellsDocument};
+ghost use Rattle.exi_documents.specs.Trees.{Tree};
+ghost use Rattle.exi_documents.specs.Values.{SpellsValue};
+ghost use Rattle.app_documents.specs.Declarations.{IsNegotiation};
+ghost use Rattle.app_documents.specs.Trees.{Message, IsMessage, tree_of, number_of};
+
+/// Each document of the negotiation is the tree of a request or of a response within its ranges.
+pub fn documents_are_messages()
+    ensures { (s : Schema) → IsNegotiation s → (number : ℕ) (tree : Tree) (bits : List Bool) → SpellsDocument SpellsValue s number tree bits
+        → (m : Message) × IsMessage m × (tree ≡ tree_of m) × (number ≡ number_of m) }
+{}
