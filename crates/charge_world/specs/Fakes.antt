@@ -1,5 +1,5 @@
 -- Own: what the fakes in memory keep, and how much room they have.
-use Rattle.std.specs.Prelude.{◌≡◌, ℕ, ◌+◌, ◌≤◌, ◌↔◌, List, Option, IsSome, refl}
+use Rattle.std.specs.Prelude.{◌≡◌, ℕ, ◌+◌, ◌<◌, ◌≤◌, ◌↔◌, nat_lt, Bool, true, if◌then◌else◌, List, Contains, Option, IsSome, refl}
 use Rattle.std.specs.Coded.{Coded, code_by, coded×, coded_ℕ, coded_list}
 use Rattle.charge_world.specs.declared.entry.Entry.{Entry}
 
@@ -8,6 +8,14 @@ pub record Failures : Type 0 where
   pub failing : List ℕ
   pub calls : ℕ
   pub faults : ℕ
+
+-- a call is counted, and fails exactly where its number is listed. Those behind the 2^32 - 1st don't, and aren't counted
+pub record Counts (old : Failures) (fails : Bool) (new : Failures) : Type 0 where
+  pub listed : fails ≡ true → Contains old.failing (old.calls + 1)
+  pub all : Contains old.failing (old.calls + 1) → old.calls < 4294967295 → fails ≡ true
+  pub calls : new.calls ≡ (if nat_lt old.calls 4294967295 then old.calls + 1 else old.calls)
+  pub faults : new.faults ≡ (if fails then old.faults + 1 else old.faults)
+  pub same : new.failing ≡ old.failing
 
 -- a list, and for how many items more there is room
 pub record Roomy (T : Type 0) : Type 0 where

@@ -1,6 +1,6 @@
 //! A sink in memory.
 
-ghost use Rattle.std.specs.Prelude.{◌≡◌, ◌+◌, ◌<◌, ◌≤◌, [], ◌++◌, length, Option, Some, None, IfOk, OnOk, OnErr, IfSome, vec_len, if◌then◌else◌};
+ghost use Rattle.std.specs.Prelude.{◌≡◌, ◌+◌, ◌<◌, ◌≤◌, [], ◌++◌, length, Option, Some, None, IfOk, OnOk, OnErr, IfSome, vec_len, is_err, if◌then◌else◌};
 
 use crate::failed::{Failed, NoMemory};
 use crate::outages::Outages;
@@ -41,6 +41,7 @@ impl MemorySink {
 
 impl Sink for MemorySink {
     ghost use Rattle.charge_world.specs.Outside.{IsFault, Appends, AppendsSome};
+    ghost use Rattle.charge_world.specs.Fakes.{Counts};
     ghost use Rattle.charge_world.specs.Scripts.{SpendsBytes, bytes_told};
 
     ghost taken = { bytes_told };
@@ -51,6 +52,7 @@ impl Sink for MemorySink {
         ensures ok { OnOk result (Appends (bytes_told self.old) (bytes_told self.new) piece.now) }
         ensures failed { OnErr result (AppendsSome (bytes_told self.old) (bytes_told self.new) piece.now) }
         ensures faults { IsFault self.old.outages.faults self.new.outages.faults result }
+        ensures outage { Counts self.old.outages (is_err result) self.new.outages }
         ensures room { OnOk result (SpendsBytes self.old self.new (length piece.now)) }
         ensures same { OnErr result ((self.new.bytes ≡ self.old.bytes) × (self.new.full ≡ self.old.full)) }
     {

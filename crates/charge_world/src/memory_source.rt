@@ -1,6 +1,6 @@
 //! A source in memory.
 
-ghost use Rattle.std.specs.Prelude.{◌≡◌, ◌+◌, ◌<◌, ◌≤◌, ℕ, List, [], ◌++◌, length, take, drop, Option, Some, None, IfOk, OnOk, OnErr, IfSome, IfNone};
+ghost use Rattle.std.specs.Prelude.{◌≡◌, ◌+◌, ◌<◌, ◌≤◌, ℕ, List, [], ◌++◌, length, take, drop, Option, Some, None, IfOk, OnOk, OnErr, IfSome, IfNone, is_err};
 ghost use Rattle.charge_world.specs.NamedFiles.{bytes_named, at_place};
 
 use crate::failed::Failed;
@@ -42,13 +42,21 @@ impl MemorySource {
 }
 
 impl Source for MemorySource {
+    ghost use Rattle.charge_world.specs.Fakes.{Counts};
+    ghost use Rattle.charge_world.specs.Outside.{IsFault, Takes, GoesOn};
+
     ghost holds = { λ s name. Some (bytes_named s.files.items name) };
 
     ghost left = { λ s. Some (drop s.at (at_place s.files.items s.current)) };
 
     ghost faults = { λ s. s.outages.faults };
 
-    fn begin(&mut self, name: &str) -> Result<(), Failed> {
+    fn begin(&mut self, name: &str) -> Result<(), Failed>
+        ensures left { OnOk result (Some (drop self.new.at (at_place self.new.files.items self.new.current)) ≡ Some (bytes_named self.old.files.items name.now)) }
+        ensures holds { (other : List ℕ) → Some (bytes_named self.new.files.items other) ≡ Some (bytes_named self.old.files.items other) }
+        ensures faults { IsFault self.old.outages.faults self.new.outages.faults result }
+        ensures outage { Counts self.old.outages (is_err result) self.new.outages }
+    {
         if self.outages.fails() {
             return Err(Failed);
         }
@@ -57,7 +65,14 @@ impl Source for MemorySource {
         Ok(())
     }
 
-    fn read(&mut self, room: &mut [u8]) -> Result<usize, Failed> {
+    fn read(&mut self, room: &mut [u8]) -> Result<usize, Failed>
+        ensures bound { IfOk result (λ n. n ≤ length room.new) }
+        ensures taken { IfOk result (λ n. Takes (Some (drop self.old.at (at_place self.old.files.items self.old.current))) (Some (drop self.new.at (at_place self.new.files.items self.new.current))) (take n room.new)) }
+        ensures end { IfOk result (λ n. GoesOn (Some (drop self.old.at (at_place self.old.files.items self.old.current))) (length room.new) n) }
+        ensures holds { (other : List ℕ) → Some (bytes_named self.new.files.items other) ≡ Some (bytes_named self.old.files.items other) }
+        ensures faults { IsFault self.old.outages.faults self.new.outages.faults result }
+        ensures outage { Counts self.old.outages (is_err result) self.new.outages }
+    {
         if self.outages.fails() {
             return Err(Failed);
         }

@@ -1,10 +1,10 @@
 //! A wire in memory: it gives a script, fails the calls that it is told to fail, and keeps its past.
 
-ghost use Rattle.std.specs.Prelude.{◌≡◌, ◌+◌, ◌<◌, ◌≤◌, ◌↔◌, ℕ, List, [], ◌∷◌, length, take, reverse, map, Option, Some, None, IsTrue, IsSome, IfOk, OnOk, OnErr, IfSome, IfNone, is_ok, MatchBool};
+ghost use Rattle.std.specs.Prelude.{◌≡◌, ◌+◌, ◌<◌, ◌≤◌, ◌↔◌, ℕ, List, [], ◌∷◌, length, take, reverse, map, Option, Some, None, IsTrue, IsSome, IfOk, OnOk, OnErr, IfSome, IfNone, is_ok, is_err};
 ghost use Rattle.charge_world.specs.declared.entry.Entry.{Entry};
 ghost use Rattle.charge_world.specs.declared.entry.Entry.TheVariants as entry;
 ghost use Rattle.charge_world.specs.Outside.{Grows, GrowsByOne, IsOfPosts, HasCount, bytes_of, posts_of, IsFault};
-ghost use Rattle.charge_world.specs.Fakes.{Spends};
+ghost use Rattle.charge_world.specs.Fakes.{Spends, Counts};
 ghost use Rattle.charge_world.specs.Scripting.{Fits, FitsAt, NoneFits, moment_of};
 
 use crate::entry::Entry;
@@ -91,7 +91,7 @@ impl MemoryWire {
 
     /// Counts a call, and answers whether it fails.
     fn fails(&mut self) -> bool
-        ensures faults { MatchBool result (self.new.outages.faults ≡ self.old.outages.faults + 1) (self.new.outages.faults ≡ self.old.outages.faults) }
+        ensures outage { Counts self.old.outages result self.new.outages }
         ensures same { (self.new.log ≡ self.old.log) × (self.new.untils ≡ self.old.untils) × (self.new.posts ≡ self.old.posts) }
     {
         self.outages.fails()
@@ -178,6 +178,7 @@ impl Wire for MemoryWire {
         ensures untils { IsSome self.new.log.past → reverse self.new.untils.items ≡ reverse self.old.untils.items }
         ensures posts { OnOk result (self.new.posts ≡ posts_of ports.now) }
         ensures faults { IsFault self.old.outages.faults self.new.outages.faults result }
+        ensures outage { Counts self.old.outages (is_err result) self.new.outages }
         ensures room { (self.new.log ≡ self.old.log) × (self.new.untils ≡ self.old.untils) }
     {
         if self.outages.fails() {
@@ -199,6 +200,7 @@ impl Wire for MemoryWire {
         ensures untils { IsSome self.new.log.past → reverse self.new.untils.items ≡ until ∷ reverse self.old.untils.items }
         ensures posts { self.new.posts ≡ self.old.posts }
         ensures faults { IsFault self.old.outages.faults self.new.outages.faults result }
+        ensures outage { Counts self.old.outages (is_err result) self.new.outages }
         ensures room { IfOk result (λ heard. NotesHearing self.old self.new (length (bytes_of heard.what room.new))) }
         ensures room_lost { OnErr result (NotesHearing self.old self.new 0) }
     {
@@ -217,6 +219,7 @@ impl Wire for MemoryWire {
         ensures untils { IsSome self.new.log.past → reverse self.new.untils.items ≡ reverse self.old.untils.items }
         ensures posts { self.new.posts ≡ self.old.posts }
         ensures faults { IsFault self.old.outages.faults self.new.outages.faults result }
+        ensures outage { Counts self.old.outages (is_err result) self.new.outages }
         ensures room { Notes self.old self.new (length bytes.now) }
     {
         let taken = !self.outages.fails();
@@ -229,6 +232,7 @@ impl Wire for MemoryWire {
         ensures untils { IsSome self.new.log.past → reverse self.new.untils.items ≡ reverse self.old.untils.items }
         ensures posts { self.new.posts ≡ self.old.posts }
         ensures faults { IsFault self.old.outages.faults self.new.outages.faults result }
+        ensures outage { Counts self.old.outages (is_err result) self.new.outages }
         ensures room { Notes self.old self.new (length bytes.now) }
     {
         let taken = !self.outages.fails();
@@ -241,6 +245,7 @@ impl Wire for MemoryWire {
         ensures untils { IsSome self.new.log.past → reverse self.new.untils.items ≡ reverse self.old.untils.items }
         ensures posts { self.new.posts ≡ self.old.posts }
         ensures faults { IsFault self.old.outages.faults self.new.outages.faults result }
+        ensures outage { Counts self.old.outages (is_err result) self.new.outages }
         ensures room { Notes self.old self.new 0 }
     {
         let taken = !self.outages.fails();
@@ -253,6 +258,7 @@ impl Wire for MemoryWire {
         ensures untils { IsSome self.new.log.past → reverse self.new.untils.items ≡ reverse self.old.untils.items }
         ensures posts { self.new.posts ≡ self.old.posts }
         ensures faults { IsFault self.old.outages.faults self.new.outages.faults result }
+        ensures outage { Counts self.old.outages (is_err result) self.new.outages }
         ensures room { Notes self.old self.new 0 }
     {
         let taken = !self.outages.fails();

@@ -1,6 +1,7 @@
 //! Which calls of a fake fail.
 
-ghost use Rattle.std.specs.Prelude.{◌≡◌, ◌+◌, ◌<◌, ◌↔◌, [], IsTrue, Contains, MatchBool};
+ghost use Rattle.std.specs.Prelude.{◌≡◌};
+ghost use Rattle.charge_world.specs.Fakes.{Counts};
 
 use std::marker::Model;
 
@@ -36,10 +37,7 @@ impl Outages {
 
     /// Counts a call, and answers whether it fails. The calls behind the 2^32 - 1st don't.
     pub(crate) fn fails(&mut self) -> bool
-        ensures faults { MatchBool result (self.new.faults ≡ self.old.faults + 1) (self.new.faults ≡ self.old.faults) }
-        ensures listed { IsTrue result → Contains self.old.failing (self.old.calls + 1) }
-        ensures all { Contains self.old.failing (self.old.calls + 1) → self.old.calls < 4294967295 → IsTrue result }
-        ensures same { self.new.failing ≡ self.old.failing }
+        ensures { Counts self.old result self.new }
     {
         if self.calls == u32::MAX {
             return false;
