@@ -141,6 +141,7 @@ fn take_integer(cursor: &mut BitCursor) -> Result<i128, Refusal>
     cursor.take_integer().map_err(refusal)
 }
 
+/// Whether an integer is from `least` to `most`.
 fn is_within(value: i128, least: i64, most: i64) -> bool
     ensures { IsTrue result ↔ ((least ≤ℤ value) × (value ≤ℤ most)) }
 {
@@ -152,7 +153,8 @@ fn is_within(value: i128, least: i64, most: i64) -> bool
 /// `TooLong` at its length, and `ShortInput` at its first byte where the payload ends within them.
 pub(crate) fn take_binary<'a>(cursor: &mut BitCursor<'a>, most: u32) -> Result<BitSpan<'a>, Refusal>
     ensures range { IfOk result (λ span. length (items_of span) ≤ most) }
-    ensures ok { IfOk result (λ span. Takes (Announces (length (items_of span)) (SpellsBytes (items_of span))) cursor.old cursor.new) }
+    ensures ok { IfOk result (λ span. Takes
+        (Announces (length (items_of span)) (SpellsBytes (items_of span))) cursor.old cursor.new) }
     ensures bits { IfOk result (λ span. span.bits ≡ cursor.old.bits) }
     ensures kind { IfOk result (λ span. span.is_text ≡ false) }
     ensures refused { IfErr result (Refused (RefusesValue (Datatype.Binary most) [] 0) cursor.old) }

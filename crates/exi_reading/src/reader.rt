@@ -79,7 +79,9 @@ impl<'a> PayloadReader<'a> {
     /// Takes a value of a datatype, of the element or attribute with this name.
     ///
     /// A text that is spelled out enters the table unless it is empty; a Binary and a text are lent from the payload.
-    /// The first item that can't be taken decides, and leaves the table as it was.
+    /// The first item that can't be taken decides, at its first bit, and leaves the table as it was: `ShortInput`,
+    /// `WiderInteger`, `BadChar` and `NoSuchIndex` as in the bits, `NoSuchValue`, `OutOfRange` and `TooLong` after the
+    /// datatype, and `TableFull` where the text would be one more than 8,192.
     pub fn take_value(
         &mut self,
         datatype: Datatype,
@@ -89,12 +91,16 @@ impl<'a> PayloadReader<'a> {
         requires datatype { is_datatype datatype ≡ true }
         requires cap { table.old.cap ≡ most_entries }
         requires texts { AreTexts self.old.bits table.old.entries }
-        ensures ok { IfOk result (λ v. Takes (λ bits. SpellsValue datatype (texts_in self.old.bits table.old.entries) name (value_of v) bits (texts_in self.old.bits table.new.entries)) self.old self.new) }
+        ensures ok { IfOk result (λ v. Takes (λ bits.
+            SpellsValue datatype (texts_in self.old.bits table.old.entries) name (value_of v) bits (texts_in self.old.bits table.new.entries))
+            self.old self.new) }
         ensures lent { IfOk result (λ v. IsLent self.old.bits v) }
         ensures same { self.new.bits ≡ self.old.bits }
         ensures texts { AreTexts self.old.bits table.new.entries }
         ensures cap { table.new.cap ≡ most_entries }
-        ensures refused { IfErr result (λ r. (at : ℕ) × RefusesValue datatype (texts_in self.old.bits table.old.entries) name (ahead self.old) r.cause at × (r.bit ≡ self.old.place + at)) }
+        ensures refused { IfErr result (λ r. (at : ℕ)
+            × RefusesValue datatype (texts_in self.old.bits table.old.entries) name (ahead self.old) r.cause at
+            × (r.bit ≡ self.old.place + at)) }
         ensures stays { OnErr result (table.new ≡ table.old) }
     {
         let cursor = &mut self.cursor;

@@ -35,13 +35,16 @@ pub(crate) fn take_text<'a>(
     requires bits { cursor.old.bits ≡ bits_of payload.now }
     requires cap { table.old.cap ≡ most_entries }
     requires texts { AreTexts cursor.old.bits table.old.entries }
-    ensures ok { IfOk result (λ span. Takes (λ bits. SpellsText most (texts_in cursor.old.bits table.old.entries) name (items_of span) bits (texts_in cursor.old.bits table.new.entries)) cursor.old cursor.new) }
+    ensures ok { IfOk result (λ span. Takes (λ bits.
+        SpellsText most (texts_in cursor.old.bits table.old.entries) name (items_of span) bits (texts_in cursor.old.bits table.new.entries))
+        cursor.old cursor.new) }
     ensures few { IfOk result (λ _. length (texts_in cursor.old.bits table.new.entries) ≤ most_entries) }
     ensures bits { IfOk result (λ span. span.bits ≡ cursor.old.bits) }
     ensures kind { IfOk result (λ span. span.is_text ≡ true) }
     ensures texts { AreTexts cursor.old.bits table.new.entries }
     ensures cap { table.new.cap ≡ most_entries }
-    ensures refused { IfErr result (Refused (RefusesValue (Datatype.Text most) (texts_in cursor.old.bits table.old.entries) name) cursor.old) }
+    ensures refused { IfErr result (Refused
+        (RefusesValue (Datatype.Text most) (texts_in cursor.old.bits table.old.entries) name) cursor.old) }
     ensures stays { OnErr result (table.new ≡ table.old) }
     ensures same { cursor.new.bits ≡ cursor.old.bits }
 {
@@ -78,11 +81,13 @@ fn take_local<'a>(
     requires room { length payload.now ≤ 65536 }
     requires bits { cursor.old.bits ≡ bits_of payload.now }
     requires texts { AreTexts cursor.old.bits table.now.entries }
-    ensures ok { IfOk result (λ span. Takes (SpellsIndex (local_of name (texts_in cursor.old.bits table.now.entries)) (items_of span)) cursor.old cursor.new) }
+    ensures ok { IfOk result (λ span. Takes
+        (SpellsIndex (local_of name (texts_in cursor.old.bits table.now.entries)) (items_of span)) cursor.old cursor.new) }
     ensures range { IfOk result (λ span. length (items_of span) ≤ most) }
     ensures bits { IfOk result (λ span. span.bits ≡ cursor.old.bits) }
     ensures kind { IfOk result (λ span. span.is_text ≡ true) }
-    ensures refused { IfErr result (λ r. RefusesIndex most (local_of name (texts_in cursor.old.bits table.now.entries)) (ahead cursor.old) r.cause) }
+    ensures refused { IfErr result (λ r.
+        RefusesIndex most (local_of name (texts_in cursor.old.bits table.now.entries)) (ahead cursor.old) r.cause) }
     ensures at { IfErr result (λ r. r.bit ≡ cursor.old.place) }
     ensures same { cursor.new.bits ≡ cursor.old.bits }
 {
@@ -107,11 +112,13 @@ fn take_global<'a>(
     requires room { length payload.now ≤ 65536 }
     requires bits { cursor.old.bits ≡ bits_of payload.now }
     requires texts { AreTexts cursor.old.bits table.now.entries }
-    ensures ok { IfOk result (λ span. Takes (SpellsIndex (global_of (texts_in cursor.old.bits table.now.entries)) (items_of span)) cursor.old cursor.new) }
+    ensures ok { IfOk result (λ span. Takes
+        (SpellsIndex (global_of (texts_in cursor.old.bits table.now.entries)) (items_of span)) cursor.old cursor.new) }
     ensures range { IfOk result (λ span. length (items_of span) ≤ most) }
     ensures bits { IfOk result (λ span. span.bits ≡ cursor.old.bits) }
     ensures kind { IfOk result (λ span. span.is_text ≡ true) }
-    ensures refused { IfErr result (λ r. RefusesIndex most (global_of (texts_in cursor.old.bits table.now.entries)) (ahead cursor.old) r.cause) }
+    ensures refused { IfErr result (λ r.
+        RefusesIndex most (global_of (texts_in cursor.old.bits table.now.entries)) (ahead cursor.old) r.cause) }
     ensures at { IfErr result (λ r. r.bit ≡ cursor.old.place) }
     ensures same { cursor.new.bits ≡ cursor.old.bits }
 {
@@ -180,7 +187,8 @@ fn take_spelled<'a>(
     requires texts { AreTexts cursor.old.bits table.old.entries }
     ensures count { IfOk result (λ span. length (items_of span) ≡ n) }
     ensures ok { IfOk result (λ span. Takes (SpellsChars (items_of span)) cursor.old cursor.new) }
-    ensures entry { IfOk result (λ span. texts_in cursor.old.bits table.new.entries ≡ entered (texts_in cursor.old.bits table.old.entries) name (items_of span)) }
+    ensures entry { IfOk result (λ span. texts_in cursor.old.bits table.new.entries
+        ≡ entered (texts_in cursor.old.bits table.old.entries) name (items_of span)) }
     ensures bits { IfOk result (λ span. span.bits ≡ cursor.old.bits) }
     ensures kind { IfOk result (λ span. span.is_text ≡ true) }
     ensures texts { AreTexts cursor.old.bits table.new.entries }
@@ -213,7 +221,8 @@ fn enter(table: &mut Table, name: u16, text: &BitSpan)
     requires kind { text.now.is_text ≡ true }
     requires room { 0 < text.now.count → length table.old.entries < table.old.cap }
     requires texts { AreTexts text.now.bits table.old.entries }
-    ensures entry { texts_in text.now.bits table.new.entries ≡ entered (texts_in text.now.bits table.old.entries) name (items_of text.now) }
+    ensures entry { texts_in text.now.bits table.new.entries
+        ≡ entered (texts_in text.now.bits table.old.entries) name (items_of text.now) }
     ensures texts { AreTexts text.now.bits table.new.entries }
     ensures cap { table.new.cap ≡ table.old.cap }
     ensures few { length table.old.entries ≤ table.old.cap → length table.new.entries ≤ table.new.cap }
