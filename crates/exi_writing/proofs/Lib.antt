@@ -1,2 +1,5 @@
 pub mod Pens
 pub mod Numbers
+pub mod Stays
+pub mod Found
+pub mod Strings

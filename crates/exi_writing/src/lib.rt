@@ -4,3 +4,5 @@
 #![tactic(auto)]
 
 mod items;
+mod source;
+mod texts;
