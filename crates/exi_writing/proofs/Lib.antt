@@ -3,3 +3,5 @@ pub mod Numbers
 pub mod Stays
 pub mod Found
 pub mod Strings
+pub mod OneWriting
+pub mod Whole

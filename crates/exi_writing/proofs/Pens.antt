@@ -1,12 +1,12 @@
 -- What is written with a pen piece by piece.
 use Rattle.std.proofs.Common.{◌≡◌, ℕ, ◌+◌, ◌*◌, ◌<◌, Bool, List, [], ◌∷◌, ◌++◌, length, refl, sym, ap, ◌∙◌, arith, append_assoc, Result, Ok, Err}
 use Rattle.std.proofs.lemmas.List.{length-append, append-nil}
-use Rattle.std.specs.Result.{IsErr, OnErr}
+use Rattle.std.specs.Result.{IsErr, OnOk, OnErr}
 use Rattle.exi_bits.specs.Pens.{written_bits, Writes, Needs, SamePen}
 use Rattle.exi_bits.specs.declared.pen.BitPen.{BitPen}
 use Rattle.exi_bits.specs.declared.pen.Full.{Full}
 use Rattle.exi_bits.proofs.Penned.{length-written}
-use Rattle.exi_writing.specs.Writing.{PassesRoom}
+use Rattle.exi_writing.specs.Writing.{Puts, WritesMore, PassesRoom}
 
 pub writes_none : (pen : BitPen) → Writes pen pen []
 writes_none pen = record { written = sym (append-nil (written_bits pen)); room = refl; lent = refl }
@@ -84,3 +84,8 @@ on_err (Err e) P p = p refl
 
 pub always_on_err : {T E : Type 0} (r : Result T E) (P : Type 0) → P → OnErr r P
 always_on_err r P p = on_err r P (λ _. p)
+
+-- what is written, or nothing where an error leaves the pen as it was
+pub more_of : {T E : Type 0} (r : Result T E) (P : List Bool → Type 0) (old new : BitPen) → OnOk r (Puts P old new) → OnErr r (SamePen old new) → WritesMore old new
+more_of (Ok x) P old new ok err = (ok.0, ok.2)
+more_of (Err e) P old new ok err = ([], writes_same old new err)

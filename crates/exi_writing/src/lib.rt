@@ -6,3 +6,6 @@
 mod items;
 mod source;
 mod texts;
+mod value;
+
+pub use value::put_value;
