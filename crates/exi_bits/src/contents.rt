@@ -32,7 +32,7 @@ impl<'a> Contents<'a> {
     ghost use Rattle.exi_bits.specs.Lent.{Span, IsSpan, items_in};
 
     /// What a span of a payload contains.
-    pub fn new(payload: &'a [u8], bit: u32, count: u32, is_text: bool) -> Contents<'a>
+    pub(crate) fn new(payload: &'a [u8], bit: u32, count: u32, is_text: bool) -> Contents<'a>
         requires room { length payload.now ≤ 65536 }
         requires within { bit ≤ 8 * length payload.now }
         requires spelled { IsSpan (record { bits = bits_of payload.now; bit = bit; count = count; is_text = is_text }) }

@@ -38,6 +38,14 @@ impl<'b> BitPen<'b> {
         BitPen { room, bits: 0 }
     }
 
+    /// The number of the next bit, which is how many are written.
+    pub fn place(&self) -> u32
+        ensures place { result ≡ length (written_bits self.now) }
+        ensures room { length self.now.room.now ≤ 65536 }
+    {
+        self.bits
+    }
+
     /// Whether n bits more have room.
     fn room_for(&self, n: u64) -> Result<(), Full>
         requires { n < 2 ^ 63 }

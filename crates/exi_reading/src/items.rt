@@ -24,7 +24,7 @@ pub(crate) fn refusal(fault: BitFault) -> Refusal
 }
 
 /// The least number of bits in which so many values differ.
-pub(crate) fn index_width(count: u32) -> u32
+pub fn index_width(count: u32) -> u32
     ensures least { IsIndexWidth count result }
     ensures bound { result ≤ 32 }
 {

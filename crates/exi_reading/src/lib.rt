@@ -7,6 +7,7 @@ mod items;
 mod reader;
 mod texts;
 
+pub use items::index_width;
 pub use reader::PayloadReader;
 
 #[cfg(test)]

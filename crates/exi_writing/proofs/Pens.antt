@@ -1,0 +1,91 @@
+-- What is written with a pen piece by piece.
+use Rattle.std.proofs.Common.{◌≡◌, ℕ, ◌+◌, ◌*◌, ◌<◌, Bool, List, [], ◌∷◌, ◌++◌, length, refl, sym, ap, ◌∙◌, arith, append_assoc, Result, Ok, Err}
+use Rattle.std.proofs.lemmas.List.{length-append, append-nil}
+use Rattle.std.specs.Result.{IsErr, OnOk, OnErr}
+use Rattle.exi_bits.specs.Pens.{written_bits, Writes, Needs, SamePen}
+use Rattle.exi_bits.specs.declared.pen.BitPen.{BitPen}
+use Rattle.exi_bits.specs.declared.pen.Full.{Full}
+use Rattle.exi_bits.proofs.Penned.{length-written}
+use Rattle.exi_writing.specs.Writing.{Puts, WritesMore, PassesRoom}
+
+pub writes_none : (pen : BitPen) → Writes pen pen []
+writes_none pen = record { written = sym (append-nil (written_bits pen)); room = refl; lent = refl }
+
+pub writes_same : (old new : BitPen) → SamePen old new → Writes old new []
+writes_same old new same = record { written = same.written ∙ sym (append-nil (written_bits old)); room = ap length same.room; lent = same.lent }
+
+pub writes_both : (a b c : BitPen) (x y : List Bool) → Writes a b x → Writes b c y → Writes a c (x ++ y)
+writes_both a b c x y p q =
+    record {
+      written = q.written ∙ ap (λ (l : List Bool). l ++ y) p.written ∙ append_assoc (written_bits a) x y;
+      room = q.room ∙ p.room;
+      lent = q.lent ∙ p.lent;
+    }
+
+-- the room is too small for what comes first, or for what comes behind it
+pub needs_more : (pen : BitPen) (x y : List Bool) → Needs pen (length x) → Needs pen (length (x ++ y))
+needs_more pen x y n = omega (arith, n, length-append x y)
+
+pub needs_behind : (a b : BitPen) (x y : List Bool) → Writes a b x → Needs b (length y) → Needs a (length (x ++ y))
+needs_behind a b x y p n = omega (arith, n, p.room, ap length p.written, length-append (written_bits a) x, length-append x y)
+
+pub passes_behind : (a b : BitPen) (x : List Bool) (full : Full) → Writes a b x → PassesRoom b full → PassesRoom a full
+passes_behind a b x full p n = omega (arith, n, p.room)
+
+-- what is written had room
+pub had_room : (old new : BitPen) (bits : List Bool) → Writes old new bits → Needs old (length bits) → ⊥
+had_room old new bits p n =
+    absurd (omega (arith, n, p.room, ap length p.written, length-append (written_bits old) bits, length-written new, new.within))
+
+-- ---- items, one behind the others
+
+-- of these items those in front are written
+pub record Copied (Spell : List ℕ → List Bool) (items left : List ℕ) (old new : BitPen) : Type 0 where
+  pub front : List Bool
+  pub split : Spell items ≡ front ++ Spell left
+  pub wrote : Writes old new front
+
+pub copied_none : (Spell : List ℕ → List Bool) (items : List ℕ) (pen : BitPen) → Copied Spell items items pen pen
+copied_none Spell items pen = record { front = []; split = refl; wrote = writes_none pen }
+
+pub copied_more : (Spell : List ℕ → List Bool) (items left rest : List ℕ) (item : ℕ) (bits : List Bool) (old mid new : BitPen) → left ≡ item ∷ rest → Spell (item ∷ rest) ≡ bits ++ Spell rest → Copied Spell items left old mid → Writes mid new bits → Copied Spell items rest old new
+copied_more Spell items left rest item bits old mid new is spelled p q =
+    record {
+      front = p.front ++ bits;
+      split = p.split ∙ ap (λ (l : List Bool). p.front ++ l) (ap Spell is ∙ spelled) ∙ sym (append_assoc p.front bits (Spell rest));
+      wrote = writes_both old mid new p.front bits p.wrote q;
+    }
+
+pub copied_full : (Spell : List ℕ → List Bool) (items left rest : List ℕ) (item n : ℕ) (bits : List Bool) (old mid : BitPen) → left ≡ item ∷ rest → Spell (item ∷ rest) ≡ bits ++ Spell rest → Copied Spell items left old mid → length bits ≡ n → Needs mid n → Needs old (length (Spell items))
+copied_full Spell items left rest item n bits old mid is spelled p long needs =
+    let all = ap length (p.split ∙ ap (λ (l : List Bool). p.front ++ l) (ap Spell is ∙ spelled)) in
+    omega (
+      arith,
+      needs,
+      long,
+      all,
+      p.wrote.room,
+      ap length p.wrote.written,
+      length-append (written_bits old) p.front,
+      length-append p.front (bits ++ Spell rest),
+      length-append bits (Spell rest),
+    )
+
+pub copied_all : (Spell : List ℕ → List Bool) (items left : List ℕ) (old new : BitPen) → left ≡ [] → Spell [] ≡ [] → Copied Spell items left old new → Writes old new (Spell items)
+copied_all Spell items left old new is none p =
+    let all : p.front ≡ Spell items = sym (p.split ∙ ap (λ (l : List Bool). p.front ++ l) (ap Spell is ∙ none) ∙ append-nil p.front) in
+    record { written = p.wrote.written ∙ ap (λ (l : List Bool). written_bits old ++ l) all; room = p.wrote.room; lent = p.wrote.lent }
+
+-- ---- results
+
+pub on_err : {T E : Type 0} (r : Result T E) (P : Type 0) → (IsErr r → P) → OnErr r P
+on_err (Ok x) P p = tt
+on_err (Err e) P p = p refl
+
+pub always_on_err : {T E : Type 0} (r : Result T E) (P : Type 0) → P → OnErr r P
+always_on_err r P p = on_err r P (λ _. p)
+
+-- what is written, or nothing where an error leaves the pen as it was
+pub more_of : {T E : Type 0} (r : Result T E) (P : List Bool → Type 0) (old new : BitPen) → OnOk r (Puts P old new) → OnErr r (SamePen old new) → WritesMore old new
+more_of (Ok x) P old new ok err = (ok.0, ok.2)
+more_of (Err e) P old new ok err = ([], writes_same old new err)

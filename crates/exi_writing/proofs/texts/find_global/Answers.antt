@@ -1,0 +1,21 @@
+use Rattle.std.proofs.Common.{arith}
+use Rattle.exi_bits.specs.Pens.{written_bits}
+use Rattle.exi_reading.proofs.Places.{global_of-texts, global_places, place_spelled}
+use Rattle.exi_writing.proofs.Found.{is_there, same_count, first_there, not_there, all_passed}
+use Rattle.exi_writing.proofs.texts.find_global.Goals as goal
+
+pub is_at-requires-clause-spelled : goal.is_at-requires-clause-spelled
+is_at-requires-clause-spelled c = place_spelled (written_bits c.args.pen.now) _ c.loop-i.i c.in-Some.at.now (global_places (written_bits c.args.pen.now) c.args.table.now.entries c.requires.texts) c.in-Some.ensures
+
+pub returns-then-is_at : goal.returns-then-is_at
+returns-then-is_at c =
+    first_there (written_bits c.args.pen.now) _ _ c.loop-i.i c.in-Some.at.now _ _ (global_of-texts (written_bits c.args.pen.now) c.args.table.now.entries) c.in-Some.ensures c.is_at.ensures c.if-is_at.true c.loop-i.invariant
+
+pub loop-i-preserved : goal.loop-i-preserved
+loop-i-preserved c =
+    not_there (written_bits c.args.pen.now) _ _ c.loop-i.i c.in-Some.at.now _ _ (global_of-texts (written_bits c.args.pen.now) c.args.table.now.entries) c.in-Some.ensures c.is_at.ensures c.if-is_at.false c.loop-i.invariant
+
+pub returns : goal.returns
+returns c =
+    let count = same_count (written_bits c.args.pen.now) _ _ _ (global_of-texts (written_bits c.args.pen.now) c.args.table.now.entries) c.globals-i-end.ensures.count in
+    all_passed _ _ c.loop-i.i (omega (arith, count, c.loop-i-test.false)) c.loop-i.invariant

@@ -1,0 +1,8 @@
+use Rattle.exi_writing.proofs.Stays.{span_held, same_held}
+use Rattle.exi_writing.proofs.texts.is_at.Goals as goal
+
+pub of-requires-clause-spelled : goal.of-requires-clause-spelled
+of-requires-clause-spelled c = span_held c.written.result.now _ c.args.at c.written.ensures.holds c.requires.spelled
+
+pub returns : goal.returns
+returns c = same_held c.written.result.now _ _ c.args.at c.of.result _ c.written.ensures.holds c.requires.spelled c.of.ensures.span c.is_same.ensures
