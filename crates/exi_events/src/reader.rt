@@ -35,6 +35,7 @@ pub(crate) enum Phase {
 /// The events up to `Finished` are those of the one tree that the payload spells, in document order; a text or a Binary is lent
 /// from the payload. Where the payload spells no tree, the first item that can't be taken is refused, and from then on the same refusal
 /// is answered.
+#[derive(Drop)]
 pub struct EventReader<'a, 'p, P: Places> {
     reader: PayloadReader<'a>,
     places: &'p P,
@@ -106,6 +107,14 @@ impl<'a, 'p, P: Places> EventReader<'a, 'p, P> {
                 Err(refusal)
             }
         }
+    }
+
+    /// Ends the reading, wherever it stands, and gives the table back.
+    pub fn end(self) -> &'p mut Table
+        ensures same_reference { result.ghost_name ≡ self.entry.table.ghost_name }
+        ensures table { result.now ≡ self.entry.table.now }
+    {
+        self.table
     }
 
     /// The next event, where none was refused.
