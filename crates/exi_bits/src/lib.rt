@@ -10,6 +10,7 @@ mod pen;
 mod room;
 mod span;
 
+pub use contents::Contents;
 pub use cursor::BitCursor;
 pub use exi_spec::{BitCause, BitFault};
 pub use pen::{BitPen, Full};

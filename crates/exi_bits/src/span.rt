@@ -148,7 +148,8 @@ impl<'a> BitSpan<'a> {
         mine.next().is_none()
     }
 
-    fn contents(&self) -> Contents<'a>
+    /// Its code points or bytes, one after the other.
+    pub fn contents(&self) -> Contents<'a>
         ensures { result ≡ items_of self.now }
     {
         Contents::new(self.payload, self.bit, self.count, self.is_text)
