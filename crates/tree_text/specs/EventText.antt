@@ -9,34 +9,34 @@ use Rattle.exi_documents.specs.Values.{SpellsValue}
 use Rattle.exi_events.specs.Reader.{innermost_place}
 use Rattle.tree_text.specs.TreeText.{IsValueText, IsName, IsNamedText, IsOffered}
 use Rattle.tree_text.specs.declared.print.TextEnd.{TextEnd}
-use Rattle.tree_text.specs.declared.print.TextEnd.TheVariants as text
+use Rattle.tree_text.specs.declared.print.TextEnd.TheVariants as ends
 
 -- what the text ends with behind an event
 abbrev pub end_of : Event → TextEnd
-end_of (Document number) = text.Nothing
-end_of (Start name) = text.Name
-end_of (Attribute name value) = text.Part
-end_of (Content value) = text.Value
-end_of EndElement = text.Part
+end_of (Document number) = ends.Nothing
+end_of (Start name) = ends.Name
+end_of (Attribute name value) = ends.Part
+end_of (Content value) = ends.Value
+end_of EndElement = ends.Part
 
 -- and behind events, the newest first
 abbrev pub text_end : List Event → TextEnd
-text_end [] = text.Nothing
+text_end [] = ends.Nothing
 text_end (event ∷ events) = end_of event
 
 -- what goes before an attribute or an element: the first part of an element opens its brace, another is behind a space
 abbrev pub gap : TextEnd → List ℕ
-gap text.Nothing = []
-gap text.Name = codes "{"
-gap text.Value = []
-gap text.Part = codes " "
+gap ends.Nothing = []
+gap ends.Name = codes "{"
+gap ends.Value = []
+gap ends.Part = codes " "
 
 -- what ends an element: nothing behind its value, else its brace
 abbrev pub closing : TextEnd → List ℕ
-closing text.Nothing = []
-closing text.Name = codes "{}"
-closing text.Value = []
-closing text.Part = codes "}"
+closing ends.Nothing = []
+closing ends.Name = codes "{}"
+closing ends.Value = []
+closing ends.Part = codes "}"
 
 abbrev pub AddsStart : Schema → TextEnd → ℕ → List ℕ → Type 0
 AddsStart s before name added = (word : List ℕ) × IsName s name word × (added ≡ gap before ++ word)
