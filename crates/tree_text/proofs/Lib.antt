@@ -1,0 +1,5 @@
+pub mod Pieces
+pub mod Attributes
+pub mod Spacing
+pub mod Tied
+pub mod Turns

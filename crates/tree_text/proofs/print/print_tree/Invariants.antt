@@ -1,0 +1,24 @@
+use Rattle.std.proofs.Common.{◌≡◌, ◌+◌, List, length, None}
+use Rattle.std.specs.String.{string_bytes}
+use Rattle.exi_spec.specs.Bits.{bits_of}
+use Rattle.exi_bits.specs.Reading.{ahead}
+use Rattle.exi_documents.specs.Trees.{Event as TreeEvent}
+use Rattle.exi_events.specs.Reader.{state_of, IsReady, HasTold}
+use Rattle.tree_text.specs.EventText.{text_end, Tells}
+use Rattle.tree_text.proofs.Turns.{events_before}
+use Rattle.tree_text.proofs.print.print_tree.Given as goal
+
+abbrev pub invariant-loop-text : goal.invariant-loop-text
+invariant-loop-text l =
+    let state = state_of l.reader.phase l.reader.elements l.reader.reader.bits l.reader.table.now.entries in
+    record {
+      places : l.reader.places.now ≡ l.schema;
+      lent : l.reader.table.ghost_name ≡ l.initial.reader.table.ghost_name;
+      payload : l.reader.reader.bits ≡ bits_of l.payload;
+      ready : IsReady l.reader.places.now l.reader.phase l.reader.elements l.reader.reader.bits l.reader.table.now;
+      open_still : l.reader.refused ≡ None;
+      told : (events : List TreeEvent) × HasTold l.reader.places.now events state l.reader.reader × Tells l.reader.places.now events (string_bytes l.text) state × (l.end ≡ text_end events);
+    }
+
+abbrev pub decreases-loop-text : goal.decreases-loop-text
+decreases-loop-text l = length (ahead l.reader.reader) + events_before l.reader.phase
