@@ -2,13 +2,14 @@
 use Rattle.std.specs.Prelude.{◌≡◌, ℕ, ◌+◌, ◌<◌, true, Bool, List, [], ◌++◌, length, reverse, Option, Some, None}
 use Rattle.exi_bits.specs.Reading.{Cursor, Takes, ahead}
 use Rattle.exi_bits.specs.declared.span.SpanAt.{SpanAt}
+use Rattle.exi_schema.specs.declared.places.Place.{Place}
 use Rattle.exi_schema.specs.declared.schema.Schema.{Schema}
 use Rattle.exi_schema.specs.Schemas.{is_within}
 use Rattle.exi_documents.specs.declared.refusal.Refusal.{Refusal}
 use Rattle.exi_documents.specs.Trees.{Tree, Event as TreeEvent, document_events}
 use Rattle.exi_documents.specs.Values.{SpellsValue, most_entries}
 use Rattle.exi_documents.specs.Documents.{IsDocument}
-use Rattle.exi_documents.specs.Grammar.{Opened, Standing, Before, AtRoot, Behind, State, around, stands, Moves, Reaches}
+use Rattle.exi_documents.specs.Grammar.{Opened, Standing, Before, AtRoot, Inside, Behind, State, around, stands, Moves, Reaches}
 use Rattle.exi_documents.specs.Refusals.{RefusesNext}
 use Rattle.exi_strings.specs.Table.{Table}
 use Rattle.exi_values.specs.Meaning.{texts_in, AreTexts}
@@ -24,6 +25,13 @@ standing_of phase.Inside elements = around elements
 
 abbrev pub state_of : Phase → List Opened → List Bool → List (ℕ × SpanAt) → State
 state_of phase elements bits entries = stands (standing_of phase elements) (texts_in bits entries)
+
+-- the place reached in the innermost element
+abbrev pub innermost_place : Standing → Option Place
+innermost_place Before = None
+innermost_place (AtRoot name kind) = None
+innermost_place (Inside top above) = Some top.place
+innermost_place Behind = None
 
 -- the root and the open elements are of the schema
 abbrev pub IsSound : Schema → Phase → List Opened → Type 0

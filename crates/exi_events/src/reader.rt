@@ -1,6 +1,6 @@
 //! Events read from a payload.
 
-ghost use Rattle.std.specs.Prelude.{◌≡◌, ℕ, ◌+◌, ◌%◌, ◌≤◌, ◌<◌, ◌∷◌, [], List, length, Some, None, IfOk, IfErr, OnErr, Ok, Err};
+ghost use Rattle.std.specs.Prelude.{◌≡◌, ℕ, ◌+◌, ◌%◌, ◌≤◌, ◌<◌, ◌∷◌, [], List, length, Some, None, IfSome, IfOk, IfErr, OnErr, Ok, Err};
 ghost use Rattle.exi_spec.specs.Bits.{bits_of};
 ghost use Rattle.exi_bits.specs.Reading.{Cursor, ahead};
 ghost use Rattle.exi_documents.specs.declared.refusal.RefusalCause.TheVariants as cause;
@@ -9,7 +9,8 @@ ghost use Rattle.exi_documents.specs.Trees.{Event as TreeEvent};
 ghost use Rattle.exi_documents.specs.Values.{most_entries};
 ghost use Rattle.exi_values.specs.Meaning.{IsLentEvent, event_of};
 ghost use Rattle.exi_values.specs.declared.Event.TheVariants as event;
-ghost use Rattle.exi_events.specs.Reader.{state_of, IsReady, IsNext, IsRefusedAt, HasTold, IsTold};
+ghost use Rattle.exi_schema.specs.Offers.{IsPlace};
+ghost use Rattle.exi_events.specs.Reader.{state_of, innermost_place, IsReady, IsNext, IsRefusedAt, HasTold, IsTold};
 
 use crate::inside::take_inside;
 use crate::open::OpenElements;
@@ -35,6 +36,7 @@ pub(crate) enum Phase {
 /// The events up to `Finished` are those of the one tree that the payload spells, in document order; a text or a Binary is lent
 /// from the payload. Where the payload spells no tree, the first item that can't be taken is refused, and from then on the same refusal
 /// is answered.
+#[derive(Drop)]
 pub struct EventReader<'a, 'p, P: Places> {
     reader: PayloadReader<'a>,
     places: &'p P,
@@ -65,6 +67,15 @@ impl<'a, 'p, P: Places> EventReader<'a, 'p, P> {
             elements: OpenElements::new(),
             refused: None,
         }
+    }
+
+    /// The place reached in the innermost element that has started and not ended, a place of the schema; `None` where there is no such element.
+    pub fn place(&self) -> Option<Place>
+        requires ready { IsReady (P.schema self.now.places.now) self.now.phase self.now.elements self.now.reader.bits self.now.table.now }
+        ensures place { result ≡ innermost_place (state_of self.now.phase self.now.elements self.now.reader.bits self.now.table.now.entries).standing }
+        ensures of_schema { IfSome result (λ place. IsPlace (P.schema self.now.places.now).kinds.now place) }
+    {
+        self.elements.innermost().map(|top| top.place)
     }
 
     #[tactic(auto, using(crate::proofs::Told::told_more, crate::proofs::Told::told_all, crate::proofs::Told::told_refused))]
