@@ -3,3 +3,4 @@ pub mod Items
 pub mod Texts
 pub mod Form
 pub mod Responses
+pub mod Spelled

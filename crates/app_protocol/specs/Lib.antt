@@ -4,3 +4,5 @@ pub mod Winning
 pub mod FirstForm
 pub mod Response
 pub mod Reading
+pub mod Building
+pub mod Codes

@@ -55,3 +55,12 @@ pub struct AppRes {
     /// SchemaID: the chosen protocol's, and none where none is chosen.
     pub schema: Option<u8>,
 }
+
+/// A message of the negotiation.
+#[derive(Debug, Drop)]
+pub enum AppMessage {
+    /// supportedAppProtocolReq.
+    Req(AppReq),
+    /// supportedAppProtocolRes.
+    Res(AppRes),
+}

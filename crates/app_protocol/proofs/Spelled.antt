@@ -1,0 +1,24 @@
+-- A text from code points, one behind the other.
+use Rattle.std.proofs.Common.{◌≡◌, ℕ, ◌+◌, ◌*◌, ◌≤◌, Bool, true, List, [], ◌∷◌, ◌++◌, length, refl, sym, ap, ◌∙◌, arith, append_assoc, IsUtf8, chars}
+use Rattle.std.proofs.lemmas.List.{length-append, append-nil}
+use Rattle.std.proofs.lemmas.Str.{chars_past_char, chars-nil, chars-append, length-encode}
+use Rattle.std.specs.Char.{IsScalar}
+use Rattle.std.specs.Prelude.{encode_utf8}
+use Rattle.std.specs.Str.{all_scalars}
+
+only_scalar : (c : ℕ) → IsScalar c → all_scalars (c ∷ []) ≡ true
+only_scalar c h = rw h refl
+
+char_utf8 : (c : ℕ) → IsScalar c → IsUtf8 (encode_utf8 c)
+char_utf8 c h = (c ∷ [], only_scalar c h, append-nil (encode_utf8 c))
+
+char_alone : (c : ℕ) → IsScalar c → chars (encode_utf8 c) ≡ c ∷ []
+char_alone c h = chars_past_char (encode_utf8 c) [] c (char_utf8 c h) (sym (append-nil (encode_utf8 c))) ∙ ap (λ xs. c ∷ xs) chars-nil
+
+pub char_pushed : (bytes items rest all : List ℕ) (c d : ℕ) → IsUtf8 bytes → IsScalar c → d ≡ c → items ≡ c ∷ rest → chars bytes ++ items ≡ all → chars (bytes ++ encode_utf8 d) ++ rest ≡ all
+char_pushed bytes items rest all c d u h same is so_far =
+    let one : chars (bytes ++ encode_utf8 d) ≡ chars bytes ++ c ∷ [] = ap (λ x. chars (bytes ++ encode_utf8 x)) same ∙ chars-append bytes (encode_utf8 c) u ∙ ap (λ xs. chars bytes ++ xs) (char_alone c h) in
+    ap (λ xs. xs ++ rest) one ∙ append_assoc (chars bytes) (c ∷ []) rest ∙ ap (λ xs. chars bytes ++ xs) (sym is) ∙ so_far
+
+pub char_short : (c : ℕ) → length (encode_utf8 c) ≤ 4
+char_short c = rw (length-encode c) (grind arith)
