@@ -1,8 +1,10 @@
 -- What a span contains is what is spelled there.
 use Rattle.std.proofs.Common.{◌≡◌, ℕ, suc, ◌+◌, ◌*◌, ◌<◌, ◌≤◌, Bool, true, false, List, [], ◌∷◌, ◌++◌, length, take, drop, refl, sym, ap, subst, ◌∙◌, arith, get_or, Fits, w8}
+use Rattle.std.specs.Char.{IsScalar}
 use Rattle.std.specs.List.{AllByRecursion}
 use Rattle.std.proofs.lemmas.List.{length-drop, take-append-drop, append-nil}
 use Rattle.exi_spec.specs.Bits.{bits_of}
+use Rattle.exi_spec.specs.Items.{SpellsChars, SpellsBytes}
 use Rattle.exi_spec.specs.Plain.{bytes_in}
 use Rattle.exi_spec.proofs.PlainLaws.{chars_in-spelled, bytes_in-spelled, bytes_there}
 use Rattle.exi_bits.specs.Lent.{Span, SpellsItems, Holds, items_in, items_of}
@@ -21,6 +23,17 @@ items_of-held span items h =
 
 pub held : (span : Span) (items : List ℕ) → Holds span items → Holds span (items_of span)
 held span items h = subst (λ (xs : List ℕ). Holds span xs) (sym (items_of-held span items h)) h
+
+chars_scalar : (chars : List ℕ) (bits : List Bool) → SpellsChars chars bits → AllByRecursion (λ char. IsScalar char) chars
+chars_scalar [] bits h = tt
+chars_scalar (char ∷ chars) bits h = (h.2.scalar, chars_scalar chars h.1 h.3)
+
+-- a text contains code points, a Binary bytes
+pub held_scalar : (span : Span) (items : List ℕ) → Holds span items → span.is_text ≡ true → AllByRecursion (λ char. IsScalar char) items
+held_scalar span items h is = let b = h.spelled in chars_scalar items b.0 (subst (λ (t : Bool). SpellsItems t items b.0) is b.2)
+
+pub held_bytes : (span : Span) (items : List ℕ) → Holds span items → span.is_text ≡ false → AllByRecursion (λ byte. byte < 256) items
+held_bytes span items h is = let b = h.spelled in let s : SpellsBytes items b.0 = subst (λ (t : Bool). SpellsItems t items b.0) is b.2 in s.range
 
 -- ---- bytes at a bit
 

@@ -1,6 +1,8 @@
 //! Texts and Binaries that are lent from the payload in which they stand.
 
-ghost use Rattle.std.specs.Prelude.{◌≡◌, ℕ, ◌+◌, ◌*◌, ◌≤◌, ◌↔◌, List, IsTrue, length, true, false};
+ghost use Rattle.std.specs.Prelude.{◌≡◌, ℕ, ◌+◌, ◌*◌, ◌<◌, ◌≤◌, ◌↔◌, List, IsTrue, length, true, false};
+ghost use Rattle.std.specs.Char.{IsScalar};
+ghost use Rattle.std.specs.List.{AllByRecursion};
 ghost use Rattle.std.specs.Str.{chars};
 ghost use Rattle.exi_spec.specs.Bits.{bits_of};
 
@@ -150,7 +152,9 @@ impl<'a> BitSpan<'a> {
 
     /// Its code points or bytes, one after the other.
     pub fn contents(&self) -> Contents<'a>
-        ensures { result ≡ items_of self.now }
+        ensures items { result ≡ items_of self.now }
+        ensures characters { self.now.is_text ≡ true → AllByRecursion (λ char. IsScalar char) result }
+        ensures bytes { self.now.is_text ≡ false → AllByRecursion (λ byte. byte < 256) result }
     {
         Contents::new(self.payload, self.bit, self.count, self.is_text)
     }
