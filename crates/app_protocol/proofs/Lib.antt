@@ -4,3 +4,4 @@ pub mod Texts
 pub mod Form
 pub mod Responses
 pub mod Spelled
+pub mod Newest

@@ -63,14 +63,14 @@ set_newest field value (p ∷ ps) = set_field field value p ∷ ps
 
 -- ---- events
 
-abbrev pub start_in : ℕ → List Offered → List Offered
-start_in name ps = if name == 2 then (if nat_lt (length ps) 20 then blank ∷ ps else ps) else ps
+abbrev pub started : List Offered → List Offered
+started ps = if nat_lt (length ps) 20 then blank ∷ ps else ps
 
 abbrev pub build : Built → Event → Built
 build b (Document number) =
     record { request = number == 0; field = b.field; protocols = b.protocols; code = b.code; schema = b.schema }
 build b (Start name) =
-    record { request = b.request; field = name; protocols = start_in name b.protocols; code = b.code; schema = b.schema }
+    record { request = b.request; field = name; protocols = if name == 2 then started b.protocols else b.protocols; code = b.code; schema = b.schema }
 build b (Content value) =
     record {
       request = b.request;

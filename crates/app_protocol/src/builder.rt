@@ -1,11 +1,11 @@
 //! A message from the events of its document.
 
-ghost use Rattle.std.specs.Prelude.{◌≡◌, ◌≤◌, ◌^◌, List, Bool, true, length, Some};
+ghost use Rattle.std.specs.Prelude.{◌≡◌, ◌≤◌, ◌^◌, List, [], Bool, true, length, Some, map, reverse};
 ghost use Rattle.std.specs.Str.{chars};
 ghost use Rattle.exi_bits.specs.Lent.{items_of};
 ghost use Rattle.exi_documents.specs.Trees.{Event as TreeEvent};
 ghost use Rattle.exi_values.specs.Meaning.{event_of, value_of, IsLentEvent, IsLent};
-ghost use Rattle.app_protocol.specs.Building.{Built, fresh, build, offered_of, set_field, text_or, number_below, code_or, message_built};
+ghost use Rattle.app_protocol.specs.Building.{Built, fresh, build, offered_of, started, set_newest, set_field, text_or, number_below, code_or, message_built};
 ghost use Rattle.app_protocol.specs.Codes.{ordinal_of, message_of};
 ghost use Rattle.exi_documents.specs.Trees as tree;
 
@@ -21,19 +21,18 @@ use std::marker::Model;
 pub(crate) struct Builder {
     is_request: bool,
     field: u16,
-    protocols: ArrayVec<AppProtocol, 20>,
+    protocols: Protocols,
     code: AppCode,
     schema: Option<u8>,
 }
 
 impl Model for Builder {
-    ghost use Rattle.std.specs.Prelude.{map, reverse};
-    ghost use Rattle.app_protocol.specs.Building.{Built, offered_of};
+    ghost use Rattle.app_protocol.specs.Building.{Built};
     ghost use Rattle.app_protocol.specs.Codes.{ordinal_of};
 
     ghost Value = { Built };
 
-    ghost view = { λ b. record { request = b.is_request; field = b.field; protocols = map offered_of (reverse b.protocols.items); code = ordinal_of b.code; schema = b.schema } };
+    ghost view = { λ b. record { request = b.is_request; field = b.field; protocols = b.protocols; code = ordinal_of b.code; schema = b.schema } };
 }
 
 impl Builder {
@@ -44,7 +43,7 @@ impl Builder {
         Builder {
             is_request: false,
             field: 0,
-            protocols: ArrayVec::new(),
+            protocols: Protocols::new(),
             code: AppCode::Successful,
             schema: None,
         }
@@ -68,8 +67,8 @@ impl Builder {
         ensures { self.new ≡ build self.old (tree.Start name) }
     {
         self.field = name;
-        if name == APP_PROTOCOL && !self.protocols.is_full() {
-            self.protocols.push(AppProtocol::default());
+        if name == APP_PROTOCOL {
+            self.protocols.start();
         }
     }
 
@@ -82,9 +81,7 @@ impl Builder {
             self.code = code_of(value, self.code);
         }
         if self.is_request {
-            if let Some(protocol) = self.protocols.last_mut() {
-                set_field_of(protocol, self.field, value);
-            }
+            self.protocols.set(self.field, value);
         } else if self.field == SCHEMA_ID {
             self.schema = byte_of(value);
         }
@@ -96,7 +93,7 @@ impl Builder {
     {
         if self.is_request {
             AppMessage::Req(AppReq {
-                protocols: self.protocols,
+                protocols: self.protocols.finish(),
             })
         } else {
             AppMessage::Res(AppRes {
@@ -104,6 +101,61 @@ impl Builder {
                 schema: self.schema,
             })
         }
+    }
+}
+
+/// Up to 20 protocols. Contracts see them with the newest first.
+#[derive(Drop)]
+struct Protocols {
+    oldest_first: ArrayVec<AppProtocol, 20>,
+}
+
+impl Model for Protocols {
+    ghost use Rattle.std.specs.Prelude.{List, map, reverse};
+    ghost use Rattle.app_documents.specs.Trees.{Offered};
+    ghost use Rattle.app_protocol.specs.Building.{offered_of};
+
+    ghost Value = { List Offered };
+
+    ghost view = { λ p. map offered_of (reverse p.oldest_first.items) };
+}
+
+impl Protocols {
+    /// None.
+    fn new() -> Protocols
+        ensures { result ≡ [] }
+    {
+        Protocols {
+            oldest_first: ArrayVec::new(),
+        }
+    }
+
+    /// A further one starts, where there is room.
+    #[tactic(auto, using(crate::proofs::Newest::count_of))]
+    fn start(&mut self)
+        ensures { self.new ≡ started self.old }
+    {
+        if !self.oldest_first.is_full() {
+            self.oldest_first.push(AppProtocol::default());
+        }
+    }
+
+    /// Sets the field of the newest one that has this name.
+    fn set(&mut self, field: u16, value: &Value<'_>)
+        requires lent { (bits : List Bool) × IsLent bits value.now }
+        ensures { self.new ≡ set_newest field (value_of value.now) self.old }
+    {
+        if let Some(protocol) = self.oldest_first.last_mut() {
+            set_field_of(protocol, field, value);
+        }
+    }
+
+    /// All, the oldest first.
+    #[tactic(auto, using(crate::proofs::Newest::in_order))]
+    fn finish(self) -> ArrayVec<AppProtocol, 20>
+        ensures { map offered_of result.items ≡ reverse self }
+    {
+        self.oldest_first
     }
 }
 

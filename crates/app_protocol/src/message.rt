@@ -18,7 +18,13 @@ pub struct AppProtocol {
 }
 
 impl Default for AppProtocol {
-    fn default() -> AppProtocol {
+    ghost use Rattle.std.specs.Prelude.{◌≡◌};
+    ghost use Rattle.app_protocol.specs.Building.{offered_of, blank};
+
+    #[tactic(auto, using(crate::proofs::Spelled::no_chars))]
+    fn default() -> AppProtocol
+        ensures { offered_of result ≡ blank }
+    {
         AppProtocol {
             namespace: ArrayString::new(),
             major: 0,
