@@ -111,6 +111,13 @@ root_kind s number name kind h =
     let four = and-l _ (is_within s.kinds.now 16 kind) (root_is s h.0 (record { number = number; name = name; kind = kind }) h.1) in
     ltb-true kind (length s.kinds.now) (and-r (nat_lt number (2 ^ s.root_bits) && not (s.root_bits == 2 && number == 3) && nat_lt name n) (nat_lt kind (length s.kinds.now)) four)
 
+-- and its name
+pub root_name : (s : Schema) (number name kind : ℕ) → IsRoot s.roots.now s.root_bits number (Kind name kind) → name < length (map (λ t. t.now) s.names.now)
+root_name s number name kind h =
+    let n = length (map (λ t. t.now) s.names.now) in
+    let three = and-l _ (nat_lt kind (length s.kinds.now)) (and-l _ (is_within s.kinds.now 16 kind) (root_is s h.0 (record { number = number; name = name; kind = kind }) h.1)) in
+    ltb-true name n (and-r (nat_lt number (2 ^ s.root_bits) && not (s.root_bits == 2 && number == 3)) (nat_lt name n) three)
+
 tested : (n m : ℕ) → n ≡ m → (n == m) ≡ true
 tested n m e = elim (eqb_tells n m) [ inl tells ↦ tells.0 | inr tells ↦ absurd (tells.1 e) ]
 

@@ -25,7 +25,7 @@ use Rattle.document_laws.proofs.Told.{none_behind, events_told}
 
 -- ---- each event takes bits, but the root's start
 
-abbrev weight : Standing → ℕ
+abbrev pub weight : Standing → ℕ
 weight Before = 2
 weight (AtRoot name kind) = 1
 weight (Inside top above) = 0
@@ -52,7 +52,7 @@ new_weight : (new state : State) → new ≡ state → weight new.standing ≡ w
 new_weight new state e = ap (λ (x : State). weight x.standing) e
 
 module _ (s : Schema) where
-  shrinks_at : (standing : Standing) (entries : Entries) (new : State) (event : Event) (bits : List Bool) → Moves SpellsValue s (stands standing entries) event bits new → weight new.standing < weight standing + length bits
+  pub shrinks_at : (standing : Standing) (entries : Entries) (new : State) (event : Event) (bits : List Bool) → Moves SpellsValue s (stands standing entries) event bits new → weight new.standing < weight standing + length bits
   shrinks_at Before entries new (Document number) bits m =
       let w : weight new.standing ≡ 1 = new_weight new (stands (AtRoot m.0 m.1) entries) m.6 in
       omega (arith, w)

@@ -10,3 +10,8 @@ mod step;
 pub use exi_documents::{Refusal, RefusalCause};
 pub use exi_values::{Event, Table, Value};
 pub use reader::EventReader;
+
+#[cfg(test)]
+mod negotiation;
+#[cfg(test)]
+mod tests;

@@ -119,6 +119,14 @@ impl<'a, 'p, P: Places> EventReader<'a, 'p, P> {
         }
     }
 
+    /// Ends the reading, wherever it stands, and gives the table back.
+    pub fn end(self) -> &'p mut Table
+        ensures same_reference { result.ghost_name ≡ self.entry.table.ghost_name }
+        ensures table { result.now ≡ self.entry.table.now }
+    {
+        self.table
+    }
+
     /// The next event, where none was refused.
     fn step(&mut self) -> Result<Event<'a>, Refusal>
         requires ready { IsReady (P.schema self.old.places.now) self.old.phase self.old.elements self.old.reader.bits self.old.table.now }

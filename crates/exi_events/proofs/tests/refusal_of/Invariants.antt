@@ -1,0 +1,8 @@
+use Rattle.std.proofs.Common.{◌≡◌}
+use Rattle.exi_events.specs.Reader.{IsReady}
+use Rattle.exi_events.proofs.tests.refusal_of.Given as goal
+
+abbrev pub invariant-loop : goal.invariant-loop
+invariant-loop g l =
+    (l.reader.table.ghost_name ≡ l.initial.reader.table.ghost_name)
+    × IsReady (g.P.Places.schema l.reader.places.now) l.reader.phase l.reader.elements l.reader.reader.bits l.reader.table.now

@@ -1,0 +1,162 @@
+//! The published negotiation request, ISO 15118-2:2014 section 8.2, and payloads that are refused.
+
+ghost use Rattle.std.specs.Prelude.{◌≡◌, ◌≤◌, length};
+ghost use Rattle.exi_documents.specs.Values.{most_entries};
+ghost use Rattle.exi_events.specs.Reader.{IsReady};
+
+use crate::negotiation::{longer_negotiation, negotiation};
+use crate::{Event, EventReader, Refusal, RefusalCause, Table, Value};
+use exi_schema::Places;
+use exi_strings::Partitions;
+use std::process::Abort;
+
+/// The published request of one protocol.
+const PUBLISHED: [u8; 34] = [
+    0x80, 0x00, 0xdb, 0xab, 0x93, 0x71, 0xd3, 0x23, 0x4b, 0x71, 0xd1, 0xb9, 0x81, 0x89, 0x91, 0x89,
+    0xd1, 0x91, 0x81, 0x89, 0x91, 0xd2, 0x6b, 0x9b, 0x3a, 0x23, 0x2b, 0x30, 0x02, 0x00, 0x00, 0x04,
+    0x00, 0x40,
+];
+
+/// What an event is to tell.
+#[derive(Clone, Copy)]
+enum Told {
+    Document(u32),
+    Start(u16),
+    Text(&'static str),
+    Number(i128),
+    End,
+    Finished,
+}
+
+fn next_is<P: Places>(rt: &impl Abort, reader: &mut EventReader<P>, told: &Told)
+    requires { IsReady (P.schema reader.old.places.now) reader.old.phase reader.old.elements reader.old.reader.bits reader.old.table.now }
+    ensures { IsReady (P.schema reader.new.places.now) reader.new.phase reader.new.elements reader.new.reader.bits reader.new.table.now }
+{
+    let Ok(event) = reader.next() else {
+        assert!(rt; false);
+        return;
+    };
+    match event {
+        Event::Document(number) => assert!(rt; matches!(told, Told::Document(n) if *n == number)),
+        Event::Start(name) => assert!(rt; matches!(told, Told::Start(n) if *n == name)),
+        Event::Value(Value::Number(v)) => assert!(rt; matches!(told, Told::Number(n) if *n == v)),
+        Event::Value(Value::Text(span)) => match told {
+            Told::Text(text) => assert!(rt; span.same_str(text)),
+            _ => assert!(rt; false),
+        },
+        Event::EndElement => assert!(rt; matches!(told, Told::End)),
+        Event::Finished => assert!(rt; matches!(told, Told::Finished)),
+        Event::Attribute(_, _) | Event::Value(_) => assert!(rt; false),
+    }
+}
+
+#[test]
+fn the_published_request_is_told(rt: HostRuntime) {
+    let Ok(mut table) = Partitions::make(rt.alloc(), 8192) else {
+        assert!(rt; false);
+        return;
+    };
+    let schema = negotiation();
+    let mut reader = EventReader::new(&PUBLISHED, &schema, &mut table);
+    for told in [
+        Told::Document(0),
+        Told::Start(0),
+        Told::Start(2),
+        Told::Start(3),
+        Told::Text("urn:din:70121:2012:MsgDef"),
+        Told::End,
+        Told::Start(4),
+        Told::Number(2),
+        Told::End,
+        Told::Start(5),
+        Told::Number(0),
+        Told::End,
+        Told::Start(6),
+        Told::Number(1),
+        Told::End,
+        Told::Start(7),
+        Told::Number(1),
+        Told::End,
+        Told::End,
+        Told::End,
+        Told::Finished,
+        Told::Finished,
+    ] {
+        next_is(&rt, &mut reader, &told);
+    }
+}
+
+/// Another schema is asked at each place: with a code of three bits the same bits tell another element.
+#[test]
+fn the_places_that_are_lent_are_asked(rt: HostRuntime) {
+    let Ok(mut table) = Partitions::make(rt.alloc(), 8192) else {
+        assert!(rt; false);
+        return;
+    };
+    let schema = longer_negotiation();
+    let mut reader = EventReader::new(&PUBLISHED, &schema, &mut table);
+    for told in [
+        Told::Document(0),
+        Told::Start(0),
+        Told::Start(7),
+        Told::Number(7),
+    ] {
+        next_is(&rt, &mut reader, &told);
+    }
+}
+
+/// Reads up to a refusal, which is answered again.
+fn refusal_of<P: Places>(rt: &impl Abort, reader: &mut EventReader<P>) -> Option<Refusal>
+    requires { IsReady (P.schema reader.old.places.now) reader.old.phase reader.old.elements reader.old.reader.bits reader.old.table.now }
+    ensures ready { IsReady (P.schema reader.new.places.now) reader.new.phase reader.new.elements reader.new.reader.bits reader.new.table.now }
+    ensures same_reference { reader.new.table.ghost_name ≡ reader.old.table.ghost_name }
+{
+    for _ in 0..100 {
+        if let Err(refusal) = reader.next() {
+            match reader.next() {
+                Ok(_) => assert!(rt; false),
+                Err(again) => assert_eq!(rt; again, refusal),
+            }
+            return Some(refusal);
+        }
+    }
+    None
+}
+
+fn is_refused(rt: &impl Abort, table: &mut Table, payload: &[u8], cause: RefusalCause, bit: u32)
+    requires payload { length payload.now ≤ 65536 }
+    requires cap { table.old.cap ≡ most_entries }
+    ensures { table.new.cap ≡ most_entries }
+{
+    let schema = negotiation();
+    let mut reader = EventReader::new(payload, &schema, table);
+    assert_eq!(rt; refusal_of(rt, &mut reader), Some(Refusal { cause, bit }));
+    let _ = reader.end();
+}
+
+#[test]
+fn refusals_have_a_bit(rt: HostRuntime) {
+    let Ok(mut table) = Partitions::make(rt.alloc(), 8192) else {
+        assert!(rt; false);
+        return;
+    };
+    let of = &mut table;
+    is_refused(&rt, of, &[], RefusalCause::ShortInput, 0);
+    is_refused(&rt, of, b"\x84\x48\x38\x44", RefusalCause::BadHeader, 0);
+    is_refused(&rt, of, b"\x80", RefusalCause::ShortInput, 8);
+    is_refused(&rt, of, b"\x80\x84\x80", RefusalCause::UnknownElement, 8);
+    is_refused(&rt, of, b"\x80\xc8\x64\x40", RefusalCause::NoSuchCode, 8);
+    is_refused(&rt, of, b"\x80\x50\x00\x04", RefusalCause::Deviation, 11);
+    is_refused(&rt, of, b"\x80\x40\x7f\xc0", RefusalCause::Deviation, 17);
+    is_refused(&rt, of, b"\x80\x04\x3f\xc0", RefusalCause::ShortInput, 13);
+    is_refused(&rt, of, b"\x80\x48\x8f\x40", RefusalCause::Trailing, 24);
+    is_refused(
+        &rt,
+        of,
+        &[
+            0x80, 0x00, 0x10, 0xff, 0xff, 0xff, 0xff, 0x0f, 0x0c, 0xe0, 0xc0, 0x00, 0x40, 0x5b,
+        ],
+        RefusalCause::Trailing,
+        104,
+    );
+}

@@ -1,3 +1,0 @@
-pub mod TreeText
-pub mod EventText
-pub mod Printing
