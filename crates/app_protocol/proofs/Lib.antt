@@ -5,3 +5,5 @@ pub mod Form
 pub mod Responses
 pub mod Spelled
 pub mod Newest
+pub mod Folded
+pub mod Read

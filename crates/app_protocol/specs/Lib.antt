@@ -6,3 +6,4 @@ pub mod Response
 pub mod Reading
 pub mod Building
 pub mod Codes
+pub mod Documents

@@ -2,6 +2,7 @@
 #![tactic(auto)]
 
 mod builder;
+mod codec;
 mod message;
 mod negotiation;
 mod reading;
@@ -9,6 +10,7 @@ mod schema;
 mod writing;
 
 pub use charge_world::{Dialect, Offer};
+pub use codec::read_message;
 pub use message::{AppCode, AppMessage, AppProtocol, AppReq, AppRes};
 pub use negotiation::negotiate;
 pub use reading::{NotBuilt, read_app};
