@@ -41,7 +41,7 @@ filled p =
       major = or_keep 0 (number_below (2 ^ 32) (Number (pos p.major)));
       minor = or_keep 0 (number_below (2 ^ 32) (Number (pos p.minor)));
       schema = or_keep 0 (number_below 256 (Number (pos p.schema)));
-      priority = or_keep 1 (number_below 256 (Number (pos p.priority)))
+      priority = or_keep 1 (number_below 256 (Number (pos p.priority)));
     }
 
 pub offered_by : (a b : Offered) → a.namespace ≡ b.namespace → a.major ≡ b.major → a.minor ≡ b.minor → a.schema ≡ b.schema → a.priority ≡ b.priority → a ≡ b
@@ -66,7 +66,7 @@ fold_protocols (p ∷ ps) qs field tail all few =
     let behind : List Event = events_of (protocol_trees ps) ++ tail in
     let one : fold (asking field qs) (events_of (protocol_trees (p ∷ ps)) ++ tail) ≡ fold (asking 2 (started qs)) (events_of (fields_of p) ++ EndElement ∷ behind) = refl in
     let two : fold (asking 2 (started qs)) (events_of (fields_of p) ++ EndElement ∷ behind) ≡ fold (asking 2 (blank ∷ qs)) (events_of (fields_of p) ++ EndElement ∷ behind) =
-        ap (λ xs. fold (asking 2 xs) (events_of (fields_of p) ++ EndElement ∷ behind)) (room_started qs (omega (arith, few))) in
+    ap (λ xs. fold (asking 2 xs) (events_of (fields_of p) ++ EndElement ∷ behind)) (room_started qs (omega (arith, few))) in
     let three : fold (asking 2 (blank ∷ qs)) (events_of (fields_of p) ++ EndElement ∷ behind) ≡ fold (asking 7 (filled p ∷ qs)) behind = refl in
     let four : fold (asking 7 (filled p ∷ qs)) behind ≡ fold (asking 7 (p ∷ qs)) behind = ap (λ x. fold (asking 7 (x ∷ qs)) behind) (filled_is p all.0) in
     (more.0, one ∙ two ∙ three ∙ four ∙ more.1 ∙ ap (λ xs. fold (asking more.0 xs) tail) (sym (reverse_with p ps qs)))

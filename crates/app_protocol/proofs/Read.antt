@@ -62,10 +62,10 @@ app_told s places old new before after payload b same negotiation ends bits is =
     let tells = (tell_trees SpellsValue s).told is.0 has.0 old.entries behind in
     let m = of_message s negotiation tells.0 tells.1 has.0 tells.3 in
     let document : IsDocument s tells.1 payload =
-        record { number = tells.0; bits = has.0; pad = ahead before; spelled = tells.3; few = end_in.1; bits_are = sym bits ∙ has.2 } in
+    record { number = tells.0; bits = has.0; pad = ahead before; spelled = tells.3; few = end_in.1; bits_are = sym bits ∙ has.2 } in
     let built_is : message_built b ≡ m.0 =
-        ap message_built is.2 ∙ ap (λ es. message_built (built es)) (tells.2 ∙ ap (λ n. reverse (document_events n tells.1)) m.3 ∙ ap (λ t. reverse (document_events (number_of m.0) t)) m.2)
-        ∙ message_told m.0 m.1 in
+    ap message_built is.2 ∙ ap (λ es. message_built (built es)) (tells.2 ∙ ap (λ n. reverse (document_events n tells.1)) m.3 ∙ ap (λ t. reverse (document_events (number_of m.0) t)) m.2)
+    ∙ message_told m.0 m.1 in
     subst (λ (x : Message). IsApp x payload) (sym built_is)
     (record { schema = s; negotiation = negotiation; message = m.1; document = subst (λ (t : Tree). IsDocument s t payload) m.2 document })
 

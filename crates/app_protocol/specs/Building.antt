@@ -1,14 +1,7 @@
 -- Own: a message from the events of its document, one after the other.
 use Rattle.std.specs.Prelude.{ℕ, zero, suc, pos, ◌^◌, ◌==◌, nat_lt, nat_le, if◌then◌else◌, Bool, true, false, List, [], ◌∷◌, length, map, reverse, Option, Some, None}
-use Rattle.std.specs.Str.{chars}
 use Rattle.exi_documents.specs.Trees.{Value, Truth, Ordinal, Number, Bytes, Text, Event, Document, Start, Attribute, Content, EndElement}
 use Rattle.app_documents.specs.Trees.{Offered, Message, Request, Response}
-use Rattle.app_protocol.specs.declared.message.AppProtocol.{AppProtocol}
-
--- a protocol, without where it lies in memory
-abbrev pub offered_of : AppProtocol → Offered
-offered_of p =
-    record { namespace = chars p.namespace.bytes; major = p.major; minor = p.minor; schema = p.schema; priority = p.priority }
 
 -- as a protocol starts
 abbrev pub blank : Offered
@@ -54,7 +47,7 @@ set_field field value p =
       major = if field == 4 then or_keep p.major (number_below (2 ^ 32) value) else p.major;
       minor = if field == 5 then or_keep p.minor (number_below (2 ^ 32) value) else p.minor;
       schema = if field == 6 then or_keep p.schema (number_below 256 value) else p.schema;
-      priority = if field == 7 then or_keep p.priority (number_below 256 value) else p.priority
+      priority = if field == 7 then or_keep p.priority (number_below 256 value) else p.priority;
     }
 
 abbrev pub set_newest : ℕ → Value → List Offered → List Offered
@@ -77,7 +70,7 @@ build b (Content value) =
       field = b.field;
       protocols = if b.request then set_newest b.field value b.protocols else b.protocols;
       code = if b.field == 8 then code_or b.code value else b.code;
-      schema = if b.field == 6 then (if b.request then b.schema else number_below 256 value) else b.schema
+      schema = if b.field == 6 then (if b.request then b.schema else number_below 256 value) else b.schema;
     }
 build b (Attribute name value) = b
 build b EndElement = b

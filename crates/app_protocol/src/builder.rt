@@ -5,8 +5,8 @@ ghost use Rattle.std.specs.Str.{chars};
 ghost use Rattle.exi_bits.specs.Lent.{items_of};
 ghost use Rattle.exi_documents.specs.Trees.{Event as TreeEvent};
 ghost use Rattle.exi_values.specs.Meaning.{event_of, value_of, IsLentEvent, IsLent};
-ghost use Rattle.app_protocol.specs.Building.{Built, fresh, build, offered_of, started, set_newest, set_field, text_or, number_below, code_or, message_built};
-ghost use Rattle.app_protocol.specs.Codes.{ordinal_of, message_of};
+ghost use Rattle.app_protocol.specs.Building.{Built, fresh, build, started, set_newest, set_field, text_or, number_below, code_or, message_built};
+ghost use Rattle.app_protocol.specs.Messages.{protocol_of, ordinal_of, message_of};
 ghost use Rattle.exi_documents.specs.Trees as tree;
 
 use crate::message::{AppCode, AppMessage, AppProtocol, AppReq, AppRes};
@@ -28,7 +28,7 @@ pub(crate) struct Builder {
 
 impl Model for Builder {
     ghost use Rattle.app_protocol.specs.Building.{Built};
-    ghost use Rattle.app_protocol.specs.Codes.{ordinal_of};
+    ghost use Rattle.app_protocol.specs.Messages.{ordinal_of};
 
     ghost Value = { Built };
 
@@ -113,11 +113,11 @@ struct Protocols {
 impl Model for Protocols {
     ghost use Rattle.std.specs.Prelude.{List, map, reverse};
     ghost use Rattle.app_documents.specs.Trees.{Offered};
-    ghost use Rattle.app_protocol.specs.Building.{offered_of};
+    ghost use Rattle.app_protocol.specs.Messages.{protocol_of};
 
     ghost Value = { List Offered };
 
-    ghost view = { λ p. map offered_of (reverse p.oldest_first.items) };
+    ghost view = { λ p. map protocol_of (reverse p.oldest_first.items) };
 }
 
 impl Protocols {
@@ -153,7 +153,7 @@ impl Protocols {
     /// All, the oldest first.
     #[tactic(auto, using(crate::proofs::Newest::in_order))]
     fn finish(self) -> ArrayVec<AppProtocol, 20>
-        ensures { map offered_of result.items ≡ reverse self }
+        ensures { map protocol_of result.items ≡ reverse self }
     {
         self.oldest_first
     }
@@ -162,7 +162,7 @@ impl Protocols {
 /// Sets the field of a protocol that has this name.
 fn set_field_of(protocol: &mut AppProtocol, field: u16, value: &Value<'_>)
     requires lent { (bits : List Bool) × IsLent bits value.now }
-    ensures { offered_of protocol.new ≡ set_field field (value_of value.now) (offered_of protocol.old) }
+    ensures { protocol_of protocol.new ≡ set_field field (value_of value.now) (protocol_of protocol.old) }
 {
     match field {
         NAMESPACE => set_namespace(&mut protocol.namespace, value),

@@ -2,7 +2,6 @@
 #![tactic(auto)]
 
 mod builder;
-mod codec;
 mod message;
 mod negotiation;
 mod reading;
@@ -10,10 +9,11 @@ mod schema;
 mod writing;
 
 pub use charge_world::{Dialect, Offer};
-pub use codec::read_message;
+pub use exi_documents::{Refusal, RefusalCause};
+pub use exi_events::Table;
 pub use message::{AppCode, AppMessage, AppProtocol, AppReq, AppRes};
 pub use negotiation::negotiate;
-pub use reading::{NotBuilt, read_app};
+pub use reading::read_app;
 pub use writing::write_response;
 
 #[cfg(test)]

@@ -19,11 +19,12 @@ pub struct AppProtocol {
 
 impl Default for AppProtocol {
     ghost use Rattle.std.specs.Prelude.{◌≡◌};
-    ghost use Rattle.app_protocol.specs.Building.{offered_of, blank};
+    ghost use Rattle.app_protocol.specs.Building.{blank};
+    ghost use Rattle.app_protocol.specs.Messages.{protocol_of};
 
     #[tactic(auto, using(crate::proofs::Spelled::no_chars))]
     fn default() -> AppProtocol
-        ensures { offered_of result ≡ blank }
+        ensures { protocol_of result ≡ blank }
     {
         AppProtocol {
             namespace: ArrayString::new(),

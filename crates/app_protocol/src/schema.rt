@@ -4,11 +4,17 @@ use exi_schema::{Datatype, Declaration, Member, MemberStanding, Particle, RootOf
 
 // the numbers of the names
 pub(crate) const APP_PROTOCOL: u16 = 2;
+
 pub(crate) const NAMESPACE: u16 = 3;
+
 pub(crate) const MAJOR: u16 = 4;
+
 pub(crate) const MINOR: u16 = 5;
+
 pub(crate) const SCHEMA_ID: u16 = 6;
+
 pub(crate) const PRIORITY: u16 = 7;
+
 pub(crate) const RESPONSE_CODE: u16 = 8;
 
 pub(crate) const NAMES: [&'static str; 9] = [

@@ -28,6 +28,9 @@ loop-item-preserved-in-Some-from_u32 c =
     let room = c.loop-item.invariant.1 in
     let scalars = subst (λ xs. AllByRecursion (λ char. IsScalar char) xs) is c.loop-item.invariant.2 in
     let n = ap length is in
-    let short = char_short c.in-Some-from_u32.c in
-    (rw c.push.ensures.bytes (char_pushed c.loop-item.text.bytes c.loop-item.contents c.next.new.self _ c.in-Some.item c.in-Some-from_u32.c c.loop-item.invariant.3 scalars.0 (search rules) is so_far),
-    rw (c.push.ensures.bytes, length-append c.loop-item.text.bytes (encode_utf8 c.in-Some-from_u32.c)) (omega (arith, room, n, short)), scalars.1, rw c.push.ensures.bytes (utf8_pushed c.loop-item.text.bytes c.in-Some.item c.in-Some-from_u32.c c.loop-item.invariant.3 scalars.0 (search rules)))
+    let short = char_short c.in-Some-from_u32.c in (
+      rw c.push.ensures.bytes (char_pushed c.loop-item.text.bytes c.loop-item.contents c.next.new.self _ c.in-Some.item c.in-Some-from_u32.c c.loop-item.invariant.3 scalars.0 (search rules) is so_far),
+      rw (c.push.ensures.bytes, length-append c.loop-item.text.bytes (encode_utf8 c.in-Some-from_u32.c)) (omega (arith, room, n, short)),
+      scalars.1,
+      rw c.push.ensures.bytes (utf8_pushed c.loop-item.text.bytes c.in-Some.item c.in-Some-from_u32.c c.loop-item.invariant.3 scalars.0 (search rules)),
+    )

@@ -1,7 +1,7 @@
 use Rattle.std.proofs.Common.{◌≡◌, List, None}
 use Rattle.exi_events.specs.Reader.{state_of, IsReady}
 use Rattle.app_protocol.proofs.Read.{events_left, IsBuilt}
-use Rattle.app_protocol.proofs.codec.message_from.Given as goal
+use Rattle.app_protocol.proofs.reading.message_from.Given as goal
 
 abbrev pub invariant-loop-builder : goal.invariant-loop-builder
 invariant-loop-builder l =

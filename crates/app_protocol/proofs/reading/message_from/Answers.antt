@@ -3,11 +3,11 @@ use Rattle.std.proofs.lemmas.Result.{err_from_is_err_and}
 use Rattle.exi_events.specs.Reader.{state_of}
 use Rattle.exi_values.specs.Meaning.{event_of}
 use Rattle.app_protocol.proofs.Read.{fewer_left, only_finished, built_on, app_told, app_refused, has_in, finished_next, message_is}
-use Rattle.app_protocol.proofs.codec.message_from.Goals as goal
+use Rattle.app_protocol.proofs.reading.message_from.Goals as goal
 
 pub loop-builder-init : goal.loop-builder-init
 loop-builder-init c =
-    record { places = refl; lent = refl; payload = refl; ready = c.requires.ready; open_still = c.requires.open_still; told = ([], c.requires.told, c.new-builder.ensures); }
+    record { places = refl; lent = refl; payload = refl; ready = c.requires.ready; open_still = c.requires.open_still; told = ([], c.requires.told, c.new-builder.ensures) }
 
 pub next-requires : goal.next-requires
 next-requires c = record { ready = c.loop-builder.invariant.ready }
