@@ -1,12 +1,12 @@
 -- The events of a message's tree build the message.
-use Rattle.std.proofs.Common.{◌≡◌, ℕ, zero, suc, pos, ◌+◌, ◌^◌, ◌<◌, ◌≤◌, nat_lt, nat_le, Bool, true, false, if◌then◌else◌, List, [], ◌∷◌, ◌++◌, length, map, reverse, Option, Some, None, refl, ap, sym, subst, ◌∙◌, arith}
+use Rattle.std.proofs.Common.{◌≡◌, ℕ, zero, suc, pos, ◌+◌, ◌^◌, ◌<◌, ◌≤◌, nat_lt, nat_le, Bool, true, false, if◌then◌else◌, List, [], ◌∷◌, ◌++◌, length, reverse, Option, Some, None, refl, ap, sym, ◌∙◌, arith}
 use Rattle.std.specs.List.{AllByRecursion}
 use Rattle.std.proofs.lemmas.Bool.{lt-ltb, le-leb}
 use Rattle.std.proofs.lemmas.List.{append-nil, reverse-reverse}
 use Rattle.document_laws.proofs.Runs.{reverse_with}
-use Rattle.exi_documents.specs.Trees.{Value, Ordinal, Number, Text, Trees, none, simple, complex, Event, Document, Start, Content, EndElement, events_of, alone, document_events}
-use Rattle.app_documents.specs.Trees.{Offered, IsOffered, Message, Request, Response, IsMessage, IsByte, fields_of, protocol_trees, schema_tree, tree_of, number_of}
-use Rattle.app_protocol.specs.Building.{Built, fresh, build, built, blank, started, set_newest, text_or, or_keep, number_below, code_or, message_built}
+use Rattle.exi_documents.specs.Trees.{Ordinal, Number, Text, Event, EndElement, events_of, document_events}
+use Rattle.app_documents.specs.Trees.{Offered, IsOffered, Message, Request, Response, IsMessage, fields_of, protocol_trees, tree_of, number_of}
+use Rattle.app_protocol.specs.Building.{Built, fresh, build, built, blank, started, text_or, or_keep, number_below, code_or, message_built}
 
 abbrev pub fold : Built → List Event → Built
 fold b [] = b

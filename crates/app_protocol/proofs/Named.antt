@@ -1,5 +1,5 @@
 -- A namespace by its code points and by its bytes.
-use Rattle.std.proofs.Common.{arith, ◌≡◌, ℕ, zero, suc, ◌<◌, nat_lt, Bool, true, ◌&&◌, List, [], ◌∷◌, refl, sym, ap, subst, ◌∙◌, ◌↔◌, IsUtf8, chars}
+use Rattle.std.proofs.Common.{arith, ◌≡◌, ℕ, zero, suc, nat_lt, true, List, [], ◌∷◌, refl, sym, ap, ◌∙◌, ◌↔◌, IsUtf8, chars}
 use Rattle.std.proofs.lemmas.Bool.{ltb-true}
 use Rattle.std.proofs.lemmas.Str.{encodes-chars, chars-IsAscii, IsUtf8-from_ascii}
 use Rattle.std.specs.List.{list_all}

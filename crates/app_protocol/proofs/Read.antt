@@ -1,5 +1,5 @@
 -- A turn of the reader's loop, and its end.
-use Rattle.std.proofs.Common.{◌≡◌, ℕ, ◌+◌, ◌<◌, Bool, List, [], ◌∷◌, ◌++◌, length, reverse, length-append, Option, Some, None, refl, sym, ap, subst, ◌∙◌, arith}
+use Rattle.std.proofs.Common.{◌≡◌, ℕ, ◌+◌, ◌<◌, List, ◌∷◌, length, reverse, length-append, Option, Some, None, refl, sym, ap, subst, ◌∙◌, arith}
 use Rattle.exi_spec.specs.Bits.{bits_of}
 use Rattle.exi_bits.specs.Reading.{Cursor, ahead}
 use Rattle.exi_schema.specs.declared.schema.Schema.{Schema}
@@ -14,7 +14,7 @@ use Rattle.exi_events.specs.Reader.{IsNext, HasTold}
 use Rattle.document_laws.proofs.Payloads.{weight, shrinks_at}
 use Rattle.document_laws.proofs.Told.{tell_trees}
 use Rattle.app_documents.specs.Declarations.{IsNegotiation}
-use Rattle.app_documents.specs.Trees.{Message, IsMessage, tree_of, number_of}
+use Rattle.app_documents.specs.Trees.{Message, number_of}
 use Rattle.app_documents.proofs.Shapes.{of_message}
 use Rattle.app_protocol.specs.Building.{Built, build, built, message_built}
 use Rattle.app_protocol.specs.Documents.{IsApp, IsAppRefused}

@@ -1,6 +1,6 @@
 -- Own: a message from the events of its document, one after the other.
-use Rattle.std.specs.Prelude.{ℕ, zero, suc, pos, ◌^◌, ◌==◌, nat_lt, nat_le, if◌then◌else◌, Bool, true, false, List, [], ◌∷◌, length, map, reverse, Option, Some, None}
-use Rattle.exi_documents.specs.Trees.{Value, Truth, Ordinal, Number, Bytes, Text, Event, Document, Start, Attribute, Content, EndElement}
+use Rattle.std.specs.Prelude.{ℕ, zero, suc, pos, ◌^◌, ◌==◌, nat_lt, nat_le, if◌then◌else◌, Bool, false, List, [], ◌∷◌, length, reverse, Option, Some, None}
+use Rattle.exi_documents.specs.Trees.{Value, Ordinal, Number, Text, Event, Document, Start, Attribute, Content, EndElement}
 use Rattle.app_documents.specs.Trees.{Offered, Message, Request, Response}
 
 -- as a protocol starts

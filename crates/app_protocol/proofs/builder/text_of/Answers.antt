@@ -1,9 +1,8 @@
-use Rattle.std.proofs.Common.{rules, ◌≡◌, ◌≤◌, ◌+◌, ◌*◌, ◌<◌, ◌++◌, List, [], ◌∷◌, length, arith, ap, sym, subst, ◌∙◌, ℕ}
-use Rattle.std.proofs.lemmas.Str.{chars-nil, length-encode}
+use Rattle.std.proofs.Common.{rules, length, arith, ap, subst}
+use Rattle.std.proofs.lemmas.Str.{chars-nil}
 use Rattle.std.proofs.lemmas.List.{length-append}
 use Rattle.std.specs.List.{AllByRecursion}
 use Rattle.std.specs.Char.{IsScalar}
-use Rattle.std.specs.Str.{chars}
 use Rattle.std.specs.Prelude.{encode_utf8}
 use Rattle.app_protocol.proofs.Spelled.{char_pushed, char_short, nothing_utf8, utf8_pushed}
 use Rattle.app_protocol.proofs.builder.text_of.Goals as goal

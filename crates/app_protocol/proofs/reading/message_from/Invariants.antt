@@ -1,4 +1,4 @@
-use Rattle.std.proofs.Common.{◌≡◌, List, None}
+use Rattle.std.proofs.Common.{◌≡◌, None}
 use Rattle.exi_events.specs.Reader.{state_of, IsReady}
 use Rattle.app_protocol.proofs.Read.{events_left, IsBuilt}
 use Rattle.app_protocol.proofs.reading.message_from.Given as goal

@@ -1,5 +1,5 @@
-use Rattle.std.proofs.Common.{rules, ◌≡◌, ◌<◌, arith, ap, ◌∙◌}
-use Rattle.app_protocol.specs.Building.{blank, started}
+use Rattle.std.proofs.Common.{rules, ap, ◌∙◌}
+use Rattle.app_protocol.specs.Building.{started}
 use Rattle.app_protocol.proofs.Newest.{newest_started}
 use Rattle.app_protocol.proofs.builder.Protocols.start.Goals as goal
 
