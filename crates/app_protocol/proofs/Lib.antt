@@ -1,5 +1,7 @@
 pub mod Winners
-pub mod Items
-pub mod Texts
-pub mod Form
 pub mod Responses
+pub mod Spelled
+pub mod Newest
+pub mod Folded
+pub mod Read
+pub mod Named

@@ -3,7 +3,8 @@ use Rattle.std.proofs.Common.{◌≡◌, ℕ, ◌+◌, ◌*◌, ◌/◌, ◌%◌
 use Rattle.exi_spec.specs.Bits.{number_bits, bits_of}
 use Rattle.app_protocol.specs.declared.message.AppCode.{AppCode}
 use Rattle.app_protocol.specs.declared.message.AppCode.TheVariants.{Successful, MinorDeviation, Failed}
-use Rattle.app_protocol.specs.Response.{response_bits, ordinal_of}
+use Rattle.app_protocol.specs.Response.{response_bits}
+use Rattle.app_protocol.specs.Messages.{ordinal_of}
 
 pub without_schema : (code : AppCode) → bits_of (128 ∷ (64 + 4 * ordinal_of code) ∷ 128 ∷ []) ≡ response_bits (record { code = code; schema = None }) ++ replicate 7 false
 unfolding bits_of number_bits

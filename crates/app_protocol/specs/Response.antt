@@ -2,16 +2,13 @@
 -- (W3C EXI 1.0, Second Edition, 8.5.4).
 use Rattle.std.specs.Prelude.{◌≡◌, ℕ, ◌<◌, Bool, false, List, ◌++◌, replicate, Option, Some, None}
 use Rattle.exi_spec.specs.Bits.{number_bits, bits_of}
-use Rattle.app_protocol.specs.declared.message.AppCode.{AppCode}
-use Rattle.app_protocol.specs.declared.message.AppCode.TheVariants.{Successful, MinorDeviation, Failed}
 use Rattle.app_protocol.specs.declared.message.AppRes.{AppRes}
-use Rattle.app_protocol.specs.FirstForm.{header, element}
+use Rattle.exi_documents.specs.Documents.{header}
+use Rattle.app_protocol.specs.Messages.{ordinal_of}
 
--- the place of a ResponseCode in its enumeration
-abbrev pub ordinal_of : AppCode → ℕ
-ordinal_of Successful = 0
-ordinal_of MinorDeviation = 1
-ordinal_of Failed = 2
+-- an element of a simple type: it starts, its characters come, it ends. Each is the first event of its place, in 1 bit
+abbrev pub element : List Bool → List Bool
+element value = number_bits 1 0 ++ (number_bits 1 0 ++ (value ++ number_bits 1 0))
 
 -- behind the ResponseCode, in 2 bits: SchemaID has code 0, the end of the response code 1. Behind a SchemaID the end is
 -- the only event, in 1 bit

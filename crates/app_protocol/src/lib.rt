@@ -1,15 +1,19 @@
 //! The negotiation of a message set (ISO 15118-2:2014, section 8.2): its messages, their bits, and the rule.
 #![tactic(auto)]
 
+mod builder;
 mod message;
 mod negotiation;
 mod reading;
+mod schema;
 mod writing;
 
 pub use charge_world::{Dialect, Offer};
-pub use message::{AppCode, AppProtocol, AppReq, AppRes};
+pub use exi_documents::{Refusal, RefusalCause};
+pub use exi_events::Table;
+pub use message::{AppCode, AppMessage, AppProtocol, AppReq, AppRes};
 pub use negotiation::negotiate;
-pub use reading::{NotBuilt, read_app};
+pub use reading::read_app;
 pub use writing::write_response;
 
 #[cfg(test)]

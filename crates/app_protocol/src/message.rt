@@ -18,7 +18,14 @@ pub struct AppProtocol {
 }
 
 impl Default for AppProtocol {
-    fn default() -> AppProtocol {
+    ghost use Rattle.std.specs.Prelude.{◌≡◌};
+    ghost use Rattle.app_protocol.specs.Building.{blank};
+    ghost use Rattle.app_protocol.specs.Messages.{protocol_of};
+
+    #[tactic(auto, using(crate::proofs::Spelled::no_chars))]
+    fn default() -> AppProtocol
+        ensures { protocol_of result ≡ blank }
+    {
         AppProtocol {
             namespace: ArrayString::new(),
             major: 0,
@@ -54,4 +61,13 @@ pub struct AppRes {
     pub code: AppCode,
     /// SchemaID: the chosen protocol's, and none where none is chosen.
     pub schema: Option<u8>,
+}
+
+/// A message of the negotiation.
+#[derive(Debug, Drop)]
+pub enum AppMessage {
+    /// supportedAppProtocolReq.
+    Req(AppReq),
+    /// supportedAppProtocolRes.
+    Res(AppRes),
 }

@@ -77,7 +77,13 @@ fn dialect_of(protocol: &AppProtocol, offer: &Offer) -> Option<Dialect>
 fn names(protocol: &AppProtocol, dialect: Dialect) -> bool
     ensures { IsTrue result ↔ Names (protocol_of protocol.now) dialect }
 {
-    protocol.major == 2 && protocol.namespace.as_str() == namespace(dialect)
+    protocol.major == 2 && is_namespace(protocol.namespace.as_str(), dialect)
+}
+
+fn is_namespace(text: &str, dialect: Dialect) -> bool
+    ensures { IsTrue result ↔ (text.now ≡ namespace_of dialect) }
+{
+    text == namespace(dialect)
 }
 
 fn namespace(dialect: Dialect) -> &'static str

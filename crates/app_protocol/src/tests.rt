@@ -1,3 +1,6 @@
+ghost use Rattle.std.specs.Prelude.{◌≡◌, ◌≤◌, length};
+ghost use Rattle.exi_documents.specs.Values.{most_entries};
+
 use super::*;
 use arrayvec::{ArrayString, ArrayVec};
 use std::test::Fail;
@@ -15,29 +18,88 @@ const PUBLISHED: [u8; 34] = [
 
 #[test]
 fn the_published_request_is_read_whatever_its_pad_bits(rt: HostRuntime) {
+    let Ok(mut table) = Table::make(rt.alloc(), 8192) else {
+        assert!(rt; false);
+        return;
+    };
     let mut padded = PUBLISHED;
     padded[33] = 0x7f;
     for payload in [PUBLISHED, padded] {
-        let request = read_app(&payload);
-        assert!(rt; request.is_ok());
-        if let Ok(request) = request {
-            assert_eq!(rt; request.protocols.len(), 1);
-            for protocol in request.protocols.as_slice() {
-                assert_eq!(rt; protocol.namespace.as_str(), DIN);
-                assert_eq!(rt; (protocol.major, protocol.minor), (2, 0));
-                assert_eq!(rt; (protocol.schema, protocol.priority), (1, 1));
-            }
+        let Ok(AppMessage::Req(request)) = read_app(&payload, &mut table) else {
+            assert!(rt; false);
+            return;
+        };
+        assert_eq!(rt; request.protocols.len(), 1);
+        for protocol in request.protocols.as_slice() {
+            assert_eq!(rt; protocol.namespace.as_str(), DIN);
+            assert_eq!(rt; (protocol.major, protocol.minor), (2, 0));
+            assert_eq!(rt; (protocol.schema, protocol.priority), (1, 1));
         }
     }
 }
 
+fn refusal_of(payload: &[u8], table: &mut Table) -> Option<(RefusalCause, u32)>
+    requires payload { length payload.now ≤ 65536 }
+    requires cap { table.old.cap ≡ most_entries }
+    ensures { table.new.cap ≡ most_entries }
+{
+    match read_app(payload, table) {
+        Ok(_) => None,
+        Err(refusal) => Some((refusal.cause, refusal.bit)),
+    }
+}
+
 #[test]
-fn a_cut_a_longer_and_another_document_are_not_built(rt: HostRuntime) {
+fn payloads_are_refused_at_their_bit(rt: HostRuntime) {
+    let Ok(mut table) = Table::make(rt.alloc(), 8192) else {
+        assert!(rt; false);
+        return;
+    };
     let mut longer = [0; 35];
     longer[..34].copy_from_slice(&PUBLISHED);
-    assert!(rt; read_app(&PUBLISHED[..33]).is_err());
-    assert!(rt; read_app(&longer).is_err());
-    assert!(rt; read_app(&[0x80, 0x40, 0x00, 0x40]).is_err());
+    let refused = refusal_of(&longer, &mut table);
+    assert_eq!(rt; refused, Some((RefusalCause::Trailing, 272)));
+    let refused = refusal_of(&PUBLISHED[..33], &mut table);
+    assert_eq!(rt; refused, Some((RefusalCause::ShortInput, 264)));
+    let refused = refusal_of(&[0x80, 0x80], &mut table);
+    assert_eq!(rt; refused, Some((RefusalCause::UnknownElement, 8)));
+    let refused = refusal_of(&[0x80, 0xc0], &mut table);
+    assert_eq!(rt; refused, Some((RefusalCause::NoSuchCode, 8)));
+    let refused = refusal_of(&[0x80, 0x4c, 0x00], &mut table);
+    assert_eq!(rt; refused, Some((RefusalCause::NoSuchValue, 12)));
+    let refused = refusal_of(&[], &mut table);
+    assert_eq!(rt; refused, Some((RefusalCause::ShortInput, 0)));
+    let refused = refusal_of(&[0], &mut table);
+    assert_eq!(rt; refused, Some((RefusalCause::BadHeader, 0)));
+    let refused = refusal_of(&[0x80, 0x00, 0x00], &mut table);
+    assert_eq!(rt; refused, Some((RefusalCause::NoSuchIndex, 21)));
+    let refused = refusal_of(&[0x80, 0x00, 0x08], &mut table);
+    assert_eq!(rt; refused, Some((RefusalCause::NoSuchIndex, 21)));
+    let refused = refusal_of(&[0x80, 0x03, 0x38], &mut table);
+    assert_eq!(rt; refused, Some((RefusalCause::TooLong, 13)));
+    let refused = refusal_of(&[0x80, 0x00, 0x1c, 0x05, 0x80, 0x18], &mut table);
+    assert_eq!(rt; refused, Some((RefusalCause::BadChar, 21)));
+    let wide = [
+        0x80, 0x07, 0xff, 0xff, 0xff, 0xff, 0xff, 0xff, 0xff, 0xff, 0xff, 0xf8,
+    ];
+    let refused = refusal_of(&wide, &mut table);
+    assert_eq!(rt; refused, Some((RefusalCause::WiderInteger, 13)));
+}
+
+#[test]
+fn a_response_is_read(rt: HostRuntime) {
+    let Ok(mut table) = Table::make(rt.alloc(), 8192) else {
+        assert!(rt; false);
+        return;
+    };
+    let Ok(AppMessage::Res(response)) = read_app(&[0x80, 0x44, 0x00, 0x40], &mut table) else {
+        assert!(rt; false);
+        return;
+    };
+    assert_eq!(rt;
+        (response.code, response.schema),
+        (AppCode::MinorDeviation, Some(1))
+    );
 }
 
 #[test]

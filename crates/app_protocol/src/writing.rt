@@ -1,7 +1,8 @@
 //! The encoding of a response.
 
 ghost use Rattle.std.specs.Prelude.{◌≡◌, ◌-◌, ◌≤◌, take, drop, replicate};
-ghost use Rattle.app_protocol.specs.Response.{response_bits, ordinal_of, IsEncoding};
+ghost use Rattle.app_protocol.specs.Response.{response_bits, IsEncoding};
+ghost use Rattle.app_protocol.specs.Messages.{ordinal_of};
 
 use crate::message::{AppCode, AppRes};
 

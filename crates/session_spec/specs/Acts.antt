@@ -11,10 +11,12 @@ use Rattle.v2gtp_frames.specs.Reading.{whole_at, payload_at}
 use Rattle.session_spec.specs.Past.{session}
 use Rattle.session_spec.specs.Words.{stream, replies, unread}
 
--- what a station makes of the first payload of a session: a reply, and whether an entry of the request matched
+-- what a station makes of the first payload of a session: a reply, and whether an entry of the request matched; a refusal; or a
+-- message that is a station's own
 pub data Judged : Type 0 where
   Answer : (reply : List ℕ) (matched : Bool) → Judged
-  NotBuilt : Judged
+  Refused : Judged
+  WrongSide : Judged
 
 pub data Act : Type 0 where
   Send : (bytes : List ℕ) → Act
@@ -32,10 +34,12 @@ cause_heard k what.Over = Some 18
 
 -- In what follows Judges payload judged says what a payload that comes first is judged as.
 
--- a payload is answered where it is the first word of the session and can be read; all else isn't built (cause 21)
+-- the first word of a session is answered where it is a request; a payload that is refused ends the session (cause 2), and so does a
+-- response (cause 4). A second word isn't built (cause 21)
 abbrev pub act_on : Judged → Act
 act_on (Answer reply matched) = Send (frame reply)
-act_on NotBuilt = End 21
+act_on Refused = End 2
+act_on WrongSide = End 4
 
 abbrev pub OnPayload : (List ℕ → Judged → Type 0) → ℕ → List ℕ → Option Act → Type 0
 OnPayload Judges zero payload act = (judged : Judged) × Judges payload judged × (act ≡ Some (act_on judged))
@@ -57,7 +61,8 @@ OnHearing Judges n bytes None act = OnWord Judges n bytes act
 
 abbrev pub has_match : Judged → Bool
 has_match (Answer reply matched) = matched
-has_match NotBuilt = false
+has_match Refused = false
+has_match WrongSide = false
 
 -- what the payload of the frame at the front of a stream is judged as
 abbrev pub JudgesFront : (List ℕ → Judged → Type 0) → List ℕ → Result (Option ℕ) FrameFault → Judged → Type 0

@@ -7,7 +7,7 @@ use Rattle.v2gtp_frames.specs.declared.FrameFault.{FrameFault}
 use Rattle.v2gtp_frames.specs.Reading.{whole_at, payload_at, behind, behind_front}
 use Rattle.v2gtp_frames.proofs.Growing.{whole_fits}
 use Rattle.session_spec.specs.Past.{session}
-use Rattle.session_spec.specs.Acts.{Act, End, NotBuilt, OnWord, SessionActs, PostActs}
+use Rattle.session_spec.specs.Acts.{Judged, Act, End, OnWord, SessionActs, PostActs, act_on}
 use Rattle.site_core.specs.declared.ending.Ending.{Ending}
 use Rattle.site_core.specs.declared.judging.Reply.{Reply}
 use Rattle.site_core.specs.declared.site.Site.{Site}
@@ -132,9 +132,9 @@ rank_le Waiting = omega arith
 rank_le Reading = omega arith
 rank_le (Closing ending) = omega arith
 
--- a first payload that isn't read
-pub unread_word : (offer : List Dialect) (answered : Bool) (bytes payload : List ℕ) (len : ℕ) → answered ≡ false → whole_at bytes ≡ Ok (Some len) → payload ≡ payload_at len bytes → Judges offer payload NotBuilt
-    → OnWord (Judges offer) (count_of answered) bytes (Some (End 21))
-unread_word offer answered bytes payload len first w p judged =
-    let there : Judges offer (payload_at len bytes) NotBuilt = subst (λ (xs : List ℕ). Judges offer xs NotBuilt) p judged in
-    rw (first, w) (NotBuilt, there, refl)
+-- a first payload that has no reply
+pub unanswered_word : (offer : List Dialect) (judged : Judged) (answered : Bool) (bytes payload : List ℕ) (len : ℕ) → answered ≡ false → whole_at bytes ≡ Ok (Some len) → payload ≡ payload_at len bytes → Judges offer payload judged
+    → OnWord (Judges offer) (count_of answered) bytes (Some (act_on judged))
+unanswered_word offer judged answered bytes payload len first w p is =
+    let there : Judges offer (payload_at len bytes) judged = subst (λ (xs : List ℕ). Judges offer xs judged) p is in
+    rw (first, w) (judged, there, refl)

@@ -1,23 +1,37 @@
 -- What a station makes of the first payload of a session: ISO 15118-2:2014 section 8.2.
-use Rattle.std.specs.Prelude.{◌≡◌, ℕ, Bool, List, [], ◌∷◌, Option, is_some}
+use Rattle.std.specs.Prelude.{◌≡◌, ℕ, Bool, List, Option, is_some}
 use Rattle.charge_world.specs.declared.offer.Dialect.{Dialect}
+use Rattle.exi_documents.specs.declared.refusal.RefusalCause.{RefusalCause}
+use Rattle.app_documents.specs.Trees.{Offered, Request, Response}
 use Rattle.app_protocol.specs.declared.message.AppRes.{AppRes}
-use Rattle.app_protocol.specs.Messages.{Protocol}
-use Rattle.app_protocol.specs.FirstForm.{SpellsFirstForm}
+use Rattle.app_protocol.specs.Documents.{IsApp, IsAppRefused}
 use Rattle.app_protocol.specs.Negotiation.{Negotiates}
 use Rattle.app_protocol.specs.Response.{response_bits, IsEncoding}
-use Rattle.session_spec.specs.Acts.{Judged, Answer, NotBuilt}
+use Rattle.session_spec.specs.Acts.{Judged, Answer, Refused, WrongSide}
 
--- the payload is the request of one entry, and this is the encoding of the response to it
+-- the payload is a request, and this is the encoding of the response to it
 pub record Answers (offer : List Dialect) (payload reply : List ℕ) (matched : Bool) : Type 0 where
-  pub entry : Protocol
+  pub protocols : List Offered
   pub response : AppRes
   pub dialect : Option Dialect
-  pub spelled : SpellsFirstForm entry payload
-  pub negotiated : Negotiates offer (entry ∷ []) response dialect
+  pub spelled : IsApp (Request protocols) payload
+  pub negotiated : Negotiates offer protocols response dialect
   pub encoded : IsEncoding (response_bits response) reply
   pub matched_is : matched ≡ is_some dialect
 
+-- the payload is a response
+pub record IsResponse (payload : List ℕ) : Type 0 where
+  pub code : ℕ
+  pub schema : Option ℕ
+  pub spelled : IsApp (Response code schema) payload
+
+-- the payload spells no message
+pub record IsUnread (payload : List ℕ) : Type 0 where
+  pub why : RefusalCause
+  pub bit : ℕ
+  pub refused : IsAppRefused payload why bit
+
 abbrev pub Judges : List Dialect → List ℕ → Judged → Type 0
 Judges offer payload (Answer reply matched) = Answers offer payload reply matched
-Judges offer payload NotBuilt = (entry : Protocol) → SpellsFirstForm entry payload → ⊥
+Judges offer payload Refused = IsUnread payload
+Judges offer payload WrongSide = IsResponse payload

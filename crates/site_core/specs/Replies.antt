@@ -1,10 +1,12 @@
 -- Own: what the station's judgement of a payload and of a word is.
-use Rattle.std.specs.Prelude.{◌≡◌, ℕ, Bool, false, List, Option, Some, None, Ok}
+use Rattle.std.specs.Prelude.{◌≡◌, ℕ, Bool, false, List, Some, None, Ok, Err, Result}
 use Rattle.charge_world.specs.declared.offer.Dialect.{Dialect}
 use Rattle.v2gtp_frames.specs.Frames.{frame}
 use Rattle.v2gtp_frames.specs.Reading.{whole_at, payload_at}
-use Rattle.session_spec.specs.Acts.{Answer, NotBuilt, End, OnWord}
+use Rattle.session_spec.specs.Acts.{Judged, Answer, Refused, WrongSide, End, OnWord}
 use Rattle.site_core.specs.declared.judging.Reply.{Reply}
+use Rattle.site_core.specs.declared.judging.Unanswered.{Unanswered}
+use Rattle.site_core.specs.declared.judging.Unanswered.TheVariants.{NoMessage, NoRequest}
 use Rattle.site_core.specs.declared.site.Word.{Word}
 use Rattle.site_core.specs.declared.site.Word.TheVariants as word
 use Rattle.site_core.specs.Judging.{Judges}
@@ -16,9 +18,14 @@ pub record IsReply (offer : List Dialect) (payload : List ℕ) (reply : Reply) :
   pub judged : Judges offer payload (Answer text reply.matched)
   pub framed : reply.bytes.items ≡ frame text
 
-abbrev pub IsJudged : List Dialect → List ℕ → Option Reply → Type 0
-IsJudged offer payload None = Judges offer payload NotBuilt
-IsJudged offer payload (Some reply) = IsReply offer payload reply
+-- why a first payload has no reply
+abbrev pub judged_of : Unanswered → Judged
+judged_of NoMessage = Refused
+judged_of NoRequest = WrongSide
+
+abbrev pub IsJudged : List Dialect → List ℕ → Result Reply Unanswered → Type 0
+IsJudged offer payload (Err why) = Judges offer payload (judged_of why)
+IsJudged offer payload (Ok reply) = IsReply offer payload reply
 
 -- a reply to the word at the front
 pub record Replies (offer : List Dialect) (answered : Bool) (bytes : List ℕ) (reply : Reply) : Type 0 where

@@ -8,14 +8,16 @@ use Rattle.session_spec.specs.Acts.{Judged, Act, End, OnWord, SessionActs, PostA
 use Rattle.session_spec.specs.Report.{sessions, closed, causes}
 use Rattle.session_spec.specs.SiteRun.{IsRun}
 use Rattle.site_core.specs.declared.ending.Ending.{Ending}
-use Rattle.site_core.specs.declared.ending.Ending.TheVariants.{BadFrame, NoNegotiation, Gone, SendFailed, RunOver, NotBuilt}
+use Rattle.site_core.specs.declared.ending.Ending.TheVariants.{Refused, BadFrame, WrongSide, NoNegotiation, Gone, SendFailed, RunOver, NotBuilt}
 use Rattle.site_core.specs.declared.site.Stage.{Stage}
 use Rattle.site_core.specs.declared.site.Stage.TheVariants.{Idle, Waiting, Reading, Closing}
 use Rattle.site_core.specs.declared.site.Site.{Site}
 
 -- the numbers of the causes
 abbrev pub number_of : Ending → ℕ
+number_of Refused = 2
 number_of BadFrame = 3
+number_of WrongSide = 4
 number_of NoNegotiation = 5
 number_of Gone = 15
 number_of SendFailed = 16

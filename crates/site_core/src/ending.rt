@@ -5,8 +5,12 @@ ghost use Rattle.std.specs.Prelude.{◌≡◌, ◌<◌};
 /// The causes of this stage.
 #[derive(Clone, Copy, Debug, PartialEq, Eq)]
 pub enum Ending {
+    /// A payload was refused.
+    Refused,
     /// A frame was refused.
     BadFrame,
+    /// A payload was a response.
+    WrongSide,
     /// No entry of the request matched.
     NoNegotiation,
     /// The connection ended, or another came.
@@ -15,7 +19,7 @@ pub enum Ending {
     SendFailed,
     /// The run is over.
     RunOver,
-    /// A payload that this stage doesn't read, or a second one.
+    /// A second payload.
     NotBuilt,
 }
 
@@ -28,7 +32,9 @@ impl Ending {
         ensures bound { result < 32 }
     {
         match self {
+            Ending::Refused => 2,
             Ending::BadFrame => 3,
+            Ending::WrongSide => 4,
             Ending::NoNegotiation => 5,
             Ending::Gone => 15,
             Ending::SendFailed => 16,

@@ -1,12 +1,19 @@
 //! What the station makes of the first payload of a session.
 
-ghost use Rattle.std.specs.Prelude.{◌≡◌, ◌≤◌, ◌<◌, ℕ, List, length, Option};
+ghost use Rattle.std.specs.Prelude.{◌≡◌, ◌≤◌, ℕ, List, length, IfOk, IfErr};
 ghost use Rattle.v2gtp_frames.specs.Frames.{frame};
+ghost use Rattle.app_protocol.specs.Documents.{IsApp, IsAppRefused};
+ghost use Rattle.app_protocol.specs.Messages.{message_of};
 ghost use Rattle.app_protocol.specs.Response.{response_bits, IsEncoding};
 ghost use Rattle.site_core.specs.Replies.{IsJudged};
 
-use app_protocol::{AppRes, Offer, negotiate, read_app, write_response};
+use app_protocol::{
+    AppMessage, AppRes, Offer, Refusal, Table, negotiate, read_app, write_response,
+};
 use arrayvec::ArrayVec;
+use charge_world::NoMemory;
+use std::alloc::Global;
+use std::marker::Model;
 use v2gtp_frames::put_frame;
 
 /// The frame of a reply, and whether an entry of the request matched.
@@ -16,16 +23,61 @@ pub struct Reply {
     pub matched: bool,
 }
 
-/// The reply to a payload that comes first; `None` where this stage doesn't read it.
-pub fn reply_to(payload: &[u8], offer: &Offer) -> Option<Reply>
+/// Why a first payload has no reply.
+#[derive(Clone, Copy, Debug, PartialEq, Eq)]
+pub enum Unanswered {
+    /// It spells no message.
+    NoMessage,
+    /// It spells a response.
+    NoRequest,
+}
+
+/// Reads the messages of the negotiation, with a string table of its own.
+#[derive(Drop)]
+pub struct Messages {
+    table: Table,
+}
+
+impl Model for Messages {
+    ghost use Rattle.std.specs.Prelude.{◌≡◌};
+    ghost use Rattle.exi_documents.specs.Values.{most_entries};
+
+    ghost Value = { Unit {0} };
+
+    ghost view = { λ _. tt {0} };
+
+    ghost invariant = { λ m. m.table.cap ≡ most_entries };
+}
+
+impl Messages {
+    /// Takes the memory of the table.
+    pub fn make(alloc: Global) -> Result<Messages, NoMemory> {
+        Ok(Messages {
+            table: Table::make(alloc, 8192)?,
+        })
+    }
+
+    /// Reads a payload of at most 65,536 bytes.
+    fn read(&mut self, payload: &[u8]) -> Result<AppMessage, Refusal>
+        requires { length payload.now ≤ 65536 }
+        ensures read { IfOk result (λ m. IsApp (message_of m) payload.now) }
+        ensures refused { IfErr result (λ r. IsAppRefused payload.now r.cause r.bit) }
+    {
+        read_app(payload, &mut self.table)
+    }
+}
+
+/// The reply to a payload that comes first.
+pub fn reply_to(payload: &[u8], offer: &Offer, messages: &mut Messages) -> Result<Reply, Unanswered>
     requires { length payload.now ≤ 65536 }
     ensures { IsJudged offer.now.entries.items payload.now result }
 {
-    match read_app(payload) {
-        Err(_) => None,
-        Ok(request) => {
+    match messages.read(payload) {
+        Err(_) => Err(Unanswered::NoMessage),
+        Ok(AppMessage::Res(_)) => Err(Unanswered::NoRequest),
+        Ok(AppMessage::Req(request)) => {
             let (response, dialect) = negotiate(&request, offer);
-            Some(Reply {
+            Ok(Reply {
                 bytes: framed(&response),
                 matched: dialect.is_some(),
             })

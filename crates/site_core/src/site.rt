@@ -9,7 +9,7 @@ ghost use Rattle.session_spec.specs.Acts.{cause_heard};
 ghost use Rattle.site_core.specs.Standing.{EndsAs};
 
 use crate::ending::Ending;
-use crate::judging::{Reply, reply_to};
+use crate::judging::{Messages, Reply, Unanswered, reply_to};
 use crate::report::{CauseSet, PostReport};
 use charge_world::{Heard, NoMemory, Offer, What};
 use std::alloc::Global;
@@ -43,6 +43,7 @@ pub enum Word {
 #[derive(Drop)]
 pub struct Site {
     pub(crate) frames: FrameReader,
+    messages: Messages,
     pub(crate) stage: Stage,
     pub(crate) answered: bool,
     pub(crate) report: PostReport,
@@ -76,6 +77,7 @@ impl Site {
     {
         Ok(Site {
             frames: FrameReader::make(alloc)?,
+            messages: Messages::make(alloc)?,
             stage: Stage::Idle,
             answered: false,
             report: PostReport {
@@ -128,9 +130,10 @@ impl Site {
                 if self.answered {
                     return Word::Refused(Ending::NotBuilt);
                 }
-                match reply_to(payload, offer) {
-                    None => Word::Refused(Ending::NotBuilt),
-                    Some(reply) => Word::Reply(reply),
+                match reply_to(payload, offer, &mut self.messages) {
+                    Err(Unanswered::NoMessage) => Word::Refused(Ending::Refused),
+                    Err(Unanswered::NoRequest) => Word::Refused(Ending::WrongSide),
+                    Ok(reply) => Word::Reply(reply),
                 }
             }
         }

@@ -61,9 +61,10 @@ fn other_scripts(rt: HostRuntime) -> Result<(), Fail> {
             "01fe8001000000228000dbab9371d3234b71d1b981899189d191818991d26b9b3a232b30020020040040",
             " sent 1 01fe80010000000480440040 true ended 1 18",
         ),
-        // a response, and the empty payload, aren't of the form that this stage reads
-        ("01fe80010000000480400040", " ended 1 21"),
-        ("01fe800100000000", " ended 1 21"),
+        // a response, which a car doesn't send; the empty payload; a header that isn't one
+        ("01fe80010000000480400040", " ended 1 4"),
+        ("01fe800100000000", " ended 1 2"),
+        ("01fe80010000000100", " ended 1 2"),
         // a wrong version, type and length
         ("02fe", " ended 1 3"),
         ("01fe8002", " ended 1 3"),

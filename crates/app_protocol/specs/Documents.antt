@@ -1,0 +1,21 @@
+-- ISO 15118-2:2014 section 8.2: the payloads of the negotiation.
+use Rattle.std.specs.Prelude.{ℕ, List}
+use Rattle.exi_schema.specs.declared.schema.Schema.{Schema}
+use Rattle.exi_documents.specs.declared.refusal.RefusalCause.{RefusalCause}
+use Rattle.exi_documents.specs.Documents.{IsDocument}
+use Rattle.exi_documents.specs.Refusals.{IsRefused}
+use Rattle.app_documents.specs.Declarations.{IsNegotiation}
+use Rattle.app_documents.specs.Trees.{Message, IsMessage, tree_of}
+
+-- a payload spells a message, which is within its ranges
+pub record IsApp (m : Message) (payload : List ℕ) : Type 0 where
+  pub schema : Schema
+  pub negotiation : IsNegotiation schema
+  pub message : IsMessage m
+  pub document : IsDocument schema (tree_of m) payload
+
+-- a payload spells none; this is its refusal
+pub record IsAppRefused (payload : List ℕ) (why : RefusalCause) (bit : ℕ) : Type 0 where
+  pub schema : Schema
+  pub negotiation : IsNegotiation schema
+  pub refused : IsRefused schema payload why bit
