@@ -13,7 +13,7 @@ use Rattle.exi_writing.proofs.Pens.{on_err}
 pub lacks_code : {T E : Type 0} (pen : BitPen) (count code width : ℕ) (r : Result T E) → code < count → IsIndexWidth count width → (IsErr r → Needs pen width) → OnErr r (Lacks (SpellsCode count code) pen)
 lacks_code pen count code width r below is_width needs =
     on_err r (Lacks (SpellsCode count code) pen) (λ err.
-      (number_bits width code, record { below = below; width = width; is_width = is_width; spelled = refl }, subst (λ (n : ℕ). Needs pen n) (sym (length-number_bits width code)) (needs err)))
+    (number_bits width code, record { below = below; width = width; is_width = is_width; spelled = refl }, subst (λ (n : ℕ). Needs pen n) (sym (length-number_bits width code)) (needs err)))
 
 pub byte_first : (byte : ℕ) (bytes : List ℕ) → bits_of (byte ∷ bytes) ≡ number_bits 8 byte ++ bits_of bytes
 unfolding bits_of

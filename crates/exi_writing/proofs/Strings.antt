@@ -41,14 +41,13 @@ char_fits char s = elim (scalar_cases char s) [ inl h ↦ omega arith | inr h �
 
 shortest_spells : (text : List ℕ) → AllByRecursion (λ char. IsScalar char) text → SpellsChars text (shortest_chars text)
 shortest_spells [] all = refl
-shortest_spells (char ∷ others) all =
-    (
-      shortest_unsigned char,
-      shortest_chars others,
-      record { scalar = all.0; spelled = (shortest char (char_fits char all.0)).spelled },
-      shortest_spells others all.1,
-      refl,
-    )
+shortest_spells (char ∷ others) all = (
+  shortest_unsigned char,
+  shortest_chars others,
+  record { scalar = all.0; spelled = (shortest char (char_fits char all.0)).spelled },
+  shortest_spells others all.1,
+  refl,
+)
 
 -- ---- entries that are kept
 
@@ -192,6 +191,6 @@ puts_spelled old new before after name text e w few room local global =
     let held = texts_in (written_bits old) before in (
       spelled_out text,
       subst (λ (l : Entries). WritesTextInto held name text (spelled_out text) l) (sym e.texts)
-      (inr (inr (local, global, refl, refl)), entered_few held name text (omega (arith, few, length-texts_in (written_bits old) before)) room local global),
+          (inr (inr (local, global, refl, refl)), entered_few held name text (omega (arith, few, length-texts_in (written_bits old) before)) room local global),
       w,
     )

@@ -67,7 +67,7 @@ value_puts datatype given v entries name old new P is all more p =
     let held = texts_in (written_bits old) entries in (
       p.0,
       subst (λ (w : Value). WritesValue datatype held name (value_of w) p.0 (texts_in (written_bits new) entries)) (sym is)
-      (subst (λ (after : Entries). WritesValue datatype held name (value_of v) p.0 after) (sym (texts_kept old new p.0 entries p.2 all)) (more p.0 p.1)),
+          (subst (λ (after : Entries). WritesValue datatype held name (value_of v) p.0 after) (sym (texts_kept old new p.0 entries p.2 all)) (more p.0 p.1)),
       p.2,
     )
 
@@ -76,7 +76,7 @@ text_puts datatype given v entries after name chars old new is text value p =
     let same : value_of given ≡ Text chars = ap value_of is ∙ text in (
       p.0,
       subst (λ (w : TreeValue). WritesValue datatype (texts_in (written_bits old) entries) name w p.0 (texts_in (written_bits new) after)) (sym same)
-      (text_written datatype _ _ name chars p.0 (subst (λ (w : TreeValue). IsValue datatype w) same value) p.1),
+          (text_written datatype _ _ name chars p.0 (subst (λ (w : TreeValue). IsValue datatype w) same value) p.1),
       p.2,
     )
 
@@ -85,10 +85,10 @@ pub full_exactly : {T E : Type 0} (r : Result T E) (datatype : Datatype) (entrie
 full_exactly (Ok x) datatype entries name w v old new P is more ok err = (
   (λ e. absurd (false≢true e)),
   (λ l.
-  let mine = more ok.0 ok.1 in
-  let theirs = subst (λ (z : TreeValue). WritesValue datatype entries name z l.0 l.1.0) is l.1.1 in
-  let same : ok.0 ≡ l.0 = one_writing datatype entries name v ok.0 l.0 mine.0 l.1.0 mine.1 theirs in
-  absurd (had_room old new l.0 (subst (λ (bits : List Bool). Writes old new bits) same ok.2) l.2)),
+      let mine = more ok.0 ok.1 in
+      let theirs = subst (λ (z : TreeValue). WritesValue datatype entries name z l.0 l.1.0) is l.1.1 in
+      let same : ok.0 ≡ l.0 = one_writing datatype entries name v ok.0 l.0 mine.0 l.1.0 mine.1 theirs in
+      absurd (had_room old new l.0 (subst (λ (bits : List Bool). Writes old new bits) same ok.2) l.2)),
 )
 full_exactly (Err x) datatype entries name w v old new P is more ok err = (
   (λ _. (err.0, (let mine = more err.0 err.1 in (mine.0, subst (λ (z : TreeValue). WritesValue datatype entries name z err.0 mine.0) (sym is) mine.1)), err.2)),
