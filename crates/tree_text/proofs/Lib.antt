@@ -2,4 +2,5 @@ pub mod Pieces
 pub mod Attributes
 pub mod Spacing
 pub mod Tied
+pub mod Told
 pub mod Turns

@@ -162,20 +162,22 @@ pub fn print_tree(
     requires cap { table.old.cap ≡ most_entries }
     ensures printed { IfOk result (λ text. (tree : Tree) × IsDocument schema.now tree payload.now × IsTreeText schema.now tree (string_bytes text)) }
     ensures fault { IfErr result (IsFaultOf schema.now payload.now) }
-    ensures cap { table.new.cap ≡ most_entries }
 {
     let mut reader = EventReader::new(payload, schema, table);
     let mut text = String::new(alloc);
     let mut end = TextEnd::Nothing;
     loop {
         let place = reader.place();
-        match reader.next() {
-            Ok(Event::Finished) => return Ok(text),
-            Ok(event) => {
+        let event = match reader.next() {
+            Ok(event) => event,
+            Err(refusal) => return Err(PrintFault::Refused(refusal)),
+        };
+        match event {
+            Event::Finished => return Ok(text),
+            _ => {
                 put_event(&mut text, end, schema, place, &event)?;
                 end = end_behind(&event);
             }
-            Err(refusal) => return Err(PrintFault::Refused(refusal)),
         }
     }
 }

@@ -5,11 +5,11 @@ use Rattle.exi_bits.specs.Reading.{ahead}
 use Rattle.exi_documents.specs.Trees.{Event as TreeEvent}
 use Rattle.exi_events.specs.Reader.{state_of, IsReady, HasTold}
 use Rattle.tree_text.specs.EventText.{text_end, Tells}
-use Rattle.tree_text.proofs.Turns.{events_before}
+use Rattle.tree_text.proofs.Turns.{events_left}
 use Rattle.tree_text.proofs.print.print_tree.Given as goal
 
-abbrev pub invariant-loop-text : goal.invariant-loop-text
-invariant-loop-text l =
+abbrev pub invariant-loop-event : goal.invariant-loop-event
+invariant-loop-event l =
     let state = state_of l.reader.phase l.reader.elements l.reader.reader.bits l.reader.table.now.entries in
     record {
       places : l.reader.places.now ≡ l.schema;
@@ -20,5 +20,5 @@ invariant-loop-text l =
       told : (events : List TreeEvent) × HasTold l.reader.places.now events state l.reader.reader × Tells l.reader.places.now events (string_bytes l.text) state × (l.end ≡ text_end events);
     }
 
-abbrev pub decreases-loop-text : goal.decreases-loop-text
-decreases-loop-text l = length (ahead l.reader.reader) + events_before l.reader.phase
+abbrev pub decreases-loop-event : goal.decreases-loop-event
+decreases-loop-event l = events_left (state_of l.reader.phase l.reader.elements l.reader.reader.bits l.reader.table.now.entries) l.reader.reader
