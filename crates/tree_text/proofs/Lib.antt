@@ -4,3 +4,4 @@ pub mod Spacing
 pub mod Tied
 pub mod Told
 pub mod Turns
+pub mod OneText

@@ -11,3 +11,8 @@ ghost use Rattle.tree_text.specs.EventText.{Tells};
 pub fn events_tell_texts()
     ensures { (s : Schema) (number : ℕ) (tree : Tree) (text : List ℕ) (state : State) → Tells s (reverse (document_events number tree)) text state → IsTreeText s tree text }
 {}
+
+/// A tree has one text at most.
+pub fn one_text()
+    ensures { (s : Schema) (tree : Tree) (a b : List ℕ) → IsTreeText s tree a → IsTreeText s tree b → a ≡ b }
+{}

@@ -14,4 +14,8 @@ pub use fault::PrintFault;
 pub use print::print_tree;
 
 #[cfg(test)]
+mod lines;
+#[cfg(test)]
+mod negotiation;
+#[cfg(test)]
 mod tests;
