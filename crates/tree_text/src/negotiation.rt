@@ -1,8 +1,8 @@
 //! The schema of the negotiation, ISO 15118-2:2014 section 8.2.
 
-use exi_schema::{Datatype, Declaration, Member, MemberStanding, Particle, RootOf, Schema};
+use exi_schema::{Datatype, Declaration, Member, MemberStanding, Particle, RootOf};
 
-const NAMES: [&'static str; 9] = [
+pub(crate) const NAMES: [&'static str; 9] = [
     "supportedAppProtocolReq",
     "supportedAppProtocolRes",
     "AppProtocol",
@@ -22,11 +22,11 @@ const CODES: [&'static str; 3] = [
 
 const NONE: [&'static str; 0] = [];
 
-const VALUES: [&'static [&'static str]; 8] = [
+pub(crate) const VALUES: [&'static [&'static str]; 8] = [
     &NONE, &NONE, &NONE, &NONE, &CODES, &NONE, &NONE, &NONE,
 ];
 
-const ROOTS: [RootOf; 2] = [
+pub(crate) const ROOTS: [RootOf; 2] = [
     RootOf {
         number: 0,
         name: 0,
@@ -136,7 +136,7 @@ const RESPONSE: [Particle<'static>; 2] = [
     },
 ];
 
-const KINDS: [Declaration<'static>; 8] = [
+pub(crate) const KINDS: [Declaration<'static>; 8] = [
     Declaration::Simple(Datatype::Text { most: 100 }),
     Declaration::Simple(Datatype::Unsigned {
         most: 4_294_967_295,
@@ -163,13 +163,3 @@ const KINDS: [Declaration<'static>; 8] = [
         particles: &RESPONSE,
     },
 ];
-
-pub(crate) fn negotiation() -> Schema<'static> {
-    Schema {
-        kinds: &KINDS,
-        names: &NAMES,
-        values: &VALUES,
-        root_bits: 2,
-        roots: &ROOTS,
-    }
-}

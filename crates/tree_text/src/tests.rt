@@ -4,7 +4,7 @@ ghost use Rattle.std.specs.Prelude.{◌≤◌, length};
 
 use super::*;
 use crate::lines::LINES;
-use crate::negotiation::negotiation;
+use crate::negotiation::{KINDS, NAMES, ROOTS, VALUES};
 use exi_schema::{
     AttributeOf, Datatype, Declaration, Member, MemberStanding, Particle, RootOf, Schema,
 };
@@ -36,7 +36,13 @@ fn bytes_of(alloc: Global, text: &str) -> Result<Vec<u8>, Fail> {
 
 #[test]
 fn payloads_of_the_negotiation(rt: HostRuntime) -> Result<(), Fail> {
-    let schema = negotiation();
+    let schema = Schema {
+        kinds: &KINDS,
+        names: &NAMES,
+        values: &VALUES,
+        root_bits: 2,
+        roots: &ROOTS,
+    };
     let mut count = 0u64;
     for line in LINES.lines() {
         let (_, rest) = line.split_once(' ').ok_or("a line without a word")?;
@@ -168,23 +174,19 @@ const ALL_KINDS: [Declaration<'static>; 8] = [
     },
 ];
 
-/// A schema with each form of a value.
-fn all_forms() -> Schema<'static> {
-    Schema {
+#[test]
+fn each_form_of_a_value(rt: HostRuntime) -> Result<(), Fail> {
+    let schema = Schema {
         kinds: &ALL_KINDS,
         names: &ALL_NAMES,
         values: &ALL_VALUES,
         root_bits: 2,
         roots: &ALL_ROOTS,
-    }
-}
-
-#[test]
-fn each_form_of_a_value(rt: HostRuntime) -> Result<(), Fail> {
+    };
     // Header and root, @Id of three code points, @Unit by its ordinal, then Flag, Power, Data, Low, Empty and the ends.
     let payload = bytes_of(rt.alloc(), "8000561220a24604080155860200")?;
     assert!(rt; payload.len() <= 65536);
-    let text = answer(rt.alloc(), payload.as_slice(), &all_forms())?;
+    let text = answer(rt.alloc(), payload.as_slice(), &schema)?;
     assert_eq!(rt; text.as_str(), r#"All{@Id="a\"\u{a}" @Unit=V Flag=true Power=-258 Data=ab0c Low=-1 Empty{}}"#);
     Ok(())
 }
