@@ -1,5 +1,5 @@
 -- The text of the events of a tree is the text of the tree.
-use Rattle.std.proofs.Common.{◌≡◌, ℕ, Bool, List, [], ◌∷◌, ◌++◌, codes, reverse, Option, Some, refl, sym, ap, subst, ◌∙◌, append_assoc, append-nil}
+use Rattle.std.proofs.Common.{◌≡◌, ℕ, Bool, List, [], ◌∷◌, ◌++◌, codes, reverse, refl, sym, ap, subst, ◌∙◌, append_assoc, append-nil}
 use Rattle.std.proofs.lemmas.List.{reverse-reverse}
 use Rattle.std.specs.List.{join_with_byte}
 use Rattle.exi_schema.specs.declared.places.Place.{Place}
@@ -7,7 +7,7 @@ use Rattle.exi_schema.specs.declared.places.Root.TheVariants.{Kind}
 use Rattle.exi_schema.specs.declared.schema.Schema.{Schema}
 use Rattle.exi_schema.specs.Steps.{IsRoot}
 use Rattle.exi_documents.specs.Documents.{first, name_of}
-use Rattle.exi_documents.specs.Grammar.{Opened, Standing, AtRoot, Inside, Behind, State, start, opened, around, stands, Moves}
+use Rattle.exi_documents.specs.Grammar.{Opened, AtRoot, Inside, State, start, opened, around, stands, Moves}
 use Rattle.exi_documents.specs.Trees.{Value, Trees, none, simple, complex, Tree, Simple, Complex, alone, Event, Document, Start, Attribute, Content, EndElement, attribute_events, events_of, document_events}
 use Rattle.exi_documents.specs.Values.{Entries, SpellsValue}
 use Rattle.exi_events.specs.Reader.{innermost_place}
@@ -15,7 +15,7 @@ use Rattle.document_laws.specs.Laws.{IsState}
 use Rattle.document_laws.proofs.Kept.{event_kept}
 use Rattle.document_laws.proofs.OneTree.{start_is}
 use Rattle.document_laws.proofs.Runs.{reverse_with}
-use Rattle.tree_text.specs.TreeText.{IsValueText, IsName, IsNamedText, IsOffered, AreAttributeTexts, AreTreeTexts, IsRootText, IsTreeText, braced}
+use Rattle.tree_text.specs.TreeText.{IsValueText, IsName, IsNamedText, AreAttributeTexts, AreTreeTexts, IsRootText, IsTreeText, braced}
 use Rattle.tree_text.specs.EventText.{gap, closing, end_of, text_end, Adds, Tells}
 use Rattle.tree_text.specs.declared.print.TextEnd.{TextEnd}
 use Rattle.tree_text.specs.declared.print.TextEnd.TheVariants as ends

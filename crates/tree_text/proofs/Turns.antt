@@ -1,5 +1,5 @@
 -- A turn of the printer's loop.
-use Rattle.std.proofs.Common.{◌≡◌, ℕ, ◌+◌, ◌<◌, Bool, List, ◌∷◌, ◌++◌, length, length-append, Option, Some, None, refl, sym, ap, subst, ◌∙◌, arith}
+use Rattle.std.proofs.Common.{◌≡◌, ℕ, ◌+◌, ◌<◌, List, ◌∷◌, ◌++◌, length, length-append, Option, Some, None, refl, sym, ap, subst, arith}
 use Rattle.std.specs.Prelude.{IfSome}
 use Rattle.exi_bits.specs.Reading.{Cursor, ahead}
 use Rattle.exi_schema.specs.declared.places.Place.{Place}
@@ -13,7 +13,7 @@ use Rattle.exi_values.specs.Meaning.{event_of}
 use Rattle.exi_events.specs.Reader.{innermost_place, IsNext, HasTold, IsTold}
 use Rattle.document_laws.proofs.Payloads.{weight, shrinks_at}
 use Rattle.tree_text.specs.TreeText.{IsTreeText}
-use Rattle.tree_text.specs.EventText.{end_of, text_end, Adds, Tells}
+use Rattle.tree_text.specs.EventText.{text_end, Adds, Tells}
 use Rattle.tree_text.specs.Printing.{IsEndBehind}
 use Rattle.tree_text.specs.declared.print.TextEnd.{TextEnd}
 use Rattle.tree_text.proofs.Tied.{document_told}

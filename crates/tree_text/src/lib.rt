@@ -1,5 +1,8 @@
-//! Trees of EXI documents as text (own): an element with attributes or children is `Name{..}`, a simple one `Name=VALUE`, an attribute
-//! `@Name=VALUE`.
+//! Trees of EXI documents as text (own).
+//!
+//! An element with attributes or children is `Name{..}`, with one space between them, and one without any `Name{}`. A simple element is
+//! `Name=VALUE`, an attribute `@Name=VALUE`. Numbers are decimal, truth values `true` and `false`, values of an enumeration their names,
+//! a Binary lower-case hexadecimal. A text stands in double quotes, with `\"`, `\\` and, below U+0020, `\u{H}` in hexadecimal.
 #![tactic(auto)]
 
 mod fault;

@@ -1,7 +1,8 @@
 //! The negotiation's documents, as a separate implementation of the definitions spells and refuses them.
 
 /// `ok HEX TEXT` is a payload and the text of its tree, `no HEX CAUSE BIT` a payload and its refusal; `-` is no bytes.
-pub(crate) const LINES: &str = r#"ok 8000200910ffffffff0f1fffffffe1e06c000032e1fffffffe1e1e00000080 supportedAppProtocolReq{AppProtocol{ProtocolNamespace="\u{1}\"" VersionNumberMajor=4294967295 VersionNumberMinor=4294967295 SchemaID=27 Priority=1} AppProtocol{ProtocolNamespace="." VersionNumberMajor=4294967295 VersionNumberMinor=120 SchemaID=0 Priority=1}}
+pub(crate) const LINES: &str =
+    r#"ok 8000200910ffffffff0f1fffffffe1e06c000032e1fffffffe1e1e00000080 supportedAppProtocolReq{AppProtocol{ProtocolNamespace="\u{1}\"" VersionNumberMajor=4294967295 VersionNumberMinor=4294967295 SchemaID=27 Priority=1} AppProtocol{ProtocolNamespace="." VersionNumberMajor=4294967295 VersionNumberMinor=120 SchemaID=0 Priority=1}}
 ok 804080 supportedAppProtocolRes{ResponseCode=OK_SuccessfulNegotiation}
 ok 800022c308afacfcb00c0b000000003591e4020000809800a7274be3fffffffc3c00022131 supportedAppProtocolReq{AppProtocol{ProtocolNamespace="Xa" VersionNumberMajor=3323926063 VersionNumberMinor=88 SchemaID=0 Priority=1} AppProtocol{ProtocolNamespace="Y" VersionNumberMajor=242 VersionNumberMinor=0 SchemaID=16 Priority=20} AppProtocol{ProtocolNamespace="9:_" VersionNumberMajor=4294967295 VersionNumberMinor=0 SchemaID=34 Priority=20}}
 ok 804080 supportedAppProtocolRes{ResponseCode=OK_SuccessfulNegotiation}

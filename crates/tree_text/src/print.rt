@@ -79,7 +79,9 @@ fn attribute_kind(schema: &Schema, here: Place, name: u16) -> u16
 {
     for code in 0..schema.alternatives(here) {
         if let Step::Attribute {
-            name: other, kind, ..
+            name: other,
+            kind,
+            ..
         } = schema.advance(here, code)
             && other == name
         {
@@ -90,12 +92,7 @@ fn attribute_kind(schema: &Schema, here: Place, name: u16) -> u16
 }
 
 /// Puts the start of an element.
-fn put_start(
-    text: &mut String,
-    end: TextEnd,
-    schema: &Schema,
-    name: u16,
-) -> Result<(), NoMemory>
+fn put_start(text: &mut String, end: TextEnd, schema: &Schema, name: u16) -> Result<(), NoMemory>
     requires { (added : List ℕ) × AddsStart schema.now end name added }
     ensures { OnOk result ((added : List ℕ) × AddsStart schema.now end name added × (string_bytes text.new ≡ string_bytes text.old ++ added)) }
 {

@@ -57,9 +57,7 @@ fn payloads_of_the_negotiation(rt: HostRuntime) -> Result<(), Fail> {
     Ok(())
 }
 
-const ALL_NAMES: [&'static str; 8] = [
-    "All", "Id", "Unit", "Flag", "Power", "Data", "Low", "Empty",
-];
+const ALL_NAMES: [&'static str; 8] = ["All", "Id", "Unit", "Flag", "Power", "Data", "Low", "Empty"];
 
 const UNITS: [&'static str; 2] = ["W", "V"];
 
@@ -187,6 +185,9 @@ fn each_form_of_a_value(rt: HostRuntime) -> Result<(), Fail> {
     let payload = bytes_of(rt.alloc(), "8000561220a24604080155860200")?;
     assert!(rt; payload.len() <= 65536);
     let text = answer(rt.alloc(), payload.as_slice(), &schema)?;
-    assert_eq!(rt; text.as_str(), r#"All{@Id="a\"\u{a}" @Unit=V Flag=true Power=-258 Data=ab0c Low=-1 Empty{}}"#);
+    assert_eq!(rt;
+        text.as_str(),
+        r#"All{@Id="a\"\u{a}" @Unit=V Flag=true Power=-258 Data=ab0c Low=-1 Empty{}}"#
+    );
     Ok(())
 }

@@ -1,7 +1,6 @@
-use Rattle.std.proofs.Common.{◌≡◌, ◌+◌, List, length, None}
+use Rattle.std.proofs.Common.{◌≡◌, List, None}
 use Rattle.std.specs.String.{string_bytes}
 use Rattle.exi_spec.specs.Bits.{bits_of}
-use Rattle.exi_bits.specs.Reading.{ahead}
 use Rattle.exi_documents.specs.Trees.{Event as TreeEvent}
 use Rattle.exi_events.specs.Reader.{state_of, IsReady, HasTold}
 use Rattle.tree_text.specs.EventText.{text_end, Tells}

@@ -8,7 +8,7 @@ loop-byte-preserved c = (
   byte_more _ _ _ _ _ c.in-Some.byte c.in-Some.ensures
       (digit_put _ _ _ _ c.lower_digit.ensures.digit c.lower_digit.ensures.ascii c.in_ok-push.ensures.ascii c.in_ok-push.ensures.bytes)
       (digit_put _ _ _ _ c.lower_digit-in-Some.ensures.digit c.lower_digit-in-Some.ensures.ascii c.in_ok-push-2.ensures.ascii c.in_ok-push-2.ensures.bytes)
-  ∙ c.loop-byte.invariant.1,
+      ∙ c.loop-byte.invariant.1,
 )
 
 pub returns : goal.returns
