@@ -21,7 +21,6 @@ loop-event-preserved c =
     let before = c.loop-event.invariant in
     record {
       places = c.next.ensures.places ∙ before.places;
-      lent = c.next.ensures.same_reference ∙ before.lent;
       payload = c.next.ensures.payload ∙ before.payload;
       ready = c.next.ensures.ready;
       open_still = c.in-Ok.ensures.open_still.1;

@@ -12,7 +12,6 @@ invariant-loop-event l =
     let state = state_of l.reader.phase l.reader.elements l.reader.reader.bits l.reader.table.now.entries in
     record {
       places : l.reader.places.now ≡ l.schema;
-      lent : l.reader.table.ghost_name ≡ l.initial.reader.table.ghost_name;
       payload : l.reader.reader.bits ≡ bits_of l.payload;
       ready : IsReady l.reader.places.now l.reader.phase l.reader.elements l.reader.reader.bits l.reader.table.now;
       open_still : l.reader.refused ≡ None;
