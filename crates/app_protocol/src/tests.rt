@@ -3,6 +3,7 @@ ghost use Rattle.exi_documents.specs.Values.{most_entries};
 
 use super::*;
 use arrayvec::{ArrayString, ArrayVec};
+use std::process::Abort;
 use std::test::Fail;
 
 const ISO: &str = "urn:iso:15118:2:2013:MsgDef";
@@ -16,26 +17,34 @@ const PUBLISHED: [u8; 34] = [
     0x00, 0x40,
 ];
 
+/// The payload is a request of DIN SPEC 70121 alone.
+fn one_protocol(rt: &impl Abort, payload: &[u8], table: &mut Table)
+    requires payload { length payload.now ≤ 65536 }
+    requires cap { table.old.cap ≡ most_entries }
+    ensures { table.new.cap ≡ most_entries }
+{
+    let Ok(AppMessage::Req(request)) = read_app(payload, table) else {
+        assert!(rt; false);
+        return;
+    };
+    assert_eq!(rt; request.protocols.len(), 1);
+    for protocol in request.protocols.as_slice() {
+        assert_eq!(rt; protocol.namespace.as_str(), DIN);
+        assert_eq!(rt; (protocol.major, protocol.minor), (2, 0));
+        assert_eq!(rt; (protocol.schema, protocol.priority), (1, 1));
+    }
+}
+
 #[test]
 fn the_published_request_is_read_whatever_its_pad_bits(rt: HostRuntime) {
     let Ok(mut table) = Table::make(rt.alloc(), 8192) else {
         assert!(rt; false);
         return;
     };
+    one_protocol(&rt, &PUBLISHED, &mut table);
     let mut padded = PUBLISHED;
     padded[33] = 0x7f;
-    for payload in [PUBLISHED, padded] {
-        let Ok(AppMessage::Req(request)) = read_app(&payload, &mut table) else {
-            assert!(rt; false);
-            return;
-        };
-        assert_eq!(rt; request.protocols.len(), 1);
-        for protocol in request.protocols.as_slice() {
-            assert_eq!(rt; protocol.namespace.as_str(), DIN);
-            assert_eq!(rt; (protocol.major, protocol.minor), (2, 0));
-            assert_eq!(rt; (protocol.schema, protocol.priority), (1, 1));
-        }
-    }
+    one_protocol(&rt, &padded, &mut table);
 }
 
 fn refusal_of(payload: &[u8], table: &mut Table) -> Option<(RefusalCause, u32)>
