@@ -5,3 +5,4 @@ pub mod Found
 pub mod Strings
 pub mod OneWriting
 pub mod Whole
+pub mod Values

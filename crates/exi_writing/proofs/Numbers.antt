@@ -1,5 +1,5 @@
 -- Values of the datatypes other than String.
-use Rattle.std.proofs.Common.{◌≡◌, ℕ, ◌+◌, ◌*◌, ◌<◌, Bool, List, [], ◌∷◌, ◌++◌, length, refl, sym, ap, subst, ◌∙◌, Result}
+use Rattle.std.proofs.Common.{◌≡◌, ℕ, ◌<◌, List, [], ◌∷◌, ◌++◌, refl, sym, subst, Result}
 use Rattle.std.specs.Result.{IsErr, OnErr}
 use Rattle.exi_spec.specs.Bits.{number_bits, bits_of}
 use Rattle.exi_spec.proofs.BitLaws.{length-number_bits}

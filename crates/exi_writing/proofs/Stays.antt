@@ -1,5 +1,5 @@
 -- Texts that stand in what is written stay there when more is written behind it.
-use Rattle.std.proofs.Common.{◌≡◌, ℕ, ◌+◌, ◌≤◌, Bool, true, false, List, [], ◌∷◌, ◌++◌, length, drop, replicate, refl, sym, ap, subst, ◌∙◌, arith, append_assoc, ◌↔◌, IsTrue}
+use Rattle.std.proofs.Common.{◌≡◌, ℕ, Bool, false, List, [], ◌∷◌, ◌++◌, replicate, refl, sym, ap, subst, ◌∙◌, arith, append_assoc, ◌↔◌, IsTrue}
 use Rattle.std.proofs.lemmas.List.{length-append, drop-append-le}
 use Rattle.exi_spec.specs.Bits.{bits_of}
 use Rattle.exi_bits.specs.Lent.{Span, Holds, IsSpan, items_of, text_at}

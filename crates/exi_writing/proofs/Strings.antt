@@ -1,5 +1,5 @@
 -- Texts that are written.
-use Rattle.std.proofs.Common.{◌≡◌, ℕ, zero, suc, ◌+◌, ◌*◌, ◌^◌, ◌<◌, ◌≤◌, Bool, true, false, cond, eqb, List, [], ◌∷◌, ◌++◌, length, drop, map, refl, sym, ap, subst, ◌∙◌, arith, append_assoc, inl, inr, IsUtf8, chars}
+use Rattle.std.proofs.Common.{◌≡◌, ℕ, ◌+◌, ◌*◌, ◌^◌, ◌<◌, ◌≤◌, Bool, cond, eqb, List, [], ◌∷◌, ◌++◌, length, drop, refl, sym, ap, subst, ◌∙◌, arith, append_assoc, inl, inr, IsUtf8, chars}
 use Rattle.std.specs.List.{AllByRecursion}
 use Rattle.std.specs.Char.{IsScalar}
 use Rattle.std.proofs.lemmas.List.{length-append, length-map, map-append, append-nil, drop_at}
@@ -9,7 +9,7 @@ use Rattle.std.proofs.Math.Utf8.{encodes, encode, scalar_cases}
 use Rattle.exi_spec.specs.Bits.{number_bits}
 use Rattle.exi_spec.specs.Items.{SpellsChars, shortest_unsigned, shortest_chars}
 use Rattle.exi_spec.proofs.ShortestLaws.{shortest}
-use Rattle.exi_bits.specs.Lent.{Holds, IsSpan, items_of, text_at}
+use Rattle.exi_bits.specs.Lent.{Holds, items_of, text_at}
 use Rattle.exi_bits.specs.Pens.{written_bits, Writes, Needs}
 use Rattle.exi_bits.specs.declared.pen.BitPen.{BitPen}
 use Rattle.exi_bits.specs.declared.span.SpanAt.{SpanAt}

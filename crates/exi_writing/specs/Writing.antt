@@ -1,5 +1,5 @@
 -- Own: an item of which the spelling that is written is known, and a pen.
-use Rattle.std.specs.Prelude.{ℕ, ◌*◌, ◌<◌, Bool, List, [], length}
+use Rattle.std.specs.Prelude.{◌*◌, ◌<◌, Bool, List, [], length}
 use Rattle.exi_bits.specs.Pens.{Writes, Needs}
 use Rattle.exi_bits.specs.declared.pen.BitPen.{BitPen}
 use Rattle.exi_bits.specs.declared.pen.Full.{Full}

@@ -9,3 +9,6 @@ mod texts;
 mod value;
 
 pub use value::put_value;
+
+#[cfg(test)]
+mod tests;

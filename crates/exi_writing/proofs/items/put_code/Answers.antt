@@ -1,5 +1,3 @@
-use Rattle.std.proofs.Common.{◌≡◌, length, ap, sym}
-use Rattle.exi_spec.specs.Bits.{number_bits}
 use Rattle.exi_writing.proofs.Numbers.{lacks_code}
 use Rattle.exi_writing.proofs.items.put_code.Goals as goal
 

@@ -1,7 +1,7 @@
 use Rattle.std.proofs.Common.{arith}
 use Rattle.exi_bits.specs.Pens.{written_bits}
 use Rattle.exi_reading.proofs.Places.{global_of-texts, global_places, place_spelled}
-use Rattle.exi_writing.proofs.Found.{is_there, same_count, first_there, not_there, all_passed}
+use Rattle.exi_writing.proofs.Found.{same_count, first_there, not_there, all_passed}
 use Rattle.exi_writing.proofs.texts.find_global.Goals as goal
 
 pub is_at-requires-clause-spelled : goal.is_at-requires-clause-spelled

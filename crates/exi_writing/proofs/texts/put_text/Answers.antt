@@ -1,4 +1,4 @@
-use Rattle.std.proofs.Common.{◌≡◌, ◌≤◌, ◌∙◌, length, arith}
+use Rattle.std.proofs.Common.{arith}
 use Rattle.std.proofs.lemmas.Result.{on_ok_weaker, on_err_weaker}
 use Rattle.exi_bits.specs.Pens.{written_bits}
 use Rattle.exi_values.specs.Meaning.{texts_in}
@@ -6,7 +6,7 @@ use Rattle.exi_reading.proofs.Places.{local_of-texts, global_of-texts}
 use Rattle.exi_writing.specs.Source.{chars_of}
 use Rattle.exi_writing.proofs.Found.{same_count, first_below}
 use Rattle.exi_writing.proofs.Pens.{always_on_err}
-use Rattle.exi_writing.proofs.Strings.{are_kept, puts_local, lacks_local, puts_global, lacks_global, lacks_spelled, enters_text, puts_spelled, has_room, length-texts_in}
+use Rattle.exi_writing.proofs.Strings.{are_kept, puts_local, lacks_local, puts_global, lacks_global, lacks_spelled, enters_text, puts_spelled, length-texts_in}
 use Rattle.exi_writing.proofs.texts.put_text.Goals as goal
 
 pub put_hit-requires : goal.put_hit-requires

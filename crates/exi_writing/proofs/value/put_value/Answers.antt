@@ -1,4 +1,4 @@
-use Rattle.std.proofs.Common.{◌≡◌, ◌∷◌, [], ◌++◌, length, Bool, List, refl, ap, subst, rules}
+use Rattle.std.proofs.Common.{◌≡◌, ◌∷◌, [], ◌++◌, length, refl, ap, subst, rules}
 use Rattle.std.proofs.lemmas.Result.{on_ok_weaker, on_err_weaker}
 use Rattle.std.proofs.lemmas.Int.{to_z-of_z}
 use Rattle.std.specs.Int.{w128}
@@ -7,7 +7,7 @@ use Rattle.exi_spec.specs.Bits.{bits_of}
 use Rattle.exi_spec.specs.Items.{shortest_unsigned}
 use Rattle.exi_bits.specs.Lent.{items_of}
 use Rattle.exi_bits.specs.Pens.{written_bits}
-use Rattle.exi_documents.specs.Trees.{Truth, Ordinal, Number, Bytes, Text, Value as TreeValue}
+use Rattle.exi_documents.specs.Trees.{Truth, Ordinal, Number, Bytes, Text}
 use Rattle.exi_documents.specs.Values.{IsValue, Entries}
 use Rattle.exi_values.specs.Meaning.{texts_in, value_of}
 use Rattle.exi_values.specs.declared.Value.{Value}

@@ -1,0 +1,7 @@
+pub mod Pieces
+pub mod Attributes
+pub mod Spacing
+pub mod Tied
+pub mod Told
+pub mod Turns
+pub mod OneText

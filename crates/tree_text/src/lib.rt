@@ -1,0 +1,24 @@
+//! Trees of EXI documents as text (own).
+//!
+//! An element with attributes or children is `Name{..}`, with one space between them, and one without any `Name{}`. A simple element is
+//! `Name=VALUE`, an attribute `@Name=VALUE`. Numbers are decimal, truth values `true` and `false`, values of an enumeration their names,
+//! a Binary lower-case hexadecimal. A text stands in double quotes, with `\"`, `\\` and, below U+0020, `\u{H}` in hexadecimal.
+#![tactic(auto)]
+
+mod fault;
+pub mod laws;
+mod print;
+mod values;
+
+pub use charge_world::NoMemory;
+pub use exi_documents::{Refusal, RefusalCause};
+pub use exi_values::Table;
+pub use fault::PrintFault;
+pub use print::print_tree;
+
+#[cfg(test)]
+mod lines;
+#[cfg(test)]
+mod negotiation;
+#[cfg(test)]
+mod tests;

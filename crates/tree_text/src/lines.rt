@@ -1,0 +1,225 @@
+//! The negotiation's documents, as a separate implementation of the definitions spells and refuses them.
+
+/// `ok HEX TEXT` is a payload and the text of its tree, `no HEX CAUSE BIT` a payload and its refusal; `-` is no bytes.
+pub(crate) const LINES: &str =
+    r#"ok 8000200910ffffffff0f1fffffffe1e06c000032e1fffffffe1e1e00000080 supportedAppProtocolReq{AppProtocol{ProtocolNamespace="\u{1}\"" VersionNumberMajor=4294967295 VersionNumberMinor=4294967295 SchemaID=27 Priority=1} AppProtocol{ProtocolNamespace="." VersionNumberMajor=4294967295 VersionNumberMinor=120 SchemaID=0 Priority=1}}
+ok 804080 supportedAppProtocolRes{ResponseCode=OK_SuccessfulNegotiation}
+ok 800022c308afacfcb00c0b000000003591e4020000809800a7274be3fffffffc3c00022131 supportedAppProtocolReq{AppProtocol{ProtocolNamespace="Xa" VersionNumberMajor=3323926063 VersionNumberMinor=88 SchemaID=0 Priority=1} AppProtocol{ProtocolNamespace="Y" VersionNumberMajor=242 VersionNumberMinor=0 SchemaID=16 Priority=20} AppProtocol{ProtocolNamespace="9:_" VersionNumberMajor=4294967295 VersionNumberMinor=0 SchemaID=34 Priority=20}}
+ok 804080 supportedAppProtocolRes{ResponseCode=OK_SuccessfulNegotiation}
+ok 80004b1979d1c9cb12c0ffffffff0f1bbad0116022a0000053a58390003fffffffc3c00010012c4be5cc2c4c6603fffffffc3c00064001 supportedAppProtocolReq{AppProtocol{ProtocolNamespace="c/:99bX" VersionNumberMajor=4294967295 VersionNumberMinor=291515229 SchemaID=168 Priority=1} AppProtocol{ProtocolNamespace=":X9" VersionNumberMajor=0 VersionNumberMinor=4294967295 SchemaID=0 Priority=3} AppProtocol{ProtocolNamespace="b_.abc0" VersionNumberMajor=4294967295 VersionNumberMinor=0 SchemaID=100 Priority=1}}
+ok 804880 supportedAppProtocolRes{ResponseCode=Failed_NoNegotiation}
+ok 800010c901185e9e1501a3fc0c005623a5f16335d9f21e2500445820008b2c60440003c131 supportedAppProtocolReq{AppProtocol{ProtocolNamespace="" VersionNumberMajor=201 VersionNumberMinor=3575396930 SchemaID=255 Priority=4} AppProtocol{ProtocolNamespace="b:_" VersionNumberMajor=4282060081 VersionNumberMinor=148 SchemaID=139 Priority=5} AppProtocol{ProtocolNamespace="Yc" VersionNumberMajor=17 VersionNumberMinor=0 SchemaID=60 Priority=20}}
+ok 80400000 supportedAppProtocolRes{ResponseCode=OK_SuccessfulNegotiation SchemaID=0}
+ok 8000d2c18969017ad102f9831ac98189c9cac2c97309cad31ac310cd81f2a90415f8fd58a120004c0001b8020000009800a62b2c400000088131 supportedAppProtocolReq{AppProtocol{ProtocolNamespace="X1- /Z _0cY0199XY.a9ZcXb" VersionNumberMajor=1161593037 VersionNumberMinor=2562368431 SchemaID=0 Priority=20} AppProtocol{ProtocolNamespace="X1- /Z _0cY0199XY.a9ZcXb" VersionNumberMajor=220 VersionNumberMinor=0 SchemaID=0 Priority=20} AppProtocol{ProtocolNamespace="1Yb" VersionNumberMajor=0 VersionNumberMinor=0 SchemaID=136 Priority=20}}
+ok 80480000 supportedAppProtocolRes{ResponseCode=Failed_NoNegotiation SchemaID=0}
+ok 8000d2e11562091467503ae00c67503f480c67503f480c67503c67503ae2e30c67503f480b0f480bd0091110ffffffff0f0000000001a2e2f2d303a5f582d5f2d5f205f595f5863622039305f2e6312781f5b80e0007f89801262c6b072b25cb20006d8086d131 supportedAppProtocolReq{AppProtocol{ProtocolNamespace="\\\"€\"🔌\\\u{1}🔌é🔌é🔌🔌\\\\a🔌éaéz\u{1}\"\"" VersionNumberMajor=4294967295 VersionNumberMinor=0 SchemaID=0 Priority=1} AppProtocol{ProtocolNamespace="./-0:_X-_-_ _Y_Xcb 90_.c" VersionNumberMajor=2073993235 VersionNumberMinor=0 SchemaID=255 Priority=20} AppProtocol{ProtocolNamespace="1cX9Y.Y" VersionNumberMajor=0 VersionNumberMinor=219 SchemaID=109 Priority=20}}
+ok 804480 supportedAppProtocolRes{ResponseCode=OK_SuccessfulNegotiationWithMinorDeviation}
+ok 80004bd3084ae00ae308cf010003fc4c40 supportedAppProtocolReq{AppProtocol{ProtocolNamespace="za\u{9}\\\u{1}\\a" VersionNumberMajor=207 VersionNumberMinor=0 SchemaID=255 Priority=20}}
+ok 80401240 supportedAppProtocolRes{ResponseCode=OK_SuccessfulNegotiation SchemaID=73}
+ok 800021caf8ae9bdfcb0a00030c000021fffffffe1e108000980043fffffffc3c000ca131 supportedAppProtocolReq{AppProtocol{ProtocolNamespace="9_" VersionNumberMajor=2843200942 VersionNumberMinor=0 SchemaID=195 Priority=1} AppProtocol{ProtocolNamespace="" VersionNumberMajor=4294967295 VersionNumberMinor=66 SchemaID=0 Priority=20} AppProtocol{ProtocolNamespace="" VersionNumberMajor=4294967295 VersionNumberMinor=0 SchemaID=202 Priority=20}}
+ok 80440000 supportedAppProtocolRes{ResponseCode=OK_SuccessfulNegotiationWithMinorDeviation SchemaID=0}
+ok 8000d1d1d1697ad2d1896981697afafac179c969c97ac9d1031b08ffffffff0f1fffffffe1e36400005202e6315bb987ac143fffffffc3c2689880 supportedAppProtocolReq{AppProtocol{ProtocolNamespace="::-/ZZ1-0-/__X/9-9/Y: ca" VersionNumberMajor=4294967295 VersionNumberMinor=4294967295 SchemaID=217 Priority=1} AppProtocol{ProtocolNamespace=" .c" VersionNumberMajor=2865819181 VersionNumberMinor=4294967295 SchemaID=77 Priority=20}}
+ok 80403fc0 supportedAppProtocolRes{ResponseCode=OK_SuccessfulNegotiation SchemaID=255}
+ok 800010ffffffff0f1c402000000021fffffffe1e000000980040000008b0f1 supportedAppProtocolReq{AppProtocol{ProtocolNamespace="" VersionNumberMajor=4294967295 VersionNumberMinor=226 SchemaID=0 Priority=1} AppProtocol{ProtocolNamespace="" VersionNumberMajor=4294967295 VersionNumberMinor=0 SchemaID=0 Priority=20} AppProtocol{ProtocolNamespace="" VersionNumberMajor=0 VersionNumberMinor=0 SchemaID=139 Priority=16}}
+ok 804480 supportedAppProtocolRes{ResponseCode=OK_SuccessfulNegotiationWithMinorDeviation}
+ok 8000d18319031af9cacad1d2f9816979817af9cac16972c1c901d084011fffffffe1e1ec0000531583000039693a314300003080 supportedAppProtocolReq{AppProtocol{ProtocolNamespace="0c c_9YZ:_0-/0/_9X-.X9 :" VersionNumberMajor=132 VersionNumberMinor=4294967295 SchemaID=123 Priority=1} AppProtocol{ProtocolNamespace="1X0" VersionNumberMajor=0 VersionNumberMinor=3367637605 SchemaID=0 Priority=7}}
+ok 804480 supportedAppProtocolRes{ResponseCode=OK_SuccessfulNegotiationWithMinorDeviation}
+ok 80001900b6c2e4fc0d129fd29f4160004c003221fffffffe1e36f3f6f40200007080 supportedAppProtocolReq{AppProtocol{ProtocolNamespace=" " VersionNumberMajor=3751354678 VersionNumberMinor=3208986388 SchemaID=0 Priority=20} AppProtocol{ProtocolNamespace="\"" VersionNumberMajor=4294967295 VersionNumberMinor=2316756955 SchemaID=0 Priority=15}}
+ok 804880 supportedAppProtocolRes{ResponseCode=Failed_NoNegotiation}
+ok 800029731188ffffffff0f0380000040 supportedAppProtocolReq{AppProtocol{ProtocolNamespace=".b1" VersionNumberMajor=4294967295 VersionNumberMinor=28 SchemaID=0 Priority=1}}
+ok 80402c00 supportedAppProtocolRes{ResponseCode=OK_SuccessfulNegotiation SchemaID=176}
+ok 800010a30200019c000053962301fa022321f6fa80807098012605a5c5e5cb4b020ec20f7c084adad895800131 supportedAppProtocolReq{AppProtocol{ProtocolNamespace="" VersionNumberMajor=291 VersionNumberMinor=0 SchemaID=103 Priority=1} AppProtocol{ProtocolNamespace="9b0" VersionNumberMajor=253 VersionNumberMinor=760660876 SchemaID=14 Priority=20} AppProtocol{ProtocolNamespace="0-./.ZX" VersionNumberMajor=736155651 VersionNumberMinor=90987157 SchemaID=0 Priority=20}}
+ok 80483fc0 supportedAppProtocolRes{ResponseCode=Failed_NoNegotiation SchemaID=255}
+ok 80001970960219febeffa183fc4c0001fffffffe1e0004609800000048010bc0a1 supportedAppProtocolReq{AppProtocol{ProtocolNamespace="." VersionNumberMajor=278 VersionNumberMinor=3485334223 SchemaID=255 Priority=20} AppProtocol{ProtocolNamespace="." VersionNumberMajor=4294967295 VersionNumberMinor=0 SchemaID=140 Priority=20} AppProtocol{ProtocolNamespace="." VersionNumberMajor=0 VersionNumberMinor=272 SchemaID=188 Priority=11}}
+ok 80400000 supportedAppProtocolRes{ResponseCode=OK_SuccessfulNegotiation SchemaID=0}
+ok 80004bd111100bd00b08001d1abf772080bc4840 supportedAppProtocolReq{AppProtocol{ProtocolNamespace="z\"\"\u{1}z\u{1}a" VersionNumberMajor=0 VersionNumberMinor=1195305704 SchemaID=47 Priority=19}}
+ok 804480 supportedAppProtocolRes{ResponseCode=OK_SuccessfulNegotiationWithMinorDeviation}
+ok 8000d2d1798b19d1731b117182c972fb12c9016b0902fad16af980000003fc4c40 supportedAppProtocolReq{AppProtocol{ProtocolNamespace="Z/1c:.cb.0Y._bY -a _Z-_0" VersionNumberMajor=0 VersionNumberMinor=0 SchemaID=255 Priority=20}}
+ok 804018c0 supportedAppProtocolRes{ResponseCode=OK_SuccessfulNegotiation SchemaID=99}
+ok 80001ac8b1010aa3fc1401a2e2d5f5963312f5830205a59635a303a2e59615f5859592d0d40fc4409880 supportedAppProtocolReq{AppProtocol{ProtocolNamespace="Y" VersionNumberMajor=177 VersionNumberMinor=85 SchemaID=255 Priority=6} AppProtocol{ProtocolNamespace=".-_Yc1/X0 ZYcZ0:.Ya_XYY-" VersionNumberMajor=106 VersionNumberMinor=63 SchemaID=136 Priority=20}}
+ok 804080 supportedAppProtocolRes{ResponseCode=OK_SuccessfulNegotiation}
+ok 80002acad188ffffffff0f1fffffffe1e2bc0040 supportedAppProtocolReq{AppProtocol{ProtocolNamespace="YZ1" VersionNumberMajor=4294967295 VersionNumberMinor=4294967295 SchemaID=175 Priority=1}}
+ok 80403fc0 supportedAppProtocolRes{ResponseCode=OK_SuccessfulNegotiation SchemaID=255}
+ok 8000d16981d17979698182c96ad31b0989897189d10102c98afb18ffffffff0f1815fbd22123fc040001c8020000009880 supportedAppProtocolReq{AppProtocol{ProtocolNamespace="-0://-00Y-Zca11.1:  Y1_c" VersionNumberMajor=4294967295 VersionNumberMinor=2453116864 SchemaID=255 Priority=2} AppProtocol{ProtocolNamespace="-0://-00Y-Zca11.1:  Y1_c" VersionNumberMajor=228 VersionNumberMinor=0 SchemaID=0 Priority=20}}
+ok 80440000 supportedAppProtocolRes{ResponseCode=OK_SuccessfulNegotiationWithMinorDeviation SchemaID=0}
+ok 800010ffffffff0f0ce0c00040 supportedAppProtocolReq{AppProtocol{ProtocolNamespace="" VersionNumberMajor=4294967295 VersionNumberMinor=103 SchemaID=48 Priority=1}}
+ok 804480 supportedAppProtocolRes{ResponseCode=OK_SuccessfulNegotiationWithMinorDeviation}
+ok 8000498afaf98afaf9d0ffffffff0f11f633f98020004c0033a0e83fffffffc3c000980000980007f89880 supportedAppProtocolReq{AppProtocol{ProtocolNamespace="1__1__:" VersionNumberMajor=4294967295 VersionNumberMinor=428333199 SchemaID=0 Priority=20} AppProtocol{ProtocolNamespace=":" VersionNumberMajor=116 VersionNumberMinor=4294967295 SchemaID=0 Priority=20} AppProtocol{ProtocolNamespace="1__1__:" VersionNumberMajor=76 VersionNumberMinor=0 SchemaID=255 Priority=20}}
+ok 80480740 supportedAppProtocolRes{ResponseCode=Failed_NoNegotiation SchemaID=29}
+ok 8000d1031b09030b0ac2c1010319cac971cac973198af901731af8671fffffffe1e0004c034e9017aac4161227a8cea075c7aac417a7ae9018cea078cea075c228cea07e901e90109618cea07ac41e901616109e9018cea075c097a61618cea07098cea077aac4109ac416122e90109e9018cea07e9018cea07000258047f8980000000007f89880 supportedAppProtocolReq{AppProtocol{ProtocolNamespace=" ca aaXX  c9Y.9Y.c1_ .c_" VersionNumberMajor=103 VersionNumberMinor=4294967295 SchemaID=0 Priority=20} AppProtocol{ProtocolNamespace="éz€a\"z🔌\\z€zzé🔌🔌\\\"🔌éé\u{9}a🔌€éaa\u{9}é🔌\\\u{9}zaa🔌\u{9}🔌z€\u{9}€a\"é\u{9}é🔌é🔌" VersionNumberMajor=0 VersionNumberMinor=150 SchemaID=255 Priority=20} AppProtocol{ProtocolNamespace=" ca aaXX  c9Y.9Y.c1_ .c_" VersionNumberMajor=0 VersionNumberMinor=0 SchemaID=255 Priority=20}}
+ok 80482440 supportedAppProtocolRes{ResponseCode=Failed_NoNegotiation SchemaID=145}
+ok 80004f480bd008091467503d6208db011fffffffe1e3fc4c40 supportedAppProtocolReq{AppProtocol{ProtocolNamespace="éz\u{1}\u{1}\"🔌€" VersionNumberMajor=219 VersionNumberMinor=4294967295 SchemaID=255 Priority=20}}
+ok 80443ac0 supportedAppProtocolRes{ResponseCode=OK_SuccessfulNegotiationWithMinorDeviation SchemaID=235}
+ok 800010ffffffff0f1fffffffe1e2bc4c004312d1fffffffe1e1c87f86080 supportedAppProtocolReq{AppProtocol{ProtocolNamespace="" VersionNumberMajor=4294967295 VersionNumberMinor=4294967295 SchemaID=175 Priority=20} AppProtocol{ProtocolNamespace="1-" VersionNumberMajor=4294967295 VersionNumberMinor=114 SchemaID=255 Priority=13}}
+ok 80401b40 supportedAppProtocolRes{ResponseCode=OK_SuccessfulNegotiation SchemaID=109}
+ok 80001af8c6c4bafb0b175b9834a143fc0040 supportedAppProtocolReq{AppProtocol{ProtocolNamespace="_" VersionNumberMajor=3211698758 VersionNumberMinor=2763025978 SchemaID=255 Priority=1}}
+ok 80443fc0 supportedAppProtocolRes{ResponseCode=OK_SuccessfulNegotiationWithMinorDeviation SchemaID=255}
+ok 8000d2d31902c31afafb1b12c97189caf98179816ad1d31102fb18b1cde6b3021fffffffe1e08c2040 supportedAppProtocolReq{AppProtocol{ProtocolNamespace="Zc Xc__cbY.19_0/0-Z:b _c" VersionNumberMajor=645506737 VersionNumberMinor=4294967295 SchemaID=35 Priority=9}}
+ok 80441380 supportedAppProtocolRes{ResponseCode=OK_SuccessfulNegotiationWithMinorDeviation SchemaID=78}
+ok 80002969d310b3caae81071fffffffe1e27c1040 supportedAppProtocolReq{AppProtocol{ProtocolNamespace="-:b" VersionNumberMajor=1881908531 VersionNumberMinor=4294967295 SchemaID=159 Priority=5}}
+ok 804025c0 supportedAppProtocolRes{ResponseCode=OK_SuccessfulNegotiation SchemaID=151}
+ok 800025620848ffffffff0f1fffffffe1e2004c40 supportedAppProtocolReq{AppProtocol{ProtocolNamespace="€\u{9}" VersionNumberMajor=4294967295 VersionNumberMinor=4294967295 SchemaID=128 Priority=20}}
+ok 80483840 supportedAppProtocolRes{ResponseCode=Failed_NoNegotiation SchemaID=225}
+ok 80002008080000003c3040 supportedAppProtocolReq{AppProtocol{ProtocolNamespace="\u{1}\u{1}" VersionNumberMajor=0 VersionNumberMinor=0 SchemaID=15 Priority=13}}
+ok 80443fc0 supportedAppProtocolRes{ResponseCode=OK_SuccessfulNegotiationWithMinorDeviation SchemaID=255}
+no 80004f480bd008091467503d6208db011f ShortInput 131
+no 808480 UnknownElement 8
+no 80407fc0 Deviation 17
+no 84483844 BadHeader 0
+no 905018c0 BadHeader 0
+no 80 ShortInput 8
+no 80004b1979d1c9cb12c0ffffffff0f1bbad0116022a0000053a58390003fffffffc3c00010012c4be5cc2c4c6603fffffffc3c0006 ShortInput 420
+no 800010ffffffff0f1fffffffe1e2bc4c004312d1fffffffe ShortInput 159
+no 800010ffffffff0f0ce0c000405b Trailing 104
+no 80043fc0 ShortInput 13
+no 80002969d3 ShortInput 37
+no 8044138084 Trailing 32
+no 80448046ff Trailing 24
+no 8000d2e11562091467503ae00c67503f480c67543f480c67503c67503ae2e30c67503f480b0f480bd0091110ffffffff0f0000000001a2e2f2d303a5f582d5f2d5f205f595f5863622039305f2e6312781f5b80e0007f89801262c6b072b25cb20006d8086d131 BadChar 141
+no 800010ffffffff0f0c ShortInput 67
+no 80488f40 Trailing 24
+no - ShortInput 0
+no 800010a30200019c000053962301fa022321f6fa80807098012605a5c5 ShortInput 227
+no 81480000 BadHeader 0
+no 884480 BadHeader 0
+no 80001900b6c2e4fc0d ShortInput 72
+no 80403f ShortInput 18
+no 004025c0 BadHeader 0
+no 80500004 Deviation 11
+no 80001af8c6c4bafb0b175b9834a143fc ShortInput 128
+no 80004b1979d1c9cb12c0ffffffff0f1bbad0116022a0000053a58390003fffffffc3c00010012c4be5cc2c4c6603fffffffc3c0006400199217e Trailing 440
+no 8044 ShortInput 15
+no 80004b1979d1c9cb12c0ffffffff0f1bbad0116022a0000073a58390003fffffffc3c00010012c4be5cc2c4c6603fffffffc3c00064001 Deviation 236
+no 8048 ShortInput 15
+no 80002c00 ShortInput 21
+no 80002acad188ffffffff0f1f ShortInput 91
+no 80002969d314b3caae81071fffffffe1e27c1040 Deviation 45
+no 820011c901185e9e1505a3fc0c005623a5f16335d9f21e2500445820008b2c60440003c131 BadHeader 0
+no 84400000 BadHeader 0
+no 8000104901185e9e1501a3fc0c005623a5f16335d9f20e2500445820008b2c60440003c131 Deviation 43
+no 80001900b6c2e4fc0d129fd29f4160004c003221fffffffe1e36f3f6f4020000 ShortInput 256
+no 8000d1031b09030b0ac2c1010319cac971cac973198af901731af8671fffffffe1e0004c034e9017aac4161227a8cea075c7aac417a7ae9018cea078cea075c228cea07e901e90109618cea07ac41e901616109e9018cea075c097a61618cea07098cea077aac4109ac416122e90109e9018cea07e9018cea070 ShortInput 975
+no 800025620848ffffffff0f1fffffffe1e200cc40 Deviation 144
+no 80443ac028fb00 Trailing 32
+no 80004b1979d1c9cb12c0ffffffff0f1bbad0116022a0000053a58390003fffffffc3c00010012c4be5cc2c4c6603fffffffc3c00064001a2 Trailing 440
+no 8000d1 ShortInput 21
+no 800025620848ffffffff0f1fffffffe1e200 ShortInput 144
+no 800022c308afacfcb00c0b000000003591e4020000809800a7274be3fffffffc3c00 ShortInput 265
+no 8000d1d1d1697ad2d1896981697afafac179 ShortInput 141
+no 884482 BadHeader 0
+no 8000d1d1d1 ShortInput 37
+no 80c86440 NoSuchCode 8
+no 800025620848ffff ShortInput 48
+no 80580000 Deviation 11
+no 80004bd111100bd00b08001d1abf772080bc6844 NoSuchValue 145
+no 80001970960219febeffa183fccc0001fffffffe1e0004609800000048010bc0a1 Deviation 104
+no 80004f480bd008091467503d6208db011fffffff ShortInput 131
+no 80004f480bd008091467503d6208db011fffff ShortInput 131
+no 80004f480bd00809146750 ShortInput 69
+no 804c80 NoSuchValue 12
+no 8000498afaf98afaf9d0ffffffff0f11f633f9 ShortInput 123
+no 80001900b6c2e4fc0d129fd29f4160004c003221fffffffe1e36f3f6f40200007080997190 Trailing 272
+no 804980 NoSuchCode 15
+no 800010 ShortInput 24
+no 80780001 Deviation 10
+no 8000a5620848f7ffffff0f1fffffefe1e2004c40 WiderInteger 53
+no 800010c901185e9e1501a3fc0c005623a5f16335d9f21e2500 ShortInput 186
+no 80104b1979d1c9cb12c0ffffffff0f1bbad0116022a0000053258390003fffffffc3c00110012c4be5cc2c4c6603fffffffc3c00064001 Deviation 11
+no 802010fffffffb0f1fffffffe1e2bc4c004392d1fffffffe1e1c87f86080 Deviation 10
+no c00010ffffffff8f0ce0c00040 BadHeader 0
+no 800010ffffffff0f1fffffffe1e2 ShortInput 110
+no 8000d2e11562091467503ae00c67503f480c67503f480c67503c67503ae2e30c67503f480b0f480bd0091110ffffffff0f0000000001a2e2f2d303a5f582d5f2d5f205f595f5863622039305f2e6312781f5b80e0007f89801262c6b072b25cb20006d8086d131cc Trailing 824
+no 80443fc0878250 Trailing 32
+no 80002969d310b3caae ShortInput 48
+no 80401240ce Trailing 32
+no 8000d2e11562091467503ae00c67503f480c67503f480c67503c67503ae2e30c6750 ShortInput 253
+no 8000 ShortInput 13
+no 80001ac8b1010ab3fc1401a2e2d5f5963312f5830205a59635a323a2e59615f5859592d0d40fc4409880 Deviation 59
+no 800010ffffffff0f1c402000000021fffffffe1e000000980040000008b0f143 Trailing 248
+no 904480 BadHeader 0
+no 80002969d310b3caae81071fffffffe1e27c1040e68a00 Trailing 160
+no 804400 ShortInput 18
+no 8044800bb1f2 Trailing 24
+no 8000d18319031af9cacad1d2f9816979817a ShortInput 141
+no 810000ffff7fff0f0ce0c00040 BadHeader 0
+no 8000d16981d17979698182c96ad31b0989897189d10102c98afb18ffffffff0f1815fbd22123fc040001c80200000098808c12c2 Trailing 392
+no 800049d3084ae00ae308cf010003fc6c44 NoSuchValue 121
+no 80001970960219febeffa183fc4c0001fffffffe1e0004609800000048010bc0a1c2338b Trailing 264
+no 80001af8c6c4bafb09175b8834a143fc0040 Deviation 99
+no 824080 BadHeader 0
+no 82400000 BadHeader 0
+no 80403fc0ce340a Trailing 32
+no 80002969d310b3caae81071fffffffe1e27c10 ShortInput 152
+no 80c12000 NoSuchCode 8
+no a04005c0 BadHeader 0
+no 00401240 BadHeader 0
+no 824884 BadHeader 0
+no 80401b ShortInput 18
+no 8040 ShortInput 15
+no 814480 BadHeader 0
+no a05080 BadHeader 0
+no 8000d2e11562091467503ae00c67503f480c67503f480c67503c67503ae2e30c67503f480b0f480bd0091110ffffffff0f0000000001a2e2f2d303a5f582d5f2d5f205f595f5863622 ShortInput 580
+no 800047480bd008091467503d6208db011ffffffbe1e3fc4c40 Deviation 93
+no 8000d1d1d1697ad2d1896981697afafac179c969c97ac9d1031b08ffffffff0f1fffffffe1e36400005202e6315bb987ac143fffffffc3c2 ShortInput 445
+no 804e3f40 NoSuchValue 12
+no 82401250 BadHeader 0
+no 800010c901185e9e1501a3fc0c005623a5f16335d9f21e2500445820008b2c60440023c131 Deviation 274
+no 80411240 Deviation 15
+no 800010ff ShortInput 24
+no 800029731188ffffffff0f038000 ShortInput 112
+no 80004f480bd008091467503d6208db011fffffffe1e3fc4c40a7 Trailing 200
+no 8000d2e11562091467503ae00c67503f480c67503f480c67503c67503ae2e30c67503f480b0f480bd0091110ffffffff0f0000000001a2e2f2d303a5f582d5f2d5f205f595f5863622039305f2 ShortInput 612
+no 804000 ShortInput 18
+no 80001970960219febeffa183fc4c0001fffffffe1e0004609800000048410bc0a1 Deviation 249
+no 88449780 BadHeader 0
+no 88403fc0 BadHeader 0
+no 800010feffffff0f4ce0c00040 Deviation 65
+no 80443ac0a78165 Trailing 32
+no 800010ffffffff0f1fffffffe163bc4c044312d1fffffffe1e1c87f86080 BadChar 164
+no 8000d16981d17979698182c96ad31b09898971 ShortInput 149
+no 80001af8c6c4bafb ShortInput 32
+no 8000d18319031af9caca ShortInput 77
+no 80403fd0 Deviation 27
+no 800010ffff7fff0f0ce0c00040 Deviation 48
+no 80001ac8b1010aa3fc1401a2e2d5f5963312f5830205a59635a303a2e59615f5859592d0d40fc440d880 NoSuchValue 320
+no 800025620848ff ShortInput 48
+no 800010ffffffff0f1c402000000021fffffffe1e000000980040000008b0f1af Trailing 248
+no 8000d2e11562091467503ae00c67503f480c67503f480c67503c67 ShortInput 205
+no 8000d1031b09030b0ac2c1010319cac971cac973198af901731af8671f ShortInput 227
+no 80004bd3084ae00ae308cf010003fc ShortInput 120
+no 800022 ShortInput 21
+no 8000498afaf982faf9d0ffffffff0f11f633f98020000c0033a0e83fffffffc3d000980000980007f89880 Deviation 259
+no d0443ac0 BadHeader 0
+no 8000d16981d17979698182c96ad31b0989897189d10102c98afb18ffffffff0f1815fbd22123fc040001c80200000098802bfb15 Trailing 392
+no 804080f4 Trailing 24
+no 800010ffffffff0f1fffffffe1eabc4c004312d1fffffffe1e1c87f86080 Deviation 108
+no 8000d2d31902c31afafb1b12c97189caf98179816ad1d31102fb18b1cde6b3021fffffefe1e08c2040 Deviation 304
+no 804807 ShortInput 18
+no 800421caf8ae9bdfcb0a00030c000021fffffffe1e108000980043fffffffc3c000ca131 TooLong 13
+no 004480 BadHeader 0
+no 80448046 Trailing 24
+no 8000498afaf98afaf9d0ffffffff0f11f633f98020004c0033a0e83fffffffc3c000980000980007f89880ad8e Trailing 344
+no 800010ffffffff0f1c40 ShortInput 67
+no 80002acad188ffffffff0f1fffffffe1e2 ShortInput 134
+no 804d3fc0 NoSuchValue 12
+no 800010ffffffff0f1c402000000021fffffffe1e000000980042000008b0f1 Deviation 234
+no 8000d1d1 ShortInput 29
+no 80004b1979d1c9cb12c0ffffffff0f1bba ShortInput 123
+no 80004bd3084ae00ae308cf010003fc4c40fa Trailing 136
+no 804080b8 Trailing 24
+no 80004b1979d1c9cb ShortInput 61
+no 80001900b6c2e4fc0d129fd29f4160004c003221fffffffe1e36f3f6f40200007080fec0 Trailing 272
+no 80001900b6c2e4fc0d129fd29f4160006c003221fffffffe1e36f3f6f40200007080 NoSuchValue 129
+no 800021caf8ae9bdfcb0a00030c000021fffffffe1e108000980043fffffffc3c000ca131e03a Trailing 288
+no 80004b1979d1c9cb12c0ffffffff0f1bbad0116022a0000053a58390003fffffffc3c00010012c4be5cc2c4c6603fffffffc3c00064001783fdc Trailing 440
+no 800022c3 ShortInput 29
+no 8000d16981d17979698182c96ad31b0989897189d10102c98afb18ffffffff0f1815fbd22123fc040001c8 ShortInput 335
+no 8048805e9d Trailing 24
+no 80441380d0 Trailing 32
+no 8000498afaf98afaf9d0ffffffff0f11f633f98020004c0033a0e83fffffffc3c000980000980007f89880ebea3c Trailing 344
+no 8000d1d1d1697ad2d1896981697afafac179c969c97ac9d1031b08ffffffff0f1fffffffe1e3640000 ShortInput 324
+no 800010a30200019c000053962301fa022321f6fa80807098012605a5c5e5cb4b020ec20f7c084adad895800131222828 Trailing 360
+no 800010ffffffff0f1fffffffe1e2bc4c004312d1fffffffe1e1c87f86000 ShortInput 235
+no a4400000 BadHeader 0
+no 8000d16981d17979698182c96a ShortInput 101
+"#;

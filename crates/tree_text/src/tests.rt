@@ -1,0 +1,193 @@
+//! Payloads and the texts of their trees.
+
+ghost use Rattle.std.specs.Prelude.{◌≤◌, length};
+
+use super::*;
+use crate::lines::LINES;
+use crate::negotiation::{KINDS, NAMES, ROOTS, VALUES};
+use exi_schema::{
+    AttributeOf, Datatype, Declaration, Member, MemberStanding, Particle, RootOf, Schema,
+};
+use std::alloc::{AllocError, Global};
+use std::test::Fail;
+
+/// The text of a payload, or why and at which bit it is refused.
+fn answer(alloc: Global, payload: &[u8], schema: &Schema) -> Result<String, AllocError>
+    requires { length payload.now ≤ 65536 }
+{
+    let mut table = Table::make(alloc, 8192)?;
+    match print_tree(alloc, payload, schema, &mut table) {
+        Ok(text) => Ok(text),
+        Err(PrintFault::Refused(refusal)) => {
+            let Refusal { cause, bit } = refusal;
+            format!(in alloc; "{cause:?} {bit}")
+        }
+        Err(PrintFault::Memory) => Err(AllocError),
+    }
+}
+
+/// The bytes of hexadecimal text; a dash is none.
+fn bytes_of(alloc: Global, text: &str) -> Result<Vec<u8>, Fail> {
+    if text == "-" {
+        return Ok(Vec::new(alloc));
+    }
+    Ok(hex::decode(alloc, text)?)
+}
+
+#[test]
+fn payloads_of_the_negotiation(rt: HostRuntime) -> Result<(), Fail> {
+    let schema = Schema {
+        kinds: &KINDS,
+        names: &NAMES,
+        values: &VALUES,
+        root_bits: 2,
+        roots: &ROOTS,
+    };
+    let mut count = 0u64;
+    for line in LINES.lines() {
+        let (_, rest) = line.split_once(' ').ok_or("a line without a word")?;
+        let (payload, expected) = rest.split_once(' ').ok_or("a line without an answer")?;
+        let payload = bytes_of(rt.alloc(), payload)?;
+        assert!(rt; payload.len() <= 65536);
+        let text = answer(rt.alloc(), payload.as_slice(), &schema)?;
+        assert_eq!(rt; text.as_str(), expected, "{line}");
+        count = count.wrapping_add(1);
+    }
+    assert_eq!(rt; count, 220);
+    Ok(())
+}
+
+const ALL_NAMES: [&'static str; 8] = ["All", "Id", "Unit", "Flag", "Power", "Data", "Low", "Empty"];
+
+const UNITS: [&'static str; 2] = ["W", "V"];
+
+const NONE: [&'static str; 0] = [];
+
+const ALL_VALUES: [&'static [&'static str]; 8] = [
+    &NONE, &UNITS, &NONE, &NONE, &NONE, &NONE, &NONE, &NONE,
+];
+
+const ALL_ROOTS: [RootOf; 1] = [RootOf {
+    number: 0,
+    name: 0,
+    kind: 7,
+}];
+
+const ATTRIBUTES: [AttributeOf; 2] = [
+    AttributeOf {
+        name: 1,
+        kind: 0,
+        required: false,
+    },
+    AttributeOf {
+        name: 2,
+        kind: 1,
+        required: false,
+    },
+];
+
+const FLAG: [Member; 1] = [Member {
+    name: 3,
+    kind: 2,
+    standing: MemberStanding::Taken,
+}];
+
+const POWER: [Member; 1] = [Member {
+    name: 4,
+    kind: 3,
+    standing: MemberStanding::Taken,
+}];
+
+const DATA: [Member; 1] = [Member {
+    name: 5,
+    kind: 4,
+    standing: MemberStanding::Taken,
+}];
+
+const LOW: [Member; 1] = [Member {
+    name: 6,
+    kind: 5,
+    standing: MemberStanding::Taken,
+}];
+
+const EMPTY: [Member; 1] = [Member {
+    name: 7,
+    kind: 6,
+    standing: MemberStanding::Taken,
+}];
+
+const PARTS: [Particle<'static>; 5] = [
+    Particle {
+        members: &FLAG,
+        least: 1,
+        most: Some(1),
+        profile: 1,
+    },
+    Particle {
+        members: &POWER,
+        least: 1,
+        most: Some(1),
+        profile: 1,
+    },
+    Particle {
+        members: &DATA,
+        least: 1,
+        most: Some(1),
+        profile: 1,
+    },
+    Particle {
+        members: &LOW,
+        least: 1,
+        most: Some(1),
+        profile: 1,
+    },
+    Particle {
+        members: &EMPTY,
+        least: 0,
+        most: Some(1),
+        profile: 1,
+    },
+];
+
+const ALL_KINDS: [Declaration<'static>; 8] = [
+    Declaration::Simple(Datatype::Text { most: 10 }),
+    Declaration::Simple(Datatype::Named { count: 2 }),
+    Declaration::Simple(Datatype::Bool),
+    Declaration::Simple(Datatype::Signed {
+        least: -1000,
+        most: 1000,
+    }),
+    Declaration::Simple(Datatype::Binary { most: 4 }),
+    Declaration::Simple(Datatype::Bounded {
+        least: -2,
+        count: 5,
+    }),
+    Declaration::Complex {
+        attributes: &[],
+        particles: &[],
+    },
+    Declaration::Complex {
+        attributes: &ATTRIBUTES,
+        particles: &PARTS,
+    },
+];
+
+#[test]
+fn each_form_of_a_value(rt: HostRuntime) -> Result<(), Fail> {
+    let schema = Schema {
+        kinds: &ALL_KINDS,
+        names: &ALL_NAMES,
+        values: &ALL_VALUES,
+        root_bits: 2,
+        roots: &ALL_ROOTS,
+    };
+    // Header and root, @Id of three code points, @Unit by its ordinal, then Flag, Power, Data, Low, Empty and the ends.
+    let payload = bytes_of(rt.alloc(), "8000561220a24604080155860200")?;
+    assert!(rt; payload.len() <= 65536);
+    let text = answer(rt.alloc(), payload.as_slice(), &schema)?;
+    assert_eq!(rt;
+        text.as_str(),
+        r#"All{@Id="a\"\u{a}" @Unit=V Flag=true Power=-258 Data=ab0c Low=-1 Empty{}}"#
+    );
+    Ok(())
+}
