@@ -5,6 +5,8 @@ pub mod events;
 #[cfg(test)]
 mod fakes;
 #[cfg(test)]
+mod negotiation;
+#[cfg(test)]
 mod scripts;
 #[cfg(test)]
 mod station;

@@ -51,6 +51,12 @@ fn other_scripts(rt: HostRuntime) -> Result<(), Fail> {
 01fe8001000000228000dbab9371d3234b71d1b981899189d191818991d26b9b3a232b30020000040040",
             " sent 1 01fe80010000000480400040 true ended 1 21",
         ),
+        // DIN with Priority 2, then ISO with Priority 1
+        (
+            "01fe8001000000448000dbab9371d3234b71d1b981899189d191818991d26b9b3a232b300200000404\
+01d75726e3a69736f3a31353131383a323a323031333a4d73674465660040000100080",
+            " sent 1 01fe80010000000480400080 true ended 1 18",
+        ),
         // an unknown namespace
         (
             "01fe80010000000e80003bab9371d3c0020000040040",
