@@ -20,7 +20,7 @@ bits_of-append [] ys = refl
 bits_of-append (x ∷ xs) ys =
     ap (λ (l : List Bool). number_bits 8 x ++ l) (bits_of-append xs ys) ∙ sym (append_assoc (number_bits 8 x) (bits_of xs) (bits_of ys))
 
-bits_of-one : (x : ℕ) → bits_of (x ∷ []) ≡ number_bits 8 x
+pub bits_of-one : (x : ℕ) → bits_of (x ∷ []) ≡ number_bits 8 x
 unfolding bits_of
 bits_of-one x = append-nil (number_bits 8 x)
 
@@ -60,12 +60,12 @@ holds_begun room at h clean =
 
 -- ---- bytes, one behind the others
 
-pub put_byte : (a b c bytes : List ℕ) (at i : ℕ) (byte : ℕ) → Extends a b at (8 * i) (bits_of (take i bytes)) → i < length bytes → byte ≡ get_or bytes i 0 → Extends b c (at + 8 * i) 8 (number_bits 8 byte) → Extends a c at (8 * (i + 1)) (bits_of (take (i + 1) bytes))
-put_byte a b c bytes at i byte p less byte_is q =
-    let one : number_bits 8 byte ≡ bits_of (get_or bytes i 0 ∷ []) = ap (λ (n : ℕ). number_bits 8 n) byte_is ∙ sym (bits_of-one (get_or bytes i 0)) in
+pub put_byte : (a b c bytes : List ℕ) (at i : ℕ) → Extends a b at (8 * i) (bits_of (take i bytes)) → i < length bytes → Extends b c (at + 8 * i) 8 (number_bits 8 (get_or bytes i 0)) → Extends a c at (8 * (i + 1)) (bits_of (take (i + 1) bytes))
+put_byte a b c bytes at i p less q =
+    let byte = get_or bytes i 0 in
     let front : bits_of (take i bytes) ++ number_bits 8 byte ≡ bits_of (take (i + 1) bytes) =
-    ap (λ (l : List Bool). bits_of (take i bytes) ++ l) one
-    ∙ sym (bits_of-append (take i bytes) (get_or bytes i 0 ∷ []))
+    ap (λ (l : List Bool). bits_of (take i bytes) ++ l) (sym (bits_of-one byte))
+    ∙ sym (bits_of-append (take i bytes) (byte ∷ []))
     ∙ ap bits_of (sym (take_more bytes i 0 less)) in
     let eight : 8 * i + 8 ≡ 8 * (i + 1) = omega arith in
     subst (λ (k : ℕ). Extends a c at k (bits_of (take (i + 1) bytes))) eight

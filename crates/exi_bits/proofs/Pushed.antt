@@ -1,11 +1,12 @@
 -- Bits behind those that are written.
-use Rattle.std.proofs.Common.{◌≡◌, ◌≢◌, ℕ, zero, suc, ◌+◌, ◌-◌, ◌*◌, ◌/◌, ◌%◌, ◌^◌, ◌<◌, ◌≤◌, max, Bool, true, false, cond, eqb, List, [], ◌∷◌, ◌++◌, length, get_or, take, set, refl, sym, ap, subst, ◌∙◌, arith, inl, inr, append_assoc, bit_or}
+use Rattle.std.proofs.Common.{◌≡◌, ◌≢◌, ℕ, zero, suc, ◌+◌, ◌-◌, ◌*◌, ◌/◌, ◌%◌, ◌^◌, ◌<◌, ◌≤◌, max, Bool, false, eqb, List, ◌++◌, length, get_or, take, set, refl, sym, ap, subst, ◌∙◌, arith, inl, inr, append_assoc, bit_or}
 use Rattle.std.proofs.lemmas.Bool.{cases_lt, cases_eq}
-use Rattle.std.proofs.lemmas.List.{length-append, length-set, get_or-set_same, get_or-set_other, get_or_past, get_or_at, ext_get_or, get_or-take, get_or_append_left, length-take-le, length_push}
-use Rattle.std.proofs.lemmas.Nat.Bits.{bit_at_or, bit_at-pow_same, bit_at-pow_other, bit_at-zero, bit_at-lt}
+use Rattle.std.proofs.lemmas.List.{length-append, length-set, get_or-set_same, get_or-set_other, get_or_past, ext_get_or, get_or-take, get_or_append_left, get_or-append_right, length-take-le}
+use Rattle.std.proofs.lemmas.Nat.{pow_pos}
+use Rattle.std.proofs.lemmas.Nat.Bits.{bit_at_or, bit_at_above, bit_at_cat_low, bit_at_cat_high, bit_at-zero, bit_at-lt}
 use Rattle.std.specs.Int.{bit_at}
-use Rattle.exi_spec.specs.Bits.{bits_of}
-use Rattle.exi_spec.proofs.BitLaws.{length-bits_of, get_or-bits_of}
+use Rattle.exi_spec.specs.Bits.{number_bits, bits_of}
+use Rattle.exi_spec.proofs.BitLaws.{length-number_bits, length-bits_of, get_or-number_bits, get_or-bits_of}
 use Rattle.exi_bits.specs.Written.{PadsZero, Extends}
 
 -- the bit at a place, by its byte
@@ -54,87 +55,110 @@ before_zero bytes at before i h clean b le same =
           ap (λ (n : ℕ). bit_at n (7 - i % 8)) (b.kept nz ∙ ap (λ (k : ℕ). get_or bytes k 0) (sym same)) ∙ not_one _ (bit_at-lt _ _) there
     ]
 
-one_at : (bit : Bool) (k : ℕ) → bit_at (cond bit (2 ^ k) 0) k ≡ cond bit 1 0
-one_at true k = bit_at-pow_same k
-one_at false k = bit_at-zero k
+-- where a number of n bits goes into a byte: behind what is written, and in front of `behind` others
+pub record IsPart (bytes : List ℕ) (at n value behind : ℕ) : Type 0 where
+  pub some : 0 < n
+  pub sum : at % 8 + n + behind ≡ 8
+  pub range : value < 2 ^ n
+  pub within : at < 8 * length bytes
+  pub clean : PadsZero bytes at
 
-one_elsewhere : (bit : Bool) (k i : ℕ) → i ≢ k → bit_at (cond bit (2 ^ k) 0) i ≡ 0
-one_elsewhere true k i h = bit_at-pow_other k i h
-one_elsewhere false k i h = bit_at-zero i
+shifted_bit : (value behind j : ℕ) → behind ≤ j → bit_at (value * 2 ^ behind) j ≡ bit_at value (j - behind)
+shifted_bit value behind j h =
+    ap (λ (n : ℕ). bit_at n j) (let e : value * 2 ^ behind ≡ value * 2 ^ behind + 0 = omega arith in e) ∙ bit_at_cat_high value behind 0 j (pow_pos behind) h
 
-is_one : (bit : Bool) → eqb (cond bit 1 0) 1 ≡ bit
-is_one true = refl
-is_one false = refl
+shifted_below : (value behind j : ℕ) → j < behind → bit_at (value * 2 ^ behind) j ≡ 0
+shifted_below value behind j h =
+    ap (λ (n : ℕ). bit_at n j) (let e : value * 2 ^ behind ≡ value * 2 ^ behind + 0 = omega arith in e) ∙ bit_at_cat_low value behind 0 j h ∙ bit_at-zero j
 
-abbrev pushed_bytes : List ℕ → ℕ → ℕ → Bool → List ℕ
-pushed_bytes bytes at before bit = set bytes (at / 8) (bit_or before (cond bit (2 ^ (7 - at % 8)) 0))
+shifted_above : (value n behind j : ℕ) → value < 2 ^ n → n + behind ≤ j → bit_at (value * 2 ^ behind) j ≡ 0
+shifted_above value n behind j range h =
+    shifted_bit value behind j (omega arith) ∙ bit_at_above value n (j - behind) range (omega arith)
 
--- bits before the new one stay
-bit_before : (bytes : List ℕ) (at before i : ℕ) (bit : Bool) → at < 8 * length bytes → IsBegun bytes at before → i < at → get_or (bits_of (pushed_bytes bytes at before bit)) i false ≡ get_or (bits_of bytes) i false
-bit_before bytes at before i bit h b less =
-    let one = cond bit (2 ^ (7 - at % 8)) 0 in
+abbrev pushed_bytes : List ℕ → ℕ → ℕ → ℕ → ℕ → List ℕ
+pushed_bytes bytes at before value behind = set bytes (at / 8) (bit_or before (value * 2 ^ behind))
+
+-- bits before the new ones stay
+bit_before : (bytes : List ℕ) (at n value behind before i : ℕ) → IsPart bytes at n value behind → IsBegun bytes at before → i < at → get_or (bits_of (pushed_bytes bytes at before value behind)) i false ≡ get_or (bits_of bytes) i false
+bit_before bytes at n value behind before i p b less =
+    let part = value * 2 ^ behind in
+    let sum = p.sum in
+    let within = p.within in
     elim (cases_eq (i / 8) (at / 8)) [
       | inl same ↦
           let nz : at % 8 ≢ 0 = omega arith in
-          let apart : 7 - i % 8 ≢ 7 - at % 8 = omega arith in
+          let above : n + behind ≤ 7 - i % 8 = omega arith in
           let byte : before ≡ get_or bytes (i / 8) 0 = b.kept nz ∙ ap (λ (k : ℕ). get_or bytes k 0) (sym same) in
-          let merged : bit_at (bit_or before one) (7 - i % 8) ≡ bit_at (get_or bytes (i / 8) 0) (7 - i % 8) =
-          bit_at_or before one (7 - i % 8)
-          ∙ ap (λ (d : ℕ). max (bit_at before (7 - i % 8)) d) (one_elsewhere bit (7 - at % 8) (7 - i % 8) apart)
+          let merged : bit_at (bit_or before part) (7 - i % 8) ≡ bit_at (get_or bytes (i / 8) 0) (7 - i % 8) =
+          bit_at_or before part (7 - i % 8)
+          ∙ ap (λ (d : ℕ). max (bit_at before (7 - i % 8)) d) (shifted_above value n behind (7 - i % 8) p.range above)
           ∙ (let e : max (bit_at before (7 - i % 8)) 0 ≡ bit_at before (7 - i % 8) = omega arith in e)
-          ∙ ap (λ (n : ℕ). bit_at n (7 - i % 8)) byte in
-          bit_here bytes (at / 8) (bit_or before one) i (omega arith) same
+          ∙ ap (λ (m : ℕ). bit_at m (7 - i % 8)) byte in
+          bit_here bytes (at / 8) (bit_or before part) i (omega arith) same
           ∙ ap (λ (d : ℕ). eqb d 1) merged
           ∙ sym (bit_there bytes i (omega arith))
-      | inr other ↦ bit_elsewhere bytes (at / 8) (bit_or before one) i other
+      | inr other ↦ bit_elsewhere bytes (at / 8) (bit_or before part) i other
     ]
 
-bit_new : (bytes : List ℕ) (at before : ℕ) (bit : Bool) → at < 8 * length bytes → PadsZero bytes at → IsBegun bytes at before → get_or (bits_of (pushed_bytes bytes at before bit)) at false ≡ bit
-bit_new bytes at before bit h clean b =
-    let one = cond bit (2 ^ (7 - at % 8)) 0 in
-    let merged : bit_at (bit_or before one) (7 - at % 8) ≡ cond bit 1 0 =
-    bit_at_or before one (7 - at % 8)
-    ∙ ap (λ (d : ℕ). max d (bit_at one (7 - at % 8))) (before_zero bytes at before at h clean b (omega arith) refl)
-    ∙ (let e : max 0 (bit_at one (7 - at % 8)) ≡ bit_at one (7 - at % 8) = omega arith in e)
-    ∙ one_at bit (7 - at % 8) in
-    bit_here bytes (at / 8) (bit_or before one) at (omega arith) refl ∙ ap (λ (d : ℕ). eqb d 1) merged ∙ is_one bit
+-- from the place on the byte has the bits of the part
+bit_of_part : (bytes : List ℕ) (at n value behind before i : ℕ) → IsPart bytes at n value behind → IsBegun bytes at before → at ≤ i → i / 8 ≡ at / 8 → get_or (bits_of (pushed_bytes bytes at before value behind)) i false ≡ eqb (bit_at (value * 2 ^ behind) (7 - i % 8)) 1
+bit_of_part bytes at n value behind before i p b le same =
+    let part = value * 2 ^ behind in
+    let within = p.within in
+    let merged : bit_at (bit_or before part) (7 - i % 8) ≡ bit_at part (7 - i % 8) =
+    bit_at_or before part (7 - i % 8)
+    ∙ ap (λ (d : ℕ). max d (bit_at part (7 - i % 8))) (before_zero bytes at before i p.within p.clean b le same)
+    ∙ (let e : max 0 (bit_at part (7 - i % 8)) ≡ bit_at part (7 - i % 8) = omega arith in e) in
+    bit_here bytes (at / 8) (bit_or before part) i (omega arith) same ∙ ap (λ (d : ℕ). eqb d 1) merged
 
-bit_behind : (bytes : List ℕ) (at before i : ℕ) (bit : Bool) → at < 8 * length bytes → PadsZero bytes at → IsBegun bytes at before → at < i → i < 8 * ((at + 1 + 7) / 8) → get_or (bits_of (pushed_bytes bytes at before bit)) i false ≡ false
-bit_behind bytes at before i bit h clean b more within =
-    let one = cond bit (2 ^ (7 - at % 8)) 0 in
+bit_new : (bytes : List ℕ) (at n value behind before j : ℕ) → IsPart bytes at n value behind → IsBegun bytes at before → j < n → get_or (bits_of (pushed_bytes bytes at before value behind)) (at + j) false ≡ get_or (number_bits n value) j false
+bit_new bytes at n value behind before j p b less =
+    let sum = p.sum in
+    let same : (at + j) / 8 ≡ at / 8 = omega arith in
+    let up : behind ≤ 7 - (at + j) % 8 = omega arith in
+    let place : 7 - (at + j) % 8 - behind ≡ n - 1 - j = omega arith in
+    bit_of_part bytes at n value behind before (at + j) p b (omega arith) same
+    ∙ ap (λ (d : ℕ). eqb d 1) (shifted_bit value behind (7 - (at + j) % 8) up ∙ ap (λ (k : ℕ). bit_at value k) place)
+    ∙ sym (get_or-number_bits n value j false less)
+
+bit_behind : (bytes : List ℕ) (at n value behind before i : ℕ) → IsPart bytes at n value behind → IsBegun bytes at before → at + n ≤ i → i < 8 * ((at + n + 7) / 8) → get_or (bits_of (pushed_bytes bytes at before value behind)) i false ≡ false
+bit_behind bytes at n value behind before i p b more within =
+    let sum = p.sum in
+    let some = p.some in
     let same : i / 8 ≡ at / 8 = omega arith in
-    let apart : 7 - i % 8 ≢ 7 - at % 8 = omega arith in
-    let merged : bit_at (bit_or before one) (7 - i % 8) ≡ 0 =
-    bit_at_or before one (7 - i % 8)
-    ∙ ap (λ (d : ℕ). max d (bit_at one (7 - i % 8))) (before_zero bytes at before i h clean b (omega arith) same)
-    ∙ ap (λ (d : ℕ). max 0 d) (one_elsewhere bit (7 - at % 8) (7 - i % 8) apart) in
-    bit_here bytes (at / 8) (bit_or before one) i (omega arith) same ∙ ap (λ (d : ℕ). eqb d 1) merged
+    let low : 7 - i % 8 < behind = omega arith in
+    bit_of_part bytes at n value behind before i p b (omega arith) same
+    ∙ ap (λ (d : ℕ). eqb d 1) (shifted_below value behind (7 - i % 8) low)
 
--- one bit is written
-pub bit_pushed : (bytes : List ℕ) (at before : ℕ) (bit : Bool) → at < 8 * length bytes → PadsZero bytes at → IsBegun bytes at before → Extends bytes (pushed_bytes bytes at before bit) at 1 (bit ∷ [])
-bit_pushed bytes at before bit h clean b =
-    let new = bits_of (pushed_bytes bytes at before bit) in
+-- a part is written
+pub part_pushed : (bytes : List ℕ) (at n value behind before : ℕ) → IsPart bytes at n value behind → IsBegun bytes at before → Extends bytes (pushed_bytes bytes at before value behind) at n (number_bits n value)
+part_pushed bytes at n value behind before p b =
+    let new = bits_of (pushed_bytes bytes at before value behind) in
     let old = bits_of bytes in
+    let sum = p.sum in
+    let within = p.within in
+    let long = length-number_bits n value in
     let long_old : length (take at old) ≡ at = length-take-le at old (omega (arith, length-bits_of bytes)) in
-    let long_new : length (take (at + 1) new) ≡ at + 1 =
-    length-take-le (at + 1) new (omega (arith, length-bits_of (pushed_bytes bytes at before bit), length-set bytes (at / 8) (bit_or before (cond bit (2 ^ (7 - at % 8)) 0)))) in
+    let long_new : length (take (at + n) new) ≡ at + n =
+    length-take-le (at + n) new (omega (arith, length-bits_of (pushed_bytes bytes at before value behind), length-set bytes (at / 8) (bit_or before (value * 2 ^ behind)))) in
     record {
-      long = refl;
-      wrote = ext_get_or false (take (at + 1) new) (take at old ++ bit ∷ []) (omega (arith, long_new, long_old, length_push (take at old) bit))
+      long = long;
+      wrote = ext_get_or false (take (at + n) new) (take at old ++ number_bits n value) (omega (arith, long_new, long_old, long, length-append (take at old) (number_bits n value)))
           (λ i lt. elim (cases_lt i at) [
             | inl less ↦
-                get_or-take (at + 1) new i false (omega arith)
-                ∙ bit_before bytes at before i bit h b less
+                get_or-take (at + n) new i false (omega arith)
+                ∙ bit_before bytes at n value behind before i p b less
                 ∙ sym (get_or-take at old i false less)
-                ∙ sym (get_or_append_left (take at old) (bit ∷ []) false i (omega (arith, long_old)))
+                ∙ sym (get_or_append_left (take at old) (number_bits n value) false i (omega (arith, long_old)))
             | inr le ↦
-                let here : i ≡ at = omega (arith, long_new) in
-                ap (λ (k : ℕ). get_or (take (at + 1) new) k false) here
-                ∙ get_or-take (at + 1) new at false (omega arith)
-                ∙ bit_new bytes at before bit h clean b
-                ∙ sym (get_or_at (take at old) bit [] false i (omega (arith, long_old)))
+                let j = i - at in
+                let here : i ≡ at + j = omega arith in
+                get_or-take (at + n) new i false (omega (arith, long_new, lt))
+                ∙ ap (λ (k : ℕ). get_or new k false) here
+                ∙ bit_new bytes at n value behind before j p b (omega (arith, long_new, lt))
+                ∙ sym (get_or-append_right (take at old) (number_bits n value) at i false long_old le)
           ]);
-      clean = λ k le lt. bit_behind bytes at before k bit h clean b (omega arith) lt;
+      clean = λ k le lt. bit_behind bytes at n value behind before k p b le lt;
     }
 
 -- one after the other

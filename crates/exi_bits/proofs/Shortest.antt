@@ -1,17 +1,16 @@
 -- The shortest spelling of an Unsigned Integer, octet by octet.
-use Rattle.std.proofs.Common.{◌≡◌, ℕ, zero, suc, ◌+◌, ◌-◌, ◌*◌, ◌/◌, ◌%◌, ◌^◌, ◌<◌, ◌≤◌, Bool, true, false, eqb, ltb, List, [], ◌∷◌, ◌++◌, length, get_or, take, refl, sym, ap, subst, ◌∙◌, arith, append_assoc, bit_and, inl, inr}
+use Rattle.std.proofs.Common.{◌≡◌, ℕ, zero, suc, ◌+◌, ◌*◌, ◌/◌, ◌%◌, ◌^◌, ◌<◌, ◌≤◌, Bool, true, false, ltb, List, [], ◌++◌, length, take, refl, sym, ap, subst, ◌∙◌, arith, append_assoc, inl, inr}
 use Rattle.std.proofs.lemmas.Bool.{lt-ltb, le-ltb, cases_lt}
-use Rattle.std.proofs.lemmas.List.{length-append, take_more, take_all, append-nil}
+use Rattle.std.proofs.lemmas.List.{length-append, append-nil}
 use Rattle.std.proofs.lemmas.Nat.{div_below}
-use Rattle.std.proofs.lemmas.Nat.Bits.{shr_and_one}
 use Rattle.std.proofs.Math.Nat.{pow-suc}
 use Rattle.exi_spec.specs.Bits.{number_bits, bits_of}
 use Rattle.exi_spec.specs.Items.{octet, shortest_within, shortest_unsigned}
-use Rattle.exi_spec.proofs.BitLaws.{length-number_bits, get_or-number_bits, low_octet, high_octet}
+use Rattle.exi_spec.proofs.BitLaws.{length-number_bits, low_octet, high_octet}
 use Rattle.exi_bits.specs.Written.{PadsZero, Extends}
 use Rattle.exi_bits.proofs.Pushed.{extended}
 
--- ---- a number, bit by bit
+-- ---- nothing is written
 
 pub put_none : (room : List ℕ) (at : ℕ) → PadsZero room at → Extends room room at 0 []
 put_none room at clean =
@@ -21,22 +20,6 @@ put_none room at clean =
       wrote = ap (λ (k : ℕ). take k (bits_of room)) (sym same) ∙ sym (append-nil (take at (bits_of room)));
       clean = subst (λ (k : ℕ). PadsZero room k) same clean;
     }
-
-pub put_more : (a b c : List ℕ) (at i n value : ℕ) (bit : Bool) → Extends a b at i (take i (number_bits n value)) → i < n → bit ≡ eqb (bit_and (value / 2 ^ (n - 1 - i)) 1) 1 → Extends b c (at + i) 1 (bit ∷ []) → Extends a c at (i + 1) (take (i + 1) (number_bits n value))
-put_more a b c at i n value bit p less bit_is q =
-    let here : get_or (number_bits n value) i false ≡ bit =
-    get_or-number_bits n value i false less
-    ∙ ap (λ (d : ℕ). eqb d 1) (sym (shr_and_one value (n - 1 - i)))
-    ∙ sym bit_is in
-    let front : take i (number_bits n value) ++ bit ∷ [] ≡ take (i + 1) (number_bits n value) =
-    ap (λ (d : Bool). take i (number_bits n value) ++ d ∷ []) (sym here)
-    ∙ sym (take_more (number_bits n value) i false (omega (arith, length-number_bits n value))) in
-    subst (λ (l : List Bool). Extends a c at (i + 1) l) front (extended a b c at i 1 (take i (number_bits n value)) (bit ∷ []) p q)
-
-pub put_all : (a b : List ℕ) (at i n value : ℕ) → i ≡ n → Extends a b at i (take i (number_bits n value)) → Extends a b at n (number_bits n value)
-put_all a b at i n value same p =
-    subst (λ (k : ℕ). Extends a b at k (number_bits n value)) same
-    (subst (λ (l : List Bool). Extends a b at i l) (take_all i (number_bits n value) (omega (arith, length-number_bits n value))) p)
 
 -- ---- octets
 

@@ -1,5 +1,5 @@
 -- Facts that several proofs here cite.
-use Rattle.std.proofs.Common.{◌≡◌, ℕ, ◌+◌, ◌-◌, ◌*◌, ◌^◌, ◌<◌, ◌≤◌, Bool, true, false, cond, List, [], ◌∷◌, ◌++◌, length, drop, refl, sym, ap, subst, ◌∙◌, arith, inl, inr, append_assoc, suc}
+use Rattle.std.proofs.Common.{◌≡◌, ℕ, ◌+◌, ◌-◌, ◌*◌, ◌^◌, ◌<◌, ◌≤◌, Bool, true, false, List, [], ◌∷◌, ◌++◌, length, drop, refl, sym, ap, subst, ◌∙◌, arith, inl, inr, append_assoc, suc}
 use Rattle.std.proofs.lemmas.List.{length-append, length-drop, append-nil, length_push}
 use Rattle.exi_spec.specs.declared.BitCause.{BitCause}
 use Rattle.exi_spec.specs.declared.BitCause.TheVariants.{ShortInput, WiderInteger}
@@ -8,15 +8,6 @@ use Rattle.exi_spec.specs.Items.{octet, SpellsOctets, RefusesOctets, PassesOctet
 use Rattle.exi_spec.proofs.BitLaws.{length-number_bits, low_octet, high_octet}
 use Rattle.exi_spec.proofs.OctetLaws.{only_octet, more_octets, short_octet, none_allowed, wide_octets, refused_later}
 use Rattle.exi_bits.specs.Reading.{ItemAt}
-use mir.Val.{bool_byte}
-
-pub bool_byte-is : (b : Bool) → bool_byte b ≡ cond b 1 0
-bool_byte-is true = refl
-bool_byte-is false = refl
-
-pub bool_byte-le : (b : Bool) → bool_byte b ≤ 1
-bool_byte-le true = omega arith
-bool_byte-le false = omega arith
 
 -- ---- octets of an Unsigned Integer, from an octet that was read
 

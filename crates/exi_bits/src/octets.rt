@@ -1,6 +1,6 @@
 //! Numbers at a bit of a payload.
 
-ghost use Rattle.std.specs.Prelude.{◌≡◌, ℕ, ◌+◌, ◌*◌, ◌<◌, ◌≤◌, ◌^◌, List, Bool, ◌∷◌, ◌++◌, length, drop, MatchResult, MatchOption, IfOk};
+ghost use Rattle.std.specs.Prelude.{◌≡◌, ℕ, ◌+◌, ◌*◌, ◌%◌, ◌<◌, ◌≤◌, ◌^◌, List, Bool, ◌∷◌, ◌++◌, length, drop, MatchResult, MatchOption, IfOk};
 ghost use Rattle.exi_spec.specs.Bits.{bits_of, number_bits};
 ghost use Rattle.exi_spec.specs.Items.{SpellsOctets, RefusesOctets, SpellsChar, RefusesChar, SpellsChars, RefusesChars};
 ghost use Rattle.exi_bits.specs.Reading.{ItemAt};
@@ -26,6 +26,26 @@ pub fn bit_at(payload: &[u8], bit: u32) -> bool
     (byte >> (7 - bit % 8)) & 1 == 1
 }
 
+/// The number of at most 5 octets, the most significant first.
+fn number_of_octets(octets: &[u8]) -> u64
+    requires { length octets.now ≤ 5 }
+    ensures { number_bits (8 * length octets.now) result ≡ bits_of octets.now }
+{
+    let mut number = 0;
+    for octet in octets {
+        number = 256 * number + u64::from(*octet);
+    }
+    number
+}
+
+/// The lowest n bits of a number.
+fn lowest_bits(number: u64, n: u32) -> u32
+    requires { n ≤ 32 }
+    ensures { result ≡ number % 2 ^ n }
+{
+    (number & ((1 << n) - 1)) as u32
+}
+
 /// The number that n bits spell.
 pub fn number_at(payload: &[u8], bit: u32, n: u32) -> u32
     requires small { n ≤ 32 }
@@ -34,11 +54,25 @@ pub fn number_at(payload: &[u8], bit: u32, n: u32) -> u32
     ensures range { result < 2 ^ n }
     ensures there { drop bit (bits_of payload.now) ≡ number_bits n result ++ drop (bit + n) (bits_of payload.now) }
 {
-    let mut value: u32 = 0;
-    for i in 0..n {
-        value = 2 * value + u32::from(bit_at(payload, bit + i));
+    let first = bit / 8;
+    let end = (bit + n).div_ceil(8);
+    let window = number_of_octets(&payload[first as usize..end as usize]);
+    let behind = 8 * end - (bit + n);
+    lowest_bits(window >> behind, n)
+}
+
+/// The octet that 8 bits spell: one byte, or the end of one and the start of the next.
+fn whole_octet_at(payload: &[u8], bit: u32) -> u8
+    requires { bit + 8 ≤ 8 * length payload.now }
+    ensures { drop bit (bits_of payload.now) ≡ number_bits 8 result ++ drop (bit + 8) (bits_of payload.now) }
+{
+    let index = (bit / 8) as usize;
+    let shift = bit % 8;
+    if shift == 0 {
+        payload[index]
+    } else {
+        (payload[index] << shift) | (payload[index + 1] >> (8 - shift))
     }
-    value
 }
 
 /// The octet at a bit, and `None` where fewer than 8 bits are left.
@@ -52,7 +86,7 @@ pub fn octet_at(payload: &[u8], bit: u32) -> Option<u32>
     if bits_left(payload, bit) < 8 {
         return None;
     }
-    Some(number_at(payload, bit, 8))
+    Some(u32::from(whole_octet_at(payload, bit)))
 }
 
 /// The Unsigned Integer at a bit, in at most so many octets, and how many bits spell it.

@@ -19,11 +19,17 @@ fn begun_byte(room: &[u8], at: u32) -> u8
     }
 }
 
-/// A bit at its place in a byte.
-fn placed_bit(bit: bool, at: u32) -> u8
-    ensures { result ≡ (if bit then 2 ^ (7 - at % 8) else 0) }
+/// Writes a number in n bits of one byte, and 0 behind them in it.
+fn put_part(room: &mut [u8], at: u32, value: u8, n: u32)
+    requires some { 0 < n }
+    requires one_byte { at % 8 + n ≤ 8 }
+    requires range { value < 2 ^ n }
+    requires within { at < 8 * length room.old }
+    requires clean { PadsZero room.old at }
+    ensures { Extends room.old room.new at n (number_bits n value) }
 {
-    if bit { 1 << (7 - at % 8) } else { 0 }
+    let before = begun_byte(room, at);
+    room[(at / 8) as usize] = before | (value << (8 - at % 8 - n));
 }
 
 /// Writes one bit, and 0 behind it where it begins a byte.
@@ -32,12 +38,18 @@ pub fn push_bit(room: &mut [u8], at: u32, bit: bool)
     requires clean { PadsZero room.old at }
     ensures { Extends room.old room.new at 1 (bit ∷ []) }
 {
-    let before = begun_byte(room, at);
-    let one = placed_bit(bit, at);
-    room[(at / 8) as usize] = before | one;
+    put_part(room, at, u8::from(bit), 1);
 }
 
-/// Writes a number in n bits.
+/// The lowest n bits of a number.
+fn lowest_bits(number: u32, n: u32) -> u8
+    requires { n ≤ 8 }
+    ensures { result ≡ number % 2 ^ n }
+{
+    (number & ((1 << n) - 1)) as u8
+}
+
+/// Writes a number in n bits, byte by byte.
 pub fn put_number(room: &mut [u8], at: u32, value: u32, n: u32)
     requires small { n ≤ 32 }
     requires room { length room.old ≤ 65536 }
@@ -45,8 +57,31 @@ pub fn put_number(room: &mut [u8], at: u32, value: u32, n: u32)
     requires clean { PadsZero room.old at }
     ensures { Extends room.old room.new at n (number_bits n value) }
 {
-    for i in 0..n {
-        push_bit(room, at + i, (value >> (n - 1 - i)) & 1 == 1);
+    let mut left = n;
+    while left > 0 {
+        let place = at + (n - left);
+        let part = left.min(8 - place % 8);
+        left -= part;
+        put_part(room, place, lowest_bits(value >> left, part), part);
+    }
+}
+
+/// Writes an octet: the whole of a byte, or the rest of one and the start of the next.
+fn put_octet(room: &mut [u8], at: u32, octet: u8)
+    requires room { length room.old ≤ 65536 }
+    requires within { at + 8 ≤ 8 * length room.old }
+    requires clean { PadsZero room.old at }
+    ensures { Extends room.old room.new at 8 (number_bits 8 octet) }
+{
+    let shift = at % 8;
+    put_part(room, at, octet >> shift, 8 - shift);
+    if shift > 0 {
+        put_part(
+            room,
+            at + (8 - shift),
+            lowest_bits(u32::from(octet), shift),
+            shift,
+        );
     }
 }
 
@@ -74,11 +109,11 @@ pub fn put_octets(room: &mut [u8], at: u32, value: u64) -> u32
     let mut rest = value;
     let mut wrote = 0;
     while rest >= 128 {
-        put_number(room, at + wrote, (rest % 128) as u32 + 128, 8);
+        put_octet(room, at + wrote, (rest % 128) as u8 + 128);
         rest /= 128;
         wrote += 8;
     }
-    put_number(room, at + wrote, rest as u32, 8);
+    put_octet(room, at + wrote, rest as u8);
     wrote + 8
 }
 
@@ -101,7 +136,7 @@ pub fn put_all_bytes(room: &mut [u8], at: u32, bytes: &[u8])
     ensures { Extends room.old room.new at (8 * length bytes.now) (bits_of bytes.now) }
 {
     for (i, byte) in bytes.iter().enumerate() {
-        put_number(room, at + 8 * i as u32, u32::from(*byte), 8);
+        put_octet(room, at + 8 * i as u32, *byte);
     }
 }
 

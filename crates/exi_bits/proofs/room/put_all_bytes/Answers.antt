@@ -6,4 +6,4 @@ loop-i-init c = put_no_bytes c.args.room.now c.args.at c.requires.clean
 
 pub loop-i-preserved : goal.loop-i-preserved
 loop-i-preserved c =
-    put_byte c.args.room.now c.loop-i.room c.put_number.new.room c.args.bytes.now c.args.at c.loop-i.i c.from.result c.loop-i.invariant c.loop-i-test.true c.from.ensures c.put_number.ensures
+    put_byte c.args.room.now c.loop-i.room c.put_octet.new.room c.args.bytes.now c.args.at c.loop-i.i c.loop-i.invariant c.loop-i-test.true c.put_octet.ensures
