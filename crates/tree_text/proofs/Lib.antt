@@ -5,3 +5,4 @@ pub mod Tied
 pub mod Told
 pub mod Turns
 pub mod OneText
+pub mod Spelled
