@@ -1,5 +1,6 @@
 pub mod Pieces
 pub mod Attributes
+pub mod Standings
 pub mod Spacing
 pub mod Tied
 pub mod Told
