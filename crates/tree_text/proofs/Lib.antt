@@ -1,6 +1,7 @@
 pub mod Pieces
 pub mod Attributes
 pub mod Standings
+pub mod Once
 pub mod Spacing
 pub mod Tied
 pub mod Told
