@@ -12,7 +12,6 @@ mod values;
 
 pub use charge_world::NoMemory;
 pub use exi_documents::{Refusal, RefusalCause};
-pub use exi_values::Table;
 pub use fault::PrintFault;
 pub use print::print_tree;
 

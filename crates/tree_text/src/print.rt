@@ -146,13 +146,23 @@ fn put_event(
     }
 }
 
-/// Prints the tree that a payload of at most 65,536 bytes spells, in the names of its schema. The table is emptied; it has room for 8,192 entries.
+/// Prints the tree that a payload of at most 65,536 bytes spells, in the names of its schema.
 ///
 /// `Refused` exactly where the payload spells no tree, with its refusal.
-pub fn print_tree(
+pub fn print_tree(alloc: Global, schema: &Schema, payload: &[u8]) -> Result<String, PrintFault>
+    requires { length payload.now ≤ 65536 }
+    ensures printed { IfOk result (λ text. (tree : Tree) × IsDocument schema.now tree payload.now × IsTreeText schema.now tree (string_bytes text)) }
+    ensures fault { IfErr result (IsFaultOf schema.now payload.now) }
+{
+    let mut table = Table::make(alloc, 8192)?;
+    print_with_table(alloc, schema, payload, &mut table)
+}
+
+/// Prints with a string table, which has room for 8,192 entries and is emptied.
+fn print_with_table(
     alloc: Global,
-    payload: &[u8],
     schema: &Schema,
+    payload: &[u8],
     table: &mut Table,
 ) -> Result<String, PrintFault>
     requires payload { length payload.now ≤ 65536 }

@@ -15,8 +15,7 @@ use std::test::Fail;
 fn answer(alloc: Global, payload: &[u8], schema: &Schema) -> Result<String, AllocError>
     requires { length payload.now ≤ 65536 }
 {
-    let mut table = Table::make(alloc, 8192)?;
-    match print_tree(alloc, payload, schema, &mut table) {
+    match print_tree(alloc, schema, payload) {
         Ok(text) => Ok(text),
         Err(PrintFault::Refused(refusal)) => {
             let Refusal { cause, bit } = refusal;

@@ -2,7 +2,7 @@ use Rattle.std.proofs.Common.{ap, sym, ◌∙◌}
 use Rattle.exi_values.specs.Meaning.{event_of}
 use Rattle.exi_events.specs.Reader.{state_of}
 use Rattle.tree_text.proofs.Turns.{fewer_left, only_finished, has_added_in, told_on_in, all_told}
-use Rattle.tree_text.proofs.print.print_tree.Goals as goal
+use Rattle.tree_text.proofs.print.print_with_table.Goals as goal
 
 pub put_event-requires-clause-has_text : goal.put_event-requires-clause-has_text
 put_event-requires-clause-has_text c =

@@ -5,7 +5,7 @@ use Rattle.exi_documents.specs.Trees.{Event as TreeEvent}
 use Rattle.exi_events.specs.Reader.{state_of, IsReady, HasTold}
 use Rattle.tree_text.specs.EventText.{text_end, Tells}
 use Rattle.tree_text.proofs.Turns.{events_left}
-use Rattle.tree_text.proofs.print.print_tree.Given as goal
+use Rattle.tree_text.proofs.print.print_with_table.Given as goal
 
 abbrev pub invariant-loop-event : goal.invariant-loop-event
 invariant-loop-event l =
