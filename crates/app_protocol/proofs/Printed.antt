@@ -1,5 +1,5 @@
 -- The text of a tree of the negotiation is that of a message.
-use Rattle.std.proofs.Common.{◌≡◌, ℕ, List, Result, Ok, Err, IfOk, IfErr, subst}
+use Rattle.std.proofs.Common.{ℕ, List, subst}
 use Rattle.exi_schema.specs.declared.schema.Schema.{Schema}
 use Rattle.exi_documents.specs.Documents.{IsDocument}
 use Rattle.exi_documents.specs.Trees.{Tree}

@@ -8,7 +8,7 @@ ghost use Rattle.app_protocol.specs.Printing.{IsPrinted, IsAppFault};
 use crate::schema::{KINDS, NAMES, ROOTS, VALUES};
 use exi_schema::Schema;
 use std::alloc::Global;
-use tree_text::{PrintFault, Table, print_tree};
+use tree_text::{PrintFault, print_tree};
 
 /// Prints the tree of the message that a payload of at most 65,536 bytes spells (ISO 15118-2:2014, section 8.2), as
 /// `supportedAppProtocolRes{ResponseCode=Failed_NoNegotiation}`.
@@ -36,6 +36,5 @@ fn print_with(alloc: Global, schema: &Schema, payload: &[u8]) -> Result<String, 
     ensures printed { IfOk result (λ text. IsPrinted payload.now (string_bytes text)) }
     ensures fault { IfErr result (IsAppFault payload.now) }
 {
-    let mut table = Table::make(alloc, 8192)?;
-    print_tree(alloc, payload, schema, &mut table)
+    print_tree(alloc, schema, payload)
 }
