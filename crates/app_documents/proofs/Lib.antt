@@ -1,3 +1,4 @@
+pub mod Scalars
 pub mod Steps
 pub mod Fields
 pub mod Shapes
