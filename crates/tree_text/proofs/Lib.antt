@@ -1,7 +1,10 @@
 pub mod Pieces
 pub mod Attributes
+pub mod Standings
+pub mod Once
 pub mod Spacing
 pub mod Tied
 pub mod Told
 pub mod Turns
 pub mod OneText
+pub mod Spelled

@@ -7,6 +7,7 @@ use Rattle.exi_schema.specs.declared.schema.Schema.{Schema}
 use Rattle.exi_documents.specs.Grammar.{State}
 use Rattle.exi_documents.specs.Trees.{Tree, Event}
 use Rattle.exi_documents.specs.Documents.{IsDocument}
+use Rattle.exi_documents.specs.Values.{SpellsValue}
 use Rattle.exi_values.specs.declared.Event.{Event as Read}
 use Rattle.exi_values.specs.declared.Event.TheVariants as event
 use Rattle.exi_values.specs.Meaning.{event_of}
@@ -38,10 +39,10 @@ has_added s (Some event) events end place old new before after told is h =
 
 -- the text goes on with it
 pub told_on : (s : Schema) (o : Option Event) (end next : TextEnd) (place : Option Place) (old new : State) (before after : Cursor) (text longer : List ℕ) →
-    ((events : List Event) × HasTold s events old before × Tells s events text old × (end ≡ text_end events)) → place ≡ innermost_place old.standing → IsNext s old new before after o → (o ≡ None → ⊥) →
+    ((events : List Event) × HasTold s events old before × Tells SpellsValue s events text old × (end ≡ text_end events)) → place ≡ innermost_place old.standing → IsNext s old new before after o → (o ≡ None → ⊥) →
     ((events : List Event) → HasTold s events old before → (told : Event) → o ≡ Some told → HasTold s (told ∷ events) new after) →
     IfSome o (λ told. (added : List ℕ) × Adds s end place told added × (longer ≡ text ++ added)) → IsEndBehind o next →
-    (events : List Event) × HasTold s events new after × Tells s events longer new × (next ≡ text_end events)
+    (events : List Event) × HasTold s events new after × Tells SpellsValue s events longer new × (next ≡ text_end events)
 told_on s None end next place old new before after text longer told is h some more put ends = absurd (some refl)
 told_on s (Some event) end next place old new before after text longer told is h some more put ends =
     let adds_here = subst (λ (p : Option Place). Adds s (text_end told.0) p event put.0) is (subst (λ (e : TextEnd). Adds s e place event put.0) told.3 put.1) in
@@ -59,17 +60,17 @@ has_added_in s t o events end place old new before after same told is h =
     subst (λ (x : Schema). IfSome o (λ event. (added : List ℕ) × Adds x end place event added)) same (has_added s o events end place old new before after told is h)
 
 pub told_on_in : (s t u : Schema) (o : Option Event) (end next : TextEnd) (place : Option Place) (old new : State) (before after : Cursor) (text longer : List ℕ) → s ≡ t → u ≡ s →
-    ((events : List Event) × HasTold s events old before × Tells s events text old × (end ≡ text_end events)) → place ≡ innermost_place old.standing → IsNext s old new before after o → (o ≡ None → ⊥) →
+    ((events : List Event) × HasTold s events old before × Tells SpellsValue s events text old × (end ≡ text_end events)) → place ≡ innermost_place old.standing → IsNext s old new before after o → (o ≡ None → ⊥) →
     ((events : List Event) → HasTold s events old before → (told : Event) → o ≡ Some told → HasTold s (told ∷ events) new after) →
     IfSome o (λ told. (added : List ℕ) × Adds t end place told added × (longer ≡ text ++ added)) → IsEndBehind o next →
-    (events : List Event) × HasTold u events new after × Tells u events longer new × (next ≡ text_end events)
+    (events : List Event) × HasTold u events new after × Tells SpellsValue u events longer new × (next ≡ text_end events)
 told_on_in s t u o end next place old new before after text longer same kept told is h some more put ends =
-    subst (λ (x : Schema). (events : List Event) × HasTold x events new after × Tells x events longer new × (next ≡ text_end events)) (sym kept)
+    subst (λ (x : Schema). (events : List Event) × HasTold x events new after × Tells SpellsValue x events longer new × (next ≡ text_end events)) (sym kept)
     (told_on s o end next place old new before after text longer told is h some more
     (subst (λ (x : Schema). IfSome o (λ event. (added : List ℕ) × Adds x end place event added × (longer ≡ text ++ added))) (sym same) put) ends)
 
 -- behind the last event
-pub all_told : (s t : Schema) (events : List Event) (payload text : List ℕ) (state : State) → s ≡ t → IsTold s events payload → Tells s events text state → (tree : Tree) × IsDocument t tree payload × IsTreeText t tree text
+pub all_told : (s t : Schema) (events : List Event) (payload text : List ℕ) (state : State) → s ≡ t → IsTold s events payload → Tells SpellsValue s events text state → (tree : Tree) × IsDocument t tree payload × IsTreeText t tree text
 all_told s t events payload text state same told tells =
-    let is = document_told s told.0 told.1 text state (subst (λ (l : List Event). Tells s l text state) told.2 tells) in
+    let is = document_told SpellsValue s told.0 told.1 text state (subst (λ (l : List Event). Tells SpellsValue s l text state) told.2 tells) in
     (told.1, subst (λ (x : Schema). IsDocument x told.1 payload) same told.3, subst (λ (x : Schema). IsTreeText x told.1 text) same is)

@@ -5,7 +5,7 @@ use Rattle.exi_schema.specs.declared.places.Step.TheVariants as step
 use Rattle.exi_schema.specs.declared.schema.Schema.{Schema}
 use Rattle.exi_documents.specs.Grammar.{State, start, Moves}
 use Rattle.exi_documents.specs.Trees.{Value, Event, Document, Start, Attribute, Content, EndElement}
-use Rattle.exi_documents.specs.Values.{SpellsValue}
+use Rattle.exi_documents.specs.Documents.{Speller}
 use Rattle.exi_events.specs.Reader.{innermost_place}
 use Rattle.tree_text.specs.TreeText.{IsValueText, IsName, IsNamedText, IsOffered}
 use Rattle.tree_text.specs.declared.print.TextEnd.{TextEnd}
@@ -63,11 +63,11 @@ Adds s before None (Content value) added = ⊥
 Adds s before place EndElement added = added ≡ closing before
 
 -- the events so far, the newest first, lead to a state, and this is their text
-abbrev pub Tells : Schema → List Event → List ℕ → State → Type 0
-Tells s [] text state = (text ≡ []) × (state ≡ start)
-Tells s (event ∷ events) text state =
+abbrev pub Tells : Speller → Schema → List Event → List ℕ → State → Type 0
+Tells V s [] text state = (text ≡ []) × (state ≡ start)
+Tells V s (event ∷ events) text state =
     (before : State) × (bits : List Bool) × (front : List ℕ) × (added : List ℕ)
-    × Tells s events front before
-    × Moves SpellsValue s before event bits state
+    × Tells V s events front before
+    × Moves V s before event bits state
     × Adds s (text_end events) (innermost_place before.standing) event added
     × (text ≡ front ++ added)

@@ -1,15 +1,25 @@
 //! Laws of the text of a tree.
 
-ghost use Rattle.std.specs.Prelude.{◌≡◌, ℕ, List, reverse};
+ghost use Rattle.std.specs.Prelude.{◌≡◌, ℕ, Bool, List, reverse};
 ghost use Rattle.exi_schema.specs.declared.schema.Schema.{Schema};
-ghost use Rattle.exi_documents.specs.Grammar.{State};
+ghost use Rattle.exi_documents.specs.Documents.{SpellsDocument};
+ghost use Rattle.exi_documents.specs.Grammar.{State, Behind, stands, Reaches};
 ghost use Rattle.exi_documents.specs.Trees.{Tree, document_events};
+ghost use Rattle.exi_documents.specs.Values.{Entries, SpellsValue, WritesValue};
 ghost use Rattle.tree_text.specs.TreeText.{IsTreeText};
 ghost use Rattle.tree_text.specs.EventText.{Tells};
 
-/// What the events of a tree add to a text, one after the other, is the text of the tree.
+/// What the events of a tree add to a text, one after the other, is the text of the tree, in any spelling and as it is written.
 pub fn events_tell_texts()
-    ensures { (s : Schema) (number : ℕ) (tree : Tree) (text : List ℕ) (state : State) → Tells s (reverse (document_events number tree)) text state → IsTreeText s tree text }
+    ensures spelled { (s : Schema) (number : ℕ) (tree : Tree) (text : List ℕ) (state : State) → Tells SpellsValue s (reverse (document_events number tree)) text state → IsTreeText s tree text }
+    ensures written { (s : Schema) (number : ℕ) (tree : Tree) (text : List ℕ) (state : State) → Tells WritesValue s (reverse (document_events number tree)) text state → IsTreeText s tree text }
+{}
+
+/// The text of a tree is what its events add, one after the other, wherever bits spell them. A tree that spells a document has a text.
+pub fn texts_tell_events()
+    ensures reached { (s : Schema) (number : ℕ) (tree : Tree) (text : List ℕ) (bits : List Bool) (state : State) → IsTreeText s tree text → Reaches SpellsValue s (reverse (document_events number tree)) bits state → Tells SpellsValue s (reverse (document_events number tree)) text state }
+    ensures document { (s : Schema) (number : ℕ) (tree : Tree) (text : List ℕ) (bits : List Bool) → IsTreeText s tree text → SpellsDocument SpellsValue s number tree bits → (entries : Entries) × Tells SpellsValue s (reverse (document_events number tree)) text (stands Behind entries) }
+    ensures has_text { (s : Schema) (number : ℕ) (tree : Tree) (bits : List Bool) → SpellsDocument SpellsValue s number tree bits → (text : List ℕ) × IsTreeText s tree text }
 {}
 
 /// A tree has one text at most.
