@@ -11,34 +11,37 @@ use Rattle.plain_schema.specs.Plain.{plain_kinds, plain_simple_at}
 use Rattle.plain_schema.proofs.Plainly.{simple_plain}
 use Rattle.app_documents.specs.Declarations.{kinds}
 use Rattle.app_documents.specs.Trees.{Offered, IsOffered, fields_of, schema_tree, IsByte}
+use Rattle.app_documents.proofs.Scalars.{AreScalars, HasScalars, text_scalars}
 use Rattle.app_documents.proofs.Steps.{has_field, ends, one_of_two, same_element, no_children}
 
 -- ---- values
 
-pub is_text : (most : ℕ) (entries after : Entries) (name : ℕ) (value : Value) (bits : List Bool) → SpellsValue (datatype.Text most) entries name value bits after →
-    (chars : List ℕ) × (value ≡ Text chars) × (length chars ≤ most)
-is_text most entries after name (Truth truth) bits spelled = absurd spelled
-is_text most entries after name (Ordinal ordinal) bits spelled = absurd spelled
-is_text most entries after name (Number v) bits spelled = absurd spelled
-is_text most entries after name (Bytes bytes) bits spelled = absurd spelled
-is_text most entries after name (Text chars) bits spelled = (chars, refl, spelled.0.within)
+pub is_text : (most : ℕ) (entries after : Entries) (name : ℕ) (value : Value) (bits : List Bool) → HasScalars entries → SpellsValue (datatype.Text most) entries name value bits after →
+    (chars : List ℕ) × (value ≡ Text chars) × (length chars ≤ most) × AreScalars chars × HasScalars after
+is_text most entries after name (Truth truth) bits all spelled = absurd spelled
+is_text most entries after name (Ordinal ordinal) bits all spelled = absurd spelled
+is_text most entries after name (Number v) bits all spelled = absurd spelled
+is_text most entries after name (Bytes bytes) bits all spelled = absurd spelled
+is_text most entries after name (Text chars) bits all spelled =
+    let scalars = text_scalars most entries after name chars bits all spelled.0 in
+    (chars, refl, spelled.0.within, scalars.0, scalars.1)
 
 pub is_unsigned : (most : ℕ) (entries after : Entries) (name : ℕ) (value : Value) (bits : List Bool) → SpellsValue (datatype.Unsigned most) entries name value bits after →
-    (n : ℕ) × (value ≡ Number (pos n)) × (n ≤ most)
+    (n : ℕ) × (value ≡ Number (pos n)) × (n ≤ most) × (after ≡ entries)
 is_unsigned most entries after name (Truth truth) bits spelled = absurd spelled
 is_unsigned most entries after name (Ordinal ordinal) bits spelled = absurd spelled
-is_unsigned most entries after name (Number (pos n)) bits spelled = (n, refl, spelled.0)
+is_unsigned most entries after name (Number (pos n)) bits spelled = (n, refl, spelled.0, spelled.2)
 is_unsigned most entries after name (Number (negsuc n)) bits spelled = absurd spelled
 is_unsigned most entries after name (Bytes bytes) bits spelled = absurd spelled
 is_unsigned most entries after name (Text chars) bits spelled = absurd spelled
 
 pub is_bounded : (least count : ℕ) (entries after : Entries) (name : ℕ) (value : Value) (bits : List Bool) → SpellsValue (datatype.Bounded (pos least) count) entries name value bits after →
-    (n : ℕ) × (value ≡ Number (pos n)) × (least ≤ n) × (n < least + count)
+    (n : ℕ) × (value ≡ Number (pos n)) × (least ≤ n) × (n < least + count) × (after ≡ entries)
 is_bounded least count entries after name (Truth truth) bits spelled = absurd spelled
 is_bounded least count entries after name (Ordinal ordinal) bits spelled = absurd spelled
 is_bounded least count entries after name (Number v) bits spelled =
     let below = spelled.0.2.below in
-    (least + spelled.0.0, ap Number spelled.0.1, omega arith, omega (arith, below))
+    (least + spelled.0.0, ap Number spelled.0.1, omega arith, omega (arith, below), spelled.1)
 is_bounded least count entries after name (Bytes bytes) bits spelled = absurd spelled
 is_bounded least count entries after name (Text chars) bits spelled = absurd spelled
 
@@ -60,11 +63,11 @@ field_is name a value v more rest one two three = ap (λ n. simple n value more)
 abbrev pub behind : ℕ → ℕ → Place
 behind kind particle = record { kind = kind; particle = particle; copies = 0; attributes = 0 }
 
-pub is_protocol : (ks : List Declaration) (entries : Entries) (trees : Trees) (bits : List Bool) (after : Entries) → plain_kinds ks ≡ kinds →
-    SpellsTrees SpellsValue ks (first 5) entries trees bits after → (p : Offered) × IsOffered p × (trees ≡ fields_of p)
-is_protocol ks entries trees bits after are spelled =
+pub is_protocol : (ks : List Declaration) (entries : Entries) (trees : Trees) (bits : List Bool) (after : Entries) → plain_kinds ks ≡ kinds → HasScalars entries →
+    SpellsTrees SpellsValue ks (first 5) entries trees bits after → (p : Offered) × IsOffered p × (trees ≡ fields_of p) × HasScalars after
+is_protocol ks entries trees bits after are all spelled =
     let f0 = has_field ks kinds (first 5) (behind 5 1) 3 0 (datatype.Text 100) entries trees bits after are refl refl spelled in
-    let v0 = is_text 100 entries f0.middle 3 f0.value f0.inside f0.spelled in
+    let v0 = is_text 100 entries f0.middle 3 f0.value f0.inside all f0.spelled in
     let f1 = has_field ks kinds (behind 5 1) (behind 5 2) 4 1 (datatype.Unsigned 4294967295) f0.middle f0.more f0.rest after are refl refl f0.others in
     let v1 = is_unsigned 4294967295 f0.middle f1.middle 4 f1.value f1.inside f1.spelled in
     let f2 = has_field ks kinds (behind 5 2) (behind 5 3) 5 1 (datatype.Unsigned 4294967295) f1.middle f1.more f1.rest after are refl refl f1.others in
@@ -73,19 +76,21 @@ is_protocol ks entries trees bits after are spelled =
     let v3 = is_bounded 0 256 f2.middle f3.middle 6 f3.value f3.inside f3.spelled in
     let f4 = has_field ks kinds (behind 5 4) (behind 5 5) 7 3 (datatype.Bounded (pos 1) 20) f3.middle f3.more f3.rest after are refl refl f3.others in
     let v4 = is_bounded 1 20 f3.middle f4.middle 7 f4.value f4.inside f4.spelled in
-    let last = ends ks kinds (behind 5 5) f4.middle f4.more f4.rest after are refl f4.others in (
+    let last = ends ks kinds (behind 5 5) f4.middle f4.more f4.rest after are refl f4.others in
+    let after_is = last.1 ∙ v4.4 ∙ v3.4 ∙ v2.3 ∙ v1.3 in (
       record { namespace = v0.0; major = v1.0; minor = v2.0; schema = v3.0; priority = v4.0 },
-      record { namespace_fits = v0.2; major_fits = omega (arith, v1.2); minor_fits = omega (arith, v2.2); schema_fits = omega (arith, v3.3); priority_least = v4.2; priority_most = omega (arith, v4.3) },
+      record { namespace_fits = v0.2; namespace_chars = v0.3; major_fits = omega (arith, v1.2); minor_fits = omega (arith, v2.2); schema_fits = omega (arith, v3.3); priority_least = v4.2; priority_most = omega (arith, v4.3) },
       f0.trees_are ∙ field_is 3 3 f0.value (Text v0.0) f0.more _ refl v0.1
           (f1.trees_are ∙ field_is 4 4 f1.value (Number (pos v1.0)) f1.more _ refl v1.1
           (f2.trees_are ∙ field_is 5 5 f2.value (Number (pos v2.0)) f2.more _ refl v2.1
           (f3.trees_are ∙ field_is 6 6 f3.value (Number (pos v3.0)) f3.more _ refl v3.1
-          (f4.trees_are ∙ field_is 7 7 f4.value (Number (pos v4.0)) f4.more none refl v4.1 last)))),
+          (f4.trees_are ∙ field_is 7 7 f4.value (Number (pos v4.0)) f4.more none refl v4.1 last.0)))),
+      subst (λ (es : Entries). HasScalars es) (sym after_is) v0.4,
     )
 
 -- the value of an element of kind 2
 pub byte_of : (ks : List Declaration) (entries after : Entries) (name kind : ℕ) (value : Value) (bits : List Bool) → plain_kinds ks ≡ kinds → kind ≡ 2 →
-    SpellsSimple SpellsValue ks kind entries name value bits after → (n : ℕ) × (value ≡ Number (pos n)) × (0 ≤ n) × (n < 0 + 256)
+    SpellsSimple SpellsValue ks kind entries name value bits after → (n : ℕ) × (value ≡ Number (pos n)) × (0 ≤ n) × (n < 0 + 256) × (after ≡ entries)
 byte_of ks entries after name kind value bits are is spelled =
     let kind_is : simple_at ks kind ≡ Some (datatype.Bounded (pos 0) 256) = ap (λ k. simple_at ks k) is ∙ simple_plain ks 2 ∙ ap (λ p. plain_simple_at p 2) are in
     let d_is : spelled.datatype ≡ datatype.Bounded (pos 0) 256 = let both : Some spelled.datatype ≡ Some (datatype.Bounded (pos 0) 256) = sym spelled.is_simple ∙ kind_is in cc in
@@ -102,7 +107,7 @@ is_schema_tree ks entries (simple name value more) bits after are spelled =
           let same = same_element name spelled.0 6 2 spelled.1 (behind 7 2) is in
           let f = byte_of ks entries spelled.2 name spelled.0 value spelled.4 are same.1 spelled.7 in
           let last = ends ks kinds (behind 7 2) spelled.2 more spelled.5 after are refl (subst (λ p. SpellsTrees SpellsValue ks p spelled.2 more spelled.5 after) same.2 spelled.8) in
-          (Some f.0, omega (arith, f.3), field_is name 6 value (Number (pos f.0)) more none same.0 f.1 last)
+          (Some f.0, omega (arith, f.3), field_is name 6 value (Number (pos f.0)) more none same.0 f.1 last.0)
       | inr is ↦ absurd cc
     ]
 is_schema_tree ks entries (complex name attributes children more) bits after are spelled =

@@ -19,6 +19,7 @@ use Rattle.plain_schema.specs.Plain.{plain_kinds, plain_simple_at, plain_offers}
 use Rattle.plain_schema.proofs.Plainly.{simple_plain}
 use Rattle.app_documents.specs.Declarations.{kinds, roots, IsNegotiation}
 use Rattle.app_documents.specs.Trees.{Offered, IsOffered, Message, Request, Response, IsMessage, IsByte, fields_of, protocol_trees, tree_of, number_of, schema_tree}
+use Rattle.app_documents.proofs.Scalars.{HasScalars}
 use Rattle.app_documents.proofs.Steps.{only, offered, the_step, same_element, has_field}
 use Rattle.app_documents.proofs.Fields.{is_protocol, is_schema_tree, is_ordinal, field_is, behind}
 use Rattle.exi_schema.specs.declared.tables.Datatype.TheVariants as datatype
@@ -34,8 +35,8 @@ not_simple ks kind P are complex_kind V entries after name value bits spelled =
 -- no attribute is offered where an element comes first
 pub no_attribute : (ks : List Declaration) (here : Place) (a b : ℕ) (q : Place) (entries within : Entries) (attributes : List (ℕ × Value)) (front : List Bool) (there : Place) →
     plain_kinds ks ≡ kinds → plain_offers kinds here ≡ Element a b q Taken false ∷ [] →
-    SpellsAttributes SpellsValue ks here entries attributes front there within → (attributes ≡ []) × (there ≡ here)
-no_attribute ks here a b q entries within [] front there are one spelled = (refl, spelled.1)
+    SpellsAttributes SpellsValue ks here entries attributes front there within → (attributes ≡ []) × (there ≡ here) × (within ≡ entries)
+no_attribute ks here a b q entries within [] front there are one spelled = (refl, spelled.1, spelled.2)
 no_attribute ks here a b q entries within (x ∷ xs) front there are one spelled =
     let is = the_step ks kinds here _ _ _ are one spelled.7 in absurd cc
 
@@ -86,14 +87,14 @@ pub protocol_is : (name : ℕ) (attributes : List (ℕ × Value)) (children more
 protocol_is name attributes children more p ps one two three four =
     ap (λ n. complex n attributes children more) one ∙ ap (λ a. complex 2 a children more) two ∙ ap (λ c. complex 2 [] c more) three ∙ ap (λ m. complex 2 [] (fields_of p) m) four
 
-pub are_protocols : (ks : List Declaration) (n : ℕ) (entries : Entries) (trees : Trees) (bits : List Bool) (after : Entries) → plain_kinds ks ≡ kinds → n ≤ 20 →
+pub are_protocols : (ks : List Declaration) (n : ℕ) (entries : Entries) (trees : Trees) (bits : List Bool) (after : Entries) → plain_kinds ks ≡ kinds → n ≤ 20 → HasScalars entries →
     SpellsTrees SpellsValue ks (at_copy n) entries trees bits after → AreProtocols n trees
-are_protocols ks n entries none bits after are few spelled =
+are_protocols ks n entries none bits after are few all spelled =
     elim (step_at ks (nat_lt n 20) n _ _ are refl few spelled.0) [
       | inl same ↦ let is = same.0 in absurd cc
       | inr same ↦ record { protocols = []; few = omega (arith, few); some = omega (arith, same.1); all = tt {0}; trees_are = refl }
     ]
-are_protocols ks n entries (simple name value more) bits after are few spelled =
+are_protocols ks n entries (simple name value more) bits after are few all spelled =
     elim (step_at ks (nat_lt n 20) n _ _ are refl few spelled.6) [
       | inl same ↦
           let is = same_element name spelled.0 2 5 spelled.1 (at_copy (n + 1)) same.0 in
@@ -101,15 +102,16 @@ are_protocols ks n entries (simple name value more) bits after are few spelled =
           not_simple ks 5 _ are refl SpellsValue entries spelled.2 name value spelled.4 (subst P is.1 spelled.7)
       | inr same ↦ let is = same.0 in absurd cc
     ]
-are_protocols ks n entries (complex name attributes children more) bits after are few spelled =
+are_protocols ks n entries (complex name attributes children more) bits after are few all spelled =
     elim (step_at ks (nat_lt n 20) n _ _ are refl few spelled.9) [
       | inl same ↦
           let is = same_element name spelled.0 2 5 spelled.1 (at_copy (n + 1)) same.0 in
           let P : ℕ → Type 0 = λ k. SpellsAttributes SpellsValue ks (first k) entries attributes spelled.6 spelled.2 spelled.3 in
           let bare = no_attribute ks (first 5) 3 0 (behind 5 1) entries spelled.3 attributes spelled.6 spelled.2 are refl (subst P is.1 spelled.10) in
           let inside : SpellsTrees SpellsValue ks (first 5) spelled.3 children spelled.7 spelled.4 = subst (λ p. SpellsTrees SpellsValue ks p spelled.3 children spelled.7 spelled.4) bare.1 spelled.11 in
-          let p = is_protocol ks spelled.3 children spelled.7 spelled.4 are inside in
-          let others = are_protocols ks (n + 1) spelled.4 more spelled.8 after are (omega (arith, same.1)) (subst (λ q. SpellsTrees SpellsValue ks q spelled.4 more spelled.8 after) is.2 spelled.12) in
+          let scalars = subst (λ (es : Entries). HasScalars es) (sym bare.2) all in
+          let p = is_protocol ks spelled.3 children spelled.7 spelled.4 are scalars inside in
+          let others = are_protocols ks (n + 1) spelled.4 more spelled.8 after are (omega (arith, same.1)) p.3 (subst (λ q. SpellsTrees SpellsValue ks q spelled.4 more spelled.8 after) is.2 spelled.12) in
           record {
             protocols = p.0 ∷ others.protocols;
             few = let f = others.few in omega (arith, f);
@@ -138,11 +140,11 @@ root_is number name kind (suc zero) is =
     inr (root_parts (root_of 1 1 7) (root_of number name kind) e)
 root_is number name kind (suc (suc i)) is = absurd cc
 
-pub request_is : (ks : List Declaration) (entries : Entries) (name : ℕ) (attributes : List (ℕ × Value)) (children : Trees) (bits : List Bool) (after : Entries) → plain_kinds ks ≡ kinds →
+pub request_is : (ks : List Declaration) (entries : Entries) (name : ℕ) (attributes : List (ℕ × Value)) (children : Trees) (bits : List Bool) (after : Entries) → plain_kinds ks ≡ kinds → HasScalars entries →
     SpellsTree SpellsValue ks 6 entries (Complex name attributes children) bits after → (attributes ≡ []) × AreProtocols 0 children
-request_is ks entries name attributes children bits after are spelled =
+request_is ks entries name attributes children bits after are all spelled =
     let bare = no_attribute ks (first 6) 2 5 (at_copy 1) entries spelled.1 attributes spelled.2 spelled.0 are refl spelled.4 in
-    (bare.0, are_protocols ks 0 spelled.1 children spelled.3 after are (omega arith) (subst (λ p. SpellsTrees SpellsValue ks p spelled.1 children spelled.3 after) bare.1 spelled.5))
+    (bare.0, are_protocols ks 0 spelled.1 children spelled.3 after are (omega arith) (subst (λ (es : Entries). HasScalars es) (sym bare.2) all) (subst (λ p. SpellsTrees SpellsValue ks p spelled.1 children spelled.3 after) bare.1 spelled.5))
 
 pub record IsResponse (children : Trees) : Type 0 where
   pub code : ℕ
@@ -176,7 +178,7 @@ by_tree ks number kind (Simple name value) bits after are (inl root) spelled =
 by_tree ks number kind (Simple name value) bits after are (inr root) spelled =
     not_simple ks 7 _ are refl SpellsValue [] after name value bits (subst (λ k. SpellsSimple SpellsValue ks k [] name value bits after) root.2 spelled)
 by_tree ks number kind (Complex name attributes children) bits after are (inl root) spelled =
-    let r = request_is ks [] name attributes children bits after are (subst (λ k. SpellsTree SpellsValue ks k [] (Complex name attributes children) bits after) root.2 spelled) in
+    let r = request_is ks [] name attributes children bits after are (tt {0}) (subst (λ k. SpellsTree SpellsValue ks k [] (Complex name attributes children) bits after) root.2 spelled) in
     let ps = r.1 in
     let few = ps.few in let some = ps.some in
     (Request ps.protocols, (omega (arith, some), omega (arith, few), ps.all), root_tree name attributes children (protocol_trees ps.protocols) 0 root.1 r.0 ps.trees_are, root.0)

@@ -112,8 +112,8 @@ has_field ks plain here q a b d entries (complex name attributes children more) 
 
 -- nothing but the end
 pub ends : (ks : List Declaration) (plain : List PlainKind) (here : Place) (entries : Entries) (trees : Trees) (bits : List Bool) (after : Entries) →
-    plain_kinds ks ≡ plain → plain_offers plain here ≡ End ∷ [] → SpellsTrees SpellsValue ks here entries trees bits after → trees ≡ none
-ends ks plain here entries none bits after are one spelled = refl
+    plain_kinds ks ≡ plain → plain_offers plain here ≡ End ∷ [] → SpellsTrees SpellsValue ks here entries trees bits after → (trees ≡ none) × (after ≡ entries)
+ends ks plain here entries none bits after are one spelled = (refl, spelled.1)
 ends ks plain here entries (simple name value more) bits after are one spelled =
     let is = the_step ks plain here _ _ _ are one spelled.6 in absurd cc
 ends ks plain here entries (complex name attributes children more) bits after are one spelled =

@@ -1,5 +1,6 @@
 -- ISO 15118-2:2014 section 8.2: the tree of a request and of a response.
 use Rattle.std.specs.Prelude.{ℕ, pos, ◌<◌, ◌≤◌, ◌^◌, List, [], ◌∷◌, length, Option, Some, None}
+use Rattle.std.specs.Char.{IsScalar}
 use Rattle.std.specs.List.{AllByRecursion}
 use Rattle.exi_documents.specs.Trees.{Ordinal, Number, Text, Trees, none, simple, complex, Tree, Complex}
 
@@ -18,6 +19,7 @@ pub data Message : Type 0 where
 -- within the declared ranges
 pub record IsOffered (p : Offered) : Type 0 where
   pub namespace_fits : length p.namespace ≤ 100
+  pub namespace_chars : AllByRecursion (λ char. IsScalar char) p.namespace
   pub major_fits : p.major < 2 ^ 32
   pub minor_fits : p.minor < 2 ^ 32
   pub schema_fits : p.schema < 256

@@ -2,11 +2,11 @@
 //! its messages.
 #![tactic(auto)]
 
-ghost use Rattle.std.specs.Prelude.{◌≡◌, ℕ, Bool, List};
+ghost use Rattle.std.specs.Prelude.{◌≡◌, ℕ, ◌*◌, ◌≤◌, Bool, List, length};
 ghost use Rattle.exi_schema.specs.declared.schema.Schema.{Schema};
 ghost use Rattle.exi_documents.specs.Documents.{SpellsDocument};
 ghost use Rattle.exi_documents.specs.Trees.{Tree};
-ghost use Rattle.exi_documents.specs.Values.{SpellsValue};
+ghost use Rattle.exi_documents.specs.Values.{SpellsValue, WritesValue};
 ghost use Rattle.app_documents.specs.Declarations.{IsNegotiation};
 ghost use Rattle.app_documents.specs.Trees.{Message, IsMessage, tree_of, number_of};
 
@@ -14,4 +14,15 @@ ghost use Rattle.app_documents.specs.Trees.{Message, IsMessage, tree_of, number_
 pub fn documents_are_messages()
     ensures { (s : Schema) → IsNegotiation s → (number : ℕ) (tree : Tree) (bits : List Bool) → SpellsDocument SpellsValue s number tree bits
         → (m : Message) × IsMessage m × (tree ≡ tree_of m) × (number ≡ number_of m) }
+{}
+
+/// Each message within its ranges is written by some bits, no more than 32,768 bytes hold.
+pub fn messages_are_written()
+    ensures { (s : Schema) → IsNegotiation s → (m : Message) → IsMessage m
+        → (bits : List Bool) × SpellsDocument WritesValue s (number_of m) (tree_of m) bits × (length bits ≤ 8 * 32768) }
+{}
+
+/// A tree is that of one message.
+pub fn one_message()
+    ensures { (m n : Message) → tree_of m ≡ tree_of n → m ≡ n }
 {}

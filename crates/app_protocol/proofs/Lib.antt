@@ -4,4 +4,5 @@ pub mod Spelled
 pub mod Newest
 pub mod Folded
 pub mod Read
+pub mod Printed
 pub mod Named

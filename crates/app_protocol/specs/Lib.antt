@@ -4,3 +4,4 @@ pub mod Winning
 pub mod Response
 pub mod Building
 pub mod Documents
+pub mod Printing

@@ -4,6 +4,7 @@
 mod builder;
 mod message;
 mod negotiation;
+mod printing;
 mod reading;
 mod schema;
 mod writing;
@@ -13,7 +14,9 @@ pub use exi_documents::{Refusal, RefusalCause};
 pub use exi_events::Table;
 pub use message::{AppCode, AppMessage, AppProtocol, AppReq, AppRes};
 pub use negotiation::negotiate;
+pub use printing::print;
 pub use reading::read_app;
+pub use tree_text::PrintFault;
 pub use writing::write_response;
 
 #[cfg(test)]
