@@ -1,2 +1,3 @@
-pub mod OneWord
+pub mod HexLengths
+pub mod WordLists
 pub mod Unbegun

@@ -1,6 +1,31 @@
--- Own: the words of the program's commands.
-use Rattle.std.specs.Prelude.{◌≡◌, ℕ, List, [], ◌∷◌, codes}
+-- Own: the words of the program's commands. A word that begins with `-` is in none.
+use Rattle.std.specs.Prelude.{◌≡◌, ℕ, List, [], ◌∷◌, ◌++◌, codes}
+use Rattle.charge_run.specs.declared.words.Command.{Command}
+use Rattle.charge_run.specs.declared.words.Command.TheVariants.{Station, Decode}
 
 -- the one word `station`: serves post 1
 abbrev pub IsStation : List (List ℕ) → Type 0
 IsStation words = words ≡ codes "station" ∷ []
+
+-- a word that may stand for a value
+abbrev pub IsPlainWord : List ℕ → Type 0
+IsPlainWord word = (rest : List ℕ) → word ≡ codes "-" ++ rest → ⊥
+
+-- a command, the word `app`, and a value
+pub record IsApplied (command : List ℕ) (words : List (List ℕ)) (value : List ℕ) : Type 0 where
+  pub words_are : words ≡ command ∷ codes "app" ∷ value ∷ []
+  pub plain : IsPlainWord value
+
+-- `decode app HEX`: prints the tree text of a payload of the negotiation
+abbrev pub IsDecode : List (List ℕ) → List ℕ → Type 0
+IsDecode words hex = IsApplied (codes "decode") words hex
+
+-- the words are this command
+abbrev pub IsCommand : List (List ℕ) → Command → Type 0
+IsCommand words Station = IsStation words
+IsCommand words (Decode hex) = IsDecode words hex.now
+
+-- the words are none
+pub record IsNoCommand (words : List (List ℕ)) : Type 0 where
+  pub not_station : IsStation words → ⊥
+  pub not_decode : (hex : List ℕ) → IsDecode words hex → ⊥

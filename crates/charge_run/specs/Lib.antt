@@ -1,5 +1,9 @@
+pub use Rattle.app_protocol.specs.Documents
+pub use Rattle.app_protocol.specs.Printing
 pub use Rattle.site_core.specs.Judging
 pub use Rattle.site_core.specs.Serving
 pub mod ReportLine
+pub mod FaultLines
+pub mod HexText
 pub mod Command
 pub mod Runs

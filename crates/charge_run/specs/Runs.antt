@@ -1,14 +1,22 @@
 -- Own: what a run of the program leaves.
 use Rattle.std.specs.Prelude.{◌≡◌, ◌⊎◌, ℕ, List, [], ◌∷◌, ◌++◌, Option, Some, None, IfSome, IsSomeAnd, codes}
+use Rattle.std.specs.Str.{chars}
 use Rattle.charge_world.specs.declared.entry.Entry.{Entry}
 use Rattle.charge_world.specs.declared.offer.Dialect.{Dialect}
 use Rattle.charge_world.specs.declared.offer.Dialect.TheVariants.{Iso, Din}
 use Rattle.charge_world.specs.Outside.{Appends, AppendsSome}
+use Rattle.exi_documents.specs.declared.refusal.RefusalCause.{RefusalCause}
+use Rattle.app_protocol.specs.Documents.{IsAppRefused}
+use Rattle.app_protocol.specs.Printing.{IsPrinted}
 use Rattle.site_core.specs.declared.report.PostReport.{PostReport}
 use Rattle.site_core.specs.declared.serving.Ended.{Ended}
 use Rattle.site_core.specs.declared.serving.Ended.TheVariants as ended
 use Rattle.site_core.specs.Serving.{EndedAs}
+use Rattle.charge_run.specs.FaultLines.{input_line, wire_line}
+use Rattle.charge_run.specs.HexText.{hex_fault, IsHexOf}
 use Rattle.charge_run.specs.ReportLine.{report_line}
+use Rattle.charge_run.specs.declared.fault.InputFault.{InputFault}
+use Rattle.charge_run.specs.declared.fault.InputFault.TheVariants.{Place, Memory}
 use Rattle.charge_run.specs.declared.status.Status.{Status}
 use Rattle.charge_run.specs.declared.status.Status.TheVariants as status
 
@@ -23,6 +31,8 @@ number_of status.SinkFault = 6
 number_of status.SourceFault = 7
 number_of status.TurnsSpent = 8
 
+-- ---- station
+
 abbrev pub both_dialects : List Dialect
 both_dialects = Iso ∷ Din ∷ []
 
@@ -33,7 +43,7 @@ Ran status.TurnsSpent past = EndedAs 1000000 ended.Turns past
 Ran status.WireFault past = EndedAs 1000000 ended.Lost past ⊎ (past ≡ [])
 Ran status.SinkFault past = EndedAs 1000000 ended.Over past ⊎ EndedAs 1000000 ended.Turns past
 Ran status.NoMemory past = past ≡ []
-Ran status.Words past = past ≡ []
+Ran status.Words past = ⊥
 Ran status.Plan past = ⊥
 Ran status.Input past = ⊥
 Ran status.SourceFault past = ⊥
@@ -49,14 +59,57 @@ abbrev pub AppendsTurns : Option (List ℕ) → Option (List ℕ) → List ℕ �
 AppendsTurns before after line =
     IfSome after (λ new. IsSomeAnd before (λ old. (front : List ℕ) × (rest : List ℕ) × (codes "turns\n" ≡ front ++ rest) × (new ≡ old ++ line ++ front)))
 
--- what the output holds then: the report line, or a front of it where it was not written, and nothing else
+-- what the output holds then: the report line, or a front of it where it was not written, or a front of the fault's line, and
+-- nothing else
 abbrev pub Outputs : Status → PostReport → Option (List ℕ) → Option (List ℕ) → Type 0
 Outputs status.Done report before after = Appends before after (report_line 1 report)
 Outputs status.TurnsSpent report before after = AppendsTurns before after (report_line 1 report)
 Outputs status.SinkFault report before after = AppendsSome before after (report_line 1 report)
-Outputs status.WireFault report before after = after ≡ before
+Outputs status.WireFault report before after = AppendsSome before after wire_line
 Outputs status.NoMemory report before after = after ≡ before
-Outputs status.Words report before after = after ≡ before
+Outputs status.Words report before after = ⊥
 Outputs status.Plan report before after = ⊥
 Outputs status.Input report before after = ⊥
 Outputs status.SourceFault report before after = ⊥
+
+-- ---- decode
+
+-- hexadecimal text of a payload, and the text of the message that the payload spells
+abbrev pub IsDecoded : List ℕ → List ℕ → Type 0
+IsDecoded hex text = (payload : List ℕ) × IsHexOf hex payload × IsPrinted payload text
+
+-- the payload is refused at this bit
+pub record IsPayloadFault (hex : List ℕ) (bit : ℕ) : Type 0 where
+  pub payload : List ℕ
+  pub why : RefusalCause
+  pub spelled : IsHexOf hex payload
+  pub refused : IsAppRefused payload why bit
+
+-- the text is refused at this character, or its payload at this bit
+abbrev pub IsDecodeFault : List ℕ → ℕ → Type 0
+IsDecodeFault hex n = (hex_fault (chars hex) ≡ Some n) ⊎ IsPayloadFault hex n
+
+-- why there is no line. Want of memory comes freely
+abbrev pub HasHexFault : List ℕ → InputFault → Type 0
+HasHexFault hex (Place n) = hex_fault (chars hex) ≡ Some n
+HasHexFault hex Memory = Unit {0}
+
+abbrev pub HasDecodeFault : List ℕ → InputFault → Type 0
+HasDecodeFault hex (Place n) = IsDecodeFault hex n
+HasDecodeFault hex Memory = Unit {0}
+
+-- the line of a message
+abbrev pub IsDecodedLine : List ℕ → List ℕ → Type 0
+IsDecodedLine hex line = (text : List ℕ) × IsDecoded hex text × (line ≡ text ++ codes "\n")
+
+-- what the output holds by the status: the line, or a front of it where it was not written, or a front of the fault's line
+abbrev pub Decodes : List ℕ → Status → Option (List ℕ) → Option (List ℕ) → Type 0
+Decodes hex status.Done before after = (line : List ℕ) × IsDecodedLine hex line × Appends before after line
+Decodes hex status.SinkFault before after = (line : List ℕ) × IsDecodedLine hex line × AppendsSome before after line
+Decodes hex status.Input before after = (n : ℕ) × IsDecodeFault hex n × AppendsSome before after (input_line n)
+Decodes hex status.NoMemory before after = after ≡ before
+Decodes hex status.Words before after = ⊥
+Decodes hex status.Plan before after = ⊥
+Decodes hex status.WireFault before after = ⊥
+Decodes hex status.SourceFault before after = ⊥
+Decodes hex status.TurnsSpent before after = ⊥

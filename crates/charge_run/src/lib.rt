@@ -1,7 +1,12 @@
 //! All that the program does, as one call.
 #![tactic(auto)]
 
+mod decode;
+mod fault;
+mod hex_text;
+mod line;
 mod report;
+mod station;
 mod status;
 mod top;
 mod words;

@@ -4,12 +4,8 @@ ghost use Rattle.std.specs.Prelude.{◌≡◌, ◌+◌, ◌≤◌, ◌++◌, len
 ghost use Rattle.arrayvec.specs.ArrayVec.{array_vec_len};
 ghost use Rattle.charge_run.specs.ReportLine.{hex8, report_line};
 
-use arrayvec::ArrayVec;
-use itoa::Buffer;
+use crate::line::{Line, add, add_number};
 use site_core::{CauseSet, PostReport};
-
-/// A line of text, without its own memory.
-pub(crate) type Line = ArrayVec<u8, 128>;
 
 /// The report line of a post.
 #[tactic(auto, unfolding(crate::specs::ReportLine::report_line))]
@@ -27,23 +23,6 @@ pub(crate) fn line_of(post: u8, report: &PostReport) -> Line
     add_causes(&mut line, report.causes);
     add(&mut line, b"\n");
     line
-}
-
-fn add(line: &mut Line, text: &[u8])
-    requires { array_vec_len line.old + length text.now ≤ 128 }
-    ensures items { line.new.items ≡ line.old.items ++ text.now }
-    ensures len { array_vec_len line.new ≡ array_vec_len line.old + length text.now }
-{
-    line.try_extend_from_slice(text).unwrap();
-}
-
-fn add_number(line: &mut Line, n: u64)
-    requires { array_vec_len line.old + 20 ≤ 128 }
-    ensures items { line.new.items ≡ line.old.items ++ decimal n }
-    ensures len { array_vec_len line.new ≤ array_vec_len line.old + 20 }
-{
-    let mut digits = Buffer::new();
-    add(line, digits.format(n).as_bytes());
 }
 
 fn add_causes(line: &mut Line, causes: CauseSet)

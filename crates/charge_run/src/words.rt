@@ -1,8 +1,8 @@
 //! The words of the command line.
 
-ghost use Rattle.std.specs.Prelude.{◌≡◌, ◌↔◌, length, map, string_bytes, IsTrue, slice_get, codes};
+ghost use Rattle.std.specs.Prelude.{◌≡◌, ◌↔◌, length, map, string_bytes, IsTrue, slice_get, codes, List, ℕ, IfSome, IfNone};
 ghost use Rattle.std.specs.Option.{option_copied};
-ghost use Rattle.charge_run.specs.Command.{IsStation};
+ghost use Rattle.charge_run.specs.Command.{IsApplied, IsCommand, IsNoCommand};
 
 use std::marker::Model;
 
@@ -54,15 +54,46 @@ impl WordList {
     }
 }
 
-/// Whether the words are the one command of this stage.
-pub(crate) fn is_station(words: &WordList) -> bool
-    ensures { IsTrue result ↔ IsStation words.now }
+/// A command.
+#[derive(Clone, Copy)]
+pub(crate) enum Command<'a> {
+    /// Serves a station.
+    Station,
+    /// Prints the text of a payload of the negotiation.
+    Decode { hex: &'a str },
+}
+
+/// The command that the words are; `None` exactly where they are none.
+#[tactic(auto, using(crate::proofs::WordLists::one_word))]
+pub(crate) fn command_of(words: &WordList) -> Option<Command<'_>>
+    ensures command { IfSome result (IsCommand words.now) }
+    ensures none { IfNone result (IsNoCommand words.now) }
 {
-    if words.len() != 1 {
-        return false;
+    if words.len() == 1 && is_at(words, 0, "station") {
+        return Some(Command::Station);
     }
-    match words.get(0) {
-        Some(word) => word == "station",
+    let hex = value_of(words, "decode")?;
+    Some(Command::Decode { hex })
+}
+
+/// The value of a command of three words, of which the second is `app`; `None` exactly where the words are no such command.
+fn value_of<'a>(words: &'a WordList, command: &str) -> Option<&'a str>
+    ensures value { IfSome result (λ value. IsApplied command.now words.entry.now value.now) }
+    ensures none { IfNone result ((value : List ℕ) → IsApplied command.now words.entry.now value → ⊥) }
+{
+    if words.len() != 3 || !is_at(words, 0, command) || !is_at(words, 1, "app") {
+        return None;
+    }
+    let value = words.get(2)?;
+    if value.starts_with("-") { None } else { Some(value) }
+}
+
+/// Whether the word at that place is this one.
+fn is_at(words: &WordList, i: usize, text: &str) -> bool
+    ensures { IsTrue result ↔ (slice_get words.now i ≡ Some text.now) }
+{
+    match words.get(i) {
+        Some(word) => word == text,
         None => false,
     }
 }

@@ -1,0 +1,49 @@
+//! The command that prints the tree text of a payload.
+
+ghost use Rattle.std.specs.Prelude.{◌≡◌, ◌<◌, IfOk, IfErr};
+ghost use Rattle.std.specs.String.{string_bytes};
+ghost use Rattle.charge_run.specs.Runs.{Decodes, IsDecodedLine, HasDecodeFault};
+
+use crate::fault::{InputFault, line_of_input, tell_fault};
+use crate::hex_text::bytes_of;
+use crate::status::Status;
+use app_protocol::{PrintFault, print};
+use charge_world::Sink;
+use std::alloc::Global;
+
+/// Prints the tree text of the message of the negotiation that a payload spells, which comes as hexadecimal text, as a line.
+///
+/// `Input` where the text spells no bytes or the payload no message. `NoMemory` leaves the output as it was.
+pub(crate) fn decode<K: Sink>(alloc: Global, hex: &str, out: &mut K) -> Status
+    ensures leaves { Decodes hex.now result (K.taken out.old) (K.taken out.new) }
+    ensures no_memory { result ≡ Status.NoMemory → K.faults out.new ≡ K.faults out.old }
+    ensures sink_fault { result ≡ Status.SinkFault → K.faults out.old < K.faults out.new }
+{
+    match line_of(alloc, hex) {
+        Ok(line) => match out.write(line.as_bytes()) {
+            Ok(()) => Status::Done,
+            Err(_) => Status::SinkFault,
+        },
+        Err(InputFault::Place(place)) => {
+            tell_fault(out, line_of_input(place).as_slice());
+            Status::Input
+        }
+        Err(InputFault::Memory) => Status::NoMemory,
+    }
+}
+
+/// The line that is printed.
+#[tactic(auto, using(crate::proofs::HexLengths::length_hex))]
+fn line_of(alloc: Global, hex: &str) -> Result<String, InputFault>
+    ensures line { IfOk result (λ line. IsDecodedLine hex.now (string_bytes line)) }
+    ensures fault { IfErr result (HasDecodeFault hex.now) }
+{
+    let payload = bytes_of(alloc, hex)?;
+    let mut line = match print(alloc, &payload) {
+        Ok(text) => text,
+        Err(PrintFault::Refused(refusal)) => return Err(InputFault::Place(u64::from(refusal.bit))),
+        Err(PrintFault::Memory) => return Err(InputFault::Memory),
+    };
+    line.push('\n')?;
+    Ok(line)
+}
