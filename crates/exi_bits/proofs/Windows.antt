@@ -1,8 +1,8 @@
 -- Numbers in whole octets, and what their bits are.
-use Rattle.std.proofs.Common.{◌≡◌, ◌≢◌, ℕ, zero, suc, ◌+◌, ◌-◌, ◌*◌, ◌/◌, ◌%◌, ◌^◌, ◌<◌, ◌≤◌, Bool, eqb, List, [], ◌∷◌, ◌++◌, length, get_or, take, drop, refl, sym, ap, subst, ◌∙◌, arith, zero-add, bit_or}
-use Rattle.std.proofs.Math.Nat.{mul-mod_left, pow-le-pow_right}
-use Rattle.std.proofs.lemmas.List.{length-take-le, length-drop, take-append-drop, take-take, take_at, drop_at, drop-drop, drop-take, drop_more, take_more}
-use Rattle.std.proofs.lemmas.Nat.{shr-shr, shr_split, shr_high, shr_below, shl-shr, mod-pow-add, or_shifted, pow-add, pow_pos, mod_below}
+use Rattle.std.proofs.Common.{◌≡◌, ◌≢◌, ℕ, zero, suc, ◌+◌, ◌-◌, ◌*◌, ◌/◌, ◌%◌, ◌^◌, ◌<◌, ◌≤◌, Bool, eqb, List, [], ◌∷◌, ◌++◌, length, get_or, take, drop, sym, ap, subst, ◌∙◌, arith, zero-add, append_assoc, bit_or}
+use Rattle.std.proofs.Math.Nat.{mul_comm, mul-mod_left, pow-le-pow_right}
+use Rattle.std.proofs.lemmas.List.{length-take-le, length-drop, take-append-drop, take-take, take_at, drop_at, drop-drop, drop-take, drop_more}
+use Rattle.std.proofs.lemmas.Nat.{shr-shr, shr_split, shr_high, shr_below, shl-shr, mod-pow-add, or_shifted, pow-add, pow_pos, mod_below, mul-add-lt, shl_whole}
 use Rattle.exi_spec.specs.Bits.{number_bits, bits_of}
 use Rattle.exi_spec.proofs.BitLaws.{length-number_bits, length-bits_of, number_bits-high}
 use Rattle.exi_bits.proofs.Penned.{bits_of-append, bits_of-one, bits_of-take}
@@ -75,54 +75,65 @@ window_there bytes first count window bit n behind w from to =
     ∙ ap (λ (l : List Bool). take n (drop bit all) ++ l) (sym (drop-drop n bit all))
     ∙ take-append-drop n (drop bit all))
 
--- ---- octets, one behind the others
+-- ---- one byte
 
--- the first octets are read
-pub record IsNumberOf (octets : List ℕ) (count number : ℕ) : Type 0 where
-  pub range : number < 2 ^ (8 * count)
-  pub spelled : number_bits (8 * count) number ≡ bits_of (take count octets)
+-- the byte at a bit
+abbrev byte_at : List ℕ → ℕ → ℕ
+byte_at bytes bit = get_or bytes (bit / 8) 0
 
-pub no_octets : (octets : List ℕ) → IsNumberOf octets 0 0
-unfolding number_bits bits_of
-no_octets octets = record { range = omega arith; spelled = refl }
+one_byte : (bytes : List ℕ) (bit : ℕ) → bit < 8 * length bytes → IsWindow bytes (bit / 8) 1 (byte_at bytes bit)
+one_byte bytes bit h =
+    let one : take 1 (drop (bit / 8) bytes) ≡ byte_at bytes bit ∷ [] = ap (λ (l : List ℕ). take 1 l) (drop_more bytes (bit / 8) 0 (omega arith)) in
+    record { within = omega arith; spelled = sym (ap bits_of one ∙ bits_of-one (byte_at bytes bit)) }
 
-pub one_octet_more : (octets : List ℕ) (i number octet : ℕ) → i < length octets → octet < 256 → octet ≡ get_or octets i 0 → IsNumberOf octets i number → IsNumberOf octets (i + 1) (256 * number + octet)
-one_octet_more octets i number octet less range octet_is p =
-    let eight : 8 * i + 8 ≡ 8 * (i + 1) = omega arith in
-    let swap : number * 2 ^ 8 + octet ≡ 256 * number + octet = omega arith in
-    let power : 2 ^ (8 * i + 8) ≡ 2 ^ (8 * i) * 2 ^ 8 = pow-add 2 (8 * i) 8 in
-    let below : 256 * number + octet < 2 ^ (8 * i + 8) = omega (arith, power, p.range, range) in
-    let last : number_bits 8 octet ≡ bits_of (get_or octets i 0 ∷ []) = ap (λ (n : ℕ). number_bits 8 n) octet_is ∙ sym (bits_of-one (get_or octets i 0)) in
+pub part_there : (bytes : List ℕ) (bit n behind : ℕ) → bit % 8 + n + behind ≡ 8 → bit < 8 * length bytes → drop bit (bits_of bytes) ≡ number_bits n (get_or bytes (bit / 8) 0 / 2 ^ behind % 2 ^ n) ++ drop (bit + n) (bits_of bytes)
+part_there bytes bit n behind sum h =
+    window_there bytes (bit / 8) 1 (byte_at bytes bit) bit n behind (one_byte bytes bit h) (omega arith) (omega arith)
+    ∙ ap (λ (l : List Bool). l ++ drop (bit + n) (bits_of bytes)) (sym (number_bits-mod n (byte_at bytes bit / 2 ^ behind)))
+
+-- ---- a number, part by part
+
+-- so many bits are read
+pub record ReadParts (bits : List Bool) (bit read value : ℕ) : Type 0 where
+  pub range : value < 2 ^ read
+  pub there : drop bit bits ≡ number_bits read value ++ drop (bit + read) bits
+
+pub nothing_read : (bits : List Bool) (bit : ℕ) → ReadParts bits bit 0 0
+unfolding number_bits
+nothing_read bits bit = record { range = omega arith; there = ap (λ (k : ℕ). drop k bits) (let e : bit ≡ bit + 0 = omega arith in e) }
+
+one_part_read : (bits : List Bool) (bit read value part more : ℕ) → ReadParts bits bit read value → more < 2 ^ part → drop (bit + read) bits ≡ number_bits part more ++ drop (bit + read + part) bits → ReadParts bits bit (read + part) (value * 2 ^ part + more)
+one_part_read bits bit read value part more p range there =
+    let power : 2 ^ (read + part) ≡ 2 ^ part * 2 ^ read = pow-add 2 read part ∙ mul_comm (2 ^ read) (2 ^ part) in
+    let below : value * 2 ^ part + more < 2 ^ part * 2 ^ read = mul-add-lt value (2 ^ part) more (2 ^ read) p.range range in
+    let on : bit + read + part ≡ bit + (read + part) = omega arith in
     record {
-      range = subst (λ (k : ℕ). 256 * number + octet < 2 ^ k) eight below;
-      spelled =
-          ap (λ (k : ℕ). number_bits k (256 * number + octet)) (sym eight)
-          ∙ ap (λ (w : ℕ). number_bits (8 * i + 8) w) (sym swap)
-          ∙ number_bits-join (8 * i) 8 number octet (omega arith)
-          ∙ ap (λ (l : List Bool). l ++ number_bits 8 octet) p.spelled
-          ∙ ap (λ (l : List Bool). bits_of (take i octets) ++ l) last
-          ∙ sym (bits_of-append (take i octets) (get_or octets i 0 ∷ []))
-          ∙ ap bits_of (sym (take_more octets i 0 less));
+      range = omega (arith, power, below);
+      there =
+          p.there
+          ∙ ap (λ (l : List Bool). number_bits read value ++ l) (there ∙ ap (λ (k : ℕ). number_bits part more ++ drop k bits) on)
+          ∙ sym (append_assoc (number_bits read value) (number_bits part more) (drop (bit + (read + part)) bits))
+          ∙ ap (λ (l : List Bool). l ++ drop (bit + (read + part)) bits) (sym (number_bits-join read part value more range));
     }
 
-pub number_fits : (octets : List ℕ) (i number : ℕ) → i < 5 → IsNumberOf octets i number → 256 * number + 255 < 2 ^ 64
-number_fits octets i number less p =
-    let up : 8 * i ≤ 32 = omega arith in
-    let within : 2 ^ (8 * i) ≤ 2 ^ 32 = pow-le-pow_right {n = 2} (omega arith) {i = 8 * i} {j = 32} up in
-    omega (arith, p.range, within)
+pub part_fits : (bits : List Bool) (bit read value part more : ℕ) → ReadParts bits bit read value → more < 2 ^ part → read + part ≤ 32 → value * 2 ^ part % 2 ^ 32 + more < 2 ^ 32
+part_fits bits bit read value part more p range fits =
+    let power : 2 ^ (read + part) ≡ 2 ^ part * 2 ^ read = pow-add 2 read part ∙ mul_comm (2 ^ read) (2 ^ part) in
+    let below : value * 2 ^ part + more < 2 ^ part * 2 ^ read = mul-add-lt value (2 ^ part) more (2 ^ read) p.range range in
+    let within : 2 ^ (read + part) ≤ 2 ^ 32 = pow-le-pow_right {n = 2} (omega arith) {i = read + part} {j = 32} fits in
+    omega (arith, power, below, within, shl_whole value read part 32 p.range fits)
 
--- ---- one octet at a bit
+pub shifted_part : (bits : List Bool) (bit read value part more : ℕ) → ReadParts bits bit read value → more < 2 ^ part → read + part ≤ 32 → drop (bit + read) bits ≡ number_bits part more ++ drop (bit + read + part) bits → ReadParts bits bit (read + part) (value * 2 ^ part % 2 ^ 32 + more)
+shifted_part bits bit read value part more p range fits there =
+    subst (λ (v : ℕ). ReadParts bits bit (read + part) (v + more)) (sym (shl_whole value read part 32 p.range fits))
+    (one_part_read bits bit read value part more p range there)
+
+-- ---- an octet
 
 pub whole_there : (bytes : List ℕ) (bit : ℕ) → bit % 8 ≡ 0 → bit + 8 ≤ 8 * length bytes → drop bit (bits_of bytes) ≡ number_bits 8 (get_or bytes (bit / 8) 0) ++ drop (bit + 8) (bits_of bytes)
 whole_there bytes bit whole within =
-    let k = bit / 8 in
-    let one : take 1 (drop k bytes) ≡ get_or bytes k 0 ∷ [] = ap (λ (l : List ℕ). take 1 l) (drop_more bytes k 0 (omega arith)) in
-    let w : IsWindow bytes k 1 (get_or bytes k 0) = record {
-      within = omega arith;
-      spelled = sym (ap bits_of one ∙ bits_of-one (get_or bytes k 0));
-    } in
-    let same : get_or bytes k 0 / 2 ^ 0 ≡ get_or bytes k 0 = omega arith in
-    window_there bytes k 1 (get_or bytes k 0) bit 8 0 w (omega arith) (omega arith)
+    let same : byte_at bytes bit / 2 ^ 0 ≡ byte_at bytes bit = omega arith in
+    window_there bytes (bit / 8) 1 (byte_at bytes bit) bit 8 0 (one_byte bytes bit (omega arith)) (omega arith) (omega arith)
     ∙ ap (λ (v : ℕ). number_bits 8 v ++ drop (bit + 8) (bits_of bytes)) same
 
 -- the low bits of one octet in front of the high ones of the next

@@ -26,27 +26,18 @@ pub fn bit_at(payload: &[u8], bit: u32) -> bool
     (byte >> (7 - bit % 8)) & 1 == 1
 }
 
-/// The number of at most 5 octets, the most significant first.
-fn number_of_octets(octets: &[u8]) -> u64
-    requires { length octets.now ≤ 5 }
-    ensures { number_bits (8 * length octets.now) result ≡ bits_of octets.now }
+/// The number that n bits of one byte spell.
+fn part_at(payload: &[u8], bit: u32, n: u32) -> u32
+    requires one_byte { bit % 8 + n ≤ 8 }
+    requires within { bit < 8 * length payload.now }
+    ensures range { result < 2 ^ n }
+    ensures there { drop bit (bits_of payload.now) ≡ number_bits n result ++ drop (bit + n) (bits_of payload.now) }
 {
-    let mut number = 0;
-    for octet in octets {
-        number = 256 * number + u64::from(*octet);
-    }
-    number
+    let byte = u32::from(payload[(bit / 8) as usize]);
+    (byte >> (8 - bit % 8 - n)) & ((1 << n) - 1)
 }
 
-/// The lowest n bits of a number.
-fn lowest_bits(number: u64, n: u32) -> u32
-    requires { n ≤ 32 }
-    ensures { result ≡ number % 2 ^ n }
-{
-    (number & ((1 << n) - 1)) as u32
-}
-
-/// The number that n bits spell.
+/// The number that n bits spell, byte by byte.
 pub fn number_at(payload: &[u8], bit: u32, n: u32) -> u32
     requires small { n ≤ 32 }
     requires room { length payload.now ≤ 65536 }
@@ -54,11 +45,15 @@ pub fn number_at(payload: &[u8], bit: u32, n: u32) -> u32
     ensures range { result < 2 ^ n }
     ensures there { drop bit (bits_of payload.now) ≡ number_bits n result ++ drop (bit + n) (bits_of payload.now) }
 {
-    let first = bit / 8;
-    let end = (bit + n).div_ceil(8);
-    let window = number_of_octets(&payload[first as usize..end as usize]);
-    let behind = 8 * end - (bit + n);
-    lowest_bits(window >> behind, n)
+    let mut value: u32 = 0;
+    let mut read = 0;
+    while read < n {
+        let place = bit + read;
+        let part = (n - read).min(8 - place % 8);
+        value = (value << part) + part_at(payload, place, part);
+        read += part;
+    }
+    value
 }
 
 /// The octet that 8 bits spell: one byte, or the end of one and the start of the next.
