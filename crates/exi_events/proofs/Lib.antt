@@ -10,3 +10,4 @@ pub mod Offering
 pub mod Rooted
 pub mod Finished
 pub mod Entries
+pub mod Bounds

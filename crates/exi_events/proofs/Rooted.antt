@@ -1,6 +1,6 @@
 -- Document numbers that name a root, and the front of a document that is written.
-use Rattle.std.proofs.Common.{◌≡◌, ℕ, ◌+◌, ◌^◌, ◌<◌, nat_lt, nat_le, not, ◌&&◌, Bool, true, false, List, [], ◌++◌, length, map, Option, Some, None, slice_get, refl, sym, ap, subst, ◌∙◌, arith, length-append}
-use Rattle.std.specs.Prelude.{◌==◌, ◌↔◌, IsTrue}
+use Rattle.std.proofs.Common.{◌≡◌, ℕ, ◌+◌, ◌^◌, ◌<◌, nat_lt, nat_le, not, ◌&&◌, Bool, true, false, List, [], ◌++◌, length, map, Some, slice_get, inl, inr, refl, sym, ap, subst, ◌∙◌, arith, length-append}
+use Rattle.std.specs.Prelude.{◌==◌, ◌↔◌, ◌⊎◌, IsTrue}
 use Rattle.std.specs.List.{list_all}
 use Rattle.std.proofs.lemmas.Bool.{ltb-true}
 use Rattle.exi_spec.specs.Bits.{number_bits}
@@ -45,20 +45,15 @@ root_there s number NoSuch is h = absurd (root_coded s number h.0 h.1 h.2 is)
 pub not_kind : (s : Schema) (number : ℕ) (root : Root) → IsRoot s.roots.now s.root_bits number root → ((name kind : ℕ) → root ≡ Kind name kind → ⊥) → ((name : ℕ) × (kind : ℕ) × IsRoot s.roots.now s.root_bits number (Kind name kind)) → ⊥
 not_kind s number root is other h = let there = root_there s number root is h in other there.0 there.1 there.2
 
-unknown_is : (name kind : ℕ) (root : Root) → root ≡ Unknown → root ≡ Kind name kind → ⊥
-unknown_is name kind root a b = absurd cc
-
-no_such_is : (name kind : ℕ) (root : Root) → root ≡ NoSuch → root ≡ Kind name kind → ⊥
-no_such_is name kind root a b = absurd cc
-
 false_is : false ≡ true → ⊥
 false_is e = absurd cc
 
-pub no_unknown : (s : Schema) (number : ℕ) (root : Root) → IsRoot s.roots.now s.root_bits number root → root ≡ Unknown → (IsTrue false ↔ ((name : ℕ) × (kind : ℕ) × IsRoot s.roots.now s.root_bits number (Kind name kind)))
-no_unknown s number root is other = (λ e. absurd (false_is e), λ h. absurd (not_kind s number root is (λ name kind same. unknown_is name kind root other same) h))
+other_is : (name kind : ℕ) (root : Root) → (root ≡ Unknown) ⊎ (root ≡ NoSuch) → root ≡ Kind name kind → ⊥
+other_is name kind root (inl a) b = absurd cc
+other_is name kind root (inr a) b = absurd cc
 
-pub no_code : (s : Schema) (number : ℕ) (root : Root) → IsRoot s.roots.now s.root_bits number root → root ≡ NoSuch → (IsTrue false ↔ ((name : ℕ) × (kind : ℕ) × IsRoot s.roots.now s.root_bits number (Kind name kind)))
-no_code s number root is other = (λ e. absurd (false_is e), λ h. absurd (not_kind s number root is (λ name kind same. no_such_is name kind root other same) h))
+pub names_none : (s : Schema) (number : ℕ) (root : Root) → IsRoot s.roots.now s.root_bits number root → (root ≡ Unknown) ⊎ (root ≡ NoSuch) → (IsTrue false ↔ ((name : ℕ) × (kind : ℕ) × IsRoot s.roots.now s.root_bits number (Kind name kind)))
+names_none s number root is other = (λ e. absurd (false_is e), λ h. absurd (not_kind s number root is (λ name kind same. other_is name kind root other same) h))
 
 -- ---- the front of a document
 
