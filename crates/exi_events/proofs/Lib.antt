@@ -11,3 +11,5 @@ pub mod Rooted
 pub mod Finished
 pub mod Entries
 pub mod Bounds
+pub mod Standings
+pub mod Coded
