@@ -25,6 +25,8 @@ use Rattle.exi_events.specs.declared.open.OpenElement.{OpenElement}
 use Rattle.exi_events.specs.Open.{opened_of}
 use Rattle.exi_events.specs.Inside.{AreOpen, HasTop, GoesTo}
 use Rattle.exi_events.specs.Writer.{IsOffered, IsPut, HasNoRoom, IsStepOf, MayWrite, WritesValueOf, value_in}
+use Rattle.std.proofs.lemmas.Option.{slice_get_within}
+use Rattle.exi_events.proofs.Nexts.{next_stays, StaysIn}
 use Rattle.exi_events.proofs.Offering.{MovesAs, IsRest, IsPlain, offered_at, move_join, move_split, spells_code, rest_value, rest_characters, may_stand, attribute_moves, content_moves, element_moves, end_moves}
 
 -- ---- the room is too small
@@ -261,6 +263,78 @@ module _ (s : Schema) (elements : List Opened) (top : OpenElement) (entries : En
           (number_bits width code, end_moves s (opened_of top) f.has.0 entries (number_bits width code) spelled, f.wrote)
       of_event _ same = absurd same
 
+-- ---- with the texts as they stand behind the code
+
+module _ (s : Schema) (elements : List Opened) (top : OpenElement) (entries inner : Entries) (same : inner ≡ entries) (e : Event) (code width : ℕ) (old mid : BitPen) where
+  pub attribute_asks : (name kind : ℕ) (next : Place) → IsFound s elements top entries (step.Attribute name kind next) e code width old mid → (v : Value) × (value_in e ≡ Some v) × MayWrite s.kinds.now kind inner name (value_of v)
+  attribute_asks name kind next f =
+      subst (λ (es : Entries). (v : Value) × (value_in e ≡ Some v) × MayWrite s.kinds.now kind es name (value_of v)) (sym same) (attribute_may s elements top entries e code width old mid name kind next f)
+
+  pub characters_asks : (next : Place) → IsFound s elements top entries (step.Characters next) e code width old mid → (v : Value) × (value_in e ≡ Some v) × MayWrite s.kinds.now top.place.kind inner top.name (value_of v)
+  characters_asks next f =
+      subst (λ (es : Entries). (v : Value) × (value_in e ≡ Some v) × MayWrite s.kinds.now top.place.kind es top.name (value_of v)) (sym same) (characters_may s elements top entries e code width old mid next f)
+
+  pub attribute_lacking : (name kind : ℕ) (next : Place) (P : Type 0) → IsFound s elements top entries (step.Attribute name kind next) e code width old mid →
+      ((v : Value) → value_in e ≡ Some v → (P ↔ Lacks (λ bits. (after : Entries) × WritesValueOf s.kinds.now kind inner name (value_of v) after bits) mid)) → (P ↔ HasNoRoom s (stands (around elements) entries) old (event_of e))
+  attribute_lacking name kind next P f full =
+      attribute_full s elements top entries e code width old mid name kind next P f
+      (subst (λ (es : Entries). (v : Value) → value_in e ≡ Some v → (P ↔ Lacks (λ bits. (after : Entries) × WritesValueOf s.kinds.now kind es name (value_of v) after bits) mid)) same full)
+
+  pub characters_lacking : (next : Place) (P : Type 0) → IsFound s elements top entries (step.Characters next) e code width old mid →
+      ((v : Value) → value_in e ≡ Some v → (P ↔ Lacks (λ bits. (after : Entries) × WritesValueOf s.kinds.now top.place.kind inner top.name (value_of v) after bits) mid)) → (P ↔ HasNoRoom s (stands (around elements) entries) old (event_of e))
+  characters_lacking next P f full =
+      characters_full s elements top entries e code width old mid next P f
+      (subst (λ (es : Entries). (v : Value) → value_in e ≡ Some v → (P ↔ Lacks (λ bits. (after : Entries) × WritesValueOf s.kinds.now top.place.kind es top.name (value_of v) after bits) mid)) same full)
+
+  pub attribute_written : (name kind : ℕ) (next : Place) (moved : List Opened) (after : Entries) (new : BitPen) → IsFound s elements top entries (step.Attribute name kind next) e code width old mid → GoesTo elements next moved →
+      ((v : Value) → value_in e ≡ Some v → Puts (λ bits. WritesValueOf s.kinds.now kind inner name (value_of v) after bits) mid new) →
+      IsPut s (stands (around elements) entries) (stands (around moved) after) old new (event_of e)
+  attribute_written name kind next moved after new f goes puts =
+      attribute_put s elements top entries e code width old mid name kind next moved after new f goes
+      (subst (λ (es : Entries). (v : Value) → value_in e ≡ Some v → Puts (λ bits. WritesValueOf s.kinds.now kind es name (value_of v) after bits) mid new) same puts)
+
+  pub characters_written : (next : Place) (moved : List Opened) (after : Entries) (new : BitPen) → IsFound s elements top entries (step.Characters next) e code width old mid → GoesTo elements next moved →
+      ((v : Value) → value_in e ≡ Some v → Puts (λ bits. WritesValueOf s.kinds.now top.place.kind inner top.name (value_of v) after bits) mid new) →
+      IsPut s (stands (around elements) entries) (stands (around moved) after) old new (event_of e)
+  characters_written next moved after new f goes puts =
+      characters_put s elements top entries e code width old mid next moved after new f goes
+      (subst (λ (es : Entries). (v : Value) → value_in e ≡ Some v → Puts (λ bits. WritesValueOf s.kinds.now top.place.kind es top.name (value_of v) after bits) mid new) same puts)
+
 -- the place of the innermost element
 pub top_place : (kinds : List Declaration) (elements : List Opened) (top : OpenElement) → HasTop elements top → AreOpen kinds elements → IsPlace kinds top.place
 top_place kinds elements top has are = let all : AreOpen kinds (opened_of top ∷ has.0) = subst (λ (es : List Opened). AreOpen kinds es) has.1 are in all.0
+
+-- what the search of the step and the pen say
+pub found_by : (s : Schema) (elements : List Opened) (top : OpenElement) (entries : Entries) (st : Step) (e : Event) (code n width : ℕ) (old mid : BitPen) → n ≡ code → HasTop elements top → AreOpen s.kinds.now elements →
+    IsWidth (length (offers s.kinds.now top.place)) width → slice_get (offers s.kinds.now top.place) code ≡ Some st → IsStepOf st e → IsOffered s (stands (around elements) entries) e → Writes old mid (number_bits width n) →
+    IsFound s elements top entries st e code width old mid
+found_by s elements top entries st e code n width old mid same has are is_width offered is may wrote =
+    record {
+      has = has;
+      at = top_place s.kinds.now elements top has are;
+      is_width = is_width;
+      offered = offered;
+      is = is;
+      may = may;
+      wrote = subst (λ (k : ℕ). Writes old mid (number_bits width k)) same wrote;
+    }
+
+pub found_stays : (s : Schema) (elements : List Opened) (top : OpenElement) (entries : Entries) (st : Step) (e : Event) (code width : ℕ) (old mid : BitPen) → IsFound s elements top entries st e code width old mid → StaysIn top.place.kind st
+found_stays s elements top entries st e code width old mid f = next_stays s.kinds.now top.place code st f.offered
+
+pub code_range : (s : Schema) (here : Place) (st : Step) (code n width : ℕ) → n ≡ code → IsWidth (length (offers s.kinds.now here)) width → slice_get (offers s.kinds.now here) code ≡ Some st → n < 2 ^ width
+code_range s here st code n width same is_width offered =
+    let below = slice_get_within (offers s.kinds.now here) code st offered in
+    let enough = is_width.enough in
+    omega (arith, below, enough, same)
+
+pub found_lacks : (s : Schema) (elements : List Opened) (top : OpenElement) (entries : Entries) (st : Step) (e : Event) (code width : ℕ) (pen : BitPen) → HasTop elements top → AreOpen s.kinds.now elements →
+    IsWidth (length (offers s.kinds.now top.place)) width → slice_get (offers s.kinds.now top.place) code ≡ Some st → IsStepOf st e →
+    IsOffered s (stands (around elements) entries) e → Needs pen width → HasNoRoom s (stands (around elements) entries) pen (event_of e)
+found_lacks s elements top entries st e code width pen has are is_width offered is may needs =
+    code_lacks s elements top entries st e code width pen has (top_place s.kinds.now elements top has are) is_width offered is may needs
+
+pub found_plain : (s : Schema) (elements : List Opened) (top : OpenElement) (entries : Entries) (st : Step) (e : Event) (code width : ℕ) (old mid : BitPen) → IsFound s elements top entries st e code width old mid → IsPlain st →
+    HasNoRoom s (stands (around elements) entries) old (event_of e) → ⊥
+found_plain s elements top entries st e code width old mid f plain lacks =
+    plain_room s elements top entries st e code width old mid f.has f.at f.is_width f.offered f.is plain f.wrote lacks
