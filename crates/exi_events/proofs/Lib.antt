@@ -13,3 +13,4 @@ pub mod Entries
 pub mod Bounds
 pub mod Standings
 pub mod Coded
+pub mod Starting
