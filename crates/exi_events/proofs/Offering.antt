@@ -93,18 +93,19 @@ may_stand kinds here next name kind standing past_limit bits taken within st =
 pub move_join : (s : Schema) (top : Opened) (above : List Opened) (entries : Entries) (st : Step) (e : Event) (code rest : List Bool) →
     SpellsStep s.kinds.now top.place st code → IsStepOf st e → IsRest s top entries st e rest →
     (new : State) × MovesAs s (stands (Inside top above) entries) (event_of e) (code ++ rest) new
-move_join s top above entries (step.Attribute name kind next) (event.Attribute n v) code rest st is w =
-    (
-      stands (Inside (opened top.name next) above) w.0,
-      subst (λ (m : ℕ). MovesFrom WritesValue s (Inside top above) entries (Attribute m (value_of v)) (code ++ rest) (stands (Inside (opened top.name next) above) w.0)) (sym is)
-          (attribute_moves s top above entries w.0 name kind next (value_of v) code rest st w.1),
-    )
+move_join s top above entries (step.Attribute name kind next) (event.Attribute n v) code rest st is w = (
+  stands (Inside (opened top.name next) above) w.0,
+  subst (λ (m : ℕ). MovesFrom WritesValue s (Inside top above) entries (Attribute m (value_of v)) (code ++ rest) (stands (Inside (opened top.name next) above) w.0)) (sym is)
+      (attribute_moves s top above entries w.0 name kind next (value_of v) code rest st w.1),
+)
 move_join s top above entries (step.Element name kind next standing past_limit) (event.Start n) code rest st is w =
     let new = stands (Inside (opened name (first kind)) (opened top.name next ∷ above)) entries in
     let bits : code ++ rest ≡ code = ap (λ (l : List Bool). code ++ l) w ∙ append-nil code in
-    let moves = element_moves s top above entries name kind next code (may_stand s.kinds.now top.place next name kind standing past_limit code is.1 is.2 st) in
-    (new, subst (λ (m : ℕ). MovesFrom WritesValue s (Inside top above) entries (Start m) (code ++ rest) new) (sym is.0)
-      (subst (λ (l : List Bool). MovesFrom WritesValue s (Inside top above) entries (Start name) l new) (sym bits) moves))
+    let moves = element_moves s top above entries name kind next code (may_stand s.kinds.now top.place next name kind standing past_limit code is.1 is.2 st) in (
+      new,
+      subst (λ (m : ℕ). MovesFrom WritesValue s (Inside top above) entries (Start m) (code ++ rest) new) (sym is.0)
+          (subst (λ (l : List Bool). MovesFrom WritesValue s (Inside top above) entries (Start name) l new) (sym bits) moves),
+    )
 move_join s top above entries step.End event.EndElement code rest st is w =
     let bits : code ++ rest ≡ code = ap (λ (l : List Bool). code ++ l) w ∙ append-nil code in
     (stands (around above) entries, subst (λ (l : List Bool). MovesFrom WritesValue s (Inside top above) entries EndElement l (stands (around above) entries)) (sym bits) (end_moves s top above entries code st))

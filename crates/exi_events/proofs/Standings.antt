@@ -30,12 +30,13 @@ offered_in P p q e d elements bits entries is same h =
 pub document_decides : (s : Schema) (p : Phase) (e : Event) (elements : List Opened) (bits : List Bool) (entries : List (ℕ × SpanAt)) (number : ℕ) (b : Bool) → p ≡ phase.Before → e ≡ event.Document number →
     (IsTrue b ↔ ((name : ℕ) × (kind : ℕ) × IsRoot s.roots.now s.root_bits number (Kind name kind))) → (IsTrue b ↔ IsOffered s (state_of p elements bits entries) e)
 document_decides s p e elements bits entries number b is same named =
-    offered_in (λ (state : State) (x : Event). IsTrue b ↔ IsOffered s state x) p phase.Before e (event.Document number) elements bits entries is same
-    ((λ t.
-    let h = named.0 t in
-    let front = number_bits s.root_bits number in
-    (header ++ front, stands (AtRoot h.0 h.1) (texts_in bits entries), (h.0, h.1, front, h.2, record { range = root_range s number h.0 h.1 h.2; spelled = refl }, refl, refl))),
-    (λ h. named.1 (h.2.0, h.2.1, h.2.3)))
+    offered_in (λ (state : State) (x : Event). IsTrue b ↔ IsOffered s state x) p phase.Before e (event.Document number) elements bits entries is same (
+      (λ t.
+          let h = named.0 t in
+          let front = number_bits s.root_bits number in
+          (header ++ front, stands (AtRoot h.0 h.1) (texts_in bits entries), (h.0, h.1, front, h.2, record { range = root_range s number h.0 h.1 h.2; spelled = refl }, refl, refl))),
+      (λ h. named.1 (h.2.0, h.2.1, h.2.3)),
+    )
 
 pub start_decides : (s : Schema) (p : Phase) (e : Event) (elements : List Opened) (bits : List Bool) (entries : List (ℕ × SpanAt)) (name kind child : ℕ) → p ≡ phase.AtRoot name kind → e ≡ event.Start child →
     (IsTrue (eqb child name) ↔ IsOffered s (state_of p elements bits entries) e)

@@ -51,9 +51,9 @@ same_or_not (x ∷ xs) [] = inr (λ e. absurd cc)
 same_or_not (x ∷ xs) (y ∷ ys) =
     elim (eqb_tells x y) [
       | inl first ↦ elim (same_or_not xs ys) [
-          | inl others ↦ let one : x ≡ y = first.1 in inl cc
-          | inr other ↦ inr (λ e. other (let tail : xs ≡ ys = cc in tail))
-        ]
+        | inl others ↦ let one : x ≡ y = first.1 in inl cc
+        | inr other ↦ inr (λ e. other (let tail : xs ≡ ys = cc in tail))
+      ]
       | inr other ↦ inr (λ e. other.1 (let head : x ≡ y = cc in head))
     ]
 
@@ -71,9 +71,9 @@ find_first (t ∷ ts) text =
     elim (same_or_not t text) [
       | inl is ↦ inl (0, record { found = ap (λ (l : List ℕ). Some l) is; first = λ k less. absurd (omega (arith, less)) })
       | inr other ↦ elim (find_first ts text) [
-          | inl h ↦ inl (suc h.0, record { found = h.1.found; first = none_before t ts text h.0 other h.1.first })
-          | inr absent ↦ inr (absent_too t ts text other absent)
-        ]
+        | inl h ↦ inl (suc h.0, record { found = h.1.found; first = none_before t ts text h.0 other h.1.first })
+        | inr absent ↦ inr (absent_too t ts text other absent)
+      ]
     ]
 
 entered_few : (entries : Entries) (name : ℕ) (text : List ℕ) → length entries ≤ most_entries → HasEntryFor entries name (Text text) → IsAbsent (local_of name entries) text → IsAbsent (global_of entries) text → length (entered entries name text) ≤ most_entries
@@ -89,17 +89,17 @@ text_writes entries name text few room =
           let rest = number_bits width.0 h.0 in
           (shortest_unsigned 0 ++ rest, entries, inl ((rest, (h.0, width.0, h.1, width.1, refl), refl), refl), few)
       | inr local ↦ elim (find_first (global_of entries) text) [
-          | inl h ↦
-              let width = index_width (length (global_of entries)) in
-              let rest = number_bits width.0 h.0 in
-              (shortest_unsigned 1 ++ rest, entries, inr (inl (local, (rest, (h.0, width.0, h.1, width.1, refl), refl), refl)), few)
-          | inr global ↦ (
-              shortest_unsigned (length text + 2) ++ shortest_chars text,
-              entered entries name text,
-              inr (inr (local, global, refl, refl)),
-              entered_few entries name text few room local global,
-            )
-        ]
+        | inl h ↦
+            let width = index_width (length (global_of entries)) in
+            let rest = number_bits width.0 h.0 in
+            (shortest_unsigned 1 ++ rest, entries, inr (inl (local, (rest, (h.0, width.0, h.1, width.1, refl), refl), refl)), few)
+        | inr global ↦ (
+          shortest_unsigned (length text + 2) ++ shortest_chars text,
+          entered entries name text,
+          inr (inr (local, global, refl, refl)),
+          entered_few entries name text few room local global,
+        )
+      ]
     ]
 
 pub value_writes : (d : Datatype) (entries : Entries) (name : ℕ) (v : Value) → length entries ≤ most_entries → IsValue d v → HasEntryFor entries name v → (bits : List Bool) × (after : Entries) × WritesValue d entries name v bits after
@@ -171,9 +171,10 @@ value_put (Err e) kinds kind entries after name given v d old new is same p = tt
 
 pub value_full : (P : Type 0) (kinds : List Declaration) (kind : ℕ) (entries : Entries) (name : ℕ) (given v : ShapedValue) (d : Datatype) (pen : BitPen) → Some d ≡ simple_at kinds kind → given ≡ v →
     (P ↔ Lacks (λ bits. (after : Entries) × WritesValue d entries name (value_of given) bits after) pen) → (P ↔ Lacks (λ bits. (after : Entries) × WritesValueOf kinds kind entries name (value_of v) after bits) pen)
-value_full P kinds kind entries name given v d pen is same f =
-    ((λ p. let l = f.0 p in (l.0, (l.1.0, writes_of kinds kind entries l.1.0 name given v d l.0 is same l.1.1), l.2)),
-    (λ l. f.1 (l.0, (l.1.0, of_writes kinds kind entries l.1.0 name given v d l.0 is same l.1.1), l.2)))
+value_full P kinds kind entries name given v d pen is same f = (
+  (λ p. let l = f.0 p in (l.0, (l.1.0, writes_of kinds kind entries l.1.0 name given v d l.0 is same l.1.1), l.2)),
+  (λ l. f.1 (l.0, (l.1.0, of_writes kinds kind entries l.1.0 name given v d l.0 is same l.1.1), l.2)),
+)
 
 -- what was asked of a value that may be put
 pub given_fits : (kinds : List Declaration) (kind : ℕ) (entries : Entries) (name : ℕ) (o : Option ShapedValue) (given : ShapedValue) (d : Datatype) → Some d ≡ simple_at kinds kind → o ≡ Some given →

@@ -19,9 +19,10 @@ put_bits-requires-clause-range g c =
 
 pub returns-in_err-put_bits-clause-full : goal.returns-in_err-put_bits-clause-full
 returns-in_err-put_bits-clause-full g c =
-    let p = err_from_is_err_and c.from_residual.result c.from_residual.ensures.1 in
-    (λ err. found_lacks (g.P.Places.schema c.args.places.now) c.args.elements.now c.args.top (texts_in (written_bits c.args.pen.now) c.args.table.now.entries) c.in-Some.offer.step c.args.event.now c.in-Some.offer.code c.width.result c.args.pen.now c.requires.top c.requires.elements c.width.ensures c.in-Some.ensures.offered c.in-Some.ensures.meant c.requires.offered (c.in_err-put_bits.ensures.full.0 refl),
-    λ lacks. rw p.1 refl)
+    let p = err_from_is_err_and c.from_residual.result c.from_residual.ensures.1 in (
+      λ err. found_lacks (g.P.Places.schema c.args.places.now) c.args.elements.now c.args.top (texts_in (written_bits c.args.pen.now) c.args.table.now.entries) c.in-Some.offer.step c.args.event.now c.in-Some.offer.code c.width.result c.args.pen.now c.requires.top c.requires.elements c.width.ensures c.in-Some.ensures.offered c.in-Some.ensures.meant c.requires.offered (c.in_err-put_bits.ensures.full.0 refl),
+      λ lacks. rw p.1 refl,
+    )
 
 pub put_value_of-requires-clause-texts : goal.put_value_of-requires-clause-texts
 put_value_of-requires-clause-texts g c =
