@@ -12,7 +12,7 @@ use Rattle.site_core.specs.declared.report.PostReport.{PostReport}
 use Rattle.site_core.specs.declared.serving.Ended.{Ended}
 use Rattle.site_core.specs.declared.serving.Ended.TheVariants as ended
 use Rattle.site_core.specs.Serving.{EndedAs}
-use Rattle.charge_run.specs.FaultLines.{input_line, wire_line}
+use Rattle.charge_run.specs.FaultLines.{Tells, input_line, turns_line, wire_line}
 use Rattle.charge_run.specs.HexText.{hex_fault, IsHexOf}
 use Rattle.charge_run.specs.ReportLine.{report_line}
 use Rattle.charge_run.specs.declared.fault.InputFault.{InputFault}
@@ -54,23 +54,23 @@ IsStatusOf ended.Over s = (s ≡ status.Done) ⊎ (s ≡ status.SinkFault)
 IsStatusOf ended.Turns s = (s ≡ status.TurnsSpent) ⊎ (s ≡ status.SinkFault)
 IsStatusOf ended.Lost s = s ≡ status.WireFault
 
--- behind the report line a front of the line `turns`, whose failure changes nothing
-abbrev pub AppendsTurns : Option (List ℕ) → Option (List ℕ) → List ℕ → Type 0
-AppendsTurns before after line =
-    IfSome after (λ new. IsSomeAnd before (λ old. (front : List ℕ) × (rest : List ℕ) × (codes "turns\n" ≡ front ++ rest) × (new ≡ old ++ line ++ front)))
+-- behind the report line the line `turns`; where the count of faults rose, from n to m, a front of it
+pub record TellsTurns (before after : Option (List ℕ)) (n m : ℕ) (line : List ℕ) : Type 0 where
+  pub front : IfSome after (λ new. IsSomeAnd before (λ old. (front : List ℕ) × (rest : List ℕ) × (turns_line ≡ front ++ rest) × (new ≡ old ++ line ++ front)))
+  pub whole : m ≡ n → Appends before after (line ++ turns_line)
 
--- what the output holds then: the report line, or a front of it where it was not written, or a front of the fault's line, and
--- nothing else
-abbrev pub Outputs : Status → PostReport → Option (List ℕ) → Option (List ℕ) → Type 0
-Outputs status.Done report before after = Appends before after (report_line 1 report)
-Outputs status.TurnsSpent report before after = AppendsTurns before after (report_line 1 report)
-Outputs status.SinkFault report before after = AppendsSome before after (report_line 1 report)
-Outputs status.WireFault report before after = AppendsSome before after wire_line
-Outputs status.NoMemory report before after = after ≡ before
-Outputs status.Words report before after = ⊥
-Outputs status.Plan report before after = ⊥
-Outputs status.Input report before after = ⊥
-Outputs status.SourceFault report before after = ⊥
+-- what the output holds then, whose count of faults went from n to m: the report line, or a front of it where it was not written,
+-- or the line of the fault, and nothing else
+abbrev pub Outputs : Status → PostReport → Option (List ℕ) → Option (List ℕ) → ℕ → ℕ → Type 0
+Outputs status.Done report before after n m = Appends before after (report_line 1 report)
+Outputs status.TurnsSpent report before after n m = TellsTurns before after n m (report_line 1 report)
+Outputs status.SinkFault report before after n m = AppendsSome before after (report_line 1 report)
+Outputs status.WireFault report before after n m = Tells before after n m wire_line
+Outputs status.NoMemory report before after n m = after ≡ before
+Outputs status.Words report before after n m = ⊥
+Outputs status.Plan report before after n m = ⊥
+Outputs status.Input report before after n m = ⊥
+Outputs status.SourceFault report before after n m = ⊥
 
 -- ---- decode
 
@@ -102,14 +102,15 @@ HasDecodeFault hex Memory = Unit {0}
 abbrev pub IsDecodedLine : List ℕ → List ℕ → Type 0
 IsDecodedLine hex line = (text : List ℕ) × IsDecoded hex text × (line ≡ text ++ codes "\n")
 
--- what the output holds by the status: the line, or a front of it where it was not written, or a front of the fault's line
-abbrev pub Decodes : List ℕ → Status → Option (List ℕ) → Option (List ℕ) → Type 0
-Decodes hex status.Done before after = (line : List ℕ) × IsDecodedLine hex line × Appends before after line
-Decodes hex status.SinkFault before after = (line : List ℕ) × IsDecodedLine hex line × AppendsSome before after line
-Decodes hex status.Input before after = (n : ℕ) × IsDecodeFault hex n × AppendsSome before after (input_line n)
-Decodes hex status.NoMemory before after = after ≡ before
-Decodes hex status.Words before after = ⊥
-Decodes hex status.Plan before after = ⊥
-Decodes hex status.WireFault before after = ⊥
-Decodes hex status.SourceFault before after = ⊥
-Decodes hex status.TurnsSpent before after = ⊥
+-- what the output holds by the status, its count of faults having gone from n to m: the line, or a front of it where it was not
+-- written, or the line of the fault
+abbrev pub Decodes : List ℕ → Status → Option (List ℕ) → Option (List ℕ) → ℕ → ℕ → Type 0
+Decodes hex status.Done before after n m = (line : List ℕ) × IsDecodedLine hex line × Appends before after line
+Decodes hex status.SinkFault before after n m = (line : List ℕ) × IsDecodedLine hex line × AppendsSome before after line
+Decodes hex status.Input before after n m = (place : ℕ) × IsDecodeFault hex place × Tells before after n m (input_line place)
+Decodes hex status.NoMemory before after n m = after ≡ before
+Decodes hex status.Words before after n m = ⊥
+Decodes hex status.Plan before after n m = ⊥
+Decodes hex status.WireFault before after n m = ⊥
+Decodes hex status.SourceFault before after n m = ⊥
+Decodes hex status.TurnsSpent before after n m = ⊥

@@ -15,7 +15,7 @@ use std::alloc::Global;
 ///
 /// `Input` where the text spells no bytes or the payload no message. `NoMemory` leaves the output as it was.
 pub(crate) fn decode<K: Sink>(alloc: Global, hex: &str, out: &mut K) -> Status
-    ensures leaves { Decodes hex.now result (K.taken out.old) (K.taken out.new) }
+    ensures leaves { Decodes hex.now result (K.taken out.old) (K.taken out.new) (K.faults out.old) (K.faults out.new) }
     ensures no_memory { result ≡ Status.NoMemory → K.faults out.new ≡ K.faults out.old }
     ensures sink_fault { result ≡ Status.SinkFault → K.faults out.old < K.faults out.new }
 {
