@@ -72,11 +72,44 @@ Outputs status.Plan report before after n m = ⊥
 Outputs status.Input report before after n m = ⊥
 Outputs status.SourceFault report before after n m = ⊥
 
+-- ---- a line or a fault
+
+-- what the output holds, whose count of faults went from n to m: a line of these, or a front of it where it was not written, or
+-- the line of a fault at one of these places
+abbrev pub Answers : (List ℕ → Type 0) → (ℕ → Type 0) → Status → Option (List ℕ) → Option (List ℕ) → ℕ → ℕ → Type 0
+Answers IsLine IsFaultAt status.Done before after n m = (line : List ℕ) × IsLine line × Appends before after line
+Answers IsLine IsFaultAt status.SinkFault before after n m = (line : List ℕ) × IsLine line × AppendsSome before after line
+Answers IsLine IsFaultAt status.Input before after n m = (place : ℕ) × IsFaultAt place × Tells before after n m (input_line place)
+Answers IsLine IsFaultAt status.NoMemory before after n m = after ≡ before
+Answers IsLine IsFaultAt status.Words before after n m = ⊥
+Answers IsLine IsFaultAt status.Plan before after n m = ⊥
+Answers IsLine IsFaultAt status.WireFault before after n m = ⊥
+Answers IsLine IsFaultAt status.SourceFault before after n m = ⊥
+Answers IsLine IsFaultAt status.TurnsSpent before after n m = ⊥
+
+-- the line was printed, or a front of it where it was not written
+abbrev pub Prints : List ℕ → Status → Option (List ℕ) → Option (List ℕ) → Type 0
+Prints line s before after =
+    ((s ≡ status.Done) × Appends before after line) ⊎ ((s ≡ status.SinkFault) × AppendsSome before after line)
+
+-- the line of the fault was told; for want of memory there is none
+abbrev pub Refuses : InputFault → Status → Option (List ℕ) → Option (List ℕ) → ℕ → ℕ → Type 0
+Refuses (Place place) s before after n m = (s ≡ status.Input) × Tells before after n m (input_line place)
+Refuses Memory s before after n m = (s ≡ status.NoMemory) × (after ≡ before) × (m ≡ n)
+
+-- the fault is at one of these places. Want of memory comes freely
+abbrev pub HasFault : (ℕ → Type 0) → InputFault → Type 0
+HasFault IsFaultAt (Place place) = IsFaultAt place
+HasFault IsFaultAt Memory = Unit {0}
+
 -- ---- decode
 
 -- hexadecimal text of a payload, and the text of the message that the payload spells
 abbrev pub IsDecoded : List ℕ → List ℕ → Type 0
 IsDecoded hex text = (payload : List ℕ) × IsHexOf hex payload × IsPrinted payload text
+
+abbrev pub IsDecodedLine : List ℕ → List ℕ → Type 0
+IsDecodedLine hex line = (text : List ℕ) × IsDecoded hex text × (line ≡ text ++ codes "\n")
 
 -- the payload is refused at this bit
 pub record IsPayloadFault (hex : List ℕ) (bit : ℕ) : Type 0 where
@@ -87,30 +120,7 @@ pub record IsPayloadFault (hex : List ℕ) (bit : ℕ) : Type 0 where
 
 -- the text is refused at this character, or its payload at this bit
 abbrev pub IsDecodeFault : List ℕ → ℕ → Type 0
-IsDecodeFault hex n = (hex_fault (chars hex) ≡ Some n) ⊎ IsPayloadFault hex n
+IsDecodeFault hex place = (hex_fault (chars hex) ≡ Some place) ⊎ IsPayloadFault hex place
 
--- why there is no line. Want of memory comes freely
-abbrev pub HasHexFault : List ℕ → InputFault → Type 0
-HasHexFault hex (Place n) = hex_fault (chars hex) ≡ Some n
-HasHexFault hex Memory = Unit {0}
-
-abbrev pub HasDecodeFault : List ℕ → InputFault → Type 0
-HasDecodeFault hex (Place n) = IsDecodeFault hex n
-HasDecodeFault hex Memory = Unit {0}
-
--- the line of a message
-abbrev pub IsDecodedLine : List ℕ → List ℕ → Type 0
-IsDecodedLine hex line = (text : List ℕ) × IsDecoded hex text × (line ≡ text ++ codes "\n")
-
--- what the output holds by the status, its count of faults having gone from n to m: the line, or a front of it where it was not
--- written, or the line of the fault
 abbrev pub Decodes : List ℕ → Status → Option (List ℕ) → Option (List ℕ) → ℕ → ℕ → Type 0
-Decodes hex status.Done before after n m = (line : List ℕ) × IsDecodedLine hex line × Appends before after line
-Decodes hex status.SinkFault before after n m = (line : List ℕ) × IsDecodedLine hex line × AppendsSome before after line
-Decodes hex status.Input before after n m = (place : ℕ) × IsDecodeFault hex place × Tells before after n m (input_line place)
-Decodes hex status.NoMemory before after n m = after ≡ before
-Decodes hex status.Words before after n m = ⊥
-Decodes hex status.Plan before after n m = ⊥
-Decodes hex status.WireFault before after n m = ⊥
-Decodes hex status.SourceFault before after n m = ⊥
-Decodes hex status.TurnsSpent before after n m = ⊥
+Decodes hex s before after n m = Answers (IsDecodedLine hex) (IsDecodeFault hex) s before after n m

@@ -1,6 +1,6 @@
 //! The top call.
 
-ghost use Rattle.std.specs.Prelude.{◌≡◌, ◌≢◌, ◌^◌, ◌-◌, ◌<◌, ℕ, List, [], replicate};
+ghost use Rattle.std.specs.Prelude.{◌≡◌, ◌≢◌, ◌^◌, ◌-◌, ◌<◌, ◌⊎◌, ℕ, List, [], replicate};
 ghost use Rattle.session_spec.specs.Past.{hearings};
 ghost use Rattle.session_spec.specs.SiteRun.{IsSiteRun};
 ghost use Rattle.site_core.specs.Judging.{Judges};
@@ -56,8 +56,9 @@ pub fn run<F: Source, K: Sink, J: Sink, W: Wire>(
     // `decode`: the line is the text of the message, or tells where the input is refused.
     ensures decode { (hex : List ℕ) → IsDecode words.now hex → Decodes hex result (K.taken out.old) (K.taken out.new) (K.faults out.old) (K.faults out.new) }
 
-    // Exactly where the input is refused.
-    ensures input { result ≡ Status.Input → (hex : List ℕ) × (n : ℕ) × IsDecode words.now hex × IsDecodeFault hex n }
+    // Exactly where the input is refused, but for want of memory.
+    ensures input { result ≡ Status.Input → (hex : List ℕ) × (place : ℕ) × IsDecode words.now hex × IsDecodeFault hex place }
+    ensures refused { (hex : List ℕ) (place : ℕ) → IsDecode words.now hex → IsDecodeFault hex place → (result ≡ Status.Input) ⊎ (result ≡ Status.NoMemory) }
 
     // Nothing was begun.
     ensures no_memory { result ≡ Status.NoMemory → (W.past wire.new ≡ W.past wire.old) × (W.faults wire.new ≡ W.faults wire.old)
