@@ -5,4 +5,6 @@ pub mod Newest
 pub mod Folded
 pub mod Read
 pub mod Printed
+pub mod Alike
+pub mod Decided
 pub mod Named

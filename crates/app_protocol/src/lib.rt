@@ -2,6 +2,7 @@
 #![tactic(auto)]
 
 mod builder;
+pub mod laws;
 mod message;
 mod negotiation;
 mod printing;

@@ -1,15 +1,14 @@
 -- How many bytes a hexadecimal text has.
-use Rattle.std.proofs.Common.{◌≡◌, ℕ, ◌*◌, ◌<◌, ◌≤◌, ◌%◌, ◌==◌, Bool, true, false, cond, List, length, position, Option, Some, None, Result, Ok, IfOk, arith, sym, ◌∙◌, ap}
-use Rattle.std.specs.List.{AllPass}
+use Rattle.std.proofs.Common.{◌≡◌, ℕ, ◌<◌, ◌≤◌, ◌%◌, ◌==◌, Bool, true, false, cond, List, length, position, Option, Some, None, arith, ap}
 use Rattle.std.specs.Option.{option_or}
-use Rattle.std.specs.Str.{chars, IsAscii}
+use Rattle.std.specs.Str.{chars}
 use Rattle.std.proofs.lemmas.Bool.Decides.{nat_tests}
 use Rattle.std.proofs.lemmas.List.Elements.{All-weaker}
 use Rattle.std.proofs.lemmas.Str.{chars-IsAscii}
 use Rattle.std.proofs.lemmas.Str.Ascii.{IsAscii-from_all}
-use Rattle.hex.specs.Hex.{is_hex_digit, decode_of}
+use Rattle.hex.specs.Hex.{is_hex_digit}
 use Rattle.hex.proofs.HexLemmas.{decode_of-ok}
-use Rattle.charge_run.specs.HexText.{hex_fault, excess, is_no_digit, IsHexOf}
+use Rattle.charge_run.specs.HexText.{excess, is_no_digit, IsHexOf}
 
 is_hex_digit-ascii : (c : ℕ) → is_hex_digit c ≡ true → c < 128
 is_hex_digit-ascii c h = grind arith

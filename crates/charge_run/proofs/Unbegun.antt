@@ -1,5 +1,5 @@
 -- Nothing was served.
-use Rattle.std.proofs.Common.{◌≡◌, ℕ, List, [], Option, Some, None, refl, sym, subst, ◌∙◌}
+use Rattle.std.proofs.Common.{◌≡◌, List, [], Option, Some, None, refl, sym, subst, ◌∙◌}
 use Rattle.charge_world.specs.declared.entry.Entry.{Entry}
 use Rattle.charge_world.specs.Outside.{Grows}
 use Rattle.site_core.specs.declared.report.PostReport.{PostReport}

@@ -1,8 +1,9 @@
 -- Lists of a few words, and words that begin with `-`.
-use Rattle.std.proofs.Common.{◌≡◌, ℕ, Bool, true, false, eqb, List, [], ◌∷◌, length, Option, Some, sym, ap, ◌∙◌, arith}
+use Rattle.std.proofs.Common.{◌≡◌, ℕ, false, eqb, List, [], ◌∷◌, length, Some, sym, ap, ◌∙◌, arith}
 use Rattle.std.specs.Prelude.{slice_get}
 use Rattle.std.specs.List.{starts_with}
 use Rattle.std.proofs.lemmas.Bool.{false≢true}
+use Rattle.charge_run.specs.Command.{IsApplied}
 
 pub one_word : (words : List (List ℕ)) (w : List ℕ) → length words ≡ 1 → slice_get words 0 ≡ Some w → words ≡ w ∷ []
 one_word [] w h e = absurd (omega arith)
@@ -19,3 +20,8 @@ three_words (x ∷ y ∷ z ∷ w ∷ words) a b c h first second third = absurd 
 pub plain_word : (word : List ℕ) → starts_with eqb word (45 ∷ []) ≡ false → (rest : List ℕ) → word ≡ 45 ∷ rest → ⊥
 plain_word word other rest e =
     false≢true (sym other ∙ ap (λ (w : List ℕ). starts_with eqb w (45 ∷ [])) e)
+
+-- the words of a command have one value
+pub one_value : (words : List (List ℕ)) (command a b : List ℕ) → IsApplied command words a → IsApplied command words b → a ≡ b
+one_value words command a b h k =
+    let both : command ∷ (97 ∷ 112 ∷ 112 ∷ []) ∷ a ∷ [] ≡ command ∷ (97 ∷ 112 ∷ 112 ∷ []) ∷ b ∷ [] = sym h.words_are ∙ k.words_are in cc

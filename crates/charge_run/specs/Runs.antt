@@ -1,5 +1,5 @@
 -- Own: what a run of the program leaves.
-use Rattle.std.specs.Prelude.{◌≡◌, ◌⊎◌, ℕ, List, [], ◌∷◌, ◌++◌, Option, Some, None, IfSome, IsSomeAnd, codes}
+use Rattle.std.specs.Prelude.{◌≡◌, ◌⊎◌, ℕ, List, [], ◌∷◌, ◌++◌, Option, Some, IfSome, IsSomeAnd, codes}
 use Rattle.std.specs.Str.{chars}
 use Rattle.charge_world.specs.declared.entry.Entry.{Entry}
 use Rattle.charge_world.specs.declared.offer.Dialect.{Dialect}
@@ -12,7 +12,7 @@ use Rattle.site_core.specs.declared.report.PostReport.{PostReport}
 use Rattle.site_core.specs.declared.serving.Ended.{Ended}
 use Rattle.site_core.specs.declared.serving.Ended.TheVariants as ended
 use Rattle.site_core.specs.Serving.{EndedAs}
-use Rattle.charge_run.specs.FaultLines.{input_line, wire_line}
+use Rattle.charge_run.specs.FaultLines.{Tells, input_line, turns_line, wire_line}
 use Rattle.charge_run.specs.HexText.{hex_fault, IsHexOf}
 use Rattle.charge_run.specs.ReportLine.{report_line}
 use Rattle.charge_run.specs.declared.fault.InputFault.{InputFault}
@@ -54,29 +54,62 @@ IsStatusOf ended.Over s = (s ≡ status.Done) ⊎ (s ≡ status.SinkFault)
 IsStatusOf ended.Turns s = (s ≡ status.TurnsSpent) ⊎ (s ≡ status.SinkFault)
 IsStatusOf ended.Lost s = s ≡ status.WireFault
 
--- behind the report line a front of the line `turns`, whose failure changes nothing
-abbrev pub AppendsTurns : Option (List ℕ) → Option (List ℕ) → List ℕ → Type 0
-AppendsTurns before after line =
-    IfSome after (λ new. IsSomeAnd before (λ old. (front : List ℕ) × (rest : List ℕ) × (codes "turns\n" ≡ front ++ rest) × (new ≡ old ++ line ++ front)))
+-- behind the report line the line `turns`; where the count of faults rose, from n to m, a front of it
+pub record TellsTurns (before after : Option (List ℕ)) (n m : ℕ) (line : List ℕ) : Type 0 where
+  pub front : IfSome after (λ new. IsSomeAnd before (λ old. (front : List ℕ) × (rest : List ℕ) × (turns_line ≡ front ++ rest) × (new ≡ old ++ line ++ front)))
+  pub whole : m ≡ n → Appends before after (line ++ turns_line)
 
--- what the output holds then: the report line, or a front of it where it was not written, or a front of the fault's line, and
--- nothing else
-abbrev pub Outputs : Status → PostReport → Option (List ℕ) → Option (List ℕ) → Type 0
-Outputs status.Done report before after = Appends before after (report_line 1 report)
-Outputs status.TurnsSpent report before after = AppendsTurns before after (report_line 1 report)
-Outputs status.SinkFault report before after = AppendsSome before after (report_line 1 report)
-Outputs status.WireFault report before after = AppendsSome before after wire_line
-Outputs status.NoMemory report before after = after ≡ before
-Outputs status.Words report before after = ⊥
-Outputs status.Plan report before after = ⊥
-Outputs status.Input report before after = ⊥
-Outputs status.SourceFault report before after = ⊥
+-- what the output holds then, whose count of faults went from n to m: the report line, or a front of it where it was not written,
+-- or the line of the fault, and nothing else
+abbrev pub Outputs : Status → PostReport → Option (List ℕ) → Option (List ℕ) → ℕ → ℕ → Type 0
+Outputs status.Done report before after n m = Appends before after (report_line 1 report)
+Outputs status.TurnsSpent report before after n m = TellsTurns before after n m (report_line 1 report)
+Outputs status.SinkFault report before after n m = AppendsSome before after (report_line 1 report)
+Outputs status.WireFault report before after n m = Tells before after n m wire_line
+Outputs status.NoMemory report before after n m = after ≡ before
+Outputs status.Words report before after n m = ⊥
+Outputs status.Plan report before after n m = ⊥
+Outputs status.Input report before after n m = ⊥
+Outputs status.SourceFault report before after n m = ⊥
+
+-- ---- a line or a fault
+
+-- what the output holds, whose count of faults went from n to m: a line of these, or a front of it where it was not written, or
+-- the line of a fault at one of these places
+abbrev pub Answers : (List ℕ → Type 0) → (ℕ → Type 0) → Status → Option (List ℕ) → Option (List ℕ) → ℕ → ℕ → Type 0
+Answers IsLine IsFaultAt status.Done before after n m = (line : List ℕ) × IsLine line × Appends before after line
+Answers IsLine IsFaultAt status.SinkFault before after n m = (line : List ℕ) × IsLine line × AppendsSome before after line
+Answers IsLine IsFaultAt status.Input before after n m = (place : ℕ) × IsFaultAt place × Tells before after n m (input_line place)
+Answers IsLine IsFaultAt status.NoMemory before after n m = after ≡ before
+Answers IsLine IsFaultAt status.Words before after n m = ⊥
+Answers IsLine IsFaultAt status.Plan before after n m = ⊥
+Answers IsLine IsFaultAt status.WireFault before after n m = ⊥
+Answers IsLine IsFaultAt status.SourceFault before after n m = ⊥
+Answers IsLine IsFaultAt status.TurnsSpent before after n m = ⊥
+
+-- the line was printed, or a front of it where it was not written
+abbrev pub Prints : List ℕ → Status → Option (List ℕ) → Option (List ℕ) → Type 0
+Prints line s before after =
+    ((s ≡ status.Done) × Appends before after line) ⊎ ((s ≡ status.SinkFault) × AppendsSome before after line)
+
+-- the line of the fault was told; for want of memory there is none
+abbrev pub Refuses : InputFault → Status → Option (List ℕ) → Option (List ℕ) → ℕ → ℕ → Type 0
+Refuses (Place place) s before after n m = (s ≡ status.Input) × Tells before after n m (input_line place)
+Refuses Memory s before after n m = (s ≡ status.NoMemory) × (after ≡ before) × (m ≡ n)
+
+-- the fault is at one of these places. Want of memory comes freely
+abbrev pub HasFault : (ℕ → Type 0) → InputFault → Type 0
+HasFault IsFaultAt (Place place) = IsFaultAt place
+HasFault IsFaultAt Memory = Unit {0}
 
 -- ---- decode
 
 -- hexadecimal text of a payload, and the text of the message that the payload spells
 abbrev pub IsDecoded : List ℕ → List ℕ → Type 0
 IsDecoded hex text = (payload : List ℕ) × IsHexOf hex payload × IsPrinted payload text
+
+abbrev pub IsDecodedLine : List ℕ → List ℕ → Type 0
+IsDecodedLine hex line = (text : List ℕ) × IsDecoded hex text × (line ≡ text ++ codes "\n")
 
 -- the payload is refused at this bit
 pub record IsPayloadFault (hex : List ℕ) (bit : ℕ) : Type 0 where
@@ -87,29 +120,7 @@ pub record IsPayloadFault (hex : List ℕ) (bit : ℕ) : Type 0 where
 
 -- the text is refused at this character, or its payload at this bit
 abbrev pub IsDecodeFault : List ℕ → ℕ → Type 0
-IsDecodeFault hex n = (hex_fault (chars hex) ≡ Some n) ⊎ IsPayloadFault hex n
+IsDecodeFault hex place = (hex_fault (chars hex) ≡ Some place) ⊎ IsPayloadFault hex place
 
--- why there is no line. Want of memory comes freely
-abbrev pub HasHexFault : List ℕ → InputFault → Type 0
-HasHexFault hex (Place n) = hex_fault (chars hex) ≡ Some n
-HasHexFault hex Memory = Unit {0}
-
-abbrev pub HasDecodeFault : List ℕ → InputFault → Type 0
-HasDecodeFault hex (Place n) = IsDecodeFault hex n
-HasDecodeFault hex Memory = Unit {0}
-
--- the line of a message
-abbrev pub IsDecodedLine : List ℕ → List ℕ → Type 0
-IsDecodedLine hex line = (text : List ℕ) × IsDecoded hex text × (line ≡ text ++ codes "\n")
-
--- what the output holds by the status: the line, or a front of it where it was not written, or a front of the fault's line
-abbrev pub Decodes : List ℕ → Status → Option (List ℕ) → Option (List ℕ) → Type 0
-Decodes hex status.Done before after = (line : List ℕ) × IsDecodedLine hex line × Appends before after line
-Decodes hex status.SinkFault before after = (line : List ℕ) × IsDecodedLine hex line × AppendsSome before after line
-Decodes hex status.Input before after = (n : ℕ) × IsDecodeFault hex n × AppendsSome before after (input_line n)
-Decodes hex status.NoMemory before after = after ≡ before
-Decodes hex status.Words before after = ⊥
-Decodes hex status.Plan before after = ⊥
-Decodes hex status.WireFault before after = ⊥
-Decodes hex status.SourceFault before after = ⊥
-Decodes hex status.TurnsSpent before after = ⊥
+abbrev pub Decodes : List ℕ → Status → Option (List ℕ) → Option (List ℕ) → ℕ → ℕ → Type 0
+Decodes hex s before after n m = Answers (IsDecodedLine hex) (IsDecodeFault hex) s before after n m

@@ -2,9 +2,10 @@
 
 ghost use Rattle.std.specs.Prelude.{◌≡◌, ◌<◌, IfOk, IfErr};
 ghost use Rattle.std.specs.String.{string_bytes};
-ghost use Rattle.charge_run.specs.Runs.{Decodes, IsDecodedLine, HasDecodeFault};
+ghost use Rattle.charge_run.specs.Runs.{Decodes, IsDecodedLine, IsDecodeFault, HasFault};
 
-use crate::fault::{InputFault, line_of_input, tell_fault};
+use crate::answer::{print_line, refuse};
+use crate::fault::InputFault;
 use crate::hex_text::bytes_of;
 use crate::status::Status;
 use app_protocol::{PrintFault, print};
@@ -15,20 +16,13 @@ use std::alloc::Global;
 ///
 /// `Input` where the text spells no bytes or the payload no message. `NoMemory` leaves the output as it was.
 pub(crate) fn decode<K: Sink>(alloc: Global, hex: &str, out: &mut K) -> Status
-    ensures leaves { Decodes hex.now result (K.taken out.old) (K.taken out.new) }
+    ensures leaves { Decodes hex.now result (K.taken out.old) (K.taken out.new) (K.faults out.old) (K.faults out.new) }
     ensures no_memory { result ≡ Status.NoMemory → K.faults out.new ≡ K.faults out.old }
     ensures sink_fault { result ≡ Status.SinkFault → K.faults out.old < K.faults out.new }
 {
     match line_of(alloc, hex) {
-        Ok(line) => match out.write(line.as_bytes()) {
-            Ok(()) => Status::Done,
-            Err(_) => Status::SinkFault,
-        },
-        Err(InputFault::Place(place)) => {
-            tell_fault(out, line_of_input(place).as_slice());
-            Status::Input
-        }
-        Err(InputFault::Memory) => Status::NoMemory,
+        Ok(line) => print_line(out, line.as_str()),
+        Err(fault) => refuse(out, fault),
     }
 }
 
@@ -36,7 +30,7 @@ pub(crate) fn decode<K: Sink>(alloc: Global, hex: &str, out: &mut K) -> Status
 #[tactic(auto, using(crate::proofs::HexLengths::length_hex))]
 fn line_of(alloc: Global, hex: &str) -> Result<String, InputFault>
     ensures line { IfOk result (λ line. IsDecodedLine hex.now (string_bytes line)) }
-    ensures fault { IfErr result (HasDecodeFault hex.now) }
+    ensures fault { IfErr result (HasFault (IsDecodeFault hex.now)) }
 {
     let payload = bytes_of(alloc, hex)?;
     let mut line = match print(alloc, &payload) {

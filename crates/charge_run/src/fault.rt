@@ -1,8 +1,7 @@
 //! Faults of an input, and the lines that tell of faults.
 
 ghost use Rattle.std.specs.Prelude.{◌≡◌};
-ghost use Rattle.charge_world.specs.Outside.{AppendsSome};
-ghost use Rattle.charge_run.specs.FaultLines.{input_line};
+ghost use Rattle.charge_run.specs.FaultLines.{Tells, input_line};
 
 use crate::line::{Line, add, add_number};
 use charge_world::{NoMemory, Sink};
@@ -28,7 +27,7 @@ impl From<NoMemory> for InputFault {
 
 /// Writes the line of a fault. Where that fails, nothing changes for it.
 pub(crate) fn tell_fault<K: Sink>(out: &mut K, line: &[u8])
-    ensures { AppendsSome (K.taken out.old) (K.taken out.new) line.now }
+    ensures { Tells (K.taken out.old) (K.taken out.new) (K.faults out.old) (K.faults out.new) line.now }
 {
     let _ = out.write(line);
 }

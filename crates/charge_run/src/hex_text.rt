@@ -3,7 +3,7 @@
 ghost use Rattle.std.specs.Prelude.{◌≡◌, length, position, IfOk, IfErr};
 ghost use Rattle.std.specs.Str.{chars};
 ghost use Rattle.charge_run.specs.HexText.{hex_fault, is_no_digit, IsHexOf};
-ghost use Rattle.charge_run.specs.Runs.{HasHexFault};
+ghost use Rattle.charge_run.specs.Runs.{HasFault};
 
 use crate::fault::InputFault;
 use std::alloc::Global;
@@ -17,7 +17,7 @@ const MOST_CHARACTERS: usize = 131_072;
 /// digit, else 131,072 where there are more than that.
 pub(crate) fn bytes_of(alloc: Global, text: &str) -> Result<Vec<u8>, InputFault>
     ensures spelled { IfOk result (λ bytes. IsHexOf text.now bytes.items) }
-    ensures fault { IfErr result (HasHexFault text.now) }
+    ensures fault { IfErr result (HasFault (λ place. hex_fault (chars text.now) ≡ Some place)) }
 {
     if let Some(place) = fault_of(text) {
         return Err(InputFault::Place(place as u64));

@@ -1,6 +1,7 @@
 //! All that the program does, as one call.
 #![tactic(auto)]
 
+mod answer;
 mod decode;
 mod fault;
 mod hex_text;

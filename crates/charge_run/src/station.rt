@@ -26,7 +26,7 @@ pub(crate) fn station<K: Sink, W: Wire>(alloc: Global, out: &mut K, wire: &mut W
 
     // The lines are counts over that past.
     ensures lines { (report : PostReport) × Carries (W.past wire.old) (W.past wire.new) (λ past. past ≡ []) (Reports 1 report)
-        × Outputs result report (K.taken out.old) (K.taken out.new) }
+        × Outputs result report (K.taken out.old) (K.taken out.new) (K.faults out.old) (K.faults out.new) }
 
     // Nothing was begun.
     ensures no_memory { result ≡ Status.NoMemory → (W.past wire.new ≡ W.past wire.old) × (W.faults wire.new ≡ W.faults wire.old) × (K.faults out.new ≡ K.faults out.old) }
@@ -72,7 +72,7 @@ fn both() -> Offer
 /// Writes the lines on how serving ended.
 fn tell<K: Sink>(ended: Ended, report: &PostReport, out: &mut K) -> Status
     ensures status { IsStatusOf ended result }
-    ensures lines { Outputs result report.now (K.taken out.old) (K.taken out.new) }
+    ensures lines { Outputs result report.now (K.taken out.old) (K.taken out.new) (K.faults out.old) (K.faults out.new) }
     ensures fault { result ≡ Status.SinkFault → K.faults out.old < K.faults out.new }
 {
     let line = line_of(1, report);

@@ -1,14 +1,13 @@
 //! The top call.
 
-ghost use Rattle.std.specs.Prelude.{◌≡◌, ◌≢◌, ◌^◌, ◌-◌, ◌<◌, ℕ, List, [], replicate};
-ghost use Rattle.charge_world.specs.Outside.{AppendsSome};
+ghost use Rattle.std.specs.Prelude.{◌≡◌, ◌≢◌, ◌^◌, ◌-◌, ◌<◌, ◌⊎◌, ℕ, List, [], replicate};
 ghost use Rattle.session_spec.specs.Past.{hearings};
 ghost use Rattle.session_spec.specs.SiteRun.{IsSiteRun};
 ghost use Rattle.site_core.specs.Judging.{Judges};
 ghost use Rattle.site_core.specs.Serving.{Carries, Reports};
 ghost use Rattle.site_core.specs.declared.report.PostReport.{PostReport};
 ghost use Rattle.charge_run.specs.Command.{IsStation, IsDecode, IsNoCommand};
-ghost use Rattle.charge_run.specs.FaultLines.{words_line};
+ghost use Rattle.charge_run.specs.FaultLines.{Tells, words_line};
 ghost use Rattle.charge_run.specs.Runs.{both_dialects, Ran, Outputs, Decodes, IsDecodeFault};
 
 use crate::decode::decode;
@@ -43,7 +42,7 @@ pub fn run<F: Source, K: Sink, J: Sink, W: Wire>(
     // Exactly where the words are no command.
     ensures words { result ≡ Status.Words → IsNoCommand words.now }
     ensures other_words { IsNoCommand words.now → result ≡ Status.Words }
-    ensures words_line { result ≡ Status.Words → AppendsSome (K.taken out.old) (K.taken out.new) words_line }
+    ensures words_line { result ≡ Status.Words → Tells (K.taken out.old) (K.taken out.new) (K.faults out.old) (K.faults out.new) words_line }
 
     // `station`: the past is a run of the site, and has the status's cause.
     ensures past { IsStation words.now → Carries (W.past wire.old) (W.past wire.new) (λ past. past ≡ []) (Ran result) }
@@ -52,13 +51,14 @@ pub fn run<F: Source, K: Sink, J: Sink, W: Wire>(
 
     // The lines are counts over that past.
     ensures lines { IsStation words.now → (report : PostReport) × Carries (W.past wire.old) (W.past wire.new) (λ past. past ≡ []) (Reports 1 report)
-        × Outputs result report (K.taken out.old) (K.taken out.new) }
+        × Outputs result report (K.taken out.old) (K.taken out.new) (K.faults out.old) (K.faults out.new) }
 
     // `decode`: the line is the text of the message, or tells where the input is refused.
-    ensures decode { (hex : List ℕ) → IsDecode words.now hex → Decodes hex result (K.taken out.old) (K.taken out.new) }
+    ensures decode { (hex : List ℕ) → IsDecode words.now hex → Decodes hex result (K.taken out.old) (K.taken out.new) (K.faults out.old) (K.faults out.new) }
 
-    // Exactly where the input is refused.
-    ensures input { result ≡ Status.Input → (hex : List ℕ) × (n : ℕ) × IsDecode words.now hex × IsDecodeFault hex n }
+    // Exactly where the input is refused, but for want of memory.
+    ensures input { result ≡ Status.Input → (hex : List ℕ) × (place : ℕ) × IsDecode words.now hex × IsDecodeFault hex place }
+    ensures refused { (hex : List ℕ) (place : ℕ) → IsDecode words.now hex → IsDecodeFault hex place → (result ≡ Status.Input) ⊎ (result ≡ Status.NoMemory) }
 
     // Nothing was begun.
     ensures no_memory { result ≡ Status.NoMemory → (W.past wire.new ≡ W.past wire.old) × (W.faults wire.new ≡ W.faults wire.old)

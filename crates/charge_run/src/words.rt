@@ -85,7 +85,11 @@ fn value_of<'a>(words: &'a WordList, command: &str) -> Option<&'a str>
         return None;
     }
     let value = words.get(2)?;
-    if value.starts_with("-") { None } else { Some(value) }
+    if value.starts_with("-") {
+        None
+    } else {
+        Some(value)
+    }
 }
 
 /// Whether the word at that place is this one.

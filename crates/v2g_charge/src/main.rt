@@ -1,5 +1,5 @@
-//! The program. At this stage its words are the one word `station`, and it serves a stored run in memory: the published
-//! request of a car that speaks DIN SPEC 70121, and then Over.
+//! The program. `decode app HEX` prints the text of a payload of the negotiation. At this stage `station` serves a stored run in
+//! memory: the published request of a car that speaks DIN SPEC 70121, and then Over.
 #![tactic(auto)]
 
 use anyhow::Result;
@@ -13,6 +13,9 @@ use std::process::ExitCode;
 const REQUEST: &str = "01fe800100000022\
 8000dbab9371d3234b71d1b981899189d191818991d26b9b3a232b30020000040040";
 
+/// Room for the longest output, the text of a request with 20 namespaces of 100 characters.
+const OUTPUT_BYTES: u32 = 65_536;
+
 fn main(rt: HostRuntime) -> Result<ExitCode> {
     let mut words = Vec::new(rt.alloc());
     for word in env::args(&rt)?.skip(1) {
@@ -25,7 +28,7 @@ fn main(rt: HostRuntime) -> Result<ExitCode> {
         16,
         256,
     )?;
-    let mut out = MemorySink::make(rt.alloc(), Vec::new(rt.alloc()), 256)?;
+    let mut out = MemorySink::make(rt.alloc(), Vec::new(rt.alloc()), OUTPUT_BYTES)?;
     let mut trace = MemorySink::make(rt.alloc(), Vec::new(rt.alloc()), 0)?;
     let mut files = MemorySource::of(Vec::new(rt.alloc()), Vec::new(rt.alloc()));
     let status = run(

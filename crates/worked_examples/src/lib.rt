@@ -1,6 +1,8 @@
 //! Worked examples that cross the crates: scripts of hearings, a wire that only ticks, and what a station does about them.
 #![tactic(auto)]
 
+#[cfg(test)]
+mod commands;
 pub mod events;
 #[cfg(test)]
 mod fakes;

@@ -52,19 +52,8 @@ pub fn station(
     failing: &[u32],
     unwritten: &[u32],
 ) -> Result<Left, Fail> {
-    ran(alloc, station_words(alloc)?, script, failing, unwritten)
-}
-
-/// Runs the words over that script.
-pub fn ran(
-    alloc: Global,
-    words: Vec<String>,
-    script: Vec<Scripted>,
-    failing: &[u32],
-    unwritten: &[u32],
-) -> Result<Left, Fail> {
     let mut wire = MemoryWire::make(alloc, script, failing.to_vec(alloc)?, 400, 4096)?;
-    let (status, out) = told(alloc, words, unwritten, &mut wire)?;
+    let (status, out) = told(alloc, station_words(alloc)?, unwritten, &mut wire)?;
     Ok(Left {
         status,
         out,
@@ -80,7 +69,7 @@ pub fn told<W: Wire>(
     unwritten: &[u32],
     wire: &mut W,
 ) -> Result<(Status, String), Fail> {
-    let mut out = MemorySink::make(alloc, unwritten.to_vec(alloc)?, 256)?;
+    let mut out = MemorySink::make(alloc, unwritten.to_vec(alloc)?, 1024)?;
     let mut trace = MemorySink::make(alloc, Vec::new(alloc), 0)?;
     let mut files = MemorySource::of(Vec::new(alloc), Vec::new(alloc));
     let words = WordList::of(words);

@@ -1,7 +1,7 @@
 //! A station of this stage: one negotiation.
 
 use crate::events::{came, event};
-use crate::scripts::{REQUEST, brought, piece, ran, station, station_words, told};
+use crate::scripts::{REQUEST, brought, piece, station, station_words, told};
 use crate::ticking::Ticking;
 use charge_run::Status;
 use charge_world::What;
@@ -92,8 +92,9 @@ fn each_failing_call(rt: HostRuntime) -> Result<(), Fail> {
     // the failing calls of the wire and of the output: the status, what is done, and the output
     let done = "post 1 sessions 1 closed 0 causes 00010000\n";
     let table = [
-        ([1u32; 1], [9u32; 1], Status::WireFault, "", ""),
-        ([2; 1], [9; 1], Status::WireFault, " lost", ""),
+        ([1u32; 1], [9u32; 1], Status::WireFault, "", "wire\n"),
+        ([2; 1], [9; 1], Status::WireFault, " lost", "wire\n"),
+        ([2; 1], [1; 1], Status::WireFault, " lost", ""),
         (
             [4; 1],
             [9; 1],
@@ -116,24 +117,6 @@ fn each_failing_call(rt: HostRuntime) -> Result<(), Fail> {
         assert_eq!(rt; left.done.as_str(), want);
         assert_eq!(rt; left.out.as_str(), out);
     }
-    Ok(())
-}
-
-#[test]
-fn other_words(rt: HostRuntime) -> Result<(), Fail> {
-    for (word, want) in [
-        ("station", Status::Done),
-        ("Station", Status::Words),
-        ("", Status::Words),
-    ] {
-        let words = vec![in rt.alloc(); String::from_str(rt.alloc(), word)?]?;
-        let left = ran(rt.alloc(), words, Vec::new(rt.alloc()), &[], &[])?;
-        assert_eq!(rt; left.status, want);
-    }
-    let no_words = Vec::new(rt.alloc());
-    let left = ran(rt.alloc(), no_words, Vec::new(rt.alloc()), &[], &[])?;
-    assert_eq!(rt; left.status, Status::Words);
-    assert_eq!(rt; left.status.number(), 2);
     Ok(())
 }
 

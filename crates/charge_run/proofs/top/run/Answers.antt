@@ -1,0 +1,11 @@
+use Rattle.std.proofs.Common.{List, ℕ, subst}
+use Rattle.charge_run.specs.Runs.{IsDecodeFault}
+use Rattle.charge_run.proofs.Answered.{only_refused}
+use Rattle.charge_run.proofs.WordLists.{one_value}
+use Rattle.charge_run.proofs.top.run.Goals as goal
+
+pub returns-in-Some-Decode-clause-refused : goal.returns-in-Some-Decode-clause-refused
+returns-in-Some-Decode-clause-refused g c hex place is fault =
+    let same = one_value c.args.words.now _ hex c.in-Some-Decode.hex.now is (rw c.in-Some-Decode.field-0-is at c.in-Some-Decode.ensures.command) in
+    only_refused c.in-Some-Decode.hex.now place c.decode.result _ _ _ _ c.decode.ensures.leaves
+    (subst (λ (h : List ℕ). IsDecodeFault h place) same fault)
