@@ -8,6 +8,7 @@
 mod awaited;
 mod cursor;
 mod fault;
+mod number;
 mod scanned;
 mod value;
 

@@ -1,0 +1,34 @@
+-- Own: the texts of each form of a value, and what stands next in a text.
+use Rattle.std.specs.Prelude.{◌≡◌, ℕ, ℤ, ◌<◌, ◌||◌, Bool, false, List, ◌++◌, length, Some, slice_get, encode_utf8}
+use Rattle.std.specs.Char.{IsScalar, is_ascii_digit}
+use Rattle.std.specs.Fmt.{decimal, signed_decimal}
+use Rattle.std.specs.Int.{is_in_range}
+use Rattle.std.specs.List.{AllByRecursion}
+use Rattle.hex.specs.Hex.{encode_lower}
+use Rattle.value_text.specs.ValueText.{IsShort, quoted}
+
+abbrev pub IsNumberText : List ℕ → Type 0
+IsNumberText text = (v : ℤ) × IsShort v × (text ≡ signed_decimal v)
+
+abbrev pub IsBytesText : List ℕ → Type 0
+IsBytesText text = (bytes : List ℕ) × AllByRecursion (λ byte. byte < 256) bytes × (text ≡ encode_lower bytes)
+
+abbrev pub IsQuotedText : List ℕ → Type 0
+IsQuotedText text = (chars : List ℕ) × AllByRecursion (λ char. IsScalar char) chars × (text ≡ quoted chars)
+
+-- one of some words
+abbrev pub IsOneOf : List (List ℕ) → List ℕ → Type 0
+IsOneOf words text = (i : ℕ) × (slice_get words i ≡ Some text)
+
+-- ---- what stands next
+
+-- a text begins with no character that passes the test
+abbrev pub NoneNext : (ℕ → Bool) → List ℕ → Type 0
+NoneNext test text = (c : ℕ) (more : List ℕ) → text ≡ encode_utf8 c ++ more → test c ≡ false
+
+abbrev pub is_lower_digit : ℕ → Bool
+is_lower_digit c = is_ascii_digit c || is_in_range 97 102 c
+
+-- behind a number's digits there is another only where there are 20
+abbrev pub EndsDigits : ℕ → List ℕ → Type 0
+EndsDigits number rest = length (decimal number) < 20 → NoneNext is_ascii_digit rest
