@@ -6,6 +6,7 @@
 #![tactic(auto)]
 
 mod awaited;
+mod binary;
 mod cursor;
 mod fault;
 mod number;
