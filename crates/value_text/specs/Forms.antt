@@ -1,11 +1,11 @@
 -- Own: the texts of each form of a value, and what stands next in a text.
-use Rattle.std.specs.Prelude.{◌≡◌, ℕ, ℤ, ◌<◌, ◌||◌, Bool, false, List, ◌++◌, length, Some, slice_get, encode_utf8}
+use Rattle.std.specs.Prelude.{◌≡◌, ℕ, ℤ, ◌<◌, ◌||◌, ◌⊎◌, Bool, false, List, ◌++◌, codes, length, Option, Some, None, slice_get, encode_utf8}
 use Rattle.std.specs.Char.{IsScalar, is_ascii_digit}
 use Rattle.std.specs.Fmt.{decimal, signed_decimal}
 use Rattle.std.specs.Int.{is_in_range}
 use Rattle.std.specs.List.{AllByRecursion}
 use Rattle.hex.specs.Hex.{encode_lower}
-use Rattle.value_text.specs.ValueText.{IsShort, quoted}
+use Rattle.value_text.specs.ValueText.{IsShort, character_text, quoted}
 
 abbrev pub IsNumberText : List ℕ → Type 0
 IsNumberText text = (v : ℤ) × IsShort v × (text ≡ signed_decimal v)
@@ -15,6 +15,14 @@ IsBytesText text = (bytes : List ℕ) × AllByRecursion (λ byte. byte < 256) by
 
 abbrev pub IsQuotedText : List ℕ → Type 0
 IsQuotedText text = (chars : List ℕ) × AllByRecursion (λ char. IsScalar char) chars × (text ≡ quoted chars)
+
+-- between quotes: the closing quote, or a character
+abbrev pub IsPieceText : List ℕ → Type 0
+IsPieceText text = (text ≡ codes "\"") ⊎ ((c : ℕ) × IsScalar c × (text ≡ character_text c))
+
+abbrev pub IsPiece : Option ℕ → List ℕ → Type 0
+IsPiece None text = text ≡ codes "\""
+IsPiece (Some c) text = IsScalar c × (text ≡ character_text c)
 
 -- one of some words
 abbrev pub IsOneOf : List (List ℕ) → List ℕ → Type 0

@@ -1,6 +1,6 @@
 //! Binaries.
 
-ghost use Rattle.std.specs.Prelude.{◌≡◌, ◌++◌, ◌<◌, [], ◌∷◌, MatchOption, IfOk, IfErr, OnOk, ℕ, List, slice_index};
+ghost use Rattle.std.specs.Prelude.{◌≡◌, ◌++◌, ◌<◌, [], ◌∷◌, MatchOption, IfOk, IfErr, OnOk, false, ℕ, List, slice_index};
 ghost use Rattle.std.specs.List.{AllByRecursion};
 ghost use Rattle.std.specs.Str.{encode_utf8_all};
 ghost use Rattle.hex.specs.Hex.{encode_lower, lower_digits};
@@ -38,7 +38,9 @@ impl<'t> TextCursor<'t> {
     {
         let mut ahead = *self;
         let c = ahead.next()?;
-        let digit = hex_value(c)?;
+        let Some(digit) = hex_value(c) else {
+            return None;
+        };
         *self = ahead;
         Some(digit)
     }

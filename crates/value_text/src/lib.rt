@@ -10,6 +10,7 @@ mod binary;
 mod cursor;
 mod fault;
 mod number;
+mod quoted;
 mod scanned;
 mod value;
 
