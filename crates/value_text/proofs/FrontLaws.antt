@@ -7,6 +7,7 @@ use Rattle.std.proofs.lemmas.Str.{encode_same, encodes-append}
 use Rattle.value_text.specs.declared.cursor.TextCursor.{TextCursor}
 use Rattle.value_text.specs.Fronts.{Begins, IsLongest}
 use Rattle.value_text.specs.Scanning.{Passes, Takes, GoesWrong}
+use Rattle.value_text.proofs.NextLaws.{some_bytes}
 
 -- a front with more behind it that another text begins with
 abbrev pub GoesOn : List ℕ → List ℕ → List ℕ → List ℕ → Type 0
@@ -109,3 +110,54 @@ pub wrong_where_it_stops : (L : List ℕ → Type 0) (before : TextCursor) (fron
     → GoesWrong L before after.place
 wrong_where_it_stops L before front after passed begins none stops =
     (front, longest_where_it_stops L before.rest.now front after.rest.now passed.stands begins stops, none, passed.counted)
+
+-- ---- one language behind a front of another
+
+pub stops_of : (L : List ℕ → Type 0) (text front : List ℕ) (p : IsLongest L text front) → Stops L front p.rest
+stops_of L text front p c more after there one =
+    let longer = p.longest (front ++ c ∷ []) more (p.stands ∙ ap (λ (bs : List ℕ). encode_utf8_all front ++ bs) there ∙ sym (encodes_push front c more)) (after, subst L (sym (encodes_push front c after)) one) in
+    absurd (omega (arith, longer, length-append front (c ∷ [])))
+
+pub stops_behind : (L : List ℕ → Type 0) (before : TextCursor) (front : List ℕ) (after : TextCursor) → Takes L before front after → Stops L front after.rest.now
+stops_behind L before front after t =
+    subst (λ (rest : List ℕ). Stops L front rest) (append_cancel_left (encode_utf8_all front) t.longest.rest after.rest.now (sym t.longest.stands ∙ t.passed.stands)) (stops_of L before.rest.now front t.longest)
+
+-- the texts of L are what stands behind the front p in those of M
+pub record StandsBehind (L M : List ℕ → Type 0) (p : List ℕ) : Type 0 where
+  pub to : (x : List ℕ) → L x → M (encode_utf8_all p ++ x)
+  pub from : (x : List ℕ) → M (encode_utf8_all p ++ x) → L x
+
+encodes_both : (p front rest : List ℕ) → encode_utf8_all (p ++ front) ++ rest ≡ encode_utf8_all p ++ (encode_utf8_all front ++ rest)
+encodes_both p front rest = ap (λ (bs : List ℕ). bs ++ rest) (encodes-append p front) ∙ append_assoc (encode_utf8_all p) (encode_utf8_all front) rest
+
+stops_both : (L M : List ℕ → Type 0) (p front rest : List ℕ) → StandsBehind L M p → Stops L front rest → Stops M (p ++ front) rest
+stops_both L M p front rest is stops c more after there one =
+    stops c more after there (is.from (encode_utf8_all front ++ (encode_utf8 c ++ after)) (subst M (encodes_both p front (encode_utf8 c ++ after)) one))
+
+pub takes_behind : (L M : List ℕ → Type 0) (a b c : TextCursor) (p front : List ℕ) → StandsBehind L M p → Passes a p b → Takes L b front c → Takes M a (p ++ front) c
+takes_behind L M a b c p front is passed t =
+    takes_where_it_stops M a (p ++ front) c (passes_on a b c p front passed t.passed)
+        (subst M (sym (encodes-append p front)) (is.to (encode_utf8_all front) t.is_one))
+        (stops_both L M p front c.rest.now is (stops_behind L b front c t))
+
+pub wrong_behind : (L M : List ℕ → Type 0) (a b : TextCursor) (p : List ℕ) (place : ℕ) → StandsBehind L M p → Passes a p b → GoesWrong L b place → GoesWrong M a place
+wrong_behind L M a b p place is passed w =
+    let front = w.0 in
+    let longest = w.1 in
+    let stands = passed.stands ∙ ap (λ (bs : List ℕ). encode_utf8_all p ++ bs) longest.stands ∙ sym (encodes_both p front longest.rest) in
+    (
+      p ++ front,
+      longest_where_it_stops M a.rest.now (p ++ front) longest.rest stands
+        (longest.begins.0, subst M (sym (encodes_both p front longest.begins.0)) (is.to (encode_utf8_all front ++ longest.begins.0) longest.begins.1))
+        (stops_both L M p front longest.rest is (stops_of L b.rest.now front longest)),
+      λ one. w.2 (is.from (encode_utf8_all front) (subst M (encodes-append p front) one)),
+      omega (arith, w.3, passed.counted, length-append p front)
+    )
+
+-- of no two texts does one begin the other
+abbrev pub IsPrefixFree : (List ℕ → Type 0) → Type 0
+IsPrefixFree L = (x y : List ℕ) → L x → L (x ++ y) → y ≡ []
+
+pub takes_whole : (L : List ℕ → Type 0) (before : TextCursor) (front : List ℕ) (after : TextCursor) → IsPrefixFree L → Passes before front after → L (encode_utf8_all front) → Takes L before front after
+takes_whole L before front after free passed one =
+    takes_where_it_stops L before front after passed one (λ c more rest there longer. some_bytes c rest (free (encode_utf8_all front) (encode_utf8 c ++ rest) one longer))

@@ -1,7 +1,7 @@
 -- Own: the texts of each form of a value, and what stands next in a text.
 use Rattle.std.specs.Prelude.{◌≡◌, ℕ, ℤ, ◌<◌, ◌||◌, ◌⊎◌, Bool, false, List, ◌++◌, codes, length, Option, Some, None, slice_get, encode_utf8}
 use Rattle.std.specs.Char.{IsScalar, is_ascii_digit}
-use Rattle.std.specs.Fmt.{decimal, signed_decimal}
+use Rattle.std.specs.Fmt.{decimal, digits, signed_decimal}
 use Rattle.std.specs.Int.{is_in_range}
 use Rattle.std.specs.List.{AllByRecursion}
 use Rattle.hex.specs.Hex.{encode_lower}
@@ -15,6 +15,26 @@ IsBytesText text = (bytes : List ℕ) × AllByRecursion (λ byte. byte < 256) by
 
 abbrev pub IsQuotedText : List ℕ → Type 0
 IsQuotedText text = (chars : List ℕ) × AllByRecursion (λ char. IsScalar char) chars × (text ≡ quoted chars)
+
+-- behind a backslash: a quote, a backslash, or the number of a character below U+0020
+abbrev pub IsNumbered : ℕ → List ℕ → Type 0
+IsNumbered c text = (c < 32) × (text ≡ digits 16 false c ++ codes "}")
+
+abbrev pub IsBraced : ℕ → List ℕ → Type 0
+IsBraced c text = (number : List ℕ) × IsNumbered c number × (text ≡ codes "{" ++ number)
+
+abbrev pub IsEscaped : ℕ → List ℕ → Type 0
+IsEscaped c text =
+    ((c ≡ 34) × (text ≡ codes "\"")) ⊎ (((c ≡ 92) × (text ≡ codes "\\")) ⊎ ((braced : List ℕ) × IsBraced c braced × (text ≡ codes "u" ++ braced)))
+
+abbrev pub IsNumberedText : List ℕ → Type 0
+IsNumberedText text = (c : ℕ) × IsNumbered c text
+
+abbrev pub IsBracedText : List ℕ → Type 0
+IsBracedText text = (c : ℕ) × IsBraced c text
+
+abbrev pub IsEscapedText : List ℕ → Type 0
+IsEscapedText text = (c : ℕ) × IsEscaped c text
 
 -- between quotes: the closing quote, or a character
 abbrev pub IsPieceText : List ℕ → Type 0

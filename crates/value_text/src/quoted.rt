@@ -5,7 +5,7 @@ ghost use Rattle.std.specs.List.{AllByRecursion};
 ghost use Rattle.std.specs.Char.{IsScalar};
 ghost use Rattle.std.specs.Str.{encode_utf8_all, chars};
 ghost use Rattle.std.specs.String.{string_bytes};
-ghost use Rattle.value_text.specs.Forms.{IsPieceText, IsPiece, IsQuotedText};
+ghost use Rattle.value_text.specs.Forms.{IsNumbered, IsNumberedText, IsBraced, IsBracedText, IsEscaped, IsEscapedText, IsPieceText, IsPiece, IsQuotedText};
 ghost use Rattle.value_text.specs.Scanning.{Passes, Takes, GoesWrong, IsFaultOf};
 ghost use Rattle.value_text.specs.ValueText.{quoted};
 
@@ -16,8 +16,8 @@ use std::alloc::Global;
 impl<'t> TextCursor<'t> {
     /// The character below U+0020 whose number in hexadecimal ends in a brace there, and the cursor behind it.
     fn numbered(&self) -> Result<(char, TextCursor<'t>), u64>
-        ensures taken { IfOk result (λ x. TakesNumbered self.now x.0 x.1) }
-        ensures fault { IfErr result (λ place. NumberedGoesWrong self.now place) }
+        ensures taken { IfOk result (λ x. (front : List ℕ) × Takes IsNumberedText self.now front x.1 × IsNumbered x.0 (encode_utf8_all front)) }
+        ensures fault { IfErr result (λ place. GoesWrong IsNumberedText self.now place) }
     {
         let mut ahead = *self;
         let Some(digit) = ahead.hex_digit() else {
@@ -32,16 +32,28 @@ impl<'t> TextCursor<'t> {
         let Some(low) = ahead.hex_digit() else {
             return Err(ahead.place);
         };
-        if !ahead.take_char('}') {
-            return Err(ahead.place);
+        if ahead.take_char('}') {
+            return Ok((char::from(16 + low), ahead));
         }
-        Ok((char::from(16 + low), ahead))
+        Err(ahead.place)
+    }
+
+    /// The character below U+0020 whose number in hexadecimal stands in braces there, and the cursor behind it.
+    fn braced(&self) -> Result<(char, TextCursor<'t>), u64>
+        ensures taken { IfOk result (λ x. (front : List ℕ) × Takes IsBracedText self.now front x.1 × IsBraced x.0 (encode_utf8_all front)) }
+        ensures fault { IfErr result (λ place. GoesWrong IsBracedText self.now place) }
+    {
+        let mut ahead = *self;
+        if ahead.take_char('{') {
+            return ahead.numbered();
+        }
+        Err(ahead.place)
     }
 
     /// The character that is spelled behind a backslash, and the cursor behind it.
     fn escaped(&self) -> Result<(char, TextCursor<'t>), u64>
-        ensures taken { IfOk result (λ x. TakesEscaped self.now x.0 x.1) }
-        ensures fault { IfErr result (λ place. EscapedGoesWrong self.now place) }
+        ensures taken { IfOk result (λ x. (front : List ℕ) × Takes IsEscapedText self.now front x.1 × IsEscaped x.0 (encode_utf8_all front)) }
+        ensures fault { IfErr result (λ place. GoesWrong IsEscapedText self.now place) }
     {
         let mut ahead = *self;
         if ahead.take_char('"') {
@@ -50,13 +62,10 @@ impl<'t> TextCursor<'t> {
         if ahead.take_char('\\') {
             return Ok(('\\', ahead));
         }
-        if !ahead.take_char('u') {
-            return Err(ahead.place);
+        if ahead.take_char('u') {
+            return ahead.braced();
         }
-        if !ahead.take_char('{') {
-            return Err(ahead.place);
-        }
-        ahead.numbered()
+        Err(ahead.place)
     }
 
     /// The next character between quotes, or the closing quote, which is no character; and the cursor behind it.
