@@ -5,4 +5,5 @@ pub mod NumberLaws
 pub mod HexTexts
 pub mod EscapeTexts
 pub mod PieceTexts
+pub mod QuotedTexts
 pub mod Outcomes
