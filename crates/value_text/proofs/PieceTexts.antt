@@ -280,7 +280,7 @@ piece_first c after (inr p) =
       | inr q ↦ let is = encode_same c p.0 after [] (p.2 ∙ q.3 ∙ sym (append-nil _)) in omega (arith, is.0, q.0)
     ]
 
-some_text : (c : ℕ) → character_text c ≡ [] → ⊥
+pub some_text : (c : ℕ) → character_text c ≡ [] → ⊥
 some_text c e =
     elim (shape c) [
       | inl p ↦ omega (arith, ap length (sym p.2 ∙ e))

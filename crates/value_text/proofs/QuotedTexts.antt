@@ -1,11 +1,11 @@
 -- Texts in quotes where a cursor stands.
-use Rattle.std.proofs.Common.{◌≡◌, ℕ, zero, suc, ◌+◌, ◌<◌, ◌≤◌, Bool, true, false, List, [], ◌∷◌, ◌++◌, length, drop, ◌⊎◌, inl, inr, refl, sym, ap, ap₂, subst, ◌∙◌, append_assoc, arith}
+use Rattle.std.proofs.Common.{◌≡◌, ◌≢◌, ℕ, zero, suc, ◌+◌, ◌<◌, ◌≤◌, Bool, true, false, List, [], ◌∷◌, ◌++◌, length, drop, ◌⊎◌, inl, inr, refl, sym, ap, ap₂, subst, ◌∙◌, append_assoc, arith}
 use Rattle.std.specs.Prelude.{◌==◌, encode_utf8, codes, Some, None}
 use Rattle.std.specs.Char.{IsScalar}
 use Rattle.std.specs.List.{AllByRecursion, flat_map}
 use Rattle.std.specs.Str.{encode_utf8_all, all_scalars, chars, IsUtf8}
 use Rattle.std.proofs.lemmas.Grind.{flat_map-append}
-use Rattle.std.proofs.lemmas.List.{append-nil, length-append}
+use Rattle.std.proofs.lemmas.List.{append-nil, length-append, nil_from_length}
 use Rattle.std.proofs.lemmas.Str.{encode_same, encodes-append, chars-append, chars-encodes, chars-nil}
 use Rattle.value_text.specs.declared.cursor.TextCursor.{TextCursor}
 use Rattle.value_text.specs.Forms.{IsPiece, IsPieceText, IsQuotedText, NoneNext}
@@ -14,7 +14,7 @@ use Rattle.value_text.specs.ValueText.{character_text, quoted}
 use Rattle.value_text.proofs.EscapeTexts.{encodes_ascii}
 use Rattle.value_text.proofs.FrontLaws.{GoesOn, compare, same_length, Stops, StandsBehind, IsPrefixFree, stops_of, longest_where_it_stops, passes_on, takes_whole, takes_behind, wrong_behind}
 use Rattle.value_text.proofs.NextLaws.{some_bytes}
-use Rattle.value_text.proofs.PieceTexts.{GivesPiece, one_piece, no_quote_first, no_first, byte_front, spelled_chars}
+use Rattle.value_text.proofs.PieceTexts.{GivesPiece, one_piece, no_quote_first, no_first, spelled_chars, some_text}
 
 -- ---- the rest of a text, up to the closing quote
 
@@ -89,11 +89,11 @@ rest_stops front rest r begun none stops c more after there (d ∷ cs, all, e) =
           ap (λ (n : ℕ). encode_utf8_all front ++ (encode_utf8 n ++ encode_utf8_all on.1)) same.0 ∙ sym (encodes-append front (on.0 ∷ on.1)) ∙ ap encode_utf8_all (sym on.2) ∙ spelled.1))
     ]
   where
-    some_more : (n : ℕ) (xs r : List ℕ) → 0 < length ((encode_utf8 n ++ xs) ++ r)
-    some_more n xs r = not_empty ((encode_utf8 n ++ xs) ++ r) (λ e. some_bytes n (xs ++ r) (sym (append_assoc (encode_utf8 n) xs r) ∙ e))
     not_empty : (xs : List ℕ) → (xs ≡ [] → ⊥) → 0 < length xs
     not_empty [] differs = absurd (differs refl)
     not_empty (x ∷ xs) differs = omega arith
+    some_more : (n : ℕ) (xs r : List ℕ) → 0 < length ((encode_utf8 n ++ xs) ++ r)
+    some_more n xs r = not_empty ((encode_utf8 n ++ xs) ++ r) (λ e. some_bytes n (xs ++ r) (sym (append_assoc (encode_utf8 n) xs r) ∙ e))
 
 wrong_rest : (b : TextCursor) (place : ℕ) → GoesWrong IsPieceText b place → GoesWrong IsRestText b place
 wrong_rest b place w =
@@ -168,3 +168,8 @@ reads_on a b d text more c utf8 reads g is =
 
 pub no_quote : (a b : TextCursor) → b ≡ a → NoneNext (λ c. c == 34) a.rest.now → GoesWrong IsQuotedText a b.place
 no_quote a b stays none = no_first IsQuotedText a b 34 (34 ∷ 34 ∷ []) (omega arith) ([], tt, refl) (λ text one. (flat_map character_text one.0 ++ 34 ∷ [], one.2)) stays none
+
+pub piece_shorter : (b d : TextCursor) (c : ℕ) → GivesPiece b (Some c) d → length d.rest.now < length b.rest.now
+piece_shorter b d c g =
+    let long : length (encode_utf8_all g.0) ≢ 0 = λ e. some_text c (sym g.2.1 ∙ nil_from_length (encode_utf8_all g.0) e) in
+    omega (arith, ap length g.1.passed.stands, length-append (encode_utf8_all g.0) d.rest.now, long)
