@@ -7,3 +7,4 @@ pub mod EscapeTexts
 pub mod PieceTexts
 pub mod QuotedTexts
 pub mod Outcomes
+pub mod BestWords

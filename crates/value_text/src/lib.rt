@@ -13,6 +13,7 @@ mod number;
 mod quoted;
 mod scanned;
 mod value;
+mod words;
 
 pub use awaited::Awaited;
 pub use cursor::TextCursor;
