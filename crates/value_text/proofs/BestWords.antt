@@ -1,5 +1,5 @@
 -- The longest front of a text that begins one of some words.
-use Rattle.std.proofs.Common.{◌≡◌, ℕ, zero, suc, ◌+◌, ◌<◌, ◌≤◌, Bool, true, false, List, [], ◌∷◌, ◌++◌, length, get_or, take, drop, ◌⊎◌, inl, inr, Result, IfOk, IfErr, refl, sym, ap, ap₂, subst, ◌∙◌, append_assoc, arith}
+use Rattle.std.proofs.Common.{◌≡◌, ℕ, zero, suc, ◌+◌, ◌<◌, ◌≤◌, Bool, true, false, List, [], ◌∷◌, ◌++◌, length, get_or, map, take, drop, ◌⊎◌, inl, inr, Result, IfOk, IfErr, refl, sym, ap, ap₂, subst, ◌∙◌, append_assoc, arith}
 use Rattle.std.specs.Prelude.{◌==◌, encode_utf8, Some, None, Option, slice_get, slice_index}
 use Rattle.std.specs.Str.{encode_utf8_all, IsAscii}
 use Rattle.std.proofs.lemmas.Bool.{cases_lt}
@@ -237,3 +237,8 @@ err_best words a count whole r ascii some best h =
 
 pub all_words : (words : List (List ℕ)) (n m : ℕ) (text : List ℕ) (count : ℕ) (whole : Option ℕ) → n ≡ m → IsBest words n text count whole → IsBest words m text count whole
 all_words words n m text count whole same best = subst (λ (k : ℕ). IsBest words k text count whole) same best
+
+pub mapped_at : {X Y : Type 0} (f : X → Y) (xs : List X) (i : ℕ) (d : X) → i < length xs → slice_get (map f xs) i ≡ Some (f (get_or xs i d))
+mapped_at f [] i d lt = absurd (omega (arith, lt))
+mapped_at f (x ∷ xs) zero d lt = refl
+mapped_at f (x ∷ xs) (suc i) d lt = mapped_at f xs i d (omega (arith, lt))

@@ -6,10 +6,13 @@ use Rattle.std.specs.Int.{is_in_range}
 use Rattle.std.specs.List.{AllByRecursion}
 use Rattle.std.specs.Str.{IsAscii}
 use Rattle.hex.specs.Hex.{encode_lower}
-use Rattle.value_text.specs.ValueText.{IsShort, character_text, quoted}
+use Rattle.value_text.specs.ValueText.{IsShort, truth_text, character_text, quoted}
 
 abbrev pub IsNumberText : List ℕ → Type 0
 IsNumberText text = (v : ℤ) × IsShort v × (text ≡ signed_decimal v)
+
+abbrev pub IsTruthText : List ℕ → Type 0
+IsTruthText text = (truth : Bool) × (text ≡ truth_text truth)
 
 abbrev pub IsBytesText : List ℕ → Type 0
 IsBytesText text = (bytes : List ℕ) × AllByRecursion (λ byte. byte < 256) bytes × (text ≡ encode_lower bytes)
@@ -82,3 +85,7 @@ pub record IsBest (words : List (List ℕ)) (n : ℕ) (text : List ℕ) (count :
 -- texts in ASCII
 abbrev pub AreAscii : List (List ℕ) → Type 0
 AreAscii words = (i : ℕ) (word : List ℕ) → slice_get words i ≡ Some word → IsAscii word
+
+-- of a name and the character behind it
+abbrev pub awaited_text : List ℕ → ℕ → List ℕ
+awaited_text name end = name ++ encode_utf8 end

@@ -2,7 +2,7 @@
 
 ghost use Rattle.std.specs.Prelude.{◌≡◌, ◌+◌, ◌<◌, ◌≤◌, ◌++◌, ◌∷◌, [], ◌==◌, ℕ, List, Some, None, length, take, map, slice_get, IfOk, IfErr};
 ghost use Rattle.std.specs.Str.{encode_utf8_all, IsAscii};
-ghost use Rattle.value_text.specs.Forms.{AgreesMost, IsBest, IsOneOf, AreAscii};
+ghost use Rattle.value_text.specs.Forms.{awaited_text, AgreesMost, IsBest, IsOneOf, AreAscii};
 ghost use Rattle.value_text.specs.Scanning.{Passes, Takes, GoesWrong};
 
 use crate::cursor::TextCursor;
@@ -20,6 +20,26 @@ pub(crate) fn agreed(text: &str, word: &str) -> usize
         }
     }
     most
+}
+
+/// How many bytes a text begins with like a name and the character of ASCII behind it, and whether like both.
+pub(crate) fn agreed_awaited(text: &str, name: &str, end: char) -> (usize, bool)
+    requires { end < 128 }
+    ensures agreed { AgreesMost text.now (awaited_text name.now end) result.0 }
+    ensures whole { result.1 ≡ (length (awaited_text name.now end) == result.0) }
+{
+    let count = agreed(text, name);
+    if count < name.len() {
+        return (count, false);
+    }
+    let bytes = text.as_bytes();
+    if count == bytes.len() {
+        return (count, false);
+    }
+    if bytes[count] != end as u8 {
+        return (count, false);
+    }
+    (count + 1, true)
 }
 
 /// How many bytes of a text begin one of some words, and which of them they are, if one is.
