@@ -8,3 +8,6 @@ pub mod PieceTexts
 pub mod QuotedTexts
 pub mod Outcomes
 pub mod BestWords
+pub mod SchemaWords
+pub mod ValueForms
+pub mod NameForms

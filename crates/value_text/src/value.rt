@@ -42,10 +42,13 @@ impl<'t> TextCursor<'t> {
                 Ok((truth, behind)) => Ok((Scanned::Bool(truth), behind)),
                 Err(place) => Err(ValueFault::Place(place)),
             },
-            Datatype::Named { .. } => match self.word(schema.values[kind as usize]) {
-                Ok((ordinal, behind)) => Ok((Scanned::Ordinal(ordinal as u32), behind)),
-                Err(place) => Err(ValueFault::Place(place)),
-            },
+            Datatype::Named { .. } => {
+                let words = schema.values[kind as usize];
+                match self.word(words) {
+                    Ok((ordinal, behind)) => Ok((Scanned::Ordinal(ordinal as u32), behind)),
+                    Err(place) => Err(ValueFault::Place(place)),
+                }
+            }
             Datatype::Bounded { .. } | Datatype::Unsigned { .. } | Datatype::Signed { .. } => {
                 match self.number() {
                     Ok((number, behind)) => Ok((Scanned::Number(number), behind)),
