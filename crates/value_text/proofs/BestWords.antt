@@ -4,10 +4,10 @@ use Rattle.std.specs.Prelude.{◌==◌, encode_utf8, Some, None, Option, slice_g
 use Rattle.std.specs.Str.{encode_utf8_all, IsAscii}
 use Rattle.std.proofs.lemmas.Bool.{cases_lt}
 use Rattle.std.proofs.lemmas.Bool.Decides.{nat_tests}
-use Rattle.std.proofs.lemmas.List.{append-nil, length-append, length-take-le, take-append-drop, take-take, take_all, take_at, get_or-take, append_cancel_left}
-use Rattle.std.proofs.lemmas.Str.{encodes-IsAscii, IsAscii-take, length-encode, len_utf8_bounds}
+use Rattle.std.proofs.lemmas.List.{append-nil, length-append, length-take-le, take-append-drop, take-take, take_all, take_at, take-append-le, take_more_same, get_or_at, get_or-take, append_cancel_left}
+use Rattle.std.proofs.lemmas.Str.{encodes-IsAscii, IsAscii-take, encode_ascii, length-encode, len_utf8_bounds}
 use Rattle.value_text.specs.declared.cursor.TextCursor.{TextCursor}
-use Rattle.value_text.specs.Forms.{AgreesTo, AgreesMost, IsBest, IsOneOf, AreAscii}
+use Rattle.value_text.specs.Forms.{AgreesTo, AgreesMost, IsBest, IsOneOf, AreAscii, awaited_text}
 use Rattle.value_text.specs.Fronts.{Begins}
 use Rattle.value_text.specs.Scanning.{Passes, Takes, GoesWrong}
 use Rattle.value_text.proofs.Outcomes.{ok_to, err_to}
@@ -225,7 +225,7 @@ pub ok_best : (words : List (List ℕ)) (a : TextCursor) (count : ℕ) (whole : 
 ok_best words a count whole r ascii best h =
     ok_to r (λ x. (whole ≡ Some x.0) × Passes a (take count a.rest.now) x.1) (λ x. GivesWord words a x.0 x.1) (λ x p. takes_best words a x.1 count x.0 whole ascii best p.0 p.1) h
 
-first_word : (words : List (List ℕ)) → 0 < length words → (first : List ℕ) × (slice_get words 0 ≡ Some first)
+pub first_word : (words : List (List ℕ)) → 0 < length words → (first : List ℕ) × (slice_get words 0 ≡ Some first)
 first_word [] some = absurd (omega (arith, some))
 first_word (word ∷ words) some = (word, refl)
 
@@ -242,3 +242,58 @@ pub mapped_at : {X Y : Type 0} (f : X → Y) (xs : List X) (i : ℕ) (d : X) →
 mapped_at f [] i d lt = absurd (omega (arith, lt))
 mapped_at f (x ∷ xs) zero d lt = refl
 mapped_at f (x ∷ xs) (suc i) d lt = mapped_at f xs i d (omega (arith, lt))
+
+-- ---- a word and one more character
+
+agrees_less : (text word : List ℕ) (more k : ℕ) → AgreesTo text word more → k ≤ more → AgreesTo text word k
+agrees_less text word more k h le =
+    (omega (arith, h.0, le), omega (arith, h.1, le), sym (take-take k more text le) ∙ ap (λ (bs : List ℕ). take k bs) h.2 ∙ take-take k more word le)
+
+agrees_front : (text name end : List ℕ) (k : ℕ) → AgreesTo text (name ++ end) k → k ≤ length name → AgreesTo text name k
+agrees_front text name end k h le = (h.0, le, h.2 ∙ take-append-le k name end le)
+
+front_agreed : (text name end : List ℕ) (k : ℕ) → AgreesTo text name k → AgreesTo text (name ++ end) k
+front_agreed text name end k h = (h.0, omega (arith, h.1, length-append name end), h.2 ∙ sym (take-append-le k name end h.1))
+
+one_byte : (c : ℕ) → c < 128 → length (encode_utf8 c) ≡ 1
+one_byte c small = ap length (encode_ascii c small)
+
+awaited_length : (name : List ℕ) (end : ℕ) → end < 128 → length (awaited_text name end) ≡ length name + 1
+awaited_length name end small = length-append name (encode_utf8 end) ∙ ap (λ (k : ℕ). length name + k) (one_byte end small)
+
+pub agreed_inside : (text name : List ℕ) (end count : ℕ) → end < 128 → AgreesMost text name count → count < length name → AgreesMost text (awaited_text name end) count
+agreed_inside text name end count small h lt = (
+    front_agreed text name (encode_utf8 end) count h.0,
+    λ more agrees. elim (cases_lt (length name) more) [
+      | inl beyond ↦ absurd (omega (arith, lt, h.1 (length name) (agrees_front text name (encode_utf8 end) (length name) (agrees_less text (awaited_text name end) more (length name) agrees (omega (arith, beyond))) (omega arith))))
+      | inr within ↦ h.1 more (agrees_front text name (encode_utf8 end) more agrees within)
+    ]
+  )
+
+pub not_whole : (name : List ℕ) (end count : ℕ) → end < 128 → count ≤ length name → false ≡ (length (awaited_text name end) == count)
+not_whole name end count small le = let long = awaited_length name end small in grind (arith, nat_tests)
+
+pub agreed_at_end : (text name : List ℕ) (end count : ℕ) → AgreesMost text name count → count ≡ length text → AgreesMost text (awaited_text name end) count
+agreed_at_end text name end count h all = (front_agreed text name (encode_utf8 end) count h.0, λ more agrees. omega (arith, agrees.0, all))
+
+end_at : (name : List ℕ) (end count : ℕ) → end < 128 → count ≡ length name → get_or (awaited_text name end) count 0 ≡ end
+end_at name end count small is = rw is (ap (λ (bs : List ℕ). get_or (name ++ bs) (length name) 0) (encode_ascii end small) ∙ get_or_at name end [] 0 (length name) refl)
+
+pub agreed_but_end : (text name : List ℕ) (end count : ℕ) → end < 128 → AgreesMost text name count → count ≡ length name → (get_or text count 0 ≡ end → ⊥) → AgreesMost text (awaited_text name end) count
+agreed_but_end text name end count small h is differs = (
+    front_agreed text name (encode_utf8 end) count h.0,
+    λ more agrees. agrees_no_more text (awaited_text name end) count more (λ same. differs (same ∙ end_at name end count small is)) agrees
+  )
+
+pub agreed_whole : (text name : List ℕ) (end count : ℕ) → end < 128 → AgreesMost text name count → count ≡ length name → count < length text → get_or text count 0 ≡ end → AgreesMost text (awaited_text name end) (count + 1)
+agreed_whole text name end count small h is lt same = (
+    (
+      omega (arith, lt),
+      omega (arith, awaited_length name end small, is),
+      take_more_same text (awaited_text name end) count 0 lt (omega (arith, awaited_length name end small, is)) (front_agreed text name (encode_utf8 end) count h.0).2 (same ∙ sym (end_at name end count small is))
+    ),
+    λ more agrees. omega (arith, agrees.1, awaited_length name end small, is)
+  )
+
+pub is_all : (name : List ℕ) (end count : ℕ) → end < 128 → count ≡ length name → true ≡ (length (awaited_text name end) == count + 1)
+is_all name end count small is = let long = awaited_length name end small in grind (arith, nat_tests)

@@ -107,8 +107,12 @@ impl<'t> TextCursor<'t> {
             let (count, is_whole) = agreed_awaited(self.rest, schema.name(one.name), one.end);
             best = best.with(i, count, is_whole);
         }
-        let (i, behind) = self.take_best(best)?;
-        *self = behind;
-        Ok(i)
+        match self.take_best(best) {
+            Ok((i, behind)) => {
+                *self = behind;
+                Ok(i)
+            }
+            Err(place) => Err(place),
+        }
     }
 }
