@@ -112,3 +112,39 @@ some_names s kind count at =
         (and-l (are_kinds (length texts) s.kinds.now && are_roots s.root_bits (length texts) s.kinds.now s.roots.now) (are_words texts)
             (and-l _ (are_values s.kinds.now values) s.fits)) in
     leb-true 1 count (all_get (is_declaration (length texts) s.kinds.now) s.kinds.now kind (Simple (Named count)) (and-l (list_all (is_declaration (length texts) s.kinds.now) s.kinds.now) _ kinds_fit) at)
+
+-- ---- no word stands twice
+
+same_itself : (text : List ℕ) → same_text text text ≡ true
+same_itself [] = refl
+same_itself (c ∷ text) = elim (eqb_tells c c) [
+    | inl tells ↦ ap (λ (b : Bool). b && same_text text text) tells.0 ∙ same_itself text
+    | inr tells ↦ absurd (tells.1 refl)
+  ]
+
+any_at : (texts : List (List ℕ)) (i : ℕ) (word : List ℕ) → slice_get texts i ≡ Some word → list_any (same_text word) texts ≡ true
+any_at [] i word at = let wrong : None ≡ Some word = at in absurd cc
+any_at (text ∷ texts) zero word at =
+    let is : Some text ≡ Some word = at in let same : word ≡ text = cc in
+    ap (λ (b : Bool). b || list_any (same_text word) texts) (ap (same_text word) (sym same) ∙ same_itself word)
+any_at (text ∷ texts) (suc i) word at = or_true (same_text word text) (any_at texts i word at)
+  where
+    or_true : (b : Bool) → list_any (same_text word) texts ≡ true → (b || list_any (same_text word) texts) ≡ true
+    or_true true is = refl
+    or_true false is = is
+
+not_again : (text word : List ℕ) (texts : List (List ℕ)) (i : ℕ) → are_words (text ∷ texts) ≡ true → text ≡ word → slice_get texts i ≡ Some word → ⊥
+not_again text word texts i are same at =
+    let none : not (list_any (same_text text) texts) ≡ true = and-r (is_word text) (not (list_any (same_text text) texts)) (and-l (is_word text && not (list_any (same_text text) texts)) (are_words texts) are) in
+    let some : list_any (same_text text) texts ≡ true = subst (λ (t : List ℕ). list_any (same_text t) texts ≡ true) (sym same) (any_at texts i word at) in
+    let wrong : false ≡ true = ap not (sym some) ∙ none in cc
+
+pub one_place : (texts : List (List ℕ)) (i j : ℕ) (word : List ℕ) → are_words texts ≡ true → slice_get texts i ≡ Some word → slice_get texts j ≡ Some word → i ≡ j
+one_place [] i j word are p q = let wrong : None ≡ Some word = p in absurd cc
+one_place (text ∷ texts) zero zero word are p q = refl
+one_place (text ∷ texts) zero (suc j) word are p q =
+    let is : Some text ≡ Some word = p in let same : text ≡ word = cc in absurd (not_again text word texts j are same q)
+one_place (text ∷ texts) (suc i) zero word are p q =
+    let is : Some text ≡ Some word = q in let same : text ≡ word = cc in absurd (not_again text word texts i are same p)
+one_place (text ∷ texts) (suc i) (suc j) word are p q =
+    ap suc (one_place texts i j word (and-r (is_word text && not (list_any (same_text text) texts)) (are_words texts) are) p q)
