@@ -1,7 +1,6 @@
 //! Each form of a value, and each fault with its place.
 
-ghost use Rattle.std.specs.Prelude.{◌≡◌, Some, slice_get};
-ghost use Rattle.exi_schema.specs.declared.tables.Declaration.TheVariants.{Simple};
+ghost use Rattle.std.specs.Prelude.{◌≤◌, length};
 
 use super::*;
 use exi_schema::{Datatype, Declaration, RootOf, Schema};
@@ -116,7 +115,7 @@ fn forms_and_faults(rt: HostRuntime) -> Result<(), Fail> {
 
 /// Which name is taken of a text and what is left, or the place of the fault.
 fn named(alloc: Global, schema: &Schema, text: &str) -> Result<String, AllocError>
-    requires { schema.now.names.now ≡ NAMES }
+    requires { 3 ≤ length schema.now.names.now }
 {
     let mut cursor = TextCursor::new(text);
     let awaited = [
