@@ -4,7 +4,7 @@ use Rattle.std.specs.Prelude.{◌==◌, encode_utf8, Some, None, Option, slice_g
 use Rattle.std.specs.Str.{encode_utf8_all, IsAscii}
 use Rattle.std.proofs.lemmas.Bool.{cases_lt}
 use Rattle.std.proofs.lemmas.Bool.Decides.{nat_tests}
-use Rattle.std.proofs.lemmas.List.{append-nil, length-append, length-take-le, take-append-drop, take-take, take_all, take_at, take-append-le, take_more_same, get_or_at, get_or-take, append_cancel_left}
+use Rattle.std.proofs.lemmas.List.{length-append, length-take-le, take-append-drop, take-take, take_all, take_at, take-append-le, take_more_same, get_or_at, get_or-take, append_cancel_left}
 use Rattle.std.proofs.lemmas.Str.{encodes-IsAscii, IsAscii-take, encode_ascii, length-encode, len_utf8_bounds}
 use Rattle.value_text.specs.declared.cursor.TextCursor.{TextCursor}
 use Rattle.value_text.specs.Forms.{AgreesTo, AgreesMost, IsBest, IsOneOf, AreAscii, awaited_text}

@@ -1,5 +1,5 @@
 -- What stands behind a backslash where a cursor stands.
-use Rattle.std.proofs.Common.{◌≡◌, ℕ, zero, suc, ◌+◌, ◌*◌, ◌-◌, ◌/◌, ◌%◌, ◌<◌, ◌≤◌, Bool, true, false, List, [], ◌∷◌, ◌++◌, length, get_or, drop, ◌⊎◌, inl, inr, refl, sym, ap, ap₂, subst, ◌∙◌, append_assoc, arith}
+use Rattle.std.proofs.Common.{◌≡◌, ℕ, ◌+◌, ◌-◌, ◌/◌, ◌%◌, ◌<◌, ◌≤◌, true, false, List, [], ◌∷◌, ◌++◌, length, get_or, drop, ◌⊎◌, inl, inr, refl, sym, ap, ap₂, subst, ◌∙◌, arith}
 use Rattle.std.specs.Prelude.{◌==◌, encode_utf8, slice_index}
 use Rattle.std.specs.Char.{digit_char}
 use Rattle.std.specs.Fmt.{digits}
@@ -12,12 +12,11 @@ use Rattle.std.proofs.lemmas.List.{append-nil}
 use Rattle.std.proofs.lemmas.Str.{char_from_byte, encode_ascii}
 use Rattle.hex.specs.Hex.{lower_digits}
 use Rattle.value_text.specs.declared.cursor.TextCursor.{TextCursor}
-use Rattle.value_text.specs.Forms.{IsNumbered, IsNumberedText, IsEscaped, IsEscapedText, NoneNext, is_lower_digit}
+use Rattle.value_text.specs.Forms.{IsNumbered, IsNumberedText, NoneNext, is_lower_digit}
 use Rattle.value_text.specs.Fronts.{Begins}
 use Rattle.value_text.specs.Scanning.{Passes, Takes, GoesWrong}
-use Rattle.value_text.proofs.FrontLaws.{Stops, StandsBehind, IsPrefixFree, passes_none, passes_on, takes_whole, takes_behind, wrong_behind, wrong_where_it_stops}
+use Rattle.value_text.proofs.FrontLaws.{IsPrefixFree, passes_none, passes_on, takes_whole, wrong_where_it_stops}
 use Rattle.value_text.proofs.HexTexts.{digit_is, is_lower}
-use Rattle.value_text.proofs.NextLaws.{some_bytes}
 
 -- ---- bytes of ASCII
 

@@ -1,21 +1,20 @@
 -- The texts of an enumeration in the code, and the names that are awaited.
-use Rattle.std.proofs.Common.{◌≡◌, ℕ, zero, suc, ◌+◌, ◌<◌, ◌≤◌, ◌^◌, ℤ, pos, negsuc, List, [], ◌∷◌, ◌++◌, length, map, get_or, Bor, ◌⊎◌, inl, inr, refl, sym, ap, ap₂, subst, ◌∙◌, arith, SFits}
-use Rattle.std.specs.Prelude.{◌==◌, Bool, All, Some, None, slice_get, slice_index, encode_utf8}
+use Rattle.std.proofs.Common.{◌≡◌, ℕ, zero, suc, ◌<◌, ◌≤◌, ℤ, pos, negsuc, List, [], ◌∷◌, ◌++◌, length, map, get_or, Bor, ◌⊎◌, inl, inr, refl, sym, ap, subst, ◌∙◌, arith, SFits}
+use Rattle.std.specs.Prelude.{◌==◌, Bool, All, Some, None, slice_get, encode_utf8}
 use Rattle.std.specs.Int.{w128}
 use Rattle.std.specs.Str.{encode_utf8_all, IsAscii}
-use Rattle.std.proofs.lemmas.List.{length-map, length-append}
+use Rattle.std.proofs.lemmas.List.{length-map}
 use Rattle.std.proofs.lemmas.Str.{IsAscii-append, encode_ascii}
 use Rattle.exi_schema.specs.declared.schema.Schema.{Schema}
 use Rattle.exi_schema.specs.declared.tables.Datatype.{Datatype}
 use Rattle.exi_schema.specs.declared.tables.Datatype.TheVariants.{Named, Bounded, Unsigned, Signed}
-use Rattle.exi_schema.specs.declared.tables.Declaration.{Declaration}
 use Rattle.exi_schema.specs.declared.tables.Declaration.TheVariants.{Simple}
 use Rattle.exi_schema.specs.Steps.{texts_of}
 use Rattle.value_text.specs.declared.awaited.Awaited.{Awaited}
 use Rattle.value_text.specs.declared.cursor.TextCursor.{TextCursor}
 use Rattle.value_text.specs.Forms.{AreAscii, AgreesMost, IsOneOf, awaited_text}
 use Rattle.value_text.specs.Scanning.{Takes, GoesWrong, IsAnyAwaited, IsAwaitedText}
-use Rattle.value_text.specs.ValueText.{value_names, IsShort, IsName}
+use Rattle.value_text.specs.ValueText.{IsShort, IsName}
 use Rattle.value_text.proofs.SchemaWords.{values_ascii, names_ascii, names_of_kind, some_names}
 use Rattle.value_text.proofs.ValueForms.{SameTexts, names_there, IsNumeric}
 use Rattle.value_text.proofs.BestWords.{GivesWord}

@@ -1,5 +1,5 @@
 -- Numbers where a cursor stands: each number's text is taken whole, and each fault is at the first character that no number has there.
-use Rattle.std.proofs.Common.{◌≡◌, ℕ, zero, suc, ◌+◌, ◌<◌, ◌≤◌, ◌^◌, ℤ, pos, negsuc, Bool, true, false, List, [], ◌∷◌, ◌++◌, length, get_or, drop, refl, sym, ap, ap₂, subst, ◌∙◌, arith, to_z, of_z, ◌-ℤ◌}
+use Rattle.std.proofs.Common.{◌≡◌, ℕ, zero, suc, ◌<◌, ◌≤◌, ◌^◌, ℤ, pos, negsuc, false, List, [], ◌∷◌, ◌++◌, length, get_or, drop, refl, sym, ap, ap₂, subst, ◌∙◌, arith, to_z, of_z, ◌-ℤ◌}
 use Rattle.std.specs.Prelude.{◌==◌, encode_utf8}
 use Rattle.std.specs.Char.{is_ascii_digit}
 use Rattle.std.specs.Fmt.{decimal, signed_decimal}
@@ -12,7 +12,6 @@ use Rattle.std.proofs.lemmas.List.{append-nil, get_or_append_left, nil_from_leng
 use Rattle.std.proofs.lemmas.Str.{char_from_byte, encode_ascii}
 use Rattle.value_text.specs.declared.cursor.TextCursor.{TextCursor}
 use Rattle.value_text.specs.Forms.{IsNumberText, NoneNext, EndsDigits}
-use Rattle.value_text.specs.Fronts.{Begins}
 use Rattle.value_text.specs.Scanning.{Passes, Takes, GoesWrong}
 use Rattle.value_text.specs.ValueText.{IsShort}
 use Rattle.value_text.proofs.FrontLaws.{Stops, passes_none, passes_on, takes_where_it_stops, wrong_where_it_stops}

@@ -1,6 +1,6 @@
 -- Texts in quotes where a cursor stands.
-use Rattle.std.proofs.Common.{◌≡◌, ◌≢◌, ℕ, zero, suc, ◌+◌, ◌<◌, ◌≤◌, Bool, true, false, List, [], ◌∷◌, ◌++◌, length, drop, ◌⊎◌, inl, inr, refl, sym, ap, ap₂, subst, ◌∙◌, append_assoc, arith}
-use Rattle.std.specs.Prelude.{◌==◌, encode_utf8, codes, Some, None}
+use Rattle.std.proofs.Common.{◌≡◌, ◌≢◌, ℕ, ◌<◌, true, List, [], ◌∷◌, ◌++◌, length, drop, inl, inr, refl, sym, ap, subst, ◌∙◌, append_assoc, arith}
+use Rattle.std.specs.Prelude.{◌==◌, encode_utf8, Some, None}
 use Rattle.std.specs.Char.{IsScalar}
 use Rattle.std.specs.List.{AllByRecursion, flat_map}
 use Rattle.std.specs.Str.{encode_utf8_all, all_scalars, chars, IsUtf8}
@@ -8,11 +8,11 @@ use Rattle.std.proofs.lemmas.Grind.{flat_map-append}
 use Rattle.std.proofs.lemmas.List.{append-nil, length-append, nil_from_length}
 use Rattle.std.proofs.lemmas.Str.{encode_same, encodes-append, chars-append, chars-encodes, chars-nil}
 use Rattle.value_text.specs.declared.cursor.TextCursor.{TextCursor}
-use Rattle.value_text.specs.Forms.{IsPiece, IsPieceText, IsQuotedText, NoneNext}
+use Rattle.value_text.specs.Forms.{IsPieceText, IsQuotedText, NoneNext}
 use Rattle.value_text.specs.Scanning.{Passes, Takes, GoesWrong}
 use Rattle.value_text.specs.ValueText.{character_text, quoted}
 use Rattle.value_text.proofs.EscapeTexts.{encodes_ascii}
-use Rattle.value_text.proofs.FrontLaws.{GoesOn, compare, same_length, Stops, StandsBehind, IsPrefixFree, stops_of, longest_where_it_stops, passes_on, takes_whole, takes_behind, wrong_behind}
+use Rattle.value_text.proofs.FrontLaws.{compare, same_length, Stops, StandsBehind, IsPrefixFree, stops_of, longest_where_it_stops, passes_on, takes_whole, takes_behind, wrong_behind}
 use Rattle.value_text.proofs.NextLaws.{some_bytes}
 use Rattle.value_text.proofs.PieceTexts.{GivesPiece, one_piece, no_quote_first, no_first, spelled_chars, some_text}
 

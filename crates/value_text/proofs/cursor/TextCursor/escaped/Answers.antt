@@ -1,4 +1,4 @@
-use Rattle.std.proofs.Common.{inl, inr, refl, sym, subst, ◌∙◌, ◌==◌, ◌∷◌, []}
+use Rattle.std.proofs.Common.{inl, inr, refl, subst, ◌∙◌, ◌==◌, ◌∷◌, []}
 use Rattle.value_text.specs.declared.cursor.TextCursor.{TextCursor}
 use Rattle.value_text.specs.Forms.{NoneNext}
 use Rattle.value_text.specs.Scanning.{Passes}

@@ -1,14 +1,9 @@
-use Rattle.std.proofs.Common.{◌≡◌, ◌<◌, ◌^◌, rules, arith, ◌⊎◌, inl, inr, sym, subst, ap, length, map, get_or, ◌∙◌, []}
-use Rattle.std.specs.Prelude.{Some, slice_get}
+use Rattle.std.proofs.Common.{◌<◌, ◌^◌, rules, arith, get_or, []}
 use Rattle.std.proofs.lemmas.Int.{to_z-of_z}
 use Rattle.std.proofs.lemmas.List.{length-map}
-use Rattle.exi_schema.specs.declared.tables.Datatype.{Datatype}
-use Rattle.exi_schema.specs.declared.tables.Declaration.TheVariants.{Simple}
-use Rattle.value_text.specs.Forms.{AreAscii}
-use Rattle.value_text.specs.ValueText.{value_names}
 use Rattle.std.specs.Int.{w128}
 use Rattle.value_text.proofs.NameForms.{get_below, values_within, texts_ascii, texts_count, texts_some, short_fits, is_numeric}
-use Rattle.value_text.proofs.ValueForms.{formed_truth, no_truth, formed_number, no_number_there, formed_bytes, no_bytes, formed_text, no_text, formed_word, no_word, names_there, IsNumeric}
+use Rattle.value_text.proofs.ValueForms.{formed_truth, no_truth, formed_number, no_number_there, formed_bytes, no_bytes, formed_text, no_text, formed_word, no_word, names_there}
 use Rattle.value_text.proofs.cursor.TextCursor.value.Goals as goal
 
 pub returns-in-Ok-clause-taken : goal.returns-in-Ok-clause-taken
