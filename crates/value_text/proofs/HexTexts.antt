@@ -102,11 +102,10 @@ reads_more a b c d bytes more high low byte reads is_high is_low first second is
     let top : byte / 16 ≡ high = omega (arith, is, is_low) in
     let bottom : byte % 16 ≡ low = omega (arith, is, is_low) in
     let written : encode_lower more ≡ encode_lower bytes ++ slice_index lower_digits high ∷ slice_index lower_digits low ∷ [] =
-        ap encode_lower all ∙ byte_behind bytes byte ∙ ap₂ (λ (t o : ℕ). encode_lower bytes ++ slice_index lower_digits t ∷ slice_index lower_digits o ∷ []) top bottom in
-    (
+    ap encode_lower all ∙ byte_behind bytes byte ∙ ap₂ (λ (t o : ℕ). encode_lower bytes ++ slice_index lower_digits t ∷ slice_index lower_digits o ∷ []) top bottom in (
       rw all (bytes_behind bytes byte reads.0 (omega (arith, is, is_high, is_low))),
       rw written (passes_on a b d (encode_lower bytes) (slice_index lower_digits high ∷ slice_index lower_digits low ∷ []) reads.1
-          (passes_on b c d (slice_index lower_digits high ∷ []) (slice_index lower_digits low ∷ []) first second))
+          (passes_on b c d (slice_index lower_digits high ∷ []) (slice_index lower_digits low ∷ []) first second)),
     )
 
 stops_at_other : (front rest : List ℕ) → encode_utf8_all front ≡ front → NoneNext is_lower_digit rest → Stops IsBytesText front rest
@@ -140,9 +139,9 @@ wrong_odd a b c d bytes high reads is_high first stays none =
     let top : (high * 16) / 16 ≡ high = omega arith in
     let bottom : (high * 16) % 16 ≡ 0 = omega arith in
     let begun : encode_utf8_all front ++ slice_index lower_digits 0 ∷ [] ≡ encode_lower (bytes ++ high * 16 ∷ []) =
-        ap (λ (bs : List ℕ). bs ++ slice_index lower_digits 0 ∷ []) same ∙ append_assoc (encode_lower bytes) (slice_index lower_digits high ∷ []) (slice_index lower_digits 0 ∷ [])
-        ∙ ap₂ (λ (t o : ℕ). encode_lower bytes ++ slice_index lower_digits t ∷ slice_index lower_digits o ∷ []) (sym top) (sym bottom) ∙ sym (byte_behind bytes (high * 16)) in
+    ap (λ (bs : List ℕ). bs ++ slice_index lower_digits 0 ∷ []) same ∙ append_assoc (encode_lower bytes) (slice_index lower_digits high ∷ []) (slice_index lower_digits 0 ∷ [])
+    ∙ ap₂ (λ (t o : ℕ). encode_lower bytes ++ slice_index lower_digits t ∷ slice_index lower_digits o ∷ []) (sym top) (sym bottom) ∙ sym (byte_behind bytes (high * 16)) in
     rw stays (wrong_where_it_stops IsBytesText a front c (passes_on a b c (encode_lower bytes) (slice_index lower_digits high ∷ []) reads.1 first)
-        (slice_index lower_digits 0 ∷ [], (bytes ++ high * 16 ∷ [], bytes_behind bytes (high * 16) reads.0 (omega (arith, is_high)), begun))
-        (λ one. odd_is_none bytes one.0 (slice_index lower_digits high) (sym same ∙ one.2))
-        (stops_at_other front c.rest.now same none))
+    (slice_index lower_digits 0 ∷ [], (bytes ++ high * 16 ∷ [], bytes_behind bytes (high * 16) reads.0 (omega (arith, is_high)), begun))
+    (λ one. odd_is_none bytes one.0 (slice_index lower_digits high) (sym same ∙ one.2))
+    (stops_at_other front c.rest.now same none))

@@ -50,7 +50,7 @@ one_text [] (d ∷ b) e = absurd (no_quote_first d (flat_map character_text b ++
 one_text (c ∷ a) [] e = absurd (no_quote_first c (flat_map character_text a ++ 34 ∷ []) [] (sym (append_assoc (character_text c) (flat_map character_text a) (34 ∷ [])) ∙ e))
 one_text (c ∷ a) (d ∷ b) e =
     let firsts = one_piece c d (flat_map character_text a ++ 34 ∷ []) (flat_map character_text b ++ 34 ∷ [])
-        (sym (append_assoc (character_text c) (flat_map character_text a) (34 ∷ [])) ∙ e ∙ append_assoc (character_text d) (flat_map character_text b) (34 ∷ [])) in
+    (sym (append_assoc (character_text c) (flat_map character_text a) (34 ∷ [])) ∙ e ∙ append_assoc (character_text d) (flat_map character_text b) (34 ∷ [])) in
     ap₂ (λ (n : ℕ) (ns : List ℕ). n ∷ ns) firsts.0 (one_text a b firsts.1)
 
 -- values of one form
@@ -89,6 +89,7 @@ one_value s kind d v w text p q = told (one_form d v w p.0 q.0)
   where
     of : (x y : Value) → x ≡ y → IsValueText s kind x text → IsValueText s kind y text
     of x y e h = subst (λ (z : Value). IsValueText s kind z text) e h
+
     told : OneForm v w → v ≡ w
     told (truths a b e f) = e ∙ ap Truth (one_truth a b (sym (of v (Truth a) e p.1) ∙ of w (Truth b) f q.1)) ∙ sym f
     told (ordinals a b e f) = e ∙ ap Ordinal (one_place (value_names s kind) a b text (value_words s kind) (of v (Ordinal a) e p.1) (of w (Ordinal b) f q.1)) ∙ sym f

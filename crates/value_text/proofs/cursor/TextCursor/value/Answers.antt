@@ -16,7 +16,7 @@ pub returns-in-Ok-number-clause-taken : goal.returns-in-Ok-number-clause-taken
 returns-in-Ok-number-clause-taken c =
     let g = c.in-Ok-number.ensures.taken in
     rw (to_z-of_z w128 c.in-Ok-number.number (short_fits c.in-Ok-number.number g.2))
-        (formed_number c.args.schema.now c.args.kind c.args.datatype c.args.self.now c.in-Ok-number.behind c.in-Ok-number.number (is_numeric c.args.datatype c.in-Bounded.is) g)
+    (formed_number c.args.schema.now c.args.kind c.args.datatype c.args.self.now c.in-Ok-number.behind c.in-Ok-number.number (is_numeric c.args.datatype c.in-Bounded.is) g)
 
 pub returns-in-Err-number-clause-fault : goal.returns-in-Err-number-clause-fault
 returns-in-Err-number-clause-fault c = no_number_there c.args.schema.now c.args.kind c.args.datatype c.args.self.now c.in-Err-number.place (is_numeric c.args.datatype c.in-Bounded.is) c.in-Err-number.ensures.fault
