@@ -11,3 +11,4 @@ pub mod BestWords
 pub mod SchemaWords
 pub mod ValueForms
 pub mod NameForms
+pub mod OneValue

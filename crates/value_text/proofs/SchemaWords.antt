@@ -1,15 +1,14 @@
 -- Names and the texts of an enumeration are words in ASCII, and how many texts an enumeration has.
-use Rattle.std.proofs.Common.{◌≡◌, ℕ, zero, suc, ◌+◌, ◌<◌, ◌≤◌, ◌⊎◌, inl, inr, Bool, true, false, not, ◌&&◌, nat_lt, nat_le, List, [], ◌∷◌, ◌++◌, length, map, Option, Some, None, slice_get, refl, sym, ap, subst, ◌∙◌, arith, get_or}
+use Rattle.std.proofs.Common.{◌≡◌, ℕ, zero, suc, ◌<◌, ◌≤◌, ◌⊎◌, inl, inr, Bool, true, false, not, ◌&&◌, nat_le, List, [], ◌∷◌, length, map, Some, None, slice_get, refl, sym, ap, subst, ◌∙◌, arith, get_or}
 use Rattle.std.specs.Prelude.{◌==◌, ◌||◌}
 use Rattle.std.specs.List.{list_any, list_all}
-use Rattle.std.specs.Str.{IsAscii}
 use Rattle.std.proofs.lemmas.Bool.{leb-true, eqb-true}
 use Rattle.std.proofs.lemmas.Bool.Decides.{eqb_tells}
 use Rattle.exi_schema.specs.declared.schema.Schema.{Schema}
 use Rattle.exi_schema.specs.declared.tables.Datatype.TheVariants.{Named}
 use Rattle.exi_schema.specs.declared.tables.Declaration.{Declaration}
 use Rattle.exi_schema.specs.declared.tables.Declaration.TheVariants.{Simple}
-use Rattle.exi_schema.specs.Schemas.{are_kinds, are_roots, are_words, are_values, is_word, is_word_char, same_text, value_count, is_declaration, is_datatype}
+use Rattle.exi_schema.specs.Schemas.{are_kinds, are_roots, are_words, are_values, is_word, is_word_char, same_text, value_count, is_declaration}
 use Rattle.exi_schema.specs.Steps.{texts_at}
 use Rattle.exi_schema.proofs.Conditions.{and-l, and-r, all_get}
 use Rattle.value_text.specs.Forms.{AreAscii}
@@ -23,12 +22,12 @@ pub word_char_low : (c : ℕ) → is_word_char c ≡ true → c < 128
 word_char_low c is =
     elim (either_is ((nat_le 48 c && nat_le c 57) || (nat_le 65 c && nat_le c 90) || (nat_le 97 c && nat_le c 122)) (c == 95) is) [
       | inl three ↦ elim (either_is ((nat_le 48 c && nat_le c 57) || (nat_le 65 c && nat_le c 90)) (nat_le 97 c && nat_le c 122) three) [
-          | inl two ↦ elim (either_is (nat_le 48 c && nat_le c 57) (nat_le 65 c && nat_le c 90) two) [
-              | inl one ↦ let top = leb-true c 57 (and-r (nat_le 48 c) (nat_le c 57) one) in omega (arith, top)
-              | inr one ↦ let top = leb-true c 90 (and-r (nat_le 65 c) (nat_le c 90) one) in omega (arith, top)
-            ]
-          | inr one ↦ let top = leb-true c 122 (and-r (nat_le 97 c) (nat_le c 122) one) in omega (arith, top)
+        | inl two ↦ elim (either_is (nat_le 48 c && nat_le c 57) (nat_le 65 c && nat_le c 90) two) [
+          | inl one ↦ let top = leb-true c 57 (and-r (nat_le 48 c) (nat_le c 57) one) in omega (arith, top)
+          | inr one ↦ let top = leb-true c 90 (and-r (nat_le 65 c) (nat_le c 90) one) in omega (arith, top)
         ]
+        | inr one ↦ let top = leb-true c 122 (and-r (nat_le 97 c) (nat_le c 122) one) in omega (arith, top)
+      ]
       | inr one ↦ elim (eqb_tells c 95) [ inl tells ↦ omega (arith, tells.1) | inr tells ↦ let wrong : false ≡ true = sym tells.0 ∙ one in absurd cc ]
     ]
 
@@ -109,6 +108,42 @@ some_names s kind count at =
     let texts : List (List ℕ) = map (λ t. t.now) s.names.now in
     let values : List (List (List ℕ)) = map (λ l. map (λ t. t.now) l.now) s.values.now in
     let kinds_fit = and-l (are_kinds (length texts) s.kinds.now) (are_roots s.root_bits (length texts) s.kinds.now s.roots.now)
-        (and-l (are_kinds (length texts) s.kinds.now && are_roots s.root_bits (length texts) s.kinds.now s.roots.now) (are_words texts)
-            (and-l _ (are_values s.kinds.now values) s.fits)) in
+    (and-l (are_kinds (length texts) s.kinds.now && are_roots s.root_bits (length texts) s.kinds.now s.roots.now) (are_words texts)
+    (and-l _ (are_values s.kinds.now values) s.fits)) in
     leb-true 1 count (all_get (is_declaration (length texts) s.kinds.now) s.kinds.now kind (Simple (Named count)) (and-l (list_all (is_declaration (length texts) s.kinds.now) s.kinds.now) _ kinds_fit) at)
+
+-- ---- no word stands twice
+
+same_itself : (text : List ℕ) → same_text text text ≡ true
+same_itself [] = refl
+same_itself (c ∷ text) = elim (eqb_tells c c) [
+  | inl tells ↦ ap (λ (b : Bool). b && same_text text text) tells.0 ∙ same_itself text
+  | inr tells ↦ absurd (tells.1 refl)
+]
+
+any_at : (texts : List (List ℕ)) (i : ℕ) (word : List ℕ) → slice_get texts i ≡ Some word → list_any (same_text word) texts ≡ true
+any_at [] i word at = let wrong : None ≡ Some word = at in absurd cc
+any_at (text ∷ texts) zero word at =
+    let is : Some text ≡ Some word = at in let same : word ≡ text = cc in
+    ap (λ (b : Bool). b || list_any (same_text word) texts) (ap (same_text word) (sym same) ∙ same_itself word)
+any_at (text ∷ texts) (suc i) word at = or_true (same_text word text) (any_at texts i word at)
+  where
+    or_true : (b : Bool) → list_any (same_text word) texts ≡ true → (b || list_any (same_text word) texts) ≡ true
+    or_true true is = refl
+    or_true false is = is
+
+not_again : (text word : List ℕ) (texts : List (List ℕ)) (i : ℕ) → are_words (text ∷ texts) ≡ true → text ≡ word → slice_get texts i ≡ Some word → ⊥
+not_again text word texts i are same at =
+    let none : not (list_any (same_text text) texts) ≡ true = and-r (is_word text) (not (list_any (same_text text) texts)) (and-l (is_word text && not (list_any (same_text text) texts)) (are_words texts) are) in
+    let some : list_any (same_text text) texts ≡ true = subst (λ (t : List ℕ). list_any (same_text t) texts ≡ true) (sym same) (any_at texts i word at) in
+    let wrong : false ≡ true = ap not (sym some) ∙ none in cc
+
+pub one_place : (texts : List (List ℕ)) (i j : ℕ) (word : List ℕ) → are_words texts ≡ true → slice_get texts i ≡ Some word → slice_get texts j ≡ Some word → i ≡ j
+one_place [] i j word are p q = let wrong : None ≡ Some word = p in absurd cc
+one_place (text ∷ texts) zero zero word are p q = refl
+one_place (text ∷ texts) zero (suc j) word are p q =
+    let is : Some text ≡ Some word = p in let same : text ≡ word = cc in absurd (not_again text word texts j are same q)
+one_place (text ∷ texts) (suc i) zero word are p q =
+    let is : Some text ≡ Some word = q in let same : text ≡ word = cc in absurd (not_again text word texts i are same p)
+one_place (text ∷ texts) (suc i) (suc j) word are p q =
+    ap suc (one_place texts i j word (and-r (is_word text && not (list_any (same_text text) texts)) (are_words texts) are) p q)

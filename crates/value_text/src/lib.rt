@@ -9,6 +9,7 @@ mod awaited;
 mod binary;
 mod cursor;
 mod fault;
+pub mod laws;
 mod number;
 mod quoted;
 mod scanned;
@@ -19,3 +20,6 @@ pub use awaited::Awaited;
 pub use cursor::TextCursor;
 pub use fault::ValueFault;
 pub use scanned::Scanned;
+
+#[cfg(test)]
+mod tests;
