@@ -105,7 +105,8 @@ impl<'b, 'p, P: Places> EventWriter<'b, 'p, P> {
         ensures ready { IsReady (P.schema self.new.places.now) self.new.phase self.new.elements (written_bits self.new.pen) self.new.table.now }
         ensures same_reference { self.new.table.ghost_name ≡ self.old.table.ghost_name }
         ensures places { self.new.places.now ≡ self.old.places.now }
-        // The room is the same one, and what was written stays.
+        ensures same_room { self.new.pen.room.ghost_name ≡ self.old.pen.room.ghost_name }
+        // What was written stays.
         ensures more { WritesMore self.old.pen self.new.pen }
         ensures again { (f : _) → self.old.full ≡ Some f → (result ≡ Err f) × (self.new.full ≡ Some f) × SamePen self.old.pen self.new.pen }
         ensures put { OnOk result (IsPut (P.schema self.old.places.now)
@@ -148,6 +149,18 @@ impl<'b, 'p, P: Places> EventWriter<'b, 'p, P> {
         self.pen.written().len() as u32
     }
 
+    /// The bytes begun so far, the last one filled with 0.
+    pub fn written(&self) -> &[u8]
+        ensures holds { HoldsBits result.now (written_bits self.now.pen) }
+        // Behind the end of the root: they are the encoding of the tree that the events tell.
+        ensures document { (events : List TreeEvent)
+            → HasPut (P.schema self.now.places.now) events (state_of self.now.phase self.now.elements (written_bits self.now.pen) self.now.table.now.entries) (written_bits self.now.pen)
+            → (state_of self.now.phase self.now.elements (written_bits self.now.pen) self.now.table.now.entries).standing ≡ Behind
+            → IsWritten (P.schema self.now.places.now) events result.now }
+    {
+        self.pen.written()
+    }
+
     /// Puts an event, where none was too long before.
     fn step(&mut self, event: &Event) -> Result<(), Full>
         requires ready { IsReady (P.schema self.old.places.now) self.old.phase self.old.elements (written_bits self.old.pen) self.old.table.now }
@@ -157,6 +170,7 @@ impl<'b, 'p, P: Places> EventWriter<'b, 'p, P> {
         ensures ready { IsReady (P.schema self.new.places.now) self.new.phase self.new.elements (written_bits self.new.pen) self.new.table.now }
         ensures same_reference { self.new.table.ghost_name ≡ self.old.table.ghost_name }
         ensures places { self.new.places.now ≡ self.old.places.now }
+        ensures same_room { self.new.pen.room.ghost_name ≡ self.old.pen.room.ghost_name }
         ensures more { WritesMore self.old.pen self.new.pen }
         ensures fulls { self.new.full ≡ self.old.full }
         ensures put { OnOk result (IsPut (P.schema self.old.places.now)
