@@ -126,6 +126,9 @@ impl<'a> BitSpan<'a> {
         requires { self.now.is_text ≡ other.now.is_text }
         ensures { IsTrue result ↔ (items_of self.now ≡ items_of other.now) }
     {
+        if self.len() != other.len() {
+            return false;
+        }
         let mut mine = self.contents();
         let mut theirs = other.contents();
         while let Some(item) = mine.next() {
@@ -133,7 +136,7 @@ impl<'a> BitSpan<'a> {
                 return false;
             }
         }
-        theirs.next().is_none()
+        true
     }
 
     /// Whether this text is the other one.
