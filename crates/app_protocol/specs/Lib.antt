@@ -5,3 +5,4 @@ pub mod Response
 pub mod Building
 pub mod Documents
 pub mod Printing
+pub mod Writing
