@@ -1,6 +1,6 @@
 //! Whether a value may be written.
 
-ghost use Rattle.std.specs.Prelude.{◌≡◌, ℕ, ◌↔◌, IsTrue, true, List, Some, MatchBool, slice_get};
+ghost use Rattle.std.specs.Prelude.{◌≡◌, ◌≤◌, ℕ, length, ◌↔◌, IsTrue, true, List, Some, MatchBool, slice_get};
 ghost use Rattle.exi_bits.specs.Lent.{items_of, text_at, IsSpan};
 ghost use Rattle.exi_bits.specs.Pens.{written_bits};
 ghost use Rattle.exi_documents.specs.Trees.{Text, Number};
@@ -27,11 +27,11 @@ pub(crate) fn is_value(datatype: Datatype, value: &Value) -> bool
         },
         Value::Number(number) => is_number(datatype, *number),
         Value::Binary(span) => match datatype {
-            Datatype::Binary { most } => span.len() <= most,
+            Datatype::Binary { most } => span.at().chars <= most,
             _ => false,
         },
         Value::Text(span) => match datatype {
-            Datatype::Text { most } => span.len() <= most,
+            Datatype::Text { most } => span.at().chars <= most,
             _ => false,
         },
         Value::Written(text) => match datatype {
@@ -63,15 +63,15 @@ pub(crate) fn has_entry(pen: &BitPen, table: &Table, value: &Value) -> bool
     requires shaped { IsShaped value.now }
     requires cap { table.now.cap ≡ most_entries }
     requires texts { AreTexts (written_bits pen.now) table.now.entries }
-    ensures { (name : ℕ) → (IsTrue result ↔ HasEntryFor (texts_in (written_bits pen.now) table.now.entries) name (value_of value.now)) }
+    ensures few { length table.now.entries ≤ most_entries }
+    ensures room { (name : ℕ) → (IsTrue result ↔ HasEntryFor (texts_in (written_bits pen.now) table.now.entries) name (value_of value.now)) }
 {
+    if table.globals() < 8192 {
+        return true;
+    }
     match value {
-        Value::Text(span) => {
-            table.globals() < 8192 || span.len() == 0 || is_entered(pen, table, value)
-        }
-        Value::Written(text) => {
-            table.globals() < 8192 || text.is_empty() || is_entered(pen, table, value)
-        }
+        Value::Text(span) => span.len() == 0 || is_entered(pen, table, value),
+        Value::Written(text) => text.is_empty() || is_entered(pen, table, value),
         _ => true,
     }
 }
