@@ -5,4 +5,9 @@ pub mod Newest
 pub mod Folded
 pub mod Read
 pub mod Printed
+pub mod Goes
+pub mod OneByOne
+pub mod Telling
+pub mod Sequence
+pub mod Encoded
 pub mod Named

@@ -6,3 +6,4 @@ pub mod Building
 pub mod Documents
 pub mod Printing
 pub mod Writing
+pub mod Numbers

@@ -1,10 +1,12 @@
 -- Own: events that a writer puts one after the other.
 use Rattle.std.specs.Prelude.{◌≡◌, ℕ, Bool, List, [], ◌∷◌, ◌++◌, map, Option, Some, None, IsSome}
+use Rattle.std.specs.Str.{chars}
+use Rattle.std.specs.Str.{chars}
 use Rattle.std.specs.List.{AllByRecursion, flat_map}
 use Rattle.exi_bits.specs.declared.pen.BitPen.{BitPen}
 use Rattle.exi_schema.specs.declared.schema.Schema.{Schema}
 use Rattle.exi_documents.specs.Grammar.{State, Moves}
-use Rattle.exi_documents.specs.Trees.{Event as TreeEvent, Start, EndElement, events_of, document_events}
+use Rattle.exi_documents.specs.Trees.{Event as TreeEvent, Text, Start, Content, EndElement, events_of, document_events}
 use Rattle.exi_documents.specs.Values.{WritesValue}
 use Rattle.exi_values.specs.declared.Event.{Event}
 use Rattle.exi_values.specs.Meaning.{event_of}
@@ -22,13 +24,23 @@ list_of (Some told) = told ∷ []
 abbrev pub told_by : List Event → List TreeEvent
 told_by events = flat_map (λ event. list_of (event_of event)) events
 
--- each tells something, and its value is well shaped
+-- an event tells something, and its value is well shaped
+abbrev pub IsTelling : Event → Type 0
+IsTelling event = IsSome (event_of event) × IsShapedEvent event
+
 abbrev pub AreTelling : List Event → Type 0
-AreTelling events = AllByRecursion (λ event. IsSome (event_of event) × IsShapedEvent event) events
+AreTelling events = AllByRecursion (λ event. IsTelling event) events
+
+-- an element with a text in UTF-8
+abbrev pub text_events : ℕ → List ℕ → List TreeEvent
+text_events name text = Start name ∷ Content (Text (chars text)) ∷ EndElement ∷ []
 
 -- an AppProtocol
+abbrev pub field_events : Offered → List TreeEvent
+field_events p = events_of (fields_of p)
+
 abbrev pub protocol_events : Offered → List TreeEvent
-protocol_events p = Start 2 ∷ (events_of (fields_of p) ++ (EndElement ∷ []))
+protocol_events p = Start 2 ∷ (field_events p ++ (EndElement ∷ []))
 
 abbrev pub message_events : Message → List TreeEvent
 message_events m = document_events (number_of m) (tree_of m)
