@@ -1,14 +1,21 @@
 -- A message that is put by its events is encoded.
-use Rattle.std.proofs.Common.{◌≡◌, ℕ, ◌+◌, ◌*◌, ◌<◌, Bool, List, [], ◌++◌, length, reverse, refl, sym, ap, subst, ◌∙◌, arith}
+use Rattle.std.proofs.Common.{◌≡◌, ℕ, ◌+◌, ◌*◌, ◌<◌, Bool, List, [], ◌++◌, length, reverse, refl, sym, ap, ap₂, subst, ◌∙◌, arith}
 use Rattle.std.proofs.lemmas.List.{reverse-reverse}
 use Rattle.exi_bits.specs.Pens.{written_bits}
 use Rattle.exi_bits.specs.declared.pen.BitPen.{BitPen}
 use Rattle.exi_schema.specs.declared.schema.Schema.{Schema}
 use Rattle.exi_documents.specs.Documents.{IsEncoding, SpellsDocument}
-use Rattle.exi_documents.specs.Grammar.{State, Standing, Behind, start, stands}
+use Rattle.exi_documents.specs.Grammar.{Opened, State, Behind, start, stands}
 use Rattle.exi_documents.specs.Trees.{Tree, Event, document_events}
-use Rattle.exi_documents.specs.Values.{WritesValue}
+use Rattle.exi_documents.specs.Values.{WritesValue, most_entries}
+use Rattle.exi_bits.specs.Written.{HoldsBits}
+use Rattle.exi_bits.specs.declared.span.SpanAt.{SpanAt}
+use Rattle.exi_strings.specs.Table.{Table}
+use Rattle.exi_events.specs.declared.reader.Phase.{Phase}
+use Rattle.exi_events.specs.declared.reader.Phase.TheVariants as phases
+use Rattle.exi_events.specs.Reader.{state_of, IsReady}
 use Rattle.exi_events.specs.Writer.{HasPut, IsWritten}
+use Rattle.exi_events.proofs.Finished.{written_all}
 use Rattle.exi_writing.proofs.Pens.{had_room}
 use Rattle.document_laws.proofs.Apart.{documents_apart}
 use Rattle.document_laws.proofs.Encodings.{encoding_spelled, document_once}
@@ -92,6 +99,17 @@ module _ (s : Schema) (negotiation : IsNegotiation s) (m : Message) (is : IsMess
         let mine = (once new h.0 (here new h.0 h.1)).0 in
         let passed = more.2 in
         had_room a b h.0 h.2 (omega (arith, passed, long, ap length nothing, ap length same_bits, ap length mine))
+
+pub starts : (phase : Phase) (elements : List Opened) (bits : List Bool) (entries : List (ℕ × SpanAt)) → phase ≡ phases.Before → entries ≡ [] → state_of phase elements bits entries ≡ start
+starts phase elements bits entries a b = ap₂ (λ (p : Phase) (es : List (ℕ × SpanAt)). state_of p elements bits es) a b
+
+pub begins_ready : (s : Schema) (phase : Phase) (elements : List Opened) (bits : List Bool) (table old : Table SpanAt) → phase ≡ phases.Before → elements ≡ [] → table ≡ record { entries = []; cap = old.cap } → old.cap ≡ most_entries → IsReady s phase elements bits table
+begins_ready s phase elements bits table old a b is cap =
+    subst (λ (t : Table SpanAt). IsReady s phase elements bits t) (sym is)
+    (subst (λ (p : Phase). IsReady s p elements bits (record { entries = []; cap = old.cap })) (sym a) (record { cap = cap; texts = tt {0}; sound = b }))
+
+pub finished : (s : Schema) (new : State) (bits : List Bool) (payload : List ℕ) → HoldsBits payload bits → (events : List Event) → HasPut s events new bits → new.standing ≡ Behind → IsWritten s events payload
+finished s new bits payload holds events put last = written_all s new.standing new.entries bits payload events holds put last
 
 pub read_back : (m : Message) (payload : List ℕ) → IsMessage m → IsAppEncoding m payload → IsApp m payload
 read_back m payload is e =

@@ -1,4 +1,4 @@
-//! The events of a message, put into a writer.
+//! The events of a message, put into a pen.
 
 ghost use Rattle.std.specs.Prelude.{◌≡◌, ◌∷◌, [], None, OnOk, OnErr, IfErr, map};
 ghost use Rattle.std.specs.List.{flat_map};
@@ -16,7 +16,8 @@ use crate::message::{AppCode, AppMessage, AppProtocol, AppReq, AppRes};
 use crate::schema::{
     APP_PROTOCOL, MAJOR, MINOR, NAMESPACE, PRIORITY, RESPONSE_CODE, SCHEMA_ID,
 };
-use exi_events::{Event, EventWriter, Full, Value};
+use exi_bits::BitPen;
+use exi_events::{Event, EventStanding, Full, Table, Value};
 use exi_schema::Schema;
 
 /// An element with a number.
@@ -27,83 +28,70 @@ struct NumberField {
 }
 
 /// Puts an event that may be put.
-fn put_one(writer: &mut EventWriter<'_, '_, Schema<'_>>, event: &Event) -> Result<(), Full>
-    requires ready { IsReady writer.old.places.now writer.old.phase writer.old.elements (written_bits writer.old.pen) writer.old.table.now }
-    requires open_still { writer.old.full ≡ None }
+fn put_one(standing: &mut EventStanding, pen: &mut BitPen, schema: &Schema, table: &mut Table, event: &Event) -> Result<(), Full>
+    requires ready { IsReady schema.now standing.old.phase standing.old.elements (written_bits pen.old) table.old }
     requires telling { IsTelling event.now }
-    requires may { MayPut writer.old.places.now (state_of writer.old.phase writer.old.elements (written_bits writer.old.pen) writer.old.table.now.entries) (list_of (event_of event.now)) }
-    ensures ready { IsReady writer.new.places.now writer.new.phase writer.new.elements (written_bits writer.new.pen) writer.new.table.now }
-    ensures same_reference { writer.new.table.ghost_name ≡ writer.old.table.ghost_name }
-    ensures same_room { writer.new.pen.room.ghost_name ≡ writer.old.pen.room.ghost_name }
-    ensures places { writer.new.places.now ≡ writer.old.places.now }
-    ensures open_still { OnOk result (writer.new.full ≡ None) }
-    ensures put { OnOk result (HasWritten writer.old.places.now (state_of writer.old.phase writer.old.elements (written_bits writer.old.pen) writer.old.table.now.entries)
-        (state_of writer.new.phase writer.new.elements (written_bits writer.new.pen) writer.new.table.now.entries) (list_of (event_of event.now)) writer.old.pen writer.new.pen) }
-    ensures full { OnErr result (HasNoRoomFor writer.old.places.now (state_of writer.old.phase writer.old.elements (written_bits writer.old.pen) writer.old.table.now.entries) (list_of (event_of event.now)) writer.old.pen) }
-    ensures bits { IfErr result (PassesRoom writer.old.pen) }
+    requires may { MayPut schema.now (state_of standing.old.phase standing.old.elements (written_bits pen.old) table.old.entries) (list_of (event_of event.now)) }
+    ensures ready { IsReady schema.now standing.new.phase standing.new.elements (written_bits pen.new) table.new }
+    ensures same_room { pen.new.room.ghost_name ≡ pen.old.room.ghost_name }
+    ensures put { OnOk result (HasWritten schema.now (state_of standing.old.phase standing.old.elements (written_bits pen.old) table.old.entries)
+        (state_of standing.new.phase standing.new.elements (written_bits pen.new) table.new.entries) (list_of (event_of event.now)) pen.old pen.new) }
+    ensures full { OnErr result (HasNoRoomFor schema.now (state_of standing.old.phase standing.old.elements (written_bits pen.old) table.old.entries) (list_of (event_of event.now)) pen.old) }
+    ensures bits { IfErr result (PassesRoom pen.old) }
 {
-    writer.put(event)
+    standing.put(pen, schema, table, event)
 }
 
 /// Puts events that may be put, one after the other.
-fn put_all(writer: &mut EventWriter<'_, '_, Schema<'_>>, events: &[Event]) -> Result<(), Full>
-    requires ready { IsReady writer.old.places.now writer.old.phase writer.old.elements (written_bits writer.old.pen) writer.old.table.now }
-    requires open_still { writer.old.full ≡ None }
+fn put_all(standing: &mut EventStanding, pen: &mut BitPen, schema: &Schema, table: &mut Table, events: &[Event]) -> Result<(), Full>
+    requires ready { IsReady schema.now standing.old.phase standing.old.elements (written_bits pen.old) table.old }
     requires telling { AreTelling events.now }
-    requires may { MayPut writer.old.places.now (state_of writer.old.phase writer.old.elements (written_bits writer.old.pen) writer.old.table.now.entries) (told_by events.now) }
-    ensures ready { IsReady writer.new.places.now writer.new.phase writer.new.elements (written_bits writer.new.pen) writer.new.table.now }
-    ensures same_reference { writer.new.table.ghost_name ≡ writer.old.table.ghost_name }
-    ensures same_room { writer.new.pen.room.ghost_name ≡ writer.old.pen.room.ghost_name }
-    ensures places { writer.new.places.now ≡ writer.old.places.now }
-    ensures open_still { OnOk result (writer.new.full ≡ None) }
-    ensures put { OnOk result (HasWritten writer.old.places.now (state_of writer.old.phase writer.old.elements (written_bits writer.old.pen) writer.old.table.now.entries)
-        (state_of writer.new.phase writer.new.elements (written_bits writer.new.pen) writer.new.table.now.entries) (told_by events.now) writer.old.pen writer.new.pen) }
-    ensures full { OnErr result (HasNoRoomFor writer.old.places.now (state_of writer.old.phase writer.old.elements (written_bits writer.old.pen) writer.old.table.now.entries) (told_by events.now) writer.old.pen) }
-    ensures bits { IfErr result (PassesRoom writer.old.pen) }
+    requires may { MayPut schema.now (state_of standing.old.phase standing.old.elements (written_bits pen.old) table.old.entries) (told_by events.now) }
+    ensures ready { IsReady schema.now standing.new.phase standing.new.elements (written_bits pen.new) table.new }
+    ensures same_room { pen.new.room.ghost_name ≡ pen.old.room.ghost_name }
+    ensures put { OnOk result (HasWritten schema.now (state_of standing.old.phase standing.old.elements (written_bits pen.old) table.old.entries)
+        (state_of standing.new.phase standing.new.elements (written_bits pen.new) table.new.entries) (told_by events.now) pen.old pen.new) }
+    ensures full { OnErr result (HasNoRoomFor schema.now (state_of standing.old.phase standing.old.elements (written_bits pen.old) table.old.entries) (told_by events.now) pen.old) }
+    ensures bits { IfErr result (PassesRoom pen.old) }
 {
     for event in events {
-        put_one(writer, event)?;
+        put_one(standing, pen, schema, table, event)?;
     }
     Ok(())
 }
 
 /// Puts an element with a text.
-fn put_text(writer: &mut EventWriter<'_, '_, Schema<'_>>, name: u16, text: &str) -> Result<(), Full>
-    requires ready { IsReady writer.old.places.now writer.old.phase writer.old.elements (written_bits writer.old.pen) writer.old.table.now }
-    requires open_still { writer.old.full ≡ None }
-    requires may { MayPut writer.old.places.now (state_of writer.old.phase writer.old.elements (written_bits writer.old.pen) writer.old.table.now.entries) (text_events name text.now) }
-    ensures ready { IsReady writer.new.places.now writer.new.phase writer.new.elements (written_bits writer.new.pen) writer.new.table.now }
-    ensures same_reference { writer.new.table.ghost_name ≡ writer.old.table.ghost_name }
-    ensures same_room { writer.new.pen.room.ghost_name ≡ writer.old.pen.room.ghost_name }
-    ensures places { writer.new.places.now ≡ writer.old.places.now }
-    ensures open_still { OnOk result (writer.new.full ≡ None) }
-    ensures put { OnOk result (HasWritten writer.old.places.now (state_of writer.old.phase writer.old.elements (written_bits writer.old.pen) writer.old.table.now.entries)
-        (state_of writer.new.phase writer.new.elements (written_bits writer.new.pen) writer.new.table.now.entries) (text_events name text.now) writer.old.pen writer.new.pen) }
-    ensures full { OnErr result (HasNoRoomFor writer.old.places.now (state_of writer.old.phase writer.old.elements (written_bits writer.old.pen) writer.old.table.now.entries) (text_events name text.now) writer.old.pen) }
-    ensures bits { IfErr result (PassesRoom writer.old.pen) }
+fn put_text(standing: &mut EventStanding, pen: &mut BitPen, schema: &Schema, table: &mut Table, name: u16, text: &str) -> Result<(), Full>
+    requires ready { IsReady schema.now standing.old.phase standing.old.elements (written_bits pen.old) table.old }
+    requires may { MayPut schema.now (state_of standing.old.phase standing.old.elements (written_bits pen.old) table.old.entries) (text_events name text.now) }
+    ensures ready { IsReady schema.now standing.new.phase standing.new.elements (written_bits pen.new) table.new }
+    ensures same_room { pen.new.room.ghost_name ≡ pen.old.room.ghost_name }
+    ensures put { OnOk result (HasWritten schema.now (state_of standing.old.phase standing.old.elements (written_bits pen.old) table.old.entries)
+        (state_of standing.new.phase standing.new.elements (written_bits pen.new) table.new.entries) (text_events name text.now) pen.old pen.new) }
+    ensures full { OnErr result (HasNoRoomFor schema.now (state_of standing.old.phase standing.old.elements (written_bits pen.old) table.old.entries) (text_events name text.now) pen.old) }
+    ensures bits { IfErr result (PassesRoom pen.old) }
 {
-    put_one(writer, &Event::Start(name))?;
-    put_one(writer, &Event::Value(Value::Written(text)))?;
-    put_one(writer, &Event::EndElement)
+    put_one(standing, pen, schema, table, &Event::Start(name))?;
+    put_one(standing, pen, schema, table, &Event::Value(Value::Written(text)))?;
+    put_one(standing, pen, schema, table, &Event::EndElement)
 }
 
 /// Puts an element with a number.
-fn put_number(writer: &mut EventWriter<'_, '_, Schema<'_>>, field: &NumberField) -> Result<(), Full>
-    requires ready { IsReady writer.old.places.now writer.old.phase writer.old.elements (written_bits writer.old.pen) writer.old.table.now }
-    requires open_still { writer.old.full ≡ None }
-    requires may { MayPut writer.old.places.now (state_of writer.old.phase writer.old.elements (written_bits writer.old.pen) writer.old.table.now.entries) (number_events field.now) }
-    ensures ready { IsReady writer.new.places.now writer.new.phase writer.new.elements (written_bits writer.new.pen) writer.new.table.now }
-    ensures same_reference { writer.new.table.ghost_name ≡ writer.old.table.ghost_name }
-    ensures same_room { writer.new.pen.room.ghost_name ≡ writer.old.pen.room.ghost_name }
-    ensures places { writer.new.places.now ≡ writer.old.places.now }
-    ensures open_still { OnOk result (writer.new.full ≡ None) }
-    ensures put { OnOk result (HasWritten writer.old.places.now (state_of writer.old.phase writer.old.elements (written_bits writer.old.pen) writer.old.table.now.entries)
-        (state_of writer.new.phase writer.new.elements (written_bits writer.new.pen) writer.new.table.now.entries) (number_events field.now) writer.old.pen writer.new.pen) }
-    ensures full { OnErr result (HasNoRoomFor writer.old.places.now (state_of writer.old.phase writer.old.elements (written_bits writer.old.pen) writer.old.table.now.entries) (number_events field.now) writer.old.pen) }
-    ensures bits { IfErr result (PassesRoom writer.old.pen) }
+fn put_number(standing: &mut EventStanding, pen: &mut BitPen, schema: &Schema, table: &mut Table, field: &NumberField) -> Result<(), Full>
+    requires ready { IsReady schema.now standing.old.phase standing.old.elements (written_bits pen.old) table.old }
+    requires may { MayPut schema.now (state_of standing.old.phase standing.old.elements (written_bits pen.old) table.old.entries) (number_events field.now) }
+    ensures ready { IsReady schema.now standing.new.phase standing.new.elements (written_bits pen.new) table.new }
+    ensures same_room { pen.new.room.ghost_name ≡ pen.old.room.ghost_name }
+    ensures put { OnOk result (HasWritten schema.now (state_of standing.old.phase standing.old.elements (written_bits pen.old) table.old.entries)
+        (state_of standing.new.phase standing.new.elements (written_bits pen.new) table.new.entries) (number_events field.now) pen.old pen.new) }
+    ensures full { OnErr result (HasNoRoomFor schema.now (state_of standing.old.phase standing.old.elements (written_bits pen.old) table.old.entries) (number_events field.now) pen.old) }
+    ensures bits { IfErr result (PassesRoom pen.old) }
 {
     put_all(
-        writer,
+        standing,
+        pen,
+        schema,
+        table,
         &[
             Event::Start(field.name),
             Event::Value(Value::Number(i128::from(field.number))),
@@ -113,44 +101,39 @@ fn put_number(writer: &mut EventWriter<'_, '_, Schema<'_>>, field: &NumberField)
 }
 
 /// Puts elements with numbers, one after the other.
-fn put_numbers(writer: &mut EventWriter<'_, '_, Schema<'_>>, fields: &[NumberField]) -> Result<(), Full>
-    requires ready { IsReady writer.old.places.now writer.old.phase writer.old.elements (written_bits writer.old.pen) writer.old.table.now }
-    requires open_still { writer.old.full ≡ None }
-    requires may { MayPut writer.old.places.now (state_of writer.old.phase writer.old.elements (written_bits writer.old.pen) writer.old.table.now.entries) (flat_map number_events fields.now) }
-    ensures ready { IsReady writer.new.places.now writer.new.phase writer.new.elements (written_bits writer.new.pen) writer.new.table.now }
-    ensures same_reference { writer.new.table.ghost_name ≡ writer.old.table.ghost_name }
-    ensures same_room { writer.new.pen.room.ghost_name ≡ writer.old.pen.room.ghost_name }
-    ensures places { writer.new.places.now ≡ writer.old.places.now }
-    ensures open_still { OnOk result (writer.new.full ≡ None) }
-    ensures put { OnOk result (HasWritten writer.old.places.now (state_of writer.old.phase writer.old.elements (written_bits writer.old.pen) writer.old.table.now.entries)
-        (state_of writer.new.phase writer.new.elements (written_bits writer.new.pen) writer.new.table.now.entries) (flat_map number_events fields.now) writer.old.pen writer.new.pen) }
-    ensures full { OnErr result (HasNoRoomFor writer.old.places.now (state_of writer.old.phase writer.old.elements (written_bits writer.old.pen) writer.old.table.now.entries) (flat_map number_events fields.now) writer.old.pen) }
-    ensures bits { IfErr result (PassesRoom writer.old.pen) }
+fn put_numbers(standing: &mut EventStanding, pen: &mut BitPen, schema: &Schema, table: &mut Table, fields: &[NumberField]) -> Result<(), Full>
+    requires ready { IsReady schema.now standing.old.phase standing.old.elements (written_bits pen.old) table.old }
+    requires may { MayPut schema.now (state_of standing.old.phase standing.old.elements (written_bits pen.old) table.old.entries) (flat_map number_events fields.now) }
+    ensures ready { IsReady schema.now standing.new.phase standing.new.elements (written_bits pen.new) table.new }
+    ensures same_room { pen.new.room.ghost_name ≡ pen.old.room.ghost_name }
+    ensures put { OnOk result (HasWritten schema.now (state_of standing.old.phase standing.old.elements (written_bits pen.old) table.old.entries)
+        (state_of standing.new.phase standing.new.elements (written_bits pen.new) table.new.entries) (flat_map number_events fields.now) pen.old pen.new) }
+    ensures full { OnErr result (HasNoRoomFor schema.now (state_of standing.old.phase standing.old.elements (written_bits pen.old) table.old.entries) (flat_map number_events fields.now) pen.old) }
+    ensures bits { IfErr result (PassesRoom pen.old) }
 {
     for field in fields {
-        put_number(writer, field)?;
+        put_number(standing, pen, schema, table, field)?;
     }
     Ok(())
 }
 
 /// Puts the fields of an AppProtocol.
-fn put_fields(writer: &mut EventWriter<'_, '_, Schema<'_>>, protocol: &AppProtocol) -> Result<(), Full>
-    requires ready { IsReady writer.old.places.now writer.old.phase writer.old.elements (written_bits writer.old.pen) writer.old.table.now }
-    requires open_still { writer.old.full ≡ None }
-    requires may { MayPut writer.old.places.now (state_of writer.old.phase writer.old.elements (written_bits writer.old.pen) writer.old.table.now.entries) (field_events (protocol_of protocol.now)) }
-    ensures ready { IsReady writer.new.places.now writer.new.phase writer.new.elements (written_bits writer.new.pen) writer.new.table.now }
-    ensures same_reference { writer.new.table.ghost_name ≡ writer.old.table.ghost_name }
-    ensures same_room { writer.new.pen.room.ghost_name ≡ writer.old.pen.room.ghost_name }
-    ensures places { writer.new.places.now ≡ writer.old.places.now }
-    ensures open_still { OnOk result (writer.new.full ≡ None) }
-    ensures put { OnOk result (HasWritten writer.old.places.now (state_of writer.old.phase writer.old.elements (written_bits writer.old.pen) writer.old.table.now.entries)
-        (state_of writer.new.phase writer.new.elements (written_bits writer.new.pen) writer.new.table.now.entries) (field_events (protocol_of protocol.now)) writer.old.pen writer.new.pen) }
-    ensures full { OnErr result (HasNoRoomFor writer.old.places.now (state_of writer.old.phase writer.old.elements (written_bits writer.old.pen) writer.old.table.now.entries) (field_events (protocol_of protocol.now)) writer.old.pen) }
-    ensures bits { IfErr result (PassesRoom writer.old.pen) }
+fn put_fields(standing: &mut EventStanding, pen: &mut BitPen, schema: &Schema, table: &mut Table, protocol: &AppProtocol) -> Result<(), Full>
+    requires ready { IsReady schema.now standing.old.phase standing.old.elements (written_bits pen.old) table.old }
+    requires may { MayPut schema.now (state_of standing.old.phase standing.old.elements (written_bits pen.old) table.old.entries) (field_events (protocol_of protocol.now)) }
+    ensures ready { IsReady schema.now standing.new.phase standing.new.elements (written_bits pen.new) table.new }
+    ensures same_room { pen.new.room.ghost_name ≡ pen.old.room.ghost_name }
+    ensures put { OnOk result (HasWritten schema.now (state_of standing.old.phase standing.old.elements (written_bits pen.old) table.old.entries)
+        (state_of standing.new.phase standing.new.elements (written_bits pen.new) table.new.entries) (field_events (protocol_of protocol.now)) pen.old pen.new) }
+    ensures full { OnErr result (HasNoRoomFor schema.now (state_of standing.old.phase standing.old.elements (written_bits pen.old) table.old.entries) (field_events (protocol_of protocol.now)) pen.old) }
+    ensures bits { IfErr result (PassesRoom pen.old) }
 {
-    put_text(writer, NAMESPACE, protocol.namespace.as_str())?;
+    put_text(standing, pen, schema, table, NAMESPACE, protocol.namespace.as_str())?;
     put_numbers(
-        writer,
+        standing,
+        pen,
+        schema,
+        table,
         &[
             NumberField {
                 name: MAJOR,
@@ -173,83 +156,70 @@ fn put_fields(writer: &mut EventWriter<'_, '_, Schema<'_>>, protocol: &AppProtoc
 }
 
 /// Puts an AppProtocol.
-fn put_protocol(writer: &mut EventWriter<'_, '_, Schema<'_>>, protocol: &AppProtocol) -> Result<(), Full>
-    requires ready { IsReady writer.old.places.now writer.old.phase writer.old.elements (written_bits writer.old.pen) writer.old.table.now }
-    requires open_still { writer.old.full ≡ None }
-    requires may { MayPut writer.old.places.now (state_of writer.old.phase writer.old.elements (written_bits writer.old.pen) writer.old.table.now.entries) (protocol_events (protocol_of protocol.now)) }
-    ensures ready { IsReady writer.new.places.now writer.new.phase writer.new.elements (written_bits writer.new.pen) writer.new.table.now }
-    ensures same_reference { writer.new.table.ghost_name ≡ writer.old.table.ghost_name }
-    ensures same_room { writer.new.pen.room.ghost_name ≡ writer.old.pen.room.ghost_name }
-    ensures places { writer.new.places.now ≡ writer.old.places.now }
-    ensures open_still { OnOk result (writer.new.full ≡ None) }
-    ensures put { OnOk result (HasWritten writer.old.places.now (state_of writer.old.phase writer.old.elements (written_bits writer.old.pen) writer.old.table.now.entries)
-        (state_of writer.new.phase writer.new.elements (written_bits writer.new.pen) writer.new.table.now.entries) (protocol_events (protocol_of protocol.now)) writer.old.pen writer.new.pen) }
-    ensures full { OnErr result (HasNoRoomFor writer.old.places.now (state_of writer.old.phase writer.old.elements (written_bits writer.old.pen) writer.old.table.now.entries) (protocol_events (protocol_of protocol.now)) writer.old.pen) }
-    ensures bits { IfErr result (PassesRoom writer.old.pen) }
+fn put_protocol(standing: &mut EventStanding, pen: &mut BitPen, schema: &Schema, table: &mut Table, protocol: &AppProtocol) -> Result<(), Full>
+    requires ready { IsReady schema.now standing.old.phase standing.old.elements (written_bits pen.old) table.old }
+    requires may { MayPut schema.now (state_of standing.old.phase standing.old.elements (written_bits pen.old) table.old.entries) (protocol_events (protocol_of protocol.now)) }
+    ensures ready { IsReady schema.now standing.new.phase standing.new.elements (written_bits pen.new) table.new }
+    ensures same_room { pen.new.room.ghost_name ≡ pen.old.room.ghost_name }
+    ensures put { OnOk result (HasWritten schema.now (state_of standing.old.phase standing.old.elements (written_bits pen.old) table.old.entries)
+        (state_of standing.new.phase standing.new.elements (written_bits pen.new) table.new.entries) (protocol_events (protocol_of protocol.now)) pen.old pen.new) }
+    ensures full { OnErr result (HasNoRoomFor schema.now (state_of standing.old.phase standing.old.elements (written_bits pen.old) table.old.entries) (protocol_events (protocol_of protocol.now)) pen.old) }
+    ensures bits { IfErr result (PassesRoom pen.old) }
 {
-    put_one(writer, &Event::Start(APP_PROTOCOL))?;
-    put_fields(writer, protocol)?;
-    put_one(writer, &Event::EndElement)
+    put_one(standing, pen, schema, table, &Event::Start(APP_PROTOCOL))?;
+    put_fields(standing, pen, schema, table, protocol)?;
+    put_one(standing, pen, schema, table, &Event::EndElement)
 }
 
 /// Puts AppProtocols, one after the other.
-fn put_protocols(writer: &mut EventWriter<'_, '_, Schema<'_>>, protocols: &[AppProtocol]) -> Result<(), Full>
-    requires ready { IsReady writer.old.places.now writer.old.phase writer.old.elements (written_bits writer.old.pen) writer.old.table.now }
-    requires open_still { writer.old.full ≡ None }
-    requires may { MayPut writer.old.places.now (state_of writer.old.phase writer.old.elements (written_bits writer.old.pen) writer.old.table.now.entries) (flat_map (λ p. protocol_events (protocol_of p)) protocols.now) }
-    ensures ready { IsReady writer.new.places.now writer.new.phase writer.new.elements (written_bits writer.new.pen) writer.new.table.now }
-    ensures same_reference { writer.new.table.ghost_name ≡ writer.old.table.ghost_name }
-    ensures same_room { writer.new.pen.room.ghost_name ≡ writer.old.pen.room.ghost_name }
-    ensures places { writer.new.places.now ≡ writer.old.places.now }
-    ensures open_still { OnOk result (writer.new.full ≡ None) }
-    ensures put { OnOk result (HasWritten writer.old.places.now (state_of writer.old.phase writer.old.elements (written_bits writer.old.pen) writer.old.table.now.entries)
-        (state_of writer.new.phase writer.new.elements (written_bits writer.new.pen) writer.new.table.now.entries) (flat_map (λ p. protocol_events (protocol_of p)) protocols.now) writer.old.pen writer.new.pen) }
-    ensures full { OnErr result (HasNoRoomFor writer.old.places.now (state_of writer.old.phase writer.old.elements (written_bits writer.old.pen) writer.old.table.now.entries) (flat_map (λ p. protocol_events (protocol_of p)) protocols.now) writer.old.pen) }
-    ensures bits { IfErr result (PassesRoom writer.old.pen) }
+fn put_protocols(standing: &mut EventStanding, pen: &mut BitPen, schema: &Schema, table: &mut Table, protocols: &[AppProtocol]) -> Result<(), Full>
+    requires ready { IsReady schema.now standing.old.phase standing.old.elements (written_bits pen.old) table.old }
+    requires may { MayPut schema.now (state_of standing.old.phase standing.old.elements (written_bits pen.old) table.old.entries) (flat_map (λ p. protocol_events (protocol_of p)) protocols.now) }
+    ensures ready { IsReady schema.now standing.new.phase standing.new.elements (written_bits pen.new) table.new }
+    ensures same_room { pen.new.room.ghost_name ≡ pen.old.room.ghost_name }
+    ensures put { OnOk result (HasWritten schema.now (state_of standing.old.phase standing.old.elements (written_bits pen.old) table.old.entries)
+        (state_of standing.new.phase standing.new.elements (written_bits pen.new) table.new.entries) (flat_map (λ p. protocol_events (protocol_of p)) protocols.now) pen.old pen.new) }
+    ensures full { OnErr result (HasNoRoomFor schema.now (state_of standing.old.phase standing.old.elements (written_bits pen.old) table.old.entries) (flat_map (λ p. protocol_events (protocol_of p)) protocols.now) pen.old) }
+    ensures bits { IfErr result (PassesRoom pen.old) }
 {
     for protocol in protocols {
-        put_protocol(writer, protocol)?;
+        put_protocol(standing, pen, schema, table, protocol)?;
     }
     Ok(())
 }
 
 /// Puts the document of a request.
-fn put_request(writer: &mut EventWriter<'_, '_, Schema<'_>>, request: &AppReq) -> Result<(), Full>
-    requires ready { IsReady writer.old.places.now writer.old.phase writer.old.elements (written_bits writer.old.pen) writer.old.table.now }
-    requires open_still { writer.old.full ≡ None }
-    requires may { MayPut writer.old.places.now (state_of writer.old.phase writer.old.elements (written_bits writer.old.pen) writer.old.table.now.entries) (message_events (Request (protocols_of request.now))) }
-    ensures ready { IsReady writer.new.places.now writer.new.phase writer.new.elements (written_bits writer.new.pen) writer.new.table.now }
-    ensures same_reference { writer.new.table.ghost_name ≡ writer.old.table.ghost_name }
-    ensures same_room { writer.new.pen.room.ghost_name ≡ writer.old.pen.room.ghost_name }
-    ensures places { writer.new.places.now ≡ writer.old.places.now }
-    ensures open_still { OnOk result (writer.new.full ≡ None) }
-    ensures put { OnOk result (HasWritten writer.old.places.now (state_of writer.old.phase writer.old.elements (written_bits writer.old.pen) writer.old.table.now.entries)
-        (state_of writer.new.phase writer.new.elements (written_bits writer.new.pen) writer.new.table.now.entries) (message_events (Request (protocols_of request.now))) writer.old.pen writer.new.pen) }
-    ensures full { OnErr result (HasNoRoomFor writer.old.places.now (state_of writer.old.phase writer.old.elements (written_bits writer.old.pen) writer.old.table.now.entries) (message_events (Request (protocols_of request.now))) writer.old.pen) }
-    ensures bits { IfErr result (PassesRoom writer.old.pen) }
+fn put_request(standing: &mut EventStanding, pen: &mut BitPen, schema: &Schema, table: &mut Table, request: &AppReq) -> Result<(), Full>
+    requires ready { IsReady schema.now standing.old.phase standing.old.elements (written_bits pen.old) table.old }
+    requires may { MayPut schema.now (state_of standing.old.phase standing.old.elements (written_bits pen.old) table.old.entries) (message_events (Request (protocols_of request.now))) }
+    ensures ready { IsReady schema.now standing.new.phase standing.new.elements (written_bits pen.new) table.new }
+    ensures same_room { pen.new.room.ghost_name ≡ pen.old.room.ghost_name }
+    ensures put { OnOk result (HasWritten schema.now (state_of standing.old.phase standing.old.elements (written_bits pen.old) table.old.entries)
+        (state_of standing.new.phase standing.new.elements (written_bits pen.new) table.new.entries) (message_events (Request (protocols_of request.now))) pen.old pen.new) }
+    ensures full { OnErr result (HasNoRoomFor schema.now (state_of standing.old.phase standing.old.elements (written_bits pen.old) table.old.entries) (message_events (Request (protocols_of request.now))) pen.old) }
+    ensures bits { IfErr result (PassesRoom pen.old) }
 {
-    put_all(writer, &[Event::Document(0), Event::Start(0)])?;
-    put_protocols(writer, request.protocols.as_slice())?;
-    put_one(writer, &Event::EndElement)
+    put_all(standing, pen, schema, table, &[Event::Document(0), Event::Start(0)])?;
+    put_protocols(standing, pen, schema, table, request.protocols.as_slice())?;
+    put_one(standing, pen, schema, table, &Event::EndElement)
 }
 
 /// Puts the document of a response.
-fn put_response(writer: &mut EventWriter<'_, '_, Schema<'_>>, response: &AppRes) -> Result<(), Full>
-    requires ready { IsReady writer.old.places.now writer.old.phase writer.old.elements (written_bits writer.old.pen) writer.old.table.now }
-    requires open_still { writer.old.full ≡ None }
-    requires may { MayPut writer.old.places.now (state_of writer.old.phase writer.old.elements (written_bits writer.old.pen) writer.old.table.now.entries) (message_events (Response (ordinal_of response.now.code) response.now.schema)) }
-    ensures ready { IsReady writer.new.places.now writer.new.phase writer.new.elements (written_bits writer.new.pen) writer.new.table.now }
-    ensures same_reference { writer.new.table.ghost_name ≡ writer.old.table.ghost_name }
-    ensures same_room { writer.new.pen.room.ghost_name ≡ writer.old.pen.room.ghost_name }
-    ensures places { writer.new.places.now ≡ writer.old.places.now }
-    ensures open_still { OnOk result (writer.new.full ≡ None) }
-    ensures put { OnOk result (HasWritten writer.old.places.now (state_of writer.old.phase writer.old.elements (written_bits writer.old.pen) writer.old.table.now.entries)
-        (state_of writer.new.phase writer.new.elements (written_bits writer.new.pen) writer.new.table.now.entries) (message_events (Response (ordinal_of response.now.code) response.now.schema)) writer.old.pen writer.new.pen) }
-    ensures full { OnErr result (HasNoRoomFor writer.old.places.now (state_of writer.old.phase writer.old.elements (written_bits writer.old.pen) writer.old.table.now.entries) (message_events (Response (ordinal_of response.now.code) response.now.schema)) writer.old.pen) }
-    ensures bits { IfErr result (PassesRoom writer.old.pen) }
+fn put_response(standing: &mut EventStanding, pen: &mut BitPen, schema: &Schema, table: &mut Table, response: &AppRes) -> Result<(), Full>
+    requires ready { IsReady schema.now standing.old.phase standing.old.elements (written_bits pen.old) table.old }
+    requires may { MayPut schema.now (state_of standing.old.phase standing.old.elements (written_bits pen.old) table.old.entries) (message_events (Response (ordinal_of response.now.code) response.now.schema)) }
+    ensures ready { IsReady schema.now standing.new.phase standing.new.elements (written_bits pen.new) table.new }
+    ensures same_room { pen.new.room.ghost_name ≡ pen.old.room.ghost_name }
+    ensures put { OnOk result (HasWritten schema.now (state_of standing.old.phase standing.old.elements (written_bits pen.old) table.old.entries)
+        (state_of standing.new.phase standing.new.elements (written_bits pen.new) table.new.entries) (message_events (Response (ordinal_of response.now.code) response.now.schema)) pen.old pen.new) }
+    ensures full { OnErr result (HasNoRoomFor schema.now (state_of standing.old.phase standing.old.elements (written_bits pen.old) table.old.entries) (message_events (Response (ordinal_of response.now.code) response.now.schema)) pen.old) }
+    ensures bits { IfErr result (PassesRoom pen.old) }
 {
     put_all(
-        writer,
+        standing,
+        pen,
+        schema,
+        table,
         &[
             Event::Document(1),
             Event::Start(1),
@@ -258,33 +228,29 @@ fn put_response(writer: &mut EventWriter<'_, '_, Schema<'_>>, response: &AppRes)
             Event::EndElement,
         ],
     )?;
-    put_schema(writer, response.schema)?;
-    put_one(writer, &Event::EndElement)
+    put_schema(standing, pen, schema, table, response.schema)?;
+    put_one(standing, pen, schema, table, &Event::EndElement)
 }
 
 /// Puts the SchemaID of a response, if it has one.
-fn put_schema(writer: &mut EventWriter<'_, '_, Schema<'_>>, schema: Option<u8>) -> Result<(), Full>
-    requires ready { IsReady writer.old.places.now writer.old.phase writer.old.elements (written_bits writer.old.pen) writer.old.table.now }
-    requires open_still { writer.old.full ≡ None }
-    requires may { MayPut writer.old.places.now (state_of writer.old.phase writer.old.elements (written_bits writer.old.pen) writer.old.table.now.entries) (events_of (schema_tree schema)) }
-    ensures ready { IsReady writer.new.places.now writer.new.phase writer.new.elements (written_bits writer.new.pen) writer.new.table.now }
-    ensures same_reference { writer.new.table.ghost_name ≡ writer.old.table.ghost_name }
-    ensures same_room { writer.new.pen.room.ghost_name ≡ writer.old.pen.room.ghost_name }
-    ensures places { writer.new.places.now ≡ writer.old.places.now }
-    ensures open_still { OnOk result (writer.new.full ≡ None) }
-    ensures put { OnOk result (HasWritten writer.old.places.now (state_of writer.old.phase writer.old.elements (written_bits writer.old.pen) writer.old.table.now.entries)
-        (state_of writer.new.phase writer.new.elements (written_bits writer.new.pen) writer.new.table.now.entries) (events_of (schema_tree schema)) writer.old.pen writer.new.pen) }
-    ensures full { OnErr result (HasNoRoomFor writer.old.places.now (state_of writer.old.phase writer.old.elements (written_bits writer.old.pen) writer.old.table.now.entries) (events_of (schema_tree schema)) writer.old.pen) }
-    ensures bits { IfErr result (PassesRoom writer.old.pen) }
+fn put_schema(standing: &mut EventStanding, pen: &mut BitPen, schema: &Schema, table: &mut Table, schema_id: Option<u8>) -> Result<(), Full>
+    requires ready { IsReady schema.now standing.old.phase standing.old.elements (written_bits pen.old) table.old }
+    requires may { MayPut schema.now (state_of standing.old.phase standing.old.elements (written_bits pen.old) table.old.entries) (events_of (schema_tree schema_id)) }
+    ensures ready { IsReady schema.now standing.new.phase standing.new.elements (written_bits pen.new) table.new }
+    ensures same_room { pen.new.room.ghost_name ≡ pen.old.room.ghost_name }
+    ensures put { OnOk result (HasWritten schema.now (state_of standing.old.phase standing.old.elements (written_bits pen.old) table.old.entries)
+        (state_of standing.new.phase standing.new.elements (written_bits pen.new) table.new.entries) (events_of (schema_tree schema_id)) pen.old pen.new) }
+    ensures full { OnErr result (HasNoRoomFor schema.now (state_of standing.old.phase standing.old.elements (written_bits pen.old) table.old.entries) (events_of (schema_tree schema_id)) pen.old) }
+    ensures bits { IfErr result (PassesRoom pen.old) }
 {
-    match schema {
+    match schema_id {
         None => Ok(()),
-        Some(schema) => {
+        Some(schema_id) => {
             let field = NumberField {
                 name: SCHEMA_ID,
-                number: u32::from(schema),
+                number: u32::from(schema_id),
             };
-            put_number(writer, &field)
+            put_number(standing, pen, schema, table, &field)
         }
     }
 }
@@ -301,22 +267,18 @@ fn ordinal(code: AppCode) -> u32
 }
 
 /// Puts the document of a message.
-pub(crate) fn put_message(writer: &mut EventWriter<'_, '_, Schema<'_>>, message: &AppMessage) -> Result<(), Full>
-    requires ready { IsReady writer.old.places.now writer.old.phase writer.old.elements (written_bits writer.old.pen) writer.old.table.now }
-    requires open_still { writer.old.full ≡ None }
-    requires may { MayPut writer.old.places.now (state_of writer.old.phase writer.old.elements (written_bits writer.old.pen) writer.old.table.now.entries) (message_events (message_of message.now)) }
-    ensures ready { IsReady writer.new.places.now writer.new.phase writer.new.elements (written_bits writer.new.pen) writer.new.table.now }
-    ensures same_reference { writer.new.table.ghost_name ≡ writer.old.table.ghost_name }
-    ensures same_room { writer.new.pen.room.ghost_name ≡ writer.old.pen.room.ghost_name }
-    ensures places { writer.new.places.now ≡ writer.old.places.now }
-    ensures open_still { OnOk result (writer.new.full ≡ None) }
-    ensures put { OnOk result (HasWritten writer.old.places.now (state_of writer.old.phase writer.old.elements (written_bits writer.old.pen) writer.old.table.now.entries)
-        (state_of writer.new.phase writer.new.elements (written_bits writer.new.pen) writer.new.table.now.entries) (message_events (message_of message.now)) writer.old.pen writer.new.pen) }
-    ensures full { OnErr result (HasNoRoomFor writer.old.places.now (state_of writer.old.phase writer.old.elements (written_bits writer.old.pen) writer.old.table.now.entries) (message_events (message_of message.now)) writer.old.pen) }
-    ensures bits { IfErr result (PassesRoom writer.old.pen) }
+pub(crate) fn put_message(standing: &mut EventStanding, pen: &mut BitPen, schema: &Schema, table: &mut Table, message: &AppMessage) -> Result<(), Full>
+    requires ready { IsReady schema.now standing.old.phase standing.old.elements (written_bits pen.old) table.old }
+    requires may { MayPut schema.now (state_of standing.old.phase standing.old.elements (written_bits pen.old) table.old.entries) (message_events (message_of message.now)) }
+    ensures ready { IsReady schema.now standing.new.phase standing.new.elements (written_bits pen.new) table.new }
+    ensures same_room { pen.new.room.ghost_name ≡ pen.old.room.ghost_name }
+    ensures put { OnOk result (HasWritten schema.now (state_of standing.old.phase standing.old.elements (written_bits pen.old) table.old.entries)
+        (state_of standing.new.phase standing.new.elements (written_bits pen.new) table.new.entries) (message_events (message_of message.now)) pen.old pen.new) }
+    ensures full { OnErr result (HasNoRoomFor schema.now (state_of standing.old.phase standing.old.elements (written_bits pen.old) table.old.entries) (message_events (message_of message.now)) pen.old) }
+    ensures bits { IfErr result (PassesRoom pen.old) }
 {
     match message {
-        AppMessage::Req(request) => put_request(writer, request),
-        AppMessage::Res(response) => put_response(writer, response),
+        AppMessage::Req(request) => put_request(standing, pen, schema, table, request),
+        AppMessage::Res(response) => put_response(standing, pen, schema, table, response),
     }
 }

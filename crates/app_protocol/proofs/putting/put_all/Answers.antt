@@ -32,8 +32,8 @@ put_one-requires-clause-may c =
     let i = c.loop-event.event-index in
     let item = c.event-item.result in
     let more = item_more xs i item c.loop-event-test.true c.event-item.is in
-    turn_may (λ e. list_of (event_of e)) xs i item more c.args.writer.now.places.now c.loop-event.writer.places.now before.places _ _ c.args.writer.now.pen c.loop-event.writer.pen
-    (sound_stands c.args.writer.now.places.now c.args.writer.now.phase c.args.writer.now.elements c.requires.ready.sound) c.requires.may before.written
+    turn_may (λ e. list_of (event_of e)) xs i item more c.args.schema.now c.args.schema.now refl _ _ c.args.pen.now c.loop-event.pen
+    (sound_stands c.args.schema.now c.args.standing.now.phase c.args.standing.now.elements c.requires.ready.sound) c.requires.may before.written
 
 pub returns-in_err-put_one-clause-full : goal.returns-in_err-put_one-clause-full
 returns-in_err-put_one-clause-full c =
@@ -43,8 +43,8 @@ returns-in_err-put_one-clause-full c =
     let item = c.event-item.result in
     let more = item_more xs i item c.loop-event-test.true c.event-item.is in
     let p = err_from_is_err_and c.from_residual.result c.from_residual.ensures.1 in
-    rw p.1 (turn_lacks (λ e. list_of (event_of e)) xs i item more c.args.writer.now.places.now c.loop-event.writer.places.now before.places _ _ c.args.writer.now.pen c.loop-event.writer.pen
-    (sound_stands c.args.writer.now.places.now c.args.writer.now.phase c.args.writer.now.elements c.requires.ready.sound) c.requires.may before.written c.in_err-put_one.ensures.full)
+    rw p.1 (turn_lacks (λ e. list_of (event_of e)) xs i item more c.args.schema.now c.args.schema.now refl _ _ c.args.pen.now c.loop-event.pen
+    (sound_stands c.args.schema.now c.args.standing.now.phase c.args.standing.now.elements c.requires.ready.sound) c.requires.may before.written c.in_err-put_one.ensures.full)
 
 pub loop-event-preserved : goal.loop-event-preserved
 loop-event-preserved c =
@@ -54,11 +54,8 @@ loop-event-preserved c =
     let item = c.event-item.result in
     let more = item_more xs i item c.loop-event-test.true c.event-item.is in
     record {
-      places = c.put_one.ensures.places ∙ before.places;
-      lent = c.put_one.ensures.same_reference ∙ before.lent;
       room = c.put_one.ensures.same_room ∙ before.room;
       ready = c.put_one.ensures.ready;
-      open_still = c.in_ok-put_one.ensures.open_still;
-      written = turn_written (λ e. list_of (event_of e)) xs i item more c.args.writer.now.places.now c.loop-event.writer.places.now before.places _ _ c.args.writer.now.pen c.loop-event.writer.pen
-    (sound_stands c.args.writer.now.places.now c.args.writer.now.phase c.args.writer.now.elements c.requires.ready.sound) _ c.put_one.new.writer.pen before.written c.in_ok-put_one.ensures.put;
+      written = turn_written (λ e. list_of (event_of e)) xs i item more c.args.schema.now c.args.schema.now refl _ _ c.args.pen.now c.loop-event.pen
+    (sound_stands c.args.schema.now c.args.standing.now.phase c.args.standing.now.elements c.requires.ready.sound) _ c.put_one.new.pen before.written c.in_ok-put_one.ensures.put;
     }

@@ -17,20 +17,20 @@ use Rattle.app_protocol.proofs.Sequence.{on_ok, on_err, front_may, front_lacks, 
 use Rattle.app_protocol.proofs.putting.put_fields.Goals as goal
 
 pub put_text-requires-clause-may : goal.put_text-requires-clause-may
-put_text-requires-clause-may c = front_may c.args.writer.now.places.now (field_events (protocol_of c.args.protocol.now)) (text_events 3 c.as_str.result.now) (flat_map number_events (fields_list c.args.protocol.now.major c.args.protocol.now.minor c.args.protocol.now.schema c.args.protocol.now.priority)) [] (tells_fields c.args.protocol.now c.as_str.result.now c.args.protocol.now.schema c.args.protocol.now.priority c.as_str.ensures.value refl refl) (state_of c.args.writer.now.phase c.args.writer.now.elements (written_bits c.args.writer.now.pen) c.args.writer.now.table.now.entries) c.args.writer.now.pen (sound_stands c.args.writer.now.places.now c.args.writer.now.phase c.args.writer.now.elements c.requires.ready.sound) c.requires.may
+put_text-requires-clause-may c = front_may c.args.schema.now (field_events (protocol_of c.args.protocol.now)) (text_events 3 c.as_str.result.now) (flat_map number_events (fields_list c.args.protocol.now.major c.args.protocol.now.minor c.args.protocol.now.schema c.args.protocol.now.priority)) [] (tells_fields c.args.protocol.now c.as_str.result.now c.args.protocol.now.schema c.args.protocol.now.priority c.as_str.ensures.value refl refl) (state_of c.args.standing.now.phase c.args.standing.now.elements (written_bits c.args.pen.now) c.args.table.now.entries) c.args.pen.now (sound_stands c.args.schema.now c.args.standing.now.phase c.args.standing.now.elements c.requires.ready.sound) c.requires.may
 
 pub returns-in_err-put_text-clause-full : goal.returns-in_err-put_text-clause-full
 returns-in_err-put_text-clause-full c =
     let p = err_from_is_err_and c.from_residual.result c.from_residual.ensures.1 in
-    rw p.1 (front_lacks c.args.writer.now.places.now (field_events (protocol_of c.args.protocol.now)) (text_events 3 c.as_str.result.now) (flat_map number_events (fields_list c.args.protocol.now.major c.args.protocol.now.minor c.args.protocol.now.schema c.args.protocol.now.priority)) [] (tells_fields c.args.protocol.now c.as_str.result.now c.args.protocol.now.schema c.args.protocol.now.priority c.as_str.ensures.value refl refl) (state_of c.args.writer.now.phase c.args.writer.now.elements (written_bits c.args.writer.now.pen) c.args.writer.now.table.now.entries) c.args.writer.now.pen (sound_stands c.args.writer.now.places.now c.args.writer.now.phase c.args.writer.now.elements c.requires.ready.sound) c.requires.may c.in_err-put_text.ensures.full)
+    rw p.1 (front_lacks c.args.schema.now (field_events (protocol_of c.args.protocol.now)) (text_events 3 c.as_str.result.now) (flat_map number_events (fields_list c.args.protocol.now.major c.args.protocol.now.minor c.args.protocol.now.schema c.args.protocol.now.priority)) [] (tells_fields c.args.protocol.now c.as_str.result.now c.args.protocol.now.schema c.args.protocol.now.priority c.as_str.ensures.value refl refl) (state_of c.args.standing.now.phase c.args.standing.now.elements (written_bits c.args.pen.now) c.args.table.now.entries) c.args.pen.now (sound_stands c.args.schema.now c.args.standing.now.phase c.args.standing.now.elements c.requires.ready.sound) c.requires.may c.in_err-put_text.ensures.full)
 
 pub put_numbers-requires-clause-may : goal.put_numbers-requires-clause-may
-put_numbers-requires-clause-may c = middle_may c.args.writer.now.places.now (field_events (protocol_of c.args.protocol.now)) (text_events 3 c.as_str.result.now) (flat_map number_events (fields_list c.args.protocol.now.major c.args.protocol.now.minor c.from.result c.from-2.result)) [] (tells_fields c.args.protocol.now c.as_str.result.now c.from.result c.from-2.result c.as_str.ensures.value c.from.ensures c.from-2.ensures) (state_of c.args.writer.now.phase c.args.writer.now.elements (written_bits c.args.writer.now.pen) c.args.writer.now.table.now.entries) c.args.writer.now.pen (sound_stands c.args.writer.now.places.now c.args.writer.now.phase c.args.writer.now.elements c.requires.ready.sound) c.requires.may c.put_text.new.writer.places.now c.put_text.ensures.places (state_of c.put_text.new.writer.phase c.put_text.new.writer.elements (written_bits c.put_text.new.writer.pen) c.put_text.new.writer.table.now.entries) c.put_text.new.writer.pen c.in_ok-put_text.ensures.put
+put_numbers-requires-clause-may c = middle_may c.args.schema.now (field_events (protocol_of c.args.protocol.now)) (text_events 3 c.as_str.result.now) (flat_map number_events (fields_list c.args.protocol.now.major c.args.protocol.now.minor c.from.result c.from-2.result)) [] (tells_fields c.args.protocol.now c.as_str.result.now c.from.result c.from-2.result c.as_str.ensures.value c.from.ensures c.from-2.ensures) (state_of c.args.standing.now.phase c.args.standing.now.elements (written_bits c.args.pen.now) c.args.table.now.entries) c.args.pen.now (sound_stands c.args.schema.now c.args.standing.now.phase c.args.standing.now.elements c.requires.ready.sound) c.requires.may c.args.schema.now refl (state_of c.put_text.new.standing.phase c.put_text.new.standing.elements (written_bits c.put_text.new.pen) c.put_text.new.table.entries) c.put_text.new.pen c.in_ok-put_text.ensures.put
 
 pub returns-clause-put : goal.returns-clause-put
 returns-clause-put c =
-    on_ok c.put_numbers.result _ _ (λ h. all_written c.args.writer.now.places.now (field_events (protocol_of c.args.protocol.now)) (text_events 3 c.as_str.result.now) (flat_map number_events (fields_list c.args.protocol.now.major c.args.protocol.now.minor c.from.result c.from-2.result)) [] (tells_fields c.args.protocol.now c.as_str.result.now c.from.result c.from-2.result c.as_str.ensures.value c.from.ensures c.from-2.ensures) (state_of c.args.writer.now.phase c.args.writer.now.elements (written_bits c.args.writer.now.pen) c.args.writer.now.table.now.entries) c.args.writer.now.pen (sound_stands c.args.writer.now.places.now c.args.writer.now.phase c.args.writer.now.elements c.requires.ready.sound) c.requires.may c.put_text.new.writer.places.now c.put_text.ensures.places (state_of c.put_text.new.writer.phase c.put_text.new.writer.elements (written_bits c.put_text.new.writer.pen) c.put_text.new.writer.table.now.entries) c.put_text.new.writer.pen c.in_ok-put_text.ensures.put c.put_text.new.writer.places.now refl (state_of c.put_numbers.new.writer.phase c.put_numbers.new.writer.elements (written_bits c.put_numbers.new.writer.pen) c.put_numbers.new.writer.table.now.entries) c.put_numbers.new.writer.pen h (state_of c.put_numbers.new.writer.phase c.put_numbers.new.writer.elements (written_bits c.put_numbers.new.writer.pen) c.put_numbers.new.writer.table.now.entries) c.put_numbers.new.writer.pen (nothing_written c.put_text.new.writer.places.now (state_of c.put_numbers.new.writer.phase c.put_numbers.new.writer.elements (written_bits c.put_numbers.new.writer.pen) c.put_numbers.new.writer.table.now.entries) c.put_numbers.new.writer.pen)) c.put_numbers.ensures.put
+    on_ok c.put_numbers.result _ _ (λ h. all_written c.args.schema.now (field_events (protocol_of c.args.protocol.now)) (text_events 3 c.as_str.result.now) (flat_map number_events (fields_list c.args.protocol.now.major c.args.protocol.now.minor c.from.result c.from-2.result)) [] (tells_fields c.args.protocol.now c.as_str.result.now c.from.result c.from-2.result c.as_str.ensures.value c.from.ensures c.from-2.ensures) (state_of c.args.standing.now.phase c.args.standing.now.elements (written_bits c.args.pen.now) c.args.table.now.entries) c.args.pen.now (sound_stands c.args.schema.now c.args.standing.now.phase c.args.standing.now.elements c.requires.ready.sound) c.requires.may c.args.schema.now refl (state_of c.put_text.new.standing.phase c.put_text.new.standing.elements (written_bits c.put_text.new.pen) c.put_text.new.table.entries) c.put_text.new.pen c.in_ok-put_text.ensures.put c.args.schema.now refl (state_of c.put_numbers.new.standing.phase c.put_numbers.new.standing.elements (written_bits c.put_numbers.new.pen) c.put_numbers.new.table.entries) c.put_numbers.new.pen h (state_of c.put_numbers.new.standing.phase c.put_numbers.new.standing.elements (written_bits c.put_numbers.new.pen) c.put_numbers.new.table.entries) c.put_numbers.new.pen (nothing_written c.args.schema.now (state_of c.put_numbers.new.standing.phase c.put_numbers.new.standing.elements (written_bits c.put_numbers.new.pen) c.put_numbers.new.table.entries) c.put_numbers.new.pen)) c.put_numbers.ensures.put
 
 pub returns-clause-full : goal.returns-clause-full
 returns-clause-full c =
-    on_err c.put_numbers.result _ _ (λ h. middle_lacks c.args.writer.now.places.now (field_events (protocol_of c.args.protocol.now)) (text_events 3 c.as_str.result.now) (flat_map number_events (fields_list c.args.protocol.now.major c.args.protocol.now.minor c.from.result c.from-2.result)) [] (tells_fields c.args.protocol.now c.as_str.result.now c.from.result c.from-2.result c.as_str.ensures.value c.from.ensures c.from-2.ensures) (state_of c.args.writer.now.phase c.args.writer.now.elements (written_bits c.args.writer.now.pen) c.args.writer.now.table.now.entries) c.args.writer.now.pen (sound_stands c.args.writer.now.places.now c.args.writer.now.phase c.args.writer.now.elements c.requires.ready.sound) c.requires.may c.put_text.new.writer.places.now c.put_text.ensures.places (state_of c.put_text.new.writer.phase c.put_text.new.writer.elements (written_bits c.put_text.new.writer.pen) c.put_text.new.writer.table.now.entries) c.put_text.new.writer.pen c.in_ok-put_text.ensures.put h) c.put_numbers.ensures.full
+    on_err c.put_numbers.result _ _ (λ h. middle_lacks c.args.schema.now (field_events (protocol_of c.args.protocol.now)) (text_events 3 c.as_str.result.now) (flat_map number_events (fields_list c.args.protocol.now.major c.args.protocol.now.minor c.from.result c.from-2.result)) [] (tells_fields c.args.protocol.now c.as_str.result.now c.from.result c.from-2.result c.as_str.ensures.value c.from.ensures c.from-2.ensures) (state_of c.args.standing.now.phase c.args.standing.now.elements (written_bits c.args.pen.now) c.args.table.now.entries) c.args.pen.now (sound_stands c.args.schema.now c.args.standing.now.phase c.args.standing.now.elements c.requires.ready.sound) c.requires.may c.args.schema.now refl (state_of c.put_text.new.standing.phase c.put_text.new.standing.elements (written_bits c.put_text.new.pen) c.put_text.new.table.entries) c.put_text.new.pen c.in_ok-put_text.ensures.put h) c.put_numbers.ensures.full

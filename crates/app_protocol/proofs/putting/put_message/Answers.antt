@@ -19,16 +19,16 @@ use Rattle.app_protocol.proofs.putting.put_message.Goals as goal
 
 pub returns-in-Req-clause-put : goal.returns-in-Req-clause-put
 returns-in-Req-clause-put c =
-    subst (λ (m : AppMessage). OnOk c.put_request.result (HasWritten c.args.writer.now.places.now (state_of c.args.writer.now.phase c.args.writer.now.elements (written_bits c.args.writer.now.pen) c.args.writer.now.table.now.entries) (state_of c.put_request.new.writer.phase c.put_request.new.writer.elements (written_bits c.put_request.new.writer.pen) c.put_request.new.writer.table.now.entries) (message_events (message_of m)) c.args.writer.now.pen c.put_request.new.writer.pen)) (sym c.in-Req.is) c.put_request.ensures.put
+    subst (λ (m : AppMessage). OnOk c.put_request.result (HasWritten c.args.schema.now (state_of c.args.standing.now.phase c.args.standing.now.elements (written_bits c.args.pen.now) c.args.table.now.entries) (state_of c.put_request.new.standing.phase c.put_request.new.standing.elements (written_bits c.put_request.new.pen) c.put_request.new.table.entries) (message_events (message_of m)) c.args.pen.now c.put_request.new.pen)) (sym c.in-Req.is) c.put_request.ensures.put
 
 pub returns-in-Req-clause-full : goal.returns-in-Req-clause-full
 returns-in-Req-clause-full c =
-    subst (λ (m : AppMessage). OnErr c.put_request.result (HasNoRoomFor c.args.writer.now.places.now (state_of c.args.writer.now.phase c.args.writer.now.elements (written_bits c.args.writer.now.pen) c.args.writer.now.table.now.entries) (message_events (message_of m)) c.args.writer.now.pen)) (sym c.in-Req.is) c.put_request.ensures.full
+    subst (λ (m : AppMessage). OnErr c.put_request.result (HasNoRoomFor c.args.schema.now (state_of c.args.standing.now.phase c.args.standing.now.elements (written_bits c.args.pen.now) c.args.table.now.entries) (message_events (message_of m)) c.args.pen.now)) (sym c.in-Req.is) c.put_request.ensures.full
 
 pub returns-in-Res-clause-put : goal.returns-in-Res-clause-put
 returns-in-Res-clause-put c =
-    subst (λ (m : AppMessage). OnOk c.put_response.result (HasWritten c.args.writer.now.places.now (state_of c.args.writer.now.phase c.args.writer.now.elements (written_bits c.args.writer.now.pen) c.args.writer.now.table.now.entries) (state_of c.put_response.new.writer.phase c.put_response.new.writer.elements (written_bits c.put_response.new.writer.pen) c.put_response.new.writer.table.now.entries) (message_events (message_of m)) c.args.writer.now.pen c.put_response.new.writer.pen)) (sym c.in-Res.is) c.put_response.ensures.put
+    subst (λ (m : AppMessage). OnOk c.put_response.result (HasWritten c.args.schema.now (state_of c.args.standing.now.phase c.args.standing.now.elements (written_bits c.args.pen.now) c.args.table.now.entries) (state_of c.put_response.new.standing.phase c.put_response.new.standing.elements (written_bits c.put_response.new.pen) c.put_response.new.table.entries) (message_events (message_of m)) c.args.pen.now c.put_response.new.pen)) (sym c.in-Res.is) c.put_response.ensures.put
 
 pub returns-in-Res-clause-full : goal.returns-in-Res-clause-full
 returns-in-Res-clause-full c =
-    subst (λ (m : AppMessage). OnErr c.put_response.result (HasNoRoomFor c.args.writer.now.places.now (state_of c.args.writer.now.phase c.args.writer.now.elements (written_bits c.args.writer.now.pen) c.args.writer.now.table.now.entries) (message_events (message_of m)) c.args.writer.now.pen)) (sym c.in-Res.is) c.put_response.ensures.full
+    subst (λ (m : AppMessage). OnErr c.put_response.result (HasNoRoomFor c.args.schema.now (state_of c.args.standing.now.phase c.args.standing.now.elements (written_bits c.args.pen.now) c.args.table.now.entries) (message_events (message_of m)) c.args.pen.now)) (sym c.in-Res.is) c.put_response.ensures.full

@@ -17,11 +17,11 @@ use Rattle.app_protocol.proofs.Sequence.{on_ok, on_err, front_may, front_lacks, 
 use Rattle.app_protocol.proofs.putting.put_one.Goals as goal
 
 pub put-requires-clause-offered : goal.put-requires-clause-offered
-put-requires-clause-offered c open_still = may_offer c.args.writer.now.places.now (event_of c.args.event.now) (state_of c.args.writer.now.phase c.args.writer.now.elements (written_bits c.args.writer.now.pen) c.args.writer.now.table.now.entries) c.requires.telling.0 c.requires.may
+put-requires-clause-offered c = may_offer c.args.schema.now (event_of c.args.event.now) (state_of c.args.standing.now.phase c.args.standing.now.elements (written_bits c.args.pen.now) c.args.table.now.entries) c.requires.telling.0 c.requires.may
 
 pub returns-clause-put : goal.returns-clause-put
 returns-clause-put c =
-    on_ok c.put.result _ _ (is_put c.args.writer.now.places.now (event_of c.args.event.now) (state_of c.args.writer.now.phase c.args.writer.now.elements (written_bits c.args.writer.now.pen) c.args.writer.now.table.now.entries) (state_of c.put.new.self.phase c.put.new.self.elements (written_bits c.put.new.self.pen) c.put.new.self.table.now.entries) c.args.writer.now.pen c.put.new.self.pen c.requires.telling.0) c.put.ensures.put
+    on_ok c.put.result _ _ (is_put c.args.schema.now (event_of c.args.event.now) (state_of c.args.standing.now.phase c.args.standing.now.elements (written_bits c.args.pen.now) c.args.table.now.entries) (state_of c.put.new.self.phase c.put.new.self.elements (written_bits c.put.new.pen) c.put.new.table.entries) c.args.pen.now c.put.new.pen c.requires.telling.0) c.put.ensures.put
 
 pub returns-clause-full : goal.returns-clause-full
-returns-clause-full c = err_lacks c.args.writer.now.places.now (event_of c.args.event.now) (state_of c.args.writer.now.phase c.args.writer.now.elements (written_bits c.args.writer.now.pen) c.args.writer.now.table.now.entries) c.args.writer.now.pen c.put.result (c.put.ensures.full c.requires.open_still)
+returns-clause-full c = err_lacks c.args.schema.now (event_of c.args.event.now) (state_of c.args.standing.now.phase c.args.standing.now.elements (written_bits c.args.pen.now) c.args.table.now.entries) c.args.pen.now c.put.result c.put.ensures.full

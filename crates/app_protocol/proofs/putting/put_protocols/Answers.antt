@@ -23,8 +23,8 @@ put_protocol-requires-clause-may c =
     let i = c.loop-protocol.protocol-index in
     let item = c.protocol-item.result in
     let more = item_more xs i item c.loop-protocol-test.true c.protocol-item.is in
-    turn_may (λ p. protocol_events (protocol_of p)) xs i item more c.args.writer.now.places.now c.loop-protocol.writer.places.now before.places _ _ c.args.writer.now.pen c.loop-protocol.writer.pen
-    (sound_stands c.args.writer.now.places.now c.args.writer.now.phase c.args.writer.now.elements c.requires.ready.sound) c.requires.may before.written
+    turn_may (λ p. protocol_events (protocol_of p)) xs i item more c.args.schema.now c.args.schema.now refl _ _ c.args.pen.now c.loop-protocol.pen
+    (sound_stands c.args.schema.now c.args.standing.now.phase c.args.standing.now.elements c.requires.ready.sound) c.requires.may before.written
 
 pub returns-in_err-put_protocol-clause-full : goal.returns-in_err-put_protocol-clause-full
 returns-in_err-put_protocol-clause-full c =
@@ -34,8 +34,8 @@ returns-in_err-put_protocol-clause-full c =
     let item = c.protocol-item.result in
     let more = item_more xs i item c.loop-protocol-test.true c.protocol-item.is in
     let p = err_from_is_err_and c.from_residual.result c.from_residual.ensures.1 in
-    rw p.1 (turn_lacks (λ p. protocol_events (protocol_of p)) xs i item more c.args.writer.now.places.now c.loop-protocol.writer.places.now before.places _ _ c.args.writer.now.pen c.loop-protocol.writer.pen
-    (sound_stands c.args.writer.now.places.now c.args.writer.now.phase c.args.writer.now.elements c.requires.ready.sound) c.requires.may before.written c.in_err-put_protocol.ensures.full)
+    rw p.1 (turn_lacks (λ p. protocol_events (protocol_of p)) xs i item more c.args.schema.now c.args.schema.now refl _ _ c.args.pen.now c.loop-protocol.pen
+    (sound_stands c.args.schema.now c.args.standing.now.phase c.args.standing.now.elements c.requires.ready.sound) c.requires.may before.written c.in_err-put_protocol.ensures.full)
 
 pub loop-protocol-preserved : goal.loop-protocol-preserved
 loop-protocol-preserved c =
@@ -45,11 +45,8 @@ loop-protocol-preserved c =
     let item = c.protocol-item.result in
     let more = item_more xs i item c.loop-protocol-test.true c.protocol-item.is in
     record {
-      places = c.put_protocol.ensures.places ∙ before.places;
-      lent = c.put_protocol.ensures.same_reference ∙ before.lent;
       room = c.put_protocol.ensures.same_room ∙ before.room;
       ready = c.put_protocol.ensures.ready;
-      open_still = c.in_ok-put_protocol.ensures.open_still;
-      written = turn_written (λ p. protocol_events (protocol_of p)) xs i item more c.args.writer.now.places.now c.loop-protocol.writer.places.now before.places _ _ c.args.writer.now.pen c.loop-protocol.writer.pen
-    (sound_stands c.args.writer.now.places.now c.args.writer.now.phase c.args.writer.now.elements c.requires.ready.sound) _ c.put_protocol.new.writer.pen before.written c.in_ok-put_protocol.ensures.put;
+      written = turn_written (λ p. protocol_events (protocol_of p)) xs i item more c.args.schema.now c.args.schema.now refl _ _ c.args.pen.now c.loop-protocol.pen
+    (sound_stands c.args.schema.now c.args.standing.now.phase c.args.standing.now.elements c.requires.ready.sound) _ c.put_protocol.new.pen before.written c.in_ok-put_protocol.ensures.put;
     }

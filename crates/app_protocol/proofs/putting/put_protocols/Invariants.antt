@@ -11,11 +11,8 @@ use Rattle.app_protocol.proofs.putting.put_protocols.Given as goal
 abbrev pub invariant-loop-protocol : goal.invariant-loop-protocol
 invariant-loop-protocol l =
     record {
-      places : l.writer.places.now ≡ l.fn.writer.places.now;
-      lent : l.writer.table.ghost_name ≡ l.fn.writer.table.ghost_name;
-      room : l.writer.pen.room.ghost_name ≡ l.fn.writer.pen.room.ghost_name;
-      ready : IsReady l.writer.places.now l.writer.phase l.writer.elements (written_bits l.writer.pen) l.writer.table.now;
-      open_still : l.writer.full ≡ None;
-      written : HasWritten l.fn.writer.places.now (state_of l.fn.writer.phase l.fn.writer.elements (written_bits l.fn.writer.pen) l.fn.writer.table.now.entries)
-          (state_of l.writer.phase l.writer.elements (written_bits l.writer.pen) l.writer.table.now.entries) (flat_map (λ p. protocol_events (protocol_of p)) (take l.protocol-index l.protocols)) l.fn.writer.pen l.writer.pen;
+      room : l.pen.room.ghost_name ≡ l.fn.pen.room.ghost_name;
+      ready : IsReady l.schema l.standing.phase l.standing.elements (written_bits l.pen) l.table;
+      written : HasWritten l.schema (state_of l.fn.standing.phase l.fn.standing.elements (written_bits l.fn.pen) l.fn.table.entries)
+          (state_of l.standing.phase l.standing.elements (written_bits l.pen) l.table.entries) (flat_map (λ p. protocol_events (protocol_of p)) (take l.protocol-index l.protocols)) l.fn.pen l.pen;
     }
