@@ -26,3 +26,11 @@ pub fn messages_are_written()
 pub fn one_message()
     ensures { (m n : Message) → tree_of m ≡ tree_of n → m ≡ n }
 {}
+
+/// A document of one schema of the negotiation is one of each.
+pub fn schemas_agree()
+    ensures spelled { (s t : Schema) → IsNegotiation s → IsNegotiation t → (number : ℕ) (tree : Tree) (bits : List Bool)
+        → SpellsDocument SpellsValue s number tree bits → SpellsDocument SpellsValue t number tree bits }
+    ensures written { (s t : Schema) → IsNegotiation s → IsNegotiation t → (number : ℕ) (tree : Tree) (bits : List Bool)
+        → SpellsDocument WritesValue s number tree bits → SpellsDocument WritesValue t number tree bits }
+{}

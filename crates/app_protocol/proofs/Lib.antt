@@ -7,4 +7,9 @@ pub mod Read
 pub mod Printed
 pub mod Alike
 pub mod Decided
+pub mod Goes
+pub mod OneByOne
+pub mod Telling
+pub mod Sequence
+pub mod Encoded
 pub mod Named

@@ -5,3 +5,5 @@ pub mod Response
 pub mod Building
 pub mod Documents
 pub mod Printing
+pub mod Writing
+pub mod Numbers

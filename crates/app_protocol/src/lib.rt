@@ -6,13 +6,14 @@ pub mod laws;
 mod message;
 mod negotiation;
 mod printing;
+mod putting;
 mod reading;
 mod schema;
 mod writing;
 
 pub use charge_world::{Dialect, Offer};
 pub use exi_documents::{Refusal, RefusalCause};
-pub use exi_events::Table;
+pub use exi_events::{Full, Table};
 pub use message::{AppCode, AppMessage, AppProtocol, AppReq, AppRes};
 pub use negotiation::negotiate;
 pub use printing::print;

@@ -1,10 +1,69 @@
-//! The encoding of a response.
+//! The encoding of a message.
 
-ghost use Rattle.std.specs.Prelude.{◌≡◌, ◌-◌, ◌≤◌, take, drop, replicate};
+ghost use Rattle.std.specs.Prelude.{◌≡◌, ◌-◌, ◌*◌, ◌<◌, ◌≤◌, ◌↔◌, length, take, drop, replicate, IfOk, IfErr, IsErr};
+ghost use Rattle.exi_documents.specs.Values.{most_entries};
+ghost use Rattle.app_documents.specs.Declarations.{IsNegotiation};
+ghost use Rattle.app_documents.specs.Trees.{IsMessage};
+ghost use Rattle.app_protocol.specs.Documents.{IsApp, IsAppEncoding, PassesBytes};
 ghost use Rattle.app_protocol.specs.Response.{response_bits, IsEncoding};
-ghost use Rattle.app_protocol.specs.Messages.{ordinal_of};
+ghost use Rattle.app_protocol.specs.Messages.{ordinal_of, message_of};
 
-use crate::message::{AppCode, AppRes};
+use crate::message::{AppCode, AppMessage, AppRes};
+use crate::putting::put_message;
+use crate::schema::{KINDS, NAMES, ROOTS, VALUES};
+use exi_bits::BitPen;
+use exi_events::{EventStanding, Full, Table};
+use exi_schema::Schema;
+
+/// Writes the one encoding of a message within its ranges (ISO 15118-2:2014, section 8.2) to the front of a room of at most 65,536
+/// bytes, and returns how many bytes it has. The table, which has room for 8,192 entries, is emptied.
+///
+/// `Full` exactly where the encoding has more bits than the room.
+pub fn write_app(message: &AppMessage, room: &mut [u8], table: &mut Table) -> Result<u32, Full>
+    requires message { IsMessage (message_of message.now) }
+    requires room { length room.old ≤ 65536 }
+    requires cap { table.old.cap ≡ most_entries }
+    ensures cap { table.new.cap ≡ most_entries }
+    ensures within { IfOk result (λ n. n ≤ length room.new) }
+    ensures written { IfOk result (λ n. IsAppEncoding (message_of message.now) (take n room.new)) }
+    ensures read { IfOk result (λ n. IsApp (message_of message.now) (take n room.new)) }
+    ensures full { IsErr result ↔ PassesBytes (message_of message.now) (length room.old) }
+    ensures bits { IfErr result (λ full. 8 * length room.old < full.bits) }
+{
+    let schema = Schema {
+        kinds: &KINDS,
+        names: &NAMES,
+        values: &VALUES,
+        root_bits: 2,
+        roots: &ROOTS,
+    };
+    write_with(&schema, message, room, table)
+}
+
+/// Writes with the declarations of the negotiation.
+fn write_with(
+    schema: &Schema,
+    message: &AppMessage,
+    room: &mut [u8],
+    table: &mut Table,
+) -> Result<u32, Full>
+    requires negotiation { IsNegotiation schema.now }
+    requires message { IsMessage (message_of message.now) }
+    requires room { length room.old ≤ 65536 }
+    requires cap { table.old.cap ≡ most_entries }
+    ensures cap { table.new.cap ≡ most_entries }
+    ensures within { IfOk result (λ n. n ≤ length room.new) }
+    ensures written { IfOk result (λ n. IsAppEncoding (message_of message.now) (take n room.new)) }
+    ensures read { IfOk result (λ n. IsApp (message_of message.now) (take n room.new)) }
+    ensures full { IsErr result ↔ PassesBytes (message_of message.now) (length room.old) }
+    ensures bits { IfErr result (λ full. 8 * length room.old < full.bits) }
+{
+    table.clear();
+    let mut pen = BitPen::new(room);
+    let mut standing = EventStanding::new();
+    put_message(&mut standing, &mut pen, schema, table, message)?;
+    Ok(pen.finish())
+}
 
 /// Writes the one encoding of a response (ISO 15118-2:2014, section 8.2) to the front of the room, and returns how many
 /// bytes it has: 3 without a SchemaID, and 4 with one. The room behind them is 0.

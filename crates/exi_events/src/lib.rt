@@ -7,6 +7,7 @@ mod offer;
 mod open;
 mod putting;
 mod reader;
+mod standing;
 mod step;
 mod value;
 mod writer;
@@ -15,6 +16,7 @@ pub use exi_bits::Full;
 pub use exi_documents::{Refusal, RefusalCause};
 pub use exi_values::{Event, Table, Value};
 pub use reader::EventReader;
+pub use standing::EventStanding;
 pub use writer::EventWriter;
 
 #[cfg(test)]
