@@ -1,64 +1,49 @@
-//! Reads each payload of a file of vectors as a message of the negotiation, so many times, and prints how many were messages and how
-//! many were refused. The clock stands outside.
+//! Reads or writes the payloads of a file of vectors so many times, and prints how often that was done. The clock stands outside.
 //!
-//! A line of the file is `ok HEX TREE` or `no HEX CAUSE BIT`, where `-` is no bytes.
+//! `read` reads each payload as a message of the negotiation, or has it refused; `write` writes each message that they spell. A line of
+//! the file is `ok HEX TREE` or `no HEX CAUSE BIT`, where `-` is no bytes.
 #![tactic(auto)]
 
-ghost use Rattle.std.specs.Prelude.{◌≡◌};
+ghost use Rattle.std.specs.Prelude.{◌≡◌, IfOk};
+ghost use Rattle.std.specs.List.{AllByRecursion};
 ghost use Rattle.exi_documents.specs.Values.{most_entries};
+ghost use Rattle.app_documents.specs.Trees.{IsMessage};
+ghost use Rattle.app_protocol.specs.Messages.{message_of};
 
 use anyhow::{Context, Result};
-use app_protocol::{Table, read_app};
+use app_protocol::{AppMessage, Table, read_app, write_app};
 use std::alloc::Global;
 use std::process::ExitCode;
 use std::{env, fs};
 
-/// How many payloads were messages, and how many were refused.
-#[derive(Clone, Copy, Default)]
-struct Tally {
-    read: u64,
-    refused: u64,
-}
-
-impl Tally {
-    /// One payload more.
-    fn with(self, is_message: bool) -> Tally {
-        if is_message {
-            Tally {
-                read: self.read.wrapping_add(1),
-                refused: self.refused,
-            }
-        } else {
-            Tally {
-                read: self.read,
-                refused: self.refused.wrapping_add(1),
-            }
-        }
-    }
-}
-
 fn main(rt: HostRuntime) -> Result<ExitCode> {
     let mut words = env::args(&rt)?.skip(1);
-    let (Some(rounds), Some(file)) = (words.next(), words.next()) else {
-        println!(rt; "words: ROUNDS FILE")?;
+    let (Some(task), Some(rounds), Some(file)) = (words.next(), words.next(), words.next()) else {
+        println!(rt; "words: read|write ROUNDS FILE")?;
         return Ok(ExitCode::from(2));
     };
     let rounds: u32 = rounds.as_str().parse()?;
     let text = fs::read(&rt, file.as_str())?;
     let payloads = payloads_of(rt.alloc(), str::from_utf8(text.as_slice())?)?;
     let mut table = Table::make(rt.alloc(), 8192)?;
-    let mut tally = Tally::default();
-    for _ in 0..rounds {
-        tally = read_all(&payloads, &mut table, tally);
+    if task.as_str() == "read" {
+        let mut count = 0;
+        for _ in 0..rounds {
+            count = read_all(&payloads, &mut table, count);
+        }
+        println!(rt; "payloads {count}")?;
+        return Ok(ExitCode::SUCCESS);
     }
-    println!(rt;
-        "rounds {rounds} read {} refused {}",
-        tally.read, tally.refused
-    )?;
+    let messages = messages_of(rt.alloc(), &payloads, &mut table)?;
+    let mut count = 0;
+    for _ in 0..rounds {
+        count = write_all(&messages, &mut table, count);
+    }
+    println!(rt; "payloads {count}")?;
     Ok(ExitCode::SUCCESS)
 }
 
-/// The payloads of the lines.
+/// The payloads of the lines, which have at most 65,536 bytes.
 fn payloads_of(alloc: Global, text: &str) -> Result<Vec<Vec<u8>>> {
     let mut payloads = Vec::new(alloc);
     for line in text.lines() {
@@ -76,16 +61,54 @@ fn payload_of(alloc: Global, line: &str) -> Result<Vec<u8>> {
     Ok(hex::decode(alloc, word)?)
 }
 
-/// Reads each payload once.
-fn read_all(payloads: &Vec<Vec<u8>>, table: &mut Table, tally: Tally) -> Tally
+/// Reads each payload once, and adds their number to the count.
+fn read_all(payloads: &Vec<Vec<u8>>, table: &mut Table, count: u64) -> u64
     requires { table.old.cap ≡ most_entries }
     ensures { table.new.cap ≡ most_entries }
 {
-    let mut tally = tally;
+    let mut count = count;
     for payload in payloads {
         if payload.len() <= 65536 {
-            tally = tally.with(read_app(payload.as_slice(), table).is_ok());
+            let _ = read_app(payload.as_slice(), table);
+            count = count.wrapping_add(1);
         }
     }
-    tally
+    count
+}
+
+/// The messages that the payloads spell.
+fn messages_of(
+    alloc: Global,
+    payloads: &Vec<Vec<u8>>,
+    table: &mut Table,
+) -> Result<Vec<AppMessage>>
+    requires { table.old.cap ≡ most_entries }
+    ensures cap { table.new.cap ≡ most_entries }
+    ensures messages { IfOk result (λ messages. AllByRecursion (λ m. IsMessage (message_of m)) messages.items) }
+{
+    let mut messages = Vec::new(alloc);
+    for payload in payloads {
+        if payload.len() > 65536 {
+            continue;
+        }
+        if let Ok(message) = read_app(payload.as_slice(), table) {
+            messages.push(message)?;
+        }
+    }
+    Ok(messages)
+}
+
+/// Writes each message once, and adds their number to the count.
+fn write_all(messages: &Vec<AppMessage>, table: &mut Table, count: u64) -> u64
+    requires cap { table.old.cap ≡ most_entries }
+    requires messages { AllByRecursion (λ m. IsMessage (message_of m)) messages.now.items }
+    ensures { table.new.cap ≡ most_entries }
+{
+    let mut room = [0; 4096];
+    let mut count = count;
+    for message in messages {
+        let _ = write_app(message, &mut room, table);
+        count = count.wrapping_add(1);
+    }
+    count
 }
