@@ -1,5 +1,5 @@
 -- Whether a value lies within the bounds of its datatype.
-use Rattle.std.proofs.Common.{◌≡◌, ℕ, ℤ, pos, negsuc, ◌+ℤ◌, ◌-ℤ◌, ◌<◌, ◌≤◌, ◌≤ℤ◌, ◌<ℤ◌, Bool, true, false, List, length, leb, refl, sym, ap, subst, ◌∙◌, arith, IsTrue, ◌↔◌, IsUtf8, chars}
+use Rattle.std.proofs.Common.{◌≡◌, ℕ, ℤ, pos, negsuc, ◌+ℤ◌, ◌-ℤ◌, ◌<◌, ◌≤◌, ◌≤ℤ◌, ◌<ℤ◌, true, false, List, length, leb, refl, sym, ap, subst, ◌∙◌, arith, IsTrue, ◌↔◌, IsUtf8, chars}
 use Rattle.std.specs.Borrow.{Bor}
 use Rattle.std.specs.Int.Signed.{lt_z}
 use Rattle.std.proofs.lemmas.Int.{ints}
@@ -9,7 +9,7 @@ use Rattle.exi_bits.proofs.Spans.{items_of-held, held_bytes}
 use Rattle.std.specs.List.{AllByRecursion}
 use Rattle.exi_schema.specs.declared.tables.Datatype.{Datatype}
 use Rattle.exi_schema.specs.declared.tables.Datatype.TheVariants.{Bounded, Binary, Text as TextType}
-use Rattle.exi_documents.specs.Trees.{Value as TreeValue, Number, Bytes, Text}
+use Rattle.exi_documents.specs.Trees.{Number, Bytes, Text}
 use Rattle.exi_documents.specs.Values.{IsValue}
 use Rattle.exi_values.specs.declared.Value.{Value}
 use Rattle.exi_values.specs.declared.Value.TheVariants as value

@@ -1,8 +1,8 @@
 -- An event inside the innermost element, from the code of its step and the value behind it, as a pen writes them.
-use Rattle.std.proofs.Common.{◌≡◌, ℕ, ◌+◌, ◌*◌, ◌^◌, ◌<◌, ◌≤◌, Bool, true, false, List, [], ◌∷◌, ◌++◌, length, Option, Some, None, slice_get, refl, sym, ap, subst, ◌∙◌, arith, append-nil, length-append, ◌↔◌}
+use Rattle.std.proofs.Common.{◌≡◌, ℕ, ◌^◌, ◌<◌, Bool, List, [], ◌∷◌, ◌++◌, length, Some, slice_get, refl, sym, ap, subst, ◌∙◌, arith, length-append, ◌↔◌}
 use Rattle.exi_spec.specs.Bits.{number_bits}
 use Rattle.exi_spec.proofs.BitLaws.{length-number_bits}
-use Rattle.exi_bits.specs.Pens.{written_bits, Writes, Needs, SamePen}
+use Rattle.exi_bits.specs.Pens.{written_bits, Writes, Needs}
 use Rattle.exi_bits.specs.declared.pen.BitPen.{BitPen}
 use Rattle.exi_schema.specs.declared.places.Place.{Place}
 use Rattle.exi_schema.specs.declared.places.Step.{Step}
@@ -11,9 +11,9 @@ use Rattle.exi_schema.specs.declared.schema.Schema.{Schema}
 use Rattle.exi_schema.specs.declared.tables.Declaration.{Declaration}
 use Rattle.exi_schema.specs.declared.tables.MemberStanding.{MemberStanding}
 use Rattle.exi_schema.specs.Offers.{IsPlace, IsWidth, offers}
-use Rattle.exi_documents.specs.Documents.{SpellsStep, element, first}
-use Rattle.exi_documents.specs.Grammar.{Opened, opened, Inside, Behind, State, around, stands, MovesFrom}
-use Rattle.exi_documents.specs.Trees.{Start, Attribute, Content, EndElement}
+use Rattle.exi_documents.specs.Documents.{first}
+use Rattle.exi_documents.specs.Grammar.{Opened, opened, Inside, State, around, stands, MovesFrom}
+use Rattle.exi_documents.specs.Trees.{Start, Attribute}
 use Rattle.exi_documents.specs.Values.{Entries, WritesValue}
 use Rattle.exi_values.specs.declared.Event.{Event}
 use Rattle.exi_values.specs.declared.Event.TheVariants as event

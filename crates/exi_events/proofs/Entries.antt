@@ -1,9 +1,9 @@
 -- Whether a text stands in the table, and which has room there.
-use Rattle.std.proofs.Common.{◌≡◌, ℕ, zero, suc, ◌+◌, ◌<◌, ◌≤◌, Bool, true, false, cond, eqb, nat_lt, ◌||◌, List, [], ◌∷◌, length, map, refl, sym, ap, subst, ◌∙◌, Some, None, inl, inr, arith, IsTrue, ◌↔◌, IsUtf8}
-use Rattle.std.specs.Prelude.{slice_get, ◌≢◌, MatchBool}
+use Rattle.std.proofs.Common.{◌≡◌, ℕ, zero, suc, ◌<◌, Bool, true, false, cond, eqb, List, [], ◌∷◌, length, refl, sym, ap, subst, ◌∙◌, Some, arith, IsTrue, ◌↔◌, IsUtf8}
+use Rattle.std.specs.Prelude.{slice_get, MatchBool}
 use Rattle.std.specs.Borrow.{Bor}
 use Rattle.std.specs.Str.{chars}
-use Rattle.std.proofs.lemmas.Bool.{ltb-true, false≢true}
+use Rattle.std.proofs.lemmas.Bool.{false≢true}
 use Rattle.exi_bits.specs.Lent.{Span, IsSpan, items_of, text_at}
 use Rattle.exi_bits.specs.Written.{HoldsBits}
 use Rattle.exi_bits.specs.declared.span.SpanAt.{SpanAt}

@@ -1,5 +1,5 @@
 -- The bits of an event inside an element: the code of its step, and a value behind it.
-use Rattle.std.proofs.Common.{◌≡◌, ℕ, ◌+◌, ◌^◌, ◌<◌, ◌≤◌, Bool, false, List, [], ◌∷◌, ◌++◌, length, Option, Some, None, slice_get, refl, sym, ap, subst, ◌∙◌, arith, append-nil, true, IsTrue, ◌↔◌, inl, inr}
+use Rattle.std.proofs.Common.{◌≡◌, ℕ, Bool, false, List, [], ◌∷◌, ◌++◌, length, Option, Some, None, slice_get, refl, sym, ap, subst, ◌∙◌, arith, append-nil, true, IsTrue, ◌↔◌, inl, inr}
 use Rattle.std.specs.Prelude.{◌⊎◌}
 use Rattle.std.proofs.lemmas.Option.{slice_get_within}
 use Rattle.exi_spec.specs.Bits.{number_bits}
@@ -7,14 +7,12 @@ use Rattle.exi_schema.specs.declared.places.Place.{Place}
 use Rattle.exi_schema.specs.declared.places.Step.{Step}
 use Rattle.exi_schema.specs.declared.places.Step.TheVariants as step
 use Rattle.exi_schema.specs.declared.schema.Schema.{Schema}
-use Rattle.exi_schema.specs.declared.tables.Datatype.{Datatype}
 use Rattle.exi_schema.specs.declared.tables.Declaration.{Declaration}
 use Rattle.exi_schema.specs.declared.tables.MemberStanding.{MemberStanding}
 use Rattle.exi_schema.specs.declared.tables.MemberStanding.TheVariants.{Taken}
 use Rattle.exi_schema.specs.Offers.{IsPlace, IsWidth, offers, simple_step}
-use Rattle.exi_schema.specs.Steps.{simple_at}
 use Rattle.exi_documents.specs.Documents.{SpellsStep, element, first}
-use Rattle.exi_documents.specs.Grammar.{Opened, opened, Inside, Behind, Standing, State, around, stands, MovesFrom, Moves}
+use Rattle.exi_documents.specs.Grammar.{Opened, opened, Inside, Behind, State, around, stands, MovesFrom, Moves}
 use Rattle.exi_documents.specs.Trees.{Value as TreeValue, Event as TreeEvent, Start, Attribute, Content, EndElement}
 use Rattle.exi_documents.specs.Values.{Entries, WritesValue}
 use Rattle.exi_values.specs.declared.Event.{Event}
@@ -24,7 +22,7 @@ use Rattle.exi_values.specs.Meaning.{event_of, value_of}
 use Rattle.document_laws.proofs.IndexWidths.{code_width}
 use Rattle.document_laws.proofs.Names.{element_key, attribute_key, end_key, one_taken_by, ones_at}
 use Rattle.document_laws.proofs.Offered.{offers_simple, one_taken}
-use Rattle.exi_events.specs.Writer.{IsOfferedAs, IsOffered, IsStepOf, WritesValueOf, MayWrite, value_in}
+use Rattle.exi_events.specs.Writer.{IsOffered, IsStepOf, WritesValueOf, MayWrite, value_in}
 
 -- some event is written by these bits; none behind the end
 abbrev pub MovesAs : Schema → State → Option TreeEvent → List Bool → State → Type 0

@@ -1,18 +1,17 @@
 -- Document numbers that name a root, and the front of a document that is written.
-use Rattle.std.proofs.Common.{◌≡◌, ℕ, ◌+◌, ◌^◌, ◌<◌, nat_lt, nat_le, not, ◌&&◌, Bool, true, false, List, [], ◌++◌, length, map, Some, slice_get, inl, inr, refl, sym, ap, subst, ◌∙◌, arith, length-append}
+use Rattle.std.proofs.Common.{◌≡◌, ℕ, ◌^◌, ◌<◌, nat_lt, nat_le, not, ◌&&◌, Bool, true, false, List, ◌++◌, length, map, Some, slice_get, inl, inr, refl, sym, ap, subst, ◌∙◌}
 use Rattle.std.specs.Prelude.{◌==◌, ◌↔◌, ◌⊎◌, IsTrue}
 use Rattle.std.specs.List.{list_all}
 use Rattle.std.proofs.lemmas.Bool.{ltb-true}
 use Rattle.exi_spec.specs.Bits.{number_bits}
-use Rattle.exi_spec.specs.Items.{SpellsNumber}
 use Rattle.exi_spec.proofs.BitLaws.{length-number_bits}
-use Rattle.exi_bits.specs.Pens.{written_bits, Writes, Needs}
+use Rattle.exi_bits.specs.Pens.{Writes, Needs}
 use Rattle.exi_bits.specs.declared.pen.BitPen.{BitPen}
 use Rattle.exi_schema.specs.declared.places.Root.{Root}
 use Rattle.exi_schema.specs.declared.places.Root.TheVariants.{Kind, Unknown, NoSuch}
 use Rattle.exi_schema.specs.declared.schema.Schema.{Schema}
 use Rattle.exi_schema.specs.declared.tables.RootOf.{RootOf}
-use Rattle.exi_schema.specs.Schemas.{are_kinds, are_roots, are_words, are_values, is_root, is_within, are_distinct}
+use Rattle.exi_schema.specs.Schemas.{are_kinds, are_roots, are_words, are_values, is_root, is_within}
 use Rattle.exi_schema.specs.Steps.{IsRoot}
 use Rattle.exi_schema.proofs.Conditions.{and-l, and-r, all_get}
 use Rattle.exi_documents.specs.Documents.{header}

@@ -1,6 +1,5 @@
 -- What is offered before a document, at its root and inside it.
-use Rattle.std.proofs.Common.{◌≡◌, ℕ, ◌^◌, ◌<◌, eqb, Bool, true, false, List, [], ◌∷◌, ◌++◌, Option, Some, None, refl, sym, subst, ◌∙◌, inl, inr, IsTrue, ◌↔◌}
-use Rattle.std.specs.Prelude.{◌⊎◌}
+use Rattle.std.proofs.Common.{◌≡◌, ℕ, eqb, Bool, true, false, List, [], ◌++◌, refl, sym, subst, ◌∙◌, inl, inr, IsTrue, ◌↔◌}
 use Rattle.std.proofs.lemmas.Bool.Decides.{eqb_tells}
 use Rattle.exi_spec.specs.Bits.{number_bits}
 use Rattle.exi_bits.specs.declared.span.SpanAt.{SpanAt}
@@ -8,8 +7,7 @@ use Rattle.exi_schema.specs.declared.places.Root.TheVariants.{Kind}
 use Rattle.exi_schema.specs.declared.schema.Schema.{Schema}
 use Rattle.exi_schema.specs.Steps.{IsRoot}
 use Rattle.exi_documents.specs.Documents.{header, first}
-use Rattle.exi_documents.specs.Grammar.{Opened, opened, Standing, Before, AtRoot, Inside, Behind, State, around, stands}
-use Rattle.exi_documents.specs.Values.{Entries}
+use Rattle.exi_documents.specs.Grammar.{Opened, opened, AtRoot, Inside, State, around, stands}
 use Rattle.exi_values.specs.declared.Event.{Event}
 use Rattle.exi_values.specs.declared.Event.TheVariants as event
 use Rattle.exi_values.specs.Meaning.{texts_in}

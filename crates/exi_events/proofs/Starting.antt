@@ -1,13 +1,13 @@
 -- The front of a document, and its root, as they are put.
-use Rattle.std.proofs.Common.{◌≡◌, ℕ, ◌*◌, ◌<◌, Bool, true, false, List, [], ◌∷◌, ◌++◌, length, Option, Some, None, Result, refl, sym, ap, subst, ◌∙◌}
+use Rattle.std.proofs.Common.{◌≡◌, ℕ, Bool, List, [], length, Result, sym, ap, subst}
 use Rattle.std.specs.Result.{OnOk}
-use Rattle.exi_bits.specs.Pens.{written_bits, Writes, Needs}
+use Rattle.exi_bits.specs.Pens.{written_bits, Needs}
 use Rattle.exi_bits.specs.declared.pen.BitPen.{BitPen}
 use Rattle.exi_bits.specs.declared.span.SpanAt.{SpanAt}
 use Rattle.exi_schema.specs.declared.places.Root.TheVariants.{Kind}
 use Rattle.exi_schema.specs.declared.schema.Schema.{Schema}
 use Rattle.exi_schema.specs.Steps.{IsRoot, IsRootOf}
-use Rattle.exi_documents.specs.Grammar.{Opened, opened, AtRoot, Inside, State, around, stands}
+use Rattle.exi_documents.specs.Grammar.{Opened, AtRoot, State, around, stands}
 use Rattle.exi_documents.specs.Values.{Entries}
 use Rattle.exi_strings.specs.Table.{Table}
 use Rattle.exi_values.specs.declared.Event.{Event}

@@ -1,5 +1,5 @@
 -- Own: what an event writer has put, and what it may put next.
-use Rattle.std.specs.Prelude.{◌≡◌, ℕ, Bool, true, false, List, reverse, Option, Some, None}
+use Rattle.std.specs.Prelude.{◌≡◌, ℕ, Bool, false, List, reverse, Option, Some, None}
 use Rattle.exi_bits.specs.Pens.{SamePen}
 use Rattle.exi_bits.specs.declared.pen.BitPen.{BitPen}
 use Rattle.exi_schema.specs.declared.places.Step.{Step}
@@ -16,7 +16,7 @@ use Rattle.exi_documents.specs.Grammar.{Behind, State, Moves, Reaches}
 use Rattle.exi_values.specs.declared.Event.{Event}
 use Rattle.exi_values.specs.declared.Event.TheVariants as event
 use Rattle.exi_values.specs.declared.Value.{Value}
-use Rattle.exi_values.specs.Meaning.{IsShaped, event_of, value_of}
+use Rattle.exi_values.specs.Meaning.{IsShaped, event_of}
 use Rattle.exi_writing.specs.Writing.{Puts, Lacks}
 
 -- the events up to here, the newest first, are those that these bits write

@@ -1,7 +1,7 @@
 use Rattle.exi_bits.specs.Pens.{written_bits}
 use Rattle.exi_values.specs.Meaning.{texts_in}
 use Rattle.exi_events.specs.Open.{opened_of}
-use Rattle.exi_events.proofs.Offering.{not_offered, attribute_decides, characters_decides, plain_decides, plain_is}
+use Rattle.exi_events.proofs.Offering.{attribute_decides, characters_decides, plain_decides, plain_is}
 use Rattle.exi_events.proofs.offer.offers_inside.Goals as goal
 
 pub returns-in-Attribute : goal.returns-in-Attribute

@@ -1,4 +1,4 @@
-use Rattle.std.proofs.Common.{ℕ, ◌<◌, ◌^◌, ◌≡◌, refl, subst, sym}
+use Rattle.std.proofs.Common.{ℕ, ◌<◌, ◌^◌, refl, subst, sym}
 use Rattle.std.proofs.lemmas.Result.{err_from_is_err_and}
 use Rattle.exi_bits.specs.Pens.{Needs}
 use Rattle.exi_bits.specs.Pens.{Writes}

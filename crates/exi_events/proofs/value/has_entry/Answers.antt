@@ -1,8 +1,6 @@
-use Rattle.std.proofs.Common.{◌≡◌, ℕ, ◌<◌, length, refl, sym, ap, ◌∙◌, arith, rules, IsUtf8, chars}
+use Rattle.std.proofs.Common.{◌≡◌, length, ap, ◌∙◌, arith, rules, IsUtf8, chars}
 use Rattle.exi_bits.specs.Lent.{items_of}
 use Rattle.exi_bits.specs.Pens.{written_bits}
-use Rattle.exi_documents.specs.Trees.{Text}
-use Rattle.exi_documents.specs.Values.{most_entries}
 use Rattle.exi_values.specs.Meaning.{texts_in, value_of}
 use Rattle.exi_writing.proofs.Strings.{length-texts_in}
 use Rattle.exi_events.proofs.Entries.{entered_decides, room_none, no_char, some_char}
