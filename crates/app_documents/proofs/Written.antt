@@ -64,9 +64,11 @@ chars_few (char ∷ chars) = omega (arith, unsigned_few char, chars_few chars, l
 hit_written : (n i : ℕ) (partition : List (List ℕ)) (text : List ℕ) → IsFirstAt partition text i → length partition ≤ 32 → (bits : List Bool) × WritesHit n partition text bits × (length bits ≤ 85)
 hit_written n i partition text first few =
     let w = index_width (length partition) in
-    let code = number_bits w.0 i in
-    (shortest_unsigned n ++ code, (code, (i, w.0, first, w.1, refl), refl),
-    omega (arith, length-append (shortest_unsigned n) code, unsigned_few n, length-number_bits w.0 i, w.1.least 5 (omega (arith, few))))
+    let code = number_bits w.0 i in (
+      shortest_unsigned n ++ code,
+      (code, (i, w.0, first, w.1, refl), refl),
+      omega (arith, length-append (shortest_unsigned n) code, unsigned_few n, length-number_bits w.0 i, w.1.least 5 (omega (arith, few))),
+    )
 
 entered_few : (entries : Entries) (name : ℕ) (text : List ℕ) → length (entered entries name text) ≤ length entries + 1
 entered_few entries name [] = omega arith
@@ -83,9 +85,13 @@ text_out entries name chars short few =
             let hit = hit_written 1 far.0 (global_of entries) chars far.1 (omega (arith, few, global_few entries)) in
             (hit.0, entries, inr (inl (not_near, hit.1, refl)), omega (arith, hit.2), omega arith)
         | inr not_far ↦
-            let length_bits = shortest_unsigned (length chars + 2) in
-            (length_bits ++ shortest_chars chars, entered entries name chars, inr (inr (not_near, not_far, refl, refl)),
-            omega (arith, unsigned_few (length chars + 2), chars_few chars, short, length-append length_bits (shortest_chars chars)), entered_few entries name chars)
+            let length_bits = shortest_unsigned (length chars + 2) in (
+              length_bits ++ shortest_chars chars,
+              entered entries name chars,
+              inr (inr (not_near, not_far, refl, refl)),
+              omega (arith, unsigned_few (length chars + 2), chars_few chars, short, length-append length_bits (shortest_chars chars)),
+              entered_few entries name chars,
+            )
       ]
     ]
 

@@ -1,5 +1,5 @@
 -- A message that is put by its events is encoded.
-use Rattle.std.proofs.Common.{◌≡◌, ℕ, ◌+◌, ◌*◌, ◌<◌, Bool, List, [], ◌++◌, length, reverse, refl, sym, ap, ap₂, subst, ◌∙◌, arith}
+use Rattle.std.proofs.Common.{◌≡◌, ℕ, Bool, List, [], ◌++◌, length, reverse, refl, sym, ap, ap₂, subst, ◌∙◌, arith}
 use Rattle.std.proofs.lemmas.List.{reverse-reverse}
 use Rattle.exi_bits.specs.Pens.{written_bits}
 use Rattle.exi_bits.specs.declared.pen.BitPen.{BitPen}
@@ -25,7 +25,7 @@ use Rattle.app_documents.specs.Declarations.{IsNegotiation}
 use Rattle.app_documents.specs.Trees.{Message, IsMessage, tree_of, number_of}
 use Rattle.app_documents.proofs.Agreeing.{document_moved, bounds_fit}
 use Rattle.app_documents.proofs.Encoded.{message_encoded}
-use Rattle.app_protocol.specs.Documents.{IsApp, IsAppEncoding, IsWrittenBy, PassesBytes}
+use Rattle.app_protocol.specs.Documents.{IsApp, IsAppEncoding, PassesBytes}
 use Rattle.app_protocol.specs.Writing.{message_events, Goes, MayPut, HasWritten, HasNoRoomFor}
 use Rattle.app_protocol.proofs.Goes.{goes_once, goes_runs, runs_goes}
 

@@ -1,9 +1,8 @@
 -- Events that are put one after the other.
-use Rattle.std.proofs.Common.{◌≡◌, ℕ, ◌+◌, ◌*◌, ◌<◌, Bool, List, [], ◌∷◌, ◌++◌, length, length-append, append_assoc, append-nil, refl, sym, ap, ap₂, subst, ◌∙◌, arith}
-use Rattle.exi_bits.specs.Pens.{Writes, Needs}
+use Rattle.std.proofs.Common.{◌≡◌, ◌+◌, Bool, List, [], ◌∷◌, ◌++◌, length, length-append, append_assoc, append-nil, refl, sym, ap, ap₂, subst, ◌∙◌, arith}
 use Rattle.exi_bits.specs.declared.pen.BitPen.{BitPen}
 use Rattle.exi_schema.specs.declared.schema.Schema.{Schema}
-use Rattle.exi_documents.specs.Grammar.{Opened, Inside, State, Moves, start, around, Reaches}
+use Rattle.exi_documents.specs.Grammar.{Opened, State, Moves, around}
 use Rattle.exi_documents.specs.Trees.{Event}
 use Rattle.exi_documents.specs.Values.{WritesValue}
 use Rattle.exi_events.specs.Inside.{AreOpen}
@@ -12,11 +11,10 @@ use Rattle.exi_events.specs.declared.reader.Phase.{Phase}
 use Rattle.exi_events.specs.declared.reader.Phase.TheVariants as phase
 use Rattle.exi_schema.specs.Offers.{IsPlace}
 use Rattle.exi_schema.specs.declared.tables.Declaration.{Declaration}
-use Rattle.exi_schema.proofs.Fitting.{first_place}
 use Rattle.std.specs.List.{AllByRecursion}
 use Rattle.exi_writing.proofs.Pens.{writes_none, writes_both, needs_behind}
 use Rattle.document_laws.specs.Laws.{IsStanding}
-use Rattle.document_laws.proofs.Runs.{Runs, from_start}
+use Rattle.document_laws.proofs.Runs.{Runs}
 use Rattle.document_laws.proofs.Written.{value_once}
 use Rattle.tree_text.proofs.Once.{moves_once}
 use Rattle.tree_text.proofs.Standings.{standing_kept}

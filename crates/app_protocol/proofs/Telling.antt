@@ -1,7 +1,7 @@
 -- The events of a message, one part after the other.
-use Rattle.std.proofs.Common.{◌≡◌, ℕ, ℤ, pos, Some, List, [], ◌∷◌, ◌++◌, map, Option, refl, sym, ap, ◌∙◌, chars}
+use Rattle.std.proofs.Common.{◌≡◌, ℕ, ℤ, pos, Some, List, [], ◌∷◌, ◌++◌, map, Option, refl, sym, ap, ◌∙◌}
 use Rattle.std.specs.List.{flat_map}
-use Rattle.exi_documents.specs.Trees.{Text, Number, Ordinal, Event, Document, Start, Content, EndElement, events_of}
+use Rattle.exi_documents.specs.Trees.{Number, Ordinal, Event, Document, Start, Content, EndElement, events_of}
 use Rattle.app_documents.specs.Trees.{Request, Response, protocol_trees, schema_tree}
 use Rattle.app_protocol.specs.declared.message.AppProtocol.{AppProtocol}
 use Rattle.app_protocol.specs.declared.putting.NumberField.{NumberField}

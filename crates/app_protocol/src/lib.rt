@@ -19,7 +19,9 @@ pub use negotiation::negotiate;
 pub use printing::print;
 pub use reading::read_app;
 pub use tree_text::PrintFault;
-pub use writing::write_response;
+pub use writing::{write_app, write_response};
 
+#[cfg(test)]
+mod payloads;
 #[cfg(test)]
 mod tests;

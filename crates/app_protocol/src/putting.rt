@@ -13,9 +13,7 @@ ghost use Rattle.app_protocol.specs.Numbers.{number_events};
 ghost use Rattle.app_protocol.specs.Writing.{list_of, told_by, IsTelling, AreTelling, text_events, field_events, protocol_events, message_events, MayPut, HasWritten, HasNoRoomFor};
 
 use crate::message::{AppCode, AppMessage, AppProtocol, AppReq, AppRes};
-use crate::schema::{
-    APP_PROTOCOL, MAJOR, MINOR, NAMESPACE, PRIORITY, RESPONSE_CODE, SCHEMA_ID,
-};
+use crate::schema::{APP_PROTOCOL, MAJOR, MINOR, NAMESPACE, PRIORITY, RESPONSE_CODE, SCHEMA_ID};
 use exi_bits::BitPen;
 use exi_events::{Event, EventStanding, Full, Table, Value};
 use exi_schema::Schema;
@@ -28,7 +26,13 @@ struct NumberField {
 }
 
 /// Puts an event that may be put.
-fn put_one(standing: &mut EventStanding, pen: &mut BitPen, schema: &Schema, table: &mut Table, event: &Event) -> Result<(), Full>
+fn put_one(
+    standing: &mut EventStanding,
+    pen: &mut BitPen,
+    schema: &Schema,
+    table: &mut Table,
+    event: &Event,
+) -> Result<(), Full>
     requires ready { IsReady schema.now standing.old.phase standing.old.elements (written_bits pen.old) table.old }
     requires telling { IsTelling event.now }
     requires may { MayPut schema.now (state_of standing.old.phase standing.old.elements (written_bits pen.old) table.old.entries) (list_of (event_of event.now)) }
@@ -43,7 +47,13 @@ fn put_one(standing: &mut EventStanding, pen: &mut BitPen, schema: &Schema, tabl
 }
 
 /// Puts events that may be put, one after the other.
-fn put_all(standing: &mut EventStanding, pen: &mut BitPen, schema: &Schema, table: &mut Table, events: &[Event]) -> Result<(), Full>
+fn put_all(
+    standing: &mut EventStanding,
+    pen: &mut BitPen,
+    schema: &Schema,
+    table: &mut Table,
+    events: &[Event],
+) -> Result<(), Full>
     requires ready { IsReady schema.now standing.old.phase standing.old.elements (written_bits pen.old) table.old }
     requires telling { AreTelling events.now }
     requires may { MayPut schema.now (state_of standing.old.phase standing.old.elements (written_bits pen.old) table.old.entries) (told_by events.now) }
@@ -61,7 +71,14 @@ fn put_all(standing: &mut EventStanding, pen: &mut BitPen, schema: &Schema, tabl
 }
 
 /// Puts an element with a text.
-fn put_text(standing: &mut EventStanding, pen: &mut BitPen, schema: &Schema, table: &mut Table, name: u16, text: &str) -> Result<(), Full>
+fn put_text(
+    standing: &mut EventStanding,
+    pen: &mut BitPen,
+    schema: &Schema,
+    table: &mut Table,
+    name: u16,
+    text: &str,
+) -> Result<(), Full>
     requires ready { IsReady schema.now standing.old.phase standing.old.elements (written_bits pen.old) table.old }
     requires may { MayPut schema.now (state_of standing.old.phase standing.old.elements (written_bits pen.old) table.old.entries) (text_events name text.now) }
     ensures ready { IsReady schema.now standing.new.phase standing.new.elements (written_bits pen.new) table.new }
@@ -72,12 +89,24 @@ fn put_text(standing: &mut EventStanding, pen: &mut BitPen, schema: &Schema, tab
     ensures bits { IfErr result (PassesRoom pen.old) }
 {
     put_one(standing, pen, schema, table, &Event::Start(name))?;
-    put_one(standing, pen, schema, table, &Event::Value(Value::Written(text)))?;
+    put_one(
+        standing,
+        pen,
+        schema,
+        table,
+        &Event::Value(Value::Written(text)),
+    )?;
     put_one(standing, pen, schema, table, &Event::EndElement)
 }
 
 /// Puts an element with a number.
-fn put_number(standing: &mut EventStanding, pen: &mut BitPen, schema: &Schema, table: &mut Table, field: &NumberField) -> Result<(), Full>
+fn put_number(
+    standing: &mut EventStanding,
+    pen: &mut BitPen,
+    schema: &Schema,
+    table: &mut Table,
+    field: &NumberField,
+) -> Result<(), Full>
     requires ready { IsReady schema.now standing.old.phase standing.old.elements (written_bits pen.old) table.old }
     requires may { MayPut schema.now (state_of standing.old.phase standing.old.elements (written_bits pen.old) table.old.entries) (number_events field.now) }
     ensures ready { IsReady schema.now standing.new.phase standing.new.elements (written_bits pen.new) table.new }
@@ -101,7 +130,13 @@ fn put_number(standing: &mut EventStanding, pen: &mut BitPen, schema: &Schema, t
 }
 
 /// Puts elements with numbers, one after the other.
-fn put_numbers(standing: &mut EventStanding, pen: &mut BitPen, schema: &Schema, table: &mut Table, fields: &[NumberField]) -> Result<(), Full>
+fn put_numbers(
+    standing: &mut EventStanding,
+    pen: &mut BitPen,
+    schema: &Schema,
+    table: &mut Table,
+    fields: &[NumberField],
+) -> Result<(), Full>
     requires ready { IsReady schema.now standing.old.phase standing.old.elements (written_bits pen.old) table.old }
     requires may { MayPut schema.now (state_of standing.old.phase standing.old.elements (written_bits pen.old) table.old.entries) (flat_map number_events fields.now) }
     ensures ready { IsReady schema.now standing.new.phase standing.new.elements (written_bits pen.new) table.new }
@@ -118,7 +153,13 @@ fn put_numbers(standing: &mut EventStanding, pen: &mut BitPen, schema: &Schema, 
 }
 
 /// Puts the fields of an AppProtocol.
-fn put_fields(standing: &mut EventStanding, pen: &mut BitPen, schema: &Schema, table: &mut Table, protocol: &AppProtocol) -> Result<(), Full>
+fn put_fields(
+    standing: &mut EventStanding,
+    pen: &mut BitPen,
+    schema: &Schema,
+    table: &mut Table,
+    protocol: &AppProtocol,
+) -> Result<(), Full>
     requires ready { IsReady schema.now standing.old.phase standing.old.elements (written_bits pen.old) table.old }
     requires may { MayPut schema.now (state_of standing.old.phase standing.old.elements (written_bits pen.old) table.old.entries) (field_events (protocol_of protocol.now)) }
     ensures ready { IsReady schema.now standing.new.phase standing.new.elements (written_bits pen.new) table.new }
@@ -128,7 +169,14 @@ fn put_fields(standing: &mut EventStanding, pen: &mut BitPen, schema: &Schema, t
     ensures full { OnErr result (HasNoRoomFor schema.now (state_of standing.old.phase standing.old.elements (written_bits pen.old) table.old.entries) (field_events (protocol_of protocol.now)) pen.old) }
     ensures bits { IfErr result (PassesRoom pen.old) }
 {
-    put_text(standing, pen, schema, table, NAMESPACE, protocol.namespace.as_str())?;
+    put_text(
+        standing,
+        pen,
+        schema,
+        table,
+        NAMESPACE,
+        protocol.namespace.as_str(),
+    )?;
     put_numbers(
         standing,
         pen,
@@ -156,7 +204,13 @@ fn put_fields(standing: &mut EventStanding, pen: &mut BitPen, schema: &Schema, t
 }
 
 /// Puts an AppProtocol.
-fn put_protocol(standing: &mut EventStanding, pen: &mut BitPen, schema: &Schema, table: &mut Table, protocol: &AppProtocol) -> Result<(), Full>
+fn put_protocol(
+    standing: &mut EventStanding,
+    pen: &mut BitPen,
+    schema: &Schema,
+    table: &mut Table,
+    protocol: &AppProtocol,
+) -> Result<(), Full>
     requires ready { IsReady schema.now standing.old.phase standing.old.elements (written_bits pen.old) table.old }
     requires may { MayPut schema.now (state_of standing.old.phase standing.old.elements (written_bits pen.old) table.old.entries) (protocol_events (protocol_of protocol.now)) }
     ensures ready { IsReady schema.now standing.new.phase standing.new.elements (written_bits pen.new) table.new }
@@ -172,7 +226,13 @@ fn put_protocol(standing: &mut EventStanding, pen: &mut BitPen, schema: &Schema,
 }
 
 /// Puts AppProtocols, one after the other.
-fn put_protocols(standing: &mut EventStanding, pen: &mut BitPen, schema: &Schema, table: &mut Table, protocols: &[AppProtocol]) -> Result<(), Full>
+fn put_protocols(
+    standing: &mut EventStanding,
+    pen: &mut BitPen,
+    schema: &Schema,
+    table: &mut Table,
+    protocols: &[AppProtocol],
+) -> Result<(), Full>
     requires ready { IsReady schema.now standing.old.phase standing.old.elements (written_bits pen.old) table.old }
     requires may { MayPut schema.now (state_of standing.old.phase standing.old.elements (written_bits pen.old) table.old.entries) (flat_map (λ p. protocol_events (protocol_of p)) protocols.now) }
     ensures ready { IsReady schema.now standing.new.phase standing.new.elements (written_bits pen.new) table.new }
@@ -189,7 +249,13 @@ fn put_protocols(standing: &mut EventStanding, pen: &mut BitPen, schema: &Schema
 }
 
 /// Puts the document of a request.
-fn put_request(standing: &mut EventStanding, pen: &mut BitPen, schema: &Schema, table: &mut Table, request: &AppReq) -> Result<(), Full>
+fn put_request(
+    standing: &mut EventStanding,
+    pen: &mut BitPen,
+    schema: &Schema,
+    table: &mut Table,
+    request: &AppReq,
+) -> Result<(), Full>
     requires ready { IsReady schema.now standing.old.phase standing.old.elements (written_bits pen.old) table.old }
     requires may { MayPut schema.now (state_of standing.old.phase standing.old.elements (written_bits pen.old) table.old.entries) (message_events (Request (protocols_of request.now))) }
     ensures ready { IsReady schema.now standing.new.phase standing.new.elements (written_bits pen.new) table.new }
@@ -199,13 +265,25 @@ fn put_request(standing: &mut EventStanding, pen: &mut BitPen, schema: &Schema, 
     ensures full { OnErr result (HasNoRoomFor schema.now (state_of standing.old.phase standing.old.elements (written_bits pen.old) table.old.entries) (message_events (Request (protocols_of request.now))) pen.old) }
     ensures bits { IfErr result (PassesRoom pen.old) }
 {
-    put_all(standing, pen, schema, table, &[Event::Document(0), Event::Start(0)])?;
+    put_all(
+        standing,
+        pen,
+        schema,
+        table,
+        &[Event::Document(0), Event::Start(0)],
+    )?;
     put_protocols(standing, pen, schema, table, request.protocols.as_slice())?;
     put_one(standing, pen, schema, table, &Event::EndElement)
 }
 
 /// Puts the document of a response.
-fn put_response(standing: &mut EventStanding, pen: &mut BitPen, schema: &Schema, table: &mut Table, response: &AppRes) -> Result<(), Full>
+fn put_response(
+    standing: &mut EventStanding,
+    pen: &mut BitPen,
+    schema: &Schema,
+    table: &mut Table,
+    response: &AppRes,
+) -> Result<(), Full>
     requires ready { IsReady schema.now standing.old.phase standing.old.elements (written_bits pen.old) table.old }
     requires may { MayPut schema.now (state_of standing.old.phase standing.old.elements (written_bits pen.old) table.old.entries) (message_events (Response (ordinal_of response.now.code) response.now.schema)) }
     ensures ready { IsReady schema.now standing.new.phase standing.new.elements (written_bits pen.new) table.new }
@@ -233,7 +311,13 @@ fn put_response(standing: &mut EventStanding, pen: &mut BitPen, schema: &Schema,
 }
 
 /// Puts the SchemaID of a response, if it has one.
-fn put_schema(standing: &mut EventStanding, pen: &mut BitPen, schema: &Schema, table: &mut Table, schema_id: Option<u8>) -> Result<(), Full>
+fn put_schema(
+    standing: &mut EventStanding,
+    pen: &mut BitPen,
+    schema: &Schema,
+    table: &mut Table,
+    schema_id: Option<u8>,
+) -> Result<(), Full>
     requires ready { IsReady schema.now standing.old.phase standing.old.elements (written_bits pen.old) table.old }
     requires may { MayPut schema.now (state_of standing.old.phase standing.old.elements (written_bits pen.old) table.old.entries) (events_of (schema_tree schema_id)) }
     ensures ready { IsReady schema.now standing.new.phase standing.new.elements (written_bits pen.new) table.new }
@@ -267,7 +351,13 @@ fn ordinal(code: AppCode) -> u32
 }
 
 /// Puts the document of a message.
-pub(crate) fn put_message(standing: &mut EventStanding, pen: &mut BitPen, schema: &Schema, table: &mut Table, message: &AppMessage) -> Result<(), Full>
+pub(crate) fn put_message(
+    standing: &mut EventStanding,
+    pen: &mut BitPen,
+    schema: &Schema,
+    table: &mut Table,
+    message: &AppMessage,
+) -> Result<(), Full>
     requires ready { IsReady schema.now standing.old.phase standing.old.elements (written_bits pen.old) table.old }
     requires may { MayPut schema.now (state_of standing.old.phase standing.old.elements (written_bits pen.old) table.old.entries) (message_events (message_of message.now)) }
     ensures ready { IsReady schema.now standing.new.phase standing.new.elements (written_bits pen.new) table.new }

@@ -1,7 +1,11 @@
 ghost use Rattle.std.specs.Prelude.{◌≡◌, ◌≤◌, length};
+ghost use Rattle.std.specs.Prelude.{◌*◌, ◌<◌};
 ghost use Rattle.exi_documents.specs.Values.{most_entries};
+ghost use Rattle.app_documents.specs.Trees.{IsMessage};
+ghost use Rattle.app_protocol.specs.Messages.{message_of};
 
 use super::*;
+use crate::payloads::PAYLOADS;
 use arrayvec::{ArrayString, ArrayVec};
 use std::process::Abort;
 use std::test::Fail;
@@ -109,6 +113,69 @@ fn a_response_is_read(rt: HostRuntime) {
         (response.code, response.schema),
         (AppCode::MinorDeviation, Some(1))
     );
+}
+
+/// Reads a payload into `message`, or ends the test.
+fn read(rt: &impl Abort, payload: &[u8], table: &mut Table) -> AppMessage
+    requires payload { length payload.now ≤ 65536 }
+    requires cap { table.old.cap ≡ most_entries }
+    ensures cap { table.new.cap ≡ most_entries }
+    ensures message { IsMessage (message_of result) }
+{
+    match read_app(payload, table) {
+        Ok(message) => message,
+        Err(_) => panic!(rt; "no message"),
+    }
+}
+
+/// The payload is what is written for its message, in a room of its length and in no shorter one.
+fn written_back(rt: &impl Abort, payload: &[u8], table: &mut Table)
+    requires payload { length payload.now ≤ 65536 }
+    requires cap { table.old.cap ≡ most_entries }
+    ensures { table.new.cap ≡ most_entries }
+{
+    let message = read(rt, payload, table);
+    let mut room = [0xff; 136];
+    assert!(rt; payload.len() <= 136);
+    assert!(rt; payload.len() >= 1);
+    let count = payload.len();
+    assert_eq!(rt;
+        write_app(&message, &mut room[..count], table),
+        Ok(count as u32)
+    );
+    assert_eq!(rt; &room[..count], payload);
+    assert!(rt; write_app(&message, &mut room[..count - 1], table).is_err());
+}
+
+#[test]
+fn messages_are_written_back(rt: HostRuntime) -> Result<(), Fail> {
+    let mut table = Table::make(rt.alloc(), 8192)?;
+    let mut lines = 0u64;
+    for line in PAYLOADS.lines() {
+        let payload = hex::decode(rt.alloc(), line)?;
+        assert!(rt; payload.len() <= 65536);
+        written_back(&rt, payload.as_slice(), &mut table);
+        lines = lines.wrapping_add(1);
+    }
+    assert_eq!(rt; lines, 60);
+    Ok(())
+}
+
+#[test]
+fn the_published_response_is_written_and_printed(rt: HostRuntime) -> Result<(), Fail> {
+    let mut table = Table::make(rt.alloc(), 8192)?;
+    let response = AppMessage::Res(response(AppCode::Successful, Some(1)));
+    let mut room = [0xff; 5];
+    assert_eq!(rt; write_app(&response, &mut room, &mut table), Ok(4));
+    assert_eq!(rt; room, [0x80, 0x40, 0x00, 0x40, 0xff]);
+    assert!(rt; write_app(&response, &mut room[..3], &mut table).is_err());
+    assert_eq!(rt; write_app(&response, &mut room[..4], &mut table), Ok(4));
+    let text = print(rt.alloc(), &room[..4]).ok().ok_or("no text")?;
+    assert_eq!(rt;
+        text.as_str(),
+        "supportedAppProtocolRes{ResponseCode=OK_SuccessfulNegotiation SchemaID=1}"
+    );
+    Ok(())
 }
 
 #[test]

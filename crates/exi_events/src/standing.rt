@@ -75,14 +75,7 @@ impl EventStanding {
                 Ok(())
             }
             Phase::Inside => match self.elements.innermost() {
-                Some(top) => put_inside(
-                    pen,
-                    places,
-                    table,
-                    &mut self.elements,
-                    top,
-                    event,
-                ),
+                Some(top) => put_inside(pen, places, table, &mut self.elements, top, event),
                 None => Ok(()),
             },
         }

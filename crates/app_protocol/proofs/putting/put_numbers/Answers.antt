@@ -1,20 +1,10 @@
 use Rattle.std.proofs.lemmas.List.{take_more}
-use Rattle.std.proofs.Common.{◌≡◌, [], ◌∷◌, List, refl, sym, subst, get_or, ◌∙◌, OnOk, OnErr}
-use Rattle.std.specs.List.{flat_map}
-use Rattle.std.specs.Str.{chars}
+use Rattle.std.proofs.Common.{refl, get_or, ◌∙◌}
 use Rattle.std.proofs.lemmas.Result.{err_from_is_err_and}
-use Rattle.exi_bits.specs.Pens.{written_bits}
-use Rattle.exi_documents.specs.Trees.{Event, Document, Start, Content, EndElement, Text, events_of}
-use Rattle.exi_values.specs.Meaning.{event_of}
-use Rattle.exi_events.specs.Reader.{state_of}
-use Rattle.app_documents.specs.Trees.{Request, Response, schema_tree}
-use Rattle.app_protocol.specs.Messages.{protocol_of, protocols_of, ordinal_of, message_of}
 use Rattle.app_protocol.specs.Numbers.{number_events}
-use Rattle.app_protocol.specs.Writing.{list_of, IsTelling, text_events, field_events, protocol_events, message_events, MayPut, HasWritten, HasNoRoomFor}
-use Rattle.app_protocol.proofs.Goes.{sound_stands, nothing_written}
-use Rattle.app_protocol.proofs.OneByOne.{item_more, all_at, turn_may, turn_lacks, turn_written, may_offer, is_put, lacks_event}
-use Rattle.app_protocol.proofs.Telling.{all_events, fields_list, code_events, field, tells_request, tells_fields, tells_response, tells_number, tells_schema}
-use Rattle.app_protocol.proofs.Sequence.{on_ok, on_err, front_may, front_lacks, middle_may, middle_lacks, last_may, last_lacks, all_written}
+use Rattle.app_protocol.proofs.Goes.{sound_stands}
+use Rattle.app_protocol.proofs.OneByOne.{turn_may, turn_lacks, turn_written}
+use Rattle.app_protocol.proofs.Telling.{field}
 use Rattle.app_protocol.proofs.putting.put_numbers.Goals as goal
 
 pub put_number-requires-clause-may : goal.put_number-requires-clause-may
@@ -49,5 +39,5 @@ loop-field-preserved c =
       room = c.put_number.ensures.same_room ∙ before.room;
       ready = c.put_number.ensures.ready;
       written = turn_written number_events xs i item more c.args.schema.now c.args.schema.now refl _ _ c.args.pen.now c.loop-field.pen
-    (sound_stands c.args.schema.now c.args.standing.now.phase c.args.standing.now.elements c.requires.ready.sound) _ c.put_number.new.pen before.written c.in_ok-put_number.ensures.put;
+          (sound_stands c.args.schema.now c.args.standing.now.phase c.args.standing.now.elements c.requires.ready.sound) _ c.put_number.new.pen before.written c.in_ok-put_number.ensures.put;
     }

@@ -1,11 +1,9 @@
-use Rattle.std.proofs.Common.{◌≡◌, None, take}
+use Rattle.std.proofs.Common.{◌≡◌, take}
 use Rattle.std.specs.List.{flat_map}
 use Rattle.exi_bits.specs.Pens.{written_bits}
 use Rattle.exi_events.specs.Reader.{state_of, IsReady}
-use Rattle.exi_values.specs.Meaning.{event_of}
 use Rattle.app_protocol.specs.Messages.{protocol_of}
-use Rattle.app_protocol.specs.Numbers.{number_events}
-use Rattle.app_protocol.specs.Writing.{list_of, protocol_events, HasWritten}
+use Rattle.app_protocol.specs.Writing.{protocol_events, HasWritten}
 use Rattle.app_protocol.proofs.putting.put_protocols.Given as goal
 
 abbrev pub invariant-loop-protocol : goal.invariant-loop-protocol

@@ -1,4 +1,4 @@
-use Rattle.std.proofs.Common.{rules, ◌≡◌, ℕ, List, length, take, refl, ap, subst}
+use Rattle.std.proofs.Common.{rules, ℕ, List, length, take, refl, ap, subst}
 use Rattle.exi_bits.specs.Pens.{written_bits}
 use Rattle.exi_bits.specs.declared.span.SpanAt.{SpanAt}
 use Rattle.exi_strings.specs.Table.{Table}
