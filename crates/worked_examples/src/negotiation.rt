@@ -3,7 +3,7 @@
 ghost use Rattle.std.specs.Prelude.{◌≡◌, ◌≤◌, length};
 ghost use Rattle.exi_documents.specs.Values.{most_entries};
 
-use app_protocol::{AppMessage, Refusal, RefusalCause, Table, read_app};
+use app_protocol::{AppMessage, Refusal, Table, read_app, write_app};
 use exi_strings::{Partitions, TableFull};
 use std::alloc::Global;
 use std::test::Fail;
@@ -14,7 +14,7 @@ const NAMESPACE_FOUND: &str =
 
 /// The same two, each namespace spelled out.
 const NAMESPACE_SPELLED: &str = "8000dbab9371d3234b71d1b981899189d191818991d26b9b3a232b3002000004\
-0001b75726e3a64696e3a37303132313a323031323a4d73674465660040000100080";
+0001b75726e3a64696e3a37303132313a323031323a4d73674465660040000100880";
 
 /// Twenty protocols, behind which the end of the request is one bit. That is the bit 0 here, bit 1,117.
 const TWENTY: &str =
@@ -41,8 +41,26 @@ fn namespaces(alloc: Global, payload: &[u8], table: &mut Table) -> Result<String
     Ok(texts)
 }
 
+/// A message is read and written again, in hexadecimal.
+fn written_again(alloc: Global, payload: &[u8], table: &mut Table) -> Result<String, Fail>
+    requires payload { length payload.now ≤ 65536 }
+    requires cap { table.old.cap ≡ most_entries }
+    ensures { table.new.cap ≡ most_entries }
+{
+    let mut room = [0; 256];
+    let Ok(message) = read_app(payload, table) else {
+        return Ok(String::from_str(alloc, "refused")?);
+    };
+    match write_app(&message, &mut room, table) {
+        Ok(n) => Ok(hex::encode(alloc, &room[..n as usize])?),
+        Err(_) => Ok(String::from_str(alloc, "full")?),
+    }
+}
+
 #[test]
-fn a_namespace_that_comes_twice_is_read_alike(rt: HostRuntime) -> Result<(), Fail> {
+fn a_namespace_that_comes_twice_is_read_alike_and_written_as_a_hit(
+    rt: HostRuntime,
+) -> Result<(), Fail> {
     let mut table = Table::make(rt.alloc(), 8192)?;
     for hex in [NAMESPACE_FOUND, NAMESPACE_SPELLED] {
         let payload = hex::decode(rt.alloc(), hex)?;
@@ -52,6 +70,8 @@ fn a_namespace_that_comes_twice_is_read_alike(rt: HostRuntime) -> Result<(), Fai
             texts.as_str(),
             " urn:din:70121:2012:MsgDef urn:din:70121:2012:MsgDef"
         );
+        let again = written_again(rt.alloc(), payload.as_slice(), &mut table)?;
+        assert_eq!(rt; again.as_str(), NAMESPACE_FOUND);
     }
     Ok(())
 }
