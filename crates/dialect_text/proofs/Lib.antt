@@ -1,0 +1,4 @@
+pub mod Agreeing
+pub mod Words
+pub mod Quotes
+pub mod Values
