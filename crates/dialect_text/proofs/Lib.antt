@@ -2,3 +2,4 @@ pub mod Agreeing
 pub mod Words
 pub mod Quotes
 pub mod Values
+pub mod Running

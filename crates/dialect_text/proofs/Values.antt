@@ -165,6 +165,96 @@ value_chars s kind d v t is = by (spelled s kind d v t is)
     by (number z e n f) = (signed_decimal z, f ∙ sym (number_chars z n))
     by (quote chars e f) = let cs = quoted_chars chars in (cs.0, f ∙ cs.1)
 
--- two forms of one datatype
-same_form : (s : Schema) (kind : ℕ) (d : Datatype) (v w : Value) (t u : List ℕ) → IsFormed s kind d v t → IsFormed s kind d w u → Type 0
-same_form s kind d v w t u p q = Unit {0}
+-- two values of one datatype
+pub data Pair (v w : Value) (t u : List ℕ) : Type 0 where
+  words : IsWordText t → IsWordText u → (t ≡ u → v ≡ w) → Pair v w t u
+  numbers : (y z : ℤ) → v ≡ Number y → w ≡ Number z → Numeral y → Numeral z → t ≡ signed_decimal y → u ≡ signed_decimal z → Pair v w t u
+  quotes : (a b : List ℕ) → v ≡ Text a → w ≡ Text b → t ≡ quoted a → u ≡ quoted b → Pair v w t u
+
+truth_once : (b c : Bool) → truth_text b ≡ truth_text c → b ≡ c
+truth_once true true e = refl
+truth_once false false e = refl
+truth_once true false e = absurd (omega (arith, ap length e))
+truth_once false true e = absurd (omega (arith, ap length e))
+
+each_byte : (bytes : List ℕ) → AllByRecursion (λ byte. byte < 256) bytes → (i : ℕ) → slice_index bytes i < 256
+each_byte [] all i = omega arith
+each_byte (b ∷ bytes) all zero = all.0
+each_byte (b ∷ bytes) all (suc i) = each_byte bytes all.1 i
+
+bytes_once : (a b : List ℕ) → AllByRecursion (λ byte. byte < 256) a → AllByRecursion (λ byte. byte < 256) b → encode_lower a ≡ encode_lower b → a ≡ b
+bytes_once a b p q e =
+    let same : Ok a ≡ Ok b = sym (decode_of-encode_lower a (each_byte a p)) ∙ ap decode_of e ∙ decode_of-encode_lower b (each_byte b q) in cc
+
+truths : (b c : Bool) (t u : List ℕ) → t ≡ truth_text b → u ≡ truth_text c → Pair (Truth b) (Truth c) t u
+truths b c t u p q =
+    words (subst IsWordText (sym p) (truth_word b)) (subst IsWordText (sym q) (truth_word c)) (λ e. ap Truth (truth_once b c (sym p ∙ e ∙ q)))
+
+ordinals : (s : Schema) (kind n m : ℕ) (t u : List ℕ) → slice_get (value_names s kind) n ≡ Some t → slice_get (value_names s kind) m ≡ Some u → Pair (Ordinal n) (Ordinal m) t u
+ordinals s kind n m t u p q =
+    words (name_word s kind n t p) (name_word s kind m u q)
+    (λ e. ap Ordinal (one_place (value_names s kind) n m u (value_words s kind) (p ∙ ap (λ (x : List ℕ). Some x) e) q))
+
+binaries : (a b t u : List ℕ) → AllByRecursion (λ byte. byte < 256) a → AllByRecursion (λ byte. byte < 256) b → t ≡ encode_lower a → u ≡ encode_lower b → Pair (Bytes a) (Bytes b) t u
+binaries a b t u p q e f =
+    words (subst IsWordText (sym e) (hex_words a p)) (subst IsWordText (sym f) (hex_words b q)) (λ h. ap Bytes (bytes_once a b p q (sym e ∙ h ∙ f)))
+
+pair : (s : Schema) (kind : ℕ) (d : Datatype) (v w : Value) (t u : List ℕ) → IsFormed s kind d v t → IsFormed s kind d w u → Pair v w t u
+pair s kind type.Bool (Truth b) (Truth c) t u p q = truths b c t u p.1 q.1
+pair s kind type.Bool (Truth b) _ t u p q = absurd q.0
+pair s kind type.Bool _ _ t u p q = absurd p.0
+pair s kind (type.Named count) (Ordinal n) (Ordinal m) t u p q = ordinals s kind n m t u p.1 q.1
+pair s kind (type.Named count) (Ordinal n) _ t u p q = absurd q.0
+pair s kind (type.Named count) _ _ t u p q = absurd p.0
+pair s kind (type.Bounded least count) (Number y) (Number z) t u p q = numbers y z refl refl (numeral y p.0) (numeral z q.0) p.1 q.1
+pair s kind (type.Bounded least count) (Number y) _ t u p q = absurd q.0
+pair s kind (type.Bounded least count) _ _ t u p q = absurd p.0
+pair s kind (type.Unsigned most) (Number y) (Number z) t u p q = numbers y z refl refl (numeral y p.0) (numeral z q.0) p.1 q.1
+pair s kind (type.Unsigned most) (Number y) _ t u p q = absurd q.0
+pair s kind (type.Unsigned most) _ _ t u p q = absurd p.0
+pair s kind (type.Signed least most) (Number y) (Number z) t u p q = numbers y z refl refl (numeral y p.0) (numeral z q.0) p.1 q.1
+pair s kind (type.Signed least most) (Number y) _ t u p q = absurd q.0
+pair s kind (type.Signed least most) _ _ t u p q = absurd p.0
+pair s kind (type.Binary most) (Bytes a) (Bytes b) t u p q = binaries a b t u p.0 q.0 p.1 q.1
+pair s kind (type.Binary most) (Bytes a) _ t u p q = absurd q.0
+pair s kind (type.Binary most) _ _ t u p q = absurd p.0
+pair s kind (type.Text most) (Text a) (Text b) t u p q = quotes a b refl refl p.1 q.1
+pair s kind (type.Text most) (Text a) _ t u p q = absurd q.0
+pair s kind (type.Text most) _ _ t u p q = absurd p.0
+
+-- a longer value goes on with a character of a word
+pub goes_on : (s : Schema) (kind : ℕ) (d : Datatype) (v w : Value) (t : List ℕ) (c : ℕ) (x : List ℕ) → IsFormed s kind d v t → IsFormed s kind d w (t ++ (encode_utf8 c ++ x)) → is_word_char c ≡ true
+goes_on s kind d v w t c x p q = by (pair s kind d v w t (t ++ (encode_utf8 c ++ x)) p q)
+  where
+    by : Pair v w t (t ++ (encode_utf8 c ++ x)) → is_word_char c ≡ true
+    by (words m n e) = behind_word t c x n
+    by (numbers y z a b m n e f) = number_on y z t c x m n e f
+    by (quotes a b e f m n) =
+        absurd (none_or_some c x (quoted_once a b (encode_utf8 c ++ x) [] (ap (λ (bs : List ℕ). bs ++ (encode_utf8 c ++ x)) (sym m) ∙ n ∙ sym (append-nil (quoted b)))).1)
+
+-- a text has one value
+pub one_value : (s : Schema) (kind : ℕ) (d : Datatype) (v w : Value) (t : List ℕ) → IsFormed s kind d v t → IsFormed s kind d w t → v ≡ w
+one_value s kind d v w t p q = by (pair s kind d v w t t p q)
+  where
+    by : Pair v w t t → v ≡ w
+    by (words m n e) = e refl
+    by (numbers y z a b m n e f) = a ∙ ap Number (number_once y z t m n e f) ∙ sym b
+    by (quotes a b e f m n) = e ∙ ap Text (quoted_once a b [] [] (ap (λ (bs : List ℕ). bs ++ []) (sym m ∙ n))).0 ∙ sym f
+
+-- ---- behind a value
+
+-- a space, a brace or the end of the text
+pub data EndsValue (rest : List ℕ) : Type 0 where
+  at_end : rest ≡ [] → EndsValue rest
+  at_space : (x : List ℕ) → rest ≡ 32 ∷ x → EndsValue rest
+  at_brace : (x : List ℕ) → rest ≡ 125 ∷ x → EndsValue rest
+
+no_word : (c b : ℕ) (x y : List ℕ) → b < 128 → is_word_char b ≡ false → b ∷ y ≡ encode_utf8 c ++ x → is_word_char c ≡ true → ⊥
+no_word c b x y low none e is = let wrong : true ≡ false = sym is ∙ ap is_word_char (one_byte c b x y low (sym e)).0 ∙ none in absurd cc
+
+pub value_stops : (s : Schema) (kind : ℕ) (d : Datatype) (v : Value) (front rest : List ℕ) → IsFormed s kind d v (encode_utf8_all front) → EndsValue rest → Stops (IsAnyFormed s kind d) front rest
+value_stops s kind d v front rest is (at_end e) c more after f other = none_or_some c more (sym f ∙ e)
+value_stops s kind d v front rest is (at_space x e) c more after f other =
+    no_word c 32 more x (omega arith) refl (sym e ∙ f) (goes_on s kind d v other.0 (encode_utf8_all front) c after is other.1)
+value_stops s kind d v front rest is (at_brace x e) c more after f other =
+    no_word c 125 more x (omega arith) refl (sym e ∙ f) (goes_on s kind d v other.0 (encode_utf8_all front) c after is other.1)
