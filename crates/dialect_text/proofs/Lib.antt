@@ -3,3 +3,4 @@ pub mod Words
 pub mod Quotes
 pub mod Values
 pub mod Running
+pub mod Once
