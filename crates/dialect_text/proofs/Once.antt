@@ -21,8 +21,9 @@ use Rattle.dialect_text.specs.declared.elements.Filling.TheVariants as fills
 use Rattle.dialect_text.specs.declared.elements.OpenElement.{OpenElement}
 use Rattle.dialect_text.specs.Dialect.{Standing, Before, AtRoot, Within, element, attribute_in, element_in, attribute_of, element_of, mark_of, mark, gap, IsBeforeElements, IsValueOf, IsStartText, IsAttributeText, IsEndText, Adds, Says, IsDialectText, IsOfDialect}
 use Rattle.dialect_text.specs.Languages.{Goes, Completes}
+use Rattle.dialect_text.specs.Scanning.{IsNested}
 use Rattle.dialect_text.proofs.Agreeing.{splits, none_or_some, Stops, Longer, Shorter}
-use Rattle.dialect_text.proofs.Running.{onto, onto_once, goes_before, IsNested, nested_on, IsSome, behind_some}
+use Rattle.dialect_text.proofs.Running.{onto, onto_once, goes_before, nested_on, IsSome, behind_some}
 use Rattle.dialect_text.proofs.Values.{value_chars, one_value, EndsValue, at_end, at_space, at_brace, value_stops}
 use Rattle.dialect_text.proofs.Words.{name_word, words_split, word_first, one_name, IsWordText}
 
