@@ -4,3 +4,9 @@ pub mod Quotes
 pub mod Values
 pub mod Running
 pub mod Once
+pub mod Cursors
+pub mod Named
+pub mod Valued
+pub mod Viable
+pub mod Awaiting
+pub mod Parts

@@ -180,13 +180,10 @@ StartsElement s top above text =
     × Completes s (Within (element kind fills.Nothing ∷ element top.kind fills.Elements ∷ above)) rest
     × (text ≡ added ++ rest)
 
--- the value of an attribute, and what follows
-abbrev pub StartsValue : Schema → OpenElement → List OpenElement → ℕ → List ℕ → Type 0
-StartsValue s top above kind text =
-    (value : Value) × (said : List ℕ) × (rest : List ℕ)
-    × IsValueOf s kind value said
-    × Completes s (Within (element top.kind fills.Attributes ∷ above)) rest
-    × (text ≡ said ++ rest)
+-- a value of a kind, and a text of a language behind it
+abbrev pub StartsValue : Schema → ℕ → (List ℕ → Type 0) → List ℕ → Type 0
+StartsValue s kind L text =
+    (value : Value) × (said : List ℕ) × (rest : List ℕ) × IsValueOf s kind value said × L rest × (text ≡ said ++ rest)
 
 -- the name of an attribute, behind its sign
 abbrev pub StartsAttribute : Schema → OpenElement → List OpenElement → List ℕ → Type 0
@@ -194,7 +191,7 @@ StartsAttribute s top above text =
     (name : ℕ) × (kind : ℕ) × (word : List ℕ) × (rest : List ℕ)
     × (attribute_of s top.kind name ≡ Some kind)
     × IsName s name word
-    × StartsValue s top above kind rest
+    × StartsValue s kind (Completes s (Within (element top.kind fills.Attributes ∷ above))) rest
     × (text ≡ word ++ 61 ∷ rest)
 
 abbrev pub StartsPart : Schema → OpenElement → List OpenElement → List ℕ → Type 0

@@ -18,11 +18,13 @@ pub(crate) fn take_char(cursor: &mut TextCursor, expected: char) -> bool
     requires { expected < 128 }
     ensures { PassesIf expected result cursor.old cursor.new }
 {
-    if cursor.peek() == Some(expected) {
-        let _ = cursor.next();
-        return true;
+    match cursor.peek() {
+        Some(next) if next == expected => {
+            let _ = cursor.next();
+            true
+        }
+        _ => false,
     }
-    false
 }
 
 /// Passes what stands before an attribute or an element.
