@@ -1,5 +1,5 @@
 -- The lists of names that are awaited.
-use Rattle.std.proofs.Common.{◌≡◌, ℕ, zero, suc, ◌+◌, ◌<◌, ◌⊎◌, inl, inr, Bool, true, false, ◌&&◌, nat_lt, List, [], ◌∷◌, ◌++◌, length, take, map, Option, Some, None, slice_get, refl, sym, ap, ap₂, subst, ◌∙◌, append_assoc, arith, get_or, if◌then◌else◌}
+use Rattle.std.proofs.Common.{◌≡◌, ℕ, zero, suc, ◌+◌, ◌<◌, ◌≤◌, ◌⊎◌, inl, inr, Bool, true, false, ◌&&◌, nat_lt, List, [], ◌∷◌, ◌++◌, length, take, map, Option, Some, None, slice_get, refl, sym, ap, ap₂, subst, ◌∙◌, append_assoc, arith, get_or, if◌then◌else◌}
 use Rattle.std.specs.Prelude.{◌==◌}
 use Rattle.std.specs.List.{list_all, AllByRecursion}
 use Rattle.std.proofs.lemmas.Bool.{ltb-true}
@@ -106,3 +106,35 @@ elements_among s particles awaited has name kind is =
 pub each_taken : {X : Type 0} (P : X → Type 0) (xs : List X) → AllByRecursion P (take (length xs) xs) → AllByRecursion P xs
 each_taken P [] all = tt
 each_taken P (x ∷ xs) all = (all.0, each_taken P xs all.1)
+
+-- ---- one more member
+
+abbrev pub Awaits : Schema → List Particle → List Member → List Awaited → List Awaited → Type 0
+Awaits s particles members first awaited =
+    AllByRecursion (IsAwaitedElement s particles) awaited × HasMembers s particles members awaited × ((more : List Awaited) × (awaited ≡ first ++ more))
+
+pub member_more : (s : Schema) (particles : List Particle) (members : List Member) (i kind m : ℕ) (d : Member) (first old new : List Awaited) (o : Option ℕ) → i < length members →
+    o ≡ element_named particles (get_or members i d).name → o ≡ Some kind → kind ≡ (get_or members i d).kind → m ≡ mark s kind →
+    new ≡ old ++ record { name = (get_or members i d).name; end = m } ∷ [] → Awaits s particles (take i members) first old → Awaits s particles (take (i + 1) members) first new
+member_more s particles members i kind m d first old new o low named is same marked e p =
+    let one : Awaited = record { name = (get_or members i d).name; end = m } in
+    let here : element_named particles (get_or members i d).name ≡ Some kind = sym named ∙ is in
+    let placed : slice_get (old ++ one ∷ []) (length old) ≡ Some (record { name = (get_or members i d).name; end = mark s (get_or members i d).kind }) =
+        get_last old one ∙ ap (λ (k : ℕ). Some (record { name = (get_or members i d).name; end = k })) (marked ∙ ap (λ (k : ℕ). mark s k) same) in
+    subst (λ (xs : List Awaited). Awaits s particles (take (i + 1) members) first xs) (sym e) (
+      all_push (IsAwaitedElement s particles) old one p.0 (kind, here, marked),
+      all_take (HasMember s particles (old ++ one ∷ [])) members i d low (members_on s particles (take i members) old (one ∷ []) p.1) (λ h. (length old, placed)),
+      (p.2.0 ++ one ∷ [], ap (λ (xs : List Awaited). xs ++ one ∷ []) p.2.1 ∙ append_assoc first p.2.0 (one ∷ []))
+    )
+
+-- ---- one more particle
+
+pub particle_more : (s : Schema) (particles : List Particle) (i : ℕ) (d : Particle) (old new : List Awaited) → i < length particles → AllByRecursion (IsAwaitedElement s particles) new →
+    HasMembers s particles (get_or particles i d).members.now new → ((more : List Awaited) × (new ≡ old ++ more)) → AllByRecursion (λ p. HasMembers s particles p.members.now old) (take i particles) →
+    AllByRecursion (IsAwaitedElement s particles) new × AllByRecursion (λ p. HasMembers s particles p.members.now new) (take (i + 1) particles)
+particle_more s particles i d old new low only has kept before =
+    (only, all_take (λ p. HasMembers s particles p.members.now new) particles i d low
+      (subst (λ (xs : List Awaited). AllByRecursion (λ p. HasMembers s particles p.members.now xs) (take i particles)) (sym kept.1) (each_on s particles (take i particles) old kept.0 before)) has)
+
+pub all_done : {X : Type 0} (P : X → Type 0) (xs : List X) (i : ℕ) → i ≤ length xs → (i < length xs → ⊥) → AllByRecursion P (take i xs) → AllByRecursion P xs
+all_done P xs i within done all = let e : i ≡ length xs = omega (arith, within, done) in each_taken P xs (subst (λ (n : ℕ). AllByRecursion P (take n xs)) e all)

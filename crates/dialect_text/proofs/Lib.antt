@@ -10,3 +10,6 @@ pub mod Valued
 pub mod Viable
 pub mod Awaiting
 pub mod Parts
+pub mod Simples
+pub mod Roots
+pub mod Starts

@@ -3,7 +3,10 @@ use Rattle.std.proofs.Common.{◌≡◌, ℕ, zero, suc, ◌+◌, ◌<◌, ◌�
 use Rattle.std.specs.Prelude.{encode_utf8}
 use Rattle.std.specs.List.{AllByRecursion}
 use Rattle.std.specs.Str.{encode_utf8_all}
-use Rattle.std.proofs.lemmas.List.{append-nil}
+use Rattle.std.proofs.lemmas.List.{append-nil, length-map}
+use Rattle.std.proofs.lemmas.Option.{slice_get_within, slice_get-get_or}
+use Rattle.document_laws.proofs.Fits.{root_kind, root_name}
+use Rattle.dialect_text.proofs.Roots.{root_deep}
 use Rattle.std.proofs.lemmas.Str.{encodes-append, encode_ascii}
 use Rattle.exi_schema.specs.declared.places.Root.TheVariants.{Kind}
 use Rattle.exi_schema.specs.declared.schema.Schema.{Schema}
@@ -30,12 +33,12 @@ use Rattle.dialect_text.specs.Languages.{Goes, Completes, Shares, Leads, Stalls}
 use Rattle.dialect_text.specs.Scanning.{TakesNext, StallsAt, MissesAt, StartsElement, StartsValue, StartsAttribute, StartsPart, TakesValueOf, MissesValueOf, IsNested, AreOpen, IsSound, awaited_root, awaited_attribute, IsAwaitedElement, HasElements}
 use Rattle.dialect_text.proofs.Agreeing.{leads_then, leads_on}
 use Rattle.dialect_text.proofs.Cursors.{stalls_behind}
-use Rattle.dialect_text.proofs.Named.{AreMarked, all_at, stalls_named}
+use Rattle.dialect_text.proofs.Named.{AreMarked, all_at, all_map, stalls_named}
 use Rattle.dialect_text.proofs.Once.{IsOnce, IsValued, ValueOnce, event_once, start_once, start_first, mark_is_none, element_no_value, attribute_no_value}
 use Rattle.dialect_text.proofs.Running.{IsSome, completes_some}
 use Rattle.dialect_text.proofs.Valued.{value_leads, value_stalls}
 use Rattle.dialect_text.proofs.Values.{EndsValue}
-use Rattle.dialect_text.proofs.Viable.{completes_all, some_of_kind}
+use Rattle.dialect_text.proofs.Viable.{completes_all, completes_root, some_of_kind}
 use Rattle.dialect_text.proofs.Words.{name_word, words_split, one_name, IsWordText}
 
 -- ---- an event without a value
@@ -84,7 +87,7 @@ takes_root s i root front a b at named passes =
       leads = leads_plain s Before (AtRoot root.name root.kind) (Document root.number) front b.rest.now (λ v. v) adds;
     }
 
-get_map : {X Y : Type 0} (f : X → Y) (xs : List X) (i : ℕ) (x : X) → slice_get xs i ≡ Some x → slice_get (map f xs) i ≡ Some (f x)
+pub get_map : {X Y : Type 0} (f : X → Y) (xs : List X) (i : ℕ) (x : X) → slice_get xs i ≡ Some x → slice_get (map f xs) i ≡ Some (f x)
 get_map f [] i x h = let wrong : None ≡ Some x = h in absurd cc
 get_map f (y ∷ xs) zero x h = let is : Some y ≡ Some x = h in let e : y ≡ x = cc in ap (λ z. Some (f z)) e
 get_map f (y ∷ xs) (suc i) x h = get_map f xs i x h
@@ -119,7 +122,7 @@ pub follows_content : (s : Schema) (top : OpenElement) (above : List OpenElement
 follows_content s top above text none p =
     (Content p.0 ∷ p.4.0, (Within (element top.kind fills.Value ∷ above), p.1, p.2, (none, p.3, refl), p.4.1, p.5))
 
-value_ends : (s : Schema) (kind : ℕ) (f : Filling) (above : List OpenElement) → IsSome f → IsNested (Within (element kind f ∷ above)) → (text : List ℕ) → Completes s (Within (element kind f ∷ above)) text → EndsValue text
+pub value_ends : (s : Schema) (kind : ℕ) (f : Filling) (above : List OpenElement) → IsSome f → IsNested (Within (element kind f ∷ above)) → (text : List ℕ) → Completes s (Within (element kind f ∷ above)) text → EndsValue text
 value_ends s kind f above some nested text p = completes_some s (element kind f) above text some nested p
 
 leads_from : (K L M : List ℕ → Type 0) (front rest : List ℕ) → ((text : List ℕ) → K text → L text) → ((text : List ℕ) → L text → K text) → Leads L front rest M → Leads K front rest M
@@ -172,3 +175,65 @@ takes_end s top above front a b end passes =
       passes = passes;
       leads = leads_plain s (Within (top ∷ above)) (Within above) EndElement front b.rest.now (λ v. v) (end, refl);
     }
+
+-- ---- the root's answers
+
+abbrev pub IsMarked : Schema → Awaited → Type 0
+IsMarked s one = (one.name < length s.names.now) × (one.end < 128) × (is_word_char one.end ≡ false)
+
+roots_from : (s : Schema) (roots : List RootOf) → ((i : ℕ) (root : RootOf) → slice_get roots i ≡ Some root → root.name < length s.names.now) → AllByRecursion (λ root. IsMarked s (awaited_root s root)) roots
+roots_from s [] each = tt
+roots_from s (root ∷ roots) each = ((each 0 root refl, mark_low s root.kind, mark_is_none s root.kind), roots_from s roots (λ i r at. each (suc i) r at))
+
+pub roots_marked : (s : Schema) (awaited items : List Awaited) → items ≡ map (awaited_root s) s.roots.now → awaited ≡ items → AreMarked s awaited
+roots_marked s awaited items made same =
+    subst (λ (xs : List Awaited). AreMarked s xs) (sym (same ∙ made))
+    (all_map (IsMarked s) (awaited_root s) s.roots.now (roots_from s s.roots.now (λ i root at.
+      let low = root_name s root.number root.name root.kind (i, at) in
+      let n : length (map (λ t. t.now) s.names.now) ≡ length s.names.now = length-map s.names.now (λ t. t.now) in omega (arith, low, n))))
+
+pub root_at : (s : Schema) (awaited items : List Awaited) (i : ℕ) (one : Awaited) → items ≡ map (awaited_root s) s.roots.now → awaited ≡ items → slice_get awaited i ≡ Some one → (root : RootOf) × (slice_get s.roots.now i ≡ Some root) × (awaited_root s root ≡ one)
+root_at s awaited items i one made same at = map_get (awaited_root s) s.roots.now i one (ap (λ (xs : List Awaited). slice_get xs i) (sym (same ∙ made)) ∙ at)
+
+pub root_taken : (s : Schema) (awaited items : List Awaited) (i : ℕ) (d : RootOf) (a b : TextCursor) → items ≡ map (awaited_root s) s.roots.now → awaited ≡ items →
+    (p : (front : List ℕ) × (one : Awaited) × Takes (IsAnyAwaited s awaited) a front b × (slice_get awaited i ≡ Some one) × IsAwaitedText s one (encode_utf8_all front)) →
+    TakesNext s [] (Completes s Before) Before a (Document (get_or s.roots.now i d).number) (AtRoot (get_or s.roots.now i d).name (get_or s.roots.now i d).kind) b
+root_taken s awaited items i d a b made same p =
+    let found = root_at s awaited items i p.1 made same p.3 in
+    let low = slice_get_within s.roots.now i found.0 found.1 in
+    let there : Some (get_or s.roots.now i d) ≡ Some found.0 = sym (slice_get-get_or s.roots.now i d low) ∙ found.1 in
+    let is : found.0 ≡ get_or s.roots.now i d = cc in
+    let named : IsAwaitedText s (awaited_root s found.0) (encode_utf8_all p.0) = subst (λ (x : Awaited). IsAwaitedText s x (encode_utf8_all p.0)) (sym found.2) p.4 in
+    subst (λ (r : RootOf). TakesNext s [] (Completes s Before) Before a (Document r.number) (AtRoot r.name r.kind) b) is (takes_root s i found.0 p.0 a b found.1 named p.2.passed)
+
+pub root_within : (s : Schema) (awaited items : List Awaited) (i : ℕ) (a b : TextCursor) → items ≡ map (awaited_root s) s.roots.now → awaited ≡ items →
+    (p : (front : List ℕ) × (one : Awaited) × Takes (IsAnyAwaited s awaited) a front b × (slice_get awaited i ≡ Some one) × IsAwaitedText s one (encode_utf8_all front)) → i < length s.roots.now
+root_within s awaited items i a b made same p = let found = root_at s awaited items i p.1 made same p.3 in slice_get_within s.roots.now i found.0 found.1
+
+-- the front of a root that is awaited can go on
+root_on : (s : Schema) (i : ℕ) (root : RootOf) (text : List ℕ) → slice_get s.roots.now i ≡ Some root → IsAwaitedText s (awaited_root s root) text → (rest : List ℕ) × Completes s Before (text ++ rest)
+root_on s i root text at named =
+    let is : IsRoot s.roots.now s.root_bits root.number (Kind root.name root.kind) = (i, at) in
+    let some = completes_all s (element root.kind fills.Nothing ∷ []) (root_kind s root.number root.name root.kind is, root_deep s i root at, tt, tt) in
+    let all = completes_root s root.name root.kind some.0 some.1 in
+    (some.0, (Document root.number ∷ all.0, (AtRoot root.name root.kind, text, some.0, (root.name, root.kind, is, awaited_start s root.name root.kind text named, refl), all.1, refl)))
+
+first_root : (s : Schema) (text : List ℕ) (es : List Event) → Goes s Before es text → (i : ℕ) × (root : RootOf) × (part : List ℕ) × (rest : List ℕ) × (slice_get s.roots.now i ≡ Some root) × IsStartText s root.name root.kind part × (text ≡ part ++ rest)
+first_root s text [] goes = let wrong : Before ≡ Within [] = goes.1 in absurd cc
+first_root s text (Document n ∷ es) goes =
+    (goes.3.2.0, record { number = n; name = goes.3.0; kind = goes.3.1 }, goes.1, goes.2, goes.3.2.1, goes.3.3, goes.5)
+first_root s text (Start n ∷ es) goes = absurd goes.3
+first_root s text (Attribute n v ∷ es) goes = absurd goes.3
+first_root s text (Content v ∷ es) goes = absurd goes.3
+first_root s text (EndElement ∷ es) goes = absurd goes.3
+
+pub root_stalls : (s : Schema) (awaited items : List Awaited) (a : TextCursor) (f : ScanFault) → items ≡ map (awaited_root s) s.roots.now → awaited ≡ items → MissesAt (IsAnyAwaited s awaited) a f → StallsAt (Completes s Before) a f
+root_stalls s awaited items a f made same p =
+    stalls_named s awaited (Completes s Before) a f (roots_marked s awaited items made same)
+    (λ text is. let found = root_at s awaited items is.0 is.1 made same is.2 in
+      root_on s is.0 found.0 text found.1 (subst (λ (x : Awaited). IsAwaitedText s x text) (sym found.2) is.3))
+    (λ text q. let one = first_root s text q.0 q.1 in
+      (one.2, one.3,
+        (one.0, awaited_root s one.1, ap (λ (xs : List Awaited). slice_get xs one.0) (same ∙ made) ∙ get_map (awaited_root s) s.roots.now one.0 one.1 one.4, start_awaited s one.1.name one.1.kind one.2 one.5),
+        one.6))
+    p

@@ -199,6 +199,11 @@ StartsPart s top above text =
     StartsElement s top above text
     ⊎ (IsBeforeElements top.filling × (rest : List ℕ) × StartsAttribute s top above rest × (text ≡ 64 ∷ rest))
 
+-- attributes may follow what is in an element, and there are some
+abbrev pub AwaitsAttribute : Filling → List AttributeOf → Bool → Type 0
+AwaitsAttribute filling attributes true = IsBeforeElements filling × (0 < length attributes)
+AwaitsAttribute filling attributes false = IsBeforeElements filling → attributes ≡ []
+
 -- ---- what is awaited
 
 -- the name of a root with its mark

@@ -7,7 +7,7 @@ ghost use Rattle.exi_schema.specs.Steps.{simple_at};
 ghost use Rattle.exi_documents.specs.Trees.{Document};
 ghost use Rattle.dialect_text.specs.Dialect.{Before, AtRoot, Within, attribute_of, attribute_named, element_of, element_named, gap, IsBeforeElements};
 ghost use Rattle.dialect_text.specs.Languages.{Completes};
-ghost use Rattle.dialect_text.specs.Scanning.{event_of, IsSound, TakesNext, StallsAt, StartsElement, StartsAttribute};
+ghost use Rattle.dialect_text.specs.Scanning.{event_of, IsSound, TakesNext, StallsAt, StartsElement, StartsAttribute, StartsPart, AwaitsAttribute};
 
 use crate::elements::{Filling, OpenElement, OpenElements};
 use crate::fault::ScanFault;
@@ -122,6 +122,44 @@ fn take_start(
     Ok(Said::Start(name))
 }
 
+/// An attribute may stand behind what is in an element.
+fn awaits_attribute(filling: Filling, attributes: &[AttributeOf]) -> bool
+    ensures { AwaitsAttribute filling attributes.now result }
+{
+    match filling {
+        Filling::Nothing | Filling::Attributes => !attributes.is_empty(),
+        Filling::Elements | Filling::Value => false,
+    }
+}
+
+/// Takes an attribute or the start of an element, behind what stands before them.
+fn take_behind_gap(
+    alloc: Global,
+    schema: &Schema,
+    cursor: &mut TextCursor,
+    elements: &mut OpenElements,
+    top: OpenElement,
+    attributes: &[AttributeOf],
+    particles: &[Particle],
+) -> Result<Said, ScanFault>
+    requires top { (above : List _) × (elements.old ≡ top ∷ above) }
+    requires sound { IsSound schema.now (Within elements.old) }
+    requires complex { slice_get schema.now.kinds.now top.kind ≡ Some (Complex attributes particles) }
+    ensures ok { (above : List _) → elements.old ≡ top ∷ above → IfOk result (λ said. TakesNext schema.now (gap top.filling) (StartsPart schema.now top above) (Within elements.old) cursor.old (event_of said) (Within elements.new) cursor.new) }
+    ensures fault { (above : List _) → elements.old ≡ top ∷ above → IfErr result (StallsAt (StartsPart schema.now top above) cursor.old) }
+    ensures kept { IfErr result (λ _. elements.new ≡ elements.old) }
+{
+    if awaits_attribute(top.filling, attributes) {
+        if take_char(cursor, '@') {
+            take_attribute(alloc, schema, cursor, elements, top, attributes)
+        } else {
+            take_start(alloc, schema, cursor, elements, top, particles)
+        }
+    } else {
+        take_start(alloc, schema, cursor, elements, top, particles)
+    }
+}
+
 /// Takes the next part of an element of a complex kind, or ends it.
 fn take_part(
     alloc: Global,
@@ -146,15 +184,7 @@ fn take_part(
     if !take_gap(cursor, top.filling) {
         return Err(ScanFault::Place(cursor.place));
     }
-    let takes_attributes = match top.filling {
-        Filling::Nothing | Filling::Attributes => !attributes.is_empty(),
-        Filling::Elements | Filling::Value => false,
-    };
-    if takes_attributes && take_char(cursor, '@') {
-        take_attribute(alloc, schema, cursor, elements, top, attributes)
-    } else {
-        take_start(alloc, schema, cursor, elements, top, particles)
-    }
+    take_behind_gap(alloc, schema, cursor, elements, top, attributes, particles)
 }
 
 /// Takes the next event inside the innermost element, which is `top`.
