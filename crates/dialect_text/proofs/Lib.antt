@@ -13,3 +13,5 @@ pub mod Parts
 pub mod Simples
 pub mod Roots
 pub mod Starts
+pub mod ElementStarts
+pub mod PartsOf
