@@ -58,10 +58,10 @@ attribute_behind word said text rest e =
 
 -- ---- gaps and ends
 
-heads_differ : (c d : ℕ) (x y : List ℕ) → c ∷ x ≡ d ∷ y → c ≡ d
+pub heads_differ : (c d : ℕ) (x y : List ℕ) → c ∷ x ≡ d ∷ y → c ≡ d
 heads_differ c d x y e = ap (λ (bs : List ℕ). get_or bs 0 0) e
 
-tails_same : (c : ℕ) (x y : List ℕ) → c ∷ x ≡ c ∷ y → x ≡ y
+pub tails_same : (c : ℕ) (x y : List ℕ) → c ∷ x ≡ c ∷ y → x ≡ y
 tails_same c x y e = cc
 
 gap_brace : (f : Filling) (x y : List ℕ) → ((z : List ℕ) → x ≡ 125 ∷ z → ⊥) → gap f ++ x ≡ 125 ∷ y → ⊥
