@@ -108,7 +108,7 @@ impl<'t, 's> DialectScanner<'t, 's> {
                 Ok(Some(Said::Document(root.number)))
             }
             Phase::AtRoot { name, kind } => {
-                self.elements.push(kind);
+                self.elements = OpenElements::alone(kind);
                 self.phase = Phase::Inside;
                 Ok(Some(Said::Start(name)))
             }
