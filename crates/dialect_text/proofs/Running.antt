@@ -68,7 +68,7 @@ onto_once a b e =
 
 -- ---- elements inside one another
 
-by_standing : (P : Standing → Type 0) {a b : Standing} → a ≡ b → P b → P a
+pub by_standing : (P : Standing → Type 0) {a b : Standing} → a ≡ b → P b → P a
 by_standing P e p = subst P (sym e) p
 
 nested_within : (above : List OpenElement) → AllByRecursion (λ e. e.filling ≡ fills.Elements) above → IsNested (Within above)

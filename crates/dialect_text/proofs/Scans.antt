@@ -1,12 +1,15 @@
 -- A scanner goes on by one event.
 use Rattle.std.proofs.Common.{◌≡◌, ℕ, zero, suc, ◌+◌, ◌*◌, ◌-◌, ◌<◌, ◌≤◌, ◌⊎◌, inl, inr, Bool, true, false, List, [], ◌∷◌, ◌++◌, length, codes, Option, Some, None, slice_get, refl, sym, ap, ap₂, subst, ◌∙◌, append_assoc, arith, get_or}
-use Rattle.std.specs.Prelude.{encode_utf8, sum_by}
+use Rattle.std.specs.Prelude.{encode_utf8, sum_by, IfSome, IfNone}
 use Rattle.std.specs.Str.{encode_utf8_all, IsUtf8}
 use Rattle.std.proofs.lemmas.List.{append-nil, length-append}
+use Rattle.std.proofs.lemmas.List.Sums.{sum_by-cons}
 use Rattle.std.proofs.lemmas.Str.{encodes-append}
 use Rattle.exi_schema.specs.declared.schema.Schema.{Schema}
 use Rattle.exi_schema.specs.declared.tables.Particle.{Particle}
 use Rattle.exi_schema.specs.declared.tables.RootOf.{RootOf}
+use Rattle.exi_schema.specs.declared.places.Root.TheVariants.{Kind}
+use Rattle.exi_schema.specs.Steps.{IsRoot}
 use Rattle.exi_documents.specs.Trees.{Value, Event, Document, Start, Attribute, Content, EndElement}
 use Rattle.document_laws.proofs.Fits.{root_kind}
 use Rattle.value_text.specs.declared.cursor.TextCursor.{TextCursor}
@@ -16,12 +19,15 @@ use Rattle.dialect_text.specs.declared.elements.Filling.TheVariants as fills
 use Rattle.dialect_text.specs.declared.elements.OpenElement.{OpenElement}
 use Rattle.dialect_text.specs.declared.fault.ScanFault.{ScanFault}
 use Rattle.dialect_text.specs.declared.fault.ScanFault.TheVariants as fault
+use Rattle.dialect_text.specs.declared.said.Said.{Said}
+use Rattle.dialect_text.specs.Faults.{place_in}
 use Rattle.dialect_text.specs.Dialect.{Standing, Before, AtRoot, Within, element, element_of, mark, gap, IsStartText, Adds, Says, IsDialectText, IsOfDialect, IsFault}
 use Rattle.dialect_text.specs.Languages.{Goes, Completes, Shares, Leads, Stalls}
-use Rattle.dialect_text.specs.Scanning.{TakesNext, StallsAt, IsOpen, IsNested, IsSound, HasSaid, HasRead, IsFaultOf, events_within, events_left, weight}
+use Rattle.dialect_text.specs.Scanning.{TakesNext, StallsAt, IsOpen, IsNested, IsSound, HasSaid, HasRead, IsReady, IsAtFault, IsNext, IsFaultOf, event_of, events_within, events_left, weight}
 use Rattle.dialect_text.proofs.Agreeing.{leads_then, stalls_after, stalled, none_or_some}
 use Rattle.dialect_text.proofs.ElementStarts.{room_inside}
 use Rattle.dialect_text.proofs.LowKinds.{kind_low}
+use Rattle.dialect_text.proofs.Parts.{leads_plain}
 use Rattle.dialect_text.proofs.Roots.{root_deep, roots_there, root_word}
 use Rattle.dialect_text.proofs.Running.{from_start, to_end, nested_on, by_standing}
 use Rattle.dialect_text.proofs.Viable.{completes_all, completes_root}
@@ -89,7 +95,7 @@ some_root s = first_root s.roots.now (roots_there s)
 pub completes_any : (s : Schema) (standing : Standing) → IsSound s standing → (text : List ℕ) × Completes s standing text
 completes_any s Before sound =
     let root = some_root s in
-    let is = (root.0, root.2) in
+    let is : IsRoot s.roots.now s.root_bits root.1.number (Kind root.1.name root.1.kind) = (root.0, root.2) in
     let low = root_kind s root.1.number root.1.name root.1.kind is in
     let some = completes_all s (element root.1.kind fills.Nothing ∷ []) (low, root_deep s root.0 root.1 root.2, tt, tt) in
     let all = completes_root s root.1.name root.1.kind some.0 some.1 in
@@ -125,3 +131,98 @@ ended_stalls s a some =
     by : (text : List ℕ) → Shares 0 a.rest.now text → (es : List Event) → Goes s (Within []) es text → ⊥
     by text shares [] goes = shared shares.front shares.more shares.odd shares.stands (sym goes.0 ∙ shares.others) shares.enough
     by text shares (e ∷ es) goes = goes.3
+
+-- ---- less is left
+
+start_long : (s : Schema) (name kind : ℕ) (text : List ℕ) → IsStartText s name kind text → 2 ≤ length text
+start_long s name kind text p = let word = name_word s name p.0 p.1 in omega (arith, word.0, ap length p.2, length-append p.0 (mark s kind ∷ []))
+
+weighs : (top : OpenElement) → (1 ≤ weight top) × (weight top ≤ 2)
+weighs top = by top.filling
+  where
+    by : (f : Filling) → (1 ≤ weight (element top.kind f)) × (weight (element top.kind f) ≤ 2)
+    by fills.Nothing = (omega arith, omega arith)
+    by fills.Attributes = (omega arith, omega arith)
+    by fills.Elements = (omega arith, omega arith)
+    by fills.Value = (omega arith, omega arith)
+
+nothing_weighs : (top : OpenElement) → top.filling ≡ fills.Nothing → weight top ≡ 2
+nothing_weighs top none = ap (λ (f : Filling). weight (element top.kind f)) none
+
+within_cons : (top : OpenElement) (above : List OpenElement) → events_within (Within (top ∷ above)) ≡ weight top + events_within (Within above)
+within_cons top above = sum_by-cons weight top above
+
+events_on : (s : Schema) (old new : Standing) (event : Event) (added : List ℕ) → Adds s old event added new → events_within new < events_within old + 4 * length added
+events_on s Before new (Document number) added p = by_standing (λ (x : Standing). events_within x < 0 + 4 * length added) p.4 (omega (arith, start_long s p.0 p.1 added p.3))
+events_on s Before new _ added p = absurd p
+events_on s (AtRoot root kind) new (Start name) added p = by_standing (λ (x : Standing). events_within x < 3 + 4 * length added) p.2 (omega arith)
+events_on s (AtRoot root kind) new _ added p = absurd p
+events_on s (Within []) new _ added p = absurd p
+events_on s (Within (top ∷ above)) new (Document number) added p = absurd p
+events_on s (Within (top ∷ above)) new (Start name) added p =
+    by_standing (λ (x : Standing). events_within x < events_within (Within (top ∷ above)) + 4 * length added) p.5
+    (omega (arith, start_long s name p.0 p.1 p.3, ap length p.4, length-append (gap top.filling) p.1, (weighs top).0, within_cons top above,
+      within_cons (element p.0 fills.Nothing) (element top.kind fills.Elements ∷ above), within_cons (element top.kind fills.Elements) above))
+events_on s (Within (top ∷ above)) new (Attribute name value) added p =
+    by_standing (λ (x : Standing). events_within x < events_within (Within (top ∷ above)) + 4 * length added) p.6
+    (omega (arith, ap length p.5, length-append (gap top.filling) p.1, ap length p.4.4, length-append (codes "@" ++ p.4.0 ++ codes "=") p.4.1, length-append (codes "@" ++ p.4.0) (codes "="), length-append (codes "@") p.4.0, (weighs top).0, within_cons top above, within_cons (element top.kind fills.Attributes) above))
+events_on s (Within (top ∷ above)) new (Content value) added p =
+    by_standing (λ (x : Standing). events_within x < events_within (Within (top ∷ above)) + 4 * length added) p.2 (omega (arith, nothing_weighs top p.0, within_cons top above, within_cons (element top.kind fills.Value) above))
+events_on s (Within (top ∷ above)) new EndElement added p =
+    by_standing (λ (x : Standing). events_within x < events_within (Within (top ∷ above)) + 4 * length added) p.1 (omega (arith, (weighs top).0, within_cons top above))
+
+pub fewer_on : (s : Schema) (old new : Standing) (a b : TextCursor) (event : Event) → TakesNext s [] (Completes s old) old a event new b → events_left new b < events_left old a
+fewer_on s old new a b event q =
+    omega (arith, events_on s old new event (encode_utf8_all q.front) q.adds, ap length q.passes.0, length-append (encode_utf8_all q.front) b.rest.now)
+
+pub inside_stalls : (s : Schema) (elements : List OpenElement) (a : TextCursor) → elements ≡ [] → (a.rest.now ≡ [] → ⊥) → StallsAt (Completes s (Within elements)) a (fault.Place a.place)
+inside_stalls s elements a none some = subst (λ (x : List OpenElement). StallsAt (Completes s (Within x)) a (fault.Place a.place)) (sym none) (ended_stalls s a some)
+
+pub root_starts : (s : Schema) (name kind : ℕ) (elements : List OpenElement) (a : TextCursor) → elements ≡ element kind fills.Nothing ∷ [] →
+    TakesNext s [] (Completes s (AtRoot name kind)) (AtRoot name kind) a (Start name) (Within elements) a
+root_starts s name kind elements a one = record {
+    front = [];
+    adds = (refl, refl, ap Within one);
+    passes = (refl, omega arith);
+    leads = leads_plain s (AtRoot name kind) (Within elements) (Start name) [] a.rest.now (λ v. v) (refl, refl, ap Within one);
+  }
+
+-- ---- the answers of a scanner
+
+pub next_ready : (s : Schema) (text : List ℕ) (old new : Standing) (a b : TextCursor) (f g : Option ℕ) (o : Option Said) → IsReady s text old a f → g ≡ f → IsNext s old a new b o → IsReady s text new b g
+next_ready s text old new a b f g (Some said) ready same p = record {
+    utf8 = ready.utf8;
+    sound = sound_on s old new (event_of said) (encode_utf8_all p.front) p.adds ready.sound;
+    read = read_on s text old new a b (event_of said) ready.read p;
+    at_fault = subst (IsAtFault s text) (sym same) ready.at_fault;
+  }
+next_ready s text old new a b f g None ready same p = record {
+    utf8 = ready.utf8;
+    sound = subst (IsSound s) (sym p.2) ready.sound;
+    read = subst (λ (x : TextCursor). HasRead s text new x) (sym p.3) (subst (λ (x : Standing). HasRead s text x a) (sym p.2) ready.read);
+    at_fault = subst (IsAtFault s text) (sym same) ready.at_fault;
+  }
+
+pub next_said : (s : Schema) (text : List ℕ) (old new : Standing) (a b : TextCursor) (o : Option Said) → IsNext s old a new b o → (events : List Event) → HasSaid s text events old a → IfSome o (λ said. HasSaid s text (event_of said ∷ events) new b)
+next_said s text old new a b (Some said) p events h = said_on s text events old new a b (event_of said) h p
+next_said s text old new a b None p events h = tt
+
+pub next_ended : (s : Schema) (text : List ℕ) (old new : Standing) (a b : TextCursor) (o : Option Said) → IsNext s old a new b o → (events : List Event) → HasSaid s text events old a → IfNone o (IsDialectText s events text)
+next_ended s text old new a b (Some said) p events h = tt
+next_ended s text old new a b None p events h = said_all s text events old a h p.0 p.1
+
+pub next_fewer : (s : Schema) (old new : Standing) (a b : TextCursor) (o : Option Said) → IsNext s old a new b o → IfSome o (λ said. events_left new b < events_left old a)
+next_fewer s old new a b (Some said) p = fewer_on s old new a b (event_of said) p
+next_fewer s old new a b None p = tt
+
+pub fault_kept : (s : Schema) (text : List ℕ) (f : ScanFault) → IsFaultOf s text f → IsAtFault s text (place_in f)
+fault_kept s text (fault.Place place) p = p
+fault_kept s text fault.Memory p = tt
+
+pub fault_ready : (s : Schema) (text : List ℕ) (standing : Standing) (a : TextCursor) (f : Option ℕ) (g : ScanFault) → IsReady s text standing a f → StallsAt (Completes s standing) a g → IsReady s text standing a (place_in g)
+fault_ready s text standing a f g ready p = record {
+    utf8 = ready.utf8;
+    sound = ready.sound;
+    read = ready.read;
+    at_fault = fault_kept s text g (fault_of_text s text standing a g ready.utf8 ready.sound ready.read p);
+  }
