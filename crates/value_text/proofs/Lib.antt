@@ -1,0 +1,14 @@
+pub mod FrontLaws
+pub mod NextLaws
+pub mod Numerals
+pub mod NumberLaws
+pub mod HexTexts
+pub mod EscapeTexts
+pub mod PieceTexts
+pub mod QuotedTexts
+pub mod Outcomes
+pub mod BestWords
+pub mod SchemaWords
+pub mod ValueForms
+pub mod NameForms
+pub mod OneValue
