@@ -35,32 +35,32 @@ use Rattle.dialect_text.proofs.Words.{name_word}
 
 pub starts_read : (s : Schema) (text : List ℕ) (cursor : TextCursor) → cursor.rest.now ≡ text → cursor.place ≡ 0 → HasRead s text Before cursor
 starts_read s text cursor whole start = record {
-    front = [];
-    leads = record { from = λ t new. to_end s t new; to = λ t shares old. from_start s t old; };
-    stands = sym whole;
-    place = start;
-  }
+  front = [];
+  leads = record { from = λ t new. to_end s t new; to = λ t shares old. from_start s t old };
+  stands = sym whole;
+  place = start;
+}
 
 pub starts_said : (s : Schema) (text : List ℕ) (cursor : TextCursor) → cursor.rest.now ≡ text → cursor.place ≡ 0 → HasSaid s text [] Before cursor
-starts_said s text cursor whole start = record { front = []; says = (refl, refl); stands = sym whole; place = start; }
+starts_said s text cursor whole start = record { front = []; says = (refl, refl); stands = sym whole; place = start }
 
 -- ---- what is said and read
 
 pub said_on : (s : Schema) (text : List ℕ) (events : List Event) (old new : Standing) (a b : TextCursor) (event : Event) → HasSaid s text events old a → TakesNext s [] (Completes s old) old a event new b → HasSaid s text (event ∷ events) new b
 said_on s text events old new a b event p q = record {
-    front = p.front ++ q.front;
-    says = (old, encode_utf8_all p.front, encode_utf8_all q.front, p.says, q.adds, encodes-append p.front q.front);
-    stands = p.stands ∙ ap (λ (bs : List ℕ). encode_utf8_all p.front ++ bs) q.passes.0 ∙ sym (append_assoc (encode_utf8_all p.front) (encode_utf8_all q.front) b.rest.now) ∙ ap (λ (bs : List ℕ). bs ++ b.rest.now) (sym (encodes-append p.front q.front));
-    place = omega (arith, p.place, q.passes.1, length-append p.front q.front);
-  }
+  front = p.front ++ q.front;
+  says = (old, encode_utf8_all p.front, encode_utf8_all q.front, p.says, q.adds, encodes-append p.front q.front);
+  stands = p.stands ∙ ap (λ (bs : List ℕ). encode_utf8_all p.front ++ bs) q.passes.0 ∙ sym (append_assoc (encode_utf8_all p.front) (encode_utf8_all q.front) b.rest.now) ∙ ap (λ (bs : List ℕ). bs ++ b.rest.now) (sym (encodes-append p.front q.front));
+  place = omega (arith, p.place, q.passes.1, length-append p.front q.front);
+}
 
 pub read_on : (s : Schema) (text : List ℕ) (old new : Standing) (a b : TextCursor) (event : Event) → HasRead s text old a → TakesNext s [] (Completes s old) old a event new b → HasRead s text new b
 read_on s text old new a b event p q = record {
-    front = p.front ++ q.front;
-    leads = leads_then (IsOfDialect s) (Completes s old) (Completes s new) p.front q.front b.rest.now (subst (λ (bs : List ℕ). Leads (IsOfDialect s) p.front bs (Completes s old)) q.passes.0 p.leads) q.leads;
-    stands = p.stands ∙ ap (λ (bs : List ℕ). encode_utf8_all p.front ++ bs) q.passes.0 ∙ sym (append_assoc (encode_utf8_all p.front) (encode_utf8_all q.front) b.rest.now) ∙ ap (λ (bs : List ℕ). bs ++ b.rest.now) (sym (encodes-append p.front q.front));
-    place = omega (arith, p.place, q.passes.1, length-append p.front q.front);
-  }
+  front = p.front ++ q.front;
+  leads = leads_then (IsOfDialect s) (Completes s old) (Completes s new) p.front q.front b.rest.now (subst (λ (bs : List ℕ). Leads (IsOfDialect s) p.front bs (Completes s old)) q.passes.0 p.leads) q.leads;
+  stands = p.stands ∙ ap (λ (bs : List ℕ). encode_utf8_all p.front ++ bs) q.passes.0 ∙ sym (append_assoc (encode_utf8_all p.front) (encode_utf8_all q.front) b.rest.now) ∙ ap (λ (bs : List ℕ). bs ++ b.rest.now) (sym (encodes-append p.front q.front));
+  place = omega (arith, p.place, q.passes.1, length-append p.front q.front);
+}
 
 pub said_all : (s : Schema) (text : List ℕ) (events : List Event) (standing : Standing) (a : TextCursor) → HasSaid s text events standing a → standing ≡ Within [] → a.rest.now ≡ [] → IsDialectText s events text
 said_all s text events standing a p ended none =
@@ -99,9 +99,10 @@ completes_any s Before sound =
     let low = root_kind s root.1.number root.1.name root.1.kind is in
     let some = completes_all s (element root.1.kind fills.Nothing ∷ []) (low, root_deep s root.0 root.1 root.2, tt, tt) in
     let all = completes_root s root.1.name root.1.kind some.0 some.1 in
-    let word = root_word s root.0 root.1 root.2 in
-    ((word.0 ++ mark s root.1.kind ∷ []) ++ some.0,
-    (Document root.1.number ∷ all.0, (AtRoot root.1.name root.1.kind, word.0 ++ mark s root.1.kind ∷ [], some.0, (root.1.name, root.1.kind, is, (word.0, word.1, refl), refl), all.1, refl)))
+    let word = root_word s root.0 root.1 root.2 in (
+      (word.0 ++ mark s root.1.kind ∷ []) ++ some.0,
+      (Document root.1.number ∷ all.0, (AtRoot root.1.name root.1.kind, word.0 ++ mark s root.1.kind ∷ [], some.0, (root.1.name, root.1.kind, is, (word.0, word.1, refl), refl), all.1, refl)),
+    )
 completes_any s (AtRoot name kind) sound =
     let some = completes_all s (element kind fills.Nothing ∷ []) (sound.0.0, sound.0.1, tt, tt) in
     (some.0, completes_root s name kind some.0 some.1)
@@ -121,7 +122,7 @@ fault_of_text s text standing a fault.Memory utf8 sound p q = tt
 -- behind the root nothing follows
 pub ended_stalls : (s : Schema) (a : TextCursor) → (a.rest.now ≡ [] → ⊥) → StallsAt (Completes s (Within [])) a (fault.Place a.place)
 ended_stalls s a some =
-    ([], record { more = a.rest.now; stands = refl; begins = inl refl; none_further = λ text shares p. by text shares p.0 p.1; }, omega arith)
+    ([], record { more = a.rest.now; stands = refl; begins = inl refl; none_further = λ text shares p. by text shares p.0 p.1 }, omega arith)
   where
     shared : (f : List ℕ) (more odd : List ℕ) → a.rest.now ≡ encode_utf8_all f ++ more → [] ≡ encode_utf8_all f ++ odd → (0 < length f) ⊎ ((more ≡ []) × (odd ≡ [])) → ⊥
     shared [] more odd e g (inl long) = omega (arith, long)
@@ -161,8 +162,16 @@ events_on s (Within []) new _ added p = absurd p
 events_on s (Within (top ∷ above)) new (Document number) added p = absurd p
 events_on s (Within (top ∷ above)) new (Start name) added p =
     by_standing (λ (x : Standing). events_within x < events_within (Within (top ∷ above)) + 4 * length added) p.5
-    (omega (arith, start_long s name p.0 p.1 p.3, ap length p.4, length-append (gap top.filling) p.1, (weighs top).0, within_cons top above,
-      within_cons (element p.0 fills.Nothing) (element top.kind fills.Elements ∷ above), within_cons (element top.kind fills.Elements) above))
+    (omega (
+      arith,
+      start_long s name p.0 p.1 p.3,
+      ap length p.4,
+      length-append (gap top.filling) p.1,
+      (weighs top).0,
+      within_cons top above,
+      within_cons (element p.0 fills.Nothing) (element top.kind fills.Elements ∷ above),
+      within_cons (element top.kind fills.Elements) above,
+    ))
 events_on s (Within (top ∷ above)) new (Attribute name value) added p =
     by_standing (λ (x : Standing). events_within x < events_within (Within (top ∷ above)) + 4 * length added) p.6
     (omega (arith, ap length p.5, length-append (gap top.filling) p.1, ap length p.4.4, length-append (codes "@" ++ p.4.0 ++ codes "=") p.4.1, length-append (codes "@" ++ p.4.0) (codes "="), length-append (codes "@") p.4.0, (weighs top).0, within_cons top above, within_cons (element top.kind fills.Attributes) above))
@@ -181,27 +190,27 @@ inside_stalls s elements a none some = subst (λ (x : List OpenElement). StallsA
 pub root_starts : (s : Schema) (name kind : ℕ) (elements : List OpenElement) (a : TextCursor) → elements ≡ element kind fills.Nothing ∷ [] →
     TakesNext s [] (Completes s (AtRoot name kind)) (AtRoot name kind) a (Start name) (Within elements) a
 root_starts s name kind elements a one = record {
-    front = [];
-    adds = (refl, refl, ap Within one);
-    passes = (refl, omega arith);
-    leads = leads_plain s (AtRoot name kind) (Within elements) (Start name) [] a.rest.now (λ v. v) (refl, refl, ap Within one);
-  }
+  front = [];
+  adds = (refl, refl, ap Within one);
+  passes = (refl, omega arith);
+  leads = leads_plain s (AtRoot name kind) (Within elements) (Start name) [] a.rest.now (λ v. v) (refl, refl, ap Within one);
+}
 
 -- ---- the answers of a scanner
 
 pub next_ready : (s : Schema) (text : List ℕ) (old new : Standing) (a b : TextCursor) (f g : Option ℕ) (o : Option Said) → IsReady s text old a f → g ≡ f → IsNext s old a new b o → IsReady s text new b g
 next_ready s text old new a b f g (Some said) ready same p = record {
-    utf8 = ready.utf8;
-    sound = sound_on s old new (event_of said) (encode_utf8_all p.front) p.adds ready.sound;
-    read = read_on s text old new a b (event_of said) ready.read p;
-    at_fault = subst (IsAtFault s text) (sym same) ready.at_fault;
-  }
+  utf8 = ready.utf8;
+  sound = sound_on s old new (event_of said) (encode_utf8_all p.front) p.adds ready.sound;
+  read = read_on s text old new a b (event_of said) ready.read p;
+  at_fault = subst (IsAtFault s text) (sym same) ready.at_fault;
+}
 next_ready s text old new a b f g None ready same p = record {
-    utf8 = ready.utf8;
-    sound = subst (IsSound s) (sym p.2) ready.sound;
-    read = subst (λ (x : TextCursor). HasRead s text new x) (sym p.3) (subst (λ (x : Standing). HasRead s text x a) (sym p.2) ready.read);
-    at_fault = subst (IsAtFault s text) (sym same) ready.at_fault;
-  }
+  utf8 = ready.utf8;
+  sound = subst (IsSound s) (sym p.2) ready.sound;
+  read = subst (λ (x : TextCursor). HasRead s text new x) (sym p.3) (subst (λ (x : Standing). HasRead s text x a) (sym p.2) ready.read);
+  at_fault = subst (IsAtFault s text) (sym same) ready.at_fault;
+}
 
 pub next_said : (s : Schema) (text : List ℕ) (old new : Standing) (a b : TextCursor) (o : Option Said) → IsNext s old a new b o → (events : List Event) → HasSaid s text events old a → IfSome o (λ said. HasSaid s text (event_of said ∷ events) new b)
 next_said s text old new a b (Some said) p events h = said_on s text events old new a b (event_of said) h p
@@ -221,8 +230,8 @@ fault_kept s text fault.Memory p = tt
 
 pub fault_ready : (s : Schema) (text : List ℕ) (standing : Standing) (a : TextCursor) (f : Option ℕ) (g : ScanFault) → IsReady s text standing a f → StallsAt (Completes s standing) a g → IsReady s text standing a (place_in g)
 fault_ready s text standing a f g ready p = record {
-    utf8 = ready.utf8;
-    sound = ready.sound;
-    read = ready.read;
-    at_fault = fault_kept s text g (fault_of_text s text standing a g ready.utf8 ready.sound ready.read p);
-  }
+  utf8 = ready.utf8;
+  sound = ready.sound;
+  read = ready.read;
+  at_fault = fault_kept s text g (fault_of_text s text standing a g ready.utf8 ready.sound ready.read p);
+}

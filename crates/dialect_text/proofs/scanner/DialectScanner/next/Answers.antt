@@ -29,7 +29,7 @@ pub returns-in-Err-clause-ready : goal.returns-in-Err-clause-ready
 returns-in-Err-clause-ready c =
     subst (λ (p : _). IsReady c.args.self.now.schema.now c.args.self.now.text.now (standing_of c.step.new.self.phase c.step.new.self.elements) c.step.new.self.cursor p) (sym c.place-self.ensures)
     (subst (λ (x : DialectScanner). IsReady c.args.self.now.schema.now c.args.self.now.text.now (standing_of x.phase x.elements) x.cursor (place_in c.in-Err.fault)) (sym c.in-Err.ensures.kept)
-      (fault_ready c.args.self.now.schema.now c.args.self.now.text.now (standing_of c.args.self.now.phase c.args.self.now.elements) c.args.self.now.cursor c.args.self.now.fault c.in-Err.fault c.requires.ready c.in-Err.ensures.fault))
+    (fault_ready c.args.self.now.schema.now c.args.self.now.text.now (standing_of c.args.self.now.phase c.args.self.now.elements) c.args.self.now.cursor c.args.self.now.fault c.in-Err.fault c.requires.ready c.in-Err.ensures.fault))
 
 pub returns-in-Err-clause-fault : goal.returns-in-Err-clause-fault
 returns-in-Err-clause-fault c =
