@@ -2,3 +2,4 @@ pub mod Open
 pub mod Front
 pub mod Inside
 pub mod Reader
+pub mod Writer

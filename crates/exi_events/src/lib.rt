@@ -3,13 +3,19 @@
 #![tactic(auto)]
 
 mod inside;
+mod offer;
 mod open;
+mod putting;
 mod reader;
 mod step;
+mod value;
+mod writer;
 
+pub use exi_bits::Full;
 pub use exi_documents::{Refusal, RefusalCause};
 pub use exi_values::{Event, Table, Value};
 pub use reader::EventReader;
+pub use writer::EventWriter;
 
 #[cfg(test)]
 mod negotiation;

@@ -5,7 +5,7 @@ ghost use Rattle.exi_documents.specs.Values.{most_entries};
 ghost use Rattle.exi_events.specs.Reader.{IsReady};
 
 use crate::negotiation::{longer_negotiation, negotiation};
-use crate::{Event, EventReader, Refusal, RefusalCause, Table, Value};
+use crate::{Event, EventReader, EventWriter, Refusal, RefusalCause, Table, Value};
 use exi_schema::Places;
 use exi_strings::Partitions;
 use std::process::Abort;
@@ -159,4 +159,20 @@ fn refusals_have_a_bit(rt: HostRuntime) {
         RefusalCause::Trailing,
         104,
     );
+}
+
+/// Puts the events into a room and compares what is written.
+fn writes(rt: &impl Abort, table: &mut Table, room: &mut [u8])
+    requires room { length room.old ≤ 65536 }
+    requires cap { table.old.cap ≡ most_entries }
+    ensures { table.new.cap ≡ most_entries }
+    ensures length { length room.new ≡ length room.old }
+{
+    let schema = negotiation();
+    let mut writer = EventWriter::new(room, &schema, table);
+    let event = Event::Document(0);
+    if writer.offers(&event) {
+        assert!(rt; writer.put(&event).is_ok());
+    }
+    let _ = writer.finish();
 }

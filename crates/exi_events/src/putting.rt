@@ -1,0 +1,132 @@
+//! Event codes, values and the front of a document, written with a pen.
+
+ghost use Rattle.std.specs.Prelude.{◌≡◌, ℕ, ◌↔◌, length, Some, IfOk, IfErr, OnOk, OnErr, IsErr, IsSome};
+ghost use Rattle.exi_bits.specs.Pens.{written_bits};
+ghost use Rattle.exi_schema.specs.declared.places.Root.TheVariants.{Kind};
+ghost use Rattle.exi_schema.specs.Steps.{IsRoot, IsRootOf, simple_at};
+ghost use Rattle.exi_documents.specs.Grammar.{around, stands};
+ghost use Rattle.exi_documents.specs.Values.{Entries, most_entries};
+ghost use Rattle.exi_values.specs.Meaning.{AreTexts, event_of, texts_in, value_of};
+ghost use Rattle.exi_writing.specs.Writing.{Puts, Lacks, WritesMore, PassesRoom};
+ghost use Rattle.exi_events.specs.Front.{SpellsFront};
+ghost use Rattle.exi_events.specs.Inside.{AreOpen, HasTop};
+ghost use Rattle.exi_events.specs.Writer.{IsOffered, IsShapedEvent, IsPut, HasNoRoom, MayWrite, WritesValueOf, value_in};
+
+use crate::offer::offer_of;
+use crate::open::{OpenElement, OpenElements};
+use crate::step::RootNumber;
+use exi_bits::{BitPen, Full};
+use exi_schema::{Place, Places, Root, Step};
+use exi_values::{Event, Table};
+use exi_writing::put_value;
+
+/// Writes the header and a document number that names a root.
+pub(crate) fn put_front<P: Places>(
+    pen: &mut BitPen,
+    places: &P,
+    number: u32,
+) -> Result<RootNumber, Full>
+    requires { (name : ℕ) × (kind : ℕ) × IsRoot (P.schema places.now).roots.now (P.schema places.now).root_bits number (Kind name kind) }
+    ensures ok { IfOk result (λ root. Puts (SpellsFront (P.schema places.now) root.number) pen.old pen.new) }
+    ensures number { IfOk result (λ root. root.number ≡ number) }
+    ensures named { IfOk result (λ root. IsRoot (P.schema places.now).roots.now (P.schema places.now).root_bits root.number (Kind root.name root.kind)) }
+    ensures of_schema { IfOk result (λ root. IsRootOf (P.schema places.now).kinds.now (length (P.schema places.now).names.now) (Kind root.name root.kind)) }
+    ensures full { IsErr result ↔ Lacks (SpellsFront (P.schema places.now) number) pen.old }
+    ensures bits { IfErr result (PassesRoom pen.old) }
+    ensures more { WritesMore pen.old pen.new }
+{
+    let Root::Kind { name, kind } = places.root(number) else {
+        unreachable!()
+    };
+    pen.put_bits(0x80, 8)?;
+    pen.put_bits(number, places.root_width())?;
+    Ok(RootNumber { number, name, kind })
+}
+
+/// Writes the value of an event as one of a simple kind.
+fn put_value_of<P: Places>(
+    pen: &mut BitPen,
+    places: &P,
+    table: &mut Table,
+    kind: u16,
+    name: u16,
+    event: &Event,
+) -> Result<(), Full>
+    requires simple { IsSome (simple_at (P.schema places.now).kinds.now kind) }
+    requires cap { table.old.cap ≡ most_entries }
+    requires texts { AreTexts (written_bits pen.old) table.old.entries }
+    requires shaped { IsShapedEvent event.now }
+    requires value { (v : _) × (value_in event.now ≡ Some v) × MayWrite (P.schema places.now).kinds.now kind (texts_in (written_bits pen.old) table.old.entries) name (value_of v) }
+    ensures ok { (v : _) → value_in event.now ≡ Some v
+        → OnOk result (Puts (λ bits. WritesValueOf (P.schema places.now).kinds.now kind (texts_in (written_bits pen.old) table.old.entries) name (value_of v) (texts_in (written_bits pen.new) table.new.entries) bits) pen.old pen.new) }
+    ensures texts { AreTexts (written_bits pen.new) table.new.entries }
+    ensures cap { table.new.cap ≡ most_entries }
+    ensures full { (v : _) → value_in event.now ≡ Some v
+        → (IsErr result ↔ Lacks (λ bits. (after : Entries) × WritesValueOf (P.schema places.now).kinds.now kind (texts_in (written_bits pen.old) table.old.entries) name (value_of v) after bits) pen.old) }
+    ensures bits { IfErr result (PassesRoom pen.old) }
+    ensures more { WritesMore pen.old pen.new }
+    ensures stays { OnErr result (table.new ≡ table.old) }
+{
+    let Some(datatype) = places.datatype(kind) else {
+        unreachable!()
+    };
+    match event {
+        Event::Attribute(_, value) | Event::Value(value) => {
+            put_value(pen, datatype, name, value, table)
+        }
+        _ => unreachable!(),
+    }
+}
+
+/// Writes an event inside the innermost element, which is `top`.
+pub(crate) fn put_inside<P: Places>(
+    pen: &mut BitPen,
+    places: &P,
+    table: &mut Table,
+    elements: &mut OpenElements,
+    top: OpenElement,
+    event: &Event,
+) -> Result<(), Full>
+    requires top { HasTop elements.old top }
+    requires elements { AreOpen (P.schema places.now).kinds.now elements.old }
+    requires cap { table.old.cap ≡ most_entries }
+    requires texts { AreTexts (written_bits pen.old) table.old.entries }
+    requires shaped { IsShapedEvent event.now }
+    requires offered { IsOffered (P.schema places.now) (stands (around elements.old) (texts_in (written_bits pen.old) table.old.entries)) event.now }
+    ensures ok { OnOk result (IsPut (P.schema places.now)
+        (stands (around elements.old) (texts_in (written_bits pen.old) table.old.entries))
+        (stands (around elements.new) (texts_in (written_bits pen.new) table.new.entries)) pen.old pen.new (event_of event.now)) }
+    ensures elements { AreOpen (P.schema places.now).kinds.now elements.new }
+    ensures texts { AreTexts (written_bits pen.new) table.new.entries }
+    ensures cap { table.new.cap ≡ most_entries }
+    ensures full { IsErr result ↔ HasNoRoom (P.schema places.now) (stands (around elements.old) (texts_in (written_bits pen.old) table.old.entries)) pen.old (event_of event.now) }
+    ensures bits { IfErr result (PassesRoom pen.old) }
+    ensures more { WritesMore pen.old pen.new }
+    ensures stays { OnErr result ((elements.new ≡ elements.old) × (table.new ≡ table.old)) }
+{
+    let Some(offer) = offer_of(places, top.place, event) else {
+        unreachable!()
+    };
+    pen.put_bits(u32::from(offer.code), places.width(top.place))?;
+    match offer.step {
+        Step::Attribute { name, kind, next } => {
+            put_value_of(pen, places, table, kind, name, event)?;
+            elements.goes_to(next);
+        }
+        Step::Element {
+            name,
+            kind,
+            next,
+            ..
+        } => {
+            elements.goes_to(next);
+            elements.push(name, Place::first(kind));
+        }
+        Step::End => elements.pop(),
+        Step::Characters { next } => {
+            put_value_of(pen, places, table, top.place.kind, top.name, event)?;
+            elements.goes_to(next);
+        }
+    }
+    Ok(())
+}

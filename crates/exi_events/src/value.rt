@@ -1,0 +1,110 @@
+//! Whether a value may be written.
+
+ghost use Rattle.std.specs.Prelude.{◌≡◌, ℕ, ◌↔◌, IsTrue, true, List, Some, MatchBool, slice_get};
+ghost use Rattle.exi_bits.specs.Lent.{items_of, text_at, IsSpan};
+ghost use Rattle.exi_bits.specs.Pens.{written_bits};
+ghost use Rattle.exi_documents.specs.Trees.{Text, Number};
+ghost use Rattle.exi_documents.specs.Values.{most_entries, IsValue};
+ghost use Rattle.exi_values.specs.Meaning.{AreTexts, IsShaped, texts_in, value_of};
+ghost use Rattle.exi_strings.specs.Table.{global_of};
+ghost use Rattle.exi_strings.specs.Texts.{IsAbsent};
+ghost use Rattle.exi_writing.specs.Entering.{HasEntryFor};
+
+use exi_bits::{BitPen, BitSpan, SpanAt};
+use exi_schema::Datatype;
+use exi_values::{Table, Value};
+
+/// Whether a value is one of a datatype.
+pub(crate) fn is_value(datatype: Datatype, value: &Value) -> bool
+    requires { IsShaped value.now }
+    ensures { IsTrue result ↔ IsValue datatype (value_of value.now) }
+{
+    match value {
+        Value::Bool(_) => matches!(datatype, Datatype::Bool),
+        Value::Ordinal(ordinal) => match datatype {
+            Datatype::Named { count } => *ordinal < count,
+            _ => false,
+        },
+        Value::Number(number) => is_number(datatype, *number),
+        Value::Binary(span) => match datatype {
+            Datatype::Binary { most } => span.len() <= most,
+            _ => false,
+        },
+        Value::Text(span) => match datatype {
+            Datatype::Text { most } => span.len() <= most,
+            _ => false,
+        },
+        Value::Written(text) => match datatype {
+            Datatype::Text { most } => text.chars().count() <= most as usize,
+            _ => false,
+        },
+    }
+}
+
+/// Whether an integer is one of a datatype.
+fn is_number(datatype: Datatype, number: i128) -> bool
+    ensures { IsTrue result ↔ IsValue datatype (Number number) }
+{
+    match datatype {
+        Datatype::Bounded { least, count } => {
+            let from = i128::from(least);
+            from <= number && number < from + i128::from(count)
+        }
+        Datatype::Unsigned { most } => 0 <= number && number <= i128::from(most),
+        Datatype::Signed { least, most } => {
+            i128::from(least) <= number && number <= i128::from(most)
+        }
+        _ => false,
+    }
+}
+
+/// Whether the table has room where the text of a value would enter it, as that of any name.
+pub(crate) fn has_entry(pen: &BitPen, table: &Table, value: &Value) -> bool
+    requires shaped { IsShaped value.now }
+    requires cap { table.now.cap ≡ most_entries }
+    requires texts { AreTexts (written_bits pen.now) table.now.entries }
+    ensures { (name : ℕ) → (IsTrue result ↔ HasEntryFor (texts_in (written_bits pen.now) table.now.entries) name (value_of value.now)) }
+{
+    match value {
+        Value::Text(span) => {
+            table.globals() < 8192 || span.len() == 0 || is_entered(pen, table, value)
+        }
+        Value::Written(text) => {
+            table.globals() < 8192 || text.is_empty() || is_entered(pen, table, value)
+        }
+        _ => true,
+    }
+}
+
+/// Whether the text of a value stands in the global partition.
+fn is_entered(pen: &BitPen, table: &Table, value: &Value) -> bool
+    requires shaped { IsShaped value.now }
+    requires texts { AreTexts (written_bits pen.now) table.now.entries }
+    ensures { (text : List ℕ) → value_of value.now ≡ Text text → MatchBool result
+        ((i : ℕ) × (slice_get (global_of (texts_in (written_bits pen.now) table.now.entries)) i ≡ Some text))
+        (IsAbsent (global_of (texts_in (written_bits pen.now) table.now.entries)) text) }
+{
+    for i in 0..table.globals() {
+        let Some(at) = table.global(i) else {
+            unreachable!()
+        };
+        if is_text_at(pen, value, *at) {
+            return true;
+        }
+    }
+    false
+}
+
+/// Whether the text of a value is the one at a place of what is written.
+fn is_text_at(pen: &BitPen, value: &Value, at: SpanAt) -> bool
+    requires shaped { IsShaped value.now }
+    requires spelled { IsSpan (text_at (written_bits pen.now) at) }
+    ensures { (text : List ℕ) → value_of value.now ≡ Text text → (IsTrue result ↔ (items_of (text_at (written_bits pen.now) at) ≡ text)) }
+{
+    let there = BitSpan::of(pen.written(), at);
+    match value {
+        Value::Text(span) => there.same(span),
+        Value::Written(text) => there.same_str(text),
+        _ => false,
+    }
+}
