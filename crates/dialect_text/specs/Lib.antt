@@ -1,0 +1,4 @@
+pub mod Dialect
+pub mod Languages
+pub mod Scanning
+pub mod Faults

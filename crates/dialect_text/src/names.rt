@@ -1,0 +1,83 @@
+//! The names that are awaited at a place of a text.
+
+ghost use Rattle.std.specs.Prelude.{◌≡◌, ◌<◌, ◌++◌, [], List, length, map, All, IfOk, OnOk, IsTrue};
+ghost use Rattle.std.specs.List.{AllByRecursion};
+ghost use Rattle.dialect_text.specs.Scanning.{awaited_root, awaited_attribute, IsAwaitedElement, HasMembers, HasElements};
+
+use crate::kinds::{kind_of_element, mark_behind};
+use charge_world::NoMemory;
+use exi_schema::{AttributeOf, Member, Particle, Schema};
+use std::alloc::Global;
+use value_text::Awaited;
+
+/// The roots, in their order.
+pub(crate) fn awaited_roots(alloc: Global, schema: &Schema) -> Result<Vec<Awaited>, NoMemory>
+    ensures { IfOk result (λ awaited. awaited.items ≡ map (awaited_root schema.now) schema.now.roots.now) }
+{
+    let mut awaited = Vec::new(alloc);
+    for root in schema.roots {
+        awaited.push(Awaited {
+            name: root.name,
+            end: mark_behind(schema, root.kind),
+        })?;
+    }
+    Ok(awaited)
+}
+
+/// These attributes, in their order.
+pub(crate) fn awaited_attributes(
+    alloc: Global,
+    attributes: &[AttributeOf],
+) -> Result<Vec<Awaited>, NoMemory>
+    ensures { IfOk result (λ awaited. awaited.items ≡ map awaited_attribute attributes.now) }
+{
+    let mut awaited = Vec::new(alloc);
+    for attribute in attributes {
+        awaited.push(Awaited {
+            name: attribute.name,
+            end: '=',
+        })?;
+    }
+    Ok(awaited)
+}
+
+/// Those of these members that have the kind of the first element of their name.
+fn await_members(
+    awaited: &mut Vec<Awaited>,
+    schema: &Schema,
+    particles: &[Particle],
+    members: &[Member],
+) -> Result<(), NoMemory>
+    requires kinds { AllByRecursion (λ member. member.kind < length schema.now.kinds.now) members.now }
+    requires only { AllByRecursion (IsAwaitedElement schema.now particles.now) awaited.old.items }
+    ensures only { OnOk result (AllByRecursion (IsAwaitedElement schema.now particles.now) awaited.new.items) }
+    ensures each { OnOk result (HasMembers schema.now particles.now members.now awaited.new.items) }
+    ensures kept { OnOk result ((more : List _) × (awaited.new.items ≡ awaited.old.items ++ more)) }
+{
+    for member in members {
+        if kind_of_element(particles, member.name) == Some(member.kind) {
+            awaited.push(Awaited {
+                name: member.name,
+                end: mark_behind(schema, member.kind),
+            })?;
+        }
+    }
+    Ok(())
+}
+
+/// The elements of these particles.
+pub(crate) fn awaited_elements(
+    alloc: Global,
+    schema: &Schema,
+    particles: &[Particle],
+) -> Result<Vec<Awaited>, NoMemory>
+    requires kinds { AllByRecursion (λ particle. AllByRecursion (λ member. member.kind < length schema.now.kinds.now) particle.members.now) particles.now }
+    ensures only { IfOk result (λ awaited. AllByRecursion (IsAwaitedElement schema.now particles.now) awaited.items) }
+    ensures each { IfOk result (λ awaited. HasElements schema.now particles.now awaited.items) }
+{
+    let mut awaited = Vec::new(alloc);
+    for particle in particles {
+        await_members(&mut awaited, schema, particles, particle.members)?;
+    }
+    Ok(awaited)
+}
