@@ -14,40 +14,9 @@ use Rattle.exi_schema.specs.Steps.{IsRoot, texts_at}
 use Rattle.exi_documents.specs.Documents.{element, first, name_of}
 use Rattle.exi_documents.specs.Trees.{Value, Truth, Ordinal, Number, Bytes, Text, Trees, none, simple, complex, Tree, Simple, Complex}
 
--- ---- values
-
--- a character between quotes: a quote and a backslash stand behind a backslash, and one below U+0020 is its number in hexadecimal
-abbrev pub character_text : ℕ → List ℕ
-character_text c =
-    if c == 34 then codes "\\\""
-    else if c == 92 then codes "\\\\"
-    else if nat_lt c 32 then codes "\\u{" ++ digits 16 false c ++ codes "}"
-    else encode_utf8 c
-
-abbrev pub quoted : List ℕ → List ℕ
-quoted chars = codes "\"" ++ flat_map character_text chars ++ codes "\""
-
-abbrev pub truth_text : Bool → List ℕ
-truth_text true = codes "true"
-truth_text false = codes "false"
-
--- a value of a kind. Of an enumeration it is the name that the schema has for the ordinal
-abbrev pub IsValueText : Schema → ℕ → Value → List ℕ → Type 0
-IsValueText s kind (Truth truth) text = text ≡ truth_text truth
-IsValueText s kind (Ordinal ordinal) text = slice_get (texts_at (map (λ l. map (λ t. t.now) l.now) s.values.now) kind) ordinal ≡ Some text
-IsValueText s kind (Number v) text = text ≡ signed_decimal v
-IsValueText s kind (Bytes bytes) text = text ≡ encode_lower bytes
-IsValueText s kind (Text chars) text = text ≡ quoted chars
+pub use Rattle.value_text.specs.ValueText.{character_text, quoted, truth_text, IsValueText, IsName, IsNamedText}
 
 -- ---- elements and attributes
-
-abbrev pub IsName : Schema → ℕ → List ℕ → Type 0
-IsName s name text = slice_get (map (λ t. t.now) s.names.now) name ≡ Some text
-
--- a value of a kind behind its name
-abbrev pub IsNamedText : Schema → ℕ → ℕ → Value → List ℕ → Type 0
-IsNamedText s name kind value text =
-    (word : List ℕ) × (said : List ℕ) × IsName s name word × IsValueText s kind value said × (text ≡ word ++ codes "=" ++ said)
 
 -- parts behind the name of the element that they stand in
 abbrev pub braced : List ℕ → List (List ℕ) → List ℕ
