@@ -2,6 +2,8 @@ pub mod Pieces
 pub mod Attributes
 pub mod Standings
 pub mod Once
+pub mod Declared
+pub mod Alike
 pub mod Spacing
 pub mod Tied
 pub mod Told

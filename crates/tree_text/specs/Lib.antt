@@ -1,3 +1,4 @@
 pub mod TreeText
 pub mod EventText
 pub mod Printing
+pub mod Consistent
