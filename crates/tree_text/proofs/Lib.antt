@@ -4,6 +4,7 @@ pub mod Standings
 pub mod Once
 pub mod Declared
 pub mod Alike
+pub mod Ahead
 pub mod Spacing
 pub mod Tied
 pub mod Told

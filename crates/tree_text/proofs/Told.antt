@@ -32,14 +32,14 @@ use Rattle.tree_text.specs.declared.print.TextEnd.{TextEnd}
 
 -- ---- names and values
 
-found : {X : Type 0} (xs : List X) (i : ℕ) → i < length xs → (x : X) × (slice_get xs i ≡ Some x)
+pub found : {X : Type 0} (xs : List X) (i : ℕ) → i < length xs → (x : X) × (slice_get xs i ≡ Some x)
 found xs i less =
     elim (slice_get_cases xs i).1 [
       | inl is ↦ (is.0, is.2)
       | inr past ↦ let more = past.0 in absurd (omega (arith, less, more))
     ]
 
-has_name : (s : Schema) (name : ℕ) → name < length s.names.now → (word : List ℕ) × IsName s name word
+pub has_name : (s : Schema) (name : ℕ) → name < length s.names.now → (word : List ℕ) × IsName s name word
 has_name s name less = found (map (λ t. t.now) s.names.now) name (rw length-map less)
 
 same_count : (n m : ℕ) → (n == m) ≡ true → n ≡ m
