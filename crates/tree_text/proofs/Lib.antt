@@ -5,6 +5,8 @@ pub mod Once
 pub mod Declared
 pub mod Alike
 pub mod Ahead
+pub mod Shortness
+pub mod Sayings
 pub mod Spacing
 pub mod Tied
 pub mod Told

@@ -18,7 +18,8 @@ pub fn events_tell_texts()
 /// The text of a tree is what its events add, one after the other, wherever bits spell them. A tree that spells a document has a text.
 pub fn texts_tell_events()
     ensures reached { (s : Schema) (number : ℕ) (tree : Tree) (text : List ℕ) (bits : List Bool) (state : State) → IsTreeText s tree text → Reaches SpellsValue s (reverse (document_events number tree)) bits state → Tells SpellsValue s (reverse (document_events number tree)) text state }
-    ensures document { (s : Schema) (number : ℕ) (tree : Tree) (text : List ℕ) (bits : List Bool) → IsTreeText s tree text → SpellsDocument SpellsValue s number tree bits → (entries : Entries) × Tells SpellsValue s (reverse (document_events number tree)) text (stands Behind entries) }
+    ensures spelled { (s : Schema) (number : ℕ) (tree : Tree) (text : List ℕ) (bits : List Bool) → IsTreeText s tree text → SpellsDocument SpellsValue s number tree bits → (entries : Entries) × Tells SpellsValue s (reverse (document_events number tree)) text (stands Behind entries) }
+    ensures written { (s : Schema) (number : ℕ) (tree : Tree) (text : List ℕ) (bits : List Bool) → IsTreeText s tree text → SpellsDocument WritesValue s number tree bits → (entries : Entries) × Tells WritesValue s (reverse (document_events number tree)) text (stands Behind entries) }
     ensures has_text { (s : Schema) (number : ℕ) (tree : Tree) (bits : List Bool) → SpellsDocument SpellsValue s number tree bits → (text : List ℕ) × IsTreeText s tree text }
 {}
 
