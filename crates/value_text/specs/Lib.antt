@@ -1,3 +1,4 @@
 pub mod ValueText
 pub mod Fronts
 pub mod Scanning
+pub mod Forms

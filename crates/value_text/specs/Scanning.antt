@@ -15,8 +15,9 @@ use Rattle.value_text.specs.Fronts.{IsLongest}
 use Rattle.value_text.specs.ValueText.{IsName, IsFormed}
 
 -- a cursor passes these characters
-abbrev pub Passes : TextCursor → List ℕ → TextCursor → Type 0
-Passes before front after = (before.rest.now ≡ encode_utf8_all front ++ after.rest.now) × (after.place ≡ before.place + length front)
+pub record Passes (before : TextCursor) (front : List ℕ) (after : TextCursor) : Type 0 where
+  pub stands : before.rest.now ≡ encode_utf8_all front ++ after.rest.now
+  pub counted : after.place ≡ before.place + length front
 
 -- it takes the longest front that begins a text of the language, and this is such a text
 pub record Takes (L : List ℕ → Type 0) (before : TextCursor) (front : List ℕ) (after : TextCursor) : Type 0 where

@@ -14,7 +14,8 @@ pub struct TextCursor<'t> {
 }
 
 impl<'t> TextCursor<'t> {
-    ghost use Rattle.std.specs.Prelude.{◌≡◌, ℕ, List, [], ◌∷◌, ◌++◌, MatchOption, encode_utf8};
+    ghost use Rattle.std.specs.Prelude.{◌≡◌, ◌==◌, ℕ, List, [], ◌∷◌, ◌++◌, MatchBool, MatchOption, encode_utf8};
+    ghost use Rattle.value_text.specs.Forms.{NoneNext};
     ghost use Rattle.value_text.specs.Scanning.{Passes};
 
     /// At the start of a text.
@@ -46,5 +47,20 @@ impl<'t> TextCursor<'t> {
             place: self.place + 1,
         };
         Some(next)
+    }
+
+    /// Passes this character, if it is next.
+    pub fn take_char(&mut self, c: char) -> bool
+        ensures { MatchBool result (Passes self.old (c ∷ []) self.new) ((self.new ≡ self.old) × NoneNext (λ d. d == c) self.old.rest.now) }
+    {
+        let mut ahead = *self;
+        let Some(next) = ahead.next() else {
+            return false;
+        };
+        if next != c {
+            return false;
+        }
+        *self = ahead;
+        true
     }
 }

@@ -6,8 +6,11 @@
 #![tactic(auto)]
 
 mod awaited;
+mod binary;
 mod cursor;
 mod fault;
+mod number;
+mod quoted;
 mod scanned;
 mod value;
 
