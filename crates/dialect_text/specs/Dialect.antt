@@ -1,7 +1,6 @@
 -- Own: the texts of the dialect of a schema, event by event. They are told by the kinds alone: inside an element of a kind stand attributes and
 -- then elements that the kind declares and takes, in any order and number, and each value has the form of its datatype.
 use Rattle.std.specs.Prelude.{◌≡◌, ℕ, Bool, true, false, ◌==◌, ◌&&◌, if◌then◌else◌, List, [], ◌∷◌, ◌++◌, length, codes, Option, Some, None, slice_get}
-use Rattle.std.specs.Str.{chars}
 use Rattle.exi_schema.specs.declared.places.Root.TheVariants.{Kind}
 use Rattle.exi_schema.specs.declared.schema.Schema.{Schema}
 use Rattle.exi_schema.specs.declared.tables.AttributeOf.{AttributeOf}
@@ -14,7 +13,7 @@ use Rattle.exi_schema.specs.Schemas.{is_taken}
 use Rattle.exi_schema.specs.Steps.{IsRoot, simple_at}
 use Rattle.exi_documents.specs.Trees.{Value, Event, Document, Start, Attribute, Content, EndElement}
 use Rattle.value_text.specs.ValueText.{IsName, IsFormed}
-use Rattle.value_text.specs.Fronts.{Begins, IsLongest}
+use Rattle.value_text.specs.Fronts.{IsLongest}
 use Rattle.dialect_text.specs.declared.elements.Filling.{Filling}
 use Rattle.dialect_text.specs.declared.elements.Filling.TheVariants as fills
 use Rattle.dialect_text.specs.declared.elements.OpenElement.{OpenElement}
@@ -183,4 +182,4 @@ IsOfDialect s text = (events : List Event) × IsDialectText s events text
 -- no text of the dialect: its longest front that begins one has so many characters
 abbrev pub IsFault : Schema → List ℕ → ℕ → Type 0
 IsFault s text place =
-    (IsOfDialect s text → ⊥) × ((front : List ℕ) × IsLongest (IsOfDialect s) text front × (length (chars front) ≡ place))
+    (IsOfDialect s text → ⊥) × ((front : List ℕ) × IsLongest (IsOfDialect s) text front × (length front ≡ place))
