@@ -5,3 +5,9 @@ pub mod Nexts
 pub mod Innermost
 pub mod Datatypes
 pub mod Told
+pub mod Writable
+pub mod Offering
+pub mod Rooted
+pub mod Finished
+pub mod Entries
+pub mod Bounds

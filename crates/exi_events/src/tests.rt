@@ -165,7 +165,7 @@ fn refusals_have_a_bit(rt: HostRuntime) {
 fn writes(rt: &impl Abort, table: &mut Table, room: &mut [u8])
     requires room { length room.old ≤ 65536 }
     requires cap { table.old.cap ≡ most_entries }
-    ensures { table.new.cap ≡ most_entries }
+    ensures cap { table.new.cap ≡ most_entries }
     ensures length { length room.new ≡ length room.old }
 {
     let schema = negotiation();

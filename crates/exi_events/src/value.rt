@@ -27,11 +27,11 @@ pub(crate) fn is_value(datatype: Datatype, value: &Value) -> bool
         },
         Value::Number(number) => is_number(datatype, *number),
         Value::Binary(span) => match datatype {
-            Datatype::Binary { most } => span.len() <= most,
+            Datatype::Binary { most } => span.at().chars <= most,
             _ => false,
         },
         Value::Text(span) => match datatype {
-            Datatype::Text { most } => span.len() <= most,
+            Datatype::Text { most } => span.at().chars <= most,
             _ => false,
         },
         Value::Written(text) => match datatype {
@@ -65,13 +65,12 @@ pub(crate) fn has_entry(pen: &BitPen, table: &Table, value: &Value) -> bool
     requires texts { AreTexts (written_bits pen.now) table.now.entries }
     ensures { (name : ℕ) → (IsTrue result ↔ HasEntryFor (texts_in (written_bits pen.now) table.now.entries) name (value_of value.now)) }
 {
+    if table.globals() < 8192 {
+        return true;
+    }
     match value {
-        Value::Text(span) => {
-            table.globals() < 8192 || span.len() == 0 || is_entered(pen, table, value)
-        }
-        Value::Written(text) => {
-            table.globals() < 8192 || text.is_empty() || is_entered(pen, table, value)
-        }
+        Value::Text(span) => span.len() == 0 || is_entered(pen, table, value),
+        Value::Written(text) => text.is_empty() || is_entered(pen, table, value),
         _ => true,
     }
 }

@@ -1,0 +1,108 @@
+-- Which values may be written: those of the datatype, where the table has an entry for a text.
+use Rattle.std.proofs.Common.{◌≡◌, ℕ, zero, suc, ℤ, pos, ◌+◌, ◌<◌, ◌≤◌, Bool, List, [], ◌∷◌, ◌++◌, length, Some, None, refl, sym, ap, inl, inr, arith, length-append}
+use Rattle.std.specs.Prelude.{◌⊎◌, ◌≢◌, slice_get}
+use Rattle.std.proofs.lemmas.Bool.Decides.{eqb_tells}
+use Rattle.exi_spec.specs.Bits.{number_bits, bits_of}
+use Rattle.exi_spec.specs.Items.{shortest_unsigned, shortest_integer, shortest_chars}
+use Rattle.exi_schema.specs.declared.tables.Datatype.{Datatype}
+use Rattle.exi_schema.specs.declared.tables.Datatype.TheVariants.{Bool as BoolType, Named, Bounded, Unsigned, Signed, Binary, Text as TextType}
+use Rattle.exi_strings.specs.Table.{global_of, local_of}
+use Rattle.exi_strings.specs.Texts.{IsFirstAt, IsAbsent, WritesText, entered}
+use Rattle.exi_documents.specs.Trees.{Value, Truth, Ordinal, Number, Bytes, Text}
+use Rattle.exi_documents.specs.Values.{Entries, most_entries, IsValue, WritesValue}
+use Rattle.exi_writing.specs.Entering.{HasEntryFor}
+use Rattle.document_laws.proofs.IndexWidths.{index_width}
+
+-- ---- what is written is a value, and a text had room
+
+entry_fits : (entries after : Entries) (name : ℕ) (text : List ℕ) (bits : List Bool) → WritesText entries name text bits after → length after ≤ most_entries → HasEntryFor entries name (Text text)
+entry_fits entries after name [] bits w few = tt
+entry_fits entries after name (char ∷ chars) bits (inl h) few = λ local global. absurd (local h.0.1.0 h.0.1.2.found)
+entry_fits entries after name (char ∷ chars) bits (inr (inl h)) few = λ local global. absurd (global h.1.1.0 h.1.1.2.found)
+entry_fits entries after name (char ∷ chars) bits (inr (inr h)) few = λ local global.
+    omega (arith, few, ap length h.3, length-append entries ((name, char ∷ chars) ∷ []))
+
+pub value_fits : (d : Datatype) (entries after : Entries) (name : ℕ) (v : Value) (bits : List Bool) → WritesValue d entries name v bits after → IsValue d v × HasEntryFor entries name v
+value_fits BoolType entries after name (Truth truth) bits h = (tt, tt)
+value_fits (Named count) entries after name (Ordinal ordinal) bits h = (h.0.below, tt)
+value_fits (Bounded least count) entries after name (Number v) bits h = ((h.0.0, h.0.2.below, h.0.1), tt)
+value_fits (Unsigned most) entries after name (Number (pos n)) bits h = (h.0, tt)
+value_fits (Signed least most) entries after name (Number v) bits h = ((h.0, h.1), tt)
+value_fits (Binary most) entries after name (Bytes bytes) bits h = (h.0, tt)
+value_fits (TextType most) entries after name (Text chars) bits h = (h.0, entry_fits entries after name chars bits h.1 h.2)
+value_fits _ entries after name _ bits h = absurd h
+
+-- ---- a value that fits is written by some bits
+
+same_or_not : (a b : List ℕ) → (a ≡ b) ⊎ (a ≡ b → ⊥)
+same_or_not [] [] = inl refl
+same_or_not [] (y ∷ ys) = inr (λ e. absurd cc)
+same_or_not (x ∷ xs) [] = inr (λ e. absurd cc)
+same_or_not (x ∷ xs) (y ∷ ys) =
+    elim (eqb_tells x y) [
+      | inl first ↦ elim (same_or_not xs ys) [
+          | inl others ↦ let one : x ≡ y = first.1 in inl cc
+          | inr other ↦ inr (λ e. other (let tail : xs ≡ ys = cc in tail))
+        ]
+      | inr other ↦ inr (λ e. other.1 (let head : x ≡ y = cc in head))
+    ]
+
+none_before : (t : List ℕ) (ts : List (List ℕ)) (text : List ℕ) (i : ℕ) → (t ≡ text → ⊥) → ((k : ℕ) → k < i → slice_get ts k ≢ Some text) → (k : ℕ) → k < suc i → slice_get (t ∷ ts) k ≢ Some text
+none_before t ts text i other before zero less = λ found. other (let same : Some t ≡ Some text = found in let e : t ≡ text = cc in e)
+none_before t ts text i other before (suc k) less = before k (omega (arith, less))
+
+absent_too : (t : List ℕ) (ts : List (List ℕ)) (text : List ℕ) → (t ≡ text → ⊥) → IsAbsent ts text → IsAbsent (t ∷ ts) text
+absent_too t ts text other absent zero = λ found. other (let same : Some t ≡ Some text = found in let e : t ≡ text = cc in e)
+absent_too t ts text other absent (suc k) = absent k
+
+find_first : (partition : List (List ℕ)) (text : List ℕ) → ((i : ℕ) × IsFirstAt partition text i) ⊎ IsAbsent partition text
+find_first [] text = inr (λ k found. let wrong : None ≡ Some text = found in absurd cc)
+find_first (t ∷ ts) text =
+    elim (same_or_not t text) [
+      | inl is ↦ inl (0, record { found = ap (λ (l : List ℕ). Some l) is; first = λ k less. absurd (omega (arith, less)) })
+      | inr other ↦ elim (find_first ts text) [
+          | inl h ↦ inl (suc h.0, record { found = h.1.found; first = none_before t ts text h.0 other h.1.first })
+          | inr absent ↦ inr (absent_too t ts text other absent)
+        ]
+    ]
+
+entered_few : (entries : Entries) (name : ℕ) (text : List ℕ) → length entries ≤ most_entries → HasEntryFor entries name (Text text) → IsAbsent (local_of name entries) text → IsAbsent (global_of entries) text → length (entered entries name text) ≤ most_entries
+entered_few entries name [] few room local global = few
+entered_few entries name (char ∷ chars) few room local global =
+    let more = room local global in omega (arith, length-append entries ((name, char ∷ chars) ∷ []), more)
+
+text_writes : (entries : Entries) (name : ℕ) (text : List ℕ) → length entries ≤ most_entries → HasEntryFor entries name (Text text) → (bits : List Bool) × (after : Entries) × WritesText entries name text bits after × (length after ≤ most_entries)
+text_writes entries name text few room =
+    elim (find_first (local_of name entries) text) [
+      | inl h ↦
+          let width = index_width (length (local_of name entries)) in
+          let rest = number_bits width.0 h.0 in
+          (shortest_unsigned 0 ++ rest, entries, inl ((rest, (h.0, width.0, h.1, width.1, refl), refl), refl), few)
+      | inr local ↦ elim (find_first (global_of entries) text) [
+          | inl h ↦
+              let width = index_width (length (global_of entries)) in
+              let rest = number_bits width.0 h.0 in
+              (shortest_unsigned 1 ++ rest, entries, inr (inl (local, (rest, (h.0, width.0, h.1, width.1, refl), refl), refl)), few)
+          | inr global ↦ (
+              shortest_unsigned (length text + 2) ++ shortest_chars text,
+              entered entries name text,
+              inr (inr (local, global, refl, refl)),
+              entered_few entries name text few room local global,
+            )
+        ]
+    ]
+
+pub value_writes : (d : Datatype) (entries : Entries) (name : ℕ) (v : Value) → length entries ≤ most_entries → IsValue d v → HasEntryFor entries name v → (bits : List Bool) × (after : Entries) × WritesValue d entries name v bits after
+value_writes BoolType entries name (Truth truth) few is room = (truth ∷ [], entries, (refl, refl))
+value_writes (Named count) entries name (Ordinal ordinal) few is room =
+    let width = index_width count in
+    (number_bits width.0 ordinal, entries, (record { below = is; width = width.0; is_width = width.1; spelled = refl }, refl))
+value_writes (Bounded least count) entries name (Number v) few is room =
+    let width = index_width count in
+    (number_bits width.0 is.0, entries, ((is.0, is.2, record { below = is.1; width = width.0; is_width = width.1; spelled = refl }), refl))
+value_writes (Unsigned most) entries name (Number (pos n)) few is room = (shortest_unsigned n, entries, (is, refl, refl))
+value_writes (Signed least most) entries name (Number v) few is room = (shortest_integer v, entries, (is.0, is.1, refl, refl))
+value_writes (Binary most) entries name (Bytes bytes) few is room = (shortest_unsigned (length bytes) ++ bits_of bytes, entries, (is, refl, refl))
+value_writes (TextType most) entries name (Text chars) few is room =
+    let w = text_writes entries name chars few room in (w.0, w.1, (is, w.2, w.3))
+value_writes _ entries name _ few is room = absurd is
