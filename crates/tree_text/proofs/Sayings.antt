@@ -4,11 +4,11 @@ use Rattle.exi_schema.specs.declared.schema.Schema.{Schema}
 use Rattle.exi_documents.specs.Documents.{Speller, SpellsDocument}
 use Rattle.exi_documents.specs.Grammar.{Opened, Standing, Before, AtRoot, Inside, Behind, State, start, stands, Reaches}
 use Rattle.exi_documents.specs.Trees.{Tree, Event, document_events}
-use Rattle.exi_documents.specs.Values.{Entries}
+use Rattle.exi_documents.specs.Values.{Entries, WritesValue}
 use Rattle.document_laws.proofs.Runs.{document_tells}
 use Rattle.dialect_text.specs.Dialect as dialect
 use Rattle.dialect_text.specs.declared.elements.OpenElement.{OpenElement}
-use Rattle.tree_text.specs.Consistent.{are_consistent}
+use Rattle.tree_text.specs.Consistent.{are_consistent, are_short}
 use Rattle.tree_text.specs.EventText.{text_end, Tells}
 use Rattle.tree_text.specs.TreeText.{IsTreeText}
 use Rattle.tree_text.specs.declared.print.TextEnd.{TextEnd}
@@ -17,6 +17,9 @@ use Rattle.document_laws.specs.Laws.{IsStanding}
 use Rattle.tree_text.proofs.Standings.{standing_kept}
 use Rattle.tree_text.proofs.Alike.{IsAlike, follows}
 use Rattle.tree_text.proofs.Ahead.{HasForm, leads}
+use Rattle.tree_text.proofs.Shortness.{written_form}
+use Rattle.tree_text.proofs.Spelled.{spelled_told}
+use Rattle.tree_text.proofs.Told.{has_written_text}
 use Rattle.tree_text.proofs.Tied.{document_told}
 
 -- a tree's text of the same events, and how far the dialect's is ahead
@@ -116,3 +119,10 @@ module _ (V : Speller) (s : Schema) (fits : are_consistent s.kinds.now ≡ true)
         let t = told_said events (stands Behind entries) told h in
         let whole : told ++ t.ahead ≡ told = ap (λ (l : List ℕ). told ++ l) t.alike.1 ∙ append-nil told in
         subst (λ (l : List ℕ). dialect.Says s events l (dialect.Within [])) whole (subst (λ (x : dialect.Standing). dialect.Says s events (told ++ t.ahead) x) t.alike.0 t.says)
+
+-- the text of a tree, as it is written, says the events of its document
+pub encoded_said : (s : Schema) → are_consistent s.kinds.now ≡ true → are_short s.kinds.now ≡ true → (number : ℕ) (tree : Tree) (text : List ℕ) (bits : List Bool) → IsTreeText s tree text →
+    SpellsDocument WritesValue s number tree bits → dialect.IsDialectText s (reverse (document_events number tree)) text
+encoded_said s fits short number tree text bits is d =
+    let told = spelled_told WritesValue s (has_written_text s) number tree text bits is d in
+    whole_said WritesValue s fits (written_form s short) (reverse (document_events number tree)) told.0 text told.1
