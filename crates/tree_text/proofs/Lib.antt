@@ -13,3 +13,4 @@ pub mod Told
 pub mod Turns
 pub mod OneText
 pub mod Spelled
+pub mod Stuck
