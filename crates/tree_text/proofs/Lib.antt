@@ -14,3 +14,4 @@ pub mod Turns
 pub mod OneText
 pub mod Spelled
 pub mod Stuck
+pub mod Scanned
