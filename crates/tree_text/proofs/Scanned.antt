@@ -1,20 +1,23 @@
 -- A text that is scanned to its end.
-use Rattle.std.proofs.Common.{◌≡◌, ℕ, ◌+◌, ◌*◌, ◌≤◌, Bool, true, false, List, ◌∷◌, ◌++◌, length, replicate, reverse, refl, sym, ap, subst, ◌∙◌, arith, length-append}
+use Rattle.std.proofs.Common.{◌≡◌, ℕ, ◌+◌, ◌*◌, ◌≤◌, Bool, true, false, List, ◌∷◌, ◌++◌, length, take, replicate, reverse, Option, Some, None, IfSome, IfNone, refl, sym, ap, subst, ◌∙◌, arith, length-append}
 use Rattle.std.proofs.lemmas.List.{length-replicate}
 use Rattle.exi_spec.specs.Bits.{bits_of}
 use Rattle.exi_spec.proofs.BitLaws.{length-bits_of}
 use Rattle.exi_schema.specs.declared.schema.Schema.{Schema}
 use Rattle.exi_documents.specs.Documents.{IsEncoding}
-use Rattle.exi_documents.specs.Grammar.{State, Reaches}
+use Rattle.exi_documents.specs.Grammar.{Behind, State, Reaches}
 use Rattle.exi_documents.specs.Trees.{Tree, Event, document_events}
 use Rattle.exi_documents.specs.Values.{WritesValue}
 use Rattle.exi_events.specs.Writer.{HasPut, IsWritten}
-use Rattle.dialect_text.specs.Dialect.{IsDialectText}
+use Rattle.value_text.specs.declared.cursor.TextCursor.{TextCursor}
+use Rattle.dialect_text.specs.Dialect.{Standing, IsDialectText}
+use Rattle.dialect_text.specs.Scanning.{event_of, HasSaid, IsReady}
+use Rattle.dialect_text.specs.declared.said.Said.{Said}
 use Rattle.dialect_text.proofs.Once.{one_list}
 use Rattle.tree_text.specs.Consistent.{are_consistent, are_short}
 use Rattle.tree_text.specs.Scans.{HasNoEncoding, IsStuck}
 use Rattle.tree_text.specs.TreeText.{IsTreeText}
-use Rattle.tree_text.proofs.Sayings.{encoded_said, said_tree}
+use Rattle.tree_text.proofs.Sayings.{encoded_said, said_ends, said_tree}
 
 module _ (s : Schema) (fits : are_consistent s.kinds.now ≡ true) where
   -- events that are put, and that the whole text says
@@ -34,3 +37,46 @@ module _ (s : Schema) (fits : are_consistent s.kinds.now ≡ true) where
   stuck_has_none short later events text stuck is tree payload spelled e small =
       let said = encoded_said s fits short e.number tree text e.bits spelled e.spelled in
       stuck later e.number tree e.bits (one_list s (later ++ events) (reverse (document_events e.number tree)) text is said) e.spelled (few_bits payload e.bits e.pad e.bits_are small)
+
+-- ---- the scanner's schema and text are those at the start
+
+pub still_ready : (s t : Schema) (text other : List ℕ) (standing : Standing) (cursor : TextCursor) (fault : Option ℕ) → s ≡ t → text ≡ other → IsReady s text standing cursor fault → IsReady t other standing cursor fault
+still_ready s t text other standing cursor fault same one is =
+    subst (λ (x : Schema). IsReady x other standing cursor fault) same (subst (λ (l : List ℕ). IsReady s l standing cursor fault) one is)
+
+pub said_in : (s t : Schema) (text other : List ℕ) (events : List Event) (standing : Standing) (cursor : TextCursor) → s ≡ t → text ≡ other → HasSaid s text events standing cursor → HasSaid t other events standing cursor
+said_in s t text other events standing cursor same one is =
+    subst (λ (x : Schema). HasSaid x other events standing cursor) same (subst (λ (l : List ℕ). HasSaid s l events standing cursor) one is)
+
+-- an event more
+pub said_on : (s t : Schema) (text other : List ℕ) (o : Option Said) (said : Said) (old new : Standing) (before after : TextCursor) → s ≡ t → text ≡ other → o ≡ Some said →
+    ((events : List Event) → HasSaid s text events old before → IfSome o (λ x. HasSaid s text (event_of x ∷ events) new after)) →
+    (events : List Event) → HasSaid t other events old before → HasSaid t other (event_of said ∷ events) new after
+said_on s t text other o said old new before after same one is next events h =
+    let here = said_in t s other text events old before (sym same) (sym one) h in
+    said_in s t text other (event_of said ∷ events) new after same one (subst (λ (x : Option Said). IfSome x (λ y. HasSaid s text (event_of y ∷ events) new after)) is (next events here))
+
+-- and none
+pub said_all : (s t : Schema) (text other : List ℕ) (o : Option Said) (old : Standing) (before : TextCursor) → s ≡ t → text ≡ other → o ≡ None →
+    ((events : List Event) → HasSaid s text events old before → IfNone o (IsDialectText s events text)) →
+    (events : List Event) → HasSaid t other events old before → IsDialectText t events other
+said_all s t text other o old before same one is next events h =
+    let here = said_in t s other text events old before (sym same) (sym one) h in
+    subst (λ (x : Schema). IsDialectText x events other) same (subst (λ (l : List ℕ). IsDialectText s events l) one
+    (subst (λ (x : Option Said). IfNone x (IsDialectText s events text)) is (next events here)))
+
+-- ---- the writer's places are the schema
+
+pub stuck_in : (s t : Schema) (events : List Event) → s ≡ t → IsStuck s events → IsStuck t events
+stuck_in s t events same is = subst (λ (x : Schema). IsStuck x events) same is
+
+pub put_in : (s t : Schema) (events : List Event) (state : State) (bits : List Bool) → s ≡ t → HasPut s events state bits → HasPut t events state bits
+put_in s t events state bits same h = subst (λ (x : Schema). HasPut x events state bits) same h
+
+-- at the end of the text
+pub all_put : (s t : Schema) (events : List Event) (state : State) (bits : List Bool) (text room : List ℕ) (count : ℕ) → are_consistent t.kinds.now ≡ true → s ≡ t → HasPut s events state bits → IsDialectText t events text →
+    (HasPut s events state bits → state.standing ≡ Behind → IsWritten s events (take count room)) → (tree : Tree) × IsTreeText t tree text × IsEncoding t tree (take count room)
+all_put s t events state bits text room count fits same h is ends =
+    let put = put_in s t events state bits same h in
+    let behind = said_ends WritesValue t fits events bits state text put is in
+    tree_put t fits events state bits text (take count room) put is (subst (λ (x : Schema). IsWritten x events (take count room)) same (ends h behind))

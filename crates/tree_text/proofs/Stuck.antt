@@ -1,5 +1,5 @@
 -- Events with which no document begins that has room: one is not offered, is too long, or has no room.
-use Rattle.std.proofs.Common.{◌≡◌, ℕ, ◌+◌, ◌*◌, ◌<◌, ◌≤◌, Bool, List, [], ◌∷◌, ◌++◌, length, reverse, Option, Some, None, refl, sym, ap, subst, ◌∙◌, arith, length-append}
+use Rattle.std.proofs.Common.{rules, ◌≡◌, ℕ, ◌+◌, ◌*◌, ◌<◌, ◌≤◌, ◌↔◌, IsTrue, IsFalse, not, Bool, true, false, List, [], ◌∷◌, ◌++◌, length, reverse, Option, Some, None, refl, sym, ap, subst, ◌∙◌, arith, length-append}
 use Rattle.exi_spec.specs.Bits.{bits_of}
 use Rattle.exi_spec.specs.Items.{shortest_unsigned}
 use Rattle.exi_spec.proofs.BitLaws.{length-bits_of}
@@ -94,3 +94,18 @@ module _ (s : Schema) where
       let whole : length bits ≡ length put + length on.more + length on.rest =
       ap length on.bits_are ∙ length-append (put ++ on.more) on.rest ∙ ap (λ (n : ℕ). n + length on.rest) (length-append put on.more) in
       omega (arith, less, whole, small)
+
+  -- ---- as a writer answers
+
+  pub stuck_offer : (events : List Event) (event : Event) (told : Option Event) (state : State) (put : List Bool) (offered : Bool) → told ≡ Some event → HasPut s events state put →
+      (IsTrue offered ↔ IsOfferedAs s state told) → offered ≡ false → IsStuck s (event ∷ events)
+  stuck_offer events event told state put offered is h tells differs =
+      not_offered events event state put h (λ o. let yes : IsTrue offered = tells.1 (subst (λ (x : Option Event). IsOfferedAs s state x) (sym is) o) in let wrong : IsTrue false = subst (λ (b : Bool). IsTrue b) differs yes in search rules)
+
+  pub stuck_room : (events : List Event) (event : Event) (told : Option Event) (state : State) (pen : BitPen) → told ≡ Some event → HasPut s events state (written_bits pen) → length pen.room.now ≡ 65536 →
+      HasNoRoom s state pen told → IsStuck s (event ∷ events)
+  stuck_room events event told state pen is h room full = no_room events event state pen h room (subst (λ (x : Option Event). HasNoRoom s state pen x) is full)
+
+pub failed_by : (b failed : Bool) → failed ≡ not b → IsFalse b → IsTrue failed
+failed_by true failed is no_more = absurd (search rules)
+failed_by false failed is no_more = subst (λ (x : Bool). IsTrue x) (sym is) (search rules)

@@ -81,7 +81,9 @@ fn write_tree(
 {
     let mut writer = EventWriter::new(room, schema, table);
     while let Some(said) = scanner.next()? {
-        if !put_said(&mut writer, &said) {
+        let is_put = put_said(&mut writer, &said);
+        drop(said);
+        if !is_put {
             return Ok(None);
         }
     }
@@ -96,7 +98,9 @@ fn scan_rest(scanner: &mut DialectScanner<'_, '_>) -> Result<(), ScanFault>
         → (later : List TreeEvent) × IsDialectText scanner.old.schema.now (later ++ events) scanner.old.text.now) }
     ensures fault { IfErr result (IsFaultOf scanner.old.schema.now scanner.old.text.now) }
 {
-    while let Some(_) = scanner.next()? {}
+    while let Some(said) = scanner.next()? {
+        drop(said);
+    }
     Ok(())
 }
 
