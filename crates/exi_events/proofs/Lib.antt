@@ -11,3 +11,6 @@ pub mod Rooted
 pub mod Finished
 pub mod Entries
 pub mod Bounds
+pub mod Standings
+pub mod Coded
+pub mod Starting

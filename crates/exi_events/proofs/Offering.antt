@@ -1,5 +1,6 @@
 -- The bits of an event inside an element: the code of its step, and a value behind it.
-use Rattle.std.proofs.Common.{◌≡◌, ℕ, ◌+◌, ◌^◌, ◌<◌, ◌≤◌, Bool, false, List, [], ◌∷◌, ◌++◌, length, Option, Some, None, slice_get, refl, sym, ap, subst, ◌∙◌, arith, append-nil}
+use Rattle.std.proofs.Common.{◌≡◌, ℕ, ◌+◌, ◌^◌, ◌<◌, ◌≤◌, Bool, false, List, [], ◌∷◌, ◌++◌, length, Option, Some, None, slice_get, refl, sym, ap, subst, ◌∙◌, arith, append-nil, true, IsTrue, ◌↔◌, inl, inr}
+use Rattle.std.specs.Prelude.{◌⊎◌}
 use Rattle.std.proofs.lemmas.Option.{slice_get_within}
 use Rattle.exi_spec.specs.Bits.{number_bits}
 use Rattle.exi_schema.specs.declared.places.Place.{Place}
@@ -39,6 +40,13 @@ IsRest s top entries step.End event.EndElement rest = rest ≡ []
 IsRest s top entries (step.Characters next) (event.Value v) rest =
     (after : Entries) × WritesValueOf s.kinds.now top.place.kind entries top.name (value_of v) after rest
 IsRest s top entries _ _ rest = ⊥
+
+-- a step without a value
+abbrev pub IsPlain : Step → Type 0
+IsPlain (step.Attribute name kind next) = ⊥
+IsPlain (step.Element name kind next standing past_limit) = Unit {0}
+IsPlain step.End = Unit {0}
+IsPlain (step.Characters next) = ⊥
 
 -- ---- codes
 
@@ -85,18 +93,19 @@ may_stand kinds here next name kind standing past_limit bits taken within st =
 pub move_join : (s : Schema) (top : Opened) (above : List Opened) (entries : Entries) (st : Step) (e : Event) (code rest : List Bool) →
     SpellsStep s.kinds.now top.place st code → IsStepOf st e → IsRest s top entries st e rest →
     (new : State) × MovesAs s (stands (Inside top above) entries) (event_of e) (code ++ rest) new
-move_join s top above entries (step.Attribute name kind next) (event.Attribute n v) code rest st is w =
-    (
-      stands (Inside (opened top.name next) above) w.0,
-      subst (λ (m : ℕ). MovesFrom WritesValue s (Inside top above) entries (Attribute m (value_of v)) (code ++ rest) (stands (Inside (opened top.name next) above) w.0)) (sym is)
-          (attribute_moves s top above entries w.0 name kind next (value_of v) code rest st w.1),
-    )
+move_join s top above entries (step.Attribute name kind next) (event.Attribute n v) code rest st is w = (
+  stands (Inside (opened top.name next) above) w.0,
+  subst (λ (m : ℕ). MovesFrom WritesValue s (Inside top above) entries (Attribute m (value_of v)) (code ++ rest) (stands (Inside (opened top.name next) above) w.0)) (sym is)
+      (attribute_moves s top above entries w.0 name kind next (value_of v) code rest st w.1),
+)
 move_join s top above entries (step.Element name kind next standing past_limit) (event.Start n) code rest st is w =
     let new = stands (Inside (opened name (first kind)) (opened top.name next ∷ above)) entries in
     let bits : code ++ rest ≡ code = ap (λ (l : List Bool). code ++ l) w ∙ append-nil code in
-    let moves = element_moves s top above entries name kind next code (may_stand s.kinds.now top.place next name kind standing past_limit code is.1 is.2 st) in
-    (new, subst (λ (m : ℕ). MovesFrom WritesValue s (Inside top above) entries (Start m) (code ++ rest) new) (sym is.0)
-      (subst (λ (l : List Bool). MovesFrom WritesValue s (Inside top above) entries (Start name) l new) (sym bits) moves))
+    let moves = element_moves s top above entries name kind next code (may_stand s.kinds.now top.place next name kind standing past_limit code is.1 is.2 st) in (
+      new,
+      subst (λ (m : ℕ). MovesFrom WritesValue s (Inside top above) entries (Start m) (code ++ rest) new) (sym is.0)
+          (subst (λ (l : List Bool). MovesFrom WritesValue s (Inside top above) entries (Start name) l new) (sym bits) moves),
+    )
 move_join s top above entries step.End event.EndElement code rest st is w =
     let bits : code ++ rest ≡ code = ap (λ (l : List Bool). code ++ l) w ∙ append-nil code in
     (stands (around above) entries, subst (λ (l : List Bool). MovesFrom WritesValue s (Inside top above) entries EndElement l (stands (around above) entries)) (sym bits) (end_moves s top above entries code st))
@@ -147,3 +156,104 @@ pub rest_value : (s : Schema) (top : Opened) (entries : Entries) (name kind : �
     (v : Value) × (value_in e ≡ Some v) × MayWrite s.kinds.now kind entries name (value_of v)
 rest_value s top entries name kind next (event.Attribute n v) rest is w = (v, refl, (rest, w.0, w.1))
 rest_value s top entries name kind next _ rest is w = absurd is
+
+pub rest_characters : (s : Schema) (top : Opened) (entries : Entries) (next : Place) (e : Event) (rest : List Bool) → IsStepOf (step.Characters next) e → IsRest s top entries (step.Characters next) e rest →
+    (v : Value) × (value_in e ≡ Some v) × MayWrite s.kinds.now top.place.kind entries top.name (value_of v)
+rest_characters s top entries next (event.Value v) rest is w = (v, refl, (rest, w.0, w.1))
+rest_characters s top entries next _ rest is w = absurd is
+
+-- ---- whether an event is offered
+
+-- what is offered has the step
+pub offered_at : (s : Schema) (top : Opened) (above : List Opened) (entries : Entries) (e : Event) → IsOffered s (stands (Inside top above) entries) e → (bits : List Bool) × (new : State) × MovesAs s (stands (Inside top above) entries) (event_of e) bits new
+offered_at s top above entries (event.Document number) h = h
+offered_at s top above entries (event.Start name) h = h
+offered_at s top above entries (event.Attribute name v) h = h
+offered_at s top above entries (event.Value v) h = h
+offered_at s top above entries event.EndElement h = h
+offered_at s top above entries event.Finished h = absurd (inside_is top above h)
+  where
+    inside_is : (top : Opened) (above : List Opened) → Inside top above ≡ Behind → ⊥
+    inside_is top above h = absurd cc
+
+pub offered_as : (s : Schema) (top : Opened) (above : List Opened) (entries : Entries) (e : Event) → (bits : List Bool) × (new : State) × MovesAs s (stands (Inside top above) entries) (event_of e) bits new → IsOffered s (stands (Inside top above) entries) e
+offered_as s top above entries (event.Document number) h = h
+offered_as s top above entries (event.Start name) h = h
+offered_as s top above entries (event.Attribute name v) h = h
+offered_as s top above entries (event.Value v) h = h
+offered_as s top above entries event.EndElement h = h
+offered_as s top above entries event.Finished h = absurd h.2
+
+-- no step of it is offered
+pub not_offered : (s : Schema) (top : Opened) (above : List Opened) (entries : Entries) (e : Event) → ((code : ℕ) (st : Step) → slice_get (offers s.kinds.now top.place) code ≡ Some st → IsStepOf st e → ⊥) → IsOffered s (stands (Inside top above) entries) e → ⊥
+not_offered s top above entries e none h =
+    let m = offered_at s top above entries e h in
+    let there = offered_step s top above entries e m.0 m.1 m.2 in
+    none there.0 there.1 there.2 there.3
+
+-- a step without a value is
+pub plain_offered : (s : Schema) (top : Opened) (above : List Opened) (entries : Entries) (e : Event) (st : Step) (code : ℕ) → slice_get (offers s.kinds.now top.place) code ≡ Some st → IsStepOf st e → IsRest s top entries st e [] → IsOffered s (stands (Inside top above) entries) e
+plain_offered s top above entries e st code offered is rest =
+    let width = code_width (length (offers s.kinds.now top.place)) in
+    let m = move_join s top above entries st e (number_bits width.0 code) [] (spells_code s.kinds.now top.place code width.0 st width.1 offered) is rest in
+    offered_as s top above entries e (number_bits width.0 code ++ [], m.0, m.1)
+
+-- one with a value is where the value may be written
+pub offered_rest : (s : Schema) (top : Opened) (above : List Opened) (entries : Entries) (e : Event) (st : Step) (code : ℕ) → IsPlace s.kinds.now top.place → slice_get (offers s.kinds.now top.place) code ≡ Some st → IsStepOf st e →
+    (IsOffered s (stands (Inside top above) entries) e ↔ ((rest : List Bool) × IsRest s top entries st e rest))
+offered_rest s top above entries e st code at offered is =
+    let width = code_width (length (offers s.kinds.now top.place)) in
+    let spelled = spells_code s.kinds.now top.place code width.0 st width.1 offered in (
+      (λ h. let m = offered_at s top above entries e h in let p = move_split s top above entries st e (number_bits width.0 code) m.0 m.1 at spelled is m.2 in (p.0, p.1)),
+      (λ r. let m = move_join s top above entries st e (number_bits width.0 code) r.0 spelled is r.1 in offered_as s top above entries e (number_bits width.0 code ++ r.0, m.0, m.1)),
+    )
+
+attribute_rest : (s : Schema) (top : Opened) (entries : Entries) (name kind : ℕ) (next : Place) (e : Event) → IsStepOf (step.Attribute name kind next) e → (v : Value) × (value_in e ≡ Some v) × ((rest : List Bool) → (after : Entries) → WritesValueOf s.kinds.now kind entries name (value_of v) after rest → IsRest s top entries (step.Attribute name kind next) e rest)
+attribute_rest s top entries name kind next (event.Attribute n v) is = (v, refl, λ rest after w. (after, w))
+attribute_rest s top entries name kind next _ is = absurd is
+
+characters_rest : (s : Schema) (top : Opened) (entries : Entries) (next : Place) (e : Event) → IsStepOf (step.Characters next) e → (v : Value) × (value_in e ≡ Some v) × ((rest : List Bool) → (after : Entries) → WritesValueOf s.kinds.now top.place.kind entries top.name (value_of v) after rest → IsRest s top entries (step.Characters next) e rest)
+characters_rest s top entries next (event.Value v) is = (v, refl, λ rest after w. (after, w))
+characters_rest s top entries next _ is = absurd is
+
+some_is : (v w : Value) → Some v ≡ Some w → v ≡ w
+some_is v w e = cc
+
+pub attribute_decides : (s : Schema) (top : Opened) (above : List Opened) (entries : Entries) (e : Event) (st : Step) (code name kind : ℕ) (next : Place) (b : Bool) → IsPlace s.kinds.now top.place → slice_get (offers s.kinds.now top.place) code ≡ Some st → IsStepOf st e → st ≡ step.Attribute name kind next →
+    ((v : Value) → value_in e ≡ Some v → (IsTrue b ↔ MayWrite s.kinds.now kind entries name (value_of v))) → (IsTrue b ↔ IsOffered s (stands (Inside top above) entries) e)
+attribute_decides s top above entries e st code name kind next b at offered is st_is decides =
+    let form = step.Attribute name kind next in
+    let there : slice_get (offers s.kinds.now top.place) code ≡ Some form = offered ∙ ap (λ (x : Step). Some x) st_is in
+    let is_form : IsStepOf form e = subst (λ (x : Step). IsStepOf x e) st_is is in
+    let both = offered_rest s top above entries e form code at there is_form in
+    let given = attribute_rest s top entries name kind next e is_form in (
+      (λ t. let w = (decides given.0 given.1).0 t in both.1 (w.0, given.2 w.0 w.1 w.2)),
+      (λ h. let r = both.0 h in let w = rest_value s top entries name kind next e r.0 is_form r.1 in (decides w.0 w.1).1 w.2),
+    )
+
+pub characters_decides : (s : Schema) (top : Opened) (above : List Opened) (entries : Entries) (e : Event) (st : Step) (code : ℕ) (next : Place) (b : Bool) → IsPlace s.kinds.now top.place → slice_get (offers s.kinds.now top.place) code ≡ Some st → IsStepOf st e → st ≡ step.Characters next →
+    ((v : Value) → value_in e ≡ Some v → (IsTrue b ↔ MayWrite s.kinds.now top.place.kind entries top.name (value_of v))) → (IsTrue b ↔ IsOffered s (stands (Inside top above) entries) e)
+characters_decides s top above entries e st code next b at offered is st_is decides =
+    let form = step.Characters next in
+    let there : slice_get (offers s.kinds.now top.place) code ≡ Some form = offered ∙ ap (λ (x : Step). Some x) st_is in
+    let is_form : IsStepOf form e = subst (λ (x : Step). IsStepOf x e) st_is is in
+    let both = offered_rest s top above entries e form code at there is_form in
+    let given = characters_rest s top entries next e is_form in (
+      (λ t. let w = (decides given.0 given.1).0 t in both.1 (w.0, given.2 w.0 w.1 w.2)),
+      (λ h. let r = both.0 h in let w = rest_characters s top entries next e r.0 is_form r.1 in (decides w.0 w.1).1 w.2),
+    )
+
+-- a step of an event with no value
+plain_rest : (s : Schema) (top : Opened) (entries : Entries) (st : Step) (e : Event) → IsStepOf st e → IsPlain st → IsRest s top entries st e []
+plain_rest s top entries (step.Element name kind next standing past_limit) (event.Start n) is plain = refl
+plain_rest s top entries step.End event.EndElement is plain = refl
+plain_rest s top entries (step.Attribute name kind next) e is plain = absurd plain
+plain_rest s top entries (step.Characters next) e is plain = absurd plain
+plain_rest s top entries _ _ is plain = absurd is
+
+pub plain_decides : (s : Schema) (top : Opened) (above : List Opened) (entries : Entries) (e : Event) (st : Step) (code : ℕ) → slice_get (offers s.kinds.now top.place) code ≡ Some st → IsStepOf st e → IsPlain st → (IsTrue true ↔ IsOffered s (stands (Inside top above) entries) e)
+plain_decides s top above entries e st code offered is plain = (λ t. plain_offered s top above entries e st code offered is (plain_rest s top entries st e is plain), λ h. refl)
+
+pub plain_is : (st : Step) → ((name : ℕ) × (kind : ℕ) × (next : Place) × (standing : MemberStanding) × (past_limit : Bool) × (st ≡ step.Element name kind next standing past_limit)) ⊎ (st ≡ step.End) → IsPlain st
+plain_is st (inl h) = subst (λ (x : Step). IsPlain x) (sym h.5) tt
+plain_is st (inr h) = subst (λ (x : Step). IsPlain x) (sym h) tt

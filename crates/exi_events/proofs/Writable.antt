@@ -1,5 +1,5 @@
 -- Which values may be written: those of the datatype, where the table has an entry for a text.
-use Rattle.std.proofs.Common.{◌≡◌, ℕ, zero, suc, ℤ, pos, ◌+◌, ◌<◌, ◌≤◌, Bool, List, [], ◌∷◌, ◌++◌, length, Some, None, refl, sym, ap, inl, inr, arith, length-append}
+use Rattle.std.proofs.Common.{◌≡◌, ℕ, zero, suc, ℤ, pos, ◌+◌, ◌<◌, ◌≤◌, Bool, List, [], ◌∷◌, ◌++◌, length, Option, Some, None, refl, sym, ap, subst, ◌∙◌, inl, inr, arith, length-append, IsTrue, ◌↔◌, Result, Ok, Err}
 use Rattle.std.specs.Prelude.{◌⊎◌, ◌≢◌, slice_get}
 use Rattle.std.proofs.lemmas.Bool.Decides.{eqb_tells}
 use Rattle.exi_spec.specs.Bits.{number_bits, bits_of}
@@ -11,6 +11,16 @@ use Rattle.exi_strings.specs.Texts.{IsFirstAt, IsAbsent, WritesText, entered}
 use Rattle.exi_documents.specs.Trees.{Value, Truth, Ordinal, Number, Bytes, Text}
 use Rattle.exi_documents.specs.Values.{Entries, most_entries, IsValue, WritesValue}
 use Rattle.exi_writing.specs.Entering.{HasEntryFor}
+use Rattle.exi_schema.specs.declared.tables.Declaration.{Declaration}
+use Rattle.exi_schema.specs.Steps.{simple_at}
+use Rattle.exi_values.specs.declared.Value.{Value as ShapedValue}
+use Rattle.exi_values.specs.Meaning.{value_of}
+use Rattle.exi_values.specs.declared.Event.{Event}
+use Rattle.exi_values.specs.declared.Event.TheVariants as event
+use Rattle.exi_bits.specs.declared.pen.BitPen.{BitPen}
+use Rattle.exi_writing.specs.Writing.{Puts, Lacks}
+use Rattle.std.specs.Result.{OnOk}
+use Rattle.exi_events.specs.Writer.{MayWrite, WritesValueOf, value_in}
 use Rattle.document_laws.proofs.IndexWidths.{index_width}
 
 -- ---- what is written is a value, and a text had room
@@ -41,9 +51,9 @@ same_or_not (x ∷ xs) [] = inr (λ e. absurd cc)
 same_or_not (x ∷ xs) (y ∷ ys) =
     elim (eqb_tells x y) [
       | inl first ↦ elim (same_or_not xs ys) [
-          | inl others ↦ let one : x ≡ y = first.1 in inl cc
-          | inr other ↦ inr (λ e. other (let tail : xs ≡ ys = cc in tail))
-        ]
+        | inl others ↦ let one : x ≡ y = first.1 in inl cc
+        | inr other ↦ inr (λ e. other (let tail : xs ≡ ys = cc in tail))
+      ]
       | inr other ↦ inr (λ e. other.1 (let head : x ≡ y = cc in head))
     ]
 
@@ -61,9 +71,9 @@ find_first (t ∷ ts) text =
     elim (same_or_not t text) [
       | inl is ↦ inl (0, record { found = ap (λ (l : List ℕ). Some l) is; first = λ k less. absurd (omega (arith, less)) })
       | inr other ↦ elim (find_first ts text) [
-          | inl h ↦ inl (suc h.0, record { found = h.1.found; first = none_before t ts text h.0 other h.1.first })
-          | inr absent ↦ inr (absent_too t ts text other absent)
-        ]
+        | inl h ↦ inl (suc h.0, record { found = h.1.found; first = none_before t ts text h.0 other h.1.first })
+        | inr absent ↦ inr (absent_too t ts text other absent)
+      ]
     ]
 
 entered_few : (entries : Entries) (name : ℕ) (text : List ℕ) → length entries ≤ most_entries → HasEntryFor entries name (Text text) → IsAbsent (local_of name entries) text → IsAbsent (global_of entries) text → length (entered entries name text) ≤ most_entries
@@ -79,17 +89,17 @@ text_writes entries name text few room =
           let rest = number_bits width.0 h.0 in
           (shortest_unsigned 0 ++ rest, entries, inl ((rest, (h.0, width.0, h.1, width.1, refl), refl), refl), few)
       | inr local ↦ elim (find_first (global_of entries) text) [
-          | inl h ↦
-              let width = index_width (length (global_of entries)) in
-              let rest = number_bits width.0 h.0 in
-              (shortest_unsigned 1 ++ rest, entries, inr (inl (local, (rest, (h.0, width.0, h.1, width.1, refl), refl), refl)), few)
-          | inr global ↦ (
-              shortest_unsigned (length text + 2) ++ shortest_chars text,
-              entered entries name text,
-              inr (inr (local, global, refl, refl)),
-              entered_few entries name text few room local global,
-            )
-        ]
+        | inl h ↦
+            let width = index_width (length (global_of entries)) in
+            let rest = number_bits width.0 h.0 in
+            (shortest_unsigned 1 ++ rest, entries, inr (inl (local, (rest, (h.0, width.0, h.1, width.1, refl), refl), refl)), few)
+        | inr global ↦ (
+          shortest_unsigned (length text + 2) ++ shortest_chars text,
+          entered entries name text,
+          inr (inr (local, global, refl, refl)),
+          entered_few entries name text few room local global,
+        )
+      ]
     ]
 
 pub value_writes : (d : Datatype) (entries : Entries) (name : ℕ) (v : Value) → length entries ≤ most_entries → IsValue d v → HasEntryFor entries name v → (bits : List Bool) × (after : Entries) × WritesValue d entries name v bits after
@@ -106,3 +116,69 @@ value_writes (Binary most) entries name (Bytes bytes) few is room = (shortest_un
 value_writes (TextType most) entries name (Text chars) few is room =
     let w = text_writes entries name chars few room in (w.0, w.1, (is, w.2, w.3))
 value_writes _ entries name _ few is room = absurd is
+
+-- ---- a value of a simple kind
+
+pub may_write : (kinds : List Declaration) (kind : ℕ) (entries : Entries) (name : ℕ) (v : Value) (d : Datatype) → Some d ≡ simple_at kinds kind → length entries ≤ most_entries → IsValue d v → HasEntryFor entries name v → MayWrite kinds kind entries name v
+may_write kinds kind entries name v d is few value room = let w = value_writes d entries name v few value room in (w.0, w.1, (d, sym is, w.2))
+
+one_of : {X : Type 0} (o : Option X) (x y : X) → o ≡ Some x → o ≡ Some y → x ≡ y
+one_of {X} o x y p q = let e : Some x ≡ Some y = sym p ∙ q in cc
+
+pub may_fit : (kinds : List Declaration) (kind : ℕ) (entries : Entries) (name : ℕ) (v : Value) (d : Datatype) → Some d ≡ simple_at kinds kind → MayWrite kinds kind entries name v → IsValue d v × HasEntryFor entries name v
+may_fit kinds kind entries name v d is w =
+    let same : w.2.0 ≡ d = one_of (simple_at kinds kind) w.2.0 d w.2.1 (sym is) in
+    subst (λ (e : Datatype). IsValue e v × HasEntryFor entries name v) same (value_fits w.2.0 entries w.1 name v w.0 w.2.2)
+
+some_is : (v w : ShapedValue) → Some v ≡ Some w → v ≡ w
+some_is v w e = cc
+
+-- of the value of an event
+pub value_decides : (kinds : List Declaration) (kind : ℕ) (entries : Entries) (name : ℕ) (o : Option ShapedValue) (given v : ShapedValue) (d : Datatype) (b : Bool) → Some d ≡ simple_at kinds kind → length entries ≤ most_entries →
+    o ≡ Some given → o ≡ Some v → IsValue d (value_of given) → (IsTrue b ↔ HasEntryFor entries name (value_of given)) → (IsTrue b ↔ MayWrite kinds kind entries name (value_of v))
+value_decides kinds kind entries name o given v d b is few given_is v_is value room =
+    let same : given ≡ v = some_is given v (sym given_is ∙ v_is) in
+    subst (λ (w : ShapedValue). IsTrue b ↔ MayWrite kinds kind entries name (value_of w)) same
+    ((λ t. may_write kinds kind entries name (value_of given) d is few value (room.0 t)), (λ w. room.1 (may_fit kinds kind entries name (value_of given) d is w).1))
+
+pub no_value : (kinds : List Declaration) (kind : ℕ) (entries : Entries) (name : ℕ) (o : Option ShapedValue) (given v : ShapedValue) (d : Datatype) → Some d ≡ simple_at kinds kind →
+    o ≡ Some given → o ≡ Some v → (IsValue d (value_of given) → ⊥) → MayWrite kinds kind entries name (value_of v) → ⊥
+no_value kinds kind entries name o given v d is given_is v_is other w =
+    let same : given ≡ v = some_is given v (sym given_is ∙ v_is) in
+    other (subst (λ (x : ShapedValue). IsValue d (value_of x)) (sym same) (may_fit kinds kind entries name (value_of v) d is w).0)
+
+pub in_event : (e : Event) (v : ShapedValue) → ((n : ℕ) × (e ≡ event.Attribute n v)) ⊎ (e ≡ event.Value v) → value_in e ≡ Some v
+in_event e v (inl h) = ap value_in h.1
+in_event e v (inr h) = ap value_in h
+
+-- ---- a value that is put
+
+pub given_is : (o : Option ShapedValue) (given v : ShapedValue) → o ≡ Some given → o ≡ Some v → given ≡ v
+given_is o given v a b = some_is given v (sym a ∙ b)
+
+pub writes_of : (kinds : List Declaration) (kind : ℕ) (entries after : Entries) (name : ℕ) (given v : ShapedValue) (d : Datatype) (bits : List Bool) → Some d ≡ simple_at kinds kind → given ≡ v → WritesValue d entries name (value_of given) bits after → WritesValueOf kinds kind entries name (value_of v) after bits
+writes_of kinds kind entries after name given v d bits is same w = (d, sym is, subst (λ (x : ShapedValue). WritesValue d entries name (value_of x) bits after) same w)
+
+pub of_writes : (kinds : List Declaration) (kind : ℕ) (entries after : Entries) (name : ℕ) (given v : ShapedValue) (d : Datatype) (bits : List Bool) → Some d ≡ simple_at kinds kind → given ≡ v → WritesValueOf kinds kind entries name (value_of v) after bits → WritesValue d entries name (value_of given) bits after
+of_writes kinds kind entries after name given v d bits is same w =
+    let e : w.0 ≡ d = one_of (simple_at kinds kind) w.0 d w.1 (sym is) in
+    subst (λ (x : ShapedValue). WritesValue d entries name (value_of x) bits after) (sym same) (subst (λ (k : Datatype). WritesValue k entries name (value_of v) bits after) e w.2)
+
+pub value_put : {R E : Type 0} (r : Result R E) (kinds : List Declaration) (kind : ℕ) (entries after : Entries) (name : ℕ) (given v : ShapedValue) (d : Datatype) (old new : BitPen) → Some d ≡ simple_at kinds kind → given ≡ v →
+    OnOk r (Puts (λ bits. WritesValue d entries name (value_of given) bits after) old new) → OnOk r (Puts (λ bits. WritesValueOf kinds kind entries name (value_of v) after bits) old new)
+value_put (Ok x) kinds kind entries after name given v d old new is same p = (p.0, writes_of kinds kind entries after name given v d p.0 is same p.1, p.2)
+value_put (Err e) kinds kind entries after name given v d old new is same p = tt
+
+pub value_full : (P : Type 0) (kinds : List Declaration) (kind : ℕ) (entries : Entries) (name : ℕ) (given v : ShapedValue) (d : Datatype) (pen : BitPen) → Some d ≡ simple_at kinds kind → given ≡ v →
+    (P ↔ Lacks (λ bits. (after : Entries) × WritesValue d entries name (value_of given) bits after) pen) → (P ↔ Lacks (λ bits. (after : Entries) × WritesValueOf kinds kind entries name (value_of v) after bits) pen)
+value_full P kinds kind entries name given v d pen is same f = (
+  (λ p. let l = f.0 p in (l.0, (l.1.0, writes_of kinds kind entries l.1.0 name given v d l.0 is same l.1.1), l.2)),
+  (λ l. f.1 (l.0, (l.1.0, of_writes kinds kind entries l.1.0 name given v d l.0 is same l.1.1), l.2)),
+)
+
+-- what was asked of a value that may be put
+pub given_fits : (kinds : List Declaration) (kind : ℕ) (entries : Entries) (name : ℕ) (o : Option ShapedValue) (given : ShapedValue) (d : Datatype) → Some d ≡ simple_at kinds kind → o ≡ Some given →
+    ((v : ShapedValue) × (o ≡ Some v) × MayWrite kinds kind entries name (value_of v)) → IsValue d (value_of given) × HasEntryFor entries name (value_of given)
+given_fits kinds kind entries name o given d is given_in h =
+    let same : h.0 ≡ given = given_is o h.0 given h.1 given_in in
+    subst (λ (x : ShapedValue). IsValue d (value_of x) × HasEntryFor entries name (value_of x)) same (may_fit kinds kind entries name (value_of h.0) d is h.2)

@@ -1,6 +1,6 @@
 //! What may be put at a place.
 
-ghost use Rattle.std.specs.Prelude.{◌≡◌, ℕ, ◌↔◌, IsTrue, true, length, Some, None, IfSome, IsSome, slice_get};
+ghost use Rattle.std.specs.Prelude.{◌≡◌, ◌<◌, ◌^◌, ℕ, ◌↔◌, IsTrue, true, length, Some, None, IfSome, IsSome, slice_get};
 ghost use Rattle.exi_bits.specs.Pens.{written_bits};
 ghost use Rattle.exi_schema.specs.declared.places.Root.TheVariants.{Kind};
 ghost use Rattle.exi_schema.specs.declared.places.Step.{Step as SchemaStep};
@@ -42,6 +42,7 @@ pub(crate) fn offer_of<P: Places>(places: &P, here: Place, event: &Event) -> Opt
     ensures offered { IfSome result (λ offer. slice_get (offers (P.schema places.now).kinds.now here) offer.code ≡ Some offer.step) }
     ensures meant { IfSome result (λ offer. IsStepOf offer.step event.now) }
     ensures of_schema { IfSome result (λ offer. IsStep (P.schema places.now).kinds.now (length (P.schema places.now).names.now) here.kind offer.step) }
+    ensures few { length (offers (P.schema places.now).kinds.now here) < 2 ^ 16 }
     ensures none { result ≡ None → (code : ℕ) (step : SchemaStep) → slice_get (offers (P.schema places.now).kinds.now here) code ≡ Some step → IsStepOf step event.now → ⊥ }
 {
     for code in 0..places.alternatives(here) {

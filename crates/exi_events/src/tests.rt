@@ -1,11 +1,13 @@
-//! The published negotiation request, ISO 15118-2:2014 section 8.2, and payloads that are refused.
+//! The published negotiation request, ISO 15118-2:2014 section 8.2, read and written, and payloads that are refused.
 
-ghost use Rattle.std.specs.Prelude.{◌≡◌, ◌≤◌, length};
+ghost use Rattle.std.specs.Prelude.{◌≡◌, ◌≤◌, length, Some, IfErr};
 ghost use Rattle.exi_documents.specs.Values.{most_entries};
+ghost use Rattle.exi_bits.specs.Pens.{written_bits};
 ghost use Rattle.exi_events.specs.Reader.{IsReady};
+ghost use Rattle.exi_events.specs.Writer.{IsShapedEvent};
 
 use crate::negotiation::{longer_negotiation, negotiation};
-use crate::{Event, EventReader, EventWriter, Refusal, RefusalCause, Table, Value};
+use crate::{Event, EventReader, EventWriter, Full, Refusal, RefusalCause, Table, Value};
 use exi_schema::Places;
 use exi_strings::Partitions;
 use std::process::Abort;
@@ -24,9 +26,34 @@ enum Told {
     Start(u16),
     Text(&'static str),
     Number(i128),
+    Ordinal(u32),
     End,
     Finished,
 }
+
+/// The events of the published request.
+const REQUEST: [Told; 20] = [
+    Told::Document(0),
+    Told::Start(0),
+    Told::Start(2),
+    Told::Start(3),
+    Told::Text("urn:din:70121:2012:MsgDef"),
+    Told::End,
+    Told::Start(4),
+    Told::Number(2),
+    Told::End,
+    Told::Start(5),
+    Told::Number(0),
+    Told::End,
+    Told::Start(6),
+    Told::Number(1),
+    Told::End,
+    Told::Start(7),
+    Told::Number(1),
+    Told::End,
+    Told::End,
+    Told::End,
+];
 
 fn next_is<P: Places>(rt: &impl Abort, reader: &mut EventReader<P>, told: &Told)
     requires { IsReady (P.schema reader.old.places.now) reader.old.phase reader.old.elements reader.old.reader.bits reader.old.table.now }
@@ -40,6 +67,7 @@ fn next_is<P: Places>(rt: &impl Abort, reader: &mut EventReader<P>, told: &Told)
         Event::Document(number) => assert!(rt; matches!(told, Told::Document(n) if *n == number)),
         Event::Start(name) => assert!(rt; matches!(told, Told::Start(n) if *n == name)),
         Event::Value(Value::Number(v)) => assert!(rt; matches!(told, Told::Number(n) if *n == v)),
+        Event::Value(Value::Ordinal(v)) => assert!(rt; matches!(told, Told::Ordinal(n) if *n == v)),
         Event::Value(Value::Text(span)) => match told {
             Told::Text(text) => assert!(rt; span.same_str(text)),
             _ => assert!(rt; false),
@@ -58,32 +86,11 @@ fn the_published_request_is_told(rt: HostRuntime) {
     };
     let schema = negotiation();
     let mut reader = EventReader::new(&PUBLISHED, &schema, &mut table);
-    for told in [
-        Told::Document(0),
-        Told::Start(0),
-        Told::Start(2),
-        Told::Start(3),
-        Told::Text("urn:din:70121:2012:MsgDef"),
-        Told::End,
-        Told::Start(4),
-        Told::Number(2),
-        Told::End,
-        Told::Start(5),
-        Told::Number(0),
-        Told::End,
-        Told::Start(6),
-        Told::Number(1),
-        Told::End,
-        Told::Start(7),
-        Told::Number(1),
-        Told::End,
-        Told::End,
-        Told::End,
-        Told::Finished,
-        Told::Finished,
-    ] {
-        next_is(&rt, &mut reader, &told);
+    for told in &REQUEST {
+        next_is(&rt, &mut reader, told);
     }
+    next_is(&rt, &mut reader, &Told::Finished);
+    next_is(&rt, &mut reader, &Told::Finished);
 }
 
 /// Another schema is asked at each place: with a code of three bits the same bits tell another element.
@@ -161,18 +168,86 @@ fn refusals_have_a_bit(rt: HostRuntime) {
     );
 }
 
-/// Puts the events into a room and compares what is written.
-fn writes(rt: &impl Abort, table: &mut Table, room: &mut [u8])
+/// A response.
+const RESPONSE: [Told; 9] = [
+    Told::Document(1),
+    Told::Start(1),
+    Told::Start(8),
+    Told::Ordinal(0),
+    Told::End,
+    Told::Start(6),
+    Told::Number(1),
+    Told::End,
+    Told::End,
+];
+
+/// The event that tells it.
+fn event_of(told: &Told) -> Event<'static>
+    ensures { IsShapedEvent result }
+{
+    match told {
+        Told::Document(number) => Event::Document(*number),
+        Told::Start(name) => Event::Start(*name),
+        Told::Text(text) => Event::Value(Value::Written(text)),
+        Told::Number(number) => Event::Value(Value::Number(*number)),
+        Told::Ordinal(ordinal) => Event::Value(Value::Ordinal(*ordinal)),
+        Told::End => Event::EndElement,
+        Told::Finished => Event::Finished,
+    }
+}
+
+/// Puts one event, which is offered.
+fn put_next<P: Places>(
+    rt: &impl Abort,
+    writer: &mut EventWriter<P>,
+    told: &Told,
+) -> Result<(), Full>
+    requires { IsReady (P.schema writer.old.places.now) writer.old.phase writer.old.elements (written_bits writer.old.pen) writer.old.table.now }
+    ensures ready { IsReady (P.schema writer.new.places.now) writer.new.phase writer.new.elements (written_bits writer.new.pen) writer.new.table.now }
+    ensures same_reference { writer.new.table.ghost_name ≡ writer.old.table.ghost_name }
+    ensures same_room { writer.new.pen.room.ghost_name ≡ writer.old.pen.room.ghost_name }
+    ensures room { length writer.new.pen.room.now ≡ length writer.old.pen.room.now }
+    ensures full { IfErr result (λ full. writer.new.full ≡ Some full) }
+{
+    let event = event_of(told);
+    assert!(rt; writer.offers(&event));
+    writer.put(&event)
+}
+
+/// Puts the events of a document: how many bytes are written, or the `Full` that is answered twice.
+fn put_all(rt: &impl Abort, room: &mut [u8], table: &mut Table, all: &[Told]) -> Result<u32, Full>
     requires room { length room.old ≤ 65536 }
     requires cap { table.old.cap ≡ most_entries }
     ensures cap { table.new.cap ≡ most_entries }
-    ensures length { length room.new ≡ length room.old }
+    ensures room { length room.new ≡ length room.old }
 {
     let schema = negotiation();
     let mut writer = EventWriter::new(room, &schema, table);
-    let event = Event::Document(0);
-    if writer.offers(&event) {
-        assert!(rt; writer.put(&event).is_ok());
+    for told in all {
+        if let Err(full) = put_next(rt, &mut writer, told) {
+            assert_eq!(rt; writer.put(&Event::Finished), Err(full));
+            return Err(full);
+        }
     }
-    let _ = writer.finish();
+    assert!(rt; writer.offers(&Event::Finished));
+    Ok(writer.finish())
+}
+
+#[test]
+fn documents_are_written(rt: HostRuntime) {
+    let Ok(mut table) = Partitions::make(rt.alloc(), 8192) else {
+        assert!(rt; false);
+        return;
+    };
+    let mut room = [0xff; 34];
+    assert_eq!(rt; put_all(&rt, &mut room, &mut table, &REQUEST), Ok(34));
+    assert_eq!(rt; room, PUBLISHED);
+    let mut small = [0xff; 4];
+    assert_eq!(rt; put_all(&rt, &mut small, &mut table, &RESPONSE), Ok(4));
+    assert_eq!(rt; small, [0x80, 0x40, 0x00, 0x40]);
+    let mut smaller = [0xff; 3];
+    assert_eq!(rt;
+        put_all(&rt, &mut smaller, &mut table, &RESPONSE),
+        Err(Full { bits: 26 })
+    );
 }

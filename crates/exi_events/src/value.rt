@@ -1,6 +1,6 @@
 //! Whether a value may be written.
 
-ghost use Rattle.std.specs.Prelude.{◌≡◌, ℕ, ◌↔◌, IsTrue, true, List, Some, MatchBool, slice_get};
+ghost use Rattle.std.specs.Prelude.{◌≡◌, ◌≤◌, ℕ, length, ◌↔◌, IsTrue, true, List, Some, MatchBool, slice_get};
 ghost use Rattle.exi_bits.specs.Lent.{items_of, text_at, IsSpan};
 ghost use Rattle.exi_bits.specs.Pens.{written_bits};
 ghost use Rattle.exi_documents.specs.Trees.{Text, Number};
@@ -63,7 +63,8 @@ pub(crate) fn has_entry(pen: &BitPen, table: &Table, value: &Value) -> bool
     requires shaped { IsShaped value.now }
     requires cap { table.now.cap ≡ most_entries }
     requires texts { AreTexts (written_bits pen.now) table.now.entries }
-    ensures { (name : ℕ) → (IsTrue result ↔ HasEntryFor (texts_in (written_bits pen.now) table.now.entries) name (value_of value.now)) }
+    ensures few { length table.now.entries ≤ most_entries }
+    ensures room { (name : ℕ) → (IsTrue result ↔ HasEntryFor (texts_in (written_bits pen.now) table.now.entries) name (value_of value.now)) }
 {
     if table.globals() < 8192 {
         return true;

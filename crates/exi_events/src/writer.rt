@@ -1,7 +1,7 @@
 //! Events written into a room.
 
 ghost use Rattle.std.specs.Prelude.{◌≡◌, ℕ, ◌≤◌, ◌∷◌, [], ◌↔◌, IsTrue, List, length, take, Some, None, IfSome, IfErr, OnOk, OnErr, IsErr, Err};
-ghost use Rattle.exi_bits.specs.Pens.{written_bits};
+ghost use Rattle.exi_bits.specs.Pens.{written_bits, SamePen};
 ghost use Rattle.exi_bits.specs.Written.{HoldsBits};
 ghost use Rattle.exi_documents.specs.Trees.{Event as TreeEvent};
 ghost use Rattle.exi_documents.specs.Values.{most_entries};
@@ -107,7 +107,7 @@ impl<'b, 'p, P: Places> EventWriter<'b, 'p, P> {
         ensures places { self.new.places.now ≡ self.old.places.now }
         // The room is the same one, and what was written stays.
         ensures more { WritesMore self.old.pen self.new.pen }
-        ensures again { (f : _) → self.old.full ≡ Some f → (result ≡ Err f) × (self.new.full ≡ Some f) × (written_bits self.new.pen ≡ written_bits self.old.pen) }
+        ensures again { (f : _) → self.old.full ≡ Some f → (result ≡ Err f) × (self.new.full ≡ Some f) × SamePen self.old.pen self.new.pen }
         ensures put { OnOk result (IsPut (P.schema self.old.places.now)
             (state_of self.old.phase self.old.elements (written_bits self.old.pen) self.old.table.now.entries)
             (state_of self.new.phase self.new.elements (written_bits self.new.pen) self.new.table.now.entries)

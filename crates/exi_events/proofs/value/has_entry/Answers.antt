@@ -8,8 +8,8 @@ use Rattle.exi_writing.proofs.Strings.{length-texts_in}
 use Rattle.exi_events.proofs.Entries.{entered_decides, room_none, no_char, some_char}
 use Rattle.exi_events.proofs.value.has_entry.Goals as goal
 
-pub returns-else-len-eq0 : goal.returns-else-len-eq0
-returns-else-len-eq0 c name =
+pub returns-else-len-eq0-clause-room : goal.returns-else-len-eq0-clause-room
+returns-else-len-eq0-clause-room c name =
     let count = length-texts_in (written_bits c.args.pen.now) c.args.table.now.entries in
     let is = ap value_of c.in-Text.is in
     entered_decides (texts_in (written_bits c.args.pen.now) c.args.table.now.entries) name (value_of c.args.value.now) (items_of c.in-Text.span) c.is_entered.result is
@@ -17,14 +17,14 @@ returns-else-len-eq0 c name =
     (λ none. c.if-len-eq0.false (c.len.ensures.items ∙ none))
     (c.is_entered.ensures (items_of c.in-Text.span) is)
 
-pub returns-then-is_empty : goal.returns-then-is_empty
-returns-then-is_empty c name =
+pub returns-then-is_empty-clause-room : goal.returns-then-is_empty-clause-room
+returns-then-is_empty-clause-room c name =
     let utf8 : IsUtf8 c.in-Written.text.now = search rules in
     let none : length c.in-Written.text.now ≡ 0 = search rules in
     (λ t. room_none (texts_in (written_bits c.args.pen.now) c.args.table.now.entries) name (value_of c.args.value.now) (chars c.in-Written.text.now) (ap value_of c.in-Written.is) (no_char c.in-Written.text.now utf8 none), λ h. c.if-is_empty.true)
 
-pub returns-else-is_empty : goal.returns-else-is_empty
-returns-else-is_empty c name =
+pub returns-else-is_empty-clause-room : goal.returns-else-is_empty-clause-room
+returns-else-is_empty-clause-room c name =
     let utf8 : IsUtf8 c.in-Written.text.now = search rules in
     let some : length c.in-Written.text.now ≡ 0 → ⊥ = search rules in
     let count = length-texts_in (written_bits c.args.pen.now) c.args.table.now.entries in
