@@ -148,6 +148,18 @@ impl<'b, 'p, P: Places> EventWriter<'b, 'p, P> {
         self.pen.written().len() as u32
     }
 
+    /// The bytes begun so far, the last one filled with 0.
+    pub fn written(&self) -> &[u8]
+        ensures holds { HoldsBits result.now (written_bits self.now.pen) }
+        // Behind the end of the root: they are the encoding of the tree that the events tell.
+        ensures document { (events : List TreeEvent)
+            → HasPut (P.schema self.now.places.now) events (state_of self.now.phase self.now.elements (written_bits self.now.pen) self.now.table.now.entries) (written_bits self.now.pen)
+            → (state_of self.now.phase self.now.elements (written_bits self.now.pen) self.now.table.now.entries).standing ≡ Behind
+            → IsWritten (P.schema self.now.places.now) events result.now }
+    {
+        self.pen.written()
+    }
+
     /// Puts an event, where none was too long before.
     fn step(&mut self, event: &Event) -> Result<(), Full>
         requires ready { IsReady (P.schema self.old.places.now) self.old.phase self.old.elements (written_bits self.old.pen) self.old.table.now }

@@ -1,8 +1,11 @@
 -- A text that is scanned to its end.
-use Rattle.std.proofs.Common.{◌≡◌, ℕ, ◌+◌, ◌*◌, ◌≤◌, Bool, true, false, List, ◌∷◌, ◌++◌, length, take, replicate, reverse, Option, Some, None, IfSome, IfNone, refl, sym, ap, subst, ◌∙◌, arith, length-append}
-use Rattle.std.proofs.lemmas.List.{length-replicate}
+use Rattle.std.proofs.Common.{◌≡◌, ℕ, ◌+◌, ◌*◌, ◌≤◌, Bool, true, false, List, ◌∷◌, ◌++◌, length, replicate, reverse, Option, Some, None, IfSome, IfNone, refl, sym, ap, subst, ◌∙◌, arith, length-append}
+use Rattle.std.proofs.lemmas.List.{length-replicate, length-take}
 use Rattle.exi_spec.specs.Bits.{bits_of}
 use Rattle.exi_spec.proofs.BitLaws.{length-bits_of}
+use Rattle.exi_bits.specs.Pens.{written_bits}
+use Rattle.exi_bits.specs.Written.{HoldsBits}
+use Rattle.exi_bits.specs.declared.pen.BitPen.{BitPen}
 use Rattle.exi_schema.specs.declared.schema.Schema.{Schema}
 use Rattle.exi_documents.specs.Documents.{IsEncoding}
 use Rattle.exi_documents.specs.Grammar.{Behind, State, Reaches}
@@ -74,9 +77,23 @@ pub put_in : (s t : Schema) (events : List Event) (state : State) (bits : List B
 put_in s t events state bits same h = subst (λ (x : Schema). HasPut x events state bits) same h
 
 -- at the end of the text
-pub all_put : (s t : Schema) (events : List Event) (state : State) (bits : List Bool) (text room : List ℕ) (count : ℕ) → are_consistent t.kinds.now ≡ true → s ≡ t → HasPut s events state bits → IsDialectText t events text →
-    (HasPut s events state bits → state.standing ≡ Behind → IsWritten s events (take count room)) → (tree : Tree) × IsTreeText t tree text × IsEncoding t tree (take count room)
-all_put s t events state bits text room count fits same h is ends =
+pub all_put : (s t : Schema) (events : List Event) (state : State) (bits : List Bool) (text payload : List ℕ) → are_consistent t.kinds.now ≡ true → s ≡ t → HasPut s events state bits → IsDialectText t events text →
+    (HasPut s events state bits → state.standing ≡ Behind → IsWritten s events payload) → (tree : Tree) × IsTreeText t tree text × IsEncoding t tree payload
+all_put s t events state bits text payload fits same h is ends =
     let put = put_in s t events state bits same h in
     let behind = said_ends WritesValue t fits events bits state text put is in
-    tree_put t fits events state bits text (take count room) put is (subst (λ (x : Schema). IsWritten x events (take count room)) same (ends h behind))
+    tree_put t fits events state bits text payload put is (subst (λ (x : Schema). IsWritten x events payload) same (ends h behind))
+
+pub few_bytes : (pen : BitPen) (bytes : List ℕ) → HoldsBits bytes (written_bits pen) → length pen.room.now ≡ 65536 → length bytes ≤ 65536
+few_bytes pen bytes h room =
+    let all : 8 * length bytes ≡ length (written_bits pen) + h.pad =
+    sym (length-bits_of bytes) ∙ ap length h.there ∙ length-append (written_bits pen) (replicate h.pad false) ∙ ap (λ (n : ℕ). length (written_bits pen) + n) (length-replicate h.pad false) in
+    let within = length-take pen.bits (bits_of pen.room.now) in
+    omega (arith, all, within, length-bits_of pen.room.now, room, h.short)
+
+pub piece_put : (s t : Schema) (events : List Event) (state : State) (pen : BitPen) (text payload piece : List ℕ) → are_consistent t.kinds.now ≡ true → s ≡ t → length pen.room.now ≡ 65536 → HasPut s events state (written_bits pen) → IsDialectText t events text →
+    HoldsBits payload (written_bits pen) → (HasPut s events state (written_bits pen) → state.standing ≡ Behind → IsWritten s events payload) → piece ≡ payload →
+    (length piece ≤ 65536) × ((tree : Tree) × IsTreeText t tree text × IsEncoding t tree piece)
+piece_put s t events state pen text payload piece fits same room h is holds ends copied =
+    subst (λ (l : List ℕ). (length l ≤ 65536) × ((tree : Tree) × IsTreeText t tree text × IsEncoding t tree l)) (sym copied)
+    (few_bytes pen payload holds room, all_put s t events state (written_bits pen) text payload fits same h is ends)

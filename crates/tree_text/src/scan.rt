@@ -57,13 +57,14 @@ fn put_said(writer: &mut EventWriter<'_, '_, Schema<'_>>, said: &Said) -> bool
     writer.offers(&event) && writer.put(&event).is_ok()
 }
 
-/// Writes the tree that a text spells into a room, and tells how many bytes it has; `None` behind the first event that can't be put.
+/// Writes the tree that a text spells into a room, and gives the bytes; `None` behind the first event that can't be put.
 fn write_tree(
+    alloc: Global,
     scanner: &mut DialectScanner<'_, '_>,
     schema: &Schema,
     room: &mut [u8],
     table: &mut Table,
-) -> Result<Option<u32>, ScanFault>
+) -> Result<Option<Piece>, ScanFault>
     requires consistent { are_consistent schema.now.kinds.now ≡ true }
     requires room { length room.old ≡ 65536 }
     requires cap { table.old.cap ≡ most_entries }
@@ -73,8 +74,8 @@ fn write_tree(
     ensures same_text { scanner.new.text.now ≡ scanner.old.text.now }
     ensures same_schema { scanner.new.schema.now ≡ schema.now }
     ensures ready { IsScanning schema.now scanner.old.text.now (standing_of scanner.new.phase scanner.new.elements) scanner.new.cursor scanner.new.fault }
-    ensures written { IfOk result (λ o. IfSome o (λ count. (count ≤ 65536)
-        × ((tree : Tree) × IsTreeText schema.now tree scanner.old.text.now × IsEncoding schema.now tree (take count room.new)))) }
+    ensures written { IfOk result (λ o. IfSome o (λ piece. (length piece ≤ 65536)
+        × ((tree : Tree) × IsTreeText schema.now tree scanner.old.text.now × IsEncoding schema.now tree piece))) }
     ensures stuck { IfOk result (λ o. IfNone o ((events : List TreeEvent)
         × HasSaid schema.now scanner.old.text.now events (standing_of scanner.new.phase scanner.new.elements) scanner.new.cursor × IsStuck schema.now events)) }
     ensures fault { IfErr result (IsFaultOf schema.now scanner.old.text.now) }
@@ -87,7 +88,8 @@ fn write_tree(
             return Ok(None);
         }
     }
-    Ok(Some(writer.finish()))
+    let bytes = Vec::from_slice(alloc, writer.written())?;
+    Ok(Some(Piece::of(bytes)))
 }
 
 /// Scans what is left of a text.
@@ -119,14 +121,9 @@ pub fn scan_tree(alloc: Global, schema: &Schema, text: &str) -> Result<Piece, Sc
     let mut table = Table::make(alloc, 8192)?;
     let mut room = vec![in alloc; 0; 65536]?;
     let mut scanner = DialectScanner::new(alloc, text, schema);
-    match write_tree(&mut scanner, schema, room.as_mut_slice(), &mut table)? {
-        Some(count) => {
-            room.truncate(count as usize);
-            Ok(Piece::of(room))
-        }
-        None => {
-            scan_rest(&mut scanner)?;
-            Err(ScanFault::Place(text.chars().count() as u64))
-        }
+    if let Some(piece) = write_tree(alloc, &mut scanner, schema, room.as_mut_slice(), &mut table)? {
+        return Ok(piece);
     }
+    scan_rest(&mut scanner)?;
+    Err(ScanFault::Place(text.chars().count() as u64))
 }

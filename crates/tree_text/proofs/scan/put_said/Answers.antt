@@ -13,9 +13,3 @@ returns-then-offers-clause-stuck c failed events h =
 pub returns-else-offers-clause-stuck : goal.returns-else-offers-clause-stuck
 returns-else-offers-clause-stuck c failed events h =
     stuck_offer c.args.writer.now.places.now events _ _ _ _ c.offers.result c.in-Some.ensures.0 h c.offers.ensures c.if-offers.false
-
-pub offers-requires-clause-stub : goal.offers-requires-clause-stub
-offers-requires-clause-stub c = ?
-
-pub put-requires-clause-stub : goal.put-requires-clause-stub
-put-requires-clause-stub c = ?

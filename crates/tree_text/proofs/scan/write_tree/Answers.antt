@@ -1,18 +1,12 @@
-use Rattle.std.proofs.Common.{◌∷◌, ◌++◌, ◌∙◌, sym, arith}
+use Rattle.std.proofs.Common.{◌∷◌, ◌++◌, ◌∙◌, sym}
 use Rattle.exi_bits.specs.Pens.{written_bits}
 use Rattle.exi_events.specs.Reader.{state_of}
 use Rattle.dialect_text.specs.Scanning.{event_of}
-use Rattle.tree_text.proofs.Scanned.{still_ready, said_on, said_all, stuck_in, put_in, all_put}
+use Rattle.tree_text.proofs.Scanned.{still_ready, said_on, said_all, stuck_in, put_in, piece_put}
 use Rattle.tree_text.proofs.scan.write_tree.Goals as goal
-
-pub new-writer-requires-clause-stub : goal.new-writer-requires-clause-stub
-new-writer-requires-clause-stub c = ?
 
 pub next-requires-clause-stub : goal.next-requires-clause-stub
 next-requires-clause-stub c = ?
-
-pub finish-requires : goal.finish-requires
-finish-requires c = ?
 
 pub returns-then-not-is_put-clause-stuck : goal.returns-then-not-is_put-clause-stuck
 returns-then-not-is_put-clause-stuck c =
@@ -50,4 +44,5 @@ returns-clause-written c =
     let before = c.loop-said.invariant in
     let events = before.both.0 in
     let is = said_all _ _ _ _ _ _ _ before.same_schema before.same_text c.in_default.is c.in_ok-said.ensures.ended events before.both.1 in
-    (omega (arith, c.finish.ensures.within, before.room), (let h = c.room-2-1.given.1 in let k = c.room-2-1 in ?))
+    piece_put _ _ events _ c.loop-said.writer.pen _ c.written.result.now _ c.requires.consistent before.places before.room before.both.2 is c.written.ensures.holds (c.written.ensures.document events)
+    (c.of.ensures ∙ c.in_ok-bytes.ensures.items)
