@@ -1,5 +1,6 @@
 -- A text that is scanned to its end.
-use Rattle.std.proofs.Common.{◌≡◌, ℕ, ◌+◌, ◌*◌, ◌≤◌, Bool, true, false, List, ◌∷◌, ◌++◌, length, replicate, reverse, Option, Some, None, IfSome, IfNone, refl, sym, ap, subst, ◌∙◌, arith, length-append}
+use Rattle.std.proofs.Common.{◌≡◌, ℕ, ◌+◌, ◌*◌, ◌≤◌, Bool, true, false, List, ◌∷◌, ◌++◌, length, replicate, reverse, Option, Some, None, IfSome, IfNone, refl, sym, ap, subst, ◌∙◌, arith, length-append, inl, inr}
+use Rattle.std.specs.Str.{chars}
 use Rattle.std.proofs.lemmas.List.{length-replicate, length-take}
 use Rattle.exi_spec.specs.Bits.{bits_of}
 use Rattle.exi_spec.proofs.BitLaws.{length-bits_of}
@@ -13,12 +14,14 @@ use Rattle.exi_documents.specs.Trees.{Tree, Event, document_events}
 use Rattle.exi_documents.specs.Values.{WritesValue}
 use Rattle.exi_events.specs.Writer.{HasPut, IsWritten}
 use Rattle.value_text.specs.declared.cursor.TextCursor.{TextCursor}
-use Rattle.dialect_text.specs.Dialect.{Standing, IsDialectText}
-use Rattle.dialect_text.specs.Scanning.{event_of, HasSaid, IsReady}
+use Rattle.dialect_text.specs.Dialect.{Standing, IsDialectText, IsFault}
+use Rattle.dialect_text.specs.Scanning.{event_of, HasSaid, IsReady, IsFaultOf}
+use Rattle.dialect_text.specs.declared.fault.ScanFault.{ScanFault}
+use Rattle.dialect_text.specs.declared.fault.ScanFault.TheVariants.{Place, Memory}
 use Rattle.dialect_text.specs.declared.said.Said.{Said}
 use Rattle.dialect_text.proofs.Once.{one_list}
 use Rattle.tree_text.specs.Consistent.{are_consistent, are_short}
-use Rattle.tree_text.specs.Scans.{HasNoEncoding, IsStuck}
+use Rattle.tree_text.specs.Scans.{IsEncodedText, HasNoEncoding, IsScanFault, IsFaultBehind, IsStuck}
 use Rattle.tree_text.specs.TreeText.{IsTreeText}
 use Rattle.tree_text.proofs.Sayings.{encoded_said, said_ends, said_tree}
 
@@ -93,7 +96,41 @@ few_bytes pen bytes h room =
 
 pub piece_put : (s t : Schema) (events : List Event) (state : State) (pen : BitPen) (text payload piece : List ℕ) → are_consistent t.kinds.now ≡ true → s ≡ t → length pen.room.now ≡ 65536 → HasPut s events state (written_bits pen) → IsDialectText t events text →
     HoldsBits payload (written_bits pen) → (HasPut s events state (written_bits pen) → state.standing ≡ Behind → IsWritten s events payload) → piece ≡ payload →
-    (length piece ≤ 65536) × ((tree : Tree) × IsTreeText t tree text × IsEncoding t tree piece)
+    IsEncodedText t text piece
 piece_put s t events state pen text payload piece fits same room h is holds ends copied =
-    subst (λ (l : List ℕ). (length l ≤ 65536) × ((tree : Tree) × IsTreeText t tree text × IsEncoding t tree l)) (sym copied)
+    subst (λ (l : List ℕ). IsEncodedText t text l) (sym copied)
     (few_bytes pen payload holds room, all_put s t events state (written_bits pen) text payload fits same h is ends)
+
+-- ---- faults
+
+pub rest_ok : (s : Schema) (text other : List ℕ) (events : List Event) (count : ℕ) → text ≡ other → ((later : List Event) × IsDialectText s (later ++ events) text) → count ≡ length (chars other) → IsFaultBehind s text events (Place count)
+rest_ok s text other events count same is counted = inr (is.0, is.1, counted ∙ ap (λ (l : List ℕ). length (chars l)) (sym same))
+
+pub rest_fault : (s : Schema) (text : List ℕ) (events : List Event) (fault : ScanFault) → IsFaultOf s text fault → IsFaultBehind s text events fault
+rest_fault s text events (Place place) is = inl is
+rest_fault s text events Memory is = tt
+
+pub scan_fault : (s : Schema) (text other : List ℕ) (fault : ScanFault) → text ≡ other → IsFaultOf s text fault → IsScanFault s other fault
+scan_fault s text other (Place place) same is = inl (subst (λ (l : List ℕ). IsFault s l place) same is)
+scan_fault s text other Memory same is = tt
+
+-- a text of the dialect of which no document can be put
+pub stuck_fault : (s t : Schema) (text other : List ℕ) (events : List Event) (fault : ScanFault) → are_consistent t.kinds.now ≡ true → are_short t.kinds.now ≡ true → s ≡ t → text ≡ other →
+    IsStuck t events → IsFaultBehind s text events fault → IsScanFault t other fault
+stuck_fault s t text other events (Place place) fits short same one stuck is =
+    let there : IsFaultBehind t other events (Place place) =
+    subst (λ (x : Schema). IsFaultBehind x other events (Place place)) same (subst (λ (l : List ℕ). IsFaultBehind s l events (Place place)) one is) in
+    elim there [
+      | inl fault ↦ inl fault
+      | inr said ↦ inr ((said.0 ++ events, said.1), stuck_has_none t fits short said.0 events other stuck said.1, said.2)
+    ]
+stuck_fault s t text other events Memory fits short same one stuck is = tt
+
+pub encoded_in : (s : Schema) (text other payload : List ℕ) → text ≡ other → IsEncodedText s text payload → IsEncodedText s other payload
+encoded_in s text other payload same is = subst (λ (l : List ℕ). IsEncodedText s l payload) same is
+
+pub some_of : {X : Type 0} (P : X → Type 0) (o : Option X) (x : X) → o ≡ Some x → IfSome o P → P x
+some_of P o x is h = subst (λ y. IfSome y P) is h
+
+pub none_of : {X : Type 0} (P : Type 0) (o : Option X) → o ≡ None → IfNone o P → P
+none_of {X} P o is h = subst (λ (y : Option X). IfNone y P) is h

@@ -5,10 +5,14 @@ use Rattle.exi_schema.specs.declared.schema.Schema.{Schema}
 use Rattle.exi_documents.specs.Documents.{SpellsDocument, IsEncoding}
 use Rattle.exi_documents.specs.Trees.{Value, Truth, Ordinal, Number, Bytes, Text, Tree, Event, Document, Start, Attribute, Content, EndElement, document_events}
 use Rattle.exi_documents.specs.Values.{WritesValue}
-use Rattle.dialect_text.specs.Dialect.{IsOfDialect, IsFault}
+use Rattle.dialect_text.specs.Dialect.{IsDialectText, IsOfDialect, IsFault}
 use Rattle.dialect_text.specs.declared.fault.ScanFault.{ScanFault}
 use Rattle.dialect_text.specs.declared.fault.ScanFault.TheVariants.{Place, Memory}
 use Rattle.tree_text.specs.TreeText.{IsTreeText}
+
+-- a tree with this text has this encoding, of at most 65,536 bytes
+abbrev pub IsEncodedText : Schema → List ℕ → List ℕ → Type 0
+IsEncodedText s text payload = (length payload ≤ 65536) × ((tree : Tree) × IsTreeText s tree text × IsEncoding s tree payload)
 
 -- no tree with this text has an encoding of at most 65,536 bytes
 abbrev pub HasNoEncoding : Schema → List ℕ → Type 0
@@ -30,6 +34,12 @@ abbrev pub IsStuck : Schema → List Event → Type 0
 IsStuck s events =
     (later : List Event) (number : ℕ) (tree : Tree) (bits : List Bool) → later ++ events ≡ reverse (document_events number tree) →
     SpellsDocument WritesValue s number tree bits → length bits ≤ 8 * 65536 → ⊥
+
+-- a text of which these events were scanned is none of the dialect, or ends there
+abbrev pub IsFaultBehind : Schema → List ℕ → List Event → ScanFault → Type 0
+IsFaultBehind s text events (Place place) =
+    IsFault s text place ⊎ ((later : List Event) × IsDialectText s (later ++ events) text × (place ≡ length (chars text)))
+IsFaultBehind s text events Memory = Unit {0}
 
 abbrev pub IsLongBinary : Value → Type 0
 IsLongBinary (Truth truth) = ⊥

@@ -1,18 +1,17 @@
 //! The encoding of the tree that a text spells.
 
-ghost use Rattle.std.specs.Prelude.{◌≡◌, ℕ, ◌≤◌, true, List, [], ◌∷◌, ◌++◌, length, take, Some, None, IsTrue, IsFalse, MatchOption, IfSome, IfNone, IfOk, IfErr, OnOk};
+ghost use Rattle.std.specs.Prelude.{◌≡◌, true, List, [], ◌∷◌, ◌++◌, length, Some, None, IsTrue, IsFalse, MatchOption, IfSome, IfNone, IfOk, IfErr, OnOk};
+ghost use Rattle.std.specs.Str.{chars};
 ghost use Rattle.exi_bits.specs.Pens.{written_bits};
-ghost use Rattle.exi_documents.specs.Documents.{IsEncoding};
-ghost use Rattle.exi_documents.specs.Trees.{Tree, Event as TreeEvent};
+ghost use Rattle.exi_documents.specs.Trees.{Event as TreeEvent};
 ghost use Rattle.exi_documents.specs.Values.{most_entries};
 ghost use Rattle.exi_values.specs.Meaning.{event_of};
 ghost use Rattle.exi_events.specs.Reader.{state_of, IsReady};
 ghost use Rattle.exi_events.specs.Writer.{HasPut, IsShapedEvent};
 ghost use Rattle.dialect_text.specs.Dialect.{IsDialectText};
 ghost use Rattle.dialect_text.specs.Scanning.{event_of as said_event, standing_of, HasSaid, IsReady as IsScanning, IsFaultOf};
-ghost use Rattle.tree_text.specs.TreeText.{IsTreeText};
 ghost use Rattle.tree_text.specs.Consistent.{are_consistent, are_short};
-ghost use Rattle.tree_text.specs.Scans.{IsScanFault, IsStuck, IsTooLong};
+ghost use Rattle.tree_text.specs.Scans.{IsEncodedText, IsScanFault, IsFaultBehind, IsStuck, IsTooLong};
 
 use charge_world::Piece;
 use dialect_text::{DialectScanner, Said, ScanFault};
@@ -74,8 +73,7 @@ fn write_tree(
     ensures same_text { scanner.new.text.now ≡ scanner.old.text.now }
     ensures same_schema { scanner.new.schema.now ≡ schema.now }
     ensures ready { IsScanning schema.now scanner.old.text.now (standing_of scanner.new.phase scanner.new.elements) scanner.new.cursor scanner.new.fault }
-    ensures written { IfOk result (λ o. IfSome o (λ piece. (length piece ≤ 65536)
-        × ((tree : Tree) × IsTreeText schema.now tree scanner.old.text.now × IsEncoding schema.now tree piece))) }
+    ensures written { IfOk result (λ o. IfSome o (IsEncodedText schema.now scanner.old.text.now)) }
     ensures stuck { IfOk result (λ o. IfNone o ((events : List TreeEvent)
         × HasSaid schema.now scanner.old.text.now events (standing_of scanner.new.phase scanner.new.elements) scanner.new.cursor × IsStuck schema.now events)) }
     ensures fault { IfErr result (IsFaultOf schema.now scanner.old.text.now) }
@@ -106,6 +104,50 @@ fn scan_rest(scanner: &mut DialectScanner<'_, '_>) -> Result<(), ScanFault>
     Ok(())
 }
 
+/// How many characters a text has.
+fn character_count(text: &str) -> u64
+    ensures { result ≡ length (chars text.now) }
+{
+    text.chars().count() as u64
+}
+
+/// Scans what is left of a text of which no document can be put, and gives its fault: at its end where it is one of the dialect.
+fn fault_behind(scanner: &mut DialectScanner<'_, '_>, text: &str) -> ScanFault
+    requires same_text { scanner.old.text.now ≡ text.now }
+    requires ready { IsScanning scanner.old.schema.now scanner.old.text.now (standing_of scanner.old.phase scanner.old.elements) scanner.old.cursor scanner.old.fault }
+    ensures { (events : List TreeEvent)
+        → HasSaid scanner.old.schema.now scanner.old.text.now events (standing_of scanner.old.phase scanner.old.elements) scanner.old.cursor
+        → IsFaultBehind scanner.old.schema.now scanner.old.text.now events result }
+{
+    match scan_rest(scanner) {
+        Ok(()) => ScanFault::Place(character_count(text)),
+        Err(fault) => fault,
+    }
+}
+
+/// Scans with a room of 65,536 bytes, and with a string table, which has room for 8,192 entries and is emptied.
+fn scan_into(
+    alloc: Global,
+    schema: &Schema,
+    text: &str,
+    room: &mut [u8],
+    table: &mut Table,
+) -> Result<Piece, ScanFault>
+    requires consistent { are_consistent schema.now.kinds.now ≡ true }
+    requires short { are_short schema.now.kinds.now ≡ true }
+    requires room { length room.old ≡ 65536 }
+    requires cap { table.old.cap ≡ most_entries }
+    ensures encoded { IfOk result (IsEncodedText schema.now text.now) }
+    ensures fault { IfErr result (IsScanFault schema.now text.now) }
+{
+    let mut scanner = DialectScanner::new(alloc, text, schema);
+    match write_tree(alloc, &mut scanner, schema, room, table) {
+        Ok(Some(piece)) => Ok(piece),
+        Ok(None) => Err(fault_behind(&mut scanner, text)),
+        Err(fault) => Err(fault),
+    }
+}
+
 /// Scans the text of a tree, and gives the one encoding of the tree, of at most 65,536 bytes.
 ///
 /// `Place` exactly where there is none. For a text that is none of the schema's dialect it tells how many characters the longest front
@@ -114,16 +156,10 @@ fn scan_rest(scanner: &mut DialectScanner<'_, '_>) -> Result<(), ScanFault>
 pub fn scan_tree(alloc: Global, schema: &Schema, text: &str) -> Result<Piece, ScanFault>
     requires consistent { are_consistent schema.now.kinds.now ≡ true }
     requires short { are_short schema.now.kinds.now ≡ true }
-    ensures encoded { IfOk result (λ piece. (length piece ≤ 65536)
-        × ((tree : Tree) × IsTreeText schema.now tree text.now × IsEncoding schema.now tree piece)) }
+    ensures encoded { IfOk result (IsEncodedText schema.now text.now) }
     ensures fault { IfErr result (IsScanFault schema.now text.now) }
 {
     let mut table = Table::make(alloc, 8192)?;
     let mut room = vec![in alloc; 0; 65536]?;
-    let mut scanner = DialectScanner::new(alloc, text, schema);
-    if let Some(piece) = write_tree(alloc, &mut scanner, schema, room.as_mut_slice(), &mut table)? {
-        return Ok(piece);
-    }
-    scan_rest(&mut scanner)?;
-    Err(ScanFault::Place(text.chars().count() as u64))
+    scan_into(alloc, schema, text, room.as_mut_slice(), &mut table)
 }

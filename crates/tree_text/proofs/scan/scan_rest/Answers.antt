@@ -3,9 +3,6 @@ use Rattle.dialect_text.specs.Scanning.{event_of}
 use Rattle.tree_text.proofs.Scanned.{still_ready, said_on, said_all}
 use Rattle.tree_text.proofs.scan.scan_rest.Goals as goal
 
-pub next-requires-clause-stub : goal.next-requires-clause-stub
-next-requires-clause-stub c = ?
-
 pub loop-said-preserved : goal.loop-said-preserved
 loop-said-preserved c =
     let before = c.loop-said.invariant in

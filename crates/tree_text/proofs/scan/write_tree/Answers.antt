@@ -5,9 +5,6 @@ use Rattle.dialect_text.specs.Scanning.{event_of}
 use Rattle.tree_text.proofs.Scanned.{still_ready, said_on, said_all, stuck_in, put_in, piece_put}
 use Rattle.tree_text.proofs.scan.write_tree.Goals as goal
 
-pub next-requires-clause-stub : goal.next-requires-clause-stub
-next-requires-clause-stub c = ?
-
 pub returns-then-not-is_put-clause-stuck : goal.returns-then-not-is_put-clause-stuck
 returns-then-not-is_put-clause-stuck c =
     let before = c.loop-said.invariant in
