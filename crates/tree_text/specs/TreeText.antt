@@ -1,18 +1,17 @@
 -- Own: the text of a tree of a schema, in UTF-8. An element with attributes or children is `Name{..}`, with one space between them; one
 -- without any is `Name{}`. A simple element is `Name=VALUE`, an attribute `@Name=VALUE`.
-use Rattle.std.specs.Prelude.{◌≡◌, ℕ, Bool, true, false, ◌==◌, nat_lt, if◌then◌else◌, List, [], ◌∷◌, ◌++◌, map, codes, encode_utf8, Some, slice_get}
-use Rattle.std.specs.Fmt.{digits, signed_decimal}
-use Rattle.std.specs.List.{flat_map, join_with_byte}
-use Rattle.hex.specs.Hex.{encode_lower}
+use Rattle.std.specs.Prelude.{◌≡◌, ℕ, List, [], ◌∷◌, ◌++◌, codes, Some, slice_get}
+use Rattle.std.specs.List.{join_with_byte}
 use Rattle.exi_schema.specs.declared.places.Place.{Place}
 use Rattle.exi_schema.specs.declared.places.Root.TheVariants.{Kind}
 use Rattle.exi_schema.specs.declared.places.Step.{Step}
 use Rattle.exi_schema.specs.declared.places.Step.TheVariants as step
 use Rattle.exi_schema.specs.declared.schema.Schema.{Schema}
 use Rattle.exi_schema.specs.Offers.{offers}
-use Rattle.exi_schema.specs.Steps.{IsRoot, texts_at}
+use Rattle.exi_schema.specs.Steps.{IsRoot}
 use Rattle.exi_documents.specs.Documents.{element, first, name_of}
-use Rattle.exi_documents.specs.Trees.{Value, Truth, Ordinal, Number, Bytes, Text, Trees, none, simple, complex, Tree, Simple, Complex}
+use Rattle.exi_documents.specs.Trees.{Value, Trees, none, simple, complex, Tree, Simple, Complex}
+
 pub use Rattle.value_text.specs.ValueText.{character_text, quoted, truth_text, IsValueText, IsName, IsNamedText}
 
 -- ---- elements and attributes

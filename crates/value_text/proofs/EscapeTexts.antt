@@ -132,6 +132,13 @@ encodes_one d small = encodes_ascii (low d ∷ 125 ∷ []) (low_ascii d small, (
 encodes_two : (d : ℕ) → d < 16 → encode_utf8_all (49 ∷ low d ∷ 125 ∷ []) ≡ 49 ∷ low d ∷ 125 ∷ []
 encodes_two d small = encodes_ascii (49 ∷ low d ∷ 125 ∷ []) (omega arith, (low_ascii d small, (omega arith, tt)))
 
+pub numbered_ascii : (c : ℕ) (text : List ℕ) → IsNumbered c text → AllByRecursion (λ c. c < 128) text
+numbered_ascii c text is =
+    elim (numbered_cases c text is) [
+      | inl p ↦ subst (AllByRecursion (λ c. c < 128)) (sym p.3) (low_ascii p.0 p.1, (omega arith, tt))
+      | inr p ↦ subst (AllByRecursion (λ c. c < 128)) (sym p.3) (omega arith, (low_ascii p.0 p.1, (omega arith, tt)))
+    ]
+
 pub takes_one_digit : (a b d : TextCursor) (digit : ℕ) → digit < 16 → Passes a (low digit ∷ []) b → Passes b (125 ∷ []) d → GivesNumbered a digit d
 takes_one_digit a b d digit small first brace =
     let is : IsNumbered digit (encode_utf8_all (low digit ∷ 125 ∷ [])) = rw (encodes_one digit small) (numbered_low digit small) in

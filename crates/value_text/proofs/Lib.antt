@@ -5,4 +5,10 @@ pub mod NumberLaws
 pub mod HexTexts
 pub mod EscapeTexts
 pub mod PieceTexts
+pub mod QuotedTexts
 pub mod Outcomes
+pub mod BestWords
+pub mod SchemaWords
+pub mod ValueForms
+pub mod NameForms
+pub mod OneValue

@@ -30,7 +30,7 @@ starts_with_digit (suc n) rest small =
 no_sign : (n : ℕ) (rest more : List ℕ) → n < 10 ^ 20 → decimal n ++ rest ≡ 45 ∷ more → ⊥
 no_sign n rest more small e = let first : get_or (decimal n ++ rest) 0 0 ≡ 45 = ap (λ (bs : List ℕ). get_or bs 0 0) e in omega (arith, first, starts_with_digit n rest small)
 
-no_sign_alone : (n : ℕ) (more : List ℕ) → n < 10 ^ 20 → decimal n ≡ 45 ∷ more → ⊥
+pub no_sign_alone : (n : ℕ) (more : List ℕ) → n < 10 ^ 20 → decimal n ≡ 45 ∷ more → ⊥
 no_sign_alone n more small e = no_sign n [] more small (append-nil (decimal n) ∙ e)
 
 -- no two digits where the first is 0

@@ -2,6 +2,7 @@
 use Rattle.std.proofs.Common.{◌≡◌, ℕ, zero, suc, ◌+◌, ◌<◌, ◌≤◌, Bool, true, false, cond, List, [], ◌∷◌, ◌++◌, length, get_or, drop, ◌⊎◌, inl, inr, Result, IfOk, IfErr, refl, sym, ap, ap₂, subst, ◌∙◌, append_assoc, arith}
 use Rattle.std.specs.Prelude.{◌==◌, nat_le, nat_lt, encode_utf8, codes, Some, None, Option}
 use Rattle.std.specs.Char.{IsScalar}
+use Rattle.std.specs.List.{AllByRecursion}
 use Rattle.std.specs.Str.{encode_utf8_all}
 use Rattle.std.proofs.lemmas.Bool.{cases_lt, cases_eq}
 use Rattle.std.proofs.lemmas.Bool.Decides.{nat_tests}
@@ -12,7 +13,7 @@ use Rattle.value_text.specs.declared.cursor.TextCursor.{TextCursor}
 use Rattle.value_text.specs.Forms.{IsNumbered, IsNumberedText, IsBraced, IsBracedText, IsEscaped, IsEscapedText, IsPiece, IsPieceText, NoneNext}
 use Rattle.value_text.specs.Scanning.{Passes, Takes, GoesWrong}
 use Rattle.value_text.specs.ValueText.{character_text}
-use Rattle.value_text.proofs.EscapeTexts.{GivesNumbered, first_is, numbered_low, one_numbered, encodes_ascii}
+use Rattle.value_text.proofs.EscapeTexts.{GivesNumbered, first_is, numbered_low, numbered_ascii, one_numbered, encodes_ascii}
 use Rattle.value_text.proofs.FrontLaws.{StandsBehind, IsPrefixFree, passes_none, takes_whole, takes_behind, wrong_behind, wrong_where_it_stops}
 use Rattle.value_text.proofs.NextLaws.{some_bytes, none_at, none_at_end}
 use Rattle.value_text.proofs.Outcomes.{ok_to, err_to}
@@ -279,7 +280,7 @@ piece_first c after (inr p) =
       | inr q ↦ let is = encode_same c p.0 after [] (p.2 ∙ q.3 ∙ sym (append-nil _)) in omega (arith, is.0, q.0)
     ]
 
-some_text : (c : ℕ) → character_text c ≡ [] → ⊥
+pub some_text : (c : ℕ) → character_text c ≡ [] → ⊥
 some_text c e =
     elim (shape c) [
       | inl p ↦ omega (arith, ap length (sym p.2 ∙ e))
@@ -303,3 +304,18 @@ small_fails c small = grind (arith, nat_tests)
 
 pub no_piece_at_control : (a b : TextCursor) (c : ℕ) → Passes a (c ∷ []) b → c < 32 → GoesWrong IsPieceText a a.place
 no_piece_at_control a b c passed small = no_piece a (none_at (λ n. nat_le 32 n) a.rest.now b.rest.now c passed.stands (small_fails c small))
+
+-- ---- each is spelled in whole characters
+
+escape_ascii : (c : ℕ) (x : List ℕ) → IsEscaped c x → AllByRecursion (λ c. c < 128) x
+escape_ascii c x (inl p) = subst (AllByRecursion (λ c. c < 128)) (sym p.1) (omega arith, tt)
+escape_ascii c x (inr (inl p)) = subst (AllByRecursion (λ c. c < 128)) (sym p.1) (omega arith, tt)
+escape_ascii c x (inr (inr p)) =
+    subst (AllByRecursion (λ c. c < 128)) (sym (p.2 ∙ ap (λ (bs : List ℕ). 117 ∷ bs) p.1.2)) (omega arith, (omega arith, numbered_ascii c p.1.0 p.1.1))
+
+pub spelled_chars : (c : ℕ) → (spelled : List ℕ) × (encode_utf8_all spelled ≡ character_text c)
+spelled_chars c =
+    elim (shape c) [
+      | inl p ↦ (92 ∷ p.0, encodes_ascii (92 ∷ p.0) (omega arith, escape_ascii c p.0 p.1) ∙ sym p.2)
+      | inr p ↦ (c ∷ [], append-nil (encode_utf8 c) ∙ sym p.3)
+    ]

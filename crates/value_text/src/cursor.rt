@@ -14,7 +14,8 @@ pub struct TextCursor<'t> {
 }
 
 impl<'t> TextCursor<'t> {
-    ghost use Rattle.std.specs.Prelude.{◌≡◌, ◌==◌, ℕ, List, [], ◌∷◌, ◌++◌, MatchBool, MatchOption, encode_utf8};
+    ghost use Rattle.std.specs.Prelude.{◌≡◌, ◌==◌, ℕ, List, [], ◌∷◌, ◌++◌, MatchBool, MatchOption, IfSome, encode_utf8};
+    ghost use Rattle.std.specs.Char.{IsScalar};
     ghost use Rattle.value_text.specs.Forms.{NoneNext};
     ghost use Rattle.value_text.specs.Scanning.{Passes};
 
@@ -38,7 +39,8 @@ impl<'t> TextCursor<'t> {
 
     /// Passes the next character, if there is one.
     pub fn next(&mut self) -> Option<char>
-        ensures { MatchOption result ((self.old.rest.now ≡ []) × (self.new ≡ self.old)) (λ c. Passes self.old (c ∷ []) self.new) }
+        ensures passes { MatchOption result ((self.old.rest.now ≡ []) × (self.new ≡ self.old)) (λ c. Passes self.old (c ∷ []) self.new) }
+        ensures scalar { IfSome result (λ c. IsScalar c) }
     {
         let mut chars = self.rest.chars();
         let next = chars.next()?;

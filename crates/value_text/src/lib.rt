@@ -9,12 +9,17 @@ mod awaited;
 mod binary;
 mod cursor;
 mod fault;
+pub mod laws;
 mod number;
 mod quoted;
 mod scanned;
 mod value;
+mod words;
 
 pub use awaited::Awaited;
 pub use cursor::TextCursor;
 pub use fault::ValueFault;
 pub use scanned::Scanned;
+
+#[cfg(test)]
+mod tests;

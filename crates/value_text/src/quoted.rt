@@ -81,8 +81,10 @@ impl<'t> TextCursor<'t> {
             return Ok((None, ahead));
         }
         if c == '\\' {
-            let (c, behind) = ahead.escaped()?;
-            return Ok((Some(c), behind));
+            return match ahead.escaped() {
+                Ok((c, behind)) => Ok((Some(c), behind)),
+                Err(place) => Err(place),
+            };
         }
         if c < ' ' {
             return Err(self.place);

@@ -4,17 +4,68 @@ ghost use Rattle.std.specs.Prelude.{◌≡◌, ℕ, ◌<◌, List, Some, length,
 ghost use Rattle.std.specs.Str.{encode_utf8_all};
 ghost use Rattle.exi_schema.specs.Schemas.{is_word_char};
 ghost use Rattle.exi_schema.specs.declared.tables.Declaration.TheVariants.{Simple};
-ghost use Rattle.value_text.specs.ValueText.{IsFormed};
+ghost use Rattle.value_text.specs.ValueText.{truth_text, IsFormed};
+ghost use Rattle.value_text.specs.Forms.{IsTruthText};
 ghost use Rattle.value_text.specs.Scanning.{Takes, IsFaultOf, GoesWrong, meaning, IsAnyFormed, IsAnyAwaited, IsAwaitedText};
 
 use crate::awaited::Awaited;
 use crate::cursor::TextCursor;
 use crate::fault::ValueFault;
 use crate::scanned::Scanned;
+use crate::words::{Best, agreed_awaited};
 use exi_schema::{Datatype, Schema};
 use std::alloc::Global;
 
 impl<'t> TextCursor<'t> {
+    /// The truth value that stands there, and the cursor behind it.
+    fn truth(&self) -> Result<(bool, TextCursor<'t>), u64>
+        ensures taken { IfOk result (λ x. (front : List ℕ) × Takes IsTruthText self.now front x.1 × (encode_utf8_all front ≡ truth_text x.0)) }
+        ensures fault { IfErr result (λ place. GoesWrong IsTruthText self.now place) }
+    {
+        let words = ["true", "false"];
+        match self.word(&words) {
+            Ok((i, behind)) => Ok((i == 0, behind)),
+            Err(place) => Err(place),
+        }
+    }
+
+    /// The value of a simple kind that stands there, and the cursor behind it.
+    fn value(&self, alloc: Global, schema: &Schema, kind: u16, datatype: Datatype) -> Result<(Scanned, TextCursor<'t>), ValueFault>
+        requires { slice_get schema.now.kinds.now kind ≡ Some (Simple datatype) }
+        ensures taken { IfOk result (λ x. (front : List ℕ)
+            × Takes (IsAnyFormed schema.now kind datatype) self.now front x.1
+            × IsFormed schema.now kind datatype (meaning x.0) (encode_utf8_all front)) }
+        ensures fault { IfErr result (IsFaultOf (IsAnyFormed schema.now kind datatype) self.now) }
+    {
+        match datatype {
+            Datatype::Bool => match self.truth() {
+                Ok((truth, behind)) => Ok((Scanned::Bool(truth), behind)),
+                Err(place) => Err(ValueFault::Place(place)),
+            },
+            Datatype::Named { .. } => {
+                let words = schema.values[kind as usize];
+                match self.word(words) {
+                    Ok((ordinal, behind)) => Ok((Scanned::Ordinal(ordinal as u32), behind)),
+                    Err(place) => Err(ValueFault::Place(place)),
+                }
+            }
+            Datatype::Bounded { .. } | Datatype::Unsigned { .. } | Datatype::Signed { .. } => {
+                match self.number() {
+                    Ok((number, behind)) => Ok((Scanned::Number(number), behind)),
+                    Err(place) => Err(ValueFault::Place(place)),
+                }
+            }
+            Datatype::Binary { .. } => match self.bytes(alloc) {
+                Ok((bytes, behind)) => Ok((Scanned::Bytes(bytes), behind)),
+                Err(fault) => Err(fault),
+            },
+            Datatype::Text { .. } => match self.quoted(alloc) {
+                Ok((text, behind)) => Ok((Scanned::Text(text), behind)),
+                Err(fault) => Err(fault),
+            },
+        }
+    }
+
     /// Takes a value of a simple kind: the longest front of what is left that begins the text of one, where it is one. Otherwise the
     /// fault's place is behind that front, and nothing is passed.
     pub fn take_value(
@@ -30,7 +81,9 @@ impl<'t> TextCursor<'t> {
             × IsFormed schema.now kind datatype (meaning scanned) (encode_utf8_all front)) }
         ensures fault { IfErr result (λ fault. IsFaultOf (IsAnyFormed schema.now kind datatype) self.old fault × (self.new ≡ self.old)) }
     {
-        Err(ValueFault::Memory)
+        let (scanned, behind) = self.value(alloc, schema, kind, datatype)?;
+        *self = behind;
+        Ok(scanned)
     }
 
     /// Takes one of the names that are awaited, with the character behind it: the longest front of what is left that begins one such
@@ -45,6 +98,21 @@ impl<'t> TextCursor<'t> {
             × (slice_get awaited.now i ≡ Some one) × IsAwaitedText schema.now one (encode_utf8_all front)) }
         ensures fault { IfErr result (λ place. GoesWrong (IsAnyAwaited schema.now awaited.now) self.old place × (self.new ≡ self.old)) }
     {
-        Err(self.place)
+        let mut best = Best {
+            count: 0,
+            whole: None,
+        };
+        for i in 0..awaited.len() {
+            let one = awaited[i];
+            let (count, is_whole) = agreed_awaited(self.rest, schema.name(one.name), one.end);
+            best = best.with(i, count, is_whole);
+        }
+        match self.take_best(best) {
+            Ok((i, behind)) => {
+                *self = behind;
+                Ok(i)
+            }
+            Err(place) => Err(place),
+        }
     }
 }
