@@ -4,3 +4,14 @@ pub mod Quotes
 pub mod Values
 pub mod Running
 pub mod Once
+pub mod Cursors
+pub mod Named
+pub mod Valued
+pub mod Viable
+pub mod Awaiting
+pub mod Parts
+pub mod Simples
+pub mod Roots
+pub mod Starts
+pub mod ElementStarts
+pub mod PartsOf

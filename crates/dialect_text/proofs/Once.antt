@@ -21,8 +21,9 @@ use Rattle.dialect_text.specs.declared.elements.Filling.TheVariants as fills
 use Rattle.dialect_text.specs.declared.elements.OpenElement.{OpenElement}
 use Rattle.dialect_text.specs.Dialect.{Standing, Before, AtRoot, Within, element, attribute_in, element_in, attribute_of, element_of, mark_of, mark, gap, IsBeforeElements, IsValueOf, IsStartText, IsAttributeText, IsEndText, Adds, Says, IsDialectText, IsOfDialect}
 use Rattle.dialect_text.specs.Languages.{Goes, Completes}
+use Rattle.dialect_text.specs.Scanning.{IsNested}
 use Rattle.dialect_text.proofs.Agreeing.{splits, none_or_some, Stops, Longer, Shorter}
-use Rattle.dialect_text.proofs.Running.{onto, onto_once, goes_before, IsNested, nested_on, IsSome, behind_some}
+use Rattle.dialect_text.proofs.Running.{onto, onto_once, goes_before, nested_on, IsSome, behind_some}
 use Rattle.dialect_text.proofs.Values.{value_chars, one_value, EndsValue, at_end, at_space, at_brace, value_stops}
 use Rattle.dialect_text.proofs.Words.{name_word, words_split, word_first, one_name, IsWordText}
 
@@ -57,10 +58,10 @@ attribute_behind word said text rest e =
 
 -- ---- gaps and ends
 
-heads_differ : (c d : ℕ) (x y : List ℕ) → c ∷ x ≡ d ∷ y → c ≡ d
+pub heads_differ : (c d : ℕ) (x y : List ℕ) → c ∷ x ≡ d ∷ y → c ≡ d
 heads_differ c d x y e = ap (λ (bs : List ℕ). get_or bs 0 0) e
 
-tails_same : (c : ℕ) (x y : List ℕ) → c ∷ x ≡ c ∷ y → x ≡ y
+pub tails_same : (c : ℕ) (x y : List ℕ) → c ∷ x ≡ c ∷ y → x ≡ y
 tails_same c x y e = cc
 
 gap_brace : (f : Filling) (x y : List ℕ) → ((z : List ℕ) → x ≡ 125 ∷ z → ⊥) → gap f ++ x ≡ 125 ∷ y → ⊥

@@ -20,6 +20,7 @@ use Rattle.dialect_text.specs.declared.elements.Filling.TheVariants as fills
 use Rattle.dialect_text.specs.declared.elements.OpenElement.{OpenElement}
 use Rattle.dialect_text.specs.Dialect.{Standing, Before, AtRoot, Within, element, attribute_in, element_in, attribute_of, element_of, mark_of, mark, gap, IsBeforeElements, IsValueOf, IsStartText, IsAttributeText, IsEndText, Adds, Says, IsDialectText, IsOfDialect}
 use Rattle.dialect_text.specs.Languages.{Goes, Completes}
+use Rattle.dialect_text.specs.Scanning.{IsNested}
 use Rattle.dialect_text.proofs.Agreeing.{splits, none_or_some, Stops, Longer, Shorter}
 use Rattle.dialect_text.proofs.Values.{value_chars, one_value, EndsValue, at_end, at_space, at_brace, value_stops}
 use Rattle.dialect_text.proofs.Words.{name_word, words_split, word_first, one_name}
@@ -66,13 +67,6 @@ onto_once a b e =
     sym (back a) ∙ ap (λ (x : List Event). onto x []) e ∙ back b
 
 -- ---- elements inside one another
-
--- each element but the innermost has an element in it
-abbrev pub IsNested : Standing → Type 0
-IsNested Before = Unit {0}
-IsNested (AtRoot name kind) = Unit {0}
-IsNested (Within []) = Unit {0}
-IsNested (Within (top ∷ above)) = AllByRecursion (λ e. e.filling ≡ fills.Elements) above
 
 by_standing : (P : Standing → Type 0) {a b : Standing} → a ≡ b → P b → P a
 by_standing P e p = subst P (sym e) p

@@ -76,7 +76,7 @@ words_of s =
     and-r (are_kinds (length texts) s.kinds.now && are_roots s.root_bits (length texts) s.kinds.now s.roots.now) (are_words texts)
     (and-l _ (are_values s.kinds.now (map (λ l. map (λ t. t.now) l.now) s.values.now)) s.fits)
 
-values_of : (s : Schema) → are_values s.kinds.now (map (λ l. map (λ t. t.now) l.now) s.values.now) ≡ true
+pub values_of : (s : Schema) → are_values s.kinds.now (map (λ l. map (λ t. t.now) l.now) s.values.now) ≡ true
 values_of s =
     let texts : List (List ℕ) = map (λ t. t.now) s.names.now in
     and-r (are_kinds (length texts) s.kinds.now && are_roots s.root_bits (length texts) s.kinds.now s.roots.now && are_words texts) (are_values s.kinds.now (map (λ l. map (λ t. t.now) l.now) s.values.now)) s.fits

@@ -1,5 +1,5 @@
 -- Own: where a scanner stands in a text.
-use Rattle.std.specs.Prelude.{◌≡◌, ◌⊎◌, ℕ, ◌+◌, ◌*◌, ◌-◌, ◌<◌, true, List, [], ◌∷◌, ◌++◌, length, sum_by, Option, Some, None, slice_get}
+use Rattle.std.specs.Prelude.{◌≡◌, ◌⊎◌, ℕ, ◌+◌, ◌*◌, ◌-◌, ◌<◌, Bool, true, false, codes, List, [], ◌∷◌, ◌++◌, length, sum_by, Option, Some, None, slice_get}
 use Rattle.std.specs.List.{AllByRecursion}
 use Rattle.std.specs.Str.{encode_utf8_all}
 use Rattle.exi_schema.specs.declared.schema.Schema.{Schema}
@@ -13,8 +13,8 @@ use Rattle.exi_schema.specs.Steps.{simple_at}
 use Rattle.exi_documents.specs.Trees.{Value, Event, Document, Start, Attribute, Content, EndElement}
 use Rattle.value_text.specs.declared.awaited.Awaited.{Awaited}
 use Rattle.value_text.specs.declared.cursor.TextCursor.{TextCursor}
-use Rattle.value_text.specs.ValueText.{IsName}
-use Rattle.value_text.specs.Scanning.{Passes, meaning}
+use Rattle.value_text.specs.ValueText.{IsName, IsFormed}
+use Rattle.value_text.specs.Scanning.{Passes, Takes, GoesWrong, IsAnyFormed, meaning}
 use Rattle.dialect_text.specs.declared.elements.Filling.{Filling}
 use Rattle.dialect_text.specs.declared.elements.Filling.TheVariants as fills
 use Rattle.dialect_text.specs.declared.elements.OpenElement.{OpenElement}
@@ -24,7 +24,7 @@ use Rattle.dialect_text.specs.declared.phase.Phase.{Phase}
 use Rattle.dialect_text.specs.declared.phase.Phase.TheVariants as phase
 use Rattle.dialect_text.specs.declared.said.Said.{Said}
 use Rattle.dialect_text.specs.declared.said.Said.TheVariants as said
-use Rattle.dialect_text.specs.Dialect.{Standing, Before, AtRoot, Within, element, attribute_of, element_of, element_named, mark, IsBeforeElements, IsValueOf, IsStartText, Adds, Says, IsOfDialect, IsFault}
+use Rattle.dialect_text.specs.Dialect.{Standing, Before, AtRoot, Within, element, attribute_of, element_of, element_named, mark, gap, IsBeforeElements, IsValueOf, IsStartText, Adds, Says, IsOfDialect, IsFault}
 use Rattle.dialect_text.specs.Languages.{Completes, Leads, Stalls}
 
 -- ---- events
@@ -65,10 +65,20 @@ AreOpen s (top ∷ above) =
     × IsFilled s top.kind top.filling
     × AreOpen s above
 
+-- each element but the innermost has an element in it
+abbrev pub IsNested : Standing → Type 0
+IsNested Before = Unit {0}
+IsNested (AtRoot name kind) = Unit {0}
+IsNested (Within []) = Unit {0}
+IsNested (Within (top ∷ above)) = AllByRecursion (λ e. e.filling ≡ fills.Elements) above
+
+abbrev pub IsOpen : Schema → Standing → Type 0
+IsOpen s Before = Unit {0}
+IsOpen s (AtRoot name kind) = (kind < length s.kinds.now) × (is_within s.kinds.now 16 kind ≡ true)
+IsOpen s (Within elements) = AreOpen s elements
+
 abbrev pub IsSound : Schema → Standing → Type 0
-IsSound s Before = Unit {0}
-IsSound s (AtRoot name kind) = (kind < length s.kinds.now) × (is_within s.kinds.now 16 kind ≡ true)
-IsSound s (Within elements) = AreOpen s elements
+IsSound s standing = IsOpen s standing × IsNested standing
 
 -- ---- a scanner
 
@@ -116,17 +126,48 @@ events_left standing cursor = 4 * length cursor.rest.now + events_within standin
 
 -- ---- one event
 
--- what follows at a standing begins with an event, and these are its characters
-pub record TakesNext (s : Schema) (old : Standing) (before : TextCursor) (event : Event) (new : Standing) (after : TextCursor) : Type 0 where
+-- what follows is of a language and begins with an event, and these are its characters behind those ahead
+pub record TakesNext (s : Schema) (ahead : List ℕ) (L : List ℕ → Type 0) (old : Standing) (before : TextCursor) (event : Event) (new : Standing) (after : TextCursor) : Type 0 where
   pub front : List ℕ
-  pub adds : Adds s old event (encode_utf8_all front) new
+  pub adds : Adds s old event (ahead ++ encode_utf8_all front) new
   pub passes : Passes before front after
-  pub leads : Leads (Completes s old) front after.rest.now (Completes s new)
+  pub leads : Leads L front after.rest.now (Completes s new)
 
 -- no text of the language follows; the fault is behind the longest front that begins one
 abbrev pub StallsAt : (List ℕ → Type 0) → TextCursor → ScanFault → Type 0
 StallsAt L cursor (fault.Place place) = (front : List ℕ) × Stalls L cursor.rest.now front × (place ≡ cursor.place + length front)
 StallsAt L cursor fault.Memory = Unit {0}
+
+-- an event is taken, or the root and the text have ended
+abbrev pub IsNext : Schema → Standing → TextCursor → Standing → TextCursor → Option Said → Type 0
+IsNext s old before new after (Some said) = TakesNext s [] (Completes s old) old before (event_of said) new after
+IsNext s old before new after None = (old ≡ Within []) × (before.rest.now ≡ []) × (new ≡ old) × (after ≡ before)
+
+-- none of a language stands there
+abbrev pub MissesAt : (List ℕ → Type 0) → TextCursor → ScanFault → Type 0
+MissesAt L cursor (fault.Place place) = GoesWrong L cursor place
+MissesAt L cursor fault.Memory = Unit {0}
+
+-- a value of a simple kind stands there, or none does
+abbrev pub TakesValueOf : Schema → ℕ → Value → TextCursor → TextCursor → Type 0
+TakesValueOf s kind value before after =
+    (datatype : Datatype) × (front : List ℕ)
+    × (simple_at s.kinds.now kind ≡ Some datatype)
+    × Takes (IsAnyFormed s kind datatype) before front after
+    × IsFormed s kind datatype value (encode_utf8_all front)
+
+abbrev pub MissesValueOf : Schema → ℕ → TextCursor → ScanFault → Type 0
+MissesValueOf s kind cursor fault =
+    (datatype : Datatype) × (simple_at s.kinds.now kind ≡ Some datatype) × MissesAt (IsAnyFormed s kind datatype) cursor fault
+
+-- a character is passed, or another one or none stands there
+abbrev pub PassesIf : ℕ → Bool → TextCursor → TextCursor → Type 0
+PassesIf c true before after = Passes before (c ∷ []) after
+PassesIf c false before after = (after ≡ before) × ((rest : List ℕ) → before.rest.now ≡ c ∷ rest → ⊥)
+
+abbrev pub PassesGap : Filling → Bool → TextCursor → TextCursor → Type 0
+PassesGap filling true before after = Passes before (gap filling) after
+PassesGap filling false before after = (after ≡ before) × (gap filling ≡ codes " ") × ((rest : List ℕ) → before.rest.now ≡ 32 ∷ rest → ⊥)
 
 -- ---- inside an element, behind what stands before a part
 
@@ -139,13 +180,10 @@ StartsElement s top above text =
     × Completes s (Within (element kind fills.Nothing ∷ element top.kind fills.Elements ∷ above)) rest
     × (text ≡ added ++ rest)
 
--- the value of an attribute, and what follows
-abbrev pub StartsValue : Schema → OpenElement → List OpenElement → ℕ → List ℕ → Type 0
-StartsValue s top above kind text =
-    (value : Value) × (said : List ℕ) × (rest : List ℕ)
-    × IsValueOf s kind value said
-    × Completes s (Within (element top.kind fills.Attributes ∷ above)) rest
-    × (text ≡ said ++ rest)
+-- a value of a kind, and a text of a language behind it
+abbrev pub StartsValue : Schema → ℕ → (List ℕ → Type 0) → List ℕ → Type 0
+StartsValue s kind L text =
+    (value : Value) × (said : List ℕ) × (rest : List ℕ) × IsValueOf s kind value said × L rest × (text ≡ said ++ rest)
 
 -- the name of an attribute, behind its sign
 abbrev pub StartsAttribute : Schema → OpenElement → List OpenElement → List ℕ → Type 0
@@ -153,13 +191,18 @@ StartsAttribute s top above text =
     (name : ℕ) × (kind : ℕ) × (word : List ℕ) × (rest : List ℕ)
     × (attribute_of s top.kind name ≡ Some kind)
     × IsName s name word
-    × StartsValue s top above kind rest
+    × StartsValue s kind (Completes s (Within (element top.kind fills.Attributes ∷ above))) rest
     × (text ≡ word ++ 61 ∷ rest)
 
 abbrev pub StartsPart : Schema → OpenElement → List OpenElement → List ℕ → Type 0
 StartsPart s top above text =
     StartsElement s top above text
     ⊎ (IsBeforeElements top.filling × (rest : List ℕ) × StartsAttribute s top above rest × (text ≡ 64 ∷ rest))
+
+-- attributes may follow what is in an element, and there are some
+abbrev pub AwaitsAttribute : Filling → List AttributeOf → Bool → Type 0
+AwaitsAttribute filling attributes true = IsBeforeElements filling × (0 < length attributes)
+AwaitsAttribute filling attributes false = IsBeforeElements filling → attributes ≡ []
 
 -- ---- what is awaited
 

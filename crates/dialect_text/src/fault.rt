@@ -12,6 +12,21 @@ pub enum ScanFault {
     Memory,
 }
 
+impl ScanFault {
+    ghost use Rattle.std.specs.Prelude.{◌≡◌};
+    ghost use Rattle.dialect_text.specs.Faults.{place_in};
+
+    /// Its place in the text, if it has one.
+    pub fn place(self) -> Option<u64>
+        ensures { result ≡ place_in self }
+    {
+        match self {
+            ScanFault::Place(place) => Some(place),
+            ScanFault::Memory => None,
+        }
+    }
+}
+
 impl From<NoMemory> for ScanFault {
     ghost use Rattle.std.specs.Prelude.{◌≡◌};
     ghost use Rattle.dialect_text.specs.declared.fault.ScanFault.TheVariants.{Memory};

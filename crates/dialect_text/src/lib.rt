@@ -7,11 +7,13 @@
 mod elements;
 mod fault;
 mod kinds;
+pub mod laws;
 mod names;
 mod phase;
 mod said;
 mod scanner;
 mod step;
+mod take;
 
 pub use fault::ScanFault;
 pub use said::Said;

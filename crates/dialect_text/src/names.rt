@@ -55,12 +55,16 @@ fn await_members(
     ensures kept { OnOk result ((more : List _) × (awaited.new.items ≡ awaited.old.items ++ more)) }
 {
     for member in members {
-        if kind_of_element(particles, member.name) == Some(member.kind) {
-            awaited.push(Awaited {
-                name: member.name,
-                end: mark_behind(schema, member.kind),
-            })?;
+        let Some(kind) = kind_of_element(particles, member.name) else {
+            continue;
+        };
+        if kind != member.kind {
+            continue;
         }
+        awaited.push(Awaited {
+            name: member.name,
+            end: mark_behind(schema, kind),
+        })?;
     }
     Ok(())
 }

@@ -3,13 +3,16 @@
 ghost use Rattle.std.specs.Prelude.{◌≡◌, ◌<◌, ◌∷◌, [], List, Some, None, IfSome, IfNone, IfOk, IfErr, Err};
 ghost use Rattle.exi_documents.specs.Trees.{Event};
 ghost use Rattle.dialect_text.specs.declared.fault.ScanFault.TheVariants as fault;
-ghost use Rattle.dialect_text.specs.Dialect.{IsDialectText};
-ghost use Rattle.dialect_text.specs.Scanning.{event_of, standing_of, IsReady, HasSaid, IsFaultOf, events_left};
+ghost use Rattle.dialect_text.specs.declared.phase.Phase.TheVariants as phase;
+ghost use Rattle.dialect_text.specs.Dialect.{Within, IsDialectText};
+ghost use Rattle.dialect_text.specs.Languages.{Completes};
+ghost use Rattle.dialect_text.specs.Scanning.{event_of, standing_of, IsReady, HasSaid, IsFaultOf, events_left, IsNext, StallsAt};
 
 use crate::elements::OpenElements;
 use crate::fault::ScanFault;
 use crate::phase::Phase;
 use crate::said::Said;
+use crate::step::{take_inside, take_root};
 use exi_schema::Schema;
 use std::alloc::Global;
 use value_text::TextCursor;
@@ -71,6 +74,69 @@ impl<'t, 's> DialectScanner<'t, 's> {
         ensures memory { result ≡ Err fault.Memory → self.new ≡ self.old }
         ensures fewer { IfOk result (λ o. IfSome o (λ _. events_left (standing_of self.new.phase self.new.elements) self.new.cursor < events_left (standing_of self.old.phase self.old.elements) self.old.cursor)) }
     {
-        Err(ScanFault::Memory)
+        if let Some(place) = self.fault {
+            return Err(ScanFault::Place(place));
+        }
+        match self.step() {
+            Ok(said) => Ok(said),
+            Err(fault) => {
+                self.fault = fault.place();
+                Err(fault)
+            }
+        }
+    }
+
+    /// The next event, where there was no fault.
+    fn step(&mut self) -> Result<Option<Said>, ScanFault>
+        requires ready { IsReady self.old.schema.now self.old.text.now (standing_of self.old.phase self.old.elements) self.old.cursor self.old.fault }
+        ensures same_text { self.new.text.now ≡ self.old.text.now }
+        ensures same_schema { self.new.schema.now ≡ self.old.schema.now }
+        ensures same_fault { self.new.fault ≡ self.old.fault }
+        ensures ok { IfOk result (IsNext self.old.schema.now (standing_of self.old.phase self.old.elements) self.old.cursor (standing_of self.new.phase self.new.elements) self.new.cursor) }
+        ensures fault { IfErr result (StallsAt (Completes self.old.schema.now (standing_of self.old.phase self.old.elements)) self.old.cursor) }
+        ensures kept { IfErr result (λ _. self.new ≡ self.old) }
+    {
+        match self.phase {
+            Phase::Before => {
+                let mut cursor = self.cursor;
+                let root = take_root(self.alloc, self.schema, &mut cursor)?;
+                self.cursor = cursor;
+                self.phase = Phase::AtRoot {
+                    name: root.name,
+                    kind: root.kind,
+                };
+                Ok(Some(Said::Document(root.number)))
+            }
+            Phase::AtRoot { name, kind } => {
+                self.elements.push(kind);
+                self.phase = Phase::Inside;
+                Ok(Some(Said::Start(name)))
+            }
+            Phase::Inside => self.step_inside(),
+        }
+    }
+
+    /// The next event inside the elements, or the end of the text behind the root.
+    fn step_inside(&mut self) -> Result<Option<Said>, ScanFault>
+        requires ready { IsReady self.old.schema.now self.old.text.now (Within self.old.elements) self.old.cursor self.old.fault }
+        requires phase { self.old.phase ≡ phase.Inside }
+        ensures same_text { self.new.text.now ≡ self.old.text.now }
+        ensures same_schema { self.new.schema.now ≡ self.old.schema.now }
+        ensures same_fault { self.new.fault ≡ self.old.fault }
+        ensures same_phase { self.new.phase ≡ self.old.phase }
+        ensures ok { IfOk result (IsNext self.old.schema.now (Within self.old.elements) self.old.cursor (Within self.new.elements) self.new.cursor) }
+        ensures fault { IfErr result (StallsAt (Completes self.old.schema.now (Within self.old.elements)) self.old.cursor) }
+        ensures kept { IfErr result (λ _. self.new ≡ self.old) }
+    {
+        let mut cursor = self.cursor;
+        match self.elements.innermost() {
+            Some(top) => {
+                let said = take_inside(self.alloc, self.schema, &mut cursor, &mut self.elements, top)?;
+                self.cursor = cursor;
+                Ok(Some(said))
+            }
+            None if cursor.rest.is_empty() => Ok(None),
+            None => Err(ScanFault::Place(cursor.place)),
+        }
     }
 }

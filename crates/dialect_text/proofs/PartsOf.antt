@@ -1,0 +1,191 @@
+-- Parts of an element of a complex kind, and its end.
+use Rattle.std.proofs.Common.{◌≡◌, ℕ, zero, suc, ◌+◌, ◌-◌, ◌<◌, ◌⊎◌, inl, inr, Bool, true, false, ◌&&◌, nat_lt, List, [], ◌∷◌, ◌++◌, length, codes, map, Option, Some, None, slice_get, refl, sym, ap, ap₂, subst, ◌∙◌, append_assoc, arith, get_or}
+use Rattle.std.specs.Prelude.{encode_utf8, Result, Ok, Err, IfOk, IfErr}
+use Rattle.std.specs.List.{list_all, AllByRecursion}
+use Rattle.std.specs.Str.{encode_utf8_all}
+use Rattle.std.proofs.lemmas.Bool.{ltb-true}
+use Rattle.std.proofs.lemmas.List.{append-nil, append_cancel_left, length-map}
+use Rattle.std.proofs.lemmas.Str.{encodes-append, encode_ascii}
+use Rattle.exi_schema.specs.declared.schema.Schema.{Schema}
+use Rattle.exi_schema.specs.declared.tables.AttributeOf.{AttributeOf}
+use Rattle.exi_schema.specs.declared.tables.Datatype.{Datatype}
+use Rattle.exi_schema.specs.declared.tables.Declaration.{Declaration}
+use Rattle.exi_schema.specs.declared.tables.Declaration.TheVariants.{Simple, Complex}
+use Rattle.exi_schema.specs.declared.tables.Member.{Member}
+use Rattle.exi_schema.specs.declared.tables.Particle.{Particle}
+use Rattle.exi_schema.specs.Schemas.{is_attribute, is_particle, is_simple}
+use Rattle.exi_schema.specs.Steps.{simple_at, datatype_of}
+use Rattle.exi_schema.proofs.Conditions.{and-l, and-r, IsComplex, complex_in}
+use Rattle.exi_schema.proofs.Fitting.{simple_within, simple_is}
+use Rattle.exi_documents.specs.Trees.{Value, Event, Document, Start, Attribute, Content, EndElement}
+use Rattle.value_text.specs.declared.cursor.TextCursor.{TextCursor}
+use Rattle.value_text.specs.Scanning.{Passes}
+use Rattle.value_text.specs.ValueText.{IsName}
+use Rattle.dialect_text.specs.declared.elements.Filling.{Filling}
+use Rattle.dialect_text.specs.declared.elements.Filling.TheVariants as fills
+use Rattle.dialect_text.specs.declared.elements.OpenElement.{OpenElement}
+use Rattle.dialect_text.specs.declared.fault.ScanFault.{ScanFault}
+use Rattle.dialect_text.specs.declared.fault.ScanFault.TheVariants as fault
+use Rattle.dialect_text.specs.Dialect.{Standing, Within, element, attribute_in, attribute_of, attribute_named, element_of, element_named, gap, IsBeforeElements, IsEndText, IsStartText, Adds}
+use Rattle.dialect_text.specs.Languages.{Goes, Completes, Shares, Leads, Stalls}
+use Rattle.dialect_text.specs.Scanning.{TakesNext, StallsAt, StartsElement, StartsValue, StartsAttribute, StartsPart, IsFilled, IsSound, PassesIf, PassesGap, AwaitsAttribute}
+use Rattle.dialect_text.proofs.Agreeing.{leads_on, none_or_some}
+use Rattle.dialect_text.proofs.Cursors.{takes_behind, stalls_behind}
+use Rattle.dialect_text.proofs.ElementStarts.{FitsMember, FitsParticle, element_fits, opened, opened_sound}
+use Rattle.dialect_text.proofs.Named.{all_at}
+use Rattle.dialect_text.proofs.Once.{start_first, attribute_behind, behind, heads_differ, tails_same, element_no_value, attribute_no_value}
+use Rattle.dialect_text.proofs.Parts.{takes_end}
+use Rattle.dialect_text.proofs.Quotes.{one_byte}
+use Rattle.dialect_text.proofs.Simples.{HasTop}
+use Rattle.dialect_text.proofs.Starts.{FitsAttribute, attribute_found, named_fits, value_some}
+use Rattle.dialect_text.proofs.Viable.{completes_all}
+use Rattle.dialect_text.proofs.Words.{name_word}
+
+-- ---- the conditions on a complex kind
+
+attributes_fit : (s : Schema) (attributes : List AttributeOf) → list_all (is_attribute (length s.names.now) s.kinds.now) attributes ≡ true → AllByRecursion (FitsAttribute s) attributes
+attributes_fit s [] all = tt
+attributes_fit s (one ∷ attributes) all =
+    let n = length s.names.now in
+    let first = and-l (is_attribute n s.kinds.now one) (list_all (is_attribute n s.kinds.now) attributes) all in
+    let simple = and-r (nat_lt one.name n) (is_simple (slice_get s.kinds.now one.kind)) first in
+    ((omega (arith, ltb-true one.name n (and-l (nat_lt one.name n) (is_simple (slice_get s.kinds.now one.kind)) first)), simple_within s.kinds.now one.kind simple, simple_is (slice_get s.kinds.now one.kind) simple),
+    attributes_fit s attributes (and-r (is_attribute n s.kinds.now one) (list_all (is_attribute n s.kinds.now) attributes) all))
+
+members_fit : (s : Schema) (members : List Member) → list_all (λ member. nat_lt member.name (length s.names.now) && nat_lt member.kind (length s.kinds.now)) members ≡ true → AllByRecursion (FitsMember s) members
+members_fit s [] all = tt
+members_fit s (one ∷ members) all =
+    let n = length s.names.now in
+    let test : Member → Bool = λ member. nat_lt member.name n && nat_lt member.kind (length s.kinds.now) in
+    let first = and-l (test one) (list_all test members) all in
+    ((omega (arith, ltb-true one.name n (and-l (nat_lt one.name n) (nat_lt one.kind (length s.kinds.now)) first)), ltb-true one.kind (length s.kinds.now) (and-r (nat_lt one.name n) (nat_lt one.kind (length s.kinds.now)) first)),
+    members_fit s members (and-r (test one) (list_all test members) all))
+
+particles_fit : (s : Schema) (particles : List Particle) → list_all (is_particle (length s.names.now) (length s.kinds.now)) particles ≡ true → AllByRecursion (FitsParticle s) particles
+particles_fit s [] all = tt
+particles_fit s (one ∷ particles) all =
+    let n = length s.names.now in
+    let first = and-l (is_particle n (length s.kinds.now) one) (list_all (is_particle n (length s.kinds.now)) particles) all in
+    (members_fit s one.members.now (and-r _ (list_all (λ member. nat_lt member.name n && nat_lt member.kind (length s.kinds.now)) one.members.now) first),
+    particles_fit s particles (and-r (is_particle n (length s.kinds.now) one) (list_all (is_particle n (length s.kinds.now)) particles) all))
+
+pub complex_attributes : (s : Schema) (kind : ℕ) (attributes : _) (particles : _) → slice_get s.kinds.now kind ≡ Some (Complex attributes particles) → AllByRecursion (FitsAttribute s) attributes.now
+complex_attributes s kind attributes particles is = attributes_fit s attributes.now (complex_in s kind attributes particles is).attributes_fit
+
+pub complex_particles : (s : Schema) (kind : ℕ) (attributes : _) (particles : _) → slice_get s.kinds.now kind ≡ Some (Complex attributes particles) → AllByRecursion (FitsParticle s) particles.now
+complex_particles s kind attributes particles is = particles_fit s particles.now (complex_in s kind attributes particles is).particles_fit
+
+-- ---- answers of calls
+
+pub ok_then : {X E : Type 0} (P Q : X → Type 0) (r : Result X E) → ((x : X) → P x → Q x) → IfOk r P → IfOk r Q
+ok_then P Q (Ok x) step p = step x p
+ok_then P Q (Err e) step p = tt
+
+pub err_then : {X E : Type 0} (P Q : E → Type 0) (r : Result X E) → ((x : E) → P x → Q x) → IfErr r P → IfErr r Q
+err_then P Q (Ok x) step p = tt
+err_then P Q (Err e) step p = step e p
+
+-- ---- first bytes
+
+-- a text that goes on as another begins with the same byte
+pub shares_first : (rest text z : List ℕ) (b : ℕ) → b < 128 → Shares 0 rest text → text ≡ b ∷ z → (r : List ℕ) × (rest ≡ b ∷ r)
+shares_first rest text z b low s e = by s.front s.stands s.others s.enough
+  where
+    by : (f : List ℕ) → rest ≡ encode_utf8_all f ++ s.more → text ≡ encode_utf8_all f ++ s.odd → (0 < length f) ⊎ ((s.more ≡ []) × (s.odd ≡ [])) → (r : List ℕ) × (rest ≡ b ∷ r)
+    by [] p q (inl some) = absurd (omega (arith, some))
+    by [] p q (inr none) = let wrong : [] ≡ b ∷ z = sym none.1 ∙ sym q ∙ e in absurd cc
+    by (c ∷ f) p q enough =
+        let same = (one_byte c b (encode_utf8_all f ++ s.odd) z low (sym (append_assoc (encode_utf8 c) (encode_utf8_all f) s.odd) ∙ sym q ∙ e)).0 in
+        (encode_utf8_all f ++ s.more,
+        p ∙ append_assoc (encode_utf8 c) (encode_utf8_all f) s.more ∙ ap (λ (n : ℕ). encode_utf8 n ++ (encode_utf8_all f ++ s.more)) same ∙ ap (λ (bs : List ℕ). bs ++ (encode_utf8_all f ++ s.more)) (encode_ascii b low))
+
+pub one_char : (b : ℕ) → b < 128 → encode_utf8_all (b ∷ []) ≡ b ∷ []
+one_char b low = append-nil (encode_utf8 b) ∙ encode_ascii b low
+
+pub gap_chars : (f : Filling) → encode_utf8_all (gap f) ≡ gap f
+gap_chars fills.Nothing = refl
+gap_chars fills.Attributes = one_char 32 (omega arith)
+gap_chars fills.Elements = one_char 32 (omega arith)
+gap_chars fills.Value = one_char 32 (omega arith)
+
+-- ---- an attribute, or an element
+
+pub part_attribute : (s : Schema) (top : OpenElement) (above : List OpenElement) (rest : List ℕ) → IsBeforeElements top.filling → Leads (StartsPart s top above) (64 ∷ []) rest (StartsAttribute s top above)
+part_attribute s top above rest before = record {
+    from = λ text new. inr (before, text, new, ap (λ (bs : List ℕ). bs ++ text) (one_char 64 (omega arith)));
+    to = λ text shares old. elim old [
+      | inl p ↦ absurd (start_first s p.0 p.1 p.2 p.3 text 64 p.5 refl (sym p.7 ∙ ap (λ (bs : List ℕ). bs ++ text) (one_char 64 (omega arith))))
+      | inr q ↦ subst (StartsAttribute s top above) (tails_same 64 q.1 text (sym q.3 ∙ ap (λ (bs : List ℕ). bs ++ text) (one_char 64 (omega arith)))) q.2
+    ];
+  }
+
+pub part_element : (s : Schema) (top : OpenElement) (above : List OpenElement) (rest : List ℕ) → ((text r : List ℕ) → Shares 0 rest text → IsBeforeElements top.filling → StartsAttribute s top above r → text ≡ 64 ∷ r → ⊥) →
+    Leads (StartsPart s top above) [] rest (StartsElement s top above)
+part_element s top above rest none = record {
+    from = λ text new. inl new;
+    to = λ text shares old. elim old [ inl p ↦ p | inr q ↦ absurd (none text q.1 shares q.0 q.2 q.3) ];
+  }
+
+name_in : (texts : List (List ℕ)) (i : ℕ) → i < length texts → (word : List ℕ) × (slice_get texts i ≡ Some word)
+name_in [] i low = absurd (omega (arith, low))
+name_in (text ∷ texts) zero low = (text, refl)
+name_in (text ∷ texts) (suc i) low = name_in texts i (omega (arith, low))
+
+name_there : (s : Schema) (name : ℕ) → name < length s.names.now → (word : List ℕ) × IsName s name word
+name_there s name low =
+    let n : length (map (λ t. t.now) s.names.now) ≡ length s.names.now = length-map s.names.now (λ t. t.now) in name_in (map (λ t. t.now) s.names.now) name (omega (arith, low, n))
+
+first_attribute : (attributes : List AttributeOf) → 0 < length attributes → (one : AttributeOf) × (slice_get attributes 0 ≡ Some one)
+first_attribute [] some = absurd (omega (arith, some))
+first_attribute (one ∷ attributes) some = (one, refl)
+
+of_complex : (s : Schema) (kind : ℕ) (attributes : _) (particles : _) (name : ℕ) → slice_get s.kinds.now kind ≡ Some (Complex attributes particles) → attribute_of s kind name ≡ attribute_named attributes.now name
+of_complex s kind attributes particles name is = ap (λ (o : Option Declaration). attribute_in o name) is
+
+pub some_attribute : (s : Schema) (top : OpenElement) (above : List OpenElement) (attributes : _) (particles : _) → slice_get s.kinds.now top.kind ≡ Some (Complex attributes particles) → IsSound s (Within (top ∷ above)) → 0 < length attributes.now →
+    (text : List ℕ) × StartsAttribute s top above text
+some_attribute s top above attributes particles is sound some =
+    let one = first_attribute attributes.now some in
+    let found = attribute_found s attributes.now 0 one.0 one.1 in
+    let fit = complex_attributes s top.kind attributes particles is in
+    let named : attribute_of s top.kind one.0.name ≡ Some found.0 = of_complex s top.kind attributes particles one.0.name is ∙ found.1 in
+    let value = value_some s top above one.0.name found.0 sound named (named_fits s attributes.now one.0.name found.0 fit found.1).1 in
+    let low = (all_at (FitsAttribute s) attributes.now 0 one.0 fit one.1).0 in
+    let word = name_there s one.0.name low in
+    (word.0 ++ 61 ∷ value.0, (one.0.name, found.0, word.0, value.0, named, word.1, value.1, refl))
+
+-- the three ways on behind the gap
+pub behind_sign : (s : Schema) (elements new : List OpenElement) (top : OpenElement) (above : List OpenElement) (event : Event) (a b c : TextCursor) → elements ≡ top ∷ above → IsBeforeElements top.filling → Passes a (64 ∷ []) b →
+    TakesNext s (gap top.filling ++ codes "@") (StartsAttribute s top above) (Within elements) b event (Within new) c → TakesNext s (gap top.filling) (StartsPart s top above) (Within elements) a event (Within new) c
+behind_sign s elements new top above event a b c has before passes p =
+    takes_behind s (gap top.filling) (StartsPart s top above) (StartsAttribute s top above) (Within elements) (Within new) a b c event (64 ∷ []) passes (part_attribute s top above b.rest.now before)
+    (subst (λ (x : List ℕ). TakesNext s (gap top.filling ++ x) (StartsAttribute s top above) (Within elements) b event (Within new) c) (sym (one_char 64 (omega arith))) p)
+
+pub stalls_behind_sign : (s : Schema) (elements : List OpenElement) (top : OpenElement) (above : List OpenElement) (attributes : _) (particles : _) (a b : TextCursor) (f : ScanFault) → elements ≡ top ∷ above → slice_get s.kinds.now top.kind ≡ Some (Complex attributes particles) →
+    IsSound s (Within elements) → IsBeforeElements top.filling → 0 < length attributes.now → Passes a (64 ∷ []) b → StallsAt (StartsAttribute s top above) b f → StallsAt (StartsPart s top above) a f
+stalls_behind_sign s elements top above attributes particles a b f has is sound before some passes p =
+    stalls_behind (StartsPart s top above) (StartsAttribute s top above) a b (64 ∷ []) f passes (part_attribute s top above b.rest.now before)
+    (inr (some_attribute s top above attributes particles is (subst (λ (x : List OpenElement). IsSound s (Within x)) has sound) some)) p
+
+abbrev pub NoAttribute : Schema → OpenElement → List OpenElement → TextCursor → Type 0
+NoAttribute s top above a = (text r : List ℕ) → Shares 0 a.rest.now text → IsBeforeElements top.filling → StartsAttribute s top above r → text ≡ 64 ∷ r → ⊥
+
+pub no_sign : (s : Schema) (top : OpenElement) (above : List OpenElement) (a : TextCursor) → ((rest : List ℕ) → a.rest.now ≡ 64 ∷ rest → ⊥) → NoAttribute s top above a
+no_sign s top above a none text r shares before p e = let first = shares_first a.rest.now text r 64 (omega arith) shares e in none first.0 first.1
+
+pub no_attributes : (s : Schema) (top : OpenElement) (above : List OpenElement) (attributes : _) (particles : _) (a : TextCursor) → slice_get s.kinds.now top.kind ≡ Some (Complex attributes particles) → (IsBeforeElements top.filling → attributes.now ≡ []) →
+    NoAttribute s top above a
+no_attributes s top above attributes particles a is none text r shares before p e =
+    let wrong : None ≡ Some p.1 = ap (λ (xs : List AttributeOf). attribute_named xs p.0) (sym (none before)) ∙ sym (of_complex s top.kind attributes particles p.0 is) ∙ p.4 in cc
+
+pub behind_none : (s : Schema) (elements new : List OpenElement) (top : OpenElement) (above : List OpenElement) (event : Event) (a b c : TextCursor) → b ≡ a → NoAttribute s top above a →
+    TakesNext s (gap top.filling) (StartsElement s top above) (Within elements) b event (Within new) c → TakesNext s (gap top.filling) (StartsPart s top above) (Within elements) a event (Within new) c
+behind_none s elements new top above event a b c same none p =
+    takes_behind s (gap top.filling) (StartsPart s top above) (StartsElement s top above) (Within elements) (Within new) a a c event [] (refl, omega arith) (part_element s top above a.rest.now none)
+    (subst (λ (x : List ℕ). TakesNext s x (StartsElement s top above) (Within elements) a event (Within new) c) (sym (append-nil (gap top.filling)))
+    (subst (λ (x : TextCursor). TakesNext s (gap top.filling) (StartsElement s top above) (Within elements) x event (Within new) c) same p))
+
+pub stalls_behind_none : (s : Schema) (top : OpenElement) (above : List OpenElement) (a b : TextCursor) (f : ScanFault) → b ≡ a → NoAttribute s top above a → StallsAt (StartsElement s top above) b f → StallsAt (StartsPart s top above) a f
+stalls_behind_none s top above a b f same none p =
+    stalls_behind (StartsPart s top above) (StartsElement s top above) a a [] f (refl, omega arith) (part_element s top above a.rest.now none) (inl refl)
+    (subst (λ (x : TextCursor). StallsAt (StartsElement s top above) x f) same p)

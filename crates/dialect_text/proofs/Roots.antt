@@ -1,0 +1,26 @@
+-- No element of a root stands deeper than 16.
+use Rattle.std.proofs.Common.{◌≡◌, ℕ, true, not, ◌&&◌, nat_lt, nat_le, List, length, map, Some, slice_get}
+use Rattle.std.specs.List.{list_all}
+use Rattle.std.specs.Prelude.{◌==◌, ◌^◌}
+use Rattle.exi_schema.specs.declared.schema.Schema.{Schema}
+use Rattle.exi_schema.specs.declared.tables.RootOf.{RootOf}
+use Rattle.exi_schema.specs.Schemas.{is_root, is_within, are_roots, are_kinds, are_words, are_values, are_distinct}
+use Rattle.exi_schema.proofs.Conditions.{and-l, and-r, all_get}
+
+roots_of : (s : Schema) → are_roots s.root_bits (length (map (λ t. t.now) s.names.now)) s.kinds.now s.roots.now ≡ true
+roots_of s =
+    let texts : List (List ℕ) = map (λ t. t.now) s.names.now in
+    let two = and-l _ (are_words texts) (and-l _ (are_values s.kinds.now (map (λ l. map (λ t. t.now) l.now) s.values.now)) s.fits) in
+    and-r (are_kinds (length texts) s.kinds.now) (are_roots s.root_bits (length texts) s.kinds.now s.roots.now) two
+
+root_is : (s : Schema) (i : ℕ) (root : RootOf) → slice_get s.roots.now i ≡ Some root → is_root s.root_bits (length (map (λ t. t.now) s.names.now)) s.kinds.now root ≡ true
+root_is s i root h =
+    let texts : List (List ℕ) = map (λ t. t.now) s.names.now in
+    let three = and-l _ _ (and-l _ _ (roots_of s)) in
+    all_get (is_root s.root_bits (length texts) s.kinds.now) s.roots.now i root
+    (and-r (nat_le 1 (length s.roots.now) && nat_le s.root_bits 32) (list_all (is_root s.root_bits (length texts) s.kinds.now) s.roots.now) three) h
+
+pub root_deep : (s : Schema) (i : ℕ) (root : RootOf) → slice_get s.roots.now i ≡ Some root → is_within s.kinds.now 16 root.kind ≡ true
+root_deep s i root h =
+    let n = length (map (λ t. t.now) s.names.now) in
+    and-r (nat_lt root.number (2 ^ s.root_bits) && not (s.root_bits == 2 && root.number == 3) && nat_lt root.name n && nat_lt root.kind (length s.kinds.now)) (is_within s.kinds.now 16 root.kind) (root_is s i root h)

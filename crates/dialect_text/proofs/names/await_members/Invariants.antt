@@ -1,0 +1,10 @@
+use Rattle.std.proofs.Common.{◌≡◌, List, ◌++◌, take}
+use Rattle.std.specs.List.{AllByRecursion}
+use Rattle.dialect_text.specs.Scanning.{IsAwaitedElement, HasMembers}
+use Rattle.dialect_text.proofs.names.await_members.Given as goal
+
+abbrev pub invariant-loop-member : goal.invariant-loop-member
+invariant-loop-member l =
+    AllByRecursion (IsAwaitedElement l.schema l.particles) l.awaited.items
+    × HasMembers l.schema l.particles (take l.member-index l.members) l.awaited.items
+    × ((more : List _) × (l.awaited.items ≡ l.initial.awaited.items ++ more))
