@@ -15,3 +15,4 @@ pub mod Roots
 pub mod Starts
 pub mod ElementStarts
 pub mod PartsOf
+pub mod Whole

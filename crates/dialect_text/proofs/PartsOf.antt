@@ -26,7 +26,7 @@ use Rattle.dialect_text.specs.declared.elements.Filling.TheVariants as fills
 use Rattle.dialect_text.specs.declared.elements.OpenElement.{OpenElement}
 use Rattle.dialect_text.specs.declared.fault.ScanFault.{ScanFault}
 use Rattle.dialect_text.specs.declared.fault.ScanFault.TheVariants as fault
-use Rattle.dialect_text.specs.Dialect.{Standing, Within, element, attribute_in, attribute_of, attribute_named, element_of, element_named, gap, IsBeforeElements, IsEndText, IsStartText, Adds}
+use Rattle.dialect_text.specs.Dialect.{Standing, Within, element, attribute_in, element_in, attribute_of, attribute_named, element_of, element_named, gap, IsBeforeElements, IsEndText, IsStartText, Adds}
 use Rattle.dialect_text.specs.Languages.{Goes, Completes, Shares, Leads, Stalls}
 use Rattle.dialect_text.specs.Scanning.{TakesNext, StallsAt, StartsElement, StartsValue, StartsAttribute, StartsPart, IsFilled, IsSound, PassesIf, PassesGap, AwaitsAttribute}
 use Rattle.dialect_text.proofs.Agreeing.{leads_on, none_or_some}
@@ -131,7 +131,7 @@ name_in [] i low = absurd (omega (arith, low))
 name_in (text ∷ texts) zero low = (text, refl)
 name_in (text ∷ texts) (suc i) low = name_in texts i (omega (arith, low))
 
-name_there : (s : Schema) (name : ℕ) → name < length s.names.now → (word : List ℕ) × IsName s name word
+pub name_there : (s : Schema) (name : ℕ) → name < length s.names.now → (word : List ℕ) × IsName s name word
 name_there s name low =
     let n : length (map (λ t. t.now) s.names.now) ≡ length s.names.now = length-map s.names.now (λ t. t.now) in name_in (map (λ t. t.now) s.names.now) name (omega (arith, low, n))
 
@@ -139,8 +139,11 @@ first_attribute : (attributes : List AttributeOf) → 0 < length attributes → 
 first_attribute [] some = absurd (omega (arith, some))
 first_attribute (one ∷ attributes) some = (one, refl)
 
-of_complex : (s : Schema) (kind : ℕ) (attributes : _) (particles : _) (name : ℕ) → slice_get s.kinds.now kind ≡ Some (Complex attributes particles) → attribute_of s kind name ≡ attribute_named attributes.now name
+pub of_complex : (s : Schema) (kind : ℕ) (attributes : _) (particles : _) (name : ℕ) → slice_get s.kinds.now kind ≡ Some (Complex attributes particles) → attribute_of s kind name ≡ attribute_named attributes.now name
 of_complex s kind attributes particles name is = ap (λ (o : Option Declaration). attribute_in o name) is
+
+pub of_element : (s : Schema) (kind : ℕ) (attributes : _) (particles : _) (name : ℕ) → slice_get s.kinds.now kind ≡ Some (Complex attributes particles) → element_of s kind name ≡ element_named particles.now name
+of_element s kind attributes particles name is = ap (λ (o : Option Declaration). element_in o name) is
 
 pub some_attribute : (s : Schema) (top : OpenElement) (above : List OpenElement) (attributes : _) (particles : _) → slice_get s.kinds.now top.kind ≡ Some (Complex attributes particles) → IsSound s (Within (top ∷ above)) → 0 < length attributes.now →
     (text : List ℕ) × StartsAttribute s top above text

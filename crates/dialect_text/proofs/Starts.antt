@@ -81,7 +81,7 @@ found_later one attributes name kind is =
       | inr tells ↦ (kind, if_false (one.name == name) (Some one.kind) (attribute_named attributes name) tells.0 ∙ is)
     ]
 
-attribute_there : (attributes : List AttributeOf) (name kind : ℕ) → attribute_named attributes name ≡ Some kind → (i : ℕ) × (attribute : AttributeOf) × (slice_get attributes i ≡ Some attribute) × (attribute.name ≡ name)
+pub attribute_there : (attributes : List AttributeOf) (name kind : ℕ) → attribute_named attributes name ≡ Some kind → (i : ℕ) × (attribute : AttributeOf) × (slice_get attributes i ≡ Some attribute) × (attribute.name ≡ name)
 attribute_there [] name kind is = let wrong : None ≡ Some kind = is in absurd cc
 attribute_there (one ∷ attributes) name kind is =
     elim (eqb_tells one.name name) [
