@@ -1,5 +1,5 @@
 -- What an event adds to the text of a tree it adds to a text of the dialect, if the values have the form of their datatypes.
-use Rattle.std.proofs.Common.{◌≡◌, ℕ, Bool, true, List, [], ◌∷◌, ◌++◌, codes, map, Option, Some, None, refl, sym, ap, ap₂, subst, ◌∙◌, append-nil, slice_get}
+use Rattle.std.proofs.Common.{◌≡◌, ℕ, Bool, true, List, [], ◌∷◌, ◌++◌, codes, map, Option, Some, None, refl, sym, ap, subst, ◌∙◌, append-nil, slice_get}
 use Rattle.std.specs.List.{AllByRecursion}
 use Rattle.exi_schema.specs.declared.schema.Schema.{Schema}
 use Rattle.exi_schema.specs.declared.tables.Datatype.{Datatype}
@@ -8,7 +8,7 @@ use Rattle.exi_schema.specs.declared.tables.Declaration.TheVariants.{Simple, Com
 use Rattle.exi_schema.specs.declared.places.Place.{Place}
 use Rattle.exi_schema.specs.declared.places.Step.{Step}
 use Rattle.exi_schema.specs.declared.places.Step.TheVariants as step
-use Rattle.exi_schema.specs.Offers.{simple_step, offers, IsPlaceOf, IsPlace}
+use Rattle.exi_schema.specs.Offers.{simple_step, IsPlaceOf, IsPlace}
 use Rattle.exi_schema.specs.Steps.{datatype_of, simple_at}
 use Rattle.exi_documents.specs.Trees.{Value, Event, Document, Start, Attribute, Content, EndElement}
 use Rattle.exi_documents.specs.Values.{Entries}
@@ -17,7 +17,7 @@ use Rattle.exi_documents.specs.Grammar.{Opened, Standing, Before, AtRoot, Inside
 use Rattle.exi_events.specs.Reader.{innermost_place}
 use Rattle.document_laws.specs.Laws.{IsStanding}
 use Rattle.document_laws.proofs.Fits.{root_name}
-use Rattle.document_laws.proofs.Offered.{HasNoAttribute, only_code, offers_simple, behind_element, behind_attribute, behind_characters}
+use Rattle.document_laws.proofs.Offered.{only_code, offers_simple, behind_element, behind_attribute, behind_characters}
 use Rattle.value_text.specs.ValueText.{IsOfForm}
 use Rattle.dialect_text.specs.Dialect as dialect
 use Rattle.dialect_text.specs.Dialect.{mark, mark_of, IsBeforeElements, IsEndText}
@@ -31,7 +31,7 @@ use Rattle.tree_text.specs.declared.print.TextEnd.TheVariants as ends
 use Rattle.tree_text.proofs.Attributes.{one_attribute}
 use Rattle.tree_text.proofs.Declared.{attribute_declared, element_declared, attribute_kind_kept, element_kind_kept, characters_kind_kept}
 use Rattle.tree_text.proofs.Told.{found}
-use Rattle.tree_text.proofs.Alike.{outer_of, IsPartly, IsAlikeIn, IsOuter, IsAlike, complex_of_element, complex_of_attribute, gaps, end_alone, around_alike, start_regroup, attribute_regroup, one_of, alike_by, content_gap}
+use Rattle.tree_text.proofs.Alike.{outer_of, IsAlikeIn, IsOuter, IsAlike, complex_of_element, complex_of_attribute, gaps, end_alone, around_alike, start_regroup, attribute_regroup, one_of, alike_by, content_gap}
 
 -- values that are spelled have the form of their datatype
 abbrev pub HasForm : Speller → Schema → Type 0

@@ -1,34 +1,29 @@
 -- A text of a tree and the text of the dialect that says its events: where both stand behind one event. The dialect's text is ahead by the
 -- character behind a name, and at the root by its name.
-use Rattle.std.proofs.Common.{◌≡◌, ℕ, Bool, true, List, [], ◌∷◌, ◌++◌, codes, map, Option, Some, None, refl, sym, ap, ap₂, subst, ◌∙◌, append_assoc, append-nil, slice_get, Bor}
+use Rattle.std.proofs.Common.{◌≡◌, ℕ, Bool, true, List, [], ◌∷◌, ◌++◌, codes, map, Option, Some, None, refl, sym, ap, ap₂, subst, ◌∙◌, append_assoc, append-nil, slice_get}
 use Rattle.std.specs.List.{AllByRecursion}
 use Rattle.exi_schema.specs.declared.schema.Schema.{Schema}
-use Rattle.exi_schema.specs.declared.tables.AttributeOf.{AttributeOf}
 use Rattle.exi_schema.specs.declared.tables.Datatype.{Datatype}
 use Rattle.exi_schema.specs.declared.tables.Declaration.{Declaration}
 use Rattle.exi_schema.specs.declared.tables.Declaration.TheVariants.{Simple, Complex}
-use Rattle.exi_schema.specs.declared.tables.Particle.{Particle}
 use Rattle.exi_schema.specs.declared.places.Place.{Place}
-use Rattle.exi_schema.specs.declared.places.Root.TheVariants.{Kind}
 use Rattle.exi_schema.specs.declared.places.Step.{Step}
 use Rattle.exi_schema.specs.declared.places.Step.TheVariants as step
-use Rattle.exi_schema.specs.Offers.{offers, IsPlace}
-use Rattle.exi_schema.specs.Steps.{IsRoot, datatype_of, simple_at}
+use Rattle.exi_schema.specs.Offers.{offers}
+use Rattle.exi_schema.specs.Steps.{datatype_of, simple_at}
 use Rattle.exi_documents.specs.Trees.{Value, Event, Document, Start, Attribute, Content, EndElement}
 use Rattle.exi_documents.specs.Values.{Entries}
-use Rattle.exi_documents.specs.Documents.{Speller, SpellsStep, element, first}
+use Rattle.exi_documents.specs.Documents.{Speller, element, first}
 use Rattle.exi_documents.specs.Grammar.{Opened, Standing, Before, AtRoot, Inside, Behind, State, opened, around, stands, Moves}
 use Rattle.exi_events.specs.Reader.{innermost_place}
-use Rattle.document_laws.specs.Laws.{IsStanding}
 use Rattle.document_laws.proofs.Fits.{one_root}
 use Rattle.document_laws.proofs.Offered.{HasNoAttribute, HasNoValue, only_code, behind_element, behind_attribute, behind_characters}
-use Rattle.value_text.specs.ValueText.{IsFormed, IsOfForm}
 use Rattle.dialect_text.specs.Dialect as dialect
 use Rattle.dialect_text.specs.Dialect.{attribute_of, element_of, attribute_in, element_in, mark, mark_of, IsBeforeElements, IsValueOf, IsEndText}
 use Rattle.dialect_text.specs.declared.elements.Filling.{Filling}
 use Rattle.dialect_text.specs.declared.elements.Filling.TheVariants as fills
 use Rattle.dialect_text.specs.declared.elements.OpenElement.{OpenElement}
-use Rattle.tree_text.specs.TreeText.{IsValueText, IsName, IsNamedText, IsOffered}
+use Rattle.tree_text.specs.TreeText.{IsValueText, IsName, IsOffered}
 use Rattle.tree_text.specs.EventText.{gap, closing, end_of, Adds}
 use Rattle.tree_text.specs.Consistent.{are_consistent}
 use Rattle.tree_text.specs.declared.print.TextEnd.{TextEnd}

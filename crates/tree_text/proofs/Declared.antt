@@ -1,7 +1,7 @@
 -- What is offered at a place is declared by its kind, under the one kind of its name.
-use Rattle.std.proofs.Common.{◌≡◌, ℕ, ◌+◌, nat_lt, not, Bool, true, false, ◌&&◌, if◌then◌else◌, List, [], ◌∷◌, length, drop, map, Option, Some, None, refl, sym, ap, subst, ◌∙◌, slice_get}
+use Rattle.std.proofs.Common.{◌≡◌, ℕ, ◌+◌, nat_lt, not, Bool, true, false, if◌then◌else◌, List, [], ◌∷◌, length, drop, map, Option, Some, None, refl, sym, ap, subst, ◌∙◌, slice_get}
 use Rattle.std.proofs.lemmas.Bool.Decides.{eqb_tells}
-use Rattle.std.proofs.Common.{◌⊎◌, inl, inr, Bor}
+use Rattle.std.proofs.Common.{inl, inr, Bor}
 use Rattle.std.specs.List.{list_any, list_all}
 use Rattle.std.specs.Prelude.{◌==◌, ◌||◌}
 use Rattle.exi_schema.specs.declared.schema.Schema.{Schema}
@@ -15,7 +15,7 @@ use Rattle.exi_schema.specs.declared.tables.Particle.{Particle}
 use Rattle.exi_schema.specs.declared.places.Place.{Place}
 use Rattle.exi_schema.specs.declared.places.Step.{Step}
 use Rattle.exi_schema.specs.declared.places.Step.TheVariants.{Attribute, Element, End, Characters}
-use Rattle.exi_schema.specs.Offers.{through_required, leaves_room, attribute_steps, element_step, element_steps, simple_step, complex_steps, offers_of, offers}
+use Rattle.exi_schema.specs.Offers.{through_required, leaves_room, attribute_steps, element_step, element_steps, simple_step, complex_steps, offers_of}
 use Rattle.exi_schema.specs.Schemas.{is_taken}
 use Rattle.exi_schema.proofs.Conditions.{and-l, and-r, all_get}
 use Rattle.exi_schema.proofs.Fitting.{fit_through, fit_drop}

@@ -1,13 +1,11 @@
 -- A text of the dialect that says the events of a document is the text of its tree, and the other way round.
-use Rattle.std.proofs.Common.{◌≡◌, ℕ, Bool, true, List, [], ◌∷◌, ◌++◌, map, reverse, refl, sym, ap, subst, ◌∙◌, append_assoc, append-nil}
+use Rattle.std.proofs.Common.{◌≡◌, ℕ, Bool, true, List, [], ◌∷◌, ◌++◌, reverse, refl, sym, ap, subst, ◌∙◌, append_assoc, append-nil}
 use Rattle.exi_schema.specs.declared.schema.Schema.{Schema}
 use Rattle.exi_documents.specs.Documents.{Speller, SpellsDocument}
-use Rattle.exi_documents.specs.Grammar.{Opened, Standing, Before, AtRoot, Inside, Behind, State, start, stands, Reaches}
+use Rattle.exi_documents.specs.Grammar.{Standing, Before, AtRoot, Inside, Behind, State, stands, Reaches}
 use Rattle.exi_documents.specs.Trees.{Tree, Event, document_events}
 use Rattle.exi_documents.specs.Values.{Entries, WritesValue}
-use Rattle.document_laws.proofs.Runs.{document_tells}
 use Rattle.dialect_text.specs.Dialect as dialect
-use Rattle.dialect_text.specs.declared.elements.OpenElement.{OpenElement}
 use Rattle.tree_text.specs.Consistent.{are_consistent, are_short}
 use Rattle.tree_text.specs.EventText.{text_end, Tells}
 use Rattle.tree_text.specs.TreeText.{IsTreeText}

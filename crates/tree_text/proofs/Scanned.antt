@@ -1,5 +1,5 @@
 -- A text that is scanned to its end.
-use Rattle.std.proofs.Common.{◌≡◌, ℕ, ◌+◌, ◌*◌, ◌≤◌, Bool, true, false, List, ◌∷◌, ◌++◌, length, replicate, reverse, Option, Some, None, IfSome, IfNone, refl, sym, ap, subst, ◌∙◌, arith, length-append, inl, inr}
+use Rattle.std.proofs.Common.{◌≡◌, ℕ, ◌+◌, ◌*◌, ◌≤◌, Bool, true, false, List, ◌∷◌, ◌++◌, length, replicate, reverse, Option, Some, None, IfSome, IfNone, sym, ap, subst, ◌∙◌, arith, length-append, inl, inr}
 use Rattle.std.specs.Str.{chars}
 use Rattle.std.proofs.lemmas.List.{length-replicate, length-take}
 use Rattle.exi_spec.specs.Bits.{bits_of}
@@ -9,7 +9,7 @@ use Rattle.exi_bits.specs.Written.{HoldsBits}
 use Rattle.exi_bits.specs.declared.pen.BitPen.{BitPen}
 use Rattle.exi_schema.specs.declared.schema.Schema.{Schema}
 use Rattle.exi_documents.specs.Documents.{IsEncoding}
-use Rattle.exi_documents.specs.Grammar.{Behind, State, Reaches}
+use Rattle.exi_documents.specs.Grammar.{Behind, State}
 use Rattle.exi_documents.specs.Trees.{Tree, Event, document_events}
 use Rattle.exi_documents.specs.Values.{WritesValue}
 use Rattle.exi_events.specs.Writer.{HasPut, IsWritten}

@@ -1,22 +1,22 @@
 -- Events with which no document begins that has room: one is not offered, is too long, or has no room.
-use Rattle.std.proofs.Common.{rules, ◌≡◌, ℕ, ◌+◌, ◌*◌, ◌<◌, ◌≤◌, ◌↔◌, IsTrue, IsFalse, not, Bool, true, false, List, [], ◌∷◌, ◌++◌, length, reverse, Option, Some, None, refl, sym, ap, subst, ◌∙◌, arith, length-append}
+use Rattle.std.proofs.Common.{rules, ◌≡◌, ℕ, ◌+◌, ◌*◌, ◌<◌, ◌↔◌, IsTrue, IsFalse, not, Bool, true, false, List, ◌∷◌, ◌++◌, length, reverse, Option, Some, sym, ap, subst, ◌∙◌, arith, length-append}
 use Rattle.exi_spec.specs.Bits.{bits_of}
 use Rattle.exi_spec.specs.Items.{shortest_unsigned}
 use Rattle.exi_spec.proofs.BitLaws.{length-bits_of}
-use Rattle.exi_bits.specs.Pens.{written_bits, Needs}
+use Rattle.exi_bits.specs.Pens.{written_bits}
 use Rattle.exi_bits.specs.declared.pen.BitPen.{BitPen}
 use Rattle.exi_schema.specs.declared.schema.Schema.{Schema}
 use Rattle.exi_schema.specs.declared.tables.Datatype.{Datatype}
-use Rattle.exi_schema.specs.declared.tables.Datatype.TheVariants.{Bool as BoolType, Named, Bounded, Unsigned, Signed, Binary, Text as TextType}
+use Rattle.exi_schema.specs.declared.tables.Datatype.TheVariants.{Binary}
 use Rattle.exi_documents.specs.Documents.{SpellsDocument}
-use Rattle.exi_documents.specs.Grammar.{Standing, Before, AtRoot, Inside, Behind, State, stands, Moves, Reaches}
+use Rattle.exi_documents.specs.Grammar.{Standing, Inside, Behind, State, stands, Moves, Reaches}
 use Rattle.exi_documents.specs.Trees.{Value, Truth, Ordinal, Number, Bytes, Text, Tree, Event, Document, Start, Attribute, Content, EndElement, document_events}
 use Rattle.exi_documents.specs.Values.{Entries, WritesValue}
 use Rattle.exi_events.specs.Writer.{HasPut, IsOfferedAs, HasNoRoom}
 use Rattle.document_laws.proofs.Runs.{document_tells}
 use Rattle.document_laws.proofs.Written.{value_once}
 use Rattle.tree_text.specs.Scans.{IsStuck, IsLongBinary, IsTooLong}
-use Rattle.tree_text.proofs.Once.{Through, passed_through, moves_once, reaches_once}
+use Rattle.tree_text.proofs.Once.{passed_through, moves_once, reaches_once}
 use Rattle.tree_text.proofs.Standings.{standing_reached}
 
 module _ (s : Schema) where

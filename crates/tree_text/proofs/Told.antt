@@ -27,7 +27,6 @@ use Rattle.document_laws.proofs.Offered.{simple_is}
 use Rattle.tree_text.specs.TreeText.{truth_text, quoted, IsValueText, IsName}
 use Rattle.tree_text.specs.EventText.{gap, closing, Adds}
 use Rattle.tree_text.specs.declared.print.TextEnd.{TextEnd}
-use Rattle.tree_text.proofs.Standings.{standing_reached}
 
 -- ---- names and values
 

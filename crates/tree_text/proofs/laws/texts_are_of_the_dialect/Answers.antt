@@ -1,7 +1,5 @@
 use Rattle.exi_documents.specs.Grammar.{Behind, stands}
 use Rattle.exi_documents.specs.Values.{WritesValue}
-use Rattle.exi_documents.specs.Trees.{document_events}
-use Rattle.std.proofs.Common.{reverse}
 use Rattle.document_laws.proofs.Runs.{document_tells}
 use Rattle.tree_text.proofs.Sayings.{told_said, encoded_said, said_tree}
 use Rattle.tree_text.proofs.Shortness.{written_form}

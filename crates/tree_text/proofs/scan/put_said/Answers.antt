@@ -1,4 +1,3 @@
-use Rattle.std.proofs.Common.{sym, ap}
 use Rattle.tree_text.proofs.Stuck.{too_long, stuck_offer, stuck_room, failed_by}
 use Rattle.tree_text.proofs.scan.put_said.Goals as goal
 

@@ -1,4 +1,4 @@
-use Rattle.std.proofs.Common.{◌∷◌, ◌++◌, ◌∙◌, sym}
+use Rattle.std.proofs.Common.{◌∷◌, ◌∙◌, sym}
 use Rattle.exi_bits.specs.Pens.{written_bits}
 use Rattle.exi_events.specs.Reader.{state_of}
 use Rattle.dialect_text.specs.Scanning.{event_of}
