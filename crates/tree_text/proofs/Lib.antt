@@ -2,9 +2,16 @@ pub mod Pieces
 pub mod Attributes
 pub mod Standings
 pub mod Once
+pub mod Declared
+pub mod Alike
+pub mod Ahead
+pub mod Shortness
+pub mod Sayings
 pub mod Spacing
 pub mod Tied
 pub mod Told
 pub mod Turns
 pub mod OneText
 pub mod Spelled
+pub mod Stuck
+pub mod Scanned

@@ -1,17 +1,15 @@
 -- Events are written in one way: they lead to one state, by the same bits.
 use Rattle.std.proofs.Common.{◌≡◌, ℕ, Bool, List, [], ◌∷◌, ◌++◌, Option, Some, refl, sym, ap, ap₂, subst, ◌∙◌, append_assoc, append-nil}
-use Rattle.exi_spec.specs.Bits.{number_bits}
 use Rattle.exi_schema.specs.declared.schema.Schema.{Schema}
 use Rattle.exi_schema.specs.declared.tables.Datatype.{Datatype}
 use Rattle.exi_schema.specs.declared.places.Place.{Place}
-use Rattle.exi_schema.specs.declared.places.Step.{Step}
 use Rattle.exi_schema.specs.declared.places.Step.TheVariants as step
 use Rattle.exi_schema.specs.Offers.{simple_step, IsPlace}
 use Rattle.exi_schema.specs.Steps.{simple_at}
 use Rattle.exi_documents.specs.Trees.{Value, Event, Document, Start, Attribute, Content, EndElement}
 use Rattle.exi_documents.specs.Values.{Entries}
 use Rattle.exi_documents.specs.Documents.{Speller, SpellsStep, element, first, header}
-use Rattle.exi_documents.specs.Grammar.{Opened, Standing, Before, AtRoot, Inside, State, opened, around, stands, Moves, Reaches}
+use Rattle.exi_documents.specs.Grammar.{Standing, Before, AtRoot, Inside, State, opened, stands, Moves, Reaches}
 use Rattle.document_laws.specs.Laws.{WritesOnce, IsStanding}
 use Rattle.document_laws.proofs.Fits.{one_root}
 use Rattle.document_laws.proofs.Names.{element_key, attribute_key, end_key, one_taken_by, ones_at}

@@ -16,30 +16,28 @@ use Rattle.exi_schema.specs.declared.tables.Declaration.TheVariants.{Simple}
 use Rattle.exi_schema.specs.Schemas.{are_kinds, are_roots, are_words, are_values, value_count}
 use Rattle.exi_schema.specs.Steps.{simple_at, texts_at}
 use Rattle.exi_schema.proofs.Conditions.{and-l, and-r}
-use Rattle.exi_documents.specs.Documents.{element}
+use Rattle.exi_documents.specs.Documents.{Speller, element}
 use Rattle.exi_documents.specs.Grammar.{Opened, Standing, Before, AtRoot, Inside, Behind, State, around, stands, Moves, Reaches}
 use Rattle.exi_documents.specs.Trees.{Value, Truth, Ordinal, Number, Bytes, Text, Event, Document, Start, Attribute, Content, EndElement}
-use Rattle.exi_documents.specs.Values.{Entries, SpellsValue}
+use Rattle.exi_documents.specs.Values.{Entries, SpellsValue, WritesValue}
 use Rattle.exi_events.specs.Reader.{innermost_place}
-use Rattle.document_laws.specs.Laws.{IsState}
+use Rattle.document_laws.specs.Laws.{IsStanding}
 use Rattle.document_laws.proofs.Fits.{step_fits, root_name}
-use Rattle.document_laws.proofs.Kept.{event_kept}
 use Rattle.document_laws.proofs.Offered.{simple_is}
-use Rattle.document_laws.proofs.OneTree.{start_is}
 use Rattle.tree_text.specs.TreeText.{truth_text, quoted, IsValueText, IsName}
 use Rattle.tree_text.specs.EventText.{gap, closing, Adds}
 use Rattle.tree_text.specs.declared.print.TextEnd.{TextEnd}
 
 -- ---- names and values
 
-found : {X : Type 0} (xs : List X) (i : ℕ) → i < length xs → (x : X) × (slice_get xs i ≡ Some x)
+pub found : {X : Type 0} (xs : List X) (i : ℕ) → i < length xs → (x : X) × (slice_get xs i ≡ Some x)
 found xs i less =
     elim (slice_get_cases xs i).1 [
       | inl is ↦ (is.0, is.2)
       | inr past ↦ let more = past.0 in absurd (omega (arith, less, more))
     ]
 
-has_name : (s : Schema) (name : ℕ) → name < length s.names.now → (word : List ℕ) × IsName s name word
+pub has_name : (s : Schema) (name : ℕ) → name < length s.names.now → (word : List ℕ) × IsName s name word
 has_name s name less = found (map (λ t. t.now) s.names.now) name (rw length-map less)
 
 same_count : (n m : ℕ) → (n == m) ≡ true → n ≡ m
@@ -71,6 +69,20 @@ has_text s kind name d entries after (Text chars) bits is h = (quoted chars, ref
 has_text s kind name (Named count) entries after (Ordinal ordinal) bits is h = has_value_name s kind count ordinal is h.0.below
 has_text s kind name d entries after (Ordinal ordinal) bits is h = absurd h
 
+-- as it is written
+pub has_written_text : (s : Schema) (kind name : ℕ) (d : Datatype) (entries after : Entries) (v : Value) (bits : List Bool) → simple_at s.kinds.now kind ≡ Some d → WritesValue d entries name v bits after → (said : List ℕ) × IsValueText s kind v said
+has_written_text s kind name d entries after (Truth truth) bits is h = (truth_text truth, refl)
+has_written_text s kind name d entries after (Number n) bits is h = (signed_decimal n, refl)
+has_written_text s kind name d entries after (Bytes bytes) bits is h = (encode_lower bytes, refl)
+has_written_text s kind name d entries after (Text chars) bits is h = (quoted chars, refl)
+has_written_text s kind name (Named count) entries after (Ordinal ordinal) bits is h = has_value_name s kind count ordinal is h.0.below
+has_written_text s kind name d entries after (Ordinal ordinal) bits is h = absurd h
+
+-- each value that is spelled has a text
+abbrev pub HasTexts : Speller → Schema → Type 0
+HasTexts V s =
+    (kind name : ℕ) (d : Datatype) (entries after : Entries) (v : Value) (bits : List Bool) → simple_at s.kinds.now kind ≡ Some d → V d entries name v bits after → (said : List ℕ) × IsValueText s kind v said
+
 -- ---- where a document stands
 
 -- the root is of the schema's names
@@ -80,7 +92,7 @@ IsNamedAt s (AtRoot name kind) = name < length (map (λ t. t.now) s.names.now)
 IsNamedAt s (Inside top above) = Unit {0}
 IsNamedAt s Behind = Unit {0}
 
-module _ (s : Schema) where
+module _ (V : Speller) (s : Schema) (texts : HasTexts V s) where
   named_around : (above : List Opened) → IsNamedAt s (around above)
   named_around [] = tt
   named_around (o ∷ above) = tt
@@ -88,7 +100,7 @@ module _ (s : Schema) where
   named_by : (new state : State) → new ≡ state → IsNamedAt s state.standing → IsNamedAt s new.standing
   named_by new state e is = subst (λ (x : State). IsNamedAt s x.standing) (sym e) is
 
-  named_behind : (standing : Standing) (entries : Entries) (new : State) (event : Event) (bits : List Bool) → Moves SpellsValue s (stands standing entries) event bits new → IsNamedAt s new.standing
+  named_behind : (standing : Standing) (entries : Entries) (new : State) (event : Event) (bits : List Bool) → Moves V s (stands standing entries) event bits new → IsNamedAt s new.standing
   named_behind Before entries new (Document number) bits m = named_by new _ m.6 (root_name s number m.0 m.1 m.3)
   named_behind (AtRoot root kind) entries new (Start name) bits m = named_by new _ m.2 tt
   named_behind (Inside top above) entries new (Start name) bits m = named_by new _ m.3 tt
@@ -97,35 +109,33 @@ module _ (s : Schema) where
   named_behind (Inside top above) entries new EndElement bits m = named_by new _ m.1 (named_around above)
   named_behind standing entries new event bits m = absurd m
 
-  pub reached : (events : List Event) (bits : List Bool) (state : State) → Reaches SpellsValue s events bits state → IsState s state × IsNamedAt s state.standing
-  reached [] bits state h = (subst (λ (x : State). IsState s x) (sym h.1) (start_is s), named_by state _ h.1 tt)
-  reached (event ∷ events) bits state h =
-      let before = reached events h.1 h.0 h.3 in
-      (event_kept s h.0 state event h.2 before.0 h.4, named_behind h.0.standing h.0.entries state event h.2 h.4)
+  pub named_reached : (events : List Event) (bits : List Bool) (state : State) → Reaches V s events bits state → IsNamedAt s state.standing
+  named_reached [] bits state h = named_by state _ h.1 tt
+  named_reached (event ∷ events) bits state h = named_behind h.0.standing h.0.entries state event h.2 h.4
 
   -- ---- each event adds a text
 
   value_adds : (here : Place) (value : Value) → ((said : List ℕ) × IsValueText s here.kind value said) → (added : List ℕ) × ((said : List ℕ) × IsValueText s here.kind value said × (added ≡ codes "=" ++ said))
   value_adds here value h = (codes "=" ++ h.0, (h.0, h.1, refl))
 
-  adds_at : (end : TextEnd) (standing : Standing) (entries : Entries) (new : State) (event : Event) (bits : List Bool) → IsState s (stands standing entries) → IsNamedAt s standing → Moves SpellsValue s (stands standing entries) event bits new →
+  adds_at : (end : TextEnd) (standing : Standing) (entries : Entries) (new : State) (event : Event) (bits : List Bool) → IsStanding s standing → IsNamedAt s standing → Moves V s (stands standing entries) event bits new →
       (added : List ℕ) × Adds s end (innermost_place standing) event added
   adds_at end Before entries new (Document number) bits is named m = ([], refl)
   adds_at end (AtRoot root kind) entries new (Start name) bits is named m =
       let word = found (map (λ t. t.now) s.names.now) root named in
       (gap end ++ word.0, (word.0, subst (λ (n : ℕ). IsName s n word.0) (sym m.0) word.1, refl))
   adds_at end (Inside top above) entries new (Start name) bits is named m =
-      let word = has_name s name (step_fits s top.place m.2.code (element name m.0 m.1) is.0.0 m.2.offered).0 in
+      let word = has_name s name (step_fits s top.place m.2.code (element name m.0 m.1) is.0 m.2.offered).0 in
       (gap end ++ word.0, (word.0, word.1, refl))
   adds_at end (Inside top above) entries new (Attribute name value) bits is named m =
-      let word = has_name s name (step_fits s top.place m.6.code (step.Attribute name m.0 m.1) is.0.0 m.6.offered).0 in
-      let said = has_text s m.0 name m.2 entries m.3 value m.5 m.7 m.8 in
+      let word = has_name s name (step_fits s top.place m.6.code (step.Attribute name m.0 m.1) is.0 m.6.offered).0 in
+      let said = texts m.0 name m.2 entries m.3 value m.5 m.7 m.8 in
       let part = word.0 ++ codes "=" ++ said.0 in
       (gap end ++ codes "@" ++ part, (m.0, m.1, part, (m.6.code, m.6.offered), (word.0, said.0, word.1, said.1, refl), refl))
   adds_at end (Inside top above) entries new (Content value) bits is named m =
-      value_adds top.place value (has_text s top.place.kind top.name m.1 entries m.2 value m.4 m.6 m.7)
+      value_adds top.place value (texts top.place.kind top.name m.1 entries m.2 value m.4 m.6 m.7)
   adds_at end (Inside top above) entries new EndElement bits is named m = (closing end, refl)
   adds_at end standing entries new event bits is named m = absurd m
 
-  pub adds : (end : TextEnd) (old new : State) (event : Event) (bits : List Bool) → IsState s old → IsNamedAt s old.standing → Moves SpellsValue s old event bits new → (added : List ℕ) × Adds s end (innermost_place old.standing) event added
+  pub adds : (end : TextEnd) (old new : State) (event : Event) (bits : List Bool) → IsStanding s old.standing → IsNamedAt s old.standing → Moves V s old event bits new → (added : List ℕ) × Adds s end (innermost_place old.standing) event added
   adds end old new event bits is named m = adds_at end old.standing old.entries new event bits is named m

@@ -18,7 +18,8 @@ use Rattle.tree_text.specs.EventText.{text_end, Adds, Tells}
 use Rattle.tree_text.specs.Printing.{IsEndBehind}
 use Rattle.tree_text.specs.declared.print.TextEnd.{TextEnd}
 use Rattle.tree_text.proofs.Tied.{document_told}
-use Rattle.tree_text.proofs.Told.{reached, adds}
+use Rattle.tree_text.proofs.Standings.{standing_reached}
+use Rattle.tree_text.proofs.Told.{has_text, named_reached, adds}
 
 -- how many events may still come at most
 abbrev pub events_left : State → Cursor → ℕ
@@ -34,8 +35,9 @@ pub has_added : (s : Schema) (o : Option Event) (events : List Event) (end : Tex
     HasTold s events old before → place ≡ innermost_place old.standing → IsNext s old new before after o → IfSome o (λ told. (added : List ℕ) × Adds s end place told added)
 has_added s None events end place old new before after told is h = tt
 has_added s (Some event) events end place old new before after told is h =
-    let r = reached s events told.0 old told.1 in
-    subst (λ (p : Option Place). (added : List ℕ) × Adds s end p event added) (sym is) (adds s end old new event h.0 r.0 r.1 h.1)
+    let here = standing_reached SpellsValue s events told.0 old told.1 in
+    let named = named_reached SpellsValue s (has_text s) events told.0 old told.1 in
+    subst (λ (p : Option Place). (added : List ℕ) × Adds s end p event added) (sym is) (adds SpellsValue s (has_text s) end old new event h.0 here named h.1)
 
 -- the text goes on with it
 pub told_on : (s : Schema) (o : Option Event) (end next : TextEnd) (place : Option Place) (old new : State) (before after : Cursor) (text longer : List ℕ) →

@@ -1,3 +1,5 @@
 pub mod TreeText
 pub mod EventText
 pub mod Printing
+pub mod Consistent
+pub mod Scans

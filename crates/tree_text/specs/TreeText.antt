@@ -11,7 +11,6 @@ use Rattle.exi_schema.specs.Offers.{offers}
 use Rattle.exi_schema.specs.Steps.{IsRoot}
 use Rattle.exi_documents.specs.Documents.{element, first, name_of}
 use Rattle.exi_documents.specs.Trees.{Value, Trees, none, simple, complex, Tree, Simple, Complex}
-
 pub use Rattle.value_text.specs.ValueText.{character_text, quoted, truth_text, IsValueText, IsName, IsNamedText}
 
 -- ---- elements and attributes

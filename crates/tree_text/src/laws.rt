@@ -1,11 +1,13 @@
 //! Laws of the text of a tree.
 
-ghost use Rattle.std.specs.Prelude.{◌≡◌, ℕ, Bool, List, reverse};
+ghost use Rattle.std.specs.Prelude.{◌≡◌, ℕ, Bool, true, List, ◌++◌, reverse};
 ghost use Rattle.exi_schema.specs.declared.schema.Schema.{Schema};
-ghost use Rattle.exi_documents.specs.Documents.{SpellsDocument};
+ghost use Rattle.exi_documents.specs.Documents.{SpellsDocument, IsEncoding};
 ghost use Rattle.exi_documents.specs.Grammar.{State, Behind, stands, Reaches};
-ghost use Rattle.exi_documents.specs.Trees.{Tree, document_events};
+ghost use Rattle.exi_documents.specs.Trees.{Tree, Event, document_events};
 ghost use Rattle.exi_documents.specs.Values.{Entries, SpellsValue, WritesValue};
+ghost use Rattle.dialect_text.specs.Dialect.{Standing, Says, IsDialectText};
+ghost use Rattle.tree_text.specs.Consistent.{are_consistent, are_short};
 ghost use Rattle.tree_text.specs.TreeText.{IsTreeText};
 ghost use Rattle.tree_text.specs.EventText.{Tells};
 
@@ -18,8 +20,18 @@ pub fn events_tell_texts()
 /// The text of a tree is what its events add, one after the other, wherever bits spell them. A tree that spells a document has a text.
 pub fn texts_tell_events()
     ensures reached { (s : Schema) (number : ℕ) (tree : Tree) (text : List ℕ) (bits : List Bool) (state : State) → IsTreeText s tree text → Reaches SpellsValue s (reverse (document_events number tree)) bits state → Tells SpellsValue s (reverse (document_events number tree)) text state }
-    ensures document { (s : Schema) (number : ℕ) (tree : Tree) (text : List ℕ) (bits : List Bool) → IsTreeText s tree text → SpellsDocument SpellsValue s number tree bits → (entries : Entries) × Tells SpellsValue s (reverse (document_events number tree)) text (stands Behind entries) }
+    ensures spelled { (s : Schema) (number : ℕ) (tree : Tree) (text : List ℕ) (bits : List Bool) → IsTreeText s tree text → SpellsDocument SpellsValue s number tree bits → (entries : Entries) × Tells SpellsValue s (reverse (document_events number tree)) text (stands Behind entries) }
+    ensures written { (s : Schema) (number : ℕ) (tree : Tree) (text : List ℕ) (bits : List Bool) → IsTreeText s tree text → SpellsDocument WritesValue s number tree bits → (entries : Entries) × Tells WritesValue s (reverse (document_events number tree)) text (stands Behind entries) }
     ensures has_text { (s : Schema) (number : ℕ) (tree : Tree) (bits : List Bool) → SpellsDocument SpellsValue s number tree bits → (text : List ℕ) × IsTreeText s tree text }
+{}
+
+/// What events tell, as they are written, a text of the dialect says, where the schema is consistent and no number of it has more than
+/// 20 digits: the text of a tree that has an encoding is one of the dialect, which says the events of the tree. A text of the dialect
+/// that says the events of a tree with an encoding is the text of the tree.
+pub fn texts_are_of_the_dialect()
+    ensures says { (s : Schema) (events : List Event) (text : List ℕ) (state : State) → are_consistent s.kinds.now ≡ true → are_short s.kinds.now ≡ true → Tells WritesValue s events text state → (ahead : List ℕ) × (standing : Standing) × Says s events (text ++ ahead) standing }
+    ensures whole { (s : Schema) (tree : Tree) (payload text : List ℕ) → are_consistent s.kinds.now ≡ true → are_short s.kinds.now ≡ true → IsEncoding s tree payload → IsTreeText s tree text → (number : ℕ) × IsDialectText s (reverse (document_events number tree)) text }
+    ensures tree { (s : Schema) (number : ℕ) (tree : Tree) (text : List ℕ) (bits : List Bool) → are_consistent s.kinds.now ≡ true → SpellsDocument WritesValue s number tree bits → IsDialectText s (reverse (document_events number tree)) text → IsTreeText s tree text }
 {}
 
 /// A tree has one text at most.

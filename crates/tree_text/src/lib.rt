@@ -8,12 +8,15 @@
 mod fault;
 pub mod laws;
 mod print;
+mod scan;
 mod values;
 
-pub use charge_world::NoMemory;
+pub use charge_world::{NoMemory, Piece};
+pub use dialect_text::ScanFault;
 pub use exi_documents::{Refusal, RefusalCause};
 pub use fault::PrintFault;
 pub use print::print_tree;
+pub use scan::scan_tree;
 
 #[cfg(test)]
 mod lines;

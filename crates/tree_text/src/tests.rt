@@ -1,6 +1,7 @@
 //! Payloads and the texts of their trees.
 
-ghost use Rattle.std.specs.Prelude.{◌≤◌, length};
+ghost use Rattle.std.specs.Prelude.{◌≡◌, ◌≤◌, true, length};
+ghost use Rattle.tree_text.specs.Consistent.{are_consistent, are_short};
 
 use super::*;
 use crate::lines::LINES;
@@ -25,6 +26,18 @@ fn answer(alloc: Global, payload: &[u8], schema: &Schema) -> Result<String, Allo
     }
 }
 
+/// The encoding of the tree of a text in hexadecimal, or the place of its fault.
+fn encoding(alloc: Global, text: &str, schema: &Schema) -> Result<String, AllocError>
+    requires consistent { are_consistent schema.now.kinds.now ≡ true }
+    requires short { are_short schema.now.kinds.now ≡ true }
+{
+    match scan_tree(alloc, schema, text) {
+        Ok(piece) => hex::encode(alloc, piece.bytes()),
+        Err(ScanFault::Place(place)) => format!(in alloc; "{place}"),
+        Err(ScanFault::Memory) => Err(AllocError),
+    }
+}
+
 /// The bytes of hexadecimal text; a dash is none.
 fn bytes_of(alloc: Global, text: &str) -> Result<Vec<u8>, Fail> {
     if text == "-" {
@@ -44,8 +57,12 @@ fn payloads_of_the_negotiation(rt: HostRuntime) -> Result<(), Fail> {
     };
     let mut count = 0u64;
     for line in LINES.lines() {
-        let (_, rest) = line.split_once(' ').ok_or("a line without a word")?;
+        let (word, rest) = line.split_once(' ').ok_or("a line without a word")?;
         let (payload, expected) = rest.split_once(' ').ok_or("a line without an answer")?;
+        if word == "ok" {
+            let written = encoding(rt.alloc(), expected, &schema)?;
+            assert_eq!(rt; written.as_str(), payload, "{line}");
+        }
         let payload = bytes_of(rt.alloc(), payload)?;
         assert!(rt; payload.len() <= 65536);
         let text = answer(rt.alloc(), payload.as_slice(), &schema)?;
@@ -53,6 +70,47 @@ fn payloads_of_the_negotiation(rt: HostRuntime) -> Result<(), Fail> {
         count = count.wrapping_add(1);
     }
     assert_eq!(rt; count, 220);
+    Ok(())
+}
+
+/// Texts, and their encodings or the places of their faults.
+const TEXTS: [(&'static str, &'static str); 7] = [
+    (
+        "supportedAppProtocolRes{ResponseCode=OK_SuccessfulNegotiation SchemaID=1}",
+        "80400040",
+    ),
+    ("x", "0"),
+    ("", "0"),
+    // Of the dialect: in another order, without what has to be there, and with a number outside its range.
+    (
+        "supportedAppProtocolRes{SchemaID=1 ResponseCode=OK_SuccessfulNegotiation}",
+        "73",
+    ),
+    ("supportedAppProtocolRes{}", "25"),
+    (
+        "supportedAppProtocolRes{ResponseCode=OK_SuccessfulNegotiation SchemaID=256}",
+        "75",
+    ),
+    // None of the dialect, behind what is no document.
+    (
+        "supportedAppProtocolRes{SchemaID=256 ResponseCode=Bad}",
+        "50",
+    ),
+];
+
+#[test]
+fn texts_of_the_negotiation(rt: HostRuntime) -> Result<(), Fail> {
+    let schema = Schema {
+        kinds: &KINDS,
+        names: &NAMES,
+        values: &VALUES,
+        root_bits: 2,
+        roots: &ROOTS,
+    };
+    for (text, expected) in TEXTS {
+        let written = encoding(rt.alloc(), text, &schema)?;
+        assert_eq!(rt; written.as_str(), expected, "{text}");
+    }
     Ok(())
 }
 

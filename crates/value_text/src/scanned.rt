@@ -2,7 +2,7 @@
 
 ghost use Rattle.std.specs.Prelude.{◌≡◌, ℕ, ◌<◌, List, length, MatchOption};
 ghost use Rattle.exi_documents.specs.Trees.{Bytes};
-ghost use Rattle.exi_values.specs.Meaning.{value_of};
+ghost use Rattle.exi_values.specs.Meaning.{IsShaped, value_of};
 ghost use Rattle.value_text.specs.Scanning.{meaning};
 
 use exi_bits::BitSpan;
@@ -26,7 +26,7 @@ pub enum Scanned {
 impl Scanned {
     /// The same, lent to a writer. A Binary of more than 65,536 bytes can't be lent.
     pub fn value(&self) -> Option<Value<'_>>
-        ensures { MatchOption result ((bytes : List ℕ) × (meaning self.now ≡ Bytes bytes) × (65536 < length bytes)) (λ v. value_of v ≡ meaning self.now) }
+        ensures { MatchOption result ((bytes : List ℕ) × (meaning self.now ≡ Bytes bytes) × (65536 < length bytes)) (λ v. (value_of v ≡ meaning self.now) × IsShaped v) }
     {
         match self {
             Scanned::Bool(truth) => Some(Value::Bool(*truth)),

@@ -1,0 +1,136 @@
+-- A text that is scanned to its end.
+use Rattle.std.proofs.Common.{◌≡◌, ℕ, ◌+◌, ◌*◌, ◌≤◌, Bool, true, false, List, ◌∷◌, ◌++◌, length, replicate, reverse, Option, Some, None, IfSome, IfNone, sym, ap, subst, ◌∙◌, arith, length-append, inl, inr}
+use Rattle.std.specs.Str.{chars}
+use Rattle.std.proofs.lemmas.List.{length-replicate, length-take}
+use Rattle.exi_spec.specs.Bits.{bits_of}
+use Rattle.exi_spec.proofs.BitLaws.{length-bits_of}
+use Rattle.exi_bits.specs.Pens.{written_bits}
+use Rattle.exi_bits.specs.Written.{HoldsBits}
+use Rattle.exi_bits.specs.declared.pen.BitPen.{BitPen}
+use Rattle.exi_schema.specs.declared.schema.Schema.{Schema}
+use Rattle.exi_documents.specs.Documents.{IsEncoding}
+use Rattle.exi_documents.specs.Grammar.{Behind, State}
+use Rattle.exi_documents.specs.Trees.{Tree, Event, document_events}
+use Rattle.exi_documents.specs.Values.{WritesValue}
+use Rattle.exi_events.specs.Writer.{HasPut, IsWritten}
+use Rattle.value_text.specs.declared.cursor.TextCursor.{TextCursor}
+use Rattle.dialect_text.specs.Dialect.{Standing, IsDialectText, IsFault}
+use Rattle.dialect_text.specs.Scanning.{event_of, HasSaid, IsReady, IsFaultOf}
+use Rattle.dialect_text.specs.declared.fault.ScanFault.{ScanFault}
+use Rattle.dialect_text.specs.declared.fault.ScanFault.TheVariants.{Place, Memory}
+use Rattle.dialect_text.specs.declared.said.Said.{Said}
+use Rattle.dialect_text.proofs.Once.{one_list}
+use Rattle.tree_text.specs.Consistent.{are_consistent, are_short}
+use Rattle.tree_text.specs.Scans.{IsEncodedText, HasNoEncoding, IsScanFault, IsFaultBehind, IsStuck}
+use Rattle.tree_text.specs.TreeText.{IsTreeText}
+use Rattle.tree_text.proofs.Sayings.{encoded_said, said_ends, said_tree}
+
+module _ (s : Schema) (fits : are_consistent s.kinds.now ≡ true) where
+  -- events that are put, and that the whole text says
+  pub tree_put : (events : List Event) (state : State) (bits : List Bool) (text payload : List ℕ) → HasPut s events state bits → IsDialectText s events text → IsWritten s events payload →
+      (tree : Tree) × IsTreeText s tree text × IsEncoding s tree payload
+  tree_put events state bits text payload h is w =
+      (w.1, said_tree WritesValue s fits w.0 w.1 bits state text (subst (λ (l : List Event). HasPut s l state bits) w.2 h) (subst (λ (l : List Event). IsDialectText s l text) w.2 is), w.3)
+
+  few_bits : (payload : List ℕ) (bits : List Bool) (pad : ℕ) → bits_of payload ≡ bits ++ replicate pad false → length payload ≤ 65536 → length bits ≤ 8 * 65536
+  few_bits payload bits pad are small =
+      let all : 8 * length payload ≡ length bits + pad =
+      sym (length-bits_of payload) ∙ ap length are ∙ length-append bits (replicate pad false) ∙ ap (λ (n : ℕ). length bits + n) (length-replicate pad false) in
+      omega (arith, all, small)
+
+  -- some of the events that the text says begin no document that has room
+  pub stuck_has_none : are_short s.kinds.now ≡ true → (later events : List Event) (text : List ℕ) → IsStuck s events → IsDialectText s (later ++ events) text → HasNoEncoding s text
+  stuck_has_none short later events text stuck is tree payload spelled e small =
+      let said = encoded_said s fits short e.number tree text e.bits spelled e.spelled in
+      stuck later e.number tree e.bits (one_list s (later ++ events) (reverse (document_events e.number tree)) text is said) e.spelled (few_bits payload e.bits e.pad e.bits_are small)
+
+-- ---- the scanner's schema and text are those at the start
+
+pub still_ready : (s t : Schema) (text other : List ℕ) (standing : Standing) (cursor : TextCursor) (fault : Option ℕ) → s ≡ t → text ≡ other → IsReady s text standing cursor fault → IsReady t other standing cursor fault
+still_ready s t text other standing cursor fault same one is =
+    subst (λ (x : Schema). IsReady x other standing cursor fault) same (subst (λ (l : List ℕ). IsReady s l standing cursor fault) one is)
+
+pub said_in : (s t : Schema) (text other : List ℕ) (events : List Event) (standing : Standing) (cursor : TextCursor) → s ≡ t → text ≡ other → HasSaid s text events standing cursor → HasSaid t other events standing cursor
+said_in s t text other events standing cursor same one is =
+    subst (λ (x : Schema). HasSaid x other events standing cursor) same (subst (λ (l : List ℕ). HasSaid s l events standing cursor) one is)
+
+-- an event more
+pub said_on : (s t : Schema) (text other : List ℕ) (o : Option Said) (said : Said) (old new : Standing) (before after : TextCursor) → s ≡ t → text ≡ other → o ≡ Some said →
+    ((events : List Event) → HasSaid s text events old before → IfSome o (λ x. HasSaid s text (event_of x ∷ events) new after)) →
+    (events : List Event) → HasSaid t other events old before → HasSaid t other (event_of said ∷ events) new after
+said_on s t text other o said old new before after same one is next events h =
+    let here = said_in t s other text events old before (sym same) (sym one) h in
+    said_in s t text other (event_of said ∷ events) new after same one (subst (λ (x : Option Said). IfSome x (λ y. HasSaid s text (event_of y ∷ events) new after)) is (next events here))
+
+-- and none
+pub said_all : (s t : Schema) (text other : List ℕ) (o : Option Said) (old : Standing) (before : TextCursor) → s ≡ t → text ≡ other → o ≡ None →
+    ((events : List Event) → HasSaid s text events old before → IfNone o (IsDialectText s events text)) →
+    (events : List Event) → HasSaid t other events old before → IsDialectText t events other
+said_all s t text other o old before same one is next events h =
+    let here = said_in t s other text events old before (sym same) (sym one) h in
+    subst (λ (x : Schema). IsDialectText x events other) same (subst (λ (l : List ℕ). IsDialectText s events l) one
+    (subst (λ (x : Option Said). IfNone x (IsDialectText s events text)) is (next events here)))
+
+-- ---- the writer's places are the schema
+
+pub stuck_in : (s t : Schema) (events : List Event) → s ≡ t → IsStuck s events → IsStuck t events
+stuck_in s t events same is = subst (λ (x : Schema). IsStuck x events) same is
+
+pub put_in : (s t : Schema) (events : List Event) (state : State) (bits : List Bool) → s ≡ t → HasPut s events state bits → HasPut t events state bits
+put_in s t events state bits same h = subst (λ (x : Schema). HasPut x events state bits) same h
+
+-- at the end of the text
+pub all_put : (s t : Schema) (events : List Event) (state : State) (bits : List Bool) (text payload : List ℕ) → are_consistent t.kinds.now ≡ true → s ≡ t → HasPut s events state bits → IsDialectText t events text →
+    (HasPut s events state bits → state.standing ≡ Behind → IsWritten s events payload) → (tree : Tree) × IsTreeText t tree text × IsEncoding t tree payload
+all_put s t events state bits text payload fits same h is ends =
+    let put = put_in s t events state bits same h in
+    let behind = said_ends WritesValue t fits events bits state text put is in
+    tree_put t fits events state bits text payload put is (subst (λ (x : Schema). IsWritten x events payload) same (ends h behind))
+
+pub few_bytes : (pen : BitPen) (bytes : List ℕ) → HoldsBits bytes (written_bits pen) → length pen.room.now ≡ 65536 → length bytes ≤ 65536
+few_bytes pen bytes h room =
+    let all : 8 * length bytes ≡ length (written_bits pen) + h.pad =
+    sym (length-bits_of bytes) ∙ ap length h.there ∙ length-append (written_bits pen) (replicate h.pad false) ∙ ap (λ (n : ℕ). length (written_bits pen) + n) (length-replicate h.pad false) in
+    let within = length-take pen.bits (bits_of pen.room.now) in
+    omega (arith, all, within, length-bits_of pen.room.now, room, h.short)
+
+pub piece_put : (s t : Schema) (events : List Event) (state : State) (pen : BitPen) (text payload piece : List ℕ) → are_consistent t.kinds.now ≡ true → s ≡ t → length pen.room.now ≡ 65536 → HasPut s events state (written_bits pen) → IsDialectText t events text →
+    HoldsBits payload (written_bits pen) → (HasPut s events state (written_bits pen) → state.standing ≡ Behind → IsWritten s events payload) → piece ≡ payload →
+    IsEncodedText t text piece
+piece_put s t events state pen text payload piece fits same room h is holds ends copied =
+    subst (λ (l : List ℕ). IsEncodedText t text l) (sym copied)
+    (few_bytes pen payload holds room, all_put s t events state (written_bits pen) text payload fits same h is ends)
+
+-- ---- faults
+
+pub rest_ok : (s : Schema) (text other : List ℕ) (events : List Event) (count : ℕ) → text ≡ other → ((later : List Event) × IsDialectText s (later ++ events) text) → count ≡ length (chars other) → IsFaultBehind s text events (Place count)
+rest_ok s text other events count same is counted = inr (is.0, is.1, counted ∙ ap (λ (l : List ℕ). length (chars l)) (sym same))
+
+pub rest_fault : (s : Schema) (text : List ℕ) (events : List Event) (fault : ScanFault) → IsFaultOf s text fault → IsFaultBehind s text events fault
+rest_fault s text events (Place place) is = inl is
+rest_fault s text events Memory is = tt
+
+pub scan_fault : (s : Schema) (text other : List ℕ) (fault : ScanFault) → text ≡ other → IsFaultOf s text fault → IsScanFault s other fault
+scan_fault s text other (Place place) same is = inl (subst (λ (l : List ℕ). IsFault s l place) same is)
+scan_fault s text other Memory same is = tt
+
+-- a text of the dialect of which no document can be put
+pub stuck_fault : (s t : Schema) (text other : List ℕ) (events : List Event) (fault : ScanFault) → are_consistent t.kinds.now ≡ true → are_short t.kinds.now ≡ true → s ≡ t → text ≡ other →
+    IsStuck t events → IsFaultBehind s text events fault → IsScanFault t other fault
+stuck_fault s t text other events (Place place) fits short same one stuck is =
+    let there : IsFaultBehind t other events (Place place) =
+    subst (λ (x : Schema). IsFaultBehind x other events (Place place)) same (subst (λ (l : List ℕ). IsFaultBehind s l events (Place place)) one is) in
+    elim there [
+      | inl fault ↦ inl fault
+      | inr said ↦ inr ((said.0 ++ events, said.1), stuck_has_none t fits short said.0 events other stuck said.1, said.2)
+    ]
+stuck_fault s t text other events Memory fits short same one stuck is = tt
+
+pub encoded_in : (s : Schema) (text other payload : List ℕ) → text ≡ other → IsEncodedText s text payload → IsEncodedText s other payload
+encoded_in s text other payload same is = subst (λ (l : List ℕ). IsEncodedText s l payload) same is
+
+pub some_of : {X : Type 0} (P : X → Type 0) (o : Option X) (x : X) → o ≡ Some x → IfSome o P → P x
+some_of P o x is h = subst (λ y. IfSome y P) is h
+
+pub none_of : {X : Type 0} (P : Type 0) (o : Option X) → o ≡ None → IfNone o P → P
+none_of {X} P o is h = subst (λ (y : Option X). IfNone y P) is h
