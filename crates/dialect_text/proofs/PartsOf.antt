@@ -188,11 +188,11 @@ no_attributes s top above attributes particles a is none text r shares before p 
 pub behind_none : (s : Schema) (elements new : List OpenElement) (top : OpenElement) (above : List OpenElement) (event : Event) (a b c : TextCursor) → b ≡ a → NoAttribute s top above a →
     TakesNext s (gap top.filling) (StartsElement s top above) (Within elements) b event (Within new) c → TakesNext s (gap top.filling) (StartsPart s top above) (Within elements) a event (Within new) c
 behind_none s elements new top above event a b c same none p =
-    takes_behind s (gap top.filling) (StartsPart s top above) (StartsElement s top above) (Within elements) (Within new) a a c event [] (refl, omega arith) (part_element s top above a.rest.now none)
+    takes_behind s (gap top.filling) (StartsPart s top above) (StartsElement s top above) (Within elements) (Within new) a a c event [] (record { stands = refl; counted = omega arith }) (part_element s top above a.rest.now none)
     (subst (λ (x : List ℕ). TakesNext s x (StartsElement s top above) (Within elements) a event (Within new) c) (sym (append-nil (gap top.filling)))
     (subst (λ (x : TextCursor). TakesNext s (gap top.filling) (StartsElement s top above) (Within elements) x event (Within new) c) same p))
 
 pub stalls_behind_none : (s : Schema) (top : OpenElement) (above : List OpenElement) (a b : TextCursor) (f : ScanFault) → b ≡ a → NoAttribute s top above a → StallsAt (StartsElement s top above) b f → StallsAt (StartsPart s top above) a f
 stalls_behind_none s top above a b f same none p =
-    stalls_behind (StartsPart s top above) (StartsElement s top above) a a [] f (refl, omega arith) (part_element s top above a.rest.now none) (inl refl)
+    stalls_behind (StartsPart s top above) (StartsElement s top above) a a [] f (record { stands = refl; counted = omega arith }) (part_element s top above a.rest.now none) (inl refl)
     (subst (λ (x : TextCursor). StallsAt (StartsElement s top above) x f) same p)

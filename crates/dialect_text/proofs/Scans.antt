@@ -50,16 +50,16 @@ pub said_on : (s : Schema) (text : List ℕ) (events : List Event) (old new : St
 said_on s text events old new a b event p q = record {
   front = p.front ++ q.front;
   says = (old, encode_utf8_all p.front, encode_utf8_all q.front, p.says, q.adds, encodes-append p.front q.front);
-  stands = p.stands ∙ ap (λ (bs : List ℕ). encode_utf8_all p.front ++ bs) q.passes.0 ∙ sym (append_assoc (encode_utf8_all p.front) (encode_utf8_all q.front) b.rest.now) ∙ ap (λ (bs : List ℕ). bs ++ b.rest.now) (sym (encodes-append p.front q.front));
-  place = omega (arith, p.place, q.passes.1, length-append p.front q.front);
+  stands = p.stands ∙ ap (λ (bs : List ℕ). encode_utf8_all p.front ++ bs) q.passes.stands ∙ sym (append_assoc (encode_utf8_all p.front) (encode_utf8_all q.front) b.rest.now) ∙ ap (λ (bs : List ℕ). bs ++ b.rest.now) (sym (encodes-append p.front q.front));
+  place = omega (arith, p.place, q.passes.counted, length-append p.front q.front);
 }
 
 pub read_on : (s : Schema) (text : List ℕ) (old new : Standing) (a b : TextCursor) (event : Event) → HasRead s text old a → TakesNext s [] (Completes s old) old a event new b → HasRead s text new b
 read_on s text old new a b event p q = record {
   front = p.front ++ q.front;
-  leads = leads_then (IsOfDialect s) (Completes s old) (Completes s new) p.front q.front b.rest.now (subst (λ (bs : List ℕ). Leads (IsOfDialect s) p.front bs (Completes s old)) q.passes.0 p.leads) q.leads;
-  stands = p.stands ∙ ap (λ (bs : List ℕ). encode_utf8_all p.front ++ bs) q.passes.0 ∙ sym (append_assoc (encode_utf8_all p.front) (encode_utf8_all q.front) b.rest.now) ∙ ap (λ (bs : List ℕ). bs ++ b.rest.now) (sym (encodes-append p.front q.front));
-  place = omega (arith, p.place, q.passes.1, length-append p.front q.front);
+  leads = leads_then (IsOfDialect s) (Completes s old) (Completes s new) p.front q.front b.rest.now (subst (λ (bs : List ℕ). Leads (IsOfDialect s) p.front bs (Completes s old)) q.passes.stands p.leads) q.leads;
+  stands = p.stands ∙ ap (λ (bs : List ℕ). encode_utf8_all p.front ++ bs) q.passes.stands ∙ sym (append_assoc (encode_utf8_all p.front) (encode_utf8_all q.front) b.rest.now) ∙ ap (λ (bs : List ℕ). bs ++ b.rest.now) (sym (encodes-append p.front q.front));
+  place = omega (arith, p.place, q.passes.counted, length-append p.front q.front);
 }
 
 pub said_all : (s : Schema) (text : List ℕ) (events : List Event) (standing : Standing) (a : TextCursor) → HasSaid s text events standing a → standing ≡ Within [] → a.rest.now ≡ [] → IsDialectText s events text
@@ -182,7 +182,7 @@ events_on s (Within (top ∷ above)) new EndElement added p =
 
 pub fewer_on : (s : Schema) (old new : Standing) (a b : TextCursor) (event : Event) → TakesNext s [] (Completes s old) old a event new b → events_left new b < events_left old a
 fewer_on s old new a b event q =
-    omega (arith, events_on s old new event (encode_utf8_all q.front) q.adds, ap length q.passes.0, length-append (encode_utf8_all q.front) b.rest.now)
+    omega (arith, events_on s old new event (encode_utf8_all q.front) q.adds, ap length q.passes.stands, length-append (encode_utf8_all q.front) b.rest.now)
 
 pub inside_stalls : (s : Schema) (elements : List OpenElement) (a : TextCursor) → elements ≡ [] → (a.rest.now ≡ [] → ⊥) → StallsAt (Completes s (Within elements)) a (fault.Place a.place)
 inside_stalls s elements a none some = subst (λ (x : List OpenElement). StallsAt (Completes s (Within x)) a (fault.Place a.place)) (sym none) (ended_stalls s a some)
@@ -192,7 +192,7 @@ pub root_starts : (s : Schema) (name kind : ℕ) (elements : List OpenElement) (
 root_starts s name kind elements a one = record {
   front = [];
   adds = (refl, refl, ap Within one);
-  passes = (refl, omega arith);
+  passes = record { stands = refl; counted = omega arith };
   leads = leads_plain s (AtRoot name kind) (Within elements) (Start name) [] a.rest.now (λ v. v) (refl, refl, ap Within one);
 }
 

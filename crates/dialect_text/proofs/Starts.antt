@@ -167,7 +167,7 @@ attribute_taken s top above name kind v front a b c sound before is named passes
       );
       passes = passes_on a b c front value.1 passes value.3.passed;
       leads = leads_then (StartsAttribute s top above) (StartsValue s kind L) L front value.1 c.rest.now
-          (subst (λ (bs : List ℕ). Leads (StartsAttribute s top above) front bs (StartsValue s kind L)) value.3.passed.0 (attribute_leads s top above name kind front b.rest.now is named))
+          (subst (λ (bs : List ℕ). Leads (StartsAttribute s top above) front bs (StartsValue s kind L)) value.3.passed.stands (attribute_leads s top above name kind front b.rest.now is named))
           (value_leads s kind v L b c (value_ends s top.kind fills.Attributes above tt sound.1) value);
     }
 

@@ -49,7 +49,7 @@ value_leads s kind v L a b ends p = record {
   to = λ text shares old.
       let other = split s kind p.0 L (encode_utf8_all p.1 ++ text) p.2 old in
       let stops = value_stops s kind p.0 other.value other.front other.rest other.formed (ends other.rest other.follows) in
-      let same = taken_once (IsAnyFormed s kind p.0) a.rest.now p.1 b.rest.now text other.front other.rest p.3.longest p.3.is_one p.3.passed.0 shares (other.value, other.formed) stops other.whole in
+      let same = taken_once (IsAnyFormed s kind p.0) a.rest.now p.1 b.rest.now text other.front other.rest p.3.longest p.3.is_one p.3.passed.stands shares (other.value, other.formed) stops other.whole in
       subst L same.1 other.follows;
 }
 

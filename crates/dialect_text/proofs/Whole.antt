@@ -108,7 +108,7 @@ gap_leads s top above attributes particles a b is passes open_still = record {
 }
   where
     same : top.filling ≡ fills.Nothing → b.rest.now ≡ a.rest.now
-    same none = sym (passes.0 ∙ ap (λ (f : Filling). encode_utf8_all (gap f) ++ b.rest.now) none)
+    same none = sym (passes.stands ∙ ap (λ (f : Filling). encode_utf8_all (gap f) ++ b.rest.now) none)
 
     by : (text : List ℕ) → Shares 0 b.rest.now text → Follows s top above (gap top.filling ++ text) → StartsPart s top above text
     by text shares (brace rest e) =

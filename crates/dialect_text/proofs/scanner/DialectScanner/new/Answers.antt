@@ -1,4 +1,4 @@
-use Rattle.dialect_text.proofs.Scans.{starts_read, starts_said}
+use Rattle.dialect_text.proofs.Scans.{starts_read}
 use Rattle.dialect_text.proofs.scanner.DialectScanner.new.Goals as goal
 
 pub returns-clause-ready : goal.returns-clause-ready
