@@ -24,7 +24,7 @@ splits [] x b y e = inl (b, refl, e)
 splits (c ∷ a) x [] y e = inr (c, a, refl, sym e ∙ append_assoc (encode_utf8 c) (encode_utf8_all a) x)
 splits (c ∷ a) x (d ∷ b) y e =
     let firsts = encode_same c d (encode_utf8_all a ++ x) (encode_utf8_all b ++ y)
-        (sym (append_assoc (encode_utf8 c) (encode_utf8_all a) x) ∙ e ∙ append_assoc (encode_utf8 d) (encode_utf8_all b) y) in
+    (sym (append_assoc (encode_utf8 c) (encode_utf8_all a) x) ∙ e ∙ append_assoc (encode_utf8 d) (encode_utf8_all b) y) in
     elim (splits a x b y firsts.1) [
       | inl p ↦ inl (p.0, ap₂ (λ (n : ℕ) (ns : List ℕ). n ∷ ns) (sym firsts.0) p.1, p.2)
       | inr q ↦ inr (q.0, q.1, ap₂ (λ (n : ℕ) (ns : List ℕ). n ∷ ns) firsts.0 q.2, q.3)
@@ -41,83 +41,85 @@ behind_one a c b x = behind_both a (c ∷ b) x ∙ ap (λ (bs : List ℕ). encod
 
 pub shares_some : (n : ℕ) (rest text : List ℕ) → Shares n rest text → Shares 0 rest text
 shares_some n rest text s = record {
-    front = s.front;
-    more = s.more;
-    odd = s.odd;
-    stands = s.stands;
-    others = s.others;
-    enough = elim s.enough [ inl more ↦ inl (omega (arith, more)) | inr whole ↦ inr whole ];
-  }
+  front = s.front;
+  more = s.more;
+  odd = s.odd;
+  stands = s.stands;
+  others = s.others;
+  enough = elim s.enough [ inl more ↦ inl (omega (arith, more)) | inr whole ↦ inr whole ];
+}
 
 pub shares_behind : (front : List ℕ) (n : ℕ) (rest text : List ℕ) → Shares n rest text → Shares n (encode_utf8_all front ++ rest) (encode_utf8_all front ++ text)
 shares_behind front n rest text s = record {
-    front = front ++ s.front;
-    more = s.more;
-    odd = s.odd;
-    stands = ap (λ (bs : List ℕ). encode_utf8_all front ++ bs) s.stands ∙ sym (behind_both front s.front s.more);
-    others = ap (λ (bs : List ℕ). encode_utf8_all front ++ bs) s.others ∙ sym (behind_both front s.front s.odd);
-    enough = elim s.enough [ inl more ↦ inl (omega (arith, more, length-append front s.front)) | inr whole ↦ inr whole ];
-  }
+  front = front ++ s.front;
+  more = s.more;
+  odd = s.odd;
+  stands = ap (λ (bs : List ℕ). encode_utf8_all front ++ bs) s.stands ∙ sym (behind_both front s.front s.more);
+  others = ap (λ (bs : List ℕ). encode_utf8_all front ++ bs) s.others ∙ sym (behind_both front s.front s.odd);
+  enough = elim s.enough [ inl more ↦ inl (omega (arith, more, length-append front s.front)) | inr whole ↦ inr whole ];
+}
 
 pub shares_ahead : (front : List ℕ) (n : ℕ) (rest text : List ℕ) → Shares (length front + n) (encode_utf8_all front ++ rest) text → (other : List ℕ) × (text ≡ encode_utf8_all front ++ other) × Shares n rest other
 shares_ahead front n rest text s =
     elim (splits front rest s.front s.more s.stands) [
-      | inl p ↦ (encode_utf8_all p.0 ++ s.odd,
-          s.others ∙ ap (λ (cs : List ℕ). encode_utf8_all cs ++ s.odd) p.1 ∙ behind_both front p.0 s.odd,
-          record {
-            front = p.0;
-            more = s.more;
-            odd = s.odd;
-            stands = p.2;
-            others = refl;
-            enough = elim s.enough [ inl more ↦ inl (omega (arith, more, ap length p.1, length-append front p.0)) | inr whole ↦ inr whole ];
-          })
+      | inl p ↦ (
+        encode_utf8_all p.0 ++ s.odd,
+        s.others ∙ ap (λ (cs : List ℕ). encode_utf8_all cs ++ s.odd) p.1 ∙ behind_both front p.0 s.odd,
+        record {
+          front = p.0;
+          more = s.more;
+          odd = s.odd;
+          stands = p.2;
+          others = refl;
+          enough = elim s.enough [ inl more ↦ inl (omega (arith, more, ap length p.1, length-append front p.0)) | inr whole ↦ inr whole ];
+        },
+      )
       | inr q ↦ elim s.enough [
-          | inl more ↦ absurd (omega (arith, more, ap length q.2, length-append s.front (q.0 ∷ q.1)))
-          | inr whole ↦ absurd (none_or_some q.0 (encode_utf8_all q.1 ++ rest) (sym q.3 ∙ whole.0))
-        ]
+        | inl more ↦ absurd (omega (arith, more, ap length q.2, length-append s.front (q.0 ∷ q.1)))
+        | inr whole ↦ absurd (none_or_some q.0 (encode_utf8_all q.1 ++ rest) (sym q.3 ∙ whole.0))
+      ]
     ]
 
 pub shares_whole : (n : ℕ) (chars : List ℕ) (rest : List ℕ) → rest ≡ encode_utf8_all chars → Shares n rest rest
 shares_whole n chars rest e = record {
-    front = chars;
-    more = [];
-    odd = [];
-    stands = e ∙ sym (append-nil (encode_utf8_all chars));
-    others = e ∙ sym (append-nil (encode_utf8_all chars));
-    enough = inr (refl, refl);
-  }
+  front = chars;
+  more = [];
+  odd = [];
+  stands = e ∙ sym (append-nil (encode_utf8_all chars));
+  others = e ∙ sym (append-nil (encode_utf8_all chars));
+  enough = inr (refl, refl);
+}
 
 -- ---- from one language to another
 
 pub leads_then : (K L M : List ℕ → Type 0) (a b rest : List ℕ) → Leads K a (encode_utf8_all b ++ rest) L → Leads L b rest M → Leads K (a ++ b) rest M
 leads_then K L M a b rest p q = record {
-    from = λ text new. subst K (sym (behind_both a b text)) (p.from (encode_utf8_all b ++ text) (q.from text new));
-    to = λ text shares old. q.to text shares (p.to (encode_utf8_all b ++ text) (shares_behind b 0 rest text shares) (subst K (behind_both a b text) old));
-  }
+  from = λ text new. subst K (sym (behind_both a b text)) (p.from (encode_utf8_all b ++ text) (q.from text new));
+  to = λ text shares old. q.to text shares (p.to (encode_utf8_all b ++ text) (shares_behind b 0 rest text shares) (subst K (behind_both a b text) old));
+}
 
 pub leads_on : (K L M : List ℕ → Type 0) (rest : List ℕ) → ((text : List ℕ) → M text → L text) → ((text : List ℕ) → Shares 0 rest text → L text → M text) → (front : List ℕ) → Leads K front rest L → Leads K front rest M
 leads_on K L M rest from to front p = record {
-    from = λ text new. p.from text (from text new);
-    to = λ text shares old. to text shares (p.to text shares old);
-  }
+  from = λ text new. p.from text (from text new);
+  to = λ text shares old. to text shares (p.to text shares old);
+}
 
 pub stalls_after : (K L : List ℕ → Type 0) (a b rest : List ℕ) → Leads K a rest L → ((a ≡ []) ⊎ ((text : List ℕ) × L text)) → Stalls L rest b → Stalls K (encode_utf8_all a ++ rest) (a ++ b)
 stalls_after K L a b rest p some q = record {
-    more = q.more;
-    stands = ap (λ (bs : List ℕ). encode_utf8_all a ++ bs) q.stands ∙ sym (behind_both a b q.more);
-    begins = elim q.begins [
-      | inl none ↦ elim some [
-          | inl same ↦ inl (ap₂ (λ (x y : List ℕ). x ++ y) same none)
-          | inr one ↦ inr (one.0, subst K (ap (λ (cs : List ℕ). encode_utf8_all cs ++ one.0) (sym (append-nil a) ∙ ap (λ (cs : List ℕ). a ++ cs) (sym none))) (p.from one.0 one.1))
-        ]
-      | inr one ↦ inr (one.0, subst K (sym (behind_both a b one.0)) (p.from (encode_utf8_all b ++ one.0) one.1))
-    ];
-    none_further = λ text shares old.
+  more = q.more;
+  stands = ap (λ (bs : List ℕ). encode_utf8_all a ++ bs) q.stands ∙ sym (behind_both a b q.more);
+  begins = elim q.begins [
+    | inl none ↦ elim some [
+      | inl same ↦ inl (ap₂ (λ (x y : List ℕ). x ++ y) same none)
+      | inr one ↦ inr (one.0, subst K (ap (λ (cs : List ℕ). encode_utf8_all cs ++ one.0) (sym (append-nil a) ∙ ap (λ (cs : List ℕ). a ++ cs) (sym none))) (p.from one.0 one.1))
+    ]
+    | inr one ↦ inr (one.0, subst K (sym (behind_both a b one.0)) (p.from (encode_utf8_all b ++ one.0) one.1))
+  ];
+  none_further = λ text shares old.
       let P : ℕ → Type 0 = λ n. Shares n (encode_utf8_all a ++ rest) text in
       let ahead = shares_ahead a (length b) rest text (subst P (length-append a b) shares) in
       q.none_further ahead.0 ahead.2 (p.to ahead.0 (shares_some (length b) rest ahead.0 ahead.2) (subst K ahead.1 old));
-  }
+}
 
 -- ---- the longest front of a text
 
@@ -126,21 +128,22 @@ IsFaulty L text front = (L text → ⊥) × IsLongest L text front
 
 pub stalled : (L : List ℕ → Type 0) (text front some : List ℕ) → IsUtf8 text → L some → Stalls L text front → IsFaulty L text front
 stalled L text front some utf8 one s = (
-    s.none_further text (shares_whole (length front) utf8.0 text (sym utf8.1.1)),
-    record {
-      rest = s.more;
-      stands = s.stands;
-      begins = elim s.begins [
-        | inl none ↦ (some, subst L (ap (λ (cs : List ℕ). encode_utf8_all cs ++ some) (sym none)) one)
-        | inr other ↦ other
-      ];
-      longest = λ longer more there begun.
+  s.none_further text (shares_whole (length front) utf8.0 text (sym utf8.1.1)),
+  record {
+    rest = s.more;
+    stands = s.stands;
+    begins = elim s.begins [
+      | inl none ↦ (some, subst L (ap (λ (cs : List ℕ). encode_utf8_all cs ++ some) (sym none)) one)
+      | inr other ↦ other
+    ];
+    longest = λ longer more there begun.
         elim (leb_tells (length longer) (length front)) [
           | inl is ↦ is.1
           | inr is ↦ absurd (s.none_further (encode_utf8_all longer ++ begun.0)
               (record { front = longer; more = more; odd = begun.0; stands = there; others = refl; enough = inl (omega (arith, is.1)) }) begun.1)
         ];
-    })
+  },
+)
 
 -- ---- what is taken, and what is missed
 
@@ -169,11 +172,11 @@ taken_once L all taken rest text front others longest one stands shares other st
     further q (d ∷ f) r t enough =
         let same : d ≡ q.0 = (encode_same d q.0 (encode_utf8_all f ++ shares.odd) (encode_utf8_all q.1 ++ others) (sym (append_assoc (encode_utf8 d) (encode_utf8_all f) shares.odd) ∙ sym t ∙ q.3)).0 in
         let there : all ≡ encode_utf8_all (taken ++ q.0 ∷ []) ++ (encode_utf8_all f ++ shares.more) =
-            stands ∙ ap (λ (bs : List ℕ). encode_utf8_all taken ++ bs) (r ∙ append_assoc (encode_utf8 d) (encode_utf8_all f) shares.more)
-            ∙ ap (λ (c : ℕ). encode_utf8_all taken ++ (encode_utf8 c ++ (encode_utf8_all f ++ shares.more))) same
-            ∙ sym (behind_one taken q.0 [] (encode_utf8_all f ++ shares.more)) in
+        stands ∙ ap (λ (bs : List ℕ). encode_utf8_all taken ++ bs) (r ∙ append_assoc (encode_utf8 d) (encode_utf8_all f) shares.more)
+        ∙ ap (λ (c : ℕ). encode_utf8_all taken ++ (encode_utf8 c ++ (encode_utf8_all f ++ shares.more))) same
+        ∙ sym (behind_one taken q.0 [] (encode_utf8_all f ++ shares.more)) in
         let begun : Begins L (taken ++ q.0 ∷ []) =
-            (encode_utf8_all q.1, subst L (ap encode_utf8_all q.2 ∙ encodes-append taken (q.0 ∷ q.1) ∙ sym (behind_one taken q.0 [] (encode_utf8_all q.1))) other) in
+        (encode_utf8_all q.1, subst L (ap encode_utf8_all q.2 ∙ encodes-append taken (q.0 ∷ q.1) ∙ sym (behind_one taken q.0 [] (encode_utf8_all q.1))) other) in
         omega (arith, longest.longest (taken ++ q.0 ∷ []) (encode_utf8_all f ++ shares.more) there begun, length-append taken (q.0 ∷ []))
 
 -- where the longest front is none, no text that is the same further has one of the language
@@ -183,10 +186,14 @@ missed L all front text one others longest none shares is stops e =
     elim (splits one others shares.front shares.odd (sym e ∙ shares.others)) [
       | inl p ↦ inside p
       | inr q ↦ elim shares.enough [
-          | inl more ↦ omega (arith, more, longest.longest shares.front shares.more shares.stands
-              (encode_utf8 q.0 ++ encode_utf8_all q.1, subst L (ap encode_utf8_all q.2 ∙ encodes-append shares.front (q.0 ∷ q.1)) is))
-          | inr whole ↦ none_or_some q.0 (encode_utf8_all q.1 ++ others) (sym q.3 ∙ whole.1)
-        ]
+        | inl more ↦ omega (
+          arith,
+          more,
+          longest.longest shares.front shares.more shares.stands
+              (encode_utf8 q.0 ++ encode_utf8_all q.1, subst L (ap encode_utf8_all q.2 ∙ encodes-append shares.front (q.0 ∷ q.1)) is),
+        )
+        | inr whole ↦ none_or_some q.0 (encode_utf8_all q.1 ++ others) (sym q.3 ∙ whole.1)
+      ]
     ]
   where
     nil_is : L (encode_utf8_all one ++ [])

@@ -67,9 +67,9 @@ member_found (member ∷ members) name kind is = by (is_taken member.standing &&
   where
     named : (a b : Bool) → b ≡ (member.name == name) → (a && b) ≡ true → member.name ≡ name
     named a b e both = elim (eqb_tells member.name name) [
-        | inl tells ↦ tells.1
-        | inr tells ↦ (let wrong : false ≡ true = sym tells.0 ∙ sym e ∙ and-r a b both in absurd cc)
-      ]
+      | inl tells ↦ tells.1
+      | inr tells ↦ (let wrong : false ≡ true = sym tells.0 ∙ sym e ∙ and-r a b both in absurd cc)
+    ]
 
     by : (b : Bool) → (is_taken member.standing && member.name == name) ≡ b → (member_named members name ≡ Some kind → IsMember name kind members) → (if b then Some member.kind else member_named members name) ≡ Some kind → IsMember name kind (member ∷ members)
     by true e later is =
@@ -120,11 +120,11 @@ member_more s particles members i kind m d first old new o low named is same mar
     let one : Awaited = record { name = (get_or members i d).name; end = m } in
     let here : element_named particles (get_or members i d).name ≡ Some kind = sym named ∙ is in
     let placed : slice_get (old ++ one ∷ []) (length old) ≡ Some (record { name = (get_or members i d).name; end = mark s (get_or members i d).kind }) =
-        get_last old one ∙ ap (λ (k : ℕ). Some (record { name = (get_or members i d).name; end = k })) (marked ∙ ap (λ (k : ℕ). mark s k) same) in
+    get_last old one ∙ ap (λ (k : ℕ). Some (record { name = (get_or members i d).name; end = k })) (marked ∙ ap (λ (k : ℕ). mark s k) same) in
     subst (λ (xs : List Awaited). Awaits s particles (take (i + 1) members) first xs) (sym e) (
       all_push (IsAwaitedElement s particles) old one p.0 (kind, here, marked),
       all_take (HasMember s particles (old ++ one ∷ [])) members i d low (members_on s particles (take i members) old (one ∷ []) p.1) (λ h. (length old, placed)),
-      (p.2.0 ++ one ∷ [], ap (λ (xs : List Awaited). xs ++ one ∷ []) p.2.1 ∙ append_assoc first p.2.0 (one ∷ []))
+      (p.2.0 ++ one ∷ [], ap (λ (xs : List Awaited). xs ++ one ∷ []) p.2.1 ∙ append_assoc first p.2.0 (one ∷ [])),
     )
 
 -- ---- one more particle
@@ -132,9 +132,11 @@ member_more s particles members i kind m d first old new o low named is same mar
 pub particle_more : (s : Schema) (particles : List Particle) (i : ℕ) (d : Particle) (old new : List Awaited) → i < length particles → AllByRecursion (IsAwaitedElement s particles) new →
     HasMembers s particles (get_or particles i d).members.now new → ((more : List Awaited) × (new ≡ old ++ more)) → AllByRecursion (λ p. HasMembers s particles p.members.now old) (take i particles) →
     AllByRecursion (IsAwaitedElement s particles) new × AllByRecursion (λ p. HasMembers s particles p.members.now new) (take (i + 1) particles)
-particle_more s particles i d old new low only has kept before =
-    (only, all_take (λ p. HasMembers s particles p.members.now new) particles i d low
-      (subst (λ (xs : List Awaited). AllByRecursion (λ p. HasMembers s particles p.members.now xs) (take i particles)) (sym kept.1) (each_on s particles (take i particles) old kept.0 before)) has)
+particle_more s particles i d old new low only has kept before = (
+  only,
+  all_take (λ p. HasMembers s particles p.members.now new) particles i d low
+      (subst (λ (xs : List Awaited). AllByRecursion (λ p. HasMembers s particles p.members.now xs) (take i particles)) (sym kept.1) (each_on s particles (take i particles) old kept.0 before)) has,
+)
 
 pub all_done : {X : Type 0} (P : X → Type 0) (xs : List X) (i : ℕ) → i ≤ length xs → (i < length xs → ⊥) → AllByRecursion P (take i xs) → AllByRecursion P xs
 all_done P xs i within done all = let e : i ≡ length xs = omega (arith, within, done) in each_taken P xs (subst (λ (n : ℕ). AllByRecursion P (take n xs)) e all)

@@ -22,7 +22,7 @@ pub char_passed : (p : Option ℕ) (c d : ℕ) (r : List ℕ) (before after : Te
     MatchOption p ((before.rest.now ≡ []) × (after ≡ before)) (λ x. Passes before (x ∷ []) after) → Passes before (d ∷ []) after
 char_passed None c d r before after there same none = absurd (none_or_some c r (sym there ∙ none.0))
 char_passed (Some x) c d r before after there same passes =
-    let first = encode_same x c after.rest.now r (ap (λ (bs : List ℕ). bs ++ after.rest.now) (sym (append-nil (encode_utf8 x))) ∙ sym passes.0 ∙ there) in
+    let first = encode_same x c after.rest.now r (ap (λ (bs : List ℕ). bs ++ after.rest.now) (sym (append-nil (encode_utf8 x))) ∙ sym passes.stands ∙ there) in
     subst (λ (z : ℕ). Passes before (z ∷ []) after) (first.0 ∙ same) passes
 
 pub other_char : (c d : ℕ) (r rest : List ℕ) (before : TextCursor) → before.rest.now ≡ encode_utf8 c ++ r → (c ≡ d → ⊥) → d < 128 → before.rest.now ≡ d ∷ rest → ⊥
@@ -31,26 +31,27 @@ other_char c d r rest before there other low e = other (one_byte c d r rest low 
 -- ---- what is taken behind what is passed
 
 pub passes_on : (a b c : TextCursor) (front more : List ℕ) → Passes a front b → Passes b more c → Passes a (front ++ more) c
-passes_on a b c front more p q = (
-    p.0 ∙ ap (λ (bs : List ℕ). encode_utf8_all front ++ bs) q.0 ∙ sym (append_assoc (encode_utf8_all front) (encode_utf8_all more) c.rest.now)
-    ∙ ap (λ (bs : List ℕ). bs ++ c.rest.now) (sym (encodes-append front more)),
-    omega (arith, p.1, q.1, length-append front more)
-  )
+passes_on a b c front more p q = record {
+  stands = p.stands ∙ ap (λ (bs : List ℕ). encode_utf8_all front ++ bs) q.stands ∙ sym (append_assoc (encode_utf8_all front) (encode_utf8_all more) c.rest.now)
+      ∙ ap (λ (bs : List ℕ). bs ++ c.rest.now) (sym (encodes-append front more));
+  counted = omega (arith, p.counted, q.counted, length-append front more);
+}
 
 pub takes_behind : (s : Schema) (ahead : List ℕ) (K L : List ℕ → Type 0) (old new : Standing) (a b c : TextCursor) (event : Event) (front : List ℕ) → Passes a front b → Leads K front b.rest.now L →
     TakesNext s (ahead ++ encode_utf8_all front) L old b event new c → TakesNext s ahead K old a event new c
 takes_behind s ahead K L old new a b c event front passes leads p = record {
-    front = front ++ p.front;
-    adds = subst (λ (bs : List ℕ). Adds s old event bs new)
-        (append_assoc ahead (encode_utf8_all front) (encode_utf8_all p.front) ∙ ap (λ (bs : List ℕ). ahead ++ bs) (sym (encodes-append front p.front))) p.adds;
-    passes = passes_on a b c front p.front passes p.passes;
-    leads = leads_then K L (Completes s new) front p.front c.rest.now (subst (λ (bs : List ℕ). Leads K front bs L) p.passes.0 leads) p.leads;
-  }
+  front = front ++ p.front;
+  adds = subst (λ (bs : List ℕ). Adds s old event bs new)
+      (append_assoc ahead (encode_utf8_all front) (encode_utf8_all p.front) ∙ ap (λ (bs : List ℕ). ahead ++ bs) (sym (encodes-append front p.front))) p.adds;
+  passes = passes_on a b c front p.front passes p.passes;
+  leads = leads_then K L (Completes s new) front p.front c.rest.now (subst (λ (bs : List ℕ). Leads K front bs L) p.passes.stands leads) p.leads;
+}
 
 pub stalls_behind : (K L : List ℕ → Type 0) (a b : TextCursor) (front : List ℕ) (f : ScanFault) → Passes a front b → Leads K front b.rest.now L → ((front ≡ []) ⊎ ((text : List ℕ) × L text)) →
     StallsAt L b f → StallsAt K a f
-stalls_behind K L a b front (fault.Place place) passes leads some p =
-    (front ++ p.0,
-    subst (λ (bs : List ℕ). Stalls K bs (front ++ p.0)) (sym passes.0) (stalls_after K L front p.0 b.rest.now leads some p.1),
-    omega (arith, passes.1, p.2, length-append front p.0))
+stalls_behind K L a b front (fault.Place place) passes leads some p = (
+  front ++ p.0,
+  subst (λ (bs : List ℕ). Stalls K bs (front ++ p.0)) (sym passes.stands) (stalls_after K L front p.0 b.rest.now leads some p.1),
+  omega (arith, passes.counted, p.2, length-append front p.0),
+)
 stalls_behind K L a b front fault.Memory passes leads some p = tt

@@ -46,7 +46,7 @@ pub elements_marked : (s : Schema) (particles : List Particle) (awaited items : 
 elements_marked s particles awaited items fit only same =
     subst (λ (xs : List Awaited). AreMarked s xs) (sym same)
     (all_then (IsAwaitedElement s particles) (IsMarked s) items
-      (λ one is. ((element_fits s particles one.name is.0 fit is.1).0, subst (λ (c : ℕ). c < 128) (sym is.2) (mark_low s is.0), ap is_word_char is.2 ∙ mark_is_none s is.0)) only)
+    (λ one is. ((element_fits s particles one.name is.0 fit is.1).0, subst (λ (c : ℕ). c < 128) (sym is.2) (mark_low s is.0), ap is_word_char is.2 ∙ mark_is_none s is.0)) only)
 
 -- ---- depth
 
@@ -84,13 +84,13 @@ opened_sound s top above name kind sound is low =
 element_leads : (s : Schema) (top : OpenElement) (above : List OpenElement) (name kind : ℕ) (front rest : List ℕ) → element_of s top.kind name ≡ Some kind → IsStartText s name kind (encode_utf8_all front) →
     Leads (StartsElement s top above) front rest (Completes s (Within (opened kind top above)))
 element_leads s top above name kind front rest is start = record {
-    from = λ text new. (name, kind, encode_utf8_all front, text, is, start, new, refl);
-    to = λ text shares old.
+  from = λ text new. (name, kind, encode_utf8_all front, text, is, start, new, refl);
+  to = λ text shares old.
       let one = start_once s name old.0 kind old.1 (encode_utf8_all front) old.2 text old.3 start old.5 old.7 in
       let kinds : Some kind ≡ Some old.1 = sym is ∙ ap (λ (n : ℕ). element_of s top.kind n) one.0 ∙ old.4 in
       let same : old.1 ≡ kind = cc in
       subst (λ (t : List ℕ). Completes s (Within (opened kind top above)) t) (sym one.1) (subst (λ (k : ℕ). Completes s (Within (opened k top above)) old.3) same old.6);
-  }
+}
 
 pub element_answer : (s : Schema) (elements filled pushed : List OpenElement) (top : OpenElement) (particles : List Particle) (awaited items : List Awaited) (i kind : ℕ) (one : Awaited) (a b : TextCursor) (o : Option ℕ) (above : List OpenElement) →
     AllByRecursion (IsAwaitedElement s particles) items → awaited ≡ items → NameTaken s awaited a b i → slice_get items i ≡ Some one → o ≡ element_named particles one.name → o ≡ Some kind →
@@ -105,17 +105,17 @@ element_answer s elements filled pushed top particles awaited items i kind one a
     let kind_is : right.0 ≡ kind = cc in
     let named : element_of s top.kind one.name ≡ Some kind = of_kind one.name ∙ sym e ∙ is in
     let text : IsAwaitedText s (record { name = one.name; end = mark s kind }) (encode_utf8_all p.0) =
-        subst (λ (c : ℕ). IsAwaitedText s (record { name = one.name; end = c }) (encode_utf8_all p.0)) (right.2 ∙ ap (λ (k : ℕ). mark s k) kind_is) (subst (λ (x : Awaited). IsAwaitedText s x (encode_utf8_all p.0)) chosen p.4) in
+    subst (λ (c : ℕ). IsAwaitedText s (record { name = one.name; end = c }) (encode_utf8_all p.0)) (right.2 ∙ ap (λ (k : ℕ). mark s k) kind_is) (subst (λ (x : Awaited). IsAwaitedText s x (encode_utf8_all p.0)) chosen p.4) in
     let start = awaited_start s one.name kind (encode_utf8_all p.0) text in
     let made : pushed ≡ opened kind top above = push ∙ ap (λ (xs : List OpenElement). element kind fills.Nothing ∷ xs) (fill top above has) in
     subst (λ (x : List OpenElement). TakesNext s (gap top.filling) (StartsElement s top above) (Within elements) a (Start one.name) (Within x) b) (sym made)
     (subst (λ (x : List OpenElement). TakesNext s (gap top.filling) (StartsElement s top above) (Within x) a (Start one.name) (Within (opened kind top above)) b) (sym has)
-      (record {
-        front = p.0;
-        adds = (kind, encode_utf8_all p.0, named, start, refl, refl);
-        passes = p.2.passed;
-        leads = element_leads s top above one.name kind p.0 b.rest.now named start;
-      }))
+    (record {
+      front = p.0;
+      adds = (kind, encode_utf8_all p.0, named, start, refl, refl);
+      passes = p.2.passed;
+      leads = element_leads s top above one.name kind p.0 b.rest.now named start;
+    }))
 
 pub element_known : (s : Schema) (particles : List Particle) (items : List Awaited) (i : ℕ) (one : Awaited) (o : Option ℕ) → AllByRecursion (IsAwaitedElement s particles) items → slice_get items i ≡ Some one → o ≡ element_named particles one.name →
     (kind : ℕ) × (o ≡ Some kind)
@@ -137,31 +137,32 @@ pub element_stalls : (s : Schema) (top : OpenElement) (above : List OpenElement)
 element_stalls s top above particles awaited items a f sound fit of_kind only each same p =
     stalls_named s awaited (StartsElement s top above) a f (elements_marked s particles awaited items fit only same)
     (λ text is.
-      let right = all_at (IsAwaitedElement s particles) items is.0 is.1 only (ap (λ (xs : List Awaited). slice_get xs is.0) (sym same) ∙ is.2) in
-      let named : element_of s top.kind is.1.name ≡ Some right.0 = of_kind is.1.name ∙ right.1 in
-      let low = (element_fits s particles is.1.name right.0 fit right.1).1 in
-      let some = completes_all s (opened right.0 top above) (opened_sound s top above is.1.name right.0 sound named low).0 in
-      let marked : IsAwaitedText s (record { name = is.1.name; end = mark s right.0 }) text = subst (λ (c : ℕ). IsAwaitedText s (record { name = is.1.name; end = c }) text) right.2 is.3 in
-      (some.0, (is.1.name, right.0, text, some.0, named, awaited_start s is.1.name right.0 text marked, some.1, refl)))
+    let right = all_at (IsAwaitedElement s particles) items is.0 is.1 only (ap (λ (xs : List Awaited). slice_get xs is.0) (sym same) ∙ is.2) in
+    let named : element_of s top.kind is.1.name ≡ Some right.0 = of_kind is.1.name ∙ right.1 in
+    let low = (element_fits s particles is.1.name right.0 fit right.1).1 in
+    let some = completes_all s (opened right.0 top above) (opened_sound s top above is.1.name right.0 sound named low).0 in
+    let marked : IsAwaitedText s (record { name = is.1.name; end = mark s right.0 }) text = subst (λ (c : ℕ). IsAwaitedText s (record { name = is.1.name; end = c }) text) right.2 is.3 in
+    (some.0, (is.1.name, right.0, text, some.0, named, awaited_start s is.1.name right.0 text marked, some.1, refl)))
     (λ text q.
-      let there = each q.0 q.1 (sym (of_kind q.0) ∙ q.4) in
-      (q.2, q.3, (there.0, record { name = q.0; end = mark s q.1 }, ap (λ (xs : List Awaited). slice_get xs there.0) same ∙ there.1, start_awaited s q.0 q.1 q.2 q.5), q.7))
+    let there = each q.0 q.1 (sym (of_kind q.0) ∙ q.4) in
+    (q.2, q.3, (there.0, record { name = q.0; end = mark s q.1 }, ap (λ (xs : List Awaited). slice_get xs there.0) same ∙ there.1, start_awaited s q.0 q.1 q.2 q.5), q.7))
     p
 
 -- where no element may stand, none follows
 pub element_none : (s : Schema) (top : OpenElement) (above : List OpenElement) (particles : List Particle) (items : List Awaited) (a : TextCursor) → ((name : ℕ) → element_of s top.kind name ≡ element_named particles name) → HasElements s particles items →
     length items ≡ 0 → StallsAt (StartsElement s top above) a (fault.Place a.place)
-element_none s top above particles items a of_kind each none =
-    ([],
-    record {
-      more = a.rest.now;
-      stands = refl;
-      begins = inl refl;
-      none_further = λ text shares q.
+element_none s top above particles items a of_kind each none = (
+  [],
+  record {
+    more = a.rest.now;
+    stands = refl;
+    begins = inl refl;
+    none_further = λ text shares q.
         let there = each q.0 q.1 (sym (of_kind q.0) ∙ q.4) in
         let low = slice_get_within items there.0 (record { name = q.0; end = mark s q.1 }) there.1 in omega (arith, low, none);
-    },
-    omega arith)
+  },
+  omega arith,
+)
 
 pub taken_within : (s : Schema) (awaited items : List Awaited) (i : ℕ) (a b : TextCursor) → awaited ≡ items → NameTaken s awaited a b i → i < length items
 taken_within s awaited items i a b same p = slice_get_within items i p.1 (ap (λ (xs : List Awaited). slice_get xs i) (sym same) ∙ p.3)

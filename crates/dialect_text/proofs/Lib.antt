@@ -16,3 +16,5 @@ pub mod Starts
 pub mod ElementStarts
 pub mod PartsOf
 pub mod Whole
+pub mod LowKinds
+pub mod Scans

@@ -48,10 +48,11 @@ marked_text s one text low p = (p.0, p.1, p.2 ∙ ap (λ (bs : List ℕ). p.0 ++
 pub awaited_chars : (s : Schema) (awaited : List Awaited) (text : List ℕ) → AreMarked s awaited → IsAnyAwaited s awaited text → (cs : List ℕ) × (text ≡ encode_utf8_all cs)
 awaited_chars s awaited text marked p =
     let is = all_at (λ one. (one.name < length s.names.now) × (one.end < 128) × (is_word_char one.end ≡ false)) awaited p.0 p.1 marked p.2 in
-    let plain = marked_text s p.1 text is.1 p.3 in
-    (plain.0 ++ p.1.end ∷ [],
-    plain.2 ∙ ap₂ (λ (bs cs : List ℕ). bs ++ cs) (sym (word_chars plain.0 (name_word s p.1.name plain.0 plain.1).1)) (sym (encode_ascii p.1.end is.1) ∙ sym (append-nil (encode_utf8 p.1.end)))
-    ∙ sym (encodes-append plain.0 (p.1.end ∷ [])))
+    let plain = marked_text s p.1 text is.1 p.3 in (
+      plain.0 ++ p.1.end ∷ [],
+      plain.2 ∙ ap₂ (λ (bs cs : List ℕ). bs ++ cs) (sym (word_chars plain.0 (name_word s p.1.name plain.0 plain.1).1)) (sym (encode_ascii p.1.end is.1) ∙ sym (append-nil (encode_utf8 p.1.end)))
+          ∙ sym (encodes-append plain.0 (p.1.end ∷ [])),
+    )
 
 -- no awaited text begins another
 pub awaited_stops : (s : Schema) (awaited : List Awaited) (front rest : List ℕ) → AreMarked s awaited → IsAnyAwaited s awaited (encode_utf8_all front) → Stops (IsAnyAwaited s awaited) front rest
@@ -62,7 +63,7 @@ awaited_stops s awaited front rest marked p c more after e q =
     let a = marked_text s p.1 (encode_utf8_all front) is.1 p.3 in
     let b = marked_text s q.1 (encode_utf8_all front ++ (encode_utf8 c ++ after)) other.1 q.3 in
     let split = words_split a.0 b.0 p.1.end q.1.end (encode_utf8 c ++ after) [] (name_word s p.1.name a.0 a.1).1 (name_word s q.1.name b.0 b.1).1 is.2 other.2
-        (sym (append_assoc a.0 (p.1.end ∷ []) (encode_utf8 c ++ after)) ∙ ap (λ (bs : List ℕ). bs ++ (encode_utf8 c ++ after)) (sym a.2) ∙ b.2) in
+    (sym (append_assoc a.0 (p.1.end ∷ []) (encode_utf8 c ++ after)) ∙ ap (λ (bs : List ℕ). bs ++ (encode_utf8 c ++ after)) (sym a.2) ∙ b.2) in
     none_or_some c after split.2
 
 -- a language whose texts begin with one that is awaited, each of which begins one
@@ -72,18 +73,19 @@ pub stalls_named : (s : Schema) (awaited : List Awaited) (K : List ℕ → Type 
     MissesAt (IsAnyAwaited s awaited) a f → StallsAt K a f
 stalls_named s awaited K a (fault.Place place) marked from to p =
     let longest : IsLongest (IsAnyAwaited s awaited) a.rest.now p.0 = p.1 in
-    let some = from (encode_utf8_all p.0 ++ longest.begins.0) longest.begins.1 in
-    (p.0,
-    record {
-      more = longest.rest;
-      stands = longest.stands;
-      begins = inr (longest.begins.0 ++ some.0, subst K (append_assoc (encode_utf8_all p.0) longest.begins.0 some.0) some.1);
-      none_further = λ text shares is.
-        let split = to text is in
-        let chars = awaited_chars s awaited split.0 marked split.2 in
-        let one : IsAnyAwaited s awaited (encode_utf8_all chars.0) = subst (IsAnyAwaited s awaited) chars.1 split.2 in
-        missed (IsAnyAwaited s awaited) a.rest.now p.0 text chars.0 split.1 longest p.2 shares one (awaited_stops s awaited chars.0 split.1 marked one)
-        (split.3 ∙ ap (λ (bs : List ℕ). bs ++ split.1) chars.1);
-    },
-    p.3)
+    let some = from (encode_utf8_all p.0 ++ longest.begins.0) longest.begins.1 in (
+      p.0,
+      record {
+        more = longest.rest;
+        stands = longest.stands;
+        begins = inr (longest.begins.0 ++ some.0, subst K (append_assoc (encode_utf8_all p.0) longest.begins.0 some.0) some.1);
+        none_further = λ text shares is.
+            let split = to text is in
+            let chars = awaited_chars s awaited split.0 marked split.2 in
+            let one : IsAnyAwaited s awaited (encode_utf8_all chars.0) = subst (IsAnyAwaited s awaited) chars.1 split.2 in
+            missed (IsAnyAwaited s awaited) a.rest.now p.0 text chars.0 split.1 longest p.2 shares one (awaited_stops s awaited chars.0 split.1 marked one)
+            (split.3 ∙ ap (λ (bs : List ℕ). bs ++ split.1) chars.1);
+      },
+      p.3,
+    )
 stalls_named s awaited K a fault.Memory marked from to p = tt

@@ -43,7 +43,7 @@ start_behind word m text rest e = ap (λ (bs : List ℕ). bs ++ rest) e ∙ appe
 pub start_once : (s : Schema) (name other kind odd : ℕ) (t u x y : List ℕ) → IsStartText s name kind t → IsStartText s other odd u → t ++ x ≡ u ++ y → (name ≡ other) × (x ≡ y)
 start_once s name other kind odd t u x y p q e =
     let split = words_split p.0 q.0 (mark s kind) (mark s odd) x y (name_word s name p.0 p.1).1 (name_word s other q.0 q.1).1 (mark_is_none s kind) (mark_is_none s odd)
-        (sym (start_behind p.0 (mark s kind) t x p.2) ∙ e ∙ start_behind q.0 (mark s odd) u y q.2) in
+    (sym (start_behind p.0 (mark s kind) t x p.2) ∙ e ∙ start_behind q.0 (mark s odd) u y q.2) in
     (one_name s name other p.0 p.1 (subst (λ (w : List ℕ). IsName s other w) (sym split.0) q.1), split.2)
 
 -- the start of an element begins with no sign and no brace
@@ -271,8 +271,8 @@ goes_once s standing [] (f ∷ fs) text nested p q = absurd (none_behind s stand
 goes_once s standing (e ∷ es) [] text nested p q = absurd (none_behind s standing p.0 e p.1 q.1 p.3)
 goes_once s standing (e ∷ es) (f ∷ fs) text nested p q =
     let one = event_once s standing p.0 q.0 e f p.1 q.1 p.2 q.2
-        (λ valued other. value_once_behind s p.2 q.2 (ends_behind s standing p.0 e es p.1 p.2 valued nested p.3 p.4) (ends_behind s standing q.0 f fs q.1 q.2 other nested q.3 q.4))
-        p.3 q.3 (sym p.5 ∙ q.5) in
+    (λ valued other. value_once_behind s p.2 q.2 (ends_behind s standing p.0 e es p.1 p.2 valued nested p.3 p.4) (ends_behind s standing q.0 f fs q.1 q.2 other nested q.3 q.4))
+    p.3 q.3 (sym p.5 ∙ q.5) in
     let rest : Goes s p.0 fs p.2 = subst (λ (x : List ℕ). Goes s p.0 fs x) (sym one.2) (subst (λ (x : Standing). Goes s x fs q.2) (sym one.1) q.4) in
     ap₂ (λ (x : Event) (xs : List Event). x ∷ xs) one.0 (goes_once s p.0 es fs p.2 (nested_on s standing p.0 e p.1 p.3 nested) p.4 rest)
 
@@ -280,5 +280,5 @@ goes_once s standing (e ∷ es) (f ∷ fs) text nested p q =
 pub one_list : (s : Schema) (a b : List Event) (text : List ℕ) → IsDialectText s a text → IsDialectText s b text → a ≡ b
 one_list s a b text p q =
     let whole : (events : List Event) → IsDialectText s events text → Goes s Before (onto events []) text =
-        λ events is. subst (λ (t : List ℕ). Goes s Before (onto events []) t) (append-nil text) (goes_before s events [] text [] (Within []) is (refl, refl)) in
+    λ events is. subst (λ (t : List ℕ). Goes s Before (onto events []) t) (append-nil text) (goes_before s events [] text [] (Within []) is (refl, refl)) in
     onto_once a b (goes_once s Before (onto a []) (onto b []) text tt (whole a p) (whole b q))

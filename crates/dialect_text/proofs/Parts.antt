@@ -45,9 +45,9 @@ use Rattle.dialect_text.proofs.Words.{name_word, words_split, one_name, IsWordTe
 
 pub leads_plain : (s : Schema) (old new : Standing) (e : Event) (front rest : List ℕ) → (IsValued e → ⊥) → Adds s old e (encode_utf8_all front) new → Leads (Completes s old) front rest (Completes s new)
 leads_plain s old new e front rest plain adds = record {
-    from = λ text p. (e ∷ p.0, (new, encode_utf8_all front, text, adds, p.1, refl));
-    to = λ text shares p. first p.0 text p.1;
-  }
+  from = λ text p. (e ∷ p.0, (new, encode_utf8_all front, text, adds, p.1, refl));
+  to = λ text shares p. first p.0 text p.1;
+}
   where
     first : (es : List Event) (text : List ℕ) → Goes s old es (encode_utf8_all front ++ text) → Completes s new text
     first [] text goes = absurd (ended old goes.1 adds)
@@ -79,7 +79,7 @@ pub takes_root : (s : Schema) (i : ℕ) (root : RootOf) (front : List ℕ) (a b 
     TakesNext s [] (Completes s Before) Before a (Document root.number) (AtRoot root.name root.kind) b
 takes_root s i root front a b at named passes =
     let adds : Adds s Before (Document root.number) (encode_utf8_all front) (AtRoot root.name root.kind) =
-        (root.name, root.kind, (i, at), awaited_start s root.name root.kind (encode_utf8_all front) named, refl) in
+    (root.name, root.kind, (i, at), awaited_start s root.name root.kind (encode_utf8_all front) named, refl) in
     record {
       front = front;
       adds = adds;
@@ -127,21 +127,21 @@ value_ends s kind f above some nested text p = completes_some s (element kind f)
 
 leads_from : (K L M : List ℕ → Type 0) (front rest : List ℕ) → ((text : List ℕ) → K text → L text) → ((text : List ℕ) → L text → K text) → Leads L front rest M → Leads K front rest M
 leads_from K L M front rest to from p = record {
-    from = λ text new. from (encode_utf8_all front ++ text) (p.from text new);
-    to = λ text shares old. p.to text shares (to (encode_utf8_all front ++ text) old);
-  }
+  from = λ text new. from (encode_utf8_all front ++ text) (p.from text new);
+  to = λ text shares old. p.to text shares (to (encode_utf8_all front ++ text) old);
+}
 
 stalls_from : (K L : List ℕ → Type 0) (a : TextCursor) (f : ScanFault) → ((text : List ℕ) → K text → L text) → ((text : List ℕ) → L text → K text) → StallsAt L a f → StallsAt K a f
 stalls_from K L a (fault.Place place) to from p = (
-    p.0,
-    record {
-      more = p.1.more;
-      stands = p.1.stands;
-      begins = elim p.1.begins [ inl none ↦ inl none | inr one ↦ inr (one.0, from (encode_utf8_all p.0 ++ one.0) one.1) ];
-      none_further = λ text shares is. p.1.none_further text shares (to text is);
-    },
-    p.2
-  )
+  p.0,
+  record {
+    more = p.1.more;
+    stands = p.1.stands;
+    begins = elim p.1.begins [ inl none ↦ inl none | inr one ↦ inr (one.0, from (encode_utf8_all p.0 ++ one.0) one.1) ];
+    none_further = λ text shares is. p.1.none_further text shares (to text is);
+  },
+  p.2,
+)
 stalls_from K L a fault.Memory to from p = tt
 
 pub takes_content : (s : Schema) (top : OpenElement) (above : List OpenElement) (v : Value) (a b : TextCursor) → top.filling ≡ fills.Nothing → IsNested (Within (top ∷ above)) → TakesValueOf s top.kind v a b →
@@ -189,8 +189,8 @@ pub roots_marked : (s : Schema) (awaited items : List Awaited) → items ≡ map
 roots_marked s awaited items made same =
     subst (λ (xs : List Awaited). AreMarked s xs) (sym (same ∙ made))
     (all_map (IsMarked s) (awaited_root s) s.roots.now (roots_from s s.roots.now (λ i root at.
-      let low = root_name s root.number root.name root.kind (i, at) in
-      let n : length (map (λ t. t.now) s.names.now) ≡ length s.names.now = length-map s.names.now (λ t. t.now) in omega (arith, low, n))))
+    let low = root_name s root.number root.name root.kind (i, at) in
+    let n : length (map (λ t. t.now) s.names.now) ≡ length s.names.now = length-map s.names.now (λ t. t.now) in omega (arith, low, n))))
 
 pub root_at : (s : Schema) (awaited items : List Awaited) (i : ℕ) (one : Awaited) → items ≡ map (awaited_root s) s.roots.now → awaited ≡ items → slice_get awaited i ≡ Some one → (root : RootOf) × (slice_get s.roots.now i ≡ Some root) × (awaited_root s root ≡ one)
 root_at s awaited items i one made same at = map_get (awaited_root s) s.roots.now i one (ap (λ (xs : List Awaited). slice_get xs i) (sym (same ∙ made)) ∙ at)
@@ -231,9 +231,11 @@ pub root_stalls : (s : Schema) (awaited items : List Awaited) (a : TextCursor) (
 root_stalls s awaited items a f made same p =
     stalls_named s awaited (Completes s Before) a f (roots_marked s awaited items made same)
     (λ text is. let found = root_at s awaited items is.0 is.1 made same is.2 in
-      root_on s is.0 found.0 text found.1 (subst (λ (x : Awaited). IsAwaitedText s x text) (sym found.2) is.3))
-    (λ text q. let one = first_root s text q.0 q.1 in
-      (one.2, one.3,
-        (one.0, awaited_root s one.1, ap (λ (xs : List Awaited). slice_get xs one.0) (same ∙ made) ∙ get_map (awaited_root s) s.roots.now one.0 one.1 one.4, start_awaited s one.1.name one.1.kind one.2 one.5),
-        one.6))
+    root_on s is.0 found.0 text found.1 (subst (λ (x : Awaited). IsAwaitedText s x text) (sym found.2) is.3))
+    (λ text q. let one = first_root s text q.0 q.1 in (
+      one.2,
+      one.3,
+      (one.0, awaited_root s one.1, ap (λ (xs : List Awaited). slice_get xs one.0) (same ∙ made) ∙ get_map (awaited_root s) s.roots.now one.0 one.1 one.4, start_awaited s one.1.name one.1.kind one.2 one.5),
+      one.6,
+    ))
     p

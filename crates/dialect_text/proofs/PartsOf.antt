@@ -48,26 +48,29 @@ attributes_fit s [] all = tt
 attributes_fit s (one ∷ attributes) all =
     let n = length s.names.now in
     let first = and-l (is_attribute n s.kinds.now one) (list_all (is_attribute n s.kinds.now) attributes) all in
-    let simple = and-r (nat_lt one.name n) (is_simple (slice_get s.kinds.now one.kind)) first in
-    ((omega (arith, ltb-true one.name n (and-l (nat_lt one.name n) (is_simple (slice_get s.kinds.now one.kind)) first)), simple_within s.kinds.now one.kind simple, simple_is (slice_get s.kinds.now one.kind) simple),
-    attributes_fit s attributes (and-r (is_attribute n s.kinds.now one) (list_all (is_attribute n s.kinds.now) attributes) all))
+    let simple = and-r (nat_lt one.name n) (is_simple (slice_get s.kinds.now one.kind)) first in (
+      (omega (arith, ltb-true one.name n (and-l (nat_lt one.name n) (is_simple (slice_get s.kinds.now one.kind)) first)), simple_within s.kinds.now one.kind simple, simple_is (slice_get s.kinds.now one.kind) simple),
+      attributes_fit s attributes (and-r (is_attribute n s.kinds.now one) (list_all (is_attribute n s.kinds.now) attributes) all),
+    )
 
 members_fit : (s : Schema) (members : List Member) → list_all (λ member. nat_lt member.name (length s.names.now) && nat_lt member.kind (length s.kinds.now)) members ≡ true → AllByRecursion (FitsMember s) members
 members_fit s [] all = tt
 members_fit s (one ∷ members) all =
     let n = length s.names.now in
     let test : Member → Bool = λ member. nat_lt member.name n && nat_lt member.kind (length s.kinds.now) in
-    let first = and-l (test one) (list_all test members) all in
-    ((omega (arith, ltb-true one.name n (and-l (nat_lt one.name n) (nat_lt one.kind (length s.kinds.now)) first)), ltb-true one.kind (length s.kinds.now) (and-r (nat_lt one.name n) (nat_lt one.kind (length s.kinds.now)) first)),
-    members_fit s members (and-r (test one) (list_all test members) all))
+    let first = and-l (test one) (list_all test members) all in (
+      (omega (arith, ltb-true one.name n (and-l (nat_lt one.name n) (nat_lt one.kind (length s.kinds.now)) first)), ltb-true one.kind (length s.kinds.now) (and-r (nat_lt one.name n) (nat_lt one.kind (length s.kinds.now)) first)),
+      members_fit s members (and-r (test one) (list_all test members) all),
+    )
 
 particles_fit : (s : Schema) (particles : List Particle) → list_all (is_particle (length s.names.now) (length s.kinds.now)) particles ≡ true → AllByRecursion (FitsParticle s) particles
 particles_fit s [] all = tt
 particles_fit s (one ∷ particles) all =
     let n = length s.names.now in
-    let first = and-l (is_particle n (length s.kinds.now) one) (list_all (is_particle n (length s.kinds.now)) particles) all in
-    (members_fit s one.members.now (and-r _ (list_all (λ member. nat_lt member.name n && nat_lt member.kind (length s.kinds.now)) one.members.now) first),
-    particles_fit s particles (and-r (is_particle n (length s.kinds.now) one) (list_all (is_particle n (length s.kinds.now)) particles) all))
+    let first = and-l (is_particle n (length s.kinds.now) one) (list_all (is_particle n (length s.kinds.now)) particles) all in (
+      members_fit s one.members.now (and-r _ (list_all (λ member. nat_lt member.name n && nat_lt member.kind (length s.kinds.now)) one.members.now) first),
+      particles_fit s particles (and-r (is_particle n (length s.kinds.now) one) (list_all (is_particle n (length s.kinds.now)) particles) all),
+    )
 
 pub complex_attributes : (s : Schema) (kind : ℕ) (attributes : _) (particles : _) → slice_get s.kinds.now kind ≡ Some (Complex attributes particles) → AllByRecursion (FitsAttribute s) attributes.now
 complex_attributes s kind attributes particles is = attributes_fit s attributes.now (complex_in s kind attributes particles is).attributes_fit
@@ -95,9 +98,10 @@ shares_first rest text z b low s e = by s.front s.stands s.others s.enough
     by [] p q (inl some) = absurd (omega (arith, some))
     by [] p q (inr none) = let wrong : [] ≡ b ∷ z = sym none.1 ∙ sym q ∙ e in absurd cc
     by (c ∷ f) p q enough =
-        let same = (one_byte c b (encode_utf8_all f ++ s.odd) z low (sym (append_assoc (encode_utf8 c) (encode_utf8_all f) s.odd) ∙ sym q ∙ e)).0 in
-        (encode_utf8_all f ++ s.more,
-        p ∙ append_assoc (encode_utf8 c) (encode_utf8_all f) s.more ∙ ap (λ (n : ℕ). encode_utf8 n ++ (encode_utf8_all f ++ s.more)) same ∙ ap (λ (bs : List ℕ). bs ++ (encode_utf8_all f ++ s.more)) (encode_ascii b low))
+        let same = (one_byte c b (encode_utf8_all f ++ s.odd) z low (sym (append_assoc (encode_utf8 c) (encode_utf8_all f) s.odd) ∙ sym q ∙ e)).0 in (
+          encode_utf8_all f ++ s.more,
+          p ∙ append_assoc (encode_utf8 c) (encode_utf8_all f) s.more ∙ ap (λ (n : ℕ). encode_utf8 n ++ (encode_utf8_all f ++ s.more)) same ∙ ap (λ (bs : List ℕ). bs ++ (encode_utf8_all f ++ s.more)) (encode_ascii b low),
+        )
 
 pub one_char : (b : ℕ) → b < 128 → encode_utf8_all (b ∷ []) ≡ b ∷ []
 one_char b low = append-nil (encode_utf8 b) ∙ encode_ascii b low
@@ -112,19 +116,19 @@ gap_chars fills.Value = one_char 32 (omega arith)
 
 pub part_attribute : (s : Schema) (top : OpenElement) (above : List OpenElement) (rest : List ℕ) → IsBeforeElements top.filling → Leads (StartsPart s top above) (64 ∷ []) rest (StartsAttribute s top above)
 part_attribute s top above rest before = record {
-    from = λ text new. inr (before, text, new, ap (λ (bs : List ℕ). bs ++ text) (one_char 64 (omega arith)));
-    to = λ text shares old. elim old [
-      | inl p ↦ absurd (start_first s p.0 p.1 p.2 p.3 text 64 p.5 refl (sym p.7 ∙ ap (λ (bs : List ℕ). bs ++ text) (one_char 64 (omega arith))))
-      | inr q ↦ subst (StartsAttribute s top above) (tails_same 64 q.1 text (sym q.3 ∙ ap (λ (bs : List ℕ). bs ++ text) (one_char 64 (omega arith)))) q.2
-    ];
-  }
+  from = λ text new. inr (before, text, new, ap (λ (bs : List ℕ). bs ++ text) (one_char 64 (omega arith)));
+  to = λ text shares old. elim old [
+    | inl p ↦ absurd (start_first s p.0 p.1 p.2 p.3 text 64 p.5 refl (sym p.7 ∙ ap (λ (bs : List ℕ). bs ++ text) (one_char 64 (omega arith))))
+    | inr q ↦ subst (StartsAttribute s top above) (tails_same 64 q.1 text (sym q.3 ∙ ap (λ (bs : List ℕ). bs ++ text) (one_char 64 (omega arith)))) q.2
+  ];
+}
 
 pub part_element : (s : Schema) (top : OpenElement) (above : List OpenElement) (rest : List ℕ) → ((text r : List ℕ) → Shares 0 rest text → IsBeforeElements top.filling → StartsAttribute s top above r → text ≡ 64 ∷ r → ⊥) →
     Leads (StartsPart s top above) [] rest (StartsElement s top above)
 part_element s top above rest none = record {
-    from = λ text new. inl new;
-    to = λ text shares old. elim old [ inl p ↦ p | inr q ↦ absurd (none text q.1 shares q.0 q.2 q.3) ];
-  }
+  from = λ text new. inl new;
+  to = λ text shares old. elim old [ inl p ↦ p | inr q ↦ absurd (none text q.1 shares q.0 q.2 q.3) ];
+}
 
 name_in : (texts : List (List ℕ)) (i : ℕ) → i < length texts → (word : List ℕ) × (slice_get texts i ≡ Some word)
 name_in [] i low = absurd (omega (arith, low))
@@ -184,11 +188,11 @@ no_attributes s top above attributes particles a is none text r shares before p 
 pub behind_none : (s : Schema) (elements new : List OpenElement) (top : OpenElement) (above : List OpenElement) (event : Event) (a b c : TextCursor) → b ≡ a → NoAttribute s top above a →
     TakesNext s (gap top.filling) (StartsElement s top above) (Within elements) b event (Within new) c → TakesNext s (gap top.filling) (StartsPart s top above) (Within elements) a event (Within new) c
 behind_none s elements new top above event a b c same none p =
-    takes_behind s (gap top.filling) (StartsPart s top above) (StartsElement s top above) (Within elements) (Within new) a a c event [] (refl, omega arith) (part_element s top above a.rest.now none)
+    takes_behind s (gap top.filling) (StartsPart s top above) (StartsElement s top above) (Within elements) (Within new) a a c event [] (record { stands = refl; counted = omega arith }) (part_element s top above a.rest.now none)
     (subst (λ (x : List ℕ). TakesNext s x (StartsElement s top above) (Within elements) a event (Within new) c) (sym (append-nil (gap top.filling)))
     (subst (λ (x : TextCursor). TakesNext s (gap top.filling) (StartsElement s top above) (Within elements) x event (Within new) c) same p))
 
 pub stalls_behind_none : (s : Schema) (top : OpenElement) (above : List OpenElement) (a b : TextCursor) (f : ScanFault) → b ≡ a → NoAttribute s top above a → StallsAt (StartsElement s top above) b f → StallsAt (StartsPart s top above) a f
 stalls_behind_none s top above a b f same none p =
-    stalls_behind (StartsPart s top above) (StartsElement s top above) a a [] f (refl, omega arith) (part_element s top above a.rest.now none) (inl refl)
+    stalls_behind (StartsPart s top above) (StartsElement s top above) a a [] f (record { stands = refl; counted = omega arith }) (part_element s top above a.rest.now none) (inl refl)
     (subst (λ (x : TextCursor). StallsAt (StartsElement s top above) x f) same p)

@@ -57,12 +57,12 @@ spelling c =
     elim (eqb_tells c 34) [
       | inl is ↦ behind (inl is.1) (if_true (c == 34) (codes "\\\"") _ is.0 ∙ ap (λ (n : ℕ). 92 ∷ n ∷ []) (sym is.1))
       | inr isnt ↦ elim (eqb_tells c 92) [
-          | inl is ↦ behind (inr is.1) (if_false (c == 34) (codes "\\\"") _ isnt.0 ∙ if_true (c == 92) (codes "\\\\") _ is.0 ∙ ap (λ (n : ℕ). 92 ∷ n ∷ []) (sym is.1))
-          | inr other ↦ elim (leb_tells (suc c) 32) [
-              | inl low ↦ numbered low.1 (if_false (c == 34) (codes "\\\"") _ isnt.0 ∙ if_false (c == 92) (codes "\\\\") _ other.0 ∙ if_true (nat_lt c 32) (codes "\\u{" ++ digits 16 false c ++ codes "}") _ low.0)
-              | inr high ↦ plain isnt.1 other.1 (if_false (c == 34) (codes "\\\"") _ isnt.0 ∙ if_false (c == 92) (codes "\\\\") _ other.0 ∙ if_false (nat_lt c 32) (codes "\\u{" ++ digits 16 false c ++ codes "}") _ high.0)
-            ]
+        | inl is ↦ behind (inr is.1) (if_false (c == 34) (codes "\\\"") _ isnt.0 ∙ if_true (c == 92) (codes "\\\\") _ is.0 ∙ ap (λ (n : ℕ). 92 ∷ n ∷ []) (sym is.1))
+        | inr other ↦ elim (leb_tells (suc c) 32) [
+          | inl low ↦ numbered low.1 (if_false (c == 34) (codes "\\\"") _ isnt.0 ∙ if_false (c == 92) (codes "\\\\") _ other.0 ∙ if_true (nat_lt c 32) (codes "\\u{" ++ digits 16 false c ++ codes "}") _ low.0)
+          | inr high ↦ plain isnt.1 other.1 (if_false (c == 34) (codes "\\\"") _ isnt.0 ∙ if_false (c == 92) (codes "\\\\") _ other.0 ∙ if_false (nat_lt c 32) (codes "\\u{" ++ digits 16 false c ++ codes "}") _ high.0)
         ]
+      ]
     ]
 
 -- a text that begins with one character begins with no other
@@ -85,7 +85,7 @@ once_by c d s t x y (numbered low e) (numbered small f) h =
     let same : 92 ∷ 117 ∷ 123 ∷ (digits 16 false c ++ 125 ∷ []) ++ x ≡ 92 ∷ 117 ∷ 123 ∷ (digits 16 false d ++ 125 ∷ []) ++ y = ap (λ (bs : List ℕ). bs ++ x) (sym e) ∙ h ∙ ap (λ (bs : List ℕ). bs ++ y) f in
     let tails : (digits 16 false c ++ 125 ∷ []) ++ x ≡ (digits 16 false d ++ 125 ∷ []) ++ y = cc in
     let split = words_split (digits 16 false c) (digits 16 false d) 125 125 x y (hex_words c low) (hex_words d small) refl refl
-        (sym (append_assoc (digits 16 false c) (125 ∷ []) x) ∙ tails ∙ append_assoc (digits 16 false d) (125 ∷ []) y) in
+    (sym (append_assoc (digits 16 false c) (125 ∷ []) x) ∙ tails ∙ append_assoc (digits 16 false d) (125 ∷ []) y) in
     (hex_once c d low small split.0, split.2)
 once_by c d s t x y (numbered low e) (plain m n f) h =
     let same : encode_utf8 d ++ y ≡ 92 ∷ (117 ∷ 123 ∷ digits 16 false c ++ 125 ∷ []) ++ x = ap (λ (bs : List ℕ). bs ++ y) (sym f) ∙ sym h ∙ ap (λ (bs : List ℕ). bs ++ x) e in
@@ -121,7 +121,7 @@ inside_once [] (d ∷ b) x y e = absurd (no_quote d (flat_map character_text b +
 inside_once (c ∷ a) [] x y e = absurd (no_quote c (flat_map character_text a ++ 34 ∷ x) y (sym (append_assoc (character_text c) (flat_map character_text a) (34 ∷ x)) ∙ e))
 inside_once (c ∷ a) (d ∷ b) x y e =
     let firsts = character_once c d (flat_map character_text a ++ 34 ∷ x) (flat_map character_text b ++ 34 ∷ y)
-        (sym (append_assoc (character_text c) (flat_map character_text a) (34 ∷ x)) ∙ e ∙ append_assoc (character_text d) (flat_map character_text b) (34 ∷ y)) in
+    (sym (append_assoc (character_text c) (flat_map character_text a) (34 ∷ x)) ∙ e ∙ append_assoc (character_text d) (flat_map character_text b) (34 ∷ y)) in
     let more = inside_once a b x y firsts.1 in
     (ap₂ (λ (n : ℕ) (ns : List ℕ). n ∷ ns) firsts.0 more.0, more.1)
 
@@ -145,12 +145,12 @@ low_ahead b x y low e = ap₂ (λ (bs cs : List ℕ). bs ++ cs) (sym (encode_asc
 chars_by : (c : ℕ) (s : List ℕ) → Spelling c s → (cs : List ℕ) × (s ≡ encode_utf8_all cs)
 chars_by c s (behind p e) = (92 ∷ c ∷ [], e ∙ low_ahead 92 (c ∷ []) (c ∷ []) (omega arith) (low_ahead c [] [] (elim p [ inl a ↦ omega (arith, a) | inr a ↦ omega (arith, a) ]) refl))
 chars_by c s (numbered low e) = (
-    92 ∷ 117 ∷ 123 ∷ digits 16 false c ++ 125 ∷ [],
-    e ∙ low_ahead 92 (117 ∷ 123 ∷ digits 16 false c ++ 125 ∷ []) (117 ∷ 123 ∷ digits 16 false c ++ 125 ∷ []) (omega arith)
-    (low_ahead 117 (123 ∷ digits 16 false c ++ 125 ∷ []) (123 ∷ digits 16 false c ++ 125 ∷ []) (omega arith)
-    (low_ahead 123 (digits 16 false c ++ 125 ∷ []) (digits 16 false c ++ 125 ∷ []) (omega arith)
-    (ap₂ (λ (bs cs : List ℕ). bs ++ cs) (sym (hex_chars c low)) (low_ahead 125 [] [] (omega arith) refl) ∙ sym (encodes-append (digits 16 false c) (125 ∷ [])))))
-  )
+  92 ∷ 117 ∷ 123 ∷ digits 16 false c ++ 125 ∷ [],
+  e ∙ low_ahead 92 (117 ∷ 123 ∷ digits 16 false c ++ 125 ∷ []) (117 ∷ 123 ∷ digits 16 false c ++ 125 ∷ []) (omega arith)
+      (low_ahead 117 (123 ∷ digits 16 false c ++ 125 ∷ []) (123 ∷ digits 16 false c ++ 125 ∷ []) (omega arith)
+      (low_ahead 123 (digits 16 false c ++ 125 ∷ []) (digits 16 false c ++ 125 ∷ []) (omega arith)
+      (ap₂ (λ (bs cs : List ℕ). bs ++ cs) (sym (hex_chars c low)) (low_ahead 125 [] [] (omega arith) refl) ∙ sym (encodes-append (digits 16 false c) (125 ∷ []))))),
+)
 chars_by c s (plain m n e) = (c ∷ [], e ∙ sym (append-nil (encode_utf8 c)))
 
 inside_chars : (a : List ℕ) → (cs : List ℕ) × (flat_map character_text a ≡ encode_utf8_all cs)
@@ -162,7 +162,8 @@ inside_chars (c ∷ a) =
 
 pub quoted_chars : (a : List ℕ) → (cs : List ℕ) × (quoted a ≡ encode_utf8_all cs)
 quoted_chars a =
-    let inside = inside_chars a in
-    (34 ∷ (inside.0 ++ 34 ∷ []),
-    low_ahead 34 (flat_map character_text a ++ 34 ∷ []) (inside.0 ++ 34 ∷ []) (omega arith)
-    (ap₂ (λ (bs cs : List ℕ). bs ++ cs) inside.1 (low_ahead 34 [] [] (omega arith) refl) ∙ sym (encodes-append inside.0 (34 ∷ []))))
+    let inside = inside_chars a in (
+      34 ∷ (inside.0 ++ 34 ∷ []),
+      low_ahead 34 (flat_map character_text a ++ 34 ∷ []) (inside.0 ++ 34 ∷ []) (omega arith)
+          (ap₂ (λ (bs cs : List ℕ). bs ++ cs) inside.1 (low_ahead 34 [] [] (omega arith) refl) ∙ sym (encodes-append inside.0 (34 ∷ []))),
+    )

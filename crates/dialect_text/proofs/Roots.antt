@@ -1,5 +1,8 @@
 -- No element of a root stands deeper than 16.
-use Rattle.std.proofs.Common.{◌≡◌, ℕ, true, not, ◌&&◌, nat_lt, nat_le, List, length, map, Some, slice_get}
+use Rattle.std.proofs.Common.{◌≡◌, ℕ, zero, suc, ◌<◌, ◌≤◌, true, not, ◌&&◌, nat_lt, nat_le, List, [], ◌∷◌, length, map, Some, slice_get, refl, arith}
+use Rattle.std.proofs.lemmas.Bool.{leb-true}
+use Rattle.document_laws.proofs.Fits.{root_name}
+use Rattle.value_text.specs.ValueText.{IsName}
 use Rattle.std.specs.List.{list_all}
 use Rattle.std.specs.Prelude.{◌==◌, ◌^◌}
 use Rattle.exi_schema.specs.declared.schema.Schema.{Schema}
@@ -24,3 +27,16 @@ pub root_deep : (s : Schema) (i : ℕ) (root : RootOf) → slice_get s.roots.now
 root_deep s i root h =
     let n = length (map (λ t. t.now) s.names.now) in
     and-r (nat_lt root.number (2 ^ s.root_bits) && not (s.root_bits == 2 && root.number == 3) && nat_lt root.name n && nat_lt root.kind (length s.kinds.now)) (is_within s.kinds.now 16 root.kind) (root_is s i root h)
+
+pub roots_there : (s : Schema) → 1 ≤ length s.roots.now
+roots_there s =
+    let texts : List (List ℕ) = map (λ t. t.now) s.names.now in
+    leb-true 1 (length s.roots.now) (and-l (nat_le 1 (length s.roots.now)) (nat_le s.root_bits 32) (and-l _ (list_all (is_root s.root_bits (length texts) s.kinds.now) s.roots.now) (and-l _ _ (and-l _ _ (roots_of s)))))
+
+name_in : (texts : List (List ℕ)) (i : ℕ) → i < length texts → (word : List ℕ) × (slice_get texts i ≡ Some word)
+name_in [] i low = absurd (omega (arith, low))
+name_in (text ∷ texts) zero low = (text, refl)
+name_in (text ∷ texts) (suc i) low = name_in texts i (omega (arith, low))
+
+pub root_word : (s : Schema) (i : ℕ) (root : RootOf) → slice_get s.roots.now i ≡ Some root → (word : List ℕ) × IsName s root.name word
+root_word s i root at = name_in (map (λ t. t.now) s.names.now) root.name (root_name s root.number root.name root.kind (i, at))

@@ -68,7 +68,7 @@ onto_once a b e =
 
 -- ---- elements inside one another
 
-by_standing : (P : Standing → Type 0) {a b : Standing} → a ≡ b → P b → P a
+pub by_standing : (P : Standing → Type 0) {a b : Standing} → a ≡ b → P b → P a
 by_standing P e p = subst P (sym e) p
 
 nested_within : (above : List OpenElement) → AllByRecursion (λ e. e.filling ≡ fills.Elements) above → IsNested (Within above)
@@ -140,8 +140,8 @@ behind_some s top above (EndElement ∷ es) text some nested goes =
     elim (end_brace (slice_get s.kinds.now top.kind) top.filling goes.1 goes.2 text goes.3.0 goes.5) [
       | inl ends ↦ ends
       | inr both ↦
-        let later : Goes s (Within above) es goes.2 = subst (λ (x : Standing). Goes s x es goes.2) goes.3.1 goes.4 in
-        subst EndsValue (sym both.1) (behind_elements s above es goes.2 nested later)
+          let later : Goes s (Within above) es goes.2 = subst (λ (x : Standing). Goes s x es goes.2) goes.3.1 goes.4 in
+          subst EndsValue (sym both.1) (behind_elements s above es goes.2 nested later)
     ]
 
 pub completes_some : (s : Schema) (top : OpenElement) (above : List OpenElement) (text : List ℕ) → IsSome top.filling → IsNested (Within (top ∷ above)) → Completes s (Within (top ∷ above)) text → EndsValue text

@@ -61,4 +61,4 @@ simple_ended s elements popped top a has sound simple some pop =
     let end = simple_filled (slice_get s.kinds.now top.kind) s top.kind top.filling refl simple open_one.0.2 (not_nothing top.filling some) in
     subst (λ (x : List OpenElement). TakesNext s [] (Completes s (Within elements)) (Within elements) a EndElement (Within x) a) (sym (pop top has.0 has.1))
     (subst (λ (x : List OpenElement). TakesNext s [] (Completes s (Within x)) (Within x) a EndElement (Within has.0) a) (sym has.1)
-    (takes_end s top has.0 [] a a end (refl, omega arith)))
+    (takes_end s top has.0 [] a a end (record { stands = refl; counted = omega arith })))

@@ -105,9 +105,9 @@ named_fits s [] name kind fit is = let wrong : None ≡ Some kind = is in absurd
 named_fits s (one ∷ attributes) name kind fit is =
     elim (eqb_tells one.name name) [
       | inl tells ↦
-        let here : Some one.kind ≡ Some kind = sym (if_true (one.name == name) (Some one.kind) (attribute_named attributes name) tells.0) ∙ is in
-        let same : one.kind ≡ kind = cc in
-        subst (λ (k : ℕ). (k < length s.kinds.now) × IsSome (simple_at s.kinds.now k)) same (fit.0.1, fit.0.2)
+          let here : Some one.kind ≡ Some kind = sym (if_true (one.name == name) (Some one.kind) (attribute_named attributes name) tells.0) ∙ is in
+          let same : one.kind ≡ kind = cc in
+          subst (λ (k : ℕ). (k < length s.kinds.now) × IsSome (simple_at s.kinds.now k)) same (fit.0.1, fit.0.2)
       | inr tells ↦ named_fits s attributes name kind fit.1 (sym (if_false (one.name == name) (Some one.kind) (attribute_named attributes name) tells.0) ∙ is)
     ]
 
@@ -117,16 +117,16 @@ pub attribute_leads : (s : Schema) (top : OpenElement) (above : List OpenElement
     Leads (StartsAttribute s top above) front rest (StartsValue s kind (Completes s (Within (element top.kind fills.Attributes ∷ above))))
 attribute_leads s top above name kind front rest is named =
     let text_is : (text : List ℕ) → encode_utf8_all front ++ text ≡ named.0 ++ 61 ∷ text =
-        λ text. ap (λ (bs : List ℕ). bs ++ text) (named.2 ∙ ap (λ (bs : List ℕ). named.0 ++ bs) (encode_ascii 61 (omega arith))) ∙ append_assoc named.0 (61 ∷ []) text in
+    λ text. ap (λ (bs : List ℕ). bs ++ text) (named.2 ∙ ap (λ (bs : List ℕ). named.0 ++ bs) (encode_ascii 61 (omega arith))) ∙ append_assoc named.0 (61 ∷ []) text in
     record {
       from = λ text new. (name, kind, named.0, text, is, named.1, new, text_is text);
       to = λ text shares old.
-        let split = words_split named.0 old.2 61 61 text old.3 (name_word s name named.0 named.1).1 (name_word s old.0 old.2 old.5).1 refl refl (sym (text_is text) ∙ old.7) in
-        let same = one_name s name old.0 named.0 named.1 (subst (λ (w : List ℕ). IsName s old.0 w) (sym split.0) old.5) in
-        let kinds : Some kind ≡ Some old.1 = sym is ∙ ap (λ (n : ℕ). attribute_of s top.kind n) same ∙ old.4 in
-        let one : old.1 ≡ kind = cc in
-        let L : List ℕ → Type 0 = Completes s (Within (element top.kind fills.Attributes ∷ above)) in
-        subst (λ (t : List ℕ). StartsValue s kind L t) (sym split.2) (subst (λ (k : ℕ). StartsValue s k L old.3) one old.6);
+          let split = words_split named.0 old.2 61 61 text old.3 (name_word s name named.0 named.1).1 (name_word s old.0 old.2 old.5).1 refl refl (sym (text_is text) ∙ old.7) in
+          let same = one_name s name old.0 named.0 named.1 (subst (λ (w : List ℕ). IsName s old.0 w) (sym split.0) old.5) in
+          let kinds : Some kind ≡ Some old.1 = sym is ∙ ap (λ (n : ℕ). attribute_of s top.kind n) same ∙ old.4 in
+          let one : old.1 ≡ kind = cc in
+          let L : List ℕ → Type 0 = Completes s (Within (element top.kind fills.Attributes ∷ above)) in
+          subst (λ (t : List ℕ). StartsValue s kind L t) (sym split.2) (subst (λ (k : ℕ). StartsValue s k L old.3) one old.6);
     }
 
 attributes_open : (s : Schema) (top : OpenElement) (above : List OpenElement) (name kind : ℕ) → IsSound s (Within (top ∷ above)) → attribute_of s top.kind name ≡ Some kind → AreOpen s (element top.kind fills.Attributes ∷ above)
@@ -155,13 +155,19 @@ attribute_taken s top above name kind v front a b c sound before is named passes
     let text_is : encode_utf8_all front ≡ named.0 ++ 61 ∷ [] = named.2 ∙ ap (λ (bs : List ℕ). named.0 ++ bs) (encode_ascii 61 (omega arith)) in
     record {
       front = front ++ value.1;
-      adds = (kind, part, before, is, (named.0, said, named.1, (value.0, value.2, value.4), refl),
-          append_assoc (gap top.filling) (codes "@") (encode_utf8_all (front ++ value.1))
-          ∙ ap (λ (bs : List ℕ). gap top.filling ++ 64 ∷ bs) (encodes-append front value.1 ∙ ap (λ (bs : List ℕ). bs ++ said) text_is),
-          refl);
+      adds = (
+        kind,
+        part,
+        before,
+        is,
+        (named.0, said, named.1, (value.0, value.2, value.4), refl),
+        append_assoc (gap top.filling) (codes "@") (encode_utf8_all (front ++ value.1))
+            ∙ ap (λ (bs : List ℕ). gap top.filling ++ 64 ∷ bs) (encodes-append front value.1 ∙ ap (λ (bs : List ℕ). bs ++ said) text_is),
+        refl,
+      );
       passes = passes_on a b c front value.1 passes value.3.passed;
       leads = leads_then (StartsAttribute s top above) (StartsValue s kind L) L front value.1 c.rest.now
-          (subst (λ (bs : List ℕ). Leads (StartsAttribute s top above) front bs (StartsValue s kind L)) value.3.passed.0 (attribute_leads s top above name kind front b.rest.now is named))
+          (subst (λ (bs : List ℕ). Leads (StartsAttribute s top above) front bs (StartsValue s kind L)) value.3.passed.stands (attribute_leads s top above name kind front b.rest.now is named))
           (value_leads s kind v L b c (value_ends s top.kind fills.Attributes above tt sound.1) value);
     }
 
@@ -180,21 +186,33 @@ pub attribute_name_stalls : (s : Schema) (top : OpenElement) (above : List OpenE
 attribute_name_stalls s top above attributes awaited items a f sound fit of_kind made same p =
     stalls_named s awaited (StartsAttribute s top above) a f (attributes_marked s attributes awaited items fit made same)
     (λ text is.
-      let one = attribute_at attributes awaited items is.0 is.1 made same is.2 in
-      let found = attribute_found s attributes is.0 one.0 one.1 in
-      let kind : attribute_of s top.kind one.0.name ≡ Some found.0 = of_kind one.0.name ∙ found.1 in
-      let fits = named_fits s attributes one.0.name found.0 fit found.1 in
-      let some = value_some s top above one.0.name found.0 sound kind fits.1 in
-      let named : IsAwaitedText s (awaited_attribute one.0) text = subst (λ (x : Awaited). IsAwaitedText s x text) (sym one.2) is.3 in
-      (some.0, (one.0.name, found.0, named.0, some.0, kind, named.1, some.1,
-        ap (λ (bs : List ℕ). bs ++ some.0) (named.2 ∙ ap (λ (bs : List ℕ). named.0 ++ bs) (encode_ascii 61 (omega arith))) ∙ append_assoc named.0 (61 ∷ []) some.0)))
+    let one = attribute_at attributes awaited items is.0 is.1 made same is.2 in
+    let found = attribute_found s attributes is.0 one.0 one.1 in
+    let kind : attribute_of s top.kind one.0.name ≡ Some found.0 = of_kind one.0.name ∙ found.1 in
+    let fits = named_fits s attributes one.0.name found.0 fit found.1 in
+    let some = value_some s top above one.0.name found.0 sound kind fits.1 in
+    let named : IsAwaitedText s (awaited_attribute one.0) text = subst (λ (x : Awaited). IsAwaitedText s x text) (sym one.2) is.3 in (
+      some.0,
+      (
+        one.0.name,
+        found.0,
+        named.0,
+        some.0,
+        kind,
+        named.1,
+        some.1,
+        ap (λ (bs : List ℕ). bs ++ some.0) (named.2 ∙ ap (λ (bs : List ℕ). named.0 ++ bs) (encode_ascii 61 (omega arith))) ∙ append_assoc named.0 (61 ∷ []) some.0,
+      ),
+    ))
     (λ text q.
-      let there = attribute_there attributes q.0 q.1 (sym (of_kind q.0) ∙ q.4) in
-      let word : IsAwaitedText s (awaited_attribute there.1) (q.2 ++ 61 ∷ []) =
-          (q.2, subst (λ (n : ℕ). IsName s n q.2) (sym there.3) q.5, ap (λ (bs : List ℕ). q.2 ++ bs) (sym (encode_ascii 61 (omega arith)))) in
-      (q.2 ++ 61 ∷ [], q.3,
-        (there.0, awaited_attribute there.1, ap (λ (xs : List Awaited). slice_get xs there.0) (same ∙ made) ∙ get_map awaited_attribute attributes there.0 there.1 there.2, word),
-        q.7 ∙ sym (append_assoc q.2 (61 ∷ []) q.3)))
+    let there = attribute_there attributes q.0 q.1 (sym (of_kind q.0) ∙ q.4) in
+    let word : IsAwaitedText s (awaited_attribute there.1) (q.2 ++ 61 ∷ []) =
+    (q.2, subst (λ (n : ℕ). IsName s n q.2) (sym there.3) q.5, ap (λ (bs : List ℕ). q.2 ++ bs) (sym (encode_ascii 61 (omega arith)))) in (
+      q.2 ++ 61 ∷ [],
+      q.3,
+      (there.0, awaited_attribute there.1, ap (λ (xs : List Awaited). slice_get xs there.0) (same ∙ made) ∙ get_map awaited_attribute attributes there.0 there.1 there.2, word),
+      q.7 ∙ sym (append_assoc q.2 (61 ∷ []) q.3),
+    ))
     p
 
 -- ---- the answers of an attribute

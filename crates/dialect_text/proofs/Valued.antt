@@ -45,27 +45,30 @@ split s kind d L text is p =
 
 pub value_leads : (s : Schema) (kind : ℕ) (v : Value) (L : List ℕ → Type 0) (a b : TextCursor) → ((text : List ℕ) → L text → EndsValue text) → (p : TakesValueOf s kind v a b) → Leads (StartsValue s kind L) p.1 b.rest.now L
 value_leads s kind v L a b ends p = record {
-    from = λ text new. (v, encode_utf8_all p.1, text, (p.0, p.2, p.4), new, refl);
-    to = λ text shares old.
+  from = λ text new. (v, encode_utf8_all p.1, text, (p.0, p.2, p.4), new, refl);
+  to = λ text shares old.
       let other = split s kind p.0 L (encode_utf8_all p.1 ++ text) p.2 old in
       let stops = value_stops s kind p.0 other.value other.front other.rest other.formed (ends other.rest other.follows) in
-      let same = taken_once (IsAnyFormed s kind p.0) a.rest.now p.1 b.rest.now text other.front other.rest p.3.longest p.3.is_one p.3.passed.0 shares (other.value, other.formed) stops other.whole in
+      let same = taken_once (IsAnyFormed s kind p.0) a.rest.now p.1 b.rest.now text other.front other.rest p.3.longest p.3.is_one p.3.passed.stands shares (other.value, other.formed) stops other.whole in
       subst L same.1 other.follows;
-  }
+}
 
 pub value_stalls : (s : Schema) (kind : ℕ) (L : List ℕ → Type 0) (a : TextCursor) (f : ScanFault) (some : List ℕ) → L some → ((text : List ℕ) → L text → EndsValue text) → MissesValueOf s kind a f → StallsAt (StartsValue s kind L) a f
 value_stalls s kind L a (fault.Place place) some one ends p =
-    let longest : IsLongest (IsAnyFormed s kind p.0) a.rest.now p.2.0 = p.2.1 in
-    (p.2.0,
-    record {
-      more = longest.rest;
-      stands = longest.stands;
-      begins = inr (longest.begins.0 ++ some,
-          (longest.begins.1.0, encode_utf8_all p.2.0 ++ longest.begins.0, some, (p.0, p.1, longest.begins.1.1), one, sym (append_assoc (encode_utf8_all p.2.0) longest.begins.0 some)));
-      none_further = λ text shares is.
-        let other = split s kind p.0 L text p.1 is in
-        missed (IsAnyFormed s kind p.0) a.rest.now p.2.0 text other.front other.rest longest p.2.2 shares (other.value, other.formed)
-        (value_stops s kind p.0 other.value other.front other.rest other.formed (ends other.rest other.follows)) other.whole;
-    },
-    p.2.3)
+    let longest : IsLongest (IsAnyFormed s kind p.0) a.rest.now p.2.0 = p.2.1 in (
+      p.2.0,
+      record {
+        more = longest.rest;
+        stands = longest.stands;
+        begins = inr (
+          longest.begins.0 ++ some,
+          (longest.begins.1.0, encode_utf8_all p.2.0 ++ longest.begins.0, some, (p.0, p.1, longest.begins.1.1), one, sym (append_assoc (encode_utf8_all p.2.0) longest.begins.0 some)),
+        );
+        none_further = λ text shares is.
+            let other = split s kind p.0 L text p.1 is in
+            missed (IsAnyFormed s kind p.0) a.rest.now p.2.0 text other.front other.rest longest p.2.2 shares (other.value, other.formed)
+            (value_stops s kind p.0 other.value other.front other.rest other.formed (ends other.rest other.follows)) other.whole;
+      },
+      p.2.3,
+    )
 value_stalls s kind L a fault.Memory some one ends p = tt

@@ -54,25 +54,44 @@ follows s top above attributes particles text is p = by p.0 p.1
         let named = goes.3.4 in
         let rest : Completes s (Within (element top.kind fills.Attributes ∷ above)) goes.2 = (es, subst (λ (x : Standing). Goes s x es goes.2) goes.3.6 goes.4) in
         part (goes.3.1 ++ goes.2)
-        (inr (goes.3.2, named.0 ++ 61 ∷ (named.1 ++ goes.2), (n, goes.3.0, named.0, named.1 ++ goes.2, goes.3.3, named.2, (v, named.1, goes.2, named.3, rest, refl), refl),
-            attribute_behind named.0 named.1 goes.3.1 goes.2 named.4))
+        (inr (
+          goes.3.2,
+          named.0 ++ 61 ∷ (named.1 ++ goes.2),
+          (n, goes.3.0, named.0, named.1 ++ goes.2, goes.3.3, named.2, (v, named.1, goes.2, named.3, rest, refl), refl),
+          attribute_behind named.0 named.1 goes.3.1 goes.2 named.4,
+        ))
         (goes.5 ∙ behind goes.1 (gap top.filling) goes.3.1 goes.2 goes.3.5)
     by (Content v ∷ es) goes = absurd (no_value (slice_get s.kinds.now top.kind) attributes particles goes.3.1.0 is goes.3.1.1)
     by (EndElement ∷ es) goes = brace goes.2 (goes.5 ∙ ap (λ (bs : List ℕ). bs ++ goes.2) (brace_of (slice_get s.kinds.now top.kind) top.filling attributes particles goes.1 is goes.3.0))
 
 pub part_follows : (s : Schema) (top : OpenElement) (above : List OpenElement) (text : List ℕ) → StartsPart s top above text → Completes s (Within (top ∷ above)) (gap top.filling ++ text)
-part_follows s top above text (inl p) =
-    (Start p.0 ∷ p.6.0, (Within (opened p.1 top above), gap top.filling ++ p.2, p.3, (p.1, p.2, p.4, p.5, refl, refl), p.6.1,
-      ap (λ (bs : List ℕ). gap top.filling ++ bs) p.7 ∙ sym (append_assoc (gap top.filling) p.2 p.3)))
+part_follows s top above text (inl p) = (
+  Start p.0 ∷ p.6.0,
+  (
+    Within (opened p.1 top above),
+    gap top.filling ++ p.2,
+    p.3,
+    (p.1, p.2, p.4, p.5, refl, refl),
+    p.6.1,
+    ap (λ (bs : List ℕ). gap top.filling ++ bs) p.7 ∙ sym (append_assoc (gap top.filling) p.2 p.3),
+  ),
+)
 part_follows s top above text (inr q) =
     let named = q.2 in
     let value = named.6 in
-    let part : List ℕ = codes "@" ++ named.2 ++ codes "=" ++ value.1 in
-    (Attribute named.0 value.0 ∷ value.4.0,
-    (Within (element top.kind fills.Attributes ∷ above), gap top.filling ++ part, value.2, (named.1, part, q.0, named.4, (named.2, value.1, named.5, value.3, refl), refl, refl), value.4.1,
-      ap (λ (bs : List ℕ). gap top.filling ++ bs)
-      (q.3 ∙ ap (λ (bs : List ℕ). 64 ∷ bs) (named.7 ∙ ap (λ (bs : List ℕ). named.2 ++ 61 ∷ bs) value.5) ∙ sym (attribute_behind named.2 value.1 part value.2 refl))
-      ∙ sym (append_assoc (gap top.filling) part value.2)))
+    let part : List ℕ = codes "@" ++ named.2 ++ codes "=" ++ value.1 in (
+      Attribute named.0 value.0 ∷ value.4.0,
+      (
+        Within (element top.kind fills.Attributes ∷ above),
+        gap top.filling ++ part,
+        value.2,
+        (named.1, part, q.0, named.4, (named.2, value.1, named.5, value.3, refl), refl, refl),
+        value.4.1,
+        ap (λ (bs : List ℕ). gap top.filling ++ bs)
+            (q.3 ∙ ap (λ (bs : List ℕ). 64 ∷ bs) (named.7 ∙ ap (λ (bs : List ℕ). named.2 ++ 61 ∷ bs) value.5) ∙ sym (attribute_behind named.2 value.1 part value.2 refl))
+            ∙ sym (append_assoc (gap top.filling) part value.2),
+      ),
+    )
 
 gap_cancel : (f : Filling) (text : List ℕ) (rest : List ℕ) → gap f ++ text ≡ 125 ∷ rest → (f ≡ fills.Nothing → (z : List ℕ) → text ≡ 125 ∷ z → ⊥) → ⊥
 gap_cancel fills.Nothing text rest e none = none refl rest e
@@ -84,12 +103,12 @@ gap_cancel fills.Value text rest e none = omega (arith, heads_differ 32 125 text
 pub gap_leads : (s : Schema) (top : OpenElement) (above : List OpenElement) (attributes : _) (particles : _) (a b : TextCursor) → slice_get s.kinds.now top.kind ≡ Some (Complex attributes particles) → Passes a (gap top.filling) b →
     ((rest : List ℕ) → a.rest.now ≡ 125 ∷ rest → ⊥) → Leads (Completes s (Within (top ∷ above))) (gap top.filling) b.rest.now (StartsPart s top above)
 gap_leads s top above attributes particles a b is passes open_still = record {
-    from = λ text new. subst (λ (bs : List ℕ). Completes s (Within (top ∷ above)) (bs ++ text)) (sym (gap_chars top.filling)) (part_follows s top above text new);
-    to = λ text shares old. by text shares (follows s top above attributes particles (gap top.filling ++ text) is (subst (λ (bs : List ℕ). Completes s (Within (top ∷ above)) (bs ++ text)) (gap_chars top.filling) old));
-  }
+  from = λ text new. subst (λ (bs : List ℕ). Completes s (Within (top ∷ above)) (bs ++ text)) (sym (gap_chars top.filling)) (part_follows s top above text new);
+  to = λ text shares old. by text shares (follows s top above attributes particles (gap top.filling ++ text) is (subst (λ (bs : List ℕ). Completes s (Within (top ∷ above)) (bs ++ text)) (gap_chars top.filling) old));
+}
   where
     same : top.filling ≡ fills.Nothing → b.rest.now ≡ a.rest.now
-    same none = sym (passes.0 ∙ ap (λ (f : Filling). encode_utf8_all (gap f) ++ b.rest.now) none)
+    same none = sym (passes.stands ∙ ap (λ (f : Filling). encode_utf8_all (gap f) ++ b.rest.now) none)
 
     by : (text : List ℕ) → Shares 0 b.rest.now text → Follows s top above (gap top.filling ++ text) → StartsPart s top above text
     by text shares (brace rest e) =
@@ -125,7 +144,7 @@ pub part_stalls : (s : Schema) (elements : List OpenElement) (top : OpenElement)
     ((rest : List ℕ) → a.rest.now ≡ 125 ∷ rest → ⊥) → ((rest : List ℕ) → a.rest.now ≡ 32 ∷ rest → ⊥) → StallsAt (Completes s (Within elements)) a (fault.Place a.place)
 part_stalls s elements top attributes particles a has is spaced no_brace no_space =
     subst (λ (x : List OpenElement). StallsAt (Completes s (Within x)) a (fault.Place a.place)) (sym has.1)
-    ([], record { more = a.rest.now; stands = refl; begins = inl refl; none_further = λ text shares p. by text shares (follows s top has.0 attributes particles text is p); }, omega arith)
+    ([], record { more = a.rest.now; stands = refl; begins = inl refl; none_further = λ text shares p. by text shares (follows s top has.0 attributes particles text is p) }, omega arith)
   where
     by : (text : List ℕ) → Shares 0 a.rest.now text → Follows s top has.0 text → ⊥
     by text shares (brace rest e) = let first = shares_first a.rest.now text rest 125 (omega arith) shares e in no_brace first.0 first.1

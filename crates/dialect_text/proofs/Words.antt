@@ -24,12 +24,12 @@ pub word_char_low : (c : ℕ) → is_word_char c ≡ true → c < 128
 word_char_low c is =
     elim (either_is ((nat_le 48 c && nat_le c 57) || (nat_le 65 c && nat_le c 90) || (nat_le 97 c && nat_le c 122)) (c == 95) is) [
       | inl three ↦ elim (either_is ((nat_le 48 c && nat_le c 57) || (nat_le 65 c && nat_le c 90)) (nat_le 97 c && nat_le c 122) three) [
-          | inl two ↦ elim (either_is (nat_le 48 c && nat_le c 57) (nat_le 65 c && nat_le c 90) two) [
-              | inl one ↦ let top = leb-true c 57 (and-r (nat_le 48 c) (nat_le c 57) one) in omega (arith, top)
-              | inr one ↦ let top = leb-true c 90 (and-r (nat_le 65 c) (nat_le c 90) one) in omega (arith, top)
-            ]
-          | inr one ↦ let top = leb-true c 122 (and-r (nat_le 97 c) (nat_le c 122) one) in omega (arith, top)
+        | inl two ↦ elim (either_is (nat_le 48 c && nat_le c 57) (nat_le 65 c && nat_le c 90) two) [
+          | inl one ↦ let top = leb-true c 57 (and-r (nat_le 48 c) (nat_le c 57) one) in omega (arith, top)
+          | inr one ↦ let top = leb-true c 90 (and-r (nat_le 65 c) (nat_le c 90) one) in omega (arith, top)
         ]
+        | inr one ↦ let top = leb-true c 122 (and-r (nat_le 97 c) (nat_le c 122) one) in omega (arith, top)
+      ]
       | inr one ↦ elim (eqb_tells c 95) [ inl tells ↦ omega (arith, tells.1) | inr tells ↦ let wrong : false ≡ true = sym tells.0 ∙ one in absurd cc ]
     ]
 
@@ -110,9 +110,9 @@ name_word s name word at = word_text word (word_in (map (λ t. t.now) s.names.no
 same_itself : (text : List ℕ) → same_text text text ≡ true
 same_itself [] = refl
 same_itself (c ∷ text) = elim (eqb_tells c c) [
-    | inl tells ↦ ap (λ (b : Bool). b && same_text text text) tells.0 ∙ same_itself text
-    | inr tells ↦ absurd (tells.1 refl)
-  ]
+  | inl tells ↦ ap (λ (b : Bool). b && same_text text text) tells.0 ∙ same_itself text
+  | inr tells ↦ absurd (tells.1 refl)
+]
 
 any_at : (texts : List (List ℕ)) (i : ℕ) (word : List ℕ) → slice_get texts i ≡ Some word → list_any (same_text word) texts ≡ true
 any_at [] i word at = let wrong : None ≡ Some word = at in absurd cc

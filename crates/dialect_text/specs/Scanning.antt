@@ -1,7 +1,7 @@
 -- Own: where a scanner stands in a text.
 use Rattle.std.specs.Prelude.{◌≡◌, ◌⊎◌, ℕ, ◌+◌, ◌*◌, ◌-◌, ◌<◌, Bool, true, false, codes, List, [], ◌∷◌, ◌++◌, length, sum_by, Option, Some, None, slice_get}
 use Rattle.std.specs.List.{AllByRecursion}
-use Rattle.std.specs.Str.{encode_utf8_all}
+use Rattle.std.specs.Str.{encode_utf8_all, IsUtf8}
 use Rattle.exi_schema.specs.declared.schema.Schema.{Schema}
 use Rattle.exi_schema.specs.declared.tables.AttributeOf.{AttributeOf}
 use Rattle.exi_schema.specs.declared.tables.Datatype.{Datatype}
@@ -102,6 +102,7 @@ IsAtFault s text (Some place) = IsFault s text place
 
 -- as a scanner is made, and as each call leaves it
 pub record IsReady (s : Schema) (text : List ℕ) (standing : Standing) (cursor : TextCursor) (fault : Option ℕ) : Type 0 where
+  pub utf8 : IsUtf8 text
   pub sound : IsSound s standing
   pub read : HasRead s text standing cursor
   pub at_fault : IsAtFault s text fault

@@ -55,6 +55,15 @@ impl OpenElements {
         }
     }
 
+    /// One element, which has started.
+    pub(crate) fn alone(kind: u16) -> OpenElements
+        ensures { result ≡ record { kind = kind; filling = Filling.Nothing } ∷ [] }
+    {
+        let mut elements = OpenElements::new();
+        elements.push(kind);
+        elements
+    }
+
     /// The innermost element.
     pub(crate) fn innermost(&self) -> Option<OpenElement>
         ensures { MatchOption result (self.now ≡ []) (λ top. (above : List _) × (self.now ≡ top ∷ above)) }

@@ -18,3 +18,8 @@ mod take;
 pub use fault::ScanFault;
 pub use said::Said;
 pub use scanner::DialectScanner;
+
+#[cfg(test)]
+mod negotiation;
+#[cfg(test)]
+mod tests;

@@ -21,6 +21,7 @@ use value_text::TextCursor;
 ///
 /// The events up to the end of the text are those that the text says, in document order. Where the text is none of the dialect, the
 /// scanner answers the place of its fault, and from then on the same again.
+#[derive(Drop)]
 pub struct DialectScanner<'t, 's> {
     alloc: Global,
     schema: &'s Schema<'s>,
@@ -108,7 +109,7 @@ impl<'t, 's> DialectScanner<'t, 's> {
                 Ok(Some(Said::Document(root.number)))
             }
             Phase::AtRoot { name, kind } => {
-                self.elements.push(kind);
+                self.elements = OpenElements::alone(kind);
                 self.phase = Phase::Inside;
                 Ok(Some(Said::Start(name)))
             }
@@ -131,7 +132,13 @@ impl<'t, 's> DialectScanner<'t, 's> {
         let mut cursor = self.cursor;
         match self.elements.innermost() {
             Some(top) => {
-                let said = take_inside(self.alloc, self.schema, &mut cursor, &mut self.elements, top)?;
+                let said = take_inside(
+                    self.alloc,
+                    self.schema,
+                    &mut cursor,
+                    &mut self.elements,
+                    top,
+                )?;
                 self.cursor = cursor;
                 Ok(Some(said))
             }

@@ -51,7 +51,10 @@ pub(crate) fn take_name(
         × (slice_get awaited.now i ≡ Some one) × IsAwaitedText schema.now one (encode_utf8_all front)) }
     ensures fault { IfErr result (MissesAt (IsAnyAwaited schema.now awaited.now) cursor.old) }
 {
-    Ok(cursor.take_name(schema, awaited)?)
+    match cursor.take_name(schema, awaited) {
+        Ok(at) => Ok(at),
+        Err(place) => Err(ScanFault::Place(place)),
+    }
 }
 
 /// Takes a value of a simple kind.

@@ -4,7 +4,7 @@ use Rattle.std.specs.Prelude.{◌==◌, encode_utf8, Some, None, Option, slice_g
 use Rattle.std.specs.Str.{encode_utf8_all, IsAscii}
 use Rattle.std.proofs.lemmas.Bool.{cases_lt}
 use Rattle.std.proofs.lemmas.Bool.Decides.{nat_tests}
-use Rattle.std.proofs.lemmas.List.{append-nil, length-append, length-take-le, take-append-drop, take-take, take_all, take_at, take-append-le, take_more_same, get_or_at, get_or-take, append_cancel_left}
+use Rattle.std.proofs.lemmas.List.{length-append, length-take-le, take-append-drop, take-take, take_all, take_at, take-append-le, take_more_same, get_or_at, get_or-take, append_cancel_left}
 use Rattle.std.proofs.lemmas.Str.{encodes-IsAscii, IsAscii-take, encode_ascii, length-encode, len_utf8_bounds}
 use Rattle.value_text.specs.declared.cursor.TextCursor.{TextCursor}
 use Rattle.value_text.specs.Forms.{AgreesTo, AgreesMost, IsBest, IsOneOf, AreAscii, awaited_text}
@@ -24,18 +24,18 @@ agrees_no_more text word count more differs h =
 
 pub none_best : (words : List (List ℕ)) (text : List ℕ) → IsBest words 0 text 0 None
 none_best words text = record {
-    within = omega arith;
-    begins = inl refl;
-    most = λ i word more lt found h. absurd (omega (arith, lt));
-    is = λ i lt found. absurd (omega (arith, lt))
-  }
+  within = omega arith;
+  begins = inl refl;
+  most = λ i word more lt found h. absurd (omega (arith, lt));
+  is = λ i lt found. absurd (omega (arith, lt));
+}
 
 one_word : (words : List (List ℕ)) (i j : ℕ) (a b : List ℕ) → i ≡ j → slice_get words i ≡ Some a → slice_get words j ≡ Some b → a ≡ b
 one_word words i j a b same p q = let is : Some a ≡ Some b = sym p ∙ ap (slice_get words) same ∙ q in cc
 
 -- the first n words and one more
 up_to : (n i : ℕ) → i < n + 1 → (i < n) ⊎ (i ≡ n)
-up_to n i lt = elim (cases_lt i n) [ | inl below ↦ inl below | inr top ↦ inr (omega (arith, lt, top)) ]
+up_to n i lt = elim (cases_lt i n) [ inl below ↦ inl below | inr top ↦ inr (omega (arith, lt, top)) ]
 
 most_with : (words : List (List ℕ)) (n : ℕ) (text word : List ℕ) (old count best : ℕ) → slice_get words n ≡ Some word → AgreesMost text word count → old ≤ best → count ≤ best
     → ((i : ℕ) (other : List ℕ) (more : ℕ) → i < n → slice_get words i ≡ Some other → AgreesTo text other more → more ≤ old)
@@ -68,43 +68,43 @@ Comes words n text word count flag = (slice_get words n ≡ Some word) × Agrees
 pub longer_whole : (words : List (List ℕ)) (n : ℕ) (text word : List ℕ) (old count : ℕ) (flag : Bool) (whole : Option ℕ) → Comes words n text word count flag → IsBest words n text old whole
     → old < count → flag ≡ true → IsBest words (n + 1) text count (Some n)
 longer_whole words n text word old count flag whole comes best lt is = record {
-    within = comes.1.0.0;
-    begins = inr (n, word, comes.0, comes.1.0);
-    most = most_with words n text word old count count comes.0 comes.1 (omega (arith, lt)) (omega arith) best.most;
-    is = comes.0 ∙ ap (λ (w : List ℕ). Some w) (whole_is text word count comes.1.0 (length_test (length word) count (sym comes.2 ∙ is)))
-  }
+  within = comes.1.0.0;
+  begins = inr (n, word, comes.0, comes.1.0);
+  most = most_with words n text word old count count comes.0 comes.1 (omega (arith, lt)) (omega arith) best.most;
+  is = comes.0 ∙ ap (λ (w : List ℕ). Some w) (whole_is text word count comes.1.0 (length_test (length word) count (sym comes.2 ∙ is)));
+}
 
 pub longer_part : (words : List (List ℕ)) (n : ℕ) (text word : List ℕ) (old count : ℕ) (flag : Bool) (whole : Option ℕ) → Comes words n text word count flag → IsBest words n text old whole
     → old < count → flag ≡ false → IsBest words (n + 1) text count None
 longer_part words n text word old count flag whole comes best lt is = record {
-    within = comes.1.0.0;
-    begins = inr (n, word, comes.0, comes.1.0);
-    most = most_with words n text word old count count comes.0 comes.1 (omega (arith, lt)) (omega arith) best.most;
-    is = λ i below found. elim (up_to n i below) [
-      | inl before ↦ omega (arith, lt, best.most i (take count text) count before found (front_agrees text count comes.1.0.0))
-      | inr same ↦ length_tested (length word) count (length_of_front text word count comes.1.0.0 (one_word words n i word (take count text) (sym same) comes.0 found)) (sym comes.2 ∙ is)
-    ]
-  }
+  within = comes.1.0.0;
+  begins = inr (n, word, comes.0, comes.1.0);
+  most = most_with words n text word old count count comes.0 comes.1 (omega (arith, lt)) (omega arith) best.most;
+  is = λ i below found. elim (up_to n i below) [
+    | inl before ↦ omega (arith, lt, best.most i (take count text) count before found (front_agrees text count comes.1.0.0))
+    | inr same ↦ length_tested (length word) count (length_of_front text word count comes.1.0.0 (one_word words n i word (take count text) (sym same) comes.0 found)) (sym comes.2 ∙ is)
+  ];
+}
 
 -- as much of this word
 pub tied_whole : (words : List (List ℕ)) (n : ℕ) (text word : List ℕ) (old count : ℕ) (flag : Bool) (whole : Option ℕ) → Comes words n text word count flag → IsBest words n text old whole
     → old ≡ count → flag ≡ true → IsBest words (n + 1) text count (Some n)
 tied_whole words n text word old count flag whole comes best same is = record {
-    within = comes.1.0.0;
-    begins = inr (n, word, comes.0, comes.1.0);
-    most = most_with words n text word old count count comes.0 comes.1 (omega (arith, same)) (omega arith) best.most;
-    is = comes.0 ∙ ap (λ (w : List ℕ). Some w) (whole_is text word count comes.1.0 (length_test (length word) count (sym comes.2 ∙ is)))
-  }
+  within = comes.1.0.0;
+  begins = inr (n, word, comes.0, comes.1.0);
+  most = most_with words n text word old count count comes.0 comes.1 (omega (arith, same)) (omega arith) best.most;
+  is = comes.0 ∙ ap (λ (w : List ℕ). Some w) (whole_is text word count comes.1.0 (length_test (length word) count (sym comes.2 ∙ is)));
+}
 
 -- no more of this word
 pub stays_some : (words : List (List ℕ)) (n : ℕ) (text word : List ℕ) (old count j : ℕ) (flag : Bool) → Comes words n text word count flag → IsBest words n text old (Some j)
     → count ≤ old → IsBest words (n + 1) text old (Some j)
 stays_some words n text word old count j flag comes best le = record {
-    within = best.within;
-    begins = best.begins;
-    most = most_with words n text word old count old comes.0 comes.1 (omega arith) le best.most;
-    is = best.is
-  }
+  within = best.within;
+  begins = best.begins;
+  most = most_with words n text word old count old comes.0 comes.1 (omega arith) le best.most;
+  is = best.is;
+}
 
 none_whole : (words : List (List ℕ)) (n : ℕ) (text word : List ℕ) (old count : ℕ) (flag : Bool) → Comes words n text word count flag → IsBest words n text old None
     → (count ≡ old → flag ≡ false) → count ≤ old → (i : ℕ) → i < n + 1 → slice_get words i ≡ Some (take old text) → ⊥
@@ -112,20 +112,20 @@ none_whole words n text word old count flag comes best other le i below found =
     elim (up_to n i below) [
       | inl before ↦ best.is i before found
       | inr same ↦
-        let is = one_word words n i word (take old text) (sym same) comes.0 found in
-        let agrees : AgreesTo text word old = subst (λ (w : List ℕ). AgreesTo text w old) (sym is) (front_agrees text old best.within) in
-        let all : count ≡ old = omega (arith, le, comes.1.1 old agrees) in
-        length_tested (length word) count (length_of_front text word old best.within is ∙ sym all) (sym comes.2 ∙ other all)
+          let is = one_word words n i word (take old text) (sym same) comes.0 found in
+          let agrees : AgreesTo text word old = subst (λ (w : List ℕ). AgreesTo text w old) (sym is) (front_agrees text old best.within) in
+          let all : count ≡ old = omega (arith, le, comes.1.1 old agrees) in
+          length_tested (length word) count (length_of_front text word old best.within is ∙ sym all) (sym comes.2 ∙ other all)
     ]
 
 pub stays : (words : List (List ℕ)) (n : ℕ) (text word : List ℕ) (old count : ℕ) (flag : Bool) (whole : Option ℕ) → Comes words n text word count flag → IsBest words n text old whole
     → (count ≡ old → flag ≡ false) → count ≤ old → IsBest words (n + 1) text old whole
 stays words n text word old count flag None comes best other le = record {
-    within = best.within;
-    begins = best.begins;
-    most = most_with words n text word old count old comes.0 comes.1 (omega arith) le best.most;
-    is = none_whole words n text word old count flag comes best other le
-  }
+  within = best.within;
+  begins = best.begins;
+  most = most_with words n text word old count old comes.0 comes.1 (omega arith) le best.most;
+  is = none_whole words n text word old count flag comes best other le;
+}
 stays words n text word old count flag (Some j) comes best other le = stays_some words n text word old count j flag comes best le
 
 -- ---- what it says where a cursor stands
@@ -162,13 +162,14 @@ stops_best words text count whole ascii best c more after there one =
     let agrees : AgreesTo text word (length front) = (
       omega (arith, ap length text_is, length-append front more),
       omega (arith, ap length word_is, length-append front after),
-      ap (λ (bs : List ℕ). take (length front) bs) text_is ∙ take_at front more (length front) refl ∙ sym (take_at front after (length front) refl) ∙ ap (λ (bs : List ℕ). take (length front) bs) (sym word_is)
+      ap (λ (bs : List ℕ). take (length front) bs) text_is ∙ take_at front more (length front) refl ∙ sym (take_at front after (length front) refl) ∙ ap (λ (bs : List ℕ). take (length front) bs) (sym word_is),
     ) in
     let most = best.most one.0 word (length front) (slice_get-lt words one.0 word found) found agrees in
     omega (arith, most, long, char_length c)
   where
     char_length : (c : ℕ) → 0 < length (encode_utf8 c)
     char_length c = omega (arith, length-encode c, (len_utf8_bounds c).0)
+
     slice_get-lt : (xs : List (List ℕ)) (i : ℕ) (x : List ℕ) → slice_get xs i ≡ Some x → i < length xs
     slice_get-lt [] i x h = let wrong : None ≡ Some x = h in absurd cc
     slice_get-lt (y ∷ xs) zero x h = omega arith
@@ -187,12 +188,11 @@ pub takes_best : (words : List (List ℕ)) (a b : TextCursor) (count i : ℕ) (w
 takes_best words a b count i whole ascii best is passed =
     let same = encodes-IsAscii (take count a.rest.now) (ascii_front words (length words) a.rest.now count whole ascii best) in
     let found : slice_get words i ≡ Some (encode_utf8_all (take count a.rest.now)) =
-        (subst (λ (w : Option ℕ). IsBest words (length words) a.rest.now count w) is best).is ∙ ap (λ (bs : List ℕ). Some bs) (sym same) in
-    (
+    (subst (λ (w : Option ℕ). IsBest words (length words) a.rest.now count w) is best).is ∙ ap (λ (bs : List ℕ). Some bs) (sym same) in (
       take count a.rest.now,
       takes_where_it_stops (IsOneOf words) a (take count a.rest.now) b passed (i, found)
-        (subst (λ (rest : List ℕ). Stops (IsOneOf words) (take count a.rest.now) rest) (passes_best words (length words) a b count whole ascii best passed) (stops_best words a.rest.now count whole ascii best)),
-      found
+          (subst (λ (rest : List ℕ). Stops (IsOneOf words) (take count a.rest.now) rest) (passes_best words (length words) a b count whole ascii best passed) (stops_best words a.rest.now count whole ascii best)),
+      found,
     )
 
 pub wrong_best : (words : List (List ℕ)) (a : TextCursor) (count place : ℕ) (whole : Option ℕ) (first : List ℕ) → AreAscii words → slice_get words 0 ≡ Some first → IsBest words (length words) a.rest.now count whole
@@ -200,13 +200,12 @@ pub wrong_best : (words : List (List ℕ)) (a : TextCursor) (count place : ℕ) 
 wrong_best words a count place whole first ascii some best is at =
     let front = take count a.rest.now in
     let same = encodes-IsAscii front (ascii_front words (length words) a.rest.now count whole ascii best) in
-    let none = subst (λ (w : Option ℕ). IsBest words (length words) a.rest.now count w) is best in
-    (
+    let none = subst (λ (w : Option ℕ). IsBest words (length words) a.rest.now count w) is best in (
       front,
       longest_where_it_stops (IsOneOf words) a.rest.now front (drop count a.rest.now) (sym (take-append-drop count a.rest.now) ∙ ap (λ (bs : List ℕ). bs ++ drop count a.rest.now) (sym same))
-        (begins_best words (length words) a.rest.now count whole first ascii some best) (stops_best words a.rest.now count whole ascii best),
+          (begins_best words (length words) a.rest.now count whole first ascii some best) (stops_best words a.rest.now count whole ascii best),
       λ one. none.is one.0 (in_range words one.0 (encode_utf8_all front) one.1) (one.1 ∙ ap (λ (bs : List ℕ). Some bs) same),
-      omega (arith, at, length-take-le count a.rest.now best.within)
+      omega (arith, at, length-take-le count a.rest.now best.within),
     )
   where
     in_range : (xs : List (List ℕ)) (i : ℕ) (x : List ℕ) → slice_get xs i ≡ Some x → i < length xs
@@ -216,9 +215,9 @@ wrong_best words a count place whole first ascii some best is at =
 
 pub passes_ascii : (a b : TextCursor) (count : ℕ) → count ≤ length a.rest.now → IsAscii (take count a.rest.now) → b.rest.now ≡ drop count a.rest.now → b.place ≡ a.place + count → Passes a (take count a.rest.now) b
 passes_ascii a b count within ascii rest place = record {
-    stands = sym (take-append-drop count a.rest.now) ∙ ap₂ (λ (xs ys : List ℕ). xs ++ ys) (sym (encodes-IsAscii (take count a.rest.now) ascii)) (sym rest);
-    counted = omega (arith, place, length-take-le count a.rest.now within)
-  }
+  stands = sym (take-append-drop count a.rest.now) ∙ ap₂ (λ (xs ys : List ℕ). xs ++ ys) (sym (encodes-IsAscii (take count a.rest.now) ascii)) (sym rest);
+  counted = omega (arith, place, length-take-le count a.rest.now within);
+}
 
 pub ok_best : (words : List (List ℕ)) (a : TextCursor) (count : ℕ) (whole : Option ℕ) (r : Result (ℕ × TextCursor) ℕ) → AreAscii words → IsBest words (length words) a.rest.now count whole
     → IfOk r (λ x. (whole ≡ Some x.0) × Passes a (take count a.rest.now) x.1) → IfOk r (λ x. GivesWord words a x.0 x.1)
@@ -263,12 +262,12 @@ awaited_length name end small = length-append name (encode_utf8 end) ∙ ap (λ 
 
 pub agreed_inside : (text name : List ℕ) (end count : ℕ) → end < 128 → AgreesMost text name count → count < length name → AgreesMost text (awaited_text name end) count
 agreed_inside text name end count small h lt = (
-    front_agreed text name (encode_utf8 end) count h.0,
-    λ more agrees. elim (cases_lt (length name) more) [
-      | inl beyond ↦ absurd (omega (arith, lt, h.1 (length name) (agrees_front text name (encode_utf8 end) (length name) (agrees_less text (awaited_text name end) more (length name) agrees (omega (arith, beyond))) (omega arith))))
-      | inr within ↦ h.1 more (agrees_front text name (encode_utf8 end) more agrees within)
-    ]
-  )
+  front_agreed text name (encode_utf8 end) count h.0,
+  λ more agrees. elim (cases_lt (length name) more) [
+    | inl beyond ↦ absurd (omega (arith, lt, h.1 (length name) (agrees_front text name (encode_utf8 end) (length name) (agrees_less text (awaited_text name end) more (length name) agrees (omega (arith, beyond))) (omega arith))))
+    | inr within ↦ h.1 more (agrees_front text name (encode_utf8 end) more agrees within)
+  ],
+)
 
 pub not_whole : (name : List ℕ) (end count : ℕ) → end < 128 → count ≤ length name → false ≡ (length (awaited_text name end) == count)
 not_whole name end count small le = let long = awaited_length name end small in grind (arith, nat_tests)
@@ -281,19 +280,19 @@ end_at name end count small is = rw is (ap (λ (bs : List ℕ). get_or (name ++ 
 
 pub agreed_but_end : (text name : List ℕ) (end count : ℕ) → end < 128 → AgreesMost text name count → count ≡ length name → (get_or text count 0 ≡ end → ⊥) → AgreesMost text (awaited_text name end) count
 agreed_but_end text name end count small h is differs = (
-    front_agreed text name (encode_utf8 end) count h.0,
-    λ more agrees. agrees_no_more text (awaited_text name end) count more (λ same. differs (same ∙ end_at name end count small is)) agrees
-  )
+  front_agreed text name (encode_utf8 end) count h.0,
+  λ more agrees. agrees_no_more text (awaited_text name end) count more (λ same. differs (same ∙ end_at name end count small is)) agrees,
+)
 
 pub agreed_whole : (text name : List ℕ) (end count : ℕ) → end < 128 → AgreesMost text name count → count ≡ length name → count < length text → get_or text count 0 ≡ end → AgreesMost text (awaited_text name end) (count + 1)
 agreed_whole text name end count small h is lt same = (
-    (
-      omega (arith, lt),
-      omega (arith, awaited_length name end small, is),
-      take_more_same text (awaited_text name end) count 0 lt (omega (arith, awaited_length name end small, is)) (front_agreed text name (encode_utf8 end) count h.0).2 (same ∙ sym (end_at name end count small is))
-    ),
-    λ more agrees. omega (arith, agrees.1, awaited_length name end small, is)
-  )
+  (
+    omega (arith, lt),
+    omega (arith, awaited_length name end small, is),
+    take_more_same text (awaited_text name end) count 0 lt (omega (arith, awaited_length name end small, is)) (front_agreed text name (encode_utf8 end) count h.0).2 (same ∙ sym (end_at name end count small is)),
+  ),
+  λ more agrees. omega (arith, agrees.1, awaited_length name end small, is),
+)
 
 pub is_all : (name : List ℕ) (end count : ℕ) → end < 128 → count ≡ length name → true ≡ (length (awaited_text name end) == count + 1)
 is_all name end count small is = let long = awaited_length name end small in grind (arith, nat_tests)

@@ -1,5 +1,5 @@
 -- What stands behind a backslash where a cursor stands.
-use Rattle.std.proofs.Common.{◌≡◌, ℕ, zero, suc, ◌+◌, ◌*◌, ◌-◌, ◌/◌, ◌%◌, ◌<◌, ◌≤◌, Bool, true, false, List, [], ◌∷◌, ◌++◌, length, get_or, drop, ◌⊎◌, inl, inr, refl, sym, ap, ap₂, subst, ◌∙◌, append_assoc, arith}
+use Rattle.std.proofs.Common.{◌≡◌, ℕ, ◌+◌, ◌-◌, ◌/◌, ◌%◌, ◌<◌, ◌≤◌, true, false, List, [], ◌∷◌, ◌++◌, length, get_or, drop, ◌⊎◌, inl, inr, refl, sym, ap, ap₂, subst, ◌∙◌, arith}
 use Rattle.std.specs.Prelude.{◌==◌, encode_utf8, slice_index}
 use Rattle.std.specs.Char.{digit_char}
 use Rattle.std.specs.Fmt.{digits}
@@ -12,12 +12,11 @@ use Rattle.std.proofs.lemmas.List.{append-nil}
 use Rattle.std.proofs.lemmas.Str.{char_from_byte, encode_ascii}
 use Rattle.hex.specs.Hex.{lower_digits}
 use Rattle.value_text.specs.declared.cursor.TextCursor.{TextCursor}
-use Rattle.value_text.specs.Forms.{IsNumbered, IsNumberedText, IsEscaped, IsEscapedText, NoneNext, is_lower_digit}
+use Rattle.value_text.specs.Forms.{IsNumbered, IsNumberedText, NoneNext, is_lower_digit}
 use Rattle.value_text.specs.Fronts.{Begins}
 use Rattle.value_text.specs.Scanning.{Passes, Takes, GoesWrong}
-use Rattle.value_text.proofs.FrontLaws.{Stops, StandsBehind, IsPrefixFree, passes_none, passes_on, takes_whole, takes_behind, wrong_behind, wrong_where_it_stops}
+use Rattle.value_text.proofs.FrontLaws.{IsPrefixFree, passes_none, passes_on, takes_whole, wrong_where_it_stops}
 use Rattle.value_text.proofs.HexTexts.{digit_is, is_lower}
-use Rattle.value_text.proofs.NextLaws.{some_bytes}
 
 -- ---- bytes of ASCII
 
@@ -89,9 +88,9 @@ numbered_cases c text is =
     elim (cases_lt c 16) [
       | inl small ↦ inl (c, small, refl, is.1 ∙ one_digit_text c small)
       | inr large ↦
-        let small : c - 16 < 16 = omega (arith, is.0, large) in
-        let whole : c ≡ 16 + (c - 16) = omega (arith, large) in
-        inr (c - 16, small, whole, is.1 ∙ ap (λ (n : ℕ). digits 16 false n ++ 125 ∷ []) whole ∙ two_digit_text (c - 16) small)
+          let small : c - 16 < 16 = omega (arith, is.0, large) in
+          let whole : c ≡ 16 + (c - 16) = omega (arith, large) in
+          inr (c - 16, small, whole, is.1 ∙ ap (λ (n : ℕ). digits 16 false n ++ 125 ∷ []) whole ∙ two_digit_text (c - 16) small)
     ]
 
 -- the number that stands first is one
@@ -100,20 +99,20 @@ one_numbered c d a b x y p q e =
     elim (numbered_cases c a p) [
       | inl one ↦ elim (numbered_cases d b q) [
         | inl other ↦
-          let same : low one.0 ∷ 125 ∷ x ≡ low other.0 ∷ 125 ∷ y = ap (λ (bs : List ℕ). bs ++ x) (sym one.3) ∙ e ∙ ap (λ (bs : List ℕ). bs ++ y) other.3 in
-          (one.2 ∙ low_same one.0 other.0 one.1 other.1 (head_is _ _ _ _ same) ∙ sym other.2, tail_is _ _ _ _ (tail_is _ _ _ _ same))
+            let same : low one.0 ∷ 125 ∷ x ≡ low other.0 ∷ 125 ∷ y = ap (λ (bs : List ℕ). bs ++ x) (sym one.3) ∙ e ∙ ap (λ (bs : List ℕ). bs ++ y) other.3 in
+            (one.2 ∙ low_same one.0 other.0 one.1 other.1 (head_is _ _ _ _ same) ∙ sym other.2, tail_is _ _ _ _ (tail_is _ _ _ _ same))
         | inr other ↦
-          let same : low one.0 ∷ 125 ∷ x ≡ 49 ∷ low other.0 ∷ 125 ∷ y = ap (λ (bs : List ℕ). bs ++ x) (sym one.3) ∙ e ∙ ap (λ (bs : List ℕ). bs ++ y) other.3 in
-          absurd (is_no_brace other.0 other.1 (sym (head_is _ _ _ _ (tail_is _ _ _ _ same))))
+            let same : low one.0 ∷ 125 ∷ x ≡ 49 ∷ low other.0 ∷ 125 ∷ y = ap (λ (bs : List ℕ). bs ++ x) (sym one.3) ∙ e ∙ ap (λ (bs : List ℕ). bs ++ y) other.3 in
+            absurd (is_no_brace other.0 other.1 (sym (head_is _ _ _ _ (tail_is _ _ _ _ same))))
       ]
       | inr one ↦ elim (numbered_cases d b q) [
         | inl other ↦
-          let same : 49 ∷ low one.0 ∷ 125 ∷ x ≡ low other.0 ∷ 125 ∷ y = ap (λ (bs : List ℕ). bs ++ x) (sym one.3) ∙ e ∙ ap (λ (bs : List ℕ). bs ++ y) other.3 in
-          absurd (is_no_brace one.0 one.1 (head_is _ _ _ _ (tail_is _ _ _ _ same)))
+            let same : 49 ∷ low one.0 ∷ 125 ∷ x ≡ low other.0 ∷ 125 ∷ y = ap (λ (bs : List ℕ). bs ++ x) (sym one.3) ∙ e ∙ ap (λ (bs : List ℕ). bs ++ y) other.3 in
+            absurd (is_no_brace one.0 one.1 (head_is _ _ _ _ (tail_is _ _ _ _ same)))
         | inr other ↦
-          let same : 49 ∷ low one.0 ∷ 125 ∷ x ≡ 49 ∷ low other.0 ∷ 125 ∷ y = ap (λ (bs : List ℕ). bs ++ x) (sym one.3) ∙ e ∙ ap (λ (bs : List ℕ). bs ++ y) other.3 in
-          let digit = low_same one.0 other.0 one.1 other.1 (head_is _ _ _ _ (tail_is _ _ _ _ same)) in
-          (one.2 ∙ ap (λ (n : ℕ). 16 + n) digit ∙ sym other.2, tail_is _ _ _ _ (tail_is _ _ _ _ (tail_is _ _ _ _ same)))
+            let same : 49 ∷ low one.0 ∷ 125 ∷ x ≡ 49 ∷ low other.0 ∷ 125 ∷ y = ap (λ (bs : List ℕ). bs ++ x) (sym one.3) ∙ e ∙ ap (λ (bs : List ℕ). bs ++ y) other.3 in
+            let digit = low_same one.0 other.0 one.1 other.1 (head_is _ _ _ _ (tail_is _ _ _ _ same)) in
+            (one.2 ∙ ap (λ (n : ℕ). 16 + n) digit ∙ sym other.2, tail_is _ _ _ _ (tail_is _ _ _ _ (tail_is _ _ _ _ same)))
       ]
     ]
 
@@ -147,9 +146,12 @@ takes_one_digit a b d digit small first brace =
 pub takes_two_digits : (a b d e : TextCursor) (high digit : ℕ) → high ≡ 1 → digit < 16 → Passes a (low high ∷ []) b → Passes b (low digit ∷ []) d → Passes d (125 ∷ []) e → GivesNumbered a (16 + digit) e
 takes_two_digits a b d e high digit one small first second brace =
     let is : IsNumbered (16 + digit) (encode_utf8_all (49 ∷ low digit ∷ 125 ∷ [])) = rw (encodes_two digit small) (numbered_high digit small) in
-    let passed : Passes a (49 ∷ []) b = subst (λ (n : ℕ). Passes a (low n ∷ []) b) one first in
-    (49 ∷ low digit ∷ 125 ∷ [], takes_whole IsNumberedText a (49 ∷ low digit ∷ 125 ∷ []) e numbered_free
-        (passes_on a b e (49 ∷ []) (low digit ∷ 125 ∷ []) passed (passes_on b d e (low digit ∷ []) (125 ∷ []) second brace)) (16 + digit, is), is)
+    let passed : Passes a (49 ∷ []) b = subst (λ (n : ℕ). Passes a (low n ∷ []) b) one first in (
+      49 ∷ low digit ∷ 125 ∷ [],
+      takes_whole IsNumberedText a (49 ∷ low digit ∷ 125 ∷ []) e numbered_free
+          (passes_on a b e (49 ∷ []) (low digit ∷ 125 ∷ []) passed (passes_on b d e (low digit ∷ []) (125 ∷ []) second brace)) (16 + digit, is),
+      is,
+    )
 
 lower_fails : (d c : ℕ) → d < 16 → c ≡ low d → is_lower_digit c ≡ false → ⊥
 lower_fails d c small e fails = let wrong : true ≡ false = sym (is_lower d small) ∙ ap is_lower_digit (sym e) ∙ fails in absurd cc
@@ -161,11 +163,11 @@ char_fails c d e fails = grind (arith, nat_tests)
 pub no_number : (a b : TextCursor) → b ≡ a → NoneNext is_lower_digit a.rest.now → GoesWrong IsNumberedText a b.place
 no_number a b stays none =
     rw stays (wrong_where_it_stops IsNumberedText a [] a (passes_none a) (low 0 ∷ 125 ∷ [], (0, numbered_low 0 (omega arith)))
-        (λ one. elim (numbered_cases one.0 [] one.1) [ | inl p ↦ omega (arith, ap length p.3) | inr p ↦ omega (arith, ap length p.3) ])
-        (λ c more after there one. elim (numbered_cases one.0 (encode_utf8 c ++ after) one.1) [
-          | inl p ↦ lower_fails p.0 c p.1 (first_is c (low p.0) after (125 ∷ []) p.3 (low_ascii p.0 p.1)) (none c more there)
-          | inr p ↦ lower_fails 1 c (omega arith) (first_is c 49 after (low p.0 ∷ 125 ∷ []) p.3 (omega arith)) (none c more there)
-        ]))
+    (λ one. elim (numbered_cases one.0 [] one.1) [ inl p ↦ omega (arith, ap length p.3) | inr p ↦ omega (arith, ap length p.3) ])
+    (λ c more after there one. elim (numbered_cases one.0 (encode_utf8 c ++ after) one.1) [
+      | inl p ↦ lower_fails p.0 c p.1 (first_is c (low p.0) after (125 ∷ []) p.3 (low_ascii p.0 p.1)) (none c more there)
+      | inr p ↦ lower_fails 1 c (omega arith) (first_is c 49 after (low p.0 ∷ 125 ∷ []) p.3 (omega arith)) (none c more there)
+    ]))
 
 digit_bytes : (d : ℕ) (rest : List ℕ) → d < 16 → encode_utf8_all (low d ∷ []) ++ rest ≡ low d ∷ rest
 digit_bytes d rest small = ap (λ (bs : List ℕ). bs ++ rest) (encodes_ascii (low d ∷ []) (low_ascii d small, tt))
@@ -173,7 +175,7 @@ digit_bytes d rest small = ap (λ (bs : List ℕ). bs ++ rest) (encodes_ascii (l
 digit_is_none : (d : ℕ) → d < 16 → IsNumberedText (encode_utf8_all (low d ∷ [])) → ⊥
 digit_is_none d small one =
     let is : encode_utf8_all (low d ∷ []) ≡ low d ∷ [] = encodes_ascii (low d ∷ []) (low_ascii d small, tt) in
-    elim (numbered_cases one.0 _ one.1) [ | inl p ↦ omega (arith, ap length (sym is ∙ p.3)) | inr p ↦ omega (arith, ap length (sym is ∙ p.3)) ]
+    elim (numbered_cases one.0 _ one.1) [ inl p ↦ omega (arith, ap length (sym is ∙ p.3)) | inr p ↦ omega (arith, ap length (sym is ∙ p.3)) ]
 
 digit_begins : (d : ℕ) → d < 16 → Begins IsNumberedText (low d ∷ [])
 digit_begins d small = (125 ∷ [], (d, rw (digit_bytes d (125 ∷ []) small) (numbered_low d small)))
@@ -182,20 +184,20 @@ digit_begins d small = (125 ∷ [], (d, rw (digit_bytes d (125 ∷ []) small) (n
 pub no_brace : (a b d : TextCursor) (digit : ℕ) → digit < 16 → (digit ≡ 1 → ⊥) → Passes a (low digit ∷ []) b → d ≡ b → NoneNext (λ c. c == 125) b.rest.now → GoesWrong IsNumberedText a d.place
 no_brace a b d digit small differs first stays none =
     rw stays (wrong_where_it_stops IsNumberedText a (low digit ∷ []) b first (digit_begins digit small) (digit_is_none digit small)
-        (λ c more after there one. let is = digit_bytes digit (encode_utf8 c ++ after) small in elim (numbered_cases one.0 _ one.1) [
-          | inl p ↦ char_fails c 125 (first_is c 125 after [] (tail_is _ _ _ _ (sym is ∙ p.3)) (omega arith)) (none c more there)
-          | inr p ↦ differs (low_one digit small (head_is _ _ _ _ (sym is ∙ p.3)))
-        ]))
+    (λ c more after there one. let is = digit_bytes digit (encode_utf8 c ++ after) small in elim (numbered_cases one.0 _ one.1) [
+      | inl p ↦ char_fails c 125 (first_is c 125 after [] (tail_is _ _ _ _ (sym is ∙ p.3)) (omega arith)) (none c more there)
+      | inr p ↦ differs (low_one digit small (head_is _ _ _ _ (sym is ∙ p.3)))
+    ]))
 
 -- a 1, and neither a digit nor a brace
 pub no_second : (a b d e : TextCursor) (digit : ℕ) → digit < 16 → Passes a (low digit ∷ []) b → d ≡ b → e ≡ d → NoneNext (λ c. c == 125) b.rest.now → NoneNext is_lower_digit d.rest.now → GoesWrong IsNumberedText a e.place
 no_second a b d e digit small first stays again none no_digit =
     let no_more = subst (λ (x : TextCursor). NoneNext is_lower_digit x.rest.now) stays no_digit in
     rw (again ∙ stays) (wrong_where_it_stops IsNumberedText a (low digit ∷ []) b first (digit_begins digit small) (digit_is_none digit small)
-        (λ c more after there one. let is = digit_bytes digit (encode_utf8 c ++ after) small in elim (numbered_cases one.0 _ one.1) [
-          | inl p ↦ char_fails c 125 (first_is c 125 after [] (tail_is _ _ _ _ (sym is ∙ p.3)) (omega arith)) (none c more there)
-          | inr p ↦ lower_fails p.0 c p.1 (first_is c (low p.0) after (125 ∷ []) (tail_is _ _ _ _ (sym is ∙ p.3)) (low_ascii p.0 p.1)) (no_more c more there)
-        ]))
+    (λ c more after there one. let is = digit_bytes digit (encode_utf8 c ++ after) small in elim (numbered_cases one.0 _ one.1) [
+      | inl p ↦ char_fails c 125 (first_is c 125 after [] (tail_is _ _ _ _ (sym is ∙ p.3)) (omega arith)) (none c more there)
+      | inr p ↦ lower_fails p.0 c p.1 (first_is c (low p.0) after (125 ∷ []) (tail_is _ _ _ _ (sym is ∙ p.3)) (low_ascii p.0 p.1)) (no_more c more there)
+    ]))
 
 -- two digits, and no brace
 pub no_end : (a b d e : TextCursor) (high digit : ℕ) → high ≡ 1 → digit < 16 → Passes a (low high ∷ []) b → Passes b (low digit ∷ []) d → e ≡ d → NoneNext (λ c. c == 125) d.rest.now → GoesWrong IsNumberedText a e.place
@@ -205,13 +207,13 @@ no_end a b d e high digit one small first second stays none =
     let written : encode_utf8_all front ≡ front = encodes_ascii front (omega arith, (low_ascii digit small, tt)) in
     let begun : encode_utf8_all front ++ 125 ∷ [] ≡ 49 ∷ low digit ∷ 125 ∷ [] = ap (λ (bs : List ℕ). bs ++ 125 ∷ []) written in
     rw stays (wrong_where_it_stops IsNumberedText a front d (passes_on a b d (49 ∷ []) (low digit ∷ []) passed second)
-        (125 ∷ [], (16 + digit, rw begun (numbered_high digit small)))
-        (λ whole. elim (numbered_cases whole.0 _ whole.1) [
-          | inl p ↦ is_no_brace digit small (head_is _ _ _ _ (tail_is _ _ _ _ (sym written ∙ p.3)))
-          | inr p ↦ omega (arith, ap length (sym written ∙ p.3))
-        ])
-        (λ c more after there whole. let is : encode_utf8_all front ++ (encode_utf8 c ++ after) ≡ 49 ∷ low digit ∷ (encode_utf8 c ++ after) = ap (λ (bs : List ℕ). bs ++ (encode_utf8 c ++ after)) written in
-          elim (numbered_cases whole.0 _ whole.1) [
-          | inl p ↦ is_no_brace digit small (head_is _ _ _ _ (tail_is _ _ _ _ (sym is ∙ p.3)))
-          | inr p ↦ char_fails c 125 (first_is c 125 after [] (tail_is _ _ _ _ (tail_is _ _ _ _ (sym is ∙ p.3))) (omega arith)) (none c more there)
-        ]))
+    (125 ∷ [], (16 + digit, rw begun (numbered_high digit small)))
+    (λ whole. elim (numbered_cases whole.0 _ whole.1) [
+      | inl p ↦ is_no_brace digit small (head_is _ _ _ _ (tail_is _ _ _ _ (sym written ∙ p.3)))
+      | inr p ↦ omega (arith, ap length (sym written ∙ p.3))
+    ])
+    (λ c more after there whole. let is : encode_utf8_all front ++ (encode_utf8 c ++ after) ≡ 49 ∷ low digit ∷ (encode_utf8 c ++ after) = ap (λ (bs : List ℕ). bs ++ (encode_utf8 c ++ after)) written in
+    elim (numbered_cases whole.0 _ whole.1) [
+      | inl p ↦ is_no_brace digit small (head_is _ _ _ _ (tail_is _ _ _ _ (sym is ∙ p.3)))
+      | inr p ↦ char_fails c 125 (first_is c 125 after [] (tail_is _ _ _ _ (tail_is _ _ _ _ (sym is ∙ p.3))) (omega arith)) (none c more there)
+    ]))

@@ -1,13 +1,13 @@
 -- Binaries where a cursor stands.
-use Rattle.std.proofs.Common.{◌≡◌, ℕ, zero, suc, ◌+◌, ◌*◌, ◌-◌, ◌/◌, ◌%◌, ◌<◌, ◌≤◌, Bool, true, false, cond, ◌&&◌, List, [], ◌∷◌, ◌++◌, length, get_or, inl, inr, refl, sym, ap, ap₂, subst, ◌∙◌, append_assoc, arith}
+use Rattle.std.proofs.Common.{◌≡◌, ℕ, zero, suc, ◌+◌, ◌*◌, ◌/◌, ◌%◌, ◌<◌, Bool, true, false, ◌&&◌, List, [], ◌∷◌, ◌++◌, length, get_or, inl, inr, refl, sym, ap, ap₂, subst, ◌∙◌, append_assoc, arith}
 use Rattle.std.specs.Prelude.{◌==◌, encode_utf8, slice_index}
 use Rattle.std.specs.Char.{digit_char}
 use Rattle.std.specs.List.{AllByRecursion}
-use Rattle.std.specs.Str.{encode_utf8_all, IsAscii}
+use Rattle.std.specs.Str.{encode_utf8_all}
 use Rattle.std.proofs.lemmas.Bool.{and_parts, cases_lt, eqb-true}
 use Rattle.std.proofs.lemmas.Bool.Decides.{nat_tests}
-use Rattle.std.proofs.lemmas.List.{append-nil, length-append, nil_from_length}
-use Rattle.std.proofs.lemmas.Str.{char_from_byte, encodes-IsAscii, encode_ascii, encodes-append}
+use Rattle.std.proofs.lemmas.List.{length-append, nil_from_length}
+use Rattle.std.proofs.lemmas.Str.{char_from_byte, encode_ascii}
 use Rattle.hex.specs.Hex.{encode_lower, encode_with, lower_digits}
 use Rattle.hex.proofs.HexLemmas.{length-encode_with}
 use Rattle.value_text.specs.declared.cursor.TextCursor.{TextCursor}
@@ -102,11 +102,10 @@ reads_more a b c d bytes more high low byte reads is_high is_low first second is
     let top : byte / 16 ≡ high = omega (arith, is, is_low) in
     let bottom : byte % 16 ≡ low = omega (arith, is, is_low) in
     let written : encode_lower more ≡ encode_lower bytes ++ slice_index lower_digits high ∷ slice_index lower_digits low ∷ [] =
-        ap encode_lower all ∙ byte_behind bytes byte ∙ ap₂ (λ (t o : ℕ). encode_lower bytes ++ slice_index lower_digits t ∷ slice_index lower_digits o ∷ []) top bottom in
-    (
+    ap encode_lower all ∙ byte_behind bytes byte ∙ ap₂ (λ (t o : ℕ). encode_lower bytes ++ slice_index lower_digits t ∷ slice_index lower_digits o ∷ []) top bottom in (
       rw all (bytes_behind bytes byte reads.0 (omega (arith, is, is_high, is_low))),
       rw written (passes_on a b d (encode_lower bytes) (slice_index lower_digits high ∷ slice_index lower_digits low ∷ []) reads.1
-          (passes_on b c d (slice_index lower_digits high ∷ []) (slice_index lower_digits low ∷ []) first second))
+          (passes_on b c d (slice_index lower_digits high ∷ []) (slice_index lower_digits low ∷ []) first second)),
     )
 
 stops_at_other : (front rest : List ℕ) → encode_utf8_all front ≡ front → NoneNext is_lower_digit rest → Stops IsBytesText front rest
@@ -140,9 +139,9 @@ wrong_odd a b c d bytes high reads is_high first stays none =
     let top : (high * 16) / 16 ≡ high = omega arith in
     let bottom : (high * 16) % 16 ≡ 0 = omega arith in
     let begun : encode_utf8_all front ++ slice_index lower_digits 0 ∷ [] ≡ encode_lower (bytes ++ high * 16 ∷ []) =
-        ap (λ (bs : List ℕ). bs ++ slice_index lower_digits 0 ∷ []) same ∙ append_assoc (encode_lower bytes) (slice_index lower_digits high ∷ []) (slice_index lower_digits 0 ∷ [])
-        ∙ ap₂ (λ (t o : ℕ). encode_lower bytes ++ slice_index lower_digits t ∷ slice_index lower_digits o ∷ []) (sym top) (sym bottom) ∙ sym (byte_behind bytes (high * 16)) in
+    ap (λ (bs : List ℕ). bs ++ slice_index lower_digits 0 ∷ []) same ∙ append_assoc (encode_lower bytes) (slice_index lower_digits high ∷ []) (slice_index lower_digits 0 ∷ [])
+    ∙ ap₂ (λ (t o : ℕ). encode_lower bytes ++ slice_index lower_digits t ∷ slice_index lower_digits o ∷ []) (sym top) (sym bottom) ∙ sym (byte_behind bytes (high * 16)) in
     rw stays (wrong_where_it_stops IsBytesText a front c (passes_on a b c (encode_lower bytes) (slice_index lower_digits high ∷ []) reads.1 first)
-        (slice_index lower_digits 0 ∷ [], (bytes ++ high * 16 ∷ [], bytes_behind bytes (high * 16) reads.0 (omega (arith, is_high)), begun))
-        (λ one. odd_is_none bytes one.0 (slice_index lower_digits high) (sym same ∙ one.2))
-        (stops_at_other front c.rest.now same none))
+    (slice_index lower_digits 0 ∷ [], (bytes ++ high * 16 ∷ [], bytes_behind bytes (high * 16) reads.0 (omega (arith, is_high)), begun))
+    (λ one. odd_is_none bytes one.0 (slice_index lower_digits high) (sym same ∙ one.2))
+    (stops_at_other front c.rest.now same none))

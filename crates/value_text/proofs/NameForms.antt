@@ -1,21 +1,20 @@
 -- The texts of an enumeration in the code, and the names that are awaited.
-use Rattle.std.proofs.Common.{◌≡◌, ℕ, zero, suc, ◌+◌, ◌<◌, ◌≤◌, ◌^◌, ℤ, pos, negsuc, List, [], ◌∷◌, ◌++◌, length, map, get_or, Bor, ◌⊎◌, inl, inr, refl, sym, ap, ap₂, subst, ◌∙◌, arith, SFits}
-use Rattle.std.specs.Prelude.{◌==◌, Bool, All, Some, None, slice_get, slice_index, encode_utf8}
+use Rattle.std.proofs.Common.{◌≡◌, ℕ, zero, suc, ◌<◌, ◌≤◌, ℤ, pos, negsuc, List, [], ◌∷◌, ◌++◌, length, map, get_or, Bor, ◌⊎◌, inl, inr, refl, sym, ap, subst, ◌∙◌, arith, SFits}
+use Rattle.std.specs.Prelude.{◌==◌, Bool, All, Some, None, slice_get, encode_utf8}
 use Rattle.std.specs.Int.{w128}
 use Rattle.std.specs.Str.{encode_utf8_all, IsAscii}
-use Rattle.std.proofs.lemmas.List.{length-map, length-append}
+use Rattle.std.proofs.lemmas.List.{length-map}
 use Rattle.std.proofs.lemmas.Str.{IsAscii-append, encode_ascii}
 use Rattle.exi_schema.specs.declared.schema.Schema.{Schema}
 use Rattle.exi_schema.specs.declared.tables.Datatype.{Datatype}
 use Rattle.exi_schema.specs.declared.tables.Datatype.TheVariants.{Named, Bounded, Unsigned, Signed}
-use Rattle.exi_schema.specs.declared.tables.Declaration.{Declaration}
 use Rattle.exi_schema.specs.declared.tables.Declaration.TheVariants.{Simple}
 use Rattle.exi_schema.specs.Steps.{texts_of}
 use Rattle.value_text.specs.declared.awaited.Awaited.{Awaited}
 use Rattle.value_text.specs.declared.cursor.TextCursor.{TextCursor}
 use Rattle.value_text.specs.Forms.{AreAscii, AgreesMost, IsOneOf, awaited_text}
 use Rattle.value_text.specs.Scanning.{Takes, GoesWrong, IsAnyAwaited, IsAwaitedText}
-use Rattle.value_text.specs.ValueText.{value_names, IsShort, IsName}
+use Rattle.value_text.specs.ValueText.{IsShort, IsName}
 use Rattle.value_text.proofs.SchemaWords.{values_ascii, names_ascii, names_of_kind, some_names}
 use Rattle.value_text.proofs.ValueForms.{SameTexts, names_there, IsNumeric}
 use Rattle.value_text.proofs.BestWords.{GivesWord}
@@ -112,19 +111,19 @@ spelled s one t is = is.2 ∙ ap (λ (bs : List ℕ). bs ++ encode_utf8 one.end)
 
 pub awaited_same : (s : Schema) (awaited : List Awaited) → AreNames s awaited → SameTexts (IsOneOf (awaited_words s awaited)) (IsAnyAwaited s awaited)
 awaited_same s awaited fit = record {
-    to = λ t one.
+  to = λ t one.
       let found = unmapped (λ (x : Awaited). awaited_text (name_at s x.name) x.end) awaited one.0 t one.1 in
       (one.0, found.0, found.1, (name_at s found.0.name, name_there s found.0.name (fit one.0 found.0 found.1).0, sym found.2));
-    from = λ t one. (one.0, remapped (λ (x : Awaited). awaited_text (name_at s x.name) x.end) awaited one.0 one.1 one.2 ∙ ap (λ (bs : List ℕ). Some bs) (sym (spelled s one.1 t one.3)))
-  }
+  from = λ t one. (one.0, remapped (λ (x : Awaited). awaited_text (name_at s x.name) x.end) awaited one.0 one.1 one.2 ∙ ap (λ (bs : List ℕ). Some bs) (sym (spelled s one.1 t one.3)));
+}
 
 pub awaited_ascii : (s : Schema) (awaited : List Awaited) → AreNames s awaited → AreAscii (awaited_words s awaited)
 awaited_ascii s awaited fit i word at =
     let found = unmapped (λ (x : Awaited). awaited_text (name_at s x.name) x.end) awaited i word at in
     let fits = fit i found.0 found.1 in
     subst IsAscii found.2 (IsAscii-append (name_at s found.0.name) (encode_utf8 found.0.end)
-        (names_ascii s found.0.name (name_at s found.0.name) (name_there s found.0.name fits.0))
-        (subst IsAscii (sym (encode_ascii found.0.end fits.1)) (one_ascii found.0.end fits.1)))
+    (names_ascii s found.0.name (name_at s found.0.name) (name_there s found.0.name fits.0))
+    (subst IsAscii (sym (encode_ascii found.0.end fits.1)) (one_ascii found.0.end fits.1)))
   where
     one_ascii : (c : ℕ) → c < 128 → IsAscii (c ∷ [])
     one_ascii c small zero = small
@@ -137,9 +136,13 @@ GivesName s awaited a i b =
 pub takes_name : (s : Schema) (awaited : List Awaited) (a b : TextCursor) (i : ℕ) → AreNames s awaited → GivesWord (awaited_words s awaited) a i b → GivesName s awaited a i b
 takes_name s awaited a b i fit g =
     let same = awaited_same s awaited fit in
-    let found = unmapped (λ (x : Awaited). awaited_text (name_at s x.name) x.end) awaited i (encode_utf8_all g.0) g.2 in
-    (g.0, found.0, takes_same (IsOneOf (awaited_words s awaited)) (IsAnyAwaited s awaited) a g.0 b same.to same.from g.1, found.1,
-        (name_at s found.0.name, name_there s found.0.name (fit i found.0 found.1).0, sym found.2))
+    let found = unmapped (λ (x : Awaited). awaited_text (name_at s x.name) x.end) awaited i (encode_utf8_all g.0) g.2 in (
+      g.0,
+      found.0,
+      takes_same (IsOneOf (awaited_words s awaited)) (IsAnyAwaited s awaited) a g.0 b same.to same.from g.1,
+      found.1,
+      (name_at s found.0.name, name_there s found.0.name (fit i found.0 found.1).0, sym found.2),
+    )
 
 pub no_name : (s : Schema) (awaited : List Awaited) (a : TextCursor) (place : ℕ) → AreNames s awaited → GoesWrong (IsOneOf (awaited_words s awaited)) a place → GoesWrong (IsAnyAwaited s awaited) a place
 no_name s awaited a place fit w =

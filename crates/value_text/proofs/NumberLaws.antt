@@ -1,5 +1,5 @@
 -- Numbers where a cursor stands: each number's text is taken whole, and each fault is at the first character that no number has there.
-use Rattle.std.proofs.Common.{◌≡◌, ℕ, zero, suc, ◌+◌, ◌<◌, ◌≤◌, ◌^◌, ℤ, pos, negsuc, Bool, true, false, List, [], ◌∷◌, ◌++◌, length, get_or, drop, refl, sym, ap, ap₂, subst, ◌∙◌, arith, to_z, of_z, ◌-ℤ◌}
+use Rattle.std.proofs.Common.{◌≡◌, ℕ, zero, suc, ◌<◌, ◌≤◌, ◌^◌, ℤ, pos, negsuc, false, List, [], ◌∷◌, ◌++◌, length, get_or, drop, refl, sym, ap, ap₂, subst, ◌∙◌, arith, to_z, of_z, ◌-ℤ◌}
 use Rattle.std.specs.Prelude.{◌==◌, encode_utf8}
 use Rattle.std.specs.Char.{is_ascii_digit}
 use Rattle.std.specs.Fmt.{decimal, signed_decimal}
@@ -12,7 +12,6 @@ use Rattle.std.proofs.lemmas.List.{append-nil, get_or_append_left, nil_from_leng
 use Rattle.std.proofs.lemmas.Str.{char_from_byte, encode_ascii}
 use Rattle.value_text.specs.declared.cursor.TextCursor.{TextCursor}
 use Rattle.value_text.specs.Forms.{IsNumberText, NoneNext, EndsDigits}
-use Rattle.value_text.specs.Fronts.{Begins}
 use Rattle.value_text.specs.Scanning.{Passes, Takes, GoesWrong}
 use Rattle.value_text.specs.ValueText.{IsShort}
 use Rattle.value_text.proofs.FrontLaws.{Stops, passes_none, passes_on, takes_where_it_stops, wrong_where_it_stops}
@@ -99,8 +98,8 @@ stops_behind_signed n rest small ends c more after there (negsuc m, short, e) =
 pub takes_negative : (a b d : TextCursor) (k : ℕ) → suc k < 10 ^ 20 → Passes a (45 ∷ []) b → Passes b (decimal (suc k)) d → EndsDigits (suc k) d.rest.now → Takes IsNumberText a (45 ∷ decimal (suc k)) d
 takes_negative a b d k small sign passed ends =
     takes_where_it_stops IsNumberText a (45 ∷ decimal (suc k)) d (passes_on a b d (45 ∷ []) (decimal (suc k)) sign passed)
-        (negsuc k, small, sym (append-nil _) ∙ signed_bytes (suc k) [] small ∙ ap (λ (bs : List ℕ). 45 ∷ bs) (append-nil (decimal (suc k))))
-        (stops_behind_signed (suc k) d.rest.now small ends)
+    (negsuc k, small, sym (append-nil _) ∙ signed_bytes (suc k) [] small ∙ ap (λ (bs : List ℕ). 45 ∷ bs) (append-nil (decimal (suc k))))
+    (stops_behind_signed (suc k) d.rest.now small ends)
 
 -- ---- 0
 
@@ -139,7 +138,7 @@ sign_is_none text is (negsuc m, short, e) =
 pub wrong_behind_sign : (a b : TextCursor) → Passes a (45 ∷ []) b → NoneNext (is_in_range 49 57) b.rest.now → GoesWrong IsNumberText a b.place
 wrong_behind_sign a b passed none =
     wrong_where_it_stops IsNumberText a (45 ∷ []) b passed (decimal 1, (negsuc 0, omega arith, sign_bytes (decimal 1)))
-        (sign_is_none _ (sym (append-nil _) ∙ sign_bytes [])) (stops_behind_sign b.rest.now none)
+    (sign_is_none _ (sym (append-nil _) ∙ sign_bytes [])) (stops_behind_sign b.rest.now none)
 
 digit_cases : (c : ℕ) → IsInRange 48 57 c → (c == 48) ≡ false → is_in_range 49 57 c ≡ false → ⊥
 digit_cases c in_range not_zero fails = grind (arith, nat_tests)

@@ -1,5 +1,5 @@
 -- Decimal texts, digit by digit.
-use Rattle.std.proofs.Common.{◌≡◌, ℕ, zero, suc, ◌+◌, ◌*◌, ◌/◌, ◌%◌, ◌^◌, ◌<◌, ◌≤◌, List, [], ◌∷◌, ◌++◌, length, get_or, refl, sym, ap, subst, ◌∙◌, append_assoc, add-one, arith}
+use Rattle.std.proofs.Common.{◌≡◌, ℕ, ◌+◌, ◌*◌, ◌/◌, ◌%◌, ◌^◌, ◌<◌, ◌≤◌, List, [], ◌∷◌, ◌++◌, length, get_or, refl, sym, ap, subst, ◌∙◌, add-one, arith}
 use Rattle.std.specs.Prelude.{encode_utf8}
 use Rattle.std.specs.Fmt.{decimal}
 use Rattle.std.specs.Int.{IsInRange}
@@ -51,7 +51,7 @@ digit_inside n front c rest small e =
     let all = (decimal_is_IsNumeral_wide n (omega (arith, small))).0.1 in
     let at = digit_at (decimal n) (length front) all (omega (arith, long, behind)) in
     let there : get_or (decimal n) (length front) 0 ≡ get_or (encode_utf8 c ++ rest) 0 0 =
-        ap (λ (bs : List ℕ). get_or bs (length front) 0) e ∙ ap (λ (k : ℕ). get_or (front ++ (encode_utf8 c ++ rest)) k 0) (omega arith) ∙ get_or-append-add front (encode_utf8 c ++ rest) 0 0 in
+    ap (λ (bs : List ℕ). get_or bs (length front) 0) e ∙ ap (λ (k : ℕ). get_or (front ++ (encode_utf8 c ++ rest)) k 0) (omega arith) ∙ get_or-append-add front (encode_utf8 c ++ rest) 0 0 in
     let same : c ≡ get_or (encode_utf8 c ++ rest) 0 0 = char_from_byte (encode_utf8 c ++ rest) rest c refl (omega (arith, at.1, there)) behind in
     ((omega (arith, at.0, same, there), omega (arith, at.1, same, there)), omega (arith, long, behind, short_decimal n small))
 
@@ -76,7 +76,9 @@ next_digit a b c n d e k sofar at is digit passed =
     let bound : n * 10 + d < 10 ^ (k + 1) = omega (arith, sofar.1, digit, power_more k) in
     let written : decimal (n * 10 + d) ≡ decimal n ++ (48 + d) ∷ [] = digit_more n d sofar.0 digit (below_all _ (k + 1) bound (omega (arith, at))) in
     let all : ReadsSoFar a (n * 10 + d) (k + 1) c = (
-      omega (arith, sofar.0), bound, ap length written ∙ length-append (decimal n) ((48 + d) ∷ []) ∙ omega (arith, sofar.2),
-      subst (λ (ds : List ℕ). Passes a ds c) (sym written) (passes_on a b c (decimal n) ((48 + d) ∷ []) sofar.3 passed)
+      omega (arith, sofar.0),
+      bound,
+      ap length written ∙ length-append (decimal n) ((48 + d) ∷ []) ∙ omega (arith, sofar.2),
+      subst (λ (ds : List ℕ). Passes a ds c) (sym written) (passes_on a b c (decimal n) ((48 + d) ∷ []) sofar.3 passed),
     ) in
     subst (λ (m : ℕ). ReadsSoFar a (n * 10 + m) (k + 1) c) (sym is) all

@@ -1,18 +1,17 @@
 -- A text tells one value of a kind.
-use Rattle.std.proofs.Common.{◌≡◌, ℕ, zero, suc, ◌+◌, ◌<◌, ◌≤◌, ◌^◌, ℤ, pos, negsuc, Bool, true, false, List, [], ◌∷◌, ◌++◌, length, get_or, drop, refl, sym, ap, ap₂, subst, ◌∙◌, append_assoc, arith}
-use Rattle.std.specs.Prelude.{Ok, Result}
+use Rattle.std.proofs.Common.{◌≡◌, ℕ, zero, suc, ◌<◌, ◌^◌, ℤ, pos, negsuc, Bool, true, false, List, [], ◌∷◌, ◌++◌, length, drop, refl, sym, ap, ap₂, subst, ◌∙◌, append_assoc, arith}
+use Rattle.std.specs.Prelude.{Ok}
 use Rattle.std.specs.Fmt.{decimal, signed_decimal}
 use Rattle.std.specs.List.{AllByRecursion, flat_map}
 use Rattle.std.specs.Str.Parse.{digits_value}
 use Rattle.std.proofs.lemmas.Fmt.{decimal_is_IsNumeral_wide}
 use Rattle.hex.specs.Hex.{IsBytes, encode_lower, decode_of}
-use Rattle.hex.specs.declared.error.FromHexError.{FromHexError}
 use Rattle.hex.proofs.HexLemmas.{decode_of-encode_lower}
 use Rattle.exi_schema.specs.declared.schema.Schema.{Schema}
 use Rattle.exi_schema.specs.declared.tables.Datatype.{Datatype}
 use Rattle.exi_schema.specs.declared.tables.Datatype.TheVariants.{Bool as BoolType, Named, Bounded, Unsigned, Signed, Binary, Text as TextType}
 use Rattle.exi_documents.specs.Trees.{Value, Truth, Ordinal, Number, Bytes, Text}
-use Rattle.value_text.specs.ValueText.{character_text, quoted, truth_text, value_names, IsShort, IsOfForm, IsValueText, IsFormed}
+use Rattle.value_text.specs.ValueText.{character_text, truth_text, value_names, IsShort, IsOfForm, IsValueText, IsFormed}
 use Rattle.value_text.proofs.NumberLaws.{no_sign_alone}
 use Rattle.value_text.proofs.PieceTexts.{one_piece, no_quote_first}
 use Rattle.value_text.proofs.SchemaWords.{value_words, one_place}
@@ -51,7 +50,7 @@ one_text [] (d ∷ b) e = absurd (no_quote_first d (flat_map character_text b ++
 one_text (c ∷ a) [] e = absurd (no_quote_first c (flat_map character_text a ++ 34 ∷ []) [] (sym (append_assoc (character_text c) (flat_map character_text a) (34 ∷ [])) ∙ e))
 one_text (c ∷ a) (d ∷ b) e =
     let firsts = one_piece c d (flat_map character_text a ++ 34 ∷ []) (flat_map character_text b ++ 34 ∷ [])
-        (sym (append_assoc (character_text c) (flat_map character_text a) (34 ∷ [])) ∙ e ∙ append_assoc (character_text d) (flat_map character_text b) (34 ∷ [])) in
+    (sym (append_assoc (character_text c) (flat_map character_text a) (34 ∷ [])) ∙ e ∙ append_assoc (character_text d) (flat_map character_text b) (34 ∷ [])) in
     ap₂ (λ (n : ℕ) (ns : List ℕ). n ∷ ns) firsts.0 (one_text a b firsts.1)
 
 -- values of one form
@@ -90,6 +89,7 @@ one_value s kind d v w text p q = told (one_form d v w p.0 q.0)
   where
     of : (x y : Value) → x ≡ y → IsValueText s kind x text → IsValueText s kind y text
     of x y e h = subst (λ (z : Value). IsValueText s kind z text) e h
+
     told : OneForm v w → v ≡ w
     told (truths a b e f) = e ∙ ap Truth (one_truth a b (sym (of v (Truth a) e p.1) ∙ of w (Truth b) f q.1)) ∙ sym f
     told (ordinals a b e f) = e ∙ ap Ordinal (one_place (value_names s kind) a b text (value_words s kind) (of v (Ordinal a) e p.1) (of w (Ordinal b) f q.1)) ∙ sym f

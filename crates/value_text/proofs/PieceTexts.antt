@@ -1,6 +1,6 @@
 -- Characters between quotes where a cursor stands.
-use Rattle.std.proofs.Common.{◌≡◌, ℕ, zero, suc, ◌+◌, ◌<◌, ◌≤◌, Bool, true, false, cond, List, [], ◌∷◌, ◌++◌, length, get_or, drop, ◌⊎◌, inl, inr, Result, IfOk, IfErr, refl, sym, ap, ap₂, subst, ◌∙◌, append_assoc, arith}
-use Rattle.std.specs.Prelude.{◌==◌, nat_le, nat_lt, encode_utf8, codes, Some, None, Option}
+use Rattle.std.proofs.Common.{◌≡◌, ℕ, ◌<◌, ◌≤◌, true, false, List, [], ◌∷◌, ◌++◌, length, get_or, drop, ◌⊎◌, inl, inr, Result, IfOk, IfErr, refl, sym, ap, subst, ◌∙◌, arith}
+use Rattle.std.specs.Prelude.{◌==◌, nat_le, nat_lt, encode_utf8, Some, None, Option}
 use Rattle.std.specs.Char.{IsScalar}
 use Rattle.std.specs.List.{AllByRecursion}
 use Rattle.std.specs.Str.{encode_utf8_all}
@@ -39,8 +39,8 @@ pub no_first : (L : List ℕ → Type 0) (a b : TextCursor) (first : ℕ) (whole
     → b ≡ a → NoneNext (λ c. c == first) a.rest.now → GoesWrong L a b.place
 no_first L a b first whole small one begins stays none =
     rw stays (wrong_where_it_stops L a [] a (passes_none a) (whole, one)
-        (λ empty. let is = begins [] empty in absurd (omega (arith, ap length is.1)))
-        (λ c more after there text. let is = begins (encode_utf8 c ++ after) text in char_fails c first (first_is c first after is.0 is.1 small) (none c more there)))
+    (λ empty. let is = begins [] empty in absurd (omega (arith, ap length is.1)))
+    (λ c more after there text. let is = begins (encode_utf8 c ++ after) text in char_fails c first (first_is c first after is.0 is.1 small) (none c more there)))
 
 -- ---- in braces
 
@@ -49,14 +49,16 @@ GivesBraced a c b = (front : List ℕ) × Takes IsBracedText a front b × IsBrac
 
 numbered_in_braces : StandsBehind IsNumberedText IsBracedText (123 ∷ [])
 numbered_in_braces = record {
-    to = λ x one. (one.0, (x, one.1, byte_front 123 x (omega arith)));
-    from = λ x one. (one.0, subst (IsNumbered one.0) (sym (tail_is 123 123 x one.1.0 (sym (byte_front 123 x (omega arith)) ∙ one.1.2))) one.1.1)
-  }
+  to = λ x one. (one.0, (x, one.1, byte_front 123 x (omega arith)));
+  from = λ x one. (one.0, subst (IsNumbered one.0) (sym (tail_is 123 123 x one.1.0 (sym (byte_front 123 x (omega arith)) ∙ one.1.2))) one.1.1);
+}
 
 gives_braced : (a b d : TextCursor) (c : ℕ) → Passes a (123 ∷ []) b → GivesNumbered b c d → GivesBraced a c d
-gives_braced a b d c passed g =
-    (123 ∷ g.0, takes_behind IsNumberedText IsBracedText a b d (123 ∷ []) g.0 numbered_in_braces passed g.1,
-        (encode_utf8_all g.0, g.2, byte_cons 123 g.0 (omega arith)))
+gives_braced a b d c passed g = (
+  123 ∷ g.0,
+  takes_behind IsNumberedText IsBracedText a b d (123 ∷ []) g.0 numbered_in_braces passed g.1,
+  (encode_utf8_all g.0, g.2, byte_cons 123 g.0 (omega arith)),
+)
 
 pub braced_ok : (a b : TextCursor) (r : Result (ℕ × TextCursor) ℕ) → Passes a (123 ∷ []) b → IfOk r (λ x. GivesNumbered b x.0 x.1) → IfOk r (λ x. GivesBraced a x.0 x.1)
 braced_ok a b r passed h = ok_to r (λ x. GivesNumbered b x.0 x.1) (λ x. GivesBraced a x.0 x.1) (λ x g. gives_braced a b x.1 x.0 passed g) h
@@ -119,20 +121,22 @@ takes_escaped a b c (inr is) passed =
 
 braced_in_escape : StandsBehind IsBracedText IsEscapedText (117 ∷ [])
 braced_in_escape = record {
-    to = λ x one. (one.0, inr (inr (x, one.1, byte_front 117 x (omega arith))));
-    from = λ x one. elim one.1 [
-      | inl p ↦ absurd (omega (arith, head_is 117 34 x [] (sym (byte_front 117 x (omega arith)) ∙ p.1)))
-      | inr other ↦ elim other [
-        | inl p ↦ absurd (omega (arith, head_is 117 92 x [] (sym (byte_front 117 x (omega arith)) ∙ p.1)))
-        | inr p ↦ (one.0, subst (IsBraced one.0) (sym (tail_is 117 117 x p.0 (sym (byte_front 117 x (omega arith)) ∙ p.2))) p.1)
-      ]
+  to = λ x one. (one.0, inr (inr (x, one.1, byte_front 117 x (omega arith))));
+  from = λ x one. elim one.1 [
+    | inl p ↦ absurd (omega (arith, head_is 117 34 x [] (sym (byte_front 117 x (omega arith)) ∙ p.1)))
+    | inr other ↦ elim other [
+      | inl p ↦ absurd (omega (arith, head_is 117 92 x [] (sym (byte_front 117 x (omega arith)) ∙ p.1)))
+      | inr p ↦ (one.0, subst (IsBraced one.0) (sym (tail_is 117 117 x p.0 (sym (byte_front 117 x (omega arith)) ∙ p.2))) p.1)
     ]
-  }
+  ];
+}
 
 gives_escaped : (a b d : TextCursor) (c : ℕ) → Passes a (117 ∷ []) b → GivesBraced b c d → GivesEscaped a c d
-gives_escaped a b d c passed g =
-    (117 ∷ g.0, takes_behind IsBracedText IsEscapedText a b d (117 ∷ []) g.0 braced_in_escape passed g.1,
-        inr (inr (encode_utf8_all g.0, g.2, byte_cons 117 g.0 (omega arith))))
+gives_escaped a b d c passed g = (
+  117 ∷ g.0,
+  takes_behind IsBracedText IsEscapedText a b d (117 ∷ []) g.0 braced_in_escape passed g.1,
+  inr (inr (encode_utf8_all g.0, g.2, byte_cons 117 g.0 (omega arith))),
+)
 
 pub escaped_ok : (a b : TextCursor) (r : Result (ℕ × TextCursor) ℕ) → Passes a (117 ∷ []) b → IfOk r (λ x. GivesBraced b x.0 x.1) → IfOk r (λ x. GivesEscaped a x.0 x.1)
 escaped_ok a b r passed h = ok_to r (λ x. GivesBraced b x.0 x.1) (λ x. GivesEscaped a x.0 x.1) (λ x g. gives_escaped a b x.1 x.0 passed g) h
@@ -143,14 +147,14 @@ escaped_wrong a b r passed h = err_to r (GoesWrong IsBracedText b) (GoesWrong Is
 pub no_escape : (a b : TextCursor) → b ≡ a → NoneNext (λ c. c == 34) a.rest.now → NoneNext (λ c. c == 92) a.rest.now → NoneNext (λ c. c == 117) a.rest.now → GoesWrong IsEscapedText a b.place
 no_escape a b stays no_quote no_backslash no_u =
     rw stays (wrong_where_it_stops IsEscapedText a [] a (passes_none a) (34 ∷ [], (34, inl (refl, refl)))
-        (λ one. elim (escaped_cases one.0 [] one.1) [ | inl p ↦ omega (arith, ap length p.1) | inr other ↦ elim other [ | inl p ↦ omega (arith, ap length p.1) | inr p ↦ omega (arith, ap length p.2) ] ])
-        (λ c more after there one. elim (escaped_cases one.0 (encode_utf8 c ++ after) one.1) [
-          | inl p ↦ char_fails c 34 (first_is c 34 after [] p.1 (omega arith)) (no_quote c more there)
-          | inr other ↦ elim other [
-            | inl p ↦ char_fails c 92 (first_is c 92 after [] p.1 (omega arith)) (no_backslash c more there)
-            | inr p ↦ char_fails c 117 (first_is c 117 after (123 ∷ p.0) p.2 (omega arith)) (no_u c more there)
-          ]
-        ]))
+    (λ one. elim (escaped_cases one.0 [] one.1) [ inl p ↦ omega (arith, ap length p.1) | inr other ↦ elim other [ inl p ↦ omega (arith, ap length p.1) | inr p ↦ omega (arith, ap length p.2) ] ])
+    (λ c more after there one. elim (escaped_cases one.0 (encode_utf8 c ++ after) one.1) [
+      | inl p ↦ char_fails c 34 (first_is c 34 after [] p.1 (omega arith)) (no_quote c more there)
+      | inr other ↦ elim other [
+        | inl p ↦ char_fails c 92 (first_is c 92 after [] p.1 (omega arith)) (no_backslash c more there)
+        | inr p ↦ char_fails c 117 (first_is c 117 after (123 ∷ p.0) p.2 (omega arith)) (no_u c more there)
+      ]
+    ]))
 
 -- ---- pieces
 
@@ -259,14 +263,16 @@ from_piece x (inr p) =
 
 escape_in_piece : StandsBehind IsEscapedText IsPieceText (92 ∷ [])
 escape_in_piece = record {
-    to = λ x one. inr (one.0, escaped_scalar one.0 x one.1, byte_front 92 x (omega arith) ∙ sym (escape_text one.0 x one.1));
-    from = λ x one. from_piece x (subst IsPieceText (byte_front 92 x (omega arith)) one)
-  }
+  to = λ x one. inr (one.0, escaped_scalar one.0 x one.1, byte_front 92 x (omega arith) ∙ sym (escape_text one.0 x one.1));
+  from = λ x one. from_piece x (subst IsPieceText (byte_front 92 x (omega arith)) one);
+}
 
 pub takes_escape : (a b d : TextCursor) (first c : ℕ) → first ≡ 92 → Passes a (first ∷ []) b → GivesEscaped b c d → GivesPiece a (Some c) d
-takes_escape a b d first c is passed g =
-    (92 ∷ g.0, takes_behind IsEscapedText IsPieceText a b d (92 ∷ []) g.0 escape_in_piece (subst (λ (n : ℕ). Passes a (n ∷ []) b) is passed) g.1,
-        (escaped_scalar c _ g.2, byte_cons 92 g.0 (omega arith) ∙ sym (escape_text c _ g.2)))
+takes_escape a b d first c is passed g = (
+  92 ∷ g.0,
+  takes_behind IsEscapedText IsPieceText a b d (92 ∷ []) g.0 escape_in_piece (subst (λ (n : ℕ). Passes a (n ∷ []) b) is passed) g.1,
+  (escaped_scalar c _ g.2, byte_cons 92 g.0 (omega arith) ∙ sym (escape_text c _ g.2)),
+)
 
 pub wrong_escape : (a b : TextCursor) (first place : ℕ) → first ≡ 92 → Passes a (first ∷ []) b → GoesWrong IsEscapedText b place → GoesWrong IsPieceText a place
 wrong_escape a b first place is passed w = wrong_behind IsEscapedText IsPieceText a b (92 ∷ []) place escape_in_piece (subst (λ (n : ℕ). Passes a (n ∷ []) b) is passed) w
@@ -293,8 +299,8 @@ large_fails c large fails = grind (arith, nat_tests)
 no_piece : (a : TextCursor) → NoneNext (λ c. nat_le 32 c) a.rest.now → GoesWrong IsPieceText a a.place
 no_piece a none =
     wrong_where_it_stops IsPieceText a [] a (passes_none a) (34 ∷ [], inl refl)
-        (λ one. elim one [ | inl p ↦ omega (arith, ap length p) | inr p ↦ some_text p.0 (sym p.2) ])
-        (λ c more after there one. large_fails c (piece_first c after one) (none c more there))
+    (λ one. elim one [ inl p ↦ omega (arith, ap length p) | inr p ↦ some_text p.0 (sym p.2) ])
+    (λ c more after there one. large_fails c (piece_first c after one) (none c more there))
 
 pub no_piece_at_end : (a : TextCursor) → a.rest.now ≡ [] → GoesWrong IsPieceText a a.place
 no_piece_at_end a is = no_piece a (none_at_end (λ c. nat_le 32 c) a.rest.now is)

@@ -1,6 +1,6 @@
 -- Texts in quotes where a cursor stands.
-use Rattle.std.proofs.Common.{◌≡◌, ◌≢◌, ℕ, zero, suc, ◌+◌, ◌<◌, ◌≤◌, Bool, true, false, List, [], ◌∷◌, ◌++◌, length, drop, ◌⊎◌, inl, inr, refl, sym, ap, ap₂, subst, ◌∙◌, append_assoc, arith}
-use Rattle.std.specs.Prelude.{◌==◌, encode_utf8, codes, Some, None}
+use Rattle.std.proofs.Common.{◌≡◌, ◌≢◌, ℕ, ◌<◌, true, List, [], ◌∷◌, ◌++◌, length, drop, inl, inr, refl, sym, ap, subst, ◌∙◌, append_assoc, arith}
+use Rattle.std.specs.Prelude.{◌==◌, encode_utf8, Some, None}
 use Rattle.std.specs.Char.{IsScalar}
 use Rattle.std.specs.List.{AllByRecursion, flat_map}
 use Rattle.std.specs.Str.{encode_utf8_all, all_scalars, chars, IsUtf8}
@@ -8,11 +8,11 @@ use Rattle.std.proofs.lemmas.Grind.{flat_map-append}
 use Rattle.std.proofs.lemmas.List.{append-nil, length-append, nil_from_length}
 use Rattle.std.proofs.lemmas.Str.{encode_same, encodes-append, chars-append, chars-encodes, chars-nil}
 use Rattle.value_text.specs.declared.cursor.TextCursor.{TextCursor}
-use Rattle.value_text.specs.Forms.{IsPiece, IsPieceText, IsQuotedText, NoneNext}
+use Rattle.value_text.specs.Forms.{IsPieceText, IsQuotedText, NoneNext}
 use Rattle.value_text.specs.Scanning.{Passes, Takes, GoesWrong}
 use Rattle.value_text.specs.ValueText.{character_text, quoted}
 use Rattle.value_text.proofs.EscapeTexts.{encodes_ascii}
-use Rattle.value_text.proofs.FrontLaws.{GoesOn, compare, same_length, Stops, StandsBehind, IsPrefixFree, stops_of, longest_where_it_stops, passes_on, takes_whole, takes_behind, wrong_behind}
+use Rattle.value_text.proofs.FrontLaws.{compare, same_length, Stops, StandsBehind, IsPrefixFree, stops_of, longest_where_it_stops, passes_on, takes_whole, takes_behind, wrong_behind}
 use Rattle.value_text.proofs.NextLaws.{some_bytes}
 use Rattle.value_text.proofs.PieceTexts.{GivesPiece, one_piece, no_quote_first, no_first, spelled_chars, some_text}
 
@@ -33,7 +33,7 @@ strip [] ds x all e = (ds, all, e)
 strip (c ∷ cs) [] x all e = absurd (no_quote_first c (flat_map character_text cs ++ x) [] (sym (append_assoc (character_text c) (flat_map character_text cs) x) ∙ e))
 strip (c ∷ cs) (d ∷ ds) x all e =
     strip cs ds x all.1 (one_piece c d (flat_map character_text cs ++ x) (flat_map character_text ds ++ 34 ∷ [])
-        (sym (append_assoc (character_text c) (flat_map character_text cs) x) ∙ e ∙ append_assoc (character_text d) (flat_map character_text ds) (34 ∷ []))).1
+    (sym (append_assoc (character_text c) (flat_map character_text cs) x) ∙ e ∙ append_assoc (character_text d) (flat_map character_text ds) (34 ∷ []))).1
 
 rest_free : IsPrefixFree IsRestText
 rest_free x y p q =
@@ -63,8 +63,8 @@ rest_is_piece : (front r : List ℕ) → IsPieceText (encode_utf8_all front ++ r
 rest_is_piece front r begun none ([], all, e) = none (inl e)
 rest_is_piece front r begun none (c ∷ cs, all, e) =
     too_long (encode_utf8_all front ++ r) ((flat_map character_text cs ++ 34 ∷ []) ++ r) c begun
-        (ap (λ (bs : List ℕ). bs ++ r) (e ∙ append_assoc (character_text c) (flat_map character_text cs) (34 ∷ [])) ∙ append_assoc (character_text c) (flat_map character_text cs ++ 34 ∷ []) r)
-        (closing_longer (flat_map character_text cs) r)
+    (ap (λ (bs : List ℕ). bs ++ r) (e ∙ append_assoc (character_text c) (flat_map character_text cs) (34 ∷ [])) ∙ append_assoc (character_text c) (flat_map character_text cs ++ 34 ∷ []) r)
+    (closing_longer (flat_map character_text cs) r)
 
 rest_stops : (front rest r : List ℕ) → IsPieceText (encode_utf8_all front ++ r) → (IsPieceText (encode_utf8_all front) → ⊥) → Stops IsPieceText front rest → Stops IsRestText front rest
 rest_stops front rest r begun none stops c more after there ([], all, e) = stops c more after there (inl e)
@@ -72,26 +72,30 @@ rest_stops front rest r begun none stops c more after there (d ∷ cs, all, e) =
     let spelled = spelled_chars d in
     let behind = flat_map character_text cs ++ 34 ∷ [] in
     let whole : encode_utf8_all spelled.0 ++ behind ≡ encode_utf8_all front ++ (encode_utf8 c ++ after) =
-        ap (λ (bs : List ℕ). bs ++ behind) spelled.1 ∙ sym (append_assoc (character_text d) (flat_map character_text cs) (34 ∷ [])) ∙ sym e in
+    ap (λ (bs : List ℕ). bs ++ behind) spelled.1 ∙ sym (append_assoc (character_text d) (flat_map character_text cs) (34 ∷ [])) ∙ sym e in
     elim (compare spelled.0 front behind (encode_utf8 c ++ after) whole) [
       | inl short ↦ elim (compare front spelled.0 (encode_utf8 c ++ after) behind (sym whole)) [
         | inl long ↦
-          let same = same_length front spelled.0 (encode_utf8 c ++ after) behind (sym whole) (omega (arith, short, long)) in
-          none (inr (d, all.0, ap encode_utf8_all same ∙ spelled.1))
+            let same = same_length front spelled.0 (encode_utf8 c ++ after) behind (sym whole) (omega (arith, short, long)) in
+            none (inr (d, all.0, ap encode_utf8_all same ∙ spelled.1))
         | inr on ↦ too_long (encode_utf8_all front ++ r) (encode_utf8_all (on.0 ∷ on.1) ++ r) d begun
             (ap (λ (cs : List ℕ). encode_utf8_all cs ++ r) on.2 ∙ ap (λ (bs : List ℕ). bs ++ r) (encodes-append spelled.0 (on.0 ∷ on.1))
-                ∙ ap (λ (bs : List ℕ). (bs ++ encode_utf8_all (on.0 ∷ on.1)) ++ r) spelled.1 ∙ append_assoc (character_text d) (encode_utf8_all (on.0 ∷ on.1)) r)
+            ∙ ap (λ (bs : List ℕ). (bs ++ encode_utf8_all (on.0 ∷ on.1)) ++ r) spelled.1 ∙ append_assoc (character_text d) (encode_utf8_all (on.0 ∷ on.1)) r)
             (some_more on.0 (encode_utf8_all on.1) r)
       ]
       | inr on ↦
-        let same = encode_same c on.0 after (encode_utf8_all on.1 ++ behind) on.3 in
-        stops c more (encode_utf8_all on.1) there (inr (d, all.0,
-          ap (λ (n : ℕ). encode_utf8_all front ++ (encode_utf8 n ++ encode_utf8_all on.1)) same.0 ∙ sym (encodes-append front (on.0 ∷ on.1)) ∙ ap encode_utf8_all (sym on.2) ∙ spelled.1))
+          let same = encode_same c on.0 after (encode_utf8_all on.1 ++ behind) on.3 in
+          stops c more (encode_utf8_all on.1) there (inr (
+            d,
+            all.0,
+            ap (λ (n : ℕ). encode_utf8_all front ++ (encode_utf8 n ++ encode_utf8_all on.1)) same.0 ∙ sym (encodes-append front (on.0 ∷ on.1)) ∙ ap encode_utf8_all (sym on.2) ∙ spelled.1,
+          ))
     ]
   where
     not_empty : (xs : List ℕ) → (xs ≡ [] → ⊥) → 0 < length xs
     not_empty [] differs = absurd (differs refl)
     not_empty (x ∷ xs) differs = omega arith
+
     some_more : (n : ℕ) (xs r : List ℕ) → 0 < length ((encode_utf8 n ++ xs) ++ r)
     some_more n xs r = not_empty ((encode_utf8 n ++ xs) ++ r) (λ e. some_bytes n (xs ++ r) (sym (append_assoc (encode_utf8 n) xs r) ∙ e))
 
@@ -101,13 +105,12 @@ wrong_rest b place w =
     let longest = w.1 in
     let r = longest.begins.0 in
     let begun = longest.begins.1 in
-    let more = more_of_piece (encode_utf8_all front ++ r) begun in
-    (
+    let more = more_of_piece (encode_utf8_all front ++ r) begun in (
       front,
       longest_where_it_stops IsRestText b.rest.now front longest.rest longest.stands (r ++ more.0, subst IsRestText (append_assoc (encode_utf8_all front) r more.0) more.1)
-        (rest_stops front longest.rest r begun w.2 (stops_of IsPieceText b.rest.now front longest)),
+          (rest_stops front longest.rest r begun w.2 (stops_of IsPieceText b.rest.now front longest)),
       rest_is_piece front r begun w.2,
-      w.3
+      w.3,
     )
 
 -- ---- the whole
@@ -121,11 +124,14 @@ quoted_bytes front cs x e = ap (λ (bs : List ℕ). bs ++ x) e
 
 rest_in_quoted : (front cs : List ℕ) → AllScalar cs → encode_utf8_all front ≡ 34 ∷ flat_map character_text cs → StandsBehind IsRestText IsQuotedText front
 rest_in_quoted front cs all is = record {
-    to = λ x one. (cs ++ one.0, all_both cs one.0 all one.1,
-      quoted_bytes front cs x is ∙ ap (λ (bs : List ℕ). 34 ∷ (flat_map character_text cs ++ bs)) one.2
-      ∙ ap (λ (bs : List ℕ). 34 ∷ bs) (sym (append_assoc (flat_map character_text cs) (flat_map character_text one.0) (34 ∷ [])) ∙ ap (λ (bs : List ℕ). bs ++ 34 ∷ []) (sym (flat_map-append character_text cs one.0))));
-    from = λ x one. strip cs one.0 x one.1 (ap (λ (bs : List ℕ). drop 1 bs) (sym (quoted_bytes front cs x is) ∙ one.2))
-  }
+  to = λ x one. (
+    cs ++ one.0,
+    all_both cs one.0 all one.1,
+    quoted_bytes front cs x is ∙ ap (λ (bs : List ℕ). 34 ∷ (flat_map character_text cs ++ bs)) one.2
+        ∙ ap (λ (bs : List ℕ). 34 ∷ bs) (sym (append_assoc (flat_map character_text cs) (flat_map character_text one.0) (34 ∷ [])) ∙ ap (λ (bs : List ℕ). bs ++ 34 ∷ []) (sym (flat_map-append character_text cs one.0))),
+  );
+  from = λ x one. strip cs one.0 x one.1 (ap (λ (bs : List ℕ). drop 1 bs) (sym (quoted_bytes front cs x is) ∙ one.2));
+}
 
 pub wrong_inside : (a b : TextCursor) (cs : List ℕ) (place : ℕ) → ReadsText a cs b → GoesWrong IsPieceText b place → GoesWrong IsQuotedText a place
 wrong_inside a b cs place reads w = wrong_behind IsRestText IsQuotedText a b reads.0 place (rest_in_quoted reads.0 cs reads.2 reads.3) reads.1 (wrong_rest b place w)
@@ -135,12 +141,11 @@ GivesText a cs b = (front : List ℕ) × Takes IsQuotedText a front b × AllScal
 
 pub takes_quoted : (a b d : TextCursor) (cs : List ℕ) → ReadsText a cs b → GivesPiece b None d → GivesText a cs d
 takes_quoted a b d cs reads g =
-    let rest : Takes IsRestText b g.0 d = takes_whole IsRestText b g.0 d rest_free g.1.passed ([], tt, g.2) in
-    (
+    let rest : Takes IsRestText b g.0 d = takes_whole IsRestText b g.0 d rest_free g.1.passed ([], tt, g.2) in (
       reads.0 ++ g.0,
       takes_behind IsRestText IsQuotedText a b d reads.0 g.0 (rest_in_quoted reads.0 cs reads.2 reads.3) reads.1 rest,
       reads.2,
-      encodes-append reads.0 g.0 ∙ quoted_bytes reads.0 cs (encode_utf8_all g.0) reads.3 ∙ ap (λ (bs : List ℕ). 34 ∷ (flat_map character_text cs ++ bs)) g.2
+      encodes-append reads.0 g.0 ∙ quoted_bytes reads.0 cs (encode_utf8_all g.0) reads.3 ∙ ap (λ (bs : List ℕ). 34 ∷ (flat_map character_text cs ++ bs)) g.2,
     )
 
 quote_only : encode_utf8_all (34 ∷ []) ≡ 34 ∷ []
@@ -159,8 +164,8 @@ reads_on a b d text more c utf8 reads g is =
       passes_on a b d reads.0 g.0 reads.1 g.1.passed,
       all_both (chars text) (c ∷ []) reads.2 (g.2.0, tt),
       encodes-append reads.0 g.0 ∙ quoted_bytes reads.0 (chars text) (encode_utf8_all g.0) reads.3
-        ∙ ap (λ (bs : List ℕ). 34 ∷ (flat_map character_text (chars text) ++ bs)) (g.2.1 ∙ sym (append-nil (character_text c)))
-        ∙ ap (λ (bs : List ℕ). 34 ∷ bs) (sym (flat_map-append character_text (chars text) (c ∷ [])))
+          ∙ ap (λ (bs : List ℕ). 34 ∷ (flat_map character_text (chars text) ++ bs)) (g.2.1 ∙ sym (append-nil (character_text c)))
+          ∙ ap (λ (bs : List ℕ). 34 ∷ bs) (sym (flat_map-append character_text (chars text) (c ∷ []))),
     )
   where
     and_true : (c : ℕ) → IsScalar c → all_scalars (c ∷ []) ≡ true

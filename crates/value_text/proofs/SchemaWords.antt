@@ -1,15 +1,14 @@
 -- Names and the texts of an enumeration are words in ASCII, and how many texts an enumeration has.
-use Rattle.std.proofs.Common.{◌≡◌, ℕ, zero, suc, ◌+◌, ◌<◌, ◌≤◌, ◌⊎◌, inl, inr, Bool, true, false, not, ◌&&◌, nat_lt, nat_le, List, [], ◌∷◌, ◌++◌, length, map, Option, Some, None, slice_get, refl, sym, ap, subst, ◌∙◌, arith, get_or}
+use Rattle.std.proofs.Common.{◌≡◌, ℕ, zero, suc, ◌<◌, ◌≤◌, ◌⊎◌, inl, inr, Bool, true, false, not, ◌&&◌, nat_le, List, [], ◌∷◌, length, map, Some, None, slice_get, refl, sym, ap, subst, ◌∙◌, arith, get_or}
 use Rattle.std.specs.Prelude.{◌==◌, ◌||◌}
 use Rattle.std.specs.List.{list_any, list_all}
-use Rattle.std.specs.Str.{IsAscii}
 use Rattle.std.proofs.lemmas.Bool.{leb-true, eqb-true}
 use Rattle.std.proofs.lemmas.Bool.Decides.{eqb_tells}
 use Rattle.exi_schema.specs.declared.schema.Schema.{Schema}
 use Rattle.exi_schema.specs.declared.tables.Datatype.TheVariants.{Named}
 use Rattle.exi_schema.specs.declared.tables.Declaration.{Declaration}
 use Rattle.exi_schema.specs.declared.tables.Declaration.TheVariants.{Simple}
-use Rattle.exi_schema.specs.Schemas.{are_kinds, are_roots, are_words, are_values, is_word, is_word_char, same_text, value_count, is_declaration, is_datatype}
+use Rattle.exi_schema.specs.Schemas.{are_kinds, are_roots, are_words, are_values, is_word, is_word_char, same_text, value_count, is_declaration}
 use Rattle.exi_schema.specs.Steps.{texts_at}
 use Rattle.exi_schema.proofs.Conditions.{and-l, and-r, all_get}
 use Rattle.value_text.specs.Forms.{AreAscii}
@@ -23,12 +22,12 @@ pub word_char_low : (c : ℕ) → is_word_char c ≡ true → c < 128
 word_char_low c is =
     elim (either_is ((nat_le 48 c && nat_le c 57) || (nat_le 65 c && nat_le c 90) || (nat_le 97 c && nat_le c 122)) (c == 95) is) [
       | inl three ↦ elim (either_is ((nat_le 48 c && nat_le c 57) || (nat_le 65 c && nat_le c 90)) (nat_le 97 c && nat_le c 122) three) [
-          | inl two ↦ elim (either_is (nat_le 48 c && nat_le c 57) (nat_le 65 c && nat_le c 90) two) [
-              | inl one ↦ let top = leb-true c 57 (and-r (nat_le 48 c) (nat_le c 57) one) in omega (arith, top)
-              | inr one ↦ let top = leb-true c 90 (and-r (nat_le 65 c) (nat_le c 90) one) in omega (arith, top)
-            ]
-          | inr one ↦ let top = leb-true c 122 (and-r (nat_le 97 c) (nat_le c 122) one) in omega (arith, top)
+        | inl two ↦ elim (either_is (nat_le 48 c && nat_le c 57) (nat_le 65 c && nat_le c 90) two) [
+          | inl one ↦ let top = leb-true c 57 (and-r (nat_le 48 c) (nat_le c 57) one) in omega (arith, top)
+          | inr one ↦ let top = leb-true c 90 (and-r (nat_le 65 c) (nat_le c 90) one) in omega (arith, top)
         ]
+        | inr one ↦ let top = leb-true c 122 (and-r (nat_le 97 c) (nat_le c 122) one) in omega (arith, top)
+      ]
       | inr one ↦ elim (eqb_tells c 95) [ inl tells ↦ omega (arith, tells.1) | inr tells ↦ let wrong : false ≡ true = sym tells.0 ∙ one in absurd cc ]
     ]
 
@@ -109,8 +108,8 @@ some_names s kind count at =
     let texts : List (List ℕ) = map (λ t. t.now) s.names.now in
     let values : List (List (List ℕ)) = map (λ l. map (λ t. t.now) l.now) s.values.now in
     let kinds_fit = and-l (are_kinds (length texts) s.kinds.now) (are_roots s.root_bits (length texts) s.kinds.now s.roots.now)
-        (and-l (are_kinds (length texts) s.kinds.now && are_roots s.root_bits (length texts) s.kinds.now s.roots.now) (are_words texts)
-            (and-l _ (are_values s.kinds.now values) s.fits)) in
+    (and-l (are_kinds (length texts) s.kinds.now && are_roots s.root_bits (length texts) s.kinds.now s.roots.now) (are_words texts)
+    (and-l _ (are_values s.kinds.now values) s.fits)) in
     leb-true 1 count (all_get (is_declaration (length texts) s.kinds.now) s.kinds.now kind (Simple (Named count)) (and-l (list_all (is_declaration (length texts) s.kinds.now) s.kinds.now) _ kinds_fit) at)
 
 -- ---- no word stands twice
@@ -118,9 +117,9 @@ some_names s kind count at =
 same_itself : (text : List ℕ) → same_text text text ≡ true
 same_itself [] = refl
 same_itself (c ∷ text) = elim (eqb_tells c c) [
-    | inl tells ↦ ap (λ (b : Bool). b && same_text text text) tells.0 ∙ same_itself text
-    | inr tells ↦ absurd (tells.1 refl)
-  ]
+  | inl tells ↦ ap (λ (b : Bool). b && same_text text text) tells.0 ∙ same_itself text
+  | inr tells ↦ absurd (tells.1 refl)
+]
 
 any_at : (texts : List (List ℕ)) (i : ℕ) (word : List ℕ) → slice_get texts i ≡ Some word → list_any (same_text word) texts ≡ true
 any_at [] i word at = let wrong : None ≡ Some word = at in absurd cc

@@ -1,22 +1,19 @@
 -- The texts of each form are those of a kind's values.
-use Rattle.std.proofs.Common.{◌≡◌, ℕ, zero, suc, ◌+◌, ◌<◌, ◌≤◌, ◌^◌, ℤ, Bool, true, false, List, [], ◌∷◌, length, map, get_or, Bor, ◌⊎◌, inl, inr, refl, sym, ap, subst, ◌∙◌, arith}
-use Rattle.std.specs.Prelude.{◌==◌, codes, Some, None, Option, slice_get}
-use Rattle.std.specs.List.{AllByRecursion}
+use Rattle.std.proofs.Common.{◌≡◌, ℕ, zero, suc, ◌<◌, ℤ, Bool, true, false, List, [], ◌∷◌, length, map, get_or, Bor, sym, ap, subst}
+use Rattle.std.specs.Prelude.{◌==◌, codes, Some, None, slice_get}
 use Rattle.std.specs.Fmt.{signed_decimal}
 use Rattle.std.specs.Str.{encode_utf8_all}
-use Rattle.std.proofs.lemmas.List.{length-map}
-use Rattle.hex.specs.Hex.{encode_lower}
 use Rattle.exi_schema.specs.declared.schema.Schema.{Schema}
 use Rattle.exi_schema.specs.declared.tables.Datatype.{Datatype}
 use Rattle.exi_schema.specs.declared.tables.Datatype.TheVariants.{Bool as BoolType, Named, Bounded, Unsigned, Signed, Binary, Text as TextType}
-use Rattle.exi_schema.specs.Steps.{texts_at, texts_of}
+use Rattle.exi_schema.specs.Steps.{texts_of}
 use Rattle.exi_documents.specs.Trees.{Value, Truth, Ordinal, Number, Bytes, Text}
 use Rattle.value_text.specs.declared.cursor.TextCursor.{TextCursor}
 use Rattle.value_text.specs.declared.fault.ValueFault.{ValueFault}
 use Rattle.value_text.specs.declared.fault.ValueFault.TheVariants as fault
 use Rattle.value_text.specs.Forms.{IsTruthText, IsNumberText, IsBytesText, IsQuotedText, IsOneOf}
 use Rattle.value_text.specs.Scanning.{Takes, GoesWrong, IsFaultOf, IsAnyFormed}
-use Rattle.value_text.specs.ValueText.{truth_text, quoted, value_names, IsShort, IsOfForm, IsValueText, IsFormed}
+use Rattle.value_text.specs.ValueText.{truth_text, value_names, IsShort, IsFormed}
 use Rattle.value_text.proofs.BestWords.{GivesWord, mapped_at}
 use Rattle.value_text.proofs.FrontLaws.{takes_same, wrong_same}
 use Rattle.value_text.proofs.HexTexts.{GivesBytes}

@@ -1,5 +1,5 @@
 -- Own: what a cursor takes of a text, and where it goes wrong.
-use Rattle.std.specs.Prelude.{◌≡◌, ℕ, ◌+◌, ◌<◌, List, [], ◌∷◌, ◌++◌, length, map, Some, slice_get, encode_utf8}
+use Rattle.std.specs.Prelude.{◌≡◌, ℕ, ◌+◌, List, ◌++◌, length, Some, slice_get, encode_utf8}
 use Rattle.std.specs.Str.{encode_utf8_all, chars}
 use Rattle.std.specs.String.{string_bytes}
 use Rattle.exi_schema.specs.declared.schema.Schema.{Schema}

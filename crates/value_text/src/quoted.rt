@@ -1,12 +1,12 @@
 //! Texts in quotes.
 
-ghost use Rattle.std.specs.Prelude.{◌≡◌, ◌<◌, MatchResult, IfOk, IfErr, OnOk, ◌++◌, [], ℕ, List};
+ghost use Rattle.std.specs.Prelude.{◌≡◌, IfOk, IfErr, ℕ, List};
 ghost use Rattle.std.specs.List.{AllByRecursion};
 ghost use Rattle.std.specs.Char.{IsScalar};
 ghost use Rattle.std.specs.Str.{encode_utf8_all, chars};
 ghost use Rattle.std.specs.String.{string_bytes};
 ghost use Rattle.value_text.specs.Forms.{IsNumbered, IsNumberedText, IsBraced, IsBracedText, IsEscaped, IsEscapedText, IsPieceText, IsPiece, IsQuotedText};
-ghost use Rattle.value_text.specs.Scanning.{Passes, Takes, GoesWrong, IsFaultOf};
+ghost use Rattle.value_text.specs.Scanning.{Takes, GoesWrong, IsFaultOf};
 ghost use Rattle.value_text.specs.ValueText.{quoted};
 
 use crate::cursor::TextCursor;

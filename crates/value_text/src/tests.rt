@@ -41,9 +41,7 @@ fn answer(alloc: Global, schema: &Schema, kind: u16, text: &str) -> Result<Strin
             let rest = cursor.rest;
             format!(in alloc; "{scanned:?} {place} {rest}")
         }
-        Err(ValueFault::Place(place)) => {
-            format!(in alloc; "fault {place}")
-        }
+        Err(ValueFault::Place(place)) => { format!(in alloc; "fault {place}") }
         Err(ValueFault::Memory) => Err(AllocError),
     }
 }
@@ -68,8 +66,16 @@ const CASES: [(u16, &'static str, &'static str); 45] = [
     (2, "-0", "fault 1"),
     (2, "007", "Number(0) 1 07"),
     (2, "+1", "fault 0"),
-    (2, "98765432109876543210", "Number(98765432109876543210) 20 "),
-    (2, "-987654321098765432109", "Number(-98765432109876543210) 21 9"),
+    (
+        2,
+        "98765432109876543210",
+        "Number(98765432109876543210) 20 ",
+    ),
+    (
+        2,
+        "-987654321098765432109",
+        "Number(-98765432109876543210) 21 9",
+    ),
     (2, "é", "fault 0"),
     (3, "", "Bytes([]) 0 "),
     (3, "00ff}", "Bytes([0, 255]) 4 }"),
@@ -128,9 +134,7 @@ fn named(alloc: Global, schema: &Schema, text: &str) -> Result<String, AllocErro
             let rest = cursor.rest;
             format!(in alloc; "{i} {rest}")
         }
-        Err(place) => {
-            format!(in alloc; "fault {place}")
-        }
+        Err(place) => { format!(in alloc; "fault {place}") }
     }
 }
 

@@ -1,8 +1,7 @@
 //! A value, and a name that is awaited.
 
-ghost use Rattle.std.specs.Prelude.{◌≡◌, ℕ, ◌<◌, List, Some, length, slice_get, IfOk, IfErr, All, false};
+ghost use Rattle.std.specs.Prelude.{◌≡◌, ℕ, ◌<◌, List, Some, length, slice_get, IfOk, IfErr, All};
 ghost use Rattle.std.specs.Str.{encode_utf8_all};
-ghost use Rattle.exi_schema.specs.Schemas.{is_word_char};
 ghost use Rattle.exi_schema.specs.declared.tables.Declaration.TheVariants.{Simple};
 ghost use Rattle.value_text.specs.ValueText.{truth_text, IsFormed};
 ghost use Rattle.value_text.specs.Forms.{IsTruthText};
@@ -30,7 +29,13 @@ impl<'t> TextCursor<'t> {
     }
 
     /// The value of a simple kind that stands there, and the cursor behind it.
-    fn value(&self, alloc: Global, schema: &Schema, kind: u16, datatype: Datatype) -> Result<(Scanned, TextCursor<'t>), ValueFault>
+    fn value(
+        &self,
+        alloc: Global,
+        schema: &Schema,
+        kind: u16,
+        datatype: Datatype,
+    ) -> Result<(Scanned, TextCursor<'t>), ValueFault>
         requires { slice_get schema.now.kinds.now kind ≡ Some (Simple datatype) }
         ensures taken { IfOk result (λ x. (front : List ℕ)
             × Takes (IsAnyFormed schema.now kind datatype) self.now front x.1

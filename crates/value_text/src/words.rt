@@ -1,6 +1,6 @@
 //! Words.
 
-ghost use Rattle.std.specs.Prelude.{◌≡◌, ◌+◌, ◌<◌, ◌≤◌, ◌++◌, ◌∷◌, [], ◌==◌, ℕ, List, Some, None, length, take, map, slice_get, IfOk, IfErr};
+ghost use Rattle.std.specs.Prelude.{◌≡◌, ◌+◌, ◌<◌, ◌≤◌, ◌==◌, ℕ, List, Some, None, length, take, map, slice_get, IfOk, IfErr};
 ghost use Rattle.std.specs.Str.{encode_utf8_all, IsAscii};
 ghost use Rattle.value_text.specs.Forms.{awaited_text, AgreesMost, IsBest, IsOneOf, AreAscii};
 ghost use Rattle.value_text.specs.Scanning.{Passes, Takes, GoesWrong};

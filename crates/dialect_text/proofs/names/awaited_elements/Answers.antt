@@ -1,5 +1,4 @@
-use Rattle.std.proofs.Common.{arith, refl}
-use Rattle.dialect_text.specs.Scanning.{HasMembers}
+use Rattle.std.proofs.Common.{arith}
 use Rattle.dialect_text.proofs.Awaiting.{particle_more, elements_among, all_done}
 use Rattle.dialect_text.proofs.names.awaited_elements.Goals as goal
 

@@ -1,4 +1,4 @@
-use Rattle.std.proofs.Common.{◌≡◌, take}
+use Rattle.std.proofs.Common.{take}
 use Rattle.std.specs.List.{AllByRecursion}
 use Rattle.dialect_text.specs.Scanning.{IsAwaitedElement, HasMembers}
 use Rattle.dialect_text.proofs.names.awaited_elements.Given as goal

@@ -32,7 +32,7 @@ bounds-attributes-at c =
 pub unreachable-requires : goal.unreachable-requires
 unreachable-requires c =
     let known = attribute_known c.args.attributes.now c.args.schema.now c.as_slice.result.now c.in_ok-awaited.awaited.items c.in_ok-at.at _ c.args.cursor.now c.take_name.new.cursor c.kind_of_attribute.result
-        c.in_ok-awaited.ensures c.as_slice.ensures.value c.in_ok-at.ensures.taken c.kind_of_attribute.ensures in
+    c.in_ok-awaited.ensures c.as_slice.ensures.value c.in_ok-at.ensures.taken c.kind_of_attribute.ensures in
     c.in_default.not-Some known.0 known.1
 
 pub take_value-requires-clause-kind : goal.take_value-requires-clause-kind

@@ -1,25 +1,29 @@
-use Rattle.std.proofs.Common.{rules, ◌≡◌, ◌<◌, ◌++◌, ◌∷◌, [], ℕ, List, Some, length, slice_get, codes, IfOk, IfErr, IsSome, ◌+◌, ◌-◌, ◌*◌, ◌≤◌, ◌/◌, ◌%◌, Bool, true, false, nat_eq, nat_lt, slice_index_or, slice_set, bit_and, bit_or, Fits, w8, w32, w64, Bor, MutBor}
-use Rattle.std.specs.List.{AllByRecursion}
-use Rattle.exi_schema.specs.declared.tables.Declaration.TheVariants.{Complex}
-use Rattle.exi_schema.specs.Steps.{simple_at}
-use Rattle.exi_documents.specs.Trees.{Document}
-use Rattle.dialect_text.specs.Dialect.{Before, AtRoot, Within, attribute_of, attribute_named, element_of, element_named, gap, IsBeforeElements}
-use Rattle.dialect_text.specs.Languages.{Completes}
-use Rattle.dialect_text.specs.Scanning.{event_of, IsSound, TakesNext, StallsAt, StartsElement, StartsAttribute, StartsPart, AwaitsAttribute}
+use Rattle.std.proofs.Common.{ap, subst, ◌∙◌}
+use Rattle.value_text.specs.declared.cursor.TextCursor.{TextCursor}
+use Rattle.value_text.specs.Scanning.{Passes}
+use Rattle.dialect_text.specs.Dialect.{gap}
+use Rattle.dialect_text.proofs.PartsOf.{ok_then, err_then}
+use Rattle.dialect_text.proofs.Whole.{part_end, part_stalls, part_taken, part_fault}
 use Rattle.dialect_text.proofs.step.take_part.Goals as goal
 
--- src/step.rt:182:9
 pub returns-then-take_char-clause-ok : goal.returns-then-take_char-clause-ok
-returns-then-take_char-clause-ok c = ?
+returns-then-take_char-clause-ok c =
+    part_end c.args.schema.now c.args.elements.now c.pop.new.self c.args.top c.args.attributes c.args.particles c.args.cursor.now c.take_char.new.cursor c.requires.top c.requires.complex c.if-take_char.ensures c.pop.ensures
 
--- src/step.rt:185:9
 pub returns-then-not-take_gap-clause-fault : goal.returns-then-not-take_gap-clause-fault
-returns-then-not-take_gap-clause-fault c = ?
+returns-then-not-take_gap-clause-fault c =
+    let p = part_stalls c.args.schema.now c.args.elements.now c.args.top c.args.attributes c.args.particles c.args.cursor.now c.requires.top c.requires.complex c.if-not-take_gap.ensures.1 c.if-take_char.ensures.1
+    (λ rest e. c.if-not-take_gap.ensures.2 rest (ap (λ (x : TextCursor). x.rest.now) c.if-take_char.ensures.0 ∙ e)) in
+    (p.0, p.1, ap (λ (x : TextCursor). x.place) (c.if-not-take_gap.ensures.0 ∙ c.if-take_char.ensures.0) ∙ p.2)
 
--- src/step.rt:164:1
 pub returns-clause-ok : goal.returns-clause-ok
-returns-clause-ok c = ?
+returns-clause-ok c =
+    let passes : Passes c.args.cursor.now (gap c.args.top.filling) c.take_gap.new.cursor = subst (λ (x : TextCursor). Passes x (gap c.args.top.filling) c.take_gap.new.cursor) c.if-take_char.ensures.0 c.if-not-take_gap.ensures in
+    ok_then _ _ c.take_behind_gap.result (λ said p. part_taken c.args.schema.now c.args.elements.now c.take_behind_gap.new.elements c.args.top c.args.attributes c.args.particles _ c.args.cursor.now c.take_gap.new.cursor
+    c.take_behind_gap.new.cursor c.requires.top c.requires.complex passes c.if-take_char.ensures.1 p) (c.take_behind_gap.ensures.ok c.requires.top.0 c.requires.top.1)
 
--- src/step.rt:164:1
 pub returns-clause-fault : goal.returns-clause-fault
-returns-clause-fault c = ?
+returns-clause-fault c =
+    let passes : Passes c.args.cursor.now (gap c.args.top.filling) c.take_gap.new.cursor = subst (λ (x : TextCursor). Passes x (gap c.args.top.filling) c.take_gap.new.cursor) c.if-take_char.ensures.0 c.if-not-take_gap.ensures in
+    err_then _ _ c.take_behind_gap.result (λ fault p. part_fault c.args.schema.now c.args.elements.now c.args.top c.args.attributes c.args.particles c.args.cursor.now c.take_gap.new.cursor fault c.requires.top c.requires.complex
+    c.requires.sound passes c.if-take_char.ensures.1 p) (c.take_behind_gap.ensures.fault c.requires.top.0 c.requires.top.1)

@@ -1,5 +1,4 @@
-use Rattle.std.proofs.Common.{arith, sym, subst, ◌∙◌}
-use Rattle.std.proofs.lemmas.Option.{slice_get_within}
+use Rattle.std.proofs.Common.{arith, subst}
 use Rattle.std.proofs.lemmas.Result.{err_from_is_err_and}
 use Rattle.dialect_text.specs.Dialect.{Within}
 use Rattle.dialect_text.specs.Scanning.{IsSound}
@@ -28,7 +27,7 @@ index-requires c = omega (arith, c.in_ok-awaited.awaited.ok.0, taken_within c.ar
 pub unreachable-requires : goal.unreachable-requires
 unreachable-requires c =
     let known = element_known c.args.schema.now c.args.particles.now c.in_ok-awaited.awaited.items c.in_ok-at.at c.index.result.now c.kind_of_element.result c.in_ok-awaited.ensures.only
-        (index_got c.in_ok-awaited.awaited.items c.in_ok-at.at c.index.result.now (taken_within c.args.schema.now c.as_slice.result.now c.in_ok-awaited.awaited.items c.in_ok-at.at c.args.cursor.now c.take_name.new.cursor c.as_slice.ensures.value c.in_ok-at.ensures.taken) c.index.ensures) c.kind_of_element.ensures in
+    (index_got c.in_ok-awaited.awaited.items c.in_ok-at.at c.index.result.now (taken_within c.args.schema.now c.as_slice.result.now c.in_ok-awaited.awaited.items c.in_ok-at.at c.args.cursor.now c.take_name.new.cursor c.as_slice.ensures.value c.in_ok-at.ensures.taken) c.index.ensures) c.kind_of_element.ensures in
     c.in_default.not-Some known.0 known.1
 
 pub push-requires : goal.push-requires

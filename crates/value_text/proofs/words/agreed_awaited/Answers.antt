@@ -1,4 +1,4 @@
-use Rattle.value_text.proofs.BestWords.{agreed_inside, not_whole, agreed_at_end, agreed_but_end, agreed_whole, is_all}
+use Rattle.value_text.proofs.BestWords.{agreed_inside}
 use Rattle.value_text.proofs.words.agreed_awaited.Goals as goal
 
 pub returns-then-count-name-clause-agreed : goal.returns-then-count-name-clause-agreed

@@ -1,7 +1,6 @@
-use Rattle.std.proofs.Common.{arith, rules, sym, ap, ◌∙◌, ◌++◌, ℕ, List}
+use Rattle.std.proofs.Common.{arith, rules}
 use Rattle.std.specs.Str.{IsUtf8}
-use Rattle.std.proofs.lemmas.List.{take-append-drop, length-take-le}
-use Rattle.std.proofs.lemmas.Str.{IsCharBoundary-from_take, IsUtf8-from_ascii, encodes-IsAscii}
+use Rattle.std.proofs.lemmas.Str.{IsCharBoundary-from_take, IsUtf8-from_ascii}
 use Rattle.value_text.proofs.BestWords.{passes_ascii}
 use Rattle.value_text.proofs.cursor.TextCursor.behind.Goals as goal
 

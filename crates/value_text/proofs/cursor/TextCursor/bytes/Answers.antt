@@ -23,7 +23,7 @@ loop-high-preserved c =
     let first = c.in-Some.ensures in
     let second = c.in-Some-hex_digit.ensures in
     reads_more c.args.self.now c.loop-high.ahead c.hex_digit.new.self c.hex_digit-in-Some.new.self c.loop-high.bytes.items c.put.new.bytes.items c.in-Some.high c.in-Some-hex_digit.low _
-        c.loop-high.invariant first.0 second.0 first.1 second.1 refl c.in_ok-put.ensures
+    c.loop-high.invariant first.0 second.0 first.1 second.1 refl c.in_ok-put.ensures
 
 pub returns-clause-taken : goal.returns-clause-taken
 returns-clause-taken c =

@@ -1,4 +1,4 @@
-use Rattle.std.proofs.Common.{refl, rules, arith}
+use Rattle.std.proofs.Common.{refl, rules}
 use Rattle.std.specs.Char.{is_ascii_digit}
 use Rattle.value_text.proofs.NextLaws.{none_at}
 use Rattle.value_text.proofs.cursor.TextCursor.digit.Goals as goal

@@ -1,4 +1,4 @@
-use Rattle.std.proofs.Common.{inl, inr, refl, sym, subst, ◌∙◌, ◌==◌, ◌∷◌, []}
+use Rattle.std.proofs.Common.{inl, inr, refl, subst, ◌∙◌, ◌==◌, ◌∷◌, []}
 use Rattle.value_text.specs.declared.cursor.TextCursor.{TextCursor}
 use Rattle.value_text.specs.Forms.{NoneNext}
 use Rattle.value_text.specs.Scanning.{Passes}
@@ -27,5 +27,5 @@ returns-clause-fault c =
     let stays = c.if-take_char.ensures.0 in
     let again = c.if-take_char-2.ensures.0 ∙ stays in
     no_escape c.args.self.now c.take_char-3.new.self (c.if-take_char-3.ensures.0 ∙ again) c.if-take_char.ensures.1
-        (subst (λ (x : TextCursor). NoneNext (λ d. d == 92) x.rest.now) stays c.if-take_char-2.ensures.1)
-        (subst (λ (x : TextCursor). NoneNext (λ d. d == 117) x.rest.now) again c.if-take_char-3.ensures.1)
+    (subst (λ (x : TextCursor). NoneNext (λ d. d == 92) x.rest.now) stays c.if-take_char-2.ensures.1)
+    (subst (λ (x : TextCursor). NoneNext (λ d. d == 117) x.rest.now) again c.if-take_char-3.ensures.1)

@@ -1,6 +1,4 @@
-use Rattle.std.proofs.Common.{arith, sym}
-use Rattle.std.specs.Char.{is_ascii_digit}
-use Rattle.value_text.specs.Forms.{NoneNext}
+use Rattle.std.proofs.Common.{arith}
 use Rattle.value_text.proofs.Numerals.{first_digit, next_digit, below_all}
 use Rattle.value_text.proofs.cursor.TextCursor.positive.Goals as goal
 

@@ -21,7 +21,7 @@ pub loop-c-preserved : goal.loop-c-preserved
 loop-c-preserved c =
     let x = c.in-Ok-Some-default in
     reads_on c.args.self.now c.loop-c.ahead x.behind (string_bytes c.loop-c.text) (string_bytes c.push.new.self) x.c (IsUtf8-string_bytes c.loop-c.text) c.loop-c.invariant
-        (subst (λ (p : Option ℕ). GivesPiece c.loop-c.ahead p x.behind) x.field-0-0-is x.ensures.taken) c.in_ok-push-in-Ok-Some-default.ensures.bytes
+    (subst (λ (p : Option ℕ). GivesPiece c.loop-c.ahead p x.behind) x.field-0-0-is x.ensures.taken) c.in_ok-push-in-Ok-Some-default.ensures.bytes
 
 pub returns-in-Ok-None-default-clause-taken : goal.returns-in-Ok-None-default-clause-taken
 returns-in-Ok-None-default-clause-taken c =

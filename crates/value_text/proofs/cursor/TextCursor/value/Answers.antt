@@ -1,14 +1,9 @@
-use Rattle.std.proofs.Common.{◌≡◌, ◌<◌, ◌^◌, rules, arith, ◌⊎◌, inl, inr, sym, subst, ap, length, map, get_or, ◌∙◌, []}
-use Rattle.std.specs.Prelude.{Some, slice_get}
+use Rattle.std.proofs.Common.{◌<◌, ◌^◌, rules, arith, get_or, []}
 use Rattle.std.proofs.lemmas.Int.{to_z-of_z}
 use Rattle.std.proofs.lemmas.List.{length-map}
-use Rattle.exi_schema.specs.declared.tables.Datatype.{Datatype}
-use Rattle.exi_schema.specs.declared.tables.Declaration.TheVariants.{Simple}
-use Rattle.value_text.specs.Forms.{AreAscii}
-use Rattle.value_text.specs.ValueText.{value_names}
 use Rattle.std.specs.Int.{w128}
 use Rattle.value_text.proofs.NameForms.{get_below, values_within, texts_ascii, texts_count, texts_some, short_fits, is_numeric}
-use Rattle.value_text.proofs.ValueForms.{formed_truth, no_truth, formed_number, no_number_there, formed_bytes, no_bytes, formed_text, no_text, formed_word, no_word, names_there, IsNumeric}
+use Rattle.value_text.proofs.ValueForms.{formed_truth, no_truth, formed_number, no_number_there, formed_bytes, no_bytes, formed_text, no_text, formed_word, no_word, names_there}
 use Rattle.value_text.proofs.cursor.TextCursor.value.Goals as goal
 
 pub returns-in-Ok-clause-taken : goal.returns-in-Ok-clause-taken
@@ -21,7 +16,7 @@ pub returns-in-Ok-number-clause-taken : goal.returns-in-Ok-number-clause-taken
 returns-in-Ok-number-clause-taken c =
     let g = c.in-Ok-number.ensures.taken in
     rw (to_z-of_z w128 c.in-Ok-number.number (short_fits c.in-Ok-number.number g.2))
-        (formed_number c.args.schema.now c.args.kind c.args.datatype c.args.self.now c.in-Ok-number.behind c.in-Ok-number.number (is_numeric c.args.datatype c.in-Bounded.is) g)
+    (formed_number c.args.schema.now c.args.kind c.args.datatype c.args.self.now c.in-Ok-number.behind c.in-Ok-number.number (is_numeric c.args.datatype c.in-Bounded.is) g)
 
 pub returns-in-Err-number-clause-fault : goal.returns-in-Err-number-clause-fault
 returns-in-Err-number-clause-fault c = no_number_there c.args.schema.now c.args.kind c.args.datatype c.args.self.now c.in-Err-number.place (is_numeric c.args.datatype c.in-Bounded.is) c.in-Err-number.ensures.fault

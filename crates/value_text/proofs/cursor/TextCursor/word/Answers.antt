@@ -5,9 +5,9 @@ use Rattle.value_text.proofs.cursor.TextCursor.word.Goals as goal
 
 pub take_best-requires : goal.take_best-requires
 take_best-requires c = record {
-    within = c.loop-i.invariant.within;
-    ascii = best_ascii (map (λ t. t.now) c.args.words.now) c.loop-i.i c.args.self.now.rest.now c.loop-i.best.count c.loop-i.best.whole c.requires.ascii c.loop-i.invariant
-  }
+  within = c.loop-i.invariant.within;
+  ascii = best_ascii (map (λ t. t.now) c.args.words.now) c.loop-i.i c.args.self.now.rest.now c.loop-i.best.count c.loop-i.best.whole c.requires.ascii c.loop-i.invariant;
+}
 
 pub loop-i-preserved : goal.loop-i-preserved
 loop-i-preserved c =
@@ -22,4 +22,4 @@ pub returns-clause-fault : goal.returns-clause-fault
 returns-clause-fault c =
     let all : c.loop-i.i ≡ length (map (λ t. t.now) c.args.words.now) = omega (arith, length-map c.args.words.now (λ t. t.now), c.loop-i-test.false, c.loop-i.auto.i-end) in
     err_best (map (λ t. t.now) c.args.words.now) c.args.self.now c.loop-i.best.count c.loop-i.best.whole c.take_best.result c.requires.ascii (omega (arith, length-map c.args.words.now (λ t. t.now), c.requires.any))
-        (all_words _ c.loop-i.i _ _ _ _ all c.loop-i.invariant) c.take_best.ensures.fault
+    (all_words _ c.loop-i.i _ _ _ _ all c.loop-i.invariant) c.take_best.ensures.fault
