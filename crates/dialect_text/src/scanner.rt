@@ -54,8 +54,8 @@ impl<'t, 's> DialectScanner<'t, 's> {
 
     /// The next event; `None` exactly behind the root where the text ends, and from then on.
     ///
-    /// `Place` exactly where the whole text is none of the dialect and no event is left that each text of the dialect says which goes on as
-    /// this one does: how many characters its longest front has that begins a text of the dialect. `Memory` leaves the scanner as it was.
+    /// `Place` where the whole text is none of the dialect: how many characters its longest front has that begins a text of the dialect.
+    /// `Memory` leaves the scanner as it was.
     pub fn next(&mut self) -> Result<Option<Said>, ScanFault>
         requires ready { IsReady self.old.schema.now self.old.text.now (standing_of self.old.phase self.old.elements) self.old.cursor self.old.fault }
         ensures ready { IsReady self.old.schema.now self.old.text.now (standing_of self.new.phase self.new.elements) self.new.cursor self.new.fault }
