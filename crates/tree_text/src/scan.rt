@@ -152,7 +152,7 @@ fn scan_into(
 ///
 /// `Place` exactly where there is none. For a text that is none of the schema's dialect it tells how many characters the longest front
 /// has that begins one, and for any other text its number of characters. Inside one kind of the schema the elements of one name are of one
-/// kind, and so are the attributes of one name.
+/// kind, and so are the attributes of one name; and no number of a datatype has more than 20 digits, as no bound of 64 bits has.
 pub fn scan_tree(alloc: Global, schema: &Schema, text: &str) -> Result<Piece, ScanFault>
     requires consistent { are_consistent schema.now.kinds.now ≡ true }
     requires short { are_short schema.now.kinds.now ≡ true }
