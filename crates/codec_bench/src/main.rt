@@ -77,11 +77,7 @@ fn read_all(payloads: &Vec<Vec<u8>>, table: &mut Table, count: u64) -> u64
 }
 
 /// The messages that the payloads spell.
-fn messages_of(
-    alloc: Global,
-    payloads: &Vec<Vec<u8>>,
-    table: &mut Table,
-) -> Result<Vec<AppMessage>>
+fn messages_of(alloc: Global, payloads: &Vec<Vec<u8>>, table: &mut Table) -> Result<Vec<AppMessage>>
     requires { table.old.cap ≡ most_entries }
     ensures cap { table.new.cap ≡ most_entries }
     ensures messages { IfOk result (λ messages. AllByRecursion (λ m. IsMessage (message_of m)) messages.items) }
