@@ -26,21 +26,37 @@ fn main(rt: HostRuntime) -> Result<ExitCode> {
     let text = fs::read(&rt, file.as_str())?;
     let payloads = payloads_of(rt.alloc(), str::from_utf8(text.as_slice())?)?;
     let mut table = Table::make(rt.alloc(), 8192)?;
-    if task.as_str() == "read" {
-        let mut count = 0;
-        for _ in 0..rounds {
-            count = read_all(&payloads, &mut table, count);
-        }
-        println!(rt; "payloads {count}")?;
-        return Ok(ExitCode::SUCCESS);
-    }
-    let messages = messages_of(rt.alloc(), &payloads, &mut table)?;
-    let mut count = 0;
-    for _ in 0..rounds {
-        count = write_all(&messages, &mut table, count);
-    }
+    let count = if task.as_str() == "read" {
+        read_rounds(&payloads, &mut table, rounds)
+    } else {
+        let messages = messages_of(rt.alloc(), &payloads, &mut table)?;
+        write_rounds(&messages, &mut table, rounds)
+    };
     println!(rt; "payloads {count}")?;
     Ok(ExitCode::SUCCESS)
+}
+
+/// Reads each payload in each round, and counts them.
+fn read_rounds(payloads: &Vec<Vec<u8>>, table: &mut Table, rounds: u32) -> u64
+    requires { table.old.cap ≡ most_entries }
+{
+    let mut count = 0;
+    for _ in 0..rounds {
+        count = read_all(payloads, table, count);
+    }
+    count
+}
+
+/// Writes each message in each round, and counts them.
+fn write_rounds(messages: &Vec<AppMessage>, table: &mut Table, rounds: u32) -> u64
+    requires cap { table.old.cap ≡ most_entries }
+    requires messages { AllByRecursion (λ m. IsMessage (message_of m)) messages.now.items }
+{
+    let mut count = 0;
+    for _ in 0..rounds {
+        count = write_all(messages, table, count);
+    }
+    count
 }
 
 /// The payloads of the lines, which have at most 65,536 bytes.
