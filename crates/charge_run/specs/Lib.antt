@@ -6,4 +6,5 @@ pub mod ReportLine
 pub mod FaultLines
 pub mod HexText
 pub mod Command
+pub mod Scanning
 pub mod Runs

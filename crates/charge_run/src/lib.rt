@@ -3,10 +3,12 @@
 
 mod answer;
 mod decode;
+mod encode;
 mod fault;
 mod hex_text;
 mod line;
 mod report;
+mod scan;
 mod station;
 mod status;
 mod top;
