@@ -2,8 +2,9 @@
 use Rattle.std.proofs.Common.{◌≡◌, ℕ, List, Option, Some, None, Ok, refl, sym, ◌∙◌, subst, ◌⊎◌, inl, inr}
 use Rattle.app_protocol.specs.Documents.{IsAppRefused}
 use Rattle.app_protocol.proofs.Decided.{apart}
+use Rattle.app_protocol.proofs.Scanned.{scanned_apart}
 use Rattle.charge_run.specs.Runs.{Answers, Prints, Refuses, HasFault, Decodes, IsDecodedLine, IsDecodeFault, Encodes, IsEncodedLine}
-use Rattle.charge_run.specs.Scanning.{IsScanFault}
+use Rattle.app_protocol.specs.Scanning.{IsAppUnscanned}
 use Rattle.charge_run.specs.declared.fault.InputFault.{InputFault}
 use Rattle.charge_run.specs.declared.fault.InputFault.TheVariants.{Place, Memory}
 use Rattle.charge_run.specs.declared.status.Status.{Status}
@@ -47,6 +48,6 @@ only_refused hex place s before after n m h fault =
     answers_refused (IsDecodedLine hex) (IsDecodeFault hex) (λ line other is at. no_line hex line other is at) place s before after n m h fault
 
 pub only_unscanned : (text : List ℕ) (place : ℕ) (s : Status) (before after : Option (List ℕ)) (n m : ℕ) →
-    Encodes text s before after n m → IsScanFault text place → (s ≡ status.Input) ⊎ (s ≡ status.NoMemory)
+    Encodes text s before after n m → IsAppUnscanned text place → (s ≡ status.Input) ⊎ (s ≡ status.NoMemory)
 only_unscanned text place s before after n m h fault =
-    answers_refused (IsEncodedLine text) (IsScanFault text) (λ line other is at. at.none is.0 is.1) place s before after n m h fault
+    answers_refused (IsEncodedLine text) (IsAppUnscanned text) (λ line other is at. scanned_apart text is.0 other is.1 at) place s before after n m h fault

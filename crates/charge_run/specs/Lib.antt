@@ -6,5 +6,4 @@ pub mod ReportLine
 pub mod FaultLines
 pub mod HexText
 pub mod Command
-pub mod Scanning
 pub mod Runs

@@ -2,13 +2,13 @@
 
 ghost use Rattle.std.specs.Prelude.{◌≡◌, ◌<◌, IfOk, IfErr};
 ghost use Rattle.std.specs.String.{string_bytes};
+ghost use Rattle.app_protocol.specs.Scanning.{IsAppUnscanned};
 ghost use Rattle.charge_run.specs.Runs.{Encodes, IsEncodedLine, HasFault};
-ghost use Rattle.charge_run.specs.Scanning.{IsScanFault};
 
 use crate::answer::{print_line, refuse};
 use crate::fault::InputFault;
-use crate::scan::{ScanFault, scan};
 use crate::status::Status;
+use app_protocol::{ScanFault, scan};
 use charge_world::Sink;
 use std::alloc::Global;
 
@@ -31,7 +31,7 @@ pub(crate) fn encode<K: Sink>(alloc: Global, text: &str, out: &mut K) -> Status
 /// The line that is printed.
 fn line_of(alloc: Global, text: &str) -> Result<String, InputFault>
     ensures line { IfOk result (λ line. IsEncodedLine text.now (string_bytes line)) }
-    ensures fault { IfErr result (HasFault (IsScanFault text.now)) }
+    ensures fault { IfErr result (HasFault (IsAppUnscanned text.now)) }
 {
     let payload = match scan(alloc, text) {
         Ok(payload) => payload,

@@ -8,7 +8,6 @@ mod fault;
 mod hex_text;
 mod line;
 mod report;
-mod scan;
 mod station;
 mod status;
 mod top;

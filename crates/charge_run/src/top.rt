@@ -6,10 +6,10 @@ ghost use Rattle.session_spec.specs.SiteRun.{IsSiteRun};
 ghost use Rattle.site_core.specs.Judging.{Judges};
 ghost use Rattle.site_core.specs.Serving.{Carries, Reports};
 ghost use Rattle.site_core.specs.declared.report.PostReport.{PostReport};
+ghost use Rattle.app_protocol.specs.Scanning.{IsAppUnscanned};
 ghost use Rattle.charge_run.specs.Command.{IsStation, IsDecode, IsEncode, IsNoCommand};
 ghost use Rattle.charge_run.specs.FaultLines.{Tells, words_line};
 ghost use Rattle.charge_run.specs.Runs.{both_dialects, Ran, Outputs, Decodes, IsDecodeFault, Encodes};
-ghost use Rattle.charge_run.specs.Scanning.{IsScanFault};
 
 use crate::decode::decode;
 use crate::encode::encode;
@@ -65,9 +65,9 @@ pub fn run<F: Source, K: Sink, J: Sink, W: Wire>(
 
     // Exactly where the input is refused, but for want of memory.
     ensures input { result ≡ Status.Input → ((hex : List ℕ) × (place : ℕ) × IsDecode words.now hex × IsDecodeFault hex place)
-        ⊎ ((text : List ℕ) × (place : ℕ) × IsEncode words.now text × IsScanFault text place) }
+        ⊎ ((text : List ℕ) × (place : ℕ) × IsEncode words.now text × IsAppUnscanned text place) }
     ensures refused { (hex : List ℕ) (place : ℕ) → IsDecode words.now hex → IsDecodeFault hex place → (result ≡ Status.Input) ⊎ (result ≡ Status.NoMemory) }
-    ensures encode_refused { (text : List ℕ) (place : ℕ) → IsEncode words.now text → IsScanFault text place → (result ≡ Status.Input) ⊎ (result ≡ Status.NoMemory) }
+    ensures encode_refused { (text : List ℕ) (place : ℕ) → IsEncode words.now text → IsAppUnscanned text place → (result ≡ Status.Input) ⊎ (result ≡ Status.NoMemory) }
 
     // Nothing was begun.
     ensures no_memory { result ≡ Status.NoMemory → (W.past wire.new ≡ W.past wire.old) × (W.faults wire.new ≡ W.faults wire.old)

@@ -1,6 +1,6 @@
 use Rattle.std.proofs.Common.{List, ℕ, subst}
 use Rattle.charge_run.specs.Runs.{IsDecodeFault}
-use Rattle.charge_run.specs.Scanning.{IsScanFault}
+use Rattle.app_protocol.specs.Scanning.{IsAppUnscanned}
 use Rattle.charge_run.proofs.Answered.{only_refused, only_unscanned}
 use Rattle.charge_run.proofs.WordLists.{one_value}
 use Rattle.charge_run.proofs.top.run.Goals as goal
@@ -15,4 +15,4 @@ pub returns-in-Some-Encode-clause-encode_refused : goal.returns-in-Some-Encode-c
 returns-in-Some-Encode-clause-encode_refused g c text place is fault =
     let same = one_value c.args.words.now _ text c.in-Some-Encode.text.now is (rw c.in-Some-Encode.field-0-is at c.in-Some-Encode.ensures.command) in
     only_unscanned c.in-Some-Encode.text.now place c.encode.result _ _ _ _ c.encode.ensures.leaves
-    (subst (λ (h : List ℕ). IsScanFault h place) same fault)
+    (subst (λ (h : List ℕ). IsAppUnscanned h place) same fault)
