@@ -13,3 +13,6 @@ pub mod Telling
 pub mod Sequence
 pub mod Encoded
 pub mod Named
+pub mod Consistency
+pub mod Texts
+pub mod Scanned

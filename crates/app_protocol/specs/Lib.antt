@@ -7,3 +7,4 @@ pub mod Documents
 pub mod Printing
 pub mod Writing
 pub mod Numbers
+pub mod Scanning

@@ -8,6 +8,7 @@ mod negotiation;
 mod printing;
 mod putting;
 mod reading;
+mod scanning;
 mod schema;
 mod writing;
 
@@ -18,7 +19,8 @@ pub use message::{AppCode, AppMessage, AppProtocol, AppReq, AppRes};
 pub use negotiation::negotiate;
 pub use printing::print;
 pub use reading::read_app;
-pub use tree_text::PrintFault;
+pub use scanning::scan;
+pub use tree_text::{PrintFault, ScanFault};
 pub use writing::{write_app, write_response};
 
 #[cfg(test)]

@@ -7,6 +7,7 @@ ghost use Rattle.app_protocol.specs.Messages.{message_of};
 use super::*;
 use crate::payloads::PAYLOADS;
 use arrayvec::{ArrayString, ArrayVec};
+use std::alloc::{AllocError, Global};
 use std::process::Abort;
 use std::test::Fail;
 
@@ -177,6 +178,63 @@ fn the_published_response_is_written_and_printed(rt: HostRuntime) -> Result<(), 
         text.as_str(),
         "supportedAppProtocolRes{ResponseCode=OK_SuccessfulNegotiation SchemaID=1}"
     );
+    Ok(())
+}
+
+/// The payload of a text in hexadecimal, or the place of its fault.
+fn scanned(alloc: Global, text: &str) -> Result<String, AllocError> {
+    match scan(alloc, text) {
+        Ok(piece) => hex::encode(alloc, piece.bytes()),
+        Err(ScanFault::Place(place)) => format!(in alloc; "{place}"),
+        Err(ScanFault::Memory) => Err(AllocError),
+    }
+}
+
+/// Texts, and their payloads or the places of their faults.
+const TEXTS: [(&'static str, &'static str); 4] = [
+    (
+        "supportedAppProtocolRes{ResponseCode=OK_SuccessfulNegotiation SchemaID=1}",
+        "80400040",
+    ),
+    ("x", "0"),
+    // Of the dialect, without what has to be there, and none of it.
+    ("supportedAppProtocolRes{}", "25"),
+    ("supportedAppProtocolRes{ResponseCode=Bad}", "37"),
+];
+
+#[test]
+fn texts_are_scanned(rt: HostRuntime) -> Result<(), Fail> {
+    for (text, expected) in TEXTS {
+        let answer = scanned(rt.alloc(), text)?;
+        assert_eq!(rt; answer.as_str(), expected, "{text}");
+    }
+    Ok(())
+}
+
+/// The text of a payload is scanned to that payload.
+fn scanned_back(
+    rt: &impl Abort,
+    alloc: Global,
+    payload: &[u8],
+    line: &str,
+) -> Result<(), AllocError>
+    requires { length payload.now ≤ 65536 }
+{
+    let Ok(text) = print(alloc, payload) else {
+        return Err(AllocError);
+    };
+    let answer = scanned(alloc, text.as_str())?;
+    assert_eq!(rt; answer.as_str(), line);
+    Ok(())
+}
+
+#[test]
+fn printed_texts_are_scanned_back(rt: HostRuntime) -> Result<(), Fail> {
+    for line in PAYLOADS.lines() {
+        let payload = hex::decode(rt.alloc(), line)?;
+        assert!(rt; payload.len() <= 65536);
+        scanned_back(&rt, rt.alloc(), payload.as_slice(), line)?;
+    }
     Ok(())
 }
 

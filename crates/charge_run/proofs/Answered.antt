@@ -2,7 +2,9 @@
 use Rattle.std.proofs.Common.{◌≡◌, ℕ, List, Option, Some, None, Ok, refl, sym, ◌∙◌, subst, ◌⊎◌, inl, inr}
 use Rattle.app_protocol.specs.Documents.{IsAppRefused}
 use Rattle.app_protocol.proofs.Decided.{apart}
-use Rattle.charge_run.specs.Runs.{Answers, Prints, Refuses, HasFault, Decodes, IsDecodedLine, IsDecodeFault}
+use Rattle.app_protocol.proofs.Scanned.{scanned_apart}
+use Rattle.charge_run.specs.Runs.{Answers, Prints, Refuses, HasFault, Decodes, IsDecodedLine, IsDecodeFault, Encodes, IsEncodedLine}
+use Rattle.app_protocol.specs.Scanning.{IsAppUnscanned}
 use Rattle.charge_run.specs.declared.fault.InputFault.{InputFault}
 use Rattle.charge_run.specs.declared.fault.InputFault.TheVariants.{Place, Memory}
 use Rattle.charge_run.specs.declared.status.Status.{Status}
@@ -30,10 +32,22 @@ no_line hex line place is (inr h) =
     let same : h.payload ≡ is.1.0 = cc in
     apart is.1.0 is.1.2.0 h.why place is.1.2.1 (subst (λ (p : List ℕ). IsAppRefused p h.why place) same h.refused)
 
+-- where no line is right at such a place, the status is that of a fault
+answers_refused : (IsLine : List ℕ → Type 0) (IsFaultAt : ℕ → Type 0) → ((line : List ℕ) (place : ℕ) → IsLine line → IsFaultAt place → ⊥) →
+    (place : ℕ) (s : Status) (before after : Option (List ℕ)) (n m : ℕ) →
+    Answers IsLine IsFaultAt s before after n m → IsFaultAt place → (s ≡ status.Input) ⊎ (s ≡ status.NoMemory)
+answers_refused IsLine IsFaultAt alone place status.Done before after n m h fault = absurd (alone h.0 place h.1 fault)
+answers_refused IsLine IsFaultAt alone place status.SinkFault before after n m h fault = absurd (alone h.0 place h.1 fault)
+answers_refused IsLine IsFaultAt alone place status.Input before after n m h fault = inl refl
+answers_refused IsLine IsFaultAt alone place status.NoMemory before after n m h fault = inr refl
+answers_refused IsLine IsFaultAt alone place _ before after n m h fault = absurd h
+
 pub only_refused : (hex : List ℕ) (place : ℕ) (s : Status) (before after : Option (List ℕ)) (n m : ℕ) →
     Decodes hex s before after n m → IsDecodeFault hex place → (s ≡ status.Input) ⊎ (s ≡ status.NoMemory)
-only_refused hex place status.Done before after n m h fault = absurd (no_line hex h.0 place h.1 fault)
-only_refused hex place status.SinkFault before after n m h fault = absurd (no_line hex h.0 place h.1 fault)
-only_refused hex place status.Input before after n m h fault = inl refl
-only_refused hex place status.NoMemory before after n m h fault = inr refl
-only_refused hex place _ before after n m h fault = absurd h
+only_refused hex place s before after n m h fault =
+    answers_refused (IsDecodedLine hex) (IsDecodeFault hex) (λ line other is at. no_line hex line other is at) place s before after n m h fault
+
+pub only_unscanned : (text : List ℕ) (place : ℕ) (s : Status) (before after : Option (List ℕ)) (n m : ℕ) →
+    Encodes text s before after n m → IsAppUnscanned text place → (s ≡ status.Input) ⊎ (s ≡ status.NoMemory)
+only_unscanned text place s before after n m h fault =
+    answers_refused (IsEncodedLine text) (IsAppUnscanned text) (λ line other is at. scanned_apart text is.0 other is.1 at) place s before after n m h fault

@@ -1,7 +1,7 @@
 -- Own: the words of the program's commands. A word that begins with `-` is in none.
 use Rattle.std.specs.Prelude.{◌≡◌, ℕ, List, [], ◌∷◌, ◌++◌, codes}
 use Rattle.charge_run.specs.declared.words.Command.{Command}
-use Rattle.charge_run.specs.declared.words.Command.TheVariants.{Station, Decode}
+use Rattle.charge_run.specs.declared.words.Command.TheVariants.{Station, Decode, Encode}
 
 -- the one word `station`: serves post 1
 abbrev pub IsStation : List (List ℕ) → Type 0
@@ -20,12 +20,18 @@ pub record IsApplied (command : List ℕ) (words : List (List ℕ)) (value : Lis
 abbrev pub IsDecode : List (List ℕ) → List ℕ → Type 0
 IsDecode words hex = IsApplied (codes "decode") words hex
 
+-- `encode app TEXT`: prints the payload of a tree text of the negotiation
+abbrev pub IsEncode : List (List ℕ) → List ℕ → Type 0
+IsEncode words text = IsApplied (codes "encode") words text
+
 -- the words are this command
 abbrev pub IsCommand : List (List ℕ) → Command → Type 0
 IsCommand words Station = IsStation words
 IsCommand words (Decode hex) = IsDecode words hex.now
+IsCommand words (Encode text) = IsEncode words text.now
 
 -- the words are none
 pub record IsNoCommand (words : List (List ℕ)) : Type 0 where
   pub not_station : IsStation words → ⊥
   pub not_decode : (hex : List ℕ) → IsDecode words hex → ⊥
+  pub not_encode : (text : List ℕ) → IsEncode words text → ⊥

@@ -15,6 +15,8 @@ use Rattle.site_core.specs.Serving.{EndedAs}
 use Rattle.charge_run.specs.FaultLines.{Tells, input_line, turns_line, wire_line}
 use Rattle.charge_run.specs.HexText.{hex_fault, IsHexOf}
 use Rattle.charge_run.specs.ReportLine.{report_line}
+use Rattle.app_protocol.specs.Scanning.{IsAppScanned, IsAppUnscanned}
+use Rattle.hex.specs.Hex.{encode_lower}
 use Rattle.charge_run.specs.declared.fault.InputFault.{InputFault}
 use Rattle.charge_run.specs.declared.fault.InputFault.TheVariants.{Place, Memory}
 use Rattle.charge_run.specs.declared.status.Status.{Status}
@@ -124,3 +126,12 @@ IsDecodeFault hex place = (hex_fault (chars hex) ≡ Some place) ⊎ IsPayloadFa
 
 abbrev pub Decodes : List ℕ → Status → Option (List ℕ) → Option (List ℕ) → ℕ → ℕ → Type 0
 Decodes hex s before after n m = Answers (IsDecodedLine hex) (IsDecodeFault hex) s before after n m
+
+-- ---- encode
+
+-- the payload that is written for the message whose text this is, in lower-case digits
+abbrev pub IsEncodedLine : List ℕ → List ℕ → Type 0
+IsEncodedLine text line = (payload : List ℕ) × IsAppScanned text payload × (line ≡ encode_lower payload ++ codes "\n")
+
+abbrev pub Encodes : List ℕ → Status → Option (List ℕ) → Option (List ℕ) → ℕ → ℕ → Type 0
+Encodes text s before after n m = Answers (IsEncodedLine text) (IsAppUnscanned text) s before after n m

@@ -6,11 +6,13 @@ ghost use Rattle.session_spec.specs.SiteRun.{IsSiteRun};
 ghost use Rattle.site_core.specs.Judging.{Judges};
 ghost use Rattle.site_core.specs.Serving.{Carries, Reports};
 ghost use Rattle.site_core.specs.declared.report.PostReport.{PostReport};
-ghost use Rattle.charge_run.specs.Command.{IsStation, IsDecode, IsNoCommand};
+ghost use Rattle.app_protocol.specs.Scanning.{IsAppUnscanned};
+ghost use Rattle.charge_run.specs.Command.{IsStation, IsDecode, IsEncode, IsNoCommand};
 ghost use Rattle.charge_run.specs.FaultLines.{Tells, words_line};
-ghost use Rattle.charge_run.specs.Runs.{both_dialects, Ran, Outputs, Decodes, IsDecodeFault};
+ghost use Rattle.charge_run.specs.Runs.{both_dialects, Ran, Outputs, Decodes, IsDecodeFault, Encodes};
 
 use crate::decode::decode;
+use crate::encode::encode;
 use crate::fault::tell_fault;
 use crate::station::station;
 use crate::status::Status;
@@ -22,12 +24,14 @@ use std::alloc::Global;
 ///
 /// - `station` serves post 1, with both dialects on offer, for at most 1,000,000 hearings, and prints its report.
 /// - `decode app HEX` prints the tree text of the message of the negotiation that a payload spells.
+/// - `encode app TEXT` prints the payload that is written for the message whose tree text this is, in hexadecimal digits.
 ///
 /// `station`: where the wire tells its past, and was lent with an empty one, that is a run of the site, and the status is the one
 /// that the past has: `Done` where Over was heard, `TurnsSpent` behind the last turn, `WireFault` where a hearing was lost or the
 /// wire did not start. `NoMemory` comes only before anything was begun.
 ///
-/// `decode`: `Input` where the text spells no bytes or the payload no message. The wire is left alone.
+/// `decode`: `Input` where the text spells no bytes or the payload no message. `encode`: `Input` where no payload is written for the
+/// text. Neither calls the wire.
 ///
 /// `SinkFault` takes the place of `Done` and `TurnsSpent` where the line could not be written. Each fault has its line, whose
 /// failure changes nothing.
@@ -56,9 +60,14 @@ pub fn run<F: Source, K: Sink, J: Sink, W: Wire>(
     // `decode`: the line is the text of the message, or tells where the input is refused.
     ensures decode { (hex : List ℕ) → IsDecode words.now hex → Decodes hex result (K.taken out.old) (K.taken out.new) (K.faults out.old) (K.faults out.new) }
 
+    // `encode`: the line is the payload of the message, or tells where the text is refused.
+    ensures encode { (text : List ℕ) → IsEncode words.now text → Encodes text result (K.taken out.old) (K.taken out.new) (K.faults out.old) (K.faults out.new) }
+
     // Exactly where the input is refused, but for want of memory.
-    ensures input { result ≡ Status.Input → (hex : List ℕ) × (place : ℕ) × IsDecode words.now hex × IsDecodeFault hex place }
+    ensures input { result ≡ Status.Input → ((hex : List ℕ) × (place : ℕ) × IsDecode words.now hex × IsDecodeFault hex place)
+        ⊎ ((text : List ℕ) × (place : ℕ) × IsEncode words.now text × IsAppUnscanned text place) }
     ensures refused { (hex : List ℕ) (place : ℕ) → IsDecode words.now hex → IsDecodeFault hex place → (result ≡ Status.Input) ⊎ (result ≡ Status.NoMemory) }
+    ensures encode_refused { (text : List ℕ) (place : ℕ) → IsEncode words.now text → IsAppUnscanned text place → (result ≡ Status.Input) ⊎ (result ≡ Status.NoMemory) }
 
     // Nothing was begun.
     ensures no_memory { result ≡ Status.NoMemory → (W.past wire.new ≡ W.past wire.old) × (W.faults wire.new ≡ W.faults wire.old)
@@ -80,6 +89,7 @@ pub fn run<F: Source, K: Sink, J: Sink, W: Wire>(
     match command_of(words) {
         Some(Command::Station) => station(alloc, out, wire),
         Some(Command::Decode { hex }) => decode(alloc, hex, out),
+        Some(Command::Encode { text }) => encode(alloc, text, out),
         None => {
             tell_fault(out, b"words\n");
             Status::Words

@@ -61,6 +61,8 @@ pub(crate) enum Command<'a> {
     Station,
     /// Prints the text of a payload of the negotiation.
     Decode { hex: &'a str },
+    /// Prints the payload of a tree text of the negotiation.
+    Encode { text: &'a str },
 }
 
 /// The command that the words are; `None` exactly where they are none.
@@ -72,8 +74,11 @@ pub(crate) fn command_of(words: &WordList) -> Option<Command<'_>>
     if words.len() == 1 && is_at(words, 0, "station") {
         return Some(Command::Station);
     }
-    let hex = value_of(words, "decode")?;
-    Some(Command::Decode { hex })
+    if let Some(hex) = value_of(words, "decode") {
+        return Some(Command::Decode { hex });
+    }
+    let text = value_of(words, "encode")?;
+    Some(Command::Encode { text })
 }
 
 /// The value of a command of three words, of which the second is `app`; `None` exactly where the words are no such command.

@@ -117,3 +117,18 @@ fn a_text_of_65_537_bytes_is_refused(rt: HostRuntime) -> Result<(), Fail> {
     assert_eq!(rt; out.as_str(), "input 131072\n");
     Ok(())
 }
+
+#[test]
+fn texts_are_encoded(rt: HostRuntime) -> Result<(), Fail> {
+    let text = "supportedAppProtocolRes{ResponseCode=OK_SuccessfulNegotiation SchemaID=1}";
+    let (status, out) = said(rt.alloc(), &["encode", "app", text], &[])?;
+    assert_eq!(rt; status, Status::Done);
+    assert_eq!(rt; out.as_str(), "80400040\n");
+    let (status, out) = said(rt.alloc(), &["encode", "app", text], &[1])?;
+    assert_eq!(rt; status, Status::SinkFault);
+    assert_eq!(rt; out.as_str(), "");
+    let (status, out) = said(rt.alloc(), &["encode", "app", "x"], &[])?;
+    assert_eq!(rt; status, Status::Input);
+    assert_eq!(rt; out.as_str(), "input 0\n");
+    Ok(())
+}

@@ -1,0 +1,28 @@
+-- Own: the payload of the text of a message of the negotiation, and where a text has none.
+use Rattle.std.specs.Prelude.{ℕ, List}
+use Rattle.exi_schema.specs.declared.schema.Schema.{Schema}
+use Rattle.app_documents.specs.Declarations.{IsNegotiation}
+use Rattle.app_documents.specs.Trees.{Message}
+use Rattle.tree_text.specs.Scans.{IsScanFault}
+use Rattle.dialect_text.specs.declared.fault.ScanFault.{ScanFault}
+use Rattle.dialect_text.specs.declared.fault.ScanFault.TheVariants.{Place, Memory}
+use Rattle.app_protocol.specs.Documents.{IsApp, IsAppEncoding}
+use Rattle.app_protocol.specs.Printing.{IsAppText}
+
+-- the text of a message within its ranges, and the one payload that is written for it, which spells it
+pub record IsAppScanned (text payload : List ℕ) : Type 0 where
+  pub message : Message
+  pub written : IsAppText message text
+  pub encoding : IsAppEncoding message payload
+  pub spelled : IsApp message payload
+
+-- a text of no such message is at fault at this character, from 0
+pub record IsAppUnscanned (text : List ℕ) (place : ℕ) : Type 0 where
+  pub schema : Schema
+  pub negotiation : IsNegotiation schema
+  pub fault : IsScanFault schema text (Place place)
+
+-- a text is refused so. Want of memory comes freely
+abbrev pub IsAppScanFault : List ℕ → ScanFault → Type 0
+IsAppScanFault text (Place place) = IsAppUnscanned text place
+IsAppScanFault text Memory = Unit {0}
