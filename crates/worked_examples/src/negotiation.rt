@@ -6,6 +6,7 @@ ghost use Rattle.exi_documents.specs.Values.{most_entries};
 use app_protocol::{AppMessage, Refusal, Table, read_app, write_app};
 use exi_strings::{Partitions, TableFull};
 use std::alloc::Global;
+use std::process::Abort;
 use std::test::Fail;
 
 /// Two protocols of one namespace; the second time it stands as the only text of its name.
@@ -57,23 +58,30 @@ fn written_again(alloc: Global, payload: &[u8], table: &mut Table) -> Result<Str
     }
 }
 
+/// The payload is read as two equal namespaces, of which the second is written as a hit.
+fn found_again(rt: &impl Abort, alloc: Global, hex: &str, table: &mut Table) -> Result<(), Fail>
+    requires { table.old.cap ≡ most_entries }
+    ensures { table.new.cap ≡ most_entries }
+{
+    let payload = hex::decode(alloc, hex)?;
+    assert!(rt; payload.len() <= 65536);
+    let texts = namespaces(alloc, payload.as_slice(), table)?;
+    assert_eq!(rt;
+        texts.as_str(),
+        " urn:din:70121:2012:MsgDef urn:din:70121:2012:MsgDef"
+    );
+    let again = written_again(alloc, payload.as_slice(), table)?;
+    assert_eq!(rt; again.as_str(), NAMESPACE_FOUND);
+    Ok(())
+}
+
 #[test]
 fn a_namespace_that_comes_twice_is_read_alike_and_written_as_a_hit(
     rt: HostRuntime,
 ) -> Result<(), Fail> {
     let mut table = Table::make(rt.alloc(), 8192)?;
-    for hex in [NAMESPACE_FOUND, NAMESPACE_SPELLED] {
-        let payload = hex::decode(rt.alloc(), hex)?;
-        assert!(rt; payload.len() <= 65536);
-        let texts = namespaces(rt.alloc(), payload.as_slice(), &mut table)?;
-        assert_eq!(rt;
-            texts.as_str(),
-            " urn:din:70121:2012:MsgDef urn:din:70121:2012:MsgDef"
-        );
-        let again = written_again(rt.alloc(), payload.as_slice(), &mut table)?;
-        assert_eq!(rt; again.as_str(), NAMESPACE_FOUND);
-    }
-    Ok(())
+    found_again(&rt, rt.alloc(), NAMESPACE_FOUND, &mut table)?;
+    found_again(&rt, rt.alloc(), NAMESPACE_SPELLED, &mut table)
 }
 
 #[test]
