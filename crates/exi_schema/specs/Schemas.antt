@@ -1,5 +1,5 @@
 -- Own: the conditions on the tables of a schema, each as a test, so that those of a written table are computed.
-use Rattle.std.specs.Prelude.{ℕ, zero, suc, ◌^◌, ◌==◌, ◌&&◌, ◌||◌, nat_lt, nat_le, not, Bool, true, false, if◌then◌else◌, List, [], ◌∷◌, length, drop, map, Option, Some, None, slice_get}
+use Rattle.std.specs.Prelude.{ℕ, zero, suc, ◌+◌, ◌^◌, ◌==◌, ◌&&◌, ◌||◌, nat_lt, nat_le, unsigned_abs, not, Bool, true, false, if◌then◌else◌, List, [], ◌∷◌, length, drop, map, Option, Some, None, slice_get}
 use Rattle.std.specs.List.{list_any, list_all}
 use Rattle.std.specs.Int.Signed.{le_z}
 use Rattle.exi_schema.specs.declared.tables.AttributeOf.{AttributeOf}
@@ -51,13 +51,13 @@ is_simple None = false
 abbrev pub is_attribute : ℕ → List Declaration → AttributeOf → Bool
 is_attribute names kinds attribute = nat_lt attribute.name names && is_simple (slice_get kinds attribute.kind)
 
--- the least count, and the order of the bounds
+-- the least count, and the order of the bounds, which are numbers of 64 bits
 abbrev pub is_datatype : Datatype → Bool
 is_datatype BoolType = true
 is_datatype (Named count) = nat_le 1 count
-is_datatype (Bounded least count) = nat_le 1 count
-is_datatype (Unsigned most) = true
-is_datatype (Signed least most) = le_z least most
+is_datatype (Bounded least count) = nat_le 1 count && nat_lt (unsigned_abs least + count) (2 ^ 64)
+is_datatype (Unsigned most) = nat_lt most (2 ^ 64)
+is_datatype (Signed least most) = le_z least most && nat_lt (unsigned_abs least) (2 ^ 64) && nat_lt (unsigned_abs most) (2 ^ 64)
 is_datatype (Binary most) = true
 is_datatype (Text most) = true
 
