@@ -8,7 +8,7 @@ use Rattle.exi_schema.specs.declared.tables.Member.{Member}
 use Rattle.exi_schema.specs.declared.tables.Particle.{Particle}
 use Rattle.exi_schema.specs.Schemas.{is_taken}
 use Rattle.dialect_text.specs.Dialect.{or_else, attribute_named, member_named, element_named}
-use Rattle.tree_text.specs.Consistent.{is_that, is_consistent, are_consistent, is_short, has_short_numbers, are_short}
+use Rattle.tree_text.specs.Consistent.{is_that, is_consistent, are_consistent}
 use Rattle.plain_schema.specs.Plain.{PlainParticle, PlainKind, valued, containing, plain_particle, plain_kind, plain_kinds}
 use Rattle.app_documents.specs.Declarations.{kinds, IsNegotiation}
 
@@ -56,21 +56,3 @@ computed = refl
 
 pub is_consistent_negotiation : (s : Schema) → IsNegotiation s → are_consistent s.kinds.now ≡ true
 is_consistent_negotiation s is = all_plain s.kinds.now ∙ ap (λ ks. list_all is_plainly_consistent ks) is.kinds_are ∙ computed
-
-abbrev is_plainly_short : PlainKind → Bool
-is_plainly_short (valued datatype) = is_short datatype
-is_plainly_short (containing attributes particles) = true
-
-short_plain : (kind : Declaration) → has_short_numbers kind ≡ is_plainly_short (plain_kind kind)
-short_plain (Simple datatype) = refl
-short_plain (Complex attributes particles) = refl
-
-all_short : (ks : List Declaration) → are_short ks ≡ list_all is_plainly_short (plain_kinds ks)
-all_short [] = refl
-all_short (kind ∷ ks) = ap₂ (λ (here more : Bool). here && more) (short_plain kind) (all_short ks)
-
-short : list_all is_plainly_short kinds ≡ true
-short = refl
-
-pub is_short_negotiation : (s : Schema) → IsNegotiation s → are_short s.kinds.now ≡ true
-is_short_negotiation s is = all_short s.kinds.now ∙ ap (λ ks. list_all is_plainly_short ks) is.kinds_are ∙ short

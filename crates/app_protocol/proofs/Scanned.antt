@@ -21,7 +21,7 @@ use Rattle.app_documents.proofs.Encoded.{message_encoded}
 use Rattle.app_documents.proofs.Shapes.{of_message}
 use Rattle.app_protocol.specs.Documents.{IsAppEncoding}
 use Rattle.app_protocol.specs.Scanning.{IsAppScanned, IsAppUnscanned, IsAppScanFault}
-use Rattle.app_protocol.proofs.Consistency.{is_consistent_negotiation, is_short_negotiation}
+use Rattle.app_protocol.proofs.Consistency.{is_consistent_negotiation}
 use Rattle.app_protocol.proofs.Encoded.{read_back}
 use Rattle.app_protocol.proofs.Texts.{text_moved}
 
@@ -68,7 +68,7 @@ none_there : (s : Schema) (tree : Tree) (text payload : List ℕ) (place : ℕ) 
 none_there s tree text payload place negotiation written e few (inl fault) =
     fault.0 (
       reverse (document_events e.number tree),
-      encoded_said s (is_consistent_negotiation s negotiation) (is_short_negotiation s negotiation) e.number tree text e.bits written e.spelled,
+      encoded_said s (is_consistent_negotiation s negotiation) e.number tree text e.bits written e.spelled,
     )
 none_there s tree text payload place negotiation written e few (inr unencoded) = unencoded.1 tree payload written e few
 

@@ -6,7 +6,7 @@ use Rattle.exi_documents.specs.Grammar.{Standing, Before, AtRoot, Inside, Behind
 use Rattle.exi_documents.specs.Trees.{Tree, Event, document_events}
 use Rattle.exi_documents.specs.Values.{Entries, WritesValue}
 use Rattle.dialect_text.specs.Dialect as dialect
-use Rattle.tree_text.specs.Consistent.{are_consistent, are_short}
+use Rattle.tree_text.specs.Consistent.{are_consistent}
 use Rattle.tree_text.specs.EventText.{text_end, Tells}
 use Rattle.tree_text.specs.TreeText.{IsTreeText}
 use Rattle.tree_text.specs.declared.print.TextEnd.{TextEnd}
@@ -119,8 +119,8 @@ module _ (V : Speller) (s : Schema) (fits : are_consistent s.kinds.now ≡ true)
         subst (λ (l : List ℕ). dialect.Says s events l (dialect.Within [])) whole (subst (λ (x : dialect.Standing). dialect.Says s events (told ++ t.ahead) x) t.alike.0 t.says)
 
 -- the text of a tree, as it is written, says the events of its document
-pub encoded_said : (s : Schema) → are_consistent s.kinds.now ≡ true → are_short s.kinds.now ≡ true → (number : ℕ) (tree : Tree) (text : List ℕ) (bits : List Bool) → IsTreeText s tree text →
+pub encoded_said : (s : Schema) → are_consistent s.kinds.now ≡ true → (number : ℕ) (tree : Tree) (text : List ℕ) (bits : List Bool) → IsTreeText s tree text →
     SpellsDocument WritesValue s number tree bits → dialect.IsDialectText s (reverse (document_events number tree)) text
-encoded_said s fits short number tree text bits is d =
+encoded_said s fits number tree text bits is d =
     let told = spelled_told WritesValue s (has_written_text s) number tree text bits is d in
-    whole_said WritesValue s fits (written_form s short) (reverse (document_events number tree)) told.0 text told.1
+    whole_said WritesValue s fits (written_form s) (reverse (document_events number tree)) told.0 text told.1

@@ -20,7 +20,7 @@ use Rattle.dialect_text.specs.declared.fault.ScanFault.{ScanFault}
 use Rattle.dialect_text.specs.declared.fault.ScanFault.TheVariants.{Place, Memory}
 use Rattle.dialect_text.specs.declared.said.Said.{Said}
 use Rattle.dialect_text.proofs.Once.{one_list}
-use Rattle.tree_text.specs.Consistent.{are_consistent, are_short}
+use Rattle.tree_text.specs.Consistent.{are_consistent}
 use Rattle.tree_text.specs.Scans.{IsEncodedText, HasNoEncoding, IsScanFault, IsFaultBehind, IsStuck}
 use Rattle.tree_text.specs.TreeText.{IsTreeText}
 use Rattle.tree_text.proofs.Sayings.{encoded_said, said_ends, said_tree}
@@ -39,9 +39,9 @@ module _ (s : Schema) (fits : are_consistent s.kinds.now ≡ true) where
       omega (arith, all, small)
 
   -- some of the events that the text says begin no document that has room
-  pub stuck_has_none : are_short s.kinds.now ≡ true → (later events : List Event) (text : List ℕ) → IsStuck s events → IsDialectText s (later ++ events) text → HasNoEncoding s text
-  stuck_has_none short later events text stuck is tree payload spelled e small =
-      let said = encoded_said s fits short e.number tree text e.bits spelled e.spelled in
+  pub stuck_has_none : (later events : List Event) (text : List ℕ) → IsStuck s events → IsDialectText s (later ++ events) text → HasNoEncoding s text
+  stuck_has_none later events text stuck is tree payload spelled e small =
+      let said = encoded_said s fits e.number tree text e.bits spelled e.spelled in
       stuck later e.number tree e.bits (one_list s (later ++ events) (reverse (document_events e.number tree)) text is said) e.spelled (few_bits payload e.bits e.pad e.bits_are small)
 
 -- ---- the scanner's schema and text are those at the start
@@ -115,16 +115,16 @@ scan_fault s text other (Place place) same is = inl (subst (λ (l : List ℕ). I
 scan_fault s text other Memory same is = tt
 
 -- a text of the dialect of which no document can be put
-pub stuck_fault : (s t : Schema) (text other : List ℕ) (events : List Event) (fault : ScanFault) → are_consistent t.kinds.now ≡ true → are_short t.kinds.now ≡ true → s ≡ t → text ≡ other →
+pub stuck_fault : (s t : Schema) (text other : List ℕ) (events : List Event) (fault : ScanFault) → are_consistent t.kinds.now ≡ true → s ≡ t → text ≡ other →
     IsStuck t events → IsFaultBehind s text events fault → IsScanFault t other fault
-stuck_fault s t text other events (Place place) fits short same one stuck is =
+stuck_fault s t text other events (Place place) fits same one stuck is =
     let there : IsFaultBehind t other events (Place place) =
     subst (λ (x : Schema). IsFaultBehind x other events (Place place)) same (subst (λ (l : List ℕ). IsFaultBehind s l events (Place place)) one is) in
     elim there [
       | inl fault ↦ inl fault
-      | inr said ↦ inr ((said.0 ++ events, said.1), stuck_has_none t fits short said.0 events other stuck said.1, said.2)
+      | inr said ↦ inr ((said.0 ++ events, said.1), stuck_has_none t fits said.0 events other stuck said.1, said.2)
     ]
-stuck_fault s t text other events Memory fits short same one stuck is = tt
+stuck_fault s t text other events Memory fits same one stuck is = tt
 
 pub encoded_in : (s : Schema) (text other payload : List ℕ) → text ≡ other → IsEncodedText s text payload → IsEncodedText s other payload
 encoded_in s text other payload same is = subst (λ (l : List ℕ). IsEncodedText s l payload) same is

@@ -1,18 +1,18 @@
 -- What is written of a value has the form of its datatype.
-use Rattle.std.proofs.Common.{◌≡◌, ℕ, zero, suc, ◌+◌, ◌^◌, ◌<◌, ◌≤◌, ℤ, pos, negsuc, ◌+ℤ◌, ◌≤ℤ◌, Bool, true, nat_lt, leb→le, List, ap, arith, slice_get}
+use Rattle.std.proofs.Common.{◌≡◌, ℕ, zero, suc, ◌+◌, ◌^◌, ◌<◌, ◌≤◌, ℤ, pos, negsuc, ◌+ℤ◌, ◌≤ℤ◌, Bool, true, ◌&&◌, nat_lt, nat_le, leb→le, List, ap, sym, arith}
 use Rattle.std.proofs.lemmas.Bool.{ltb-true}
 use Rattle.std.proofs.Math.IntN.{suc_ℤ, +ℤ-suc_ℤ, +ℤ_idr}
+use Rattle.std.specs.Int.Signed.{le_z}
 use Rattle.std.specs.Prelude.{unsigned_abs}
 use Rattle.exi_schema.specs.declared.schema.Schema.{Schema}
 use Rattle.exi_schema.specs.declared.tables.Datatype.{Datatype}
 use Rattle.exi_schema.specs.declared.tables.Datatype.TheVariants.{Bool as BoolType, Named, Bounded, Unsigned, Signed, Binary, Text as TextType}
-use Rattle.exi_schema.specs.declared.tables.Declaration.TheVariants.{Simple}
-use Rattle.exi_schema.proofs.Conditions.{and-l, and-r, all_get}
+use Rattle.exi_schema.specs.Schemas.{is_datatype}
+use Rattle.exi_schema.proofs.Conditions.{and-l, and-r}
 use Rattle.exi_documents.specs.Trees.{Value, Truth, Ordinal, Number, Bytes, Text}
 use Rattle.exi_documents.specs.Values.{Entries, WritesValue}
-use Rattle.document_laws.proofs.Offered.{simple_is}
+use Rattle.exi_events.proofs.Datatypes.{datatype_fits}
 use Rattle.value_text.specs.ValueText.{IsShort, IsOfForm}
-use Rattle.tree_text.specs.Consistent.{is_short, has_short_numbers, are_short}
 use Rattle.tree_text.proofs.Ahead.{HasForm}
 
 abs_suc : (z : ℤ) → unsigned_abs (suc_ℤ z) ≤ unsigned_abs z + 1
@@ -46,21 +46,23 @@ short_bounded least v count k few less is =
     let bound = abs_above least k in
     omega (arith, few, less, same, bound)
 
-form_of : (d : Datatype) (entries after : Entries) (name : ℕ) (v : Value) (bits : List Bool) → is_short d ≡ true → WritesValue d entries name v bits after → IsOfForm d v
-form_of BoolType entries after name (Truth truth) bits short h = tt
-form_of (Named count) entries after name (Ordinal ordinal) bits short h = tt
-form_of (Bounded least count) entries after name (Number v) bits short h =
-    short_bounded least v count h.0.0 (ltb-true (unsigned_abs least + count) (10 ^ 20) short) h.0.2.below h.0.1
-form_of (Unsigned most) entries after name (Number (pos n)) bits short h =
-    let few : most < 10 ^ 20 = ltb-true most (10 ^ 20) short in let within : n ≤ most = h.0 in omega (arith, few, within)
-form_of (Signed least most) entries after name (Number v) bits short h =
-    short_signed v least most (ltb-true (unsigned_abs least) (10 ^ 20) (and-l (nat_lt (unsigned_abs least) (10 ^ 20)) (nat_lt (unsigned_abs most) (10 ^ 20)) short))
-    (ltb-true (unsigned_abs most) (10 ^ 20) (and-r (nat_lt (unsigned_abs least) (10 ^ 20)) (nat_lt (unsigned_abs most) (10 ^ 20)) short)) h.0 h.1
-form_of (Binary most) entries after name (Bytes bytes) bits short h = h.0.1
-form_of (TextType most) entries after name (Text chars) bits short h = h.0.1
-form_of d entries after name v bits short h = absurd h
+few : (n : ℕ) → nat_lt n (2 ^ 64) ≡ true → n < 10 ^ 20
+few n is = let low : n < 2 ^ 64 = ltb-true n (2 ^ 64) is in omega (arith, low)
 
--- in a schema whose numbers have at most 20 digits
-pub written_form : (s : Schema) → are_short s.kinds.now ≡ true → HasForm WritesValue s
-written_form s short kind name d entries after v bits is h =
-    form_of d entries after name v bits (all_get has_short_numbers s.kinds.now kind (Simple d) short (simple_is (slice_get s.kinds.now kind) d is)) h
+form_of : (d : Datatype) (entries after : Entries) (name : ℕ) (v : Value) (bits : List Bool) → is_datatype d ≡ true → WritesValue d entries name v bits after → IsOfForm d v
+form_of BoolType entries after name (Truth truth) bits fits h = tt
+form_of (Named count) entries after name (Ordinal ordinal) bits fits h = tt
+form_of (Bounded least count) entries after name (Number v) bits fits h =
+    short_bounded least v count h.0.0 (few (unsigned_abs least + count) (and-r (nat_le 1 count) (nat_lt (unsigned_abs least + count) (2 ^ 64)) fits)) h.0.2.below h.0.1
+form_of (Unsigned most) entries after name (Number (pos n)) bits fits h =
+    let low : most < 10 ^ 20 = few most fits in let within : n ≤ most = h.0 in omega (arith, low, within)
+form_of (Signed least most) entries after name (Number v) bits fits h =
+    short_signed v least most (few (unsigned_abs least) (and-r (le_z least most) (nat_lt (unsigned_abs least) (2 ^ 64)) (and-l (le_z least most && nat_lt (unsigned_abs least) (2 ^ 64)) (nat_lt (unsigned_abs most) (2 ^ 64)) fits)))
+    (few (unsigned_abs most) (and-r (le_z least most && nat_lt (unsigned_abs least) (2 ^ 64)) (nat_lt (unsigned_abs most) (2 ^ 64)) fits)) h.0 h.1
+form_of (Binary most) entries after name (Bytes bytes) bits fits h = h.0.1
+form_of (TextType most) entries after name (Text chars) bits fits h = h.0.1
+form_of d entries after name v bits fits h = absurd h
+
+-- in a schema, whose numbers are of 64 bits
+pub written_form : (s : Schema) → HasForm WritesValue s
+written_form s kind name d entries after v bits is h = form_of d entries after name v bits (datatype_fits s kind d (sym is)) h

@@ -7,7 +7,7 @@ ghost use Rattle.exi_documents.specs.Grammar.{State, Behind, stands, Reaches};
 ghost use Rattle.exi_documents.specs.Trees.{Tree, Event, document_events};
 ghost use Rattle.exi_documents.specs.Values.{Entries, SpellsValue, WritesValue};
 ghost use Rattle.dialect_text.specs.Dialect.{Standing, Says, IsDialectText};
-ghost use Rattle.tree_text.specs.Consistent.{are_consistent, are_short};
+ghost use Rattle.tree_text.specs.Consistent.{are_consistent};
 ghost use Rattle.tree_text.specs.TreeText.{IsTreeText};
 ghost use Rattle.tree_text.specs.EventText.{Tells};
 
@@ -29,8 +29,8 @@ pub fn texts_tell_events()
 /// 20 digits: the text of a tree that has an encoding is one of the dialect, which says the events of the tree. A text of the dialect
 /// that says the events of a tree with an encoding is the text of the tree.
 pub fn texts_are_of_the_dialect()
-    ensures says { (s : Schema) (events : List Event) (text : List ℕ) (state : State) → are_consistent s.kinds.now ≡ true → are_short s.kinds.now ≡ true → Tells WritesValue s events text state → (ahead : List ℕ) × (standing : Standing) × Says s events (text ++ ahead) standing }
-    ensures whole { (s : Schema) (tree : Tree) (payload text : List ℕ) → are_consistent s.kinds.now ≡ true → are_short s.kinds.now ≡ true → IsEncoding s tree payload → IsTreeText s tree text → (number : ℕ) × IsDialectText s (reverse (document_events number tree)) text }
+    ensures says { (s : Schema) (events : List Event) (text : List ℕ) (state : State) → are_consistent s.kinds.now ≡ true → Tells WritesValue s events text state → (ahead : List ℕ) × (standing : Standing) × Says s events (text ++ ahead) standing }
+    ensures whole { (s : Schema) (tree : Tree) (payload text : List ℕ) → are_consistent s.kinds.now ≡ true → IsEncoding s tree payload → IsTreeText s tree text → (number : ℕ) × IsDialectText s (reverse (document_events number tree)) text }
     ensures tree { (s : Schema) (number : ℕ) (tree : Tree) (text : List ℕ) (bits : List Bool) → are_consistent s.kinds.now ≡ true → SpellsDocument WritesValue s number tree bits → IsDialectText s (reverse (document_events number tree)) text → IsTreeText s tree text }
 {}
 

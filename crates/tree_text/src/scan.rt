@@ -10,7 +10,7 @@ ghost use Rattle.exi_events.specs.Reader.{state_of, IsReady};
 ghost use Rattle.exi_events.specs.Writer.{HasPut, IsShapedEvent};
 ghost use Rattle.dialect_text.specs.Dialect.{IsDialectText};
 ghost use Rattle.dialect_text.specs.Scanning.{event_of as said_event, standing_of, HasSaid, IsReady as IsScanning, IsFaultOf};
-ghost use Rattle.tree_text.specs.Consistent.{are_consistent, are_short};
+ghost use Rattle.tree_text.specs.Consistent.{are_consistent};
 ghost use Rattle.tree_text.specs.Scans.{IsEncodedText, IsScanFault, IsFaultBehind, IsStuck, IsTooLong};
 
 use charge_world::Piece;
@@ -134,7 +134,6 @@ fn scan_into(
     table: &mut Table,
 ) -> Result<Piece, ScanFault>
     requires consistent { are_consistent schema.now.kinds.now ≡ true }
-    requires short { are_short schema.now.kinds.now ≡ true }
     requires room { length room.old ≡ 65536 }
     requires cap { table.old.cap ≡ most_entries }
     ensures encoded { IfOk result (IsEncodedText schema.now text.now) }
@@ -155,7 +154,6 @@ fn scan_into(
 /// kind, and so are the attributes of one name; and no number of a datatype has more than 20 digits, as no bound of 64 bits has.
 pub fn scan_tree(alloc: Global, schema: &Schema, text: &str) -> Result<Piece, ScanFault>
     requires consistent { are_consistent schema.now.kinds.now ≡ true }
-    requires short { are_short schema.now.kinds.now ≡ true }
     ensures encoded { IfOk result (IsEncodedText schema.now text.now) }
     ensures fault { IfErr result (IsScanFault schema.now text.now) }
 {

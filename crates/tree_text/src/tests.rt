@@ -1,7 +1,7 @@
 //! Payloads and the texts of their trees.
 
 ghost use Rattle.std.specs.Prelude.{◌≡◌, ◌≤◌, true, length};
-ghost use Rattle.tree_text.specs.Consistent.{are_consistent, are_short};
+ghost use Rattle.tree_text.specs.Consistent.{are_consistent};
 
 use super::*;
 use crate::lines::LINES;
@@ -29,7 +29,6 @@ fn answer(alloc: Global, payload: &[u8], schema: &Schema) -> Result<String, Allo
 /// The encoding of the tree of a text in hexadecimal, or the place of its fault.
 fn encoding(alloc: Global, text: &str, schema: &Schema) -> Result<String, AllocError>
     requires consistent { are_consistent schema.now.kinds.now ≡ true }
-    requires short { are_short schema.now.kinds.now ≡ true }
 {
     match scan_tree(alloc, schema, text) {
         Ok(piece) => hex::encode(alloc, piece.bytes()),

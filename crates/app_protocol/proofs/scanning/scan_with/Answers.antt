@@ -1,5 +1,5 @@
 use Rattle.std.proofs.lemmas.Result.{IfOk-weaker, IfErr-weaker}
-use Rattle.app_protocol.proofs.Consistency.{is_consistent_negotiation, is_short_negotiation}
+use Rattle.app_protocol.proofs.Consistency.{is_consistent_negotiation}
 use Rattle.app_protocol.proofs.Scanned.{message_scanned, scan_fault_told}
 use Rattle.app_protocol.proofs.scanning.scan_with.Goals as goal
 
@@ -11,6 +11,3 @@ returns-clause-fault c = IfErr-weaker c.scan_tree.result _ _ (scan_fault_told c.
 
 pub scan_tree-requires-clause-consistent : goal.scan_tree-requires-clause-consistent
 scan_tree-requires-clause-consistent c = is_consistent_negotiation c.args.schema.now c.requires
-
-pub scan_tree-requires-clause-short : goal.scan_tree-requires-clause-short
-scan_tree-requires-clause-short c = is_short_negotiation c.args.schema.now c.requires

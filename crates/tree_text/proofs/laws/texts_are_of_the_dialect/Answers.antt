@@ -6,11 +6,11 @@ use Rattle.tree_text.proofs.Shortness.{written_form}
 use Rattle.tree_text.proofs.laws.texts_are_of_the_dialect.Goals as goal
 
 pub returns-clause-says : goal.returns-clause-says
-returns-clause-says c s events text state consistent short h =
-    let said = told_said WritesValue s consistent (written_form s short) events state text h in (said.ahead, said.standing, said.says)
+returns-clause-says c s events text state consistent h =
+    let said = told_said WritesValue s consistent (written_form s) events state text h in (said.ahead, said.standing, said.says)
 
 pub returns-clause-whole : goal.returns-clause-whole
-returns-clause-whole c s tree payload text consistent short e is = (e.number, encoded_said s consistent short e.number tree text e.bits is e.spelled)
+returns-clause-whole c s tree payload text consistent e is = (e.number, encoded_said s consistent e.number tree text e.bits is e.spelled)
 
 pub returns-clause-tree : goal.returns-clause-tree
 returns-clause-tree c s number tree text bits consistent d is =

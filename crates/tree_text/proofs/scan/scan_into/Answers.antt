@@ -15,7 +15,7 @@ returns-in-Ok-None-clause-fault c =
     let known = c.in-Ok-None.ensures in
     let stuck = none_of _ c.in-Ok-None.field-0 c.in-Ok-None.field-0-is known.stuck in
     let said = said_in c.args.schema.now now.schema.now c.new-scanner.result.text.now now.text.now stuck.0 (standing_of now.phase now.elements) now.cursor (sym known.same_schema) (sym known.same_text) stuck.1 in
-    stuck_fault now.schema.now c.args.schema.now now.text.now c.args.text.now stuck.0 c.fault_behind.result c.requires.consistent c.requires.short known.same_schema (known.same_text ∙ c.new-scanner.ensures.text) stuck.2
+    stuck_fault now.schema.now c.args.schema.now now.text.now c.args.text.now stuck.0 c.fault_behind.result c.requires.consistent known.same_schema (known.same_text ∙ c.new-scanner.ensures.text) stuck.2
     (c.fault_behind.ensures stuck.0 said)
 
 pub returns-in-Err-clause-fault : goal.returns-in-Err-clause-fault
