@@ -38,10 +38,33 @@ impl<'b> BitPen<'b> {
         BitPen { room, bits: 0 }
     }
 
+    /// A pen behind the first `bits` bits of a room, where the bits behind them are 0 up to a whole byte, as a pen leaves them.
+    pub fn behind(room: &'b mut [u8], bits: u32) -> BitPen<'b>
+        requires room { length room.old ≤ 65536 }
+        requires within { bits ≤ 8 * length room.old }
+        requires clean { PadsZero room.old bits }
+        ensures same_reference { result.room.ghost_name ≡ room.entry.ghost_name }
+        ensures room { result.room.now ≡ room.old }
+        ensures written { written_bits result ≡ take bits (bits_of room.old) }
+    {
+        BitPen { room, bits }
+    }
+
     /// The number of the next bit, which is how many are written.
     pub fn place(&self) -> u32
         ensures place { result ≡ length (written_bits self.now) }
         ensures room { length self.now.room.now ≤ 65536 }
+    {
+        self.bits
+    }
+
+    /// Ends at the next bit, and tells its number, which is how many bits are written. A pen behind them goes on.
+    pub fn into_place(self) -> u32
+        ensures place { result ≡ length (written_bits self.entry) }
+        ensures written { take result (bits_of self.entry.room.now) ≡ written_bits self.entry }
+        ensures within { result ≤ 8 * length self.entry.room.now }
+        ensures clean { PadsZero self.entry.room.now result }
+        ensures stays { self.exit.0.now ≡ self.entry.room.now }
     {
         self.bits
     }

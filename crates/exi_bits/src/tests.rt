@@ -11,6 +11,19 @@ fn a_number_that_has_no_room_is_refused_with_the_bits_needed(rt: HostRuntime) {
 }
 
 #[test]
+fn a_pen_goes_on_behind_the_bits_of_another(rt: HostRuntime) {
+    let mut room = [0xff_u8; 2];
+    let mut pen = BitPen::new(&mut room);
+    assert_eq!(rt; pen.put_bits(5, 3), Ok(()));
+    let place = pen.into_place();
+    assert_eq!(rt; place, 3);
+    let mut next = BitPen::behind(&mut room, place);
+    assert_eq!(rt; next.put_bits(1, 6), Ok(()));
+    assert_eq!(rt; next.finish(), 2);
+    assert_eq!(rt; room, [0xa0, 0x80]);
+}
+
+#[test]
 fn a_text_at_two_places_is_the_same(rt: HostRuntime) {
     // "id" from bit 5 on, and its bytes
     let shifted = [0x03, 0x4b, 0x20];
