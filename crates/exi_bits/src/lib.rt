@@ -14,6 +14,7 @@ pub use contents::Contents;
 pub use cursor::BitCursor;
 pub use exi_spec::{BitCause, BitFault};
 pub use pen::{BitPen, Full};
+pub use room::begun_bytes;
 pub use span::{BitSpan, SpanAt};
 
 #[cfg(test)]

@@ -185,7 +185,7 @@ impl<'b> BitPen<'b> {
         ensures holds { HoldsBits result.now (written_bits self.now) }
         ensures front { result.now ≡ take (length result.now) self.now.room.now }
     {
-        &self.room[..self.bits.div_ceil(8) as usize]
+        room::begun_bytes(self.room, self.bits)
     }
 
     /// Ends with 0 up to a whole byte, and tells how many bytes of the room are written.

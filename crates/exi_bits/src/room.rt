@@ -1,10 +1,20 @@
 //! Bits in a room of bytes, behind those that are written.
 
-ghost use Rattle.std.specs.Prelude.{◌≡◌, ◌≢◌, ℕ, ◌+◌, ◌-◌, ◌*◌, ◌/◌, ◌%◌, ◌<◌, ◌≤◌, ◌^◌, [], ◌∷◌, if◌then◌else◌, length, slice_index};
+ghost use Rattle.std.specs.Prelude.{◌≡◌, ◌≢◌, ℕ, ◌+◌, ◌-◌, ◌*◌, ◌/◌, ◌%◌, ◌<◌, ◌≤◌, ◌^◌, [], ◌∷◌, if◌then◌else◌, length, slice_index, take};
 ghost use Rattle.std.specs.Str.{chars};
 ghost use Rattle.exi_spec.specs.Bits.{bits_of, number_bits};
 ghost use Rattle.exi_spec.specs.Items.{shortest_within, shortest_unsigned, shortest_chars};
-ghost use Rattle.exi_bits.specs.Written.{PadsZero, Extends};
+ghost use Rattle.exi_bits.specs.Written.{PadsZero, Extends, HoldsBits};
+
+/// The bytes begun by the first `bits` bits of a room, where the bits behind them are 0 up to a whole byte, as a pen leaves them.
+pub fn begun_bytes(room: &[u8], bits: u32) -> &[u8]
+    requires within { bits ≤ 8 * length room.now }
+    requires clean { PadsZero room.now bits }
+    ensures holds { HoldsBits result.now (take bits (bits_of room.now)) }
+    ensures front { result.now ≡ take (length result.now) room.now }
+{
+    &room[..bits.div_ceil(8) as usize]
+}
 
 /// The byte that a bit is put into: 0 where the bit begins it.
 fn begun_byte(room: &[u8], at: u32) -> u8

@@ -24,14 +24,15 @@ use Rattle.exi_writing.proofs.Pens.{writes_none, writes_both, needs_more, needs_
 use Rattle.exi_events.specs.declared.open.OpenElement.{OpenElement}
 use Rattle.exi_events.specs.Open.{opened_of}
 use Rattle.exi_events.specs.Inside.{AreOpen, HasTop, GoesTo}
-use Rattle.exi_events.specs.Writer.{IsOffered, IsPut, HasNoRoom, IsStepOf, MayWrite, WritesValueOf, value_in}
+use Rattle.exi_events.specs.Writer.{drafted, IsOffered, IsPut, HasNoRoom, IsStepOf, MayWrite, WritesValueOf, value_in}
 use Rattle.std.proofs.lemmas.Option.{slice_get_within}
+use Rattle.exi_events.proofs.Drafts.{adds}
 use Rattle.exi_events.proofs.Nexts.{next_stays, StaysIn}
 use Rattle.exi_events.proofs.Offering.{MovesAs, IsRest, IsPlain, offered_at, move_join, move_split, spells_code, rest_value, rest_characters, may_stand, attribute_moves, content_moves, element_moves, end_moves}
 
 -- ---- the room is too small
 
-lacks_as : (s : Schema) (old : State) (pen : BitPen) (e : Event) (bits : List Bool) (new : State) → MovesAs s old (event_of e) bits new → Needs pen (length bits) → HasNoRoom s old pen (event_of e)
+lacks_as : (s : Schema) (old : State) (pen : BitPen) (e : Event) (bits : List Bool) (new : State) → MovesAs s old (event_of e) bits new → Needs pen (length bits) → HasNoRoom s (drafted pen old) (event_of e)
 lacks_as s old pen (event.Document number) bits new m needs = (bits, (new, m), needs)
 lacks_as s old pen (event.Start name) bits new m needs = (bits, (new, m), needs)
 lacks_as s old pen (event.Attribute name v) bits new m needs = (bits, (new, m), needs)
@@ -39,7 +40,7 @@ lacks_as s old pen (event.Value v) bits new m needs = (bits, (new, m), needs)
 lacks_as s old pen event.EndElement bits new m needs = (bits, (new, m), needs)
 lacks_as s old pen event.Finished bits new m needs = absurd m
 
-lacks_at : (s : Schema) (old : State) (pen : BitPen) (e : Event) → HasNoRoom s old pen (event_of e) → (bits : List Bool) × (new : State) × MovesAs s old (event_of e) bits new × Needs pen (length bits)
+lacks_at : (s : Schema) (old : State) (pen : BitPen) (e : Event) → HasNoRoom s (drafted pen old) (event_of e) → (bits : List Bool) × (new : State) × MovesAs s old (event_of e) bits new × Needs pen (length bits)
 lacks_at s old pen (event.Document number) h = (h.0, h.1.0, h.1.1, h.2)
 lacks_at s old pen (event.Start name) h = (h.0, h.1.0, h.1.1, h.2)
 lacks_at s old pen (event.Attribute name v) h = (h.0, h.1.0, h.1.1, h.2)
@@ -54,31 +55,31 @@ needs_left a b x y p n = omega (arith, n, p.room, ap length p.written, length-ap
 -- for the code
 pub code_lacks : (s : Schema) (elements : List Opened) (top : OpenElement) (entries : Entries) (st : Step) (e : Event) (code width : ℕ) (pen : BitPen) → HasTop elements top → IsPlace s.kinds.now top.place →
     IsWidth (length (offers s.kinds.now top.place)) width → slice_get (offers s.kinds.now top.place) code ≡ Some st → IsStepOf st e →
-    IsOffered s (stands (around elements) entries) e → Needs pen width → HasNoRoom s (stands (around elements) entries) pen (event_of e)
+    IsOffered s (stands (around elements) entries) e → Needs pen width → HasNoRoom s (drafted pen (stands (around elements) entries)) (event_of e)
 code_lacks s elements top entries st e code width pen has at is_width offered is may needs =
     let mine : IsOffered s (stands (Inside (opened_of top) has.0) entries) e = subst (λ (es : List Opened). IsOffered s (stands (around es) entries) e) has.1 may in
     let m = offered_at s (opened_of top) has.0 entries e mine in
     let p = move_split s (opened_of top) has.0 entries st e (number_bits width code) m.0 m.1 at (spells_code s.kinds.now top.place code width st is_width offered) is m.2 in
     let long = length-number_bits width code in
     let all : Needs pen (length (number_bits width code ++ p.0)) = needs_more pen (number_bits width code) p.0 (subst (λ (n : ℕ). Needs pen n) (sym long) needs) in
-    subst (λ (es : List Opened). HasNoRoom s (stands (around es) entries) pen (event_of e)) (sym has.1)
+    subst (λ (es : List Opened). HasNoRoom s (drafted pen (stands (around es) entries)) (event_of e)) (sym has.1)
     (lacks_as s (stands (Inside (opened_of top) has.0) entries) pen e m.0 m.1 m.2 (subst (λ (l : List Bool). Needs pen (length l)) (sym p.2) all))
 
 -- for what stands behind it
 pub rest_lacks : (s : Schema) (elements : List Opened) (top : OpenElement) (entries : Entries) (st : Step) (e : Event) (code width : ℕ) (old mid : BitPen) (rest : List Bool) → HasTop elements top →
     IsWidth (length (offers s.kinds.now top.place)) width → slice_get (offers s.kinds.now top.place) code ≡ Some st → IsStepOf st e →
-    Writes old mid (number_bits width code) → IsRest s (opened_of top) entries st e rest → Needs mid (length rest) → HasNoRoom s (stands (around elements) entries) old (event_of e)
+    Writes old mid (number_bits width code) → IsRest s (opened_of top) entries st e rest → Needs mid (length rest) → HasNoRoom s (drafted old (stands (around elements) entries)) (event_of e)
 rest_lacks s elements top entries st e code width old mid rest has is_width offered is wrote behind needs =
     let m = move_join s (opened_of top) has.0 entries st e (number_bits width code) rest (spells_code s.kinds.now top.place code width st is_width offered) is behind in
-    subst (λ (es : List Opened). HasNoRoom s (stands (around es) entries) old (event_of e)) (sym has.1)
+    subst (λ (es : List Opened). HasNoRoom s (drafted old (stands (around es) entries)) (event_of e)) (sym has.1)
     (lacks_as s (stands (Inside (opened_of top) has.0) entries) old e (number_bits width code ++ rest) m.0 m.1 (needs_behind old mid (number_bits width code) rest wrote needs))
 
 -- the room was large enough for both
 pub none_lacks : (s : Schema) (elements : List Opened) (top : OpenElement) (entries : Entries) (st : Step) (e : Event) (code width : ℕ) (old mid : BitPen) → HasTop elements top → IsPlace s.kinds.now top.place →
     IsWidth (length (offers s.kinds.now top.place)) width → slice_get (offers s.kinds.now top.place) code ≡ Some st → IsStepOf st e →
-    Writes old mid (number_bits width code) → ((rest : List Bool) → IsRest s (opened_of top) entries st e rest → Needs mid (length rest) → ⊥) → HasNoRoom s (stands (around elements) entries) old (event_of e) → ⊥
+    Writes old mid (number_bits width code) → ((rest : List Bool) → IsRest s (opened_of top) entries st e rest → Needs mid (length rest) → ⊥) → HasNoRoom s (drafted old (stands (around elements) entries)) (event_of e) → ⊥
 none_lacks s elements top entries st e code width old mid has at is_width offered is wrote fits lacks =
-    let mine : HasNoRoom s (stands (Inside (opened_of top) has.0) entries) old (event_of e) = subst (λ (es : List Opened). HasNoRoom s (stands (around es) entries) old (event_of e)) has.1 lacks in
+    let mine : HasNoRoom s (drafted old (stands (Inside (opened_of top) has.0) entries)) (event_of e) = subst (λ (es : List Opened). HasNoRoom s (drafted old (stands (around es) entries)) (event_of e)) has.1 lacks in
     let m = lacks_at s (stands (Inside (opened_of top) has.0) entries) old e mine in
     let p = move_split s (opened_of top) has.0 entries st e (number_bits width code) m.0 m.1 at (spells_code s.kinds.now top.place code width st is_width offered) is m.2 in
     fits p.0 p.1 (needs_left old mid (number_bits width code) p.0 wrote (subst (λ (l : List Bool). Needs old (length l)) p.2 m.3))
@@ -92,7 +93,7 @@ plain_fits s top entries _ _ mid rest is plain w needs = absurd is
 
 pub plain_room : (s : Schema) (elements : List Opened) (top : OpenElement) (entries : Entries) (st : Step) (e : Event) (code width : ℕ) (old mid : BitPen) → HasTop elements top → IsPlace s.kinds.now top.place →
     IsWidth (length (offers s.kinds.now top.place)) width → slice_get (offers s.kinds.now top.place) code ≡ Some st → IsStepOf st e → IsPlain st →
-    Writes old mid (number_bits width code) → HasNoRoom s (stands (around elements) entries) old (event_of e) → ⊥
+    Writes old mid (number_bits width code) → HasNoRoom s (drafted old (stands (around elements) entries)) (event_of e) → ⊥
 plain_room s elements top entries st e code width old mid has at is_width offered is plain wrote lacks =
     none_lacks s elements top entries st e code width old mid has at is_width offered is wrote (λ rest w needs. plain_fits s (opened_of top) entries st e mid rest is plain w needs) lacks
 
@@ -147,7 +148,7 @@ module _ (s : Schema) (elements : List Opened) (top : OpenElement) (entries : En
 
   -- full exactly where the value is
   pub attribute_full : (name kind : ℕ) (next : Place) (P : Type 0) → IsFound s elements top entries (step.Attribute name kind next) e code width old mid →
-      ((v : Value) → value_in e ≡ Some v → (P ↔ Lacks (λ bits. (after : Entries) × WritesValueOf s.kinds.now kind entries name (value_of v) after bits) mid)) → (P ↔ HasNoRoom s (stands (around elements) entries) old (event_of e))
+      ((v : Value) → value_in e ≡ Some v → (P ↔ Lacks (λ bits. (after : Entries) × WritesValueOf s.kinds.now kind entries name (value_of v) after bits) mid)) → (P ↔ HasNoRoom s (drafted old (stands (around elements) entries)) (event_of e))
   attribute_full name kind next P f full =
       let form = step.Attribute name kind next in
       let given = attribute_given s (opened_of top) entries name kind next e f.is in (
@@ -155,9 +156,9 @@ module _ (s : Schema) (elements : List Opened) (top : OpenElement) (entries : En
         (λ lacks. by_contra lacks),
       )
     where
-      by_contra : HasNoRoom s (stands (around elements) entries) old (event_of e) → P
+      by_contra : HasNoRoom s (drafted old (stands (around elements) entries)) (event_of e) → P
       by_contra lacks =
-          let mine : HasNoRoom s (stands (Inside (opened_of top) f.has.0) entries) old (event_of e) = subst (λ (es : List Opened). HasNoRoom s (stands (around es) entries) old (event_of e)) f.has.1 lacks in
+          let mine : HasNoRoom s (drafted old (stands (Inside (opened_of top) f.has.0) entries)) (event_of e) = subst (λ (es : List Opened). HasNoRoom s (drafted old (stands (around es) entries)) (event_of e)) f.has.1 lacks in
           let m = lacks_at s (stands (Inside (opened_of top) f.has.0) entries) old e mine in
           let p = move_split s (opened_of top) f.has.0 entries (step.Attribute name kind next) e (number_bits width code) m.0 m.1 f.at (spells_code s.kinds.now top.place code width (step.Attribute name kind next) f.is_width f.offered) f.is m.2 in
           let needs = needs_left old mid (number_bits width code) p.0 f.wrote (subst (λ (l : List Bool). Needs old (length l)) p.2 m.3) in
@@ -165,7 +166,7 @@ module _ (s : Schema) (elements : List Opened) (top : OpenElement) (entries : En
           (full l.0 l.1).1 l.2
 
   pub characters_full : (next : Place) (P : Type 0) → IsFound s elements top entries (step.Characters next) e code width old mid →
-      ((v : Value) → value_in e ≡ Some v → (P ↔ Lacks (λ bits. (after : Entries) × WritesValueOf s.kinds.now top.place.kind entries top.name (value_of v) after bits) mid)) → (P ↔ HasNoRoom s (stands (around elements) entries) old (event_of e))
+      ((v : Value) → value_in e ≡ Some v → (P ↔ Lacks (λ bits. (after : Entries) × WritesValueOf s.kinds.now top.place.kind entries top.name (value_of v) after bits) mid)) → (P ↔ HasNoRoom s (drafted old (stands (around elements) entries)) (event_of e))
   characters_full next P f full =
       let form = step.Characters next in
       let given = characters_given s (opened_of top) entries next e f.is in (
@@ -173,9 +174,9 @@ module _ (s : Schema) (elements : List Opened) (top : OpenElement) (entries : En
         (λ lacks. by_contra lacks),
       )
     where
-      by_contra : HasNoRoom s (stands (around elements) entries) old (event_of e) → P
+      by_contra : HasNoRoom s (drafted old (stands (around elements) entries)) (event_of e) → P
       by_contra lacks =
-          let mine : HasNoRoom s (stands (Inside (opened_of top) f.has.0) entries) old (event_of e) = subst (λ (es : List Opened). HasNoRoom s (stands (around es) entries) old (event_of e)) f.has.1 lacks in
+          let mine : HasNoRoom s (drafted old (stands (Inside (opened_of top) f.has.0) entries)) (event_of e) = subst (λ (es : List Opened). HasNoRoom s (drafted old (stands (around es) entries)) (event_of e)) f.has.1 lacks in
           let m = lacks_at s (stands (Inside (opened_of top) f.has.0) entries) old e mine in
           let p = move_split s (opened_of top) f.has.0 entries (step.Characters next) e (number_bits width code) m.0 m.1 f.at (spells_code s.kinds.now top.place code width (step.Characters next) f.is_width f.offered) f.is m.2 in
           let needs = needs_left old mid (number_bits width code) p.0 f.wrote (subst (λ (l : List Bool). Needs old (length l)) p.2 m.3) in
@@ -186,81 +187,81 @@ module _ (s : Schema) (elements : List Opened) (top : OpenElement) (entries : En
 
   pub attribute_put : (name kind : ℕ) (next : Place) (moved : List Opened) (after : Entries) (new : BitPen) → IsFound s elements top entries (step.Attribute name kind next) e code width old mid → GoesTo elements next moved →
       ((v : Value) → value_in e ≡ Some v → Puts (λ bits. WritesValueOf s.kinds.now kind entries name (value_of v) after bits) mid new) →
-      IsPut s (stands (around elements) entries) (stands (around moved) after) old new (event_of e)
+      IsPut s (drafted old (stands (around elements) entries)) (drafted new (stands (around moved) after)) (event_of e)
   attribute_put name kind next moved after new f goes puts =
       let reached : moved ≡ opened top.name next ∷ f.has.0 = goes (opened_of top) f.has.0 f.has.1 in
-      subst (λ (es : List Opened). IsPut s (stands (around es) entries) (stands (around moved) after) old new (event_of e)) (sym f.has.1)
-      (subst (λ (es : List Opened). IsPut s (stands (Inside (opened_of top) f.has.0) entries) (stands (around es) after) old new (event_of e)) (sym reached)
+      subst (λ (es : List Opened). IsPut s (drafted old (stands (around es) entries)) (drafted new (stands (around moved) after)) (event_of e)) (sym f.has.1)
+      (subst (λ (es : List Opened). IsPut s (drafted old (stands (Inside (opened_of top) f.has.0) entries)) (drafted new (stands (around es) after)) (event_of e)) (sym reached)
       (of_event e f.is puts))
     where
       of_event : (d : Event) → IsStepOf (step.Attribute name kind next) d → ((v : Value) → value_in d ≡ Some v → Puts (λ bits. WritesValueOf s.kinds.now kind entries name (value_of v) after bits) mid new) →
-          IsPut s (stands (Inside (opened_of top) f.has.0) entries) (stands (Inside (opened top.name next) f.has.0) after) old new (event_of d)
+          IsPut s (drafted old (stands (Inside (opened_of top) f.has.0) entries)) (drafted new (stands (Inside (opened top.name next) f.has.0) after)) (event_of d)
       of_event (event.Attribute n v) same p =
           let w = p v refl in
           let spelled = spells_code s.kinds.now top.place code width (step.Attribute name kind next) f.is_width f.offered in (
             number_bits width code ++ w.0,
             subst (λ (m : ℕ). MovesFrom WritesValue s (Inside (opened_of top) f.has.0) entries (Attribute m (value_of v)) (number_bits width code ++ w.0) (stands (Inside (opened top.name next) f.has.0) after)) (sym same)
                 (attribute_moves s (opened_of top) f.has.0 entries after name kind next (value_of v) (number_bits width code) w.0 spelled w.1),
-            writes_both old mid new (number_bits width code) w.0 f.wrote w.2,
+            adds old new _ _ (number_bits width code ++ w.0) (writes_both old mid new (number_bits width code) w.0 f.wrote w.2),
           )
       of_event _ same p = absurd same
 
   pub characters_put : (next : Place) (moved : List Opened) (after : Entries) (new : BitPen) → IsFound s elements top entries (step.Characters next) e code width old mid → GoesTo elements next moved →
       ((v : Value) → value_in e ≡ Some v → Puts (λ bits. WritesValueOf s.kinds.now top.place.kind entries top.name (value_of v) after bits) mid new) →
-      IsPut s (stands (around elements) entries) (stands (around moved) after) old new (event_of e)
+      IsPut s (drafted old (stands (around elements) entries)) (drafted new (stands (around moved) after)) (event_of e)
   characters_put next moved after new f goes puts =
       let reached : moved ≡ opened top.name next ∷ f.has.0 = goes (opened_of top) f.has.0 f.has.1 in
-      subst (λ (es : List Opened). IsPut s (stands (around es) entries) (stands (around moved) after) old new (event_of e)) (sym f.has.1)
-      (subst (λ (es : List Opened). IsPut s (stands (Inside (opened_of top) f.has.0) entries) (stands (around es) after) old new (event_of e)) (sym reached)
+      subst (λ (es : List Opened). IsPut s (drafted old (stands (around es) entries)) (drafted new (stands (around moved) after)) (event_of e)) (sym f.has.1)
+      (subst (λ (es : List Opened). IsPut s (drafted old (stands (Inside (opened_of top) f.has.0) entries)) (drafted new (stands (around es) after)) (event_of e)) (sym reached)
       (of_event e f.is puts))
     where
       of_event : (d : Event) → IsStepOf (step.Characters next) d → ((v : Value) → value_in d ≡ Some v → Puts (λ bits. WritesValueOf s.kinds.now top.place.kind entries top.name (value_of v) after bits) mid new) →
-          IsPut s (stands (Inside (opened_of top) f.has.0) entries) (stands (Inside (opened top.name next) f.has.0) after) old new (event_of d)
+          IsPut s (drafted old (stands (Inside (opened_of top) f.has.0) entries)) (drafted new (stands (Inside (opened top.name next) f.has.0) after)) (event_of d)
       of_event (event.Value v) same p =
           let w = p v refl in
           let spelled = spells_code s.kinds.now top.place code width (step.Characters next) f.is_width f.offered in (
             number_bits width code ++ w.0,
             content_moves s (opened_of top) f.has.0 entries after next (value_of v) (number_bits width code) w.0 spelled w.1,
-            writes_both old mid new (number_bits width code) w.0 f.wrote w.2,
+            adds old new _ _ (number_bits width code ++ w.0) (writes_both old mid new (number_bits width code) w.0 f.wrote w.2),
           )
       of_event _ same p = absurd same
 
   pub element_put : (name kind : ℕ) (next place : Place) (standing : MemberStanding) (past_limit : Bool) (moved pushed : List Opened) (after : Entries) → IsFound s elements top entries (step.Element name kind next standing past_limit) e code width old mid →
       GoesTo elements next moved → pushed ≡ record { name = name; place = place } ∷ moved → place ≡ first kind → after ≡ entries →
-      IsPut s (stands (around elements) entries) (stands (around pushed) after) old mid (event_of e)
+      IsPut s (drafted old (stands (around elements) entries)) (drafted mid (stands (around pushed) after)) (event_of e)
   element_put name kind next place standing past_limit moved pushed after f goes pushes is_first kept =
       let reached : moved ≡ opened top.name next ∷ f.has.0 = goes (opened_of top) f.has.0 f.has.1 in
       let all : pushed ≡ opened name (first kind) ∷ opened top.name next ∷ f.has.0 =
       pushes ∙ ap (λ (p : Place). opened name p ∷ moved) is_first ∙ ap (λ (es : List Opened). opened name (first kind) ∷ es) reached in
-      subst (λ (es : List Opened). IsPut s (stands (around es) entries) (stands (around pushed) after) old mid (event_of e)) (sym f.has.1)
-      (subst (λ (es : List Opened). IsPut s (stands (Inside (opened_of top) f.has.0) entries) (stands (around es) after) old mid (event_of e)) (sym all)
-      (subst (λ (es : Entries). IsPut s (stands (Inside (opened_of top) f.has.0) entries) (stands (Inside (opened name (first kind)) (opened top.name next ∷ f.has.0)) es) old mid (event_of e)) (sym kept)
+      subst (λ (es : List Opened). IsPut s (drafted old (stands (around es) entries)) (drafted mid (stands (around pushed) after)) (event_of e)) (sym f.has.1)
+      (subst (λ (es : List Opened). IsPut s (drafted old (stands (Inside (opened_of top) f.has.0) entries)) (drafted mid (stands (around es) after)) (event_of e)) (sym all)
+      (subst (λ (es : Entries). IsPut s (drafted old (stands (Inside (opened_of top) f.has.0) entries)) (drafted mid (stands (Inside (opened name (first kind)) (opened top.name next ∷ f.has.0)) es)) (event_of e)) (sym kept)
       (of_event e f.is)))
     where
       of_event : (d : Event) → IsStepOf (step.Element name kind next standing past_limit) d →
-          IsPut s (stands (Inside (opened_of top) f.has.0) entries) (stands (Inside (opened name (first kind)) (opened top.name next ∷ f.has.0)) entries) old mid (event_of d)
+          IsPut s (drafted old (stands (Inside (opened_of top) f.has.0) entries)) (drafted mid (stands (Inside (opened name (first kind)) (opened top.name next ∷ f.has.0)) entries)) (event_of d)
       of_event (event.Start n) same =
           let spelled = spells_code s.kinds.now top.place code width (step.Element name kind next standing past_limit) f.is_width f.offered in (
             number_bits width code,
             subst (λ (m : ℕ). MovesFrom WritesValue s (Inside (opened_of top) f.has.0) entries (Start m) (number_bits width code) (stands (Inside (opened name (first kind)) (opened top.name next ∷ f.has.0)) entries)) (sym same.0)
                 (element_moves s (opened_of top) f.has.0 entries name kind next (number_bits width code) (may_stand s.kinds.now top.place next name kind standing past_limit (number_bits width code) same.1 same.2 spelled)),
-            f.wrote,
+            adds old mid _ _ (number_bits width code) f.wrote,
           )
       of_event _ same = absurd same
 
   pub end_put : (popped : List Opened) (after : Entries) → IsFound s elements top entries step.End e code width old mid → ((one : Opened) (above : List Opened) → elements ≡ one ∷ above → popped ≡ above) → after ≡ entries →
-      IsPut s (stands (around elements) entries) (stands (around popped) after) old mid (event_of e)
+      IsPut s (drafted old (stands (around elements) entries)) (drafted mid (stands (around popped) after)) (event_of e)
   end_put popped after f pops kept =
       let left : popped ≡ f.has.0 = pops (opened_of top) f.has.0 f.has.1 in
-      subst (λ (es : List Opened). IsPut s (stands (around es) entries) (stands (around popped) after) old mid (event_of e)) (sym f.has.1)
-      (subst (λ (es : List Opened). IsPut s (stands (Inside (opened_of top) f.has.0) entries) (stands (around es) after) old mid (event_of e)) (sym left)
-      (subst (λ (es : Entries). IsPut s (stands (Inside (opened_of top) f.has.0) entries) (stands (around f.has.0) es) old mid (event_of e)) (sym kept)
+      subst (λ (es : List Opened). IsPut s (drafted old (stands (around es) entries)) (drafted mid (stands (around popped) after)) (event_of e)) (sym f.has.1)
+      (subst (λ (es : List Opened). IsPut s (drafted old (stands (Inside (opened_of top) f.has.0) entries)) (drafted mid (stands (around es) after)) (event_of e)) (sym left)
+      (subst (λ (es : Entries). IsPut s (drafted old (stands (Inside (opened_of top) f.has.0) entries)) (drafted mid (stands (around f.has.0) es)) (event_of e)) (sym kept)
       (of_event e f.is)))
     where
-      of_event : (d : Event) → IsStepOf step.End d → IsPut s (stands (Inside (opened_of top) f.has.0) entries) (stands (around f.has.0) entries) old mid (event_of d)
+      of_event : (d : Event) → IsStepOf step.End d → IsPut s (drafted old (stands (Inside (opened_of top) f.has.0) entries)) (drafted mid (stands (around f.has.0) entries)) (event_of d)
       of_event event.EndElement same =
           let spelled = spells_code s.kinds.now top.place code width step.End f.is_width f.offered in
-          (number_bits width code, end_moves s (opened_of top) f.has.0 entries (number_bits width code) spelled, f.wrote)
+          (number_bits width code, end_moves s (opened_of top) f.has.0 entries (number_bits width code) spelled, adds old mid _ _ (number_bits width code) f.wrote)
       of_event _ same = absurd same
 
 -- ---- with the texts as they stand behind the code
@@ -275,27 +276,27 @@ module _ (s : Schema) (elements : List Opened) (top : OpenElement) (entries inne
       subst (λ (es : Entries). (v : Value) × (value_in e ≡ Some v) × MayWrite s.kinds.now top.place.kind es top.name (value_of v)) (sym same) (characters_may s elements top entries e code width old mid next f)
 
   pub attribute_lacking : (name kind : ℕ) (next : Place) (P : Type 0) → IsFound s elements top entries (step.Attribute name kind next) e code width old mid →
-      ((v : Value) → value_in e ≡ Some v → (P ↔ Lacks (λ bits. (after : Entries) × WritesValueOf s.kinds.now kind inner name (value_of v) after bits) mid)) → (P ↔ HasNoRoom s (stands (around elements) entries) old (event_of e))
+      ((v : Value) → value_in e ≡ Some v → (P ↔ Lacks (λ bits. (after : Entries) × WritesValueOf s.kinds.now kind inner name (value_of v) after bits) mid)) → (P ↔ HasNoRoom s (drafted old (stands (around elements) entries)) (event_of e))
   attribute_lacking name kind next P f full =
       attribute_full s elements top entries e code width old mid name kind next P f
       (subst (λ (es : Entries). (v : Value) → value_in e ≡ Some v → (P ↔ Lacks (λ bits. (after : Entries) × WritesValueOf s.kinds.now kind es name (value_of v) after bits) mid)) same full)
 
   pub characters_lacking : (next : Place) (P : Type 0) → IsFound s elements top entries (step.Characters next) e code width old mid →
-      ((v : Value) → value_in e ≡ Some v → (P ↔ Lacks (λ bits. (after : Entries) × WritesValueOf s.kinds.now top.place.kind inner top.name (value_of v) after bits) mid)) → (P ↔ HasNoRoom s (stands (around elements) entries) old (event_of e))
+      ((v : Value) → value_in e ≡ Some v → (P ↔ Lacks (λ bits. (after : Entries) × WritesValueOf s.kinds.now top.place.kind inner top.name (value_of v) after bits) mid)) → (P ↔ HasNoRoom s (drafted old (stands (around elements) entries)) (event_of e))
   characters_lacking next P f full =
       characters_full s elements top entries e code width old mid next P f
       (subst (λ (es : Entries). (v : Value) → value_in e ≡ Some v → (P ↔ Lacks (λ bits. (after : Entries) × WritesValueOf s.kinds.now top.place.kind es top.name (value_of v) after bits) mid)) same full)
 
   pub attribute_written : (name kind : ℕ) (next : Place) (moved : List Opened) (after : Entries) (new : BitPen) → IsFound s elements top entries (step.Attribute name kind next) e code width old mid → GoesTo elements next moved →
       ((v : Value) → value_in e ≡ Some v → Puts (λ bits. WritesValueOf s.kinds.now kind inner name (value_of v) after bits) mid new) →
-      IsPut s (stands (around elements) entries) (stands (around moved) after) old new (event_of e)
+      IsPut s (drafted old (stands (around elements) entries)) (drafted new (stands (around moved) after)) (event_of e)
   attribute_written name kind next moved after new f goes puts =
       attribute_put s elements top entries e code width old mid name kind next moved after new f goes
       (subst (λ (es : Entries). (v : Value) → value_in e ≡ Some v → Puts (λ bits. WritesValueOf s.kinds.now kind es name (value_of v) after bits) mid new) same puts)
 
   pub characters_written : (next : Place) (moved : List Opened) (after : Entries) (new : BitPen) → IsFound s elements top entries (step.Characters next) e code width old mid → GoesTo elements next moved →
       ((v : Value) → value_in e ≡ Some v → Puts (λ bits. WritesValueOf s.kinds.now top.place.kind inner top.name (value_of v) after bits) mid new) →
-      IsPut s (stands (around elements) entries) (stands (around moved) after) old new (event_of e)
+      IsPut s (drafted old (stands (around elements) entries)) (drafted new (stands (around moved) after)) (event_of e)
   characters_written next moved after new f goes puts =
       characters_put s elements top entries e code width old mid next moved after new f goes
       (subst (λ (es : Entries). (v : Value) → value_in e ≡ Some v → Puts (λ bits. WritesValueOf s.kinds.now top.place.kind es top.name (value_of v) after bits) mid new) same puts)
@@ -330,11 +331,11 @@ code_range s here st code n width same is_width offered =
 
 pub found_lacks : (s : Schema) (elements : List Opened) (top : OpenElement) (entries : Entries) (st : Step) (e : Event) (code width : ℕ) (pen : BitPen) → HasTop elements top → AreOpen s.kinds.now elements →
     IsWidth (length (offers s.kinds.now top.place)) width → slice_get (offers s.kinds.now top.place) code ≡ Some st → IsStepOf st e →
-    IsOffered s (stands (around elements) entries) e → Needs pen width → HasNoRoom s (stands (around elements) entries) pen (event_of e)
+    IsOffered s (stands (around elements) entries) e → Needs pen width → HasNoRoom s (drafted pen (stands (around elements) entries)) (event_of e)
 found_lacks s elements top entries st e code width pen has are is_width offered is may needs =
     code_lacks s elements top entries st e code width pen has (top_place s.kinds.now elements top has are) is_width offered is may needs
 
 pub found_plain : (s : Schema) (elements : List Opened) (top : OpenElement) (entries : Entries) (st : Step) (e : Event) (code width : ℕ) (old mid : BitPen) → IsFound s elements top entries st e code width old mid → IsPlain st →
-    HasNoRoom s (stands (around elements) entries) old (event_of e) → ⊥
+    HasNoRoom s (drafted old (stands (around elements) entries)) (event_of e) → ⊥
 found_plain s elements top entries st e code width old mid f plain lacks =
     plain_room s elements top entries st e code width old mid f.has f.at f.is_width f.offered f.is plain f.wrote lacks

@@ -4,10 +4,8 @@ use Rattle.std.specs.Prelude.{slice_get, MatchBool}
 use Rattle.std.specs.Borrow.{Bor}
 use Rattle.std.specs.Str.{chars}
 use Rattle.std.proofs.lemmas.Bool.{false≢true}
-use Rattle.exi_bits.specs.Lent.{Span, IsSpan, items_of, text_at}
-use Rattle.exi_bits.specs.Written.{HoldsBits}
+use Rattle.exi_bits.specs.Lent.{Span, items_of, text_at}
 use Rattle.exi_bits.specs.declared.span.SpanAt.{SpanAt}
-use Rattle.exi_spec.specs.Bits.{bits_of}
 use Rattle.exi_strings.specs.Table.{global_of, local_of}
 use Rattle.exi_strings.specs.Texts.{IsAbsent}
 use Rattle.exi_documents.specs.Trees.{Value as TreeValue, Truth, Ordinal, Number, Bytes, Text}
@@ -16,24 +14,25 @@ use Rattle.exi_values.specs.declared.Value.{Value}
 use Rattle.exi_values.specs.declared.Value.TheVariants as value
 use Rattle.exi_values.specs.Meaning.{value_of}
 use Rattle.exi_writing.specs.Entering.{HasEntryFor}
-use Rattle.exi_writing.proofs.Stays.{same_held}
 use Rattle.exi_writing.proofs.Strings.{few_bytes}
 use Rattle.exi_writing.proofs.Values.{few_chars}
 
 text_is : (a b : List ℕ) → Text a ≡ Text b → a ≡ b
 text_is a b e = cc
 
-pub lent_there : (bytes : List ℕ) (bits : List Bool) (at : SpanAt) (there span : Span) (given : Value) (text : List ℕ) (b : Bool) → HoldsBits bytes bits → IsSpan (text_at bits at) → there ≡ text_at (bits_of bytes) at →
-    given ≡ value.Text span → value_of given ≡ Text text → (IsTrue b ↔ (items_of there ≡ items_of span)) → (IsTrue b ↔ (items_of (text_at bits at) ≡ text))
-lent_there bytes bits at there span given text b holds spelled is given_is text_of same =
-    let e : items_of span ≡ text = text_is (items_of span) text (sym (ap value_of given_is) ∙ text_of) in
-    same_held bytes text bits at there b holds spelled is (subst (λ (t : List ℕ). IsTrue b ↔ (items_of there ≡ t)) e same)
+same_there : (bits : List Bool) (at : SpanAt) (there : Span) (items text : List ℕ) (b : Bool) → there ≡ text_at bits at → items ≡ text → (IsTrue b ↔ (items_of there ≡ items)) → (IsTrue b ↔ (items_of (text_at bits at) ≡ text))
+same_there bits at there items text b is e same =
+    let one = ap items_of is in ((λ t. sym one ∙ same.0 t ∙ e), (λ i. same.1 (one ∙ i ∙ sym e)))
 
-pub written_there : (bytes : List ℕ) (bits : List Bool) (at : SpanAt) (there : Span) (written : Bor (List ℕ)) (given : Value) (text : List ℕ) (b : Bool) → HoldsBits bytes bits → IsSpan (text_at bits at) → there ≡ text_at (bits_of bytes) at →
+pub lent_there : (bits : List Bool) (at : SpanAt) (there span : Span) (given : Value) (text : List ℕ) (b : Bool) → there ≡ text_at bits at →
+    given ≡ value.Text span → value_of given ≡ Text text → (IsTrue b ↔ (items_of there ≡ items_of span)) → (IsTrue b ↔ (items_of (text_at bits at) ≡ text))
+lent_there bits at there span given text b is given_is text_of same =
+    same_there bits at there (items_of span) text b is (text_is (items_of span) text (sym (ap value_of given_is) ∙ text_of)) same
+
+pub written_there : (bits : List Bool) (at : SpanAt) (there : Span) (written : Bor (List ℕ)) (given : Value) (text : List ℕ) (b : Bool) → there ≡ text_at bits at →
     given ≡ value.Written written → value_of given ≡ Text text → (IsTrue b ↔ (items_of there ≡ chars written.now)) → (IsTrue b ↔ (items_of (text_at bits at) ≡ text))
-written_there bytes bits at there written given text b holds spelled is given_is text_of same =
-    let e : chars written.now ≡ text = text_is (chars written.now) text (sym (ap value_of given_is) ∙ text_of) in
-    same_held bytes text bits at there b holds spelled is (subst (λ (t : List ℕ). IsTrue b ↔ (items_of there ≡ t)) e same)
+written_there bits at there written given text b is given_is text_of same =
+    same_there bits at there (chars written.now) text b is (text_is (chars written.now) text (sym (ap value_of given_is) ∙ text_of)) same
 
 -- ---- a text that stands in no partition
 

@@ -14,3 +14,4 @@ pub mod Bounds
 pub mod Standings
 pub mod Coded
 pub mod Starting
+pub mod Drafts

@@ -20,7 +20,8 @@ use Rattle.exi_events.specs.declared.reader.Phase.{Phase}
 use Rattle.exi_events.specs.declared.reader.Phase.TheVariants as phase
 use Rattle.exi_events.specs.Front.{SpellsFront}
 use Rattle.exi_events.specs.Reader.{state_of, IsSound, IsReady}
-use Rattle.exi_events.specs.Writer.{IsOffered, IsPut, HasNoRoom}
+use Rattle.exi_events.specs.Writer.{drafted, IsOffered, IsPut, HasNoRoom}
+use Rattle.exi_events.proofs.Drafts.{adds}
 use Rattle.exi_events.proofs.Standings.{offered_in}
 
 -- a document number that is offered names a root
@@ -44,16 +45,16 @@ ready_root s p elements old new table name kind is ready more fits =
 -- the header and the number are put
 pub document_put : (s : Schema) (p : Phase) (e : Event) (elements : List Opened) (entries : List (ℕ × SpanAt)) (old new : BitPen) (number named name kind : ℕ) → p ≡ phase.Before → e ≡ event.Document number → named ≡ number → AreTexts (written_bits old) entries →
     Puts (SpellsFront s named) old new → IsRoot s.roots.now s.root_bits named (Kind name kind) →
-    IsPut s (state_of p elements (written_bits old) entries) (state_of (phase.AtRoot name kind) elements (written_bits new) entries) old new (event_of e)
+    IsPut s (drafted old (state_of p elements (written_bits old) entries)) (drafted new (state_of (phase.AtRoot name kind) elements (written_bits new) entries)) (event_of e)
 document_put s p e elements entries old new number named name kind is same one texts puts root =
     let kept = texts_kept old new puts.0 entries puts.2 texts in
     let front : SpellsFront s number puts.0 = subst (λ (n : ℕ). SpellsFront s n puts.0) one puts.1 in
     let is_root : IsRoot s.roots.now s.root_bits number (Kind name kind) = subst (λ (n : ℕ). IsRoot s.roots.now s.root_bits n (Kind name kind)) one root in
-    offered_in (λ (state : State) (x : Event). IsPut s state (state_of (phase.AtRoot name kind) elements (written_bits new) entries) old new (event_of x)) p phase.Before e (event.Document number) elements (written_bits old) entries is same
-    (puts.0, (name, kind, front.0, is_root, front.1, front.2, ap (λ (es : Entries). stands (AtRoot name kind) es) kept), puts.2)
+    offered_in (λ (state : State) (x : Event). IsPut s (drafted old state) (drafted new (state_of (phase.AtRoot name kind) elements (written_bits new) entries)) (event_of x)) p phase.Before e (event.Document number) elements (written_bits old) entries is same
+    (puts.0, (name, kind, front.0, is_root, front.1, front.2, ap (λ (es : Entries). stands (AtRoot name kind) es) kept), adds old new _ _ puts.0 puts.2)
 
 -- the root has no bits
-root_lacks : (s : Schema) (name kind : ℕ) (entries : Entries) (pen : BitPen) (e : Event) → HasNoRoom s (stands (AtRoot name kind) entries) pen (event_of e) → ⊥
+root_lacks : (s : Schema) (name kind : ℕ) (entries : Entries) (pen : BitPen) (e : Event) → HasNoRoom s (drafted pen (stands (AtRoot name kind) entries)) (event_of e) → ⊥
 root_lacks s name kind entries pen (event.Document number) h = absurd h.1.1
 root_lacks s name kind entries pen (event.Start child) h = had_room pen pen [] (writes_none pen) (subst (λ (l : List Bool). Needs pen (length l)) h.1.1.1 h.2)
 root_lacks s name kind entries pen (event.Attribute n v) h = absurd h.1.1
@@ -61,13 +62,13 @@ root_lacks s name kind entries pen (event.Value v) h = absurd h.1.1
 root_lacks s name kind entries pen event.EndElement h = absurd h.1.1
 root_lacks s name kind entries pen event.Finished h = absurd h
 
-pub root_room : (s : Schema) (p : Phase) (e : Event) (elements : List Opened) (bits : List Bool) (entries : List (ℕ × SpanAt)) (pen : BitPen) (name kind : ℕ) → p ≡ phase.AtRoot name kind → HasNoRoom s (state_of p elements bits entries) pen (event_of e) → ⊥
+pub root_room : (s : Schema) (p : Phase) (e : Event) (elements : List Opened) (bits : List Bool) (entries : List (ℕ × SpanAt)) (pen : BitPen) (name kind : ℕ) → p ≡ phase.AtRoot name kind → HasNoRoom s (drafted pen (state_of p elements bits entries)) (event_of e) → ⊥
 root_room s p e elements bits entries pen name kind is h =
-    root_lacks s name kind (texts_in bits entries) pen e (subst (λ (q : Phase). HasNoRoom s (state_of q elements bits entries) pen (event_of e)) is h)
+    root_lacks s name kind (texts_in bits entries) pen e (subst (λ (q : Phase). HasNoRoom s (drafted pen (state_of q elements bits entries)) (event_of e)) is h)
 
 -- inside the root
 pub inside_put : {R E : Type 0} (r : Result R E) (s : Schema) (p : Phase) (e : Event) (elements moved : List Opened) (entries after : List (ℕ × SpanAt)) (old new : BitPen) → p ≡ phase.Inside →
-    OnOk r (IsPut s (stands (around elements) (texts_in (written_bits old) entries)) (stands (around moved) (texts_in (written_bits new) after)) old new (event_of e)) →
-    OnOk r (IsPut s (state_of p elements (written_bits old) entries) (state_of p moved (written_bits new) after) old new (event_of e))
+    OnOk r (IsPut s (drafted old (stands (around elements) (texts_in (written_bits old) entries))) (drafted new (stands (around moved) (texts_in (written_bits new) after))) (event_of e)) →
+    OnOk r (IsPut s (drafted old (state_of p elements (written_bits old) entries)) (drafted new (state_of p moved (written_bits new) after)) (event_of e))
 inside_put r s p e elements moved entries after old new is put =
-    subst (λ (q : Phase). OnOk r (IsPut s (state_of q elements (written_bits old) entries) (state_of q moved (written_bits new) after) old new (event_of e))) (sym is) put
+    subst (λ (q : Phase). OnOk r (IsPut s (drafted old (state_of q elements (written_bits old) entries)) (drafted new (state_of q moved (written_bits new) after)) (event_of e))) (sym is) put

@@ -1,7 +1,9 @@
 -- Own: what an event writer has put, and what it may put next.
-use Rattle.std.specs.Prelude.{◌≡◌, ℕ, Bool, false, List, reverse, Option, Some, None}
-use Rattle.exi_bits.specs.Pens.{SamePen}
+use Rattle.std.specs.Prelude.{◌≡◌, ℕ, ◌+◌, ◌*◌, ◌<◌, Bool, false, List, ◌++◌, length, take, reverse, Option, Some, None}
+use Rattle.exi_spec.specs.Bits.{bits_of}
+use Rattle.exi_bits.specs.Pens.{written_bits}
 use Rattle.exi_bits.specs.declared.pen.BitPen.{BitPen}
+use Rattle.exi_schema.specs.declared.places.Places.{Ghosts}
 use Rattle.exi_schema.specs.declared.places.Step.{Step}
 use Rattle.exi_schema.specs.declared.places.Step.TheVariants as step
 use Rattle.exi_schema.specs.declared.schema.Schema.{Schema}
@@ -17,11 +19,48 @@ use Rattle.exi_values.specs.declared.Event.{Event}
 use Rattle.exi_values.specs.declared.Event.TheVariants as event
 use Rattle.exi_values.specs.declared.Value.{Value}
 use Rattle.exi_values.specs.Meaning.{IsShaped, event_of}
-use Rattle.exi_writing.specs.Writing.{Puts, Lacks}
+use Rattle.exi_events.specs.declared.writer.EventWriter.{EventWriter}
+use Rattle.exi_events.specs.Reader.{state_of, IsReady}
 
--- the events up to here, the newest first, are those that these bits write
-abbrev pub HasPut : Schema → List TreeEvent → State → List Bool → Type 0
-HasPut s events state bits = Reaches WritesValue s events bits state
+-- a document as far as it is written: the bytes of its room, the bits written at their front, and how far the document is
+pub record Draft : Type 0 where
+  pub room : List ℕ
+  pub bits : List Bool
+  pub state : State
+
+-- what a pen has written of it
+abbrev pub drafted : BitPen → State → Draft
+drafted pen state = record { room = pen.room.now; bits = written_bits pen; state = state }
+
+module _ {P : Type 0} {places : Ghosts P} where
+  -- what a writer has written of it
+  abbrev pub draft_of : EventWriter P places → Draft
+  draft_of w =
+      let bits = take w.bits (bits_of w.room.now) in
+      record { room = w.room.now; bits = bits; state = state_of w.phase w.elements bits w.table.now.entries }
+
+  -- as a writer is made, and as each call leaves it
+  abbrev pub IsReadyToPut : EventWriter P places → Type 0
+  IsReadyToPut w = IsReady (places.schema w.places.now) w.phase w.elements (draft_of w).bits w.table.now
+
+-- these bits are written behind the others, into the same room
+pub record Adds (old new : Draft) (bits : List Bool) : Type 0 where
+  pub written : new.bits ≡ old.bits ++ bits
+  pub room : length new.room ≡ length old.room
+
+-- what was written stays
+abbrev pub AddsSome : Draft → Draft → Type 0
+AddsSome old new = (bits : List Bool) × Adds old new bits
+
+-- n bits more are more than the room has
+abbrev pub NeedsMore : Draft → ℕ → Type 0
+NeedsMore draft n = 8 * length draft.room < length draft.bits + n
+
+-- ---- events
+
+-- the events up to here, the newest first, are those that the bits write
+abbrev pub HasPut : Schema → List TreeEvent → Draft → Type 0
+HasPut s events draft = Reaches WritesValue s events draft.bits draft.state
 
 -- some bits write what is told; nothing more is told behind the root
 abbrev pub IsOfferedAs : Schema → State → Option TreeEvent → Type 0
@@ -50,15 +89,16 @@ IsShapedIn (Some v) = IsShaped v
 abbrev pub IsShapedEvent : Event → Type 0
 IsShapedEvent e = IsShapedIn (value_in e)
 
--- the pen has written what is told; at the end it has written nothing
-abbrev pub IsPut : Schema → State → State → BitPen → BitPen → Option TreeEvent → Type 0
-IsPut s old new before after (Some told) = Puts (λ bits. Moves WritesValue s old told bits new) before after
-IsPut s old new before after None = (old.standing ≡ Behind) × (new ≡ old) × SamePen before after
+-- the bits of what is told are written; at the end nothing is
+abbrev pub IsPut : Schema → Draft → Draft → Option TreeEvent → Type 0
+IsPut s old new (Some told) = (bits : List Bool) × Moves WritesValue s old.state told bits new.state × Adds old new bits
+IsPut s old new None = (old.state.standing ≡ Behind) × (new ≡ old)
 
 -- the room is too small for what writes it
-abbrev pub HasNoRoom : Schema → State → BitPen → Option TreeEvent → Type 0
-HasNoRoom s old pen (Some told) = Lacks (λ bits. (new : State) × Moves WritesValue s old told bits new) pen
-HasNoRoom s old pen None = ⊥
+abbrev pub HasNoRoom : Schema → Draft → Option TreeEvent → Type 0
+HasNoRoom s draft (Some told) =
+    (bits : List Bool) × ((new : State) × Moves WritesValue s draft.state told bits new) × NeedsMore draft (length bits)
+HasNoRoom s draft None = ⊥
 
 -- the events of a document of which this is the encoding
 abbrev pub IsWritten : Schema → List TreeEvent → List ℕ → Type 0

@@ -7,7 +7,6 @@ mod offer;
 mod open;
 mod putting;
 mod reader;
-mod standing;
 mod step;
 mod value;
 mod writer;
@@ -16,7 +15,6 @@ pub use exi_bits::Full;
 pub use exi_documents::{Refusal, RefusalCause};
 pub use exi_values::{Event, Table, Value};
 pub use reader::EventReader;
-pub use standing::EventStanding;
 pub use writer::EventWriter;
 
 #[cfg(test)]

@@ -1,7 +1,7 @@
 //! What may be put at a place.
 
-ghost use Rattle.std.specs.Prelude.{◌≡◌, ◌<◌, ◌^◌, ℕ, ◌↔◌, IsTrue, true, length, Some, None, IfSome, IsSome, slice_get};
-ghost use Rattle.exi_bits.specs.Pens.{written_bits};
+ghost use Rattle.std.specs.Prelude.{◌≡◌, ◌<◌, ◌≤◌, ◌^◌, ℕ, ◌↔◌, IsTrue, true, length, Some, None, IfSome, IsSome, slice_get};
+ghost use Rattle.exi_spec.specs.Bits.{bits_of};
 ghost use Rattle.exi_schema.specs.declared.places.Root.TheVariants.{Kind};
 ghost use Rattle.exi_schema.specs.declared.places.Step.{Step as SchemaStep};
 ghost use Rattle.exi_schema.specs.Offers.{IsPlace, offers};
@@ -15,7 +15,6 @@ ghost use Rattle.exi_events.specs.Writer.{IsOffered, IsShapedEvent, IsStepOf, Ma
 
 use crate::open::OpenElement;
 use crate::value::{has_entry, is_value};
-use exi_bits::BitPen;
 use exi_schema::{MemberStanding, Place, Places, Root, Step};
 use exi_values::{Event, Table, Value};
 
@@ -78,29 +77,30 @@ fn is_step_of(step: &Step, event: &Event) -> bool
     }
 }
 
-/// Whether an event may be put inside the innermost element, which is `top`.
+/// Whether an event may be put inside the innermost element, which is `top`, behind the bytes that are written.
 pub(crate) fn offers_inside<P: Places>(
-    pen: &BitPen,
+    written: &[u8],
     places: &P,
     table: &Table,
     top: OpenElement,
     event: &Event,
 ) -> bool
+    requires few { length written.now ≤ 65536 }
     requires place { IsPlace (P.schema places.now).kinds.now top.place }
     requires cap { table.now.cap ≡ most_entries }
-    requires texts { AreTexts (written_bits pen.now) table.now.entries }
+    requires texts { AreTexts (bits_of written.now) table.now.entries }
     requires shaped { IsShapedEvent event.now }
-    ensures { (above : _) → (IsTrue result ↔ IsOffered (P.schema places.now) (stands (Inside (opened_of top) above) (texts_in (written_bits pen.now) table.now.entries)) event.now) }
+    ensures { (above : _) → (IsTrue result ↔ IsOffered (P.schema places.now) (stands (Inside (opened_of top) above) (texts_in (bits_of written.now) table.now.entries)) event.now) }
 {
     let Some(offer) = offer_of(places, top.place, event) else {
         return false;
     };
     match offer.step {
         Step::Attribute { name, kind, .. } => {
-            offers_value(pen, places, table, kind, name, event)
+            offers_value(written, places, table, kind, name, event)
         }
         Step::Characters { .. } => {
-            offers_value(pen, places, table, top.place.kind, top.name, event)
+            offers_value(written, places, table, top.place.kind, top.name, event)
         }
         Step::Element { .. } | Step::End => true,
     }
@@ -108,27 +108,28 @@ pub(crate) fn offers_inside<P: Places>(
 
 /// Whether the value of an event may be put as one of a simple kind.
 fn offers_value<P: Places>(
-    pen: &BitPen,
+    written: &[u8],
     places: &P,
     table: &Table,
     kind: u16,
     name: u16,
     event: &Event,
 ) -> bool
+    requires few { length written.now ≤ 65536 }
     requires simple { IsSome (simple_at (P.schema places.now).kinds.now kind) }
     requires cap { table.now.cap ≡ most_entries }
-    requires texts { AreTexts (written_bits pen.now) table.now.entries }
+    requires texts { AreTexts (bits_of written.now) table.now.entries }
     requires shaped { IsShapedEvent event.now }
     requires value { IsSome (value_in event.now) }
     ensures { (v : _) → value_in event.now ≡ Some v
-        → (IsTrue result ↔ MayWrite (P.schema places.now).kinds.now kind (texts_in (written_bits pen.now) table.now.entries) name (value_of v)) }
+        → (IsTrue result ↔ MayWrite (P.schema places.now).kinds.now kind (texts_in (bits_of written.now) table.now.entries) name (value_of v)) }
 {
     let Some(datatype) = places.datatype(kind) else {
         unreachable!()
     };
     match event {
         Event::Attribute(_, value) | Event::Value(value) => {
-            is_value(datatype, value) && has_entry(pen, table, value)
+            is_value(datatype, value) && has_entry(written, table, value)
         }
         _ => unreachable!(),
     }

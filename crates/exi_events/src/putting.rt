@@ -10,10 +10,12 @@ ghost use Rattle.exi_values.specs.Meaning.{AreTexts, event_of, texts_in, value_o
 ghost use Rattle.exi_writing.specs.Writing.{Puts, Lacks, WritesMore, PassesRoom};
 ghost use Rattle.exi_events.specs.Front.{SpellsFront};
 ghost use Rattle.exi_events.specs.Inside.{AreOpen, HasTop};
-ghost use Rattle.exi_events.specs.Writer.{IsOffered, IsShapedEvent, IsPut, HasNoRoom, MayWrite, WritesValueOf, value_in};
+ghost use Rattle.exi_events.specs.Reader.{state_of, IsReady};
+ghost use Rattle.exi_events.specs.Writer.{drafted, IsOffered, IsShapedEvent, IsPut, HasNoRoom, MayWrite, WritesValueOf, value_in};
 
 use crate::offer::offer_of;
 use crate::open::{OpenElement, OpenElements};
+use crate::reader::Phase;
 use crate::step::RootNumber;
 use exi_bits::{BitPen, Full};
 use exi_schema::{Place, Places, Root, Step};
@@ -21,7 +23,7 @@ use exi_values::{Event, Table};
 use exi_writing::put_value;
 
 /// Writes the header and a document number that names a root.
-pub(crate) fn put_front<P: Places>(
+fn put_front<P: Places>(
     pen: &mut BitPen,
     places: &P,
     number: u32,
@@ -79,7 +81,7 @@ fn put_value_of<P: Places>(
 }
 
 /// Writes an event inside the innermost element, which is `top`.
-pub(crate) fn put_inside<P: Places>(
+fn put_inside<P: Places>(
     pen: &mut BitPen,
     places: &P,
     table: &mut Table,
@@ -94,12 +96,13 @@ pub(crate) fn put_inside<P: Places>(
     requires shaped { IsShapedEvent event.now }
     requires offered { IsOffered (P.schema places.now) (stands (around elements.old) (texts_in (written_bits pen.old) table.old.entries)) event.now }
     ensures ok { OnOk result (IsPut (P.schema places.now)
-        (stands (around elements.old) (texts_in (written_bits pen.old) table.old.entries))
-        (stands (around elements.new) (texts_in (written_bits pen.new) table.new.entries)) pen.old pen.new (event_of event.now)) }
+        (drafted pen.old (stands (around elements.old) (texts_in (written_bits pen.old) table.old.entries)))
+        (drafted pen.new (stands (around elements.new) (texts_in (written_bits pen.new) table.new.entries))) (event_of event.now)) }
     ensures elements { AreOpen (P.schema places.now).kinds.now elements.new }
     ensures texts { AreTexts (written_bits pen.new) table.new.entries }
     ensures cap { table.new.cap ≡ most_entries }
-    ensures full { IsErr result ↔ HasNoRoom (P.schema places.now) (stands (around elements.old) (texts_in (written_bits pen.old) table.old.entries)) pen.old (event_of event.now) }
+    ensures full { IsErr result ↔ HasNoRoom (P.schema places.now)
+        (drafted pen.old (stands (around elements.old) (texts_in (written_bits pen.old) table.old.entries))) (event_of event.now) }
     ensures bits { IfErr result (PassesRoom pen.old) }
     ensures more { WritesMore pen.old pen.new }
     ensures stays { OnErr result ((elements.new ≡ elements.old) × (table.new ≡ table.old)) }
@@ -129,4 +132,51 @@ pub(crate) fn put_inside<P: Places>(
         }
     }
     Ok(())
+}
+
+/// Writes an event that is offered.
+pub(crate) fn put_event<P: Places>(
+    pen: &mut BitPen,
+    places: &P,
+    table: &mut Table,
+    phase: &mut Phase,
+    elements: &mut OpenElements,
+    event: &Event,
+) -> Result<(), Full>
+    requires ready { IsReady (P.schema places.now) phase.old elements.old (written_bits pen.old) table.old }
+    requires shaped { IsShapedEvent event.now }
+    requires offered { IsOffered (P.schema places.now) (state_of phase.old elements.old (written_bits pen.old) table.old.entries) event.now }
+    ensures ready { IsReady (P.schema places.now) phase.new elements.new (written_bits pen.new) table.new }
+    ensures same_room { pen.new.room.ghost_name ≡ pen.old.room.ghost_name }
+    ensures ok { OnOk result (IsPut (P.schema places.now)
+        (drafted pen.old (state_of phase.old elements.old (written_bits pen.old) table.old.entries))
+        (drafted pen.new (state_of phase.new elements.new (written_bits pen.new) table.new.entries)) (event_of event.now)) }
+    ensures full { IsErr result ↔ HasNoRoom (P.schema places.now)
+        (drafted pen.old (state_of phase.old elements.old (written_bits pen.old) table.old.entries)) (event_of event.now) }
+    ensures bits { IfErr result (PassesRoom pen.old) }
+    ensures more { WritesMore pen.old pen.new }
+    ensures stays { OnErr result ((phase.new ≡ phase.old) × (elements.new ≡ elements.old) × (table.new ≡ table.old)) }
+{
+    match *phase {
+        Phase::Before => {
+            let Event::Document(number) = event else {
+                unreachable!()
+            };
+            let root = put_front(pen, places, *number)?;
+            *phase = Phase::AtRoot {
+                name: root.name,
+                kind: root.kind,
+            };
+            Ok(())
+        }
+        Phase::AtRoot { name, kind } => {
+            elements.push(name, Place::first(kind));
+            *phase = Phase::Inside;
+            Ok(())
+        }
+        Phase::Inside => match elements.innermost() {
+            Some(top) => put_inside(pen, places, table, elements, top, event),
+            None => Ok(()),
+        },
+    }
 }

@@ -2,7 +2,7 @@
 
 ghost use Rattle.std.specs.Prelude.{◌≡◌, ◌≤◌, ℕ, length, ◌↔◌, IsTrue, true, List, Some, MatchBool, slice_get};
 ghost use Rattle.exi_bits.specs.Lent.{items_of, text_at, IsSpan};
-ghost use Rattle.exi_bits.specs.Pens.{written_bits};
+ghost use Rattle.exi_spec.specs.Bits.{bits_of};
 ghost use Rattle.exi_documents.specs.Trees.{Text, Number};
 ghost use Rattle.exi_documents.specs.Values.{most_entries, IsValue};
 ghost use Rattle.exi_values.specs.Meaning.{AreTexts, IsShaped, texts_in, value_of};
@@ -10,7 +10,7 @@ ghost use Rattle.exi_strings.specs.Table.{global_of};
 ghost use Rattle.exi_strings.specs.Texts.{IsAbsent};
 ghost use Rattle.exi_writing.specs.Entering.{HasEntryFor};
 
-use exi_bits::{BitPen, BitSpan, SpanAt};
+use exi_bits::{BitSpan, SpanAt};
 use exi_schema::Datatype;
 use exi_values::{Table, Value};
 
@@ -59,36 +59,38 @@ fn is_number(datatype: Datatype, number: i128) -> bool
 }
 
 /// Whether the table has room where the text of a value would enter it, as that of any name.
-pub(crate) fn has_entry(pen: &BitPen, table: &Table, value: &Value) -> bool
+pub(crate) fn has_entry(written: &[u8], table: &Table, value: &Value) -> bool
+    requires few { length written.now ≤ 65536 }
     requires shaped { IsShaped value.now }
     requires cap { table.now.cap ≡ most_entries }
-    requires texts { AreTexts (written_bits pen.now) table.now.entries }
+    requires texts { AreTexts (bits_of written.now) table.now.entries }
     ensures few { length table.now.entries ≤ most_entries }
-    ensures room { (name : ℕ) → (IsTrue result ↔ HasEntryFor (texts_in (written_bits pen.now) table.now.entries) name (value_of value.now)) }
+    ensures room { (name : ℕ) → (IsTrue result ↔ HasEntryFor (texts_in (bits_of written.now) table.now.entries) name (value_of value.now)) }
 {
     if table.globals() < 8192 {
         return true;
     }
     match value {
-        Value::Text(span) => span.len() == 0 || is_entered(pen, table, value),
-        Value::Written(text) => text.is_empty() || is_entered(pen, table, value),
+        Value::Text(span) => span.len() == 0 || is_entered(written, table, value),
+        Value::Written(text) => text.is_empty() || is_entered(written, table, value),
         _ => true,
     }
 }
 
 /// Whether the text of a value stands in the global partition.
-fn is_entered(pen: &BitPen, table: &Table, value: &Value) -> bool
+fn is_entered(written: &[u8], table: &Table, value: &Value) -> bool
+    requires few { length written.now ≤ 65536 }
     requires shaped { IsShaped value.now }
-    requires texts { AreTexts (written_bits pen.now) table.now.entries }
+    requires texts { AreTexts (bits_of written.now) table.now.entries }
     ensures { (text : List ℕ) → value_of value.now ≡ Text text → MatchBool result
-        ((i : ℕ) × (slice_get (global_of (texts_in (written_bits pen.now) table.now.entries)) i ≡ Some text))
-        (IsAbsent (global_of (texts_in (written_bits pen.now) table.now.entries)) text) }
+        ((i : ℕ) × (slice_get (global_of (texts_in (bits_of written.now) table.now.entries)) i ≡ Some text))
+        (IsAbsent (global_of (texts_in (bits_of written.now) table.now.entries)) text) }
 {
     for i in 0..table.globals() {
         let Some(at) = table.global(i) else {
             unreachable!()
         };
-        if is_text_at(pen, value, *at) {
+        if is_text_at(written, value, *at) {
             return true;
         }
     }
@@ -96,12 +98,13 @@ fn is_entered(pen: &BitPen, table: &Table, value: &Value) -> bool
 }
 
 /// Whether the text of a value is the one at a place of what is written.
-fn is_text_at(pen: &BitPen, value: &Value, at: SpanAt) -> bool
+fn is_text_at(written: &[u8], value: &Value, at: SpanAt) -> bool
+    requires few { length written.now ≤ 65536 }
     requires shaped { IsShaped value.now }
-    requires spelled { IsSpan (text_at (written_bits pen.now) at) }
-    ensures { (text : List ℕ) → value_of value.now ≡ Text text → (IsTrue result ↔ (items_of (text_at (written_bits pen.now) at) ≡ text)) }
+    requires spelled { IsSpan (text_at (bits_of written.now) at) }
+    ensures { (text : List ℕ) → value_of value.now ≡ Text text → (IsTrue result ↔ (items_of (text_at (bits_of written.now) at) ≡ text)) }
 {
-    let there = BitSpan::of(pen.written(), at);
+    let there = BitSpan::of(written, at);
     match value {
         Value::Text(span) => there.same(span),
         Value::Written(text) => there.same_str(text),

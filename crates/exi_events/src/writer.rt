@@ -1,22 +1,13 @@
 //! Events written into a room.
 
-ghost use Rattle.std.specs.Prelude.{◌≡◌, ℕ, ◌≤◌, ◌∷◌, [], ◌↔◌, IsTrue, List, length, take, Some, None, IfSome, IfErr, OnOk, OnErr, IsErr, Err};
-ghost use Rattle.exi_bits.specs.Pens.{written_bits, SamePen};
-ghost use Rattle.exi_bits.specs.Written.{HoldsBits};
-ghost use Rattle.exi_documents.specs.Trees.{Event as TreeEvent};
-ghost use Rattle.exi_documents.specs.Values.{most_entries};
-ghost use Rattle.exi_documents.specs.Grammar.{Behind};
-ghost use Rattle.exi_values.specs.Meaning.{event_of};
-ghost use Rattle.exi_schema.specs.Offers.{IsPlace};
-ghost use Rattle.exi_writing.specs.Writing.{WritesMore, PassesRoom};
-ghost use Rattle.exi_events.specs.Reader.{state_of, innermost_place, IsReady};
-ghost use Rattle.exi_events.specs.Writer.{HasPut, IsOffered, IsShapedEvent, IsPut, HasNoRoom, IsWritten};
+ghost use Rattle.std.specs.Prelude.{◌≡◌, ◌≤◌, ◌*◌, length};
+ghost use Rattle.exi_bits.specs.Written.{PadsZero};
 
 use crate::offer::{names_root, offers_inside};
 use crate::open::OpenElements;
-use crate::putting::{put_front, put_inside};
+use crate::putting::put_event;
 use crate::reader::Phase;
-use exi_bits::{BitPen, Full};
+use exi_bits::{BitPen, Full, begun_bytes};
 use exi_schema::{Place, Places};
 use exi_values::{Event, Table};
 
@@ -26,33 +17,48 @@ use exi_values::{Event, Table};
 /// for an event, it is not put, and from then on the same `Full` is answered.
 #[derive(Drop)]
 pub struct EventWriter<'b, 'p, P: Places> {
-    pen: BitPen<'b>,
-    places: &'p P,
+    room: &'b mut [u8],
     table: &'p mut Table,
+    places: &'p P,
+    bits: u32,
     phase: Phase,
     elements: OpenElements,
     full: Option<Full>,
+    ghost small: { length room.now ≤ 65536 },
+    ghost within: { bits ≤ 8 * length room.now },
+    ghost clean: { PadsZero room.now bits },
 }
 
 impl<'b, 'p, P: Places> EventWriter<'b, 'p, P> {
+    ghost use Rattle.std.specs.Prelude.{ℕ, ◌<◌, ◌∷◌, [], ◌↔◌, IsTrue, List, take, Some, None, IfSome, IfErr, OnOk, OnErr, IsErr, Err};
+    ghost use Rattle.exi_bits.specs.Written.{HoldsBits};
+    ghost use Rattle.exi_documents.specs.Trees.{Event as TreeEvent};
+    ghost use Rattle.exi_documents.specs.Values.{most_entries};
+    ghost use Rattle.exi_documents.specs.Grammar.{Behind};
+    ghost use Rattle.exi_values.specs.Meaning.{event_of};
+    ghost use Rattle.exi_schema.specs.Offers.{IsPlace};
+    ghost use Rattle.exi_events.specs.Reader.{innermost_place};
+    ghost use Rattle.exi_events.specs.Writer.{draft_of, IsReadyToPut, AddsSome, HasPut, IsOffered, IsShapedEvent, IsPut, HasNoRoom, IsWritten};
+
     /// A writer at the start of a room of at most 65,536 bytes. The table is emptied; it has room for 8,192 entries.
     pub fn new(room: &'b mut [u8], places: &'p P, table: &'p mut Table) -> EventWriter<'b, 'p, P>
         requires room { length room.old ≤ 65536 }
         requires cap { table.old.cap ≡ most_entries }
-        ensures same_room { result.pen.room.ghost_name ≡ room.entry.ghost_name }
-        ensures same_reference { result.table.ghost_name ≡ table.entry.ghost_name }
+        ensures same_room { result.room.ghost_name ≡ room.entry.ghost_name }
+        ensures same_table { result.table.ghost_name ≡ table.entry.ghost_name }
         ensures places { result.places.now ≡ places.now }
-        ensures room { result.pen.room.now ≡ room.old }
-        ensures nothing { written_bits result.pen ≡ [] }
+        ensures room { result.room.now ≡ room.old }
+        ensures nothing { (draft_of result).bits ≡ [] }
         ensures open_still { result.full ≡ None }
-        ensures ready { IsReady (P.schema places.now) result.phase result.elements (written_bits result.pen) result.table.now }
-        ensures put { HasPut (P.schema places.now) [] (state_of result.phase result.elements (written_bits result.pen) result.table.now.entries) (written_bits result.pen) }
+        ensures ready { IsReadyToPut result }
+        ensures put { HasPut (P.schema places.now) [] (draft_of result) }
     {
         table.clear();
         EventWriter {
-            pen: BitPen::new(room),
-            places,
+            room,
             table,
+            places,
+            bits: 0,
             phase: Phase::Before,
             elements: OpenElements::new(),
             full: None,
@@ -61,8 +67,8 @@ impl<'b, 'p, P: Places> EventWriter<'b, 'p, P> {
 
     /// The place reached in the innermost element that has started and not ended, a place of the schema; `None` where there is no such element.
     pub fn place(&self) -> Option<Place>
-        requires ready { IsReady (P.schema self.now.places.now) self.now.phase self.now.elements (written_bits self.now.pen) self.now.table.now }
-        ensures place { result ≡ innermost_place (state_of self.now.phase self.now.elements (written_bits self.now.pen) self.now.table.now.entries).standing }
+        requires ready { IsReadyToPut self.now }
+        ensures place { result ≡ innermost_place (draft_of self.now).state.standing }
         ensures of_schema { IfSome result (λ place. IsPlace (P.schema self.now.places.now).kinds.now place) }
     {
         self.elements.innermost().map(|top| top.place)
@@ -72,10 +78,9 @@ impl<'b, 'p, P: Places> EventWriter<'b, 'p, P> {
     /// particle's limit, its value is in its datatype, and the table has room where its text would enter it. `Finished` may be put
     /// behind the end of the root.
     pub fn offers(&self, event: &Event) -> bool
-        requires ready { IsReady (P.schema self.now.places.now) self.now.phase self.now.elements (written_bits self.now.pen) self.now.table.now }
+        requires ready { IsReadyToPut self.now }
         requires shaped { IsShapedEvent event.now }
-        ensures { IsTrue result ↔ IsOffered (P.schema self.now.places.now)
-            (state_of self.now.phase self.now.elements (written_bits self.now.pen) self.now.table.now.entries) event.now }
+        ensures { IsTrue result ↔ IsOffered (P.schema self.now.places.now) (draft_of self.now).state event.now }
     {
         match self.phase {
             Phase::Before => match event {
@@ -87,7 +92,7 @@ impl<'b, 'p, P: Places> EventWriter<'b, 'p, P> {
                 _ => false,
             },
             Phase::Inside => match self.elements.innermost() {
-                Some(top) => offers_inside(&self.pen, self.places, self.table, top, event),
+                Some(top) => offers_inside(self.written(), self.places, self.table, top, event),
                 None => matches!(event, Event::Finished),
             },
         }
@@ -98,118 +103,65 @@ impl<'b, 'p, P: Places> EventWriter<'b, 'p, P> {
     /// `Full` exactly where the room is too small for it: the document and the table stay as they were, and this `Full` is answered
     /// from then on.
     pub fn put(&mut self, event: &Event) -> Result<(), Full>
-        requires ready { IsReady (P.schema self.old.places.now) self.old.phase self.old.elements (written_bits self.old.pen) self.old.table.now }
+        requires ready { IsReadyToPut self.old }
         requires shaped { IsShapedEvent event.now }
-        requires offered { self.old.full ≡ None → IsOffered (P.schema self.old.places.now)
-            (state_of self.old.phase self.old.elements (written_bits self.old.pen) self.old.table.now.entries) event.now }
-        ensures ready { IsReady (P.schema self.new.places.now) self.new.phase self.new.elements (written_bits self.new.pen) self.new.table.now }
-        ensures same_reference { self.new.table.ghost_name ≡ self.old.table.ghost_name }
+        requires offered { self.old.full ≡ None → IsOffered (P.schema self.old.places.now) (draft_of self.old).state event.now }
+        ensures ready { IsReadyToPut self.new }
+        ensures same_room { self.new.room.ghost_name ≡ self.old.room.ghost_name }
+        ensures same_table { self.new.table.ghost_name ≡ self.old.table.ghost_name }
         ensures places { self.new.places.now ≡ self.old.places.now }
-        ensures same_room { self.new.pen.room.ghost_name ≡ self.old.pen.room.ghost_name }
         // What was written stays.
-        ensures more { WritesMore self.old.pen self.new.pen }
-        ensures again { (f : _) → self.old.full ≡ Some f → (result ≡ Err f) × (self.new.full ≡ Some f) × SamePen self.old.pen self.new.pen }
-        ensures put { OnOk result (IsPut (P.schema self.old.places.now)
-            (state_of self.old.phase self.old.elements (written_bits self.old.pen) self.old.table.now.entries)
-            (state_of self.new.phase self.new.elements (written_bits self.new.pen) self.new.table.now.entries)
-            self.old.pen self.new.pen (event_of event.now)) }
+        ensures more { AddsSome (draft_of self.old) (draft_of self.new) }
+        ensures again { (f : _) → self.old.full ≡ Some f → (result ≡ Err f) × (self.new ≡ self.old) }
+        ensures put { OnOk result (IsPut (P.schema self.old.places.now) (draft_of self.old) (draft_of self.new) (event_of event.now)) }
         ensures open_still { OnOk result ((self.old.full ≡ None) × (self.new.full ≡ None)) }
-        ensures full { self.old.full ≡ None → (IsErr result ↔ HasNoRoom (P.schema self.old.places.now)
-            (state_of self.old.phase self.old.elements (written_bits self.old.pen) self.old.table.now.entries) self.old.pen (event_of event.now)) }
-        ensures bits { self.old.full ≡ None → IfErr result (λ f. PassesRoom self.old.pen f × (self.new.full ≡ Some f)) }
+        ensures full { self.old.full ≡ None → (IsErr result ↔ HasNoRoom (P.schema self.old.places.now) (draft_of self.old) (event_of event.now)) }
+        ensures bits { self.old.full ≡ None → IfErr result (λ f. (8 * length self.old.room.now < f.bits) × (self.new.full ≡ Some f)) }
         ensures stays { OnErr result ((self.new.phase ≡ self.old.phase) × (self.new.elements ≡ self.old.elements) × (self.new.table.now ≡ self.old.table.now)) }
         // Of the whole document: these bits write the events up to here.
-        ensures told { (events : List TreeEvent)
-            → HasPut (P.schema self.old.places.now) events (state_of self.old.phase self.old.elements (written_bits self.old.pen) self.old.table.now.entries) (written_bits self.old.pen)
-            → OnOk result ((told : TreeEvent) → event_of event.now ≡ Some told
-            → HasPut (P.schema self.old.places.now) (told ∷ events) (state_of self.new.phase self.new.elements (written_bits self.new.pen) self.new.table.now.entries) (written_bits self.new.pen)) }
+        ensures told { (events : List TreeEvent) → HasPut (P.schema self.old.places.now) events (draft_of self.old)
+            → OnOk result ((told : TreeEvent) → event_of event.now ≡ Some told → HasPut (P.schema self.old.places.now) (told ∷ events) (draft_of self.new)) }
     {
         if let Some(full) = self.full {
             return Err(full);
         }
-        match self.step(event) {
-            Ok(()) => Ok(()),
-            Err(full) => {
-                self.full = Some(full);
-                Err(full)
-            }
-        }
-    }
-
-    /// How many bytes of the room are written, the last one filled with 0.
-    pub fn finish(&self) -> u32
-        ensures holds { HoldsBits (take result self.now.pen.room.now) (written_bits self.now.pen) }
-        ensures within { result ≤ length self.now.pen.room.now }
-        // Behind the end of the root: they are the encoding of the tree that the events tell.
-        ensures document { (events : List TreeEvent)
-            → HasPut (P.schema self.now.places.now) events (state_of self.now.phase self.now.elements (written_bits self.now.pen) self.now.table.now.entries) (written_bits self.now.pen)
-            → (state_of self.now.phase self.now.elements (written_bits self.now.pen) self.now.table.now.entries).standing ≡ Behind
-            → IsWritten (P.schema self.now.places.now) events (take result self.now.pen.room.now) }
-    {
-        self.pen.written().len() as u32
+        let room = &mut *self.room;
+        let mut pen = BitPen::behind(room, self.bits);
+        let put = put_event(
+            &mut pen,
+            self.places,
+            self.table,
+            &mut self.phase,
+            &mut self.elements,
+            event,
+        );
+        self.bits = pen.into_place();
+        self.full = put.err();
+        put
     }
 
     /// The bytes begun so far, the last one filled with 0.
     pub fn written(&self) -> &[u8]
-        ensures holds { HoldsBits result.now (written_bits self.now.pen) }
+        ensures holds { HoldsBits result.now (draft_of self.now).bits }
+        ensures front { result.now ≡ take (length result.now) self.now.room.now }
         // Behind the end of the root: they are the encoding of the tree that the events tell.
-        ensures document { (events : List TreeEvent)
-            → HasPut (P.schema self.now.places.now) events (state_of self.now.phase self.now.elements (written_bits self.now.pen) self.now.table.now.entries) (written_bits self.now.pen)
-            → (state_of self.now.phase self.now.elements (written_bits self.now.pen) self.now.table.now.entries).standing ≡ Behind
-            → IsWritten (P.schema self.now.places.now) events result.now }
+        ensures document { (events : List TreeEvent) → HasPut (P.schema self.now.places.now) events (draft_of self.now)
+            → (draft_of self.now).state.standing ≡ Behind → IsWritten (P.schema self.now.places.now) events result.now }
     {
-        self.pen.written()
+        begun_bytes(self.room, self.bits)
     }
 
-    /// Puts an event, where none was too long before.
-    fn step(&mut self, event: &Event) -> Result<(), Full>
-        requires ready { IsReady (P.schema self.old.places.now) self.old.phase self.old.elements (written_bits self.old.pen) self.old.table.now }
-        requires shaped { IsShapedEvent event.now }
-        requires offered { IsOffered (P.schema self.old.places.now)
-            (state_of self.old.phase self.old.elements (written_bits self.old.pen) self.old.table.now.entries) event.now }
-        ensures ready { IsReady (P.schema self.new.places.now) self.new.phase self.new.elements (written_bits self.new.pen) self.new.table.now }
-        ensures same_reference { self.new.table.ghost_name ≡ self.old.table.ghost_name }
-        ensures places { self.new.places.now ≡ self.old.places.now }
-        ensures same_room { self.new.pen.room.ghost_name ≡ self.old.pen.room.ghost_name }
-        ensures more { WritesMore self.old.pen self.new.pen }
-        ensures fulls { self.new.full ≡ self.old.full }
-        ensures put { OnOk result (IsPut (P.schema self.old.places.now)
-            (state_of self.old.phase self.old.elements (written_bits self.old.pen) self.old.table.now.entries)
-            (state_of self.new.phase self.new.elements (written_bits self.new.pen) self.new.table.now.entries)
-            self.old.pen self.new.pen (event_of event.now)) }
-        ensures full { IsErr result ↔ HasNoRoom (P.schema self.old.places.now)
-            (state_of self.old.phase self.old.elements (written_bits self.old.pen) self.old.table.now.entries) self.old.pen (event_of event.now) }
-        ensures bits { IfErr result (PassesRoom self.old.pen) }
-        ensures stays { OnErr result ((self.new.phase ≡ self.old.phase) × (self.new.elements ≡ self.old.elements) × (self.new.table.now ≡ self.old.table.now)) }
+    /// Ends the writing, wherever it stands, and tells how many bytes of the room are written, the last one filled with 0. The room and
+    /// the table stay as they are.
+    pub fn finish(self) -> u32
+        ensures holds { HoldsBits (take result self.entry.room.now) (draft_of self.entry).bits }
+        ensures within { result ≤ length self.entry.room.now }
+        // Behind the end of the root: they are the encoding of the tree that the events tell.
+        ensures document { (events : List TreeEvent) → HasPut (P.schema self.entry.places.now) events (draft_of self.entry)
+            → (draft_of self.entry).state.standing ≡ Behind → IsWritten (P.schema self.entry.places.now) events (take result self.entry.room.now) }
+        ensures room { self.exit.0.now ≡ self.entry.room.now }
+        ensures table { self.exit.1.0.now ≡ self.entry.table.now }
     {
-        match self.phase {
-            Phase::Before => {
-                let Event::Document(number) = event else {
-                    unreachable!()
-                };
-                let root = put_front(&mut self.pen, self.places, *number)?;
-                self.phase = Phase::AtRoot {
-                    name: root.name,
-                    kind: root.kind,
-                };
-                Ok(())
-            }
-            Phase::AtRoot { name, kind } => {
-                self.elements.push(name, Place::first(kind));
-                self.phase = Phase::Inside;
-                Ok(())
-            }
-            Phase::Inside => match self.elements.innermost() {
-                Some(top) => put_inside(
-                    &mut self.pen,
-                    self.places,
-                    self.table,
-                    &mut self.elements,
-                    top,
-                    event,
-                ),
-                None => Ok(()),
-            },
-        }
+        self.written().len() as u32
     }
 }

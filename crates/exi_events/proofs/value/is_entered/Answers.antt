@@ -1,22 +1,22 @@
 use Rattle.std.proofs.Common.{arith}
-use Rattle.exi_bits.specs.Pens.{written_bits}
+use Rattle.exi_spec.specs.Bits.{bits_of}
 use Rattle.exi_reading.proofs.Places.{global_of-texts, global_places, place_spelled}
 use Rattle.exi_writing.proofs.Found.{same_count, first_there, not_there, all_passed}
 use Rattle.exi_events.proofs.value.is_entered.Goals as goal
 
 pub is_text_at-requires-clause-spelled : goal.is_text_at-requires-clause-spelled
-is_text_at-requires-clause-spelled c = place_spelled (written_bits c.args.pen.now) _ c.loop-i.i c.in-Some.at.now (global_places (written_bits c.args.pen.now) c.args.table.now.entries c.requires.texts) c.in-Some.ensures
+is_text_at-requires-clause-spelled c = place_spelled (bits_of c.args.written.now) _ c.loop-i.i c.in-Some.at.now (global_places (bits_of c.args.written.now) c.args.table.now.entries c.requires.texts) c.in-Some.ensures
 
 pub returns-then-is_text_at : goal.returns-then-is_text_at
 returns-then-is_text_at c text is =
-    let there = first_there (written_bits c.args.pen.now) _ _ c.loop-i.i c.in-Some.at.now _ _ (global_of-texts (written_bits c.args.pen.now) c.args.table.now.entries) c.in-Some.ensures (c.is_text_at.ensures text is) c.if-is_text_at.true (c.loop-i.invariant text is) in
+    let there = first_there (bits_of c.args.written.now) _ _ c.loop-i.i c.in-Some.at.now _ _ (global_of-texts (bits_of c.args.written.now) c.args.table.now.entries) c.in-Some.ensures (c.is_text_at.ensures text is) c.if-is_text_at.true (c.loop-i.invariant text is) in
     (c.loop-i.i, there.found)
 
 pub loop-i-preserved : goal.loop-i-preserved
 loop-i-preserved c text is =
-    not_there (written_bits c.args.pen.now) _ _ c.loop-i.i c.in-Some.at.now _ _ (global_of-texts (written_bits c.args.pen.now) c.args.table.now.entries) c.in-Some.ensures (c.is_text_at.ensures text is) c.if-is_text_at.false (c.loop-i.invariant text is)
+    not_there (bits_of c.args.written.now) _ _ c.loop-i.i c.in-Some.at.now _ _ (global_of-texts (bits_of c.args.written.now) c.args.table.now.entries) c.in-Some.ensures (c.is_text_at.ensures text is) c.if-is_text_at.false (c.loop-i.invariant text is)
 
 pub returns : goal.returns
 returns c text is =
-    let count = same_count (written_bits c.args.pen.now) _ _ _ (global_of-texts (written_bits c.args.pen.now) c.args.table.now.entries) c.globals-i-end.ensures.count in
+    let count = same_count (bits_of c.args.written.now) _ _ _ (global_of-texts (bits_of c.args.written.now) c.args.table.now.entries) c.globals-i-end.ensures.count in
     all_passed _ _ c.loop-i.i (omega (arith, count, c.loop-i-test.false)) (c.loop-i.invariant text is)
