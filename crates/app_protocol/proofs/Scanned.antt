@@ -14,7 +14,7 @@ use Rattle.dialect_text.specs.Dialect.{IsFault}
 use Rattle.tree_text.specs.TreeText.{IsTreeText}
 use Rattle.tree_text.specs.Scans.{IsEncodedText, IsUnencoded, IsScanFault}
 use Rattle.tree_text.proofs.Sayings.{encoded_said}
-use Rattle.app_documents.specs.Declarations.{IsNegotiation}
+use Rattle.app_schema.specs.Declarations.{IsNegotiation}
 use Rattle.app_documents.specs.Trees.{Message, IsMessage, tree_of, number_of}
 use Rattle.app_documents.proofs.Agreeing.{document_moved, bounds_fit}
 use Rattle.app_documents.proofs.Encoded.{message_encoded}
