@@ -17,7 +17,7 @@ use Rattle.exi_documents.specs.Documents.{Speller, SpellsStep, SpellsSimple, Spe
 use Rattle.document_laws.specs.Laws.{IsInRange, AreInRange}
 use Rattle.plain_schema.specs.Plain.{PlainKind, valued, containing, plain_kinds, plain_offers, plain_simple_at, plain_datatype}
 use Rattle.plain_schema.proofs.Plainly.{offers_plain, simple_plain}
-use Rattle.app_documents.specs.Declarations.{kinds, IsNegotiation}
+use Rattle.app_schema.specs.Declarations.{kinds, IsNegotiation}
 
 module _ (V : Speller) (ks ls : List Declaration) (same : plain_kinds ks ≡ plain_kinds ls) where
   offers_same : (here : Place) → offers ks here ≡ offers ls here

@@ -21,7 +21,7 @@ use Rattle.exi_documents.specs.Documents.{SpellsStep, SpellsTrees, SpellsTree, S
 use Rattle.document_laws.proofs.IndexWidths.{code_width}
 use Rattle.plain_schema.specs.Plain.{plain_kinds, plain_offers, plain_simple_at}
 use Rattle.plain_schema.proofs.Plainly.{offers_plain, simple_plain}
-use Rattle.app_documents.specs.Declarations.{kinds, roots, IsNegotiation}
+use Rattle.app_schema.specs.Declarations.{kinds, roots, IsNegotiation}
 use Rattle.app_documents.specs.Trees.{Offered, IsOffered, Message, Request, Response, IsMessage, IsByte, fields_of, protocol_trees, schema_tree, tree_of, number_of}
 use Rattle.app_documents.proofs.Fields.{behind}
 use Rattle.app_documents.proofs.Shapes.{at_copy, among}

@@ -9,7 +9,7 @@ use Rattle.exi_documents.specs.Documents.{SpellsSimple, SpellsTrees, first}
 use Rattle.exi_schema.specs.Steps.{simple_at}
 use Rattle.plain_schema.specs.Plain.{plain_kinds, plain_simple_at}
 use Rattle.plain_schema.proofs.Plainly.{simple_plain}
-use Rattle.app_documents.specs.Declarations.{kinds}
+use Rattle.app_schema.specs.Declarations.{kinds}
 use Rattle.app_documents.specs.Trees.{Offered, IsOffered, fields_of, schema_tree, IsByte}
 use Rattle.app_documents.proofs.Scalars.{AreScalars, HasScalars, text_scalars}
 use Rattle.app_documents.proofs.Steps.{has_field, ends, one_of_two, same_element, no_children}

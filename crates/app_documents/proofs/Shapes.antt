@@ -17,7 +17,7 @@ use Rattle.exi_documents.specs.Values.{Entries, SpellsValue}
 use Rattle.exi_documents.specs.Documents.{SpellsStep, SpellsSimple, SpellsAttributes, SpellsTrees, SpellsTree, SpellsDocument, first, name_of}
 use Rattle.plain_schema.specs.Plain.{plain_kinds, plain_simple_at, plain_offers}
 use Rattle.plain_schema.proofs.Plainly.{simple_plain}
-use Rattle.app_documents.specs.Declarations.{kinds, roots, IsNegotiation}
+use Rattle.app_schema.specs.Declarations.{kinds, roots, IsNegotiation}
 use Rattle.app_documents.specs.Trees.{Offered, IsOffered, Message, Request, Response, IsMessage, IsByte, fields_of, protocol_trees, tree_of, number_of, schema_tree}
 use Rattle.app_documents.proofs.Scalars.{HasScalars}
 use Rattle.app_documents.proofs.Steps.{only, offered, the_step, same_element, has_field}

@@ -1,2 +1,1 @@
-pub mod Declarations
 pub mod Trees

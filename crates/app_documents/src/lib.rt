@@ -7,7 +7,7 @@ ghost use Rattle.exi_schema.specs.declared.schema.Schema.{Schema};
 ghost use Rattle.exi_documents.specs.Documents.{SpellsDocument};
 ghost use Rattle.exi_documents.specs.Trees.{Tree};
 ghost use Rattle.exi_documents.specs.Values.{SpellsValue, WritesValue};
-ghost use Rattle.app_documents.specs.Declarations.{IsNegotiation};
+ghost use Rattle.app_schema.specs.Declarations.{IsNegotiation};
 ghost use Rattle.app_documents.specs.Trees.{Message, IsMessage, tree_of, number_of};
 
 /// Each document of the negotiation is the tree of a request or of a response within its ranges.

@@ -19,7 +19,7 @@ use Rattle.exi_documents.specs.Grammar.{Opened, Standing, Before, AtRoot, Inside
 use Rattle.exi_documents.specs.Refusals.{code_cause, RefusesStep, RefusesBehindStep, RefusesAttribute, RefusesContent, RefusesNumber, RefusesFront, RefusesFrom, IsRefused}
 use Rattle.plain_schema.specs.Plain.{plain_offers, plain_simple_at}
 use Rattle.plain_schema.proofs.Plainly.{offers_plain, simple_plain}
-use Rattle.app_documents.specs.Declarations.{IsNegotiation}
+use Rattle.app_schema.specs.Declarations.{IsNegotiation}
 
 pub record Alike (s t : Schema) : Type 0 where
   pub offered : (here : Place) → offers s.kinds.now here ≡ offers t.kinds.now here

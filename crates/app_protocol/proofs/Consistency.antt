@@ -10,7 +10,7 @@ use Rattle.exi_schema.specs.Schemas.{is_taken}
 use Rattle.dialect_text.specs.Dialect.{or_else, attribute_named, member_named, element_named}
 use Rattle.tree_text.specs.Consistent.{is_that, is_consistent, are_consistent}
 use Rattle.plain_schema.specs.Plain.{PlainParticle, PlainKind, valued, containing, plain_particle, plain_kind, plain_kinds}
-use Rattle.app_documents.specs.Declarations.{kinds, IsNegotiation}
+use Rattle.app_schema.specs.Declarations.{kinds, IsNegotiation}
 
 abbrev plain_named : List PlainParticle → ℕ → Option ℕ
 plain_named [] name = None

@@ -21,7 +21,7 @@ use Rattle.document_laws.proofs.Apart.{documents_apart}
 use Rattle.document_laws.proofs.Encodings.{encoding_spelled, document_once}
 use Rattle.document_laws.proofs.Runs.{document_runs, from_start}
 use Rattle.document_laws.proofs.Written.{value_once}
-use Rattle.app_documents.specs.Declarations.{IsNegotiation}
+use Rattle.app_schema.specs.Declarations.{IsNegotiation}
 use Rattle.app_documents.specs.Trees.{Message, IsMessage, tree_of, number_of}
 use Rattle.app_documents.proofs.Agreeing.{document_moved, bounds_fit}
 use Rattle.app_documents.proofs.Encoded.{message_encoded}

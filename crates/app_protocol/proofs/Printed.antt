@@ -7,7 +7,7 @@ use Rattle.tree_text.specs.TreeText.{IsTreeText}
 use Rattle.tree_text.specs.Printing.{IsFaultOf}
 use Rattle.tree_text.specs.declared.fault.PrintFault.{PrintFault}
 use Rattle.tree_text.specs.declared.fault.PrintFault.TheVariants.{Refused, Memory}
-use Rattle.app_documents.specs.Declarations.{IsNegotiation}
+use Rattle.app_schema.specs.Declarations.{IsNegotiation}
 use Rattle.app_documents.proofs.Shapes.{of_message}
 use Rattle.app_protocol.specs.Printing.{IsPrinted, IsAppFault}
 

@@ -13,7 +13,7 @@ use Rattle.exi_values.specs.Meaning.{event_of}
 use Rattle.exi_events.specs.Reader.{IsNext, HasTold}
 use Rattle.document_laws.proofs.Payloads.{weight, shrinks_at}
 use Rattle.document_laws.proofs.Told.{tell_trees}
-use Rattle.app_documents.specs.Declarations.{IsNegotiation}
+use Rattle.app_schema.specs.Declarations.{IsNegotiation}
 use Rattle.app_documents.specs.Trees.{Message, number_of}
 use Rattle.app_documents.proofs.Shapes.{of_message}
 use Rattle.app_protocol.specs.Building.{Built, build, built, message_built}

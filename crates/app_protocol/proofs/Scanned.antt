@@ -8,13 +8,13 @@ use Rattle.exi_documents.specs.Trees.{Tree, document_events}
 use Rattle.exi_documents.specs.Values.{WritesValue}
 use Rattle.document_laws.proofs.Encodings.{encoding_spelled, document_once}
 use Rattle.document_laws.proofs.Written.{value_once}
-use Rattle.dialect_text.specs.declared.fault.ScanFault.{ScanFault}
-use Rattle.dialect_text.specs.declared.fault.ScanFault.TheVariants.{Place, Memory}
+use Rattle.value_text.specs.declared.fault.ScanFault.{ScanFault}
+use Rattle.value_text.specs.declared.fault.ScanFault.TheVariants.{Place, Memory}
 use Rattle.dialect_text.specs.Dialect.{IsFault}
 use Rattle.tree_text.specs.TreeText.{IsTreeText}
 use Rattle.tree_text.specs.Scans.{IsEncodedText, IsUnencoded, IsScanFault}
 use Rattle.tree_text.proofs.Sayings.{encoded_said}
-use Rattle.app_documents.specs.Declarations.{IsNegotiation}
+use Rattle.app_schema.specs.Declarations.{IsNegotiation}
 use Rattle.app_documents.specs.Trees.{Message, IsMessage, tree_of, number_of}
 use Rattle.app_documents.proofs.Agreeing.{document_moved, bounds_fit}
 use Rattle.app_documents.proofs.Encoded.{message_encoded}

@@ -12,7 +12,7 @@ use Rattle.exi_documents.specs.Documents.{first, name_of}
 use Rattle.exi_documents.specs.Trees.{Value, Truth, Ordinal, Number, Bytes, Text, Trees, none, simple, complex, Tree, Simple, Complex}
 use Rattle.value_text.specs.ValueText.{IsValueText, IsName, IsNamedText}
 use Rattle.tree_text.specs.TreeText.{IsOffered, AreAttributeTexts, AreTreeTexts, IsRootText, IsTreeText}
-use Rattle.app_documents.specs.Declarations.{IsNegotiation}
+use Rattle.app_schema.specs.Declarations.{IsNegotiation}
 use Rattle.app_protocol.proofs.Alike.{negotiations_alike}
 
 module _ (s t : Schema) (a : IsNegotiation s) (b : IsNegotiation t) where

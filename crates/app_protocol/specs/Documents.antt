@@ -5,7 +5,7 @@ use Rattle.exi_documents.specs.declared.refusal.RefusalCause.{RefusalCause}
 use Rattle.exi_documents.specs.Documents.{IsDocument, IsEncoding, SpellsDocument}
 use Rattle.exi_documents.specs.Refusals.{IsRefused}
 use Rattle.exi_documents.specs.Values.{WritesValue}
-use Rattle.app_documents.specs.Declarations.{IsNegotiation}
+use Rattle.app_schema.specs.Declarations.{IsNegotiation}
 use Rattle.app_documents.specs.Trees.{Message, IsMessage, tree_of, number_of}
 
 -- a payload spells a message, which is within its ranges

@@ -1,7 +1,7 @@
 -- Own: the text of a message of the negotiation, which is that of its tree.
 use Rattle.std.specs.Prelude.{ℕ, List}
 use Rattle.exi_schema.specs.declared.schema.Schema.{Schema}
-use Rattle.app_documents.specs.Declarations.{IsNegotiation}
+use Rattle.app_schema.specs.Declarations.{IsNegotiation}
 use Rattle.app_documents.specs.Trees.{Message, tree_of}
 use Rattle.tree_text.specs.TreeText.{IsTreeText}
 use Rattle.tree_text.specs.declared.fault.PrintFault.{PrintFault}

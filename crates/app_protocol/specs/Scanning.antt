@@ -1,11 +1,11 @@
 -- Own: the payload of the text of a message of the negotiation, and where a text has none.
 use Rattle.std.specs.Prelude.{ℕ, List}
 use Rattle.exi_schema.specs.declared.schema.Schema.{Schema}
-use Rattle.app_documents.specs.Declarations.{IsNegotiation}
+use Rattle.app_schema.specs.Declarations.{IsNegotiation}
 use Rattle.app_documents.specs.Trees.{Message}
 use Rattle.tree_text.specs.Scans.{IsScanFault}
-use Rattle.dialect_text.specs.declared.fault.ScanFault.{ScanFault}
-use Rattle.dialect_text.specs.declared.fault.ScanFault.TheVariants.{Place, Memory}
+use Rattle.value_text.specs.declared.fault.ScanFault.{ScanFault}
+use Rattle.value_text.specs.declared.fault.ScanFault.TheVariants.{Place, Memory}
 use Rattle.app_protocol.specs.Documents.{IsApp, IsAppEncoding}
 use Rattle.app_protocol.specs.Printing.{IsAppText}
 

@@ -2,7 +2,7 @@
 
 ghost use Rattle.std.specs.Prelude.{ℕ, ◌≤◌, length, IfOk, IfErr};
 ghost use Rattle.std.specs.String.{string_bytes};
-ghost use Rattle.app_documents.specs.Declarations.{IsNegotiation};
+ghost use Rattle.app_schema.specs.Declarations.{IsNegotiation};
 ghost use Rattle.app_protocol.specs.Printing.{IsPrinted, IsAppFault};
 
 use crate::schema::{KINDS, NAMES, ROOTS, VALUES};

@@ -4,7 +4,7 @@ ghost use Rattle.std.specs.Prelude.{◌≡◌, ℕ, ◌≤◌, List, [], None, l
 ghost use Rattle.exi_spec.specs.Bits.{bits_of};
 ghost use Rattle.exi_documents.specs.Values.{most_entries};
 ghost use Rattle.exi_events.specs.Reader.{state_of, IsReady, HasTold};
-ghost use Rattle.app_documents.specs.Declarations.{IsNegotiation};
+ghost use Rattle.app_schema.specs.Declarations.{IsNegotiation};
 ghost use Rattle.app_protocol.specs.Messages.{message_of};
 ghost use Rattle.app_protocol.specs.Documents.{IsApp, IsAppRefused};
 

@@ -1,7 +1,7 @@
 //! The payload of the text of a message.
 
 ghost use Rattle.std.specs.Prelude.{IfOk, IfErr};
-ghost use Rattle.app_documents.specs.Declarations.{IsNegotiation};
+ghost use Rattle.app_schema.specs.Declarations.{IsNegotiation};
 ghost use Rattle.app_protocol.specs.Scanning.{IsAppScanned, IsAppScanFault};
 
 use crate::schema::{KINDS, NAMES, ROOTS, VALUES};

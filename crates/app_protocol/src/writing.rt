@@ -2,7 +2,7 @@
 
 ghost use Rattle.std.specs.Prelude.{◌≡◌, ◌-◌, ◌*◌, ◌<◌, ◌≤◌, ◌↔◌, length, take, drop, replicate, IfOk, IfErr, IsErr};
 ghost use Rattle.exi_documents.specs.Values.{most_entries};
-ghost use Rattle.app_documents.specs.Declarations.{IsNegotiation};
+ghost use Rattle.app_schema.specs.Declarations.{IsNegotiation};
 ghost use Rattle.app_documents.specs.Trees.{IsMessage};
 ghost use Rattle.app_protocol.specs.Documents.{IsApp, IsAppEncoding, PassesBytes};
 ghost use Rattle.app_protocol.specs.Response.{response_bits, IsEncoding};

@@ -1,16 +1,14 @@
 -- Texts that go on as another does: what is taken and what is missed of a language.
-use Rattle.std.proofs.Common.{◌≡◌, ℕ, zero, suc, ◌+◌, ◌<◌, ◌≤◌, ◌⊎◌, inl, inr, List, [], ◌∷◌, ◌++◌, length, refl, sym, ap, ap₂, subst, ◌∙◌, append_assoc, arith}
+use Rattle.std.proofs.Common.{◌≡◌, ℕ, ◌+◌, ◌<◌, ◌≤◌, ◌⊎◌, inl, inr, List, [], ◌∷◌, ◌++◌, length, refl, sym, ap, ap₂, subst, ◌∙◌, append_assoc, arith}
 use Rattle.std.specs.Prelude.{encode_utf8}
 use Rattle.std.specs.Str.{encode_utf8_all, IsUtf8}
 use Rattle.std.proofs.lemmas.Bool.Decides.{leb_tells}
 use Rattle.std.proofs.lemmas.List.{append-nil, length-append}
-use Rattle.std.proofs.lemmas.Str.{encode_same, encodes-append, length-encode, len_utf8_bounds}
+use Rattle.std.proofs.lemmas.Str.{encode_same, encodes-append}
 use Rattle.value_text.specs.Fronts.{Begins, IsLongest}
+use Rattle.value_text.proofs.FrontLaws.{Stops, encodes_both}
+use Rattle.value_text.proofs.NextLaws.{some_bytes}
 use Rattle.dialect_text.specs.Languages.{Shares, Leads, Stalls}
-
--- a front is none, or has a first character
-pub none_or_some : (c : ℕ) (x : List ℕ) → encode_utf8 c ++ x ≡ [] → ⊥
-none_or_some c x e = omega (arith, length-append (encode_utf8 c) x, length-encode c, (len_utf8_bounds c).0, ap length e)
 
 -- the characters of two fronts of one text: one goes on behind the other
 abbrev pub Longer : List ℕ → List ℕ → List ℕ → List ℕ → Type 0
@@ -31,11 +29,8 @@ splits (c ∷ a) x (d ∷ b) y e =
     ]
 
 -- the characters of both, and what is behind them
-pub behind_both : (a b x : List ℕ) → encode_utf8_all (a ++ b) ++ x ≡ encode_utf8_all a ++ (encode_utf8_all b ++ x)
-behind_both a b x = ap (λ (bs : List ℕ). bs ++ x) (encodes-append a b) ∙ append_assoc (encode_utf8_all a) (encode_utf8_all b) x
-
 pub behind_one : (a : List ℕ) (c : ℕ) (b x : List ℕ) → encode_utf8_all (a ++ c ∷ b) ++ x ≡ encode_utf8_all a ++ (encode_utf8 c ++ (encode_utf8_all b ++ x))
-behind_one a c b x = behind_both a (c ∷ b) x ∙ ap (λ (bs : List ℕ). encode_utf8_all a ++ bs) (append_assoc (encode_utf8 c) (encode_utf8_all b) x)
+behind_one a c b x = encodes_both a (c ∷ b) x ∙ ap (λ (bs : List ℕ). encode_utf8_all a ++ bs) (append_assoc (encode_utf8 c) (encode_utf8_all b) x)
 
 -- ---- texts that are the same so far
 
@@ -54,8 +49,8 @@ shares_behind front n rest text s = record {
   front = front ++ s.front;
   more = s.more;
   odd = s.odd;
-  stands = ap (λ (bs : List ℕ). encode_utf8_all front ++ bs) s.stands ∙ sym (behind_both front s.front s.more);
-  others = ap (λ (bs : List ℕ). encode_utf8_all front ++ bs) s.others ∙ sym (behind_both front s.front s.odd);
+  stands = ap (λ (bs : List ℕ). encode_utf8_all front ++ bs) s.stands ∙ sym (encodes_both front s.front s.more);
+  others = ap (λ (bs : List ℕ). encode_utf8_all front ++ bs) s.others ∙ sym (encodes_both front s.front s.odd);
   enough = elim s.enough [ inl more ↦ inl (omega (arith, more, length-append front s.front)) | inr whole ↦ inr whole ];
 }
 
@@ -64,7 +59,7 @@ shares_ahead front n rest text s =
     elim (splits front rest s.front s.more s.stands) [
       | inl p ↦ (
         encode_utf8_all p.0 ++ s.odd,
-        s.others ∙ ap (λ (cs : List ℕ). encode_utf8_all cs ++ s.odd) p.1 ∙ behind_both front p.0 s.odd,
+        s.others ∙ ap (λ (cs : List ℕ). encode_utf8_all cs ++ s.odd) p.1 ∙ encodes_both front p.0 s.odd,
         record {
           front = p.0;
           more = s.more;
@@ -76,7 +71,7 @@ shares_ahead front n rest text s =
       )
       | inr q ↦ elim s.enough [
         | inl more ↦ absurd (omega (arith, more, ap length q.2, length-append s.front (q.0 ∷ q.1)))
-        | inr whole ↦ absurd (none_or_some q.0 (encode_utf8_all q.1 ++ rest) (sym q.3 ∙ whole.0))
+        | inr whole ↦ absurd (some_bytes q.0 (encode_utf8_all q.1 ++ rest) (sym q.3 ∙ whole.0))
       ]
     ]
 
@@ -94,8 +89,8 @@ shares_whole n chars rest e = record {
 
 pub leads_then : (K L M : List ℕ → Type 0) (a b rest : List ℕ) → Leads K a (encode_utf8_all b ++ rest) L → Leads L b rest M → Leads K (a ++ b) rest M
 leads_then K L M a b rest p q = record {
-  from = λ text new. subst K (sym (behind_both a b text)) (p.from (encode_utf8_all b ++ text) (q.from text new));
-  to = λ text shares old. q.to text shares (p.to (encode_utf8_all b ++ text) (shares_behind b 0 rest text shares) (subst K (behind_both a b text) old));
+  from = λ text new. subst K (sym (encodes_both a b text)) (p.from (encode_utf8_all b ++ text) (q.from text new));
+  to = λ text shares old. q.to text shares (p.to (encode_utf8_all b ++ text) (shares_behind b 0 rest text shares) (subst K (encodes_both a b text) old));
 }
 
 pub leads_on : (K L M : List ℕ → Type 0) (rest : List ℕ) → ((text : List ℕ) → M text → L text) → ((text : List ℕ) → Shares 0 rest text → L text → M text) → (front : List ℕ) → Leads K front rest L → Leads K front rest M
@@ -107,13 +102,13 @@ leads_on K L M rest from to front p = record {
 pub stalls_after : (K L : List ℕ → Type 0) (a b rest : List ℕ) → Leads K a rest L → ((a ≡ []) ⊎ ((text : List ℕ) × L text)) → Stalls L rest b → Stalls K (encode_utf8_all a ++ rest) (a ++ b)
 stalls_after K L a b rest p some q = record {
   more = q.more;
-  stands = ap (λ (bs : List ℕ). encode_utf8_all a ++ bs) q.stands ∙ sym (behind_both a b q.more);
+  stands = ap (λ (bs : List ℕ). encode_utf8_all a ++ bs) q.stands ∙ sym (encodes_both a b q.more);
   begins = elim q.begins [
     | inl none ↦ elim some [
       | inl same ↦ inl (ap₂ (λ (x y : List ℕ). x ++ y) same none)
       | inr one ↦ inr (one.0, subst K (ap (λ (cs : List ℕ). encode_utf8_all cs ++ one.0) (sym (append-nil a) ∙ ap (λ (cs : List ℕ). a ++ cs) (sym none))) (p.from one.0 one.1))
     ]
-    | inr one ↦ inr (one.0, subst K (sym (behind_both a b one.0)) (p.from (encode_utf8_all b ++ one.0) one.1))
+    | inr one ↦ inr (one.0, subst K (sym (encodes_both a b one.0)) (p.from (encode_utf8_all b ++ one.0) one.1))
   ];
   none_further = λ text shares old.
       let P : ℕ → Type 0 = λ n. Shares n (encode_utf8_all a ++ rest) text in
@@ -147,10 +142,6 @@ stalled L text front some utf8 one s = (
 
 -- ---- what is taken, and what is missed
 
--- no text of the language goes on from a front as this text does
-abbrev pub Stops : (List ℕ → Type 0) → List ℕ → List ℕ → Type 0
-Stops L front rest = (c : ℕ) (more after : List ℕ) → rest ≡ encode_utf8 c ++ more → L (encode_utf8_all front ++ (encode_utf8 c ++ after)) → ⊥
-
 taken_short : (L : List ℕ → Type 0) (front taken text rest : List ℕ) → Stops L front rest → L (encode_utf8_all taken) → Longer front rest taken text → (front ≡ taken) × (rest ≡ text)
 taken_short L front taken text rest stops one (([], e, r)) = (sym (append-nil front) ∙ sym e, r)
 taken_short L front taken text rest stops one ((c ∷ cs, e, r)) =
@@ -168,7 +159,7 @@ taken_once L all taken rest text front others longest one stands shares other st
   where
     further : Shorter front others taken text → (f : List ℕ) → rest ≡ encode_utf8_all f ++ shares.more → text ≡ encode_utf8_all f ++ shares.odd → (0 < length f) ⊎ ((shares.more ≡ []) × (shares.odd ≡ [])) → ⊥
     further q [] r t (inl some) = omega (arith, some)
-    further q [] r t (inr none) = none_or_some q.0 (encode_utf8_all q.1 ++ others) (sym q.3 ∙ t ∙ none.1)
+    further q [] r t (inr none) = some_bytes q.0 (encode_utf8_all q.1 ++ others) (sym q.3 ∙ t ∙ none.1)
     further q (d ∷ f) r t enough =
         let same : d ≡ q.0 = (encode_same d q.0 (encode_utf8_all f ++ shares.odd) (encode_utf8_all q.1 ++ others) (sym (append_assoc (encode_utf8 d) (encode_utf8_all f) shares.odd) ∙ sym t ∙ q.3)).0 in
         let there : all ≡ encode_utf8_all (taken ++ q.0 ∷ []) ++ (encode_utf8_all f ++ shares.more) =
@@ -192,7 +183,7 @@ missed L all front text one others longest none shares is stops e =
           longest.longest shares.front shares.more shares.stands
               (encode_utf8 q.0 ++ encode_utf8_all q.1, subst L (ap encode_utf8_all q.2 ∙ encodes-append shares.front (q.0 ∷ q.1)) is),
         )
-        | inr whole ↦ none_or_some q.0 (encode_utf8_all q.1 ++ others) (sym q.3 ∙ whole.1)
+        | inr whole ↦ some_bytes q.0 (encode_utf8_all q.1 ++ others) (sym q.3 ∙ whole.1)
       ]
     ]
   where
@@ -203,7 +194,7 @@ missed L all front text one others longest none shares is stops e =
     by_cases ds [] f o short is_front r = none (subst L (ap encode_utf8_all (sym (append-nil one) ∙ sym is_front)) is)
     by_cases [] (c ∷ es) f o short is_front r = elim shares.enough [
       | inl more ↦ omega (arith, more, ap length f, length-append one [], short)
-      | inr whole ↦ none_or_some c (encode_utf8_all es ++ longest.rest) (sym (append_assoc (encode_utf8 c) (encode_utf8_all es) longest.rest) ∙ sym r ∙ whole.0)
+      | inr whole ↦ some_bytes c (encode_utf8_all es ++ longest.rest) (sym (append_assoc (encode_utf8 c) (encode_utf8_all es) longest.rest) ∙ sym r ∙ whole.0)
     ]
     by_cases (d ∷ ds) (c ∷ es) f o short is_front r =
         let same : d ≡ c = (encode_same d c (encode_utf8_all ds ++ shares.more) (encode_utf8_all es ++ longest.rest) (sym (append_assoc (encode_utf8 d) (encode_utf8_all ds) shares.more) ∙ r ∙ append_assoc (encode_utf8 c) (encode_utf8_all es) longest.rest)).0 in
@@ -213,7 +204,7 @@ missed L all front text one others longest none shares is stops e =
 
     inside : Longer one others shares.front shares.odd → ⊥
     inside p =
-        let there : all ≡ encode_utf8_all one ++ (encode_utf8_all p.0 ++ shares.more) = shares.stands ∙ ap (λ (cs : List ℕ). encode_utf8_all cs ++ shares.more) p.1 ∙ behind_both one p.0 shares.more in
+        let there : all ≡ encode_utf8_all one ++ (encode_utf8_all p.0 ++ shares.more) = shares.stands ∙ ap (λ (cs : List ℕ). encode_utf8_all cs ++ shares.more) p.1 ∙ encodes_both one p.0 shares.more in
         let short = longest.longest one (encode_utf8_all p.0 ++ shares.more) there ([], nil_is) in
         elim (splits one (encode_utf8_all p.0 ++ shares.more) front longest.rest (sym there ∙ longest.stands)) [
           | inl es ↦ by_cases p.0 es.0 p.1 p.2 short es.1 es.2

@@ -1,15 +1,13 @@
 -- The lists of names that are awaited.
-use Rattle.std.proofs.Common.{◌≡◌, ℕ, zero, suc, ◌+◌, ◌<◌, ◌≤◌, ◌⊎◌, inl, inr, Bool, true, false, ◌&&◌, nat_lt, List, [], ◌∷◌, ◌++◌, length, take, map, Option, Some, None, slice_get, refl, sym, ap, ap₂, subst, ◌∙◌, append_assoc, arith, get_or, if◌then◌else◌}
+use Rattle.std.proofs.Common.{◌≡◌, ℕ, zero, suc, ◌+◌, ◌<◌, ◌≤◌, inl, inr, Bool, true, false, ◌&&◌, List, [], ◌∷◌, ◌++◌, length, take, Option, Some, None, slice_get, refl, sym, ap, ap₂, subst, ◌∙◌, append_assoc, arith, get_or, if◌then◌else◌}
 use Rattle.std.specs.Prelude.{◌==◌}
-use Rattle.std.specs.List.{list_all, AllByRecursion}
-use Rattle.std.proofs.lemmas.Bool.{ltb-true}
+use Rattle.std.specs.List.{AllByRecursion}
 use Rattle.std.proofs.lemmas.Bool.Decides.{eqb_tells}
-use Rattle.std.proofs.lemmas.List.{append-nil}
 use Rattle.exi_schema.specs.declared.schema.Schema.{Schema}
 use Rattle.exi_schema.specs.declared.tables.Member.{Member}
 use Rattle.exi_schema.specs.declared.tables.Particle.{Particle}
-use Rattle.exi_schema.specs.Schemas.{is_taken, is_word_char}
-use Rattle.exi_schema.proofs.Conditions.{and-l, and-r}
+use Rattle.exi_schema.specs.Schemas.{is_taken}
+use Rattle.exi_schema.proofs.Conditions.{and-r}
 use Rattle.value_text.specs.declared.awaited.Awaited.{Awaited}
 use Rattle.dialect_text.specs.Dialect.{member_named, element_named, or_else, mark}
 use Rattle.dialect_text.specs.Scanning.{IsAwaitedElement, HasMembers, HasElements}

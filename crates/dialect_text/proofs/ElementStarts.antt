@@ -1,5 +1,5 @@
 -- The starts of elements inside an element of a complex kind.
-use Rattle.std.proofs.Common.{◌≡◌, ℕ, zero, suc, ◌+◌, ◌-◌, ◌<◌, ◌⊎◌, inl, inr, Bool, true, false, List, [], ◌∷◌, ◌++◌, length, Option, Some, None, slice_get, refl, sym, ap, ap₂, subst, ◌∙◌, append_assoc, arith, get_or}
+use Rattle.std.proofs.Common.{◌≡◌, ℕ, zero, suc, ◌-◌, ◌<◌, inl, true, false, List, [], ◌∷◌, length, Option, Some, None, slice_get, refl, sym, ap, subst, ◌∙◌, arith, get_or}
 use Rattle.std.specs.List.{list_all, AllByRecursion}
 use Rattle.std.specs.Str.{encode_utf8_all}
 use Rattle.std.proofs.lemmas.Option.{slice_get_within, slice_get-get_or}
@@ -13,15 +13,15 @@ use Rattle.exi_schema.proofs.Conditions.{all_get}
 use Rattle.exi_documents.specs.Trees.{Start}
 use Rattle.value_text.specs.declared.awaited.Awaited.{Awaited}
 use Rattle.value_text.specs.declared.cursor.TextCursor.{TextCursor}
-use Rattle.value_text.specs.Scanning.{Passes, IsAwaitedText, IsAnyAwaited}
+use Rattle.value_text.specs.Scanning.{IsAwaitedText, IsAnyAwaited, MissesAt}
 use Rattle.dialect_text.specs.declared.elements.Filling.TheVariants as fills
 use Rattle.dialect_text.specs.declared.elements.OpenElement.{OpenElement}
-use Rattle.dialect_text.specs.declared.fault.ScanFault.{ScanFault}
-use Rattle.dialect_text.specs.declared.fault.ScanFault.TheVariants as fault
+use Rattle.value_text.specs.declared.fault.ScanFault.{ScanFault}
+use Rattle.value_text.specs.declared.fault.ScanFault.TheVariants as fault
 use Rattle.dialect_text.specs.Dialect.{Within, element, element_in, element_of, element_named, mark, gap, IsStartText}
-use Rattle.dialect_text.specs.Languages.{Completes, Leads, Stalls}
-use Rattle.dialect_text.specs.Scanning.{TakesNext, StallsAt, MissesAt, StartsElement, AreOpen, IsSound, IsAwaitedElement, HasElements}
-use Rattle.dialect_text.proofs.Awaiting.{IsElement, element_found}
+use Rattle.dialect_text.specs.Languages.{Completes, Leads}
+use Rattle.dialect_text.specs.Scanning.{TakesNext, StallsAt, StartsElement, IsSound, IsAwaitedElement, HasElements}
+use Rattle.dialect_text.proofs.Awaiting.{element_found}
 use Rattle.dialect_text.proofs.Named.{AreMarked, all_at, all_then, stalls_named}
 use Rattle.dialect_text.proofs.Once.{start_once, mark_is_none}
 use Rattle.dialect_text.proofs.Parts.{IsMarked, mark_low, awaited_start, start_awaited}

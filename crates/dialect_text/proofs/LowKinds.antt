@@ -1,10 +1,10 @@
 -- The kind of an element is one of the schema.
-use Rattle.std.proofs.Common.{◌≡◌, ℕ, ◌<◌, List, length, Option, Some, None, slice_get, refl, sym, ap, ◌∙◌}
+use Rattle.std.proofs.Common.{◌≡◌, ℕ, ◌<◌, length, Option, Some, None, slice_get, refl}
 use Rattle.exi_schema.specs.declared.schema.Schema.{Schema}
 use Rattle.exi_schema.specs.declared.tables.Declaration.{Declaration}
 use Rattle.exi_schema.specs.declared.tables.Declaration.TheVariants.{Simple, Complex}
 use Rattle.dialect_text.specs.declared.elements.OpenElement.{OpenElement}
-use Rattle.dialect_text.specs.Dialect.{element_in, element_of, element_named}
+use Rattle.dialect_text.specs.Dialect.{element_in, element_of}
 use Rattle.dialect_text.proofs.ElementStarts.{element_fits}
 use Rattle.dialect_text.proofs.PartsOf.{complex_particles}
 

@@ -1,23 +1,25 @@
 -- Names that are awaited: what is taken, and what is missed.
-use Rattle.std.proofs.Common.{◌≡◌, ℕ, zero, suc, ◌+◌, ◌<◌, ◌⊎◌, inl, inr, Bool, true, false, List, [], ◌∷◌, ◌++◌, length, codes, map, Option, Some, None, slice_get, refl, sym, ap, ap₂, subst, ◌∙◌, append_assoc, arith, get_or}
+use Rattle.std.proofs.Common.{◌≡◌, ℕ, zero, suc, ◌<◌, inr, false, List, [], ◌∷◌, ◌++◌, length, map, Some, None, slice_get, sym, ap, ap₂, subst, ◌∙◌, append_assoc, arith, get_or}
 use Rattle.std.specs.Prelude.{encode_utf8}
 use Rattle.std.specs.List.{AllByRecursion}
 use Rattle.std.specs.Str.{encode_utf8_all}
-use Rattle.std.proofs.lemmas.List.{append-nil, length-append}
-use Rattle.std.proofs.lemmas.Str.{encode_same, encodes-append, encode_ascii}
+use Rattle.std.proofs.lemmas.List.{append-nil}
+use Rattle.std.proofs.lemmas.Str.{encodes-append, encode_ascii}
 use Rattle.exi_schema.specs.declared.schema.Schema.{Schema}
 use Rattle.exi_schema.specs.Schemas.{is_word_char}
 use Rattle.value_text.specs.declared.awaited.Awaited.{Awaited}
 use Rattle.value_text.specs.declared.cursor.TextCursor.{TextCursor}
 use Rattle.value_text.specs.Fronts.{IsLongest}
-use Rattle.value_text.specs.Scanning.{Passes, Takes, GoesWrong, IsAwaitedText, IsAnyAwaited}
+use Rattle.value_text.specs.Scanning.{IsAwaitedText, IsAnyAwaited, MissesAt}
 use Rattle.value_text.specs.ValueText.{IsName}
-use Rattle.dialect_text.specs.declared.fault.ScanFault.{ScanFault}
-use Rattle.dialect_text.specs.declared.fault.ScanFault.TheVariants as fault
-use Rattle.dialect_text.specs.Languages.{Shares, Leads, Stalls}
-use Rattle.dialect_text.specs.Scanning.{StallsAt, MissesAt}
-use Rattle.dialect_text.proofs.Agreeing.{none_or_some, Stops, missed}
-use Rattle.dialect_text.proofs.Words.{name_word, words_split, word_chars, one_name}
+use Rattle.value_text.specs.declared.fault.ScanFault.{ScanFault}
+use Rattle.value_text.specs.declared.fault.ScanFault.TheVariants as fault
+use Rattle.dialect_text.specs.Scanning.{StallsAt}
+use Rattle.value_text.proofs.FrontLaws.{Stops}
+use Rattle.value_text.proofs.NextLaws.{some_bytes}
+use Rattle.dialect_text.proofs.Agreeing.{missed}
+use Rattle.value_text.proofs.SchemaWords.{name_word}
+use Rattle.dialect_text.proofs.Words.{words_split, word_chars}
 
 -- each name is the schema's, and what stands behind it is ASCII and in no word
 abbrev pub AreMarked : Schema → List Awaited → Type 0
@@ -64,7 +66,7 @@ awaited_stops s awaited front rest marked p c more after e q =
     let b = marked_text s q.1 (encode_utf8_all front ++ (encode_utf8 c ++ after)) other.1 q.3 in
     let split = words_split a.0 b.0 p.1.end q.1.end (encode_utf8 c ++ after) [] (name_word s p.1.name a.0 a.1).1 (name_word s q.1.name b.0 b.1).1 is.2 other.2
     (sym (append_assoc a.0 (p.1.end ∷ []) (encode_utf8 c ++ after)) ∙ ap (λ (bs : List ℕ). bs ++ (encode_utf8 c ++ after)) (sym a.2) ∙ b.2) in
-    none_or_some c after split.2
+    some_bytes c after split.2
 
 -- a language whose texts begin with one that is awaited, each of which begins one
 pub stalls_named : (s : Schema) (awaited : List Awaited) (K : List ℕ → Type 0) (a : TextCursor) (f : ScanFault) → AreMarked s awaited →

@@ -1,5 +1,5 @@
 -- A text says one list of events.
-use Rattle.std.proofs.Common.{◌≡◌, ℕ, zero, suc, ◌⊎◌, inl, inr, Bool, true, false, List, [], ◌∷◌, ◌++◌, length, codes, Option, Some, None, slice_get, refl, sym, ap, ap₂, subst, ◌∙◌, append_assoc, arith, get_or}
+use Rattle.std.proofs.Common.{◌≡◌, ℕ, ◌⊎◌, inl, inr, false, List, [], ◌∷◌, ◌++◌, codes, Option, Some, None, slice_get, refl, sym, ap, ap₂, subst, ◌∙◌, append_assoc, arith, get_or}
 use Rattle.std.specs.Prelude.{encode_utf8}
 use Rattle.std.specs.Str.{encode_utf8_all}
 use Rattle.std.proofs.lemmas.Str.{encodes-append}
@@ -11,21 +11,22 @@ use Rattle.exi_schema.specs.declared.tables.Declaration.{Declaration}
 use Rattle.exi_schema.specs.declared.tables.Declaration.TheVariants.{Simple, Complex}
 use Rattle.exi_schema.specs.declared.tables.RootOf.{RootOf}
 use Rattle.exi_schema.specs.Schemas.{is_word_char}
-use Rattle.exi_schema.specs.Steps.{IsRoot, simple_at, datatype_of}
+use Rattle.exi_schema.specs.Steps.{IsRoot, datatype_of}
 use Rattle.exi_documents.specs.Trees.{Value, Event, Document, Start, Attribute, Content, EndElement}
 use Rattle.document_laws.proofs.Fits.{one_numbered, distinct_names}
 use Rattle.value_text.specs.ValueText.{IsName, IsFormed}
-use Rattle.value_text.specs.Scanning.{IsAnyFormed}
 use Rattle.dialect_text.specs.declared.elements.Filling.{Filling}
 use Rattle.dialect_text.specs.declared.elements.Filling.TheVariants as fills
 use Rattle.dialect_text.specs.declared.elements.OpenElement.{OpenElement}
-use Rattle.dialect_text.specs.Dialect.{Standing, Before, AtRoot, Within, element, attribute_in, element_in, attribute_of, element_of, mark_of, mark, gap, IsBeforeElements, IsValueOf, IsStartText, IsAttributeText, IsEndText, Adds, Says, IsDialectText, IsOfDialect}
-use Rattle.dialect_text.specs.Languages.{Goes, Completes}
+use Rattle.dialect_text.specs.Dialect.{Standing, Before, AtRoot, Within, element, attribute_in, element_in, attribute_of, element_of, mark_of, mark, gap, IsValueOf, IsStartText, IsEndText, Adds, IsDialectText}
+use Rattle.dialect_text.specs.Languages.{Goes}
 use Rattle.dialect_text.specs.Scanning.{IsNested}
-use Rattle.dialect_text.proofs.Agreeing.{splits, none_or_some, Stops, Longer, Shorter}
-use Rattle.dialect_text.proofs.Running.{onto, onto_once, goes_before, nested_on, IsSome, behind_some}
-use Rattle.dialect_text.proofs.Values.{value_chars, one_value, EndsValue, at_end, at_space, at_brace, value_stops}
-use Rattle.dialect_text.proofs.Words.{name_word, words_split, word_first, one_name, IsWordText}
+use Rattle.dialect_text.proofs.Agreeing.{splits, Longer, Shorter}
+use Rattle.dialect_text.proofs.Running.{onto, onto_once, goes_before, nested_on, behind_some}
+use Rattle.value_text.proofs.OneValue.{one_value}
+use Rattle.dialect_text.proofs.Values.{value_chars, EndsValue, value_stops}
+use Rattle.value_text.proofs.SchemaWords.{name_word}
+use Rattle.dialect_text.proofs.Words.{words_split, word_first, one_name}
 
 -- ---- starts and attributes
 

@@ -1,45 +1,38 @@
 -- One event of a text: what is taken leads on, and a fault is one of the text.
-use Rattle.std.proofs.Common.{◌≡◌, ℕ, zero, suc, ◌+◌, ◌<◌, ◌⊎◌, inl, inr, Bool, true, false, List, [], ◌∷◌, ◌++◌, length, codes, map, Option, Some, None, slice_get, IsSome as IsSomeOf, refl, sym, ap, ap₂, subst, ◌∙◌, append_assoc, arith, get_or}
-use Rattle.std.specs.Prelude.{encode_utf8}
+use Rattle.std.proofs.Common.{◌≡◌, ℕ, zero, suc, ◌<◌, inl, inr, false, List, [], ◌∷◌, ◌++◌, length, map, Option, Some, None, slice_get, refl, sym, ap, subst, ◌∙◌, arith, get_or}
 use Rattle.std.specs.List.{AllByRecursion}
 use Rattle.std.specs.Str.{encode_utf8_all}
-use Rattle.std.proofs.lemmas.List.{append-nil, length-map}
+use Rattle.std.proofs.lemmas.List.{length-map}
 use Rattle.std.proofs.lemmas.Option.{slice_get_within, slice_get-get_or}
 use Rattle.document_laws.proofs.Fits.{root_kind, root_name}
 use Rattle.dialect_text.proofs.Roots.{root_deep}
-use Rattle.std.proofs.lemmas.Str.{encodes-append, encode_ascii}
+use Rattle.std.proofs.lemmas.Str.{encode_ascii}
 use Rattle.exi_schema.specs.declared.places.Root.TheVariants.{Kind}
 use Rattle.exi_schema.specs.declared.schema.Schema.{Schema}
-use Rattle.exi_schema.specs.declared.tables.AttributeOf.{AttributeOf}
 use Rattle.exi_schema.specs.declared.tables.Datatype.{Datatype}
 use Rattle.exi_schema.specs.declared.tables.Declaration.{Declaration}
 use Rattle.exi_schema.specs.declared.tables.Declaration.TheVariants.{Simple, Complex}
-use Rattle.exi_schema.specs.declared.tables.Particle.{Particle}
 use Rattle.exi_schema.specs.declared.tables.RootOf.{RootOf}
 use Rattle.exi_schema.specs.Schemas.{is_word_char}
 use Rattle.exi_schema.specs.Steps.{IsRoot, simple_at, datatype_of}
 use Rattle.exi_documents.specs.Trees.{Value, Event, Document, Start, Attribute, Content, EndElement}
 use Rattle.value_text.specs.declared.awaited.Awaited.{Awaited}
 use Rattle.value_text.specs.declared.cursor.TextCursor.{TextCursor}
-use Rattle.value_text.specs.Scanning.{Passes, Takes, IsAwaitedText, IsAnyAwaited}
-use Rattle.value_text.specs.ValueText.{IsName, IsFormed}
+use Rattle.value_text.specs.Scanning.{Passes, Takes, IsAwaitedText, IsAnyAwaited, MissesAt}
 use Rattle.dialect_text.specs.declared.elements.Filling.{Filling}
 use Rattle.dialect_text.specs.declared.elements.Filling.TheVariants as fills
 use Rattle.dialect_text.specs.declared.elements.OpenElement.{OpenElement}
-use Rattle.dialect_text.specs.declared.fault.ScanFault.{ScanFault}
-use Rattle.dialect_text.specs.declared.fault.ScanFault.TheVariants as fault
-use Rattle.dialect_text.specs.Dialect.{Standing, Before, AtRoot, Within, element, attribute_in, element_in, attribute_of, attribute_named, element_of, element_named, mark, mark_of, gap, IsBeforeElements, IsValueOf, IsStartText, IsAttributeText, IsEndText, Adds}
-use Rattle.dialect_text.specs.Languages.{Goes, Completes, Shares, Leads, Stalls}
-use Rattle.dialect_text.specs.Scanning.{TakesNext, StallsAt, MissesAt, StartsElement, StartsValue, StartsAttribute, StartsPart, TakesValueOf, MissesValueOf, IsNested, AreOpen, IsSound, awaited_root, awaited_attribute, IsAwaitedElement, HasElements}
-use Rattle.dialect_text.proofs.Agreeing.{leads_then, leads_on}
-use Rattle.dialect_text.proofs.Cursors.{stalls_behind}
-use Rattle.dialect_text.proofs.Named.{AreMarked, all_at, all_map, stalls_named}
-use Rattle.dialect_text.proofs.Once.{IsOnce, IsValued, ValueOnce, event_once, start_once, start_first, mark_is_none, element_no_value, attribute_no_value}
+use Rattle.value_text.specs.declared.fault.ScanFault.{ScanFault}
+use Rattle.value_text.specs.declared.fault.ScanFault.TheVariants as fault
+use Rattle.dialect_text.specs.Dialect.{Standing, Before, AtRoot, Within, element, mark, mark_of, IsStartText, IsEndText, Adds}
+use Rattle.dialect_text.specs.Languages.{Goes, Completes, Leads}
+use Rattle.dialect_text.specs.Scanning.{TakesNext, StallsAt, StartsValue, TakesValueOf, MissesValueOf, IsNested, IsSound, awaited_root}
+use Rattle.dialect_text.proofs.Named.{AreMarked, all_map, stalls_named}
+use Rattle.dialect_text.proofs.Once.{IsValued, event_once, mark_is_none, element_no_value, attribute_no_value}
 use Rattle.dialect_text.proofs.Running.{IsSome, completes_some}
 use Rattle.dialect_text.proofs.Valued.{value_leads, value_stalls}
 use Rattle.dialect_text.proofs.Values.{EndsValue}
-use Rattle.dialect_text.proofs.Viable.{completes_all, completes_root, some_of_kind}
-use Rattle.dialect_text.proofs.Words.{name_word, words_split, one_name, IsWordText}
+use Rattle.dialect_text.proofs.Viable.{completes_all, completes_root}
 
 -- ---- an event without a value
 

@@ -1,45 +1,37 @@
 -- Parts of an element of a complex kind, and its end.
-use Rattle.std.proofs.Common.{◌≡◌, ℕ, zero, suc, ◌+◌, ◌-◌, ◌<◌, ◌⊎◌, inl, inr, Bool, true, false, ◌&&◌, nat_lt, List, [], ◌∷◌, ◌++◌, length, codes, map, Option, Some, None, slice_get, refl, sym, ap, ap₂, subst, ◌∙◌, append_assoc, arith, get_or}
+use Rattle.std.proofs.Common.{◌≡◌, ℕ, zero, suc, ◌<◌, ◌⊎◌, inl, inr, Bool, true, ◌&&◌, nat_lt, List, [], ◌∷◌, ◌++◌, length, codes, map, Option, Some, None, slice_get, refl, sym, ap, subst, ◌∙◌, append_assoc, arith}
 use Rattle.std.specs.Prelude.{encode_utf8, Result, Ok, Err, IfOk, IfErr}
 use Rattle.std.specs.List.{list_all, AllByRecursion}
 use Rattle.std.specs.Str.{encode_utf8_all}
 use Rattle.std.proofs.lemmas.Bool.{ltb-true}
-use Rattle.std.proofs.lemmas.List.{append-nil, append_cancel_left, length-map}
-use Rattle.std.proofs.lemmas.Str.{encodes-append, encode_ascii}
+use Rattle.std.proofs.lemmas.List.{append-nil, length-map}
+use Rattle.std.proofs.lemmas.Str.{encode_ascii}
 use Rattle.exi_schema.specs.declared.schema.Schema.{Schema}
 use Rattle.exi_schema.specs.declared.tables.AttributeOf.{AttributeOf}
-use Rattle.exi_schema.specs.declared.tables.Datatype.{Datatype}
 use Rattle.exi_schema.specs.declared.tables.Declaration.{Declaration}
-use Rattle.exi_schema.specs.declared.tables.Declaration.TheVariants.{Simple, Complex}
+use Rattle.exi_schema.specs.declared.tables.Declaration.TheVariants.{Complex}
 use Rattle.exi_schema.specs.declared.tables.Member.{Member}
 use Rattle.exi_schema.specs.declared.tables.Particle.{Particle}
 use Rattle.exi_schema.specs.Schemas.{is_attribute, is_particle, is_simple}
-use Rattle.exi_schema.specs.Steps.{simple_at, datatype_of}
-use Rattle.exi_schema.proofs.Conditions.{and-l, and-r, IsComplex, complex_in}
+use Rattle.exi_schema.proofs.Conditions.{and-l, and-r, complex_in}
 use Rattle.exi_schema.proofs.Fitting.{simple_within, simple_is}
-use Rattle.exi_documents.specs.Trees.{Value, Event, Document, Start, Attribute, Content, EndElement}
+use Rattle.exi_documents.specs.Trees.{Event}
 use Rattle.value_text.specs.declared.cursor.TextCursor.{TextCursor}
 use Rattle.value_text.specs.Scanning.{Passes}
 use Rattle.value_text.specs.ValueText.{IsName}
 use Rattle.dialect_text.specs.declared.elements.Filling.{Filling}
 use Rattle.dialect_text.specs.declared.elements.Filling.TheVariants as fills
 use Rattle.dialect_text.specs.declared.elements.OpenElement.{OpenElement}
-use Rattle.dialect_text.specs.declared.fault.ScanFault.{ScanFault}
-use Rattle.dialect_text.specs.declared.fault.ScanFault.TheVariants as fault
-use Rattle.dialect_text.specs.Dialect.{Standing, Within, element, attribute_in, element_in, attribute_of, attribute_named, element_of, element_named, gap, IsBeforeElements, IsEndText, IsStartText, Adds}
-use Rattle.dialect_text.specs.Languages.{Goes, Completes, Shares, Leads, Stalls}
-use Rattle.dialect_text.specs.Scanning.{TakesNext, StallsAt, StartsElement, StartsValue, StartsAttribute, StartsPart, IsFilled, IsSound, PassesIf, PassesGap, AwaitsAttribute}
-use Rattle.dialect_text.proofs.Agreeing.{leads_on, none_or_some}
+use Rattle.value_text.specs.declared.fault.ScanFault.{ScanFault}
+use Rattle.dialect_text.specs.Dialect.{Within, attribute_in, element_in, attribute_of, attribute_named, element_of, element_named, gap, IsBeforeElements}
+use Rattle.dialect_text.specs.Languages.{Shares, Leads}
+use Rattle.dialect_text.specs.Scanning.{TakesNext, StallsAt, StartsElement, StartsAttribute, StartsPart, IsSound}
 use Rattle.dialect_text.proofs.Cursors.{takes_behind, stalls_behind}
-use Rattle.dialect_text.proofs.ElementStarts.{FitsMember, FitsParticle, element_fits, opened, opened_sound}
+use Rattle.dialect_text.proofs.ElementStarts.{FitsMember, FitsParticle}
 use Rattle.dialect_text.proofs.Named.{all_at}
-use Rattle.dialect_text.proofs.Once.{start_first, attribute_behind, behind, heads_differ, tails_same, element_no_value, attribute_no_value}
-use Rattle.dialect_text.proofs.Parts.{takes_end}
+use Rattle.dialect_text.proofs.Once.{start_first, tails_same}
 use Rattle.dialect_text.proofs.Quotes.{one_byte}
-use Rattle.dialect_text.proofs.Simples.{HasTop}
 use Rattle.dialect_text.proofs.Starts.{FitsAttribute, attribute_found, named_fits, value_some}
-use Rattle.dialect_text.proofs.Viable.{completes_all}
-use Rattle.dialect_text.proofs.Words.{name_word}
 
 -- ---- the conditions on a complex kind
 

@@ -7,7 +7,7 @@ use Rattle.std.specs.List.{list_all}
 use Rattle.std.specs.Prelude.{◌==◌, ◌^◌}
 use Rattle.exi_schema.specs.declared.schema.Schema.{Schema}
 use Rattle.exi_schema.specs.declared.tables.RootOf.{RootOf}
-use Rattle.exi_schema.specs.Schemas.{is_root, is_within, are_roots, are_kinds, are_words, are_values, are_distinct}
+use Rattle.exi_schema.specs.Schemas.{is_root, is_within, are_roots, are_kinds, are_words, are_values}
 use Rattle.exi_schema.proofs.Conditions.{and-l, and-r, all_get}
 
 roots_of : (s : Schema) → are_roots s.root_bits (length (map (λ t. t.now) s.names.now)) s.kinds.now s.roots.now ≡ true

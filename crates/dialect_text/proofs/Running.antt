@@ -1,29 +1,18 @@
 -- The events of a text, from either end.
-use Rattle.std.proofs.Common.{◌≡◌, ℕ, zero, suc, ◌+◌, ◌<◌, ◌⊎◌, inl, inr, Bool, true, false, List, [], ◌∷◌, ◌++◌, length, codes, Option, Some, None, slice_get, refl, sym, ap, ap₂, subst, ◌∙◌, append_assoc, arith, get_or}
+use Rattle.std.proofs.Common.{◌≡◌, ℕ, ◌⊎◌, inl, inr, List, [], ◌∷◌, ◌++◌, Option, Some, None, slice_get, refl, sym, ap, subst, ◌∙◌, append_assoc}
 use Rattle.std.specs.List.{AllByRecursion}
-use Rattle.std.specs.Str.{encode_utf8_all}
-use Rattle.std.proofs.lemmas.List.{append-nil, append_cancel_left}
-use Rattle.exi_schema.specs.declared.places.Root.TheVariants.{Kind}
+use Rattle.std.proofs.lemmas.List.{append-nil}
 use Rattle.exi_schema.specs.declared.schema.Schema.{Schema}
-use Rattle.exi_schema.specs.declared.tables.Datatype.{Datatype}
 use Rattle.exi_schema.specs.declared.tables.Declaration.{Declaration}
 use Rattle.exi_schema.specs.declared.tables.Declaration.TheVariants.{Simple, Complex}
-use Rattle.exi_schema.specs.declared.tables.RootOf.{RootOf}
-use Rattle.exi_schema.specs.Schemas.{is_word_char}
-use Rattle.exi_schema.specs.Steps.{IsRoot, simple_at, datatype_of}
-use Rattle.exi_documents.specs.Trees.{Value, Event, Document, Start, Attribute, Content, EndElement}
-use Rattle.document_laws.proofs.Fits.{one_numbered, distinct_names}
-use Rattle.value_text.specs.ValueText.{IsName, IsFormed}
-use Rattle.value_text.specs.Scanning.{IsAnyFormed}
+use Rattle.exi_documents.specs.Trees.{Event, Document, Start, Attribute, Content, EndElement}
 use Rattle.dialect_text.specs.declared.elements.Filling.{Filling}
 use Rattle.dialect_text.specs.declared.elements.Filling.TheVariants as fills
 use Rattle.dialect_text.specs.declared.elements.OpenElement.{OpenElement}
-use Rattle.dialect_text.specs.Dialect.{Standing, Before, AtRoot, Within, element, attribute_in, element_in, attribute_of, element_of, mark_of, mark, gap, IsBeforeElements, IsValueOf, IsStartText, IsAttributeText, IsEndText, Adds, Says, IsDialectText, IsOfDialect}
+use Rattle.dialect_text.specs.Dialect.{Standing, Before, AtRoot, Within, gap, IsBeforeElements, IsEndText, Adds, Says, IsDialectText, IsOfDialect}
 use Rattle.dialect_text.specs.Languages.{Goes, Completes}
 use Rattle.dialect_text.specs.Scanning.{IsNested}
-use Rattle.dialect_text.proofs.Agreeing.{splits, none_or_some, Stops, Longer, Shorter}
-use Rattle.dialect_text.proofs.Values.{value_chars, one_value, EndsValue, at_end, at_space, at_brace, value_stops}
-use Rattle.dialect_text.proofs.Words.{name_word, words_split, word_first, one_name}
+use Rattle.dialect_text.proofs.Values.{EndsValue, at_end, at_space, at_brace}
 
 -- ---- events in both orders
 

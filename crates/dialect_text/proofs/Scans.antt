@@ -1,37 +1,36 @@
 -- A scanner goes on by one event.
-use Rattle.std.proofs.Common.{◌≡◌, ℕ, zero, suc, ◌+◌, ◌*◌, ◌-◌, ◌<◌, ◌≤◌, ◌⊎◌, inl, inr, Bool, true, false, List, [], ◌∷◌, ◌++◌, length, codes, Option, Some, None, slice_get, refl, sym, ap, ap₂, subst, ◌∙◌, append_assoc, arith, get_or}
-use Rattle.std.specs.Prelude.{encode_utf8, sum_by, IfSome, IfNone}
+use Rattle.std.proofs.Common.{◌≡◌, ℕ, ◌+◌, ◌*◌, ◌<◌, ◌≤◌, ◌⊎◌, inl, inr, List, [], ◌∷◌, ◌++◌, length, codes, Option, Some, None, slice_get, refl, sym, ap, subst, ◌∙◌, append_assoc, arith}
+use Rattle.std.specs.Prelude.{encode_utf8, IfSome, IfNone}
 use Rattle.std.specs.Str.{encode_utf8_all, IsUtf8}
 use Rattle.std.proofs.lemmas.List.{append-nil, length-append}
 use Rattle.std.proofs.lemmas.List.Sums.{sum_by-cons}
 use Rattle.std.proofs.lemmas.Str.{encodes-append}
 use Rattle.exi_schema.specs.declared.schema.Schema.{Schema}
-use Rattle.exi_schema.specs.declared.tables.Particle.{Particle}
 use Rattle.exi_schema.specs.declared.tables.RootOf.{RootOf}
 use Rattle.exi_schema.specs.declared.places.Root.TheVariants.{Kind}
 use Rattle.exi_schema.specs.Steps.{IsRoot}
-use Rattle.exi_documents.specs.Trees.{Value, Event, Document, Start, Attribute, Content, EndElement}
+use Rattle.exi_documents.specs.Trees.{Event, Document, Start, Attribute, Content, EndElement}
 use Rattle.document_laws.proofs.Fits.{root_kind}
 use Rattle.value_text.specs.declared.cursor.TextCursor.{TextCursor}
-use Rattle.value_text.specs.Scanning.{Passes}
 use Rattle.dialect_text.specs.declared.elements.Filling.{Filling}
 use Rattle.dialect_text.specs.declared.elements.Filling.TheVariants as fills
 use Rattle.dialect_text.specs.declared.elements.OpenElement.{OpenElement}
-use Rattle.dialect_text.specs.declared.fault.ScanFault.{ScanFault}
-use Rattle.dialect_text.specs.declared.fault.ScanFault.TheVariants as fault
+use Rattle.value_text.specs.declared.fault.ScanFault.{ScanFault}
+use Rattle.value_text.specs.declared.fault.ScanFault.TheVariants as fault
 use Rattle.dialect_text.specs.declared.said.Said.{Said}
-use Rattle.dialect_text.specs.Faults.{place_in}
-use Rattle.dialect_text.specs.Dialect.{Standing, Before, AtRoot, Within, element, element_of, mark, gap, IsStartText, Adds, Says, IsDialectText, IsOfDialect, IsFault}
+use Rattle.value_text.specs.Faults.{place_in}
+use Rattle.dialect_text.specs.Dialect.{Standing, Before, AtRoot, Within, element, mark, gap, IsStartText, Adds, Says, IsDialectText, IsOfDialect}
 use Rattle.dialect_text.specs.Languages.{Goes, Completes, Shares, Leads, Stalls}
-use Rattle.dialect_text.specs.Scanning.{TakesNext, StallsAt, IsOpen, IsNested, IsSound, HasSaid, HasRead, IsReady, IsAtFault, IsNext, IsFaultOf, event_of, events_within, events_left, weight}
-use Rattle.dialect_text.proofs.Agreeing.{leads_then, stalls_after, stalled, none_or_some}
+use Rattle.dialect_text.specs.Scanning.{TakesNext, StallsAt, IsOpen, IsSound, HasSaid, HasRead, IsReady, IsAtFault, IsNext, IsFaultOf, event_of, events_within, events_left, weight}
+use Rattle.value_text.proofs.NextLaws.{some_bytes}
+use Rattle.dialect_text.proofs.Agreeing.{leads_then, stalls_after, stalled}
 use Rattle.dialect_text.proofs.ElementStarts.{room_inside}
 use Rattle.dialect_text.proofs.LowKinds.{kind_low}
 use Rattle.dialect_text.proofs.Parts.{leads_plain}
 use Rattle.dialect_text.proofs.Roots.{root_deep, roots_there, root_word}
 use Rattle.dialect_text.proofs.Running.{from_start, to_end, nested_on, by_standing}
 use Rattle.dialect_text.proofs.Viable.{completes_all, completes_root}
-use Rattle.dialect_text.proofs.Words.{name_word}
+use Rattle.value_text.proofs.SchemaWords.{name_word}
 
 pub starts_read : (s : Schema) (text : List ℕ) (cursor : TextCursor) → cursor.rest.now ≡ text → cursor.place ≡ 0 → HasRead s text Before cursor
 starts_read s text cursor whole start = record {
@@ -127,7 +126,7 @@ ended_stalls s a some =
     shared : (f : List ℕ) (more odd : List ℕ) → a.rest.now ≡ encode_utf8_all f ++ more → [] ≡ encode_utf8_all f ++ odd → (0 < length f) ⊎ ((more ≡ []) × (odd ≡ [])) → ⊥
     shared [] more odd e g (inl long) = omega (arith, long)
     shared [] more odd e g (inr none) = some (e ∙ none.0)
-    shared (c ∷ f) more odd e g enough = none_or_some c (encode_utf8_all f ++ odd) (sym (append_assoc (encode_utf8 c) (encode_utf8_all f) odd) ∙ sym g)
+    shared (c ∷ f) more odd e g enough = some_bytes c (encode_utf8_all f ++ odd) (sym (append_assoc (encode_utf8 c) (encode_utf8_all f) odd) ∙ sym g)
 
     by : (text : List ℕ) → Shares 0 a.rest.now text → (es : List Event) → Goes s (Within []) es text → ⊥
     by text shares [] goes = shared shares.front shares.more shares.odd shares.stands (sym goes.0 ∙ shares.others) shares.enough

@@ -1,8 +1,7 @@
 -- The answers of an element of a simple kind.
-use Rattle.std.proofs.Common.{◌≡◌, ℕ, zero, suc, ◌+◌, ◌⊎◌, inl, inr, true, false, List, [], ◌∷◌, ◌++◌, length, Option, Some, None, slice_get, refl, sym, ap, subst, ◌∙◌, arith}
+use Rattle.std.proofs.Common.{◌≡◌, ℕ, ◌⊎◌, inl, inr, true, false, List, [], ◌∷◌, Option, Some, None, slice_get, refl, sym, ap, subst, ◌∙◌, arith}
 use Rattle.std.specs.Prelude.{IsSome}
 use Rattle.exi_schema.specs.declared.schema.Schema.{Schema}
-use Rattle.exi_schema.specs.declared.tables.Datatype.{Datatype}
 use Rattle.exi_schema.specs.declared.tables.Declaration.{Declaration}
 use Rattle.exi_schema.specs.declared.tables.Declaration.TheVariants.{Simple, Complex}
 use Rattle.exi_schema.specs.Steps.{simple_at, datatype_of}
@@ -11,7 +10,7 @@ use Rattle.value_text.specs.declared.cursor.TextCursor.{TextCursor}
 use Rattle.dialect_text.specs.declared.elements.Filling.{Filling}
 use Rattle.dialect_text.specs.declared.elements.Filling.TheVariants as fills
 use Rattle.dialect_text.specs.declared.elements.OpenElement.{OpenElement}
-use Rattle.dialect_text.specs.declared.fault.ScanFault.{ScanFault}
+use Rattle.value_text.specs.declared.fault.ScanFault.{ScanFault}
 use Rattle.dialect_text.specs.Dialect.{Within, element, attribute_in, element_in, IsEndText}
 use Rattle.dialect_text.specs.Languages.{Completes}
 use Rattle.dialect_text.specs.Scanning.{TakesNext, StallsAt, TakesValueOf, MissesValueOf, IsSound, IsFilled}

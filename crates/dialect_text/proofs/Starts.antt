@@ -1,41 +1,35 @@
 -- Attributes and elements inside an element of a complex kind.
-use Rattle.std.proofs.Common.{◌≡◌, ℕ, zero, suc, ◌+◌, ◌-◌, ◌<◌, ◌⊎◌, inl, inr, Bool, true, false, ◌&&◌, nat_lt, List, [], ◌∷◌, ◌++◌, length, codes, map, Option, Some, None, slice_get, refl, sym, ap, ap₂, subst, ◌∙◌, append_assoc, arith, get_or, if◌then◌else◌}
-use Rattle.std.specs.Prelude.{encode_utf8, IsSome, ◌==◌}
+use Rattle.std.proofs.Common.{◌≡◌, ℕ, zero, suc, ◌<◌, inl, inr, Bool, true, false, List, [], ◌∷◌, ◌++◌, length, codes, map, Option, Some, None, slice_get, refl, sym, ap, subst, ◌∙◌, append_assoc, arith, get_or, if◌then◌else◌}
+use Rattle.std.specs.Prelude.{IsSome, ◌==◌}
 use Rattle.std.proofs.lemmas.Bool.Decides.{eqb_tells}
-use Rattle.std.specs.List.{list_all, AllByRecursion}
+use Rattle.std.specs.List.{AllByRecursion}
 use Rattle.std.specs.Str.{encode_utf8_all}
-use Rattle.std.proofs.lemmas.List.{append-nil, append_cancel_left}
 use Rattle.std.proofs.lemmas.Option.{slice_get_within, slice_get-get_or}
 use Rattle.std.proofs.lemmas.Str.{encodes-append, encode_ascii}
 use Rattle.exi_schema.specs.declared.schema.Schema.{Schema}
 use Rattle.exi_schema.specs.declared.tables.AttributeOf.{AttributeOf}
 use Rattle.exi_schema.specs.declared.tables.Datatype.{Datatype}
-use Rattle.exi_schema.specs.declared.tables.Declaration.{Declaration}
-use Rattle.exi_schema.specs.declared.tables.Declaration.TheVariants.{Simple, Complex}
-use Rattle.exi_schema.specs.declared.tables.Particle.{Particle}
-use Rattle.exi_schema.specs.Schemas.{is_word_char, is_within}
-use Rattle.exi_schema.specs.Steps.{simple_at, datatype_of}
-use Rattle.exi_documents.specs.Trees.{Value, Event, Document, Start, Attribute, Content, EndElement}
+use Rattle.exi_schema.specs.Steps.{simple_at}
+use Rattle.exi_documents.specs.Trees.{Value, Attribute}
 use Rattle.value_text.specs.declared.awaited.Awaited.{Awaited}
 use Rattle.value_text.specs.declared.cursor.TextCursor.{TextCursor}
-use Rattle.value_text.specs.Scanning.{Passes, Takes, IsAwaitedText, IsAnyAwaited}
-use Rattle.value_text.specs.ValueText.{IsName, IsFormed}
-use Rattle.dialect_text.specs.declared.elements.Filling.{Filling}
+use Rattle.value_text.specs.Scanning.{Passes, Takes, IsAwaitedText, IsAnyAwaited, MissesAt}
+use Rattle.value_text.specs.ValueText.{IsName}
 use Rattle.dialect_text.specs.declared.elements.Filling.TheVariants as fills
 use Rattle.dialect_text.specs.declared.elements.OpenElement.{OpenElement}
-use Rattle.dialect_text.specs.declared.fault.ScanFault.{ScanFault}
-use Rattle.dialect_text.specs.Dialect.{Standing, Within, element, attribute_of, attribute_named, element_of, element_named, mark, gap, IsBeforeElements, IsValueOf, IsStartText, IsAttributeText, Adds}
-use Rattle.dialect_text.specs.Languages.{Goes, Completes, Shares, Leads, Stalls}
-use Rattle.dialect_text.specs.Scanning.{TakesNext, StallsAt, MissesAt, StartsElement, StartsValue, StartsAttribute, TakesValueOf, MissesValueOf, IsNested, AreOpen, IsSound, awaited_attribute, IsAwaitedElement, HasElements}
+use Rattle.value_text.specs.declared.fault.ScanFault.{ScanFault}
+use Rattle.dialect_text.specs.Dialect.{Within, element, attribute_of, attribute_named, gap, IsBeforeElements}
+use Rattle.dialect_text.specs.Languages.{Completes, Leads}
+use Rattle.dialect_text.specs.Scanning.{TakesNext, StallsAt, StartsValue, StartsAttribute, TakesValueOf, MissesValueOf, AreOpen, IsSound, awaited_attribute}
 use Rattle.dialect_text.proofs.Agreeing.{leads_then}
-use Rattle.dialect_text.proofs.Cursors.{passes_on, stalls_behind}
-use Rattle.dialect_text.proofs.Named.{AreMarked, all_at, all_map, all_then, stalls_named}
-use Rattle.dialect_text.proofs.Once.{start_once, mark_is_none}
-use Rattle.dialect_text.proofs.Parts.{IsMarked, mark_low, awaited_start, start_awaited, map_get, get_map, value_ends}
+use Rattle.value_text.proofs.FrontLaws.{passes_on}
+use Rattle.dialect_text.proofs.Cursors.{stalls_behind}
+use Rattle.dialect_text.proofs.Named.{AreMarked, all_map, all_then, stalls_named}
+use Rattle.dialect_text.proofs.Parts.{IsMarked, map_get, get_map, value_ends}
 use Rattle.dialect_text.proofs.Valued.{value_leads, value_stalls}
-use Rattle.dialect_text.proofs.Values.{EndsValue}
 use Rattle.dialect_text.proofs.Viable.{completes_all, some_of_kind}
-use Rattle.dialect_text.proofs.Words.{name_word, words_split, one_name, IsWordText}
+use Rattle.value_text.proofs.SchemaWords.{name_word}
+use Rattle.dialect_text.proofs.Words.{words_split, one_name}
 
 -- what a call of take_name tells
 abbrev pub NameTaken : Schema → List Awaited → TextCursor → TextCursor → ℕ → Type 0

@@ -1,22 +1,19 @@
 -- Values at a cursor: what is taken, and what is missed.
-use Rattle.std.proofs.Common.{◌≡◌, ℕ, zero, suc, ◌+◌, ◌<◌, ◌⊎◌, inl, inr, Bool, true, false, List, [], ◌∷◌, ◌++◌, length, codes, Option, Some, None, slice_get, refl, sym, ap, ap₂, subst, ◌∙◌, append_assoc, arith}
-use Rattle.std.specs.Prelude.{encode_utf8}
+use Rattle.std.proofs.Common.{◌≡◌, ℕ, inr, List, ◌++◌, Some, refl, sym, ap, subst, ◌∙◌, append_assoc}
 use Rattle.std.specs.Str.{encode_utf8_all}
-use Rattle.std.proofs.lemmas.List.{append-nil}
 use Rattle.exi_schema.specs.declared.schema.Schema.{Schema}
 use Rattle.exi_schema.specs.declared.tables.Datatype.{Datatype}
 use Rattle.exi_schema.specs.Steps.{simple_at}
 use Rattle.exi_documents.specs.Trees.{Value}
 use Rattle.value_text.specs.declared.cursor.TextCursor.{TextCursor}
 use Rattle.value_text.specs.Fronts.{IsLongest}
-use Rattle.value_text.specs.Scanning.{Passes, Takes, GoesWrong, IsAnyFormed}
+use Rattle.value_text.specs.Scanning.{IsAnyFormed}
 use Rattle.value_text.specs.ValueText.{IsFormed}
-use Rattle.dialect_text.specs.declared.fault.ScanFault.{ScanFault}
-use Rattle.dialect_text.specs.declared.fault.ScanFault.TheVariants as fault
-use Rattle.dialect_text.specs.Dialect.{IsValueOf}
-use Rattle.dialect_text.specs.Languages.{Shares, Leads, Stalls}
-use Rattle.dialect_text.specs.Scanning.{StallsAt, MissesAt, StartsValue, TakesValueOf, MissesValueOf}
-use Rattle.dialect_text.proofs.Agreeing.{none_or_some, Stops, missed, taken_once}
+use Rattle.value_text.specs.declared.fault.ScanFault.{ScanFault}
+use Rattle.value_text.specs.declared.fault.ScanFault.TheVariants as fault
+use Rattle.dialect_text.specs.Languages.{Leads}
+use Rattle.dialect_text.specs.Scanning.{StallsAt, StartsValue, TakesValueOf, MissesValueOf}
+use Rattle.dialect_text.proofs.Agreeing.{missed, taken_once}
 use Rattle.dialect_text.proofs.Values.{value_chars, value_stops, EndsValue}
 
 -- a value and what is behind it, in characters

@@ -1,16 +1,14 @@
--- Texts of values: their characters, what may stand behind one, and that each has one value.
-use Rattle.std.proofs.Common.{◌≡◌, ℕ, zero, suc, ◌+◌, ◌*◌, ◌/◌, ◌%◌, ◌^◌, ◌<◌, ◌≤◌, ◌⊎◌, inl, inr, Bool, true, false, ◌&&◌, nat_le, List, [], ◌∷◌, ◌++◌, length, codes, map, Some, None, slice_get, refl, sym, ap, ap₂, subst, ◌∙◌, append_assoc, arith}
-use Rattle.std.specs.Prelude.{◌==◌, ◌||◌, encode_utf8, slice_index, unsigned_abs, ℤ, pos, negsuc, Ok}
+-- Texts of values: their characters, and what may stand behind one.
+use Rattle.std.proofs.Common.{◌≡◌, ℕ, zero, suc, ◌+◌, ◌/◌, ◌%◌, ◌^◌, ◌<◌, ◌≤◌, Bool, true, false, ◌&&◌, List, [], ◌∷◌, ◌++◌, length, Some, slice_get, refl, sym, ap, ap₂, subst, ◌∙◌, arith}
+use Rattle.std.specs.Prelude.{encode_utf8, slice_index, ℤ, pos, negsuc}
 use Rattle.std.specs.Fmt.{decimal, signed_decimal}
 use Rattle.std.specs.List.{list_all, AllByRecursion}
 use Rattle.std.specs.Str.{encode_utf8_all}
-use Rattle.std.specs.Str.Parse.{digits_value}
 use Rattle.std.proofs.lemmas.Bool.Decides.{nat_tests}
-use Rattle.std.proofs.lemmas.Fmt.{decimal_by_steps_wide, decimal_is_IsNumeral_wide}
+use Rattle.std.proofs.lemmas.Fmt.{decimal_by_steps_wide}
 use Rattle.std.proofs.lemmas.List.{append-nil, length-append}
-use Rattle.std.proofs.lemmas.Str.{encode_same, encodes-append, encode_ascii}
-use Rattle.hex.specs.Hex.{encode_with, encode_lower, lower_digits, decode_of}
-use Rattle.hex.proofs.HexLemmas.{decode_of-encode_lower}
+use Rattle.std.proofs.lemmas.Str.{encode_ascii}
+use Rattle.hex.specs.Hex.{encode_with, encode_lower, lower_digits}
 use Rattle.exi_schema.specs.declared.schema.Schema.{Schema}
 use Rattle.exi_schema.specs.declared.tables.Datatype.{Datatype}
 use Rattle.exi_schema.specs.declared.tables.Datatype.TheVariants as type
@@ -18,10 +16,12 @@ use Rattle.exi_schema.specs.Schemas.{is_word_char}
 use Rattle.exi_schema.proofs.Conditions.{and-l, and-r}
 use Rattle.exi_documents.specs.Trees.{Value, Truth, Ordinal, Number, Bytes, Text}
 use Rattle.value_text.specs.Scanning.{IsAnyFormed}
-use Rattle.value_text.specs.ValueText.{IsFormed, IsOfForm, IsValueText, IsShort, truth_text, value_names, quoted}
-use Rattle.dialect_text.proofs.Agreeing.{none_or_some, Stops}
+use Rattle.value_text.specs.ValueText.{IsFormed, IsShort, truth_text, value_names, quoted}
+use Rattle.value_text.proofs.FrontLaws.{Stops}
+use Rattle.value_text.proofs.NextLaws.{some_bytes}
 use Rattle.dialect_text.proofs.Quotes.{one_byte, quoted_once, quoted_chars}
-use Rattle.dialect_text.proofs.Words.{IsWordText, word_chars, word_char_low, word_text, word_in, one_place, value_words}
+use Rattle.value_text.proofs.SchemaWords.{IsWordText, word_char_low, word_text, word_in, value_words}
+use Rattle.dialect_text.proofs.Words.{word_chars}
 
 -- ---- words and numbers
 
@@ -38,7 +38,7 @@ word_both [] b p q = q
 word_both (c ∷ a) b p q = and_true (is_word_char c) (list_all is_word_char (a ++ b)) (and-l (is_word_char c) (list_all is_word_char a) p) (word_both a b (and-r (is_word_char c) (list_all is_word_char a) p) q)
 
 first_word : (c : ℕ) (x y : List ℕ) → encode_utf8 c ++ x ≡ y → IsWordText y → is_word_char c ≡ true
-first_word c x [] e is = absurd (none_or_some c x e)
+first_word c x [] e is = absurd (some_bytes c x e)
 first_word c x (b ∷ y) e is =
     let good = and-l (is_word_char b) (list_all is_word_char y) is in
     ap is_word_char (one_byte c b x y (word_char_low b good) e).0 ∙ good
@@ -86,23 +86,6 @@ number_on v w t c x (negative n p small) (negative m q low) e f =
     let same : 45 ∷ (decimal (suc n) ++ (encode_utf8 c ++ x)) ≡ 45 ∷ decimal (suc m) = ap (λ (bs : List ℕ). bs ++ (encode_utf8 c ++ x)) (sym (e ∙ ap signed_decimal p)) ∙ f ∙ ap signed_decimal q in
     let tails : decimal (suc n) ++ (encode_utf8 c ++ x) ≡ decimal (suc m) = cc in
     behind_word (decimal (suc n)) c x (subst IsWordText (sym tails) (digit_text (suc m) low).0)
-
-decimal_once : (n m : ℕ) → n < 10 ^ 64 → m < 10 ^ 64 → decimal n ≡ decimal m → n ≡ m
-decimal_once n m small low e = sym (decimal_is_IsNumeral_wide n small).1 ∙ ap (digits_value 10) e ∙ (decimal_is_IsNumeral_wide m low).1
-
-number_once : (v w : ℤ) (t : List ℕ) → Numeral v → Numeral w → t ≡ signed_decimal v → t ≡ signed_decimal w → v ≡ w
-number_once v w t (positive n p small) (positive m q low) e f =
-    p ∙ ap pos (decimal_once n m small low (ap signed_decimal (sym p) ∙ sym e ∙ f ∙ ap signed_decimal q)) ∙ sym q
-number_once v w t (positive n p small) (negative m q low) e f =
-    absurd (sign_first n [] (decimal (suc m)) small (append-nil (decimal n) ∙ ap signed_decimal (sym p) ∙ sym e ∙ f ∙ ap signed_decimal q))
-number_once v w t (negative n p small) (positive m q low) e f =
-    absurd (sign_first m [] (decimal (suc n)) low (append-nil (decimal m) ∙ ap signed_decimal (sym q) ∙ sym f ∙ e ∙ ap signed_decimal p))
-number_once v w t (negative n p small) (negative m q low) e f =
-    let same : 45 ∷ decimal (suc n) ≡ 45 ∷ decimal (suc m) = ap signed_decimal (sym p) ∙ sym e ∙ f ∙ ap signed_decimal q in
-    let tails : decimal (suc n) ≡ decimal (suc m) = cc in
-    let one : suc n ≡ suc m = decimal_once (suc n) (suc m) small low tails in
-    let is : n ≡ m = omega (arith, one) in
-    p ∙ ap negsuc is ∙ sym q
 
 number_chars : (v : ℤ) → Numeral v → encode_utf8_all (signed_decimal v) ≡ signed_decimal v
 number_chars v (positive n p small) = subst (λ (z : ℤ). encode_utf8_all (signed_decimal z) ≡ signed_decimal z) (sym p) (word_chars (decimal n) (digit_text n small).0)
@@ -167,37 +150,21 @@ value_chars s kind d v t is = by (spelled s kind d v t is)
 
 -- two values of one datatype
 pub data Pair (v w : Value) (t u : List ℕ) : Type 0 where
-  words : IsWordText t → IsWordText u → (t ≡ u → v ≡ w) → Pair v w t u
+  words : IsWordText t → IsWordText u → Pair v w t u
   numbers : (y z : ℤ) → v ≡ Number y → w ≡ Number z → Numeral y → Numeral z → t ≡ signed_decimal y → u ≡ signed_decimal z → Pair v w t u
   quotes : (a b : List ℕ) → v ≡ Text a → w ≡ Text b → t ≡ quoted a → u ≡ quoted b → Pair v w t u
 
-truth_once : (b c : Bool) → truth_text b ≡ truth_text c → b ≡ c
-truth_once true true e = refl
-truth_once false false e = refl
-truth_once true false e = absurd (omega (arith, ap length e))
-truth_once false true e = absurd (omega (arith, ap length e))
-
-each_byte : (bytes : List ℕ) → AllByRecursion (λ byte. byte < 256) bytes → (i : ℕ) → slice_index bytes i < 256
-each_byte [] all i = omega arith
-each_byte (b ∷ bytes) all zero = all.0
-each_byte (b ∷ bytes) all (suc i) = each_byte bytes all.1 i
-
-bytes_once : (a b : List ℕ) → AllByRecursion (λ byte. byte < 256) a → AllByRecursion (λ byte. byte < 256) b → encode_lower a ≡ encode_lower b → a ≡ b
-bytes_once a b p q e =
-    let same : Ok a ≡ Ok b = sym (decode_of-encode_lower a (each_byte a p)) ∙ ap decode_of e ∙ decode_of-encode_lower b (each_byte b q) in cc
-
 truths : (b c : Bool) (t u : List ℕ) → t ≡ truth_text b → u ≡ truth_text c → Pair (Truth b) (Truth c) t u
 truths b c t u p q =
-    words (subst IsWordText (sym p) (truth_word b)) (subst IsWordText (sym q) (truth_word c)) (λ e. ap Truth (truth_once b c (sym p ∙ e ∙ q)))
+    words (subst IsWordText (sym p) (truth_word b)) (subst IsWordText (sym q) (truth_word c))
 
 ordinals : (s : Schema) (kind n m : ℕ) (t u : List ℕ) → slice_get (value_names s kind) n ≡ Some t → slice_get (value_names s kind) m ≡ Some u → Pair (Ordinal n) (Ordinal m) t u
 ordinals s kind n m t u p q =
     words (name_word s kind n t p) (name_word s kind m u q)
-    (λ e. ap Ordinal (one_place (value_names s kind) n m u (value_words s kind) (p ∙ ap (λ (x : List ℕ). Some x) e) q))
 
 binaries : (a b t u : List ℕ) → AllByRecursion (λ byte. byte < 256) a → AllByRecursion (λ byte. byte < 256) b → t ≡ encode_lower a → u ≡ encode_lower b → Pair (Bytes a) (Bytes b) t u
 binaries a b t u p q e f =
-    words (subst IsWordText (sym e) (hex_words a p)) (subst IsWordText (sym f) (hex_words b q)) (λ h. ap Bytes (bytes_once a b p q (sym e ∙ h ∙ f)))
+    words (subst IsWordText (sym e) (hex_words a p)) (subst IsWordText (sym f) (hex_words b q))
 
 pair : (s : Schema) (kind : ℕ) (d : Datatype) (v w : Value) (t u : List ℕ) → IsFormed s kind d v t → IsFormed s kind d w u → Pair v w t u
 pair s kind type.Bool (Truth b) (Truth c) t u p q = truths b c t u p.1 q.1
@@ -227,19 +194,10 @@ pub goes_on : (s : Schema) (kind : ℕ) (d : Datatype) (v w : Value) (t : List �
 goes_on s kind d v w t c x p q = by (pair s kind d v w t (t ++ (encode_utf8 c ++ x)) p q)
   where
     by : Pair v w t (t ++ (encode_utf8 c ++ x)) → is_word_char c ≡ true
-    by (words m n e) = behind_word t c x n
+    by (words m n) = behind_word t c x n
     by (numbers y z a b m n e f) = number_on y z t c x m n e f
     by (quotes a b e f m n) =
-        absurd (none_or_some c x (quoted_once a b (encode_utf8 c ++ x) [] (ap (λ (bs : List ℕ). bs ++ (encode_utf8 c ++ x)) (sym m) ∙ n ∙ sym (append-nil (quoted b)))).1)
-
--- a text has one value
-pub one_value : (s : Schema) (kind : ℕ) (d : Datatype) (v w : Value) (t : List ℕ) → IsFormed s kind d v t → IsFormed s kind d w t → v ≡ w
-one_value s kind d v w t p q = by (pair s kind d v w t t p q)
-  where
-    by : Pair v w t t → v ≡ w
-    by (words m n e) = e refl
-    by (numbers y z a b m n e f) = a ∙ ap Number (number_once y z t m n e f) ∙ sym b
-    by (quotes a b e f m n) = e ∙ ap Text (quoted_once a b [] [] (ap (λ (bs : List ℕ). bs ++ []) (sym m ∙ n))).0 ∙ sym f
+        absurd (some_bytes c x (quoted_once a b (encode_utf8 c ++ x) [] (ap (λ (bs : List ℕ). bs ++ (encode_utf8 c ++ x)) (sym m) ∙ n ∙ sym (append-nil (quoted b)))).1)
 
 -- ---- behind a value
 
@@ -253,7 +211,7 @@ no_word : (c b : ℕ) (x y : List ℕ) → b < 128 → is_word_char b ≡ false 
 no_word c b x y low none e is = let wrong : true ≡ false = sym is ∙ ap is_word_char (one_byte c b x y low (sym e)).0 ∙ none in absurd cc
 
 pub value_stops : (s : Schema) (kind : ℕ) (d : Datatype) (v : Value) (front rest : List ℕ) → IsFormed s kind d v (encode_utf8_all front) → EndsValue rest → Stops (IsAnyFormed s kind d) front rest
-value_stops s kind d v front rest is (at_end e) c more after f other = none_or_some c more (sym f ∙ e)
+value_stops s kind d v front rest is (at_end e) c more after f other = some_bytes c more (sym f ∙ e)
 value_stops s kind d v front rest is (at_space x e) c more after f other =
     no_word c 32 more x (omega arith) refl (sym e ∙ f) (goes_on s kind d v other.0 (encode_utf8_all front) c after is other.1)
 value_stops s kind d v front rest is (at_brace x e) c more after f other =

@@ -1,28 +1,27 @@
 -- What has started can be ended: each standing of a schema has a text that completes it.
-use Rattle.std.proofs.Common.{◌≡◌, ℕ, zero, suc, ◌+◌, ◌<◌, ◌≤◌, ◌⊎◌, inl, inr, Bool, true, false, ◌&&◌, nat_le, List, [], ◌∷◌, ◌++◌, length, codes, map, Option, Some, None, slice_get, refl, sym, ap, ap₂, subst, ◌∙◌, append_assoc, arith}
+use Rattle.std.proofs.Common.{◌≡◌, ℕ, zero, suc, ◌<◌, ◌≤◌, inl, inr, true, false, ◌&&◌, List, [], ◌∷◌, ◌++◌, length, codes, map, Option, Some, None, slice_get, refl, sym, ap, subst, ◌∙◌, arith}
 use Rattle.std.specs.Prelude.{◌==◌, pos}
 use Rattle.std.specs.Fmt.{decimal}
-use Rattle.std.specs.List.{list_all, AllByRecursion}
 use Rattle.std.proofs.lemmas.Bool.{leb-true}
 use Rattle.std.proofs.lemmas.Bool.Decides.{eqb_tells}
-use Rattle.hex.specs.Hex.{encode_lower, encode_with}
+use Rattle.hex.specs.Hex.{encode_with}
 use Rattle.exi_schema.specs.declared.schema.Schema.{Schema}
 use Rattle.exi_schema.specs.declared.tables.Datatype.{Datatype}
 use Rattle.exi_schema.specs.declared.tables.Datatype.TheVariants as type
 use Rattle.exi_schema.specs.declared.tables.Declaration.{Declaration}
 use Rattle.exi_schema.specs.declared.tables.Declaration.TheVariants.{Simple, Complex}
-use Rattle.exi_schema.specs.Schemas.{are_kinds, are_roots, are_words, are_values, value_count, is_datatype, is_declaration}
+use Rattle.exi_schema.specs.Schemas.{are_words, are_values, value_count, is_datatype}
 use Rattle.exi_schema.specs.Steps.{simple_at, datatype_of, texts_at}
-use Rattle.exi_schema.proofs.Conditions.{and-l, and-r, all_get, kinds_of, declared}
-use Rattle.exi_documents.specs.Trees.{Value, Truth, Ordinal, Number, Bytes, Text, Event, Start, Content, EndElement}
+use Rattle.exi_schema.proofs.Conditions.{and-l, and-r, kinds_of, declared}
+use Rattle.exi_documents.specs.Trees.{Value, Truth, Ordinal, Number, Bytes, Text, Start, Content, EndElement}
 use Rattle.value_text.specs.ValueText.{IsFormed, value_names, quoted}
 use Rattle.dialect_text.specs.declared.elements.Filling.{Filling}
 use Rattle.dialect_text.specs.declared.elements.Filling.TheVariants as fills
 use Rattle.dialect_text.specs.declared.elements.OpenElement.{OpenElement}
-use Rattle.dialect_text.specs.Dialect.{Standing, AtRoot, Within, element, attribute_in, element_in, IsValueOf, IsEndText}
-use Rattle.dialect_text.specs.Languages.{Goes, Completes}
+use Rattle.dialect_text.specs.Dialect.{AtRoot, Within, element, attribute_in, element_in, IsValueOf, IsEndText}
+use Rattle.dialect_text.specs.Languages.{Completes}
 use Rattle.dialect_text.specs.Scanning.{AreOpen, IsFilled}
-use Rattle.dialect_text.proofs.Words.{values_of}
+use Rattle.value_text.proofs.SchemaWords.{values_of}
 
 -- ---- each datatype has a value
 

@@ -1,25 +1,24 @@
 -- One event inside an element of a complex kind, from where it stands.
-use Rattle.std.proofs.Common.{◌≡◌, ℕ, zero, suc, ◌+◌, ◌-◌, ◌<◌, ◌⊎◌, inl, inr, Bool, true, false, List, [], ◌∷◌, ◌++◌, length, codes, Option, Some, None, slice_get, refl, sym, ap, ap₂, subst, ◌∙◌, append_assoc, arith, get_or}
-use Rattle.std.specs.Prelude.{encode_utf8}
+use Rattle.std.proofs.Common.{◌≡◌, ℕ, ◌⊎◌, inl, inr, List, [], ◌∷◌, ◌++◌, codes, Option, Some, None, slice_get, refl, sym, ap, subst, ◌∙◌, append_assoc, arith}
 use Rattle.std.specs.Str.{encode_utf8_all}
-use Rattle.std.proofs.lemmas.List.{append-nil, append_cancel_left}
+use Rattle.std.proofs.lemmas.List.{append_cancel_left}
 use Rattle.std.proofs.lemmas.Option.{slice_get_within}
 use Rattle.exi_schema.specs.declared.schema.Schema.{Schema}
 use Rattle.exi_schema.specs.declared.tables.Datatype.{Datatype}
 use Rattle.exi_schema.specs.declared.tables.Declaration.{Declaration}
-use Rattle.exi_schema.specs.declared.tables.Declaration.TheVariants.{Simple, Complex}
-use Rattle.exi_schema.specs.Steps.{simple_at, datatype_of}
-use Rattle.exi_documents.specs.Trees.{Value, Event, Document, Start, Attribute, Content, EndElement}
+use Rattle.exi_schema.specs.declared.tables.Declaration.TheVariants.{Complex}
+use Rattle.exi_schema.specs.Steps.{datatype_of}
+use Rattle.exi_documents.specs.Trees.{Event, Document, Start, Attribute, Content, EndElement}
 use Rattle.value_text.specs.declared.cursor.TextCursor.{TextCursor}
 use Rattle.value_text.specs.Scanning.{Passes}
 use Rattle.dialect_text.specs.declared.elements.Filling.{Filling}
 use Rattle.dialect_text.specs.declared.elements.Filling.TheVariants as fills
 use Rattle.dialect_text.specs.declared.elements.OpenElement.{OpenElement}
-use Rattle.dialect_text.specs.declared.fault.ScanFault.{ScanFault}
-use Rattle.dialect_text.specs.declared.fault.ScanFault.TheVariants as fault
-use Rattle.dialect_text.specs.Dialect.{Standing, Within, element, attribute_of, element_of, mark, gap, IsBeforeElements, IsEndText, IsStartText, Adds}
-use Rattle.dialect_text.specs.Languages.{Goes, Completes, Shares, Leads, Stalls}
-use Rattle.dialect_text.specs.Scanning.{TakesNext, StallsAt, StartsElement, StartsValue, StartsAttribute, StartsPart, IsFilled, IsSound, PassesIf, PassesGap}
+use Rattle.value_text.specs.declared.fault.ScanFault.{ScanFault}
+use Rattle.value_text.specs.declared.fault.ScanFault.TheVariants as fault
+use Rattle.dialect_text.specs.Dialect.{Standing, Within, element, mark, gap, IsBeforeElements, IsEndText}
+use Rattle.dialect_text.specs.Languages.{Goes, Completes, Shares, Leads}
+use Rattle.dialect_text.specs.Scanning.{TakesNext, StallsAt, StartsPart, IsFilled, IsSound}
 use Rattle.dialect_text.proofs.Cursors.{takes_behind, stalls_behind}
 use Rattle.dialect_text.proofs.ElementStarts.{element_fits, opened, opened_sound}
 use Rattle.dialect_text.proofs.Once.{attribute_behind, behind, heads_differ}

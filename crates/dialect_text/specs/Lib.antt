@@ -1,4 +1,3 @@
 pub mod Dialect
 pub mod Languages
 pub mod Scanning
-pub mod Faults

@@ -1,5 +1,5 @@
 -- Own: where a scanner stands in a text.
-use Rattle.std.specs.Prelude.{◌≡◌, ◌⊎◌, ℕ, ◌+◌, ◌*◌, ◌-◌, ◌<◌, Bool, true, false, codes, List, [], ◌∷◌, ◌++◌, length, sum_by, Option, Some, None, slice_get}
+use Rattle.std.specs.Prelude.{◌≡◌, ◌⊎◌, ℕ, ◌+◌, ◌*◌, ◌-◌, ◌<◌, ◌==◌, Bool, true, false, codes, List, [], ◌∷◌, ◌++◌, length, sum_by, Option, Some, None, slice_get}
 use Rattle.std.specs.List.{AllByRecursion}
 use Rattle.std.specs.Str.{encode_utf8_all, IsUtf8}
 use Rattle.exi_schema.specs.declared.schema.Schema.{Schema}
@@ -13,13 +13,14 @@ use Rattle.exi_schema.specs.Steps.{simple_at}
 use Rattle.exi_documents.specs.Trees.{Value, Event, Document, Start, Attribute, Content, EndElement}
 use Rattle.value_text.specs.declared.awaited.Awaited.{Awaited}
 use Rattle.value_text.specs.declared.cursor.TextCursor.{TextCursor}
+use Rattle.value_text.specs.Forms.{NoneNext}
 use Rattle.value_text.specs.ValueText.{IsName, IsFormed}
-use Rattle.value_text.specs.Scanning.{Passes, Takes, GoesWrong, IsAnyFormed, meaning}
+use Rattle.value_text.specs.Scanning.{Passes, Takes, MissesAt, IsAnyFormed, meaning}
 use Rattle.dialect_text.specs.declared.elements.Filling.{Filling}
 use Rattle.dialect_text.specs.declared.elements.Filling.TheVariants as fills
 use Rattle.dialect_text.specs.declared.elements.OpenElement.{OpenElement}
-use Rattle.dialect_text.specs.declared.fault.ScanFault.{ScanFault}
-use Rattle.dialect_text.specs.declared.fault.ScanFault.TheVariants as fault
+use Rattle.value_text.specs.declared.fault.ScanFault.{ScanFault}
+use Rattle.value_text.specs.declared.fault.ScanFault.TheVariants as fault
 use Rattle.dialect_text.specs.declared.phase.Phase.{Phase}
 use Rattle.dialect_text.specs.declared.phase.Phase.TheVariants as phase
 use Rattle.dialect_text.specs.declared.said.Said.{Said}
@@ -144,11 +145,6 @@ abbrev pub IsNext : Schema → Standing → TextCursor → Standing → TextCurs
 IsNext s old before new after (Some said) = TakesNext s [] (Completes s old) old before (event_of said) new after
 IsNext s old before new after None = (old ≡ Within []) × (before.rest.now ≡ []) × (new ≡ old) × (after ≡ before)
 
--- none of a language stands there
-abbrev pub MissesAt : (List ℕ → Type 0) → TextCursor → ScanFault → Type 0
-MissesAt L cursor (fault.Place place) = GoesWrong L cursor place
-MissesAt L cursor fault.Memory = Unit {0}
-
 -- a value of a simple kind stands there, or none does
 abbrev pub TakesValueOf : Schema → ℕ → Value → TextCursor → TextCursor → Type 0
 TakesValueOf s kind value before after =
@@ -161,14 +157,10 @@ abbrev pub MissesValueOf : Schema → ℕ → TextCursor → ScanFault → Type 
 MissesValueOf s kind cursor fault =
     (datatype : Datatype) × (simple_at s.kinds.now kind ≡ Some datatype) × MissesAt (IsAnyFormed s kind datatype) cursor fault
 
--- a character is passed, or another one or none stands there
-abbrev pub PassesIf : ℕ → Bool → TextCursor → TextCursor → Type 0
-PassesIf c true before after = Passes before (c ∷ []) after
-PassesIf c false before after = (after ≡ before) × ((rest : List ℕ) → before.rest.now ≡ c ∷ rest → ⊥)
-
+-- what stands before a part is passed, or another character or none stands there
 abbrev pub PassesGap : Filling → Bool → TextCursor → TextCursor → Type 0
 PassesGap filling true before after = Passes before (gap filling) after
-PassesGap filling false before after = (after ≡ before) × (gap filling ≡ codes " ") × ((rest : List ℕ) → before.rest.now ≡ 32 ∷ rest → ⊥)
+PassesGap filling false before after = (after ≡ before) × (gap filling ≡ codes " ") × NoneNext (λ c. c == 32) before.rest.now
 
 -- ---- inside an element, behind what stands before a part
 

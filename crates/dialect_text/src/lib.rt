@@ -5,7 +5,6 @@
 #![tactic(auto)]
 
 mod elements;
-mod fault;
 mod kinds;
 pub mod laws;
 mod names;
@@ -15,11 +14,9 @@ mod scanner;
 mod step;
 mod take;
 
-pub use fault::ScanFault;
 pub use said::Said;
 pub use scanner::DialectScanner;
+pub use value_text::ScanFault;
 
-#[cfg(test)]
-mod negotiation;
 #[cfg(test)]
 mod tests;

@@ -2,20 +2,19 @@
 
 ghost use Rattle.std.specs.Prelude.{◌≡◌, ◌<◌, ◌∷◌, [], List, Some, None, IfSome, IfNone, IfOk, IfErr, Err};
 ghost use Rattle.exi_documents.specs.Trees.{Event};
-ghost use Rattle.dialect_text.specs.declared.fault.ScanFault.TheVariants as fault;
+ghost use Rattle.value_text.specs.declared.fault.ScanFault.TheVariants as fault;
 ghost use Rattle.dialect_text.specs.declared.phase.Phase.TheVariants as phase;
 ghost use Rattle.dialect_text.specs.Dialect.{Within, IsDialectText};
 ghost use Rattle.dialect_text.specs.Languages.{Completes};
 ghost use Rattle.dialect_text.specs.Scanning.{event_of, standing_of, IsReady, HasSaid, IsFaultOf, events_left, IsNext, StallsAt};
 
 use crate::elements::OpenElements;
-use crate::fault::ScanFault;
 use crate::phase::Phase;
 use crate::said::Said;
 use crate::step::{take_inside, take_root};
 use exi_schema::Schema;
 use std::alloc::Global;
-use value_text::TextCursor;
+use value_text::{ScanFault, TextCursor};
 
 /// Scans the events of a text of a schema's dialect, one after the other.
 ///

@@ -10,14 +10,13 @@ ghost use Rattle.dialect_text.specs.Languages.{Completes};
 ghost use Rattle.dialect_text.specs.Scanning.{event_of, IsSound, TakesNext, StallsAt, StartsElement, StartsAttribute, StartsPart, AwaitsAttribute};
 
 use crate::elements::{Filling, OpenElement, OpenElements};
-use crate::fault::ScanFault;
 use crate::kinds::{kind_of_attribute, kind_of_element};
 use crate::names::{awaited_attributes, awaited_elements, awaited_roots};
 use crate::said::Said;
-use crate::take::{take_char, take_gap, take_name, take_value};
+use crate::take::{take_gap, take_name, take_value};
 use exi_schema::{AttributeOf, Declaration, Particle, RootOf, Schema};
 use std::alloc::Global;
-use value_text::TextCursor;
+use value_text::{ScanFault, TextCursor};
 
 /// Takes the front of the root, its name and the mark behind it.
 pub(crate) fn take_root(
@@ -150,7 +149,7 @@ fn take_behind_gap(
     ensures kept { IfErr result (λ _. elements.new ≡ elements.old) }
 {
     if awaits_attribute(top.filling, attributes) {
-        if take_char(cursor, '@') {
+        if cursor.take_char('@') {
             take_attribute(alloc, schema, cursor, elements, top, attributes)
         } else {
             take_start(alloc, schema, cursor, elements, top, particles)
@@ -177,7 +176,7 @@ fn take_part(
     ensures fault { IfErr result (StallsAt (Completes schema.now (Within elements.old)) cursor.old) }
     ensures kept { IfErr result (λ _. elements.new ≡ elements.old) }
 {
-    if take_char(cursor, '}') {
+    if cursor.take_char('}') {
         elements.pop();
         return Ok(Said::EndElement);
     }

@@ -4,28 +4,13 @@ ghost use Rattle.std.specs.Prelude.{◌≡◌, ◌<◌, ◌∷◌, ◌++◌, Lis
 ghost use Rattle.std.specs.Str.{encode_utf8_all};
 ghost use Rattle.exi_schema.specs.Steps.{simple_at};
 ghost use Rattle.value_text.specs.declared.awaited.Awaited.{Awaited};
-ghost use Rattle.value_text.specs.Scanning.{Takes, IsAnyAwaited, IsAwaitedText, meaning};
-ghost use Rattle.dialect_text.specs.Scanning.{MissesAt, TakesValueOf, MissesValueOf, PassesIf, PassesGap};
+ghost use Rattle.value_text.specs.Scanning.{Takes, MissesAt, IsAnyAwaited, IsAwaitedText, meaning};
+ghost use Rattle.dialect_text.specs.Scanning.{TakesValueOf, MissesValueOf, PassesGap};
 
 use crate::elements::Filling;
-use crate::fault::ScanFault;
 use exi_schema::{Places, Schema};
 use std::alloc::Global;
-use value_text::{Awaited, Scanned, TextCursor};
-
-/// Passes a character of ASCII if it is the next one.
-pub(crate) fn take_char(cursor: &mut TextCursor, expected: char) -> bool
-    requires { expected < 128 }
-    ensures { PassesIf expected result cursor.old cursor.new }
-{
-    match cursor.peek() {
-        Some(next) if next == expected => {
-            let _ = cursor.next();
-            true
-        }
-        _ => false,
-    }
-}
+use value_text::{Awaited, ScanFault, Scanned, TextCursor};
 
 /// Passes what stands before an attribute or an element.
 pub(crate) fn take_gap(cursor: &mut TextCursor, filling: Filling) -> bool
@@ -33,7 +18,7 @@ pub(crate) fn take_gap(cursor: &mut TextCursor, filling: Filling) -> bool
 {
     match filling {
         Filling::Nothing => true,
-        Filling::Attributes | Filling::Elements | Filling::Value => take_char(cursor, ' '),
+        Filling::Attributes | Filling::Elements | Filling::Value => cursor.take_char(' '),
     }
 }
 
@@ -70,7 +55,7 @@ pub(crate) fn take_value(
     ensures fault { IfErr result (MissesValueOf schema.now kind cursor.old) }
 {
     match schema.datatype(kind) {
-        Some(datatype) => Ok(cursor.take_value(alloc, schema, kind, datatype)?),
+        Some(datatype) => cursor.take_value(alloc, schema, kind, datatype),
         None => unreachable!(),
     }
 }

@@ -2,9 +2,8 @@
 
 ghost use Rattle.dialect_text.specs.Scanning.{standing_of, IsReady};
 
-use crate::negotiation::{KINDS, NAMES, ROOTS, VALUES};
 use crate::{DialectScanner, ScanFault};
-use exi_schema::Schema;
+use app_schema::negotiation;
 use std::process::Abort;
 
 /// Scans up to the end or a fault, which is answered again: how many events are said.
@@ -30,13 +29,7 @@ fn scanned(rt: &impl Abort, scanner: &mut DialectScanner) -> Result<u32, ScanFau
 
 #[test]
 fn texts_of_the_negotiation(rt: HostRuntime) {
-    let schema = Schema {
-        kinds: &KINDS,
-        names: &NAMES,
-        values: &VALUES,
-        root_bits: 2,
-        roots: &ROOTS,
-    };
+    let schema = negotiation();
     for (text, expected) in [
         (
             "supportedAppProtocolRes{ResponseCode=OK_SuccessfulNegotiation}",

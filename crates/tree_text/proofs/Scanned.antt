@@ -16,8 +16,8 @@ use Rattle.exi_events.specs.Writer.{HasPut, IsWritten}
 use Rattle.value_text.specs.declared.cursor.TextCursor.{TextCursor}
 use Rattle.dialect_text.specs.Dialect.{Standing, IsDialectText, IsFault}
 use Rattle.dialect_text.specs.Scanning.{event_of, HasSaid, IsReady, IsFaultOf}
-use Rattle.dialect_text.specs.declared.fault.ScanFault.{ScanFault}
-use Rattle.dialect_text.specs.declared.fault.ScanFault.TheVariants.{Place, Memory}
+use Rattle.value_text.specs.declared.fault.ScanFault.{ScanFault}
+use Rattle.value_text.specs.declared.fault.ScanFault.TheVariants.{Place, Memory}
 use Rattle.dialect_text.specs.declared.said.Said.{Said}
 use Rattle.dialect_text.proofs.Once.{one_list}
 use Rattle.tree_text.specs.Consistent.{are_consistent}

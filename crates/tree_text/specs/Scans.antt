@@ -6,8 +6,8 @@ use Rattle.exi_documents.specs.Documents.{SpellsDocument, IsEncoding}
 use Rattle.exi_documents.specs.Trees.{Value, Truth, Ordinal, Number, Bytes, Text, Tree, Event, Document, Start, Attribute, Content, EndElement, document_events}
 use Rattle.exi_documents.specs.Values.{WritesValue}
 use Rattle.dialect_text.specs.Dialect.{IsDialectText, IsOfDialect, IsFault}
-use Rattle.dialect_text.specs.declared.fault.ScanFault.{ScanFault}
-use Rattle.dialect_text.specs.declared.fault.ScanFault.TheVariants.{Place, Memory}
+use Rattle.value_text.specs.declared.fault.ScanFault.{ScanFault}
+use Rattle.value_text.specs.declared.fault.ScanFault.TheVariants.{Place, Memory}
 use Rattle.tree_text.specs.TreeText.{IsTreeText}
 
 -- a tree with this text has this encoding, of at most 65,536 bytes

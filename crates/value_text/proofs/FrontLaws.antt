@@ -127,7 +127,8 @@ pub record StandsBehind (L M : List ℕ → Type 0) (p : List ℕ) : Type 0 wher
   pub to : (x : List ℕ) → L x → M (encode_utf8_all p ++ x)
   pub from : (x : List ℕ) → M (encode_utf8_all p ++ x) → L x
 
-encodes_both : (p front rest : List ℕ) → encode_utf8_all (p ++ front) ++ rest ≡ encode_utf8_all p ++ (encode_utf8_all front ++ rest)
+-- the characters of both, and what is behind them
+pub encodes_both : (p front rest : List ℕ) → encode_utf8_all (p ++ front) ++ rest ≡ encode_utf8_all p ++ (encode_utf8_all front ++ rest)
 encodes_both p front rest = ap (λ (bs : List ℕ). bs ++ rest) (encodes-append p front) ∙ append_assoc (encode_utf8_all p) (encode_utf8_all front) rest
 
 stops_both : (L M : List ℕ → Type 0) (p front rest : List ℕ) → StandsBehind L M p → Stops L front rest → Stops M (p ++ front) rest

@@ -44,14 +44,16 @@ one_bytes : (a b : List ℕ) → AllByRecursion (λ byte. byte < 256) a → AllB
 one_bytes a b p q e =
     let same : Ok a ≡ Ok b = sym (decode_of-encode_lower a (are_bytes a p)) ∙ ap decode_of e ∙ decode_of-encode_lower b (are_bytes b q) in cc
 
-one_text : (a b : List ℕ) → flat_map character_text a ++ 34 ∷ [] ≡ flat_map character_text b ++ 34 ∷ [] → a ≡ b
-one_text [] [] e = refl
-one_text [] (d ∷ b) e = absurd (no_quote_first d (flat_map character_text b ++ 34 ∷ []) [] (sym (append_assoc (character_text d) (flat_map character_text b) (34 ∷ [])) ∙ sym e))
-one_text (c ∷ a) [] e = absurd (no_quote_first c (flat_map character_text a ++ 34 ∷ []) [] (sym (append_assoc (character_text c) (flat_map character_text a) (34 ∷ [])) ∙ e))
-one_text (c ∷ a) (d ∷ b) e =
-    let firsts = one_piece c d (flat_map character_text a ++ 34 ∷ []) (flat_map character_text b ++ 34 ∷ [])
-    (sym (append_assoc (character_text c) (flat_map character_text a) (34 ∷ [])) ∙ e ∙ append_assoc (character_text d) (flat_map character_text b) (34 ∷ [])) in
-    ap₂ (λ (n : ℕ) (ns : List ℕ). n ∷ ns) firsts.0 (one_text a b firsts.1)
+-- a text between quotes is told from what stands behind it
+pub inside_once : (a b x y : List ℕ) → flat_map character_text a ++ 34 ∷ x ≡ flat_map character_text b ++ 34 ∷ y → (a ≡ b) × (x ≡ y)
+inside_once [] [] x y e = (refl, ap (λ (bs : List ℕ). drop 1 bs) e)
+inside_once [] (d ∷ b) x y e = absurd (no_quote_first d (flat_map character_text b ++ 34 ∷ y) x (sym (append_assoc (character_text d) (flat_map character_text b) (34 ∷ y)) ∙ sym e))
+inside_once (c ∷ a) [] x y e = absurd (no_quote_first c (flat_map character_text a ++ 34 ∷ x) y (sym (append_assoc (character_text c) (flat_map character_text a) (34 ∷ x)) ∙ e))
+inside_once (c ∷ a) (d ∷ b) x y e =
+    let firsts = one_piece c d (flat_map character_text a ++ 34 ∷ x) (flat_map character_text b ++ 34 ∷ y)
+    (sym (append_assoc (character_text c) (flat_map character_text a) (34 ∷ x)) ∙ e ∙ append_assoc (character_text d) (flat_map character_text b) (34 ∷ y)) in
+    let more = inside_once a b x y firsts.1 in
+    (ap₂ (λ (n : ℕ) (ns : List ℕ). n ∷ ns) firsts.0 more.0, more.1)
 
 -- values of one form
 data OneForm (v w : Value) : Type 0 where
@@ -95,4 +97,4 @@ one_value s kind d v w text p q = told (one_form d v w p.0 q.0)
     told (ordinals a b e f) = e ∙ ap Ordinal (one_place (value_names s kind) a b text (value_words s kind) (of v (Ordinal a) e p.1) (of w (Ordinal b) f q.1)) ∙ sym f
     told (numbers a b e f m n) = e ∙ ap Number (one_number a b m n (sym (of v (Number a) e p.1) ∙ of w (Number b) f q.1)) ∙ sym f
     told (binaries a b e f m n) = e ∙ ap Bytes (one_bytes a b m n (sym (of v (Bytes a) e p.1) ∙ of w (Bytes b) f q.1)) ∙ sym f
-    told (texts a b e f) = e ∙ ap Text (one_text a b (ap (λ (bs : List ℕ). drop 1 bs) (sym (of v (Text a) e p.1) ∙ of w (Text b) f q.1))) ∙ sym f
+    told (texts a b e f) = e ∙ ap Text (inside_once a b [] [] (ap (λ (bs : List ℕ). drop 1 bs) (sym (of v (Text a) e p.1) ∙ of w (Text b) f q.1))).0 ∙ sym f

@@ -30,7 +30,7 @@ byte_front b rest small = ap (λ (bs : List ℕ). bs ++ rest) (encodes_ascii (b 
 pub byte_cons : (b : ℕ) (front : List ℕ) → b < 128 → encode_utf8_all (b ∷ front) ≡ b ∷ encode_utf8_all front
 byte_cons b front small = ap (λ (bs : List ℕ). bs ++ encode_utf8_all front) (encode_ascii b small)
 
-char_fails : (c d : ℕ) → c ≡ d → (c == d) ≡ false → ⊥
+pub char_fails : (c d : ℕ) → c ≡ d → (c == d) ≡ false → ⊥
 char_fails c d e fails = grind (arith, nat_tests)
 
 -- ---- a language whose texts begin with one byte

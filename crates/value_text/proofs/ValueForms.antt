@@ -9,10 +9,10 @@ use Rattle.exi_schema.specs.declared.tables.Datatype.TheVariants.{Bool as BoolTy
 use Rattle.exi_schema.specs.Steps.{texts_of}
 use Rattle.exi_documents.specs.Trees.{Value, Truth, Ordinal, Number, Bytes, Text}
 use Rattle.value_text.specs.declared.cursor.TextCursor.{TextCursor}
-use Rattle.value_text.specs.declared.fault.ValueFault.{ValueFault}
-use Rattle.value_text.specs.declared.fault.ValueFault.TheVariants as fault
+use Rattle.value_text.specs.declared.fault.ScanFault.{ScanFault}
+use Rattle.value_text.specs.declared.fault.ScanFault.TheVariants as fault
 use Rattle.value_text.specs.Forms.{IsTruthText, IsNumberText, IsBytesText, IsQuotedText, IsOneOf}
-use Rattle.value_text.specs.Scanning.{Takes, GoesWrong, IsFaultOf, IsAnyFormed}
+use Rattle.value_text.specs.Scanning.{Takes, GoesWrong, MissesAt, IsAnyFormed}
 use Rattle.value_text.specs.ValueText.{truth_text, value_names, IsShort, IsFormed}
 use Rattle.value_text.proofs.BestWords.{GivesWord, mapped_at}
 use Rattle.value_text.proofs.FrontLaws.{takes_same, wrong_same}
@@ -36,7 +36,7 @@ gives L s kind datatype a value b front same takes is = (front, takes_same L (Is
 wrong : (L : List ℕ → Type 0) (s : Schema) (kind : ℕ) (datatype : Datatype) (a : TextCursor) (place : ℕ) → SameTexts L (IsAnyFormed s kind datatype) → GoesWrong L a place → GoesWrong (IsAnyFormed s kind datatype) a place
 wrong L s kind datatype a place same w = wrong_same L (IsAnyFormed s kind datatype) a place same.to same.from w
 
-fault_same : (L M : List ℕ → Type 0) (a : TextCursor) (f : ValueFault) → SameTexts L M → IsFaultOf L a f → IsFaultOf M a f
+fault_same : (L M : List ℕ → Type 0) (a : TextCursor) (f : ScanFault) → SameTexts L M → MissesAt L a f → MissesAt M a f
 fault_same L M a (fault.Place place) same w = wrong_same L M a place same.to same.from w
 fault_same L M a fault.Memory same w = tt
 
@@ -148,9 +148,9 @@ pub formed_bytes : (s : Schema) (kind most : ℕ) (datatype : Datatype) (a b : T
 formed_bytes s kind most datatype a b bytes is g =
     subst (λ (d : Datatype). GivesFormed s kind d a (Bytes bytes) b) (sym is) (gives IsBytesText s kind (Binary most) a (Bytes bytes) b g.0 (bytes_same s kind most) g.1 (g.2, g.3))
 
-pub no_bytes : (s : Schema) (kind most : ℕ) (datatype : Datatype) (a : TextCursor) (f : ValueFault) → datatype ≡ Binary most → IsFaultOf IsBytesText a f → IsFaultOf (IsAnyFormed s kind datatype) a f
+pub no_bytes : (s : Schema) (kind most : ℕ) (datatype : Datatype) (a : TextCursor) (f : ScanFault) → datatype ≡ Binary most → MissesAt IsBytesText a f → MissesAt (IsAnyFormed s kind datatype) a f
 no_bytes s kind most datatype a f is w =
-    subst (λ (d : Datatype). IsFaultOf (IsAnyFormed s kind d) a f) (sym is) (fault_same IsBytesText (IsAnyFormed s kind (Binary most)) a f (bytes_same s kind most) w)
+    subst (λ (d : Datatype). MissesAt (IsAnyFormed s kind d) a f) (sym is) (fault_same IsBytesText (IsAnyFormed s kind (Binary most)) a f (bytes_same s kind most) w)
 
 -- ---- texts
 
@@ -168,9 +168,9 @@ pub formed_text : (s : Schema) (kind most : ℕ) (datatype : Datatype) (a b : Te
 formed_text s kind most datatype a b cs is g =
     subst (λ (d : Datatype). GivesFormed s kind d a (Text cs) b) (sym is) (gives IsQuotedText s kind (TextType most) a (Text cs) b g.0 (text_same s kind most) g.1 (g.2, g.3))
 
-pub no_text : (s : Schema) (kind most : ℕ) (datatype : Datatype) (a : TextCursor) (f : ValueFault) → datatype ≡ TextType most → IsFaultOf IsQuotedText a f → IsFaultOf (IsAnyFormed s kind datatype) a f
+pub no_text : (s : Schema) (kind most : ℕ) (datatype : Datatype) (a : TextCursor) (f : ScanFault) → datatype ≡ TextType most → MissesAt IsQuotedText a f → MissesAt (IsAnyFormed s kind datatype) a f
 no_text s kind most datatype a f is w =
-    subst (λ (d : Datatype). IsFaultOf (IsAnyFormed s kind d) a f) (sym is) (fault_same IsQuotedText (IsAnyFormed s kind (TextType most)) a f (text_same s kind most) w)
+    subst (λ (d : Datatype). MissesAt (IsAnyFormed s kind d) a f) (sym is) (fault_same IsQuotedText (IsAnyFormed s kind (TextType most)) a f (text_same s kind most) w)
 
 -- ---- names
 

@@ -1,3 +1,4 @@
+pub mod Faults
 pub mod ValueText
 pub mod Fronts
 pub mod Scanning

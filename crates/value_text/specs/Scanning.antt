@@ -7,8 +7,8 @@ use Rattle.exi_schema.specs.declared.tables.Datatype.{Datatype}
 use Rattle.exi_documents.specs.Trees.{Value, Truth, Ordinal, Number, Bytes, Text}
 use Rattle.value_text.specs.declared.awaited.Awaited.{Awaited}
 use Rattle.value_text.specs.declared.cursor.TextCursor.{TextCursor}
-use Rattle.value_text.specs.declared.fault.ValueFault.{ValueFault}
-use Rattle.value_text.specs.declared.fault.ValueFault.TheVariants as fault
+use Rattle.value_text.specs.declared.fault.ScanFault.{ScanFault}
+use Rattle.value_text.specs.declared.fault.ScanFault.TheVariants as fault
 use Rattle.value_text.specs.declared.scanned.Scanned.{Scanned}
 use Rattle.value_text.specs.declared.scanned.Scanned.TheVariants as scanned
 use Rattle.value_text.specs.Fronts.{IsLongest}
@@ -30,10 +30,10 @@ abbrev pub GoesWrong : (List ℕ → Type 0) → TextCursor → ℕ → Type 0
 GoesWrong L cursor place =
     (front : List ℕ) × IsLongest L cursor.rest.now front × (L (encode_utf8_all front) → ⊥) × (place ≡ cursor.place + length front)
 
--- want of memory comes freely
-abbrev pub IsFaultOf : (List ℕ → Type 0) → TextCursor → ValueFault → Type 0
-IsFaultOf L cursor (fault.Place place) = GoesWrong L cursor place
-IsFaultOf L cursor fault.Memory = Unit {0}
+-- none of the language stands there. Want of memory comes freely
+abbrev pub MissesAt : (List ℕ → Type 0) → TextCursor → ScanFault → Type 0
+MissesAt L cursor (fault.Place place) = GoesWrong L cursor place
+MissesAt L cursor fault.Memory = Unit {0}
 
 -- ---- values
 

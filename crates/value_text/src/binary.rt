@@ -5,10 +5,10 @@ ghost use Rattle.std.specs.List.{AllByRecursion};
 ghost use Rattle.std.specs.Str.{encode_utf8_all};
 ghost use Rattle.hex.specs.Hex.{encode_lower, lower_digits};
 ghost use Rattle.value_text.specs.Forms.{IsBytesText, NoneNext, is_lower_digit};
-ghost use Rattle.value_text.specs.Scanning.{Passes, Takes, IsFaultOf};
+ghost use Rattle.value_text.specs.Scanning.{Passes, Takes, MissesAt};
 
 use crate::cursor::TextCursor;
-use crate::fault::ValueFault;
+use crate::fault::ScanFault;
 use charge_world::NoMemory;
 use std::alloc::Global;
 
@@ -46,15 +46,15 @@ impl<'t> TextCursor<'t> {
     }
 
     /// The bytes of which the digits stand there, and the cursor behind them.
-    pub(crate) fn bytes(&self, alloc: Global) -> Result<(Vec<u8>, TextCursor<'t>), ValueFault>
+    pub(crate) fn bytes(&self, alloc: Global) -> Result<(Vec<u8>, TextCursor<'t>), ScanFault>
         ensures taken { IfOk result (λ x. (front : List ℕ) × Takes IsBytesText self.now front x.1 × AllByRecursion (λ byte. byte < 256) x.0.items × (encode_utf8_all front ≡ encode_lower x.0.items)) }
-        ensures fault { IfErr result (IsFaultOf IsBytesText self.now) }
+        ensures fault { IfErr result (MissesAt IsBytesText self.now) }
     {
         let mut ahead = *self;
         let mut bytes = Vec::new(alloc);
         while let Some(high) = ahead.hex_digit() {
             let Some(low) = ahead.hex_digit() else {
-                return Err(ValueFault::Place(ahead.place));
+                return Err(ScanFault::Place(ahead.place));
             };
             put(&mut bytes, high * 16 + low)?;
         }

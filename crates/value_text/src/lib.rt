@@ -18,7 +18,7 @@ mod words;
 
 pub use awaited::Awaited;
 pub use cursor::TextCursor;
-pub use fault::ValueFault;
+pub use fault::ScanFault;
 pub use scanned::Scanned;
 
 #[cfg(test)]

@@ -6,11 +6,11 @@ ghost use Rattle.std.specs.Char.{IsScalar};
 ghost use Rattle.std.specs.Str.{encode_utf8_all, chars};
 ghost use Rattle.std.specs.String.{string_bytes};
 ghost use Rattle.value_text.specs.Forms.{IsNumbered, IsNumberedText, IsBraced, IsBracedText, IsEscaped, IsEscapedText, IsPieceText, IsPiece, IsQuotedText};
-ghost use Rattle.value_text.specs.Scanning.{Takes, GoesWrong, IsFaultOf};
+ghost use Rattle.value_text.specs.Scanning.{Takes, GoesWrong, MissesAt};
 ghost use Rattle.value_text.specs.ValueText.{quoted};
 
 use crate::cursor::TextCursor;
-use crate::fault::ValueFault;
+use crate::fault::ScanFault;
 use std::alloc::Global;
 
 impl<'t> TextCursor<'t> {
@@ -93,13 +93,13 @@ impl<'t> TextCursor<'t> {
     }
 
     /// The text that stands there in quotes, and the cursor behind it.
-    pub(crate) fn quoted(&self, alloc: Global) -> Result<(String, TextCursor<'t>), ValueFault>
+    pub(crate) fn quoted(&self, alloc: Global) -> Result<(String, TextCursor<'t>), ScanFault>
         ensures taken { IfOk result (λ x. (front : List ℕ) × Takes IsQuotedText self.now front x.1 × AllByRecursion (λ char. IsScalar char) (chars (string_bytes x.0)) × (encode_utf8_all front ≡ quoted (chars (string_bytes x.0)))) }
-        ensures fault { IfErr result (IsFaultOf IsQuotedText self.now) }
+        ensures fault { IfErr result (MissesAt IsQuotedText self.now) }
     {
         let mut ahead = *self;
         if !ahead.take_char('"') {
-            return Err(ValueFault::Place(ahead.place));
+            return Err(ScanFault::Place(ahead.place));
         }
         let mut text = String::new(alloc);
         loop {
@@ -109,7 +109,7 @@ impl<'t> TextCursor<'t> {
                     ahead = behind;
                 }
                 Ok((None, behind)) => return Ok((text, behind)),
-                Err(place) => return Err(ValueFault::Place(place)),
+                Err(place) => return Err(ScanFault::Place(place)),
             }
         }
     }

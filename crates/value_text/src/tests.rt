@@ -41,8 +41,8 @@ fn answer(alloc: Global, schema: &Schema, kind: u16, text: &str) -> Result<Strin
             let rest = cursor.rest;
             format!(in alloc; "{scanned:?} {place} {rest}")
         }
-        Err(ValueFault::Place(place)) => { format!(in alloc; "fault {place}") }
-        Err(ValueFault::Memory) => Err(AllocError),
+        Err(ScanFault::Place(place)) => { format!(in alloc; "fault {place}") }
+        Err(ScanFault::Memory) => Err(AllocError),
     }
 }
 

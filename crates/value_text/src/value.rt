@@ -5,11 +5,11 @@ ghost use Rattle.std.specs.Str.{encode_utf8_all};
 ghost use Rattle.exi_schema.specs.declared.tables.Declaration.TheVariants.{Simple};
 ghost use Rattle.value_text.specs.ValueText.{truth_text, IsFormed};
 ghost use Rattle.value_text.specs.Forms.{IsTruthText};
-ghost use Rattle.value_text.specs.Scanning.{Takes, IsFaultOf, GoesWrong, meaning, IsAnyFormed, IsAnyAwaited, IsAwaitedText};
+ghost use Rattle.value_text.specs.Scanning.{Takes, MissesAt, GoesWrong, meaning, IsAnyFormed, IsAnyAwaited, IsAwaitedText};
 
 use crate::awaited::Awaited;
 use crate::cursor::TextCursor;
-use crate::fault::ValueFault;
+use crate::fault::ScanFault;
 use crate::scanned::Scanned;
 use crate::words::{Best, agreed_awaited};
 use exi_schema::{Datatype, Schema};
@@ -35,29 +35,29 @@ impl<'t> TextCursor<'t> {
         schema: &Schema,
         kind: u16,
         datatype: Datatype,
-    ) -> Result<(Scanned, TextCursor<'t>), ValueFault>
+    ) -> Result<(Scanned, TextCursor<'t>), ScanFault>
         requires { slice_get schema.now.kinds.now kind ≡ Some (Simple datatype) }
         ensures taken { IfOk result (λ x. (front : List ℕ)
             × Takes (IsAnyFormed schema.now kind datatype) self.now front x.1
             × IsFormed schema.now kind datatype (meaning x.0) (encode_utf8_all front)) }
-        ensures fault { IfErr result (IsFaultOf (IsAnyFormed schema.now kind datatype) self.now) }
+        ensures fault { IfErr result (MissesAt (IsAnyFormed schema.now kind datatype) self.now) }
     {
         match datatype {
             Datatype::Bool => match self.truth() {
                 Ok((truth, behind)) => Ok((Scanned::Bool(truth), behind)),
-                Err(place) => Err(ValueFault::Place(place)),
+                Err(place) => Err(ScanFault::Place(place)),
             },
             Datatype::Named { .. } => {
                 let words = schema.values[kind as usize];
                 match self.word(words) {
                     Ok((ordinal, behind)) => Ok((Scanned::Ordinal(ordinal as u32), behind)),
-                    Err(place) => Err(ValueFault::Place(place)),
+                    Err(place) => Err(ScanFault::Place(place)),
                 }
             }
             Datatype::Bounded { .. } | Datatype::Unsigned { .. } | Datatype::Signed { .. } => {
                 match self.number() {
                     Ok((number, behind)) => Ok((Scanned::Number(number), behind)),
-                    Err(place) => Err(ValueFault::Place(place)),
+                    Err(place) => Err(ScanFault::Place(place)),
                 }
             }
             Datatype::Binary { .. } => match self.bytes(alloc) {
@@ -79,12 +79,12 @@ impl<'t> TextCursor<'t> {
         schema: &Schema,
         kind: u16,
         datatype: Datatype,
-    ) -> Result<Scanned, ValueFault>
+    ) -> Result<Scanned, ScanFault>
         requires { slice_get schema.now.kinds.now kind ≡ Some (Simple datatype) }
         ensures taken { IfOk result (λ scanned. (front : List ℕ)
             × Takes (IsAnyFormed schema.now kind datatype) self.old front self.new
             × IsFormed schema.now kind datatype (meaning scanned) (encode_utf8_all front)) }
-        ensures fault { IfErr result (λ fault. IsFaultOf (IsAnyFormed schema.now kind datatype) self.old fault × (self.new ≡ self.old)) }
+        ensures fault { IfErr result (λ fault. MissesAt (IsAnyFormed schema.now kind datatype) self.old fault × (self.new ≡ self.old)) }
     {
         let (scanned, behind) = self.value(alloc, schema, kind, datatype)?;
         *self = behind;

@@ -1,4 +1,3 @@
-use Rattle.std.proofs.Common.{sym, subst, refl}
 use Rattle.std.proofs.lemmas.Result.{err_from_is_err_and}
 use Rattle.dialect_text.proofs.Simples.{simple_stalls, simple_taken, simple_ended}
 use Rattle.dialect_text.proofs.step.take_simple.Goals as goal

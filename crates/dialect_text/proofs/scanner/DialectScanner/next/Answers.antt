@@ -1,6 +1,6 @@
-use Rattle.std.proofs.Common.{ℕ, sym, subst, ap}
+use Rattle.std.proofs.Common.{sym, subst}
 use Rattle.dialect_text.specs.declared.scanner.DialectScanner.{DialectScanner}
-use Rattle.dialect_text.specs.Faults.{place_in}
+use Rattle.value_text.specs.Faults.{place_in}
 use Rattle.dialect_text.specs.Scanning.{IsReady, standing_of}
 use Rattle.dialect_text.proofs.Scans.{next_ready, next_said, next_ended, next_fewer, fault_ready, fault_of_text}
 use Rattle.dialect_text.proofs.scanner.DialectScanner.next.Goals as goal
