@@ -1,0 +1,3 @@
+pub mod Leaves
+pub mod Entered
+pub mod Matched

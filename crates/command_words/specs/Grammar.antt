@@ -1,0 +1,90 @@
+-- Own: the program's commands as `clap` reads them, and what it finds.
+use Rattle.std.specs.Prelude.{◌≡◌, ◌==◌, ◌⊎◌, Bool, not, true, false, List, [], ◌∷◌, Option, Some, None, codes, if◌then◌else◌, option_and_then, option_map}
+use Rattle.std.specs.Str.{bytes_eq}
+use Rattle.clap.specs.Walk.{Row, Rule, Text, first_of}
+use Rattle.clap.specs.Simple.{App, Shape, new_rule, new_shape}
+use Rattle.clap.specs.declared.builder.value_parser.Reading.TheVariants.{AsWritten}
+use Rattle.clap.specs.declared.parser.matches.ValueSource.TheVariants.{CommandLine}
+use Rattle.command_words.specs.declared.reading.Command.{Command}
+use Rattle.command_words.specs.declared.reading.Command.TheVariants.{Station, Decode, Encode}
+
+-- the word begins with no `-`
+abbrev pub is_plain : Text → Bool
+is_plain [] = true
+is_plain (byte ∷ rest) = not (byte == 45)
+
+-- a value that a command needs
+abbrev pub needed : Text → Rule
+needed id = record (new_rule id) { required = true }
+
+-- a command without values
+abbrev pub bare : Text → Shape
+bare name = new_shape name
+
+-- a command with a dialect and a value
+abbrev pub on_dialect : Text → Shape
+on_dialect name = record (new_shape name) { rules = needed (codes "DIALECT") ∷ needed (codes "VALUE") ∷ [] }
+
+-- the program, whose words are all its arguments, without options and without help
+abbrev pub program : App
+program = record {
+  top = record (new_shape (codes "v2g_charge")) {
+    no_binary_name = true;
+    disable_help_flag = true;
+    disable_help_subcommand = true;
+    subcommand_required = true;
+    is_leaf = false;
+  };
+  subs = bare (codes "station") ∷ on_dialect (codes "decode") ∷ on_dialect (codes "encode") ∷ [];
+}
+
+-- one value that was given
+abbrev pub given : Text → Text → Row
+given id value = record { id = id; values = value ∷ []; count = None; source = Some CommandLine; reading = AsWritten }
+
+-- what is found of a command with a dialect and a value
+abbrev pub found : Text → Text → List Row
+found dialect value = given (codes "DIALECT") dialect ∷ given (codes "VALUE") value ∷ []
+
+-- the words are a command, a dialect and a value, and these are found
+pub record IsOnDialect (name : Text) (words : List Text) (met : Option (Text × List Row)) : Type 0 where
+  pub dialect : Text
+  pub value : Text
+  pub words_are : words ≡ name ∷ dialect ∷ value ∷ []
+  pub met_is : met ≡ Some (name, found dialect value)
+
+-- the words are a command and the values that it needs, and these are found
+abbrev pub IsMatched : List Text → Option (Text × List Row) → Type 0
+IsMatched words met =
+    ((words ≡ codes "station" ∷ []) × (met ≡ Some (codes "station", [])))
+    ⊎ (IsOnDialect (codes "decode") words met ⊎ IsOnDialect (codes "encode") words met)
+
+-- the words are no command with the values that it needs
+pub record IsUnmatched (words : List Text) : Type 0 where
+  pub not_station : words ≡ codes "station" ∷ [] → ⊥
+  pub not_decode : (dialect value : Text) → words ≡ codes "decode" ∷ dialect ∷ value ∷ [] → ⊥
+  pub not_encode : (dialect value : Text) → words ≡ codes "encode" ∷ dialect ∷ value ∷ [] → ⊥
+
+-- ---- the command that was found
+
+-- the words of a command
+abbrev pub words_of : Command → List Text
+words_of Station = codes "station" ∷ []
+words_of (Decode hex) = codes "decode" ∷ codes "app" ∷ hex.now ∷ []
+words_of (Encode text) = codes "encode" ∷ codes "app" ∷ text.now ∷ []
+
+-- the value beside the dialect `app`
+abbrev pub app_value_of : List Row → Option Text
+app_value_of rows =
+    option_and_then (λ dialect. if bytes_eq dialect (codes "app") then first_of (codes "VALUE") rows else None) (first_of (codes "DIALECT") rows)
+
+-- the words of the command that a subcommand and its values are
+abbrev pub told_of : Text → List Row → Option (List Text)
+told_of name rows =
+    if bytes_eq name (codes "station") then Some (codes "station" ∷ [])
+    else if bytes_eq name (codes "decode") then option_map (λ value. codes "decode" ∷ codes "app" ∷ value ∷ []) (app_value_of rows)
+    else if bytes_eq name (codes "encode") then option_map (λ value. codes "encode" ∷ codes "app" ∷ value ∷ []) (app_value_of rows)
+    else None
+
+abbrev pub told : Option (Text × List Row) → Option (List Text)
+told met = option_and_then (λ found. told_of found.0 found.1) met

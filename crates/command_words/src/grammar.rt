@@ -1,0 +1,49 @@
+//! The commands, as `clap` reads them.
+
+ghost use Rattle.std.specs.Prelude.{◌≡◌, ◌≢◌, true, false, map, string_bytes, IfOk, IfErr};
+ghost use Rattle.std.specs.List.{list_all};
+ghost use Rattle.clap.specs.Words.{app_of, kind_of, shape_of, subcommand_rows_of};
+ghost use Rattle.clap.specs.declared.builder.command.Command.TheViews.{out-Command};
+ghost use Rattle.clap.specs.declared.error.kind.ErrorKind.TheVariants.{OutOfMemory};
+ghost use Rattle.command_words.specs.Grammar.{IsMatched, IsUnmatched, is_plain, on_dialect, program};
+
+use clap::{Arg, ArgMatches, Command, Error};
+use std::alloc::{AllocError, Global};
+
+/// What is found in words of which none begins with `-`.
+///
+/// Fails with `OutOfMemory` for want of memory alone, and else exactly where the words are no command with the values that it needs.
+pub(crate) fn matches_of<'a>(alloc: Global, words: &'a [String]) -> Result<ArgMatches<'a>, Error>
+    requires { list_all is_plain (map string_bytes words.now) ≡ true }
+    ensures matched { IfOk result (λ m. IsMatched (map string_bytes words.now) (subcommand_rows_of m)) }
+    ensures fault { IfErr result (λ e. kind_of e ≢ OutOfMemory → IsUnmatched (map string_bytes words.now)) }
+{
+    program(alloc)?.try_get_matches_from(words)
+}
+
+/// The program: all words are its arguments, and it has neither options nor help.
+fn program<'a>(alloc: Global) -> Result<Command<'a>, AllocError>
+    ensures { IfOk result (λ made. app_of made ≡ program) }
+{
+    let station = Command::new(alloc, "station");
+    let decode = on_dialect(alloc, "decode")?;
+    let encode = on_dialect(alloc, "encode")?;
+    Command::new(alloc, "v2g_charge")
+        .no_binary_name(true)
+        .disable_help_flag(true)
+        .disable_help_subcommand(true)
+        .subcommand_required(true)
+        .subcommand(station)?
+        .subcommand(decode)?
+        .subcommand(encode)
+}
+
+/// A command with a dialect and a value.
+fn on_dialect<'a>(alloc: Global, name: &'a str) -> Result<Command<'a>, AllocError>
+    ensures shape { IfOk result (λ made. shape_of made ≡ on_dialect name.entry.now) }
+    ensures local { IfOk result (λ made. (out-Command made).has_globals ≡ false) }
+{
+    let dialect = Arg::new(alloc, "DIALECT").required(true);
+    let value = Arg::new(alloc, "VALUE").required(true);
+    Command::new(alloc, name).arg(dialect)?.arg(value)
+}

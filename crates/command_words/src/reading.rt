@@ -1,0 +1,82 @@
+//! A command, and how it is read.
+
+ghost use Rattle.std.specs.Prelude.{◌≡◌, ◌↔◌, IfOk, IfErr, option_map};
+ghost use Rattle.clap.specs.Words.{found_of, rows_of, subcommand_rows_of};
+ghost use Rattle.command_words.specs.Command.{HasWordsFault, IsCommand};
+ghost use Rattle.command_words.specs.Grammar.{app_value_of, told, words_of};
+
+use crate::grammar::matches_of;
+use crate::word_list::WordList;
+use clap::ArgMatches;
+use clap::error::ErrorKind;
+use std::alloc::Global;
+
+/// A command.
+#[derive(Clone, Copy)]
+pub enum Command<'a> {
+    /// Serves a station.
+    Station,
+    /// Prints the text of a payload of the negotiation.
+    Decode { hex: &'a str },
+    /// Prints the payload of a tree text of the negotiation.
+    Encode { text: &'a str },
+}
+
+/// Why no command was read.
+#[derive(Clone, Copy, Debug, PartialEq, Eq)]
+pub enum WordsFault {
+    /// The words are no command.
+    NoCommand,
+    /// Want of memory.
+    Memory,
+}
+
+/// The command that the words are.
+///
+/// `NoCommand` exactly where they are none, but for want of memory, which is `Memory`.
+pub fn read_words(alloc: Global, words: &WordList) -> Result<Command<'_>, WordsFault>
+    ensures command { IfOk result (IsCommand words.now) }
+    ensures fault { IfErr result (HasWordsFault words.now) }
+{
+    if !words.are_plain() {
+        return Err(WordsFault::NoCommand);
+    }
+    match matches_of(alloc, words.as_slice()) {
+        Ok(matches) => command_of(&matches).ok_or(WordsFault::NoCommand),
+        Err(error) => Err(fault_of(error.kind())),
+    }
+}
+
+/// The command that was found.
+fn command_of<'a>(matches: &ArgMatches<'a>) -> Option<Command<'a>>
+    ensures { option_map words_of result ≡ told (subcommand_rows_of matches.now) }
+{
+    let (name, values) = matches.subcommand()?;
+    match name {
+        "station" => Some(Command::Station),
+        "decode" => app_value(values).map(|hex| Command::Decode { hex }),
+        "encode" => app_value(values).map(|text| Command::Encode { text }),
+        _ => None,
+    }
+}
+
+/// The value of a command whose dialect is `app`.
+fn app_value<'a>(values: &ArgMatches<'a>) -> Option<&'a str>
+    ensures { option_map (λ value. value.now) result ≡ app_value_of (rows_of (found_of values.now)) }
+{
+    if values.get_str("DIALECT")? != "app" {
+        return None;
+    }
+    values.get_str("VALUE")
+}
+
+/// What an error of `clap` says of the words.
+fn fault_of(kind: ErrorKind) -> WordsFault
+    ensures memory { (result ≡ WordsFault.Memory) ↔ (kind ≡ ErrorKind.OutOfMemory) }
+{
+    if kind == ErrorKind::OutOfMemory {
+        WordsFault::Memory
+    } else {
+        WordsFault::NoCommand
+    }
+}
