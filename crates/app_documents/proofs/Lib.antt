@@ -7,3 +7,4 @@ pub mod Written
 pub mod Encoded
 pub mod OneMessage
 pub mod Agreeing
+pub mod Short

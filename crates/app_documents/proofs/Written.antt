@@ -1,5 +1,5 @@
 -- Values that are written, and how many bits they have at most.
-use Rattle.std.proofs.Common.{◌≡◌, ℕ, zero, suc, pos, ◌+◌, ◌-◌, ◌*◌, ◌/◌, ◌%◌, ◌<◌, ◌≤◌, nat_lt, Bool, true, false, if◌then◌else◌, List, [], ◌∷◌, ◌++◌, length, length-append, refl, ap, inl, inr, arith}
+use Rattle.std.proofs.Common.{◌≡◌, ℕ, zero, suc, pos, ◌+◌, ◌-◌, ◌*◌, ◌/◌, ◌%◌, ◌^◌, ◌<◌, ◌≤◌, nat_lt, Bool, true, false, if◌then◌else◌, List, [], ◌∷◌, ◌++◌, length, length-append, refl, ap, inl, inr, arith}
 use Rattle.exi_spec.specs.Bits.{number_bits}
 use Rattle.exi_spec.specs.Items.{octet, shortest_within, shortest_unsigned, shortest_chars}
 use Rattle.exi_spec.proofs.BitLaws.{length-number_bits}
@@ -36,23 +36,23 @@ octets_few (suc more) v =
 unsigned_few : (v : ℕ) → length (shortest_unsigned v) ≤ 80
 unsigned_few v = omega (arith, octets_few 9 v)
 
-pub code_written : (count code : ℕ) → code < count → count ≤ 256 → (bits : List Bool) × SpellsCode count code bits × (length bits ≤ 8)
-code_written count code below few =
+pub code_written : (count code width : ℕ) → code < count → count ≤ 2 ^ width → (bits : List Bool) × SpellsCode count code bits × (length bits ≤ width)
+code_written count code width below few =
     let w = index_width count in
-    (number_bits w.0 code, record { below = below; width = w.0; is_width = w.1; spelled = refl }, omega (arith, length-number_bits w.0 code, w.1.least 8 (omega (arith, few))))
+    (number_bits w.0 code, record { below = below; width = w.0; is_width = w.1; spelled = refl }, omega (arith, length-number_bits w.0 code, w.1.least width few))
 
 pub unsigned_written : (most n texts name : ℕ) (entries : Entries) → n ≤ most → length entries ≤ texts → IsWritten (WritesValue (datatype.Unsigned most) entries name (Number (pos n))) 80 texts
 unsigned_written most n texts name entries small few = (shortest_unsigned n, entries, (small, refl, refl), unsigned_few n, few)
 
 pub bounded_written : (least count n texts name : ℕ) (entries : Entries) → least ≤ n → n < least + count → count ≤ 256 → length entries ≤ texts → IsWritten (WritesValue (datatype.Bounded (pos least) count) entries name (Number (pos n))) 8 texts
 bounded_written least count n texts name entries low high small few =
-    let code = code_written count (n - least) (omega (arith, low, high)) small in
+    let code = code_written count (n - least) 8 (omega (arith, low, high)) (omega (arith, small)) in
     let is : n ≡ least + (n - least) = omega (arith, low) in
     (code.0, entries, ((n - least, ap pos is, code.1), refl), code.2, few)
 
-pub ordinal_written : (count n texts name : ℕ) (entries : Entries) → n < count → count ≤ 256 → length entries ≤ texts → IsWritten (WritesValue (datatype.Named count) entries name (Ordinal n)) 8 texts
-ordinal_written count n texts name entries below small few =
-    let code = code_written count n below small in
+pub ordinal_written : (count n width texts name : ℕ) (entries : Entries) → n < count → count ≤ 2 ^ width → length entries ≤ texts → IsWritten (WritesValue (datatype.Named count) entries name (Ordinal n)) width texts
+ordinal_written count n width texts name entries below small few =
+    let code = code_written count n width below small in
     (code.0, entries, (code.1, refl), code.2, few)
 
 -- ---- texts

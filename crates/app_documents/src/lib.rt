@@ -2,13 +2,13 @@
 //! its messages.
 #![tactic(auto)]
 
-ghost use Rattle.std.specs.Prelude.{◌≡◌, ℕ, ◌*◌, ◌≤◌, Bool, List, length};
+ghost use Rattle.std.specs.Prelude.{◌≡◌, ℕ, ◌*◌, ◌≤◌, Bool, List, length, Option};
 ghost use Rattle.exi_schema.specs.declared.schema.Schema.{Schema};
 ghost use Rattle.exi_documents.specs.Documents.{SpellsDocument};
 ghost use Rattle.exi_documents.specs.Trees.{Tree};
 ghost use Rattle.exi_documents.specs.Values.{SpellsValue, WritesValue};
 ghost use Rattle.app_schema.specs.Declarations.{IsNegotiation};
-ghost use Rattle.app_documents.specs.Trees.{Message, IsMessage, tree_of, number_of};
+ghost use Rattle.app_documents.specs.Trees.{Message, Response, IsMessage, tree_of, number_of};
 
 /// Each document of the negotiation is the tree of a request or of a response within its ranges.
 pub fn documents_are_messages()
@@ -20,6 +20,12 @@ pub fn documents_are_messages()
 pub fn messages_are_written()
     ensures { (s : Schema) → IsNegotiation s → (m : Message) → IsMessage m
         → (bits : List Bool) × SpellsDocument WritesValue s (number_of m) (tree_of m) bits × (length bits ≤ 8 * 32768) }
+{}
+
+/// What is written for a response has at most 28 bits.
+pub fn responses_are_short()
+    ensures { (s : Schema) → IsNegotiation s → (number code : ℕ) (schema : Option ℕ) (bits : List Bool)
+        → SpellsDocument WritesValue s number (tree_of (Response code schema)) bits → length bits ≤ 28 }
 {}
 
 /// A tree is that of one message.

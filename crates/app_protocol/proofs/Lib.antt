@@ -1,5 +1,4 @@
 pub mod Winners
-pub mod Responses
 pub mod Spelled
 pub mod Newest
 pub mod Folded
@@ -15,4 +14,5 @@ pub mod Encoded
 pub mod Named
 pub mod Consistency
 pub mod Texts
+pub mod Encodings
 pub mod Scanned

@@ -1,7 +1,5 @@
 -- The encoding of a text of the negotiation is that of a message, and a text at fault has none.
-use Rattle.std.proofs.Common.{◌≡◌, ℕ, ◌*◌, ◌≤◌, false, List, length, reverse, replicate, sym, ap, subst, ◌∙◌, ◌+◌, ◌⊎◌, inl, inr, arith, length-append}
-use Rattle.std.proofs.lemmas.List.{length-replicate}
-use Rattle.exi_spec.proofs.BitLaws.{length-bits_of}
+use Rattle.std.proofs.Common.{ℕ, ◌≤◌, List, length, reverse, ap, subst, ◌⊎◌, inl, inr, arith}
 use Rattle.exi_schema.specs.declared.schema.Schema.{Schema}
 use Rattle.exi_documents.specs.Documents.{IsEncoding}
 use Rattle.exi_documents.specs.Trees.{Tree, document_events}
@@ -16,13 +14,14 @@ use Rattle.tree_text.specs.Scans.{IsEncodedText, IsUnencoded, IsScanFault}
 use Rattle.tree_text.proofs.Sayings.{encoded_said}
 use Rattle.app_schema.specs.Declarations.{IsNegotiation}
 use Rattle.app_documents.specs.Trees.{Message, IsMessage, tree_of, number_of}
-use Rattle.app_documents.proofs.Agreeing.{document_moved, bounds_fit}
+use Rattle.app_documents.proofs.Agreeing.{bounds_fit}
 use Rattle.app_documents.proofs.Encoded.{message_encoded}
 use Rattle.app_documents.proofs.Shapes.{of_message}
 use Rattle.app_protocol.specs.Documents.{IsAppEncoding}
 use Rattle.app_protocol.specs.Scanning.{IsAppScanned, IsAppUnscanned, IsAppScanFault}
 use Rattle.app_protocol.proofs.Consistency.{is_consistent_negotiation}
 use Rattle.app_protocol.proofs.Encoded.{read_back}
+use Rattle.app_protocol.proofs.Encodings.{encoding_moved, encoding_long}
 use Rattle.app_protocol.proofs.Texts.{text_moved}
 
 pub message_scanned : (s : Schema) (text payload : List ℕ) → IsNegotiation s → IsEncodedText s text payload → IsAppScanned text payload
@@ -43,25 +42,12 @@ scan_fault_told s text negotiation Memory fault = tt {0}
 
 -- ---- a text at fault has no payload
 
-encoding_moved : (s t : Schema) (m : Message) (payload : List ℕ) → IsNegotiation s → IsNegotiation t → IsEncoding s (tree_of m) payload → IsEncoding t (tree_of m) payload
-encoding_moved s t m payload a b e =
-    record {
-      number = e.number;
-      bits = e.bits;
-      pad = e.pad;
-      spelled = document_moved WritesValue s t e.number (tree_of m) e.bits a b e.spelled;
-      few = e.few;
-      bits_are = e.bits_are;
-    }
-
 few_bytes : (s : Schema) (m : Message) (payload : List ℕ) → IsNegotiation s → IsMessage m → IsEncoding s (tree_of m) payload → length payload ≤ 65536
 few_bytes s m payload negotiation is e =
     let w = message_encoded s negotiation m is in
     let same = (document_once WritesValue value_once s e.number (number_of m) (tree_of m) e.bits w.0 e.spelled w.1).1 in
     let few = w.2 in
-    let long : 8 * length payload ≡ length e.bits + e.pad =
-    sym (length-bits_of payload) ∙ ap length e.bits_are ∙ length-append e.bits (replicate e.pad false) ∙ ap (λ (n : ℕ). length e.bits + n) (length-replicate e.pad false) in
-    omega (arith, long, few, ap length same, e.few)
+    omega (arith, encoding_long s (tree_of m) payload e, few, ap length same, e.few)
 
 none_there : (s : Schema) (tree : Tree) (text payload : List ℕ) (place : ℕ) → IsNegotiation s → IsTreeText s tree text → IsEncoding s tree payload → length payload ≤ 65536 →
     IsFault s text place ⊎ IsUnencoded s text place → ⊥

@@ -21,7 +21,7 @@ pub use printing::print;
 pub use reading::read_app;
 pub use scanning::scan;
 pub use tree_text::{PrintFault, ScanFault};
-pub use writing::{write_app, write_response};
+pub use writing::write_app;
 
 #[cfg(test)]
 mod payloads;

@@ -239,7 +239,7 @@ fn printed_texts_are_scanned_back(rt: HostRuntime) -> Result<(), Fail> {
 }
 
 #[test]
-fn responses_are_written(rt: HostRuntime) {
+fn responses_are_written(rt: HostRuntime) -> Result<(), Fail> {
     for (code, schema, bytes, len) in [
         (AppCode::Successful, Some(1), [0x80, 0x40, 0x00, 0x40], 4),
         (AppCode::Successful, Some(2), [0x80, 0x40, 0x00, 0x80], 4),
@@ -249,12 +249,15 @@ fn responses_are_written(rt: HostRuntime) {
             [0x80, 0x44, 0x00, 0x40],
             4,
         ),
-        (AppCode::Failed, None, [0x80, 0x48, 0x80, 0x00], 3),
+        (AppCode::Failed, None, [0x80, 0x48, 0x80, 0xff], 3),
     ] {
+        let mut table = Table::make(rt.alloc(), 8192)?;
+        let message = AppMessage::Res(response(code, schema));
         let mut room = [0xff; 4];
-        assert_eq!(rt; write_response(&AppRes { code, schema }, &mut room), len);
+        assert_eq!(rt; write_app(&message, &mut room, &mut table), Ok(len));
         assert_eq!(rt; room, bytes);
     }
+    Ok(())
 }
 
 #[test]

@@ -1,14 +1,13 @@
 //! The encoding of a message.
 
-ghost use Rattle.std.specs.Prelude.{◌≡◌, ◌-◌, ◌*◌, ◌<◌, ◌≤◌, ◌↔◌, length, take, drop, replicate, IfOk, IfErr, IsErr};
+ghost use Rattle.std.specs.Prelude.{◌≡◌, ◌*◌, ◌<◌, ◌≤◌, ◌↔◌, length, take, IfOk, IfErr, IsErr};
 ghost use Rattle.exi_documents.specs.Values.{most_entries};
 ghost use Rattle.app_schema.specs.Declarations.{IsNegotiation};
 ghost use Rattle.app_documents.specs.Trees.{IsMessage};
 ghost use Rattle.app_protocol.specs.Documents.{IsApp, IsAppEncoding, PassesBytes};
-ghost use Rattle.app_protocol.specs.Response.{response_bits, IsEncoding};
-ghost use Rattle.app_protocol.specs.Messages.{ordinal_of, message_of};
+ghost use Rattle.app_protocol.specs.Messages.{message_of};
 
-use crate::message::{AppCode, AppMessage, AppRes};
+use crate::message::AppMessage;
 use crate::putting::put_message;
 use crate::schema::{KINDS, NAMES, ROOTS, VALUES};
 use exi_bits::BitPen;
@@ -63,38 +62,4 @@ fn write_with(
     let mut standing = EventStanding::new();
     put_message(&mut standing, &mut pen, schema, table, message)?;
     Ok(pen.finish())
-}
-
-/// Writes the one encoding of a response (ISO 15118-2:2014, section 8.2) to the front of the room, and returns how many
-/// bytes it has: 3 without a SchemaID, and 4 with one. The room behind them is 0.
-pub fn write_response(response: &AppRes, room: &mut [u8; 4]) -> usize
-    ensures least { 3 ≤ result }
-    ensures most { result ≤ 4 }
-    ensures rest { drop result room.new ≡ replicate (4 - result) 0 }
-    ensures encoding { IsEncoding (response_bits response.now) (take result room.new) }
-{
-    // the header, then document 1, two codes 0, the ResponseCode and a code 0
-    let code = 0x40 + 4 * ordinal(response.code);
-    match response.schema {
-        None => {
-            *room = [0x80, code, 0x80, 0];
-            3
-        }
-        Some(schema) => {
-            *room = [0x80, code, schema / 4, schema % 4 * 64];
-            4
-        }
-    }
-}
-
-/// The place of a ResponseCode in its enumeration.
-fn ordinal(code: AppCode) -> u8
-    ensures place { result ≡ ordinal_of code }
-    ensures few { result ≤ 2 }
-{
-    match code {
-        AppCode::Successful => 0,
-        AppCode::MinorDeviation => 1,
-        AppCode::Failed => 2,
-    }
 }

@@ -4,19 +4,20 @@ use Rattle.charge_world.specs.declared.offer.Dialect.{Dialect}
 use Rattle.exi_documents.specs.declared.refusal.RefusalCause.{RefusalCause}
 use Rattle.app_documents.specs.Trees.{Offered, Request, Response}
 use Rattle.app_protocol.specs.declared.message.AppRes.{AppRes}
-use Rattle.app_protocol.specs.Documents.{IsApp, IsAppRefused}
+use Rattle.app_protocol.specs.declared.message.AppMessage.TheVariants.{Res}
+use Rattle.app_protocol.specs.Documents.{IsApp, IsAppEncoding, IsAppRefused}
+use Rattle.app_protocol.specs.Messages.{message_of}
 use Rattle.app_protocol.specs.Negotiation.{Negotiates}
-use Rattle.app_protocol.specs.Response.{response_bits, IsEncoding}
 use Rattle.session_spec.specs.Acts.{Judged, Answer, Refused, WrongSide}
 
--- the payload is a request, and this is the encoding of the response to it
+-- the payload is a request, and this is the one encoding of the response to it
 pub record Answers (offer : List Dialect) (payload reply : List ℕ) (matched : Bool) : Type 0 where
   pub protocols : List Offered
   pub response : AppRes
   pub dialect : Option Dialect
   pub spelled : IsApp (Request protocols) payload
   pub negotiated : Negotiates offer protocols response dialect
-  pub encoded : IsEncoding (response_bits response) reply
+  pub encoded : IsAppEncoding (message_of (Res response)) reply
   pub matched_is : matched ≡ is_some dialect
 
 -- the payload is a response

@@ -1,15 +1,13 @@
 //! What the station makes of the first payload of a session.
 
-ghost use Rattle.std.specs.Prelude.{◌≡◌, ◌≤◌, ℕ, List, length, IfOk, IfErr};
+ghost use Rattle.std.specs.Prelude.{◌≡◌, ◌≤◌, ℕ, List, length, take, IfOk, IfErr};
 ghost use Rattle.v2gtp_frames.specs.Frames.{frame};
-ghost use Rattle.app_protocol.specs.Documents.{IsApp, IsAppRefused};
+ghost use Rattle.app_protocol.specs.declared.message.AppMessage.TheVariants.{Res};
+ghost use Rattle.app_protocol.specs.Documents.{IsApp, IsAppEncoding, IsAppRefused};
 ghost use Rattle.app_protocol.specs.Messages.{message_of};
-ghost use Rattle.app_protocol.specs.Response.{response_bits, IsEncoding};
 ghost use Rattle.site_core.specs.Replies.{IsJudged};
 
-use app_protocol::{
-    AppMessage, AppRes, Offer, Refusal, Table, negotiate, read_app, write_response,
-};
+use app_protocol::{AppMessage, AppRes, Offer, Refusal, Table, negotiate, read_app, write_app};
 use arrayvec::ArrayVec;
 use charge_world::NoMemory;
 use std::alloc::Global;
@@ -32,7 +30,7 @@ pub enum Unanswered {
     NoRequest,
 }
 
-/// Reads the messages of the negotiation, with a string table of its own.
+/// Reads and writes the messages of the negotiation, with a string table of its own.
 #[derive(Drop)]
 pub struct Messages {
     table: Table,
@@ -65,6 +63,14 @@ impl Messages {
     {
         read_app(payload, &mut self.table)
     }
+
+    /// Writes the encoding of a response to the front of a room, which it never passes, and returns how many bytes it has.
+    fn write(&mut self, response: AppRes, room: &mut [u8; 4]) -> u32
+        ensures within { result ≤ 4 }
+        ensures written { IsAppEncoding (message_of (Res response)) (take result room.new) }
+    {
+        write_app(&AppMessage::Res(response), room, &mut self.table).unwrap()
+    }
 }
 
 /// The reply to a payload that comes first.
@@ -78,7 +84,7 @@ pub fn reply_to(payload: &[u8], offer: &Offer, messages: &mut Messages) -> Resul
         Ok(AppMessage::Req(request)) => {
             let (response, dialect) = negotiate(&request, offer);
             Ok(Reply {
-                bytes: framed(&response),
+                bytes: framed(response, messages),
                 matched: dialect.is_some(),
             })
         }
@@ -86,15 +92,13 @@ pub fn reply_to(payload: &[u8], offer: &Offer, messages: &mut Messages) -> Resul
 }
 
 /// The frame of the response's encoding.
-fn framed(response: &AppRes) -> ArrayVec<u8, 12>
-    ensures { (text : List ℕ) × IsEncoding (response_bits response.now) text × (result.items ≡ frame text) }
+fn framed(response: AppRes, messages: &mut Messages) -> ArrayVec<u8, 12>
+    ensures { (text : List ℕ) × IsAppEncoding (message_of (Res response)) text × (result.items ≡ frame text) }
 {
     let mut room = [0u8; 4];
-    let n = write_response(response, &mut room);
+    let n = messages.write(response, &mut room);
     let mut bytes = ArrayVec::new();
-    bytes
-        .try_extend_from_slice(&put_frame(0x8001, n as u32))
-        .unwrap();
-    bytes.try_extend_from_slice(&room[..n]).unwrap();
+    bytes.try_extend_from_slice(&put_frame(0x8001, n)).unwrap();
+    bytes.try_extend_from_slice(&room[..n as usize]).unwrap();
     bytes
 }

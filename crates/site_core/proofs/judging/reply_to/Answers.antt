@@ -1,1 +1,0 @@
-use Rattle.site_core.proofs.judging.reply_to.Goals as goal
