@@ -5,7 +5,7 @@ use Rattle.exi_documents.specs.Documents.{SpellsDocument}
 use Rattle.exi_documents.specs.Values.{WritesValue}
 use Rattle.document_laws.proofs.Encodings.{document_once, document_spelled}
 use Rattle.document_laws.proofs.Written.{value_once}
-use Rattle.app_documents.specs.Declarations.{IsNegotiation}
+use Rattle.app_schema.specs.Declarations.{IsNegotiation}
 use Rattle.app_documents.specs.Trees.{Message, Response, IsMessage, tree_of}
 use Rattle.app_documents.proofs.Agreeing.{bounds_fit}
 use Rattle.app_documents.proofs.Encoded.{response_encoded}

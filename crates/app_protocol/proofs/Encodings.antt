@@ -8,7 +8,7 @@ use Rattle.exi_documents.specs.Trees.{Tree}
 use Rattle.exi_documents.specs.Values.{WritesValue}
 use Rattle.document_laws.specs.Laws.{AreBytes}
 use Rattle.document_laws.proofs.Encodings as laws
-use Rattle.app_documents.specs.Declarations.{IsNegotiation}
+use Rattle.app_schema.specs.Declarations.{IsNegotiation}
 use Rattle.app_documents.specs.Trees.{Message, Response, tree_of}
 use Rattle.app_documents.proofs.Agreeing.{document_moved}
 use Rattle.app_documents.proofs.Short.{response_short}

@@ -5,5 +5,4 @@ pub use Rattle.site_core.specs.Serving
 pub mod ReportLine
 pub mod FaultLines
 pub mod HexText
-pub mod Command
 pub mod Runs

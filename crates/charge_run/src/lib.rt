@@ -11,8 +11,7 @@ mod report;
 mod station;
 mod status;
 mod top;
-mod words;
 
+pub use command_words::WordList;
 pub use status::Status;
 pub use top::run;
-pub use words::WordList;

@@ -7,7 +7,7 @@ ghost use Rattle.site_core.specs.Judging.{Judges};
 ghost use Rattle.site_core.specs.Serving.{Carries, Reports};
 ghost use Rattle.site_core.specs.declared.report.PostReport.{PostReport};
 ghost use Rattle.app_protocol.specs.Scanning.{IsAppUnscanned};
-ghost use Rattle.charge_run.specs.Command.{IsStation, IsDecode, IsEncode, IsNoCommand};
+ghost use Rattle.command_words.specs.Command.{IsStation, IsDecode, IsEncode, IsNoCommand};
 ghost use Rattle.charge_run.specs.FaultLines.{Tells, words_line};
 ghost use Rattle.charge_run.specs.Runs.{both_dialects, Ran, Outputs, Decodes, IsDecodeFault, Encodes};
 
@@ -16,8 +16,8 @@ use crate::encode::encode;
 use crate::fault::tell_fault;
 use crate::station::station;
 use crate::status::Status;
-use crate::words::{Command, WordList, command_of};
 use charge_world::{Sink, Source, Wire};
+use command_words::{Command, WordList, WordsFault, read_words};
 use std::alloc::Global;
 
 /// Does all that the program does. The words are one command:
@@ -43,9 +43,9 @@ pub fn run<F: Source, K: Sink, J: Sink, W: Wire>(
     trace: &mut J,
     wire: &mut W,
 ) -> Status
-    // Exactly where the words are no command.
+    // Exactly where the words are no command, but for want of memory.
     ensures words { result ≡ Status.Words → IsNoCommand words.now }
-    ensures other_words { IsNoCommand words.now → result ≡ Status.Words }
+    ensures other_words { IsNoCommand words.now → (result ≡ Status.Words) ⊎ (result ≡ Status.NoMemory) }
     ensures words_line { result ≡ Status.Words → Tells (K.taken out.old) (K.taken out.new) (K.faults out.old) (K.faults out.new) words_line }
 
     // `station`: the past is a run of the site, and has the status's cause.
@@ -86,13 +86,14 @@ pub fn run<F: Source, K: Sink, J: Sink, W: Wire>(
 {
     let _ = files;
     let _ = trace;
-    match command_of(words) {
-        Some(Command::Station) => station(alloc, out, wire),
-        Some(Command::Decode { hex }) => decode(alloc, hex, out),
-        Some(Command::Encode { text }) => encode(alloc, text, out),
-        None => {
+    match read_words(alloc, words) {
+        Ok(Command::Station) => station(alloc, out, wire),
+        Ok(Command::Decode { hex }) => decode(alloc, hex, out),
+        Ok(Command::Encode { text }) => encode(alloc, text, out),
+        Err(WordsFault::NoCommand) => {
             tell_fault(out, b"words\n");
             Status::Words
         }
+        Err(WordsFault::Memory) => Status::NoMemory,
     }
 }

@@ -1,15 +1,16 @@
 -- What `clap` makes of the first word.
-use Rattle.std.proofs.Common.{◌≡◌, ◌==◌, ℕ, Bool, true, false, List, [], ◌∷◌, ◌++◌, Option, Some, None, codes, refl, sym, ap, ◌∙◌}
+use Rattle.std.proofs.Common.{◌≡◌, true, false, List, [], ◌∷◌, Some, codes, refl, sym}
+use Rattle.std.specs.List.{fold}
 use Rattle.std.specs.Str.{bytes_eq}
-use Rattle.clap.specs.Walk.{Row, Rule, Text, nothing_held, rows_after, walk_from}
+use Rattle.clap.specs.Walk.{Names, Text, Walk, nothing_held, walk_from, walked}
 use Rattle.clap.specs.Simple.{Shape, built, is_simple, names_of, subcommand_of}
 use Rattle.clap.specs.Kinds.{Kinds, or_else}
-use Rattle.clap.specs.Faults.{fault_of, is_simple_and_free}
+use Rattle.clap.specs.Faults.{fault_of, is_simple_and_free, walk_fault}
 use Rattle.clap.specs.declared.error.kind.ErrorKind.TheVariants.{InvalidSubcommand, MissingSubcommand, UnknownArgument}
 use Rattle.clap.proofs.FaultLemmas.{stopped_fault}
 use Rattle.clap.proofs.WalkLemmas.{walk_stopped}
 use Rattle.clap.proofs.OnLiterals.{clap_on_literals}
-use Rattle.command_words.specs.Grammar.{bare, found, on_dialect, program}
+use Rattle.command_words.specs.Grammar.{bare, on_dialect, program}
 use Rattle.command_words.proofs.Leaves.{IsPlain, fault_below, rows_below}
 
 pub simple_and_free : is_simple_and_free program ≡ true
@@ -44,27 +45,34 @@ shape_of station = bare (codes "station")
 shape_of decode = on_dialect (codes "decode")
 shape_of encode = on_dialect (codes "encode")
 
+-- the walk, and its faults, once it has met the command of that name
+abbrev met : Text → Walk
+met name = record (walk_from nothing_held) { stopped = Some (name, []) }
+
+abbrev top : Shape
+top = (built program).top
+
+abbrev names : Names
+names = names_of (built program)
+
+walks_on : (name : Text) (rest : List Text) → fold (walked top.rules names) (met name) rest ≡ record (walk_from nothing_held) { stopped = Some (name, rest) }
+walks_on name rest = sym (walk_stopped top.rules names (walk_from nothing_held) name [] rest)
+
+no_more_faults : (name : Text) (rest : List Text) → walk_fault top names (met name) rest ≡ []
+no_more_faults name rest = stopped_fault top names (walk_from nothing_held) (name, []) rest
+
 -- a command's name enters the command
 pub enters_fault : (n : Named) (rest : List Text) → fault_of program (name_of n ∷ rest) ≡ fault_below (shape_of n) rest
 unfolding clap_on_literals
-enters_fault station rest =
-    let top = (built program).top in
-    let names = names_of (built program) in
-    rw (← walk_stopped top.rules names (walk_from nothing_held) (codes "station") [] rest, stopped_fault top names (walk_from nothing_held) (codes "station", []) rest) (or_else_nothing _)
-enters_fault decode rest =
-    let top = (built program).top in
-    let names = names_of (built program) in
-    rw (← walk_stopped top.rules names (walk_from nothing_held) (codes "decode") [] rest, stopped_fault top names (walk_from nothing_held) (codes "decode", []) rest) (or_else_nothing _)
-enters_fault encode rest =
-    let top = (built program).top in
-    let names = names_of (built program) in
-    rw (← walk_stopped top.rules names (walk_from nothing_held) (codes "encode") [] rest, stopped_fault top names (walk_from nothing_held) (codes "encode", []) rest) (or_else_nothing _)
+enters_fault station rest = rw (walks_on (name_of station) rest, no_more_faults (name_of station) rest) (or_else_nothing _)
+enters_fault decode rest = rw (walks_on (name_of decode) rest, no_more_faults (name_of decode) rest) (or_else_nothing _)
+enters_fault encode rest = rw (walks_on (name_of encode) rest, no_more_faults (name_of encode) rest) (or_else_nothing _)
 
 pub enters_rows : (n : Named) (rest : List Text) → subcommand_of program (name_of n ∷ rest) ≡ Some (name_of n, rows_below (shape_of n) rest)
 unfolding clap_on_literals
-enters_rows station rest = rw (← walk_stopped (built program).top.rules (names_of (built program)) (walk_from nothing_held) (codes "station") [] rest) refl
-enters_rows decode rest = rw (← walk_stopped (built program).top.rules (names_of (built program)) (walk_from nothing_held) (codes "decode") [] rest) refl
-enters_rows encode rest = rw (← walk_stopped (built program).top.rules (names_of (built program)) (walk_from nothing_held) (codes "encode") [] rest) refl
+enters_rows station rest = rw (walks_on (name_of station) rest) refl
+enters_rows decode rest = rw (walks_on (name_of decode) rest) refl
+enters_rows encode rest = rw (walks_on (name_of encode) rest) refl
 
 -- another word is refused
 pub other_word : (w : Text) (rest : List Text) → IsPlain w → bytes_eq (codes "station") w ≡ false → bytes_eq (codes "decode") w ≡ false → bytes_eq (codes "encode") w ≡ false →

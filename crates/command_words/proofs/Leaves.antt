@@ -1,15 +1,16 @@
 -- What `clap` makes of the words behind a command's name, of which none begins with `-`.
-use Rattle.std.proofs.Common.{◌≡◌, ◌==◌, ℕ, Bool, true, false, List, [], ◌∷◌, ◌++◌, Option, Some, None, codes, refl, sym, ap, ◌∙◌}
+use Rattle.std.proofs.Common.{◌≡◌, ◌==◌, true, false, List, [], ◌∷◌, None, refl}
 use Rattle.std.specs.Str.{bytes_eq}
 use Rattle.clap.specs.Lexer.{long_of, short_of}
-use Rattle.clap.specs.Walk.{Row, Rule, Text, nothing_held, rows_after}
+use Rattle.clap.specs.Walk.{Row, Text, nothing_held, rows_after}
 use Rattle.clap.specs.Simple.{Shape, built_leaf, inherited, marked_built, with_leaf_noted}
 use Rattle.clap.specs.Kinds.{Kinds}
 use Rattle.clap.specs.Faults.{level_fault}
 use Rattle.clap.specs.declared.error.kind.ErrorKind.TheVariants.{MissingRequiredArgument, UnknownArgument}
 use Rattle.clap.proofs.SimpleLemmas.{is_false}
 use Rattle.clap.proofs.OnLiterals.{clap_on_literals}
-use Rattle.command_words.specs.Grammar.{bare, found, is_plain, on_dialect, program}
+use Rattle.command_words.specs.Command.{is_plain}
+use Rattle.command_words.specs.Grammar.{bare, found, on_dialect, program}
 
 -- a word that is read as no option
 pub record IsPlain (word : Text) : Type 0 where

@@ -1,15 +1,15 @@
 -- Words of which none begins with `-` are a command with the values that it needs, or have a fault.
-use Rattle.std.proofs.Common.{◌≡◌, ◌∙◌, ◌⊎◌, inl, inr, ⊎_elim, ℕ, Bool, true, false, List, [], ◌∷◌, Option, Some, codes, refl, sym, ap, subst, arith}
-use Rattle.std.specs.Bool.{Decides}
+use Rattle.std.proofs.Common.{◌≡◌, ◌∙◌, ◌⊎◌, inl, inr, ⊎_elim, Bool, true, false, List, [], ◌∷◌, Some, refl, sym, ap, subst}
 use Rattle.std.specs.List.{list_all}
 use Rattle.std.specs.Str.{bytes_eq}
 use Rattle.std.proofs.lemmas.Slice.Eq.{bytes_eq-Decides}
-use Rattle.clap.specs.Walk.{Row, Text}
-use Rattle.clap.specs.Simple.{Shape, subcommand_of}
+use Rattle.clap.specs.Walk.{Text}
+use Rattle.clap.specs.Simple.{subcommand_of}
 use Rattle.clap.specs.Kinds.{Kinds}
 use Rattle.clap.specs.Faults.{fault_of}
 use Rattle.clap.proofs.WalkLemmas.{both}
-use Rattle.command_words.specs.Grammar.{IsMatched, IsOnDialect, IsUnmatched, is_plain, on_dialect, program}
+use Rattle.command_words.specs.Command.{is_plain}
+use Rattle.command_words.specs.Grammar.{IsMatched, IsOnDialect, IsUnmatched, on_dialect, program}
 use Rattle.command_words.proofs.Leaves.{bare_more, bare_passes, bare_rows, fault_below, plain, rows_below, two_more, two_none, two_one, two_pass, two_rows}
 use Rattle.command_words.proofs.Entered.{Named, decode, encode, enters_fault, enters_rows, name_of, no_word, other_word, shape_of, station}
 

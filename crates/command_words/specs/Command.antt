@@ -1,5 +1,5 @@
 -- Own: the words of the program's commands. A word that begins with `-` is in none.
-use Rattle.std.specs.Prelude.{◌≡◌, ℕ, List, [], ◌∷◌, ◌++◌, codes}
+use Rattle.std.specs.Prelude.{◌≡◌, ◌==◌, ℕ, Bool, not, true, List, [], ◌∷◌, codes}
 use Rattle.command_words.specs.declared.reading.Command.{Command}
 use Rattle.command_words.specs.declared.reading.Command.TheVariants.{Station, Decode, Encode}
 use Rattle.command_words.specs.declared.reading.WordsFault.{WordsFault}
@@ -9,14 +9,15 @@ use Rattle.command_words.specs.declared.reading.WordsFault.TheVariants.{NoComman
 abbrev pub IsStation : List (List ℕ) → Type 0
 IsStation words = words ≡ codes "station" ∷ []
 
--- a word that begins with no `-`
-abbrev pub IsPlainWord : List ℕ → Type 0
-IsPlainWord word = (rest : List ℕ) → word ≡ codes "-" ++ rest → ⊥
+-- the word does not begin with `-` (45)
+abbrev pub is_plain : List ℕ → Bool
+is_plain [] = true
+is_plain (byte ∷ rest) = not (byte == 45)
 
 -- a command, the word `app`, and a value
 pub record IsApplied (command : List ℕ) (words : List (List ℕ)) (value : List ℕ) : Type 0 where
   pub words_are : words ≡ command ∷ codes "app" ∷ value ∷ []
-  pub plain : IsPlainWord value
+  pub plain : is_plain value ≡ true
 
 -- `decode app HEX`: prints the tree text of a payload of the negotiation
 abbrev pub IsDecode : List (List ℕ) → List ℕ → Type 0

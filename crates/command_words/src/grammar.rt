@@ -5,7 +5,8 @@ ghost use Rattle.std.specs.List.{list_all};
 ghost use Rattle.clap.specs.Words.{app_of, kind_of, shape_of, subcommand_rows_of};
 ghost use Rattle.clap.specs.declared.builder.command.Command.TheViews.{out-Command};
 ghost use Rattle.clap.specs.declared.error.kind.ErrorKind.TheVariants.{OutOfMemory};
-ghost use Rattle.command_words.specs.Grammar.{IsMatched, IsUnmatched, is_plain, on_dialect, program};
+ghost use Rattle.command_words.specs.Command.{is_plain};
+ghost use Rattle.command_words.specs.Grammar.{IsMatched, IsUnmatched, on_dialect, program};
 
 use clap::{Arg, ArgMatches, Command, Error};
 use std::alloc::{AllocError, Global};

@@ -7,3 +7,6 @@ mod word_list;
 
 pub use reading::{Command, WordsFault, read_words};
 pub use word_list::WordList;
+
+#[cfg(test)]
+mod tests;

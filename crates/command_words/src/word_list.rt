@@ -3,7 +3,7 @@
 ghost use Rattle.std.specs.Prelude.{◌≡◌, ◌↔◌, length, map, string_bytes, IsTrue, slice_get};
 ghost use Rattle.std.specs.Option.{option_copied};
 ghost use Rattle.std.specs.List.{list_all};
-ghost use Rattle.command_words.specs.Grammar.{is_plain};
+ghost use Rattle.command_words.specs.Command.{is_plain};
 
 use std::marker::Model;
 

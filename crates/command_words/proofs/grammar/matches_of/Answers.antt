@@ -1,6 +1,5 @@
-use Rattle.std.proofs.Common.{◌≡◌, ◌∙◌, ◌≢◌, ⊎_elim, ap, map, string_bytes, List, ◌∷◌, [], ℕ, Result, Ok, Err, IfOk, IfErr, sym, subst, true, ◌⊎◌, inl, inr}
-use Rattle.std.specs.List.{list_all}
-use Rattle.clap.specs.Words.{App, FailsBy, HasKind, HasMatchesOf, IsAmong, Kinds, app_of, is_simple, kind_of, subcommand_of, subcommand_rows_of}
+use Rattle.std.proofs.Common.{◌≡◌, ◌≢◌, ⊎_elim, map, string_bytes, List, ◌∷◌, [], ℕ, Result, Ok, Err, IfOk, IfErr, sym, subst, true}
+use Rattle.clap.specs.Words.{App, FailsBy, HasMatchesOf, IsAmong, Kinds, kind_of, subcommand_rows_of}
 use Rattle.clap.specs.Faults.{fault_of, is_simple_and_free}
 use Rattle.clap.specs.declared.error.Error.{Error}
 use Rattle.clap.specs.declared.error.kind.ErrorKind.{ErrorKind}

@@ -1,7 +1,7 @@
-use Rattle.std.proofs.Common.{◌≡◌, ◌∙◌, ap, ap₂, rules, codes, true, false, []}
+use Rattle.std.proofs.Common.{◌≡◌, ◌∙◌, ap, ap₂, rules, codes, true, []}
 use Rattle.std.proofs.lemmas.Result.{IfOk-weaker}
-use Rattle.clap.specs.Words.{App, Shape, app_of, new_app, shape_of, with_subcommand}
-use Rattle.command_words.specs.Grammar.{bare, on_dialect, program}
+use Rattle.clap.specs.Words.{App, app_of, shape_of, with_subcommand}
+use Rattle.command_words.specs.Grammar.{bare, program}
 use Rattle.command_words.proofs.grammar.program.Goals as goal
 
 -- the program, before it has commands

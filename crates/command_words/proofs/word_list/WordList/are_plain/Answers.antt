@@ -1,9 +1,9 @@
-use Rattle.std.proofs.Common.{◌≡◌, ◌∙◌, sym, ap, map, List, ℕ, rules, tests, string_bytes}
+use Rattle.std.proofs.Common.{◌≡◌, ◌∙◌, sym, ap, map, rules, tests, string_bytes}
 use Rattle.std.specs.List.{list_all}
 use Rattle.std.proofs.lemmas.Iterator.{YieldsList-from_slice}
 use Rattle.std.proofs.lemmas.Iterator.Search.{all_from_yields_List}
 use Rattle.std.proofs.lemmas.List.Folds.{list_all-map}
-use Rattle.command_words.specs.Grammar.{is_plain}
+use Rattle.command_words.specs.Command.{is_plain}
 use Rattle.command_words.proofs.word_list.WordList.are_plain.Goals as goal
 
 pub returns : goal.returns

@@ -1,0 +1,97 @@
+use crate::{Command, WordList, WordsFault, read_words};
+use std::alloc::{AllocError, Global};
+use std::test::*;
+
+fn list_of(alloc: Global, texts: &[&str]) -> Result<WordList, AllocError> {
+    let mut words = Vec::new(alloc);
+    for text in texts {
+        words.push(String::from_str(alloc, text)?)?;
+    }
+    Ok(WordList::of(words))
+}
+
+#[test]
+fn commands_are_read(rt: HostRuntime) -> Result<(), Fail> {
+    let alloc = rt.alloc();
+    let station = list_of(alloc, &["station"])?;
+    assert!(rt; matches!(&read_words(alloc, &station), Ok(Command::Station)));
+    for hex in ["80400040", "", "app", "decode", "8-", "=", "é"] {
+        let words = list_of(alloc, &["decode", "app", hex])?;
+        let Ok(Command::Decode { hex: read }) = read_words(alloc, &words) else {
+            return Err(Fail::from("no decode"));
+        };
+        assert_eq!(rt; read, hex);
+    }
+    for text in ["a{b=1 c=2}", "", "encode", "{-}"] {
+        let words = list_of(alloc, &["encode", "app", text])?;
+        let Ok(Command::Encode { text: read }) = read_words(alloc, &words) else {
+            return Err(Fail::from("no encode"));
+        };
+        assert_eq!(rt; read, text);
+    }
+    Ok(())
+}
+
+#[test]
+fn other_words_are_refused(rt: HostRuntime) -> Result<(), Fail> {
+    let table: [&[&str]; 34] = [
+        // no word, and no command's name
+        &[],
+        &[""],
+        &["", "app", "80"],
+        &["Station"],
+        &["stations"],
+        &["stat"],
+        &[" station"],
+        &["v2g_charge"],
+        &["v2g_charge", "station"],
+        &["80", "app", "decode"],
+        // there is no help
+        &["help"],
+        &["help", "decode"],
+        &["station", "help"],
+        &["-h"],
+        &["--help"],
+        &["--version"],
+        // a value is missing
+        &["decode"],
+        &["decode", "app"],
+        &["encode"],
+        &["encode", "app"],
+        // a word too many
+        &["station", "app"],
+        &["station", ""],
+        &["station", "station"],
+        &["decode", "app", "80", ""],
+        &["encode", "app", "a", "b", "c"],
+        // no dialect
+        &["decode", "", "80"],
+        &["decode", "APP", "80"],
+        &["encode", "appp", "a"],
+        // `-` begins a word
+        &["-", "app", "80"],
+        &["--", "station"],
+        &["decode", "-app", "80"],
+        &["decode", "--", "app", "80"],
+        &["decode", "app", "-80"],
+        &["encode", "app", "--"],
+    ];
+    for texts in table {
+        let words = list_of(rt.alloc(), texts)?;
+        let read = read_words(rt.alloc(), &words);
+        assert!(rt; matches!(&read, Err(WordsFault::NoCommand)));
+    }
+    Ok(())
+}
+
+#[test]
+fn words_stand_in_their_order(rt: HostRuntime) -> Result<(), Fail> {
+    let words = list_of(rt.alloc(), &["a", ""])?;
+    assert_eq!(rt; words.len(), 2);
+    assert!(rt; !words.is_empty());
+    assert_eq!(rt; words.get(0), Some("a"));
+    assert_eq!(rt; words.get(1), Some(""));
+    assert_eq!(rt; words.get(2), None);
+    assert!(rt; list_of(rt.alloc(), &[])?.is_empty());
+    Ok(())
+}
