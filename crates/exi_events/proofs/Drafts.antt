@@ -1,5 +1,5 @@
 -- A document as far as it is written, by a pen and by a writer.
-use Rattle.std.proofs.Common.{◌≡◌, ℕ, Bool, false, List, ◌∷◌, take, replicate, Result, sym, ap, ap₂, subst, ◌∙◌, Option, Some, None, OnOk}
+use Rattle.std.proofs.Common.{◌≡◌, ℕ, Bool, false, List, ◌∷◌, take, replicate, Result, sym, ap, ap₂, subst, ◌∙◌, Option, Some, OnOk}
 use Rattle.std.proofs.lemmas.Result.{IfOk-weaker}
 use Rattle.exi_spec.specs.Bits.{bits_of}
 use Rattle.exi_bits.specs.Pens.{written_bits, Writes}
