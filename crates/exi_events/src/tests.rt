@@ -3,7 +3,7 @@
 ghost use Rattle.std.specs.Prelude.{◌≡◌, ◌≤◌, length, Some, IfErr};
 ghost use Rattle.exi_documents.specs.Values.{most_entries};
 ghost use Rattle.exi_events.specs.Reader.{IsReady};
-ghost use Rattle.exi_events.specs.Writer.{IsShapedEvent, IsReadyToPut};
+ghost use Rattle.exi_events.specs.Writer.{IsShapedEvent, IsReadyToPut, KeepsLent};
 
 use crate::negotiation::{longer_negotiation, negotiation};
 use crate::{Event, EventReader, EventWriter, Full, Refusal, RefusalCause, Table, Value};
@@ -203,8 +203,7 @@ fn put_next<P: Places>(
 ) -> Result<(), Full>
     requires { IsReadyToPut writer.old }
     ensures ready { IsReadyToPut writer.new }
-    ensures same_table { writer.new.table.ghost_name ≡ writer.old.table.ghost_name }
-    ensures same_room { writer.new.room.ghost_name ≡ writer.old.room.ghost_name }
+    ensures lent { KeepsLent writer.old writer.new }
     ensures full { IfErr result (λ full. writer.new.full ≡ Some full) }
 {
     let event = event_of(told);
