@@ -6,7 +6,7 @@ use Rattle.app_protocol.proofs.Telling.{tells_schema}
 use Rattle.app_protocol.proofs.putting.put_schema.Goals as goal
 
 pub put_number-requires-clause-may : goal.put_number-requires-clause-may
-put_number-requires-clause-may c = subst (λ (l : List Event). MayPut c.args.writer.now.places.now (draft_of c.args.writer.now) l) (sym (tells_schema c.args.schema_id c.in-Some.schema_id c.from.result c.in-Some.is c.from.ensures)) c.requires.may
+put_number-requires-clause-may c = subst (λ (l : List Event). MayPut c.args.writer.now.places.now (draft_of c.args.writer.now).state l) (sym (tells_schema c.args.schema_id c.in-Some.schema_id c.from.result c.in-Some.is c.from.ensures)) c.requires.may
 
 pub returns-in-Some-clause-put : goal.returns-in-Some-clause-put
 returns-in-Some-clause-put c =
