@@ -1,22 +1,12 @@
 -- A message that is put by its events is encoded.
-use Rattle.std.proofs.Common.{◌≡◌, ℕ, Bool, List, [], ◌++◌, length, reverse, refl, sym, ap, ap₂, subst, ◌∙◌, arith}
+use Rattle.std.proofs.Common.{◌≡◌, ℕ, ◌*◌, ◌≤◌, Bool, List, [], ◌++◌, length, reverse, refl, sym, ap, subst, ◌∙◌, arith}
 use Rattle.std.proofs.lemmas.List.{reverse-reverse}
-use Rattle.exi_bits.specs.Pens.{written_bits}
-use Rattle.exi_bits.specs.declared.pen.BitPen.{BitPen}
 use Rattle.exi_schema.specs.declared.schema.Schema.{Schema}
 use Rattle.exi_documents.specs.Documents.{IsEncoding, SpellsDocument}
-use Rattle.exi_documents.specs.Grammar.{Opened, State, Behind, start, stands}
+use Rattle.exi_documents.specs.Grammar.{State, Behind, start, stands}
 use Rattle.exi_documents.specs.Trees.{Tree, Event, document_events}
-use Rattle.exi_documents.specs.Values.{WritesValue, most_entries}
-use Rattle.exi_bits.specs.Written.{HoldsBits}
-use Rattle.exi_bits.specs.declared.span.SpanAt.{SpanAt}
-use Rattle.exi_strings.specs.Table.{Table}
-use Rattle.exi_events.specs.declared.reader.Phase.{Phase}
-use Rattle.exi_events.specs.declared.reader.Phase.TheVariants as phases
-use Rattle.exi_events.specs.Reader.{state_of, IsReady}
-use Rattle.exi_events.specs.Writer.{HasPut, IsWritten}
-use Rattle.exi_events.proofs.Finished.{written_all}
-use Rattle.exi_writing.proofs.Pens.{had_room}
+use Rattle.exi_documents.specs.Values.{WritesValue}
+use Rattle.exi_events.specs.Writer.{Draft, HasPut, IsWritten}
 use Rattle.document_laws.proofs.Apart.{documents_apart}
 use Rattle.document_laws.proofs.Encodings.{encoding_spelled, document_once}
 use Rattle.document_laws.proofs.Runs.{document_runs, from_start}
@@ -57,59 +47,49 @@ module _ (s : Schema) (negotiation : IsNegotiation s) (m : Message) (is : IsMess
   once : (new : State) (bits : List Bool) → Goes s start (message_events m) bits new → (bits ≡ all_bits) × (new ≡ behind)
   once new bits g = goes_once s start new behind (message_events m) bits all_bits (tt {0}) g goes
 
-  encoded_here : (new : State) (bits : List Bool) (payload : List ℕ) → Goes s start (message_events m) bits new →
-      ((events : List Event) → HasPut s events new bits → new.standing ≡ Behind → IsWritten s events payload) → IsAppEncoding m payload
-  encoded_here new bits payload g ends =
-      let put : HasPut s (reverse (message_events m)) new bits = from_start WritesValue s new (message_events m) bits (goes_runs s start new (message_events m) bits g) in
-      let last : new.standing ≡ Behind = ap (λ (state : State). state.standing) (once new bits g).1 ∙ behind_stands in
+  encoded_here : (b : Draft) (payload : List ℕ) → Goes s start (message_events m) b.bits b.state →
+      ((events : List Event) → HasPut s events b → b.state.standing ≡ Behind → IsWritten s events payload) → IsAppEncoding m payload
+  encoded_here b payload g ends =
+      let put : HasPut s (reverse (message_events m)) b = from_start WritesValue s b.state (message_events m) b.bits (goes_runs s start b.state (message_events m) b.bits g) in
+      let last : b.state.standing ≡ Behind = ap (λ (state : State). state.standing) (once b.state b.bits g).1 ∙ behind_stands in
       let w = ends (reverse (message_events m)) put last in
       let tree : tree_of m ≡ w.1 = same_document (number_of m) w.0 (tree_of m) w.1 w.2 in
       record { schema = s; negotiation = negotiation; encoding = subst (λ (t : Tree). IsEncoding s t payload) (sym tree) w.3 }
 
-  module _ (p : Schema) (same : p ≡ s) (old : State) (begins : old ≡ start) (a : BitPen) (nothing : written_bits a ≡ []) where
-    pub may_begin : MayPut p old (message_events m)
+  -- from a writer that has put nothing
+  module _ (p : Schema) (same : p ≡ s) (a : Draft) (begun : HasPut p [] a) where
+    pub may_begin : MayPut p a.state (message_events m)
     may_begin =
-        subst (λ (t : Schema). MayPut t old (message_events m)) (sym same)
-        (subst (λ (state : State). MayPut s state (message_events m)) (sym begins) (all_bits, behind, goes))
+        subst (λ (t : Schema). MayPut t a.state (message_events m)) (sym same)
+        (subst (λ (state : State). MayPut s state (message_events m)) (sym begun.1) (all_bits, behind, goes))
 
-    here : (new : State) (bits : List Bool) → Goes p old (message_events m) bits new → Goes s start (message_events m) bits new
+    here : (new : State) (bits : List Bool) → Goes p a.state (message_events m) bits new → Goes s start (message_events m) bits new
     here new bits g =
-        subst (λ (state : State). Goes s state (message_events m) bits new) begins
-        (subst (λ (t : Schema). Goes t old (message_events m) bits new) same g)
+        subst (λ (state : State). Goes s state (message_events m) bits new) begun.1
+        (subst (λ (t : Schema). Goes t a.state (message_events m) bits new) same g)
 
-    pub is_encoded : (q : Schema) (again : q ≡ p) (new : State) (b : BitPen) (payload : List ℕ) → HasWritten p old new (message_events m) a b →
-        ((events : List Event) → HasPut q events new (written_bits b) → new.standing ≡ Behind → IsWritten q events payload) → IsAppEncoding m payload
-    is_encoded q again new b payload h ends =
-        let bits_are : written_bits b ≡ h.0 = h.2.written ∙ ap (λ (l : List Bool). l ++ h.0) nothing in
-        encoded_here new h.0 payload (here new h.0 h.1)
-        (subst (λ (t : Schema). (events : List Event) → HasPut t events new h.0 → new.standing ≡ Behind → IsWritten t events payload) (again ∙ same)
-        (subst (λ (l : List Bool). (events : List Event) → HasPut q events new l → new.standing ≡ Behind → IsWritten q events payload) bits_are ends))
+    pub is_encoded : (q : Schema) (again : q ≡ p) (b : Draft) (payload : List ℕ) → HasWritten p a b (message_events m) →
+        ((events : List Event) → HasPut q events b → b.state.standing ≡ Behind → IsWritten q events payload) → IsAppEncoding m payload
+    is_encoded q again b payload h ends =
+        let bits_are : b.bits ≡ h.0 = h.2.written ∙ ap (λ (l : List Bool). l ++ h.0) begun.0 in
+        encoded_here b payload (subst (λ (l : List Bool). Goes s start (message_events m) l b.state) (sym bits_are) (here b.state h.0 h.1))
+        (subst (λ (t : Schema). (events : List Event) → HasPut t events b → b.state.standing ≡ Behind → IsWritten t events payload) (again ∙ same) ends)
 
-    pub passes : (bytes : ℕ) → length a.room.now ≡ bytes → HasNoRoomFor p old (message_events m) a → PassesBytes m bytes
+    pub passes : (bytes : ℕ) → length a.room ≡ bytes → HasNoRoomFor p a (message_events m) → PassesBytes m bytes
     passes bytes long lacks =
         let same_bits = (once lacks.1.0 lacks.0 (here lacks.1.0 lacks.0 lacks.1.1)).0 in
         let needs = lacks.2 in
-        (all_bits, record { schema = s; negotiation = negotiation; spelled = spelled }, omega (arith, needs, long, ap length nothing, ap length same_bits))
+        (all_bits, record { schema = s; negotiation = negotiation; spelled = spelled }, omega (arith, needs, long, ap length begun.0, ap length same_bits))
 
-    pub fitted : (bytes : ℕ) → length a.room.now ≡ bytes → (new : State) (b : BitPen) → HasWritten p old new (message_events m) a b → PassesBytes m bytes → ⊥
-    fitted bytes long new b h more =
+    pub fitted : (bytes : ℕ) → length a.room ≡ bytes → (b : Draft) → length b.bits ≤ 8 * length b.room → HasWritten p a b (message_events m) → PassesBytes m bytes → ⊥
+    fitted bytes long b within h more =
         let w = more.1 in
         let moved = document_moved WritesValue w.schema s (number_of m) (tree_of m) more.0 w.negotiation negotiation w.spelled in
         let same_bits = (document_once WritesValue value_once s (number_of m) (number_of m) (tree_of m) more.0 all_bits moved spelled).1 in
-        let mine = (once new h.0 (here new h.0 h.1)).0 in
+        let mine = (once b.state h.0 (here b.state h.0 h.1)).0 in
+        let bits_are : b.bits ≡ h.0 = h.2.written ∙ ap (λ (l : List Bool). l ++ h.0) begun.0 in
         let passed = more.2 in
-        had_room a b h.0 h.2 (omega (arith, passed, long, ap length nothing, ap length same_bits, ap length mine))
-
-pub starts : (phase : Phase) (elements : List Opened) (bits : List Bool) (entries : List (ℕ × SpanAt)) → phase ≡ phases.Before → entries ≡ [] → state_of phase elements bits entries ≡ start
-starts phase elements bits entries a b = ap₂ (λ (p : Phase) (es : List (ℕ × SpanAt)). state_of p elements bits es) a b
-
-pub begins_ready : (s : Schema) (phase : Phase) (elements : List Opened) (bits : List Bool) (table old : Table SpanAt) → phase ≡ phases.Before → elements ≡ [] → table ≡ record { entries = []; cap = old.cap } → old.cap ≡ most_entries → IsReady s phase elements bits table
-begins_ready s phase elements bits table old a b is cap =
-    subst (λ (t : Table SpanAt). IsReady s phase elements bits t) (sym is)
-    (subst (λ (p : Phase). IsReady s p elements bits (record { entries = []; cap = old.cap })) (sym a) (record { cap = cap; texts = tt {0}; sound = b }))
-
-pub finished : (s : Schema) (new : State) (bits : List Bool) (payload : List ℕ) → HoldsBits payload bits → (events : List Event) → HasPut s events new bits → new.standing ≡ Behind → IsWritten s events payload
-finished s new bits payload holds events put last = written_all s new.standing new.entries bits payload events holds put last
+        absurd (omega (arith, passed, long, within, h.2.room, ap length bits_are, ap length same_bits, ap length mine))
 
 pub read_back : (m : Message) (payload : List ℕ) → IsMessage m → IsAppEncoding m payload → IsApp m payload
 read_back m payload is e =

@@ -1,6 +1,5 @@
 -- Events that are put one after the other.
 use Rattle.std.proofs.Common.{◌≡◌, ◌+◌, Bool, List, [], ◌∷◌, ◌++◌, length, length-append, append_assoc, append-nil, refl, sym, ap, ap₂, subst, ◌∙◌, arith}
-use Rattle.exi_bits.specs.declared.pen.BitPen.{BitPen}
 use Rattle.exi_schema.specs.declared.schema.Schema.{Schema}
 use Rattle.exi_documents.specs.Grammar.{Opened, State, Moves, around}
 use Rattle.exi_documents.specs.Trees.{Event}
@@ -12,7 +11,8 @@ use Rattle.exi_events.specs.declared.reader.Phase.TheVariants as phase
 use Rattle.exi_schema.specs.Offers.{IsPlace}
 use Rattle.exi_schema.specs.declared.tables.Declaration.{Declaration}
 use Rattle.std.specs.List.{AllByRecursion}
-use Rattle.exi_writing.proofs.Pens.{writes_none, writes_both, needs_behind}
+use Rattle.exi_events.specs.Writer.{Draft}
+use Rattle.exi_events.proofs.Drafts.{adds_none, adds_both, more_behind}
 use Rattle.document_laws.specs.Laws.{IsStanding}
 use Rattle.document_laws.proofs.Runs.{Runs}
 use Rattle.document_laws.proofs.Written.{value_once}
@@ -71,36 +71,36 @@ module _ (s : Schema) where
   pub first_may : (old : State) (xs ys : List Event) → MayPut s old (xs ++ ys) → MayPut s old xs
   first_may old xs ys may = let p = parts old may.1 xs ys may.0 may.2 in (p.1, p.0, p.3)
 
-  pub later_may : (old middle : State) (xs ys : List Event) (before after : BitPen) → IsStanding s old.standing → MayPut s old (xs ++ ys) → HasWritten s old middle xs before after → MayPut s middle ys
-  later_may old middle xs ys before after is may written =
-      let p = parts old may.1 xs ys may.0 may.2 in
-      let same = goes_once old p.0 middle xs p.1 written.0 is p.3 written.1 in
+  pub later_may : (xs ys : List Event) (a b : Draft) → IsStanding s a.state.standing → MayPut s a.state (xs ++ ys) → HasWritten s a b xs → MayPut s b.state ys
+  later_may xs ys a b is may written =
+      let p = parts a.state may.1 xs ys may.0 may.2 in
+      let same = goes_once a.state p.0 b.state xs p.1 written.0 is p.3 written.1 in
       (p.2, may.1, subst (λ (state : State). Goes s state ys p.2 may.1) same.1 p.4)
 
   -- ---- a part that is written, or has no room
 
-  pub nothing_written : (old : State) (pen : BitPen) → HasWritten s old old [] pen pen
-  nothing_written old pen = ([], (refl, refl), writes_none pen)
+  pub nothing_written : (a : Draft) → HasWritten s a a []
+  nothing_written a = ([], (refl, refl), adds_none a)
 
-  pub both_written : (old middle new : State) (xs ys : List Event) (a b c : BitPen) → HasWritten s old middle xs a b → HasWritten s middle new ys b c → HasWritten s old new (xs ++ ys) a c
-  both_written old middle new xs ys a b c p q =
-      (p.0 ++ q.0, goes_both old middle new xs ys p.0 q.0 p.1 q.1, writes_both a b c p.0 q.0 p.2 q.2)
+  pub both_written : (xs ys : List Event) (a b c : Draft) → HasWritten s a b xs → HasWritten s b c ys → HasWritten s a c (xs ++ ys)
+  both_written xs ys a b c p q =
+      (p.0 ++ q.0, goes_both a.state b.state c.state xs ys p.0 q.0 p.1 q.1, adds_both a b c p.0 q.0 p.2 q.2)
 
-  pub later_lacks : (old middle : State) (xs ys : List Event) (a b : BitPen) → HasWritten s old middle xs a b → HasNoRoomFor s middle ys b → HasNoRoomFor s old (xs ++ ys) a
-  later_lacks old middle xs ys a b p q =
-      (p.0 ++ q.0, (q.1.0, goes_both old middle q.1.0 xs ys p.0 q.0 p.1 q.1.1), needs_behind a b p.0 q.0 p.2 q.2)
+  pub later_lacks : (xs ys : List Event) (a b : Draft) → HasWritten s a b xs → HasNoRoomFor s b ys → HasNoRoomFor s a (xs ++ ys)
+  later_lacks xs ys a b p q =
+      (p.0 ++ q.0, (q.1.0, goes_both a.state b.state q.1.0 xs ys p.0 q.0 p.1 q.1.1), more_behind a b p.0 q.0 p.2 q.2)
 
-  pub first_lacks : (old : State) (xs ys : List Event) (pen : BitPen) → IsStanding s old.standing → MayPut s old (xs ++ ys) → HasNoRoomFor s old xs pen → HasNoRoomFor s old (xs ++ ys) pen
-  first_lacks old xs ys pen is may lacks =
-      let p = parts old may.1 xs ys may.0 may.2 in
-      let same = goes_once old lacks.1.0 p.0 xs lacks.0 p.1 is lacks.1.1 p.3 in
+  pub first_lacks : (xs ys : List Event) (a : Draft) → IsStanding s a.state.standing → MayPut s a.state (xs ++ ys) → HasNoRoomFor s a xs → HasNoRoomFor s a (xs ++ ys)
+  first_lacks xs ys a is may lacks =
+      let p = parts a.state may.1 xs ys may.0 may.2 in
+      let same = goes_once a.state lacks.1.0 p.0 xs lacks.0 p.1 is lacks.1.1 p.3 in
       let longer : length may.0 ≡ length p.1 + length p.2 = ap length p.5 ∙ length-append p.1 p.2 in
       let long : length lacks.0 ≡ length p.1 = ap length same.0 in
       let needs = lacks.2 in
       (may.0, (may.1, may.2), omega (arith, needs, long, longer))
 
-  pub written_standing : (old middle : State) (xs : List Event) (before after : BitPen) → IsStanding s old.standing → HasWritten s old middle xs before after → IsStanding s middle.standing
-  written_standing old middle xs before after is written = goes_standing old middle xs written.0 is written.1
+  pub written_standing : (xs : List Event) (a b : Draft) → IsStanding s a.state.standing → HasWritten s a b xs → IsStanding s b.state.standing
+  written_standing xs a b is written = goes_standing a.state b.state xs written.0 is written.1
 
   -- ---- from the start
 

@@ -1,17 +1,14 @@
 -- Own: events that a writer puts one after the other.
-use Rattle.std.specs.Prelude.{◌≡◌, ℕ, Bool, List, [], ◌∷◌, ◌++◌, Option, Some, None, IsSome}
-use Rattle.std.specs.Str.{chars}
+use Rattle.std.specs.Prelude.{◌≡◌, ℕ, Bool, List, [], ◌∷◌, ◌++◌, Option, Some, None, IsSome, length}
 use Rattle.std.specs.Str.{chars}
 use Rattle.std.specs.List.{AllByRecursion, flat_map}
-use Rattle.exi_bits.specs.declared.pen.BitPen.{BitPen}
 use Rattle.exi_schema.specs.declared.schema.Schema.{Schema}
 use Rattle.exi_documents.specs.Grammar.{State, Moves}
 use Rattle.exi_documents.specs.Trees.{Event as TreeEvent, Text, Start, Content, EndElement, events_of, document_events}
 use Rattle.exi_documents.specs.Values.{WritesValue}
 use Rattle.exi_values.specs.declared.Event.{Event}
 use Rattle.exi_values.specs.Meaning.{event_of}
-use Rattle.exi_events.specs.Writer.{IsShapedEvent}
-use Rattle.exi_writing.specs.Writing.{Puts, Lacks}
+use Rattle.exi_events.specs.Writer.{Draft, Adds, NeedsMore, IsShapedEvent}
 use Rattle.app_documents.specs.Trees.{Offered, Message, fields_of, tree_of, number_of}
 
 -- ---- what is told
@@ -60,10 +57,10 @@ Goes s old (event ∷ events) bits new =
 abbrev pub MayPut : Schema → State → List TreeEvent → Type 0
 MayPut s old told = (bits : List Bool) × (new : State) × Goes s old told bits new
 
--- the pen has written them
-abbrev pub HasWritten : Schema → State → State → List TreeEvent → BitPen → BitPen → Type 0
-HasWritten s old new told before after = Puts (λ bits. Goes s old told bits new) before after
+-- their bits are written
+abbrev pub HasWritten : Schema → Draft → Draft → List TreeEvent → Type 0
+HasWritten s old new told = (bits : List Bool) × Goes s old.state told bits new.state × Adds old new bits
 
 -- the room is too small for them
-abbrev pub HasNoRoomFor : Schema → State → List TreeEvent → BitPen → Type 0
-HasNoRoomFor s old told pen = Lacks (λ bits. (new : State) × Goes s old told bits new) pen
+abbrev pub HasNoRoomFor : Schema → Draft → List TreeEvent → Type 0
+HasNoRoomFor s draft told = (bits : List Bool) × ((new : State) × Goes s draft.state told bits new) × NeedsMore draft (length bits)

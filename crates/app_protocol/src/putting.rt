@@ -1,12 +1,10 @@
-//! The events of a message, put into a pen.
+//! The events of a message, put into a writer.
 
-ghost use Rattle.std.specs.Prelude.{◌≡◌, ◌∷◌, [], None, OnOk, OnErr, IfErr, map};
+ghost use Rattle.std.specs.Prelude.{◌≡◌, ◌*◌, ◌<◌, ◌∷◌, [], None, OnOk, OnErr, IfErr, length, map};
 ghost use Rattle.std.specs.List.{flat_map};
-ghost use Rattle.exi_bits.specs.Pens.{written_bits};
 ghost use Rattle.exi_documents.specs.Trees.{events_of};
-ghost use Rattle.exi_events.specs.Reader.{state_of, IsReady};
+ghost use Rattle.exi_events.specs.Writer.{draft_of, IsReadyToPut, KeepsLent};
 ghost use Rattle.exi_values.specs.Meaning.{event_of};
-ghost use Rattle.exi_writing.specs.Writing.{PassesRoom};
 ghost use Rattle.app_documents.specs.Trees.{Request, Response, schema_tree};
 ghost use Rattle.app_protocol.specs.Messages.{ordinal_of, protocol_of, protocols_of, message_of};
 ghost use Rattle.app_protocol.specs.Numbers.{number_events};
@@ -14,8 +12,7 @@ ghost use Rattle.app_protocol.specs.Writing.{list_of, told_by, IsTelling, AreTel
 
 use crate::message::{AppCode, AppMessage, AppProtocol, AppReq, AppRes};
 use crate::schema::{APP_PROTOCOL, MAJOR, MINOR, NAMESPACE, PRIORITY, RESPONSE_CODE, SCHEMA_ID};
-use exi_bits::BitPen;
-use exi_events::{Event, EventStanding, Full, Table, Value};
+use exi_events::{Event, EventWriter, Full, Value};
 use exi_schema::Schema;
 
 /// An element with a number.
@@ -27,100 +24,86 @@ struct NumberField {
 
 /// Puts an event that may be put.
 fn put_one(
-    standing: &mut EventStanding,
-    pen: &mut BitPen,
-    schema: &Schema,
-    table: &mut Table,
+    writer: &mut EventWriter<Schema>,
     event: &Event,
 ) -> Result<(), Full>
-    requires ready { IsReady schema.now standing.old.phase standing.old.elements (written_bits pen.old) table.old }
+    requires ready { IsReadyToPut writer.old }
+    requires open_still { writer.old.full ≡ None }
     requires telling { IsTelling event.now }
-    requires may { MayPut schema.now (state_of standing.old.phase standing.old.elements (written_bits pen.old) table.old.entries) (list_of (event_of event.now)) }
-    ensures ready { IsReady schema.now standing.new.phase standing.new.elements (written_bits pen.new) table.new }
-    ensures same_room { pen.new.room.ghost_name ≡ pen.old.room.ghost_name }
-    ensures put { OnOk result (HasWritten schema.now (state_of standing.old.phase standing.old.elements (written_bits pen.old) table.old.entries)
-        (state_of standing.new.phase standing.new.elements (written_bits pen.new) table.new.entries) (list_of (event_of event.now)) pen.old pen.new) }
-    ensures full { OnErr result (HasNoRoomFor schema.now (state_of standing.old.phase standing.old.elements (written_bits pen.old) table.old.entries) (list_of (event_of event.now)) pen.old) }
-    ensures bits { IfErr result (PassesRoom pen.old) }
+    requires may { MayPut writer.old.places.now (draft_of writer.old).state (list_of (event_of event.now)) }
+    ensures ready { IsReadyToPut writer.new }
+    ensures open_still { OnOk result (writer.new.full ≡ None) }
+    ensures lent { KeepsLent writer.old writer.new }
+    ensures put { OnOk result (HasWritten writer.old.places.now (draft_of writer.old) (draft_of writer.new) (list_of (event_of event.now))) }
+    ensures full { OnErr result (HasNoRoomFor writer.old.places.now (draft_of writer.old) (list_of (event_of event.now))) }
+    ensures bits { IfErr result (λ full. 8 * length writer.old.room.now < full.bits) }
 {
-    standing.put(pen, schema, table, event)
+    writer.put(event)
 }
 
 /// Puts events that may be put, one after the other.
 fn put_all(
-    standing: &mut EventStanding,
-    pen: &mut BitPen,
-    schema: &Schema,
-    table: &mut Table,
+    writer: &mut EventWriter<Schema>,
     events: &[Event],
 ) -> Result<(), Full>
-    requires ready { IsReady schema.now standing.old.phase standing.old.elements (written_bits pen.old) table.old }
+    requires ready { IsReadyToPut writer.old }
+    requires open_still { writer.old.full ≡ None }
     requires telling { AreTelling events.now }
-    requires may { MayPut schema.now (state_of standing.old.phase standing.old.elements (written_bits pen.old) table.old.entries) (told_by events.now) }
-    ensures ready { IsReady schema.now standing.new.phase standing.new.elements (written_bits pen.new) table.new }
-    ensures same_room { pen.new.room.ghost_name ≡ pen.old.room.ghost_name }
-    ensures put { OnOk result (HasWritten schema.now (state_of standing.old.phase standing.old.elements (written_bits pen.old) table.old.entries)
-        (state_of standing.new.phase standing.new.elements (written_bits pen.new) table.new.entries) (told_by events.now) pen.old pen.new) }
-    ensures full { OnErr result (HasNoRoomFor schema.now (state_of standing.old.phase standing.old.elements (written_bits pen.old) table.old.entries) (told_by events.now) pen.old) }
-    ensures bits { IfErr result (PassesRoom pen.old) }
+    requires may { MayPut writer.old.places.now (draft_of writer.old).state (told_by events.now) }
+    ensures ready { IsReadyToPut writer.new }
+    ensures open_still { OnOk result (writer.new.full ≡ None) }
+    ensures lent { KeepsLent writer.old writer.new }
+    ensures put { OnOk result (HasWritten writer.old.places.now (draft_of writer.old) (draft_of writer.new) (told_by events.now)) }
+    ensures full { OnErr result (HasNoRoomFor writer.old.places.now (draft_of writer.old) (told_by events.now)) }
+    ensures bits { IfErr result (λ full. 8 * length writer.old.room.now < full.bits) }
 {
     for event in events {
-        put_one(standing, pen, schema, table, event)?;
+        put_one(writer, event)?;
     }
     Ok(())
 }
 
 /// Puts an element with a text.
 fn put_text(
-    standing: &mut EventStanding,
-    pen: &mut BitPen,
-    schema: &Schema,
-    table: &mut Table,
+    writer: &mut EventWriter<Schema>,
     name: u16,
     text: &str,
 ) -> Result<(), Full>
-    requires ready { IsReady schema.now standing.old.phase standing.old.elements (written_bits pen.old) table.old }
-    requires may { MayPut schema.now (state_of standing.old.phase standing.old.elements (written_bits pen.old) table.old.entries) (text_events name text.now) }
-    ensures ready { IsReady schema.now standing.new.phase standing.new.elements (written_bits pen.new) table.new }
-    ensures same_room { pen.new.room.ghost_name ≡ pen.old.room.ghost_name }
-    ensures put { OnOk result (HasWritten schema.now (state_of standing.old.phase standing.old.elements (written_bits pen.old) table.old.entries)
-        (state_of standing.new.phase standing.new.elements (written_bits pen.new) table.new.entries) (text_events name text.now) pen.old pen.new) }
-    ensures full { OnErr result (HasNoRoomFor schema.now (state_of standing.old.phase standing.old.elements (written_bits pen.old) table.old.entries) (text_events name text.now) pen.old) }
-    ensures bits { IfErr result (PassesRoom pen.old) }
+    requires ready { IsReadyToPut writer.old }
+    requires open_still { writer.old.full ≡ None }
+    requires may { MayPut writer.old.places.now (draft_of writer.old).state (text_events name text.now) }
+    ensures ready { IsReadyToPut writer.new }
+    ensures open_still { OnOk result (writer.new.full ≡ None) }
+    ensures lent { KeepsLent writer.old writer.new }
+    ensures put { OnOk result (HasWritten writer.old.places.now (draft_of writer.old) (draft_of writer.new) (text_events name text.now)) }
+    ensures full { OnErr result (HasNoRoomFor writer.old.places.now (draft_of writer.old) (text_events name text.now)) }
+    ensures bits { IfErr result (λ full. 8 * length writer.old.room.now < full.bits) }
 {
-    put_one(standing, pen, schema, table, &Event::Start(name))?;
+    put_one(writer, &Event::Start(name))?;
     put_one(
-        standing,
-        pen,
-        schema,
-        table,
+        writer,
         &Event::Value(Value::Written(text)),
     )?;
-    put_one(standing, pen, schema, table, &Event::EndElement)
+    put_one(writer, &Event::EndElement)
 }
 
 /// Puts an element with a number.
 fn put_number(
-    standing: &mut EventStanding,
-    pen: &mut BitPen,
-    schema: &Schema,
-    table: &mut Table,
+    writer: &mut EventWriter<Schema>,
     field: &NumberField,
 ) -> Result<(), Full>
-    requires ready { IsReady schema.now standing.old.phase standing.old.elements (written_bits pen.old) table.old }
-    requires may { MayPut schema.now (state_of standing.old.phase standing.old.elements (written_bits pen.old) table.old.entries) (number_events field.now) }
-    ensures ready { IsReady schema.now standing.new.phase standing.new.elements (written_bits pen.new) table.new }
-    ensures same_room { pen.new.room.ghost_name ≡ pen.old.room.ghost_name }
-    ensures put { OnOk result (HasWritten schema.now (state_of standing.old.phase standing.old.elements (written_bits pen.old) table.old.entries)
-        (state_of standing.new.phase standing.new.elements (written_bits pen.new) table.new.entries) (number_events field.now) pen.old pen.new) }
-    ensures full { OnErr result (HasNoRoomFor schema.now (state_of standing.old.phase standing.old.elements (written_bits pen.old) table.old.entries) (number_events field.now) pen.old) }
-    ensures bits { IfErr result (PassesRoom pen.old) }
+    requires ready { IsReadyToPut writer.old }
+    requires open_still { writer.old.full ≡ None }
+    requires may { MayPut writer.old.places.now (draft_of writer.old).state (number_events field.now) }
+    ensures ready { IsReadyToPut writer.new }
+    ensures open_still { OnOk result (writer.new.full ≡ None) }
+    ensures lent { KeepsLent writer.old writer.new }
+    ensures put { OnOk result (HasWritten writer.old.places.now (draft_of writer.old) (draft_of writer.new) (number_events field.now)) }
+    ensures full { OnErr result (HasNoRoomFor writer.old.places.now (draft_of writer.old) (number_events field.now)) }
+    ensures bits { IfErr result (λ full. 8 * length writer.old.room.now < full.bits) }
 {
     put_all(
-        standing,
-        pen,
-        schema,
-        table,
+        writer,
         &[
             Event::Start(field.name),
             Event::Value(Value::Number(i128::from(field.number))),
@@ -131,57 +114,47 @@ fn put_number(
 
 /// Puts elements with numbers, one after the other.
 fn put_numbers(
-    standing: &mut EventStanding,
-    pen: &mut BitPen,
-    schema: &Schema,
-    table: &mut Table,
+    writer: &mut EventWriter<Schema>,
     fields: &[NumberField],
 ) -> Result<(), Full>
-    requires ready { IsReady schema.now standing.old.phase standing.old.elements (written_bits pen.old) table.old }
-    requires may { MayPut schema.now (state_of standing.old.phase standing.old.elements (written_bits pen.old) table.old.entries) (flat_map number_events fields.now) }
-    ensures ready { IsReady schema.now standing.new.phase standing.new.elements (written_bits pen.new) table.new }
-    ensures same_room { pen.new.room.ghost_name ≡ pen.old.room.ghost_name }
-    ensures put { OnOk result (HasWritten schema.now (state_of standing.old.phase standing.old.elements (written_bits pen.old) table.old.entries)
-        (state_of standing.new.phase standing.new.elements (written_bits pen.new) table.new.entries) (flat_map number_events fields.now) pen.old pen.new) }
-    ensures full { OnErr result (HasNoRoomFor schema.now (state_of standing.old.phase standing.old.elements (written_bits pen.old) table.old.entries) (flat_map number_events fields.now) pen.old) }
-    ensures bits { IfErr result (PassesRoom pen.old) }
+    requires ready { IsReadyToPut writer.old }
+    requires open_still { writer.old.full ≡ None }
+    requires may { MayPut writer.old.places.now (draft_of writer.old).state (flat_map number_events fields.now) }
+    ensures ready { IsReadyToPut writer.new }
+    ensures open_still { OnOk result (writer.new.full ≡ None) }
+    ensures lent { KeepsLent writer.old writer.new }
+    ensures put { OnOk result (HasWritten writer.old.places.now (draft_of writer.old) (draft_of writer.new) (flat_map number_events fields.now)) }
+    ensures full { OnErr result (HasNoRoomFor writer.old.places.now (draft_of writer.old) (flat_map number_events fields.now)) }
+    ensures bits { IfErr result (λ full. 8 * length writer.old.room.now < full.bits) }
 {
     for field in fields {
-        put_number(standing, pen, schema, table, field)?;
+        put_number(writer, field)?;
     }
     Ok(())
 }
 
 /// Puts the fields of an AppProtocol.
 fn put_fields(
-    standing: &mut EventStanding,
-    pen: &mut BitPen,
-    schema: &Schema,
-    table: &mut Table,
+    writer: &mut EventWriter<Schema>,
     protocol: &AppProtocol,
 ) -> Result<(), Full>
-    requires ready { IsReady schema.now standing.old.phase standing.old.elements (written_bits pen.old) table.old }
-    requires may { MayPut schema.now (state_of standing.old.phase standing.old.elements (written_bits pen.old) table.old.entries) (field_events (protocol_of protocol.now)) }
-    ensures ready { IsReady schema.now standing.new.phase standing.new.elements (written_bits pen.new) table.new }
-    ensures same_room { pen.new.room.ghost_name ≡ pen.old.room.ghost_name }
-    ensures put { OnOk result (HasWritten schema.now (state_of standing.old.phase standing.old.elements (written_bits pen.old) table.old.entries)
-        (state_of standing.new.phase standing.new.elements (written_bits pen.new) table.new.entries) (field_events (protocol_of protocol.now)) pen.old pen.new) }
-    ensures full { OnErr result (HasNoRoomFor schema.now (state_of standing.old.phase standing.old.elements (written_bits pen.old) table.old.entries) (field_events (protocol_of protocol.now)) pen.old) }
-    ensures bits { IfErr result (PassesRoom pen.old) }
+    requires ready { IsReadyToPut writer.old }
+    requires open_still { writer.old.full ≡ None }
+    requires may { MayPut writer.old.places.now (draft_of writer.old).state (field_events (protocol_of protocol.now)) }
+    ensures ready { IsReadyToPut writer.new }
+    ensures open_still { OnOk result (writer.new.full ≡ None) }
+    ensures lent { KeepsLent writer.old writer.new }
+    ensures put { OnOk result (HasWritten writer.old.places.now (draft_of writer.old) (draft_of writer.new) (field_events (protocol_of protocol.now))) }
+    ensures full { OnErr result (HasNoRoomFor writer.old.places.now (draft_of writer.old) (field_events (protocol_of protocol.now))) }
+    ensures bits { IfErr result (λ full. 8 * length writer.old.room.now < full.bits) }
 {
     put_text(
-        standing,
-        pen,
-        schema,
-        table,
+        writer,
         NAMESPACE,
         protocol.namespace.as_str(),
     )?;
     put_numbers(
-        standing,
-        pen,
-        schema,
-        table,
+        writer,
         &[
             NumberField {
                 name: MAJOR,
@@ -205,99 +178,85 @@ fn put_fields(
 
 /// Puts an AppProtocol.
 fn put_protocol(
-    standing: &mut EventStanding,
-    pen: &mut BitPen,
-    schema: &Schema,
-    table: &mut Table,
+    writer: &mut EventWriter<Schema>,
     protocol: &AppProtocol,
 ) -> Result<(), Full>
-    requires ready { IsReady schema.now standing.old.phase standing.old.elements (written_bits pen.old) table.old }
-    requires may { MayPut schema.now (state_of standing.old.phase standing.old.elements (written_bits pen.old) table.old.entries) (protocol_events (protocol_of protocol.now)) }
-    ensures ready { IsReady schema.now standing.new.phase standing.new.elements (written_bits pen.new) table.new }
-    ensures same_room { pen.new.room.ghost_name ≡ pen.old.room.ghost_name }
-    ensures put { OnOk result (HasWritten schema.now (state_of standing.old.phase standing.old.elements (written_bits pen.old) table.old.entries)
-        (state_of standing.new.phase standing.new.elements (written_bits pen.new) table.new.entries) (protocol_events (protocol_of protocol.now)) pen.old pen.new) }
-    ensures full { OnErr result (HasNoRoomFor schema.now (state_of standing.old.phase standing.old.elements (written_bits pen.old) table.old.entries) (protocol_events (protocol_of protocol.now)) pen.old) }
-    ensures bits { IfErr result (PassesRoom pen.old) }
+    requires ready { IsReadyToPut writer.old }
+    requires open_still { writer.old.full ≡ None }
+    requires may { MayPut writer.old.places.now (draft_of writer.old).state (protocol_events (protocol_of protocol.now)) }
+    ensures ready { IsReadyToPut writer.new }
+    ensures open_still { OnOk result (writer.new.full ≡ None) }
+    ensures lent { KeepsLent writer.old writer.new }
+    ensures put { OnOk result (HasWritten writer.old.places.now (draft_of writer.old) (draft_of writer.new) (protocol_events (protocol_of protocol.now))) }
+    ensures full { OnErr result (HasNoRoomFor writer.old.places.now (draft_of writer.old) (protocol_events (protocol_of protocol.now))) }
+    ensures bits { IfErr result (λ full. 8 * length writer.old.room.now < full.bits) }
 {
-    put_one(standing, pen, schema, table, &Event::Start(APP_PROTOCOL))?;
-    put_fields(standing, pen, schema, table, protocol)?;
-    put_one(standing, pen, schema, table, &Event::EndElement)
+    put_one(writer, &Event::Start(APP_PROTOCOL))?;
+    put_fields(writer, protocol)?;
+    put_one(writer, &Event::EndElement)
 }
 
 /// Puts AppProtocols, one after the other.
 fn put_protocols(
-    standing: &mut EventStanding,
-    pen: &mut BitPen,
-    schema: &Schema,
-    table: &mut Table,
+    writer: &mut EventWriter<Schema>,
     protocols: &[AppProtocol],
 ) -> Result<(), Full>
-    requires ready { IsReady schema.now standing.old.phase standing.old.elements (written_bits pen.old) table.old }
-    requires may { MayPut schema.now (state_of standing.old.phase standing.old.elements (written_bits pen.old) table.old.entries) (flat_map (λ p. protocol_events (protocol_of p)) protocols.now) }
-    ensures ready { IsReady schema.now standing.new.phase standing.new.elements (written_bits pen.new) table.new }
-    ensures same_room { pen.new.room.ghost_name ≡ pen.old.room.ghost_name }
-    ensures put { OnOk result (HasWritten schema.now (state_of standing.old.phase standing.old.elements (written_bits pen.old) table.old.entries)
-        (state_of standing.new.phase standing.new.elements (written_bits pen.new) table.new.entries) (flat_map (λ p. protocol_events (protocol_of p)) protocols.now) pen.old pen.new) }
-    ensures full { OnErr result (HasNoRoomFor schema.now (state_of standing.old.phase standing.old.elements (written_bits pen.old) table.old.entries) (flat_map (λ p. protocol_events (protocol_of p)) protocols.now) pen.old) }
-    ensures bits { IfErr result (PassesRoom pen.old) }
+    requires ready { IsReadyToPut writer.old }
+    requires open_still { writer.old.full ≡ None }
+    requires may { MayPut writer.old.places.now (draft_of writer.old).state (flat_map (λ p. protocol_events (protocol_of p)) protocols.now) }
+    ensures ready { IsReadyToPut writer.new }
+    ensures open_still { OnOk result (writer.new.full ≡ None) }
+    ensures lent { KeepsLent writer.old writer.new }
+    ensures put { OnOk result (HasWritten writer.old.places.now (draft_of writer.old) (draft_of writer.new) (flat_map (λ p. protocol_events (protocol_of p)) protocols.now)) }
+    ensures full { OnErr result (HasNoRoomFor writer.old.places.now (draft_of writer.old) (flat_map (λ p. protocol_events (protocol_of p)) protocols.now)) }
+    ensures bits { IfErr result (λ full. 8 * length writer.old.room.now < full.bits) }
 {
     for protocol in protocols {
-        put_protocol(standing, pen, schema, table, protocol)?;
+        put_protocol(writer, protocol)?;
     }
     Ok(())
 }
 
 /// Puts the document of a request.
 fn put_request(
-    standing: &mut EventStanding,
-    pen: &mut BitPen,
-    schema: &Schema,
-    table: &mut Table,
+    writer: &mut EventWriter<Schema>,
     request: &AppReq,
 ) -> Result<(), Full>
-    requires ready { IsReady schema.now standing.old.phase standing.old.elements (written_bits pen.old) table.old }
-    requires may { MayPut schema.now (state_of standing.old.phase standing.old.elements (written_bits pen.old) table.old.entries) (message_events (Request (protocols_of request.now))) }
-    ensures ready { IsReady schema.now standing.new.phase standing.new.elements (written_bits pen.new) table.new }
-    ensures same_room { pen.new.room.ghost_name ≡ pen.old.room.ghost_name }
-    ensures put { OnOk result (HasWritten schema.now (state_of standing.old.phase standing.old.elements (written_bits pen.old) table.old.entries)
-        (state_of standing.new.phase standing.new.elements (written_bits pen.new) table.new.entries) (message_events (Request (protocols_of request.now))) pen.old pen.new) }
-    ensures full { OnErr result (HasNoRoomFor schema.now (state_of standing.old.phase standing.old.elements (written_bits pen.old) table.old.entries) (message_events (Request (protocols_of request.now))) pen.old) }
-    ensures bits { IfErr result (PassesRoom pen.old) }
+    requires ready { IsReadyToPut writer.old }
+    requires open_still { writer.old.full ≡ None }
+    requires may { MayPut writer.old.places.now (draft_of writer.old).state (message_events (Request (protocols_of request.now))) }
+    ensures ready { IsReadyToPut writer.new }
+    ensures open_still { OnOk result (writer.new.full ≡ None) }
+    ensures lent { KeepsLent writer.old writer.new }
+    ensures put { OnOk result (HasWritten writer.old.places.now (draft_of writer.old) (draft_of writer.new) (message_events (Request (protocols_of request.now)))) }
+    ensures full { OnErr result (HasNoRoomFor writer.old.places.now (draft_of writer.old) (message_events (Request (protocols_of request.now)))) }
+    ensures bits { IfErr result (λ full. 8 * length writer.old.room.now < full.bits) }
 {
     put_all(
-        standing,
-        pen,
-        schema,
-        table,
+        writer,
         &[Event::Document(0), Event::Start(0)],
     )?;
-    put_protocols(standing, pen, schema, table, request.protocols.as_slice())?;
-    put_one(standing, pen, schema, table, &Event::EndElement)
+    put_protocols(writer, request.protocols.as_slice())?;
+    put_one(writer, &Event::EndElement)
 }
 
 /// Puts the document of a response.
 fn put_response(
-    standing: &mut EventStanding,
-    pen: &mut BitPen,
-    schema: &Schema,
-    table: &mut Table,
+    writer: &mut EventWriter<Schema>,
     response: &AppRes,
 ) -> Result<(), Full>
-    requires ready { IsReady schema.now standing.old.phase standing.old.elements (written_bits pen.old) table.old }
-    requires may { MayPut schema.now (state_of standing.old.phase standing.old.elements (written_bits pen.old) table.old.entries) (message_events (Response (ordinal_of response.now.code) response.now.schema)) }
-    ensures ready { IsReady schema.now standing.new.phase standing.new.elements (written_bits pen.new) table.new }
-    ensures same_room { pen.new.room.ghost_name ≡ pen.old.room.ghost_name }
-    ensures put { OnOk result (HasWritten schema.now (state_of standing.old.phase standing.old.elements (written_bits pen.old) table.old.entries)
-        (state_of standing.new.phase standing.new.elements (written_bits pen.new) table.new.entries) (message_events (Response (ordinal_of response.now.code) response.now.schema)) pen.old pen.new) }
-    ensures full { OnErr result (HasNoRoomFor schema.now (state_of standing.old.phase standing.old.elements (written_bits pen.old) table.old.entries) (message_events (Response (ordinal_of response.now.code) response.now.schema)) pen.old) }
-    ensures bits { IfErr result (PassesRoom pen.old) }
+    requires ready { IsReadyToPut writer.old }
+    requires open_still { writer.old.full ≡ None }
+    requires may { MayPut writer.old.places.now (draft_of writer.old).state (message_events (Response (ordinal_of response.now.code) response.now.schema)) }
+    ensures ready { IsReadyToPut writer.new }
+    ensures open_still { OnOk result (writer.new.full ≡ None) }
+    ensures lent { KeepsLent writer.old writer.new }
+    ensures put { OnOk result (HasWritten writer.old.places.now (draft_of writer.old) (draft_of writer.new) (message_events (Response (ordinal_of response.now.code) response.now.schema))) }
+    ensures full { OnErr result (HasNoRoomFor writer.old.places.now (draft_of writer.old) (message_events (Response (ordinal_of response.now.code) response.now.schema))) }
+    ensures bits { IfErr result (λ full. 8 * length writer.old.room.now < full.bits) }
 {
     put_all(
-        standing,
-        pen,
-        schema,
-        table,
+        writer,
         &[
             Event::Document(1),
             Event::Start(1),
@@ -306,26 +265,24 @@ fn put_response(
             Event::EndElement,
         ],
     )?;
-    put_schema(standing, pen, schema, table, response.schema)?;
-    put_one(standing, pen, schema, table, &Event::EndElement)
+    put_schema(writer, response.schema)?;
+    put_one(writer, &Event::EndElement)
 }
 
 /// Puts the SchemaID of a response, if it has one.
 fn put_schema(
-    standing: &mut EventStanding,
-    pen: &mut BitPen,
-    schema: &Schema,
-    table: &mut Table,
+    writer: &mut EventWriter<Schema>,
     schema_id: Option<u8>,
 ) -> Result<(), Full>
-    requires ready { IsReady schema.now standing.old.phase standing.old.elements (written_bits pen.old) table.old }
-    requires may { MayPut schema.now (state_of standing.old.phase standing.old.elements (written_bits pen.old) table.old.entries) (events_of (schema_tree schema_id)) }
-    ensures ready { IsReady schema.now standing.new.phase standing.new.elements (written_bits pen.new) table.new }
-    ensures same_room { pen.new.room.ghost_name ≡ pen.old.room.ghost_name }
-    ensures put { OnOk result (HasWritten schema.now (state_of standing.old.phase standing.old.elements (written_bits pen.old) table.old.entries)
-        (state_of standing.new.phase standing.new.elements (written_bits pen.new) table.new.entries) (events_of (schema_tree schema_id)) pen.old pen.new) }
-    ensures full { OnErr result (HasNoRoomFor schema.now (state_of standing.old.phase standing.old.elements (written_bits pen.old) table.old.entries) (events_of (schema_tree schema_id)) pen.old) }
-    ensures bits { IfErr result (PassesRoom pen.old) }
+    requires ready { IsReadyToPut writer.old }
+    requires open_still { writer.old.full ≡ None }
+    requires may { MayPut writer.old.places.now (draft_of writer.old).state (events_of (schema_tree schema_id)) }
+    ensures ready { IsReadyToPut writer.new }
+    ensures open_still { OnOk result (writer.new.full ≡ None) }
+    ensures lent { KeepsLent writer.old writer.new }
+    ensures put { OnOk result (HasWritten writer.old.places.now (draft_of writer.old) (draft_of writer.new) (events_of (schema_tree schema_id))) }
+    ensures full { OnErr result (HasNoRoomFor writer.old.places.now (draft_of writer.old) (events_of (schema_tree schema_id))) }
+    ensures bits { IfErr result (λ full. 8 * length writer.old.room.now < full.bits) }
 {
     match schema_id {
         None => Ok(()),
@@ -334,7 +291,7 @@ fn put_schema(
                 name: SCHEMA_ID,
                 number: u32::from(schema_id),
             };
-            put_number(standing, pen, schema, table, &field)
+            put_number(writer, &field)
         }
     }
 }
@@ -352,23 +309,21 @@ fn ordinal(code: AppCode) -> u32
 
 /// Puts the document of a message.
 pub(crate) fn put_message(
-    standing: &mut EventStanding,
-    pen: &mut BitPen,
-    schema: &Schema,
-    table: &mut Table,
+    writer: &mut EventWriter<Schema>,
     message: &AppMessage,
 ) -> Result<(), Full>
-    requires ready { IsReady schema.now standing.old.phase standing.old.elements (written_bits pen.old) table.old }
-    requires may { MayPut schema.now (state_of standing.old.phase standing.old.elements (written_bits pen.old) table.old.entries) (message_events (message_of message.now)) }
-    ensures ready { IsReady schema.now standing.new.phase standing.new.elements (written_bits pen.new) table.new }
-    ensures same_room { pen.new.room.ghost_name ≡ pen.old.room.ghost_name }
-    ensures put { OnOk result (HasWritten schema.now (state_of standing.old.phase standing.old.elements (written_bits pen.old) table.old.entries)
-        (state_of standing.new.phase standing.new.elements (written_bits pen.new) table.new.entries) (message_events (message_of message.now)) pen.old pen.new) }
-    ensures full { OnErr result (HasNoRoomFor schema.now (state_of standing.old.phase standing.old.elements (written_bits pen.old) table.old.entries) (message_events (message_of message.now)) pen.old) }
-    ensures bits { IfErr result (PassesRoom pen.old) }
+    requires ready { IsReadyToPut writer.old }
+    requires open_still { writer.old.full ≡ None }
+    requires may { MayPut writer.old.places.now (draft_of writer.old).state (message_events (message_of message.now)) }
+    ensures ready { IsReadyToPut writer.new }
+    ensures open_still { OnOk result (writer.new.full ≡ None) }
+    ensures lent { KeepsLent writer.old writer.new }
+    ensures put { OnOk result (HasWritten writer.old.places.now (draft_of writer.old) (draft_of writer.new) (message_events (message_of message.now))) }
+    ensures full { OnErr result (HasNoRoomFor writer.old.places.now (draft_of writer.old) (message_events (message_of message.now))) }
+    ensures bits { IfErr result (λ full. 8 * length writer.old.room.now < full.bits) }
 {
     match message {
-        AppMessage::Req(request) => put_request(standing, pen, schema, table, request),
-        AppMessage::Res(response) => put_response(standing, pen, schema, table, response),
+        AppMessage::Req(request) => put_request(writer, request),
+        AppMessage::Res(response) => put_response(writer, response),
     }
 }

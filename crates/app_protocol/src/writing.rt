@@ -10,8 +10,7 @@ ghost use Rattle.app_protocol.specs.Messages.{message_of};
 use crate::message::AppMessage;
 use crate::putting::put_message;
 use crate::schema::{KINDS, NAMES, ROOTS, VALUES};
-use exi_bits::BitPen;
-use exi_events::{EventStanding, Full, Table};
+use exi_events::{EventWriter, Full, Table};
 use exi_schema::Schema;
 
 /// Writes the one encoding of a message within its ranges (ISO 15118-2:2014, section 8.2) to the front of a room of at most 65,536
@@ -57,9 +56,7 @@ fn write_with(
     ensures full { IsErr result ↔ PassesBytes (message_of message.now) (length room.old) }
     ensures bits { IfErr result (λ full. 8 * length room.old < full.bits) }
 {
-    table.clear();
-    let mut pen = BitPen::new(room);
-    let mut standing = EventStanding::new();
-    put_message(&mut standing, &mut pen, schema, table, message)?;
-    Ok(pen.finish())
+    let mut writer = EventWriter::new(room, schema, table);
+    put_message(&mut writer, message)?;
+    Ok(writer.finish())
 }

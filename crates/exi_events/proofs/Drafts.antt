@@ -1,11 +1,14 @@
 -- A document as far as it is written, by a pen and by a writer.
-use Rattle.std.proofs.Common.{◌≡◌, ℕ, Bool, false, List, ◌∷◌, take, replicate, Result, sym, ap, ap₂, subst, ◌∙◌, Option, Some, None, OnOk}
+use Rattle.std.proofs.Common.{◌≡◌, ℕ, ◌*◌, ◌≤◌, Bool, false, List, [], ◌∷◌, ◌++◌, length, take, replicate, append_assoc, arith, refl, Result, sym, ap, ap₂, subst, ◌∙◌, Option, Some, OnOk}
+use Rattle.std.proofs.lemmas.List.{append-nil, length-append, length-take}
 use Rattle.std.proofs.lemmas.Result.{IfOk-weaker}
 use Rattle.exi_spec.specs.Bits.{bits_of}
+use Rattle.exi_spec.proofs.BitLaws.{length-bits_of}
 use Rattle.exi_bits.specs.Pens.{written_bits, Writes}
 use Rattle.exi_bits.specs.Written.{HoldsBits}
 use Rattle.exi_bits.specs.declared.pen.BitPen.{BitPen}
 use Rattle.exi_bits.specs.declared.span.SpanAt.{SpanAt}
+use Rattle.exi_schema.specs.declared.places.Places.{Ghosts}
 use Rattle.exi_schema.specs.declared.schema.Schema.{Schema}
 use Rattle.exi_documents.specs.Grammar.{Opened, State}
 use Rattle.exi_documents.specs.Trees.{Event as TreeEvent}
@@ -13,14 +16,29 @@ use Rattle.exi_values.specs.Meaning.{texts_in, AreTexts}
 use Rattle.exi_writing.specs.Writing.{WritesMore}
 use Rattle.exi_writing.proofs.Stays.{are_texts_behind, texts_behind}
 use Rattle.exi_events.specs.declared.reader.Phase.{Phase}
+use Rattle.exi_events.specs.declared.writer.EventWriter.{EventWriter}
 use Rattle.exi_events.specs.Reader.{state_of}
-use Rattle.exi_events.specs.Writer.{Draft, drafted, Adds, AddsSome, HasPut, IsPut}
+use Rattle.exi_events.specs.Writer.{Draft, drafted, draft_of, KeepsLent, Adds, AddsSome, NeedsMore, HasPut, IsPut}
 
 pub adds : (old new : BitPen) (before after : State) (bits : List Bool) → Writes old new bits → Adds (drafted old before) (drafted new after) bits
 adds old new before after bits w = record { written = w.written; room = w.room }
 
 pub adds_some : (old new : BitPen) (before after : State) → WritesMore old new → AddsSome (drafted old before) (drafted new after)
 adds_some old new before after more = (more.0, adds old new before after more.0 more.1)
+
+pub adds_none : (draft : Draft) → Adds draft draft []
+adds_none draft = record { written = sym (append-nil draft.bits); room = refl }
+
+pub adds_both : (a b c : Draft) (x y : List Bool) → Adds a b x → Adds b c y → Adds a c (x ++ y)
+adds_both a b c x y p q =
+    record {
+      written = q.written ∙ ap (λ (l : List Bool). l ++ y) p.written ∙ append_assoc a.bits x y;
+      room = q.room ∙ p.room;
+    }
+
+-- the room is too small for what comes behind
+pub more_behind : (a b : Draft) (x y : List Bool) → Adds a b x → NeedsMore b (length y) → NeedsMore a (length (x ++ y))
+more_behind a b x y p n = omega (arith, n, p.room, ap length p.written, length-append a.bits x, length-append x y)
 
 -- ---- between two calls
 
@@ -40,6 +58,13 @@ module _ (phase : Phase) (elements : List Opened) (entries : List (ℕ × SpanAt
   pub left_in : (F : Draft → Type 0) (pen : BitPen) (room : List ℕ) (n : ℕ) → room ≡ pen.room.now → take n (bits_of pen.room.now) ≡ written_bits pen → F (drafted pen (state_of phase elements (written_bits pen) entries)) → F (draft_in room n)
   left_in F pen room n same front h =
       begun_in F pen room n (sym same) (sym (ap (λ (l : List ℕ). take n (bits_of l)) same ∙ front)) h
+
+module _ {P : Type 0} {p : Ghosts P} where
+  pub within_room : (w : EventWriter P p) → length (draft_of w).bits ≤ 8 * length w.room.now
+  within_room w = omega (arith, length-take w.bits (bits_of w.room.now), length-bits_of w.room.now)
+
+  pub lent_both : (a b c : EventWriter P p) → KeepsLent a b → KeepsLent b c → KeepsLent a c
+  lent_both a b c p q = record { room = q.room ∙ p.room; table = q.table ∙ p.table; places = q.places ∙ p.places }
 
 -- ---- the whole document
 

@@ -32,16 +32,22 @@ pub record Draft : Type 0 where
 abbrev pub drafted : BitPen → State → Draft
 drafted pen state = record { room = pen.room.now; bits = written_bits pen; state = state }
 
-module _ {P : Type 0} {places : Ghosts P} where
+module _ {P : Type 0} {p : Ghosts P} where
   -- what a writer has written of it
-  abbrev pub draft_of : EventWriter P places → Draft
+  abbrev pub draft_of : EventWriter P p → Draft
   draft_of w =
       let bits = take w.bits (bits_of w.room.now) in
       record { room = w.room.now; bits = bits; state = state_of w.phase w.elements bits w.table.now.entries }
 
   -- as a writer is made, and as each call leaves it
-  abbrev pub IsReadyToPut : EventWriter P places → Type 0
-  IsReadyToPut w = IsReady (places.schema w.places.now) w.phase w.elements (draft_of w).bits w.table.now
+  abbrev pub IsReadyToPut : EventWriter P p → Type 0
+  IsReadyToPut w = IsReady (p.schema w.places.now) w.phase w.elements (draft_of w).bits w.table.now
+
+-- the writer has the same room, table and places
+pub record KeepsLent {P : Type 0} {p : Ghosts P} (old new : EventWriter P p) : Type 0 where
+  pub room : new.room.ghost_name ≡ old.room.ghost_name
+  pub table : new.table.ghost_name ≡ old.table.ghost_name
+  pub places : new.places.now ≡ old.places.now
 
 -- these bits are written behind the others, into the same room
 pub record Adds (old new : Draft) (bits : List Bool) : Type 0 where

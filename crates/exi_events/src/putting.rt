@@ -23,11 +23,7 @@ use exi_values::{Event, Table};
 use exi_writing::put_value;
 
 /// Writes the header and a document number that names a root.
-fn put_front<P: Places>(
-    pen: &mut BitPen,
-    places: &P,
-    number: u32,
-) -> Result<RootNumber, Full>
+fn put_front<P: Places>(pen: &mut BitPen, places: &P, number: u32) -> Result<RootNumber, Full>
     requires { (name : ℕ) × (kind : ℕ) × IsRoot (P.schema places.now).roots.now (P.schema places.now).root_bits number (Kind name kind) }
     ensures ok { IfOk result (λ root. Puts (SpellsFront (P.schema places.now) root.number) pen.old pen.new) }
     ensures number { IfOk result (λ root. root.number ≡ number) }

@@ -2,9 +2,8 @@
 
 ghost use Rattle.std.specs.Prelude.{◌≡◌, ◌≤◌, length, Some, IfErr};
 ghost use Rattle.exi_documents.specs.Values.{most_entries};
-ghost use Rattle.exi_bits.specs.Pens.{written_bits};
 ghost use Rattle.exi_events.specs.Reader.{IsReady};
-ghost use Rattle.exi_events.specs.Writer.{IsShapedEvent};
+ghost use Rattle.exi_events.specs.Writer.{IsShapedEvent, IsReadyToPut, KeepsLent};
 
 use crate::negotiation::{longer_negotiation, negotiation};
 use crate::{Event, EventReader, EventWriter, Full, Refusal, RefusalCause, Table, Value};
@@ -202,11 +201,9 @@ fn put_next<P: Places>(
     writer: &mut EventWriter<P>,
     told: &Told,
 ) -> Result<(), Full>
-    requires { IsReady (P.schema writer.old.places.now) writer.old.phase writer.old.elements (written_bits writer.old.pen) writer.old.table.now }
-    ensures ready { IsReady (P.schema writer.new.places.now) writer.new.phase writer.new.elements (written_bits writer.new.pen) writer.new.table.now }
-    ensures same_reference { writer.new.table.ghost_name ≡ writer.old.table.ghost_name }
-    ensures same_room { writer.new.pen.room.ghost_name ≡ writer.old.pen.room.ghost_name }
-    ensures room { length writer.new.pen.room.now ≡ length writer.old.pen.room.now }
+    requires { IsReadyToPut writer.old }
+    ensures ready { IsReadyToPut writer.new }
+    ensures lent { KeepsLent writer.old writer.new }
     ensures full { IfErr result (λ full. writer.new.full ≡ Some full) }
 {
     let event = event_of(told);
@@ -218,6 +215,7 @@ fn put_next<P: Places>(
 fn put_all(rt: &impl Abort, room: &mut [u8], table: &mut Table, all: &[Told]) -> Result<u32, Full>
     requires room { length room.old ≤ 65536 }
     requires cap { table.old.cap ≡ most_entries }
+    ensures { table.new.cap ≡ most_entries }
 {
     let schema = negotiation();
     let mut writer = EventWriter::new(room, &schema, table);
@@ -233,23 +231,20 @@ fn put_all(rt: &impl Abort, room: &mut [u8], table: &mut Table, all: &[Told]) ->
 
 #[test]
 fn documents_are_written(rt: HostRuntime) {
-    let (Ok(mut first), Ok(mut second), Ok(mut third)) = (
-        Partitions::make(rt.alloc(), 8192),
-        Partitions::make(rt.alloc(), 8192),
-        Partitions::make(rt.alloc(), 8192),
-    ) else {
+    let Ok(mut table) = Partitions::make(rt.alloc(), 8192) else {
         assert!(rt; false);
         return;
     };
+    let of = &mut table;
     let mut room = [0xff; 34];
-    assert_eq!(rt; put_all(&rt, &mut room, &mut first, &REQUEST), Ok(34));
+    assert_eq!(rt; put_all(&rt, &mut room, of, &REQUEST), Ok(34));
     assert_eq!(rt; room, PUBLISHED);
     let mut small = [0xff; 4];
-    assert_eq!(rt; put_all(&rt, &mut small, &mut second, &RESPONSE), Ok(4));
+    assert_eq!(rt; put_all(&rt, &mut small, of, &RESPONSE), Ok(4));
     assert_eq!(rt; small, [0x80, 0x40, 0x00, 0x40]);
     let mut smaller = [0xff; 3];
     assert_eq!(rt;
-        put_all(&rt, &mut smaller, &mut third, &RESPONSE),
+        put_all(&rt, &mut smaller, of, &RESPONSE),
         Err(Full { bits: 26 })
     );
 }

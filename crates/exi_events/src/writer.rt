@@ -38,7 +38,7 @@ impl<'b, 'p, P: Places> EventWriter<'b, 'p, P> {
     ghost use Rattle.exi_values.specs.Meaning.{event_of};
     ghost use Rattle.exi_schema.specs.Offers.{IsPlace};
     ghost use Rattle.exi_events.specs.Reader.{innermost_place};
-    ghost use Rattle.exi_events.specs.Writer.{draft_of, IsReadyToPut, AddsSome, HasPut, IsOffered, IsShapedEvent, IsPut, HasNoRoom, IsWritten};
+    ghost use Rattle.exi_events.specs.Writer.{draft_of, IsReadyToPut, KeepsLent, AddsSome, HasPut, IsOffered, IsShapedEvent, IsPut, HasNoRoom, IsWritten};
 
     /// A writer at the start of a room of at most 65,536 bytes. The table is emptied; it has room for 8,192 entries.
     pub fn new(room: &'b mut [u8], places: &'p P, table: &'p mut Table) -> EventWriter<'b, 'p, P>
@@ -107,9 +107,7 @@ impl<'b, 'p, P: Places> EventWriter<'b, 'p, P> {
         requires shaped { IsShapedEvent event.now }
         requires offered { self.old.full ≡ None → IsOffered (P.schema self.old.places.now) (draft_of self.old).state event.now }
         ensures ready { IsReadyToPut self.new }
-        ensures same_room { self.new.room.ghost_name ≡ self.old.room.ghost_name }
-        ensures same_table { self.new.table.ghost_name ≡ self.old.table.ghost_name }
-        ensures places { self.new.places.now ≡ self.old.places.now }
+        ensures lent { KeepsLent self.old self.new }
         // What was written stays.
         ensures more { AddsSome (draft_of self.old) (draft_of self.new) }
         ensures again { (f : _) → self.old.full ≡ Some f → (result ≡ Err f) × (self.new ≡ self.old) }

@@ -1,18 +1,15 @@
 -- A text that is scanned to its end.
 use Rattle.std.proofs.Common.{◌≡◌, ℕ, ◌+◌, ◌*◌, ◌≤◌, Bool, true, false, List, ◌∷◌, ◌++◌, length, replicate, reverse, Option, Some, None, IfSome, IfNone, sym, ap, subst, ◌∙◌, arith, length-append, inl, inr}
 use Rattle.std.specs.Str.{chars}
-use Rattle.std.proofs.lemmas.List.{length-replicate, length-take}
+use Rattle.std.proofs.lemmas.List.{length-replicate}
 use Rattle.exi_spec.specs.Bits.{bits_of}
 use Rattle.exi_spec.proofs.BitLaws.{length-bits_of}
-use Rattle.exi_bits.specs.Pens.{written_bits}
-use Rattle.exi_bits.specs.Written.{HoldsBits}
-use Rattle.exi_bits.specs.declared.pen.BitPen.{BitPen}
 use Rattle.exi_schema.specs.declared.schema.Schema.{Schema}
 use Rattle.exi_documents.specs.Documents.{IsEncoding}
-use Rattle.exi_documents.specs.Grammar.{Behind, State}
+use Rattle.exi_documents.specs.Grammar.{Behind}
 use Rattle.exi_documents.specs.Trees.{Tree, Event, document_events}
 use Rattle.exi_documents.specs.Values.{WritesValue}
-use Rattle.exi_events.specs.Writer.{HasPut, IsWritten}
+use Rattle.exi_events.specs.Writer.{Draft, HasPut, IsWritten}
 use Rattle.value_text.specs.declared.cursor.TextCursor.{TextCursor}
 use Rattle.dialect_text.specs.Dialect.{Standing, IsDialectText, IsFault}
 use Rattle.dialect_text.specs.Scanning.{event_of, HasSaid, IsReady, IsFaultOf}
@@ -27,10 +24,10 @@ use Rattle.tree_text.proofs.Sayings.{encoded_said, said_ends, said_tree}
 
 module _ (s : Schema) (fits : are_consistent s.kinds.now ≡ true) where
   -- events that are put, and that the whole text says
-  pub tree_put : (events : List Event) (state : State) (bits : List Bool) (text payload : List ℕ) → HasPut s events state bits → IsDialectText s events text → IsWritten s events payload →
+  pub tree_put : (events : List Event) (draft : Draft) (text payload : List ℕ) → HasPut s events draft → IsDialectText s events text → IsWritten s events payload →
       (tree : Tree) × IsTreeText s tree text × IsEncoding s tree payload
-  tree_put events state bits text payload h is w =
-      (w.1, said_tree WritesValue s fits w.0 w.1 bits state text (subst (λ (l : List Event). HasPut s l state bits) w.2 h) (subst (λ (l : List Event). IsDialectText s l text) w.2 is), w.3)
+  tree_put events draft text payload h is w =
+      (w.1, said_tree WritesValue s fits w.0 w.1 draft.bits draft.state text (subst (λ (l : List Event). HasPut s l draft) w.2 h) (subst (λ (l : List Event). IsDialectText s l text) w.2 is), w.3)
 
   few_bits : (payload : List ℕ) (bits : List Bool) (pad : ℕ) → bits_of payload ≡ bits ++ replicate pad false → length payload ≤ 65536 → length bits ≤ 8 * 65536
   few_bits payload bits pad are small =
@@ -76,30 +73,21 @@ said_all s t text other o old before same one is next events h =
 pub stuck_in : (s t : Schema) (events : List Event) → s ≡ t → IsStuck s events → IsStuck t events
 stuck_in s t events same is = subst (λ (x : Schema). IsStuck x events) same is
 
-pub put_in : (s t : Schema) (events : List Event) (state : State) (bits : List Bool) → s ≡ t → HasPut s events state bits → HasPut t events state bits
-put_in s t events state bits same h = subst (λ (x : Schema). HasPut x events state bits) same h
+pub put_in : (s t : Schema) (events : List Event) (draft : Draft) → s ≡ t → HasPut s events draft → HasPut t events draft
+put_in s t events draft same h = subst (λ (x : Schema). HasPut x events draft) same h
 
 -- at the end of the text
-pub all_put : (s t : Schema) (events : List Event) (state : State) (bits : List Bool) (text payload : List ℕ) → are_consistent t.kinds.now ≡ true → s ≡ t → HasPut s events state bits → IsDialectText t events text →
-    (HasPut s events state bits → state.standing ≡ Behind → IsWritten s events payload) → (tree : Tree) × IsTreeText t tree text × IsEncoding t tree payload
-all_put s t events state bits text payload fits same h is ends =
-    let put = put_in s t events state bits same h in
-    let behind = said_ends WritesValue t fits events bits state text put is in
-    tree_put t fits events state bits text payload put is (subst (λ (x : Schema). IsWritten x events payload) same (ends h behind))
+all_put : (s t : Schema) (events : List Event) (draft : Draft) (text payload : List ℕ) → are_consistent t.kinds.now ≡ true → s ≡ t → HasPut s events draft → IsDialectText t events text →
+    (HasPut s events draft → draft.state.standing ≡ Behind → IsWritten s events payload) → (tree : Tree) × IsTreeText t tree text × IsEncoding t tree payload
+all_put s t events draft text payload fits same h is ends =
+    let put = put_in s t events draft same h in
+    let behind = said_ends WritesValue t fits events draft.bits draft.state text put is in
+    tree_put t fits events draft text payload put is (subst (λ (x : Schema). IsWritten x events payload) same (ends h behind))
 
-pub few_bytes : (pen : BitPen) (bytes : List ℕ) → HoldsBits bytes (written_bits pen) → length pen.room.now ≡ 65536 → length bytes ≤ 65536
-few_bytes pen bytes h room =
-    let all : 8 * length bytes ≡ length (written_bits pen) + h.pad =
-    sym (length-bits_of bytes) ∙ ap length h.there ∙ length-append (written_bits pen) (replicate h.pad false) ∙ ap (λ (n : ℕ). length (written_bits pen) + n) (length-replicate h.pad false) in
-    let within = length-take pen.bits (bits_of pen.room.now) in
-    omega (arith, all, within, length-bits_of pen.room.now, room, h.short)
-
-pub piece_put : (s t : Schema) (events : List Event) (state : State) (pen : BitPen) (text payload piece : List ℕ) → are_consistent t.kinds.now ≡ true → s ≡ t → length pen.room.now ≡ 65536 → HasPut s events state (written_bits pen) → IsDialectText t events text →
-    HoldsBits payload (written_bits pen) → (HasPut s events state (written_bits pen) → state.standing ≡ Behind → IsWritten s events payload) → piece ≡ payload →
-    IsEncodedText t text piece
-piece_put s t events state pen text payload piece fits same room h is holds ends copied =
-    subst (λ (l : List ℕ). IsEncodedText t text l) (sym copied)
-    (few_bytes pen payload holds room, all_put s t events state (written_bits pen) text payload fits same h is ends)
+pub piece_put : (s t : Schema) (events : List Event) (draft : Draft) (text payload piece : List ℕ) → are_consistent t.kinds.now ≡ true → s ≡ t → length payload ≤ 65536 → HasPut s events draft → IsDialectText t events text →
+    (HasPut s events draft → draft.state.standing ≡ Behind → IsWritten s events payload) → piece ≡ payload → IsEncodedText t text piece
+piece_put s t events draft text payload piece fits same few h is ends copied =
+    subst (λ (l : List ℕ). IsEncodedText t text l) (sym copied) (few, all_put s t events draft text payload fits same h is ends)
 
 -- ---- faults
 

@@ -3,8 +3,6 @@ use Rattle.std.proofs.Common.{rules, ◌≡◌, ℕ, ◌+◌, ◌*◌, ◌<◌, 
 use Rattle.exi_spec.specs.Bits.{bits_of}
 use Rattle.exi_spec.specs.Items.{shortest_unsigned}
 use Rattle.exi_spec.proofs.BitLaws.{length-bits_of}
-use Rattle.exi_bits.specs.Pens.{written_bits}
-use Rattle.exi_bits.specs.declared.pen.BitPen.{BitPen}
 use Rattle.exi_schema.specs.declared.schema.Schema.{Schema}
 use Rattle.exi_schema.specs.declared.tables.Datatype.{Datatype}
 use Rattle.exi_schema.specs.declared.tables.Datatype.TheVariants.{Binary}
@@ -12,7 +10,7 @@ use Rattle.exi_documents.specs.Documents.{SpellsDocument}
 use Rattle.exi_documents.specs.Grammar.{Standing, Inside, Behind, State, stands, Moves, Reaches}
 use Rattle.exi_documents.specs.Trees.{Value, Truth, Ordinal, Number, Bytes, Text, Tree, Event, Document, Start, Attribute, Content, EndElement, document_events}
 use Rattle.exi_documents.specs.Values.{Entries, WritesValue}
-use Rattle.exi_events.specs.Writer.{HasPut, IsOfferedAs, HasNoRoom}
+use Rattle.exi_events.specs.Writer.{Draft, HasPut, IsOfferedAs, HasNoRoom}
 use Rattle.document_laws.proofs.Runs.{document_tells}
 use Rattle.document_laws.proofs.Written.{value_once}
 use Rattle.tree_text.specs.Scans.{IsStuck, IsLongBinary, IsTooLong}
@@ -28,13 +26,13 @@ module _ (s : Schema) where
     pub moves : Moves WritesValue s state event more new
     pub bits_are : bits ≡ (put ++ more) ++ rest
 
-  goes_on : (events : List Event) (event : Event) (state : State) (put : List Bool) (later : List Event) (number : ℕ) (tree : Tree) (bits : List Bool) → HasPut s events state put →
-      later ++ (event ∷ events) ≡ reverse (document_events number tree) → SpellsDocument WritesValue s number tree bits → GoesOnBy events event put bits state
-  goes_on events event state put later number tree bits h are d =
+  goes_on : (events : List Event) (event : Event) (draft : Draft) (later : List Event) (number : ℕ) (tree : Tree) (bits : List Bool) → HasPut s events draft →
+      later ++ (event ∷ events) ≡ reverse (document_events number tree) → SpellsDocument WritesValue s number tree bits → GoesOnBy events event draft.bits bits draft.state
+  goes_on events event draft later number tree bits h are d =
       let told = document_tells WritesValue s number tree bits d in
       let through = passed_through WritesValue s later (event ∷ events) bits (stands Behind told.0) (subst (λ (l : List Event). Reaches WritesValue s l bits (stands Behind told.0)) (sym are) told.1) in
       let r = through.reached in
-      let same = reaches_once WritesValue value_once s events r.1 put r.0 state r.3 h in
+      let same = reaches_once WritesValue value_once s events r.1 draft.bits r.0 draft.state r.3 h in
       record {
         new = through.state;
         more = r.2;
@@ -43,19 +41,19 @@ module _ (s : Schema) where
         bits_are = through.bits_are ∙ ap (λ (l : List Bool). l ++ through.rest) (r.5 ∙ ap (λ (l : List Bool). l ++ r.2) same.0);
       }
 
-  pub not_offered : (events : List Event) (event : Event) (state : State) (put : List Bool) → HasPut s events state put → (IsOfferedAs s state (Some event) → ⊥) → IsStuck s (event ∷ events)
-  not_offered events event state put h none later number tree bits are d small =
-      let on = goes_on events event state put later number tree bits h are d in none (on.more, on.new, on.moves)
+  pub not_offered : (events : List Event) (event : Event) (draft : Draft) → HasPut s events draft → (IsOfferedAs s draft.state (Some event) → ⊥) → IsStuck s (event ∷ events)
+  not_offered events event draft h none later number tree bits are d small =
+      let on = goes_on events event draft later number tree bits h are d in none (on.more, on.new, on.moves)
 
-  pub no_room : (events : List Event) (event : Event) (state : State) (pen : BitPen) → HasPut s events state (written_bits pen) → length pen.room.now ≡ 65536 → HasNoRoom s state pen (Some event) → IsStuck s (event ∷ events)
-  no_room events event state pen h room full later number tree bits are d small =
-      let put = written_bits pen in
-      let on = goes_on events event state put later number tree bits h are d in
-      let is = standing_reached WritesValue s events put state h in
-      let same = (moves_once WritesValue value_once s state event full.0 on.more full.1.0 on.new is full.1.1 on.moves).0 in
+  pub no_room : (events : List Event) (event : Event) (draft : Draft) → HasPut s events draft → length draft.room ≡ 65536 → HasNoRoom s draft (Some event) → IsStuck s (event ∷ events)
+  no_room events event draft h room full later number tree bits are d small =
+      let put = draft.bits in
+      let on = goes_on events event draft later number tree bits h are d in
+      let is = standing_reached WritesValue s events put draft.state h in
+      let same = (moves_once WritesValue value_once s draft.state event full.0 on.more full.1.0 on.new is full.1.1 on.moves).0 in
       let long : length bits ≡ length put + length on.more + length on.rest =
       ap length on.bits_are ∙ length-append (put ++ on.more) on.rest ∙ ap (λ (n : ℕ). n + length on.rest) (length-append put on.more) in
-      let needs : 8 * length pen.room.now < length put + length full.0 = full.2 in
+      let needs : 8 * length draft.room < length put + length full.0 = full.2 in
       let item : length full.0 ≡ length on.more = ap length same in
       omega (arith, long, needs, item, room, small)
 
@@ -87,24 +85,25 @@ module _ (s : Schema) where
   long_move standing entries EndElement bits new long m = absurd long
   long_move standing entries event bits new long m = absurd m
 
-  pub too_long : (events : List Event) (event : Event) (state : State) (put : List Bool) → HasPut s events state put → IsTooLong event → IsStuck s (event ∷ events)
-  too_long events event state put h long later number tree bits are d small =
-      let on = goes_on events event state put later number tree bits h are d in
-      let less = long_move state.standing state.entries event on.more on.new long on.moves in
+  pub too_long : (events : List Event) (event : Event) (draft : Draft) → HasPut s events draft → IsTooLong event → IsStuck s (event ∷ events)
+  too_long events event draft h long later number tree bits are d small =
+      let put = draft.bits in
+      let on = goes_on events event draft later number tree bits h are d in
+      let less = long_move draft.state.standing draft.state.entries event on.more on.new long on.moves in
       let whole : length bits ≡ length put + length on.more + length on.rest =
       ap length on.bits_are ∙ length-append (put ++ on.more) on.rest ∙ ap (λ (n : ℕ). n + length on.rest) (length-append put on.more) in
       omega (arith, less, whole, small)
 
   -- ---- as a writer answers
 
-  pub stuck_offer : (events : List Event) (event : Event) (told : Option Event) (state : State) (put : List Bool) (offered : Bool) → told ≡ Some event → HasPut s events state put →
-      (IsTrue offered ↔ IsOfferedAs s state told) → offered ≡ false → IsStuck s (event ∷ events)
-  stuck_offer events event told state put offered is h tells differs =
-      not_offered events event state put h (λ o. let yes : IsTrue offered = tells.1 (subst (λ (x : Option Event). IsOfferedAs s state x) (sym is) o) in let wrong : IsTrue false = subst (λ (b : Bool). IsTrue b) differs yes in search rules)
+  pub stuck_offer : (events : List Event) (event : Event) (told : Option Event) (draft : Draft) (offered : Bool) → told ≡ Some event → HasPut s events draft →
+      (IsTrue offered ↔ IsOfferedAs s draft.state told) → offered ≡ false → IsStuck s (event ∷ events)
+  stuck_offer events event told draft offered is h tells differs =
+      not_offered events event draft h (λ o. let yes : IsTrue offered = tells.1 (subst (λ (x : Option Event). IsOfferedAs s draft.state x) (sym is) o) in let wrong : IsTrue false = subst (λ (b : Bool). IsTrue b) differs yes in search rules)
 
-  pub stuck_room : (events : List Event) (event : Event) (told : Option Event) (state : State) (pen : BitPen) → told ≡ Some event → HasPut s events state (written_bits pen) → length pen.room.now ≡ 65536 →
-      HasNoRoom s state pen told → IsStuck s (event ∷ events)
-  stuck_room events event told state pen is h room full = no_room events event state pen h room (subst (λ (x : Option Event). HasNoRoom s state pen x) is full)
+  pub stuck_room : (events : List Event) (event : Event) (told : Option Event) (draft : Draft) → told ≡ Some event → HasPut s events draft → length draft.room ≡ 65536 →
+      HasNoRoom s draft told → IsStuck s (event ∷ events)
+  stuck_room events event told draft is h room full = no_room events event draft h room (subst (λ (x : Option Event). HasNoRoom s draft x) is full)
 
 pub failed_by : (b failed : Bool) → failed ≡ not b → IsFalse b → IsTrue failed
 failed_by true failed is no_more = absurd (search rules)

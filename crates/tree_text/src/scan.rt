@@ -2,12 +2,10 @@
 
 ghost use Rattle.std.specs.Prelude.{◌≡◌, true, List, [], ◌∷◌, ◌++◌, length, Some, None, IsTrue, IsFalse, MatchOption, IfSome, IfNone, IfOk, IfErr, OnOk};
 ghost use Rattle.std.specs.Str.{chars};
-ghost use Rattle.exi_bits.specs.Pens.{written_bits};
 ghost use Rattle.exi_documents.specs.Trees.{Event as TreeEvent};
 ghost use Rattle.exi_documents.specs.Values.{most_entries};
 ghost use Rattle.exi_values.specs.Meaning.{event_of};
-ghost use Rattle.exi_events.specs.Reader.{state_of, IsReady};
-ghost use Rattle.exi_events.specs.Writer.{HasPut, IsShapedEvent};
+ghost use Rattle.exi_events.specs.Writer.{draft_of, IsReadyToPut, KeepsLent, HasPut, IsShapedEvent};
 ghost use Rattle.dialect_text.specs.Dialect.{IsDialectText};
 ghost use Rattle.dialect_text.specs.Scanning.{event_of as said_event, standing_of, HasSaid, IsReady as IsScanning, IsFaultOf};
 ghost use Rattle.tree_text.specs.Consistent.{are_consistent};
@@ -34,20 +32,17 @@ fn event_said(said: &Said) -> Option<Event<'_>>
 }
 
 /// Puts what is said, if it may be put and there is room.
-fn put_said(writer: &mut EventWriter<'_, '_, Schema<'_>>, said: &Said) -> bool
-    requires ready { IsReady writer.old.places.now writer.old.phase writer.old.elements (written_bits writer.old.pen) writer.old.table.now }
+fn put_said(writer: &mut EventWriter<Schema>, said: &Said) -> bool
+    requires ready { IsReadyToPut writer.old }
     requires open_still { writer.old.full ≡ None }
-    requires room { length writer.old.pen.room.now ≡ 65536 }
-    ensures ready { IsReady writer.new.places.now writer.new.phase writer.new.elements (written_bits writer.new.pen) writer.new.table.now }
-    ensures places { writer.new.places.now ≡ writer.old.places.now }
-    ensures room { length writer.new.pen.room.now ≡ 65536 }
-    ensures same_room { writer.new.pen.room.ghost_name ≡ writer.old.pen.room.ghost_name }
+    requires room { length writer.old.room.now ≡ 65536 }
+    ensures ready { IsReadyToPut writer.new }
+    ensures lent { KeepsLent writer.old writer.new }
+    ensures room { length writer.new.room.now ≡ 65536 }
     ensures open_still { IsTrue result → writer.new.full ≡ None }
-    ensures put { IsTrue result → (events : List TreeEvent)
-        → HasPut writer.old.places.now events (state_of writer.old.phase writer.old.elements (written_bits writer.old.pen) writer.old.table.now.entries) (written_bits writer.old.pen)
-        → HasPut writer.old.places.now (said_event said.now ∷ events) (state_of writer.new.phase writer.new.elements (written_bits writer.new.pen) writer.new.table.now.entries) (written_bits writer.new.pen) }
-    ensures stuck { IsFalse result → (events : List TreeEvent)
-        → HasPut writer.old.places.now events (state_of writer.old.phase writer.old.elements (written_bits writer.old.pen) writer.old.table.now.entries) (written_bits writer.old.pen)
+    ensures put { IsTrue result → (events : List TreeEvent) → HasPut writer.old.places.now events (draft_of writer.old)
+        → HasPut writer.old.places.now (said_event said.now ∷ events) (draft_of writer.new) }
+    ensures stuck { IsFalse result → (events : List TreeEvent) → HasPut writer.old.places.now events (draft_of writer.old)
         → IsStuck writer.old.places.now (said_event said.now ∷ events) }
 {
     let Some(event) = event_said(said) else {

@@ -1,6 +1,8 @@
 use Rattle.std.proofs.Common.{refl, ◌∙◌}
 use Rattle.std.proofs.lemmas.Result.{err_from_is_err_and}
 use Rattle.exi_values.specs.Meaning.{event_of}
+use Rattle.exi_events.specs.Writer.{draft_of}
+use Rattle.exi_events.proofs.Drafts.{lent_both}
 use Rattle.app_protocol.specs.Writing.{list_of, IsTelling}
 use Rattle.app_protocol.proofs.Goes.{sound_stands}
 use Rattle.app_protocol.proofs.OneByOne.{item_more, all_at, turn_may, turn_lacks, turn_written}
@@ -22,8 +24,8 @@ put_one-requires-clause-may c =
     let i = c.loop-event.event-index in
     let item = c.event-item.result in
     let more = item_more xs i item c.loop-event-test.true c.event-item.is in
-    turn_may (λ e. list_of (event_of e)) xs i item more c.args.schema.now c.args.schema.now refl _ _ c.args.pen.now c.loop-event.pen
-    (sound_stands c.args.schema.now c.args.standing.now.phase c.args.standing.now.elements c.requires.ready.sound) c.requires.may before.written
+    turn_may (λ e. list_of (event_of e)) xs i item more c.args.writer.now.places.now c.loop-event.writer.places.now before.lent.places (draft_of c.args.writer.now) (draft_of c.loop-event.writer)
+    (sound_stands c.args.writer.now.places.now c.args.writer.now.phase c.args.writer.now.elements c.requires.ready.sound) c.requires.may before.written
 
 pub returns-in_err-put_one-clause-full : goal.returns-in_err-put_one-clause-full
 returns-in_err-put_one-clause-full c =
@@ -33,8 +35,8 @@ returns-in_err-put_one-clause-full c =
     let item = c.event-item.result in
     let more = item_more xs i item c.loop-event-test.true c.event-item.is in
     let p = err_from_is_err_and c.from_residual.result c.from_residual.ensures.1 in
-    rw p.1 (turn_lacks (λ e. list_of (event_of e)) xs i item more c.args.schema.now c.args.schema.now refl _ _ c.args.pen.now c.loop-event.pen
-    (sound_stands c.args.schema.now c.args.standing.now.phase c.args.standing.now.elements c.requires.ready.sound) c.requires.may before.written c.in_err-put_one.ensures.full)
+    rw p.1 (turn_lacks (λ e. list_of (event_of e)) xs i item more c.args.writer.now.places.now c.loop-event.writer.places.now before.lent.places (draft_of c.args.writer.now) (draft_of c.loop-event.writer)
+    (sound_stands c.args.writer.now.places.now c.args.writer.now.phase c.args.writer.now.elements c.requires.ready.sound) c.requires.may before.written c.in_err-put_one.ensures.full)
 
 pub loop-event-preserved : goal.loop-event-preserved
 loop-event-preserved c =
@@ -44,8 +46,9 @@ loop-event-preserved c =
     let item = c.event-item.result in
     let more = item_more xs i item c.loop-event-test.true c.event-item.is in
     record {
-      room = c.put_one.ensures.same_room ∙ before.room;
+      lent = lent_both _ _ _ before.lent c.put_one.ensures.lent;
       ready = c.put_one.ensures.ready;
-      written = turn_written (λ e. list_of (event_of e)) xs i item more c.args.schema.now c.args.schema.now refl _ _ c.args.pen.now c.loop-event.pen
-          (sound_stands c.args.schema.now c.args.standing.now.phase c.args.standing.now.elements c.requires.ready.sound) _ c.put_one.new.pen before.written c.in_ok-put_one.ensures.put;
+      open_still = c.in_ok-put_one.ensures.open_still;
+      written = turn_written (λ e. list_of (event_of e)) xs i item more c.args.writer.now.places.now c.loop-event.writer.places.now before.lent.places (draft_of c.args.writer.now) (draft_of c.loop-event.writer)
+          (sound_stands c.args.writer.now.places.now c.args.writer.now.phase c.args.writer.now.elements c.requires.ready.sound) (draft_of c.put_one.new.writer) before.written c.in_ok-put_one.ensures.put;
     }

@@ -1,16 +1,14 @@
-use Rattle.std.proofs.Common.{◌≡◌, take}
+use Rattle.std.proofs.Common.{◌≡◌, None, take}
 use Rattle.std.specs.List.{flat_map}
-use Rattle.exi_bits.specs.Pens.{written_bits}
-use Rattle.exi_events.specs.Reader.{state_of, IsReady}
 use Rattle.app_protocol.specs.Numbers.{number_events}
 use Rattle.app_protocol.specs.Writing.{HasWritten}
+use Rattle.exi_events.specs.Writer.{draft_of, IsReadyToPut, KeepsLent}
 use Rattle.app_protocol.proofs.putting.put_numbers.Given as goal
 
 abbrev pub invariant-loop-field : goal.invariant-loop-field
-invariant-loop-field l =
-    record {
-      room : l.pen.room.ghost_name ≡ l.fn.pen.room.ghost_name;
-      ready : IsReady l.schema l.standing.phase l.standing.elements (written_bits l.pen) l.table;
-      written : HasWritten l.schema (state_of l.fn.standing.phase l.fn.standing.elements (written_bits l.fn.pen) l.fn.table.entries)
-          (state_of l.standing.phase l.standing.elements (written_bits l.pen) l.table.entries) (flat_map number_events (take l.field-index l.fields)) l.fn.pen l.pen;
-    }
+invariant-loop-field l = record {
+  lent : KeepsLent l.fn.writer l.writer;
+  ready : IsReadyToPut l.writer;
+  open_still : l.writer.full ≡ None;
+  written : HasWritten l.fn.writer.places.now (draft_of l.fn.writer) (draft_of l.writer) (flat_map number_events (take l.field-index l.fields));
+}

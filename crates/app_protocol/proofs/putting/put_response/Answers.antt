@@ -1,9 +1,8 @@
 use Rattle.std.proofs.Common.{[], ◌∷◌, refl}
 use Rattle.std.proofs.lemmas.Result.{err_from_is_err_and}
-use Rattle.exi_bits.specs.Pens.{written_bits}
 use Rattle.exi_documents.specs.Trees.{EndElement, events_of}
-use Rattle.exi_events.specs.Reader.{state_of}
 use Rattle.app_documents.specs.Trees.{Response, schema_tree}
+use Rattle.exi_events.specs.Writer.{draft_of}
 use Rattle.app_protocol.specs.Messages.{ordinal_of}
 use Rattle.app_protocol.specs.Writing.{message_events}
 use Rattle.app_protocol.proofs.Goes.{sound_stands}
@@ -12,28 +11,28 @@ use Rattle.app_protocol.proofs.Sequence.{on_ok, on_err, front_may, front_lacks, 
 use Rattle.app_protocol.proofs.putting.put_response.Goals as goal
 
 pub put_all-requires-clause-may : goal.put_all-requires-clause-may
-put_all-requires-clause-may c = front_may c.args.schema.now (message_events (Response (ordinal_of c.args.response.now.code) c.args.response.now.schema)) (code_events c.ordinal.result) (events_of (schema_tree c.args.response.now.schema)) (EndElement ∷ []) (tells_response (ordinal_of c.args.response.now.code) c.ordinal.result c.args.response.now.schema c.ordinal.ensures) (state_of c.args.standing.now.phase c.args.standing.now.elements (written_bits c.args.pen.now) c.args.table.now.entries) c.args.pen.now (sound_stands c.args.schema.now c.args.standing.now.phase c.args.standing.now.elements c.requires.ready.sound) c.requires.may
+put_all-requires-clause-may c = front_may c.args.writer.now.places.now (message_events (Response (ordinal_of c.args.response.now.code) c.args.response.now.schema)) (code_events c.ordinal.result) (events_of (schema_tree c.args.response.now.schema)) (EndElement ∷ []) (tells_response (ordinal_of c.args.response.now.code) c.ordinal.result c.args.response.now.schema c.ordinal.ensures) (draft_of c.args.writer.now) (sound_stands c.args.writer.now.places.now c.args.writer.now.phase c.args.writer.now.elements c.requires.ready.sound) c.requires.may
 
 pub returns-in_err-put_all-clause-full : goal.returns-in_err-put_all-clause-full
 returns-in_err-put_all-clause-full c =
     let p = err_from_is_err_and c.from_residual.result c.from_residual.ensures.1 in
-    rw p.1 (front_lacks c.args.schema.now (message_events (Response (ordinal_of c.args.response.now.code) c.args.response.now.schema)) (code_events c.ordinal.result) (events_of (schema_tree c.args.response.now.schema)) (EndElement ∷ []) (tells_response (ordinal_of c.args.response.now.code) c.ordinal.result c.args.response.now.schema c.ordinal.ensures) (state_of c.args.standing.now.phase c.args.standing.now.elements (written_bits c.args.pen.now) c.args.table.now.entries) c.args.pen.now (sound_stands c.args.schema.now c.args.standing.now.phase c.args.standing.now.elements c.requires.ready.sound) c.requires.may c.in_err-put_all.ensures.full)
+    rw p.1 (front_lacks c.args.writer.now.places.now (message_events (Response (ordinal_of c.args.response.now.code) c.args.response.now.schema)) (code_events c.ordinal.result) (events_of (schema_tree c.args.response.now.schema)) (EndElement ∷ []) (tells_response (ordinal_of c.args.response.now.code) c.ordinal.result c.args.response.now.schema c.ordinal.ensures) (draft_of c.args.writer.now) (sound_stands c.args.writer.now.places.now c.args.writer.now.phase c.args.writer.now.elements c.requires.ready.sound) c.requires.may c.in_err-put_all.ensures.full)
 
 pub put_schema-requires-clause-may : goal.put_schema-requires-clause-may
-put_schema-requires-clause-may c = middle_may c.args.schema.now (message_events (Response (ordinal_of c.args.response.now.code) c.args.response.now.schema)) (code_events c.ordinal.result) (events_of (schema_tree c.args.response.now.schema)) (EndElement ∷ []) (tells_response (ordinal_of c.args.response.now.code) c.ordinal.result c.args.response.now.schema c.ordinal.ensures) (state_of c.args.standing.now.phase c.args.standing.now.elements (written_bits c.args.pen.now) c.args.table.now.entries) c.args.pen.now (sound_stands c.args.schema.now c.args.standing.now.phase c.args.standing.now.elements c.requires.ready.sound) c.requires.may c.args.schema.now refl (state_of c.put_all.new.standing.phase c.put_all.new.standing.elements (written_bits c.put_all.new.pen) c.put_all.new.table.entries) c.put_all.new.pen c.in_ok-put_all.ensures.put
+put_schema-requires-clause-may c = middle_may c.args.writer.now.places.now (message_events (Response (ordinal_of c.args.response.now.code) c.args.response.now.schema)) (code_events c.ordinal.result) (events_of (schema_tree c.args.response.now.schema)) (EndElement ∷ []) (tells_response (ordinal_of c.args.response.now.code) c.ordinal.result c.args.response.now.schema c.ordinal.ensures) (draft_of c.args.writer.now) (sound_stands c.args.writer.now.places.now c.args.writer.now.phase c.args.writer.now.elements c.requires.ready.sound) c.requires.may c.put_all.new.writer.places.now c.put_all.ensures.lent.places (draft_of c.put_all.new.writer) c.in_ok-put_all.ensures.put
 
 pub returns-in_err-put_schema-clause-full : goal.returns-in_err-put_schema-clause-full
 returns-in_err-put_schema-clause-full c =
     let p = err_from_is_err_and c.from_residual-in_err-put_schema.result c.from_residual-in_err-put_schema.ensures.1 in
-    rw p.1 (middle_lacks c.args.schema.now (message_events (Response (ordinal_of c.args.response.now.code) c.args.response.now.schema)) (code_events c.ordinal.result) (events_of (schema_tree c.args.response.now.schema)) (EndElement ∷ []) (tells_response (ordinal_of c.args.response.now.code) c.ordinal.result c.args.response.now.schema c.ordinal.ensures) (state_of c.args.standing.now.phase c.args.standing.now.elements (written_bits c.args.pen.now) c.args.table.now.entries) c.args.pen.now (sound_stands c.args.schema.now c.args.standing.now.phase c.args.standing.now.elements c.requires.ready.sound) c.requires.may c.args.schema.now refl (state_of c.put_all.new.standing.phase c.put_all.new.standing.elements (written_bits c.put_all.new.pen) c.put_all.new.table.entries) c.put_all.new.pen c.in_ok-put_all.ensures.put c.in_err-put_schema.ensures.full)
+    rw p.1 (middle_lacks c.args.writer.now.places.now (message_events (Response (ordinal_of c.args.response.now.code) c.args.response.now.schema)) (code_events c.ordinal.result) (events_of (schema_tree c.args.response.now.schema)) (EndElement ∷ []) (tells_response (ordinal_of c.args.response.now.code) c.ordinal.result c.args.response.now.schema c.ordinal.ensures) (draft_of c.args.writer.now) (sound_stands c.args.writer.now.places.now c.args.writer.now.phase c.args.writer.now.elements c.requires.ready.sound) c.requires.may c.put_all.new.writer.places.now c.put_all.ensures.lent.places (draft_of c.put_all.new.writer) c.in_ok-put_all.ensures.put c.in_err-put_schema.ensures.full)
 
 pub put_one-requires-clause-may : goal.put_one-requires-clause-may
-put_one-requires-clause-may c = last_may c.args.schema.now (message_events (Response (ordinal_of c.args.response.now.code) c.args.response.now.schema)) (code_events c.ordinal.result) (events_of (schema_tree c.args.response.now.schema)) (EndElement ∷ []) (tells_response (ordinal_of c.args.response.now.code) c.ordinal.result c.args.response.now.schema c.ordinal.ensures) (state_of c.args.standing.now.phase c.args.standing.now.elements (written_bits c.args.pen.now) c.args.table.now.entries) c.args.pen.now (sound_stands c.args.schema.now c.args.standing.now.phase c.args.standing.now.elements c.requires.ready.sound) c.requires.may c.args.schema.now refl (state_of c.put_all.new.standing.phase c.put_all.new.standing.elements (written_bits c.put_all.new.pen) c.put_all.new.table.entries) c.put_all.new.pen c.in_ok-put_all.ensures.put c.args.schema.now refl (state_of c.put_schema.new.standing.phase c.put_schema.new.standing.elements (written_bits c.put_schema.new.pen) c.put_schema.new.table.entries) c.put_schema.new.pen c.in_ok-put_schema.ensures.put
+put_one-requires-clause-may c = last_may c.args.writer.now.places.now (message_events (Response (ordinal_of c.args.response.now.code) c.args.response.now.schema)) (code_events c.ordinal.result) (events_of (schema_tree c.args.response.now.schema)) (EndElement ∷ []) (tells_response (ordinal_of c.args.response.now.code) c.ordinal.result c.args.response.now.schema c.ordinal.ensures) (draft_of c.args.writer.now) (sound_stands c.args.writer.now.places.now c.args.writer.now.phase c.args.writer.now.elements c.requires.ready.sound) c.requires.may c.put_all.new.writer.places.now c.put_all.ensures.lent.places (draft_of c.put_all.new.writer) c.in_ok-put_all.ensures.put c.put_schema.new.writer.places.now c.put_schema.ensures.lent.places (draft_of c.put_schema.new.writer) c.in_ok-put_schema.ensures.put
 
 pub returns-clause-put : goal.returns-clause-put
 returns-clause-put c =
-    on_ok c.put_one.result _ _ (λ h. all_written c.args.schema.now (message_events (Response (ordinal_of c.args.response.now.code) c.args.response.now.schema)) (code_events c.ordinal.result) (events_of (schema_tree c.args.response.now.schema)) (EndElement ∷ []) (tells_response (ordinal_of c.args.response.now.code) c.ordinal.result c.args.response.now.schema c.ordinal.ensures) (state_of c.args.standing.now.phase c.args.standing.now.elements (written_bits c.args.pen.now) c.args.table.now.entries) c.args.pen.now (sound_stands c.args.schema.now c.args.standing.now.phase c.args.standing.now.elements c.requires.ready.sound) c.requires.may c.args.schema.now refl (state_of c.put_all.new.standing.phase c.put_all.new.standing.elements (written_bits c.put_all.new.pen) c.put_all.new.table.entries) c.put_all.new.pen c.in_ok-put_all.ensures.put c.args.schema.now refl (state_of c.put_schema.new.standing.phase c.put_schema.new.standing.elements (written_bits c.put_schema.new.pen) c.put_schema.new.table.entries) c.put_schema.new.pen c.in_ok-put_schema.ensures.put (state_of c.put_one.new.standing.phase c.put_one.new.standing.elements (written_bits c.put_one.new.pen) c.put_one.new.table.entries) c.put_one.new.pen h) c.put_one.ensures.put
+    on_ok c.put_one.result _ _ (λ h. all_written c.args.writer.now.places.now (message_events (Response (ordinal_of c.args.response.now.code) c.args.response.now.schema)) (code_events c.ordinal.result) (events_of (schema_tree c.args.response.now.schema)) (EndElement ∷ []) (tells_response (ordinal_of c.args.response.now.code) c.ordinal.result c.args.response.now.schema c.ordinal.ensures) (draft_of c.args.writer.now) (sound_stands c.args.writer.now.places.now c.args.writer.now.phase c.args.writer.now.elements c.requires.ready.sound) c.requires.may c.put_all.new.writer.places.now c.put_all.ensures.lent.places (draft_of c.put_all.new.writer) c.in_ok-put_all.ensures.put c.put_schema.new.writer.places.now c.put_schema.ensures.lent.places (draft_of c.put_schema.new.writer) c.in_ok-put_schema.ensures.put (draft_of c.put_one.new.writer) h) c.put_one.ensures.put
 
 pub returns-clause-full : goal.returns-clause-full
 returns-clause-full c =
-    on_err c.put_one.result _ _ (λ h. last_lacks c.args.schema.now (message_events (Response (ordinal_of c.args.response.now.code) c.args.response.now.schema)) (code_events c.ordinal.result) (events_of (schema_tree c.args.response.now.schema)) (EndElement ∷ []) (tells_response (ordinal_of c.args.response.now.code) c.ordinal.result c.args.response.now.schema c.ordinal.ensures) (state_of c.args.standing.now.phase c.args.standing.now.elements (written_bits c.args.pen.now) c.args.table.now.entries) c.args.pen.now (sound_stands c.args.schema.now c.args.standing.now.phase c.args.standing.now.elements c.requires.ready.sound) c.requires.may c.args.schema.now refl (state_of c.put_all.new.standing.phase c.put_all.new.standing.elements (written_bits c.put_all.new.pen) c.put_all.new.table.entries) c.put_all.new.pen c.in_ok-put_all.ensures.put c.args.schema.now refl (state_of c.put_schema.new.standing.phase c.put_schema.new.standing.elements (written_bits c.put_schema.new.pen) c.put_schema.new.table.entries) c.put_schema.new.pen c.in_ok-put_schema.ensures.put h) c.put_one.ensures.full
+    on_err c.put_one.result _ _ (λ h. last_lacks c.args.writer.now.places.now (message_events (Response (ordinal_of c.args.response.now.code) c.args.response.now.schema)) (code_events c.ordinal.result) (events_of (schema_tree c.args.response.now.schema)) (EndElement ∷ []) (tells_response (ordinal_of c.args.response.now.code) c.ordinal.result c.args.response.now.schema c.ordinal.ensures) (draft_of c.args.writer.now) (sound_stands c.args.writer.now.places.now c.args.writer.now.phase c.args.writer.now.elements c.requires.ready.sound) c.requires.may c.put_all.new.writer.places.now c.put_all.ensures.lent.places (draft_of c.put_all.new.writer) c.in_ok-put_all.ensures.put c.put_schema.new.writer.places.now c.put_schema.ensures.lent.places (draft_of c.put_schema.new.writer) c.in_ok-put_schema.ensures.put h) c.put_one.ensures.full

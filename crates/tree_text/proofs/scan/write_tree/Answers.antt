@@ -1,6 +1,7 @@
-use Rattle.std.proofs.Common.{◌∷◌, ◌∙◌, sym}
-use Rattle.exi_bits.specs.Pens.{written_bits}
-use Rattle.exi_events.specs.Reader.{state_of}
+use Rattle.std.proofs.Common.{◌≤◌, ◌∷◌, length, ap, ◌∙◌, sym, arith}
+use Rattle.std.proofs.lemmas.List.{length-take}
+use Rattle.exi_events.specs.Writer.{draft_of}
+use Rattle.exi_events.proofs.Drafts.{lent_both}
 use Rattle.dialect_text.specs.Scanning.{event_of}
 use Rattle.tree_text.proofs.Scanned.{still_ready, said_on, said_all, stuck_in, put_in, piece_put}
 use Rattle.tree_text.proofs.scan.write_tree.Goals as goal
@@ -18,21 +19,20 @@ pub loop-said-preserved : goal.loop-said-preserved
 loop-said-preserved c =
     let before = c.loop-said.invariant in
     let put = c.put_said-is_put.ensures in
-    let w = c.put_said-is_put.new.writer in
     let events = before.both.0 in
     record {
       same_schema = c.next.ensures.same_schema ∙ before.same_schema;
       same_text = c.next.ensures.same_text ∙ before.same_text;
       scanning = still_ready _ _ _ _ _ _ _ before.same_schema before.same_text c.next.ensures.ready;
-      places = put.places ∙ before.places;
+      lent = lent_both _ _ _ before.lent put.lent;
+      places = put.lent.places ∙ before.places;
       ready = put.ready;
       open_still = put.open_still c.if-not-is_put.false;
       room = put.room;
-      same_room = put.same_room ∙ before.same_room;
       both = (
         event_of c.in-Some.said ∷ events,
         said_on _ _ _ _ _ c.in-Some.said _ _ _ _ before.same_schema before.same_text c.in-Some.is c.in_ok-said.ensures.said events before.both.1,
-        put_in _ _ (event_of c.in-Some.said ∷ events) (state_of w.phase w.elements (written_bits w.pen) w.table.now.entries) (written_bits w.pen) (sym put.places) (put.put c.if-not-is_put.false events before.both.2),
+        put_in _ _ (event_of c.in-Some.said ∷ events) (draft_of c.put_said-is_put.new.writer) (sym put.lent.places) (put.put c.if-not-is_put.false events before.both.2),
       );
     }
 
@@ -41,5 +41,5 @@ returns-clause-written c =
     let before = c.loop-said.invariant in
     let events = before.both.0 in
     let is = said_all _ _ _ _ _ _ _ before.same_schema before.same_text c.in_default.is c.in_ok-said.ensures.ended events before.both.1 in
-    piece_put _ _ events _ c.loop-said.writer.pen _ c.written.result.now _ c.requires.consistent before.places before.room before.both.2 is c.written.ensures.holds (c.written.ensures.document events)
-    (c.of.ensures ∙ c.in_ok-bytes.ensures.items)
+    let few : length c.written.result.now ≤ 65536 = omega (arith, ap length c.written.ensures.front, length-take (length c.written.result.now) c.loop-said.writer.room.now, before.room) in
+    piece_put _ _ events (draft_of c.loop-said.writer) _ c.written.result.now _ c.requires.consistent before.places few before.both.2 is (c.written.ensures.document events) (c.of.ensures ∙ c.in_ok-bytes.ensures.items)
