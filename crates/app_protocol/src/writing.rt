@@ -6,11 +6,11 @@ ghost use Rattle.app_schema.specs.Declarations.{IsNegotiation};
 ghost use Rattle.app_documents.specs.Trees.{IsMessage};
 ghost use Rattle.app_protocol.specs.Documents.{IsApp, IsAppEncoding, PassesBytes};
 ghost use Rattle.app_protocol.specs.Response.{response_bits, IsEncoding};
-ghost use Rattle.app_protocol.specs.Messages.{ordinal_of, message_of};
+ghost use Rattle.app_protocol.specs.Messages.{message_of};
 
-use crate::message::{AppCode, AppMessage, AppRes};
+use crate::message::{AppMessage, AppRes};
 use crate::putting::put_message;
-use crate::schema::{KINDS, NAMES, ROOTS, VALUES};
+use app_schema::negotiation;
 use exi_bits::BitPen;
 use exi_events::{EventStanding, Full, Table};
 use exi_schema::Schema;
@@ -30,14 +30,7 @@ pub fn write_app(message: &AppMessage, room: &mut [u8], table: &mut Table) -> Re
     ensures full { IsErr result ↔ PassesBytes (message_of message.now) (length room.old) }
     ensures bits { IfErr result (λ full. 8 * length room.old < full.bits) }
 {
-    let schema = Schema {
-        kinds: &KINDS,
-        names: &NAMES,
-        values: &VALUES,
-        root_bits: 2,
-        roots: &ROOTS,
-    };
-    write_with(&schema, message, room, table)
+    write_with(&negotiation(), message, room, table)
 }
 
 /// Writes with the declarations of the negotiation.
@@ -74,7 +67,7 @@ pub fn write_response(response: &AppRes, room: &mut [u8; 4]) -> usize
     ensures encoding { IsEncoding (response_bits response.now) (take result room.new) }
 {
     // the header, then document 1, two codes 0, the ResponseCode and a code 0
-    let code = 0x40 + 4 * ordinal(response.code);
+    let code = 0x40 + 4 * response.code.ordinal() as u8;
     match response.schema {
         None => {
             *room = [0x80, code, 0x80, 0];
@@ -84,17 +77,5 @@ pub fn write_response(response: &AppRes, room: &mut [u8; 4]) -> usize
             *room = [0x80, code, schema / 4, schema % 4 * 64];
             4
         }
-    }
-}
-
-/// The place of a ResponseCode in its enumeration.
-fn ordinal(code: AppCode) -> u8
-    ensures place { result ≡ ordinal_of code }
-    ensures few { result ≤ 2 }
-{
-    match code {
-        AppCode::Successful => 0,
-        AppCode::MinorDeviation => 1,
-        AppCode::Failed => 2,
     }
 }

@@ -20,6 +20,6 @@ pub use standing::EventStanding;
 pub use writer::EventWriter;
 
 #[cfg(test)]
-mod negotiation;
+mod choices;
 #[cfg(test)]
 mod tests;
