@@ -10,7 +10,9 @@ ghost use Rattle.app_protocol.specs.Messages.{protocol_of, ordinal_of, message_o
 ghost use Rattle.exi_documents.specs.Trees as tree;
 
 use crate::message::{AppCode, AppMessage, AppProtocol, AppReq, AppRes};
-use crate::schema::{APP_PROTOCOL, MAJOR, MINOR, NAMESPACE, PRIORITY, RESPONSE_CODE, SCHEMA_ID};
+use app_schema::names::{
+    APP_PROTOCOL, MAJOR, MINOR, NAMESPACE, PRIORITY, RESPONSE_CODE, SCHEMA_ID,
+};
 use arrayvec::{ArrayString, ArrayVec};
 use exi_bits::BitSpan;
 use exi_events::{Event, Value};

@@ -9,7 +9,6 @@ mod printing;
 mod putting;
 mod reading;
 mod scanning;
-mod schema;
 mod writing;
 
 pub use charge_world::{Dialect, Offer};
@@ -24,6 +23,6 @@ pub use tree_text::{PrintFault, ScanFault};
 pub use writing::write_app;
 
 #[cfg(test)]
-mod payloads;
+mod lines;
 #[cfg(test)]
 mod tests;

@@ -54,6 +54,22 @@ pub enum AppCode {
     Failed,
 }
 
+impl AppCode {
+    ghost use Rattle.std.specs.Prelude.{◌≡◌};
+    ghost use Rattle.app_protocol.specs.Messages.{ordinal_of};
+
+    /// Its place in the enumeration.
+    pub(crate) fn ordinal(self) -> u32
+        ensures { result ≡ ordinal_of self }
+    {
+        match self {
+            AppCode::Successful => 0,
+            AppCode::MinorDeviation => 1,
+            AppCode::Failed => 2,
+        }
+    }
+}
+
 /// A station's response.
 #[derive(Clone, Copy, Debug, PartialEq, Eq)]
 pub struct AppRes {

@@ -2,11 +2,9 @@
 
 ghost use Rattle.std.specs.Prelude.{ℕ, ◌≤◌, length, IfOk, IfErr};
 ghost use Rattle.std.specs.String.{string_bytes};
-ghost use Rattle.app_schema.specs.Declarations.{IsNegotiation};
 ghost use Rattle.app_protocol.specs.Printing.{IsPrinted, IsAppFault};
 
-use crate::schema::{KINDS, NAMES, ROOTS, VALUES};
-use exi_schema::Schema;
+use app_schema::negotiation;
 use std::alloc::Global;
 use tree_text::{PrintFault, print_tree};
 
@@ -19,22 +17,5 @@ pub fn print(alloc: Global, payload: &[u8]) -> Result<String, PrintFault>
     ensures printed { IfOk result (λ text. IsPrinted payload.now (string_bytes text)) }
     ensures fault { IfErr result (IsAppFault payload.now) }
 {
-    let schema = Schema {
-        kinds: &KINDS,
-        names: &NAMES,
-        values: &VALUES,
-        root_bits: 2,
-        roots: &ROOTS,
-    };
-    print_with(alloc, &schema, payload)
-}
-
-/// Prints with the declarations of the negotiation.
-fn print_with(alloc: Global, schema: &Schema, payload: &[u8]) -> Result<String, PrintFault>
-    requires negotiation { IsNegotiation schema.now }
-    requires payload { length payload.now ≤ 65536 }
-    ensures printed { IfOk result (λ text. IsPrinted payload.now (string_bytes text)) }
-    ensures fault { IfErr result (IsAppFault payload.now) }
-{
-    print_tree(alloc, schema, payload)
+    print_tree(alloc, &negotiation(), payload)
 }

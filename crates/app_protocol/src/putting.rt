@@ -10,8 +10,10 @@ ghost use Rattle.app_protocol.specs.Messages.{ordinal_of, protocol_of, protocols
 ghost use Rattle.app_protocol.specs.Numbers.{number_events};
 ghost use Rattle.app_protocol.specs.Writing.{list_of, told_by, IsTelling, AreTelling, text_events, field_events, protocol_events, message_events, MayPut, HasWritten, HasNoRoomFor};
 
-use crate::message::{AppCode, AppMessage, AppProtocol, AppReq, AppRes};
-use crate::schema::{APP_PROTOCOL, MAJOR, MINOR, NAMESPACE, PRIORITY, RESPONSE_CODE, SCHEMA_ID};
+use crate::message::{AppMessage, AppProtocol, AppReq, AppRes};
+use app_schema::names::{
+    APP_PROTOCOL, MAJOR, MINOR, NAMESPACE, PRIORITY, RESPONSE_CODE, SCHEMA_ID,
+};
 use exi_events::{Event, EventWriter, Full, Value};
 use exi_schema::Schema;
 
@@ -261,7 +263,7 @@ fn put_response(
             Event::Document(1),
             Event::Start(1),
             Event::Start(RESPONSE_CODE),
-            Event::Value(Value::Ordinal(ordinal(response.code))),
+            Event::Value(Value::Ordinal(response.code.ordinal())),
             Event::EndElement,
         ],
     )?;
@@ -293,17 +295,6 @@ fn put_schema(
             };
             put_number(writer, &field)
         }
-    }
-}
-
-/// The place of a ResponseCode in its enumeration.
-fn ordinal(code: AppCode) -> u32
-    ensures { result ≡ ordinal_of code }
-{
-    match code {
-        AppCode::Successful => 0,
-        AppCode::MinorDeviation => 1,
-        AppCode::Failed => 2,
     }
 }
 

@@ -10,7 +10,7 @@ ghost use Rattle.app_protocol.specs.Documents.{IsApp, IsAppRefused};
 
 use crate::builder::Builder;
 use crate::message::AppMessage;
-use crate::schema::{KINDS, NAMES, ROOTS, VALUES};
+use app_schema::negotiation;
 use exi_documents::Refusal;
 use exi_events::{Event, EventReader, Table};
 use exi_schema::Schema;
@@ -26,26 +26,8 @@ pub fn read_app(payload: &[u8], table: &mut Table) -> Result<AppMessage, Refusal
     ensures read { IfOk result (λ m. IsApp (message_of m) payload.now) }
     ensures refused { IfErr result (λ r. IsAppRefused payload.now r.cause r.bit) }
 {
-    let schema = Schema {
-        kinds: &KINDS,
-        names: &NAMES,
-        values: &VALUES,
-        root_bits: 2,
-        roots: &ROOTS,
-    };
-    read_with(&schema, payload, table)
-}
-
-/// Reads a message with the declarations of the negotiation.
-fn read_with(schema: &Schema, payload: &[u8], table: &mut Table) -> Result<AppMessage, Refusal>
-    requires negotiation { IsNegotiation schema.now }
-    requires payload { length payload.now ≤ 65536 }
-    requires cap { table.old.cap ≡ most_entries }
-    ensures cap { table.new.cap ≡ most_entries }
-    ensures read { IfOk result (λ m. IsApp (message_of m) payload.now) }
-    ensures refused { IfErr result (λ r. IsAppRefused payload.now r.cause r.bit) }
-{
-    let mut reader = EventReader::new(payload, schema, table);
+    let schema = negotiation();
+    let mut reader = EventReader::new(payload, &schema, table);
     let message = message_from(&mut reader);
     reader.end();
     message

@@ -1,12 +1,10 @@
 //! The payload of the text of a message.
 
 ghost use Rattle.std.specs.Prelude.{IfOk, IfErr};
-ghost use Rattle.app_schema.specs.Declarations.{IsNegotiation};
 ghost use Rattle.app_protocol.specs.Scanning.{IsAppScanned, IsAppScanFault};
 
-use crate::schema::{KINDS, NAMES, ROOTS, VALUES};
+use app_schema::negotiation;
 use charge_world::Piece;
-use exi_schema::Schema;
 use std::alloc::Global;
 use tree_text::{ScanFault, scan_tree};
 
@@ -19,21 +17,5 @@ pub fn scan(alloc: Global, text: &str) -> Result<Piece, ScanFault>
     ensures scanned { IfOk result (IsAppScanned text.now) }
     ensures fault { IfErr result (IsAppScanFault text.now) }
 {
-    let schema = Schema {
-        kinds: &KINDS,
-        names: &NAMES,
-        values: &VALUES,
-        root_bits: 2,
-        roots: &ROOTS,
-    };
-    scan_with(alloc, &schema, text)
-}
-
-/// Scans with the declarations of the negotiation.
-fn scan_with(alloc: Global, schema: &Schema, text: &str) -> Result<Piece, ScanFault>
-    requires { IsNegotiation schema.now }
-    ensures scanned { IfOk result (IsAppScanned text.now) }
-    ensures fault { IfErr result (IsAppScanFault text.now) }
-{
-    scan_tree(alloc, schema, text)
+    scan_tree(alloc, &negotiation(), text)
 }

@@ -1,11 +1,10 @@
 ghost use Rattle.std.specs.Prelude.{◌≡◌, ◌≤◌, length};
-ghost use Rattle.std.specs.Prelude.{◌*◌, ◌<◌};
 ghost use Rattle.exi_documents.specs.Values.{most_entries};
 ghost use Rattle.app_documents.specs.Trees.{IsMessage};
 ghost use Rattle.app_protocol.specs.Messages.{message_of};
 
 use super::*;
-use crate::payloads::PAYLOADS;
+use crate::lines::LINES;
 use arrayvec::{ArrayString, ArrayVec};
 use std::alloc::{AllocError, Global};
 use std::process::Abort;
@@ -148,22 +147,34 @@ fn written_back(rt: &impl Abort, payload: &[u8], table: &mut Table)
     assert!(rt; write_app(&message, &mut room[..count - 1], table).is_err());
 }
 
+/// The bytes of hexadecimal text; a dash is none.
+fn bytes_of(alloc: Global, text: &str) -> Result<Vec<u8>, Fail> {
+    if text == "-" {
+        return Ok(Vec::new(alloc));
+    }
+    Ok(hex::decode(alloc, text)?)
+}
+
 #[test]
 fn messages_are_written_back(rt: HostRuntime) -> Result<(), Fail> {
-    let mut lines = 0u64;
-    for line in PAYLOADS.lines() {
-        let mut table = Table::make(rt.alloc(), 8192)?;
-        let payload = hex::decode(rt.alloc(), line)?;
-        assert!(rt; payload.len() <= 65536);
-        written_back(&rt, payload.as_slice(), &mut table);
-        lines = lines.wrapping_add(1);
+    let mut count = 0u64;
+    for line in LINES.lines() {
+        let (word, rest) = line.split_once(' ').ok_or("a line without a word")?;
+        if word == "ok" {
+            let (payload, _) = rest.split_once(' ').ok_or("a line without an answer")?;
+            let mut table = Table::make(rt.alloc(), 8192)?;
+            let payload = bytes_of(rt.alloc(), payload)?;
+            assert!(rt; payload.len() <= 65536);
+            written_back(&rt, payload.as_slice(), &mut table);
+            count = count.wrapping_add(1);
+        }
     }
-    assert_eq!(rt; lines, 60);
+    assert_eq!(rt; count, 60);
     Ok(())
 }
 
 #[test]
-fn the_published_response_is_written_and_printed(rt: HostRuntime) -> Result<(), Fail> {
+fn the_published_response_is_written(rt: HostRuntime) -> Result<(), Fail> {
     let mut table = Table::make(rt.alloc(), 8192)?;
     let response = AppMessage::Res(response(AppCode::Successful, Some(1)));
     let mut room = [0xff; 5];
@@ -171,14 +182,21 @@ fn the_published_response_is_written_and_printed(rt: HostRuntime) -> Result<(), 
     assert_eq!(rt; room, [0x80, 0x40, 0x00, 0x40, 0xff]);
     let mut short = [0xff; 3];
     assert!(rt; write_app(&response, &mut short, &mut table).is_err());
-    let text = print(rt.alloc(), &[0x80, 0x40, 0x00, 0x40])
-        .ok()
-        .ok_or("no text")?;
-    assert_eq!(rt;
-        text.as_str(),
-        "supportedAppProtocolRes{ResponseCode=OK_SuccessfulNegotiation SchemaID=1}"
-    );
     Ok(())
+}
+
+/// The text of a payload, or why and at which bit it is refused.
+fn printed(alloc: Global, payload: &[u8]) -> Result<String, AllocError>
+    requires { length payload.now ≤ 65536 }
+{
+    match print(alloc, payload) {
+        Ok(text) => Ok(text),
+        Err(PrintFault::Refused(refusal)) => {
+            let Refusal { cause, bit } = refusal;
+            format!(in alloc; "{cause:?} {bit}")
+        }
+        Err(PrintFault::Memory) => Err(AllocError),
+    }
 }
 
 /// The payload of a text in hexadecimal, or the place of its fault.
@@ -190,16 +208,50 @@ fn scanned(alloc: Global, text: &str) -> Result<String, AllocError> {
     }
 }
 
+#[test]
+fn payloads_are_printed_and_their_texts_scanned_back(rt: HostRuntime) -> Result<(), Fail> {
+    let mut count = 0u64;
+    for line in LINES.lines() {
+        let (word, rest) = line.split_once(' ').ok_or("a line without a word")?;
+        let (payload, expected) = rest.split_once(' ').ok_or("a line without an answer")?;
+        if word == "ok" {
+            let written = scanned(rt.alloc(), expected)?;
+            assert_eq!(rt; written.as_str(), payload, "{line}");
+        }
+        let payload = bytes_of(rt.alloc(), payload)?;
+        assert!(rt; payload.len() <= 65536);
+        let text = printed(rt.alloc(), payload.as_slice())?;
+        assert_eq!(rt; text.as_str(), expected, "{line}");
+        count = count.wrapping_add(1);
+    }
+    assert_eq!(rt; count, 220);
+    Ok(())
+}
+
 /// Texts, and their payloads or the places of their faults.
-const TEXTS: [(&'static str, &'static str); 4] = [
+const TEXTS: [(&'static str, &'static str); 8] = [
     (
         "supportedAppProtocolRes{ResponseCode=OK_SuccessfulNegotiation SchemaID=1}",
         "80400040",
     ),
     ("x", "0"),
-    // Of the dialect, without what has to be there, and none of it.
+    ("", "0"),
+    // Of the dialect: in another order, without what has to be there, and with a number outside its range.
+    (
+        "supportedAppProtocolRes{SchemaID=1 ResponseCode=OK_SuccessfulNegotiation}",
+        "73",
+    ),
     ("supportedAppProtocolRes{}", "25"),
+    (
+        "supportedAppProtocolRes{ResponseCode=OK_SuccessfulNegotiation SchemaID=256}",
+        "75",
+    ),
+    // None of the dialect, also behind what is no document.
     ("supportedAppProtocolRes{ResponseCode=Bad}", "37"),
+    (
+        "supportedAppProtocolRes{SchemaID=256 ResponseCode=Bad}",
+        "50",
+    ),
 ];
 
 #[test]
@@ -207,33 +259,6 @@ fn texts_are_scanned(rt: HostRuntime) -> Result<(), Fail> {
     for (text, expected) in TEXTS {
         let answer = scanned(rt.alloc(), text)?;
         assert_eq!(rt; answer.as_str(), expected, "{text}");
-    }
-    Ok(())
-}
-
-/// The text of a payload is scanned to that payload.
-fn scanned_back(
-    rt: &impl Abort,
-    alloc: Global,
-    payload: &[u8],
-    line: &str,
-) -> Result<(), AllocError>
-    requires { length payload.now ≤ 65536 }
-{
-    let Ok(text) = print(alloc, payload) else {
-        return Err(AllocError);
-    };
-    let answer = scanned(alloc, text.as_str())?;
-    assert_eq!(rt; answer.as_str(), line);
-    Ok(())
-}
-
-#[test]
-fn printed_texts_are_scanned_back(rt: HostRuntime) -> Result<(), Fail> {
-    for line in PAYLOADS.lines() {
-        let payload = hex::decode(rt.alloc(), line)?;
-        assert!(rt; payload.len() <= 65536);
-        scanned_back(&rt, rt.alloc(), payload.as_slice(), line)?;
     }
     Ok(())
 }

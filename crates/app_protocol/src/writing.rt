@@ -2,16 +2,14 @@
 
 ghost use Rattle.std.specs.Prelude.{◌≡◌, ◌*◌, ◌<◌, ◌≤◌, ◌↔◌, length, take, IfOk, IfErr, IsErr};
 ghost use Rattle.exi_documents.specs.Values.{most_entries};
-ghost use Rattle.app_schema.specs.Declarations.{IsNegotiation};
 ghost use Rattle.app_documents.specs.Trees.{IsMessage};
 ghost use Rattle.app_protocol.specs.Documents.{IsApp, IsAppEncoding, PassesBytes};
 ghost use Rattle.app_protocol.specs.Messages.{message_of};
 
 use crate::message::AppMessage;
 use crate::putting::put_message;
-use crate::schema::{KINDS, NAMES, ROOTS, VALUES};
+use app_schema::negotiation;
 use exi_events::{EventWriter, Full, Table};
-use exi_schema::Schema;
 
 /// Writes the one encoding of a message within its ranges (ISO 15118-2:2014, section 8.2) to the front of a room of at most 65,536
 /// bytes, and returns how many bytes it has. The table, which has room for 8,192 entries, is emptied.
@@ -28,35 +26,8 @@ pub fn write_app(message: &AppMessage, room: &mut [u8], table: &mut Table) -> Re
     ensures full { IsErr result ↔ PassesBytes (message_of message.now) (length room.old) }
     ensures bits { IfErr result (λ full. 8 * length room.old < full.bits) }
 {
-    let schema = Schema {
-        kinds: &KINDS,
-        names: &NAMES,
-        values: &VALUES,
-        root_bits: 2,
-        roots: &ROOTS,
-    };
-    write_with(&schema, message, room, table)
-}
-
-/// Writes with the declarations of the negotiation.
-fn write_with(
-    schema: &Schema,
-    message: &AppMessage,
-    room: &mut [u8],
-    table: &mut Table,
-) -> Result<u32, Full>
-    requires negotiation { IsNegotiation schema.now }
-    requires message { IsMessage (message_of message.now) }
-    requires room { length room.old ≤ 65536 }
-    requires cap { table.old.cap ≡ most_entries }
-    ensures cap { table.new.cap ≡ most_entries }
-    ensures within { IfOk result (λ n. n ≤ length room.new) }
-    ensures written { IfOk result (λ n. IsAppEncoding (message_of message.now) (take n room.new)) }
-    ensures read { IfOk result (λ n. IsApp (message_of message.now) (take n room.new)) }
-    ensures full { IsErr result ↔ PassesBytes (message_of message.now) (length room.old) }
-    ensures bits { IfErr result (λ full. 8 * length room.old < full.bits) }
-{
-    let mut writer = EventWriter::new(room, schema, table);
+    let schema = negotiation();
+    let mut writer = EventWriter::new(room, &schema, table);
     put_message(&mut writer, message)?;
     Ok(writer.finish())
 }

@@ -89,7 +89,7 @@ fn tell<K: Sink>(ended: Ended, report: &PostReport, out: &mut K) -> Status
             if out.write(line.as_slice()).is_err() {
                 return Status::SinkFault;
             }
-            let _ = out.write(b"turns\n");
+            tell_fault(out, b"turns\n");
             Status::TurnsSpent
         }
     }

@@ -18,6 +18,6 @@ pub use reader::EventReader;
 pub use writer::EventWriter;
 
 #[cfg(test)]
-mod negotiation;
+mod choices;
 #[cfg(test)]
 mod tests;

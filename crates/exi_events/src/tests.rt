@@ -5,8 +5,9 @@ ghost use Rattle.exi_documents.specs.Values.{most_entries};
 ghost use Rattle.exi_events.specs.Reader.{IsReady};
 ghost use Rattle.exi_events.specs.Writer.{IsShapedEvent, IsReadyToPut, KeepsLent};
 
-use crate::negotiation::{longer_negotiation, negotiation};
+use crate::choices::four_choices;
 use crate::{Event, EventReader, EventWriter, Full, Refusal, RefusalCause, Table, Value};
+use app_schema::negotiation;
 use exi_schema::Places;
 use exi_strings::Partitions;
 use std::process::Abort;
@@ -99,12 +100,12 @@ fn the_places_that_are_lent_are_asked(rt: HostRuntime) {
         assert!(rt; false);
         return;
     };
-    let schema = longer_negotiation();
+    let schema = four_choices();
     let mut reader = EventReader::new(&PUBLISHED, &schema, &mut table);
     for told in [
         Told::Document(0),
         Told::Start(0),
-        Told::Start(7),
+        Told::Start(1),
         Told::Number(7),
     ] {
         next_is(&rt, &mut reader, &told);

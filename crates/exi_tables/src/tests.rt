@@ -6,6 +6,7 @@ ghost use Rattle.exi_tables.specs.Counts.{attribute_places as places_by_attribut
 
 use super::*;
 use crate::counts::{attribute_places, copy_places, particle_places};
+use app_schema::negotiation;
 use exi_schema::{
     AttributeOf, Datatype, Declaration, Member, MemberStanding, Particle, Place, Places, RootOf,
     Schema,
@@ -13,169 +14,9 @@ use exi_schema::{
 use std::process::Abort;
 use std::test::Fail;
 
-const NAMES: [&'static str; 9] = [
-    "supportedAppProtocolReq",
-    "supportedAppProtocolRes",
-    "AppProtocol",
-    "ProtocolNamespace",
-    "VersionNumberMajor",
-    "VersionNumberMinor",
-    "SchemaID",
-    "Priority",
-    "ResponseCode",
-];
-
-const CODES: [&'static str; 3] = [
-    "OK_SuccessfulNegotiation",
-    "OK_SuccessfulNegotiationWithMinorDeviation",
-    "Failed_NoNegotiation",
-];
+const WORDS: [&'static str; 5] = ["Set", "Entry", "Name", "Small", "Large"];
 
 const NONE: [&'static str; 0] = [];
-
-const VALUES: [&'static [&'static str]; 8] = [
-    &NONE, &NONE, &NONE, &NONE, &CODES, &NONE, &NONE, &NONE,
-];
-
-const ROOTS: [RootOf; 2] = [
-    RootOf {
-        number: 0,
-        name: 0,
-        kind: 6,
-    },
-    RootOf {
-        number: 1,
-        name: 1,
-        kind: 7,
-    },
-];
-
-const PROTOCOL: [Member; 1] = [Member {
-    name: 2,
-    kind: 5,
-    standing: MemberStanding::Taken,
-}];
-
-const NAMESPACE: [Member; 1] = [Member {
-    name: 3,
-    kind: 0,
-    standing: MemberStanding::Taken,
-}];
-
-const MAJOR: [Member; 1] = [Member {
-    name: 4,
-    kind: 1,
-    standing: MemberStanding::Taken,
-}];
-
-const MINOR: [Member; 1] = [Member {
-    name: 5,
-    kind: 1,
-    standing: MemberStanding::Taken,
-}];
-
-const SCHEMA: [Member; 1] = [Member {
-    name: 6,
-    kind: 2,
-    standing: MemberStanding::Taken,
-}];
-
-const PRIORITY: [Member; 1] = [Member {
-    name: 7,
-    kind: 3,
-    standing: MemberStanding::Taken,
-}];
-
-const CODE: [Member; 1] = [Member {
-    name: 8,
-    kind: 4,
-    standing: MemberStanding::Taken,
-}];
-
-const ENTRY: [Particle<'static>; 5] = [
-    Particle {
-        members: &NAMESPACE,
-        least: 1,
-        most: Some(1),
-        profile: 1,
-    },
-    Particle {
-        members: &MAJOR,
-        least: 1,
-        most: Some(1),
-        profile: 1,
-    },
-    Particle {
-        members: &MINOR,
-        least: 1,
-        most: Some(1),
-        profile: 1,
-    },
-    Particle {
-        members: &SCHEMA,
-        least: 1,
-        most: Some(1),
-        profile: 1,
-    },
-    Particle {
-        members: &PRIORITY,
-        least: 1,
-        most: Some(1),
-        profile: 1,
-    },
-];
-
-const REQUEST: [Particle<'static>; 1] = [Particle {
-    members: &PROTOCOL,
-    least: 1,
-    most: Some(20),
-    profile: 20,
-}];
-
-const RESPONSE: [Particle<'static>; 2] = [
-    Particle {
-        members: &CODE,
-        least: 1,
-        most: Some(1),
-        profile: 1,
-    },
-    Particle {
-        members: &SCHEMA,
-        least: 0,
-        most: Some(1),
-        profile: 1,
-    },
-];
-
-const KINDS: [Declaration<'static>; 8] = [
-    Declaration::Simple(Datatype::Text { most: 100 }),
-    Declaration::Simple(Datatype::Unsigned {
-        most: 4_294_967_295,
-    }),
-    Declaration::Simple(Datatype::Bounded {
-        least: 0,
-        count: 256,
-    }),
-    Declaration::Simple(Datatype::Bounded {
-        least: 1,
-        count: 20,
-    }),
-    Declaration::Simple(Datatype::Named { count: 3 }),
-    Declaration::Complex {
-        attributes: &[],
-        particles: &ENTRY,
-    },
-    Declaration::Complex {
-        attributes: &[],
-        particles: &REQUEST,
-    },
-    Declaration::Complex {
-        attributes: &[],
-        particles: &RESPONSE,
-    },
-];
-
-const WORDS: [&'static str; 5] = ["Set", "Entry", "Name", "Small", "Large"];
 
 const NO_VALUES: [&'static [&'static str]; 3] = [&NONE, &NONE, &NONE];
 
@@ -321,14 +162,9 @@ fn compare_kind(rt: &impl Abort, schema: &Schema, rows: &Rows, kind: u16) -> usi
 
 #[test]
 fn rows_answer_as_the_schema_at_each_place_of_the_negotiation(rt: HostRuntime) -> Result<(), Fail> {
-    let schema = Schema {
-        kinds: &KINDS,
-        names: &NAMES,
-        values: &VALUES,
-        root_bits: 2,
-        roots: &ROOTS,
-    };
+    let schema = negotiation();
     let rows = compile(rt.alloc(), &schema)?;
+    assert_eq!(rt; schema.kinds.len(), 8);
     for (kind, places) in [
         (0, 2),
         (1, 2),

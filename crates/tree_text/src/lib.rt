@@ -19,8 +19,4 @@ pub use print::print_tree;
 pub use scan::scan_tree;
 
 #[cfg(test)]
-mod lines;
-#[cfg(test)]
-mod negotiation;
-#[cfg(test)]
 mod tests;

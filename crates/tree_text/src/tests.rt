@@ -1,11 +1,9 @@
-//! Payloads and the texts of their trees.
+//! Payloads and the texts of their trees, in a schema with each form of a value.
 
 ghost use Rattle.std.specs.Prelude.{◌≡◌, ◌≤◌, true, length};
 ghost use Rattle.tree_text.specs.Consistent.{are_consistent};
 
 use super::*;
-use crate::lines::LINES;
-use crate::negotiation::{KINDS, NAMES, ROOTS, VALUES};
 use exi_schema::{
     AttributeOf, Datatype, Declaration, Member, MemberStanding, Particle, RootOf, Schema,
 };
@@ -37,93 +35,17 @@ fn encoding(alloc: Global, text: &str, schema: &Schema) -> Result<String, AllocE
     }
 }
 
-/// The bytes of hexadecimal text; a dash is none.
-fn bytes_of(alloc: Global, text: &str) -> Result<Vec<u8>, Fail> {
-    if text == "-" {
-        return Ok(Vec::new(alloc));
-    }
-    Ok(hex::decode(alloc, text)?)
-}
-
-#[test]
-fn payloads_of_the_negotiation(rt: HostRuntime) -> Result<(), Fail> {
-    let schema = Schema {
-        kinds: &KINDS,
-        names: &NAMES,
-        values: &VALUES,
-        root_bits: 2,
-        roots: &ROOTS,
-    };
-    let mut count = 0u64;
-    for line in LINES.lines() {
-        let (word, rest) = line.split_once(' ').ok_or("a line without a word")?;
-        let (payload, expected) = rest.split_once(' ').ok_or("a line without an answer")?;
-        if word == "ok" {
-            let written = encoding(rt.alloc(), expected, &schema)?;
-            assert_eq!(rt; written.as_str(), payload, "{line}");
-        }
-        let payload = bytes_of(rt.alloc(), payload)?;
-        assert!(rt; payload.len() <= 65536);
-        let text = answer(rt.alloc(), payload.as_slice(), &schema)?;
-        assert_eq!(rt; text.as_str(), expected, "{line}");
-        count = count.wrapping_add(1);
-    }
-    assert_eq!(rt; count, 220);
-    Ok(())
-}
-
-/// Texts, and their encodings or the places of their faults.
-const TEXTS: [(&'static str, &'static str); 7] = [
-    (
-        "supportedAppProtocolRes{ResponseCode=OK_SuccessfulNegotiation SchemaID=1}",
-        "80400040",
-    ),
-    ("x", "0"),
-    ("", "0"),
-    // Of the dialect: in another order, without what has to be there, and with a number outside its range.
-    (
-        "supportedAppProtocolRes{SchemaID=1 ResponseCode=OK_SuccessfulNegotiation}",
-        "73",
-    ),
-    ("supportedAppProtocolRes{}", "25"),
-    (
-        "supportedAppProtocolRes{ResponseCode=OK_SuccessfulNegotiation SchemaID=256}",
-        "75",
-    ),
-    // None of the dialect, behind what is no document.
-    (
-        "supportedAppProtocolRes{SchemaID=256 ResponseCode=Bad}",
-        "50",
-    ),
-];
-
-#[test]
-fn texts_of_the_negotiation(rt: HostRuntime) -> Result<(), Fail> {
-    let schema = Schema {
-        kinds: &KINDS,
-        names: &NAMES,
-        values: &VALUES,
-        root_bits: 2,
-        roots: &ROOTS,
-    };
-    for (text, expected) in TEXTS {
-        let written = encoding(rt.alloc(), text, &schema)?;
-        assert_eq!(rt; written.as_str(), expected, "{text}");
-    }
-    Ok(())
-}
-
-const ALL_NAMES: [&'static str; 8] = ["All", "Id", "Unit", "Flag", "Power", "Data", "Low", "Empty"];
+const NAMES: [&'static str; 8] = ["All", "Id", "Unit", "Flag", "Power", "Data", "Low", "Empty"];
 
 const UNITS: [&'static str; 2] = ["W", "V"];
 
 const NONE: [&'static str; 0] = [];
 
-const ALL_VALUES: [&'static [&'static str]; 8] = [
+const VALUES: [&'static [&'static str]; 8] = [
     &NONE, &UNITS, &NONE, &NONE, &NONE, &NONE, &NONE, &NONE,
 ];
 
-const ALL_ROOTS: [RootOf; 1] = [RootOf {
+const ROOTS: [RootOf; 1] = [RootOf {
     number: 0,
     name: 0,
     kind: 7,
@@ -205,7 +127,7 @@ const PARTS: [Particle<'static>; 5] = [
     },
 ];
 
-const ALL_KINDS: [Declaration<'static>; 8] = [
+const KINDS: [Declaration<'static>; 8] = [
     Declaration::Simple(Datatype::Text { most: 10 }),
     Declaration::Simple(Datatype::Named { count: 2 }),
     Declaration::Simple(Datatype::Bool),
@@ -228,22 +150,68 @@ const ALL_KINDS: [Declaration<'static>; 8] = [
     },
 ];
 
+/// Header and root, @Id of three code points, @Unit by its ordinal, then Flag, Power, Data, Low, Empty and the ends.
+const EACH_FORM: &'static str = "8000561220a24604080155860200";
+
+/// Payloads in hexadecimal, and the texts of their trees or why and at which bit they are refused.
+const PAYLOADS: [(&'static str, &'static str); 5] = [
+    (
+        EACH_FORM,
+        r#"All{@Id="a\"\u{a}" @Unit=V Flag=true Power=-258 Data=ab0c Low=-1 Empty{}}"#,
+    ),
+    ("", "ShortInput 0"),
+    ("0000561220a24604080155860200", "BadHeader 0"),
+    ("80c0561220a24604080155860200", "NoSuchCode 8"),
+    ("8000561220a2460408015586020000", "Trailing 112"),
+];
+
 #[test]
-fn each_form_of_a_value(rt: HostRuntime) -> Result<(), Fail> {
+fn payloads_are_printed_or_refused(rt: HostRuntime) -> Result<(), Fail> {
     let schema = Schema {
-        kinds: &ALL_KINDS,
-        names: &ALL_NAMES,
-        values: &ALL_VALUES,
+        kinds: &KINDS,
+        names: &NAMES,
+        values: &VALUES,
         root_bits: 2,
-        roots: &ALL_ROOTS,
+        roots: &ROOTS,
     };
-    // Header and root, @Id of three code points, @Unit by its ordinal, then Flag, Power, Data, Low, Empty and the ends.
-    let payload = bytes_of(rt.alloc(), "8000561220a24604080155860200")?;
-    assert!(rt; payload.len() <= 65536);
-    let text = answer(rt.alloc(), payload.as_slice(), &schema)?;
-    assert_eq!(rt;
-        text.as_str(),
-        r#"All{@Id="a\"\u{a}" @Unit=V Flag=true Power=-258 Data=ab0c Low=-1 Empty{}}"#
-    );
+    for (payload, expected) in PAYLOADS {
+        let bytes = hex::decode(rt.alloc(), payload)?;
+        assert!(rt; bytes.len() <= 65536);
+        let text = answer(rt.alloc(), bytes.as_slice(), &schema)?;
+        assert_eq!(rt; text.as_str(), expected, "{payload}");
+    }
+    Ok(())
+}
+
+/// Texts, and their encodings or the places of their faults.
+const TEXTS: [(&'static str, &'static str); 8] = [
+    (
+        r#"All{@Id="a\"\u{a}" @Unit=V Flag=true Power=-258 Data=ab0c Low=-1 Empty{}}"#,
+        EACH_FORM,
+    ),
+    ("x", "0"),
+    ("", "0"),
+    ("All{Flag=true", "13"),
+    // Of the dialect: in another order, without what has to be there, and with a number outside its range.
+    ("All{Power=1 Flag=true}", "22"),
+    ("All{}", "5"),
+    ("All{Flag=true Power=1001 Data= Low=0}", "37"),
+    // None of the dialect, behind what is no document.
+    ("All{Low=7 Flag=Bad}", "15"),
+];
+
+#[test]
+fn texts_are_scanned(rt: HostRuntime) -> Result<(), Fail> {
+    let schema = Schema {
+        kinds: &KINDS,
+        names: &NAMES,
+        values: &VALUES,
+        root_bits: 2,
+        roots: &ROOTS,
+    };
+    for (text, expected) in TEXTS {
+        let written = encoding(rt.alloc(), text, &schema)?;
+        assert_eq!(rt; written.as_str(), expected, "{text}");
+    }
     Ok(())
 }
