@@ -5,3 +5,6 @@ pub mod names;
 mod tables;
 
 pub use tables::negotiation;
+
+#[cfg(test)]
+mod tests;

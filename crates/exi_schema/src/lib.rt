@@ -9,6 +9,3 @@ mod walk;
 pub use places::{Place, Places, Root, Step};
 pub use schema::Schema;
 pub use tables::{AttributeOf, Datatype, Declaration, Member, MemberStanding, Particle, RootOf};
-
-#[cfg(test)]
-mod tests;
