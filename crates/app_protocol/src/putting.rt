@@ -25,10 +25,7 @@ struct NumberField {
 }
 
 /// Puts an event that may be put.
-fn put_one(
-    writer: &mut EventWriter<Schema>,
-    event: &Event,
-) -> Result<(), Full>
+fn put_one(writer: &mut EventWriter<Schema>, event: &Event) -> Result<(), Full>
     requires ready { IsReadyToPut writer.old }
     requires open_still { writer.old.full ≡ None }
     requires telling { IsTelling event.now }
@@ -44,10 +41,7 @@ fn put_one(
 }
 
 /// Puts events that may be put, one after the other.
-fn put_all(
-    writer: &mut EventWriter<Schema>,
-    events: &[Event],
-) -> Result<(), Full>
+fn put_all(writer: &mut EventWriter<Schema>, events: &[Event]) -> Result<(), Full>
     requires ready { IsReadyToPut writer.old }
     requires open_still { writer.old.full ≡ None }
     requires telling { AreTelling events.now }
@@ -66,11 +60,7 @@ fn put_all(
 }
 
 /// Puts an element with a text.
-fn put_text(
-    writer: &mut EventWriter<Schema>,
-    name: u16,
-    text: &str,
-) -> Result<(), Full>
+fn put_text(writer: &mut EventWriter<Schema>, name: u16, text: &str) -> Result<(), Full>
     requires ready { IsReadyToPut writer.old }
     requires open_still { writer.old.full ≡ None }
     requires may { MayPut writer.old.places.now (draft_of writer.old).state (text_events name text.now) }
@@ -82,18 +72,12 @@ fn put_text(
     ensures bits { IfErr result (λ full. 8 * length writer.old.room.now < full.bits) }
 {
     put_one(writer, &Event::Start(name))?;
-    put_one(
-        writer,
-        &Event::Value(Value::Written(text)),
-    )?;
+    put_one(writer, &Event::Value(Value::Written(text)))?;
     put_one(writer, &Event::EndElement)
 }
 
 /// Puts an element with a number.
-fn put_number(
-    writer: &mut EventWriter<Schema>,
-    field: &NumberField,
-) -> Result<(), Full>
+fn put_number(writer: &mut EventWriter<Schema>, field: &NumberField) -> Result<(), Full>
     requires ready { IsReadyToPut writer.old }
     requires open_still { writer.old.full ≡ None }
     requires may { MayPut writer.old.places.now (draft_of writer.old).state (number_events field.now) }
@@ -115,10 +99,7 @@ fn put_number(
 }
 
 /// Puts elements with numbers, one after the other.
-fn put_numbers(
-    writer: &mut EventWriter<Schema>,
-    fields: &[NumberField],
-) -> Result<(), Full>
+fn put_numbers(writer: &mut EventWriter<Schema>, fields: &[NumberField]) -> Result<(), Full>
     requires ready { IsReadyToPut writer.old }
     requires open_still { writer.old.full ≡ None }
     requires may { MayPut writer.old.places.now (draft_of writer.old).state (flat_map number_events fields.now) }
@@ -136,10 +117,7 @@ fn put_numbers(
 }
 
 /// Puts the fields of an AppProtocol.
-fn put_fields(
-    writer: &mut EventWriter<Schema>,
-    protocol: &AppProtocol,
-) -> Result<(), Full>
+fn put_fields(writer: &mut EventWriter<Schema>, protocol: &AppProtocol) -> Result<(), Full>
     requires ready { IsReadyToPut writer.old }
     requires open_still { writer.old.full ≡ None }
     requires may { MayPut writer.old.places.now (draft_of writer.old).state (field_events (protocol_of protocol.now)) }
@@ -150,11 +128,7 @@ fn put_fields(
     ensures full { OnErr result (HasNoRoomFor writer.old.places.now (draft_of writer.old) (field_events (protocol_of protocol.now))) }
     ensures bits { IfErr result (λ full. 8 * length writer.old.room.now < full.bits) }
 {
-    put_text(
-        writer,
-        NAMESPACE,
-        protocol.namespace.as_str(),
-    )?;
+    put_text(writer, NAMESPACE, protocol.namespace.as_str())?;
     put_numbers(
         writer,
         &[
@@ -179,10 +153,7 @@ fn put_fields(
 }
 
 /// Puts an AppProtocol.
-fn put_protocol(
-    writer: &mut EventWriter<Schema>,
-    protocol: &AppProtocol,
-) -> Result<(), Full>
+fn put_protocol(writer: &mut EventWriter<Schema>, protocol: &AppProtocol) -> Result<(), Full>
     requires ready { IsReadyToPut writer.old }
     requires open_still { writer.old.full ≡ None }
     requires may { MayPut writer.old.places.now (draft_of writer.old).state (protocol_events (protocol_of protocol.now)) }
@@ -199,10 +170,7 @@ fn put_protocol(
 }
 
 /// Puts AppProtocols, one after the other.
-fn put_protocols(
-    writer: &mut EventWriter<Schema>,
-    protocols: &[AppProtocol],
-) -> Result<(), Full>
+fn put_protocols(writer: &mut EventWriter<Schema>, protocols: &[AppProtocol]) -> Result<(), Full>
     requires ready { IsReadyToPut writer.old }
     requires open_still { writer.old.full ≡ None }
     requires may { MayPut writer.old.places.now (draft_of writer.old).state (flat_map (λ p. protocol_events (protocol_of p)) protocols.now) }
@@ -220,10 +188,7 @@ fn put_protocols(
 }
 
 /// Puts the document of a request.
-fn put_request(
-    writer: &mut EventWriter<Schema>,
-    request: &AppReq,
-) -> Result<(), Full>
+fn put_request(writer: &mut EventWriter<Schema>, request: &AppReq) -> Result<(), Full>
     requires ready { IsReadyToPut writer.old }
     requires open_still { writer.old.full ≡ None }
     requires may { MayPut writer.old.places.now (draft_of writer.old).state (message_events (Request (protocols_of request.now))) }
@@ -234,19 +199,13 @@ fn put_request(
     ensures full { OnErr result (HasNoRoomFor writer.old.places.now (draft_of writer.old) (message_events (Request (protocols_of request.now)))) }
     ensures bits { IfErr result (λ full. 8 * length writer.old.room.now < full.bits) }
 {
-    put_all(
-        writer,
-        &[Event::Document(0), Event::Start(0)],
-    )?;
+    put_all(writer, &[Event::Document(0), Event::Start(0)])?;
     put_protocols(writer, request.protocols.as_slice())?;
     put_one(writer, &Event::EndElement)
 }
 
 /// Puts the document of a response.
-fn put_response(
-    writer: &mut EventWriter<Schema>,
-    response: &AppRes,
-) -> Result<(), Full>
+fn put_response(writer: &mut EventWriter<Schema>, response: &AppRes) -> Result<(), Full>
     requires ready { IsReadyToPut writer.old }
     requires open_still { writer.old.full ≡ None }
     requires may { MayPut writer.old.places.now (draft_of writer.old).state (message_events (Response (ordinal_of response.now.code) response.now.schema)) }
@@ -272,10 +231,7 @@ fn put_response(
 }
 
 /// Puts the SchemaID of a response, if it has one.
-fn put_schema(
-    writer: &mut EventWriter<Schema>,
-    schema_id: Option<u8>,
-) -> Result<(), Full>
+fn put_schema(writer: &mut EventWriter<Schema>, schema_id: Option<u8>) -> Result<(), Full>
     requires ready { IsReadyToPut writer.old }
     requires open_still { writer.old.full ≡ None }
     requires may { MayPut writer.old.places.now (draft_of writer.old).state (events_of (schema_tree schema_id)) }

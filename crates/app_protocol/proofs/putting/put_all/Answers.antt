@@ -1,4 +1,3 @@
-use Rattle.std.proofs.Common.{refl, ◌∙◌}
 use Rattle.std.proofs.lemmas.Result.{err_from_is_err_and}
 use Rattle.exi_values.specs.Meaning.{event_of}
 use Rattle.exi_events.specs.Writer.{draft_of}

@@ -1,5 +1,5 @@
 use Rattle.std.proofs.lemmas.List.{take_more}
-use Rattle.std.proofs.Common.{refl, get_or, ◌∙◌}
+use Rattle.std.proofs.Common.{get_or}
 use Rattle.std.proofs.lemmas.Result.{err_from_is_err_and}
 use Rattle.exi_events.specs.Writer.{draft_of}
 use Rattle.exi_events.proofs.Drafts.{lent_both}

@@ -1,4 +1,4 @@
-use Rattle.std.proofs.Common.{[], ◌∷◌, refl}
+use Rattle.std.proofs.Common.{[], ◌∷◌}
 use Rattle.std.proofs.lemmas.Result.{err_from_is_err_and}
 use Rattle.exi_documents.specs.Trees.{EndElement, events_of}
 use Rattle.app_documents.specs.Trees.{Response, schema_tree}

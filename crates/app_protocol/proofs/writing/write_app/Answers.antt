@@ -1,7 +1,7 @@
 use Rattle.std.proofs.Common.{rules, ℕ, List, length, take, ap, subst}
 use Rattle.exi_events.specs.Writer.{draft_of}
 use Rattle.exi_events.proofs.Drafts.{within_room}
-use Rattle.app_protocol.specs.Documents.{IsAppEncoding, IsApp}
+use Rattle.app_protocol.specs.Documents.{IsAppEncoding}
 use Rattle.app_protocol.specs.Messages.{message_of}
 use Rattle.app_protocol.proofs.Encoded.{may_begin, is_encoded, passes, fitted, read_back}
 use Rattle.app_protocol.proofs.writing.write_app.Goals as goal
