@@ -10,4 +10,4 @@ pub returns-clause-fault : goal.returns-clause-fault
 returns-clause-fault c = IfErr-weaker c.scan_tree.result _ _ (scan_fault_told c.negotiation.result c.args.text.now c.negotiation.ensures) c.scan_tree.ensures.fault
 
 pub scan_tree-requires : goal.scan_tree-requires
-scan_tree-requires c = is_consistent_negotiation c.negotiation.result c.negotiation.ensures
+scan_tree-requires c = record { consistent = is_consistent_negotiation c.negotiation.result c.negotiation.ensures }
