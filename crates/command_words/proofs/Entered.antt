@@ -11,7 +11,7 @@ use Rattle.clap.proofs.FaultLemmas.{stopped_fault}
 use Rattle.clap.proofs.WalkLemmas.{walk_stopped}
 use Rattle.clap.proofs.OnLiterals.{clap_on_literals}
 use Rattle.command_words.specs.Grammar.{bare, on_dialect, program}
-use Rattle.command_words.proofs.Leaves.{IsPlain, fault_below, rows_below}
+use Rattle.command_words.proofs.Leaves.{IsNoOption, fault_below, rows_below}
 
 pub simple_and_free : is_simple_and_free program ≡ true
 unfolding clap_on_literals
@@ -75,7 +75,7 @@ enters_rows decode rest = rw (walks_on (name_of decode) rest) refl
 enters_rows encode rest = rw (walks_on (name_of encode) rest) refl
 
 -- another word is refused
-pub other_word : (w : Text) (rest : List Text) → IsPlain w → bytes_eq (codes "station") w ≡ false → bytes_eq (codes "decode") w ≡ false → bytes_eq (codes "encode") w ≡ false →
-    fault_of program (w ∷ rest) ≡ UnknownArgument ∷ InvalidSubcommand ∷ []
+pub other_word : (w : Text) (rest : List Text) → IsNoOption w → bytes_eq (name_of station) w ≡ false → bytes_eq (name_of decode) w ≡ false → bytes_eq (name_of encode) w ≡ false
+    → fault_of program (w ∷ rest) ≡ UnknownArgument ∷ InvalidSubcommand ∷ []
 unfolding clap_on_literals
 other_word w rest h a b c = rw (a, b, c, h.no_dashes, h.not_long, h.not_short) refl
