@@ -1,8 +1,8 @@
 -- Each step at a place of a schema is the schema's, and so is the place behind it.
-use Rattle.std.proofs.Common.{◌≡◌, ℕ, zero, suc, ◌+◌, ◌<◌, ◌≤◌, nat_lt, Bool, true, false, ◌&&◌, if◌then◌else◌, List, [], ◌∷◌, ◌++◌, length, drop, map, get_or, Option, Some, None, refl, ap, subst, sym, ◌∙◌, inl, inr, ◌-◌, length-drop, arith, rules, IsSome}
+use Rattle.std.proofs.Common.{◌≡◌, ℕ, zero, suc, ◌+◌, ◌<◌, ◌≤◌, nat_lt, Bool, true, false, ◌&&◌, if◌then◌else◌, List, [], ◌∷◌, ◌++◌, length, drop, map, Option, Some, None, refl, ap, subst, sym, ◌∙◌, inl, inr, ◌-◌, length-drop, arith, rules, IsSome}
 use Rattle.std.proofs.lemmas.Bool.{leb-true, ltb-true}
-use Rattle.std.specs.Prelude.{slice_get, ◌==◌, All}
-use Rattle.std.proofs.lemmas.Option.{slice_get-get_or, slice_get_cases}
+use Rattle.std.specs.Prelude.{slice_get, ◌==◌}
+use Rattle.std.proofs.lemmas.Option.{slice_get_cases}
 use Rattle.exi_schema.specs.Schemas.{PlainSchema}
 use Rattle.exi_schema.specs.declared.tables.Datatype.{Datatype}
 use Rattle.exi_schema.specs.declared.places.Step.TheVariants.{Characters, End}
@@ -16,7 +16,7 @@ use Rattle.exi_schema.specs.declared.places.Step.{Step}
 use Rattle.exi_schema.specs.Offers.{through_required, attribute_steps, element_step, element_steps, behind_copy, leaves_room, FitsCopies, FitsParticles, IsPlaceAmong, IsPlaceIn, IsPlaceOf, IsPlace, simple_step, complex_steps}
 use Rattle.exi_schema.specs.Schemas.{is_attribute, is_particle, is_most, is_simple, can_be_there, is_within, particles_of}
 use Rattle.exi_schema.specs.Steps.{IsStep, datatype_of, simple_at}
-use Rattle.exi_schema.proofs.Conditions.{and-l, and-r, all_get, IsComplex, complex_in}
+use Rattle.exi_schema.proofs.Conditions.{and-l, and-r, IsComplex, complex_in}
 
 abbrev pub EachStep : List PlainKind → ℕ → ℕ → List Step → Type 0
 EachStep kinds names here [] = Unit {0}

@@ -1,5 +1,5 @@
 -- The first root with a document number is the element that the number names.
-use Rattle.std.proofs.Common.{◌≡◌, ℕ, zero, suc, Bool, true, false, if◌then◌else◌, List, [], ◌∷◌, Some, refl, ap, ◌∙◌, subst, inl, inr, eqb-true, nat_lt, nat_le, not, ◌&&◌, ◌^◌, length, map}
+use Rattle.std.proofs.Common.{◌≡◌, ℕ, zero, suc, Bool, true, false, if◌then◌else◌, List, [], ◌∷◌, Some, refl, ap, ◌∙◌, inl, inr, eqb-true, nat_lt, nat_le, not, ◌&&◌, ◌^◌, length}
 use Rattle.std.proofs.lemmas.Bool.{ltb-true}
 use Rattle.std.specs.List.{list_all}
 use Rattle.exi_schema.specs.Plain.{PlainKind}

@@ -1,21 +1,22 @@
 -- What is found in the tables of a schema is what the schema tells.
-use Rattle.std.proofs.Common.{◌≡◌, ℕ, ◌+◌, ◌-◌, ◌<◌, ◌≤◌, true, List, length, drop, get_or, Some, ap, subst, sym, ◌∙◌, arith}
+use Rattle.std.proofs.Common.{◌≡◌, ℕ, ◌+◌, ◌-◌, ◌<◌, ◌≤◌, true, if◌then◌else◌, List, length, drop, get_or, Some, ap, subst, ◌∙◌, arith}
 use Rattle.std.proofs.lemmas.Bool.{ltb-true}
-use Rattle.std.proofs.lemmas.List.{length-map}
+use Rattle.std.proofs.lemmas.List.{length-map, drop-map}
 use Rattle.std.proofs.lemmas.Option.{slice_get-get_or}
 use Rattle.std.proofs.Math.ListN.{get_or-map}
 use Rattle.std.specs.Prelude.{slice_get, All}
-use Rattle.std.specs.List.{list_all}
+use Rattle.std.specs.List.{list_any, list_all}
 use Rattle.exi_schema.specs.declared.places.Place.{Place}
+use Rattle.exi_schema.specs.declared.tables.AttributeOf.{AttributeOf}
 use Rattle.exi_schema.specs.declared.tables.Declaration.{Declaration}
 use Rattle.exi_schema.specs.declared.tables.Member.{Member}
 use Rattle.exi_schema.specs.declared.tables.Particle.{Particle}
 use Rattle.exi_schema.specs.Counts.{element_total}
-use Rattle.exi_schema.specs.Offers.{element_step, element_steps, IsPlace, IsPlaceIn}
+use Rattle.exi_schema.specs.Offers.{through_required, complex_steps, element_step, element_steps, IsPlace, IsPlaceIn}
 use Rattle.exi_schema.specs.Plain.{PlainParticle, plain_particle, plain_particles, plain_kind, plain_kinds}
 use Rattle.exi_schema.specs.Schemas.{is_particle, is_most, can_be_there}
 use Rattle.exi_schema.proofs.Conditions.{and-l, and-r, all_get, found_kind}
-use Rattle.exi_schema.proofs.Walks.{found_at, passed_at}
+use Rattle.exi_schema.proofs.Walks.{found_at, passed_at, length_complex}
 
 -- the kind of a place
 pub found_declared : (kinds : List Declaration) (place : Place) (d declaration : Declaration) → IsPlace (plain_kinds kinds) place → get_or kinds place.kind d ≡ declaration →
@@ -49,6 +50,15 @@ passed_in here attributes at copies left particles d within =
     ≡ slice_get (element_steps here attributes at copies (drop at (plain_particles particles))) left) in
     subst P (get_or-map plain_particle particles at d)
     (passed_at here attributes at copies left (plain_particles particles) (plain_particle d) (within_plain particles at within))
+
+-- how many steps there are at a place of a complex kind
+pub length_in : (place : Place) (attributes : List AttributeOf) (particles : List Particle) →
+    length (complex_steps place attributes (plain_particles particles)) ≡ length (through_required (drop place.attributes attributes))
+    + (if list_any (λ attribute. attribute.required) (drop place.attributes attributes) then 0 else element_total place.copies (plain_particles (drop place.particle particles)))
+length_in place attributes particles =
+    let P : List PlainParticle → Type 0 = λ left. length (complex_steps place attributes (plain_particles particles)) ≡ length (through_required (drop place.attributes attributes))
+    + (if list_any (λ attribute. attribute.required) (drop place.attributes attributes) then 0 else element_total place.copies left) in
+    subst P (drop-map plain_particle place.particle particles) (length_complex place attributes (plain_particles particles))
 
 pub profiles_fit : (names kinds : ℕ) (particles : List Particle) → list_all (is_particle names kinds) (plain_particles particles) ≡ true →
     All (λ particle. particle.profile < 65536) particles

@@ -146,7 +146,7 @@ fn any_required(attributes: &[AttributeOf]) -> bool
 }
 
 /// How many codes are offered at a place of a complex kind.
-#[tactic(auto, using(crate::proofs::Walks::length_complex))]
+#[tactic(auto, using(crate::proofs::TablesTell::length_in))]
 pub(crate) fn complex_count(attributes: &[AttributeOf], particles: &[Particle], place: Place) -> u16
     requires place { IsPlaceAmong place attributes.now (plain_particles particles.now) }
     requires few { length (complex_steps place attributes.now (plain_particles particles.now)) ≤ 65535 }

@@ -1,6 +1,7 @@
-use Rattle.std.proofs.Common.{◌∙◌, ◌<◌, ap, sym, subst, length, Option, Some}
+use Rattle.std.proofs.Common.{◌∙◌, ◌<◌, ap, sym, subst, length, arith, Option, Some}
+use Rattle.std.proofs.lemmas.List.{length-map}
 use Rattle.std.specs.Prelude.{slice_get}
-use Rattle.exi_schema.specs.Plain.{PlainKind, plain_particles}
+use Rattle.exi_schema.specs.Plain.{PlainKind, plain_particle, plain_particles}
 use Rattle.exi_schema.specs.Told.{schema_of}
 use Rattle.exi_schema.specs.declared.places.Step.{Step}
 use Rattle.exi_schema.specs.Offers.{offers_of, complex_steps}
@@ -9,6 +10,17 @@ use Rattle.exi_schema.proofs.Conditions.{complex_in}
 use Rattle.exi_schema.proofs.TablesTell.{found_declared, profiles_fit}
 use Rattle.exi_schema.proofs.Fitting.{each_complex, each_get, simple_fits, first_code}
 use Rattle.exi_schema.proofs.schema.SchemaPlaces.advance.Goals as goal
+
+pub complex_step-requires-clause-attributes : goal.complex_step-requires-clause-attributes
+complex_step-requires-clause-attributes c =
+    let at = found_declared c.args.self.now.kinds.now c.args.place _ _ c.requires.place c.in-Complex.is in
+    (complex_in (schema_of c.args.self.now) c.args.place.kind _ _ at.0).few_attributes
+
+pub complex_step-requires-clause-particles : goal.complex_step-requires-clause-particles
+complex_step-requires-clause-particles c =
+    let at = found_declared c.args.self.now.kinds.now c.args.place _ _ c.requires.place c.in-Complex.is in
+    let few = (complex_in (schema_of c.args.self.now) c.args.place.kind _ _ at.0).few_particles in
+    omega (arith, few, length-map c.in-Complex.particles.now plain_particle)
 
 pub complex_step-requires-clause-profiles : goal.complex_step-requires-clause-profiles
 complex_step-requires-clause-profiles c =
