@@ -17,24 +17,24 @@ use Rattle.exi_documents.specs.Trees.{Value, Trees, none, simple, complex, Tree,
 use Rattle.exi_documents.specs.Grammar.{Standing, Before, AtRoot, Inside, State, stands, Moves}
 use Rattle.exi_documents.specs.Values.{Entries, SpellsValue, WritesValue}
 use Rattle.exi_documents.specs.Documents.{Speller, SpellsStep, SpellsSimple, SpellsAttributes, SpellsTrees, SpellsTree, SpellsDocument, IsDocument, IsEncoding, name_of, element, first, header}
-use Rattle.document_laws.specs.Laws.{AreInRange, WritesOnce, AreBytes, IsOneEncoding}
+use Rattle.document_laws.specs.Laws.{WritesOnce, AreBytes, IsOneEncoding}
 use Rattle.document_laws.proofs.Fits.{step_fits, root_kind, one_numbered, distinct_names}
 use Rattle.document_laws.proofs.Names.{element_key, attribute_key, end_key, one_taken_by, ones_at}
-use Rattle.document_laws.proofs.Written.{value_spelled, value_once}
+use Rattle.document_laws.proofs.Written.{value_spelled, range_at, value_once}
 
 one_of : {X : Type 0} (o : Option X) (x y : X) → o ≡ Some x → o ≡ Some y → x ≡ y
 one_of {X} o x y p q = let e : Some x ≡ Some y = sym p ∙ q in cc
 
 -- ---- what is written spells
 
-module _ (s : PlainSchema) (fit : AreInRange s.kinds) where
+module _ (s : PlainSchema) where
   simple_spelled : (kind : ℕ) (entries after : Entries) (name : ℕ) (value : Value) (bits : List Bool) → SpellsSimple WritesValue s.kinds kind entries name value bits after → SpellsSimple SpellsValue s.kinds kind entries name value bits after
   simple_spelled kind entries after name value bits h =
       record {
         datatype = h.datatype;
         is_simple = h.is_simple;
         inside = h.inside;
-        spelled = value_spelled h.datatype entries name value (fit kind h.datatype h.is_simple) h.inside after h.spelled;
+        spelled = value_spelled h.datatype entries name value (range_at s kind h.datatype h.is_simple) h.inside after h.spelled;
         bits_are = h.bits_are;
       }
 
@@ -50,7 +50,7 @@ module _ (s : PlainSchema) (fit : AreInRange s.kinds) where
     h.6,
     h.7,
     h.8,
-    value_spelled h.2 entries attribute.0 attribute.1 (fit h.0 h.2 h.8) h.5 h.3 h.9,
+    value_spelled h.2 entries attribute.0 attribute.1 (range_at s h.0 h.2 h.8) h.5 h.3 h.9,
     attributes_spelled h.1 there h.3 after attributes h.6 h.10,
     h.11,
   )
@@ -86,9 +86,9 @@ module _ (s : PlainSchema) (fit : AreInRange s.kinds) where
   event_at (AtRoot root kind) entries new (Start name) bits m = m
   event_at (Inside top above) entries new (Start name) bits m = m
   event_at (Inside top above) entries new (Attribute name value) bits m =
-      (m.0, m.1, m.2, m.3, m.4, m.5, m.6, m.7, value_spelled m.2 entries name value (fit m.0 m.2 m.7) m.5 m.3 m.8, m.9, m.10)
+      (m.0, m.1, m.2, m.3, m.4, m.5, m.6, m.7, value_spelled m.2 entries name value (range_at s m.0 m.2 m.7) m.5 m.3 m.8, m.9, m.10)
   event_at (Inside top above) entries new (Content value) bits m =
-      (m.0, m.1, m.2, m.3, m.4, m.5, m.6, value_spelled m.1 entries top.name value (fit top.place.kind m.1 m.6) m.4 m.2 m.7, m.8, m.9)
+      (m.0, m.1, m.2, m.3, m.4, m.5, m.6, value_spelled m.1 entries top.name value (range_at s top.place.kind m.1 m.6) m.4 m.2 m.7, m.8, m.9)
   event_at (Inside top above) entries new EndElement bits m = m
   event_at standing entries new event bits m = absurd m
 

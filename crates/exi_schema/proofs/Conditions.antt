@@ -6,12 +6,14 @@ use Rattle.std.specs.Prelude.{slice_get}
 use Rattle.std.specs.List.{list_any, list_all}
 use Rattle.exi_schema.specs.Schemas.{PlainSchema}
 use Rattle.exi_schema.specs.declared.tables.AttributeOf.{AttributeOf}
-use Rattle.exi_schema.specs.Plain.{PlainKind, containing, PlainParticle}
+use Rattle.exi_schema.specs.Plain.{PlainKind, valued, containing, PlainParticle}
+use Rattle.exi_schema.specs.declared.tables.Datatype.{Datatype}
 use Rattle.exi_schema.specs.declared.tables.RootOf.{RootOf}
 use Rattle.exi_schema.specs.declared.places.Place.{Place}
 use Rattle.exi_schema.specs.Counts.{element_total}
 use Rattle.exi_schema.specs.Offers.{through_required, leaves_room, FitsCopies, FitsParticles, IsPlaceAmong, IsPlaceIn, IsPlaceOf, IsPlace, complex_steps}
-use Rattle.exi_schema.specs.Schemas.{is_schema, is_declaration, is_attribute, is_particle, each_to, widest, are_kinds, are_roots, are_words, are_values, are_distinct, attribute_names, element_names}
+use Rattle.exi_schema.specs.Schemas.{is_schema, is_declaration, is_datatype, is_attribute, is_particle, each_to, widest, are_kinds, are_roots, are_words, are_values, are_distinct, attribute_names, element_names}
+use Rattle.exi_schema.specs.Steps.{datatype_of, simple_at}
 use Rattle.exi_schema.proofs.Walks.{length_complex}
 
 pub and-l : (a b : Bool) → (a && b) ≡ true → a ≡ true
@@ -140,3 +142,17 @@ pub complex_in : (s : PlainSchema) (k : ℕ) (attributes : _) (particles : _) �
 complex_in s k attributes particles at =
     complex_of (length s.names) s.kinds attributes particles
     (declared (length s.names) s.kinds k (containing attributes particles) (kinds_of s.kinds s.names s.values s.root_bits s.roots s.fits) at)
+
+-- ---- the datatype of a simple kind
+
+fits_by : (s : PlainSchema) (kind : ℕ) (o : Option PlainKind) (d : Datatype) → slice_get s.kinds kind ≡ o → datatype_of o ≡ Some d → is_datatype d ≡ true
+fits_by s kind None d at is = let wrong : None ≡ Some d = is in absurd cc
+fits_by s kind (Some (containing attributes particles)) d at is = let wrong : None ≡ Some d = is in absurd cc
+fits_by s kind (Some (valued e)) d at is =
+    let whole : Some e ≡ Some d = is in
+    let same : e ≡ d = cc in
+    subst (λ (x : Datatype). is_datatype x ≡ true) same
+    (declared (length s.names) s.kinds kind (valued e) (kinds_of s.kinds s.names s.values s.root_bits s.roots s.fits) at)
+
+pub datatype_fits : (s : PlainSchema) (kind : ℕ) (d : Datatype) → simple_at s.kinds kind ≡ Some d → is_datatype d ≡ true
+datatype_fits s kind d is = fits_by s kind (slice_get s.kinds kind) d refl is
