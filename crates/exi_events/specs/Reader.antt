@@ -3,8 +3,7 @@ use Rattle.std.specs.Prelude.{◌≡◌, ℕ, ◌+◌, ◌<◌, true, Bool, List
 use Rattle.exi_bits.specs.Reading.{Cursor, Takes, ahead}
 use Rattle.exi_bits.specs.declared.span.SpanAt.{SpanAt}
 use Rattle.exi_schema.specs.declared.places.Place.{Place}
-use Rattle.exi_schema.specs.Schemas.{PlainSchema}
-use Rattle.exi_schema.specs.Schemas.{is_within}
+use Rattle.exi_schema.specs.Schemas.{PlainSchema, is_within}
 use Rattle.exi_documents.specs.declared.refusal.Refusal.{Refusal}
 use Rattle.exi_documents.specs.Trees.{Tree, Event as TreeEvent, document_events}
 use Rattle.exi_documents.specs.Values.{SpellsValue, most_entries}

@@ -4,10 +4,9 @@ use Rattle.std.proofs.lemmas.Bool.{ltb-true}
 use Rattle.std.proofs.Math.IntN.{suc_ℤ, +ℤ-suc_ℤ, +ℤ_idr}
 use Rattle.std.specs.Int.Signed.{le_z}
 use Rattle.std.specs.Prelude.{unsigned_abs}
-use Rattle.exi_schema.specs.declared.schema.Schema.{Schema}
+use Rattle.exi_schema.specs.Schemas.{PlainSchema, is_datatype}
 use Rattle.exi_schema.specs.declared.tables.Datatype.{Datatype}
 use Rattle.exi_schema.specs.declared.tables.Datatype.TheVariants.{Bool as BoolType, Named, Bounded, Unsigned, Signed, Binary, Text as TextType}
-use Rattle.exi_schema.specs.Schemas.{is_datatype}
 use Rattle.exi_schema.proofs.Conditions.{and-l, and-r}
 use Rattle.exi_documents.specs.Trees.{Value, Truth, Ordinal, Number, Bytes, Text}
 use Rattle.exi_documents.specs.Values.{Entries, WritesValue}
@@ -64,5 +63,5 @@ form_of (TextType most) entries after name (Text chars) bits fits h = h.0.1
 form_of d entries after name v bits fits h = absurd h
 
 -- in a schema, whose numbers are of 64 bits
-pub written_form : (s : Schema) → HasForm WritesValue s
+pub written_form : (s : PlainSchema) → HasForm WritesValue s
 written_form s kind name d entries after v bits is h = form_of d entries after name v bits (datatype_fits s kind d (sym is)) h
