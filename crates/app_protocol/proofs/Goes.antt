@@ -16,8 +16,8 @@ use Rattle.exi_events.proofs.Drafts.{adds_none, adds_both, more_behind}
 use Rattle.document_laws.specs.Laws.{IsStanding}
 use Rattle.document_laws.proofs.Runs.{Runs}
 use Rattle.document_laws.proofs.Written.{value_once}
-use Rattle.tree_text.proofs.Once.{moves_once}
-use Rattle.tree_text.proofs.Standings.{standing_kept}
+use Rattle.document_laws.proofs.Once.{moves_once}
+use Rattle.document_laws.proofs.Standings.{standing_kept}
 use Rattle.app_protocol.specs.Writing.{Goes, MayPut, HasWritten, HasNoRoomFor}
 
 -- where a writer stands is in the schema

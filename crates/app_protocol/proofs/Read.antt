@@ -10,8 +10,7 @@ use Rattle.exi_documents.specs.Values.{SpellsValue}
 use Rattle.exi_values.specs.declared.Event.{Event}
 use Rattle.exi_values.specs.declared.Event.TheVariants as event
 use Rattle.exi_values.specs.Meaning.{event_of}
-use Rattle.exi_events.specs.Reader.{IsNext, HasTold}
-use Rattle.document_laws.proofs.Payloads.{weight, shrinks_at}
+use Rattle.exi_events.specs.Reader.{IsNext, HasTold, reading}
 use Rattle.document_laws.proofs.Told.{tell_trees}
 use Rattle.app_schema.specs.Declarations.{negotiation_schema}
 use Rattle.app_documents.specs.Trees.{Message, number_of}
@@ -22,37 +21,20 @@ use Rattle.exi_documents.specs.declared.refusal.RefusalCause.{RefusalCause}
 use Rattle.exi_documents.specs.Refusals.{IsRefused}
 use Rattle.app_protocol.proofs.Folded.{message_told}
 
--- how many events may still come at most
-abbrev pub events_left : State → Cursor → ℕ
-events_left state cursor = length (ahead cursor) + weight state.standing
-
-pub fewer_left : (s : PlainSchema) (o : Option TreeEvent) (old new : State) (before after : Cursor) → IsNext s old new before after o → (o ≡ None → ⊥) → events_left new after < events_left old before
-fewer_left s None old new before after h some = absurd (some refl)
-fewer_left s (Some e) old new before after h some =
-    omega (arith, shrinks_at s old.standing old.entries new e h.0 h.1, ap length h.2.there, length-append h.0 (ahead after))
-
-pub only_finished : (e : Event) → event_of e ≡ None → e ≡ event.Finished
-only_finished (event.Document number) is = absurd cc
-only_finished (event.Start name) is = absurd cc
-only_finished (event.Attribute name value) is = absurd cc
-only_finished (event.Value value) is = absurd cc
-only_finished event.EndElement is = absurd cc
-only_finished event.Finished is = refl
-
 -- the builder has taken the events told
 abbrev pub IsBuilt : State → Cursor → Built → Type 0
-IsBuilt state cursor b = (events : List TreeEvent) × HasTold negotiation_schema events state cursor × (b ≡ built events)
+IsBuilt state cursor b = (events : List TreeEvent) × HasTold (reading negotiation_schema state cursor) events × (b ≡ built events)
 
 pub built_on : (places : PlainSchema) (o : Option TreeEvent) (old new : State) (before after : Cursor) (b c : Built) → places ≡ negotiation_schema → IsBuilt old before b → (o ≡ None → ⊥) →
-    ((events : List TreeEvent) → HasTold places events old before → (told : TreeEvent) → o ≡ Some told → HasTold places (told ∷ events) new after) →
+    ((events : List TreeEvent) → HasTold (reading places old before) events → (told : TreeEvent) → o ≡ Some told → HasTold (reading places new after) (told ∷ events)) →
     ((told : TreeEvent) → o ≡ Some told → c ≡ build b told) → IsBuilt new after c
 built_on places None old new before after b c same is some more takes = absurd (some refl)
 built_on places (Some e) old new before after b c same is some more takes =
-    let P : PlainSchema → Type 0 = λ x. (events : List TreeEvent) → HasTold x events old before → (told : TreeEvent) → Some e ≡ Some told → HasTold x (told ∷ events) new after in
+    let P : PlainSchema → Type 0 = λ x. (events : List TreeEvent) → HasTold (reading x old before) events → (told : TreeEvent) → Some e ≡ Some told → HasTold (reading x new after) (told ∷ events) in
     (e ∷ is.0, (subst P same more) is.0 is.1 e refl, takes e refl ∙ ap (λ x. build x e) is.2)
 
 -- at the end the message is built that the payload spells
-pub app_told : (places : PlainSchema) (old new : State) (before after : Cursor) (payload : List ℕ) (b : Built) → IsNext places old new before after None →
+pub app_told : (places : PlainSchema) (old new : State) (before after : Cursor) (payload : List ℕ) (b : Built) → IsNext (reading places old before) (reading places new after) None →
     before.bits ≡ bits_of payload → IsBuilt old before b → IsApp (message_built b) payload
 app_told places old new before after payload b ends bits is =
     let end_in : (old.standing ≡ Behind) × (length (ahead before) < 8) × (new ≡ old) × (after ≡ before) = ends in
@@ -69,14 +51,14 @@ app_told places old new before after payload b ends bits is =
     subst (λ (x : Message). IsApp x payload) (sym built_is)
     (record { message = m.1; document = subst (λ (t : Tree). IsDocument negotiation_schema t payload) m.2 document })
 
-pub has_in : (s places : PlainSchema) (events : List TreeEvent) (state : State) (cursor : Cursor) → places ≡ s → HasTold s events state cursor → HasTold places events state cursor
-has_in s places events state cursor same has = subst (λ (x : PlainSchema). HasTold x events state cursor) (sym same) has
+pub has_in : (s places : PlainSchema) (events : List TreeEvent) (state : State) (cursor : Cursor) → places ≡ s → HasTold (reading s state cursor) events → HasTold (reading places state cursor) events
+has_in s places events state cursor same has = subst (λ (x : PlainSchema). HasTold (reading x state cursor) events) (sym same) has
 
 pub app_refused : (places : PlainSchema) (payload : List ℕ) (why : RefusalCause) (bit : ℕ) → places ≡ negotiation_schema → IsRefused places payload why bit → IsAppRefused payload why bit
 app_refused places payload why bit same refused = subst (λ (x : PlainSchema). IsRefused x payload why bit) same refused
 
-pub finished_next : (places : PlainSchema) (e : Event) (old new : State) (before after : Cursor) → e ≡ event.Finished → IsNext places old new before after (event_of e) → IsNext places old new before after None
-finished_next places e old new before after is next = subst (λ (x : Event). IsNext places old new before after (event_of x)) is next
+pub finished_next : (places : PlainSchema) (e : Event) (old new : State) (before after : Cursor) → e ≡ event.Finished → IsNext (reading places old before) (reading places new after) (event_of e) → IsNext (reading places old before) (reading places new after) None
+finished_next places e old new before after is next = subst (λ (x : Event). IsNext (reading places old before) (reading places new after) (event_of x)) is next
 
 pub message_is : (m : Message) (b : Built) (payload : List ℕ) → m ≡ message_built b → IsApp (message_built b) payload → IsApp m payload
 message_is m b payload same is = subst (λ (x : Message). IsApp x payload) (sym same) is

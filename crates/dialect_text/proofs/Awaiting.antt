@@ -147,5 +147,12 @@ table_more s particles i d old new low only has kept before =
     particle_more s (plain_particles particles) i (plain_particle d) old new (rw length-map low) only
     (subst (λ (p : PlainParticle). HasMembers s (plain_particles particles) p.members new) (sym (get_or-map plain_particle particles i d)) has) kept before
 
+-- the members of a particle
+pub members_at : (n : ℕ) (particles : List Particle) (i : ℕ) (d : Particle) → i < length particles →
+    AllByRecursion (λ (p : PlainParticle). AllByRecursion (λ (m : Member). m.kind < n) p.members) (plain_particles particles) → AllByRecursion (λ (m : Member). m.kind < n) (get_or particles i d).members.now
+members_at n [] i d low all = absurd (omega (arith, low))
+members_at n (p ∷ particles) zero d low all = all.0
+members_at n (p ∷ particles) (suc i) d low all = members_at n particles i d (omega (arith, low)) all.1
+
 pub all_done : {X : Type 0} (P : X → Type 0) (xs : List X) (i : ℕ) → i ≤ length xs → (i < length xs → ⊥) → AllByRecursion P (take i xs) → AllByRecursion P xs
 all_done P xs i within done all = let e : i ≡ length xs = omega (arith, within, done) in each_taken P xs (subst (λ (n : ℕ). AllByRecursion P (take n xs)) e all)

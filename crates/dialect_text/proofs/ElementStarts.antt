@@ -49,7 +49,7 @@ elements_marked s particles awaited items fit only same =
 
 within_by : (s : PlainSchema) (o : Option PlainKind) (name kind d : ℕ) → element_in o name ≡ Some kind → list_all (λ particle. list_all (λ member. is_within s.kinds d member.kind) particle.members) (particles_of o) ≡ true → is_within s.kinds d kind ≡ true
 within_by s None name kind d is all = let wrong : None ≡ Some kind = is in absurd cc
-within_by s (Some (Simple t)) name kind d is all = let wrong : None ≡ Some kind = is in absurd cc
+within_by s (Some (valued t)) name kind d is all = let wrong : None ≡ Some kind = is in absurd cc
 within_by s (Some (containing attributes particles)) name kind d is all =
     let found = element_found particles name kind is in
     let members = all_get (λ particle. list_all (λ member. is_within s.kinds d member.kind) particle.members) particles found.0 found.1 all found.2 in

@@ -248,18 +248,18 @@ pub value_once_behind : (s : PlainSchema) (x y : List ℕ) → EndsValue x → E
 value_once_behind s x y p q kind v w t u a b e = value_splits s kind v w t u x y p q a b e
 
 ends_behind : (s : PlainSchema) (old after : Standing) (e : Event) (es : List Event) (a x : List ℕ) → IsValued e → IsNested old → Adds s old e a after → Goes s after es x → EndsValue x
-ends_behind s Before after (Document n) es a x valued nested p goes = absurd valued
-ends_behind s Before after _ es a x valued nested p goes = absurd p
-ends_behind s (AtRoot root kind) after (Start n) es a x valued nested p goes = absurd valued
-ends_behind s (AtRoot root kind) after _ es a x valued nested p goes = absurd p
-ends_behind s (Within []) after _ es a x valued nested p goes = absurd p
-ends_behind s (Within (top ∷ above)) after (Attribute n v) es a x valued nested p goes =
+ends_behind s Before after (Document n) es a x has_value nested p goes = absurd has_value
+ends_behind s Before after _ es a x has_value nested p goes = absurd p
+ends_behind s (AtRoot root kind) after (Start n) es a x has_value nested p goes = absurd has_value
+ends_behind s (AtRoot root kind) after _ es a x has_value nested p goes = absurd p
+ends_behind s (Within []) after _ es a x has_value nested p goes = absurd p
+ends_behind s (Within (top ∷ above)) after (Attribute n v) es a x has_value nested p goes =
     behind_some s (element top.kind fills.Attributes) above es x tt nested (subst (λ (z : Standing). Goes s z es x) p.6 goes)
-ends_behind s (Within (top ∷ above)) after (Content v) es a x valued nested p goes =
+ends_behind s (Within (top ∷ above)) after (Content v) es a x has_value nested p goes =
     behind_some s (element top.kind fills.Value) above es x tt nested (subst (λ (z : Standing). Goes s z es x) p.2 goes)
-ends_behind s (Within (top ∷ above)) after (Document n) es a x valued nested p goes = absurd valued
-ends_behind s (Within (top ∷ above)) after (Start n) es a x valued nested p goes = absurd valued
-ends_behind s (Within (top ∷ above)) after EndElement es a x valued nested p goes = absurd valued
+ends_behind s (Within (top ∷ above)) after (Document n) es a x has_value nested p goes = absurd has_value
+ends_behind s (Within (top ∷ above)) after (Start n) es a x has_value nested p goes = absurd has_value
+ends_behind s (Within (top ∷ above)) after EndElement es a x has_value nested p goes = absurd has_value
 
 none_behind : (s : PlainSchema) (standing after : Standing) (e : Event) (a : List ℕ) → standing ≡ Within [] → Adds s standing e a after → ⊥
 none_behind s standing after e a is p = subst (λ (x : Standing). Adds s x e a after) is p
@@ -270,7 +270,7 @@ goes_once s standing [] (f ∷ fs) text nested p q = absurd (none_behind s stand
 goes_once s standing (e ∷ es) [] text nested p q = absurd (none_behind s standing p.0 e p.1 q.1 p.3)
 goes_once s standing (e ∷ es) (f ∷ fs) text nested p q =
     let one = event_once s standing p.0 q.0 e f p.1 q.1 p.2 q.2
-    (λ valued other. value_once_behind s p.2 q.2 (ends_behind s standing p.0 e es p.1 p.2 valued nested p.3 p.4) (ends_behind s standing q.0 f fs q.1 q.2 other nested q.3 q.4))
+    (λ has_value other. value_once_behind s p.2 q.2 (ends_behind s standing p.0 e es p.1 p.2 has_value nested p.3 p.4) (ends_behind s standing q.0 f fs q.1 q.2 other nested q.3 q.4))
     p.3 q.3 (sym p.5 ∙ q.5) in
     let rest : Goes s p.0 fs p.2 = subst (λ (x : List ℕ). Goes s p.0 fs x) (sym one.2) (subst (λ (x : Standing). Goes s x fs q.2) (sym one.1) q.4) in
     ap₂ (λ (x : Event) (xs : List Event). x ∷ xs) one.0 (goes_once s p.0 es fs p.2 (nested_on s standing p.0 e p.1 p.3 nested) p.4 rest)

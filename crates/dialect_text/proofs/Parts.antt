@@ -46,7 +46,7 @@ leads_plain s old new e front rest plain adds = record {
         ended : (standing : Standing) → standing ≡ Within [] → Adds s standing e (encode_utf8_all front) new → ⊥
         ended standing is p = subst (λ (x : Standing). Adds s x e (encode_utf8_all front) new) is p
     first (f ∷ es) text goes =
-        let one = event_once s old new goes.0 e f (encode_utf8_all front) goes.1 text goes.2 (λ valued other. absurd (plain valued)) adds goes.3 goes.5 in
+        let one = event_once s old new goes.0 e f (encode_utf8_all front) goes.1 text goes.2 (λ has_value other. absurd (plain has_value)) adds goes.3 goes.5 in
         (es, subst (λ (t : List ℕ). Goes s new es t) (sym one.2) (subst (λ (x : Standing). Goes s x es goes.2) (sym one.1) goes.4))
 
 -- ---- the root

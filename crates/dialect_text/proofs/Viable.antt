@@ -40,8 +40,7 @@ some_text (text ∷ texts) some = (text, refl)
 
 datatype_is : (s : PlainSchema) (kind : ℕ) (d : Datatype) → slice_get s.kinds kind ≡ Some (valued d) → is_datatype d ≡ true
 datatype_is s kind d at =
-    let names : List (List ℕ) = s.names in
-    declared (length names) s.kinds kind (valued d) (kinds_of s.kinds names s.values s.root_bits s.roots s.fits) at
+    declared (length s.names) s.kinds kind (valued d) (kinds_of s.kinds s.names s.values s.root_bits s.roots s.fits) at
 
 abbrev pub HasValue : PlainSchema → ℕ → Datatype → Type 0
 HasValue s kind d = (v : Value) × (t : List ℕ) × IsFormed s kind d v t
@@ -51,7 +50,7 @@ unfolding encode_with
 some_value s kind type.Bool at = (Truth true, codes "true", (tt, refl))
 some_value s kind (type.Named count) at =
     let many : 1 ≤ count = leb-true 1 count (datatype_is s kind (type.Named count) at) in
-    let all : length (value_names s kind) ≡ count = counted s.kinds s.values kind (Simple (type.Named count)) (values_of s) at in
+    let all : length (value_names s kind) ≡ count = counted s.kinds s.values kind (valued (type.Named count)) (values_of s) at in
     let one = some_text (value_names s kind) (omega (arith, many, all)) in
     (Ordinal 0, one.0, (tt, one.1))
 some_value s kind (type.Bounded least count) at = (Number (pos 0), decimal 0, (omega arith, refl))

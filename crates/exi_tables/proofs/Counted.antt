@@ -1,10 +1,13 @@
 -- The places of a declaration are those that the counts tell, and each count fits 16 bits.
-use Rattle.std.proofs.Common.{◌≡◌, ℕ, ◌+◌, ◌<◌, ◌≤◌, true, ◌&&◌, nat_lt, nat_le, List, [], ◌∷◌, length, drop, Option, Some, None, subst, sym, arith}
+use Rattle.std.proofs.Common.{◌≡◌, ℕ, ◌+◌, ◌<◌, ◌≤◌, true, ◌&&◌, nat_lt, nat_le, List, [], ◌∷◌, length, drop, Option, Some, None, get_or, zero, suc, ap, subst, sym, ◌∙◌, arith}
 use Rattle.std.specs.Prelude.{slice_get}
 use Rattle.std.specs.List.{list_all}
 use Rattle.std.proofs.lemmas.Bool.{ltb-true}
 use Rattle.exi_schema.specs.Schemas.{PlainSchema, is_most, is_particle, can_be_there}
-use Rattle.exi_schema.specs.Plain.{PlainKind, valued, containing, PlainParticle}
+use Rattle.exi_schema.specs.Plain.{PlainKind, valued, containing, PlainParticle, plain_particles, plain_kind}
+use Rattle.exi_schema.specs.declared.tables.Declaration.{Declaration}
+use Rattle.exi_schema.specs.declared.tables.Declaration.TheVariants.{Complex}
+use Rattle.exi_schema.specs.declared.tables.Particle.{Particle}
 use Rattle.exi_schema.specs.declared.places.Place.{Place}
 use Rattle.exi_schema.specs.Offers.{FitsCopies, FitsParticles, IsPlaceIn, IsPlaceOf, IsPlace}
 use Rattle.exi_schema.proofs.Conditions.{and-l, and-r, complex_in}
@@ -87,3 +90,15 @@ few_places s kind (containing attributes particles) there =
       copies = λ at. before_small (length s.names) (length s.kinds) (drop at particles)
           (fit_drop (is_particle (length s.names) (length s.kinds)) particles at good.particles_fit);
     }
+
+-- ---- the particle of a table
+
+copies_at : (particles : List Particle) (at : ℕ) (p : Particle) → at < length particles → p ≡ get_or particles at p → copies_within p.profile p.most ≡ copies_before (drop at (plain_particles particles))
+copies_at [] at p less is = absurd (omega (arith, less))
+copies_at (x ∷ particles) zero p less is = ap (λ (y : Particle). copies_within y.profile y.most) is
+copies_at (x ∷ particles) (suc at) p less is = copies_at particles at p (omega (arith, less)) is
+
+pub copies_in : (d : Declaration) (attributes : _) (particles : _) (at : ℕ) (p : Particle) (n : ℕ) → d ≡ Complex attributes particles → at < length particles.now → p ≡ get_or particles.now at p →
+    n ≡ copies_within p.profile p.most → n ≡ copy_places (plain_kind d) at
+copies_in d attributes particles at p n same less is count =
+    subst (λ (x : Declaration). n ≡ copy_places (plain_kind x) at) (sym same) (count ∙ copies_at particles.now at p less is)

@@ -12,7 +12,7 @@ use Rattle.tree_text.specs.TreeText.{IsTreeText}
 use Rattle.tree_text.specs.declared.print.TextEnd.{TextEnd}
 use Rattle.tree_text.specs.declared.print.TextEnd.TheVariants as ends
 use Rattle.document_laws.specs.Laws.{IsStanding}
-use Rattle.tree_text.proofs.Standings.{standing_kept}
+use Rattle.document_laws.proofs.Standings.{standing_kept}
 use Rattle.tree_text.proofs.Alike.{IsAlike, follows}
 use Rattle.tree_text.proofs.Ahead.{HasForm, leads}
 use Rattle.tree_text.proofs.Shortness.{written_form}

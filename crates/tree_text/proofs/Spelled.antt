@@ -10,7 +10,7 @@ use Rattle.tree_text.specs.TreeText.{IsTreeText}
 use Rattle.tree_text.specs.EventText.{text_end, Tells}
 use Rattle.tree_text.proofs.OneText.{one_tree_text}
 use Rattle.tree_text.proofs.Tied.{document_told}
-use Rattle.tree_text.proofs.Standings.{standing_reached}
+use Rattle.document_laws.proofs.Standings.{standing_reached}
 use Rattle.tree_text.proofs.Told.{HasTexts, named_reached, adds}
 
 module _ (V : Speller) (s : PlainSchema) (texts : HasTexts V s) where

@@ -14,8 +14,8 @@ use Rattle.exi_events.specs.Writer.{Draft, HasPut, IsOfferedAs, HasNoRoom}
 use Rattle.document_laws.proofs.Runs.{document_tells}
 use Rattle.document_laws.proofs.Written.{value_once}
 use Rattle.tree_text.specs.Scans.{IsStuck, IsLongBinary, IsTooLong}
-use Rattle.tree_text.proofs.Once.{passed_through, moves_once, reaches_once}
-use Rattle.tree_text.proofs.Standings.{standing_reached}
+use Rattle.document_laws.proofs.Once.{passed_through, moves_once, reaches_once}
+use Rattle.document_laws.proofs.Standings.{standing_reached}
 
 module _ (s : PlainSchema) where
   -- a document that goes on with an event moves by it from the state that was reached

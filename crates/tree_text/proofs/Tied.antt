@@ -18,7 +18,7 @@ use Rattle.tree_text.specs.EventText.{gap, closing, end_of, text_end, Adds, Tell
 use Rattle.tree_text.specs.declared.print.TextEnd.{TextEnd}
 use Rattle.tree_text.specs.declared.print.TextEnd.TheVariants as ends
 use Rattle.tree_text.proofs.Attributes.{one_attribute}
-use Rattle.tree_text.proofs.Standings.{standing_kept}
+use Rattle.document_laws.proofs.Standings.{standing_kept}
 use Rattle.tree_text.proofs.Spacing.{spaced, end_behind, part_behind, both_in_braces, braced_is}
 
 -- events in their order, behind a text of such an end

@@ -11,28 +11,18 @@ use Rattle.exi_documents.specs.Values.{SpellsValue}
 use Rattle.exi_values.specs.declared.Event.{Event as Read}
 use Rattle.exi_values.specs.declared.Event.TheVariants as event
 use Rattle.exi_values.specs.Meaning.{event_of}
-use Rattle.exi_events.specs.Reader.{innermost_place, IsNext, HasTold, IsTold}
-use Rattle.document_laws.proofs.Payloads.{weight, shrinks_at}
+use Rattle.exi_events.specs.Reader.{innermost_place, IsNext, HasTold, IsTold, reading}
 use Rattle.tree_text.specs.TreeText.{IsTreeText}
 use Rattle.tree_text.specs.EventText.{text_end, Adds, Tells}
 use Rattle.tree_text.specs.Printing.{IsEndBehind}
 use Rattle.tree_text.specs.declared.print.TextEnd.{TextEnd}
 use Rattle.tree_text.proofs.Tied.{document_told}
-use Rattle.tree_text.proofs.Standings.{standing_reached}
+use Rattle.document_laws.proofs.Standings.{standing_reached}
 use Rattle.tree_text.proofs.Told.{has_text, named_reached, adds}
-
--- how many events may still come at most
-abbrev pub events_left : State → Cursor → ℕ
-events_left state cursor = length (ahead cursor) + weight state.standing
-
-pub fewer_left : (s : PlainSchema) (o : Option Event) (old new : State) (before after : Cursor) → IsNext s old new before after o → (o ≡ None → ⊥) → events_left new after < events_left old before
-fewer_left s None old new before after h some = absurd (some refl)
-fewer_left s (Some event) old new before after h some =
-    omega (arith, shrinks_at s old.standing old.entries new event h.0 h.1, ap length h.2.there, length-append h.0 (ahead after))
 
 -- what an event tells has a text
 pub has_added : (s : PlainSchema) (o : Option Event) (events : List Event) (end : TextEnd) (place : Option Place) (old new : State) (before after : Cursor) →
-    HasTold s events old before → place ≡ innermost_place old.standing → IsNext s old new before after o → IfSome o (λ told. (added : List ℕ) × Adds s end place told added)
+    HasTold (reading s old before) events → place ≡ innermost_place old.standing → IsNext (reading s old before) (reading s new after) o → IfSome o (λ told. (added : List ℕ) × Adds s end place told added)
 has_added s None events end place old new before after told is h = tt
 has_added s (Some event) events end place old new before after told is h =
     let here = standing_reached SpellsValue s events told.0 old told.1 in
@@ -41,33 +31,29 @@ has_added s (Some event) events end place old new before after told is h =
 
 -- the text goes on with it
 pub told_on : (s : PlainSchema) (o : Option Event) (end next : TextEnd) (place : Option Place) (old new : State) (before after : Cursor) (text longer : List ℕ) →
-    ((events : List Event) × HasTold s events old before × Tells SpellsValue s events text old × (end ≡ text_end events)) → place ≡ innermost_place old.standing → IsNext s old new before after o → (o ≡ None → ⊥) →
-    ((events : List Event) → HasTold s events old before → (told : Event) → o ≡ Some told → HasTold s (told ∷ events) new after) →
+    ((events : List Event) × HasTold (reading s old before) events × Tells SpellsValue s events text old × (end ≡ text_end events)) → place ≡ innermost_place old.standing → IsNext (reading s old before) (reading s new after) o → (o ≡ None → ⊥) →
+    ((events : List Event) → HasTold (reading s old before) events → (told : Event) → o ≡ Some told → HasTold (reading s new after) (told ∷ events)) →
     IfSome o (λ told. (added : List ℕ) × Adds s end place told added × (longer ≡ text ++ added)) → IsEndBehind o next →
-    (events : List Event) × HasTold s events new after × Tells SpellsValue s events longer new × (next ≡ text_end events)
+    (events : List Event) × HasTold (reading s new after) events × Tells SpellsValue s events longer new × (next ≡ text_end events)
 told_on s None end next place old new before after text longer told is h some more put ends = absurd (some refl)
 told_on s (Some event) end next place old new before after text longer told is h some more put ends =
     let adds_here = subst (λ (p : Option Place). Adds s (text_end told.0) p event put.0) is (subst (λ (e : TextEnd). Adds s e place event put.0) told.3 put.1) in
     (event ∷ told.0, more told.0 told.1 event refl, (old, h.0, text, put.0, told.2, h.1, adds_here, put.2), ends)
 
-pub only_finished : (e : Read) → event_of e ≡ None → e ≡ event.Finished
-only_finished event.Finished is = refl
-only_finished other is = absurd cc
-
 -- ---- the reader's schema is that of the printer
 
 pub has_added_in : (s t : PlainSchema) (o : Option Event) (events : List Event) (end : TextEnd) (place : Option Place) (old new : State) (before after : Cursor) → s ≡ t →
-    HasTold s events old before → place ≡ innermost_place old.standing → IsNext s old new before after o → IfSome o (λ told. (added : List ℕ) × Adds t end place told added)
+    HasTold (reading s old before) events → place ≡ innermost_place old.standing → IsNext (reading s old before) (reading s new after) o → IfSome o (λ told. (added : List ℕ) × Adds t end place told added)
 has_added_in s t o events end place old new before after same told is h =
     subst (λ (x : PlainSchema). IfSome o (λ event. (added : List ℕ) × Adds x end place event added)) same (has_added s o events end place old new before after told is h)
 
 pub told_on_in : (s t u : PlainSchema) (o : Option Event) (end next : TextEnd) (place : Option Place) (old new : State) (before after : Cursor) (text longer : List ℕ) → s ≡ t → u ≡ s →
-    ((events : List Event) × HasTold s events old before × Tells SpellsValue s events text old × (end ≡ text_end events)) → place ≡ innermost_place old.standing → IsNext s old new before after o → (o ≡ None → ⊥) →
-    ((events : List Event) → HasTold s events old before → (told : Event) → o ≡ Some told → HasTold s (told ∷ events) new after) →
+    ((events : List Event) × HasTold (reading s old before) events × Tells SpellsValue s events text old × (end ≡ text_end events)) → place ≡ innermost_place old.standing → IsNext (reading s old before) (reading s new after) o → (o ≡ None → ⊥) →
+    ((events : List Event) → HasTold (reading s old before) events → (told : Event) → o ≡ Some told → HasTold (reading s new after) (told ∷ events)) →
     IfSome o (λ told. (added : List ℕ) × Adds t end place told added × (longer ≡ text ++ added)) → IsEndBehind o next →
-    (events : List Event) × HasTold u events new after × Tells SpellsValue u events longer new × (next ≡ text_end events)
+    (events : List Event) × HasTold (reading u new after) events × Tells SpellsValue u events longer new × (next ≡ text_end events)
 told_on_in s t u o end next place old new before after text longer same kept told is h some more put ends =
-    subst (λ (x : PlainSchema). (events : List Event) × HasTold x events new after × Tells SpellsValue x events longer new × (next ≡ text_end events)) (sym kept)
+    subst (λ (x : PlainSchema). (events : List Event) × HasTold (reading x new after) events × Tells SpellsValue x events longer new × (next ≡ text_end events)) (sym kept)
     (told_on s o end next place old new before after text longer told is h some more
     (subst (λ (x : PlainSchema). IfSome o (λ event. (added : List ℕ) × Adds x end place event added × (longer ≡ text ++ added))) (sym same) put) ends)
 

@@ -4,7 +4,8 @@ use Rattle.exi_schema.specs.Told.{schema_of}
 use Rattle.exi_events.specs.Reader.{state_of}
 use Rattle.exi_values.specs.Meaning.{event_of}
 use Rattle.app_schema.specs.Declarations.{negotiation_schema}
-use Rattle.app_protocol.proofs.Read.{fewer_left, only_finished, built_on, app_told, app_refused, has_in, finished_next, message_is}
+use Rattle.exi_events.proofs.Told.{only_finished}
+use Rattle.app_protocol.proofs.Read.{built_on, app_told, app_refused, has_in, finished_next, message_is}
 use Rattle.app_protocol.proofs.reading.message_from.Goals as goal
 
 pub loop-builder-init : goal.loop-builder-init
@@ -40,11 +41,7 @@ pub take-requires : goal.take-requires
 take-requires c = record { lent = (c.loop-builder.reader.reader.bits, c.in_ok-event.ensures.lent) }
 
 pub loop-builder-smaller : goal.loop-builder-smaller
-loop-builder-smaller c =
-    let old = c.loop-builder.reader in
-    let new = c.next.new.self in
-    fewer_left (schema_of old.places.now) (event_of c.in_ok-event.event) (state_of old.phase old.elements old.reader.bits old.table.now.entries) (state_of new.phase new.elements new.reader.bits new.table.now.entries) old.reader new.reader
-    c.in_ok-event.ensures.next (λ none. c.in_default.not-Finished (only_finished c.in_ok-event.event none))
+loop-builder-smaller c = c.in_ok-event.ensures.fewer c.in_default.not-Finished
 
 pub loop-builder-preserved : goal.loop-builder-preserved
 loop-builder-preserved c =

@@ -1,9 +1,13 @@
-use Rattle.std.proofs.Common.{arith}
+use Rattle.std.proofs.Common.{length, arith}
 use Rattle.std.proofs.lemmas.List.{length-map}
 use Rattle.exi_schema.specs.Plain.{plain_particles}
 use Rattle.exi_schema.specs.Told.{schema_of}
-use Rattle.dialect_text.proofs.Awaiting.{table_more, elements_among, all_done}
+use Rattle.dialect_text.proofs.Awaiting.{table_more, members_at, elements_among, all_done}
 use Rattle.dialect_text.proofs.names.awaited_elements.Goals as goal
+
+pub await_members-requires-clause-kinds : goal.await_members-requires-clause-kinds
+await_members-requires-clause-kinds c =
+    members_at (length (schema_of c.args.schema.now).kinds) c.args.particles.now c.loop-particle.particle-index _ c.loop-particle-test.true c.requires.kinds
 
 pub loop-particle-preserved : goal.loop-particle-preserved
 loop-particle-preserved c =

@@ -3,4 +3,4 @@ use Rattle.exi_events.proofs.tests.the_places_that_are_lent_are_asked.Given as g
 
 abbrev pub invariant-loop-told : goal.invariant-loop-told
 invariant-loop-told g l =
-    IsReady l.reader.places.now l.reader.phase l.reader.elements l.reader.reader.bits l.reader.table.now
+    IsReady l.reader

@@ -1,8 +1,8 @@
 use Rattle.std.proofs.Common.{ap, sym, ◌∙◌}
 use Rattle.exi_schema.specs.Told.{schema_of}
 use Rattle.exi_values.specs.Meaning.{event_of}
-use Rattle.exi_events.specs.Reader.{state_of}
-use Rattle.tree_text.proofs.Turns.{fewer_left, only_finished, has_added_in, told_on_in, all_told}
+use Rattle.exi_events.proofs.Told.{only_finished}
+use Rattle.tree_text.proofs.Turns.{has_added_in, told_on_in, all_told}
 use Rattle.tree_text.proofs.print.print_with_table.Goals as goal
 
 pub put_event-requires-clause-has_text : goal.put_event-requires-clause-has_text
@@ -11,11 +11,7 @@ put_event-requires-clause-has_text c =
     has_added_in _ _ _ told.0 c.loop-event.end c.place-place.result _ _ _ _ (ap schema_of c.loop-event.invariant.places) told.1 c.place-place.ensures.place c.in-Ok.ensures.next
 
 pub loop-event-smaller : goal.loop-event-smaller
-loop-event-smaller c =
-    let old = c.loop-event.reader in
-    let new = c.next.new.self in
-    fewer_left (schema_of old.places.now) (event_of c.in-Ok.event) (state_of old.phase old.elements old.reader.bits old.table.now.entries) (state_of new.phase new.elements new.reader.bits new.table.now.entries) old.reader new.reader
-    c.in-Ok.ensures.next (λ none. c.in_default.not-Finished (only_finished c.in-Ok.event none))
+loop-event-smaller c = c.in-Ok.ensures.fewer c.in_default.not-Finished
 
 pub loop-event-preserved : goal.loop-event-preserved
 loop-event-preserved c =

@@ -14,7 +14,7 @@ use Rattle.document_laws.specs.Laws.{WritesOnce, IsStanding}
 use Rattle.document_laws.proofs.Fits.{one_root}
 use Rattle.document_laws.proofs.Names.{element_key, attribute_key, end_key, one_taken_by, ones_at}
 use Rattle.document_laws.proofs.Offered.{offers_simple, one_taken}
-use Rattle.tree_text.proofs.Standings.{standing_reached}
+use Rattle.document_laws.proofs.Standings.{standing_reached}
 
 one_of : {X : Type 0} (o : Option X) (x y : X) → o ≡ Some x → o ≡ Some y → x ≡ y
 one_of {X} o x y p q = let e : Some x ≡ Some y = sym p ∙ q in cc
