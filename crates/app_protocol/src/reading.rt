@@ -37,11 +37,11 @@ pub fn read_app(payload: &[u8], table: &mut Table) -> Result<AppMessage, Refusal
 /// Reads a message from the events of a payload, of which none is taken.
 fn message_from(reader: &mut EventReader<'_, '_, Schema<'_>>) -> Result<AppMessage, Refusal>
     requires negotiation { schema_of reader.old.places.now ≡ negotiation_schema }
-    requires ready { IsReady reader.old }
+    requires ready { IsReady schema_of reader.old }
     requires open_still { reader.old.refused ≡ None }
-    requires told { HasTold (reading_of reader.old) [] }
+    requires told { HasTold (reading_of schema_of reader.old) [] }
     ensures same_reference { reader.new.table.ghost_name ≡ reader.old.table.ghost_name }
-    ensures ready { IsReady reader.new }
+    ensures ready { IsReady schema_of reader.new }
     ensures read { (payload : List ℕ) → bits_of payload ≡ reader.old.reader.bits → IfOk result (λ m. IsApp (message_of m) payload) }
     ensures refused { (payload : List ℕ) → bits_of payload ≡ reader.old.reader.bits → IfErr result (λ r. IsAppRefused payload r.cause r.bit) }
 {

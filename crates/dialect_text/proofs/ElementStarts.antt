@@ -4,7 +4,7 @@ use Rattle.std.specs.List.{list_all, AllByRecursion}
 use Rattle.std.specs.Str.{encode_utf8_all}
 use Rattle.std.proofs.lemmas.Option.{slice_get_within, slice_get-get_or}
 use Rattle.exi_schema.specs.Schemas.{PlainSchema, is_within, particles_of, is_word_char}
-use Rattle.exi_schema.specs.Plain.{PlainKind, containing, PlainParticle}
+use Rattle.exi_schema.specs.Plain.{PlainKind, valued, containing, PlainParticle}
 use Rattle.exi_schema.specs.declared.tables.Member.{Member}
 use Rattle.exi_schema.proofs.Conditions.{all_get}
 use Rattle.exi_documents.specs.Trees.{Start}

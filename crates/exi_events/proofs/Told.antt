@@ -36,15 +36,15 @@ inside_next s (Err r) p elements moved bits before after old new is same took = 
 
 -- ---- whole documents
 
-pub told_more : (s : PlainSchema) (old new : State) (before after : Cursor) (e : Event) → IsNext (reading s old before) (reading s new after) (event_of e) →
-    (events : List TreeEvent) → HasTold (reading s old before) events → (told : TreeEvent) → event_of e ≡ Some told → HasTold (reading s new after) (told ∷ events)
-told_more s old new before after e next events has told is =
-    let took : Takes (λ bits. Moves SpellsValue s old told bits new) before after = subst (λ o. IsNext (reading s old before) (reading s new after) o) is next in
+pub told_more : (s t : PlainSchema) (old new : State) (before after : Cursor) (e : Event) → t ≡ s → IsNext (reading s old before) (reading t new after) (event_of e) →
+    (events : List TreeEvent) → HasTold (reading s old before) events → (told : TreeEvent) → event_of e ≡ Some told → HasTold (reading t new after) (told ∷ events)
+told_more s t old new before after e same next events has told is =
+    let took : Takes (λ bits. Moves SpellsValue s old told bits new) before after = subst (λ o. IsNext (reading s old before) (reading t new after) o) is next in
     let there : after.bits ≡ (has.0 ++ took.0) ++ ahead after =
     took.2.same ∙ has.2 ∙ ap (λ xs. has.0 ++ xs) took.2.there ∙ sym (append_assoc has.0 took.0 (ahead after)) in
     let place : after.place ≡ length (has.0 ++ took.0) =
     took.2.moved ∙ ap (λ n. n + length took.0) has.3 ∙ sym (length-append has.0 took.0) in
-    (has.0 ++ took.0, (old, has.0, took.0, has.1, took.1, refl), there, place)
+    subst (λ (x : PlainSchema). HasTold (reading x new after) (told ∷ events)) (sym same) (has.0 ++ took.0, (old, has.0, took.0, has.1, took.1, refl), there, place)
 
 pub told_all : (s : PlainSchema) (old new : State) (before after : Cursor) (e : Event) → IsNext (reading s old before) (reading s new after) (event_of e) →
     (payload : List ℕ) (events : List TreeEvent) → bits_of payload ≡ before.bits → HasTold (reading s old before) events → event_of e ≡ None → IsTold s events payload

@@ -3,7 +3,6 @@ use Rattle.std.specs.Prelude.{◌≡◌, ℕ, ◌+◌, ◌<◌, true, Bool, List
 use Rattle.exi_bits.specs.Reading.{Cursor, Takes, ahead}
 use Rattle.exi_bits.specs.declared.span.SpanAt.{SpanAt}
 use Rattle.exi_schema.specs.declared.places.Place.{Place}
-use Rattle.exi_schema.specs.declared.places.Places.{Ghosts}
 use Rattle.exi_schema.specs.Schemas.{PlainSchema, is_within}
 use Rattle.exi_documents.specs.declared.refusal.Refusal.{Refusal}
 use Rattle.exi_documents.specs.Trees.{Tree, Event as TreeEvent, document_events}
@@ -57,12 +56,12 @@ pub record Reading : Type 0 where
 abbrev pub reading : PlainSchema → State → Cursor → Reading
 reading s state cursor = record { schema = s; state = state; cursor = cursor }
 
-module _ {P : Type 0} {p : Ghosts P} where
-  abbrev pub reading_of : EventReader P p → Reading
-  reading_of r = reading (p.schema r.places.now) (state_of r.phase r.elements r.reader.bits r.table.now.entries) r.reader
+-- of a reader over places that tell a schema
+abbrev pub reading_of : {P : Type 0} → (P → PlainSchema) → EventReader P → Reading
+reading_of schema r = reading (schema r.places.now) (state_of r.phase r.elements r.reader.bits r.table.now.entries) r.reader
 
-  abbrev pub IsReady : EventReader P p → Type 0
-  IsReady r = IsReadyAt (p.schema r.places.now) r.phase r.elements r.reader.bits r.table.now
+abbrev pub IsReady : {P : Type 0} → (P → PlainSchema) → EventReader P → Type 0
+IsReady schema r = IsReadyAt (schema r.places.now) r.phase r.elements r.reader.bits r.table.now
 
 -- how many events may still come at most
 abbrev pub events_left : Reading → ℕ

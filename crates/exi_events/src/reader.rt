@@ -58,8 +58,8 @@ impl<'a, 'p, P: Places> EventReader<'a, 'p, P> {
         ensures places { result.places.now ≡ places.now }
         ensures payload { result.reader ≡ record { bits = bits_of payload.now; place = 0 } }
         ensures open_still { result.refused ≡ None }
-        ensures ready { IsReady result }
-        ensures told { HasTold (reading_of result) [] }
+        ensures ready { IsReady P.schema result }
+        ensures told { HasTold (reading_of P.schema result) [] }
     {
         table.clear();
         EventReader {
@@ -74,38 +74,38 @@ impl<'a, 'p, P: Places> EventReader<'a, 'p, P> {
 
     /// The place reached in the innermost element that has started and not ended, a place of the schema; `None` where there is no such element.
     pub fn place(&self) -> Option<Place>
-        requires ready { IsReady self.now }
-        ensures place { result ≡ innermost_place (reading_of self.now).state.standing }
+        requires ready { IsReady P.schema self.now }
+        ensures place { result ≡ innermost_place (reading_of P.schema self.now).state.standing }
         ensures of_schema { IfSome result (λ place. IsPlace (P.schema self.now.places.now).kinds place) }
     {
         self.elements.innermost().map(|top| top.place)
     }
 
-    #[tactic(auto, using(crate::proofs::Told::told_more, crate::proofs::Told::told_all, crate::proofs::Told::told_refused, crate::proofs::Told::fewer_left))]
+    #[tactic(auto, using(crate::proofs::Told::told_all, crate::proofs::Told::told_refused, crate::proofs::Told::fewer_left))]
     /// The next event: `Finished` behind the end of the root, where less than a byte is left, and from then on.
     pub fn next(&mut self) -> Result<Event<'a>, Refusal>
-        requires ready { IsReady self.old }
-        ensures ready { IsReady self.new }
+        requires ready { IsReady P.schema self.old }
+        ensures ready { IsReady P.schema self.new }
         ensures same_reference { self.new.table.ghost_name ≡ self.old.table.ghost_name }
         ensures places { self.new.places.now ≡ self.old.places.now }
         ensures payload { self.new.reader.bits ≡ self.old.reader.bits }
         ensures lent { IfOk result (λ e. IsLentEvent self.old.reader.bits e) }
         ensures again { (r : _) → self.old.refused ≡ Some r → (result ≡ Err r) × (self.new.refused ≡ Some r) }
-        ensures next { IfOk result (λ e. IsNext (reading_of self.old) (reading_of self.new) (event_of e)) }
+        ensures next { IfOk result (λ e. IsNext (reading_of P.schema self.old) (reading_of P.schema self.new) (event_of e)) }
         // A loop up to the end of the document ends.
-        ensures fewer { IfOk result (λ e. (e ≡ event.Finished → ⊥) → events_left (reading_of self.new) < events_left (reading_of self.old)) }
+        ensures fewer { IfOk result (λ e. (e ≡ event.Finished → ⊥) → events_left (reading_of P.schema self.new) < events_left (reading_of P.schema self.old)) }
         ensures open_still { IfOk result (λ e. (self.old.refused ≡ None) × (self.new.refused ≡ None)) }
-        ensures refused { self.old.refused ≡ None → IfErr result (λ r. IsRefusedAt (reading_of self.old) r × (self.new.refused ≡ Some r)) }
+        ensures refused { self.old.refused ≡ None → IfErr result (λ r. IsRefusedAt (reading_of P.schema self.old) r × (self.new.refused ≡ Some r)) }
         // Of a whole payload: the events are those of its tree, or this is its refusal.
         ensures told { (events : List TreeEvent)
-            → HasTold (reading_of self.old) events
+            → HasTold (reading_of P.schema self.old) events
             → IfOk result (λ e. (told : TreeEvent) → event_of e ≡ Some told
-            → HasTold (reading_of self.new) (told ∷ events)) }
+            → HasTold (reading_of P.schema self.new) (told ∷ events)) }
         ensures document { (payload : List ℕ) (events : List TreeEvent) → bits_of payload ≡ self.old.reader.bits
-            → HasTold (reading_of self.old) events
+            → HasTold (reading_of P.schema self.old) events
             → IfOk result (λ e. event_of e ≡ None → IsTold (P.schema self.old.places.now) events payload) }
         ensures refusal { (payload : List ℕ) (events : List TreeEvent) → bits_of payload ≡ self.old.reader.bits → self.old.refused ≡ None
-            → HasTold (reading_of self.old) events
+            → HasTold (reading_of P.schema self.old) events
             → IfErr result (λ r. IsRefused (P.schema self.old.places.now) payload r.cause r.bit) }
     {
         if let Some(refusal) = self.refused {
@@ -130,15 +130,15 @@ impl<'a, 'p, P: Places> EventReader<'a, 'p, P> {
 
     /// The next event, where none was refused.
     fn step(&mut self) -> Result<Event<'a>, Refusal>
-        requires ready { IsReady self.old }
-        ensures ready { IsReady self.new }
+        requires ready { IsReady P.schema self.old }
+        ensures ready { IsReady P.schema self.new }
         ensures same_reference { self.new.table.ghost_name ≡ self.old.table.ghost_name }
         ensures places { self.new.places.now ≡ self.old.places.now }
         ensures payload { self.new.reader.bits ≡ self.old.reader.bits }
         ensures refusals { self.new.refused ≡ self.old.refused }
         ensures lent { IfOk result (λ e. IsLentEvent self.old.reader.bits e) }
-        ensures next { IfOk result (λ e. IsNext (reading_of self.old) (reading_of self.new) (event_of e)) }
-        ensures refused { IfErr result (λ r. IsRefusedAt (reading_of self.old) r) }
+        ensures next { IfOk result (λ e. IsNext (reading_of P.schema self.old) (reading_of P.schema self.new) (event_of e)) }
+        ensures refused { IfErr result (λ r. IsRefusedAt (reading_of P.schema self.old) r) }
     {
         match self.phase {
             Phase::Before => {

@@ -11,10 +11,10 @@ invariant-loop-builder l =
       places : schema_of l.reader.places.now ≡ negotiation_schema;
       lent : l.reader.table.ghost_name ≡ l.fn.reader.table.ghost_name;
       payload : l.reader.reader.bits ≡ l.fn.reader.reader.bits;
-      ready : IsReady l.reader;
+      ready : IsReady schema_of l.reader;
       open_still : l.reader.refused ≡ None;
       told : IsBuilt (state_of l.reader.phase l.reader.elements l.reader.reader.bits l.reader.table.now.entries) l.reader.reader l.builder;
     }
 
 abbrev pub decreases-loop-builder : goal.decreases-loop-builder
-decreases-loop-builder l = events_left (reading_of l.reader)
+decreases-loop-builder l = events_left (reading_of schema_of l.reader)

@@ -14,10 +14,10 @@ invariant-loop-event l =
     record {
       places : l.reader.places.now ≡ l.schema;
       payload : l.reader.reader.bits ≡ bits_of l.payload;
-      ready : IsReady l.reader;
+      ready : IsReady schema_of l.reader;
       open_still : l.reader.refused ≡ None;
-      told : (events : List TreeEvent) × HasTold (reading_of l.reader) events × Tells SpellsValue (schema_of l.reader.places.now) events (string_bytes l.text) state × (l.end ≡ text_end events);
+      told : (events : List TreeEvent) × HasTold (reading_of schema_of l.reader) events × Tells SpellsValue (schema_of l.reader.places.now) events (string_bytes l.text) state × (l.end ≡ text_end events);
     }
 
 abbrev pub decreases-loop-event : goal.decreases-loop-event
-decreases-loop-event l = events_left (reading_of l.reader)
+decreases-loop-event l = events_left (reading_of schema_of l.reader)
