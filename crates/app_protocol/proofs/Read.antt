@@ -25,13 +25,13 @@ use Rattle.app_protocol.proofs.Folded.{message_told}
 abbrev pub IsBuilt : State → Cursor → Built → Type 0
 IsBuilt state cursor b = (events : List TreeEvent) × HasTold (reading negotiation_schema state cursor) events × (b ≡ built events)
 
-pub built_on : (places : PlainSchema) (o : Option TreeEvent) (old new : State) (before after : Cursor) (b c : Built) → places ≡ negotiation_schema → IsBuilt old before b → (o ≡ None → ⊥) →
-    ((events : List TreeEvent) → HasTold (reading places old before) events → (told : TreeEvent) → o ≡ Some told → HasTold (reading places new after) (told ∷ events)) →
+pub built_on : (places moved : PlainSchema) (o : Option TreeEvent) (old new : State) (before after : Cursor) (b c : Built) → places ≡ negotiation_schema → moved ≡ negotiation_schema → IsBuilt old before b → (o ≡ None → ⊥) →
+    ((events : List TreeEvent) → HasTold (reading places old before) events → (told : TreeEvent) → o ≡ Some told → HasTold (reading moved new after) (told ∷ events)) →
     ((told : TreeEvent) → o ≡ Some told → c ≡ build b told) → IsBuilt new after c
-built_on places None old new before after b c same is some more takes = absurd (some refl)
-built_on places (Some e) old new before after b c same is some more takes =
-    let P : PlainSchema → Type 0 = λ x. (events : List TreeEvent) → HasTold (reading x old before) events → (told : TreeEvent) → Some e ≡ Some told → HasTold (reading x new after) (told ∷ events) in
-    (e ∷ is.0, (subst P same more) is.0 is.1 e refl, takes e refl ∙ ap (λ x. build x e) is.2)
+built_on places moved None old new before after b c same kept is some more takes = absurd (some refl)
+built_on places moved (Some e) old new before after b c same kept is some more takes =
+    let P : PlainSchema → PlainSchema → Type 0 = λ x y. (events : List TreeEvent) → HasTold (reading x old before) events → (told : TreeEvent) → Some e ≡ Some told → HasTold (reading y new after) (told ∷ events) in
+    (e ∷ is.0, (subst (λ x. P x negotiation_schema) same (subst (λ y. P places y) kept more)) is.0 is.1 e refl, takes e refl ∙ ap (λ x. build x e) is.2)
 
 -- at the end the message is built that the payload spells
 pub app_told : (places : PlainSchema) (old new : State) (before after : Cursor) (payload : List ℕ) (b : Built) → IsNext (reading places old before) (reading places new after) None →

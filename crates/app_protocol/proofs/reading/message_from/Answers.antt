@@ -54,6 +54,6 @@ loop-builder-preserved c =
       payload = c.next.ensures.payload ∙ before.payload;
       ready = c.next.ensures.ready;
       open_still = c.in_ok-event.ensures.open_still.1;
-      told = built_on (schema_of old.places.now) (event_of c.in_ok-event.event) (state_of old.phase old.elements old.reader.bits old.table.now.entries) (state_of new.phase new.elements new.reader.bits new.table.now.entries)
-          old.reader new.reader c.loop-builder.builder c.take.new.self before.places before.told (λ none. c.in_default.not-Finished (only_finished c.in_ok-event.event none)) c.in_ok-event.ensures.told c.take.ensures;
+      told = built_on (schema_of old.places.now) (schema_of new.places.now) (event_of c.in_ok-event.event) (state_of old.phase old.elements old.reader.bits old.table.now.entries) (state_of new.phase new.elements new.reader.bits new.table.now.entries)
+          old.reader new.reader c.loop-builder.builder c.take.new.self before.places (ap schema_of c.next.ensures.places ∙ before.places) before.told (λ none. c.in_default.not-Finished (only_finished c.in_ok-event.event none)) c.in_ok-event.ensures.told c.take.ensures;
     }

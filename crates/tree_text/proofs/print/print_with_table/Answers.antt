@@ -8,7 +8,7 @@ use Rattle.tree_text.proofs.print.print_with_table.Goals as goal
 pub put_event-requires-clause-has_text : goal.put_event-requires-clause-has_text
 put_event-requires-clause-has_text c =
     let told = c.loop-event.invariant.told in
-    has_added_in _ _ _ told.0 c.loop-event.end c.place-place.result _ _ _ _ (ap schema_of c.loop-event.invariant.places) told.1 c.place-place.ensures.place c.in-Ok.ensures.next
+    has_added_in _ _ (schema_of c.next.new.self.places.now) _ told.0 c.loop-event.end c.place-place.result _ _ _ _ (ap schema_of c.loop-event.invariant.places) told.1 c.place-place.ensures.place c.in-Ok.ensures.next
 
 pub loop-event-smaller : goal.loop-event-smaller
 loop-event-smaller c = c.in-Ok.ensures.fewer c.in_default.not-Finished
