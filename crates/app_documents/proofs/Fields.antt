@@ -95,7 +95,7 @@ byte_of entries after name kind value bits is spelled =
 
 -- ---- what may follow a response's code
 
-pub is_schema_tree : (entries : Entries) (trees : Trees) (bits : List Bool) (after : Entries) → 
+pub is_schema_tree : (entries : Entries) (trees : Trees) (bits : List Bool) (after : Entries) →
     SpellsTrees SpellsValue kinds (behind 7 1) entries trees bits after → (schema : Option ℕ) × IsByte schema × (trees ≡ schema_tree schema)
 is_schema_tree entries none bits after spelled = (None, tt {0}, refl)
 is_schema_tree entries (simple name value more) bits after spelled =

@@ -148,7 +148,7 @@ pub record IsResponse (children : Trees) : Type 0 where
   pub is_byte : IsByte schema
   pub trees_are : children ≡ simple 8 (Ordinal code) (schema_tree schema)
 
-pub response_is : (entries : Entries) (name : ℕ) (attributes : List (ℕ × Value)) (children : Trees) (bits : List Bool) (after : Entries) → 
+pub response_is : (entries : Entries) (name : ℕ) (attributes : List (ℕ × Value)) (children : Trees) (bits : List Bool) (after : Entries) →
     SpellsTree SpellsValue kinds 7 entries (Complex name attributes children) bits after → (attributes ≡ []) × IsResponse children
 response_is entries name attributes children bits after spelled =
     let bare = no_attribute (first 7) 8 4 (behind 7 1) entries spelled.1 attributes spelled.2 spelled.0 refl spelled.4 in
@@ -165,7 +165,7 @@ root_tree name attributes children others n one two three = ap (λ k. Complex k 
 abbrev pub IsOfMessage : ℕ → Tree → Type 0
 IsOfMessage number tree = (m : Message) × IsMessage m × (tree ≡ tree_of m) × (number ≡ number_of m)
 
-pub by_tree : (number kind : ℕ) (tree : Tree) (bits : List Bool) (after : Entries) → 
+pub by_tree : (number kind : ℕ) (tree : Tree) (bits : List Bool) (after : Entries) →
     ((number ≡ 0) × (name_of tree ≡ 0) × (kind ≡ 6)) ⊎ ((number ≡ 1) × (name_of tree ≡ 1) × (kind ≡ 7)) →
     SpellsTree SpellsValue kinds kind [] tree bits after → IsOfMessage number tree
 by_tree number kind (Simple name value) bits after (inl root) spelled =

@@ -26,13 +26,13 @@ either x y step (suc zero) is = let same : Some y ≡ Some step = is in inr cc
 either x y step (suc (suc code)) is = absurd cc
 
 -- the one step of a place
-pub the_step : (ks : List PlainKind) (here : Place) (given step : Step) (bits : List Bool) → 
+pub the_step : (ks : List PlainKind) (here : Place) (given step : Step) (bits : List Bool) →
     offers ks here ≡ given ∷ [] → SpellsStep ks here step bits → step ≡ given
 the_step ks here given step bits one st =
     let at = offered ks here step bits st in
     only given step at.0 (subst (λ os. slice_get os at.0 ≡ Some step) one at.1)
 
-pub one_of_two : (ks : List PlainKind) (here : Place) (x y step : Step) (bits : List Bool) → 
+pub one_of_two : (ks : List PlainKind) (here : Place) (x y step : Step) (bits : List Bool) →
     offers ks here ≡ x ∷ y ∷ [] → SpellsStep ks here step bits → (step ≡ x) ⊎ (step ≡ y)
 one_of_two ks here x y step bits two st =
     let at = offered ks here step bits st in

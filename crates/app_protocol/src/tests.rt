@@ -5,8 +5,8 @@ ghost use Rattle.app_protocol.specs.Messages.{message_of};
 
 use super::*;
 use crate::lines::LINES;
-use exi_documents::MOST_ENTRIES;
 use arrayvec::{ArrayString, ArrayVec};
+use exi_documents::MOST_ENTRIES;
 use std::alloc::{AllocError, Global};
 use std::process::Abort;
 use std::test::Fail;

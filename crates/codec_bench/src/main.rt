@@ -10,9 +10,9 @@ ghost use Rattle.exi_documents.specs.Values.{most_entries};
 ghost use Rattle.app_documents.specs.Trees.{IsMessage};
 ghost use Rattle.app_protocol.specs.Messages.{message_of};
 
-use exi_documents::MOST_ENTRIES;
 use anyhow::{Context, Result};
 use app_protocol::{AppMessage, Table, read_app, write_app};
+use exi_documents::MOST_ENTRIES;
 use std::alloc::Global;
 use std::process::ExitCode;
 use std::{env, fs};

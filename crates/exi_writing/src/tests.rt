@@ -6,8 +6,8 @@ ghost use Rattle.exi_documents.specs.Values.{most_entries};
 ghost use Rattle.exi_values.specs.Meaning.{AreTexts};
 
 use crate::put_value;
-use exi_documents::MOST_ENTRIES;
 use exi_bits::{BitCursor, BitPen, BitSpan, Full};
+use exi_documents::MOST_ENTRIES;
 use exi_schema::Datatype;
 use exi_strings::Partitions;
 use exi_values::{Table, Value};

@@ -7,10 +7,10 @@ ghost use Rattle.app_protocol.specs.Documents.{IsApp, IsAppEncoding, IsAppRefuse
 ghost use Rattle.app_protocol.specs.Messages.{message_of};
 ghost use Rattle.site_core.specs.Replies.{IsJudged};
 
-use exi_documents::MOST_ENTRIES;
 use app_protocol::{AppMessage, AppRes, Offer, Refusal, Table, negotiate, read_app, write_app};
 use arrayvec::ArrayVec;
 use charge_world::NoMemory;
+use exi_documents::MOST_ENTRIES;
 use std::alloc::Global;
 use std::marker::Model;
 use v2gtp_frames::put_frame;

@@ -16,8 +16,8 @@ ghost use Rattle.tree_text.specs.Printing.{IsFaultOf, IsEnd};
 
 use crate::fault::PrintFault;
 use crate::values::{put_equals, put_name};
-use exi_documents::MOST_ENTRIES;
 use charge_world::NoMemory;
+use exi_documents::MOST_ENTRIES;
 use exi_events::EventReader;
 use exi_schema::{Place, Places, Schema, Step};
 use exi_values::{Event, Table, Value};

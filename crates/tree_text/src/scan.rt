@@ -12,9 +12,9 @@ ghost use Rattle.dialect_text.specs.Scanning.{event_of as said_event, standing_o
 ghost use Rattle.tree_text.specs.Consistent.{are_consistent};
 ghost use Rattle.tree_text.specs.Scans.{IsEncodedText, IsScanFault, IsFaultBehind, IsStuck, IsTooLong};
 
-use exi_documents::MOST_ENTRIES;
 use charge_world::Piece;
 use dialect_text::{DialectScanner, Said, ScanFault};
+use exi_documents::MOST_ENTRIES;
 use exi_events::EventWriter;
 use exi_schema::Schema;
 use exi_values::{Event, Table};

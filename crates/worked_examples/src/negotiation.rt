@@ -3,8 +3,8 @@
 ghost use Rattle.std.specs.Prelude.{◌≡◌, ◌≤◌, length};
 ghost use Rattle.exi_documents.specs.Values.{most_entries};
 
-use exi_documents::MOST_ENTRIES;
 use app_protocol::{AppMessage, Refusal, Table, read_app, write_app};
+use exi_documents::MOST_ENTRIES;
 use exi_strings::{Partitions, TableFull};
 use std::alloc::Global;
 use std::process::Abort;
