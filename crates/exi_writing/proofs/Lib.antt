@@ -6,3 +6,4 @@ pub mod Strings
 pub mod OneWriting
 pub mod Whole
 pub mod Values
+pub mod Locals
