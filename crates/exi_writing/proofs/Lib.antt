@@ -7,3 +7,4 @@ pub mod OneWriting
 pub mod Whole
 pub mod Values
 pub mod Locals
+pub mod LengthLaws

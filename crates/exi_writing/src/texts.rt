@@ -56,7 +56,13 @@ pub(crate) fn put_text(
 }
 
 /// The first place of a text of `count` code points in the local partition of a name.
-fn find_local(pen: &BitPen, text: &TextSource, count: u32, name: u16, table: &Table) -> Option<u32>
+pub(crate) fn find_local(
+    pen: &BitPen,
+    text: &TextSource,
+    count: u32,
+    name: u16,
+    table: &Table,
+) -> Option<u32>
     requires kind { IsText text.now }
     requires count { count ≡ length (chars_of text.now) }
     requires texts { AreTexts (written_bits pen.now) table.now.entries }
@@ -77,7 +83,7 @@ fn find_local(pen: &BitPen, text: &TextSource, count: u32, name: u16, table: &Ta
 }
 
 /// The first place of a text of `count` code points in the global partition.
-fn find_global(pen: &BitPen, text: &TextSource, count: u32, table: &Table) -> Option<u32>
+pub(crate) fn find_global(pen: &BitPen, text: &TextSource, count: u32, table: &Table) -> Option<u32>
     requires kind { IsText text.now }
     requires count { count ≡ length (chars_of text.now) }
     requires texts { AreTexts (written_bits pen.now) table.now.entries }
