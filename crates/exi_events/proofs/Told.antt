@@ -3,7 +3,7 @@ use Rattle.std.proofs.Common.{◌≡◌, ℕ, ◌+◌, ◌<◌, Bool, List, ◌�
 use Rattle.exi_spec.specs.Bits.{bits_of}
 use Rattle.exi_bits.specs.Reading.{Cursor, Takes, ahead}
 use Rattle.exi_bits.specs.declared.span.SpanAt.{SpanAt}
-use Rattle.exi_schema.specs.declared.schema.Schema.{Schema}
+use Rattle.exi_schema.specs.Schemas.{PlainSchema}
 use Rattle.exi_documents.specs.declared.refusal.Refusal.{Refusal}
 use Rattle.exi_documents.specs.Grammar.{Opened, Standing, Behind, State, stands, Moves, Reaches}
 use Rattle.exi_documents.specs.Refusals.{IsRefused}
@@ -17,14 +17,14 @@ use Rattle.exi_events.specs.declared.reader.Phase.TheVariants as phase
 use Rattle.exi_events.specs.Inside.{SpellsInside}
 use Rattle.exi_events.specs.Reader.{state_of, IsNext, IsRefusedAt, HasTold, IsTold}
 
-pub event_next : (s : Schema) (e : Event) (elements moved : List Opened) (bits : List Bool) (before after : List (ℕ × SpanAt)) (old new : Cursor) →
+pub event_next : (s : PlainSchema) (e : Event) (elements moved : List Opened) (bits : List Bool) (before after : List (ℕ × SpanAt)) (old new : Cursor) →
     Takes (SpellsInside s elements (texts_in bits before) e moved (texts_in bits after)) old new →
     IsNext s (state_of phase.Inside elements bits before) (state_of phase.Inside moved bits after) old new (event_of e)
 event_next s e elements moved bits before after old new took =
     let P : Option TreeEvent → Type 0 = λ o. IsNext s (state_of phase.Inside elements bits before) (state_of phase.Inside moved bits after) old new o in
     subst P (sym took.1.1) (took.0, took.1.2, took.2)
 
-pub inside_next : (s : Schema) (result : Result Event Refusal) (p : Phase) (elements moved : List Opened) (bits : List Bool) (before after : List (ℕ × SpanAt)) (old new : Cursor) → p ≡ phase.Inside → new.bits ≡ bits →
+pub inside_next : (s : PlainSchema) (result : Result Event Refusal) (p : Phase) (elements moved : List Opened) (bits : List Bool) (before after : List (ℕ × SpanAt)) (old new : Cursor) → p ≡ phase.Inside → new.bits ≡ bits →
     IfOk result (λ e. Takes (SpellsInside s elements (texts_in bits before) e moved (texts_in bits after)) old new) →
     IfOk result (λ e. IsNext s (state_of p elements bits before) (state_of p moved new.bits after) old new (event_of e))
 inside_next s (Ok e) p elements moved bits before after old new is same took =
@@ -34,7 +34,7 @@ inside_next s (Err r) p elements moved bits before after old new is same took = 
 
 -- ---- whole documents
 
-pub told_more : (s : Schema) (old new : State) (before after : Cursor) (e : Event) → IsNext s old new before after (event_of e) →
+pub told_more : (s : PlainSchema) (old new : State) (before after : Cursor) (e : Event) → IsNext s old new before after (event_of e) →
     (events : List TreeEvent) → HasTold s events old before → (told : TreeEvent) → event_of e ≡ Some told → HasTold s (told ∷ events) new after
 told_more s old new before after e next events has told is =
     let took : Takes (λ bits. Moves SpellsValue s old told bits new) before after = subst (λ o. IsNext s old new before after o) is next in
@@ -44,7 +44,7 @@ told_more s old new before after e next events has told is =
     took.2.moved ∙ ap (λ n. n + length took.0) has.3 ∙ sym (length-append has.0 took.0) in
     (has.0 ++ took.0, (old, has.0, took.0, has.1, took.1, refl), there, place)
 
-pub told_all : (s : Schema) (old new : State) (before after : Cursor) (e : Event) → IsNext s old new before after (event_of e) →
+pub told_all : (s : PlainSchema) (old new : State) (before after : Cursor) (e : Event) → IsNext s old new before after (event_of e) →
     (payload : List ℕ) (events : List TreeEvent) → bits_of payload ≡ before.bits → HasTold s events old before → event_of e ≡ None → IsTold s events payload
 told_all s old new before after e next payload events bits has is =
     let ends : (old.standing ≡ Behind) × (length (ahead before) < 8) × (new ≡ old) × (after ≡ before) = subst (λ o. IsNext s old new before after o) is next in
@@ -53,7 +53,7 @@ told_all s old new before after e next payload events bits has is =
     let tells = (tell_trees SpellsValue s).told events has.0 old.entries behind in
     (tells.0, tells.1, tells.2, record { number = tells.0; bits = has.0; pad = ahead before; spelled = tells.3; few = ends.1; bits_are = bits ∙ has.2 })
 
-pub told_refused : (s : Schema) (old : State) (before : Cursor) (r : Refusal) → IsRefusedAt s old before r →
+pub told_refused : (s : PlainSchema) (old : State) (before : Cursor) (r : Refusal) → IsRefusedAt s old before r →
     (payload : List ℕ) (events : List TreeEvent) → bits_of payload ≡ before.bits → HasTold s events old before → IsRefused s payload r.cause r.bit
 told_refused s old before r at payload events bits has =
     record { events = events; state = old; front = has.0; rest = ahead before; at = at.0; reached = has.1; bits_are = bits ∙ has.2; refused = at.1; place = at.2 ∙ ap (λ n. n + at.0) has.3 }

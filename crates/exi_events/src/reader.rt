@@ -73,7 +73,7 @@ impl<'a, 'p, P: Places> EventReader<'a, 'p, P> {
     pub fn place(&self) -> Option<Place>
         requires ready { IsReady (P.schema self.now.places.now) self.now.phase self.now.elements self.now.reader.bits self.now.table.now }
         ensures place { result ≡ innermost_place (state_of self.now.phase self.now.elements self.now.reader.bits self.now.table.now.entries).standing }
-        ensures of_schema { IfSome result (λ place. IsPlace (P.schema self.now.places.now).kinds.now place) }
+        ensures of_schema { IfSome result (λ place. IsPlace (P.schema self.now.places.now).kinds place) }
     {
         self.elements.innermost().map(|top| top.place)
     }

@@ -7,6 +7,7 @@ ghost use Rattle.exi_events.specs.Writer.{IsShapedEvent, IsReadyToPut, KeepsLent
 
 use crate::choices::four_choices;
 use crate::{Event, EventReader, EventWriter, Full, Refusal, RefusalCause, Table, Value};
+use exi_documents::MOST_ENTRIES;
 use app_schema::negotiation;
 use exi_schema::Places;
 use exi_strings::Partitions;
@@ -80,7 +81,7 @@ fn next_is<P: Places>(rt: &impl Abort, reader: &mut EventReader<P>, told: &Told)
 
 #[test]
 fn the_published_request_is_told(rt: HostRuntime) {
-    let Ok(mut table) = Partitions::make(rt.alloc(), 8192) else {
+    let Ok(mut table) = Partitions::make(rt.alloc(), MOST_ENTRIES) else {
         assert!(rt; false);
         return;
     };
@@ -96,7 +97,7 @@ fn the_published_request_is_told(rt: HostRuntime) {
 /// Another schema is asked at each place: with a code of three bits the same bits tell another element.
 #[test]
 fn the_places_that_are_lent_are_asked(rt: HostRuntime) {
-    let Ok(mut table) = Partitions::make(rt.alloc(), 8192) else {
+    let Ok(mut table) = Partitions::make(rt.alloc(), MOST_ENTRIES) else {
         assert!(rt; false);
         return;
     };
@@ -143,7 +144,7 @@ fn is_refused(rt: &impl Abort, table: &mut Table, payload: &[u8], cause: Refusal
 
 #[test]
 fn refusals_have_a_bit(rt: HostRuntime) {
-    let Ok(mut table) = Partitions::make(rt.alloc(), 8192) else {
+    let Ok(mut table) = Partitions::make(rt.alloc(), MOST_ENTRIES) else {
         assert!(rt; false);
         return;
     };
@@ -232,7 +233,7 @@ fn put_all(rt: &impl Abort, room: &mut [u8], table: &mut Table, all: &[Told]) ->
 
 #[test]
 fn documents_are_written(rt: HostRuntime) {
-    let Ok(mut table) = Partitions::make(rt.alloc(), 8192) else {
+    let Ok(mut table) = Partitions::make(rt.alloc(), MOST_ENTRIES) else {
         assert!(rt; false);
         return;
     };

@@ -15,6 +15,7 @@ ghost use Rattle.tree_text.specs.Printing.{IsFaultOf, IsEnd};
 
 use crate::fault::PrintFault;
 use crate::values::{put_equals, put_name};
+use exi_documents::MOST_ENTRIES;
 use charge_world::NoMemory;
 use exi_events::EventReader;
 use exi_schema::{Place, Places, Schema, Step};
@@ -154,7 +155,7 @@ pub fn print_tree(alloc: Global, schema: &Schema, payload: &[u8]) -> Result<Stri
     ensures printed { IfOk result (λ text. (tree : Tree) × IsDocument schema.now tree payload.now × IsTreeText schema.now tree (string_bytes text)) }
     ensures fault { IfErr result (IsFaultOf schema.now payload.now) }
 {
-    let mut table = Table::make(alloc, 8192)?;
+    let mut table = Table::make(alloc, MOST_ENTRIES)?;
     print_with_table(alloc, schema, payload, &mut table)
 }
 

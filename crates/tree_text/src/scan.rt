@@ -11,6 +11,7 @@ ghost use Rattle.dialect_text.specs.Scanning.{event_of as said_event, standing_o
 ghost use Rattle.tree_text.specs.Consistent.{are_consistent};
 ghost use Rattle.tree_text.specs.Scans.{IsEncodedText, IsScanFault, IsFaultBehind, IsStuck, IsTooLong};
 
+use exi_documents::MOST_ENTRIES;
 use charge_world::Piece;
 use dialect_text::{DialectScanner, Said, ScanFault};
 use exi_events::EventWriter;
@@ -152,7 +153,7 @@ pub fn scan_tree(alloc: Global, schema: &Schema, text: &str) -> Result<Piece, Sc
     ensures encoded { IfOk result (IsEncodedText schema.now text.now) }
     ensures fault { IfErr result (IsScanFault schema.now text.now) }
 {
-    let mut table = Table::make(alloc, 8192)?;
+    let mut table = Table::make(alloc, MOST_ENTRIES)?;
     let mut room = vec![in alloc; 0; 65536]?;
     scan_into(alloc, schema, text, room.as_mut_slice(), &mut table)
 }
