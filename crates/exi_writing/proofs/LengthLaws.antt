@@ -1,15 +1,15 @@
 -- How many bits a value needs.
-use Rattle.std.proofs.Common.{◌≡◌, ℕ, ℤ, pos, ◌+◌, ◌*◌, ◌<◌, ◌≤◌, Bool, List, [], ◌∷◌, ◌++◌, length, refl, sym, ap, subst, ◌∙◌, arith, inl, inr}
+use Rattle.std.proofs.Common.{◌≡◌, ℕ, ℤ, ◌+◌, ◌*◌, ◌<◌, ◌≤◌, Bool, List, [], ◌∷◌, ◌++◌, length, refl, sym, ap, subst, ◌∙◌, arith, inr}
 use Rattle.std.proofs.lemmas.List.{length-append}
 use Rattle.exi_spec.specs.Bits.{number_bits, bits_of}
-use Rattle.exi_spec.specs.Items.{shortest_unsigned, shortest_integer, shortest_chars}
+use Rattle.exi_spec.specs.Items.{shortest_unsigned, shortest_chars}
 use Rattle.exi_spec.proofs.BitLaws.{length-number_bits, length-bits_of}
 use Rattle.exi_schema.specs.declared.tables.Datatype.{Datatype}
-use Rattle.exi_schema.specs.declared.tables.Datatype.TheVariants.{Bool as BoolType, Named, Bounded, Unsigned, Signed, Binary, Text as TextType}
+use Rattle.exi_schema.specs.declared.tables.Datatype.TheVariants.{Named, Bounded}
 use Rattle.exi_strings.specs.Table.{Table, global_of, local_of}
 use Rattle.exi_strings.specs.Texts.{IsIndexWidth, IsFirstAt, IsAbsent, entered}
 use Rattle.exi_documents.specs.Trees.{Value, Truth, Ordinal, Number, Bytes, Text}
-use Rattle.exi_documents.specs.Values.{Entries, most_entries, IsValue, SpellsCode, SpellsBounded, WritesValue}
+use Rattle.exi_documents.specs.Values.{Entries, most_entries, IsValue, SpellsCode, WritesValue}
 use Rattle.exi_bits.specs.Lent.{Span, items_of}
 use Rattle.exi_bits.specs.Pens.{written_bits}
 use Rattle.exi_bits.specs.declared.pen.BitPen.{BitPen}
