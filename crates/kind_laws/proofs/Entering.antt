@@ -107,11 +107,11 @@ among_more : (different xs : List (List ℕ)) (t : List ℕ) → AllByRecursion 
 among_more different [] t all one = (one, tt)
 among_more different (x ∷ xs) t all one = (all.0, among_more different xs t all.1 one)
 
-global_more : (entries : Entries) (name : ℕ) (t : List ℕ) → global_of (entries ++ (name, t) ∷ []) ≡ global_of entries ++ t ∷ []
+pub global_more : (entries : Entries) (name : ℕ) (t : List ℕ) → global_of (entries ++ (name, t) ∷ []) ≡ global_of entries ++ t ∷ []
 global_more [] name t = refl
 global_more (entry ∷ entries) name t = ap (λ (l : List (List ℕ)). entry.1 ∷ l) (global_more entries name t)
 
-global_length : (entries : Entries) → length (global_of entries) ≡ length entries
+pub global_length : (entries : Entries) → length (global_of entries) ≡ length entries
 global_length [] = refl
 global_length (entry ∷ entries) = ap suc (global_length entries)
 

@@ -4,3 +4,6 @@ pub mod Choosing
 pub mod Building
 pub mod Entering
 pub mod Encoded
+pub mod Leading
+pub mod Held
+pub mod Told
