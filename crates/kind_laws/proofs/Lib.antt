@@ -7,3 +7,4 @@ pub mod Encoded
 pub mod Leading
 pub mod Held
 pub mod Told
+pub mod Documents

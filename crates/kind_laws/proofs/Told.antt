@@ -95,11 +95,11 @@ Among entries texts = AllByRecursion (IsAmong (global_of entries)) texts
 abbrev pub Grows : Entries → Entries → Type 0
 Grows before after = (t : List ℕ) → IsAmong (global_of before) t → IsAmong (global_of after) t
 
-all_grown : (before after : Entries) (texts : List (List ℕ)) → Grows before after → Among before texts → Among after texts
+pub all_grown : (before after : Entries) (texts : List (List ℕ)) → Grows before after → Among before texts → Among after texts
 all_grown before after [] grows all = tt
 all_grown before after (t ∷ texts) grows all = (grows t all.0, all_grown before after texts grows all.1)
 
-both_among : (entries : Entries) (xs ys : List (List ℕ)) → Among entries xs → Among entries ys → Among entries (xs ++ ys)
+pub both_among : (entries : Entries) (xs ys : List (List ℕ)) → Among entries xs → Among entries ys → Among entries (xs ++ ys)
 both_among entries [] ys p q = q
 both_among entries (x ∷ xs) ys p q = (p.0, both_among entries xs ys p.1 q)
 

@@ -1,12 +1,32 @@
--- Own: what a schema says of trees and what documents spell is one.
-use Rattle.std.specs.Prelude.{ℕ, List}
+-- Own: what a schema says of trees, what documents spell, and what the grammar tells is one.
+use Rattle.std.specs.Prelude.{ℕ, Bool, List, reverse}
 use Rattle.exi_schema.specs.Schemas.{PlainSchema}
-use Rattle.exi_documents.specs.Trees.{Tree}
+use Rattle.exi_documents.specs.Trees.{Tree, document_events}
+use Rattle.exi_documents.specs.Values.{Entries, SpellsValue}
 use Rattle.exi_documents.specs.Documents.{IsEncoding, IsDocument}
+use Rattle.exi_documents.specs.Grammar.{Behind, stands, Reaches}
 use Rattle.document_laws.specs.Laws.{AreBytes}
+use Rattle.kind_laws.specs.Kinds.{FitsSchema}
+use Rattle.kind_laws.specs.Texts.{HasFewTexts}
+
+-- a tree that holds what the schema says, of no more different texts than a document may enter
+abbrev pub IsOfSchema : PlainSchema → Tree → Type 0
+IsOfSchema s tree = FitsSchema s tree × HasFewTexts tree
 
 -- a tree has an encoding
 pub record HasEncoding (s : PlainSchema) (tree : Tree) : Type 0 where
   pub payload : List ℕ
   pub are_bytes : AreBytes payload
   pub encoding : IsEncoding s tree payload
+
+-- a payload spells it
+pub record HasDocument (s : PlainSchema) (tree : Tree) : Type 0 where
+  pub payload : List ℕ
+  pub document : IsDocument s tree payload
+
+-- the grammar leads along its events from the start to behind the root
+pub record IsToldIn (s : PlainSchema) (tree : Tree) : Type 0 where
+  pub number : ℕ
+  pub bits : List Bool
+  pub entries : Entries
+  pub reached : Reaches SpellsValue s (reverse (document_events number tree)) bits (stands Behind entries)

@@ -1,12 +1,21 @@
 //! Laws of the trees of a schema (W3C XML Schema Part 1, Second Edition, 3.4.4 and 3.9.4).
 
+ghost use Rattle.std.specs.Prelude.{◌↔◌};
 ghost use Rattle.exi_schema.specs.Schemas.{PlainSchema};
 ghost use Rattle.exi_documents.specs.Trees.{Tree};
 ghost use Rattle.kind_laws.specs.Kinds.{FitsSchema};
 ghost use Rattle.kind_laws.specs.Texts.{HasFewTexts};
-ghost use Rattle.kind_laws.specs.Laws.{HasEncoding};
+ghost use Rattle.kind_laws.specs.Laws.{HasEncoding, HasDocument, IsToldIn, IsOfSchema};
 
 /// Each tree that holds what its schema says, of at most 8,192 different texts, has an encoding.
 pub fn each_tree_is_encoded()
     ensures { (s : PlainSchema) (tree : Tree) → FitsSchema s tree → HasFewTexts tree → HasEncoding s tree }
+{}
+
+/// What a schema says of trees is what its documents spell and what the grammar tells: these are the trees that hold what it says, of at
+/// most 8,192 different texts.
+pub fn kinds_and_documents()
+    ensures encoded { (s : PlainSchema) (tree : Tree) → HasEncoding s tree ↔ IsOfSchema s tree }
+    ensures spelled { (s : PlainSchema) (tree : Tree) → HasDocument s tree ↔ IsOfSchema s tree }
+    ensures told { (s : PlainSchema) (tree : Tree) → IsToldIn s tree ↔ IsOfSchema s tree }
 {}
