@@ -8,3 +8,4 @@ pub mod Leading
 pub mod Held
 pub mod Told
 pub mod Documents
+pub mod Filling
