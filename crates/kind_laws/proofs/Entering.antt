@@ -148,7 +148,7 @@ known_entered different entries name (c ∷ cs) known absent may = known_more di
 abbrev pub Written : List (List ℕ) → Datatype → Entries → ℕ → Value → Type 0
 Written different datatype entries name value = (bits : List Bool) × (after : Entries) × WritesValue datatype entries name value bits after × IsKnown different after
 
-code_written : (count code : ℕ) → code < count → (bits : List Bool) × SpellsCode count code bits
+pub code_written : (count code : ℕ) → code < count → (bits : List Bool) × SpellsCode count code bits
 code_written count code below =
     let wide = index_width count in
     (number_bits wide.0 code, record { below = below; width = wide.0; is_width = wide.1; spelled = refl })

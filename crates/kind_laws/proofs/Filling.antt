@@ -38,7 +38,7 @@ IsLeast datatype value = IsValue datatype value × IsInRange datatype × (text_i
 to_le : (a b : ℤ) → le_z a b ≡ true → a ≤ℤ b
 to_le a b h = le_z_yes (subst T (sym h) tt)
 
-least_value : (datatype : Datatype) → is_datatype datatype ≡ true → IsInRange datatype → (value : Value) × IsLeast datatype value
+pub least_value : (datatype : Datatype) → is_datatype datatype ≡ true → IsInRange datatype → (value : Value) × IsLeast datatype value
 least_value BoolType is range = (Truth false, (tt, range, refl))
 least_value (Named count) is range = (Ordinal 0, (leb-true 1 count is, range, refl))
 least_value (Bounded least count) is range = (Number least, ((0, leb-true 1 count (and-l _ _ is), (let e : least ≡ least +ℤ pos 0 = omega (arith, ints) in e)), range, refl))

@@ -9,3 +9,4 @@ pub mod Held
 pub mod Told
 pub mod Documents
 pub mod Filling
+pub mod Completing

@@ -1,9 +1,9 @@
 -- Own: what a schema says of trees, what documents spell, and what the grammar tells is one.
-use Rattle.std.specs.Prelude.{ℕ, Bool, List, reverse}
+use Rattle.std.specs.Prelude.{◌≡◌, ℕ, Bool, List, ◌++◌, reverse}
 use Rattle.exi_schema.specs.Schemas.{PlainSchema}
-use Rattle.exi_documents.specs.Trees.{Tree, document_events}
+use Rattle.exi_documents.specs.Trees.{Tree, Event, document_events}
 use Rattle.exi_documents.specs.Values.{Entries, SpellsValue}
-use Rattle.exi_documents.specs.Documents.{IsEncoding, IsDocument}
+use Rattle.exi_documents.specs.Documents.{SpellsDocument, IsEncoding, IsDocument}
 use Rattle.exi_documents.specs.Grammar.{Behind, stands, Reaches}
 use Rattle.document_laws.specs.Laws.{AreBytes}
 use Rattle.kind_laws.specs.Kinds.{FitsSchema}
@@ -30,3 +30,12 @@ pub record IsToldIn (s : PlainSchema) (tree : Tree) : Type 0 where
   pub bits : List Bool
   pub entries : Entries
   pub reached : Reaches SpellsValue s (reverse (document_events number tree)) bits (stands Behind entries)
+
+-- bits that spell these events, the newest first, go on to those of a document, whose events go on from these
+pub record BeginsDocument (s : PlainSchema) (events : List Event) (bits : List Bool) : Type 0 where
+  pub number : ℕ
+  pub tree : Tree
+  pub more : List Event
+  pub rest : List Bool
+  pub spelled : SpellsDocument SpellsValue s number tree (bits ++ rest)
+  pub events_are : document_events number tree ≡ reverse events ++ more

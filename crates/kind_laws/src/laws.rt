@@ -1,11 +1,15 @@
 //! Laws of the trees of a schema (W3C XML Schema Part 1, Second Edition, 3.4.4 and 3.9.4).
 
-ghost use Rattle.std.specs.Prelude.{◌↔◌};
+ghost use Rattle.std.specs.Prelude.{◌↔◌, ℕ, Bool, List};
 ghost use Rattle.exi_schema.specs.Schemas.{PlainSchema};
-ghost use Rattle.exi_documents.specs.Trees.{Tree};
+ghost use Rattle.exi_documents.specs.declared.refusal.RefusalCause.{RefusalCause};
+ghost use Rattle.exi_documents.specs.Trees.{Tree, Event};
+ghost use Rattle.exi_documents.specs.Values.{SpellsValue};
+ghost use Rattle.exi_documents.specs.Grammar.{State, Reaches};
+ghost use Rattle.exi_documents.specs.Refusals.{IsRefused};
 ghost use Rattle.kind_laws.specs.Kinds.{FitsSchema};
 ghost use Rattle.kind_laws.specs.Texts.{HasFewTexts};
-ghost use Rattle.kind_laws.specs.Laws.{HasEncoding, HasDocument, IsToldIn, IsOfSchema};
+ghost use Rattle.kind_laws.specs.Laws.{HasEncoding, HasDocument, IsToldIn, IsOfSchema, BeginsDocument};
 
 /// Each tree that holds what its schema says, of at most 8,192 different texts, has an encoding.
 pub fn each_tree_is_encoded()
@@ -18,4 +22,10 @@ pub fn kinds_and_documents()
     ensures encoded { (s : PlainSchema) (tree : Tree) → HasEncoding s tree ↔ IsOfSchema s tree }
     ensures spelled { (s : PlainSchema) (tree : Tree) → HasDocument s tree ↔ IsOfSchema s tree }
     ensures told { (s : PlainSchema) (tree : Tree) → IsToldIn s tree ↔ IsOfSchema s tree }
+{}
+
+/// Each state that bits lead to goes on to the end of a document. So the bits before the event at which a payload is refused begin one.
+pub fn each_state_is_completed()
+    ensures reached { (s : PlainSchema) (events : List Event) (bits : List Bool) (state : State) → Reaches SpellsValue s events bits state → BeginsDocument s events bits }
+    ensures refused { (s : PlainSchema) (payload : List ℕ) (why : RefusalCause) (bit : ℕ) (r : IsRefused s payload why bit) → BeginsDocument s r.events r.front }
 {}
