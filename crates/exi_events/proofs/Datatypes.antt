@@ -1,11 +1,9 @@
 -- The datatype of a simple kind is one.
 use Rattle.std.proofs.Common.{◌≡◌, ℕ, true, length, map, Option, Some, None, refl, subst, sym}
 use Rattle.std.specs.Prelude.{slice_get}
-use Rattle.exi_schema.specs.Schemas.{PlainSchema}
+use Rattle.exi_schema.specs.Schemas.{PlainSchema, is_datatype}
 use Rattle.exi_schema.specs.declared.tables.Datatype.{Datatype}
-use Rattle.exi_schema.specs.Plain.{PlainKind}
-use Rattle.exi_schema.specs.Plain.{valued, containing}
-use Rattle.exi_schema.specs.Schemas.{is_datatype}
+use Rattle.exi_schema.specs.Plain.{PlainKind, valued, containing}
 use Rattle.exi_schema.specs.Steps.{datatype_of, simple_at}
 use Rattle.exi_schema.proofs.Conditions.{kinds_of, declared}
 

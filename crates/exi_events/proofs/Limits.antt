@@ -2,9 +2,8 @@
 use Rattle.std.proofs.Common.{ℕ, ◌<◌, ◌≤◌, nat_le, List, length, map, arith}
 use Rattle.std.proofs.lemmas.Bool.{leb-true}
 use Rattle.std.specs.List.{list_all}
-use Rattle.exi_schema.specs.Schemas.{PlainSchema}
+use Rattle.exi_schema.specs.Schemas.{PlainSchema, are_kinds, are_roots, are_words, are_values, is_root}
 use Rattle.exi_schema.specs.Offers.{IsWidth}
-use Rattle.exi_schema.specs.Schemas.{are_kinds, are_roots, are_words, are_values, is_root}
 use Rattle.exi_schema.proofs.Conditions.{and-l, and-r}
 
 pub few_root_bits : (s : PlainSchema) → s.root_bits ≤ 32

@@ -9,9 +9,8 @@ use Rattle.exi_bits.specs.Pens.{Writes, Needs}
 use Rattle.exi_bits.specs.declared.pen.BitPen.{BitPen}
 use Rattle.exi_schema.specs.declared.places.Root.{Root}
 use Rattle.exi_schema.specs.declared.places.Root.TheVariants.{Kind, Unknown, NoSuch}
-use Rattle.exi_schema.specs.Schemas.{PlainSchema}
+use Rattle.exi_schema.specs.Schemas.{PlainSchema, are_kinds, are_roots, are_words, are_values, is_root, is_within}
 use Rattle.exi_schema.specs.declared.tables.RootOf.{RootOf}
-use Rattle.exi_schema.specs.Schemas.{are_kinds, are_roots, are_words, are_values, is_root, is_within}
 use Rattle.exi_schema.specs.Steps.{IsRoot}
 use Rattle.exi_schema.proofs.Conditions.{and-l, and-r, all_get}
 use Rattle.exi_documents.specs.Documents.{header}

@@ -19,7 +19,7 @@ use Rattle.exi_writing.proofs.Strings.{texts_kept, are_kept}
 use Rattle.exi_events.specs.declared.reader.Phase.{Phase}
 use Rattle.exi_events.specs.declared.reader.Phase.TheVariants as phase
 use Rattle.exi_events.specs.Front.{SpellsFront}
-use Rattle.exi_events.specs.Reader.{state_of, IsSound, IsReady}
+use Rattle.exi_events.specs.Reader.{state_of, IsSound, IsReadyAt}
 use Rattle.exi_events.specs.Writer.{drafted, IsOffered, IsPut, HasNoRoom}
 use Rattle.exi_events.proofs.Drafts.{adds}
 use Rattle.exi_events.proofs.Standings.{offered_in}
@@ -32,12 +32,12 @@ names_offered s p e elements bits entries number is same may =
     (λ h. (h.2.0, h.2.1, h.2.3)) may
 
 -- more bits leave the writer ready
-pub ready_more : (s : PlainSchema) (p : Phase) (elements : List Opened) (old new : BitPen) (table : Table SpanAt) → IsReady s p elements (written_bits old) table → WritesMore old new → IsReady s p elements (written_bits new) table
+pub ready_more : (s : PlainSchema) (p : Phase) (elements : List Opened) (old new : BitPen) (table : Table SpanAt) → IsReadyAt s p elements (written_bits old) table → WritesMore old new → IsReadyAt s p elements (written_bits new) table
 ready_more s p elements old new table ready more =
     record { cap = ready.cap; texts = are_kept old new table.entries more ready.texts; sound = ready.sound }
 
-pub ready_root : (s : PlainSchema) (p : Phase) (elements : List Opened) (old new : BitPen) (table : Table SpanAt) (name kind : ℕ) → p ≡ phase.Before → IsReady s p elements (written_bits old) table → WritesMore old new → IsRootOf s.kinds (length s.names) (Kind name kind) →
-    IsReady s (phase.AtRoot name kind) elements (written_bits new) table
+pub ready_root : (s : PlainSchema) (p : Phase) (elements : List Opened) (old new : BitPen) (table : Table SpanAt) (name kind : ℕ) → p ≡ phase.Before → IsReadyAt s p elements (written_bits old) table → WritesMore old new → IsRootOf s.kinds (length s.names) (Kind name kind) →
+    IsReadyAt s (phase.AtRoot name kind) elements (written_bits new) table
 ready_root s p elements old new table name kind is ready more fits =
     let none : elements ≡ [] = subst (λ (q : Phase). IsSound s q elements) is ready.sound in
     record { cap = ready.cap; texts = are_kept old new table.entries more ready.texts; sound = (none, fits.1, fits.2) }

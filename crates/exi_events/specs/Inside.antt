@@ -1,11 +1,10 @@
 -- Own: the open elements of a document of a schema, and events inside the innermost of them.
 use Rattle.std.specs.Prelude.{◌≡◌, ℕ, ◌-◌, true, Bool, List, [], ◌∷◌, length, Some}
 use Rattle.exi_schema.specs.declared.places.Place.{Place}
-use Rattle.exi_schema.specs.Schemas.{PlainSchema}
+use Rattle.exi_schema.specs.Schemas.{PlainSchema, is_within}
 use Rattle.exi_schema.specs.declared.tables.Datatype.{Datatype}
 use Rattle.exi_schema.specs.Plain.{PlainKind}
 use Rattle.exi_schema.specs.Offers.{IsPlace}
-use Rattle.exi_schema.specs.Schemas.{is_within}
 use Rattle.exi_schema.specs.Steps.{simple_at}
 use Rattle.exi_documents.specs.declared.refusal.RefusalCause.{RefusalCause}
 use Rattle.exi_documents.specs.Grammar.{Opened, MovesFrom, around, stands}

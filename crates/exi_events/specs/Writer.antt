@@ -20,7 +20,7 @@ use Rattle.exi_values.specs.declared.Event.TheVariants as event
 use Rattle.exi_values.specs.declared.Value.{Value}
 use Rattle.exi_values.specs.Meaning.{IsShaped, event_of}
 use Rattle.exi_events.specs.declared.writer.EventWriter.{EventWriter}
-use Rattle.exi_events.specs.Reader.{state_of, IsReady}
+use Rattle.exi_events.specs.Reader.{state_of, IsReadyAt}
 
 -- a document as far as it is written: the bytes of its room, the bits written at their front, and how far the document is
 pub record Draft : Type 0 where
@@ -41,7 +41,7 @@ module _ {P : Type 0} {p : Ghosts P} where
 
   -- as a writer is made, and as each call leaves it
   abbrev pub IsReadyToPut : EventWriter P p → Type 0
-  IsReadyToPut w = IsReady (p.schema w.places.now) w.phase w.elements (draft_of w).bits w.table.now
+  IsReadyToPut w = IsReadyAt (p.schema w.places.now) w.phase w.elements (draft_of w).bits w.table.now
 
 -- the writer has the same room, table and places
 pub record KeepsLent {P : Type 0} {p : Ghosts P} (old new : EventWriter P p) : Type 0 where

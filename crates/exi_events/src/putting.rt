@@ -10,7 +10,7 @@ ghost use Rattle.exi_values.specs.Meaning.{AreTexts, event_of, texts_in, value_o
 ghost use Rattle.exi_writing.specs.Writing.{Puts, Lacks, WritesMore, PassesRoom};
 ghost use Rattle.exi_events.specs.Front.{SpellsFront};
 ghost use Rattle.exi_events.specs.Inside.{AreOpen, HasTop};
-ghost use Rattle.exi_events.specs.Reader.{state_of, IsReady};
+ghost use Rattle.exi_events.specs.Reader.{state_of, IsReadyAt};
 ghost use Rattle.exi_events.specs.Writer.{drafted, IsOffered, IsShapedEvent, IsPut, HasNoRoom, MayWrite, WritesValueOf, value_in};
 
 use crate::offer::offer_of;
@@ -139,10 +139,10 @@ pub(crate) fn put_event<P: Places>(
     elements: &mut OpenElements,
     event: &Event,
 ) -> Result<(), Full>
-    requires ready { IsReady (P.schema places.now) phase.old elements.old (written_bits pen.old) table.old }
+    requires ready { IsReadyAt (P.schema places.now) phase.old elements.old (written_bits pen.old) table.old }
     requires shaped { IsShapedEvent event.now }
     requires offered { IsOffered (P.schema places.now) (state_of phase.old elements.old (written_bits pen.old) table.old.entries) event.now }
-    ensures ready { IsReady (P.schema places.now) phase.new elements.new (written_bits pen.new) table.new }
+    ensures ready { IsReadyAt (P.schema places.now) phase.new elements.new (written_bits pen.new) table.new }
     ensures same_room { pen.new.room.ghost_name ≡ pen.old.room.ghost_name }
     ensures ok { OnOk result (IsPut (P.schema places.now)
         (drafted pen.old (state_of phase.old elements.old (written_bits pen.old) table.old.entries))

@@ -57,8 +57,8 @@ const REQUEST: [Told; 20] = [
 ];
 
 fn next_is<P: Places>(rt: &impl Abort, reader: &mut EventReader<P>, told: &Told)
-    requires { IsReady (P.schema reader.old.places.now) reader.old.phase reader.old.elements reader.old.reader.bits reader.old.table.now }
-    ensures { IsReady (P.schema reader.new.places.now) reader.new.phase reader.new.elements reader.new.reader.bits reader.new.table.now }
+    requires { IsReady P.schema reader.old }
+    ensures { IsReady P.schema reader.new }
 {
     let Ok(event) = reader.next() else {
         assert!(rt; false);
@@ -115,8 +115,8 @@ fn the_places_that_are_lent_are_asked(rt: HostRuntime) {
 
 /// Reads up to a refusal, which is answered again.
 fn refusal_of<P: Places>(rt: &impl Abort, reader: &mut EventReader<P>) -> Option<Refusal>
-    requires { IsReady (P.schema reader.old.places.now) reader.old.phase reader.old.elements reader.old.reader.bits reader.old.table.now }
-    ensures ready { IsReady (P.schema reader.new.places.now) reader.new.phase reader.new.elements reader.new.reader.bits reader.new.table.now }
+    requires { IsReady P.schema reader.old }
+    ensures ready { IsReady P.schema reader.new }
     ensures same_reference { reader.new.table.ghost_name ≡ reader.old.table.ghost_name }
 {
     for _ in 0..100 {
