@@ -1,5 +1,5 @@
 -- Elements that hold what their kinds say are spelled, where their values are.
-use Rattle.std.proofs.Common.{◌≡◌, ℕ, zero, suc, ◌+◌, ◌<◌, ◌≤◌, ◌^◌, Bool, true, false, if◌then◌else◌, List, [], ◌∷◌, ◌++◌, length, drop, Option, Some, None, refl, sym, ap, subst, ◌∙◌, arith, slice_get, inl, inr}
+use Rattle.std.proofs.Common.{◌≡◌, ℕ, suc, ◌+◌, Bool, false, if◌then◌else◌, List, [], ◌∷◌, ◌++◌, length, drop, Option, Some, refl, sym, ap, subst, ◌∙◌, arith, slice_get}
 use Rattle.std.proofs.lemmas.Option.{slice_get_within}
 use Rattle.std.proofs.lemmas.List.{drop_all}
 use Rattle.exi_spec.specs.Bits.{number_bits}
@@ -8,16 +8,15 @@ use Rattle.exi_schema.specs.declared.tables.Datatype.{Datatype}
 use Rattle.exi_schema.specs.declared.tables.Member.{Member}
 use Rattle.exi_schema.specs.declared.places.Place.{Place}
 use Rattle.exi_schema.specs.declared.places.Step.{Step}
-use Rattle.exi_schema.specs.declared.places.Step.TheVariants.{Attribute, Element, End, Characters}
+use Rattle.exi_schema.specs.declared.places.Step.TheVariants.{Attribute, End}
 use Rattle.exi_schema.specs.Plain.{PlainKind, containing, PlainParticle}
-use Rattle.exi_schema.specs.Offers.{through_required, attribute_steps, element_steps, complex_steps, offers_of, offers, IsWidth}
-use Rattle.exi_schema.specs.Steps.{simple_at}
+use Rattle.exi_schema.specs.Offers.{through_required, attribute_steps, element_steps, complex_steps, offers_of, offers}
 use Rattle.exi_documents.specs.Trees.{Value, Trees, none, simple, complex}
 use Rattle.exi_documents.specs.Values.{Entries}
 use Rattle.exi_documents.specs.Documents.{Speller, SpellsStep, SpellsSimple, SpellsAttributes, SpellsTrees, element, first}
 use Rattle.document_laws.proofs.IndexWidths.{code_width}
-use Rattle.kind_laws.specs.Kinds.{Values, AreDivided, AreChosen, HasValue, HaveValues, HoldsAttributes, AreElements}
-use Rattle.kind_laws.proofs.Lists.{get_front, get_back, drop_more, nil_cons, same_tail}
+use Rattle.kind_laws.specs.Kinds.{Values, AreChosen, HasValue, HaveValues, AreElements}
+use Rattle.kind_laws.proofs.Lists.{get_front, get_back, drop_more}
 use Rattle.kind_laws.proofs.Choosing.{any_required, none_required, next_attribute}
 use Rattle.kind_laws.proofs.Division.{Remain, remain_all, end_offered, element_offered}
 

@@ -1,12 +1,11 @@
 -- The attributes that an element still may have, and the next one.
-use Rattle.std.proofs.Common.{◌≡◌, ℕ, zero, suc, ◌+◌, ◌||◌, Bool, true, false, if◌then◌else◌, List, [], ◌∷◌, ◌++◌, length, drop, Option, Some, None, refl, sym, ap, subst, ◌∙◌, arith, slice_get, inl, inr}
+use Rattle.std.proofs.Common.{◌≡◌, ℕ, suc, ◌+◌, ◌||◌, Bool, false, if◌then◌else◌, List, [], ◌∷◌, drop, Some, refl, sym, ap, subst, ◌∙◌, arith, slice_get, inl, inr}
 use Rattle.std.specs.List.{list_any}
 use Rattle.exi_schema.specs.declared.tables.AttributeOf.{AttributeOf}
 use Rattle.exi_schema.specs.declared.places.Place.{Place}
-use Rattle.exi_schema.specs.declared.places.Step.{Step}
 use Rattle.exi_schema.specs.Offers.{through_required, attribute_step, attribute_steps}
 use Rattle.kind_laws.specs.Kinds.{AreChosen}
-use Rattle.kind_laws.proofs.Lists.{none_of, one_of, nil_cons, same_head, same_tail}
+use Rattle.kind_laws.proofs.Lists.{nil_cons, same_head, same_tail}
 
 -- an attribute has to be there
 abbrev pub any_required : List AttributeOf → Bool

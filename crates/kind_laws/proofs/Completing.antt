@@ -1,8 +1,8 @@
 -- Each state of a document goes on to its end.
-use Rattle.std.proofs.Common.{◌≡◌, ℕ, zero, suc, ℤ, pos, ◌+◌, ◌<◌, ◌≤◌, ◌^◌, ◌==◌, ◌&&◌, nat_le, Bool, true, false, if◌then◌else◌, List, [], ◌∷◌, ◌++◌, length, drop, reverse, Option, Some, None, refl, sym, ap, subst, ◌∙◌, arith, slice_get, append-nil, inl, inr}
+use Rattle.std.proofs.Common.{◌≡◌, ℕ, zero, suc, pos, ◌<◌, ◌≤◌, ◌==◌, Bool, if◌then◌else◌, List, [], ◌∷◌, ◌++◌, length, drop, reverse, Option, Some, None, refl, sym, ap, subst, ◌∙◌, arith, slice_get, append-nil, inr}
 use Rattle.std.proofs.lemmas.Bool.{leb-true}
 use Rattle.std.proofs.lemmas.List.{reverse-append, reverse-reverse}
-use Rattle.std.specs.List.{AllByRecursion, list_all}
+use Rattle.std.specs.List.{AllByRecursion}
 use Rattle.exi_spec.specs.Bits.{number_bits, bits_of}
 use Rattle.exi_spec.specs.Items.{shortest_unsigned, shortest_integer}
 use Rattle.exi_spec.proofs.ShortestLaws.{shortest}
@@ -13,17 +13,17 @@ use Rattle.exi_schema.specs.declared.tables.RootOf.{RootOf}
 use Rattle.exi_schema.specs.declared.places.Place.{Place}
 use Rattle.exi_schema.specs.declared.places.Root.TheVariants.{Kind}
 use Rattle.exi_schema.specs.declared.places.Step.{Step}
-use Rattle.exi_schema.specs.declared.places.Step.TheVariants.{Attribute, Element, End, Characters}
+use Rattle.exi_schema.specs.declared.places.Step.TheVariants.{End, Characters}
 use Rattle.exi_schema.specs.Plain.{PlainKind, valued, containing, PlainParticle}
-use Rattle.exi_schema.specs.Schemas.{PlainSchema, is_root, are_roots, are_kinds}
-use Rattle.exi_schema.specs.Offers.{offers, simple_step, IsPlaceIn, IsPlaceOf, IsPlace}
+use Rattle.exi_schema.specs.Schemas.{PlainSchema, are_roots, are_kinds}
+use Rattle.exi_schema.specs.Offers.{offers, IsPlaceIn, IsPlaceOf, IsPlace}
 use Rattle.exi_schema.specs.Steps.{simple_at, datatype_of, IsRoot}
 use Rattle.exi_schema.proofs.Conditions.{and-l, and-r, datatype_fits}
 use Rattle.exi_schema.proofs.Fitting.{first_place}
-use Rattle.exi_documents.specs.Trees.{Value, Truth, Ordinal, Number, Bytes, Text, Trees, none, simple, complex, Event, Document, Start, EndElement, Content, attribute_events, events_of, document_events}
-use Rattle.exi_documents.specs.Values.{Entries, most_entries, IsValue, SpellsCode, SpellsValue, WritesValue}
-use Rattle.exi_documents.specs.Documents.{SpellsStep, SpellsSimple, SpellsAttributes, SpellsTrees, first, header}
-use Rattle.exi_documents.specs.Grammar.{Opened, Standing, Before, AtRoot, Inside, Behind, State, start, opened, around, stands, Moves, Reaches}
+use Rattle.exi_documents.specs.Trees.{Value, Truth, Ordinal, Number, Bytes, Text, Event, Document, Start, EndElement, Content, attribute_events, events_of, document_events}
+use Rattle.exi_documents.specs.Values.{Entries, most_entries, SpellsValue, WritesValue}
+use Rattle.exi_documents.specs.Documents.{SpellsStep, first, header}
+use Rattle.exi_documents.specs.Grammar.{Opened, Standing, Before, AtRoot, Inside, Behind, State, start, opened, around, stands, Reaches}
 use Rattle.document_laws.specs.Laws.{IsInRange, IsStanding, IsState}
 use Rattle.document_laws.proofs.Written.{value_spelled, range_at}
 use Rattle.document_laws.proofs.Offered.{offers_simple, one_offered}
@@ -31,13 +31,11 @@ use Rattle.document_laws.proofs.Fits.{root_kind}
 use Rattle.document_laws.proofs.Runs.{Runs, runs_both, reaches_runs, to_start, simple_runs, attributes_run, trees_run}
 use Rattle.document_laws.proofs.OneTree.{start_is, run_kept}
 use Rattle.document_laws.proofs.Told.{events_told}
-use Rattle.kind_laws.specs.Kinds.{AreChosen, HaveValues, HasValue, AreElements}
-use Rattle.kind_laws.specs.Texts.{text_in}
 use Rattle.kind_laws.specs.Laws.{BeginsDocument}
 use Rattle.kind_laws.proofs.Entering.{code_written}
 use Rattle.kind_laws.proofs.Encoded.{root_numbered}
 use Rattle.kind_laws.proofs.Division.{Remain}
-use Rattle.kind_laws.proofs.Building.{IsIn, simple_built, attributes_built, trees_built}
+use Rattle.kind_laws.proofs.Building.{simple_built, attributes_built, trees_built}
 use Rattle.kind_laws.proofs.Filling.{IsLeast, least_value, elements_filled, particles_fill, attributes_fill}
 
 -- ---- the least value is spelled, and enters no text

@@ -1,17 +1,17 @@
 -- From a place on: the members that still stand for the particles there, and the next step.
-use Rattle.std.proofs.Common.{◌≡◌, ℕ, zero, suc, ◌+◌, ◌<◌, ◌≤◌, nat_lt, not, Bool, true, false, if◌then◌else◌, List, [], ◌∷◌, ◌++◌, length, drop, map, Option, Some, None, refl, sym, ap, subst, ◌∙◌, arith, slice_get, inl, inr, ltb-true, ltb-false}
+use Rattle.std.proofs.Common.{◌≡◌, ℕ, suc, ◌+◌, ◌<◌, ◌≤◌, nat_lt, not, Bool, true, false, if◌then◌else◌, List, [], ◌∷◌, ◌++◌, length, drop, map, Option, Some, None, refl, sym, ap, subst, ◌∙◌, arith, slice_get, ltb-false}
 use Rattle.std.proofs.lemmas.Bool.{lt-ltb, le-ltb}
 use Rattle.std.specs.List.{AllByRecursion}
 use Rattle.exi_schema.specs.declared.tables.Member.{Member}
 use Rattle.exi_schema.specs.declared.tables.MemberStanding.TheVariants.{Taken}
 use Rattle.exi_schema.specs.declared.places.Place.{Place}
 use Rattle.exi_schema.specs.declared.places.Step.{Step}
-use Rattle.exi_schema.specs.declared.places.Step.TheVariants.{Attribute, Element, End, Characters}
-use Rattle.exi_schema.specs.Plain.{PlainKind, PlainParticle}
+use Rattle.exi_schema.specs.declared.places.Step.TheVariants.{Element, End}
+use Rattle.exi_schema.specs.Plain.{PlainParticle}
 use Rattle.exi_schema.specs.Offers.{leaves_room, behind_copy, element_step, element_steps}
 use Rattle.exi_documents.specs.Documents.{element}
-use Rattle.kind_laws.specs.Kinds.{IsMemberOf, IsAtMost, StandsFor, AreDivided}
-use Rattle.kind_laws.proofs.Lists.{none_of, one_of, get_front, get_back, get_map, no_items, nil_cons, same_head, same_tail}
+use Rattle.kind_laws.specs.Kinds.{IsMemberOf, IsAtMost, AreDivided}
+use Rattle.kind_laws.proofs.Lists.{get_front, get_back, get_map, no_items, nil_cons, same_head, same_tail}
 
 -- behind so many copies of a particle these members still stand for it
 pub record GoOn (copies : ℕ) (particle : PlainParticle) (members : List Member) : Type 0 where

@@ -1,20 +1,18 @@
 -- The documents of a schema are those of the trees that hold what it says, of at most 8,192 different texts.
-use Rattle.std.proofs.Common.{◌≡◌, ℕ, ◌≤◌, ◌↔◌, Bool, List, [], ◌∷◌, ◌++◌, length, reverse, drop, slice_get, Some, refl, sym, ap, subst, ◌∙◌, arith}
+use Rattle.std.proofs.Common.{◌≡◌, ℕ, ◌≤◌, ◌↔◌, Bool, List, [], ◌∷◌, ◌++◌, length, reverse, drop, slice_get, refl, sym, ap, subst, ◌∙◌, arith}
 use Rattle.std.proofs.lemmas.List.{reverse-reverse}
 use Rattle.exi_strings.specs.Table.{global_of}
 use Rattle.exi_schema.specs.Schemas.{PlainSchema}
-use Rattle.exi_schema.specs.Plain.{PlainParticle}
 use Rattle.exi_schema.specs.declared.tables.RootOf.{RootOf}
-use Rattle.exi_documents.specs.Trees.{Value, Trees, none, simple, complex, Tree, Simple, Complex, alone, Event, document_events}
-use Rattle.exi_documents.specs.Values.{Entries, most_entries, IsValue, SpellsValue, WritesValue}
-use Rattle.exi_documents.specs.Documents.{SpellsTree, SpellsDocument, IsDocument, IsEncoding, name_of, first}
-use Rattle.exi_documents.specs.Grammar.{Behind, stands, Reaches}
+use Rattle.exi_documents.specs.Trees.{Tree, Simple, Complex, alone, Event, document_events}
+use Rattle.exi_documents.specs.Values.{Entries, most_entries, IsValue, SpellsValue}
+use Rattle.exi_documents.specs.Documents.{SpellsTree, SpellsDocument, name_of, first}
 use Rattle.document_laws.proofs.Apart.{documents_apart}
 use Rattle.document_laws.proofs.Encodings.{encoding_spelled}
 use Rattle.document_laws.proofs.Told.{events_told}
 use Rattle.document_laws.proofs.Runs.{document_tells}
-use Rattle.kind_laws.specs.Kinds.{AreElements, AreDivided, IsHeld, member_of, FitsSchema}
-use Rattle.kind_laws.specs.Texts.{text_in, attribute_texts, texts_of, IsAmong, HasFewTexts}
+use Rattle.kind_laws.specs.Kinds.{AreElements, AreDivided, member_of}
+use Rattle.kind_laws.specs.Texts.{text_in, attribute_texts, texts_of}
 use Rattle.kind_laws.specs.Laws.{HasEncoding, HasDocument, IsToldIn, IsOfSchema}
 use Rattle.kind_laws.proofs.Division.{Remain}
 use Rattle.kind_laws.proofs.Leading.{MayBePassed, none_passed, divided_all}

@@ -1,13 +1,12 @@
 -- A tree that holds what its schema says has an encoding.
-use Rattle.std.proofs.Common.{◌≡◌, ℕ, ◌+◌, ◌*◌, ◌/◌, ◌%◌, ◌-◌, ◌^◌, ◌<◌, ◌≤◌, ◌&&◌, Bool, true, false, not, nat_lt, nat_le, List, [], ◌∷◌, ◌++◌, length, map, replicate, Option, Some, None, refl, sym, ap, subst, ◌∙◌, arith, slice_get, take, drop, length-append}
+use Rattle.std.proofs.Common.{◌≡◌, ℕ, ◌+◌, ◌*◌, ◌/◌, ◌-◌, ◌^◌, ◌<◌, ◌≤◌, ◌&&◌, Bool, false, nat_le, List, [], ◌∷◌, ◌++◌, length, replicate, Some, refl, sym, ap, subst, ◌∙◌, arith, slice_get, drop, length-append}
 use Rattle.std.proofs.lemmas.Bool.{ltb-true}
 use Rattle.std.proofs.lemmas.List.{length-replicate, take_all}
 use Rattle.std.specs.List.{AllByRecursion, list_all}
-use Rattle.std.specs.Prelude.{◌==◌}
 use Rattle.exi_spec.specs.Bits.{number_bits, bits_of}
 use Rattle.exi_spec.specs.Plain.{bytes_in}
 use Rattle.exi_spec.proofs.PlainLaws.{bytes_there}
-use Rattle.exi_schema.specs.Schemas.{PlainSchema, is_root, is_within, are_roots, are_kinds, are_words, are_values, are_distinct}
+use Rattle.exi_schema.specs.Schemas.{PlainSchema, is_root, are_roots, are_kinds}
 use Rattle.exi_schema.specs.Plain.{PlainKind}
 use Rattle.exi_schema.specs.declared.tables.Datatype.{Datatype}
 use Rattle.exi_schema.specs.declared.tables.Member.{Member}
@@ -15,14 +14,14 @@ use Rattle.exi_schema.specs.declared.tables.RootOf.{RootOf}
 use Rattle.exi_schema.proofs.Conditions.{and-l, and-r, all_get}
 use Rattle.exi_documents.specs.Trees.{Value, Trees, none, simple, complex, Tree, Simple, Complex, alone}
 use Rattle.exi_documents.specs.Values.{Entries, most_entries, IsValue, WritesValue}
-use Rattle.exi_documents.specs.Documents.{SpellsTree, SpellsDocument, IsEncoding, name_of, first, header}
+use Rattle.exi_documents.specs.Documents.{SpellsTree, name_of, first, header}
 use Rattle.document_laws.specs.Laws.{AreBytes}
-use Rattle.kind_laws.specs.Kinds.{Values, AreChosen, HasValue, HaveValues, HoldsAttributes, AreElements, member_of, FitsSchema}
+use Rattle.kind_laws.specs.Kinds.{Values, HasValue, HaveValues, AreElements, member_of, FitsSchema}
 use Rattle.kind_laws.specs.Texts.{text_in, attribute_texts, texts_of, IsAmong, HasFewTexts}
 use Rattle.kind_laws.specs.Laws.{HasEncoding}
-use Rattle.kind_laws.proofs.Lists.{one_of, same_head}
+use Rattle.kind_laws.proofs.Lists.{same_head}
 use Rattle.kind_laws.proofs.Division.{Remain, remain_all}
-use Rattle.kind_laws.proofs.Building.{BuildsAttributes, BuildsTrees, BuildsSimple, attributes_built, trees_built, simple_built, IsIn}
+use Rattle.kind_laws.proofs.Building.{attributes_built, trees_built, simple_built}
 use Rattle.kind_laws.proofs.Entering.{IsKnown, MayEnter, known_none, value_written}
 
 -- ---- the texts of a tree may be entered

@@ -1,5 +1,5 @@
 -- Of each kind there is an element: with the least value of a datatype, and with the attributes and elements that have to be there.
-use Rattle.std.proofs.Common.{◌≡◌, ℕ, zero, suc, ℤ, pos, ◌+◌, ◌-◌, ◌<◌, ◌≤◌, ◌^◌, ◌==◌, ◌&&◌, ◌||◌, nat_lt, nat_le, Bool, true, false, List, [], ◌∷◌, ◌++◌, length, drop, replicate, Option, Some, None, refl, sym, ap, subst, ◌∙◌, arith, slice_get, inl, inr, T}
+use Rattle.std.proofs.Common.{◌≡◌, ℕ, zero, suc, ℤ, pos, ◌+◌, ◌-◌, ◌<◌, ◌≤◌, ◌==◌, ◌&&◌, ◌||◌, nat_lt, nat_le, Bool, true, false, List, [], ◌∷◌, ◌++◌, length, drop, replicate, Option, Some, None, refl, sym, ap, subst, ◌∙◌, arith, slice_get, inl, inr, T}
 use Rattle.std.specs.Prelude.{◌≤ℤ◌, ◌+ℤ◌}
 use Rattle.std.specs.Int.Signed.{le_z, le_z_yes}
 use Rattle.std.proofs.lemmas.Int.{ints}
@@ -15,16 +15,16 @@ use Rattle.exi_schema.specs.declared.tables.Member.{Member}
 use Rattle.exi_schema.specs.declared.tables.MemberStanding.{MemberStanding}
 use Rattle.exi_schema.specs.declared.tables.MemberStanding.TheVariants.{Taken, Abstract, OutOfProfile}
 use Rattle.exi_schema.specs.Plain.{PlainKind, valued, containing, PlainParticle}
-use Rattle.exi_schema.specs.Schemas.{PlainSchema, is_taken, is_most, is_particle, can_be_there, is_simple, is_attribute, is_signed, is_datatype, is_within, particles_of}
+use Rattle.exi_schema.specs.Schemas.{PlainSchema, is_taken, is_most, is_particle, can_be_there, is_simple, is_attribute, is_datatype, is_within, particles_of}
 use Rattle.exi_schema.specs.Steps.{simple_at, datatype_of}
 use Rattle.exi_schema.proofs.Conditions.{and-l, and-r, all_get, each_at, kinds_of, complex_in, datatype_fits}
 use Rattle.exi_documents.specs.Trees.{Value, Truth, Ordinal, Number, Bytes, Text, Trees, none, simple, complex}
 use Rattle.exi_documents.specs.Values.{IsValue}
 use Rattle.document_laws.specs.Laws.{IsInRange}
 use Rattle.document_laws.proofs.Written.{range_at}
-use Rattle.kind_laws.specs.Kinds.{IsMemberOf, IsAtMost, StandsFor, AreDivided, AreChosen, Values, HasValue, HaveValues, HoldsAttributes, AreElements}
+use Rattle.kind_laws.specs.Kinds.{IsMemberOf, IsAtMost, AreChosen, Values, HasValue, HaveValues, AreElements}
 use Rattle.kind_laws.specs.Texts.{text_in}
-use Rattle.kind_laws.proofs.Lists.{none_of, one_of}
+use Rattle.kind_laws.proofs.Lists.{none_of}
 use Rattle.kind_laws.proofs.Division.{GoOn, Remain}
 use Rattle.kind_laws.proofs.Leading.{MostFits, AreSound, sound_behind, divided_all}
 use Rattle.kind_laws.proofs.Held.{sound_in}
@@ -131,15 +131,16 @@ module _ (s : PlainSchema) where
   some_more copies particle member fewer fits accepted one fills =
       let n = particle.least - copies in
       let all = same_members particle member one fills n in
-      let long = length-replicate n member in
-      (replicate n member,
-      record {
-        own = all.0;
-        least = omega (arith, long, fewer);
-        most = λ some. least_at_most particle.least particle.most (copies + length (replicate n member)) fits (omega (arith, long, fewer));
-        profile = λ some. omega (arith, long, fewer, accepted);
-      },
-      all.1)
+      let long = length-replicate n member in (
+        replicate n member,
+        record {
+          own = all.0;
+          least = omega (arith, long, fewer);
+          most = λ some. least_at_most particle.least particle.most (copies + length (replicate n member)) fits (omega (arith, long, fewer));
+          profile = λ some. omega (arith, long, fewer, accepted);
+        },
+        all.1,
+      )
 
   there_by : (b : Bool) (copies : ℕ) (particle : PlainParticle) → (particle.least == 0) ≡ b → (b || (nat_le particle.least particle.profile && list_any (λ m. is_taken m.standing) particle.members)) ≡ true → MostFits particle.least particle.most →
       ((member : Member) (k : ℕ) → slice_get particle.members k ≡ Some member → Fills member) → Completes copies particle
@@ -182,21 +183,23 @@ module _ (s : PlainSchema) where
       let conditions = complex_in s member.kind declared particles is in
       let attributes = attributes_filled declared conditions.attributes_fit in
       let inside = particles_filled 0 particles conditions.particles_fit (sound_in s member.kind declared particles is) fills in
-      let children = elements_filled inside.0 inside.2 in
-      (complex member.name attributes.1 children.0 more, (
-        member,
-        others,
-        refl,
-        refl,
-        declared,
-        particles,
-        inside.0,
-        is,
-        record { chosen = attributes.0; are_chosen = attributes.2; have_values = attributes.3 },
-        divided_all particles inside.0 inside.1,
-        children.1,
-        are,
-      ))
+      let children = elements_filled inside.0 inside.2 in (
+        complex member.name attributes.1 children.0 more,
+        (
+          member,
+          others,
+          refl,
+          refl,
+          declared,
+          particles,
+          inside.0,
+          is,
+          record { chosen = attributes.0; are_chosen = attributes.2; have_values = attributes.3 },
+          divided_all particles inside.0 inside.1,
+          children.1,
+          are,
+        ),
+      )
 
   simple_filled : (member : Member) (datatype : Datatype) → slice_get s.kinds member.kind ≡ Some (valued datatype) → Fills member
   simple_filled member datatype is others more are =
@@ -206,9 +209,10 @@ module _ (s : PlainSchema) where
 
   members_within : (depth : ℕ) (members : List Member) (k : ℕ) (member : Member) → list_all (λ m. nat_lt m.name (length s.names) && nat_lt m.kind (length s.kinds)) members ≡ true → list_all (λ m. is_within s.kinds depth m.kind) members ≡ true → slice_get members k ≡ Some member →
       (member.kind < length s.kinds) × (is_within s.kinds depth member.kind ≡ true)
-  members_within depth members k member own within at =
-      (ltb-true member.kind (length s.kinds) (and-r (nat_lt member.name (length s.names)) (nat_lt member.kind (length s.kinds)) (all_get (λ m. nat_lt m.name (length s.names) && nat_lt m.kind (length s.kinds)) members k member own at)),
-      all_get (λ m. is_within s.kinds depth m.kind) members k member within at)
+  members_within depth members k member own within at = (
+    ltb-true member.kind (length s.kinds) (and-r (nat_lt member.name (length s.names)) (nat_lt member.kind (length s.kinds)) (all_get (λ m. nat_lt m.name (length s.names) && nat_lt m.kind (length s.kinds)) members k member own at)),
+    all_get (λ m. is_within s.kinds depth m.kind) members k member within at,
+  )
 
   mutual_none : (kind : ℕ) → kind < length s.kinds → None ≡ slice_get s.kinds kind → ⊥
   mutual_none kind less none_there = let there = slice_get_cases s.kinds kind in

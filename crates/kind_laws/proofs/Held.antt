@@ -1,25 +1,23 @@
 -- Elements that are spelled hold what their kinds say.
-use Rattle.std.proofs.Common.{◌≡◌, ℕ, zero, suc, ◌+◌, ◌<◌, ◌≤◌, ◌||◌, nat_lt, nat_le, ◌&&◌, Bool, true, false, not, if◌then◌else◌, List, [], ◌∷◌, ◌++◌, length, drop, map, Option, Some, None, refl, sym, ap, subst, ◌∙◌, arith, slice_get, inl, inr}
+use Rattle.std.proofs.Common.{◌≡◌, ℕ, zero, suc, ◌+◌, ◌≤◌, ◌||◌, nat_lt, nat_le, ◌&&◌, Bool, true, false, if◌then◌else◌, List, [], ◌∷◌, ◌++◌, length, drop, map, Option, Some, None, refl, sym, ap, subst, ◌∙◌, arith, slice_get, inl, inr}
 use Rattle.std.specs.Prelude.{◌==◌}
-use Rattle.std.specs.List.{AllByRecursion, list_all}
+use Rattle.std.specs.List.{list_all}
 use Rattle.std.proofs.lemmas.Bool.{leb-true}
-use Rattle.std.proofs.lemmas.Bool.Decides.{eqb_tells}
 use Rattle.exi_schema.specs.declared.tables.AttributeOf.{AttributeOf}
 use Rattle.exi_schema.specs.declared.tables.Datatype.{Datatype}
 use Rattle.exi_schema.specs.declared.tables.Member.{Member}
-use Rattle.exi_schema.specs.declared.tables.MemberStanding.TheVariants.{Taken}
 use Rattle.exi_schema.specs.declared.places.Place.{Place}
 use Rattle.exi_schema.specs.declared.places.Step.{Step}
 use Rattle.exi_schema.specs.declared.places.Step.TheVariants.{Attribute, Element, End, Characters}
 use Rattle.exi_schema.specs.Plain.{PlainKind, valued, containing, PlainParticle}
-use Rattle.exi_schema.specs.Schemas.{PlainSchema, is_most, is_particle, can_be_there}
-use Rattle.exi_schema.specs.Offers.{through_required, attribute_steps, element_step, element_steps, complex_steps, simple_step, offers_of, offers}
+use Rattle.exi_schema.specs.Schemas.{PlainSchema, is_most, is_particle}
+use Rattle.exi_schema.specs.Offers.{through_required, attribute_steps, element_step, element_steps, simple_step, offers_of}
 use Rattle.exi_schema.specs.Steps.{simple_at}
-use Rattle.exi_schema.proofs.Conditions.{and-l, and-r, complex_in}
+use Rattle.exi_schema.proofs.Conditions.{and-l, complex_in}
 use Rattle.exi_documents.specs.Trees.{Value, Trees, none, simple, complex}
 use Rattle.exi_documents.specs.Values.{Entries}
 use Rattle.exi_documents.specs.Documents.{Speller, SpellsStep, SpellsSimple, SpellsAttributes, SpellsTrees, element, first}
-use Rattle.kind_laws.specs.Kinds.{Values, AreDivided, AreChosen, HasValue, HaveValues, HoldsAttributes, AreElements}
+use Rattle.kind_laws.specs.Kinds.{Values, AreDivided, AreChosen, HasValue, HaveValues, AreElements}
 use Rattle.kind_laws.proofs.Lists.{none_of, one_of, get_either, get_unmap, drop_more}
 use Rattle.kind_laws.proofs.Choosing.{any_required}
 use Rattle.kind_laws.proofs.Division.{Remain}

@@ -1,15 +1,14 @@
 -- A step that is offered is one of a member that may stand next.
-use Rattle.std.proofs.Common.{◌≡◌, ℕ, zero, suc, ◌+◌, ◌<◌, ◌≤◌, nat_lt, not, Bool, true, false, if◌then◌else◌, List, [], ◌∷◌, ◌++◌, length, drop, map, Option, Some, None, refl, sym, ap, subst, ◌∙◌, arith, slice_get, inl, inr}
+use Rattle.std.proofs.Common.{◌≡◌, ℕ, zero, suc, ◌+◌, ◌<◌, ◌≤◌, nat_lt, not, Bool, true, false, if◌then◌else◌, List, [], ◌∷◌, length, drop, map, Option, Some, None, refl, sym, ap, subst, ◌∙◌, arith, slice_get, inl, inr}
 use Rattle.std.proofs.lemmas.Bool.{ltb-true, ltb-false}
 use Rattle.std.specs.List.{AllByRecursion}
 use Rattle.exi_schema.specs.declared.tables.AttributeOf.{AttributeOf}
 use Rattle.exi_schema.specs.declared.tables.Member.{Member}
-use Rattle.exi_schema.specs.declared.tables.MemberStanding.{MemberStanding}
 use Rattle.exi_schema.specs.declared.tables.MemberStanding.TheVariants.{Taken}
 use Rattle.exi_schema.specs.declared.places.Place.{Place}
 use Rattle.exi_schema.specs.declared.places.Step.{Step}
-use Rattle.exi_schema.specs.declared.places.Step.TheVariants.{Attribute, Element, End, Characters}
-use Rattle.exi_schema.specs.Plain.{PlainKind, PlainParticle}
+use Rattle.exi_schema.specs.declared.places.Step.TheVariants.{Attribute, Element, End}
+use Rattle.exi_schema.specs.Plain.{PlainParticle}
 use Rattle.exi_schema.specs.Offers.{through_required, attribute_step, attribute_steps, leaves_room, behind_copy, element_step, element_steps}
 use Rattle.exi_documents.specs.Documents.{element}
 use Rattle.kind_laws.specs.Kinds.{IsMemberOf, IsAtMost, StandsFor, AreDivided, AreChosen}

@@ -10,3 +10,4 @@ pub mod Told
 pub mod Documents
 pub mod Filling
 pub mod Completing
+pub mod Ascending

@@ -12,7 +12,6 @@ use Rattle.exi_schema.specs.Schemas.{PlainSchema}
 use Rattle.exi_schema.specs.Steps.{simple_at}
 use Rattle.exi_documents.specs.Trees.{Value, Trees, none, simple, complex, Tree, alone}
 use Rattle.exi_documents.specs.Values.{IsValue}
-use Rattle.exi_documents.specs.Documents.{name_of}
 
 -- ---- particles
 

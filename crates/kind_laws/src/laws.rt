@@ -1,13 +1,16 @@
 //! Laws of the trees of a schema (W3C XML Schema Part 1, Second Edition, 3.4.4 and 3.9.4).
 
-ghost use Rattle.std.specs.Prelude.{◌↔◌, ℕ, Bool, List};
+ghost use Rattle.std.specs.Prelude.{◌≡◌, ◌↔◌, ℕ, Bool, true, List, Some, slice_get};
 ghost use Rattle.exi_schema.specs.Schemas.{PlainSchema};
 ghost use Rattle.exi_documents.specs.declared.refusal.RefusalCause.{RefusalCause};
-ghost use Rattle.exi_documents.specs.Trees.{Tree, Event};
+ghost use Rattle.exi_schema.specs.Plain.{PlainParticle, containing};
+ghost use Rattle.exi_schema.specs.declared.tables.AttributeOf.{AttributeOf};
+ghost use Rattle.exi_documents.specs.Trees.{Tree, Event, alone};
 ghost use Rattle.exi_documents.specs.Values.{SpellsValue};
 ghost use Rattle.exi_documents.specs.Grammar.{State, Reaches};
 ghost use Rattle.exi_documents.specs.Refusals.{IsRefused};
 ghost use Rattle.kind_laws.specs.Kinds.{FitsSchema};
+ghost use Rattle.kind_laws.specs.Order.{is_group, is_ordered, AttributesAscend, MembersAscend};
 ghost use Rattle.kind_laws.specs.Texts.{HasFewTexts};
 ghost use Rattle.kind_laws.specs.Laws.{HasEncoding, HasDocument, IsToldIn, IsOfSchema, BeginsDocument};
 
@@ -28,4 +31,12 @@ pub fn kinds_and_documents()
 pub fn each_state_is_completed()
     ensures reached { (s : PlainSchema) (events : List Event) (bits : List Bool) (state : State) → Reaches SpellsValue s events bits state → BeginsDocument s events bits }
     ensures refused { (s : PlainSchema) (payload : List ℕ) (why : RefusalCause) (bit : ℕ) (r : IsRefused s payload why bit) → BeginsDocument s r.events r.front }
+{}
+
+/// Where the test of a schema's order is passed, the attributes of each element stand in order of name, and so do the members of a
+/// substitution group.
+pub fn names_ascend()
+    ensures attributes { (s : PlainSchema) (tree : Tree) → is_ordered s ≡ true → FitsSchema s tree → AttributesAscend s.names (alone tree) }
+    ensures groups { (s : PlainSchema) (k i : ℕ) (declared : List AttributeOf) (particles : List PlainParticle) (particle : PlainParticle) → is_ordered s ≡ true
+        → slice_get s.kinds k ≡ Some (containing declared particles) → slice_get particles i ≡ Some particle → is_group particle ≡ true → MembersAscend s.names particle }
 {}
