@@ -8,7 +8,7 @@ use Rattle.exi_schema.specs.Schemas.{PlainSchema}
 use Rattle.exi_schema.proofs.Conditions.{and-l, and-r, all_get}
 use Rattle.exi_documents.specs.Trees.{Value, Trees, none, simple, complex, Tree, alone}
 use Rattle.kind_laws.specs.Kinds.{Values, AreChosen, HaveValues, AreElements, member_of, IsHeld}
-use Rattle.kind_laws.specs.Order.{is_before, are_ascending, text_of, is_group, is_ordered_particle, is_ordered_kind, is_ordered, AttributesAscend, MembersAscend}
+use Rattle.kind_laws.specs.Order.{is_before, are_ascending, text_of, is_group, is_ordered_particle, is_ordered_kind, is_ordered, AttributesAscend, GroupsAscend}
 use Rattle.kind_laws.proofs.Lists.{none_of, one_of, get_map}
 
 both_true : (a b : Bool) → a ≡ true → b ≡ true → (a && b) ≡ true
@@ -74,8 +74,8 @@ group_by : (b : Bool) (test : Bool) → b ≡ true → (not b || test) ≡ true 
 group_by true test is h = h
 group_by false test is h = let wrong : false ≡ true = is in absurd cc
 
-pub members_ascend : (s : PlainSchema) (k i : ℕ) (declared : List AttributeOf) (particles : List PlainParticle) (particle : PlainParticle) → is_ordered s ≡ true → slice_get s.kinds k ≡ Some (containing declared particles) → slice_get particles i ≡ Some particle → is_group particle ≡ true → MembersAscend s.names particle
-members_ascend s k i declared particles particle ordered is at group m n member other less p q =
+pub groups_ascend : (s : PlainSchema) → is_ordered s ≡ true → GroupsAscend s
+groups_ascend s ordered k i declared particles particle is at group m n member other less p q =
     let own = all_get (is_ordered_kind s.names) s.kinds k (containing declared particles) ordered is in
     let one = all_get (is_ordered_particle s.names) particles i particle (and-r (are_ascending (map (λ a. text_of s.names a.name) declared)) (list_all (is_ordered_particle s.names) particles) own) at in
     pairs_ascend (λ m. text_of s.names m.name) particle.members m n member other (group_by (is_group particle) _ group one) less p q

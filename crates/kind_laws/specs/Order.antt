@@ -1,7 +1,8 @@
--- W3C EXI 1.0 (Second Edition) 8.5.4.1, Schema-informed Element and Type Grammars: attributes stand in order of their local names, and so do the
--- members of a substitution group. As a test, so that it is computed of a written schema.
+-- W3C EXI 1.0 (Second Edition) 8.5.4.1, Schema-informed Element and Type Grammars: attributes stand in order of their local names, and so
+-- do the members of a substitution group. As a test, so that it is computed of a written schema.
 use Rattle.std.specs.Prelude.{◌≡◌, ℕ, ◌<◌, ◌==◌, ◌&&◌, ◌||◌, nat_lt, not, Bool, true, false, List, [], ◌∷◌, map, Option, Some, None, slice_get}
 use Rattle.std.specs.List.{list_any, list_all}
+use Rattle.exi_schema.specs.declared.tables.AttributeOf.{AttributeOf}
 use Rattle.exi_schema.specs.declared.tables.Member.{Member}
 use Rattle.exi_schema.specs.declared.tables.MemberStanding.{MemberStanding}
 use Rattle.exi_schema.specs.declared.tables.MemberStanding.TheVariants.{Taken, Abstract, OutOfProfile}
@@ -59,7 +60,13 @@ AttributesAscend names (complex name attributes children more) =
     (are_ascending (map (λ attribute. text_of names attribute.0) attributes) ≡ true) × AttributesAscend names children × AttributesAscend names more
 
 -- of two members of a group the one of the lower name comes first
-abbrev pub MembersAscend : List (List ℕ) → PlainParticle → Type 0
-MembersAscend names particle =
-    (i j : ℕ) (member other : Member) → i < j → slice_get particle.members i ≡ Some member → slice_get particle.members j ≡ Some other →
+abbrev pub MembersAscend : List (List ℕ) → List Member → Type 0
+MembersAscend names members =
+    (i j : ℕ) (member other : Member) → i < j → slice_get members i ≡ Some member → slice_get members j ≡ Some other →
     is_before (text_of names member.name) (text_of names other.name) ≡ true
+
+abbrev pub GroupsAscend : PlainSchema → Type 0
+GroupsAscend s =
+    (kind at : ℕ) (attributes : List AttributeOf) (particles : List PlainParticle) (particle : PlainParticle) →
+    slice_get s.kinds kind ≡ Some (containing attributes particles) → slice_get particles at ≡ Some particle →
+    is_group particle ≡ true → MembersAscend s.names particle.members
