@@ -1,5 +1,6 @@
 -- What is offered before a document, at its root and inside it.
-use Rattle.std.proofs.Common.{◌≡◌, ℕ, eqb, Bool, true, false, List, [], ◌++◌, refl, sym, subst, ◌∙◌, inl, inr, IsTrue, ◌↔◌}
+use Rattle.std.proofs.Common.{◌≡◌, ℕ, eqb, Bool, true, false, List, [], ◌++◌, refl, sym, subst, ◌∙◌, inl, inr, IsTrue, ◌↔◌, Option, Some, None, IsSome}
+use Rattle.std.specs.Prelude.{IfSome}
 use Rattle.std.proofs.lemmas.Bool.Decides.{eqb_tells}
 use Rattle.exi_spec.specs.Bits.{number_bits}
 use Rattle.exi_bits.specs.declared.span.SpanAt.{SpanAt}
@@ -11,13 +12,16 @@ use Rattle.exi_documents.specs.Grammar.{Opened, opened, AtRoot, Inside, State, a
 use Rattle.exi_values.specs.declared.Event.{Event}
 use Rattle.exi_values.specs.declared.Event.TheVariants as event
 use Rattle.exi_values.specs.Meaning.{texts_in}
+use Rattle.exi_events.specs.declared.offer.Found.{Found}
+use Rattle.exi_events.specs.declared.offer.Found.TheVariants as found
+use Rattle.exi_events.specs.declared.offer.Offer.{Offer}
 use Rattle.exi_events.specs.declared.open.OpenElement.{OpenElement}
 use Rattle.exi_events.specs.declared.reader.Phase.{Phase}
 use Rattle.exi_events.specs.declared.reader.Phase.TheVariants as phase
 use Rattle.exi_events.specs.Inside.{HasTop}
 use Rattle.exi_events.specs.Open.{opened_of}
-use Rattle.exi_events.specs.Reader.{state_of}
-use Rattle.exi_events.specs.Writer.{IsOffered}
+use Rattle.exi_events.specs.Reader.{standing_of, state_of}
+use Rattle.exi_events.specs.Writer.{IsOffered, IsFound, IsFoundAt, IsFoundIn}
 use Rattle.exi_events.proofs.Rooted.{root_range}
 
 -- the standing is known
@@ -48,8 +52,45 @@ start_decides s p e elements bits entries name kind child is same =
     false_is : false ≡ true → ⊥
     false_is e = absurd cc
 
-pub inside_decides : (s : PlainSchema) (p : Phase) (e : Event) (elements : List Opened) (bits : List Bool) (entries : List (ℕ × SpanAt)) (top : OpenElement) (b : Bool) → p ≡ phase.Inside → HasTop elements top →
-    ((above : List Opened) → (IsTrue b ↔ IsOffered s (stands (Inside (opened_of top) above) (texts_in bits entries)) e)) → (IsTrue b ↔ IsOffered s (state_of p elements bits entries) e)
-inside_decides s p e elements bits entries top b is has decides =
-    offered_in (λ (state : State) (x : Event). IsTrue b ↔ IsOffered s state x) p phase.Inside e e elements bits entries is refl
-    (subst (λ (es : List Opened). IsTrue b ↔ IsOffered s (stands (around es) (texts_in bits entries)) e) (sym has.1) (decides has.0))
+pub inside_decides : (s : PlainSchema) (p : Phase) (e : Event) (elements : List Opened) (bits : List Bool) (entries : List (ℕ × SpanAt)) (top : OpenElement) (Q : Type 0) → p ≡ phase.Inside → HasTop elements top →
+    ((above : List Opened) → (Q ↔ IsOffered s (stands (Inside (opened_of top) above) (texts_in bits entries)) e)) → (Q ↔ IsOffered s (state_of p elements bits entries) e)
+inside_decides s p e elements bits entries top Q is has decides =
+    offered_in (λ (state : State) (x : Event). Q ↔ IsOffered s state x) p phase.Inside e e elements bits entries is refl
+    (subst (λ (es : List Opened). Q ↔ IsOffered s (stands (around es) (texts_in bits entries)) e) (sym has.1) (decides has.0))
+
+pub iff_both : {A B C : Type 0} → (A ↔ B) → (B ↔ C) → (A ↔ C)
+iff_both p q = ((λ a. q.0 (p.0 a)), (λ c. p.1 (q.1 c)))
+
+-- ---- what is found of an event inside an element
+
+pub found_inside : (s : PlainSchema) (p : Phase) (elements : List Opened) (top : OpenElement) (f : Found) (e : Event) → p ≡ phase.Inside → HasTop elements top → IsFoundAt s (standing_of p elements) f e → IsFoundIn s top.place f e
+found_inside s p elements top f e is has h =
+    let P : Phase → List Opened → Type 0 = λ q es. IsFoundAt s (standing_of q es) f e in
+    subst (λ (es : List Opened). P phase.Inside es) has.1 (subst (λ (q : Phase). P q elements) is h)
+
+pub inside_found : (s : PlainSchema) (p : Phase) (elements : List Opened) (top : OpenElement) (f : Found) (e : Event) → p ≡ phase.Inside → HasTop elements top → IsFoundIn s top.place f e → IsFoundAt s (standing_of p elements) f e
+inside_found s p elements top f e is has h =
+    let P : Phase → List Opened → Type 0 = λ q es. IsFoundAt s (standing_of q es) f e in
+    subst (λ (q : Phase). P q elements) (sym is) (subst (λ (es : List Opened). P phase.Inside es) (sym has.1) h)
+
+pub all_some : {X : Type 0} (o : Option X) (P : X → Type 0) → ((x : X) → P x) → IfSome o P
+all_some None P each = tt
+all_some (Some x) P each = each x
+
+pub found_before : (s : PlainSchema) (p : Phase) (elements : List Opened) (f : Found) (e : Event) → p ≡ phase.Before → IsFoundAt s (standing_of p elements) f e
+found_before s p elements f e is = subst (λ (q : Phase). IsFoundAt s (standing_of q elements) f e) (sym is) tt
+
+pub found_at_root : (s : PlainSchema) (p : Phase) (elements : List Opened) (f : Found) (e : Event) (name kind : ℕ) → p ≡ phase.AtRoot name kind → IsFoundAt s (standing_of p elements) f e
+found_at_root s p elements f e name kind is = subst (λ (q : Phase). IsFoundAt s (standing_of q elements) f e) (sym is) tt
+
+pub found_behind : (s : PlainSchema) (p : Phase) (elements : List Opened) (f : Found) (e : Event) → p ≡ phase.Inside → elements ≡ [] → IsFoundAt s (standing_of p elements) f e
+found_behind s p elements f e is none =
+    subst (λ (q : Phase). IsFoundAt s (standing_of q elements) f e) (sym is) (subst (λ (es : List Opened). IsFoundAt s (around es) f e) (sym none) tt)
+
+-- the code that is found inside
+pub found_by_offer : (s : PlainSchema) (p : Phase) (elements : List Opened) (top : OpenElement) (offer : Option Offer) (r : Option Found) (e : Event) → p ≡ phase.Inside → HasTop elements top →
+    IfSome offer (λ o. IsFound s top.place o e) → IfSome r (λ f. IfSome offer (λ o. f ≡ found.Inside o)) → (IsSome r ↔ IsSome offer) → IfSome r (λ f. IsFoundAt s (standing_of p elements) f e)
+found_by_offer s p elements top offer None e is has good same some = tt
+found_by_offer s p elements top None (Some f) e is has good same some = let wrong : false ≡ true = some.0 refl in absurd cc
+found_by_offer s p elements top (Some o) (Some f) e is has good same some =
+    inside_found s p elements top f e is has (subst (λ (x : Found). IsFoundIn s top.place x e) (sym same) good)

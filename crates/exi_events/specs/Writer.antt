@@ -1,24 +1,29 @@
 -- Own: what an event writer has put, and what it may put next.
-use Rattle.std.specs.Prelude.{◌≡◌, ℕ, ◌+◌, ◌*◌, ◌<◌, Bool, false, List, ◌++◌, length, take, reverse, Option, Some, None}
+use Rattle.std.specs.Prelude.{◌≡◌, ℕ, ◌+◌, ◌*◌, ◌^◌, ◌<◌, Bool, false, List, ◌++◌, length, take, reverse, Option, Some, None, slice_get}
 use Rattle.exi_spec.specs.Bits.{bits_of}
 use Rattle.exi_bits.specs.Pens.{written_bits}
 use Rattle.exi_bits.specs.declared.pen.BitPen.{BitPen}
 use Rattle.exi_schema.specs.declared.places.Places.{Ghosts}
+use Rattle.exi_schema.specs.declared.places.Place.{Place}
 use Rattle.exi_schema.specs.declared.places.Step.{Step}
 use Rattle.exi_schema.specs.declared.places.Step.TheVariants as step
 use Rattle.exi_schema.specs.Schemas.{PlainSchema}
 use Rattle.exi_schema.specs.declared.tables.Datatype.{Datatype}
 use Rattle.exi_schema.specs.Plain.{PlainKind}
 use Rattle.exi_schema.specs.declared.tables.MemberStanding.TheVariants.{Taken}
-use Rattle.exi_schema.specs.Steps.{simple_at}
+use Rattle.exi_schema.specs.Offers.{offers}
+use Rattle.exi_schema.specs.Steps.{IsStep, simple_at}
 use Rattle.exi_documents.specs.Trees.{Tree, Value as TreeValue, Event as TreeEvent, document_events}
 use Rattle.exi_documents.specs.Values.{Entries, WritesValue}
 use Rattle.exi_documents.specs.Documents.{IsEncoding}
-use Rattle.exi_documents.specs.Grammar.{Behind, State, Moves, Reaches}
+use Rattle.exi_documents.specs.Grammar.{Standing, Inside, Behind, State, Moves, Reaches}
 use Rattle.exi_values.specs.declared.Event.{Event}
 use Rattle.exi_values.specs.declared.Event.TheVariants as event
 use Rattle.exi_values.specs.declared.Value.{Value}
 use Rattle.exi_values.specs.Meaning.{IsShaped, event_of}
+use Rattle.exi_events.specs.declared.offer.Found.{Found}
+use Rattle.exi_events.specs.declared.offer.Found.TheVariants as found
+use Rattle.exi_events.specs.declared.offer.Offer.{Offer}
 use Rattle.exi_events.specs.declared.writer.EventWriter.{EventWriter}
 use Rattle.exi_events.specs.Reader.{state_of, IsReadyAt}
 
@@ -120,6 +125,22 @@ IsStepOf (step.Element name kind next standing past_limit) (event.Start n) = (n 
 IsStepOf step.End event.EndElement = Unit {0}
 IsStepOf (step.Characters next) (event.Value v) = Unit {0}
 IsStepOf _ _ = ⊥
+
+-- the code of an event at a place, and what it means
+pub record IsFound (s : PlainSchema) (here : Place) (offer : Offer) (e : Event) : Type 0 where
+  pub offered : slice_get (offers s.kinds here) offer.code ≡ Some offer.step
+  pub meant : IsStepOf offer.step e
+  pub of_schema : IsStep s.kinds (length s.names) here.kind offer.step
+  pub few : length (offers s.kinds here) < 2 ^ 16
+
+abbrev pub IsFoundIn : PlainSchema → Place → Found → Event → Type 0
+IsFoundIn s here found.Outside e = ⊥
+IsFoundIn s here (found.Inside offer) e = IsFound s here offer e
+
+-- inside an element an event has a code
+abbrev pub IsFoundAt : PlainSchema → Standing → Found → Event → Type 0
+IsFoundAt s (Inside top above) f e = IsFoundIn s top.place f e
+IsFoundAt s _ f e = Unit {0}
 
 -- a value of a simple kind, as it is written
 abbrev pub WritesValueOf : List PlainKind → ℕ → Entries → ℕ → TreeValue → Entries → List Bool → Type 0

@@ -15,9 +15,11 @@ pub use exi_bits::Full;
 pub use exi_documents::{Refusal, RefusalCause};
 pub use exi_values::{Event, Table, Value};
 pub use reader::EventReader;
-pub use writer::EventWriter;
+pub use writer::{EventWriter, NotPut};
 
 #[cfg(test)]
 mod choices;
+#[cfg(test)]
+mod particles;
 #[cfg(test)]
 mod tests;

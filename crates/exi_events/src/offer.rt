@@ -11,7 +11,7 @@ ghost use Rattle.exi_documents.specs.Values.{most_entries, IsValue};
 ghost use Rattle.exi_values.specs.Meaning.{AreTexts, IsShaped, texts_in, value_of};
 ghost use Rattle.exi_writing.specs.Entering.{HasEntryFor};
 ghost use Rattle.exi_events.specs.Open.{opened_of};
-ghost use Rattle.exi_events.specs.Writer.{IsOffered, IsShapedEvent, IsStepOf, MayWrite, value_in};
+ghost use Rattle.exi_events.specs.Writer.{IsOffered, IsShapedEvent, IsStepOf, IsFound, MayWrite, value_in};
 
 use crate::open::OpenElement;
 use crate::value::{has_entry, is_value};
@@ -77,12 +77,67 @@ fn is_step_of(step: &Step, event: &Event) -> bool
     }
 }
 
-/// Whether an event may be put inside the innermost element, which is `top`, behind the bytes that are written.
-pub(crate) fn offers_inside<P: Places>(
+/// How an event is put.
+#[derive(Clone, Copy, Debug, PartialEq, Eq)]
+pub(crate) enum Found {
+    /// Before the root or behind it.
+    Outside,
+    /// With this code inside the innermost element.
+    Inside(Offer),
+}
+
+/// What is found of an event that has no code, if it may be put.
+pub(crate) fn outside(offered: bool) -> Option<Found>
+    ensures offered { IsSome result ↔ IsTrue offered }
+    ensures found { IfSome result (λ f. f ≡ Found.Outside) }
+{
+    if offered { Some(Found::Outside) } else { None }
+}
+
+/// What is found of an event with this code.
+pub(crate) fn inside(offer: Option<Offer>) -> Option<Found>
+    ensures offered { IsSome result ↔ IsSome offer }
+    ensures found { IfSome result (λ f. IfSome offer (λ o. f ≡ Found.Inside o)) }
+{
+    match offer {
+        Some(offer) => Some(Found::Inside(offer)),
+        None => None,
+    }
+}
+
+/// The code of an event inside the innermost element, which is `top`, if it may be put there behind the bytes that are written.
+pub(crate) fn offer_inside<P: Places>(
     written: &[u8],
     places: &P,
     table: &Table,
     top: OpenElement,
+    event: &Event,
+) -> Option<Offer>
+    requires few { length written.now ≤ 65536 }
+    requires place { IsPlace (P.schema places.now).kinds top.place }
+    requires cap { table.now.cap ≡ most_entries }
+    requires texts { AreTexts (bits_of written.now) table.now.entries }
+    requires shaped { IsShapedEvent event.now }
+    ensures offered { (above : _) → (IsSome result ↔ IsOffered (P.schema places.now) (stands (Inside (opened_of top) above) (texts_in (bits_of written.now) table.now.entries)) event.now) }
+    ensures found { IfSome result (λ offer. IsFound (P.schema places.now) top.place offer event.now) }
+{
+    let Some(offer) = offer_of(places, top.place, event) else {
+        return None;
+    };
+    if takes_value(written, places, table, top, offer.step, event) {
+        Some(offer)
+    } else {
+        None
+    }
+}
+
+/// Whether the value of an event, if it has one, may be put inside the innermost element, where the event means this step.
+fn takes_value<P: Places>(
+    written: &[u8],
+    places: &P,
+    table: &Table,
+    top: OpenElement,
+    step: Step,
     event: &Event,
 ) -> bool
     requires few { length written.now ≤ 65536 }
@@ -90,12 +145,12 @@ pub(crate) fn offers_inside<P: Places>(
     requires cap { table.now.cap ≡ most_entries }
     requires texts { AreTexts (bits_of written.now) table.now.entries }
     requires shaped { IsShapedEvent event.now }
+    requires offered { (code : ℕ) × (slice_get (offers (P.schema places.now).kinds top.place) code ≡ Some step) }
+    requires meant { IsStepOf step event.now }
+    requires of_schema { IsStep (P.schema places.now).kinds (length (P.schema places.now).names) top.place.kind step }
     ensures { (above : _) → (IsTrue result ↔ IsOffered (P.schema places.now) (stands (Inside (opened_of top) above) (texts_in (bits_of written.now) table.now.entries)) event.now) }
 {
-    let Some(offer) = offer_of(places, top.place, event) else {
-        return false;
-    };
-    match offer.step {
+    match step {
         Step::Attribute { name, kind, .. } => {
             offers_value(written, places, table, kind, name, event)
         }

@@ -10,10 +10,10 @@ ghost use Rattle.exi_values.specs.Meaning.{AreTexts, event_of, texts_in, value_o
 ghost use Rattle.exi_writing.specs.Writing.{Puts, Lacks, WritesMore, PassesRoom};
 ghost use Rattle.exi_events.specs.Front.{SpellsFront};
 ghost use Rattle.exi_events.specs.Inside.{AreOpen, HasTop};
-ghost use Rattle.exi_events.specs.Reader.{state_of, IsReadyAt};
-ghost use Rattle.exi_events.specs.Writer.{drafted, IsOffered, IsShapedEvent, IsPut, HasNoRoom, MayWrite, WritesValueOf, value_in};
+ghost use Rattle.exi_events.specs.Reader.{standing_of, state_of, IsReadyAt};
+ghost use Rattle.exi_events.specs.Writer.{drafted, IsFound, IsFoundAt, IsOffered, IsShapedEvent, IsPut, HasNoRoom, MayWrite, WritesValueOf, value_in};
 
-use crate::offer::offer_of;
+use crate::offer::{Found, Offer};
 use crate::open::{OpenElement, OpenElements};
 use crate::reader::Phase;
 use crate::step::RootNumber;
@@ -76,15 +76,17 @@ fn put_value_of<P: Places>(
     }
 }
 
-/// Writes an event inside the innermost element, which is `top`.
+/// Writes an event with its code inside the innermost element, which is `top`.
 fn put_inside<P: Places>(
     pen: &mut BitPen,
     places: &P,
     table: &mut Table,
     elements: &mut OpenElements,
     top: OpenElement,
+    offer: Offer,
     event: &Event,
 ) -> Result<(), Full>
+    requires found { IsFound (P.schema places.now) top.place offer event.now }
     requires top { HasTop elements.old top }
     requires elements { AreOpen (P.schema places.now).kinds elements.old }
     requires cap { table.old.cap ≡ most_entries }
@@ -103,9 +105,6 @@ fn put_inside<P: Places>(
     ensures more { WritesMore pen.old pen.new }
     ensures stays { OnErr result ((elements.new ≡ elements.old) × (table.new ≡ table.old)) }
 {
-    let Some(offer) = offer_of(places, top.place, event) else {
-        unreachable!()
-    };
     pen.put_bits(u32::from(offer.code), places.width(top.place))?;
     match offer.step {
         Step::Attribute { name, kind, next } => {
@@ -137,8 +136,10 @@ pub(crate) fn put_event<P: Places>(
     table: &mut Table,
     phase: &mut Phase,
     elements: &mut OpenElements,
+    found: Found,
     event: &Event,
 ) -> Result<(), Full>
+    requires found { IsFoundAt (P.schema places.now) (standing_of phase.old elements.old) found event.now }
     requires ready { IsReadyAt (P.schema places.now) phase.old elements.old (written_bits pen.old) table.old }
     requires shaped { IsShapedEvent event.now }
     requires offered { IsOffered (P.schema places.now) (state_of phase.old elements.old (written_bits pen.old) table.old.entries) event.now }
@@ -171,7 +172,12 @@ pub(crate) fn put_event<P: Places>(
             Ok(())
         }
         Phase::Inside => match elements.innermost() {
-            Some(top) => put_inside(pen, places, table, elements, top, event),
+            Some(top) => {
+                let Found::Inside(offer) = found else {
+                    unreachable!()
+                };
+                put_inside(pen, places, table, elements, top, offer, event)
+            }
             None => Ok(()),
         },
     }

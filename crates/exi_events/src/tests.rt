@@ -6,9 +6,9 @@ ghost use Rattle.exi_events.specs.Reader.{IsReady};
 ghost use Rattle.exi_events.specs.Writer.{IsShapedEvent, IsReadyToPut, KeepsLent};
 
 use crate::choices::four_choices;
-use crate::{Event, EventReader, EventWriter, Full, Refusal, RefusalCause, Table, Value};
-use exi_documents::MOST_ENTRIES;
+use crate::{Event, EventReader, EventWriter, Full, NotPut, Refusal, RefusalCause, Table, Value};
 use app_schema::negotiation;
+use exi_documents::MOST_ENTRIES;
 use exi_schema::Places;
 use exi_strings::Partitions;
 use std::process::Abort;
@@ -22,9 +22,10 @@ const PUBLISHED: [u8; 34] = [
 
 /// What an event is to tell.
 #[derive(Clone, Copy)]
-enum Told {
+pub(crate) enum Told {
     Document(u32),
     Start(u16),
+    Attribute(u16, i128),
     Text(&'static str),
     Number(i128),
     Ordinal(u32),
@@ -56,7 +57,7 @@ const REQUEST: [Told; 20] = [
     Told::End,
 ];
 
-fn next_is<P: Places>(rt: &impl Abort, reader: &mut EventReader<P>, told: &Told)
+pub(crate) fn next_is<P: Places>(rt: &impl Abort, reader: &mut EventReader<P>, told: &Told)
     requires { IsReady P.schema reader.old }
     ensures { IsReady P.schema reader.new }
 {
@@ -73,6 +74,9 @@ fn next_is<P: Places>(rt: &impl Abort, reader: &mut EventReader<P>, told: &Told)
             Told::Text(text) => assert!(rt; span.same_str(text)),
             _ => assert!(rt; false),
         },
+        Event::Attribute(name, Value::Number(v)) => {
+            assert!(rt; matches!(told, Told::Attribute(n, w) if *n == name && *w == v))
+        }
         Event::EndElement => assert!(rt; matches!(told, Told::End)),
         Event::Finished => assert!(rt; matches!(told, Told::Finished)),
         Event::Attribute(_, _) | Event::Value(_) => assert!(rt; false),
@@ -114,7 +118,7 @@ fn the_places_that_are_lent_are_asked(rt: HostRuntime) {
 }
 
 /// Reads up to a refusal, which is answered again.
-fn refusal_of<P: Places>(rt: &impl Abort, reader: &mut EventReader<P>) -> Option<Refusal>
+pub(crate) fn refusal_of<P: Places>(rt: &impl Abort, reader: &mut EventReader<P>) -> Option<Refusal>
     requires { IsReady P.schema reader.old }
     ensures ready { IsReady P.schema reader.new }
     ensures same_reference { reader.new.table.ghost_name ≡ reader.old.table.ghost_name }
@@ -189,6 +193,7 @@ fn event_of(told: &Told) -> Event<'static>
     match told {
         Told::Document(number) => Event::Document(*number),
         Told::Start(name) => Event::Start(*name),
+        Told::Attribute(name, number) => Event::Attribute(*name, Value::Number(*number)),
         Told::Text(text) => Event::Value(Value::Written(text)),
         Told::Number(number) => Event::Value(Value::Number(*number)),
         Told::Ordinal(ordinal) => Event::Value(Value::Ordinal(*ordinal)),
@@ -249,4 +254,43 @@ fn documents_are_written(rt: HostRuntime) {
         put_all(&rt, &mut smaller, of, &RESPONSE),
         Err(Full { bits: 26 })
     );
+}
+
+/// Puts one event, if it is offered.
+fn try_next<P: Places>(writer: &mut EventWriter<P>, told: &Told) -> Result<(), NotPut>
+    requires { IsReadyToPut writer.old }
+    ensures ready { IsReadyToPut writer.new }
+    ensures lent { KeepsLent writer.old writer.new }
+{
+    writer.try_put(&event_of(told))
+}
+
+#[test]
+fn what_is_not_offered_is_not_put(rt: HostRuntime) {
+    let Ok(mut table) = Partitions::make(rt.alloc(), MOST_ENTRIES) else {
+        assert!(rt; false);
+        return;
+    };
+    let schema = negotiation();
+    let mut room = [0xff; 3];
+    let mut writer = EventWriter::new(&mut room, &schema, &mut table);
+    for (told, answer) in [
+        (Told::Start(1), Err(NotPut::NotOffered)),
+        (Told::Document(2), Err(NotPut::NotOffered)),
+        (Told::Document(1), Ok(())),
+        (Told::Start(0), Err(NotPut::NotOffered)),
+        (Told::Start(1), Ok(())),
+        (Told::Start(6), Err(NotPut::NotOffered)),
+        (Told::Start(8), Ok(())),
+        (Told::Ordinal(3), Err(NotPut::NotOffered)),
+        (Told::Number(0), Err(NotPut::NotOffered)),
+        (Told::Ordinal(2), Ok(())),
+        (Told::End, Ok(())),
+        (Told::Start(6), Ok(())),
+        (Told::Number(256), Err(NotPut::NotOffered)),
+        (Told::Number(7), Err(NotPut::Full(Full { bits: 26 }))),
+        (Told::Finished, Err(NotPut::Full(Full { bits: 26 }))),
+    ] {
+        assert_eq!(rt; try_next(&mut writer, &told), answer);
+    }
 }

@@ -10,8 +10,8 @@ ghost use Rattle.exi_strings.specs.Table.{global_of};
 ghost use Rattle.exi_strings.specs.Texts.{IsAbsent};
 ghost use Rattle.exi_writing.specs.Entering.{HasEntryFor};
 
-use exi_documents::MOST_ENTRIES;
 use exi_bits::{BitSpan, SpanAt};
+use exi_documents::MOST_ENTRIES;
 use exi_schema::Datatype;
 use exi_values::{Table, Value};
 

@@ -3,13 +3,22 @@
 ghost use Rattle.std.specs.Prelude.{◌≡◌, ◌≤◌, ◌*◌, length};
 ghost use Rattle.exi_bits.specs.Written.{PadsZero};
 
-use crate::offer::{names_root, offers_inside};
+use crate::offer::{Found, inside, names_root, offer_inside, outside};
 use crate::open::OpenElements;
 use crate::putting::put_event;
 use crate::reader::Phase;
 use exi_bits::{BitPen, Full, begun_bytes};
 use exi_schema::{Place, Places};
 use exi_values::{Event, Table};
+
+/// Why an event is not put.
+#[derive(Clone, Copy, Debug, PartialEq, Eq)]
+pub enum NotPut {
+    /// It may not come next.
+    NotOffered,
+    /// The room is too small for it, or was for one before.
+    Full(Full),
+}
 
 /// Writes the events of a document into a room, one after the other.
 ///
@@ -30,7 +39,7 @@ pub struct EventWriter<'b, 'p, P: Places> {
 }
 
 impl<'b, 'p, P: Places> EventWriter<'b, 'p, P> {
-    ghost use Rattle.std.specs.Prelude.{ℕ, ◌<◌, ◌∷◌, [], ◌↔◌, IsTrue, List, take, Some, None, IfSome, IfErr, OnOk, OnErr, IsErr, Err};
+    ghost use Rattle.std.specs.Prelude.{ℕ, ◌<◌, ◌∷◌, [], ◌↔◌, IsTrue, IsSome, List, take, Some, None, IfSome, IfErr, OnOk, OnErr, IsErr, Err};
     ghost use Rattle.exi_bits.specs.Written.{HoldsBits};
     ghost use Rattle.exi_documents.specs.Trees.{Event as TreeEvent};
     ghost use Rattle.exi_documents.specs.Values.{most_entries};
@@ -38,7 +47,8 @@ impl<'b, 'p, P: Places> EventWriter<'b, 'p, P> {
     ghost use Rattle.exi_values.specs.Meaning.{event_of};
     ghost use Rattle.exi_schema.specs.Offers.{IsPlace};
     ghost use Rattle.exi_events.specs.Reader.{innermost_place};
-    ghost use Rattle.exi_events.specs.Writer.{draft_of, IsReadyToPut, KeepsLent, AddsSome, HasPut, IsOffered, IsShapedEvent, IsPut, HasNoRoom, IsWritten};
+    ghost use Rattle.exi_events.specs.Writer.{draft_of, IsReadyToPut, KeepsLent, AddsSome, HasPut, IsOffered, IsFoundAt, IsShapedEvent, IsPut, HasNoRoom, IsWritten};
+    ghost use Rattle.exi_events.specs.declared.writer.NotPut.TheVariants as not_put;
 
     /// A writer at the start of a room of at most 65,536 bytes. The table is emptied; it has room for 8,192 entries.
     pub fn new(room: &'b mut [u8], places: &'p P, table: &'p mut Table) -> EventWriter<'b, 'p, P>
@@ -82,19 +92,70 @@ impl<'b, 'p, P: Places> EventWriter<'b, 'p, P> {
         requires shaped { IsShapedEvent event.now }
         ensures { IsTrue result ↔ IsOffered (P.schema self.now.places.now) (draft_of self.now).state event.now }
     {
+        self.found(event).is_some()
+    }
+
+    /// How an event is put, if it may be put next.
+    fn found(&self, event: &Event) -> Option<Found>
+        requires ready { IsReadyToPut self.now }
+        requires shaped { IsShapedEvent event.now }
+        ensures offered { IsSome result ↔ IsOffered (P.schema self.now.places.now) (draft_of self.now).state event.now }
+        ensures found { IfSome result (λ f. IsFoundAt (P.schema self.now.places.now) (draft_of self.now).state.standing f event.now) }
+    {
         match self.phase {
             Phase::Before => match event {
-                Event::Document(number) => names_root(self.places, *number),
-                _ => false,
+                Event::Document(number) => outside(names_root(self.places, *number)),
+                _ => None,
             },
             Phase::AtRoot { name, .. } => match event {
-                Event::Start(child) => *child == name,
-                _ => false,
+                Event::Start(child) => outside(*child == name),
+                _ => None,
             },
             Phase::Inside => match self.elements.innermost() {
-                Some(top) => offers_inside(self.written(), self.places, self.table, top, event),
-                None => matches!(event, Event::Finished),
+                Some(top) => inside(offer_inside(
+                    self.written(),
+                    self.places,
+                    self.table,
+                    top,
+                    event,
+                )),
+                None => outside(matches!(event, Event::Finished)),
             },
+        }
+    }
+
+    /// Puts an event behind those put before, if it is offered.
+    ///
+    /// `NotOffered` exactly where it is not, and changes nothing. `Full` exactly where the event is offered and the room is too small for
+    /// it: the document and the table stay as they were, and this `Full` is answered from then on.
+    pub fn try_put(&mut self, event: &Event) -> Result<(), NotPut>
+        requires ready { IsReadyToPut self.old }
+        requires shaped { IsShapedEvent event.now }
+        ensures ready { IsReadyToPut self.new }
+        ensures lent { KeepsLent self.old self.new }
+        // What was written stays.
+        ensures more { AddsSome (draft_of self.old) (draft_of self.new) }
+        ensures again { (f : _) → self.old.full ≡ Some f → (result ≡ Err (not_put.Full f)) × (self.new ≡ self.old) }
+        ensures not_offered { self.old.full ≡ None → (result ≡ Err not_put.NotOffered ↔ (IsOffered (P.schema self.old.places.now) (draft_of self.old).state event.now → ⊥)) }
+        ensures unchanged { result ≡ Err not_put.NotOffered → self.new ≡ self.old }
+        ensures put { OnOk result (IsPut (P.schema self.old.places.now) (draft_of self.old) (draft_of self.new) (event_of event.now)) }
+        ensures open_still { OnOk result ((self.old.full ≡ None) × (self.new.full ≡ None)) }
+        ensures full { self.old.full ≡ None → (((f : _) × (result ≡ Err (not_put.Full f))) ↔ HasNoRoom (P.schema self.old.places.now) (draft_of self.old) (event_of event.now)) }
+        ensures bits { self.old.full ≡ None → (f : _) → result ≡ Err (not_put.Full f) → (8 * length self.old.room.now < f.bits) × (self.new.full ≡ Some f) }
+        ensures stays { OnErr result ((self.new.phase ≡ self.old.phase) × (self.new.elements ≡ self.old.elements) × (self.new.table.now ≡ self.old.table.now)) }
+        // Of the whole document: these bits write the events up to here.
+        ensures told { (events : List TreeEvent) → HasPut (P.schema self.old.places.now) events (draft_of self.old)
+            → OnOk result ((told : TreeEvent) → event_of event.now ≡ Some told → HasPut (P.schema self.old.places.now) (told ∷ events) (draft_of self.new)) }
+    {
+        if let Some(full) = self.full {
+            return Err(NotPut::Full(full));
+        }
+        match self.found(event) {
+            Some(found) => match self.put_found(found, event) {
+                Ok(()) => Ok(()),
+                Err(full) => Err(NotPut::Full(full)),
+            },
+            None => Err(NotPut::NotOffered),
         }
     }
 
@@ -123,6 +184,30 @@ impl<'b, 'p, P: Places> EventWriter<'b, 'p, P> {
         if let Some(full) = self.full {
             return Err(full);
         }
+        let Some(found) = self.found(event) else {
+            unreachable!()
+        };
+        self.put_found(found, event)
+    }
+
+    /// Puts an event that is offered as it is found, where nothing lacked room before.
+    fn put_found(&mut self, found: Found, event: &Event) -> Result<(), Full>
+        requires ready { IsReadyToPut self.old }
+        requires shaped { IsShapedEvent event.now }
+        requires open_still { self.old.full ≡ None }
+        requires offered { IsOffered (P.schema self.old.places.now) (draft_of self.old).state event.now }
+        requires found { IsFoundAt (P.schema self.old.places.now) (draft_of self.old).state.standing found event.now }
+        ensures ready { IsReadyToPut self.new }
+        ensures lent { KeepsLent self.old self.new }
+        ensures more { AddsSome (draft_of self.old) (draft_of self.new) }
+        ensures put { OnOk result (IsPut (P.schema self.old.places.now) (draft_of self.old) (draft_of self.new) (event_of event.now)) }
+        ensures open_still { OnOk result (self.new.full ≡ None) }
+        ensures full { IsErr result ↔ HasNoRoom (P.schema self.old.places.now) (draft_of self.old) (event_of event.now) }
+        ensures bits { IfErr result (λ f. (8 * length self.old.room.now < f.bits) × (self.new.full ≡ Some f)) }
+        ensures stays { OnErr result ((self.new.phase ≡ self.old.phase) × (self.new.elements ≡ self.old.elements) × (self.new.table.now ≡ self.old.table.now)) }
+        ensures told { (events : List TreeEvent) → HasPut (P.schema self.old.places.now) events (draft_of self.old)
+            → OnOk result ((told : TreeEvent) → event_of event.now ≡ Some told → HasPut (P.schema self.old.places.now) (told ∷ events) (draft_of self.new)) }
+    {
         let room = &mut *self.room;
         let mut pen = BitPen::behind(room, self.bits);
         let put = put_event(
@@ -131,6 +216,7 @@ impl<'b, 'p, P: Places> EventWriter<'b, 'p, P> {
             self.table,
             &mut self.phase,
             &mut self.elements,
+            found,
             event,
         );
         self.bits = pen.into_place();

@@ -27,6 +27,6 @@ returns-in-AtRoot-clause-full g c = (
   λ lacks. absurd (root_room (g.P.Places.schema c.args.places.now) c.args.phase.now c.args.event.now c.args.elements.now (written_bits c.args.pen.now) c.args.table.now.entries c.args.pen.now c.in-AtRoot.name c.in-AtRoot.kind c.in-AtRoot.is lacks),
 )
 
-pub returns-in-Some-clause-ok : goal.returns-in-Some-clause-ok
-returns-in-Some-clause-ok g c =
+pub returns-in-Inside-found-clause-ok : goal.returns-in-Inside-found-clause-ok
+returns-in-Inside-found-clause-ok g c =
     inside_put c.put_inside.result (g.P.Places.schema c.args.places.now) c.args.phase.now c.args.event.now c.args.elements.now c.put_inside.new.elements c.args.table.now.entries c.put_inside.new.table.entries c.args.pen.now c.put_inside.new.pen c.in-Inside.is c.put_inside.ensures.ok

@@ -1,17 +1,16 @@
-use Rattle.std.proofs.Common.{◌≡◌, Bool, List, None, OnOk, ◌↔◌, rules, sym, subst}
+use Rattle.std.proofs.Common.{◌≡◌, Bool, List, OnOk, ◌↔◌, rules, sym, subst}
 use Rattle.std.specs.Result.{IsErr}
 use Rattle.exi_bits.specs.Pens.{written_bits}
 use Rattle.exi_events.specs.Reader.{state_of, IsReadyAt}
 use Rattle.exi_events.specs.Writer.{Draft, drafted, draft_of, IsOffered, IsPut, HasNoRoom}
 use Rattle.exi_values.specs.Meaning.{event_of}
 use Rattle.exi_events.proofs.Drafts.{begun_in, left_in, told_more}
-use Rattle.exi_events.proofs.writer.EventWriter.put.Goals as goal
+use Rattle.exi_events.proofs.writer.EventWriter.put_found.Goals as goal
 
 pub put_event-put-requires-clause-offered : goal.put_event-put-requires-clause-offered
 put_event-put-requires-clause-offered g c =
-    let none : c.args.self.now.full ≡ None = search rules in
     subst (λ (bits : List Bool). IsOffered (g.P.Places.schema c.args.self.now.places.now) (state_of c.args.self.now.phase c.args.self.now.elements bits c.args.self.now.table.now.entries) c.args.event.now)
-    (sym c.behind-pen.ensures.written) (c.requires.offered none)
+    (sym c.behind-pen.ensures.written) c.requires.offered
 
 pub returns-clause-ready : goal.returns-clause-ready
 returns-clause-ready g c =
@@ -31,7 +30,7 @@ returns-clause-put g c =
     c.behind-pen.result c.args.self.now.room.now c.args.self.now.bits c.behind-pen.ensures.room c.behind-pen.ensures.written c.put_event-put.ensures.ok)
 
 pub returns-clause-full : goal.returns-clause-full
-returns-clause-full g c open_still =
+returns-clause-full g c =
     begun_in c.args.self.now.phase c.args.self.now.elements c.args.self.now.table.now.entries
     (λ (d : Draft). IsErr c.put_event-put.result ↔ HasNoRoom (g.P.Places.schema c.args.self.now.places.now) d (event_of c.args.event.now))
     c.behind-pen.result c.args.self.now.room.now c.args.self.now.bits c.behind-pen.ensures.room c.behind-pen.ensures.written c.put_event-put.ensures.full
