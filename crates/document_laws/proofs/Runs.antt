@@ -65,7 +65,7 @@ module _ (V : Speller) (s : PlainSchema) where
 
   -- ---- the events of a tree
 
-  simple_runs : (name kind : ℕ) (above : List Opened) (entries after : Entries) (value : Value) (bits : List Bool) → SpellsSimple V s.kinds kind entries name value bits after →
+  pub simple_runs : (name kind : ℕ) (above : List Opened) (entries after : Entries) (value : Value) (bits : List Bool) → SpellsSimple V s.kinds kind entries name value bits after →
       Runs V s (stands (Inside (opened name (first kind)) above) entries) (Content value ∷ EndElement ∷ []) bits (stands (around above) after)
   simple_runs name kind above entries after value bits h =
       let one = number_bits 1 0 in
@@ -78,7 +78,7 @@ module _ (V : Speller) (s : PlainSchema) where
         h.bits_are ∙ sym (append_assoc one h.inside one),
       )
 
-  attributes_run : (name : ℕ) (above : List Opened) (here there : Place) (entries after : Entries) (attributes : List (ℕ × Value)) (bits : List Bool) → SpellsAttributes V s.kinds here entries attributes bits there after →
+  pub attributes_run : (name : ℕ) (above : List Opened) (here there : Place) (entries after : Entries) (attributes : List (ℕ × Value)) (bits : List Bool) → SpellsAttributes V s.kinds here entries attributes bits there after →
       Runs V s (stands (Inside (opened name here) above) entries) (attribute_events attributes) bits (stands (Inside (opened name there) above) after)
   attributes_run name above here there entries after [] bits h =
       (h.0, ap (λ (p : Place). stands (Inside (opened name p) above) after) h.1 ∙ ap (λ (e : Entries). stands (Inside (opened name here) above) e) h.2)
@@ -91,7 +91,7 @@ module _ (V : Speller) (s : PlainSchema) where
     h.11 ∙ sym (append_assoc h.4 h.5 h.6),
   )
 
-  trees_run : (name : ℕ) (above : List Opened) (here : Place) (entries after : Entries) (trees : Trees) (bits : List Bool) → SpellsTrees V s.kinds here entries trees bits after →
+  pub trees_run : (name : ℕ) (above : List Opened) (here : Place) (entries after : Entries) (trees : Trees) (bits : List Bool) → SpellsTrees V s.kinds here entries trees bits after →
       Runs V s (stands (Inside (opened name here) above) entries) (events_of trees ++ (EndElement ∷ [])) bits (stands (around above) after)
   trees_run name above here entries after none bits h =
       (stands (around above) after, bits, [], (h.0, ap (λ (e : Entries). stands (around above) e) h.1), (refl, refl), sym (append-nil bits))

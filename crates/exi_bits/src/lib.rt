@@ -5,6 +5,7 @@
 
 mod contents;
 mod cursor;
+mod lengths;
 mod octets;
 mod pen;
 mod room;
@@ -13,8 +14,9 @@ mod span;
 pub use contents::Contents;
 pub use cursor::BitCursor;
 pub use exi_spec::{BitCause, BitFault};
+pub use lengths::{integer_bits, unsigned_bits};
 pub use pen::{BitPen, Full};
-pub use room::begun_bytes;
+pub use room::{begun_bytes, chars_bits};
 pub use span::{BitSpan, SpanAt};
 
 #[cfg(test)]

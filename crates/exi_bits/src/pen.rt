@@ -199,7 +199,7 @@ impl<'b> BitPen<'b> {
 }
 
 /// The sign of an Integer, and what it spells behind that: v, or -v - 1 (7.1.5).
-fn parts_of(value: i128) -> (bool, u64)
+pub(crate) fn parts_of(value: i128) -> (bool, u64)
     requires least { negsuc 18446744073709551615 ≤ℤ value }
     requires most { value ≤ℤ pos 18446744073709551615 }
     ensures { value ≡ (if result.0 then negsuc result.1 else pos result.1) }

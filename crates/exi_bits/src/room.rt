@@ -154,7 +154,7 @@ pub fn put_all_bytes(room: &mut [u8], at: u32, bytes: &[u8])
 pub fn chars_bits(text: &str) -> u64
     requires { length text.now ≤ 2 ^ 40 }
     ensures bits { result ≡ length (shortest_chars (chars text.now)) }
-    ensures few { result ≤ 80 * 2 ^ 40 }
+    ensures few { result ≤ 80 * length text.now }
 {
     let mut bits = 0;
     for c in text.chars() {

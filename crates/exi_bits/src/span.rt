@@ -1,13 +1,15 @@
 //! Texts and Binaries that are lent from the payload in which they stand.
 
-ghost use Rattle.std.specs.Prelude.{◌≡◌, ℕ, ◌+◌, ◌*◌, ◌<◌, ◌≤◌, ◌↔◌, List, IsTrue, length, true, false};
+ghost use Rattle.std.specs.Prelude.{◌≡◌, ℕ, ◌+◌, ◌*◌, ◌<◌, ◌≤◌, ◌^◌, ◌↔◌, List, IsTrue, length, true, false};
 ghost use Rattle.std.specs.Char.{IsScalar};
 ghost use Rattle.std.specs.List.{AllByRecursion};
 ghost use Rattle.std.specs.Str.{chars};
 ghost use Rattle.exi_spec.specs.Bits.{bits_of};
+ghost use Rattle.exi_spec.specs.Items.{shortest_chars};
 
 use crate::contents::Contents;
 use crate::cursor::BitCursor;
+use crate::lengths::unsigned_bits;
 use std::marker::Model;
 
 /// Where a text stands in a payload.
@@ -153,12 +155,27 @@ impl<'a> BitSpan<'a> {
         mine.next().is_none()
     }
 
+    /// How many bits the shortest spellings of its code points have (7.1.10).
+    pub fn chars_bits(&self) -> u64
+        ensures bits { result ≡ length (shortest_chars (items_of self.now)) }
+        ensures few { result ≤ 80 * length (items_of self.now) }
+    {
+        let mut chars = self.contents();
+        let mut bits = 0;
+        while let Some(char) = chars.next() {
+            bits += u64::from(unsigned_bits(u64::from(char)));
+        }
+        bits
+    }
+
     /// Its code points or bytes, one after the other.
     pub fn contents(&self) -> Contents<'a>
         ensures items { result ≡ items_of self.now }
+        ensures few { length result < 2 ^ 32 }
         ensures characters { self.now.is_text ≡ true → AllByRecursion (λ char. IsScalar char) result }
         ensures bytes { self.now.is_text ≡ false → AllByRecursion (λ byte. byte < 256) result }
     {
-        Contents::new(self.payload, self.bit, self.count, self.is_text)
+        let count = self.count;
+        Contents::new(self.payload, self.bit, count, self.is_text)
     }
 }

@@ -3,8 +3,10 @@
 
 mod partitions;
 
-pub use charge_world::NoMemory;
 pub use partitions::{Partitions, TableFull};
+
+/// Want of memory, which a call can answer that takes an allocator.
+pub use std::alloc::AllocError as NoMemory;
 
 #[cfg(test)]
 mod tests {
@@ -25,6 +27,9 @@ mod tests {
         assert_eq!(rt; table.local(9, 1).copied(), None);
         assert_eq!(rt; table.global(1).copied(), Some('b'));
         assert_eq!(rt; table.global(2).copied(), None);
+        let entries = table.entries();
+        assert_eq!(rt; entries.len(), 2);
+        assert_eq!(rt; entries[1], (9, 'b'));
         table.clear();
         assert_eq!(rt; table.globals(), 0);
         assert_eq!(rt; table.enter(7, 'c'), Ok(()));

@@ -4,8 +4,7 @@ ghost use Rattle.std.specs.Prelude.{◌≡◌, ◌+◌, ◌<◌, ◌≤◌, ◌^
 ghost use Rattle.std.specs.Option.{option_copied};
 ghost use Rattle.exi_strings.specs.Table.{global_of, local_of};
 
-use charge_world::NoMemory;
-use std::alloc::Global;
+use std::alloc::{AllocError, Global};
 use std::marker::Model;
 
 /// The table has as many entries as it may have.
@@ -36,7 +35,7 @@ impl<T> Model for Partitions<T> {
 
 impl<T: Drop> Partitions<T> {
     /// An empty table of at most `cap` entries. It takes all its memory here.
-    pub fn make(alloc: Global, cap: u32) -> Result<Partitions<T>, NoMemory>
+    pub fn make(alloc: Global, cap: u32) -> Result<Partitions<T>, AllocError>
         ensures { IfOk result (λ table. table ≡ record { entries = []; cap = cap }) }
     {
         let entries = Vec::with_capacity(alloc, cap as usize)?;
@@ -48,6 +47,15 @@ impl<T: Drop> Partitions<T> {
         ensures { self.new ≡ record { entries = []; cap = self.old.cap } }
     {
         self.entries.clear();
+    }
+
+    /// All entries, in the order in which they were entered.
+    pub fn entries(&self) -> &[(u16, T)]
+        ensures entries { result.now ≡ self.now.entries }
+        ensures bound { length result.now ≤ self.now.cap }
+        ensures range { length result.now < 2 ^ 32 }
+    {
+        self.entries.as_slice()
     }
 
     /// How many entries the global partition has.

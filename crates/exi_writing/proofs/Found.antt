@@ -5,7 +5,9 @@ use borrow.Author.Count.{below_more}
 use Rattle.std.proofs.lemmas.Bool.{false≢true}
 use Rattle.std.proofs.lemmas.List.{length-map}
 use Rattle.std.proofs.lemmas.Option.{slice_get-map, slice_get_cases, slice_get_within}
+use Rattle.exi_bits.specs.Lent.{IsSpan, text_at}
 use Rattle.exi_bits.specs.declared.span.SpanAt.{SpanAt}
+use Rattle.exi_bits.proofs.Spans.{items_of-held}
 use Rattle.exi_strings.specs.Texts.{IsFirstAt, IsAbsent}
 use Rattle.exi_reading.proofs.Places.{text_of}
 
@@ -49,3 +51,11 @@ all_passed texts text i past before k found = before k (let below : k < length t
 
 pub first_below : (texts : List (List ℕ)) (text : List ℕ) (count i : ℕ) → count ≡ length texts → IsFirstAt texts text i → i < count
 first_below texts text count i long first = let below : i < length texts = slice_get_within texts i text first.found in omega arith
+
+-- a text of another length is another one
+pub other_length : (bits : List Bool) (at : SpanAt) (text : List ℕ) (count : ℕ) (b : Bool) → IsSpan (text_at bits at) → count ≡ length text → (at.chars ≡ count → ⊥) → b ≡ false → (IsTrue b ↔ (text_of bits at ≡ text))
+other_length bits at text count b spelled long other fails =
+    let own : length (text_of bits at) ≡ at.chars = ap length (items_of-held (text_at bits at) spelled.0 spelled.1) ∙ spelled.1.long in (
+      (λ passes. absurd (false≢true (sym fails ∙ passes))),
+      (λ same. absurd (other (sym own ∙ ap length same ∙ sym long))),
+    )

@@ -6,3 +6,5 @@ pub mod Strings
 pub mod OneWriting
 pub mod Whole
 pub mod Values
+pub mod Locals
+pub mod LengthLaws

@@ -71,7 +71,7 @@ hit announced count index partition text bits long first s =
     )
 
 -- a spelling that keeps the entries
-abbrev Keeps : Entries → ℕ → List ℕ → List Bool → Type 0
+abbrev pub Keeps : Entries → ℕ → List ℕ → List Bool → Type 0
 Keeps entries name text bits = WritesTextInto entries name text bits entries
 
 puts_kept : (old new : BitPen) (entries : List (ℕ × SpanAt)) (name : ℕ) (text : List ℕ) → AreTexts (written_bits old) entries → Puts (Keeps (texts_in (written_bits old) entries) name text) old new → Puts (λ bits. WritesTextInto (texts_in (written_bits old) entries) name text bits (texts_in (written_bits new) entries)) old new
@@ -81,10 +81,10 @@ puts_kept old new entries name text all p =
 lacks_kept : (pen : BitPen) (entries : Entries) (name : ℕ) (text : List ℕ) → Lacks (Keeps entries name text) pen → Lacks (λ bits. (after : Entries) × WritesTextInto entries name text bits after) pen
 lacks_kept pen entries name text p = (p.0, (entries, p.1), p.2)
 
-keeps_local : (entries : Entries) (name count index : ℕ) (text : List ℕ) (bits : List Bool) → count ≡ length (local_of name entries) → length entries ≤ most_entries → IsFirstAt (local_of name entries) text index → SpellsHitAt 0 count index bits → Keeps entries name text bits
+pub keeps_local : (entries : Entries) (name count index : ℕ) (text : List ℕ) (bits : List Bool) → count ≡ length (local_of name entries) → length entries ≤ most_entries → IsFirstAt (local_of name entries) text index → SpellsHitAt 0 count index bits → Keeps entries name text bits
 keeps_local entries name count index text bits long few first s = (inl (hit 0 count index (local_of name entries) text bits long first s, refl), few)
 
-keeps_global : (entries : Entries) (name count index : ℕ) (text : List ℕ) (bits : List Bool) → count ≡ length (global_of entries) → length entries ≤ most_entries → IsAbsent (local_of name entries) text → IsFirstAt (global_of entries) text index → SpellsHitAt 1 count index bits → Keeps entries name text bits
+pub keeps_global : (entries : Entries) (name count index : ℕ) (text : List ℕ) (bits : List Bool) → count ≡ length (global_of entries) → length entries ≤ most_entries → IsAbsent (local_of name entries) text → IsFirstAt (global_of entries) text index → SpellsHitAt 1 count index bits → Keeps entries name text bits
 keeps_global entries name count index text bits long few absent first s = (inr (inl (absent, hit 1 count index (global_of entries) text bits long first s, refl)), few)
 
 pub puts_local : (old new : BitPen) (entries : List (ℕ × SpanAt)) (name count index : ℕ) (text : List ℕ) → AreTexts (written_bits old) entries → count ≡ length (local_of name (texts_in (written_bits old) entries)) → length entries ≤ most_entries → IsFirstAt (local_of name (texts_in (written_bits old) entries)) text index → Puts (SpellsHitAt 0 count index) old new → Puts (λ bits. WritesTextInto (texts_in (written_bits old) entries) name text bits (texts_in (written_bits new) entries)) old new
@@ -125,7 +125,7 @@ pub has_room : (entries : Entries) (name n : ℕ) (text : List ℕ) → HasEntry
 has_room entries name n [] room local global is some = absurd (omega (arith, is, some))
 has_room entries name n (char ∷ chars) room local global is some = room local global
 
-entered_few : (entries : Entries) (name : ℕ) (text : List ℕ) → length entries ≤ most_entries → HasEntryFor entries name (Text text) → IsAbsent (local_of name entries) text → IsAbsent (global_of entries) text → length (entered entries name text) ≤ most_entries
+pub entered_few : (entries : Entries) (name : ℕ) (text : List ℕ) → length entries ≤ most_entries → HasEntryFor entries name (Text text) → IsAbsent (local_of name entries) text → IsAbsent (global_of entries) text → length (entered entries name text) ≤ most_entries
 entered_few entries name [] few room local global = few
 entered_few entries name (char ∷ chars) few room local global =
     let more = room local global in omega (arith, length-append entries ((name, char ∷ chars) ∷ []), more)

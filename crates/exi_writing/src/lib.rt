@@ -4,10 +4,12 @@
 #![tactic(auto)]
 
 mod items;
+mod needed;
 mod source;
 mod texts;
 mod value;
 
+pub use needed::value_bits;
 pub use value::put_value;
 
 #[cfg(test)]

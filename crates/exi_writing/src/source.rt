@@ -1,12 +1,12 @@
 //! Texts that are written.
 
-ghost use Rattle.std.specs.Prelude.{◌≡◌, ◌<◌, ◌^◌, ◌↔◌, IsTrue, true, length, OnOk, OnErr, IfErr};
+ghost use Rattle.std.specs.Prelude.{◌≡◌, ◌*◌, ◌≤◌, ◌<◌, ◌^◌, ◌↔◌, IsTrue, true, length, OnOk, OnErr, IfErr};
 ghost use Rattle.exi_spec.specs.Items.{shortest_chars};
 ghost use Rattle.exi_bits.specs.Lent.{items_of};
 ghost use Rattle.exi_bits.specs.Pens.{Writes, Needs};
 ghost use Rattle.exi_writing.specs.Writing.{WritesMore, PassesRoom};
 
-use exi_bits::{BitPen, BitSpan, Full};
+use exi_bits::{BitPen, BitSpan, Full, chars_bits};
 
 /// A text that is written, wherever it lies.
 #[derive(Clone, Copy)]
@@ -40,6 +40,18 @@ impl<'t, 'a> TextSource<'t, 'a> {
         match self {
             TextSource::Lent(span) => other.same(span),
             TextSource::Written(text) => other.same_str(text),
+        }
+    }
+
+    /// How many bits its code points have, each in its shortest spelling.
+    pub(crate) fn chars_bits(&self) -> u64
+        requires { length (chars_of self.now) < 2 ^ 32 }
+        ensures bits { result ≡ length (shortest_chars (chars_of self.now)) }
+        ensures few { result ≤ 320 * 2 ^ 32 }
+    {
+        match self {
+            TextSource::Lent(span) => span.chars_bits(),
+            TextSource::Written(text) => chars_bits(text),
         }
     }
 

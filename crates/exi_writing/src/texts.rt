@@ -43,39 +43,49 @@ pub(crate) fn put_text(
     ensures stays { OnErr result (table.new ≡ table.old) }
 {
     let globals = table.globals();
-    if let Some(index) = find_local(pen, text, name, table) {
+    let count = text.len();
+    if let Some(index) = find_local(pen, text, count, name, table) {
         return put_hit(pen, 0, table.locals(name), index);
     }
-    if let Some(index) = find_global(pen, text, table) {
+    if let Some(index) = find_global(pen, text, count, table) {
         return put_hit(pen, 1, globals, index);
     }
-    let at = put_spelled(pen, text)?;
+    let at = put_spelled(pen, text, count)?;
     enter(table, name, at);
     Ok(())
 }
 
-/// The first place of a text in the local partition of a name.
-fn find_local(pen: &BitPen, text: &TextSource, name: u16, table: &Table) -> Option<u32>
+/// The first place of a text of `count` code points in the local partition of a name.
+pub(crate) fn find_local(
+    pen: &BitPen,
+    text: &TextSource,
+    count: u32,
+    name: u16,
+    table: &Table,
+) -> Option<u32>
     requires kind { IsText text.now }
+    requires count { count ≡ length (chars_of text.now) }
     requires texts { AreTexts (written_bits pen.now) table.now.entries }
     ensures { MatchOption result
         (IsAbsent (local_of name (texts_in (written_bits pen.now) table.now.entries)) (chars_of text.now))
         (λ index. IsFirstAt (local_of name (texts_in (written_bits pen.now) table.now.entries)) (chars_of text.now) index) }
 {
-    for i in 0..table.locals(name) {
-        let Some(at) = table.local(name, i) else {
-            unreachable!()
-        };
-        if is_at(pen, text, *at) {
-            return Some(i);
+    let mut index = 0;
+    for entry in table.entries() {
+        if entry.0 == name {
+            if is_at(pen, text, count, entry.1) {
+                return Some(index);
+            }
+            index += 1;
         }
     }
     None
 }
 
-/// The first place of a text in the global partition.
-fn find_global(pen: &BitPen, text: &TextSource, table: &Table) -> Option<u32>
+/// The first place of a text of `count` code points in the global partition.
+pub(crate) fn find_global(pen: &BitPen, text: &TextSource, count: u32, table: &Table) -> Option<u32>
     requires kind { IsText text.now }
+    requires count { count ≡ length (chars_of text.now) }
     requires texts { AreTexts (written_bits pen.now) table.now.entries }
     ensures { MatchOption result
         (IsAbsent (global_of (texts_in (written_bits pen.now) table.now.entries)) (chars_of text.now))
@@ -85,19 +95,23 @@ fn find_global(pen: &BitPen, text: &TextSource, table: &Table) -> Option<u32>
         let Some(at) = table.global(i) else {
             unreachable!()
         };
-        if is_at(pen, text, *at) {
+        if is_at(pen, text, count, *at) {
             return Some(i);
         }
     }
     None
 }
 
-/// Whether a text is the one at a place of what is written.
-fn is_at(pen: &BitPen, text: &TextSource, at: SpanAt) -> bool
+/// Whether a text of `count` code points is the one at a place of what is written.
+fn is_at(pen: &BitPen, text: &TextSource, count: u32, at: SpanAt) -> bool
     requires kind { IsText text.now }
+    requires count { count ≡ length (chars_of text.now) }
     requires spelled { IsSpan (text_at (written_bits pen.now) at) }
     ensures { IsTrue result ↔ (items_of (text_at (written_bits pen.now) at) ≡ chars_of text.now) }
 {
+    if at.chars != count {
+        return false;
+    }
     text.is_same(&BitSpan::of(pen.written(), at))
 }
 
@@ -114,9 +128,9 @@ fn put_hit(pen: &mut BitPen, announced: u64, count: u32, index: u32) -> Result<(
     pen.put_bits(index, width)
 }
 
-/// A text that is spelled out, behind its length: where it stands.
-fn put_spelled(pen: &mut BitPen, text: &TextSource) -> Result<SpanAt, Full>
-    requires { length (chars_of text.now) < 2 ^ 32 }
+/// A text that is spelled out, behind its length, which is `count`: where it stands.
+fn put_spelled(pen: &mut BitPen, text: &TextSource, count: u32) -> Result<SpanAt, Full>
+    requires { count ≡ length (chars_of text.now) }
     ensures ok { IfOk result (λ _. Writes pen.old pen.new (shortest_unsigned (length (chars_of text.now) + 2) ++ shortest_chars (chars_of text.now))) }
     ensures bit { IfOk result (λ at. at.bit ≡ length (written_bits pen.old ++ shortest_unsigned (length (chars_of text.now) + 2))) }
     ensures count { IfOk result (λ at. at.chars ≡ length (chars_of text.now)) }
@@ -124,7 +138,6 @@ fn put_spelled(pen: &mut BitPen, text: &TextSource) -> Result<SpanAt, Full>
     ensures bits { IfErr result (PassesRoom pen.old) }
     ensures more { WritesMore pen.old pen.new }
 {
-    let count = text.len();
     pen.put_unsigned(u64::from(count) + 2)?;
     let bit = pen.place();
     text.put_chars(pen)?;

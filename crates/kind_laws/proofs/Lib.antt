@@ -1,0 +1,13 @@
+pub mod Lists
+pub mod Division
+pub mod Choosing
+pub mod Building
+pub mod Entering
+pub mod Encoded
+pub mod Leading
+pub mod Held
+pub mod Told
+pub mod Documents
+pub mod Filling
+pub mod Completing
+pub mod Ascending

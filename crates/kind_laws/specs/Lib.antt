@@ -1,0 +1,4 @@
+pub mod Kinds
+pub mod Texts
+pub mod Laws
+pub mod Order
