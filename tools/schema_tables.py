@@ -1,311 +1,222 @@
 #!/usr/bin/env python3
-"""Writes the tables of a dialect's schema: names, kinds, declarations as tables and as plain values.
+"""Writes the crate of a dialect's schema from one list of its types: its names, kinds and tables, and the same as plain declarations.
 
-usage: schema_tables.py FILE CRATE    writes src/names.rt, src/kinds.rt, src/tables.rt and specs/Declarations.antt below crates/CRATE
-       schema_tables.py --check FILE CRATE    exits 1 where one of them differs from what would be written
+usage: schema_tables.py LIST CRATE            writes crates/CRATE/src/{names,kinds,tables}.rt and the files of crates/CRATE/specs
+       schema_tables.py --check LIST CRATE    exits 1 where one of them differs from what would be written, but for its layout
 
-FILE lists enumerations, groups and types, one a line; tools/iso.schema says how."""
+The head of tools/iso.schema says what stands in a list."""
 import os
 import re
-import subprocess
 import sys
 
-PER_LINE = 140
+WIDTH = 132
+STANDINGS = {"^": "Abstract", "!": "OutOfProfile"}
+ABOUT = {"title", "dialect", "standard", "root"}
 
 
-def snake(name, overrides):
-    if name in overrides:
-        return overrides[name]
-    name = re.sub(r"([A-Z0-9]+)([A-Z][a-z])", r"\1_\2", name)
-    name = re.sub(r"([a-z])([A-Z])", r"\1_\2", name)
-    return re.sub(r"__+", "_", name).upper()
+class Particle:
+    def __init__(self, members, least, most, profile):
+        self.members, self.least, self.most, self.profile = members, least, most, profile
 
 
 class Schema:
+    """A list of types. `parts` has the kinds in their order, part by part; `content` the attributes and particles of each type."""
+
     def __init__(self, path):
-        self.title = self.standard = ""
-        self.overrides, self.simple, self.enums, self.groups, self.types = {}, {}, {}, {}, {}
-        self.root_number = 0
+        self.spelled, self.values, self.enumerations, self.groups, self.sections, lines = {}, {}, {}, {}, {}, {}
         section = None
-        for number, line in enumerate(open(path, encoding="utf-8"), 1):
+        for line in open(path, encoding="utf-8"):
             line = line.rstrip("\n")
-            if not line.strip() or line.startswith("#"):
-                continue
             if line.startswith("["):
-                section = line.strip("[]")
-                continue
-            head, _, rest = line.partition(":")
-            head, rest = head.strip(), rest.strip()
-            if section == "about":
-                setattr(self, head, int(rest) if head == "root_number" else rest)
-            elif section == "spelled":
-                self.overrides[head] = rest
-            elif section == "values":
-                self.simple[head] = rest
-            elif section == "enumerations":
-                self.enums[head] = rest.split()
-            elif section == "groups":
-                self.groups[head] = rest.split()
-            elif section == "types":
-                self.types[head] = [it.strip() for it in self.split(rest)] if rest else []
-            else:
-                sys.exit(f"{path}:{number}: no section")
-        self.names = []
-        self.fill()
+                section = line.strip("[]").split()
+                if section[0] == "types":
+                    part = self.sections.setdefault(section[1], (" ".join(section[2:]), []))[1]
+            elif line and not line.startswith("#"):
+                head, _, rest = (it.strip() for it in line.partition(":"))
+                if section[0] == "about":
+                    assert head in ABOUT, head
+                    setattr(self, head, rest)
+                elif section[0] == "types":
+                    part.append(head)
+                    lines[head] = split(rest)
+                else:
+                    getattr(self, section[0])[head] = rest if section[0] in ("spelled", "values") else rest.split()
+        self.empty = [it for it in lines if not lines[it]]
+        types = {name: [it for it in part if it not in self.empty] for name, (_, part) in self.sections.items()}
+        self.parts = {"simple": [*self.values, *self.enumerations, "Empty"], **types}
+        self.kinds = [it for part in self.parts.values() for it in part]
+        self.names = ["V2G_Message"]
+        self.content = {it: self.content_of(lines[it]) for part in types.values() for it in part}
 
-    @staticmethod
-    def split(text):
-        parts, depth = [""], 0
-        for c in text:
-            depth += (c == "(") - (c == ")")
-            if c == "," and not depth:
-                parts.append("")
-            else:
-                parts[-1] += c
-        return parts
-
-    def name(self, text):
-        if text not in self.names:
-            self.names.append(text)
-        return snake(text, self.overrides)
-
-    def kind(self, text):
-        text = self.empty if text in self.without_parts else text
-        if text in self.simple or text in self.enums or text in self.types:
-            return snake(text, self.overrides) + "_KIND"
-        sys.exit(f"unknown kind {text}")
-
-    def member(self, text):
-        """One element of a particle: its name, its kind, its standing."""
-        standing = "Taken"
-        for mark, word in (("!", "OutOfProfile"), ("^", "Abstract")):
-            if text.startswith(mark):
-                text, standing = text[1:], word
-        words = text.split()
-        name = words[0]
-        kind = words[1] if len(words) > 1 else name
-        if standing != "Taken":
-            kind = self.empty
-        return self.name(name), self.kind(kind), standing
+    def content_of(self, parts):
+        attributes = [it[1:].rstrip("?").split() + [not it.endswith("?")] for it in parts if it.startswith("@")]
+        particles = [it for it in parts if not it.startswith("@")]
+        return [(self.name(n), self.kind(k), required) for n, k, required in attributes], [self.particle(it) for it in particles]
 
     def particle(self, text):
         least, most, profile = 1, 1, 1
-        found = re.search(r"\s*([*+])(\d+)$", text)
+        found = re.search(r" ([*+])(\d+)$", text)
         if found:
             text, profile = text[: found.start()], int(found.group(2))
             most = profile if found.group(1) == "*" else None
         if text.endswith("?"):
-            text, least = text[:-1].strip(), 0
-        if text.startswith("<"):
-            members = [self.member(it) for it in self.groups[text.strip("<>")]]
-        elif text.startswith("("):
-            members = [self.member(it.strip()) for it in text.strip("()").split("|")]
-        else:
-            members = [self.member(text)]
-        return members, least, most, profile
+            text, least = text[:-1], 0
+        listed = self.groups[text[1:-1]] if text.startswith("<") else text[1:-1].split(" | ") if text.startswith("(") else [text]
+        return Particle([self.member(it) for it in listed], least, most, profile)
 
-    def fill(self):
-        self.empty = "Empty"
-        self.without_parts = [name for name, parts in self.types.items() if not parts]
-        self.types = {"Empty": [], **{name: parts for name, parts in self.types.items() if parts}}
-        self.kinds = [*self.simple, *self.enums, *self.types]
-        self.name("V2G_Message")
-        self.complex = {}
-        for type, parts in self.types.items():
-            attributes = []
-            particles = []
-            for it in parts:
-                if it.startswith("@"):
-                    words = it[1:].split()
-                    attributes.append((self.name(words[0]), self.kind(words[1].rstrip("?")), not it.endswith("?")))
-                else:
-                    particles.append(self.particle(it))
-            self.complex[type] = attributes, particles
-        for type, (attributes, particles) in self.complex.items():
-            for members, *_ in particles:
-                assert members
+    def member(self, text):
+        standing = STANDINGS.get(text[0], "Taken")
+        name, *kind = text.lstrip("^!").split()
+        kind = kind[0] if kind else name
+        return standing, self.name(name), self.kind(kind if standing == "Taken" else "Empty")
+
+    def name(self, text):
+        if text not in self.names:
+            self.names.append(text)
+        return self.upper(text)
+
+    def kind(self, text):
+        text = "Empty" if text in self.empty else text
+        assert text in self.kinds, text
+        return self.upper(text) + "_KIND"
+
+    def upper(self, text):
+        if text in self.spelled:
+            return self.spelled[text]
+        text = re.sub(r"([A-Z0-9]+)([A-Z][a-z])", r"\1_\2", text)
+        text = re.sub(r"([a-z])([A-Z])", r"\1_\2", text)
+        return re.sub(r"__+", "_", text).upper()
+
+    def lower(self, text):
+        return self.upper(text).lower()
+
+
+def split(text):
+    """The parts between commas that stand in no brackets."""
+    return [it.strip() for it in re.split(r",(?![^(]*\))", text) if it.strip()]
+
+
+# ---- as tables
+
+
+def constants(s, title, rows):
+    return f"//! {title}\n" + "".join(f"\n/// {what}.\npub const {name}: u16 = {n};\n" for n, (name, what) in enumerate(rows))
+
+
+def what_is(s, kind):
+    if kind in s.values:
+        return f"{kind}: {s.values[kind]}"
+    return f"The enumeration {kind}" if kind in s.enumerations else f"What {kind} contains" if kind in s.content else "No content"
 
 
 def rust_datatype(text):
-    word, *rest = text.split()
-    number = lambda n: f"{int(n):_}"
-    return {
-        "bool": lambda: "Datatype::Bool",
-        "bounded": lambda: f"Datatype::Bounded {{ least: {number(rest[0])}, count: {number(rest[1])} }}",
-        "unsigned": lambda: f"Datatype::Unsigned {{ most: {number(rest[0])} }}",
-        "signed": lambda: f"Datatype::Signed {{ least: {number(rest[0])}, most: {number(rest[1])} }}",
-        "binary": lambda: f"Datatype::Binary {{ most: {rest[0]} }}",
-        "text": lambda: f"Datatype::Text {{ most: {rest[0]} }}",
-    }[word]()
+    word, *numbers = text.split()
+    fields = {"bool": [], "bounded": ["least", "count"], "unsigned": ["most"], "signed": ["least", "most"], "binary": ["most"], "text": ["most"]}[word]
+    return f"Datatype::{word.capitalize()}" + (" { " + ", ".join(f"{f}: {int(n):_}" for f, n in zip(fields, numbers)) + " }" if fields else "")
 
 
-def antt_z(n):
-    n = int(n)
-    return f"(pos {n})" if n >= 0 else f"(negsuc {-n - 1})"
+def rust_particle(p):
+    if len(p.members) == 1:
+        standing, name, kind = p.members[0]
+        if standing == "OutOfProfile":
+            return f"left_out!({name})"
+        if p.most is None:
+            return f"at_least_one!({p.profile}, {name}, {kind})"
+        return f"once!({name}, {kind})" if (p.least, p.most) == (1, 1) else f"perhaps!({name}, {kind})" if p.least == 0 else f"up_to!({p.most}, {name}, {kind})"
+    return f"one_of!({p.least}, [{', '.join(f'member!({s}, {n}, {k})' for s, n, k in p.members)}])"
 
 
-def antt_datatype(text):
-    word, *rest = text.split()
-    return {
-        "bool": lambda: "BoolType",
-        "bounded": lambda: f"(Bounded {antt_z(rest[0])} {rest[1]})",
-        "unsigned": lambda: f"(Unsigned {rest[0]})",
-        "signed": lambda: f"(Signed {antt_z(rest[0])} {antt_z(rest[1])})",
-        "binary": lambda: f"(Binary {rest[0]})",
-        "text": lambda: f"(Text {rest[0]})",
-    }[word]()
+def rust_kind(s, kind):
+    if kind in s.values:
+        return f"Declaration::Simple({rust_datatype(s.values[kind])})"
+    if kind in s.enumerations:
+        return f"Declaration::Simple(Datatype::Named {{ count: {len(s.enumerations[kind])} }})"
+    attributes, particles = s.content.get(kind, ([], []))
+    table = lambda rows, name: f"&{s.upper(kind)}_{name}" if rows else "&[]"
+    return f"Declaration::Complex {{ attributes: {table(attributes, 'ATTRIBUTES')}, particles: {table(particles, 'PARTICLES')} }}"
 
 
-def wrapped(items, joint, indent="    "):
-    """Items joined, in lines of at most so many characters."""
-    lines, line = [], indent + items[0]
-    for it in items[1:]:
-        piece = f" {joint} {it}"
-        if len(line) + len(piece) > PER_LINE:
-            lines.append(line)
-            line = f"{indent}{joint} {it}"
-        else:
-            line += piece
-    return "\n".join([*lines, line])
+def array(keyword, name, item, rows):
+    return f"{keyword} {name}: [{item}; {len(rows)}] = [{', '.join(rows)}];\n\n"
 
 
-def files_of(s):
-    out = {}
-    text = f"//! The numbers of the names of {s.title}.\n"
-    for n, name in enumerate(s.names):
-        text += f"\n/// {name}.\npub const {snake(name, s.overrides)}: u16 = {n};\n"
-    out["src/names.rt"] = text
-
-    text = f"//! The numbers of the kinds of {s.title}: datatypes, enumerations, and types of elements with parts.\n"
-    for n, kind in enumerate(s.kinds):
-        what = f"{kind}: {s.simple[kind]}" if kind in s.simple else f"The enumeration {kind}" if kind in s.enums else f"What {kind} contains"
-        text += f"\n/// {what}.\npub const {s.kind(kind)}: u16 = {n};\n"
-    out["src/kinds.rt"] = text
-
-    text = f"//! The declarations of {s.title} as tables.\n\n"
-    text += "ghost use Rattle.%s.specs.Declarations.{%s};\n\n" % (s.crate, s.fact)
-    text += "use crate::kinds::*;\nuse crate::names::*;\nuse exi_schema::{AttributeOf, Datatype, Declaration, Member, MemberStanding, Particle, RootOf, Schema};\n\n"
-    text += f"static NAMES: [&'static str; {len(s.names)}] = [{', '.join(json(it) for it in s.names)}];\n\n"
-    for kind, values in s.enums.items():
-        text += f"const {snake(kind, s.overrides)}_VALUES: [&'static str; {len(values)}] = [{', '.join(json(it) for it in values)}];\n\n"
-    text += "const NONE: [&'static str; 0] = [];\n\n"
-    rows = [f"&{snake(kind, s.overrides)}_VALUES" if kind in s.enums else "&NONE" for kind in s.kinds]
-    text += f"static VALUES: [&'static [&'static str]; {len(s.kinds)}] = [{', '.join(rows)}];\n\n"
-    text += MACROS
-    for type, (attributes, particles) in s.complex.items():
-        if attributes:
-            rows = [f"AttributeOf {{ name: {n}, kind: {k}, required: {str(r).lower()} }}" for n, k, r in attributes]
-            text += f"const {snake(type, s.overrides)}_ATTRIBUTES: [AttributeOf; {len(rows)}] = [{', '.join(rows)}];\n\n"
-        if particles:
-            rows = [rust_particle(it) for it in particles]
-            text += f"const {snake(type, s.overrides)}_PARTS: [Particle<'static>; {len(rows)}] = [{', '.join(rows)}];\n\n"
-    rows = []
-    for kind in s.kinds:
-        if kind in s.simple:
-            rows.append(f"Declaration::Simple({rust_datatype(s.simple[kind])})")
-        elif kind in s.enums:
-            rows.append(f"Declaration::Simple(Datatype::Named {{ count: {len(s.enums[kind])} }})")
-        else:
-            attributes, particles = s.complex[kind]
-            name = snake(kind, s.overrides)
-            rows.append(f"Declaration::Complex {{ attributes: &{name + '_ATTRIBUTES' if attributes else '[]'}, particles: &{name + '_PARTS' if particles else '[]'} }}")
-    text += f"static KINDS: [Declaration<'static>; {len(rows)}] = [{', '.join(rows)}];\n\n"
-    text += f"static ROOTS: [RootOf; 1] = [RootOf {{ number: {s.root_number}, name: V2G_MESSAGE, kind: V2G_MESSAGE_KIND }}];\n\n"
-    text += f"/// The schema of {s.title}.\npub fn {s.call}() -> Schema<'static>\n    ensures {{ {s.fact} result }}\n{{\n    Schema {{ kinds: &KINDS, names: &NAMES, values: &VALUES, root_bits: 7, roots: &ROOTS }}\n}}\n"
-    out["src/tables.rt"] = text
-
-    text = f"-- {s.standard}: the declarations.\n"
-    text += "use Rattle.std.specs.Prelude.{◌≡◌, ℕ, pos, negsuc, true, false, List, [], ◌∷◌, map, codes, Option, Some, None}\n"
-    text += "use Rattle.exi_schema.specs.declared.schema.Schema.{Schema}\n"
-    text += "use Rattle.exi_schema.specs.declared.tables.AttributeOf.{AttributeOf}\n"
-    text += "use Rattle.exi_schema.specs.declared.tables.Datatype.TheVariants.{Bool as BoolType, Named, Bounded, Unsigned, Signed, Binary, Text}\n"
-    text += "use Rattle.exi_schema.specs.declared.tables.Member.{Member}\n"
-    text += "use Rattle.exi_schema.specs.declared.tables.MemberStanding.{MemberStanding}\n"
-    text += "use Rattle.exi_schema.specs.declared.tables.MemberStanding.TheVariants.{Taken, Abstract, OutOfProfile}\n"
-    text += "use Rattle.exi_schema.specs.declared.tables.RootOf.{RootOf}\n"
-    text += "use Rattle.plain_schema.specs.Plain.{PlainKind, PlainParticle, valued, containing, plain_kinds}\n"
-    used_names = [snake(it, s.overrides) for it in s.names]
-    text += f"use Rattle.{s.crate}.specs.declared.names.TheConstants.{{{', '.join(used_names)}}}\n"
-    text += f"use Rattle.{s.crate}.specs.declared.kinds.TheConstants.{{{', '.join(s.kind(it) for it in s.kinds)}}}\n\n"
-    text += "-- the texts of the names, numbered from 0\nabbrev pub names : List (List ℕ)\nnames =\n" + wrapped([f'codes "{it}"' for it in s.names] + ["[]"], "∷") + "\n\n"
-    for kind, values in s.enums.items():
-        text += f"abbrev pub {lower(kind, s)}_values : List (List ℕ)\n{lower(kind, s)}_values =\n" + wrapped([f'codes "{it}"' for it in values] + ["[]"], "∷") + "\n\n"
-    text += SHAPES
-    for type, (attributes, particles) in s.complex.items():
-        if particles:
-            rows = [antt_particle(it) for it in particles]
-            text += f"abbrev pub {lower(type, s)} : List PlainParticle\n{lower(type, s)} =\n" + wrapped(rows + ["[]"], "∷") + "\n\n"
-    text += "-- the kinds, numbered from 0\nabbrev pub kinds : List PlainKind\nkinds =\n"
-    rows = []
-    for kind in s.kinds:
-        if kind in s.simple:
-            rows.append(f"valued {antt_datatype(s.simple[kind])}")
-        elif kind in s.enums:
-            rows.append(f"valued (Named {len(s.enums[kind])})")
-        else:
-            attributes, particles = s.complex[kind]
-            a = " ∷ ".join(f"record {{ name = {n}; kind = {k}; required = {str(r).lower()} }}" for n, k, r in attributes)
-            rows.append(f"containing {'(' + a + ' ∷ [])' if a else '[]'} {lower(kind, s) if particles else '[]'}")
-    text += wrapped(rows + ["[]"], "∷") + "\n\n"
-    text += "abbrev pub values : List (List (List ℕ))\nvalues =\n" + wrapped([f"{lower(kind, s)}_values" if kind in s.enums else "[]" for kind in s.kinds] + ["[]"], "∷") + "\n\n"
-    text += f"abbrev pub roots : List RootOf\nroots = record {{ number = {s.root_number}; name = V2G_MESSAGE; kind = V2G_MESSAGE_KIND }} ∷ []\n\n"
-    text += f"-- a schema with these tables\npub record {s.fact} (s : Schema) : Type 0 where\n  pub kinds_are : plain_kinds s.kinds.now ≡ kinds\n  pub names_are : map (λ t. t.now) s.names.now ≡ names\n  pub values_are : map (λ l. map (λ t. t.now) l.now) s.values.now ≡ values\n  pub bits_are : s.root_bits ≡ 7\n  pub roots_are : s.roots.now ≡ roots\n"
-    out["specs/Declarations.antt"] = text
-    return out
-
-
-def json(text):
+def quoted(text):
     return f'"{text}"'
 
 
-def lower(kind, s):
-    return snake(kind, s.overrides).lower()
+def tables(s):
+    text = TABLES_HEAD % (s.title, s.crate)
+    text += array("static", "NAMES", "&'static str", [quoted(it) for it in s.names])
+    for kind, values in s.enumerations.items():
+        text += array("const", f"{s.upper(kind)}_VALUES", "&'static str", [quoted(it) for it in values])
+    text += array("const", "NONE", "&'static str", [])
+    text += array("static", "VALUES", "&'static [&'static str]", [f"&{s.upper(it)}_VALUES" if it in s.enumerations else "&NONE" for it in s.kinds])
+    text += MACROS
+    for kind, (attributes, particles) in s.content.items():
+        if attributes:
+            rows = [f"AttributeOf {{ name: {n}, kind: {k}, required: {str(r).lower()} }}" for n, k, r in attributes]
+            text += array("const", f"{s.upper(kind)}_ATTRIBUTES", "AttributeOf", rows)
+        text += array("const", f"{s.upper(kind)}_PARTICLES", "Particle<'static>", [rust_particle(it) for it in particles])
+    for part, kinds in s.parts.items():
+        text += array("static", part.upper(), "Declaration<'static>", [rust_kind(s, it) for it in kinds])
+    text += array("static", "ROOTS", "RootOf", [f"RootOf {{ number: {s.root}, name: V2G_MESSAGE, kind: V2G_MESSAGE_KIND }}"])
+    for part in s.parts:
+        text += PART % (part, part, part.upper())
+    fills = "".join(f"kinds.extend_from_slice({part}())?;" for part in s.parts)
+    return text + (TABLES_TAIL % fills).replace("Dialect", s.dialect).replace("TITLE", s.title)
 
 
-def rust_particle(it):
-    members, least, most, profile = it
-    if len(members) == 1:
-        name, kind, standing = members[0]
-        if standing == "OutOfProfile":
-            return f"left_out!({name})"
-        if most is None:
-            return f"unbounded!({least}, {profile}, {name}, {kind})"
-        return f"copies!({least}, {most}, {name}, {kind})"
-    rows = [f"member!({standing}, {name}, {kind})" for name, kind, standing in members]
-    return f"one_of!({least}, [{', '.join(rows)}])"
+TABLES_HEAD = """//! The declarations of %s as tables.
 
+ghost use Rattle.std.specs.Prelude.{◌≡◌, map};
+ghost use Rattle.exi_schema.specs.Plain.{plain_kinds};
+ghost use Rattle.exi_schema.specs.Told.{schema_of};
+ghost use Rattle.%s.specs.Declarations as declared;
 
-def antt_particle(it):
-    members, least, most, profile = it
-    if len(members) == 1:
-        name, kind, standing = members[0]
-        if standing == "OutOfProfile":
-            return f"left_out {name}"
-        if most is None:
-            return f"unbounded {least} {profile} {name} {kind}"
-        return f"copies {least} {most} {name} {kind}"
-    rows = [f"member {standing} {name} {kind}" for name, kind, standing in members]
-    return f"one_of {least} ({' ∷ '.join(rows)} ∷ [])"
+use crate::kinds::*;
+use crate::names::*;
+use exi_schema::{AttributeOf, Datatype, Declaration, Member, MemberStanding, Particle, RootOf, Schema};
+use std::alloc::{AllocError, Global};
 
+"""
 
-MACROS = """/// From so many to so many copies of one element.
+MACROS = """/// An element of a particle.
+macro_rules! member {
+    ($standing:ident, $name:expr, $kind:expr) => {
+        Member { name: $name, kind: $kind, standing: MemberStanding::$standing }
+    };
+}
+
+/// One element, from so many to so many times.
 macro_rules! copies {
     ($least:expr, $most:expr, $name:expr, $kind:expr) => {
-        Particle { members: &[Member { name: $name, kind: $kind, standing: MemberStanding::Taken }], least: $least, most: Some($most), profile: $most }
+        Particle { members: &[member!(Taken, $name, $kind)], least: $least, most: Some($most), profile: $most }
     };
 }
 
-/// So many copies and more, of which so many are accepted.
-macro_rules! unbounded {
-    ($least:expr, $profile:expr, $name:expr, $kind:expr) => {
-        Particle { members: &[Member { name: $name, kind: $kind, standing: MemberStanding::Taken }], least: $least, most: None, profile: $profile }
+macro_rules! once {
+    ($name:expr, $kind:expr) => { copies!(1, 1, $name, $kind) };
+}
+
+macro_rules! perhaps {
+    ($name:expr, $kind:expr) => { copies!(0, 1, $name, $kind) };
+}
+
+macro_rules! up_to {
+    ($most:expr, $name:expr, $kind:expr) => { copies!(1, $most, $name, $kind) };
+}
+
+/// One element, once and more, of which so many are accepted.
+macro_rules! at_least_one {
+    ($profile:expr, $name:expr, $kind:expr) => {
+        Particle { members: &[member!(Taken, $name, $kind)], least: 1, most: None, profile: $profile }
     };
 }
 
-/// An element out of the profile, which may be there in the standard.
+/// An element that may be there in the standard, and is left out.
 macro_rules! left_out {
     ($name:expr) => {
-        Particle { members: &[Member { name: $name, kind: EMPTY_KIND, standing: MemberStanding::OutOfProfile }], least: 0, most: Some(1), profile: 1 }
+        Particle { members: &[member!(OutOfProfile, $name, EMPTY_KIND)], least: 0, most: Some(1), profile: 1 }
     };
 }
 
@@ -316,36 +227,189 @@ macro_rules! one_of {
     };
 }
 
-/// An element of a choice or of a substitution group.
-macro_rules! member {
-    ($standing:ident, $name:expr, $kind:expr) => {
-        Member { name: $name, kind: $kind, standing: MemberStanding::$standing }
-    };
+"""
+
+PART = """fn %s() -> &'static [Declaration<'static>]
+    ensures { plain_kinds result.now ≡ declared.%s }
+{
+    &%s
 }
 
 """
-SHAPES = """-- an element of a particle
-abbrev pub member : MemberStanding → ℕ → ℕ → Member
-member standing name kind = record { name = name; kind = kind; standing = standing }
 
--- from so many to so many copies of one element
-abbrev pub copies : ℕ → ℕ → ℕ → ℕ → PlainParticle
-copies least most name kind = record { members = member Taken name kind ∷ []; least = least; most = Some most; profile = most }
+TABLES_TAIL = """fn names() -> &'static [&'static str]
+    ensures { map (λ t. t.now) result.now ≡ declared.names }
+{
+    &NAMES
+}
 
--- so many copies and more, of which so many are accepted (own)
-abbrev pub unbounded : ℕ → ℕ → ℕ → ℕ → PlainParticle
-unbounded least profile name kind = record { members = member Taken name kind ∷ []; least = least; most = None; profile = profile }
+fn values() -> &'static [&'static [&'static str]]
+    ensures { map (λ l. map (λ t. t.now) l.now) result.now ≡ declared.values }
+{
+    &VALUES
+}
 
--- an element that may be there in the standard, and is left out (own)
-abbrev pub left_out : ℕ → PlainParticle
-left_out name = record { members = member OutOfProfile name EMPTY_KIND ∷ []; least = 0; most = Some 1; profile = 1 }
+/// The declarations of TITLE.
+#[derive(Drop)]
+pub struct DialectSchema {
+    kinds: Vec<Declaration<'static>>,
+    ghost kinds_are: { plain_kinds kinds.items ≡ declared.kinds },
+}
 
--- one of these elements, or with 0 perhaps one
-abbrev pub one_of : ℕ → List Member → PlainParticle
-one_of least members = record { members = members; least = least; most = Some 1; profile = 1 }
+impl DialectSchema {
+    /// The declarations, each part behind the other.
+    pub fn make(alloc: Global) -> Result<DialectSchema, AllocError> {
+        let mut kinds = Vec::new(alloc);
+        %s
+        Ok(DialectSchema { kinds })
+    }
 
--- ---- what each type contains
+    /// The schema.
+    pub fn schema(&self) -> Schema<'_>
+        ensures { schema_of result ≡ declared.schema }
+    {
+        Schema { kinds: self.kinds.as_slice(), names: names(), values: values(), root_bits: 7, roots: &ROOTS }
+    }
+}
+"""
 
+
+# ---- as plain declarations
+
+
+def antt_integer(text):
+    return f"(pos {text})" if int(text) >= 0 else f"(negsuc {-int(text) - 1})"
+
+
+def antt_datatype(text):
+    word, *numbers = text.split()
+    if word in ("bounded", "signed"):
+        numbers = [antt_integer(numbers[0]), numbers[1] if word == "bounded" else antt_integer(numbers[1])]
+    return "BoolType" if word == "bool" else f"({' '.join([word.capitalize(), *numbers])})"
+
+
+def antt_particle(p):
+    if len(p.members) == 1:
+        standing, name, kind = p.members[0]
+        if standing == "OutOfProfile":
+            return f"left_out {name} {kind}"
+        if p.most is None:
+            return f"at_least_one {p.profile} {name} {kind}"
+        return f"once {name} {kind}" if (p.least, p.most) == (1, 1) else f"perhaps {name} {kind}" if p.least == 0 else f"up_to {p.most} {name} {kind}"
+    members = " ∷ ".join(f"one_of {n} {k}" if s == "Taken" else f"standing {s} {n} {k}" for s, n, k in p.members)
+    return f"{'choice' if p.least else 'perhaps_choice'} ({members} ∷ [])"
+
+
+def antt_kind(s, kind):
+    if kind in s.values:
+        return f"valued {antt_datatype(s.values[kind])}"
+    if kind in s.enumerations:
+        return f"valued (Named {len(s.enumerations[kind])})"
+    if kind not in s.content:
+        return "containing [] []"
+    attributes, _ = s.content[kind]
+    rows = " ∷ ".join(f"record {{ name = {n}; kind = {k}; required = {str(r).lower()} }}" for n, k, r in attributes)
+    return f"containing {f'({rows} ∷ [])' if rows else '[]'} {s.lower(kind)}"
+
+
+def listed(name, item, rows):
+    lines, line = [], "    " + ([*rows, "[]"][0])
+    for it in [*rows, "[]"][1:]:
+        if len(line) + len(it) + 3 > WIDTH:
+            lines, line = [*lines, line], f"    ∷ {it}"
+        else:
+            line += f" ∷ {it}"
+    return f"abbrev pub {name} : List {item}\n{name} =\n" + "\n".join([*lines, line]) + "\n\n"
+
+
+def used(text, words):
+    """Those of the words that stand in a text, as an import lists them."""
+    return ", ".join(it for it in words if re.search(rf"(?<![\w]){re.escape(it)}(?![\w])", text))
+
+
+def with_uses(s, head, body):
+    lines = []
+    for module, words in (
+        ("Rattle.std.specs.Prelude", ["ℕ", "pos", "negsuc", "true", "false", "List", "codes"]),
+        ("Rattle.exi_schema.specs.declared.tables.Datatype.TheVariants", ["Named", "Bounded", "Unsigned", "Signed", "Binary", "Text"]),
+        ("Rattle.exi_schema.specs.declared.tables.MemberStanding.TheVariants", ["Abstract", "OutOfProfile"]),
+        ("Rattle.exi_schema.specs.declared.tables.RootOf", ["RootOf"]),
+        ("Rattle.exi_schema.specs.Plain", ["PlainKind", "PlainParticle", "valued", "containing", "one_of", "standing", "once", "perhaps", "up_to", "at_least_one", "left_out", "choice", "perhaps_choice"]),
+        (f"Rattle.{s.crate}.specs.declared.names.TheConstants", [s.upper(it) for it in s.names]),
+        (f"Rattle.{s.crate}.specs.declared.kinds.TheConstants", [s.kind(it) for it in s.kinds]),
+    ):
+        words = used(body, words)
+        if module.endswith("Prelude"):
+            words += ", [], ◌∷◌"
+        if "BoolType" in body and module.endswith("Datatype.TheVariants"):
+            words = "Bool as BoolType, " + words
+        if words:
+            lines.append(f"use {module}.{{{words}}}")
+    return head + "\n".join(lines) + "\n\n" + body.rstrip("\n") + "\n"
+
+
+def plain(s):
+    """The files of definitions: the texts, a file for each part, and the schema."""
+    texts = "-- the names, numbered from 0\n" + listed("names", "(List ℕ)", [f'codes "{it}"' for it in s.names])
+    texts += "-- ---- the values of the enumerations, each numbered from 0\n\n"
+    for kind, values in s.enumerations.items():
+        texts += listed(s.lower(kind), "(List ℕ)", [f'codes "{it}"' for it in values])
+    files = {"Texts": with_uses(s, f"-- {s.standard}: the texts of names and of enumeration values.\n", texts)}
+    for part, kinds in s.parts.items():
+        body = ""
+        if part != "simple":
+            for kind in kinds:
+                body += listed(s.lower(kind), "PlainParticle", [antt_particle(it) for it in s.content[kind][1]])
+            body += "-- ---- the kinds\n\n"
+        body += listed(part, "PlainKind", [antt_kind(s, it) for it in kinds])
+        section = s.sections[part][0] if part in s.sections else "8.5, data types without parts"
+        files[part.capitalize()] = with_uses(s, f"-- {s.standard} {section}.\n", body)
+    body = DECLARATIONS % (
+        " ++ ".join(s.parts),
+        listed("values", "(List (List ℕ))", [s.lower(it) if it in s.enumerations else "[]" for it in s.kinds]).split("\n", 1)[1],
+        s.root,
+    )
+    uses = f"use Rattle.{s.crate}.specs.Texts.{{names, {', '.join(s.lower(it) for it in s.enumerations)}}}\n"
+    uses += "".join(f"use Rattle.{s.crate}.specs.{part.capitalize()}.{{{part}}}\n" for part in s.parts)
+    head = f"-- {s.standard}: the schema of its messages.\n" + DECLARATIONS_USES + uses
+    files["Declarations"] = with_uses(s, head, body).replace("codes, ", "").replace("use Rattle.std.specs.Prelude.{", "use Rattle.std.specs.Prelude.{◌≡◌, ◌++◌, refl, length, ")
+    files["Lib"] = "".join(f"pub mod {it}\n" for it in files)
+    return files
+
+
+DECLARATIONS_USES = """use Rattle.std.specs.Cmp.Derive.{both_true}
+use Rattle.exi_schema.specs.Schemas.{PlainSchema, is_schema, are_kinds, are_roots, are_words, are_values}
+"""
+
+DECLARATIONS = """-- the kinds, numbered from 0
+abbrev pub kinds : List PlainKind
+kinds = %s
+
+-- the texts of the values of each kind
+abbrev pub values : List (List (List ℕ))
+%s-- a message is the one root, and its document number has 7 bits
+abbrev pub roots : List RootOf
+roots = record { number = %s; name = V2G_MESSAGE; kind = V2G_MESSAGE_KIND } ∷ []
+
+-- ---- they meet the conditions on a schema
+
+pub kinds_fit : are_kinds (length names) kinds ≡ true
+kinds_fit = refl
+
+pub roots_fit : are_roots 7 (length names) kinds roots ≡ true
+roots_fit = refl
+
+pub names_fit : are_words names ≡ true
+names_fit = refl
+
+pub values_fit : are_values kinds values ≡ true
+values_fit = refl
+
+pub schema_fits : is_schema kinds names values 7 roots ≡ true
+schema_fits = both_true kinds_fit (both_true roots_fit (both_true names_fit values_fit))
+
+abbrev pub schema : PlainSchema
+schema = record { kinds = kinds; names = names; values = values; root_bits = 7; roots = roots; fits = schema_fits }
 """
 
 
@@ -355,20 +419,27 @@ def main():
     path, crate = words[checks:]
     s = Schema(path)
     s.crate = crate
-    top = os.path.join(os.path.dirname(os.path.abspath(__file__)), "..", "crates", crate)
-    bad = False
-    for name, text in files_of(s).items():
-        file = os.path.join(top, name)
-        if checks:
-            bad |= squeezed(open(file, encoding="utf-8").read()) != squeezed(text)
-        else:
+    files = {
+        "src/names.rt": constants(s, f"The numbers of the names of {s.title}.", [(s.upper(it), it) for it in s.names]),
+        "src/kinds.rt": constants(s, f"The numbers of the kinds of {s.title}: values, enumerations, and types of elements with parts.", [(s.kind(it), what_is(s, it)) for it in s.kinds]),
+        "src/tables.rt": tables(s),
+        **{f"specs/{name}.antt": text for name, text in plain(s).items()},
+    }
+    folder = os.path.join(os.path.dirname(os.path.abspath(__file__)), "..", "crates", crate)
+    other = []
+    for name, text in files.items():
+        file = os.path.join(folder, name)
+        if not checks:
             with open(file, "w", encoding="utf-8") as it:
                 it.write(text)
-    sys.exit(bad)
+        elif squeezed(open(file, encoding="utf-8").read()) != squeezed(text):
+            other.append(name)
+    if other:
+        sys.exit(f"crates/{crate}: not what tools/schema_tables.py writes: {', '.join(other)}")
 
 
 def squeezed(text):
-    """A text without blanks and trailing commas, which the formatter may set."""
+    """A text without what the formatter may set: blanks, trailing commas, and the braces of a macro's arm."""
     return re.sub(r",(?=[\])}])", "", re.sub(r"\s+", "", text))
 
 

@@ -1,4 +1,4 @@
-//! The numbers of the kinds of the messages of DIN SPEC 70121: datatypes, enumerations, and types of elements with parts.
+//! The numbers of the kinds of the messages of DIN SPEC 70121: values, enumerations, and types of elements with parts.
 
 /// Boolean: bool.
 pub const BOOLEAN_KIND: u16 = 0;
@@ -72,7 +72,7 @@ pub const EVSE_PROCESSING_KIND: u16 = 22;
 /// The enumeration EnergyTransferMode.
 pub const ENERGY_TRANSFER_MODE_KIND: u16 = 23;
 
-/// What Empty contains.
+/// No content.
 pub const EMPTY_KIND: u16 = 24;
 
 /// What V2G_Message contains.

@@ -5,4 +5,4 @@ pub mod kinds;
 pub mod names;
 mod tables;
 
-pub use tables::din;
+pub use tables::DinSchema;

@@ -1,12 +1,16 @@
 //! The declarations of the messages of DIN SPEC 70121 as tables.
 
-ghost use Rattle.din_schema.specs.Declarations.{IsDin};
+ghost use Rattle.std.specs.Prelude.{◌≡◌, map};
+ghost use Rattle.exi_schema.specs.Plain.{plain_kinds};
+ghost use Rattle.exi_schema.specs.Told.{schema_of};
+ghost use Rattle.din_schema.specs.Declarations as declared;
 
 use crate::kinds::*;
 use crate::names::*;
 use exi_schema::{
     AttributeOf, Datatype, Declaration, Member, MemberStanding, Particle, RootOf, Schema,
 };
+use std::alloc::{AllocError, Global};
 
 static NAMES: [&'static str; 135] = [
     "V2G_Message",
@@ -324,24 +328,43 @@ static VALUES: [&'static [&'static str]; 70] = [
     &NONE,
 ];
 
-/// From so many to so many copies of one element.
+/// An element of a particle.
+macro_rules! member {
+    ($standing:ident, $name:expr, $kind:expr) => {
+        Member { name: $name, kind: $kind, standing: MemberStanding::$standing }
+    };
+}
+
+/// One element, from so many to so many times.
 macro_rules! copies {
     ($least:expr, $most:expr, $name:expr, $kind:expr) => {
-        Particle { members: &[Member { name: $name, kind: $kind, standing: MemberStanding::Taken }], least: $least, most: Some($most), profile: $most }
+        Particle { members: &[member!(Taken, $name, $kind)], least: $least, most: Some($most), profile: $most }
     };
 }
 
-/// So many copies and more, of which so many are accepted.
-macro_rules! unbounded {
-    ($least:expr, $profile:expr, $name:expr, $kind:expr) => {
-        Particle { members: &[Member { name: $name, kind: $kind, standing: MemberStanding::Taken }], least: $least, most: None, profile: $profile }
+macro_rules! once {
+    ($name:expr, $kind:expr) => { copies!(1, 1, $name, $kind) };
+}
+
+macro_rules! perhaps {
+    ($name:expr, $kind:expr) => { copies!(0, 1, $name, $kind) };
+}
+
+macro_rules! up_to {
+    ($most:expr, $name:expr, $kind:expr) => { copies!(1, $most, $name, $kind) };
+}
+
+/// One element, once and more, of which so many are accepted.
+macro_rules! at_least_one {
+    ($profile:expr, $name:expr, $kind:expr) => {
+        Particle { members: &[member!(Taken, $name, $kind)], least: 1, most: None, profile: $profile }
     };
 }
 
-/// An element out of the profile, which may be there in the standard.
+/// An element that may be there in the standard, and is left out.
 macro_rules! left_out {
     ($name:expr) => {
-        Particle { members: &[Member { name: $name, kind: EMPTY_KIND, standing: MemberStanding::OutOfProfile }], least: 0, most: Some(1), profile: 1 }
+        Particle { members: &[member!(OutOfProfile, $name, EMPTY_KIND)], least: 0, most: Some(1), profile: 1 }
     };
 }
 
@@ -352,30 +375,23 @@ macro_rules! one_of {
     };
 }
 
-/// An element of a choice or of a substitution group.
-macro_rules! member {
-    ($standing:ident, $name:expr, $kind:expr) => {
-        Member { name: $name, kind: $kind, standing: MemberStanding::$standing }
-    };
-}
-
-const V2G_MESSAGE_PARTS: [Particle<'static>; 2] = [
-    copies!(1, 1, HEADER, HEADER_KIND),
-    copies!(1, 1, BODY, BODY_KIND),
+const V2G_MESSAGE_PARTICLES: [Particle<'static>; 2] = [
+    once!(HEADER, HEADER_KIND),
+    once!(BODY, BODY_KIND),
 ];
 
-const HEADER_PARTS: [Particle<'static>; 3] = [
-    copies!(1, 1, SESSION_ID, BINARY8_KIND),
-    copies!(0, 1, NOTIFICATION, NOTIFICATION_KIND),
+const HEADER_PARTICLES: [Particle<'static>; 3] = [
+    once!(SESSION_ID, BINARY8_KIND),
+    perhaps!(NOTIFICATION, NOTIFICATION_KIND),
     left_out!(SIGNATURE),
 ];
 
-const NOTIFICATION_PARTS: [Particle<'static>; 2] = [
-    copies!(1, 1, FAULT_CODE, FAULT_CODE_KIND),
-    copies!(0, 1, FAULT_MSG, TEXT64_KIND),
+const NOTIFICATION_PARTICLES: [Particle<'static>; 2] = [
+    once!(FAULT_CODE, FAULT_CODE_KIND),
+    perhaps!(FAULT_MSG, TEXT64_KIND),
 ];
 
-const BODY_PARTS: [Particle<'static>; 1] = [one_of!(
+const BODY_PARTICLES: [Particle<'static>; 1] = [one_of!(
     0,
     [
         member!(Abstract, BODY_ELEMENT, EMPTY_KIND),
@@ -440,106 +456,95 @@ const BODY_PARTS: [Particle<'static>; 1] = [one_of!(
     ]
 )];
 
-const PHYSICAL_VALUE_PARTS: [Particle<'static>; 3] = [
-    copies!(1, 1, MULTIPLIER, MULTIPLIER_KIND),
-    copies!(0, 1, UNIT, UNIT_SYMBOL_KIND),
-    copies!(1, 1, VALUE, SHORT_KIND),
+const PHYSICAL_VALUE_PARTICLES: [Particle<'static>; 3] = [
+    once!(MULTIPLIER, MULTIPLIER_KIND),
+    perhaps!(UNIT, UNIT_SYMBOL_KIND),
+    once!(VALUE, SHORT_KIND),
 ];
 
-const DC_EV_STATUS_PARTS: [Particle<'static>; 5] = [
-    copies!(1, 1, EV_READY, BOOLEAN_KIND),
-    copies!(0, 1, EV_CABIN_CONDITIONING, BOOLEAN_KIND),
-    copies!(0, 1, EVRESS_CONDITIONING, BOOLEAN_KIND),
-    copies!(1, 1, EV_ERROR_CODE, EV_ERROR_CODE_KIND),
-    copies!(1, 1, EVRESS_SOC, PERCENT_KIND),
+const DC_EV_STATUS_PARTICLES: [Particle<'static>; 5] = [
+    once!(EV_READY, BOOLEAN_KIND),
+    perhaps!(EV_CABIN_CONDITIONING, BOOLEAN_KIND),
+    perhaps!(EVRESS_CONDITIONING, BOOLEAN_KIND),
+    once!(EV_ERROR_CODE, EV_ERROR_CODE_KIND),
+    once!(EVRESS_SOC, PERCENT_KIND),
 ];
 
-const DC_EVSE_STATUS_PARTS: [Particle<'static>; 4] = [
-    copies!(0, 1, EVSE_ISOLATION_STATUS, ISOLATION_LEVEL_KIND),
-    copies!(1, 1, EVSE_STATUS_CODE, EVSE_STATUS_CODE_KIND),
-    copies!(1, 1, NOTIFICATION_MAX_DELAY, UNSIGNED_INT_KIND),
-    copies!(1, 1, EVSE_NOTIFICATION, EVSE_NOTIFICATION_KIND),
+const DC_EVSE_STATUS_PARTICLES: [Particle<'static>; 4] = [
+    perhaps!(EVSE_ISOLATION_STATUS, ISOLATION_LEVEL_KIND),
+    once!(EVSE_STATUS_CODE, EVSE_STATUS_CODE_KIND),
+    once!(NOTIFICATION_MAX_DELAY, UNSIGNED_INT_KIND),
+    once!(EVSE_NOTIFICATION, EVSE_NOTIFICATION_KIND),
 ];
 
-const SESSION_SETUP_REQ_PARTS: [Particle<'static>; 1] = [copies!(1, 1, EVCCID, BINARY8_KIND)];
+const SESSION_SETUP_REQ_PARTICLES: [Particle<'static>; 1] = [once!(EVCCID, BINARY8_KIND)];
 
-const SESSION_SETUP_RES_PARTS: [Particle<'static>; 3] = [
-    copies!(1, 1, RESPONSE_CODE, RESPONSE_CODE_KIND),
-    copies!(1, 1, EVSEID, BINARY32_KIND),
-    copies!(0, 1, DATE_TIME_NOW, LONG_KIND),
+const SESSION_SETUP_RES_PARTICLES: [Particle<'static>; 3] = [
+    once!(RESPONSE_CODE, RESPONSE_CODE_KIND),
+    once!(EVSEID, BINARY32_KIND),
+    perhaps!(DATE_TIME_NOW, LONG_KIND),
 ];
 
-const SERVICE_DISCOVERY_REQ_PARTS: [Particle<'static>; 2] = [
-    copies!(0, 1, SERVICE_SCOPE, TEXT20_KIND),
-    copies!(0, 1, SERVICE_CATEGORY, SERVICE_CATEGORY_KIND),
+const SERVICE_DISCOVERY_REQ_PARTICLES: [Particle<'static>; 2] = [
+    perhaps!(SERVICE_SCOPE, TEXT20_KIND),
+    perhaps!(SERVICE_CATEGORY, SERVICE_CATEGORY_KIND),
 ];
 
-const SERVICE_DISCOVERY_RES_PARTS: [Particle<'static>; 4] = [
-    copies!(1, 1, RESPONSE_CODE, RESPONSE_CODE_KIND),
-    copies!(1, 1, PAYMENT_OPTIONS, PAYMENT_OPTIONS_KIND),
-    copies!(1, 1, CHARGE_SERVICE, CHARGE_SERVICE_KIND),
-    copies!(0, 1, SERVICE_LIST, SERVICE_LIST_KIND),
+const SERVICE_DISCOVERY_RES_PARTICLES: [Particle<'static>; 4] = [
+    once!(RESPONSE_CODE, RESPONSE_CODE_KIND),
+    once!(PAYMENT_OPTIONS, PAYMENT_OPTIONS_KIND),
+    once!(CHARGE_SERVICE, CHARGE_SERVICE_KIND),
+    perhaps!(SERVICE_LIST, SERVICE_LIST_KIND),
 ];
 
-const PAYMENT_OPTIONS_PARTS: [Particle<'static>; 1] = [unbounded!(
-    1,
+const PAYMENT_OPTIONS_PARTICLES: [Particle<'static>; 1] = [at_least_one!(
     2,
     PAYMENT_OPTION,
     PAYMENT_OPTION_KIND
 )];
 
-const CHARGE_SERVICE_PARTS: [Particle<'static>; 3] = [
-    copies!(1, 1, SERVICE_TAG, SERVICE_TAG_KIND),
-    copies!(1, 1, FREE_SERVICE, BOOLEAN_KIND),
-    copies!(
-        1,
-        1,
-        ENERGY_TRANSFER_TYPE,
-        SUPPORTED_ENERGY_TRANSFER_TYPE_KIND
-    ),
+const CHARGE_SERVICE_PARTICLES: [Particle<'static>; 3] = [
+    once!(SERVICE_TAG, SERVICE_TAG_KIND),
+    once!(FREE_SERVICE, BOOLEAN_KIND),
+    once!(ENERGY_TRANSFER_TYPE, SUPPORTED_ENERGY_TRANSFER_TYPE_KIND),
 ];
 
-const SERVICE_TAG_PARTS: [Particle<'static>; 4] = [
-    copies!(1, 1, SERVICE_ID, UNSIGNED_SHORT_KIND),
-    copies!(0, 1, SERVICE_NAME, TEXT32_KIND),
-    copies!(1, 1, SERVICE_CATEGORY, SERVICE_CATEGORY_KIND),
-    copies!(0, 1, SERVICE_SCOPE, TEXT20_KIND),
+const SERVICE_TAG_PARTICLES: [Particle<'static>; 4] = [
+    once!(SERVICE_ID, UNSIGNED_SHORT_KIND),
+    perhaps!(SERVICE_NAME, TEXT32_KIND),
+    once!(SERVICE_CATEGORY, SERVICE_CATEGORY_KIND),
+    perhaps!(SERVICE_SCOPE, TEXT20_KIND),
 ];
 
-const SERVICE_LIST_PARTS: [Particle<'static>; 1] = [unbounded!(1, 8, SERVICE, SERVICE_KIND)];
+const SERVICE_LIST_PARTICLES: [Particle<'static>; 1] = [at_least_one!(8, SERVICE, SERVICE_KIND)];
 
-const SERVICE_PARTS: [Particle<'static>; 2] = [
-    copies!(1, 1, SERVICE_TAG, SERVICE_TAG_KIND),
-    copies!(1, 1, FREE_SERVICE, BOOLEAN_KIND),
+const SERVICE_PARTICLES: [Particle<'static>; 2] = [
+    once!(SERVICE_TAG, SERVICE_TAG_KIND),
+    once!(FREE_SERVICE, BOOLEAN_KIND),
 ];
 
-const SERVICE_PAYMENT_SELECTION_REQ_PARTS: [Particle<'static>; 2] = [
-    copies!(1, 1, SELECTED_PAYMENT_OPTION, PAYMENT_OPTION_KIND),
-    copies!(1, 1, SELECTED_SERVICE_LIST, SELECTED_SERVICE_LIST_KIND),
+const SERVICE_PAYMENT_SELECTION_REQ_PARTICLES: [Particle<'static>; 2] = [
+    once!(SELECTED_PAYMENT_OPTION, PAYMENT_OPTION_KIND),
+    once!(SELECTED_SERVICE_LIST, SELECTED_SERVICE_LIST_KIND),
 ];
 
-const SELECTED_SERVICE_LIST_PARTS: [Particle<'static>; 1] = [unbounded!(
-    1,
+const SELECTED_SERVICE_LIST_PARTICLES: [Particle<'static>; 1] = [at_least_one!(
     16,
     SELECTED_SERVICE,
     SELECTED_SERVICE_KIND
 )];
 
-const SELECTED_SERVICE_PARTS: [Particle<'static>; 2] = [
-    copies!(1, 1, SERVICE_ID, UNSIGNED_SHORT_KIND),
-    copies!(0, 1, PARAMETER_SET_ID, SHORT_KIND),
+const SELECTED_SERVICE_PARTICLES: [Particle<'static>; 2] = [
+    once!(SERVICE_ID, UNSIGNED_SHORT_KIND),
+    perhaps!(PARAMETER_SET_ID, SHORT_KIND),
 ];
 
-const SERVICE_PAYMENT_SELECTION_RES_PARTS: [Particle<'static>; 1] = [copies!(
-    1,
-    1,
+const SERVICE_PAYMENT_SELECTION_RES_PARTICLES: [Particle<'static>; 1] = [once!(
     RESPONSE_CODE,
     RESPONSE_CODE_KIND
 )];
 
-const SESSION_STOP_RES_PARTS: [Particle<'static>; 1] = [copies!(
-    1,
-    1,
+const SESSION_STOP_RES_PARTICLES: [Particle<'static>; 1] = [once!(
     RESPONSE_CODE,
     RESPONSE_CODE_KIND
 )];
@@ -550,25 +555,18 @@ const CONTRACT_AUTHENTICATION_REQ_ATTRIBUTES: [AttributeOf; 1] = [AttributeOf {
     required: false,
 }];
 
-const CONTRACT_AUTHENTICATION_REQ_PARTS: [Particle<'static>; 1] = [copies!(
-    0,
-    1,
+const CONTRACT_AUTHENTICATION_REQ_PARTICLES: [Particle<'static>; 1] = [perhaps!(
     GEN_CHALLENGE,
     TEXT64_KIND
 )];
 
-const CONTRACT_AUTHENTICATION_RES_PARTS: [Particle<'static>; 2] = [
-    copies!(1, 1, RESPONSE_CODE, RESPONSE_CODE_KIND),
-    copies!(1, 1, EVSE_PROCESSING, EVSE_PROCESSING_KIND),
+const CONTRACT_AUTHENTICATION_RES_PARTICLES: [Particle<'static>; 2] = [
+    once!(RESPONSE_CODE, RESPONSE_CODE_KIND),
+    once!(EVSE_PROCESSING, EVSE_PROCESSING_KIND),
 ];
 
-const CHARGE_PARAMETER_DISCOVERY_REQ_PARTS: [Particle<'static>; 2] = [
-    copies!(
-        1,
-        1,
-        EV_REQUESTED_ENERGY_TRANSFER_TYPE,
-        ENERGY_TRANSFER_MODE_KIND
-    ),
+const CHARGE_PARAMETER_DISCOVERY_REQ_PARTICLES: [Particle<'static>; 2] = [
+    once!(EV_REQUESTED_ENERGY_TRANSFER_TYPE, ENERGY_TRANSFER_MODE_KIND),
     one_of!(
         1,
         [
@@ -579,20 +577,20 @@ const CHARGE_PARAMETER_DISCOVERY_REQ_PARTS: [Particle<'static>; 2] = [
     ),
 ];
 
-const DC_EV_CHARGE_PARAMETER_PARTS: [Particle<'static>; 8] = [
-    copies!(1, 1, DC_EV_STATUS, DC_EV_STATUS_KIND),
-    copies!(1, 1, EV_MAXIMUM_CURRENT_LIMIT, PHYSICAL_VALUE_KIND),
-    copies!(0, 1, EV_MAXIMUM_POWER_LIMIT, PHYSICAL_VALUE_KIND),
-    copies!(1, 1, EV_MAXIMUM_VOLTAGE_LIMIT, PHYSICAL_VALUE_KIND),
-    copies!(0, 1, EV_ENERGY_CAPACITY, PHYSICAL_VALUE_KIND),
-    copies!(0, 1, EV_ENERGY_REQUEST, PHYSICAL_VALUE_KIND),
-    copies!(0, 1, FULL_SOC, PERCENT_KIND),
-    copies!(0, 1, BULK_SOC, PERCENT_KIND),
+const DC_EV_CHARGE_PARAMETER_PARTICLES: [Particle<'static>; 8] = [
+    once!(DC_EV_STATUS, DC_EV_STATUS_KIND),
+    once!(EV_MAXIMUM_CURRENT_LIMIT, PHYSICAL_VALUE_KIND),
+    perhaps!(EV_MAXIMUM_POWER_LIMIT, PHYSICAL_VALUE_KIND),
+    once!(EV_MAXIMUM_VOLTAGE_LIMIT, PHYSICAL_VALUE_KIND),
+    perhaps!(EV_ENERGY_CAPACITY, PHYSICAL_VALUE_KIND),
+    perhaps!(EV_ENERGY_REQUEST, PHYSICAL_VALUE_KIND),
+    perhaps!(FULL_SOC, PERCENT_KIND),
+    perhaps!(BULK_SOC, PERCENT_KIND),
 ];
 
-const CHARGE_PARAMETER_DISCOVERY_RES_PARTS: [Particle<'static>; 4] = [
-    copies!(1, 1, RESPONSE_CODE, RESPONSE_CODE_KIND),
-    copies!(1, 1, EVSE_PROCESSING, EVSE_PROCESSING_KIND),
+const CHARGE_PARAMETER_DISCOVERY_RES_PARTICLES: [Particle<'static>; 4] = [
+    once!(RESPONSE_CODE, RESPONSE_CODE_KIND),
+    once!(EVSE_PROCESSING, EVSE_PROCESSING_KIND),
     one_of!(
         0,
         [
@@ -614,25 +612,24 @@ const CHARGE_PARAMETER_DISCOVERY_RES_PARTS: [Particle<'static>; 4] = [
     ),
 ];
 
-const SA_SCHEDULE_LIST_PARTS: [Particle<'static>; 1] = [unbounded!(
-    1,
+const SA_SCHEDULE_LIST_PARTICLES: [Particle<'static>; 1] = [at_least_one!(
     3,
     SA_SCHEDULE_TUPLE,
     SA_SCHEDULE_TUPLE_KIND
 )];
 
-const SA_SCHEDULE_TUPLE_PARTS: [Particle<'static>; 3] = [
-    copies!(1, 1, SA_SCHEDULE_TUPLE_ID, SHORT_KIND),
-    copies!(1, 1, P_MAX_SCHEDULE, P_MAX_SCHEDULE_KIND),
+const SA_SCHEDULE_TUPLE_PARTICLES: [Particle<'static>; 3] = [
+    once!(SA_SCHEDULE_TUPLE_ID, SHORT_KIND),
+    once!(P_MAX_SCHEDULE, P_MAX_SCHEDULE_KIND),
     left_out!(SALES_TARIFF),
 ];
 
-const P_MAX_SCHEDULE_PARTS: [Particle<'static>; 2] = [
-    copies!(1, 1, P_MAX_SCHEDULE_ID, SHORT_KIND),
-    unbounded!(1, 128, P_MAX_SCHEDULE_ENTRY, P_MAX_SCHEDULE_ENTRY_KIND),
+const P_MAX_SCHEDULE_PARTICLES: [Particle<'static>; 2] = [
+    once!(P_MAX_SCHEDULE_ID, SHORT_KIND),
+    at_least_one!(128, P_MAX_SCHEDULE_ENTRY, P_MAX_SCHEDULE_ENTRY_KIND),
 ];
 
-const P_MAX_SCHEDULE_ENTRY_PARTS: [Particle<'static>; 2] = [
+const P_MAX_SCHEDULE_ENTRY_PARTICLES: [Particle<'static>; 2] = [
     one_of!(
         1,
         [
@@ -640,29 +637,29 @@ const P_MAX_SCHEDULE_ENTRY_PARTS: [Particle<'static>; 2] = [
             member!(Abstract, TIME_INTERVAL, EMPTY_KIND)
         ]
     ),
-    copies!(1, 1, P_MAX, SHORT_KIND),
+    once!(P_MAX, SHORT_KIND),
 ];
 
-const RELATIVE_TIME_INTERVAL_PARTS: [Particle<'static>; 2] = [
-    copies!(1, 1, START, UNSIGNED_INT_KIND),
-    copies!(0, 1, DURATION, UNSIGNED_INT_KIND),
+const RELATIVE_TIME_INTERVAL_PARTICLES: [Particle<'static>; 2] = [
+    once!(START, UNSIGNED_INT_KIND),
+    perhaps!(DURATION, UNSIGNED_INT_KIND),
 ];
 
-const DC_EVSE_CHARGE_PARAMETER_PARTS: [Particle<'static>; 9] = [
-    copies!(1, 1, DC_EVSE_STATUS, DC_EVSE_STATUS_KIND),
-    copies!(1, 1, EVSE_MAXIMUM_CURRENT_LIMIT, PHYSICAL_VALUE_KIND),
-    copies!(0, 1, EVSE_MAXIMUM_POWER_LIMIT, PHYSICAL_VALUE_KIND),
-    copies!(1, 1, EVSE_MAXIMUM_VOLTAGE_LIMIT, PHYSICAL_VALUE_KIND),
-    copies!(1, 1, EVSE_MINIMUM_CURRENT_LIMIT, PHYSICAL_VALUE_KIND),
-    copies!(1, 1, EVSE_MINIMUM_VOLTAGE_LIMIT, PHYSICAL_VALUE_KIND),
-    copies!(0, 1, EVSE_CURRENT_REGULATION_TOLERANCE, PHYSICAL_VALUE_KIND),
-    copies!(1, 1, EVSE_PEAK_CURRENT_RIPPLE, PHYSICAL_VALUE_KIND),
-    copies!(0, 1, EVSE_ENERGY_TO_BE_DELIVERED, PHYSICAL_VALUE_KIND),
+const DC_EVSE_CHARGE_PARAMETER_PARTICLES: [Particle<'static>; 9] = [
+    once!(DC_EVSE_STATUS, DC_EVSE_STATUS_KIND),
+    once!(EVSE_MAXIMUM_CURRENT_LIMIT, PHYSICAL_VALUE_KIND),
+    perhaps!(EVSE_MAXIMUM_POWER_LIMIT, PHYSICAL_VALUE_KIND),
+    once!(EVSE_MAXIMUM_VOLTAGE_LIMIT, PHYSICAL_VALUE_KIND),
+    once!(EVSE_MINIMUM_CURRENT_LIMIT, PHYSICAL_VALUE_KIND),
+    once!(EVSE_MINIMUM_VOLTAGE_LIMIT, PHYSICAL_VALUE_KIND),
+    perhaps!(EVSE_CURRENT_REGULATION_TOLERANCE, PHYSICAL_VALUE_KIND),
+    once!(EVSE_PEAK_CURRENT_RIPPLE, PHYSICAL_VALUE_KIND),
+    perhaps!(EVSE_ENERGY_TO_BE_DELIVERED, PHYSICAL_VALUE_KIND),
 ];
 
-const POWER_DELIVERY_REQ_PARTS: [Particle<'static>; 3] = [
-    copies!(1, 1, READY_TO_CHARGE_STATE, BOOLEAN_KIND),
-    copies!(0, 1, CHARGING_PROFILE, CHARGING_PROFILE_KIND),
+const POWER_DELIVERY_REQ_PARTICLES: [Particle<'static>; 3] = [
+    once!(READY_TO_CHARGE_STATE, BOOLEAN_KIND),
+    perhaps!(CHARGING_PROFILE, CHARGING_PROFILE_KIND),
     one_of!(
         0,
         [
@@ -676,24 +673,24 @@ const POWER_DELIVERY_REQ_PARTS: [Particle<'static>; 3] = [
     ),
 ];
 
-const CHARGING_PROFILE_PARTS: [Particle<'static>; 2] = [
-    copies!(1, 1, SA_SCHEDULE_TUPLE_ID, SHORT_KIND),
-    unbounded!(1, 24, PROFILE_ENTRY, PROFILE_ENTRY_KIND),
+const CHARGING_PROFILE_PARTICLES: [Particle<'static>; 2] = [
+    once!(SA_SCHEDULE_TUPLE_ID, SHORT_KIND),
+    at_least_one!(24, PROFILE_ENTRY, PROFILE_ENTRY_KIND),
 ];
 
-const PROFILE_ENTRY_PARTS: [Particle<'static>; 2] = [
-    copies!(1, 1, CHARGING_PROFILE_ENTRY_START, UNSIGNED_INT_KIND),
-    copies!(1, 1, CHARGING_PROFILE_ENTRY_MAX_POWER, SHORT_KIND),
+const PROFILE_ENTRY_PARTICLES: [Particle<'static>; 2] = [
+    once!(CHARGING_PROFILE_ENTRY_START, UNSIGNED_INT_KIND),
+    once!(CHARGING_PROFILE_ENTRY_MAX_POWER, SHORT_KIND),
 ];
 
-const DC_EV_POWER_DELIVERY_PARAMETER_PARTS: [Particle<'static>; 3] = [
-    copies!(1, 1, DC_EV_STATUS, DC_EV_STATUS_KIND),
-    copies!(0, 1, BULK_CHARGING_COMPLETE, BOOLEAN_KIND),
-    copies!(1, 1, CHARGING_COMPLETE, BOOLEAN_KIND),
+const DC_EV_POWER_DELIVERY_PARAMETER_PARTICLES: [Particle<'static>; 3] = [
+    once!(DC_EV_STATUS, DC_EV_STATUS_KIND),
+    perhaps!(BULK_CHARGING_COMPLETE, BOOLEAN_KIND),
+    once!(CHARGING_COMPLETE, BOOLEAN_KIND),
 ];
 
-const POWER_DELIVERY_RES_PARTS: [Particle<'static>; 2] = [
-    copies!(1, 1, RESPONSE_CODE, RESPONSE_CODE_KIND),
+const POWER_DELIVERY_RES_PARTICLES: [Particle<'static>; 2] = [
+    once!(RESPONSE_CODE, RESPONSE_CODE_KIND),
     one_of!(
         1,
         [
@@ -704,71 +701,64 @@ const POWER_DELIVERY_RES_PARTS: [Particle<'static>; 2] = [
     ),
 ];
 
-const CURRENT_DEMAND_REQ_PARTS: [Particle<'static>; 10] = [
-    copies!(1, 1, DC_EV_STATUS, DC_EV_STATUS_KIND),
-    copies!(1, 1, EV_TARGET_CURRENT, PHYSICAL_VALUE_KIND),
-    copies!(0, 1, EV_MAXIMUM_VOLTAGE_LIMIT, PHYSICAL_VALUE_KIND),
-    copies!(0, 1, EV_MAXIMUM_CURRENT_LIMIT, PHYSICAL_VALUE_KIND),
-    copies!(0, 1, EV_MAXIMUM_POWER_LIMIT, PHYSICAL_VALUE_KIND),
-    copies!(0, 1, BULK_CHARGING_COMPLETE, BOOLEAN_KIND),
-    copies!(1, 1, CHARGING_COMPLETE, BOOLEAN_KIND),
-    copies!(0, 1, REMAINING_TIME_TO_FULL_SO_C, PHYSICAL_VALUE_KIND),
-    copies!(0, 1, REMAINING_TIME_TO_BULK_SO_C, PHYSICAL_VALUE_KIND),
-    copies!(1, 1, EV_TARGET_VOLTAGE, PHYSICAL_VALUE_KIND),
+const CURRENT_DEMAND_REQ_PARTICLES: [Particle<'static>; 10] = [
+    once!(DC_EV_STATUS, DC_EV_STATUS_KIND),
+    once!(EV_TARGET_CURRENT, PHYSICAL_VALUE_KIND),
+    perhaps!(EV_MAXIMUM_VOLTAGE_LIMIT, PHYSICAL_VALUE_KIND),
+    perhaps!(EV_MAXIMUM_CURRENT_LIMIT, PHYSICAL_VALUE_KIND),
+    perhaps!(EV_MAXIMUM_POWER_LIMIT, PHYSICAL_VALUE_KIND),
+    perhaps!(BULK_CHARGING_COMPLETE, BOOLEAN_KIND),
+    once!(CHARGING_COMPLETE, BOOLEAN_KIND),
+    perhaps!(REMAINING_TIME_TO_FULL_SO_C, PHYSICAL_VALUE_KIND),
+    perhaps!(REMAINING_TIME_TO_BULK_SO_C, PHYSICAL_VALUE_KIND),
+    once!(EV_TARGET_VOLTAGE, PHYSICAL_VALUE_KIND),
 ];
 
-const CURRENT_DEMAND_RES_PARTS: [Particle<'static>; 10] = [
-    copies!(1, 1, RESPONSE_CODE, RESPONSE_CODE_KIND),
-    copies!(1, 1, DC_EVSE_STATUS, DC_EVSE_STATUS_KIND),
-    copies!(1, 1, EVSE_PRESENT_VOLTAGE, PHYSICAL_VALUE_KIND),
-    copies!(1, 1, EVSE_PRESENT_CURRENT, PHYSICAL_VALUE_KIND),
-    copies!(1, 1, EVSE_CURRENT_LIMIT_ACHIEVED, BOOLEAN_KIND),
-    copies!(1, 1, EVSE_VOLTAGE_LIMIT_ACHIEVED, BOOLEAN_KIND),
-    copies!(1, 1, EVSE_POWER_LIMIT_ACHIEVED, BOOLEAN_KIND),
-    copies!(0, 1, EVSE_MAXIMUM_VOLTAGE_LIMIT, PHYSICAL_VALUE_KIND),
-    copies!(0, 1, EVSE_MAXIMUM_CURRENT_LIMIT, PHYSICAL_VALUE_KIND),
-    copies!(0, 1, EVSE_MAXIMUM_POWER_LIMIT, PHYSICAL_VALUE_KIND),
+const CURRENT_DEMAND_RES_PARTICLES: [Particle<'static>; 10] = [
+    once!(RESPONSE_CODE, RESPONSE_CODE_KIND),
+    once!(DC_EVSE_STATUS, DC_EVSE_STATUS_KIND),
+    once!(EVSE_PRESENT_VOLTAGE, PHYSICAL_VALUE_KIND),
+    once!(EVSE_PRESENT_CURRENT, PHYSICAL_VALUE_KIND),
+    once!(EVSE_CURRENT_LIMIT_ACHIEVED, BOOLEAN_KIND),
+    once!(EVSE_VOLTAGE_LIMIT_ACHIEVED, BOOLEAN_KIND),
+    once!(EVSE_POWER_LIMIT_ACHIEVED, BOOLEAN_KIND),
+    perhaps!(EVSE_MAXIMUM_VOLTAGE_LIMIT, PHYSICAL_VALUE_KIND),
+    perhaps!(EVSE_MAXIMUM_CURRENT_LIMIT, PHYSICAL_VALUE_KIND),
+    perhaps!(EVSE_MAXIMUM_POWER_LIMIT, PHYSICAL_VALUE_KIND),
 ];
 
-const CABLE_CHECK_REQ_PARTS: [Particle<'static>; 1] = [copies!(
-    1,
-    1,
+const CABLE_CHECK_REQ_PARTICLES: [Particle<'static>; 1] = [once!(DC_EV_STATUS, DC_EV_STATUS_KIND)];
+
+const CABLE_CHECK_RES_PARTICLES: [Particle<'static>; 3] = [
+    once!(RESPONSE_CODE, RESPONSE_CODE_KIND),
+    once!(DC_EVSE_STATUS, DC_EVSE_STATUS_KIND),
+    once!(EVSE_PROCESSING, EVSE_PROCESSING_KIND),
+];
+
+const PRE_CHARGE_REQ_PARTICLES: [Particle<'static>; 3] = [
+    once!(DC_EV_STATUS, DC_EV_STATUS_KIND),
+    once!(EV_TARGET_VOLTAGE, PHYSICAL_VALUE_KIND),
+    once!(EV_TARGET_CURRENT, PHYSICAL_VALUE_KIND),
+];
+
+const PRE_CHARGE_RES_PARTICLES: [Particle<'static>; 3] = [
+    once!(RESPONSE_CODE, RESPONSE_CODE_KIND),
+    once!(DC_EVSE_STATUS, DC_EVSE_STATUS_KIND),
+    once!(EVSE_PRESENT_VOLTAGE, PHYSICAL_VALUE_KIND),
+];
+
+const WELDING_DETECTION_REQ_PARTICLES: [Particle<'static>; 1] = [once!(
     DC_EV_STATUS,
     DC_EV_STATUS_KIND
 )];
 
-const CABLE_CHECK_RES_PARTS: [Particle<'static>; 3] = [
-    copies!(1, 1, RESPONSE_CODE, RESPONSE_CODE_KIND),
-    copies!(1, 1, DC_EVSE_STATUS, DC_EVSE_STATUS_KIND),
-    copies!(1, 1, EVSE_PROCESSING, EVSE_PROCESSING_KIND),
+const WELDING_DETECTION_RES_PARTICLES: [Particle<'static>; 3] = [
+    once!(RESPONSE_CODE, RESPONSE_CODE_KIND),
+    once!(DC_EVSE_STATUS, DC_EVSE_STATUS_KIND),
+    once!(EVSE_PRESENT_VOLTAGE, PHYSICAL_VALUE_KIND),
 ];
 
-const PRE_CHARGE_REQ_PARTS: [Particle<'static>; 3] = [
-    copies!(1, 1, DC_EV_STATUS, DC_EV_STATUS_KIND),
-    copies!(1, 1, EV_TARGET_VOLTAGE, PHYSICAL_VALUE_KIND),
-    copies!(1, 1, EV_TARGET_CURRENT, PHYSICAL_VALUE_KIND),
-];
-
-const PRE_CHARGE_RES_PARTS: [Particle<'static>; 3] = [
-    copies!(1, 1, RESPONSE_CODE, RESPONSE_CODE_KIND),
-    copies!(1, 1, DC_EVSE_STATUS, DC_EVSE_STATUS_KIND),
-    copies!(1, 1, EVSE_PRESENT_VOLTAGE, PHYSICAL_VALUE_KIND),
-];
-
-const WELDING_DETECTION_REQ_PARTS: [Particle<'static>; 1] = [copies!(
-    1,
-    1,
-    DC_EV_STATUS,
-    DC_EV_STATUS_KIND
-)];
-
-const WELDING_DETECTION_RES_PARTS: [Particle<'static>; 3] = [
-    copies!(1, 1, RESPONSE_CODE, RESPONSE_CODE_KIND),
-    copies!(1, 1, DC_EVSE_STATUS, DC_EVSE_STATUS_KIND),
-    copies!(1, 1, EVSE_PRESENT_VOLTAGE, PHYSICAL_VALUE_KIND),
-];
-
-static KINDS: [Declaration<'static>; 70] = [
+static SIMPLE: [Declaration<'static>; 25] = [
     Declaration::Simple(Datatype::Bool),
     Declaration::Simple(Datatype::Signed {
         least: -32_768,
@@ -811,185 +801,197 @@ static KINDS: [Declaration<'static>; 70] = [
         attributes: &[],
         particles: &[],
     },
+];
+
+static FRAME: [Declaration<'static>; 7] = [
     Declaration::Complex {
         attributes: &[],
-        particles: &V2G_MESSAGE_PARTS,
+        particles: &V2G_MESSAGE_PARTICLES,
     },
     Declaration::Complex {
         attributes: &[],
-        particles: &HEADER_PARTS,
+        particles: &HEADER_PARTICLES,
     },
     Declaration::Complex {
         attributes: &[],
-        particles: &NOTIFICATION_PARTS,
+        particles: &NOTIFICATION_PARTICLES,
     },
     Declaration::Complex {
         attributes: &[],
-        particles: &BODY_PARTS,
+        particles: &BODY_PARTICLES,
     },
     Declaration::Complex {
         attributes: &[],
-        particles: &PHYSICAL_VALUE_PARTS,
+        particles: &PHYSICAL_VALUE_PARTICLES,
     },
     Declaration::Complex {
         attributes: &[],
-        particles: &DC_EV_STATUS_PARTS,
+        particles: &DC_EV_STATUS_PARTICLES,
     },
     Declaration::Complex {
         attributes: &[],
-        particles: &DC_EVSE_STATUS_PARTS,
+        particles: &DC_EVSE_STATUS_PARTICLES,
+    },
+];
+
+static SETUP: [Declaration<'static>; 16] = [
+    Declaration::Complex {
+        attributes: &[],
+        particles: &SESSION_SETUP_REQ_PARTICLES,
     },
     Declaration::Complex {
         attributes: &[],
-        particles: &SESSION_SETUP_REQ_PARTS,
+        particles: &SESSION_SETUP_RES_PARTICLES,
     },
     Declaration::Complex {
         attributes: &[],
-        particles: &SESSION_SETUP_RES_PARTS,
+        particles: &SERVICE_DISCOVERY_REQ_PARTICLES,
     },
     Declaration::Complex {
         attributes: &[],
-        particles: &SERVICE_DISCOVERY_REQ_PARTS,
+        particles: &SERVICE_DISCOVERY_RES_PARTICLES,
     },
     Declaration::Complex {
         attributes: &[],
-        particles: &SERVICE_DISCOVERY_RES_PARTS,
+        particles: &PAYMENT_OPTIONS_PARTICLES,
     },
     Declaration::Complex {
         attributes: &[],
-        particles: &PAYMENT_OPTIONS_PARTS,
+        particles: &CHARGE_SERVICE_PARTICLES,
     },
     Declaration::Complex {
         attributes: &[],
-        particles: &CHARGE_SERVICE_PARTS,
+        particles: &SERVICE_TAG_PARTICLES,
     },
     Declaration::Complex {
         attributes: &[],
-        particles: &SERVICE_TAG_PARTS,
+        particles: &SERVICE_LIST_PARTICLES,
     },
     Declaration::Complex {
         attributes: &[],
-        particles: &SERVICE_LIST_PARTS,
+        particles: &SERVICE_PARTICLES,
     },
     Declaration::Complex {
         attributes: &[],
-        particles: &SERVICE_PARTS,
+        particles: &SERVICE_PAYMENT_SELECTION_REQ_PARTICLES,
     },
     Declaration::Complex {
         attributes: &[],
-        particles: &SERVICE_PAYMENT_SELECTION_REQ_PARTS,
+        particles: &SELECTED_SERVICE_LIST_PARTICLES,
     },
     Declaration::Complex {
         attributes: &[],
-        particles: &SELECTED_SERVICE_LIST_PARTS,
+        particles: &SELECTED_SERVICE_PARTICLES,
     },
     Declaration::Complex {
         attributes: &[],
-        particles: &SELECTED_SERVICE_PARTS,
+        particles: &SERVICE_PAYMENT_SELECTION_RES_PARTICLES,
     },
     Declaration::Complex {
         attributes: &[],
-        particles: &SERVICE_PAYMENT_SELECTION_RES_PARTS,
-    },
-    Declaration::Complex {
-        attributes: &[],
-        particles: &SESSION_STOP_RES_PARTS,
+        particles: &SESSION_STOP_RES_PARTICLES,
     },
     Declaration::Complex {
         attributes: &CONTRACT_AUTHENTICATION_REQ_ATTRIBUTES,
-        particles: &CONTRACT_AUTHENTICATION_REQ_PARTS,
+        particles: &CONTRACT_AUTHENTICATION_REQ_PARTICLES,
     },
     Declaration::Complex {
         attributes: &[],
-        particles: &CONTRACT_AUTHENTICATION_RES_PARTS,
+        particles: &CONTRACT_AUTHENTICATION_RES_PARTICLES,
+    },
+];
+
+static PARAMETERS: [Declaration<'static>; 14] = [
+    Declaration::Complex {
+        attributes: &[],
+        particles: &CHARGE_PARAMETER_DISCOVERY_REQ_PARTICLES,
     },
     Declaration::Complex {
         attributes: &[],
-        particles: &CHARGE_PARAMETER_DISCOVERY_REQ_PARTS,
+        particles: &DC_EV_CHARGE_PARAMETER_PARTICLES,
     },
     Declaration::Complex {
         attributes: &[],
-        particles: &DC_EV_CHARGE_PARAMETER_PARTS,
+        particles: &CHARGE_PARAMETER_DISCOVERY_RES_PARTICLES,
     },
     Declaration::Complex {
         attributes: &[],
-        particles: &CHARGE_PARAMETER_DISCOVERY_RES_PARTS,
+        particles: &SA_SCHEDULE_LIST_PARTICLES,
     },
     Declaration::Complex {
         attributes: &[],
-        particles: &SA_SCHEDULE_LIST_PARTS,
+        particles: &SA_SCHEDULE_TUPLE_PARTICLES,
     },
     Declaration::Complex {
         attributes: &[],
-        particles: &SA_SCHEDULE_TUPLE_PARTS,
+        particles: &P_MAX_SCHEDULE_PARTICLES,
     },
     Declaration::Complex {
         attributes: &[],
-        particles: &P_MAX_SCHEDULE_PARTS,
+        particles: &P_MAX_SCHEDULE_ENTRY_PARTICLES,
     },
     Declaration::Complex {
         attributes: &[],
-        particles: &P_MAX_SCHEDULE_ENTRY_PARTS,
+        particles: &RELATIVE_TIME_INTERVAL_PARTICLES,
     },
     Declaration::Complex {
         attributes: &[],
-        particles: &RELATIVE_TIME_INTERVAL_PARTS,
+        particles: &DC_EVSE_CHARGE_PARAMETER_PARTICLES,
     },
     Declaration::Complex {
         attributes: &[],
-        particles: &DC_EVSE_CHARGE_PARAMETER_PARTS,
+        particles: &POWER_DELIVERY_REQ_PARTICLES,
     },
     Declaration::Complex {
         attributes: &[],
-        particles: &POWER_DELIVERY_REQ_PARTS,
+        particles: &CHARGING_PROFILE_PARTICLES,
     },
     Declaration::Complex {
         attributes: &[],
-        particles: &CHARGING_PROFILE_PARTS,
+        particles: &PROFILE_ENTRY_PARTICLES,
     },
     Declaration::Complex {
         attributes: &[],
-        particles: &PROFILE_ENTRY_PARTS,
+        particles: &DC_EV_POWER_DELIVERY_PARAMETER_PARTICLES,
     },
     Declaration::Complex {
         attributes: &[],
-        particles: &DC_EV_POWER_DELIVERY_PARAMETER_PARTS,
+        particles: &POWER_DELIVERY_RES_PARTICLES,
+    },
+];
+
+static CHARGING: [Declaration<'static>; 8] = [
+    Declaration::Complex {
+        attributes: &[],
+        particles: &CURRENT_DEMAND_REQ_PARTICLES,
     },
     Declaration::Complex {
         attributes: &[],
-        particles: &POWER_DELIVERY_RES_PARTS,
+        particles: &CURRENT_DEMAND_RES_PARTICLES,
     },
     Declaration::Complex {
         attributes: &[],
-        particles: &CURRENT_DEMAND_REQ_PARTS,
+        particles: &CABLE_CHECK_REQ_PARTICLES,
     },
     Declaration::Complex {
         attributes: &[],
-        particles: &CURRENT_DEMAND_RES_PARTS,
+        particles: &CABLE_CHECK_RES_PARTICLES,
     },
     Declaration::Complex {
         attributes: &[],
-        particles: &CABLE_CHECK_REQ_PARTS,
+        particles: &PRE_CHARGE_REQ_PARTICLES,
     },
     Declaration::Complex {
         attributes: &[],
-        particles: &CABLE_CHECK_RES_PARTS,
+        particles: &PRE_CHARGE_RES_PARTICLES,
     },
     Declaration::Complex {
         attributes: &[],
-        particles: &PRE_CHARGE_REQ_PARTS,
+        particles: &WELDING_DETECTION_REQ_PARTICLES,
     },
     Declaration::Complex {
         attributes: &[],
-        particles: &PRE_CHARGE_RES_PARTS,
-    },
-    Declaration::Complex {
-        attributes: &[],
-        particles: &WELDING_DETECTION_REQ_PARTS,
-    },
-    Declaration::Complex {
-        attributes: &[],
-        particles: &WELDING_DETECTION_RES_PARTS,
+        particles: &WELDING_DETECTION_RES_PARTICLES,
     },
 ];
 
@@ -999,15 +1001,77 @@ static ROOTS: [RootOf; 1] = [RootOf {
     kind: V2G_MESSAGE_KIND,
 }];
 
-/// The schema of the messages of DIN SPEC 70121.
-pub fn din() -> Schema<'static>
-    ensures { IsDin result }
+fn simple() -> &'static [Declaration<'static>]
+    ensures { plain_kinds result.now ≡ declared.simple }
 {
-    Schema {
-        kinds: &KINDS,
-        names: &NAMES,
-        values: &VALUES,
-        root_bits: 7,
-        roots: &ROOTS,
+    &SIMPLE
+}
+
+fn frame() -> &'static [Declaration<'static>]
+    ensures { plain_kinds result.now ≡ declared.frame }
+{
+    &FRAME
+}
+
+fn setup() -> &'static [Declaration<'static>]
+    ensures { plain_kinds result.now ≡ declared.setup }
+{
+    &SETUP
+}
+
+fn parameters() -> &'static [Declaration<'static>]
+    ensures { plain_kinds result.now ≡ declared.parameters }
+{
+    &PARAMETERS
+}
+
+fn charging() -> &'static [Declaration<'static>]
+    ensures { plain_kinds result.now ≡ declared.charging }
+{
+    &CHARGING
+}
+
+fn names() -> &'static [&'static str]
+    ensures { map (λ t. t.now) result.now ≡ declared.names }
+{
+    &NAMES
+}
+
+fn values() -> &'static [&'static [&'static str]]
+    ensures { map (λ l. map (λ t. t.now) l.now) result.now ≡ declared.values }
+{
+    &VALUES
+}
+
+/// The declarations of the messages of DIN SPEC 70121.
+#[derive(Drop)]
+pub struct DinSchema {
+    kinds: Vec<Declaration<'static>>,
+    ghost kinds_are: { plain_kinds kinds.items ≡ declared.kinds },
+}
+
+impl DinSchema {
+    /// The declarations, each part behind the other.
+    pub fn make(alloc: Global) -> Result<DinSchema, AllocError> {
+        let mut kinds = Vec::new(alloc);
+        kinds.extend_from_slice(simple())?;
+        kinds.extend_from_slice(frame())?;
+        kinds.extend_from_slice(setup())?;
+        kinds.extend_from_slice(parameters())?;
+        kinds.extend_from_slice(charging())?;
+        Ok(DinSchema { kinds })
+    }
+
+    /// The schema.
+    pub fn schema(&self) -> Schema<'_>
+        ensures { schema_of result ≡ declared.schema }
+    {
+        Schema {
+            kinds: self.kinds.as_slice(),
+            names: names(),
+            values: values(),
+            root_bits: 7,
+            roots: &ROOTS,
+        }
     }
 }

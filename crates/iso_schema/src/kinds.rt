@@ -1,4 +1,4 @@
-//! The numbers of the kinds of the messages of ISO 15118-2: datatypes, enumerations, and types of elements with parts.
+//! The numbers of the kinds of the messages of ISO 15118-2: values, enumerations, and types of elements with parts.
 
 /// Boolean: bool.
 pub const BOOLEAN_KIND: u16 = 0;
@@ -102,7 +102,7 @@ pub const CHARGING_SESSION_KIND: u16 = 32;
 /// The enumeration ChargeProgress.
 pub const CHARGE_PROGRESS_KIND: u16 = 33;
 
-/// What Empty contains.
+/// No content.
 pub const EMPTY_KIND: u16 = 34;
 
 /// What V2G_Message contains.

@@ -5,4 +5,4 @@ pub mod kinds;
 pub mod names;
 mod tables;
 
-pub use tables::iso;
+pub use tables::IsoSchema;
