@@ -16,7 +16,7 @@ use Rattle.exi_documents.specs.Values.{Entries, SpellsValue}
 use Rattle.exi_documents.specs.Documents.{SpellsStep, IsDocument}
 use Rattle.exi_documents.specs.Grammar.{Opened, Standing, Before, AtRoot, Inside, Behind, State, start, around, stands, Moves}
 use Rattle.exi_documents.specs.Refusals.{RefusesNext, IsRefused}
-use Rattle.document_laws.specs.Laws.{Fault, IsState, GoesOn, IsDecided}
+use Rattle.document_laws.specs.Laws.{Fault, IsState, GoesOn, IsDecided, weight}
 use Rattle.document_laws.proofs.Events.{event_exact}
 use Rattle.document_laws.proofs.Kept.{event_kept}
 use Rattle.document_laws.proofs.OneTree.{start_is, run_kept, goes_on, GoesFurther, runs_compared, ends_there, prefix_free}
@@ -24,12 +24,6 @@ use Rattle.document_laws.proofs.Runs.{Runs, from_start, to_start, document_runs}
 use Rattle.document_laws.proofs.Told.{none_behind, events_told}
 
 -- ---- each event takes bits, but the root's start
-
-abbrev pub weight : Standing → ℕ
-weight Before = 2
-weight (AtRoot name kind) = 1
-weight (Inside top above) = 0
-weight Behind = 0
 
 weight_around : (above : List Opened) → weight (around above) ≡ 0
 weight_around [] = refl

@@ -70,6 +70,13 @@ GoesOn (AtRoot name kind) = Unit {0}
 GoesOn (Inside top above) = Unit {0}
 GoesOn Behind = ⊥
 
+-- events that come without bits: the start of the root, and before the document the document itself is counted too
+abbrev pub weight : Standing → ℕ
+weight Before = 2
+weight (AtRoot name kind) = 1
+weight (Inside top above) = 0
+weight Behind = 0
+
 -- bits begin with one event, which leads to one state, or have one refusal
 abbrev pub IsEventExact : PlainSchema → State → Type 0
 IsEventExact s state =

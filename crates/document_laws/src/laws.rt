@@ -1,6 +1,6 @@
 //! Laws of the documents of a schema (W3C EXI 1.0, Second Edition).
 
-ghost use Rattle.std.specs.Prelude.{ℕ, ◌≤◌, Bool, List, length};
+ghost use Rattle.std.specs.Prelude.{◌≡◌, ℕ, ◌≤◌, Bool, List, length};
 ghost use Rattle.exi_schema.specs.Schemas.{PlainSchema};
 ghost use Rattle.exi_schema.specs.declared.places.Place.{Place};
 ghost use Rattle.exi_schema.specs.declared.tables.Datatype.{Datatype};
@@ -9,7 +9,7 @@ ghost use Rattle.exi_documents.specs.Values.{Entries, most_entries, SpellsValue,
 ghost use Rattle.exi_documents.specs.Trees.{Tree, Value, Event};
 ghost use Rattle.exi_documents.specs.Documents.{SpellsDocument, IsDocument, IsEncoding};
 ghost use Rattle.exi_documents.specs.Grammar.{State, Moves};
-ghost use Rattle.document_laws.specs.Laws.{TellTrees, OffersOnce, IsValueExact, IsState, GoesOn, IsEventExact, IsPrefixFree, IsDecided, IsInRange, IsSpelled, WritesOnce, IsOneEncoding};
+ghost use Rattle.document_laws.specs.Laws.{TellTrees, OffersOnce, IsValueExact, IsStanding, IsState, GoesOn, IsEventExact, IsPrefixFree, IsDecided, IsInRange, IsSpelled, WritesOnce, IsOneEncoding};
 
 /// The events up to the end of a document are those of the tree that its bits spell, in any spelling and as it is written.
 pub fn events_tell_trees()
@@ -51,6 +51,8 @@ pub fn encodings()
     ensures value_once { WritesOnce WritesValue }
     ensures event { (s : PlainSchema) (old new : State) (event : Event) (bits : List Bool) → Moves WritesValue s old event bits new → Moves SpellsValue s old event bits new }
     ensures document { (s : PlainSchema) (number : ℕ) (tree : Tree) (bits : List Bool) → SpellsDocument WritesValue s number tree bits → SpellsDocument SpellsValue s number tree bits }
+    ensures event_once { (s : PlainSchema) (old new other : State) (event : Event) (a b : List Bool) → IsStanding s old.standing
+        → Moves WritesValue s old event a new → Moves WritesValue s old event b other → (a ≡ b) × (new ≡ other) }
     ensures spelled { (s : PlainSchema) (tree : Tree) (payload : List ℕ) → IsEncoding s tree payload → IsDocument s tree payload }
     ensures once { (s : PlainSchema) → IsOneEncoding s }
 {}

@@ -4,3 +4,4 @@ pub mod Conditions
 pub mod Fitting
 pub mod Roots
 pub mod TablesTell
+pub mod OneSchema
