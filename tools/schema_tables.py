@@ -369,8 +369,9 @@ def plain(s):
         listed("values", "(List (List ℕ))", [s.lower(it) if it in s.enumerations else "[]" for it in s.kinds]).split("\n", 1)[1],
         s.root,
     )
-    uses = f"use Rattle.{s.crate}.specs.Texts.{{names, {', '.join(s.lower(it) for it in s.enumerations)}}}\n"
-    uses += "".join(f"use Rattle.{s.crate}.specs.{part.capitalize()}.{{{part}}}\n" for part in s.parts)
+    uses = f"pub use Rattle.{s.crate}.specs.Texts.{{names}}\n"
+    uses += f"use Rattle.{s.crate}.specs.Texts.{{{', '.join(s.lower(it) for it in s.enumerations)}}}\n"
+    uses += "".join(f"pub use Rattle.{s.crate}.specs.{part.capitalize()}.{{{part}}}\n" for part in s.parts)
     head = f"-- {s.standard}: the schema of its messages.\n" + DECLARATIONS_USES + uses
     files["Declarations"] = with_uses(s, head, body).replace("codes, ", "").replace("use Rattle.std.specs.Prelude.{", "use Rattle.std.specs.Prelude.{◌≡◌, ◌++◌, refl, length, ")
     files["Lib"] = "".join(f"pub mod {it}\n" for it in files)

@@ -1,12 +1,13 @@
 -- DIN SPEC 70121:2014: the schema of its messages.
 use Rattle.std.specs.Cmp.Derive.{both_true}
 use Rattle.exi_schema.specs.Schemas.{PlainSchema, is_schema, are_kinds, are_roots, are_words, are_values}
-use Rattle.din_schema.specs.Texts.{names, fault_code, unit_symbol, ev_error_code, isolation_level, evse_status_code, evse_notification, response_code, service_category, payment_option, supported_energy_transfer_type, evse_processing, energy_transfer_mode}
-use Rattle.din_schema.specs.Simple.{simple}
-use Rattle.din_schema.specs.Frame.{frame}
-use Rattle.din_schema.specs.Setup.{setup}
-use Rattle.din_schema.specs.Parameters.{parameters}
-use Rattle.din_schema.specs.Charging.{charging}
+pub use Rattle.din_schema.specs.Texts.{names}
+use Rattle.din_schema.specs.Texts.{fault_code, unit_symbol, ev_error_code, isolation_level, evse_status_code, evse_notification, response_code, service_category, payment_option, supported_energy_transfer_type, evse_processing, energy_transfer_mode}
+pub use Rattle.din_schema.specs.Simple.{simple}
+pub use Rattle.din_schema.specs.Frame.{frame}
+pub use Rattle.din_schema.specs.Setup.{setup}
+pub use Rattle.din_schema.specs.Parameters.{parameters}
+pub use Rattle.din_schema.specs.Charging.{charging}
 use Rattle.std.specs.Prelude.{◌≡◌, ◌++◌, refl, length, ℕ, true, List, [], ◌∷◌}
 use Rattle.exi_schema.specs.declared.tables.RootOf.{RootOf}
 use Rattle.exi_schema.specs.Plain.{PlainKind}

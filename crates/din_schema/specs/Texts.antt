@@ -1,6 +1,5 @@
 -- DIN SPEC 70121:2014: the texts of names and of enumeration values.
 use Rattle.std.specs.Prelude.{ℕ, List, codes, [], ◌∷◌}
-use Rattle.din_schema.specs.declared.names.TheConstants.{EVCCID, EVSEID}
 
 -- the names, numbered from 0
 abbrev pub names : List (List ℕ)

@@ -2,7 +2,7 @@ use Rattle.std.proofs.Common.{◌≡◌, ℕ, true, List, ap, sym, subst, ◌∙
 use Rattle.std.proofs.Math.Bool.{Bool-set}
 use Rattle.exi_schema.specs.Plain.{PlainKind}
 use Rattle.exi_schema.specs.Schemas.{PlainSchema, is_schema}
-use Rattle.iso_schema.specs.Declarations.{kinds, names, values, roots, schema_fits, iso_schema}
+use Rattle.iso_schema.specs.Declarations.{kinds, names, values, roots, schema_fits, schema}
 
 -- tables that tell the declarations meet the conditions
 pub fits : (ks : List PlainKind) (ns : List (List ℕ)) (vs : List (List (List ℕ))) → ks ≡ kinds → ns ≡ names → vs ≡ values → is_schema ks ns vs 7 roots ≡ true
@@ -13,7 +13,7 @@ abbrev pub telling : (ks : List PlainKind) (ns : List (List ℕ)) (vs : List (Li
 telling ks ns vs p = record { kinds = ks; names = ns; values = vs; root_bits = 7; roots = roots; fits = p }
 
 abbrev pub Tells : List PlainKind → List (List ℕ) → List (List (List ℕ)) → Type 0
-Tells ks ns vs = (p : is_schema ks ns vs 7 roots ≡ true) → telling ks ns vs p ≡ iso_schema
+Tells ks ns vs = (p : is_schema ks ns vs 7 roots ≡ true) → telling ks ns vs p ≡ schema
 
 declared : Tells kinds names values
 declared p =

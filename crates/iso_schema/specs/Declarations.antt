@@ -1,12 +1,13 @@
 -- ISO 15118-2:2014: the schema of its messages.
 use Rattle.std.specs.Cmp.Derive.{both_true}
 use Rattle.exi_schema.specs.Schemas.{PlainSchema, is_schema, are_kinds, are_roots, are_words, are_values}
-use Rattle.iso_schema.specs.Texts.{names, fault_code, unit_symbol, ev_error_code, evse_notification, isolation_level, evse_status_code, response_code, service_category, payment_option, energy_transfer_mode, evse_processing, charging_session, charge_progress}
-use Rattle.iso_schema.specs.Simple.{simple}
-use Rattle.iso_schema.specs.Frame.{frame}
-use Rattle.iso_schema.specs.Setup.{setup}
-use Rattle.iso_schema.specs.Parameters.{parameters}
-use Rattle.iso_schema.specs.Charging.{charging}
+pub use Rattle.iso_schema.specs.Texts.{names}
+use Rattle.iso_schema.specs.Texts.{fault_code, unit_symbol, ev_error_code, evse_notification, isolation_level, evse_status_code, response_code, service_category, payment_option, energy_transfer_mode, evse_processing, charging_session, charge_progress}
+pub use Rattle.iso_schema.specs.Simple.{simple}
+pub use Rattle.iso_schema.specs.Frame.{frame}
+pub use Rattle.iso_schema.specs.Setup.{setup}
+pub use Rattle.iso_schema.specs.Parameters.{parameters}
+pub use Rattle.iso_schema.specs.Charging.{charging}
 use Rattle.std.specs.Prelude.{◌≡◌, ◌++◌, refl, length, ℕ, true, List, [], ◌∷◌}
 use Rattle.exi_schema.specs.declared.tables.RootOf.{RootOf}
 use Rattle.exi_schema.specs.Plain.{PlainKind}

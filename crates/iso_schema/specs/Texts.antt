@@ -1,6 +1,5 @@
 -- ISO 15118-2:2014: the texts of names and of enumeration values.
 use Rattle.std.specs.Prelude.{ℕ, List, codes, [], ◌∷◌}
-use Rattle.iso_schema.specs.declared.names.TheConstants.{RCD, EVCCID, EVSEID}
 
 -- the names, numbered from 0
 abbrev pub names : List (List ℕ)

@@ -1,6 +1,5 @@
-use Rattle.std.proofs.Common.{◌≡◌, map, refl, ap, ◌∙◌}
+use Rattle.std.proofs.Common.{ap, ◌∙◌}
 use Rattle.exi_schema.specs.Plain.{plain_kinds}
-use Rattle.iso_schema.specs.Declarations as declared
 use Rattle.iso_schema.proofs.Same.{fits, same}
 use Rattle.iso_schema.proofs.tables.IsoSchema.schema.Goals as goal
 
