@@ -338,7 +338,7 @@ def with_uses(s, head, body):
         (f"Rattle.{s.crate}.specs.declared.names.TheConstants", [s.upper(it) for it in s.names]),
         (f"Rattle.{s.crate}.specs.declared.kinds.TheConstants", [s.kind(it) for it in s.kinds]),
     ):
-        words = used(body, words)
+        words = used(re.sub(r'"[^"]*"', "", body), words)
         if module.endswith("Prelude"):
             words += ", [], ◌∷◌"
         if "BoolType" in body and module.endswith("Datatype.TheVariants"):
