@@ -1,12 +1,13 @@
 -- W3C XML Schema 1.0, Part 1, 3.4 Complex Type Definitions and 3.9 Particles: what elements may contain, as plain values, wherever
 -- the tables that say so lie.
-use Rattle.std.specs.Prelude.{ℕ, List, [], ◌∷◌, map, Option, Some}
+use Rattle.std.specs.Prelude.{ℕ, List, [], ◌∷◌, map, Option, Some, None}
 use Rattle.exi_schema.specs.declared.tables.AttributeOf.{AttributeOf}
 use Rattle.exi_schema.specs.declared.tables.Datatype.{Datatype}
 use Rattle.exi_schema.specs.declared.tables.Declaration.{Declaration}
 use Rattle.exi_schema.specs.declared.tables.Declaration.TheVariants.{Simple, Complex}
 use Rattle.exi_schema.specs.declared.tables.Member.{Member}
-use Rattle.exi_schema.specs.declared.tables.MemberStanding.TheVariants.{Taken}
+use Rattle.exi_schema.specs.declared.tables.MemberStanding.{MemberStanding}
+use Rattle.exi_schema.specs.declared.tables.MemberStanding.TheVariants.{Taken, OutOfProfile}
 use Rattle.exi_schema.specs.declared.tables.Particle.{Particle}
 
 -- from `least` to `most` copies, without `most` any number, of which `profile` are accepted. Each copy is one of the members
@@ -52,3 +53,25 @@ perhaps name kind = record { members = one_of name kind ∷ []; least = 0; most 
 -- one that is there once to so many times
 abbrev pub up_to : ℕ → ℕ → ℕ → PlainParticle
 up_to most name kind = record { members = one_of name kind ∷ []; least = 1; most = Some most; profile = most }
+
+-- one that is there once and more, and is accepted so many times (own)
+abbrev pub at_least_one : ℕ → ℕ → ℕ → PlainParticle
+at_least_one profile name kind = record { members = one_of name kind ∷ []; least = 1; most = None; profile = profile }
+
+-- ---- particles of several elements
+
+-- an element that doesn't stand there: an abstract head, or one that is left out of the profile (own)
+abbrev pub standing : MemberStanding → ℕ → ℕ → Member
+standing as_it_stands name kind = record { name = name; kind = kind; standing = as_it_stands }
+
+-- one of these elements
+abbrev pub choice : List Member → PlainParticle
+choice members = record { members = members; least = 1; most = Some 1; profile = 1 }
+
+-- one of them, if any
+abbrev pub perhaps_choice : List Member → PlainParticle
+perhaps_choice members = record { members = members; least = 0; most = Some 1; profile = 1 }
+
+-- an element that may be there in the standard, and is left out (own)
+abbrev pub left_out : ℕ → ℕ → PlainParticle
+left_out name kind = perhaps_choice (standing OutOfProfile name kind ∷ [])

@@ -1,0 +1,13 @@
+-- DIN SPEC 70121:2014 8.5, data types without parts.
+use Rattle.std.specs.Prelude.{pos, negsuc, List, [], ◌∷◌}
+use Rattle.exi_schema.specs.declared.tables.Datatype.TheVariants.{Bool as BoolType, Named, Bounded, Unsigned, Signed, Binary, Text}
+use Rattle.exi_schema.specs.Plain.{PlainKind, valued, containing}
+
+abbrev pub simple : List PlainKind
+simple =
+    valued BoolType ∷ valued (Signed (negsuc 32767) (pos 32767))
+    ∷ valued (Signed (negsuc 9223372036854775807) (pos 9223372036854775807)) ∷ valued (Unsigned 65535)
+    ∷ valued (Unsigned 4294967295) ∷ valued (Bounded (negsuc 2) 7) ∷ valued (Bounded (pos 0) 101) ∷ valued (Text 20)
+    ∷ valued (Text 32) ∷ valued (Text 64) ∷ valued (Binary 8) ∷ valued (Binary 32) ∷ valued (Named 3) ∷ valued (Named 10)
+    ∷ valued (Named 12) ∷ valued (Named 4) ∷ valued (Named 12) ∷ valued (Named 3) ∷ valued (Named 23) ∷ valued (Named 4)
+    ∷ valued (Named 2) ∷ valued (Named 10) ∷ valued (Named 2) ∷ valued (Named 6) ∷ containing [] [] ∷ []
