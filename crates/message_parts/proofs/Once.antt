@@ -1,0 +1,75 @@
+-- Events are written in one way: they lead to one state, by the same bits.
+use Rattle.std.proofs.Common.{◌≡◌, ℕ, Bool, List, [], ◌∷◌, ◌++◌, Option, Some, refl, sym, ap, ap₂, subst, ◌∙◌, append_assoc}
+use Rattle.exi_schema.specs.declared.schema.Schema.{Schema}
+use Rattle.exi_schema.specs.declared.tables.Datatype.{Datatype}
+use Rattle.exi_schema.specs.declared.places.Place.{Place}
+use Rattle.exi_schema.specs.declared.places.Step.TheVariants as step
+use Rattle.exi_schema.specs.Offers.{simple_step, IsPlace}
+use Rattle.exi_schema.specs.Steps.{simple_at}
+use Rattle.exi_documents.specs.Trees.{Value, Event, Document, Start, Attribute, Content, EndElement}
+use Rattle.exi_documents.specs.Values.{Entries}
+use Rattle.exi_documents.specs.Documents.{Speller, SpellsStep, element, first, header}
+use Rattle.exi_documents.specs.Grammar.{Standing, Before, AtRoot, Inside, State, opened, stands, Moves}
+use Rattle.document_laws.specs.Laws.{WritesOnce, IsStanding}
+use Rattle.document_laws.proofs.Fits.{one_root}
+use Rattle.document_laws.proofs.Names.{element_key, attribute_key, end_key, one_taken_by, ones_at}
+use Rattle.document_laws.proofs.Offered.{offers_simple, one_taken}
+
+one_of : {X : Type 0} (o : Option X) (x y : X) → o ≡ Some x → o ≡ Some y → x ≡ y
+one_of {X} o x y p q = let e : Some x ≡ Some y = sym p ∙ q in cc
+
+module _ (V : Speller) (once : WritesOnce V) (s : Schema) where
+  attribute_once : (here next behind : Place) (name kind odd : ℕ) (a b : List Bool) → IsPlace s.kinds.now here → SpellsStep s.kinds.now here (step.Attribute name kind next) a → SpellsStep s.kinds.now here (step.Attribute name odd behind) b →
+      (kind ≡ odd) × (next ≡ behind) × (a ≡ b)
+  attribute_once here next behind name kind odd a b at p q =
+      let both = one_taken_by attribute_key s.kinds.now here name (step.Attribute name kind next) (step.Attribute name odd behind) a b (ones_at s here at).attributes p q refl refl in
+      let same = both.0 in
+      (let k : kind ≡ odd = cc in k, let n : next ≡ behind = cc in n, both.1)
+
+  element_once : (here next behind : Place) (name kind odd : ℕ) (a b : List Bool) → IsPlace s.kinds.now here → SpellsStep s.kinds.now here (element name kind next) a → SpellsStep s.kinds.now here (element name odd behind) b →
+      (kind ≡ odd) × (next ≡ behind) × (a ≡ b)
+  element_once here next behind name kind odd a b at p q =
+      let both = one_taken_by element_key s.kinds.now here name (element name kind next) (element name odd behind) a b (ones_at s here at).elements p q refl refl in
+      let same : element name kind next ≡ element name odd behind = both.0 in
+      (let k : kind ≡ odd = cc in k, let n : next ≡ behind = cc in n, both.1)
+
+  end_once : (here : Place) (a b : List Bool) → IsPlace s.kinds.now here → SpellsStep s.kinds.now here step.End a → SpellsStep s.kinds.now here step.End b → a ≡ b
+  end_once here a b at p q = (one_taken_by end_key s.kinds.now here 0 step.End step.End a b (ones_at s here at).ends p q refl refl).1
+
+  characters_once : (here next behind : Place) (d : Datatype) (a b : List Bool) → simple_at s.kinds.now here.kind ≡ Some d → SpellsStep s.kinds.now here (step.Characters next) a → SpellsStep s.kinds.now here (step.Characters behind) b →
+      (next ≡ behind) × (a ≡ b)
+  characters_once here next behind d a b is p q =
+      let only = offers_simple s.kinds.now here d is in
+      let one = one_taken s.kinds.now here (simple_step here) (step.Characters next) a only p in
+      let other = one_taken s.kinds.now here (simple_step here) (step.Characters behind) b only q in
+      let same : step.Characters next ≡ step.Characters behind = one.0 ∙ sym other.0 in
+      (let n : next ≡ behind = cc in n, one.1 ∙ sym other.1)
+
+  value_once : (kind odd name : ℕ) (entries : Entries) (v : Value) (d e : Datatype) (a b : List Bool) (after other : Entries) → kind ≡ odd → simple_at s.kinds.now kind ≡ Some d → simple_at s.kinds.now odd ≡ Some e →
+      V d entries name v a after → V e entries name v b other → (a ≡ b) × (after ≡ other)
+  value_once kind odd name entries v d e a b after other same p q one two =
+      let type = one_of (simple_at s.kinds.now odd) d e (ap (λ (k : ℕ). simple_at s.kinds.now k) (sym same) ∙ p) q in
+      once e entries name v a b after other (subst (λ (x : Datatype). V x entries name v a after) type one) two
+
+  once_at : (standing : Standing) (entries : Entries) (event : Event) (a b : List Bool) (new other : State) → IsStanding s standing → Moves V s (stands standing entries) event a new → Moves V s (stands standing entries) event b other → (a ≡ b) × (new ≡ other)
+  once_at Before entries (Document number) a b new other is p q =
+      let root = one_root s number p.0 p.1 q.0 q.1 p.3 q.3 in
+      let front = p.4.spelled ∙ sym q.4.spelled in
+      (p.5 ∙ ap (λ (l : List Bool). header ++ l) front ∙ sym q.5, p.6 ∙ ap₂ (λ (n k : ℕ). stands (AtRoot n k) entries) root.0 root.1 ∙ sym q.6)
+  once_at (AtRoot root kind) entries (Start name) a b new other is p q = (p.1 ∙ sym q.1, p.2 ∙ sym q.2)
+  once_at (Inside top above) entries (Start name) a b new other is p q =
+      let one = element_once top.place p.1 q.1 name p.0 q.0 a b is.0 p.2 q.2 in
+      (one.2, p.3 ∙ ap₂ (λ (k : ℕ) (n : Place). stands (Inside (opened name (first k)) (opened top.name n ∷ above)) entries) one.0 one.1 ∙ sym q.3)
+  once_at (Inside top above) entries (Attribute name value) a b new other is p q =
+      let one = attribute_once top.place p.1 q.1 name p.0 q.0 p.4 q.4 is.0 p.6 q.6 in
+      let same = value_once p.0 q.0 name entries value p.2 q.2 p.5 q.5 p.3 q.3 one.0 p.7 q.7 p.8 q.8 in
+      (p.9 ∙ ap₂ (λ (x y : List Bool). x ++ y) one.2 same.0 ∙ sym q.9, p.10 ∙ ap₂ (λ (n : Place) (es : Entries). stands (Inside (opened top.name n) above) es) one.1 same.1 ∙ sym q.10)
+  once_at (Inside top above) entries (Content value) a b new other is p q =
+      let one = characters_once top.place p.0 q.0 p.1 p.3 q.3 p.6 p.5 q.5 in
+      let same = value_once top.place.kind top.place.kind top.name entries value p.1 q.1 p.4 q.4 p.2 q.2 refl p.6 q.6 p.7 q.7 in
+      (p.8 ∙ ap₂ (λ (x y : List Bool). x ++ y) one.1 same.0 ∙ sym q.8, p.9 ∙ ap₂ (λ (n : Place) (es : Entries). stands (Inside (opened top.name n) above) es) one.0 same.1 ∙ sym q.9)
+  once_at (Inside top above) entries EndElement a b new other is p q = (end_once top.place a b is.0 p.0 q.0, p.1 ∙ sym q.1)
+  once_at standing entries event a b new other is p q = absurd p
+
+  pub moves_once : (old : State) (event : Event) (a b : List Bool) (new other : State) → IsStanding s old.standing → Moves V s old event a new → Moves V s old event b other → (a ≡ b) × (new ≡ other)
+  moves_once old event a b new other is p q = once_at old.standing old.entries event a b new other is p q

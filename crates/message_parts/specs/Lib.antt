@@ -1,0 +1,4 @@
+pub mod Contents
+pub mod Reading
+pub mod Values
+pub mod Writing
