@@ -1,7 +1,12 @@
 pub mod Attributes
-pub mod Chosen
-pub mod Entered
+pub mod Distinct
+pub mod Ended
 pub mod Next
 pub mod Once
+pub mod Particles
 pub mod Putting
 pub mod Repeated
+pub mod Rooted
+pub mod Singles
+pub mod Told
+pub mod Written

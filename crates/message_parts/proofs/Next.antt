@@ -84,7 +84,7 @@ module _ (s : Schema) (ks : List PlainKind) (kind at copies : ℕ) (attributes :
 
 -- ---- no attribute among members and the end
 
-abbrev IsElementOrEnd : Step → Type 0
+abbrev pub IsElementOrEnd : Step → Type 0
 IsElementOrEnd (step.Attribute name kind next) = ⊥
 IsElementOrEnd (step.Element name kind next standing past_limit) = Unit {0}
 IsElementOrEnd step.End = Unit {0}
@@ -94,7 +94,7 @@ all_members : (here : Place) (n at copies : ℕ) (p : PlainParticle) (members : 
 all_members here n at copies p [] = tt
 all_members here n at copies p (m ∷ members) = (tt, all_members here n at copies p members)
 
-all_elements : (here : Place) (n at copies : ℕ) (particles : List PlainParticle) → EachOf IsElementOrEnd (plain_elements here n at copies particles)
+pub all_elements : (here : Place) (n at copies : ℕ) (particles : List PlainParticle) → EachOf IsElementOrEnd (plain_elements here n at copies particles)
 all_elements here n at copies [] = (tt, tt)
 all_elements here n at copies (p ∷ particles) =
     each_of_both IsElementOrEnd (map (plain_element here n at copies p) p.members) _ (all_members here n at copies p p.members)
@@ -143,19 +143,19 @@ module _ (ks : List PlainKind) (F : Frame) (kind at copies : ℕ) (attributes : 
       record { schema_is = same ∙ goes.schema_is; kinds_are = goes.kinds_are; bits_are = bits ∙ goes.bits_are; none_refused = open_still; told = more } in
       child_by e old.state.entries next.0 now goes.kinds_are is on moves
 
-pub reads_next : (ks : List PlainKind) (F : Frame) (declared : List PlainParticle) (at copies : ℕ) (told : List Event) (e : ReadEvent) (old new : Seen) → IsBetween ks F declared at copies told old →
+pub reads_next : (ks : List PlainKind) (F : Frame) (attributes : List AttributeOf) (declared : List PlainParticle) (at copies : ℕ) (told : List Event) (e : ReadEvent) (old new : Seen) →
+    IsBetween ks F attributes declared at copies told old →
     new.child ≡ started e → new.schema ≡ old.schema → new.cursor.bits ≡ old.cursor.bits → new.refused ≡ None →
-    IsNext old.schema old.state new.state old.cursor new.cursor (event_of e) → TellsMore old new (event_of e) → ReadsFrom ks F declared at copies told new
-reads_next ks F declared at copies told e old new h child same bits open_still next tells =
+    IsNext old.schema old.state new.state old.cursor new.cursor (event_of e) → TellsMore old new (event_of e) → ReadsFrom ks F attributes declared at copies told new
+reads_next ks F attributes declared at copies told e old new h child same bits open_still next tells =
     record {
       kind = h.kind;
-      attributes = h.attributes;
       is_kind = h.is_kind;
       distinct = h.distinct;
-      particle = at;
-      passed = copies;
-      child = subst (λ (o : Option ℕ). IsChild ks F (at_particle h.kind (length h.attributes) at copies) (length h.attributes) at copies (drop at declared) told new o) (sym child)
-          (child_next ks F h.kind at copies h.attributes declared told new h.is_kind e (event_of e) old refl h.goes h.standing same bits open_still next tells);
+      here = at_particle h.kind (length attributes) at copies;
+      of_kind = refl;
+      child = subst (λ (o : Option ℕ). IsChild ks F (at_particle h.kind (length attributes) at copies) (length attributes) at copies (drop at declared) told new o) (sym child)
+          (child_next ks F h.kind at copies attributes declared told new h.is_kind e (event_of e) old refl h.goes h.standing same bits open_still next tells);
     }
 
 -- ---- a value and its end

@@ -10,14 +10,14 @@ use Rattle.exi_events.specs.Reader.{IsSound, standing_of}
 use Rattle.exi_events.specs.declared.reader.Phase.{Phase}
 use Rattle.exi_events.specs.declared.reader.Phase.TheVariants as phase
 use Rattle.exi_documents.specs.Grammar.{Opened, around, State, Moves}
-use Rattle.exi_documents.specs.Trees.{Event, Trees}
-use Rattle.message_parts.specs.Contents.{Inside as Contents, Of, Holding, Part, one, perhaps, each, trees_of, perhaps_trees, each_trees, trees_onto, one_onto, perhaps_onto, each_onto, parts_onto}
+use Rattle.exi_documents.specs.Trees.{Event, Attribute, Trees}
+use Rattle.message_parts.specs.Contents.{Inside as Contents, Of, Holding, Given, given, perhaps_given, Part, one, perhaps, each, perhaps_one, attributes_of, trees_of, perhaps_trees, each_trees, choice_trees, attributes_onto, trees_onto, one_onto, perhaps_onto, each_onto, choice_onto, given_onto, parts_onto}
 use Rattle.exi_documents.specs.Values.{WritesValue}
 use Rattle.exi_events.specs.Writer.{Draft, Adds, IsPut, HasNoRoom, NeedsMore}
 use Rattle.document_laws.specs.Laws.{IsStanding}
 use Rattle.document_laws.proofs.Written.{value_once}
 use Rattle.message_parts.proofs.Once.{moves_once}
-use Rattle.message_parts.specs.Writing.{Target, Put, HasLeft, Writes, Leads}
+use Rattle.message_parts.specs.Writing.{Target, Put, HasLeft, Writes, Leads, IsTooMuch}
 
 module _ (F : Target) (e : Event) (rest : List Event) (old new : Put) (room : List ℕ) (same : old.schema ≡ F.schema) (now : new.schema ≡ F.schema) (has : old.room ≡ F.room) (keeps : new.room ≡ F.room)
     (is : IsStanding F.schema old.state.standing) (h : HasLeft F (e ∷ rest) old) where
@@ -34,8 +34,8 @@ abbrev pub seen : Schema → Draft → Option Full → Put
 seen s d full = record { schema = s; bits = d.bits; state = d.state; room = length d.room; full = full }
 
 module _ (F : Target) (e : Event) (rest : List Event) (s t : Schema) (d g : Draft) (before after : Option Full) (same : t ≡ s) (long : length g.room ≡ length d.room) (is : IsStanding s d.state.standing) where
-  lacks : Writes F (e ∷ rest) (seen s d before) → HasLeft F (e ∷ rest) (seen s d before) → HasNoRoom s d (Some e) → after ≢ None → Writes F rest (seen t g after)
-  lacks w h absent full =
+  lacks : Writes F (e ∷ rest) (seen s d before) → HasLeft F (e ∷ rest) (seen s d before) → HasNoRoom s d (Some e) → (f : Full) → after ≡ Some f → 8 * length d.room < f.bits → Writes F rest (seen t g after)
+  lacks w h absent f is_full needs =
       let l = h.leads in
       let moves : Moves WritesValue F.schema d.state e absent.0 absent.1.0 = subst (λ (x : Schema). Moves WritesValue x d.state e absent.0 absent.1.0) w.schema_is absent.1.1 in
       let once = moves_once WritesValue value_once F.schema d.state e _ _ _ _ (subst (λ (x : Schema). IsStanding x d.state.standing) w.schema_is is) moves l.3 in
@@ -44,7 +44,9 @@ module _ (F : Target) (e : Event) (rest : List Event) (s t : Schema) (d g : Draf
       let all : length F.bits ≡ length d.bits + (length l.1 + length l.2) =
       ap length h.bits_are ∙ length-append d.bits h.left ∙ ap (λ (b : List Bool). length d.bits + length b) l.5 ∙ ap (λ (n : ℕ). length d.bits + n) (length-append l.1 l.2) in
       let room : length d.room ≡ F.room = w.room_is in
-      record { schema_is = same ∙ w.schema_is; room_is = long ∙ room; so = inr (full, omega (arith, more, front, all, room)) }
+      let told : 8 * F.room < f.bits = omega (arith, needs, room) in
+      let much : 8 * F.room < length F.bits = omega (arith, more, front, all, room) in
+      record { schema_is = same ∙ w.schema_is; room_is = long ∙ room; so = inr (subst (λ (o : Option Full). IsTooMuch F o) (sym is_full) (told, much)) }
 
   goes : Writes F (e ∷ rest) (seen s d before) → HasLeft F (e ∷ rest) (seen s d before) → IsPut s d g (Some e) → after ≡ None → Writes F rest (seen t g after)
   goes w h put open_still =
@@ -52,34 +54,43 @@ module _ (F : Target) (e : Event) (rest : List Event) (s t : Schema) (d g : Draf
       put_ok F e rest (seen s d before) (seen t g after) d.room w.schema_is (same ∙ w.schema_is) w.room_is (long ∙ w.room_is)
       (subst (λ (x : Schema). IsStanding x d.state.standing) w.schema_is is) h put.0 moves put.2.written open_still
 
-  by_result : {T : Type 0} (r : Result T Full) → Writes F (e ∷ rest) (seen s d before) → HasLeft F (e ∷ rest) (seen s d before) → OnOk r (IsPut s d g (Some e)) → OnOk r (after ≡ None) →
-      (IsErr r → HasNoRoom s d (Some e)) → IfErr r (λ f. after ≡ Some f) → Writes F rest (seen t g after)
-  by_result {T} (Ok x) w h put open_still absent said = goes w h put open_still
-  by_result {T} (Err f) w h put open_still absent said = lacks w h (absent refl) (λ none. let both : Some f ≡ None = sym said ∙ none in cc)
-
-  stays_full : Writes F (e ∷ rest) (seen s d before) → (before ≢ None) × (8 * F.room < length F.bits) → after ≡ before → Writes F rest (seen t g after)
-  stays_full w full kept =
-      record { schema_is = same ∙ w.schema_is; room_is = long ∙ w.room_is; so = inr ((λ none. full.0 (sym kept ∙ none)), full.1) }
-
-  pub put_next : {T : Type 0} (r : Result T Full) → Writes F (e ∷ rest) (seen s d before) → OnOk r (IsPut s d g (Some e)) → OnOk r (after ≡ None) →
-      (before ≡ None → IsErr r → HasNoRoom s d (Some e)) → (before ≡ None → IfErr r (λ f. after ≡ Some f)) → (before ≢ None → after ≡ before) → Writes F rest (seen t g after)
-  put_next {T} r w put open_still absent said kept =
+  -- where the room is full, nothing changes
+  pub stays_full : (f : Full) → before ≡ Some f → after ≡ Some f → Writes F (e ∷ rest) (seen s d before) → Writes F rest (seen t g after)
+  stays_full f was is_full w =
       elim w.so [
-        | inl h ↦ by_result r w h put open_still (absent h.open_still) (said h.open_still)
-        | inr full ↦ stays_full w full (kept full.0)
+        | inl h ↦ (let wrong : Some f ≡ None = sym was ∙ h.open_still in absurd cc)
+        | inr much ↦ record { schema_is = same ∙ w.schema_is; room_is = long ∙ w.room_is; so = inr (subst (λ (o : Option Full). IsTooMuch F o) (was ∙ sym is_full) much) }
       ]
 
-pub kept_full : (before after : Option Full) → ((f : Full) → before ≡ Some f → after ≡ before) → before ≢ None → after ≡ before
-kept_full None after again some = absurd (some refl)
-kept_full (Some f) after again some = again f refl
+  -- it is put
+  pub put_now : before ≡ None → after ≡ None → IsPut s d g (Some e) → Writes F (e ∷ rest) (seen s d before) → Writes F rest (seen t g after)
+  put_now was is_none put w =
+      elim w.so [
+        | inl h ↦ goes w h put is_none
+        | inr much ↦ absurd (subst (λ (o : Option Full). IsTooMuch F o) was much)
+      ]
 
-pub second : {T : Type 0} (r : Result T Full) (A B : Type 0) → OnOk r (A × B) → OnOk r B
-second {T} (Ok x) A B both = both.1
-second {T} (Err f) A B both = both
+  -- it lacks room
+  pub lacks_now : (f : Full) → before ≡ None → after ≡ Some f → HasNoRoom s d (Some e) → 8 * length d.room < f.bits → Writes F (e ∷ rest) (seen s d before) → Writes F rest (seen t g after)
+  lacks_now f was is_full absent needs w =
+      elim w.so [
+        | inl h ↦ lacks w h absent f is_full needs
+        | inr much ↦ absurd (subst (λ (o : Option Full). IsTooMuch F o) was much)
+      ]
 
-pub said_full : {T : Type 0} (r : Result T Full) (A B : Full → Type 0) → IfErr r (λ f. A f × B f) → IfErr r (λ f. B f)
-said_full {T} (Ok x) A B both = both
-said_full {T} (Err f) A B both = both.1
+  by_result : {T : Type 0} (r : Result T Full) → before ≡ None → OnOk r (IsPut s d g (Some e)) → OnOk r ((before ≡ None) × (after ≡ None)) → (IsErr r → HasNoRoom s d (Some e)) →
+      IfErr r (λ f. (8 * length d.room < f.bits) × (after ≡ Some f)) → Writes F (e ∷ rest) (seen s d before) → Writes F rest (seen t g after)
+  by_result {T} (Ok x) was put open_still absent bits w = put_now was open_still.1 put w
+  by_result {T} (Err f) was put open_still absent bits w = lacks_now f was bits.1 (absent refl) bits.0 w
+
+  by_full : {T : Type 0} (r : Result T Full) (o : Option Full) → before ≡ o → OnOk r (IsPut s d g (Some e)) → OnOk r ((before ≡ None) × (after ≡ None)) → (before ≡ None → IsErr r → HasNoRoom s d (Some e)) →
+      (before ≡ None → IfErr r (λ f. (8 * length d.room < f.bits) × (after ≡ Some f))) → ((f : Full) → before ≡ Some f → after ≡ before) → Writes F (e ∷ rest) (seen s d before) → Writes F rest (seen t g after)
+  by_full {T} r None is put open_still absent bits again w = by_result r is put open_still (absent is) (bits is) w
+  by_full {T} r (Some f) is put open_still absent bits again w = stays_full f is (again f is ∙ is) w
+
+  pub put_any : {T : Type 0} (r : Result T Full) → OnOk r (IsPut s d g (Some e)) → OnOk r ((before ≡ None) × (after ≡ None)) → (before ≡ None → IsErr r → HasNoRoom s d (Some e)) →
+      (before ≡ None → IfErr r (λ f. (8 * length d.room < f.bits) × (after ≡ Some f))) → ((f : Full) → before ≡ Some f → after ≡ before) → Writes F (e ∷ rest) (seen s d before) → Writes F rest (seen t g after)
+  put_any {T} r put open_still absent bits again w = by_full r before refl put open_still absent bits again w
 
 -- where a writer stands is in the schema
 open_places : (kinds : List Declaration) (elements : List Opened) → AreOpen kinds elements → AllByRecursion (λ o. IsPlace kinds o.place) elements
@@ -107,12 +118,24 @@ each_onto_is name [] more rest = refl
 each_onto_is name (Of v ∷ insides) more rest = ap (λ es. one_onto name (Of v) es) (each_onto_is name insides more rest)
 each_onto_is name (Holding attributes children ∷ insides) more rest = ap (λ es. one_onto name (Holding attributes children) es) (each_onto_is name insides more rest)
 
+choice_onto_is : (o : Option (ℕ × Contents)) (more : Trees) (rest : List Event) → trees_onto (choice_trees o more) rest ≡ choice_onto o (trees_onto more rest)
+choice_onto_is None more rest = refl
+choice_onto_is (Some (name, Of v)) more rest = refl
+choice_onto_is (Some (name, Holding attributes children)) more rest = refl
+
 pub parts_onto_is : (parts : List Part) (rest : List Event) → trees_onto (trees_of parts) rest ≡ parts_onto parts rest
 parts_onto_is [] rest = refl
 parts_onto_is (one name (Of v) ∷ parts) rest = ap (λ es. one_onto name (Of v) es) (parts_onto_is parts rest)
 parts_onto_is (one name (Holding attributes children) ∷ parts) rest = ap (λ es. one_onto name (Holding attributes children) es) (parts_onto_is parts rest)
 parts_onto_is (perhaps name o ∷ parts) rest = perhaps_onto_is name o (trees_of parts) rest ∙ ap (λ es. perhaps_onto name o es) (parts_onto_is parts rest)
 parts_onto_is (each name insides ∷ parts) rest = each_onto_is name insides (trees_of parts) rest ∙ ap (λ es. each_onto name insides es) (parts_onto_is parts rest)
+parts_onto_is (perhaps_one o ∷ parts) rest = choice_onto_is o (trees_of parts) rest ∙ ap (λ es. choice_onto o es) (parts_onto_is parts rest)
+
+pub given_onto_is : (gs : List Given) (rest : List Event) → attributes_onto (attributes_of gs) rest ≡ given_onto gs rest
+given_onto_is [] rest = refl
+given_onto_is (given name value ∷ gs) rest = ap (λ es. Attribute name value ∷ es) (given_onto_is gs rest)
+given_onto_is (perhaps_given name None ∷ gs) rest = given_onto_is gs rest
+given_onto_is (perhaps_given name (Some value) ∷ gs) rest = ap (λ es. Attribute name value ∷ es) (given_onto_is gs rest)
 
 -- ---- an item of a list
 

@@ -1,27 +1,22 @@
 -- Elements of one name, one after the other.
-use Rattle.std.proofs.Common.{◌≡◌, ℕ, zero, suc, ◌+◌, ◌<◌, add-one, List, [], ◌∷◌, ◌++◌, length, drop, map, nat_lt, nat_le, not, Option, Some, None, if◌then◌else◌, Bool, true, false, ◌⊎◌, inl, inr, arith, refl, sym, ap, subst, ◌∙◌}
-use Rattle.std.specs.Prelude.{slice_get}
+use Rattle.std.proofs.Common.{◌≡◌, ℕ, suc, ◌+◌, ◌<◌, add-one, List, [], ◌∷◌, ◌++◌, length, map, drop, nat_lt, Option, Some, None, if◌then◌else◌, Bool, true, false, ◌⊎◌, inl, inr, arith, refl, sym, ap, subst, ◌∙◌}
+use Rattle.std.specs.Prelude.{slice_get, ◌==◌, ◌&&◌}
 use Rattle.std.proofs.lemmas.Bool.Decides.{nat_tests}
 use Rattle.exi_schema.specs.Offers.{behind_copy, leaves_room}
-use Rattle.exi_schema.specs.Schemas.{are_distinct}
 use Rattle.exi_schema.specs.declared.places.Place.{Place}
-use Rattle.exi_schema.specs.declared.places.Step.{Step}
-use Rattle.exi_schema.specs.declared.places.Step.TheVariants as step
-use Rattle.exi_documents.specs.Documents.{element, first}
-use Rattle.exi_documents.specs.Grammar.{Inside, Opened, opened}
+use Rattle.exi_schema.specs.declared.tables.AttributeOf.{AttributeOf}
 use Rattle.exi_documents.specs.Trees.{Event, Start, EndElement}
-use Rattle.plain_schema.specs.Plain.{PlainKind, PlainParticle, plain_element, plain_elements}
+use Rattle.plain_schema.specs.Plain.{PlainKind, PlainParticle}
 use Rattle.message_parts.specs.Contents.{Inside as Contents, told_one, told_each}
-use Rattle.message_parts.specs.Reading.{Frame, Seen, Goes, Enters, Leaves, IsBetween, ReadsFrom, Reads, IsChild, IsRepeated, repeated, has_room_for, one_of, at_particle, name_at, kind_at, particle_at, names_in}
-use Rattle.message_parts.proofs.Entered.{drop_at, drop_distinct, has, names_offered, no_step, and_first, not_both}
-
--- the frame of a child, behind which so much is to come
-abbrev pub frame_before : Frame → ℕ → Place → Frame
-frame_before F name behind = record { schema = F.schema; bits = F.bits; name = name; above = opened F.name behind ∷ F.above }
+use Rattle.message_parts.specs.Particles.{alternatives, alternatives_of, alternatives_at, name_at, kind_at, kind_among, is_sole, accepts, has_room_for, is_repeated_at}
+use Rattle.message_parts.specs.Reading.{Frame, Seen, Enters, Leaves, IsBetween, ReadsFrom, Reads, at_particle}
+use Rattle.message_parts.proofs.Distinct.{and_first, and_second, number_is}
+use Rattle.message_parts.proofs.Particles.{frame_before, kind_of_child, IsOfIt, IsPassed, stands, between}
+use Rattle.message_parts.proofs.Singles.{sole_found, sole_there}
 
 -- so many elements are read; at the maximum the particle is left
-abbrev pub Repeats : List PlainKind → Frame → List PlainParticle → ℕ → ℕ → ℕ → List Event → Seen → Type 0
-Repeats ks F declared at n copies told d = ReadsFrom ks F declared at copies told d ⊎ ((copies ≡ n) × Reads ks F declared (suc at) told d)
+abbrev pub Repeats : List PlainKind → Frame → List AttributeOf → List PlainParticle → ℕ → ℕ → ℕ → List Event → Seen → Type 0
+Repeats ks F attributes declared at n copies told d = ReadsFrom ks F attributes declared at copies told d ⊎ ((copies ≡ n) × Reads ks F attributes declared (suc at) told d)
 
 told_more : {X : Type 0} (f : X → Contents) (name : ℕ) (xs : List X) (x : X) (told : List Event) →
     told_each name (map f (xs ++ x ∷ [])) told ≡ told_one name (f x) (told_each name (map f xs) told)
@@ -33,9 +28,17 @@ pub told_pushed : {X : Type 0} (f : X → Contents) (name named : ℕ) (xs ys : 
 told_pushed {X} f name named xs ys x told is same =
     ap (λ (n : ℕ). told_one n (f x) (told_each name (map f xs) told)) (sym same) ∙ sym (told_more f name xs x told) ∙ ap (λ (zs : List X). told_each name (map f zs) told) (sym is)
 
-is_true : (b : Bool) → not b ≡ false → b ≡ true
-is_true true is = refl
-is_true false is = absurd cc
+-- what the test says
+pub record IsList (o : Option PlainParticle) (limit : ℕ) : Type 0 where
+  pub particle : PlainParticle
+  pub there : o ≡ Some particle
+  pub profile : particle.profile ≡ limit
+  pub fits : has_room_for limit particle.most ≡ true
+
+pub list_of : (o : Option PlainParticle) (limit : ℕ) → accepts limit o ≡ true → IsList o limit
+list_of None limit is = absurd cc
+list_of (Some p) limit is =
+    record { particle = p; there = refl; profile = number_is p.profile limit (and_first (p.profile == limit) _ is); fits = and_second (p.profile == limit) _ is }
 
 -- ---- the place behind a copy
 
@@ -54,156 +57,112 @@ module _ (kind n at copies : ℕ) where
   is_last (Some most) limit below fits full = grind (arith, nat_tests)
 
   behind_is : (most : Option ℕ) (limit : ℕ) → nat_lt copies limit ≡ true → has_room_for limit most ≡ true → IsBehind most limit
-  behind_is most limit below fits =
-      behind_by most limit (leaves_room most (copies + 1)) refl (is_last most limit below fits)
+  behind_is most limit below fits = behind_by most limit (leaves_room most (copies + 1)) refl (is_last most limit below fits)
 
 -- ---- one more, or the end of them
 
-module _ (ks : List PlainKind) (F : Frame) (k n at copies : ℕ) (told : List Event) (d : Seen) (name kind least : ℕ) (most : Option ℕ) (limit : ℕ) (ps : List PlainParticle) where
-  abbrev p : PlainParticle
-  p = repeated name kind least most limit
+module _ (ks : List PlainKind) (F : Frame) (attributes : List AttributeOf) (declared : List PlainParticle) (at copies : ℕ) (told : List Event) (d : Seen) (limit : ℕ)
+    (h : ReadsFrom ks F attributes declared at copies told d) (is : is_repeated_at declared at limit ≡ true) where
+  abbrev n : ℕ
+  n = length attributes
 
-  abbrev Offered : Place → Option ℕ → Type 0
-  Offered here o = IsChild ks F here n at copies (p ∷ ps) told d o
-
-  abbrev IsEntered : Type 0
-  IsEntered = (nat_lt copies limit ≡ true) × Enters ks (frame_before F name (behind_copy k n at copies most)) kind (Start name ∷ told) d
-
-  entered_by : (here : Place) (code m inner : ℕ) (next : Place) → here.kind ≡ k → m ≡ name → are_distinct (name ∷ names_in ps) ≡ true →
-      slice_get (plain_elements here n at copies (p ∷ ps)) code ≡ Some (element m inner next) → Goes ks F (Start m ∷ told) d →
-      d.state.standing ≡ Inside (opened m (first inner)) (opened F.name next ∷ F.above) → IsEntered
-  entered_by here zero m inner next of named apart is goes st =
-      let same : Some (plain_element here n at copies p (one_of name kind)) ≡ Some (element m inner next) = is in
-      let kind_is : inner ≡ kind = cc in
-      let within : not (nat_lt copies limit) ≡ false = cc in
-      let next_is : (if nat_lt copies limit then behind_copy here.kind n at copies most else here) ≡ next = cc in
-      let below : nat_lt copies limit ≡ true = is_true (nat_lt copies limit) within in
-      let behind : next ≡ behind_copy k n at copies most =
-      sym next_is ∙ ap (λ (b : Bool). if b then behind_copy here.kind n at copies most else here) below ∙ ap (λ (x : ℕ). behind_copy x n at copies most) of in
-      let good = subst (λ (x : ℕ). Goes ks F (Start x ∷ told) d) named goes in (
-        below,
-        record {
-          goes = record { schema_is = good.schema_is; kinds_are = good.kinds_are; bits_are = good.bits_are; none_refused = good.none_refused; told = good.told };
-          standing = st ∙ ap (λ (x : ℕ). Inside (opened x (first inner)) (opened F.name next ∷ F.above)) named
-              ∙ ap (λ (x : ℕ). Inside (opened name (first x)) (opened F.name next ∷ F.above)) kind_is
-              ∙ ap (λ (x : Place). Inside (opened name (first kind)) (opened F.name x ∷ F.above)) behind;
-        },
-      )
-  entered_by here (suc code) m inner next of named apart is goes st =
-      let found : has m (names_in ps) ≡ true = names_offered here n (at + 1) 0 m inner next ps code (no_step (nat_lt copies least) _ code _ is) in
-      let again : has name (names_in ps) ≡ true = subst (λ (x : ℕ). has x (names_in ps) ≡ true) named found in
-      absurd (not_both (has name (names_in ps)) (and_first _ (are_distinct (names_in ps)) apart) again)
-
-  entered_child : (here : Place) (o : Option ℕ) → here.kind ≡ k → o ≡ Some name → are_distinct (name ∷ names_in ps) ≡ true → Offered here o → IsEntered
-  entered_child here None of is apart child = absurd cc
-  entered_child here (Some m) of is apart child =
-      let named : m ≡ name = cc in
-      entered_by here child.0 m child.1 child.2 of named apart child.3 child.4 child.5
-
-  passed_end : (here : Place) (code : ℕ) → slice_get (plain_elements here n at copies (p ∷ ps)) code ≡ Some step.End → (c : ℕ) × (slice_get (plain_elements here n (at + 1) 0 ps) c ≡ Some step.End)
-  passed_end here zero is = absurd cc
-  passed_end here (suc code) is = (code, no_step (nat_lt copies least) _ code _ is)
-
-  passed_by : (here : Place) (code m inner : ℕ) (next : Place) → (m ≡ name → ⊥) →
-      slice_get (plain_elements here n at copies (p ∷ ps)) code ≡ Some (element m inner next) → (c : ℕ) × (slice_get (plain_elements here n (at + 1) 0 ps) c ≡ Some (element m inner next))
-  passed_by here zero m inner next other is =
-      let same : Some (plain_element here n at copies p (one_of name kind)) ≡ Some (element m inner next) = is in
-      let named : m ≡ name = cc in absurd (other named)
-  passed_by here (suc code) m inner next other is = (code, no_step (nat_lt copies least) _ code _ is)
-
-  passed : (here : Place) (o : Option ℕ) → (o ≡ Some name → ⊥) → Offered here o → IsChild ks F here n (at + 1) 0 ps told d o
-  passed here None other child = (passed_end here child.0.0 child.0.1, child.1, child.2)
-  passed here (Some m) other child =
-      let found = passed_by here child.0 m child.1 child.2 (λ named. other (ap Some named)) child.3 in
-      (found.0, child.1, child.2, found.1, child.4, child.5)
-
-module _ (ks : List PlainKind) (F : Frame) (declared : List PlainParticle) (at copies : ℕ) (told : List Event) (d : Seen) (limit : ℕ)
-    (h : ReadsFrom ks F declared at copies told d) (is : IsRepeated declared at limit) where
-  abbrev name : ℕ
-  name = name_at declared at
-
-  abbrev kind : ℕ
-  kind = kind_at declared at
-
-  abbrev least : ℕ
-  least = (particle_at declared at).least
-
-  abbrev most : Option ℕ
-  most = (particle_at declared at).most
-
-  abbrev place : Place
-  place = at_particle h.kind (length h.attributes) h.particle h.passed
+  list : IsList (slice_get declared at) limit
+  list = list_of (slice_get declared at) limit (and_first (accepts limit (slice_get declared at)) _ is)
 
   abbrev behind : Place
-  behind = behind_copy h.kind (length h.attributes) at copies most
+  behind = behind_copy h.kind n at copies list.particle.most
 
-  left_is : drop at declared ≡ repeated name kind least most limit ∷ drop (suc at) declared
-  left_is = drop_at declared at (repeated name kind least most limit) is.0
+  only : is_sole (alternatives_at declared at) ≡ true
+  only = and_second (accepts limit (slice_get declared at)) _ is
 
-  child_is : Offered ks F h.kind (length h.attributes) at copies told d name kind least most limit (drop (suc at) declared) place d.child
-  child_is = subst (λ (ps : List PlainParticle). IsChild ks F place (length h.attributes) at copies ps told d d.child) left_is h.child
+  same_alternatives : alternatives list.particle.members ≡ alternatives_at declared at
+  same_alternatives = ap (λ (o : Option PlainParticle). alternatives_of o) (sym list.there)
 
-  pub enters_more : d.child ≡ Some name → (nat_lt copies limit ≡ true) × Enters ks (frame_before F name behind) kind (Start name ∷ told) d
+  -- one more has started, and what comes behind it
+  pub record IsMore : Type 0 where
+    pub below : nat_lt copies limit ≡ true
+    pub here : d.child ≡ Some (name_at declared at)
+    pub after : Place
+    pub enters : Enters ks (frame_before F (name_at declared at) after) (kind_at declared at) (Start (name_at declared at) ∷ told) d
+    pub follows : (more : List Event) (e : Seen) → Leaves ks (frame_before F (name_at declared at) after) more e →
+        IsBetween ks F attributes declared at (copies + 1) (EndElement ∷ more) e ⊎ ((copies + 1 ≡ limit) × IsBetween ks F attributes declared (suc at) 0 (EndElement ∷ more) e)
+
+  between_more : (name : ℕ) (more : List Event) (e : Seen) → nat_lt copies limit ≡ true → Leaves ks (frame_before F name behind) more e →
+      IsBetween ks F attributes declared at (copies + 1) (EndElement ∷ more) e ⊎ ((copies + 1 ≡ limit) × IsBetween ks F attributes declared (suc at) 0 (EndElement ∷ more) e)
+  between_more name more e below leaves =
+      elim (behind_is h.kind n at copies list.particle.most limit below list.fits) [
+        | inl to ↦ inl (between ks F attributes declared at copies told d h list.particle list.there name behind more e at (copies + 1) to leaves)
+        | inr last ↦
+            inr (last.0, between ks F attributes declared at copies told d h list.particle list.there name behind more e (suc at) 0 (last.1 ∙ ap (λ (i : ℕ). at_particle h.kind n i 0) (add-one at)) leaves)
+      ]
+
+  more_of : IsOfIt ks F h.kind n at copies told d list.particle (drop (suc at) declared) d.child → IsMore
+  more_of it =
+      let same = sole_found (alternatives_at declared at) it.name it.kind only (ap (λ (these : List (ℕ × ℕ)). kind_among these it.name) (sym same_alternatives) ∙ it.among) in
+      let below : nat_lt copies limit ≡ true = subst (λ (x : ℕ). nat_lt copies x ≡ true) list.profile it.below in
+      record {
+        below = below;
+        here = it.here ∙ ap (λ (m : ℕ). Some m) same.0;
+        after = behind;
+        enters = subst (λ (m : ℕ). Enters ks (frame_before F m behind) (kind_at declared at) (Start m ∷ told) d) same.0
+            (subst (λ (k : ℕ). Enters ks (frame_before F it.name behind) k (Start it.name ∷ told) d) same.1 it.enters);
+        follows = λ more e leaves. between_more (name_at declared at) more e below leaves;
+      }
+
+  pub more_or_over : IsMore ⊎ (Reads ks F attributes declared (suc at) told d × (d.child ≡ Some (name_at declared at) → ⊥))
+  more_or_over =
+      elim (stands ks F attributes declared at copies told d h list.particle list.there) [
+        | inl it ↦ inl (more_of it)
+        | inr over ↦
+            inr (
+              over.reads,
+              (λ here. sole_there (alternatives_at declared at) only
+                  (ap (λ (o : Option ℕ). kind_of_child (alternatives_at declared at) o) (sym here) ∙ ap (λ (these : List (ℕ × ℕ)). kind_of_child these d.child) (sym same_alternatives) ∙ over.other)),
+            )
+      ]
+
+  pub enters_more : d.child ≡ Some (name_at declared at) → IsMore
   enters_more here =
-      let apart : are_distinct (name ∷ names_in (drop (suc at) declared)) ≡ true =
-      subst (λ (ps : List PlainParticle). are_distinct (names_in ps) ≡ true) left_is (drop_distinct declared at h.distinct) in
-      entered_child ks F h.kind (length h.attributes) at copies told d name kind least most limit (drop (suc at) declared) place d.child refl here apart child_is
+      elim more_or_over [
+        | inl more ↦ more
+        | inr over ↦ absurd (over.1 here)
+      ]
 
-  pub passes : (d.child ≡ Some name → ⊥) → Reads ks F declared (suc at) told d
+  pub passes : (d.child ≡ Some (name_at declared at) → ⊥) → Reads ks F attributes declared (suc at) told d
   passes other =
-      record {
-        kind = h.kind;
-        attributes = h.attributes;
-        is_kind = h.is_kind;
-        distinct = h.distinct;
-        particle = h.particle;
-        passed = h.passed;
-        child = subst (λ (i : ℕ). IsChild ks F place (length h.attributes) i 0 (drop (suc at) declared) told d d.child) (add-one at)
-            (passed ks F h.kind (length h.attributes) at copies told d name kind least most limit (drop (suc at) declared) place d.child other child_is);
-      }
+      elim more_or_over [
+        | inl more ↦ absurd (other more.here)
+        | inr over ↦ over.0
+      ]
 
-  between_at : (more : List Event) (e : Seen) (i j : ℕ) → behind ≡ at_particle h.kind (length h.attributes) i j → Leaves ks (frame_before F name behind) more e →
-      IsBetween ks F declared i j (EndElement ∷ more) e
-  between_at more e i j to leaves =
-      let good = leaves.goes in
-      record {
-        kind = h.kind;
-        attributes = h.attributes;
-        is_kind = h.is_kind;
-        distinct = h.distinct;
-        goes = record { schema_is = good.schema_is; kinds_are = good.kinds_are; bits_are = good.bits_are; none_refused = good.none_refused; told = good.told };
-        standing = leaves.standing ∙ ap (λ (x : Place). Inside (opened F.name x) F.above) to;
-      }
-
-  pub between_more : (more : List Event) (e : Seen) → nat_lt copies limit ≡ true → Leaves ks (frame_before F name behind) more e →
-      IsBetween ks F declared at (copies + 1) (EndElement ∷ more) e ⊎ ((copies + 1 ≡ limit) × IsBetween ks F declared (suc at) 0 (EndElement ∷ more) e)
-  between_more more e below leaves =
-      elim (behind_is h.kind (length h.attributes) at copies most limit below is.1) [
-        | inl to ↦ inl (between_at more e at (copies + 1) to leaves)
-        | inr last ↦ inr (last.0, subst (λ (i : ℕ). IsBetween ks F declared i 0 (EndElement ∷ more) e) (add-one at) (between_at more e (at + 1) 0 last.1 leaves))
+  pub passes_full : nat_lt copies limit ≡ false → Reads ks F attributes declared (suc at) told d
+  passes_full full =
+      elim more_or_over [
+        | inl more ↦ (let wrong : true ≡ false = sym more.below ∙ full in absurd cc)
+        | inr over ↦ over.0
       ]
 
 -- ---- so many are read
 
-module _ (ks : List PlainKind) (F : Frame) (declared : List PlainParticle) (at copies : ℕ) (told : List Event) (d : Seen) (limit : ℕ) (is : IsRepeated declared at limit)
-    (h : Repeats ks F declared at limit copies told d) where
+module _ (ks : List PlainKind) (F : Frame) (attributes : List AttributeOf) (declared : List PlainParticle) (at copies : ℕ) (told : List Event) (d : Seen) (limit : ℕ)
+    (is : is_repeated_at declared at limit ≡ true) (h : Repeats ks F attributes declared at limit copies told d) where
   -- another child is behind them
-  pub stops : (d.child ≡ Some (name_at declared at) → ⊥) → Reads ks F declared (suc at) told d
+  pub stops : (d.child ≡ Some (name_at declared at) → ⊥) → Reads ks F attributes declared (suc at) told d
   stops other =
       elim h [
-        | inl more ↦ passes ks F declared at copies told d limit more is other
+        | inl more ↦ passes ks F attributes declared at copies told d limit more is other
         | inr last ↦ last.1
       ]
 
   -- no more are accepted
-  pub fills : nat_lt copies limit ≡ false → Reads ks F declared (suc at) told d
+  pub fills : nat_lt copies limit ≡ false → Reads ks F attributes declared (suc at) told d
   fills full =
       elim h [
-        | inl more ↦ passes ks F declared at copies told d limit more is (λ here. let below = (enters_more ks F declared at copies told d limit more is here).0 in let wrong : true ≡ false = sym below ∙ full in absurd cc)
+        | inl more ↦ passes_full ks F attributes declared at copies told d limit more is full
         | inr last ↦ last.1
       ]
 
-  pub goes_on : copies < limit → ReadsFrom ks F declared at copies told d
+  pub goes_on : copies < limit → ReadsFrom ks F attributes declared at copies told d
   goes_on below =
       elim h [
         | inl more ↦ more

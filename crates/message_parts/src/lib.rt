@@ -3,17 +3,21 @@
 
 mod children;
 mod descent;
+mod document;
 mod numbers;
 mod part;
+mod texts;
 mod writer;
 
 pub use children::{
-    attribute, choice, first_child, member, optional, optional_value, records, required,
-    required_attributed, value,
+    attribute, choice, first_child, last_attribute, left_out, member, member_value, optional,
+    optional_choice, optional_value, records, required, value, values,
 };
 pub use descent::Descent;
-pub use part::{Attributed, Choice, Record, Simple};
+pub use document::{read, write};
+pub use part::{Choice, Group, PutChoice, PutRecord, Record, Root, Simple};
+pub use texts::{Binary, LentText, Text};
 pub use writer::{
-    Writer, put_attribute, put_attributed, put_choice, put_optional, put_optional_value,
-    put_record, put_records, put_value,
+    put_attribute, put_choice, put_event, put_optional, put_optional_attribute,
+    put_optional_choice, put_optional_value, put_record, put_records, put_value, put_values,
 };

@@ -1,15 +1,13 @@
 //! Numbers and truths as values.
 
-ghost use Rattle.std.specs.Prelude.{◌≡◌};
+ghost use Rattle.std.specs.Prelude.{pos};
+ghost use Rattle.exi_documents.specs.Trees.{Number, Truth};
+ghost use Rattle.message_parts.specs.Values.{is_bool, is_signed, is_unsigned};
 
 use crate::part::Simple;
 use exi_events::Value;
 
 impl<'a> Simple<'a> for u8 {
-    ghost use Rattle.std.specs.Prelude.{pos};
-    ghost use Rattle.exi_documents.specs.Trees.{Number};
-    ghost use Rattle.message_parts.specs.Values.{is_unsigned};
-
     ghost takes = { is_unsigned 8 };
 
     ghost value = { λ x. Number (pos x) };
@@ -26,11 +24,24 @@ impl<'a> Simple<'a> for u8 {
     }
 }
 
-impl<'a> Simple<'a> for u32 {
-    ghost use Rattle.std.specs.Prelude.{pos};
-    ghost use Rattle.exi_documents.specs.Trees.{Number};
-    ghost use Rattle.message_parts.specs.Values.{is_unsigned};
+impl<'a> Simple<'a> for u16 {
+    ghost takes = { is_unsigned 16 };
 
+    ghost value = { λ x. Number (pos x) };
+
+    fn as_value(&self) -> Value<'_> {
+        Value::Number(i128::from(*self))
+    }
+
+    fn of(read: Value<'a>) -> u16 {
+        match read {
+            Value::Number(number) => u16::try_from(number).unwrap_or(0),
+            _ => 0,
+        }
+    }
+}
+
+impl<'a> Simple<'a> for u32 {
     ghost takes = { is_unsigned 32 };
 
     ghost value = { λ x. Number (pos x) };
@@ -47,10 +58,24 @@ impl<'a> Simple<'a> for u32 {
     }
 }
 
-impl<'a> Simple<'a> for i8 {
-    ghost use Rattle.exi_documents.specs.Trees.{Number};
-    ghost use Rattle.message_parts.specs.Values.{is_signed};
+impl<'a> Simple<'a> for u64 {
+    ghost takes = { is_unsigned 64 };
 
+    ghost value = { λ x. Number (pos x) };
+
+    fn as_value(&self) -> Value<'_> {
+        Value::Number(i128::from(*self))
+    }
+
+    fn of(read: Value<'a>) -> u64 {
+        match read {
+            Value::Number(number) => u64::try_from(number).unwrap_or(0),
+            _ => 0,
+        }
+    }
+}
+
+impl<'a> Simple<'a> for i8 {
     ghost takes = { is_signed 7 };
 
     ghost value = { λ x. Number x };
@@ -68,9 +93,6 @@ impl<'a> Simple<'a> for i8 {
 }
 
 impl<'a> Simple<'a> for i16 {
-    ghost use Rattle.exi_documents.specs.Trees.{Number};
-    ghost use Rattle.message_parts.specs.Values.{is_signed};
-
     ghost takes = { is_signed 15 };
 
     ghost value = { λ x. Number x };
@@ -87,10 +109,41 @@ impl<'a> Simple<'a> for i16 {
     }
 }
 
-impl<'a> Simple<'a> for bool {
-    ghost use Rattle.exi_documents.specs.Trees.{Truth};
-    ghost use Rattle.message_parts.specs.Values.{is_bool};
+impl<'a> Simple<'a> for i32 {
+    ghost takes = { is_signed 31 };
 
+    ghost value = { λ x. Number x };
+
+    fn as_value(&self) -> Value<'_> {
+        Value::Number(i128::from(*self))
+    }
+
+    fn of(read: Value<'a>) -> i32 {
+        match read {
+            Value::Number(number) => i32::try_from(number).unwrap_or(0),
+            _ => 0,
+        }
+    }
+}
+
+impl<'a> Simple<'a> for i64 {
+    ghost takes = { is_signed 63 };
+
+    ghost value = { λ x. Number x };
+
+    fn as_value(&self) -> Value<'_> {
+        Value::Number(i128::from(*self))
+    }
+
+    fn of(read: Value<'a>) -> i64 {
+        match read {
+            Value::Number(number) => i64::try_from(number).unwrap_or(0),
+            _ => 0,
+        }
+    }
+}
+
+impl<'a> Simple<'a> for bool {
     ghost takes = { is_bool };
 
     ghost value = { λ x. Truth x };

@@ -1,24 +1,22 @@
 //! What an element contains.
 
 ghost use Rattle.std.specs.Prelude.{◌≡◌, ℕ, ◌∷◌, [], List, Bool, true, Some, IfOk, IfErr, slice_get, length};
-ghost use Rattle.exi_bits.specs.Lent.{Span};
 ghost use Rattle.exi_documents.specs.Trees.{Event as TreeEvent, Value as TreeValue};
 ghost use Rattle.message_parts.specs.Values.{IsRead};
 ghost use Rattle.exi_schema.specs.declared.tables.Datatype.{Datatype};
 ghost use Rattle.exi_schema.specs.Schemas.{are_distinct};
-ghost use Rattle.exi_values.specs.Meaning.{value_of, IsShaped};
-ghost use Rattle.plain_schema.specs.Plain.{PlainKind, PlainParticle, containing};
-ghost use Rattle.message_parts.specs.Contents.{Inside, Part, told_parts, told_attributes, told_inside, attributes_onto, parts_onto, one_onto};
-ghost use Rattle.message_parts.specs.Reading.{Frame, seen_of, IsOpen, Leaves, Reads, IsRefusal, names_in, EntersOne, IsOneOf, StartsAt};
+ghost use Rattle.exi_values.specs.Meaning.{value_of, IsShaped, IsLent};
+ghost use Rattle.plain_schema.specs.Plain.{PlainKind, PlainParticle};
+ghost use Rattle.message_parts.specs.Contents.{Inside, Given, Part, told_parts, told_given, told_inside, given_onto, parts_onto, one_onto};
+ghost use Rattle.message_parts.specs.Particles.{names_among};
+ghost use Rattle.message_parts.specs.Reading.{Frame, seen_of, IsOpen, Leaves, Reads, IsRefusal, IsChosen, StartsAt, names_in};
 ghost use Rattle.message_parts.specs.Writing.{Target, Writes, put_of};
-ghost use Rattle.exi_schema.specs.declared.tables.AttributeOf.{AttributeOf};
-ghost use Rattle.exi_schema.specs.declared.tables.Member.{Member};
 ghost use Rattle.exi_events.specs.Writer.{IsReadyToPut, KeepsLent};
+ghost use Rattle.exi_schema.specs.declared.tables.AttributeOf.{AttributeOf};
 
 use crate::descent::Descent;
-use crate::writer::Writer;
 use exi_documents::Refusal;
-use exi_events::Value;
+use exi_events::{EventWriter, Value};
 use exi_schema::Places;
 
 /// A value of a simple kind.
@@ -34,110 +32,104 @@ pub trait Simple<'a>: Drop {
         ensures shaped { IsShaped result }
         ensures value { value_of result ≡ value self.now };
 
-    /// The value of one of these datatypes.
+    /// What is read as a value of one of these datatypes.
     fn of(read: Value<'a>) -> Self
+        requires lent { (bits : List Bool) × IsLent bits read }
         ensures { (d : Datatype) → takes d ≡ true → IsRead d (value_of read.entry) → value result ≡ value_of read.entry };
 }
 
-/// Elements inside an element of a complex kind.
-pub trait Record<'a>: Drop {
-    /// The declarations of its schema.
-    ghost kinds: { List PlainKind };
+/// What an element of a complex kind contains, attributes and then elements, and how it is put.
+pub trait PutRecord: Drop {
+    /// What stands at its attributes.
+    ghost given: { Self → List Given };
 
-    /// Those of its own elements.
-    ghost particles: { List PlainParticle };
-
-    /// What it is.
+    /// What stands at its particles.
     ghost parts: { Self → List Part };
 
-    /// Reads the children, of which the first is looked at.
-    fn read<P: Places>(descent: &mut Descent<'a, '_, P>) -> Result<Self, Refusal>
-        requires open { IsOpen P.schema descent.old }
-        ensures open { IsOpen P.schema descent.new }
-        ensures places { descent.new.reader.places.now ≡ descent.old.reader.places.now }
-        ensures payload { descent.new.reader.reader.bits ≡ descent.old.reader.reader.bits }
-        ensures refused { IfErr result (λ r. IsRefusal (seen_of P.schema descent.old) r) }
-        // No two elements have one name.
-        ensures distinct { are_distinct (names_in particles) ≡ true }
-        ensures read { (F : Frame) (told : List TreeEvent) → Reads kinds F particles 0 told (seen_of P.schema descent.old)
-            → IfOk result (λ v. Reads kinds F particles (length particles) (told_parts (parts v) told) (seen_of P.schema descent.new)) };
-
-    /// Puts the children.
-    fn write(&self, writer: &mut Writer<'_, '_, '_>)
-        requires ready { IsReadyToPut writer.old.writer }
-        ensures ready { IsReadyToPut writer.new.writer }
-        ensures lent { KeepsLent writer.old.writer writer.new.writer }
-        ensures write { (F : Target) (rest : List TreeEvent) → Writes F (parts_onto (parts self.now) rest) (put_of writer.old)
+    /// Puts the attributes and the elements.
+    fn write<P: Places>(&self, writer: &mut EventWriter<'_, '_, P>)
+        requires ready { IsReadyToPut writer.old }
+        ensures ready { IsReadyToPut writer.new }
+        ensures lent { KeepsLent writer.old writer.new }
+        ensures write { (F : Target) (rest : List TreeEvent) → Writes F (given_onto (given self.now) (parts_onto (parts self.now) rest)) (put_of writer.old)
             → Writes F rest (put_of writer.new) };
 }
 
-/// Attributes and elements inside an element of a complex kind.
-pub trait Attributed<'a>: Drop {
+/// What an element of a complex kind contains, as it is read.
+pub trait Record<'a>: PutRecord {
     /// The declarations of its schema.
     ghost kinds: { List PlainKind };
 
     /// Those of its attributes.
     ghost attributes: { List AttributeOf };
 
-    /// Those of its own elements.
+    /// Those of its elements.
     ghost particles: { List PlainParticle };
 
-    /// What its attributes are.
-    ghost values: { Self → List (ℕ × TreeValue) };
-
-    /// What its elements are.
-    ghost parts: { Self → List Part };
-
-    /// Reads the attributes and the children, up to where there is none.
+    /// Reads the attributes and the elements, up to where there is no more.
     fn read<P: Places>(descent: &mut Descent<'a, '_, P>) -> Result<Self, Refusal>
         requires open { IsOpen P.schema descent.old }
         ensures open { IsOpen P.schema descent.new }
+        ensures table { descent.new.reader.table.ghost_name ≡ descent.old.reader.table.ghost_name }
         ensures places { descent.new.reader.places.now ≡ descent.old.reader.places.now }
         ensures payload { descent.new.reader.reader.bits ≡ descent.old.reader.reader.bits }
         ensures refused { IfErr result (λ r. IsRefusal (seen_of P.schema descent.old) r) }
         // No two elements have one name.
         ensures distinct { are_distinct (names_in particles) ≡ true }
-        ensures read { (F : Frame) (told : List TreeEvent) → StartsAt kinds F attributes particles told (seen_of P.schema descent.old)
-            → IfOk result (λ v. Reads kinds F particles (length particles) (told_parts (parts v) (told_attributes (values v) told)) (seen_of P.schema descent.new)) };
-
-    /// Puts the attributes and the children.
-    fn write(&self, writer: &mut Writer<'_, '_, '_>)
-        requires ready { IsReadyToPut writer.old.writer }
-        ensures ready { IsReadyToPut writer.new.writer }
-        ensures lent { KeepsLent writer.old.writer writer.new.writer }
-        ensures write { (F : Target) (rest : List TreeEvent) → Writes F (attributes_onto (values self.now) (parts_onto (parts self.now) rest)) (put_of writer.old)
-            → Writes F rest (put_of writer.new) };
+        ensures read { (F : Frame) (told : List TreeEvent) → StartsAt kinds F attributes particles 0 told (seen_of P.schema descent.old)
+            → IfOk result (λ v. Reads kinds F attributes particles (length particles) (told_parts (Self.parts v) (told_given (Self.given v) told)) (seen_of P.schema descent.new)) };
 }
 
-/// An element of a group.
-pub trait Choice<'a>: Drop {
-    /// The declarations of its schema.
-    ghost kinds: { List PlainKind };
-
-    /// The elements of the group.
-    ghost members: { List Member };
-
+/// One of several elements, of a choice or of a substitution group, and how it is put.
+pub trait PutChoice: Drop {
     /// Which it is.
     ghost name: { Self → ℕ };
 
     /// What it contains.
     ghost inside: { Self → Inside };
 
+    /// Puts it.
+    fn write_member<P: Places>(&self, writer: &mut EventWriter<'_, '_, P>)
+        requires ready { IsReadyToPut writer.old }
+        ensures ready { IsReadyToPut writer.new }
+        ensures lent { KeepsLent writer.old writer.new }
+        ensures write { (F : Target) (rest : List TreeEvent) → Writes F (one_onto (name self.now) (inside self.now) rest) (put_of writer.old)
+            → Writes F rest (put_of writer.new) };
+}
+
+/// One of several elements, as it is read.
+pub trait Choice<'a>: PutChoice {
+    /// The declarations of its schema.
+    ghost kinds: { List PlainKind };
+
+    /// The names and kinds of the elements that may stand there.
+    ghost members: { List (ℕ × ℕ) };
+
     /// Reads the rest of the element, which has started.
     fn read_member<P: Places>(descent: &mut Descent<'a, '_, P>) -> Result<Self, Refusal>
         requires open { IsOpen P.schema descent.old }
         ensures open { IsOpen P.schema descent.new }
+        ensures table { descent.new.reader.table.ghost_name ≡ descent.old.reader.table.ghost_name }
         ensures places { descent.new.reader.places.now ≡ descent.old.reader.places.now }
         ensures payload { descent.new.reader.reader.bits ≡ descent.old.reader.reader.bits }
         ensures refused { IfErr result (λ r. IsRefusal (seen_of P.schema descent.old) r) }
-        ensures read { (F : Frame) (told : List TreeEvent) → descent.old.child ≡ Some F.name → EntersOne kinds F members told (seen_of P.schema descent.old) → IsOneOf members F.name
-            → IfOk result (λ v. (name v ≡ F.name) × Leaves kinds F (told_inside (inside v) told) (seen_of P.schema descent.new)) };
+        ensures read { (F : Frame) (told : List TreeEvent) → IsChosen kinds F members told (seen_of P.schema descent.old)
+            → IfOk result (λ v. (Self.name v ≡ F.name) × Leaves kinds F (told_inside (Self.inside v) told) (seen_of P.schema descent.new)) };
+}
 
-    /// Puts it.
-    fn write_member(&self, writer: &mut Writer<'_, '_, '_>)
-        requires ready { IsReadyToPut writer.old.writer }
-        ensures ready { IsReadyToPut writer.new.writer }
-        ensures lent { KeepsLent writer.old.writer writer.new.writer }
-        ensures write { (F : Target) (rest : List TreeEvent) → Writes F (one_onto (name self.now) (inside self.now) rest) (put_of writer.old)
-            → Writes F rest (put_of writer.new) };
+/// One of several elements where none may stand either.
+pub trait Group<'a>: Choice<'a> {
+    /// The names of the elements that may stand there.
+    fn names() -> &'static [u16]
+        ensures { result.now ≡ names_among Self.members };
+}
+
+/// The root of a document.
+pub trait Root: PutChoice {
+    /// Its document number.
+    ghost number: { Self → ℕ };
+
+    /// Its document number.
+    fn number(&self) -> u32
+        ensures { result ≡ number self.now };
 }

@@ -1,6 +1,6 @@
 use Rattle.std.proofs.Common.{rules, ap, refl}
 use Rattle.message_parts.proofs.Next.{stays_open}
-use Rattle.message_parts.proofs.Attributes.{attribute_next}
+use Rattle.message_parts.proofs.Attributes.{given_next}
 use Rattle.message_parts.specs.Reading.{seen_of}
 use Rattle.message_parts.proofs.descent.Descent.attribute.Goals as goal
 
@@ -15,7 +15,7 @@ pub returns-clause-lent : goal.returns-clause-lent
 returns-clause-lent g c = c.attribute_in.ensures.lent _ c.in_ok-event.ensures.lent
 
 pub returns-clause-attribute : goal.returns-clause-attribute
-returns-clause-attribute g c = λ ks F name kind left declared d told h simple.
-    attribute_next ks F name kind left declared told (seen_of g.P.Places.schema c.args.self.now) (seen_of g.P.Places.schema record { reader = c.next.new.self; child = c.args.self.now.child }) h d simple
-    _ _ _ refl c.attribute_in.ensures.value
+returns-clause-attribute g c = λ ks F attributes declared at d told h must simple.
+    given_next ks F attributes declared at told (seen_of g.P.Places.schema c.args.self.now) (seen_of g.P.Places.schema record { reader = c.next.new.self; child = c.args.self.now.child }) h must d simple
+    _ _ c.attribute_in.ensures.value
     (ap g.P.Places.schema c.in_ok-event.ensures.places) c.in_ok-event.ensures.payload c.in_ok-event.ensures.open_still.1 c.in_ok-event.ensures.next c.in_ok-event.ensures.told

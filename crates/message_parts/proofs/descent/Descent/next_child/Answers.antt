@@ -12,6 +12,6 @@ returns-clause-open g c = record {
 }
 
 pub returns-clause-child : goal.returns-clause-child
-returns-clause-child g c = λ ks F declared at copies told h.
-    reads_next ks F declared at copies told _ (seen_of g.P.Places.schema c.args.self.now) (seen_of g.P.Places.schema record { reader = c.next.new.self; child = c.child_of-self.result }) h
+returns-clause-child g c = λ ks F attributes declared at copies told h.
+    reads_next ks F attributes declared at copies told _ (seen_of g.P.Places.schema c.args.self.now) (seen_of g.P.Places.schema record { reader = c.next.new.self; child = c.child_of-self.result }) h
     c.child_of-self.ensures (ap g.P.Places.schema c.in_ok-event.ensures.places) c.in_ok-event.ensures.payload c.in_ok-event.ensures.open_still.1 c.in_ok-event.ensures.next c.in_ok-event.ensures.told

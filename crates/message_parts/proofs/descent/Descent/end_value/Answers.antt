@@ -1,7 +1,7 @@
 use Rattle.std.proofs.Common.{rules, ap, refl}
 use Rattle.message_parts.proofs.Next.{stays_open, end_next}
 use Rattle.message_parts.specs.Reading.{seen_of}
-use Rattle.message_parts.proofs.descent.Descent.end.Goals as goal
+use Rattle.message_parts.proofs.descent.Descent.end_value.Goals as goal
 
 pub returns-clause-open : goal.returns-clause-open
 returns-clause-open g c = record {
