@@ -6,5 +6,4 @@ pub mod Places
 pub mod Written
 pub mod Encoded
 pub mod OneMessage
-pub mod Agreeing
 pub mod Short

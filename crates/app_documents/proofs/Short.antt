@@ -1,23 +1,21 @@
 -- What is written for a response is short.
 use Rattle.std.proofs.Common.{ℕ, ◌≤◌, Bool, List, length, Option, sym, ap, subst, arith}
-use Rattle.exi_schema.specs.declared.schema.Schema.{Schema}
 use Rattle.exi_documents.specs.Documents.{SpellsDocument}
 use Rattle.exi_documents.specs.Values.{WritesValue}
 use Rattle.document_laws.proofs.Encodings.{document_once, document_spelled}
 use Rattle.document_laws.proofs.Written.{value_once}
-use Rattle.app_schema.specs.Declarations.{IsNegotiation}
+use Rattle.app_schema.specs.Declarations.{negotiation_schema}
 use Rattle.app_documents.specs.Trees.{Message, Response, IsMessage, tree_of}
-use Rattle.app_documents.proofs.Agreeing.{bounds_fit}
 use Rattle.app_documents.proofs.Encoded.{response_encoded}
 use Rattle.app_documents.proofs.OneMessage.{one_message}
 use Rattle.app_documents.proofs.Shapes.{of_message}
 
-pub response_short : (s : Schema) → IsNegotiation s → (number code : ℕ) (schema : Option ℕ) (bits : List Bool) → SpellsDocument WritesValue s number (tree_of (Response code schema)) bits → length bits ≤ 28
-response_short s negotiation number code schema bits written =
+pub response_short : (number code : ℕ) (schema : Option ℕ) (bits : List Bool) → SpellsDocument WritesValue negotiation_schema number (tree_of (Response code schema)) bits → length bits ≤ 28
+response_short number code schema bits written =
     let m : Message = Response code schema in
-    let spelled = document_spelled s (bounds_fit s negotiation) number (tree_of m) bits written in
-    let of = of_message s negotiation number (tree_of m) bits spelled in
+    let spelled = document_spelled negotiation_schema number (tree_of m) bits written in
+    let of = of_message number (tree_of m) bits spelled in
     let is : IsMessage m = subst (λ (n : Message). IsMessage n) (sym (one_message m of.0 of.2)) of.1 in
-    let short = response_encoded s negotiation code schema is in
-    let one = document_once WritesValue value_once s number 1 (tree_of m) bits short.0 written short.1 in
+    let short = response_encoded code schema is in
+    let one = document_once WritesValue value_once negotiation_schema number 1 (tree_of m) bits short.0 written short.1 in
     omega (arith, short.2, ap length one.1)

@@ -3,40 +3,31 @@
 #![tactic(auto)]
 
 ghost use Rattle.std.specs.Prelude.{◌≡◌, ℕ, ◌*◌, ◌≤◌, Bool, List, length, Option};
-ghost use Rattle.exi_schema.specs.declared.schema.Schema.{Schema};
 ghost use Rattle.exi_documents.specs.Documents.{SpellsDocument};
 ghost use Rattle.exi_documents.specs.Trees.{Tree};
 ghost use Rattle.exi_documents.specs.Values.{SpellsValue, WritesValue};
-ghost use Rattle.app_schema.specs.Declarations.{IsNegotiation};
+ghost use Rattle.app_schema.specs.Declarations.{negotiation_schema};
 ghost use Rattle.app_documents.specs.Trees.{Message, Response, IsMessage, tree_of, number_of};
 
 /// Each document of the negotiation is the tree of a request or of a response within its ranges.
 pub fn documents_are_messages()
-    ensures { (s : Schema) → IsNegotiation s → (number : ℕ) (tree : Tree) (bits : List Bool) → SpellsDocument SpellsValue s number tree bits
+    ensures { (number : ℕ) (tree : Tree) (bits : List Bool) → SpellsDocument SpellsValue negotiation_schema number tree bits
         → (m : Message) × IsMessage m × (tree ≡ tree_of m) × (number ≡ number_of m) }
 {}
 
 /// Each message within its ranges is written by some bits, no more than 32,768 bytes hold.
 pub fn messages_are_written()
-    ensures { (s : Schema) → IsNegotiation s → (m : Message) → IsMessage m
-        → (bits : List Bool) × SpellsDocument WritesValue s (number_of m) (tree_of m) bits × (length bits ≤ 8 * 32768) }
+    ensures { (m : Message) → IsMessage m
+        → (bits : List Bool) × SpellsDocument WritesValue negotiation_schema (number_of m) (tree_of m) bits × (length bits ≤ 8 * 32768) }
 {}
 
 /// What is written for a response has at most 28 bits.
 pub fn responses_are_short()
-    ensures { (s : Schema) → IsNegotiation s → (number code : ℕ) (schema : Option ℕ) (bits : List Bool)
-        → SpellsDocument WritesValue s number (tree_of (Response code schema)) bits → length bits ≤ 28 }
+    ensures { (number code : ℕ) (schema : Option ℕ) (bits : List Bool)
+        → SpellsDocument WritesValue negotiation_schema number (tree_of (Response code schema)) bits → length bits ≤ 28 }
 {}
 
 /// A tree is that of one message.
 pub fn one_message()
     ensures { (m n : Message) → tree_of m ≡ tree_of n → m ≡ n }
-{}
-
-/// A document of one schema of the negotiation is one of each.
-pub fn schemas_agree()
-    ensures spelled { (s t : Schema) → IsNegotiation s → IsNegotiation t → (number : ℕ) (tree : Tree) (bits : List Bool)
-        → SpellsDocument SpellsValue s number tree bits → SpellsDocument SpellsValue t number tree bits }
-    ensures written { (s t : Schema) → IsNegotiation s → IsNegotiation t → (number : ℕ) (tree : Tree) (bits : List Bool)
-        → SpellsDocument WritesValue s number tree bits → SpellsDocument WritesValue t number tree bits }
 {}

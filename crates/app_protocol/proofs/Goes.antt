@@ -1,6 +1,6 @@
 -- Events that are put one after the other.
 use Rattle.std.proofs.Common.{◌≡◌, ◌+◌, Bool, List, [], ◌∷◌, ◌++◌, length, length-append, append_assoc, append-nil, refl, sym, ap, ap₂, subst, ◌∙◌, arith}
-use Rattle.exi_schema.specs.declared.schema.Schema.{Schema}
+use Rattle.exi_schema.specs.Schemas.{PlainSchema}
 use Rattle.exi_documents.specs.Grammar.{Opened, State, Moves, around}
 use Rattle.exi_documents.specs.Trees.{Event}
 use Rattle.exi_documents.specs.Values.{WritesValue}
@@ -9,32 +9,32 @@ use Rattle.exi_events.specs.Reader.{IsSound, standing_of}
 use Rattle.exi_events.specs.declared.reader.Phase.{Phase}
 use Rattle.exi_events.specs.declared.reader.Phase.TheVariants as phase
 use Rattle.exi_schema.specs.Offers.{IsPlace}
-use Rattle.exi_schema.specs.declared.tables.Declaration.{Declaration}
+use Rattle.exi_schema.specs.Plain.{PlainKind}
 use Rattle.std.specs.List.{AllByRecursion}
 use Rattle.exi_events.specs.Writer.{Draft}
 use Rattle.exi_events.proofs.Drafts.{adds_none, adds_both, more_behind}
 use Rattle.document_laws.specs.Laws.{IsStanding}
 use Rattle.document_laws.proofs.Runs.{Runs}
 use Rattle.document_laws.proofs.Written.{value_once}
-use Rattle.tree_text.proofs.Once.{moves_once}
-use Rattle.tree_text.proofs.Standings.{standing_kept}
+use Rattle.document_laws.proofs.Once.{moves_once}
+use Rattle.document_laws.proofs.Standings.{standing_kept}
 use Rattle.app_protocol.specs.Writing.{Goes, MayPut, HasWritten, HasNoRoomFor}
 
 -- where a writer stands is in the schema
-open_places : (kinds : List Declaration) (elements : List Opened) → AreOpen kinds elements → AllByRecursion (λ o. IsPlace kinds o.place) elements
+open_places : (kinds : List PlainKind) (elements : List Opened) → AreOpen kinds elements → AllByRecursion (λ o. IsPlace kinds o.place) elements
 open_places kinds [] open_all = tt {0}
 open_places kinds (top ∷ above) open_all = (open_all.0, open_places kinds above open_all.2)
 
-around_stands : (s : Schema) (elements : List Opened) → AreOpen s.kinds.now elements → IsStanding s (around elements)
+around_stands : (s : PlainSchema) (elements : List Opened) → AreOpen s.kinds elements → IsStanding s (around elements)
 around_stands s [] all = tt {0}
-around_stands s (top ∷ above) all = (all.0, open_places s.kinds.now above all.2)
+around_stands s (top ∷ above) all = (all.0, open_places s.kinds above all.2)
 
-pub sound_stands : (s : Schema) (phase : Phase) (elements : List Opened) → IsSound s phase elements → IsStanding s (standing_of phase elements)
+pub sound_stands : (s : PlainSchema) (phase : Phase) (elements : List Opened) → IsSound s phase elements → IsStanding s (standing_of phase elements)
 sound_stands s phase.Before elements is = tt {0}
 sound_stands s (phase.AtRoot name kind) elements is = is.1
 sound_stands s phase.Inside elements is = around_stands s elements is
 
-module _ (s : Schema) where
+module _ (s : PlainSchema) where
   goes_both : (old middle new : State) (xs ys : List Event) (a b : List Bool) → Goes s old xs a middle → Goes s middle ys b new → Goes s old (xs ++ ys) (a ++ b) new
   goes_both old middle new [] ys a b r q =
       subst (λ (l : List Bool). Goes s old ys (l ++ b) new) (sym r.0) (subst (λ (state : State). Goes s state ys b new) r.1 q)

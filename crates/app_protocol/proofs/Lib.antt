@@ -4,7 +4,6 @@ pub mod Newest
 pub mod Folded
 pub mod Read
 pub mod Printed
-pub mod Alike
 pub mod Decided
 pub mod Goes
 pub mod OneByOne
@@ -13,6 +12,5 @@ pub mod Sequence
 pub mod Encoded
 pub mod Named
 pub mod Consistency
-pub mod Texts
 pub mod Encodings
 pub mod Scanned

@@ -1,7 +1,6 @@
 -- Own: the text of a message of the negotiation, which is that of its tree.
 use Rattle.std.specs.Prelude.{ℕ, List}
-use Rattle.exi_schema.specs.declared.schema.Schema.{Schema}
-use Rattle.app_schema.specs.Declarations.{IsNegotiation}
+use Rattle.app_schema.specs.Declarations.{negotiation_schema}
 use Rattle.app_documents.specs.Trees.{Message, tree_of}
 use Rattle.tree_text.specs.TreeText.{IsTreeText}
 use Rattle.tree_text.specs.declared.fault.PrintFault.{PrintFault}
@@ -9,10 +8,8 @@ use Rattle.tree_text.specs.declared.fault.PrintFault.TheVariants.{Refused, Memor
 use Rattle.app_protocol.specs.Documents.{IsApp, IsAppRefused}
 
 -- the text of a message
-pub record IsAppText (m : Message) (text : List ℕ) : Type 0 where
-  pub schema : Schema
-  pub negotiation : IsNegotiation schema
-  pub written : IsTreeText schema (tree_of m) text
+abbrev pub IsAppText : Message → List ℕ → Type 0
+IsAppText m text = IsTreeText negotiation_schema (tree_of m) text
 
 -- a payload spells a message, and this is its text
 abbrev pub IsPrinted : List ℕ → List ℕ → Type 0

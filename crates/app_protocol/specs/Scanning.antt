@@ -1,7 +1,6 @@
 -- Own: the payload of the text of a message of the negotiation, and where a text has none.
 use Rattle.std.specs.Prelude.{ℕ, List}
-use Rattle.exi_schema.specs.declared.schema.Schema.{Schema}
-use Rattle.app_schema.specs.Declarations.{IsNegotiation}
+use Rattle.app_schema.specs.Declarations.{negotiation_schema}
 use Rattle.app_documents.specs.Trees.{Message}
 use Rattle.tree_text.specs.Scans.{IsScanFault}
 use Rattle.value_text.specs.declared.fault.ScanFault.{ScanFault}
@@ -17,10 +16,8 @@ pub record IsAppScanned (text payload : List ℕ) : Type 0 where
   pub spelled : IsApp message payload
 
 -- a text of no such message is at fault at this character, from 0
-pub record IsAppUnscanned (text : List ℕ) (place : ℕ) : Type 0 where
-  pub schema : Schema
-  pub negotiation : IsNegotiation schema
-  pub fault : IsScanFault schema text (Place place)
+abbrev pub IsAppUnscanned : List ℕ → ℕ → Type 0
+IsAppUnscanned text place = IsScanFault negotiation_schema text (Place place)
 
 -- a text is refused so. Want of memory comes freely
 abbrev pub IsAppScanFault : List ℕ → ScanFault → Type 0

@@ -2,7 +2,7 @@
 use Rattle.std.specs.Prelude.{◌≡◌, ℕ, Bool, List, [], ◌∷◌, ◌++◌, Option, Some, None, IsSome, length}
 use Rattle.std.specs.Str.{chars}
 use Rattle.std.specs.List.{AllByRecursion, flat_map}
-use Rattle.exi_schema.specs.declared.schema.Schema.{Schema}
+use Rattle.exi_schema.specs.Schemas.{PlainSchema}
 use Rattle.exi_documents.specs.Grammar.{State, Moves}
 use Rattle.exi_documents.specs.Trees.{Event as TreeEvent, Text, Start, Content, EndElement, events_of, document_events}
 use Rattle.exi_documents.specs.Values.{WritesValue}
@@ -45,7 +45,7 @@ message_events m = document_events (number_of m) (tree_of m)
 -- ---- what is written
 
 -- events lead from one state to another, each by the bits that are written of it
-abbrev pub Goes : Schema → State → List TreeEvent → List Bool → State → Type 0
+abbrev pub Goes : PlainSchema → State → List TreeEvent → List Bool → State → Type 0
 Goes s old [] bits new = (bits ≡ []) × (new ≡ old)
 Goes s old (event ∷ events) bits new =
     (middle : State) × (front : List Bool) × (rest : List Bool)
@@ -54,13 +54,13 @@ Goes s old (event ∷ events) bits new =
     × (bits ≡ front ++ rest)
 
 -- some bits write them
-abbrev pub MayPut : Schema → State → List TreeEvent → Type 0
+abbrev pub MayPut : PlainSchema → State → List TreeEvent → Type 0
 MayPut s old told = (bits : List Bool) × (new : State) × Goes s old told bits new
 
 -- their bits are written
-abbrev pub HasWritten : Schema → Draft → Draft → List TreeEvent → Type 0
+abbrev pub HasWritten : PlainSchema → Draft → Draft → List TreeEvent → Type 0
 HasWritten s old new told = (bits : List Bool) × Goes s old.state told bits new.state × Adds old new bits
 
 -- the room is too small for them
-abbrev pub HasNoRoomFor : Schema → Draft → List TreeEvent → Type 0
+abbrev pub HasNoRoomFor : PlainSchema → Draft → List TreeEvent → Type 0
 HasNoRoomFor s draft told = (bits : List Bool) × ((new : State) × Goes s draft.state told bits new) × NeedsMore draft (length bits)

@@ -2,6 +2,7 @@
 
 ghost use Rattle.std.specs.Prelude.{◌≡◌, ◌*◌, ◌<◌, ◌∷◌, [], None, OnOk, OnErr, IfErr, length, map};
 ghost use Rattle.std.specs.List.{flat_map};
+ghost use Rattle.exi_schema.specs.Told.{schema_of};
 ghost use Rattle.exi_documents.specs.Trees.{events_of};
 ghost use Rattle.exi_events.specs.Writer.{draft_of, IsReadyToPut, KeepsLent};
 ghost use Rattle.exi_values.specs.Meaning.{event_of};
@@ -29,12 +30,12 @@ fn put_one(writer: &mut EventWriter<Schema>, event: &Event) -> Result<(), Full>
     requires ready { IsReadyToPut writer.old }
     requires open_still { writer.old.full ≡ None }
     requires telling { IsTelling event.now }
-    requires may { MayPut writer.old.places.now (draft_of writer.old).state (list_of (event_of event.now)) }
+    requires may { MayPut (schema_of writer.old.places.now) (draft_of writer.old).state (list_of (event_of event.now)) }
     ensures ready { IsReadyToPut writer.new }
     ensures open_still { OnOk result (writer.new.full ≡ None) }
     ensures lent { KeepsLent writer.old writer.new }
-    ensures put { OnOk result (HasWritten writer.old.places.now (draft_of writer.old) (draft_of writer.new) (list_of (event_of event.now))) }
-    ensures full { OnErr result (HasNoRoomFor writer.old.places.now (draft_of writer.old) (list_of (event_of event.now))) }
+    ensures put { OnOk result (HasWritten (schema_of writer.old.places.now) (draft_of writer.old) (draft_of writer.new) (list_of (event_of event.now))) }
+    ensures full { OnErr result (HasNoRoomFor (schema_of writer.old.places.now) (draft_of writer.old) (list_of (event_of event.now))) }
     ensures bits { IfErr result (λ full. 8 * length writer.old.room.now < full.bits) }
 {
     writer.put(event)
@@ -45,12 +46,12 @@ fn put_all(writer: &mut EventWriter<Schema>, events: &[Event]) -> Result<(), Ful
     requires ready { IsReadyToPut writer.old }
     requires open_still { writer.old.full ≡ None }
     requires telling { AreTelling events.now }
-    requires may { MayPut writer.old.places.now (draft_of writer.old).state (told_by events.now) }
+    requires may { MayPut (schema_of writer.old.places.now) (draft_of writer.old).state (told_by events.now) }
     ensures ready { IsReadyToPut writer.new }
     ensures open_still { OnOk result (writer.new.full ≡ None) }
     ensures lent { KeepsLent writer.old writer.new }
-    ensures put { OnOk result (HasWritten writer.old.places.now (draft_of writer.old) (draft_of writer.new) (told_by events.now)) }
-    ensures full { OnErr result (HasNoRoomFor writer.old.places.now (draft_of writer.old) (told_by events.now)) }
+    ensures put { OnOk result (HasWritten (schema_of writer.old.places.now) (draft_of writer.old) (draft_of writer.new) (told_by events.now)) }
+    ensures full { OnErr result (HasNoRoomFor (schema_of writer.old.places.now) (draft_of writer.old) (told_by events.now)) }
     ensures bits { IfErr result (λ full. 8 * length writer.old.room.now < full.bits) }
 {
     for event in events {
@@ -63,12 +64,12 @@ fn put_all(writer: &mut EventWriter<Schema>, events: &[Event]) -> Result<(), Ful
 fn put_text(writer: &mut EventWriter<Schema>, name: u16, text: &str) -> Result<(), Full>
     requires ready { IsReadyToPut writer.old }
     requires open_still { writer.old.full ≡ None }
-    requires may { MayPut writer.old.places.now (draft_of writer.old).state (text_events name text.now) }
+    requires may { MayPut (schema_of writer.old.places.now) (draft_of writer.old).state (text_events name text.now) }
     ensures ready { IsReadyToPut writer.new }
     ensures open_still { OnOk result (writer.new.full ≡ None) }
     ensures lent { KeepsLent writer.old writer.new }
-    ensures put { OnOk result (HasWritten writer.old.places.now (draft_of writer.old) (draft_of writer.new) (text_events name text.now)) }
-    ensures full { OnErr result (HasNoRoomFor writer.old.places.now (draft_of writer.old) (text_events name text.now)) }
+    ensures put { OnOk result (HasWritten (schema_of writer.old.places.now) (draft_of writer.old) (draft_of writer.new) (text_events name text.now)) }
+    ensures full { OnErr result (HasNoRoomFor (schema_of writer.old.places.now) (draft_of writer.old) (text_events name text.now)) }
     ensures bits { IfErr result (λ full. 8 * length writer.old.room.now < full.bits) }
 {
     put_one(writer, &Event::Start(name))?;
@@ -80,12 +81,12 @@ fn put_text(writer: &mut EventWriter<Schema>, name: u16, text: &str) -> Result<(
 fn put_number(writer: &mut EventWriter<Schema>, field: &NumberField) -> Result<(), Full>
     requires ready { IsReadyToPut writer.old }
     requires open_still { writer.old.full ≡ None }
-    requires may { MayPut writer.old.places.now (draft_of writer.old).state (number_events field.now) }
+    requires may { MayPut (schema_of writer.old.places.now) (draft_of writer.old).state (number_events field.now) }
     ensures ready { IsReadyToPut writer.new }
     ensures open_still { OnOk result (writer.new.full ≡ None) }
     ensures lent { KeepsLent writer.old writer.new }
-    ensures put { OnOk result (HasWritten writer.old.places.now (draft_of writer.old) (draft_of writer.new) (number_events field.now)) }
-    ensures full { OnErr result (HasNoRoomFor writer.old.places.now (draft_of writer.old) (number_events field.now)) }
+    ensures put { OnOk result (HasWritten (schema_of writer.old.places.now) (draft_of writer.old) (draft_of writer.new) (number_events field.now)) }
+    ensures full { OnErr result (HasNoRoomFor (schema_of writer.old.places.now) (draft_of writer.old) (number_events field.now)) }
     ensures bits { IfErr result (λ full. 8 * length writer.old.room.now < full.bits) }
 {
     put_all(
@@ -102,12 +103,12 @@ fn put_number(writer: &mut EventWriter<Schema>, field: &NumberField) -> Result<(
 fn put_numbers(writer: &mut EventWriter<Schema>, fields: &[NumberField]) -> Result<(), Full>
     requires ready { IsReadyToPut writer.old }
     requires open_still { writer.old.full ≡ None }
-    requires may { MayPut writer.old.places.now (draft_of writer.old).state (flat_map number_events fields.now) }
+    requires may { MayPut (schema_of writer.old.places.now) (draft_of writer.old).state (flat_map number_events fields.now) }
     ensures ready { IsReadyToPut writer.new }
     ensures open_still { OnOk result (writer.new.full ≡ None) }
     ensures lent { KeepsLent writer.old writer.new }
-    ensures put { OnOk result (HasWritten writer.old.places.now (draft_of writer.old) (draft_of writer.new) (flat_map number_events fields.now)) }
-    ensures full { OnErr result (HasNoRoomFor writer.old.places.now (draft_of writer.old) (flat_map number_events fields.now)) }
+    ensures put { OnOk result (HasWritten (schema_of writer.old.places.now) (draft_of writer.old) (draft_of writer.new) (flat_map number_events fields.now)) }
+    ensures full { OnErr result (HasNoRoomFor (schema_of writer.old.places.now) (draft_of writer.old) (flat_map number_events fields.now)) }
     ensures bits { IfErr result (λ full. 8 * length writer.old.room.now < full.bits) }
 {
     for field in fields {
@@ -120,12 +121,12 @@ fn put_numbers(writer: &mut EventWriter<Schema>, fields: &[NumberField]) -> Resu
 fn put_fields(writer: &mut EventWriter<Schema>, protocol: &AppProtocol) -> Result<(), Full>
     requires ready { IsReadyToPut writer.old }
     requires open_still { writer.old.full ≡ None }
-    requires may { MayPut writer.old.places.now (draft_of writer.old).state (field_events (protocol_of protocol.now)) }
+    requires may { MayPut (schema_of writer.old.places.now) (draft_of writer.old).state (field_events (protocol_of protocol.now)) }
     ensures ready { IsReadyToPut writer.new }
     ensures open_still { OnOk result (writer.new.full ≡ None) }
     ensures lent { KeepsLent writer.old writer.new }
-    ensures put { OnOk result (HasWritten writer.old.places.now (draft_of writer.old) (draft_of writer.new) (field_events (protocol_of protocol.now))) }
-    ensures full { OnErr result (HasNoRoomFor writer.old.places.now (draft_of writer.old) (field_events (protocol_of protocol.now))) }
+    ensures put { OnOk result (HasWritten (schema_of writer.old.places.now) (draft_of writer.old) (draft_of writer.new) (field_events (protocol_of protocol.now))) }
+    ensures full { OnErr result (HasNoRoomFor (schema_of writer.old.places.now) (draft_of writer.old) (field_events (protocol_of protocol.now))) }
     ensures bits { IfErr result (λ full. 8 * length writer.old.room.now < full.bits) }
 {
     put_text(writer, NAMESPACE, protocol.namespace.as_str())?;
@@ -156,12 +157,12 @@ fn put_fields(writer: &mut EventWriter<Schema>, protocol: &AppProtocol) -> Resul
 fn put_protocol(writer: &mut EventWriter<Schema>, protocol: &AppProtocol) -> Result<(), Full>
     requires ready { IsReadyToPut writer.old }
     requires open_still { writer.old.full ≡ None }
-    requires may { MayPut writer.old.places.now (draft_of writer.old).state (protocol_events (protocol_of protocol.now)) }
+    requires may { MayPut (schema_of writer.old.places.now) (draft_of writer.old).state (protocol_events (protocol_of protocol.now)) }
     ensures ready { IsReadyToPut writer.new }
     ensures open_still { OnOk result (writer.new.full ≡ None) }
     ensures lent { KeepsLent writer.old writer.new }
-    ensures put { OnOk result (HasWritten writer.old.places.now (draft_of writer.old) (draft_of writer.new) (protocol_events (protocol_of protocol.now))) }
-    ensures full { OnErr result (HasNoRoomFor writer.old.places.now (draft_of writer.old) (protocol_events (protocol_of protocol.now))) }
+    ensures put { OnOk result (HasWritten (schema_of writer.old.places.now) (draft_of writer.old) (draft_of writer.new) (protocol_events (protocol_of protocol.now))) }
+    ensures full { OnErr result (HasNoRoomFor (schema_of writer.old.places.now) (draft_of writer.old) (protocol_events (protocol_of protocol.now))) }
     ensures bits { IfErr result (λ full. 8 * length writer.old.room.now < full.bits) }
 {
     put_one(writer, &Event::Start(APP_PROTOCOL))?;
@@ -173,12 +174,12 @@ fn put_protocol(writer: &mut EventWriter<Schema>, protocol: &AppProtocol) -> Res
 fn put_protocols(writer: &mut EventWriter<Schema>, protocols: &[AppProtocol]) -> Result<(), Full>
     requires ready { IsReadyToPut writer.old }
     requires open_still { writer.old.full ≡ None }
-    requires may { MayPut writer.old.places.now (draft_of writer.old).state (flat_map (λ p. protocol_events (protocol_of p)) protocols.now) }
+    requires may { MayPut (schema_of writer.old.places.now) (draft_of writer.old).state (flat_map (λ p. protocol_events (protocol_of p)) protocols.now) }
     ensures ready { IsReadyToPut writer.new }
     ensures open_still { OnOk result (writer.new.full ≡ None) }
     ensures lent { KeepsLent writer.old writer.new }
-    ensures put { OnOk result (HasWritten writer.old.places.now (draft_of writer.old) (draft_of writer.new) (flat_map (λ p. protocol_events (protocol_of p)) protocols.now)) }
-    ensures full { OnErr result (HasNoRoomFor writer.old.places.now (draft_of writer.old) (flat_map (λ p. protocol_events (protocol_of p)) protocols.now)) }
+    ensures put { OnOk result (HasWritten (schema_of writer.old.places.now) (draft_of writer.old) (draft_of writer.new) (flat_map (λ p. protocol_events (protocol_of p)) protocols.now)) }
+    ensures full { OnErr result (HasNoRoomFor (schema_of writer.old.places.now) (draft_of writer.old) (flat_map (λ p. protocol_events (protocol_of p)) protocols.now)) }
     ensures bits { IfErr result (λ full. 8 * length writer.old.room.now < full.bits) }
 {
     for protocol in protocols {
@@ -191,12 +192,12 @@ fn put_protocols(writer: &mut EventWriter<Schema>, protocols: &[AppProtocol]) ->
 fn put_request(writer: &mut EventWriter<Schema>, request: &AppReq) -> Result<(), Full>
     requires ready { IsReadyToPut writer.old }
     requires open_still { writer.old.full ≡ None }
-    requires may { MayPut writer.old.places.now (draft_of writer.old).state (message_events (Request (protocols_of request.now))) }
+    requires may { MayPut (schema_of writer.old.places.now) (draft_of writer.old).state (message_events (Request (protocols_of request.now))) }
     ensures ready { IsReadyToPut writer.new }
     ensures open_still { OnOk result (writer.new.full ≡ None) }
     ensures lent { KeepsLent writer.old writer.new }
-    ensures put { OnOk result (HasWritten writer.old.places.now (draft_of writer.old) (draft_of writer.new) (message_events (Request (protocols_of request.now)))) }
-    ensures full { OnErr result (HasNoRoomFor writer.old.places.now (draft_of writer.old) (message_events (Request (protocols_of request.now)))) }
+    ensures put { OnOk result (HasWritten (schema_of writer.old.places.now) (draft_of writer.old) (draft_of writer.new) (message_events (Request (protocols_of request.now)))) }
+    ensures full { OnErr result (HasNoRoomFor (schema_of writer.old.places.now) (draft_of writer.old) (message_events (Request (protocols_of request.now)))) }
     ensures bits { IfErr result (λ full. 8 * length writer.old.room.now < full.bits) }
 {
     put_all(writer, &[Event::Document(0), Event::Start(0)])?;
@@ -208,12 +209,12 @@ fn put_request(writer: &mut EventWriter<Schema>, request: &AppReq) -> Result<(),
 fn put_response(writer: &mut EventWriter<Schema>, response: &AppRes) -> Result<(), Full>
     requires ready { IsReadyToPut writer.old }
     requires open_still { writer.old.full ≡ None }
-    requires may { MayPut writer.old.places.now (draft_of writer.old).state (message_events (Response (ordinal_of response.now.code) response.now.schema)) }
+    requires may { MayPut (schema_of writer.old.places.now) (draft_of writer.old).state (message_events (Response (ordinal_of response.now.code) response.now.schema)) }
     ensures ready { IsReadyToPut writer.new }
     ensures open_still { OnOk result (writer.new.full ≡ None) }
     ensures lent { KeepsLent writer.old writer.new }
-    ensures put { OnOk result (HasWritten writer.old.places.now (draft_of writer.old) (draft_of writer.new) (message_events (Response (ordinal_of response.now.code) response.now.schema))) }
-    ensures full { OnErr result (HasNoRoomFor writer.old.places.now (draft_of writer.old) (message_events (Response (ordinal_of response.now.code) response.now.schema))) }
+    ensures put { OnOk result (HasWritten (schema_of writer.old.places.now) (draft_of writer.old) (draft_of writer.new) (message_events (Response (ordinal_of response.now.code) response.now.schema))) }
+    ensures full { OnErr result (HasNoRoomFor (schema_of writer.old.places.now) (draft_of writer.old) (message_events (Response (ordinal_of response.now.code) response.now.schema))) }
     ensures bits { IfErr result (λ full. 8 * length writer.old.room.now < full.bits) }
 {
     put_all(
@@ -234,12 +235,12 @@ fn put_response(writer: &mut EventWriter<Schema>, response: &AppRes) -> Result<(
 fn put_schema(writer: &mut EventWriter<Schema>, schema_id: Option<u8>) -> Result<(), Full>
     requires ready { IsReadyToPut writer.old }
     requires open_still { writer.old.full ≡ None }
-    requires may { MayPut writer.old.places.now (draft_of writer.old).state (events_of (schema_tree schema_id)) }
+    requires may { MayPut (schema_of writer.old.places.now) (draft_of writer.old).state (events_of (schema_tree schema_id)) }
     ensures ready { IsReadyToPut writer.new }
     ensures open_still { OnOk result (writer.new.full ≡ None) }
     ensures lent { KeepsLent writer.old writer.new }
-    ensures put { OnOk result (HasWritten writer.old.places.now (draft_of writer.old) (draft_of writer.new) (events_of (schema_tree schema_id))) }
-    ensures full { OnErr result (HasNoRoomFor writer.old.places.now (draft_of writer.old) (events_of (schema_tree schema_id))) }
+    ensures put { OnOk result (HasWritten (schema_of writer.old.places.now) (draft_of writer.old) (draft_of writer.new) (events_of (schema_tree schema_id))) }
+    ensures full { OnErr result (HasNoRoomFor (schema_of writer.old.places.now) (draft_of writer.old) (events_of (schema_tree schema_id))) }
     ensures bits { IfErr result (λ full. 8 * length writer.old.room.now < full.bits) }
 {
     match schema_id {
@@ -261,12 +262,12 @@ pub(crate) fn put_message(
 ) -> Result<(), Full>
     requires ready { IsReadyToPut writer.old }
     requires open_still { writer.old.full ≡ None }
-    requires may { MayPut writer.old.places.now (draft_of writer.old).state (message_events (message_of message.now)) }
+    requires may { MayPut (schema_of writer.old.places.now) (draft_of writer.old).state (message_events (message_of message.now)) }
     ensures ready { IsReadyToPut writer.new }
     ensures open_still { OnOk result (writer.new.full ≡ None) }
     ensures lent { KeepsLent writer.old writer.new }
-    ensures put { OnOk result (HasWritten writer.old.places.now (draft_of writer.old) (draft_of writer.new) (message_events (message_of message.now))) }
-    ensures full { OnErr result (HasNoRoomFor writer.old.places.now (draft_of writer.old) (message_events (message_of message.now))) }
+    ensures put { OnOk result (HasWritten (schema_of writer.old.places.now) (draft_of writer.old) (draft_of writer.new) (message_events (message_of message.now))) }
+    ensures full { OnErr result (HasNoRoomFor (schema_of writer.old.places.now) (draft_of writer.old) (message_events (message_of message.now))) }
     ensures bits { IfErr result (λ full. 8 * length writer.old.room.now < full.bits) }
 {
     match message {

@@ -2,9 +2,10 @@
 
 ghost use Rattle.std.specs.Prelude.{◌≡◌, ℕ, ◌≤◌, List, [], None, length, IfOk, IfErr};
 ghost use Rattle.exi_spec.specs.Bits.{bits_of};
+ghost use Rattle.exi_schema.specs.Told.{schema_of};
 ghost use Rattle.exi_documents.specs.Values.{most_entries};
-ghost use Rattle.exi_events.specs.Reader.{state_of, IsReady, HasTold};
-ghost use Rattle.app_schema.specs.Declarations.{IsNegotiation};
+ghost use Rattle.exi_events.specs.Reader.{IsReady, HasTold, reading_of};
+ghost use Rattle.app_schema.specs.Declarations.{negotiation_schema};
 ghost use Rattle.app_protocol.specs.Messages.{message_of};
 ghost use Rattle.app_protocol.specs.Documents.{IsApp, IsAppRefused};
 
@@ -35,12 +36,12 @@ pub fn read_app(payload: &[u8], table: &mut Table) -> Result<AppMessage, Refusal
 
 /// Reads a message from the events of a payload, of which none is taken.
 fn message_from(reader: &mut EventReader<'_, '_, Schema<'_>>) -> Result<AppMessage, Refusal>
-    requires negotiation { IsNegotiation reader.old.places.now }
-    requires ready { IsReady reader.old.places.now reader.old.phase reader.old.elements reader.old.reader.bits reader.old.table.now }
+    requires negotiation { schema_of reader.old.places.now ≡ negotiation_schema }
+    requires ready { IsReady schema_of reader.old }
     requires open_still { reader.old.refused ≡ None }
-    requires told { HasTold reader.old.places.now [] (state_of reader.old.phase reader.old.elements reader.old.reader.bits reader.old.table.now.entries) reader.old.reader }
+    requires told { HasTold (reading_of schema_of reader.old) [] }
     ensures same_reference { reader.new.table.ghost_name ≡ reader.old.table.ghost_name }
-    ensures ready { IsReady reader.new.places.now reader.new.phase reader.new.elements reader.new.reader.bits reader.new.table.now }
+    ensures ready { IsReady schema_of reader.new }
     ensures read { (payload : List ℕ) → bits_of payload ≡ reader.old.reader.bits → IfOk result (λ m. IsApp (message_of m) payload) }
     ensures refused { (payload : List ℕ) → bits_of payload ≡ reader.old.reader.bits → IfErr result (λ r. IsAppRefused payload r.cause r.bit) }
 {

@@ -5,6 +5,7 @@ ghost use Rattle.app_protocol.specs.Messages.{message_of};
 
 use super::*;
 use crate::lines::LINES;
+use exi_documents::MOST_ENTRIES;
 use arrayvec::{ArrayString, ArrayVec};
 use std::alloc::{AllocError, Global};
 use std::process::Abort;
@@ -41,7 +42,7 @@ fn one_protocol(rt: &impl Abort, payload: &[u8], table: &mut Table)
 
 #[test]
 fn the_published_request_is_read_whatever_its_pad_bits(rt: HostRuntime) {
-    let Ok(mut table) = Table::make(rt.alloc(), 8192) else {
+    let Ok(mut table) = Table::make(rt.alloc(), MOST_ENTRIES) else {
         assert!(rt; false);
         return;
     };
@@ -64,7 +65,7 @@ fn refusal_of(payload: &[u8], table: &mut Table) -> Option<(RefusalCause, u32)>
 
 #[test]
 fn payloads_are_refused_at_their_bit(rt: HostRuntime) {
-    let Ok(mut table) = Table::make(rt.alloc(), 8192) else {
+    let Ok(mut table) = Table::make(rt.alloc(), MOST_ENTRIES) else {
         assert!(rt; false);
         return;
     };
@@ -101,7 +102,7 @@ fn payloads_are_refused_at_their_bit(rt: HostRuntime) {
 
 #[test]
 fn a_response_is_read(rt: HostRuntime) {
-    let Ok(mut table) = Table::make(rt.alloc(), 8192) else {
+    let Ok(mut table) = Table::make(rt.alloc(), MOST_ENTRIES) else {
         assert!(rt; false);
         return;
     };
@@ -162,7 +163,7 @@ fn messages_are_written_back(rt: HostRuntime) -> Result<(), Fail> {
         let (word, rest) = line.split_once(' ').ok_or("a line without a word")?;
         if word == "ok" {
             let (payload, _) = rest.split_once(' ').ok_or("a line without an answer")?;
-            let mut table = Table::make(rt.alloc(), 8192)?;
+            let mut table = Table::make(rt.alloc(), MOST_ENTRIES)?;
             let payload = bytes_of(rt.alloc(), payload)?;
             assert!(rt; payload.len() <= 65536);
             written_back(&rt, payload.as_slice(), &mut table);
@@ -175,7 +176,7 @@ fn messages_are_written_back(rt: HostRuntime) -> Result<(), Fail> {
 
 #[test]
 fn the_published_response_is_written(rt: HostRuntime) -> Result<(), Fail> {
-    let mut table = Table::make(rt.alloc(), 8192)?;
+    let mut table = Table::make(rt.alloc(), MOST_ENTRIES)?;
     let response = AppMessage::Res(response(AppCode::Successful, Some(1)));
     let mut room = [0xff; 5];
     assert_eq!(rt; write_app(&response, &mut room, &mut table), Ok(4));
@@ -276,7 +277,7 @@ fn responses_are_written(rt: HostRuntime) -> Result<(), Fail> {
         ),
         (AppCode::Failed, None, [0x80, 0x48, 0x80, 0xff], 3),
     ] {
-        let mut table = Table::make(rt.alloc(), 8192)?;
+        let mut table = Table::make(rt.alloc(), MOST_ENTRIES)?;
         let message = AppMessage::Res(response(code, schema));
         let mut room = [0xff; 4];
         assert_eq!(rt; write_app(&message, &mut room, &mut table), Ok(len));

@@ -1,10 +1,9 @@
 -- ISO 15118-2:2014 section 8.2, Protocol Handshake: the declarations of supportedAppProtocolReq and supportedAppProtocolRes.
-use Rattle.std.specs.Prelude.{◌≡◌, ℕ, pos, List, [], ◌∷◌, map, codes, Some}
-use Rattle.exi_schema.specs.declared.schema.Schema.{Schema}
+use Rattle.std.specs.Prelude.{ℕ, pos, List, [], ◌∷◌, codes, refl}
 use Rattle.exi_schema.specs.declared.tables.Datatype.TheVariants.{Named, Bounded, Unsigned, Text}
-use Rattle.exi_schema.specs.declared.tables.MemberStanding.TheVariants.{Taken}
 use Rattle.exi_schema.specs.declared.tables.RootOf.{RootOf}
-use Rattle.plain_schema.specs.Plain.{PlainKind, PlainParticle, valued, containing, plain_kinds}
+use Rattle.exi_schema.specs.Plain.{PlainKind, valued, containing, once, perhaps, up_to}
+use Rattle.exi_schema.specs.Schemas.{PlainSchema}
 
 -- the texts of the names, numbered from 0
 abbrev pub names : List (List ℕ)
@@ -16,20 +15,6 @@ names =
 abbrev pub response_codes : List (List ℕ)
 response_codes =
     codes "OK_SuccessfulNegotiation" ∷ codes "OK_SuccessfulNegotiationWithMinorDeviation" ∷ codes "Failed_NoNegotiation" ∷ []
-
--- an element that has to be there once
-abbrev pub once : ℕ → ℕ → PlainParticle
-once name kind =
-    record { members = record { name = name; kind = kind; standing = Taken } ∷ []; least = 1; most = Some 1; profile = 1 }
-
--- one that may be there, and one that is there once to so many times
-abbrev pub perhaps : ℕ → ℕ → PlainParticle
-perhaps name kind =
-    record { members = record { name = name; kind = kind; standing = Taken } ∷ []; least = 0; most = Some 1; profile = 1 }
-
-abbrev pub up_to : ℕ → ℕ → ℕ → PlainParticle
-up_to most name kind =
-    record { members = record { name = name; kind = kind; standing = Taken } ∷ []; least = 1; most = Some most; profile = most }
 
 -- the kinds, numbered from 0: a namespace of at most 100 characters, unsignedInt, unsignedByte, a Priority of 1 to 20, a response code,
 -- an AppProtocol, the request and the response
@@ -49,10 +34,13 @@ kinds =
 abbrev pub roots : List RootOf
 roots = record { number = 0; name = 0; kind = 6 } ∷ record { number = 1; name = 1; kind = 7 } ∷ []
 
--- a schema with these tables
-pub record IsNegotiation (s : Schema) : Type 0 where
-  pub kinds_are : plain_kinds s.kinds.now ≡ kinds
-  pub names_are : map (λ t. t.now) s.names.now ≡ names
-  pub values_are : map (λ l. map (λ t. t.now) l.now) s.values.now ≡ [] ∷ [] ∷ [] ∷ [] ∷ response_codes ∷ [] ∷ [] ∷ [] ∷ []
-  pub bits_are : s.root_bits ≡ 2
-  pub roots_are : s.roots.now ≡ roots
+-- the schema: of the kinds, the response codes alone have names as values. A document number has 2 bits
+abbrev pub negotiation_schema : PlainSchema
+negotiation_schema = record {
+  kinds = kinds;
+  names = names;
+  values = [] ∷ [] ∷ [] ∷ [] ∷ response_codes ∷ [] ∷ [] ∷ [] ∷ [];
+  root_bits = 2;
+  roots = roots;
+  fits = refl;
+}

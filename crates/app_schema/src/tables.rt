@@ -1,6 +1,8 @@
 //! The declarations as tables.
 
-ghost use Rattle.app_schema.specs.Declarations.{IsNegotiation};
+ghost use Rattle.std.specs.Prelude.{◌≡◌};
+ghost use Rattle.exi_schema.specs.Told.{schema_of};
+ghost use Rattle.app_schema.specs.Declarations.{negotiation_schema};
 
 use crate::names::{
     APP_PROTOCOL, MAJOR, MINOR, NAMESPACE, PRIORITY, REQUEST, RESPONSE, RESPONSE_CODE, SCHEMA_ID,
@@ -123,7 +125,7 @@ static KINDS: [Declaration<'static>; 8] = [
 
 /// The schema of the negotiation.
 pub fn negotiation() -> Schema<'static>
-    ensures { IsNegotiation result }
+    ensures { schema_of result ≡ negotiation_schema }
 {
     Schema {
         kinds: &KINDS,

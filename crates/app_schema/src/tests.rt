@@ -3,6 +3,7 @@
 ghost use Rattle.std.specs.Prelude.{◌≡◌, ◌<◌, length};
 ghost use Rattle.exi_schema.specs.Offers.{IsPlace};
 ghost use Rattle.exi_schema.specs.Steps.{IsStep};
+ghost use Rattle.exi_schema.specs.Told.{schema_of};
 
 use super::*;
 use exi_schema::{Datatype, Place, Places, Root, Schema, Step};
@@ -18,9 +19,9 @@ fn name_of(step: Step) -> Option<u16> {
 }
 
 fn next_of(step: Step, here: Place, schema: &Schema) -> Place
-    requires step { IsStep schema.now.kinds.now (length schema.now.names.now) here.kind step }
-    requires here { IsPlace schema.now.kinds.now here }
-    ensures { IsPlace schema.now.kinds.now result }
+    requires step { IsStep (schema_of schema.now).kinds (length (schema_of schema.now).names) here.kind step }
+    requires here { IsPlace (schema_of schema.now).kinds here }
+    ensures { IsPlace (schema_of schema.now).kinds result }
 {
     match step {
         Step::Attribute { next, .. } => next,
@@ -32,7 +33,7 @@ fn next_of(step: Step, here: Place, schema: &Schema) -> Place
 
 /// Goes through an element of a kind, and sees that its codes are those of the rows.
 fn follow(rt: &impl Abort, schema: &Schema, kind: u16, rows: &[(u32, u16, Option<u16>)])
-    requires { kind < length schema.now.kinds.now }
+    requires { kind < length (schema_of schema.now).kinds }
 {
     let mut place = Place::first(kind);
     for (width, code, name) in rows {

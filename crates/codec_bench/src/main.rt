@@ -10,6 +10,7 @@ ghost use Rattle.exi_documents.specs.Values.{most_entries};
 ghost use Rattle.app_documents.specs.Trees.{IsMessage};
 ghost use Rattle.app_protocol.specs.Messages.{message_of};
 
+use exi_documents::MOST_ENTRIES;
 use anyhow::{Context, Result};
 use app_protocol::{AppMessage, Table, read_app, write_app};
 use std::alloc::Global;
@@ -25,7 +26,7 @@ fn main(rt: HostRuntime) -> Result<ExitCode> {
     let rounds: u32 = rounds.as_str().parse()?;
     let text = fs::read(&rt, file.as_str())?;
     let payloads = payloads_of(rt.alloc(), str::from_utf8(text.as_slice())?)?;
-    let mut table = Table::make(rt.alloc(), 8192)?;
+    let mut table = Table::make(rt.alloc(), MOST_ENTRIES)?;
     let count = if task.as_str() == "read" {
         read_rounds(&payloads, &mut table, rounds)
     } else {

@@ -4,7 +4,7 @@ use Rattle.std.specs.Prelude.{◌==◌}
 use Rattle.std.specs.Str.{encode_utf8_all}
 use Rattle.std.proofs.lemmas.List.{length-append}
 use Rattle.std.proofs.lemmas.Str.{encode_ascii, encodes-append}
-use Rattle.exi_schema.specs.declared.schema.Schema.{Schema}
+use Rattle.exi_schema.specs.Schemas.{PlainSchema}
 use Rattle.exi_documents.specs.Trees.{Event}
 use Rattle.value_text.specs.declared.cursor.TextCursor.{TextCursor}
 use Rattle.value_text.specs.Forms.{NoneNext}
@@ -24,7 +24,7 @@ not_next c text low none rest e = char_fails c c refl (none c rest (e ∙ ap (λ
 
 -- ---- what is taken behind what is passed
 
-pub takes_behind : (s : Schema) (ahead : List ℕ) (K L : List ℕ → Type 0) (old new : Standing) (a b c : TextCursor) (event : Event) (front : List ℕ) → Passes a front b → Leads K front b.rest.now L →
+pub takes_behind : (s : PlainSchema) (ahead : List ℕ) (K L : List ℕ → Type 0) (old new : Standing) (a b c : TextCursor) (event : Event) (front : List ℕ) → Passes a front b → Leads K front b.rest.now L →
     TakesNext s (ahead ++ encode_utf8_all front) L old b event new c → TakesNext s ahead K old a event new c
 takes_behind s ahead K L old new a b c event front passes leads p = record {
   front = front ++ p.front;

@@ -3,12 +3,9 @@ use Rattle.std.proofs.Common.{◌≡◌, ℕ, zero, suc, ◌-◌, ◌<◌, inl, 
 use Rattle.std.specs.List.{list_all, AllByRecursion}
 use Rattle.std.specs.Str.{encode_utf8_all}
 use Rattle.std.proofs.lemmas.Option.{slice_get_within, slice_get-get_or}
-use Rattle.exi_schema.specs.declared.schema.Schema.{Schema}
-use Rattle.exi_schema.specs.declared.tables.Declaration.{Declaration}
-use Rattle.exi_schema.specs.declared.tables.Declaration.TheVariants.{Simple, Complex}
+use Rattle.exi_schema.specs.Schemas.{PlainSchema, is_within, particles_of, is_word_char}
+use Rattle.exi_schema.specs.Plain.{PlainKind, valued, containing, PlainParticle}
 use Rattle.exi_schema.specs.declared.tables.Member.{Member}
-use Rattle.exi_schema.specs.declared.tables.Particle.{Particle}
-use Rattle.exi_schema.specs.Schemas.{is_within, particles_of, is_word_char}
 use Rattle.exi_schema.proofs.Conditions.{all_get}
 use Rattle.exi_documents.specs.Trees.{Start}
 use Rattle.value_text.specs.declared.awaited.Awaited.{Awaited}
@@ -28,21 +25,21 @@ use Rattle.dialect_text.proofs.Parts.{IsMarked, mark_low, awaited_start, start_a
 use Rattle.dialect_text.proofs.Starts.{NameTaken}
 use Rattle.dialect_text.proofs.Viable.{completes_all}
 
-abbrev pub FitsMember : Schema → Member → Type 0
-FitsMember s member = (member.name < length s.names.now) × (member.kind < length s.kinds.now)
+abbrev pub FitsMember : PlainSchema → Member → Type 0
+FitsMember s member = (member.name < length s.names) × (member.kind < length s.kinds)
 
-abbrev pub FitsParticle : Schema → Particle → Type 0
-FitsParticle s particle = AllByRecursion (FitsMember s) particle.members.now
+abbrev pub FitsParticle : PlainSchema → PlainParticle → Type 0
+FitsParticle s particle = AllByRecursion (FitsMember s) particle.members
 
 -- the name and kind of an element are the schema's
-pub element_fits : (s : Schema) (particles : List Particle) (name kind : ℕ) → AllByRecursion (FitsParticle s) particles → element_named particles name ≡ Some kind → (name < length s.names.now) × (kind < length s.kinds.now)
+pub element_fits : (s : PlainSchema) (particles : List PlainParticle) (name kind : ℕ) → AllByRecursion (FitsParticle s) particles → element_named particles name ≡ Some kind → (name < length s.names) × (kind < length s.kinds)
 element_fits s particles name kind fit is =
     let found = element_found particles name kind is in
     let members = all_at (FitsParticle s) particles found.0 found.1 fit found.2 in
-    let one = all_at (FitsMember s) found.1.members.now found.3.0 found.3.1 members found.3.2 in
-    (subst (λ (n : ℕ). n < length s.names.now) found.3.3 one.0, subst (λ (k : ℕ). k < length s.kinds.now) found.3.4 one.1)
+    let one = all_at (FitsMember s) found.1.members found.3.0 found.3.1 members found.3.2 in
+    (subst (λ (n : ℕ). n < length s.names) found.3.3 one.0, subst (λ (k : ℕ). k < length s.kinds) found.3.4 one.1)
 
-pub elements_marked : (s : Schema) (particles : List Particle) (awaited items : List Awaited) → AllByRecursion (FitsParticle s) particles → AllByRecursion (IsAwaitedElement s particles) items → awaited ≡ items → AreMarked s awaited
+pub elements_marked : (s : PlainSchema) (particles : List PlainParticle) (awaited items : List Awaited) → AllByRecursion (FitsParticle s) particles → AllByRecursion (IsAwaitedElement s particles) items → awaited ≡ items → AreMarked s awaited
 elements_marked s particles awaited items fit only same =
     subst (λ (xs : List Awaited). AreMarked s xs) (sym same)
     (all_then (IsAwaitedElement s particles) (IsMarked s) items
@@ -50,38 +47,38 @@ elements_marked s particles awaited items fit only same =
 
 -- ---- depth
 
-within_by : (s : Schema) (o : Option Declaration) (name kind d : ℕ) → element_in o name ≡ Some kind → list_all (λ particle. list_all (λ member. is_within s.kinds.now d member.kind) particle.members.now) (particles_of o) ≡ true → is_within s.kinds.now d kind ≡ true
+within_by : (s : PlainSchema) (o : Option PlainKind) (name kind d : ℕ) → element_in o name ≡ Some kind → list_all (λ particle. list_all (λ member. is_within s.kinds d member.kind) particle.members) (particles_of o) ≡ true → is_within s.kinds d kind ≡ true
 within_by s None name kind d is all = let wrong : None ≡ Some kind = is in absurd cc
-within_by s (Some (Simple t)) name kind d is all = let wrong : None ≡ Some kind = is in absurd cc
-within_by s (Some (Complex attributes particles)) name kind d is all =
-    let found = element_found particles.now name kind is in
-    let members = all_get (λ particle. list_all (λ member. is_within s.kinds.now d member.kind) particle.members.now) particles.now found.0 found.1 all found.2 in
-    let one = all_get (λ member. is_within s.kinds.now d member.kind) found.1.members.now found.3.0 found.3.1 members found.3.2 in
-    subst (λ (k : ℕ). is_within s.kinds.now d k ≡ true) found.3.4 one
+within_by s (Some (valued t)) name kind d is all = let wrong : None ≡ Some kind = is in absurd cc
+within_by s (Some (containing attributes particles)) name kind d is all =
+    let found = element_found particles name kind is in
+    let members = all_get (λ particle. list_all (λ member. is_within s.kinds d member.kind) particle.members) particles found.0 found.1 all found.2 in
+    let one = all_get (λ member. is_within s.kinds d member.kind) found.1.members found.3.0 found.3.1 members found.3.2 in
+    subst (λ (k : ℕ). is_within s.kinds d k ≡ true) found.3.4 one
 
 -- an element inside another has room below it
-pub room_inside : (s : Schema) (top : OpenElement) (above : List OpenElement) (name kind : ℕ) → is_within s.kinds.now (16 - length above) top.kind ≡ true → element_of s top.kind name ≡ Some kind →
-    (suc (length above) < 16) × (is_within s.kinds.now (16 - suc (length above)) kind ≡ true)
+pub room_inside : (s : PlainSchema) (top : OpenElement) (above : List OpenElement) (name kind : ℕ) → is_within s.kinds (16 - length above) top.kind ≡ true → element_of s top.kind name ≡ Some kind →
+    (suc (length above) < 16) × (is_within s.kinds (16 - suc (length above)) kind ≡ true)
 room_inside s top above name kind deep is = by (16 - length above) refl deep
   where
-    last : (n : ℕ) → 16 - length above ≡ suc n → is_within s.kinds.now n kind ≡ true → (suc (length above) < 16) × (is_within s.kinds.now (16 - suc (length above)) kind ≡ true)
+    last : (n : ℕ) → 16 - length above ≡ suc n → is_within s.kinds n kind ≡ true → (suc (length above) < 16) × (is_within s.kinds (16 - suc (length above)) kind ≡ true)
     last zero e inner = let wrong : false ≡ true = inner in absurd cc
-    last (suc n) e inner = let left : 16 - suc (length above) ≡ suc n = omega (arith, e) in (omega (arith, e), ap (λ (k : ℕ). is_within s.kinds.now k kind) left ∙ inner)
+    last (suc n) e inner = let left : 16 - suc (length above) ≡ suc n = omega (arith, e) in (omega (arith, e), ap (λ (k : ℕ). is_within s.kinds k kind) left ∙ inner)
 
-    by : (n : ℕ) → 16 - length above ≡ n → is_within s.kinds.now n top.kind ≡ true → (suc (length above) < 16) × (is_within s.kinds.now (16 - suc (length above)) kind ≡ true)
+    by : (n : ℕ) → 16 - length above ≡ n → is_within s.kinds n top.kind ≡ true → (suc (length above) < 16) × (is_within s.kinds (16 - suc (length above)) kind ≡ true)
     by zero e is_deep = let wrong : false ≡ true = is_deep in absurd cc
-    by (suc n) e is_deep = last n e (within_by s (slice_get s.kinds.now top.kind) name kind n is is_deep)
+    by (suc n) e is_deep = last n e (within_by s (slice_get s.kinds top.kind) name kind n is is_deep)
 
 abbrev pub opened : ℕ → OpenElement → List OpenElement → List OpenElement
 opened kind top above = element kind fills.Nothing ∷ element top.kind fills.Elements ∷ above
 
-pub opened_sound : (s : Schema) (top : OpenElement) (above : List OpenElement) (name kind : ℕ) → IsSound s (Within (top ∷ above)) → element_of s top.kind name ≡ Some kind → kind < length s.kinds.now → IsSound s (Within (opened kind top above))
+pub opened_sound : (s : PlainSchema) (top : OpenElement) (above : List OpenElement) (name kind : ℕ) → IsSound s (Within (top ∷ above)) → element_of s top.kind name ≡ Some kind → kind < length s.kinds → IsSound s (Within (opened kind top above))
 opened_sound s top above name kind sound is low =
     ((low, (room_inside s top above name kind sound.0.1 is).1, tt, (sound.0.0, sound.0.1, (name, kind, is), sound.0.3)), (refl, sound.1))
 
 -- ---- what is taken
 
-element_leads : (s : Schema) (top : OpenElement) (above : List OpenElement) (name kind : ℕ) (front rest : List ℕ) → element_of s top.kind name ≡ Some kind → IsStartText s name kind (encode_utf8_all front) →
+element_leads : (s : PlainSchema) (top : OpenElement) (above : List OpenElement) (name kind : ℕ) (front rest : List ℕ) → element_of s top.kind name ≡ Some kind → IsStartText s name kind (encode_utf8_all front) →
     Leads (StartsElement s top above) front rest (Completes s (Within (opened kind top above)))
 element_leads s top above name kind front rest is start = record {
   from = λ text new. (name, kind, encode_utf8_all front, text, is, start, new, refl);
@@ -92,7 +89,7 @@ element_leads s top above name kind front rest is start = record {
       subst (λ (t : List ℕ). Completes s (Within (opened kind top above)) t) (sym one.1) (subst (λ (k : ℕ). Completes s (Within (opened k top above)) old.3) same old.6);
 }
 
-pub element_answer : (s : Schema) (elements filled pushed : List OpenElement) (top : OpenElement) (particles : List Particle) (awaited items : List Awaited) (i kind : ℕ) (one : Awaited) (a b : TextCursor) (o : Option ℕ) (above : List OpenElement) →
+pub element_answer : (s : PlainSchema) (elements filled pushed : List OpenElement) (top : OpenElement) (particles : List PlainParticle) (awaited items : List Awaited) (i kind : ℕ) (one : Awaited) (a b : TextCursor) (o : Option ℕ) (above : List OpenElement) →
     AllByRecursion (IsAwaitedElement s particles) items → awaited ≡ items → NameTaken s awaited a b i → slice_get items i ≡ Some one → o ≡ element_named particles one.name → o ≡ Some kind →
     ((name : ℕ) → element_of s top.kind name ≡ element_named particles name) →
     ((t : OpenElement) (more : List OpenElement) → elements ≡ t ∷ more → filled ≡ element t.kind fills.Elements ∷ more) → pushed ≡ element kind fills.Nothing ∷ filled → elements ≡ top ∷ above →
@@ -117,11 +114,11 @@ element_answer s elements filled pushed top particles awaited items i kind one a
       leads = element_leads s top above one.name kind p.0 b.rest.now named start;
     }))
 
-pub element_known : (s : Schema) (particles : List Particle) (items : List Awaited) (i : ℕ) (one : Awaited) (o : Option ℕ) → AllByRecursion (IsAwaitedElement s particles) items → slice_get items i ≡ Some one → o ≡ element_named particles one.name →
+pub element_known : (s : PlainSchema) (particles : List PlainParticle) (items : List Awaited) (i : ℕ) (one : Awaited) (o : Option ℕ) → AllByRecursion (IsAwaitedElement s particles) items → slice_get items i ≡ Some one → o ≡ element_named particles one.name →
     (kind : ℕ) × (o ≡ Some kind)
 element_known s particles items i one o only at e = let right = all_at (IsAwaitedElement s particles) items i one only at in (right.0, e ∙ right.1)
 
-pub element_room : (s : Schema) (elements filled : List OpenElement) (top : OpenElement) (particles : List Particle) (name kind : ℕ) (o : Option ℕ) → ((above : List OpenElement) × (elements ≡ top ∷ above)) → IsSound s (Within elements) →
+pub element_room : (s : PlainSchema) (elements filled : List OpenElement) (top : OpenElement) (particles : List PlainParticle) (name kind : ℕ) (o : Option ℕ) → ((above : List OpenElement) × (elements ≡ top ∷ above)) → IsSound s (Within elements) →
     ((n : ℕ) → element_of s top.kind n ≡ element_named particles n) → o ≡ element_named particles name → o ≡ Some kind →
     ((t : OpenElement) (more : List OpenElement) → elements ≡ t ∷ more → filled ≡ element t.kind fills.Elements ∷ more) → length filled < 16
 element_room s elements filled top particles name kind o has sound of_kind e is fill =
@@ -131,7 +128,7 @@ element_room s elements filled top particles name kind o has sound of_kind e is 
 
 -- ---- what is missed
 
-pub element_stalls : (s : Schema) (top : OpenElement) (above : List OpenElement) (particles : List Particle) (awaited items : List Awaited) (a : TextCursor) (f : ScanFault) → IsSound s (Within (top ∷ above)) →
+pub element_stalls : (s : PlainSchema) (top : OpenElement) (above : List OpenElement) (particles : List PlainParticle) (awaited items : List Awaited) (a : TextCursor) (f : ScanFault) → IsSound s (Within (top ∷ above)) →
     AllByRecursion (FitsParticle s) particles → ((name : ℕ) → element_of s top.kind name ≡ element_named particles name) → AllByRecursion (IsAwaitedElement s particles) items → HasElements s particles items → awaited ≡ items →
     MissesAt (IsAnyAwaited s awaited) a f → StallsAt (StartsElement s top above) a f
 element_stalls s top above particles awaited items a f sound fit of_kind only each same p =
@@ -149,7 +146,7 @@ element_stalls s top above particles awaited items a f sound fit of_kind only ea
     p
 
 -- where no element may stand, none follows
-pub element_none : (s : Schema) (top : OpenElement) (above : List OpenElement) (particles : List Particle) (items : List Awaited) (a : TextCursor) → ((name : ℕ) → element_of s top.kind name ≡ element_named particles name) → HasElements s particles items →
+pub element_none : (s : PlainSchema) (top : OpenElement) (above : List OpenElement) (particles : List PlainParticle) (items : List Awaited) (a : TextCursor) → ((name : ℕ) → element_of s top.kind name ≡ element_named particles name) → HasElements s particles items →
     length items ≡ 0 → StallsAt (StartsElement s top above) a (fault.Place a.place)
 element_none s top above particles items a of_kind each none = (
   [],
@@ -164,7 +161,7 @@ element_none s top above particles items a of_kind each none = (
   omega arith,
 )
 
-pub taken_within : (s : Schema) (awaited items : List Awaited) (i : ℕ) (a b : TextCursor) → awaited ≡ items → NameTaken s awaited a b i → i < length items
+pub taken_within : (s : PlainSchema) (awaited items : List Awaited) (i : ℕ) (a b : TextCursor) → awaited ≡ items → NameTaken s awaited a b i → i < length items
 taken_within s awaited items i a b same p = slice_get_within items i p.1 (ap (λ (xs : List Awaited). slice_get xs i) (sym same) ∙ p.3)
 
 pub index_got : (items : List Awaited) (i : ℕ) (one : Awaited) → i < length items → one ≡ get_or items i one → slice_get items i ≡ Some one

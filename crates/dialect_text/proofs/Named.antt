@@ -5,8 +5,7 @@ use Rattle.std.specs.List.{AllByRecursion}
 use Rattle.std.specs.Str.{encode_utf8_all}
 use Rattle.std.proofs.lemmas.List.{append-nil}
 use Rattle.std.proofs.lemmas.Str.{encodes-append, encode_ascii}
-use Rattle.exi_schema.specs.declared.schema.Schema.{Schema}
-use Rattle.exi_schema.specs.Schemas.{is_word_char}
+use Rattle.exi_schema.specs.Schemas.{PlainSchema, is_word_char}
 use Rattle.value_text.specs.declared.awaited.Awaited.{Awaited}
 use Rattle.value_text.specs.declared.cursor.TextCursor.{TextCursor}
 use Rattle.value_text.specs.Fronts.{IsLongest}
@@ -22,8 +21,8 @@ use Rattle.value_text.proofs.SchemaWords.{name_word}
 use Rattle.dialect_text.proofs.Words.{words_split, word_chars}
 
 -- each name is the schema's, and what stands behind it is ASCII and in no word
-abbrev pub AreMarked : Schema → List Awaited → Type 0
-AreMarked s awaited = AllByRecursion (λ one. (one.name < length s.names.now) × (one.end < 128) × (is_word_char one.end ≡ false)) awaited
+abbrev pub AreMarked : PlainSchema → List Awaited → Type 0
+AreMarked s awaited = AllByRecursion (λ one. (one.name < length s.names) × (one.end < 128) × (is_word_char one.end ≡ false)) awaited
 
 pub all_at : {X : Type 0} (P : X → Type 0) (xs : List X) (i : ℕ) (x : X) → AllByRecursion P xs → slice_get xs i ≡ Some x → P x
 all_at P [] i x all at = let wrong : None ≡ Some x = at in absurd cc
@@ -44,12 +43,12 @@ all_then P Q [] step all = tt
 all_then P Q (x ∷ xs) step all = (step x all.0, all_then P Q xs step all.1)
 
 -- a name with the character behind it
-marked_text : (s : Schema) (one : Awaited) (text : List ℕ) → one.end < 128 → IsAwaitedText s one text → (word : List ℕ) × IsName s one.name word × (text ≡ word ++ one.end ∷ [])
+marked_text : (s : PlainSchema) (one : Awaited) (text : List ℕ) → one.end < 128 → IsAwaitedText s one text → (word : List ℕ) × IsName s one.name word × (text ≡ word ++ one.end ∷ [])
 marked_text s one text low p = (p.0, p.1, p.2 ∙ ap (λ (bs : List ℕ). p.0 ++ bs) (encode_ascii one.end low))
 
-pub awaited_chars : (s : Schema) (awaited : List Awaited) (text : List ℕ) → AreMarked s awaited → IsAnyAwaited s awaited text → (cs : List ℕ) × (text ≡ encode_utf8_all cs)
+pub awaited_chars : (s : PlainSchema) (awaited : List Awaited) (text : List ℕ) → AreMarked s awaited → IsAnyAwaited s awaited text → (cs : List ℕ) × (text ≡ encode_utf8_all cs)
 awaited_chars s awaited text marked p =
-    let is = all_at (λ one. (one.name < length s.names.now) × (one.end < 128) × (is_word_char one.end ≡ false)) awaited p.0 p.1 marked p.2 in
+    let is = all_at (λ one. (one.name < length s.names) × (one.end < 128) × (is_word_char one.end ≡ false)) awaited p.0 p.1 marked p.2 in
     let plain = marked_text s p.1 text is.1 p.3 in (
       plain.0 ++ p.1.end ∷ [],
       plain.2 ∙ ap₂ (λ (bs cs : List ℕ). bs ++ cs) (sym (word_chars plain.0 (name_word s p.1.name plain.0 plain.1).1)) (sym (encode_ascii p.1.end is.1) ∙ sym (append-nil (encode_utf8 p.1.end)))
@@ -57,9 +56,9 @@ awaited_chars s awaited text marked p =
     )
 
 -- no awaited text begins another
-pub awaited_stops : (s : Schema) (awaited : List Awaited) (front rest : List ℕ) → AreMarked s awaited → IsAnyAwaited s awaited (encode_utf8_all front) → Stops (IsAnyAwaited s awaited) front rest
+pub awaited_stops : (s : PlainSchema) (awaited : List Awaited) (front rest : List ℕ) → AreMarked s awaited → IsAnyAwaited s awaited (encode_utf8_all front) → Stops (IsAnyAwaited s awaited) front rest
 awaited_stops s awaited front rest marked p c more after e q =
-    let P : Awaited → Type 0 = λ one. (one.name < length s.names.now) × (one.end < 128) × (is_word_char one.end ≡ false) in
+    let P : Awaited → Type 0 = λ one. (one.name < length s.names) × (one.end < 128) × (is_word_char one.end ≡ false) in
     let is = all_at P awaited p.0 p.1 marked p.2 in
     let other = all_at P awaited q.0 q.1 marked q.2 in
     let a = marked_text s p.1 (encode_utf8_all front) is.1 p.3 in
@@ -69,7 +68,7 @@ awaited_stops s awaited front rest marked p c more after e q =
     some_bytes c after split.2
 
 -- a language whose texts begin with one that is awaited, each of which begins one
-pub stalls_named : (s : Schema) (awaited : List Awaited) (K : List ℕ → Type 0) (a : TextCursor) (f : ScanFault) → AreMarked s awaited →
+pub stalls_named : (s : PlainSchema) (awaited : List Awaited) (K : List ℕ → Type 0) (a : TextCursor) (f : ScanFault) → AreMarked s awaited →
     ((text : List ℕ) → IsAnyAwaited s awaited text → (rest : List ℕ) × K (text ++ rest)) →
     ((text : List ℕ) → K text → (part : List ℕ) × (rest : List ℕ) × IsAnyAwaited s awaited part × (text ≡ part ++ rest)) →
     MissesAt (IsAnyAwaited s awaited) a f → StallsAt K a f

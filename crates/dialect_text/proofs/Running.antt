@@ -2,9 +2,8 @@
 use Rattle.std.proofs.Common.{◌≡◌, ℕ, ◌⊎◌, inl, inr, List, [], ◌∷◌, ◌++◌, Option, Some, None, slice_get, refl, sym, ap, subst, ◌∙◌, append_assoc}
 use Rattle.std.specs.List.{AllByRecursion}
 use Rattle.std.proofs.lemmas.List.{append-nil}
-use Rattle.exi_schema.specs.declared.schema.Schema.{Schema}
-use Rattle.exi_schema.specs.declared.tables.Declaration.{Declaration}
-use Rattle.exi_schema.specs.declared.tables.Declaration.TheVariants.{Simple, Complex}
+use Rattle.exi_schema.specs.Schemas.{PlainSchema}
+use Rattle.exi_schema.specs.Plain.{PlainKind, valued, containing}
 use Rattle.exi_documents.specs.Trees.{Event, Document, Start, Attribute, Content, EndElement}
 use Rattle.dialect_text.specs.declared.elements.Filling.{Filling}
 use Rattle.dialect_text.specs.declared.elements.Filling.TheVariants as fills
@@ -22,7 +21,7 @@ onto [] events = events
 onto (event ∷ more) events = onto more (event ∷ events)
 
 -- what is said and goes on is a text
-pub says_on : (s : Schema) (es events : List Event) (front rest : List ℕ) (standing : Standing) → Says s events front standing → Goes s standing es rest → IsDialectText s (onto es events) (front ++ rest)
+pub says_on : (s : PlainSchema) (es events : List Event) (front rest : List ℕ) (standing : Standing) → Says s events front standing → Goes s standing es rest → IsDialectText s (onto es events) (front ++ rest)
 says_on s [] events front rest standing says goes =
     subst (λ (t : List ℕ). IsDialectText s events t) (sym (append-nil front) ∙ ap (λ (bs : List ℕ). front ++ bs) (sym goes.0))
     (subst (λ (x : Standing). Says s events front x) goes.1 says)
@@ -30,7 +29,7 @@ says_on s (event ∷ es) events front rest standing says goes =
     subst (λ (t : List ℕ). IsDialectText s (onto es (event ∷ events)) t) (append_assoc front goes.1 goes.2 ∙ ap (λ (bs : List ℕ). front ++ bs) (sym goes.5))
     (says_on s es (event ∷ events) (front ++ goes.1) goes.2 goes.0 (standing, front, goes.1, says, goes.3, refl) goes.4)
 
-pub goes_before : (s : Schema) (events es : List Event) (front rest : List ℕ) (standing : Standing) → Says s events front standing → Goes s standing es rest → Goes s Before (onto events es) (front ++ rest)
+pub goes_before : (s : PlainSchema) (events es : List Event) (front rest : List ℕ) (standing : Standing) → Says s events front standing → Goes s standing es rest → Goes s Before (onto events es) (front ++ rest)
 goes_before s [] es front rest standing says goes =
     subst (λ (t : List ℕ). Goes s Before es t) (ap (λ (bs : List ℕ). bs ++ rest) (sym says.0))
     (subst (λ (x : Standing). Goes s x es rest) says.1 goes)
@@ -39,11 +38,11 @@ goes_before s (event ∷ events) es front rest standing says goes =
     (goes_before s events (event ∷ es) says.1 (says.2 ++ rest) says.0 says.3 (standing, says.2, rest, says.4, goes, refl))
 
 -- a text of the dialect is gone through from its start
-pub from_start : (s : Schema) (text : List ℕ) → IsOfDialect s text → Completes s Before text
+pub from_start : (s : PlainSchema) (text : List ℕ) → IsOfDialect s text → Completes s Before text
 from_start s text p =
     (onto p.0 [], subst (λ (t : List ℕ). Goes s Before (onto p.0 []) t) (append-nil text) (goes_before s p.0 [] text [] (Within []) p.1 (refl, refl)))
 
-pub to_end : (s : Schema) (text : List ℕ) → Completes s Before text → IsOfDialect s text
+pub to_end : (s : PlainSchema) (text : List ℕ) → Completes s Before text → IsOfDialect s text
 to_end s text p = (onto p.0 [], says_on s p.0 [] [] text Before (refl, refl) p.1)
 
 onto_twice : (a b c : List Event) → onto (onto a b) c ≡ onto b (a ++ c)
@@ -64,7 +63,7 @@ nested_within : (above : List OpenElement) → AllByRecursion (λ e. e.filling �
 nested_within [] all = tt
 nested_within (top ∷ above) all = all.1
 
-pub nested_on : (s : Schema) (old new : Standing) (event : Event) (added : List ℕ) → Adds s old event added new → IsNested old → IsNested new
+pub nested_on : (s : PlainSchema) (old new : Standing) (event : Event) (added : List ℕ) → Adds s old event added new → IsNested old → IsNested new
 nested_on s Before new (Document number) added p n = by_standing IsNested p.4 tt
 nested_on s Before new _ added p n = absurd p
 nested_on s (AtRoot root kind) new (Start name) added p n = by_standing IsNested p.2 tt
@@ -99,12 +98,12 @@ behind_gap f part added rest text some e g =
     at_space (part ++ rest) (g ∙ ap (λ (bs : List ℕ). bs ++ rest) e ∙ append_assoc (gap f) part rest ∙ gap_some f (part ++ rest) some)
 
 -- at the end of an element there is a brace, or only a value in it
-end_brace : (o : Option Declaration) (f : Filling) (added rest text : List ℕ) → IsEndText o f added → text ≡ added ++ rest → EndsValue text ⊎ ((f ≡ fills.Value) × (text ≡ rest))
+end_brace : (o : Option PlainKind) (f : Filling) (added rest text : List ℕ) → IsEndText o f added → text ≡ added ++ rest → EndsValue text ⊎ ((f ≡ fills.Value) × (text ≡ rest))
 end_brace None f added rest text is e = absurd is
-end_brace (Some (Simple d)) f added rest text is e = inr (is.0, e ∙ ap (λ (bs : List ℕ). bs ++ rest) is.1)
-end_brace (Some (Complex attributes particles)) f added rest text is e = inl (at_brace rest (e ∙ ap (λ (bs : List ℕ). bs ++ rest) is))
+end_brace (Some (valued d)) f added rest text is e = inr (is.0, e ∙ ap (λ (bs : List ℕ). bs ++ rest) is.1)
+end_brace (Some (containing attributes particles)) f added rest text is e = inl (at_brace rest (e ∙ ap (λ (bs : List ℕ). bs ++ rest) is))
 
-behind_elements : (s : Schema) (above : List OpenElement) (es : List Event) (text : List ℕ) → AllByRecursion (λ e. e.filling ≡ fills.Elements) above → Goes s (Within above) es text → EndsValue text
+behind_elements : (s : PlainSchema) (above : List OpenElement) (es : List Event) (text : List ℕ) → AllByRecursion (λ e. e.filling ≡ fills.Elements) above → Goes s (Within above) es text → EndsValue text
 behind_elements s [] [] text all goes = at_end goes.0
 behind_elements s [] (event ∷ es) text all goes = absurd goes.3
 behind_elements s (top ∷ above) [] text all goes = let wrong : Within (top ∷ above) ≡ Within [] = goes.1 in absurd cc
@@ -114,24 +113,24 @@ behind_elements s (top ∷ above) (Start name ∷ es) text all goes =
 behind_elements s (top ∷ above) (Attribute name value ∷ es) text all goes = absurd (subst IsBeforeElements all.0 goes.3.2)
 behind_elements s (top ∷ above) (Content value ∷ es) text all goes = absurd (not_nothing top.filling (subst IsSome (sym all.0) tt) goes.3.0)
 behind_elements s (top ∷ above) (EndElement ∷ es) text all goes =
-    elim (end_brace (slice_get s.kinds.now top.kind) top.filling goes.1 goes.2 text goes.3.0 goes.5) [
+    elim (end_brace (slice_get s.kinds top.kind) top.filling goes.1 goes.2 text goes.3.0 goes.5) [
       | inl ends ↦ ends
       | inr both ↦ let wrong : fills.Elements ≡ fills.Value = sym all.0 ∙ both.0 in absurd cc
     ]
 
-pub behind_some : (s : Schema) (top : OpenElement) (above : List OpenElement) (es : List Event) (text : List ℕ) → IsSome top.filling → IsNested (Within (top ∷ above)) → Goes s (Within (top ∷ above)) es text → EndsValue text
+pub behind_some : (s : PlainSchema) (top : OpenElement) (above : List OpenElement) (es : List Event) (text : List ℕ) → IsSome top.filling → IsNested (Within (top ∷ above)) → Goes s (Within (top ∷ above)) es text → EndsValue text
 behind_some s top above [] text some nested goes = let wrong : Within (top ∷ above) ≡ Within [] = goes.1 in absurd cc
 behind_some s top above (Document number ∷ es) text some nested goes = absurd goes.3
 behind_some s top above (Start name ∷ es) text some nested goes = behind_gap top.filling goes.3.1 goes.1 goes.2 text some goes.3.4 goes.5
 behind_some s top above (Attribute name value ∷ es) text some nested goes = behind_gap top.filling goes.3.1 goes.1 goes.2 text some goes.3.5 goes.5
 behind_some s top above (Content value ∷ es) text some nested goes = absurd (not_nothing top.filling some goes.3.0)
 behind_some s top above (EndElement ∷ es) text some nested goes =
-    elim (end_brace (slice_get s.kinds.now top.kind) top.filling goes.1 goes.2 text goes.3.0 goes.5) [
+    elim (end_brace (slice_get s.kinds top.kind) top.filling goes.1 goes.2 text goes.3.0 goes.5) [
       | inl ends ↦ ends
       | inr both ↦
           let later : Goes s (Within above) es goes.2 = subst (λ (x : Standing). Goes s x es goes.2) goes.3.1 goes.4 in
           subst EndsValue (sym both.1) (behind_elements s above es goes.2 nested later)
     ]
 
-pub completes_some : (s : Schema) (top : OpenElement) (above : List OpenElement) (text : List ℕ) → IsSome top.filling → IsNested (Within (top ∷ above)) → Completes s (Within (top ∷ above)) text → EndsValue text
+pub completes_some : (s : PlainSchema) (top : OpenElement) (above : List OpenElement) (text : List ℕ) → IsSome top.filling → IsNested (Within (top ∷ above)) → Completes s (Within (top ∷ above)) text → EndsValue text
 completes_some s top above text some nested p = behind_some s top above p.0 text some nested p.1

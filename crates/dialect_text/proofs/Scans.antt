@@ -5,7 +5,7 @@ use Rattle.std.specs.Str.{encode_utf8_all, IsUtf8}
 use Rattle.std.proofs.lemmas.List.{append-nil, length-append}
 use Rattle.std.proofs.lemmas.List.Sums.{sum_by-cons}
 use Rattle.std.proofs.lemmas.Str.{encodes-append}
-use Rattle.exi_schema.specs.declared.schema.Schema.{Schema}
+use Rattle.exi_schema.specs.Schemas.{PlainSchema}
 use Rattle.exi_schema.specs.declared.tables.RootOf.{RootOf}
 use Rattle.exi_schema.specs.declared.places.Root.TheVariants.{Kind}
 use Rattle.exi_schema.specs.Steps.{IsRoot}
@@ -32,7 +32,7 @@ use Rattle.dialect_text.proofs.Running.{from_start, to_end, nested_on, by_standi
 use Rattle.dialect_text.proofs.Viable.{completes_all, completes_root}
 use Rattle.value_text.proofs.SchemaWords.{name_word}
 
-pub starts_read : (s : Schema) (text : List ℕ) (cursor : TextCursor) → cursor.rest.now ≡ text → cursor.place ≡ 0 → HasRead s text Before cursor
+pub starts_read : (s : PlainSchema) (text : List ℕ) (cursor : TextCursor) → cursor.rest.now ≡ text → cursor.place ≡ 0 → HasRead s text Before cursor
 starts_read s text cursor whole start = record {
   front = [];
   leads = record { from = λ t new. to_end s t new; to = λ t shares old. from_start s t old };
@@ -40,12 +40,12 @@ starts_read s text cursor whole start = record {
   place = start;
 }
 
-pub starts_said : (s : Schema) (text : List ℕ) (cursor : TextCursor) → cursor.rest.now ≡ text → cursor.place ≡ 0 → HasSaid s text [] Before cursor
+pub starts_said : (s : PlainSchema) (text : List ℕ) (cursor : TextCursor) → cursor.rest.now ≡ text → cursor.place ≡ 0 → HasSaid s text [] Before cursor
 starts_said s text cursor whole start = record { front = []; says = (refl, refl); stands = sym whole; place = start }
 
 -- ---- what is said and read
 
-pub said_on : (s : Schema) (text : List ℕ) (events : List Event) (old new : Standing) (a b : TextCursor) (event : Event) → HasSaid s text events old a → TakesNext s [] (Completes s old) old a event new b → HasSaid s text (event ∷ events) new b
+pub said_on : (s : PlainSchema) (text : List ℕ) (events : List Event) (old new : Standing) (a b : TextCursor) (event : Event) → HasSaid s text events old a → TakesNext s [] (Completes s old) old a event new b → HasSaid s text (event ∷ events) new b
 said_on s text events old new a b event p q = record {
   front = p.front ++ q.front;
   says = (old, encode_utf8_all p.front, encode_utf8_all q.front, p.says, q.adds, encodes-append p.front q.front);
@@ -53,7 +53,7 @@ said_on s text events old new a b event p q = record {
   place = omega (arith, p.place, q.passes.counted, length-append p.front q.front);
 }
 
-pub read_on : (s : Schema) (text : List ℕ) (old new : Standing) (a b : TextCursor) (event : Event) → HasRead s text old a → TakesNext s [] (Completes s old) old a event new b → HasRead s text new b
+pub read_on : (s : PlainSchema) (text : List ℕ) (old new : Standing) (a b : TextCursor) (event : Event) → HasRead s text old a → TakesNext s [] (Completes s old) old a event new b → HasRead s text new b
 read_on s text old new a b event p q = record {
   front = p.front ++ q.front;
   leads = leads_then (IsOfDialect s) (Completes s old) (Completes s new) p.front q.front b.rest.now (subst (λ (bs : List ℕ). Leads (IsOfDialect s) p.front bs (Completes s old)) q.passes.stands p.leads) q.leads;
@@ -61,14 +61,14 @@ read_on s text old new a b event p q = record {
   place = omega (arith, p.place, q.passes.counted, length-append p.front q.front);
 }
 
-pub said_all : (s : Schema) (text : List ℕ) (events : List Event) (standing : Standing) (a : TextCursor) → HasSaid s text events standing a → standing ≡ Within [] → a.rest.now ≡ [] → IsDialectText s events text
+pub said_all : (s : PlainSchema) (text : List ℕ) (events : List Event) (standing : Standing) (a : TextCursor) → HasSaid s text events standing a → standing ≡ Within [] → a.rest.now ≡ [] → IsDialectText s events text
 said_all s text events standing a p ended none =
     subst (λ (t : List ℕ). IsDialectText s events t) (sym (p.stands ∙ ap (λ (bs : List ℕ). encode_utf8_all p.front ++ bs) none ∙ append-nil (encode_utf8_all p.front)))
     (subst (λ (x : Standing). Says s events (encode_utf8_all p.front) x) ended p.says)
 
 -- ---- soundness
 
-pub open_on : (s : Schema) (old new : Standing) (event : Event) (added : List ℕ) → Adds s old event added new → IsSound s old → IsOpen s new
+pub open_on : (s : PlainSchema) (old new : Standing) (event : Event) (added : List ℕ) → Adds s old event added new → IsSound s old → IsOpen s new
 open_on s Before new (Document number) added p sound = by_standing (IsOpen s) p.4 (root_kind s number p.0 p.1 p.2, root_deep s p.2.0 (record { number = number; name = p.0; kind = p.1 }) p.2.1)
 open_on s Before new _ added p sound = absurd p
 open_on s (AtRoot root kind) new (Start name) added p sound = by_standing (IsOpen s) p.2 (sound.0.0, sound.0.1, tt, tt)
@@ -81,20 +81,20 @@ open_on s (Within (top ∷ above)) new (Attribute name value) added p sound = by
 open_on s (Within (top ∷ above)) new (Content value) added p sound = by_standing (IsOpen s) p.2 (sound.0.0, sound.0.1, (p.1.0, p.1.1), sound.0.3)
 open_on s (Within (top ∷ above)) new EndElement added p sound = by_standing (IsOpen s) p.1 sound.0.3
 
-pub sound_on : (s : Schema) (old new : Standing) (event : Event) (added : List ℕ) → Adds s old event added new → IsSound s old → IsSound s new
+pub sound_on : (s : PlainSchema) (old new : Standing) (event : Event) (added : List ℕ) → Adds s old event added new → IsSound s old → IsSound s new
 sound_on s old new event added p sound = (open_on s old new event added p sound, nested_on s old new event added p sound.1)
 
-some_root : (s : Schema) → (i : ℕ) × (root : RootOf) × (slice_get s.roots.now i ≡ Some root)
-some_root s = first_root s.roots.now (roots_there s)
+some_root : (s : PlainSchema) → (i : ℕ) × (root : RootOf) × (slice_get s.roots i ≡ Some root)
+some_root s = first_root s.roots (roots_there s)
   where
     first_root : (roots : List RootOf) → 1 ≤ length roots → (i : ℕ) × (root : RootOf) × (slice_get roots i ≡ Some root)
     first_root [] some = absurd (omega (arith, some))
     first_root (root ∷ roots) some = (0, root, refl)
 
-pub completes_any : (s : Schema) (standing : Standing) → IsSound s standing → (text : List ℕ) × Completes s standing text
+pub completes_any : (s : PlainSchema) (standing : Standing) → IsSound s standing → (text : List ℕ) × Completes s standing text
 completes_any s Before sound =
     let root = some_root s in
-    let is : IsRoot s.roots.now s.root_bits root.1.number (Kind root.1.name root.1.kind) = (root.0, root.2) in
+    let is : IsRoot s.roots s.root_bits root.1.number (Kind root.1.name root.1.kind) = (root.0, root.2) in
     let low = root_kind s root.1.number root.1.name root.1.kind is in
     let some = completes_all s (element root.1.kind fills.Nothing ∷ []) (low, root_deep s root.0 root.1 root.2, tt, tt) in
     let all = completes_root s root.1.name root.1.kind some.0 some.1 in
@@ -109,7 +109,7 @@ completes_any s (Within elements) sound = completes_all s elements sound.0
 
 -- ---- faults
 
-pub fault_of_text : (s : Schema) (text : List ℕ) (standing : Standing) (a : TextCursor) (f : ScanFault) → IsUtf8 text → IsSound s standing → HasRead s text standing a → StallsAt (Completes s standing) a f → IsFaultOf s text f
+pub fault_of_text : (s : PlainSchema) (text : List ℕ) (standing : Standing) (a : TextCursor) (f : ScanFault) → IsUtf8 text → IsSound s standing → HasRead s text standing a → StallsAt (Completes s standing) a f → IsFaultOf s text f
 fault_of_text s text standing a (fault.Place place) utf8 sound p q =
     let some = completes_any s standing sound in
     let stalls = stalls_after (IsOfDialect s) (Completes s standing) p.front q.0 a.rest.now p.leads (inr some) q.1 in
@@ -119,7 +119,7 @@ fault_of_text s text standing a (fault.Place place) utf8 sound p q =
 fault_of_text s text standing a fault.Memory utf8 sound p q = tt
 
 -- behind the root nothing follows
-pub ended_stalls : (s : Schema) (a : TextCursor) → (a.rest.now ≡ [] → ⊥) → StallsAt (Completes s (Within [])) a (fault.Place a.place)
+pub ended_stalls : (s : PlainSchema) (a : TextCursor) → (a.rest.now ≡ [] → ⊥) → StallsAt (Completes s (Within [])) a (fault.Place a.place)
 ended_stalls s a some =
     ([], record { more = a.rest.now; stands = refl; begins = inl refl; none_further = λ text shares p. by text shares p.0 p.1 }, omega arith)
   where
@@ -134,7 +134,7 @@ ended_stalls s a some =
 
 -- ---- less is left
 
-start_long : (s : Schema) (name kind : ℕ) (text : List ℕ) → IsStartText s name kind text → 2 ≤ length text
+start_long : (s : PlainSchema) (name kind : ℕ) (text : List ℕ) → IsStartText s name kind text → 2 ≤ length text
 start_long s name kind text p = let word = name_word s name p.0 p.1 in omega (arith, word.0, ap length p.2, length-append p.0 (mark s kind ∷ []))
 
 weighs : (top : OpenElement) → (1 ≤ weight top) × (weight top ≤ 2)
@@ -152,7 +152,7 @@ nothing_weighs top none = ap (λ (f : Filling). weight (element top.kind f)) non
 within_cons : (top : OpenElement) (above : List OpenElement) → events_within (Within (top ∷ above)) ≡ weight top + events_within (Within above)
 within_cons top above = sum_by-cons weight top above
 
-events_on : (s : Schema) (old new : Standing) (event : Event) (added : List ℕ) → Adds s old event added new → events_within new < events_within old + 4 * length added
+events_on : (s : PlainSchema) (old new : Standing) (event : Event) (added : List ℕ) → Adds s old event added new → events_within new < events_within old + 4 * length added
 events_on s Before new (Document number) added p = by_standing (λ (x : Standing). events_within x < 0 + 4 * length added) p.4 (omega (arith, start_long s p.0 p.1 added p.3))
 events_on s Before new _ added p = absurd p
 events_on s (AtRoot root kind) new (Start name) added p = by_standing (λ (x : Standing). events_within x < 3 + 4 * length added) p.2 (omega arith)
@@ -179,14 +179,14 @@ events_on s (Within (top ∷ above)) new (Content value) added p =
 events_on s (Within (top ∷ above)) new EndElement added p =
     by_standing (λ (x : Standing). events_within x < events_within (Within (top ∷ above)) + 4 * length added) p.1 (omega (arith, (weighs top).0, within_cons top above))
 
-pub fewer_on : (s : Schema) (old new : Standing) (a b : TextCursor) (event : Event) → TakesNext s [] (Completes s old) old a event new b → events_left new b < events_left old a
+pub fewer_on : (s : PlainSchema) (old new : Standing) (a b : TextCursor) (event : Event) → TakesNext s [] (Completes s old) old a event new b → events_left new b < events_left old a
 fewer_on s old new a b event q =
     omega (arith, events_on s old new event (encode_utf8_all q.front) q.adds, ap length q.passes.stands, length-append (encode_utf8_all q.front) b.rest.now)
 
-pub inside_stalls : (s : Schema) (elements : List OpenElement) (a : TextCursor) → elements ≡ [] → (a.rest.now ≡ [] → ⊥) → StallsAt (Completes s (Within elements)) a (fault.Place a.place)
+pub inside_stalls : (s : PlainSchema) (elements : List OpenElement) (a : TextCursor) → elements ≡ [] → (a.rest.now ≡ [] → ⊥) → StallsAt (Completes s (Within elements)) a (fault.Place a.place)
 inside_stalls s elements a none some = subst (λ (x : List OpenElement). StallsAt (Completes s (Within x)) a (fault.Place a.place)) (sym none) (ended_stalls s a some)
 
-pub root_starts : (s : Schema) (name kind : ℕ) (elements : List OpenElement) (a : TextCursor) → elements ≡ element kind fills.Nothing ∷ [] →
+pub root_starts : (s : PlainSchema) (name kind : ℕ) (elements : List OpenElement) (a : TextCursor) → elements ≡ element kind fills.Nothing ∷ [] →
     TakesNext s [] (Completes s (AtRoot name kind)) (AtRoot name kind) a (Start name) (Within elements) a
 root_starts s name kind elements a one = record {
   front = [];
@@ -197,7 +197,7 @@ root_starts s name kind elements a one = record {
 
 -- ---- the answers of a scanner
 
-pub next_ready : (s : Schema) (text : List ℕ) (old new : Standing) (a b : TextCursor) (f g : Option ℕ) (o : Option Said) → IsReady s text old a f → g ≡ f → IsNext s old a new b o → IsReady s text new b g
+pub next_ready : (s : PlainSchema) (text : List ℕ) (old new : Standing) (a b : TextCursor) (f g : Option ℕ) (o : Option Said) → IsReady s text old a f → g ≡ f → IsNext s old a new b o → IsReady s text new b g
 next_ready s text old new a b f g (Some said) ready same p = record {
   utf8 = ready.utf8;
   sound = sound_on s old new (event_of said) (encode_utf8_all p.front) p.adds ready.sound;
@@ -211,23 +211,23 @@ next_ready s text old new a b f g None ready same p = record {
   at_fault = subst (IsAtFault s text) (sym same) ready.at_fault;
 }
 
-pub next_said : (s : Schema) (text : List ℕ) (old new : Standing) (a b : TextCursor) (o : Option Said) → IsNext s old a new b o → (events : List Event) → HasSaid s text events old a → IfSome o (λ said. HasSaid s text (event_of said ∷ events) new b)
+pub next_said : (s : PlainSchema) (text : List ℕ) (old new : Standing) (a b : TextCursor) (o : Option Said) → IsNext s old a new b o → (events : List Event) → HasSaid s text events old a → IfSome o (λ said. HasSaid s text (event_of said ∷ events) new b)
 next_said s text old new a b (Some said) p events h = said_on s text events old new a b (event_of said) h p
 next_said s text old new a b None p events h = tt
 
-pub next_ended : (s : Schema) (text : List ℕ) (old new : Standing) (a b : TextCursor) (o : Option Said) → IsNext s old a new b o → (events : List Event) → HasSaid s text events old a → IfNone o (IsDialectText s events text)
+pub next_ended : (s : PlainSchema) (text : List ℕ) (old new : Standing) (a b : TextCursor) (o : Option Said) → IsNext s old a new b o → (events : List Event) → HasSaid s text events old a → IfNone o (IsDialectText s events text)
 next_ended s text old new a b (Some said) p events h = tt
 next_ended s text old new a b None p events h = said_all s text events old a h p.0 p.1
 
-pub next_fewer : (s : Schema) (old new : Standing) (a b : TextCursor) (o : Option Said) → IsNext s old a new b o → IfSome o (λ said. events_left new b < events_left old a)
+pub next_fewer : (s : PlainSchema) (old new : Standing) (a b : TextCursor) (o : Option Said) → IsNext s old a new b o → IfSome o (λ said. events_left new b < events_left old a)
 next_fewer s old new a b (Some said) p = fewer_on s old new a b (event_of said) p
 next_fewer s old new a b None p = tt
 
-pub fault_kept : (s : Schema) (text : List ℕ) (f : ScanFault) → IsFaultOf s text f → IsAtFault s text (place_in f)
+pub fault_kept : (s : PlainSchema) (text : List ℕ) (f : ScanFault) → IsFaultOf s text f → IsAtFault s text (place_in f)
 fault_kept s text (fault.Place place) p = p
 fault_kept s text fault.Memory p = tt
 
-pub fault_ready : (s : Schema) (text : List ℕ) (standing : Standing) (a : TextCursor) (f : Option ℕ) (g : ScanFault) → IsReady s text standing a f → StallsAt (Completes s standing) a g → IsReady s text standing a (place_in g)
+pub fault_ready : (s : PlainSchema) (text : List ℕ) (standing : Standing) (a : TextCursor) (f : Option ℕ) (g : ScanFault) → IsReady s text standing a f → StallsAt (Completes s standing) a g → IsReady s text standing a (place_in g)
 fault_ready s text standing a f g ready p = record {
   utf8 = ready.utf8;
   sound = ready.sound;

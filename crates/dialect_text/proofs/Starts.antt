@@ -6,7 +6,7 @@ use Rattle.std.specs.List.{AllByRecursion}
 use Rattle.std.specs.Str.{encode_utf8_all}
 use Rattle.std.proofs.lemmas.Option.{slice_get_within, slice_get-get_or}
 use Rattle.std.proofs.lemmas.Str.{encodes-append, encode_ascii}
-use Rattle.exi_schema.specs.declared.schema.Schema.{Schema}
+use Rattle.exi_schema.specs.Schemas.{PlainSchema}
 use Rattle.exi_schema.specs.declared.tables.AttributeOf.{AttributeOf}
 use Rattle.exi_schema.specs.declared.tables.Datatype.{Datatype}
 use Rattle.exi_schema.specs.Steps.{simple_at}
@@ -32,7 +32,7 @@ use Rattle.value_text.proofs.SchemaWords.{name_word}
 use Rattle.dialect_text.proofs.Words.{words_split, one_name}
 
 -- what a call of take_name tells
-abbrev pub NameTaken : Schema → List Awaited → TextCursor → TextCursor → ℕ → Type 0
+abbrev pub NameTaken : PlainSchema → List Awaited → TextCursor → TextCursor → ℕ → Type 0
 NameTaken s awaited a b i =
     (front : List ℕ) × (one : Awaited) × Takes (IsAnyAwaited s awaited) a front b × (slice_get awaited i ≡ Some one) × IsAwaitedText s one (encode_utf8_all front)
 
@@ -41,10 +41,10 @@ got xs i d x at = let there : Some x ≡ Some (get_or xs i d) = sym at ∙ slice
 
 -- ---- attributes
 
-abbrev pub FitsAttribute : Schema → AttributeOf → Type 0
-FitsAttribute s attribute = (attribute.name < length s.names.now) × (attribute.kind < length s.kinds.now) × IsSome (simple_at s.kinds.now attribute.kind)
+abbrev pub FitsAttribute : PlainSchema → AttributeOf → Type 0
+FitsAttribute s attribute = (attribute.name < length s.names) × (attribute.kind < length s.kinds) × IsSome (simple_at s.kinds attribute.kind)
 
-pub attributes_marked : (s : Schema) (attributes : List AttributeOf) (awaited items : List Awaited) → AllByRecursion (FitsAttribute s) attributes → items ≡ map awaited_attribute attributes → awaited ≡ items → AreMarked s awaited
+pub attributes_marked : (s : PlainSchema) (attributes : List AttributeOf) (awaited items : List Awaited) → AllByRecursion (FitsAttribute s) attributes → items ≡ map awaited_attribute attributes → awaited ≡ items → AreMarked s awaited
 attributes_marked s attributes awaited items fit made same =
     subst (λ (xs : List Awaited). AreMarked s xs) (sym (same ∙ made))
     (all_map (IsMarked s) awaited_attribute attributes (all_then (FitsAttribute s) (λ attribute. IsMarked s (awaited_attribute attribute)) attributes (λ attribute is. (is.0, omega arith, refl)) fit))
@@ -84,7 +84,7 @@ attribute_there (one ∷ attributes) name kind is =
     ]
 
 -- an attribute that is there is found by its name, and the one that is found fits
-pub attribute_found : (s : Schema) (attributes : List AttributeOf) (i : ℕ) (attribute : AttributeOf) → slice_get attributes i ≡ Some attribute → (kind : ℕ) × (attribute_named attributes attribute.name ≡ Some kind)
+pub attribute_found : (s : PlainSchema) (attributes : List AttributeOf) (i : ℕ) (attribute : AttributeOf) → slice_get attributes i ≡ Some attribute → (kind : ℕ) × (attribute_named attributes attribute.name ≡ Some kind)
 attribute_found s [] i attribute at = let wrong : None ≡ Some attribute = at in absurd cc
 attribute_found s (one ∷ attributes) zero attribute at =
     let is : Some one ≡ Some attribute = at in
@@ -94,19 +94,19 @@ attribute_found s (one ∷ attributes) (suc i) attribute at =
     let more = attribute_found s attributes i attribute at in
     found_later one attributes attribute.name more.0 more.1
 
-pub named_fits : (s : Schema) (attributes : List AttributeOf) (name kind : ℕ) → AllByRecursion (FitsAttribute s) attributes → attribute_named attributes name ≡ Some kind → (kind < length s.kinds.now) × IsSome (simple_at s.kinds.now kind)
+pub named_fits : (s : PlainSchema) (attributes : List AttributeOf) (name kind : ℕ) → AllByRecursion (FitsAttribute s) attributes → attribute_named attributes name ≡ Some kind → (kind < length s.kinds) × IsSome (simple_at s.kinds kind)
 named_fits s [] name kind fit is = let wrong : None ≡ Some kind = is in absurd cc
 named_fits s (one ∷ attributes) name kind fit is =
     elim (eqb_tells one.name name) [
       | inl tells ↦
           let here : Some one.kind ≡ Some kind = sym (if_true (one.name == name) (Some one.kind) (attribute_named attributes name) tells.0) ∙ is in
           let same : one.kind ≡ kind = cc in
-          subst (λ (k : ℕ). (k < length s.kinds.now) × IsSome (simple_at s.kinds.now k)) same (fit.0.1, fit.0.2)
+          subst (λ (k : ℕ). (k < length s.kinds) × IsSome (simple_at s.kinds k)) same (fit.0.1, fit.0.2)
       | inr tells ↦ named_fits s attributes name kind fit.1 (sym (if_false (one.name == name) (Some one.kind) (attribute_named attributes name) tells.0) ∙ is)
     ]
 
 -- the name of an attribute leads to its value
-pub attribute_leads : (s : Schema) (top : OpenElement) (above : List OpenElement) (name kind : ℕ) (front rest : List ℕ) → attribute_of s top.kind name ≡ Some kind →
+pub attribute_leads : (s : PlainSchema) (top : OpenElement) (above : List OpenElement) (name kind : ℕ) (front rest : List ℕ) → attribute_of s top.kind name ≡ Some kind →
     IsAwaitedText s (record { name = name; end = 61 }) (encode_utf8_all front) →
     Leads (StartsAttribute s top above) front rest (StartsValue s kind (Completes s (Within (element top.kind fills.Attributes ∷ above))))
 attribute_leads s top above name kind front rest is named =
@@ -123,7 +123,7 @@ attribute_leads s top above name kind front rest is named =
           subst (λ (t : List ℕ). StartsValue s kind L t) (sym split.2) (subst (λ (k : ℕ). StartsValue s k L old.3) one old.6);
     }
 
-attributes_open : (s : Schema) (top : OpenElement) (above : List OpenElement) (name kind : ℕ) → IsSound s (Within (top ∷ above)) → attribute_of s top.kind name ≡ Some kind → AreOpen s (element top.kind fills.Attributes ∷ above)
+attributes_open : (s : PlainSchema) (top : OpenElement) (above : List OpenElement) (name kind : ℕ) → IsSound s (Within (top ∷ above)) → attribute_of s top.kind name ≡ Some kind → AreOpen s (element top.kind fills.Attributes ∷ above)
 attributes_open s top above name kind sound is = (sound.0.0, sound.0.1, (name, kind, is), sound.0.3)
 
 some_datatype : (o : Option Datatype) → IsSome o → (d : Datatype) × (o ≡ Some d)
@@ -131,15 +131,15 @@ some_datatype None is = let wrong : false ≡ true = is in absurd cc
 some_datatype (Some d) is = (d, refl)
 
 -- the value of an attribute and what follows
-pub value_some : (s : Schema) (top : OpenElement) (above : List OpenElement) (name kind : ℕ) → IsSound s (Within (top ∷ above)) → attribute_of s top.kind name ≡ Some kind → IsSome (simple_at s.kinds.now kind) →
+pub value_some : (s : PlainSchema) (top : OpenElement) (above : List OpenElement) (name kind : ℕ) → IsSound s (Within (top ∷ above)) → attribute_of s top.kind name ≡ Some kind → IsSome (simple_at s.kinds kind) →
     (text : List ℕ) × StartsValue s kind (Completes s (Within (element top.kind fills.Attributes ∷ above))) text
 value_some s top above name kind sound is simple =
-    let d = some_datatype (simple_at s.kinds.now kind) simple in
+    let d = some_datatype (simple_at s.kinds kind) simple in
     let value = some_of_kind s kind d.0 d.1 in
     let rest = completes_all s (element top.kind fills.Attributes ∷ above) (attributes_open s top above name kind sound is) in
     (value.1 ++ rest.0, (value.0, value.1, rest.0, value.2, rest.1, refl))
 
-pub attribute_taken : (s : Schema) (top : OpenElement) (above : List OpenElement) (name kind : ℕ) (v : Value) (front : List ℕ) (a b c : TextCursor) → IsSound s (Within (top ∷ above)) → IsBeforeElements top.filling →
+pub attribute_taken : (s : PlainSchema) (top : OpenElement) (above : List OpenElement) (name kind : ℕ) (v : Value) (front : List ℕ) (a b c : TextCursor) → IsSound s (Within (top ∷ above)) → IsBeforeElements top.filling →
     attribute_of s top.kind name ≡ Some kind → IsAwaitedText s (record { name = name; end = 61 }) (encode_utf8_all front) → Passes a front b → TakesValueOf s kind v b c →
     TakesNext s (gap top.filling ++ codes "@") (StartsAttribute s top above) (Within (top ∷ above)) a (Attribute name v) (Within (element top.kind fills.Attributes ∷ above)) c
 attribute_taken s top above name kind v front a b c sound before is named passes value =
@@ -165,8 +165,8 @@ attribute_taken s top above name kind v front a b c sound before is named passes
           (value_leads s kind v L b c (value_ends s top.kind fills.Attributes above tt sound.1) value);
     }
 
-pub attribute_value_stalls : (s : Schema) (top : OpenElement) (above : List OpenElement) (name kind : ℕ) (front : List ℕ) (a b : TextCursor) (f : ScanFault) → IsSound s (Within (top ∷ above)) →
-    attribute_of s top.kind name ≡ Some kind → IsSome (simple_at s.kinds.now kind) → IsAwaitedText s (record { name = name; end = 61 }) (encode_utf8_all front) → Passes a front b → MissesValueOf s kind b f →
+pub attribute_value_stalls : (s : PlainSchema) (top : OpenElement) (above : List OpenElement) (name kind : ℕ) (front : List ℕ) (a b : TextCursor) (f : ScanFault) → IsSound s (Within (top ∷ above)) →
+    attribute_of s top.kind name ≡ Some kind → IsSome (simple_at s.kinds kind) → IsAwaitedText s (record { name = name; end = 61 }) (encode_utf8_all front) → Passes a front b → MissesValueOf s kind b f →
     StallsAt (StartsAttribute s top above) a f
 attribute_value_stalls s top above name kind front a b f sound is simple named passes misses =
     let L : List ℕ → Type 0 = Completes s (Within (element top.kind fills.Attributes ∷ above)) in
@@ -174,7 +174,7 @@ attribute_value_stalls s top above name kind front a b f sound is simple named p
     stalls_behind (StartsAttribute s top above) (StartsValue s kind L) a b front f passes (attribute_leads s top above name kind front b.rest.now is named) (inr (value_some s top above name kind sound is simple))
     (value_stalls s kind L b f rest.0 rest.1 (value_ends s top.kind fills.Attributes above tt sound.1) misses)
 
-pub attribute_name_stalls : (s : Schema) (top : OpenElement) (above : List OpenElement) (attributes : List AttributeOf) (awaited items : List Awaited) (a : TextCursor) (f : ScanFault) → IsSound s (Within (top ∷ above)) →
+pub attribute_name_stalls : (s : PlainSchema) (top : OpenElement) (above : List OpenElement) (attributes : List AttributeOf) (awaited items : List Awaited) (a : TextCursor) (f : ScanFault) → IsSound s (Within (top ∷ above)) →
     AllByRecursion (FitsAttribute s) attributes → ((name : ℕ) → attribute_of s top.kind name ≡ attribute_named attributes name) → items ≡ map awaited_attribute attributes → awaited ≡ items →
     MissesAt (IsAnyAwaited s awaited) a f → StallsAt (StartsAttribute s top above) a f
 attribute_name_stalls s top above attributes awaited items a f sound fit of_kind made same p =
@@ -211,28 +211,28 @@ attribute_name_stalls s top above attributes awaited items a f sound fit of_kind
 
 -- ---- the answers of an attribute
 
-pub attribute_got : (attributes : List AttributeOf) (s : Schema) (awaited items : List Awaited) (i : ℕ) (a b : TextCursor) → items ≡ map awaited_attribute attributes → awaited ≡ items → NameTaken s awaited a b i →
+pub attribute_got : (attributes : List AttributeOf) (s : PlainSchema) (awaited items : List Awaited) (i : ℕ) (a b : TextCursor) → items ≡ map awaited_attribute attributes → awaited ≡ items → NameTaken s awaited a b i →
     (attribute : AttributeOf) × (slice_get attributes i ≡ Some attribute)
 attribute_got attributes s awaited items i a b made same p = let one = attribute_at attributes awaited items i p.1 made same p.3 in (one.0, one.1)
 
-pub attribute_within : (attributes : List AttributeOf) (s : Schema) (awaited items : List Awaited) (i : ℕ) (a b : TextCursor) → items ≡ map awaited_attribute attributes → awaited ≡ items → NameTaken s awaited a b i → i < length attributes
+pub attribute_within : (attributes : List AttributeOf) (s : PlainSchema) (awaited items : List Awaited) (i : ℕ) (a b : TextCursor) → items ≡ map awaited_attribute attributes → awaited ≡ items → NameTaken s awaited a b i → i < length attributes
 attribute_within attributes s awaited items i a b made same p = let one = attribute_got attributes s awaited items i a b made same p in slice_get_within attributes i one.0 one.1
 
-pub attribute_named_so : (attributes : List AttributeOf) (s : Schema) (awaited items : List Awaited) (i : ℕ) (d : AttributeOf) (a b : TextCursor) → items ≡ map awaited_attribute attributes → awaited ≡ items → (p : NameTaken s awaited a b i) →
+pub attribute_named_so : (attributes : List AttributeOf) (s : PlainSchema) (awaited items : List Awaited) (i : ℕ) (d : AttributeOf) (a b : TextCursor) → items ≡ map awaited_attribute attributes → awaited ≡ items → (p : NameTaken s awaited a b i) →
     IsAwaitedText s (record { name = (get_or attributes i d).name; end = 61 }) (encode_utf8_all p.0)
 attribute_named_so attributes s awaited items i d a b made same p =
     let one = attribute_at attributes awaited items i p.1 made same p.3 in
     subst (λ (x : AttributeOf). IsAwaitedText s (awaited_attribute x) (encode_utf8_all p.0)) (got attributes i d one.0 one.1)
     (subst (λ (x : Awaited). IsAwaitedText s x (encode_utf8_all p.0)) (sym one.2) p.4)
 
-pub attribute_known : (attributes : List AttributeOf) (s : Schema) (awaited items : List Awaited) (i : ℕ) (d : AttributeOf) (a b : TextCursor) (o : Option ℕ) → items ≡ map awaited_attribute attributes → awaited ≡ items → NameTaken s awaited a b i →
+pub attribute_known : (attributes : List AttributeOf) (s : PlainSchema) (awaited items : List Awaited) (i : ℕ) (d : AttributeOf) (a b : TextCursor) (o : Option ℕ) → items ≡ map awaited_attribute attributes → awaited ≡ items → NameTaken s awaited a b i →
     o ≡ attribute_named attributes (get_or attributes i d).name → (kind : ℕ) × (o ≡ Some kind)
 attribute_known attributes s awaited items i d a b o made same p e =
     let one = attribute_got attributes s awaited items i a b made same p in
     let found = attribute_found s attributes i one.0 one.1 in
     (found.0, e ∙ ap (λ (x : AttributeOf). attribute_named attributes x.name) (sym (got attributes i d one.0 one.1)) ∙ found.1)
 
-pub attribute_answer : (s : Schema) (elements filled : List OpenElement) (top : OpenElement) (attributes : List AttributeOf) (awaited items : List Awaited) (i kind : ℕ) (d : AttributeOf) (v : Value) (a b c : TextCursor) (o : Option ℕ) (above : List OpenElement) →
+pub attribute_answer : (s : PlainSchema) (elements filled : List OpenElement) (top : OpenElement) (attributes : List AttributeOf) (awaited items : List Awaited) (i kind : ℕ) (d : AttributeOf) (v : Value) (a b c : TextCursor) (o : Option ℕ) (above : List OpenElement) →
     items ≡ map awaited_attribute attributes → awaited ≡ items → NameTaken s awaited a b i → o ≡ attribute_named attributes (get_or attributes i d).name → o ≡ Some kind →
     ((name : ℕ) → attribute_of s top.kind name ≡ attribute_named attributes name) → IsSound s (Within elements) → IsBeforeElements top.filling → TakesValueOf s kind v b c →
     ((t : OpenElement) (more : List OpenElement) → elements ≡ t ∷ more → filled ≡ element t.kind fills.Attributes ∷ more) → elements ≡ top ∷ above →
@@ -243,7 +243,7 @@ attribute_answer s elements filled top attributes awaited items i kind d v a b c
     (attribute_taken s top above (get_or attributes i d).name kind v p.0 a b c (subst (λ (x : List OpenElement). IsSound s (Within x)) has sound) before
     (of_kind (get_or attributes i d).name ∙ sym e ∙ is) (attribute_named_so attributes s awaited items i d a b made same p) p.2.passed value))
 
-pub attribute_value_answer : (s : Schema) (elements : List OpenElement) (top : OpenElement) (attributes : List AttributeOf) (awaited items : List Awaited) (i kind : ℕ) (d : AttributeOf) (a b : TextCursor) (o : Option ℕ) (above : List OpenElement) (f : ScanFault) →
+pub attribute_value_answer : (s : PlainSchema) (elements : List OpenElement) (top : OpenElement) (attributes : List AttributeOf) (awaited items : List Awaited) (i kind : ℕ) (d : AttributeOf) (a b : TextCursor) (o : Option ℕ) (above : List OpenElement) (f : ScanFault) →
     items ≡ map awaited_attribute attributes → awaited ≡ items → NameTaken s awaited a b i → o ≡ attribute_named attributes (get_or attributes i d).name → o ≡ Some kind →
     ((name : ℕ) → attribute_of s top.kind name ≡ attribute_named attributes name) → IsSound s (Within elements) → AllByRecursion (FitsAttribute s) attributes → MissesValueOf s kind b f → elements ≡ top ∷ above →
     StallsAt (StartsAttribute s top above) a f

@@ -1,7 +1,7 @@
 -- Values at a cursor: what is taken, and what is missed.
 use Rattle.std.proofs.Common.{◌≡◌, ℕ, inr, List, ◌++◌, Some, refl, sym, ap, subst, ◌∙◌, append_assoc}
 use Rattle.std.specs.Str.{encode_utf8_all}
-use Rattle.exi_schema.specs.declared.schema.Schema.{Schema}
+use Rattle.exi_schema.specs.Schemas.{PlainSchema}
 use Rattle.exi_schema.specs.declared.tables.Datatype.{Datatype}
 use Rattle.exi_schema.specs.Steps.{simple_at}
 use Rattle.exi_documents.specs.Trees.{Value}
@@ -17,7 +17,7 @@ use Rattle.dialect_text.proofs.Agreeing.{missed, taken_once}
 use Rattle.dialect_text.proofs.Values.{value_chars, value_stops, EndsValue}
 
 -- a value and what is behind it, in characters
-record Split (s : Schema) (kind : ℕ) (d : Datatype) (L : List ℕ → Type 0) (text : List ℕ) : Type 0 where
+record Split (s : PlainSchema) (kind : ℕ) (d : Datatype) (L : List ℕ → Type 0) (text : List ℕ) : Type 0 where
   value : Value
   front : List ℕ
   rest : List ℕ
@@ -25,7 +25,7 @@ record Split (s : Schema) (kind : ℕ) (d : Datatype) (L : List ℕ → Type 0) 
   follows : L rest
   whole : text ≡ encode_utf8_all front ++ rest
 
-split : (s : Schema) (kind : ℕ) (d : Datatype) (L : List ℕ → Type 0) (text : List ℕ) → simple_at s.kinds.now kind ≡ Some d → StartsValue s kind L text → Split s kind d L text
+split : (s : PlainSchema) (kind : ℕ) (d : Datatype) (L : List ℕ → Type 0) (text : List ℕ) → simple_at s.kinds kind ≡ Some d → StartsValue s kind L text → Split s kind d L text
 split s kind d L text is p =
     let types : Some p.3.0 ≡ Some d = sym p.3.1 ∙ is in
     let type : p.3.0 ≡ d = cc in
@@ -40,7 +40,7 @@ split s kind d L text is p =
       whole = p.5 ∙ ap (λ (bs : List ℕ). bs ++ p.2) chars.1;
     }
 
-pub value_leads : (s : Schema) (kind : ℕ) (v : Value) (L : List ℕ → Type 0) (a b : TextCursor) → ((text : List ℕ) → L text → EndsValue text) → (p : TakesValueOf s kind v a b) → Leads (StartsValue s kind L) p.1 b.rest.now L
+pub value_leads : (s : PlainSchema) (kind : ℕ) (v : Value) (L : List ℕ → Type 0) (a b : TextCursor) → ((text : List ℕ) → L text → EndsValue text) → (p : TakesValueOf s kind v a b) → Leads (StartsValue s kind L) p.1 b.rest.now L
 value_leads s kind v L a b ends p = record {
   from = λ text new. (v, encode_utf8_all p.1, text, (p.0, p.2, p.4), new, refl);
   to = λ text shares old.
@@ -50,7 +50,7 @@ value_leads s kind v L a b ends p = record {
       subst L same.1 other.follows;
 }
 
-pub value_stalls : (s : Schema) (kind : ℕ) (L : List ℕ → Type 0) (a : TextCursor) (f : ScanFault) (some : List ℕ) → L some → ((text : List ℕ) → L text → EndsValue text) → MissesValueOf s kind a f → StallsAt (StartsValue s kind L) a f
+pub value_stalls : (s : PlainSchema) (kind : ℕ) (L : List ℕ → Type 0) (a : TextCursor) (f : ScanFault) (some : List ℕ) → L some → ((text : List ℕ) → L text → EndsValue text) → MissesValueOf s kind a f → StallsAt (StartsValue s kind L) a f
 value_stalls s kind L a (fault.Place place) some one ends p =
     let longest : IsLongest (IsAnyFormed s kind p.0) a.rest.now p.2.0 = p.2.1 in (
       p.2.0,

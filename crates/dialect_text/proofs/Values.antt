@@ -9,10 +9,9 @@ use Rattle.std.proofs.lemmas.Fmt.{decimal_by_steps_wide}
 use Rattle.std.proofs.lemmas.List.{append-nil, length-append}
 use Rattle.std.proofs.lemmas.Str.{encode_ascii}
 use Rattle.hex.specs.Hex.{encode_with, encode_lower, lower_digits}
-use Rattle.exi_schema.specs.declared.schema.Schema.{Schema}
+use Rattle.exi_schema.specs.Schemas.{PlainSchema, is_word_char}
 use Rattle.exi_schema.specs.declared.tables.Datatype.{Datatype}
 use Rattle.exi_schema.specs.declared.tables.Datatype.TheVariants as type
-use Rattle.exi_schema.specs.Schemas.{is_word_char}
 use Rattle.exi_schema.proofs.Conditions.{and-l, and-r}
 use Rattle.exi_documents.specs.Trees.{Value, Truth, Ordinal, Number, Bytes, Text}
 use Rattle.value_text.specs.Scanning.{IsAnyFormed}
@@ -118,10 +117,10 @@ truth_word : (b : Bool) → IsWordText (truth_text b)
 truth_word true = refl
 truth_word false = refl
 
-name_word : (s : Schema) (kind ordinal : ℕ) (t : List ℕ) → slice_get (value_names s kind) ordinal ≡ Some t → IsWordText t
+name_word : (s : PlainSchema) (kind ordinal : ℕ) (t : List ℕ) → slice_get (value_names s kind) ordinal ≡ Some t → IsWordText t
 name_word s kind ordinal t e = (word_text t (word_in (value_names s kind) ordinal t (value_words s kind) e)).1
 
-spelled : (s : Schema) (kind : ℕ) (d : Datatype) (v : Value) (t : List ℕ) → IsFormed s kind d v t → Spelled v t
+spelled : (s : PlainSchema) (kind : ℕ) (d : Datatype) (v : Value) (t : List ℕ) → IsFormed s kind d v t → Spelled v t
 spelled s kind d (Truth b) t is = word (subst IsWordText (sym is.1) (truth_word b))
 spelled s kind d (Ordinal n) t is = word (name_word s kind n t is.1)
 spelled s kind type.Bool (Number z) t is = absurd is.0
@@ -140,7 +139,7 @@ spelled s kind (type.Binary most) (Bytes bytes) t is = word (subst IsWordText (s
 spelled s kind (type.Text most) (Bytes bytes) t is = absurd is.0
 spelled s kind d (Text chars) t is = quote chars refl is.1
 
-pub value_chars : (s : Schema) (kind : ℕ) (d : Datatype) (v : Value) (t : List ℕ) → IsFormed s kind d v t → (cs : List ℕ) × (t ≡ encode_utf8_all cs)
+pub value_chars : (s : PlainSchema) (kind : ℕ) (d : Datatype) (v : Value) (t : List ℕ) → IsFormed s kind d v t → (cs : List ℕ) × (t ≡ encode_utf8_all cs)
 value_chars s kind d v t is = by (spelled s kind d v t is)
   where
     by : Spelled v t → (cs : List ℕ) × (t ≡ encode_utf8_all cs)
@@ -158,7 +157,7 @@ truths : (b c : Bool) (t u : List ℕ) → t ≡ truth_text b → u ≡ truth_te
 truths b c t u p q =
     words (subst IsWordText (sym p) (truth_word b)) (subst IsWordText (sym q) (truth_word c))
 
-ordinals : (s : Schema) (kind n m : ℕ) (t u : List ℕ) → slice_get (value_names s kind) n ≡ Some t → slice_get (value_names s kind) m ≡ Some u → Pair (Ordinal n) (Ordinal m) t u
+ordinals : (s : PlainSchema) (kind n m : ℕ) (t u : List ℕ) → slice_get (value_names s kind) n ≡ Some t → slice_get (value_names s kind) m ≡ Some u → Pair (Ordinal n) (Ordinal m) t u
 ordinals s kind n m t u p q =
     words (name_word s kind n t p) (name_word s kind m u q)
 
@@ -166,7 +165,7 @@ binaries : (a b t u : List ℕ) → AllByRecursion (λ byte. byte < 256) a → A
 binaries a b t u p q e f =
     words (subst IsWordText (sym e) (hex_words a p)) (subst IsWordText (sym f) (hex_words b q))
 
-pair : (s : Schema) (kind : ℕ) (d : Datatype) (v w : Value) (t u : List ℕ) → IsFormed s kind d v t → IsFormed s kind d w u → Pair v w t u
+pair : (s : PlainSchema) (kind : ℕ) (d : Datatype) (v w : Value) (t u : List ℕ) → IsFormed s kind d v t → IsFormed s kind d w u → Pair v w t u
 pair s kind type.Bool (Truth b) (Truth c) t u p q = truths b c t u p.1 q.1
 pair s kind type.Bool (Truth b) _ t u p q = absurd q.0
 pair s kind type.Bool _ _ t u p q = absurd p.0
@@ -190,7 +189,7 @@ pair s kind (type.Text most) (Text a) _ t u p q = absurd q.0
 pair s kind (type.Text most) _ _ t u p q = absurd p.0
 
 -- a longer value goes on with a character of a word
-pub goes_on : (s : Schema) (kind : ℕ) (d : Datatype) (v w : Value) (t : List ℕ) (c : ℕ) (x : List ℕ) → IsFormed s kind d v t → IsFormed s kind d w (t ++ (encode_utf8 c ++ x)) → is_word_char c ≡ true
+pub goes_on : (s : PlainSchema) (kind : ℕ) (d : Datatype) (v w : Value) (t : List ℕ) (c : ℕ) (x : List ℕ) → IsFormed s kind d v t → IsFormed s kind d w (t ++ (encode_utf8 c ++ x)) → is_word_char c ≡ true
 goes_on s kind d v w t c x p q = by (pair s kind d v w t (t ++ (encode_utf8 c ++ x)) p q)
   where
     by : Pair v w t (t ++ (encode_utf8 c ++ x)) → is_word_char c ≡ true
@@ -210,7 +209,7 @@ pub data EndsValue (rest : List ℕ) : Type 0 where
 no_word : (c b : ℕ) (x y : List ℕ) → b < 128 → is_word_char b ≡ false → b ∷ y ≡ encode_utf8 c ++ x → is_word_char c ≡ true → ⊥
 no_word c b x y low none e is = let wrong : true ≡ false = sym is ∙ ap is_word_char (one_byte c b x y low (sym e)).0 ∙ none in absurd cc
 
-pub value_stops : (s : Schema) (kind : ℕ) (d : Datatype) (v : Value) (front rest : List ℕ) → IsFormed s kind d v (encode_utf8_all front) → EndsValue rest → Stops (IsAnyFormed s kind d) front rest
+pub value_stops : (s : PlainSchema) (kind : ℕ) (d : Datatype) (v : Value) (front rest : List ℕ) → IsFormed s kind d v (encode_utf8_all front) → EndsValue rest → Stops (IsAnyFormed s kind d) front rest
 value_stops s kind d v front rest is (at_end e) c more after f other = some_bytes c more (sym f ∙ e)
 value_stops s kind d v front rest is (at_space x e) c more after f other =
     no_word c 32 more x (omega arith) refl (sym e ∙ f) (goes_on s kind d v other.0 (encode_utf8_all front) c after is other.1)

@@ -5,12 +5,10 @@ use Rattle.std.specs.Fmt.{decimal}
 use Rattle.std.proofs.lemmas.Bool.{leb-true}
 use Rattle.std.proofs.lemmas.Bool.Decides.{eqb_tells}
 use Rattle.hex.specs.Hex.{encode_with}
-use Rattle.exi_schema.specs.declared.schema.Schema.{Schema}
+use Rattle.exi_schema.specs.Schemas.{PlainSchema, are_words, are_values, value_count, is_datatype}
 use Rattle.exi_schema.specs.declared.tables.Datatype.{Datatype}
 use Rattle.exi_schema.specs.declared.tables.Datatype.TheVariants as type
-use Rattle.exi_schema.specs.declared.tables.Declaration.{Declaration}
-use Rattle.exi_schema.specs.declared.tables.Declaration.TheVariants.{Simple, Complex}
-use Rattle.exi_schema.specs.Schemas.{are_words, are_values, value_count, is_datatype}
+use Rattle.exi_schema.specs.Plain.{PlainKind, valued, containing}
 use Rattle.exi_schema.specs.Steps.{simple_at, datatype_of, texts_at}
 use Rattle.exi_schema.proofs.Conditions.{and-l, and-r, kinds_of, declared}
 use Rattle.exi_documents.specs.Trees.{Value, Truth, Ordinal, Number, Bytes, Text, Start, Content, EndElement}
@@ -28,7 +26,7 @@ use Rattle.value_text.proofs.SchemaWords.{values_of}
 same_count : (n m : ℕ) → (n == m) ≡ true → n ≡ m
 same_count n m e = elim (eqb_tells n m) [ inl is ↦ is.1 | inr is ↦ (let wrong : false ≡ true = sym is.0 ∙ e in absurd cc) ]
 
-counted : (kinds : List Declaration) (values : List (List (List ℕ))) (kind : ℕ) (d : Declaration) → are_values kinds values ≡ true → slice_get kinds kind ≡ Some d → length (texts_at values kind) ≡ value_count d
+counted : (kinds : List PlainKind) (values : List (List (List ℕ))) (kind : ℕ) (d : PlainKind) → are_values kinds values ≡ true → slice_get kinds kind ≡ Some d → length (texts_at values kind) ≡ value_count d
 counted [] values kind d is at = let wrong : None ≡ Some d = at in absurd cc
 counted (k ∷ kinds) [] kind d is at = let wrong : false ≡ true = is in absurd cc
 counted (k ∷ kinds) (texts ∷ values) zero d is at =
@@ -40,20 +38,19 @@ some_text : (texts : List (List ℕ)) → 1 ≤ length texts → (text : List �
 some_text [] some = absurd (omega (arith, some))
 some_text (text ∷ texts) some = (text, refl)
 
-datatype_is : (s : Schema) (kind : ℕ) (d : Datatype) → slice_get s.kinds.now kind ≡ Some (Simple d) → is_datatype d ≡ true
+datatype_is : (s : PlainSchema) (kind : ℕ) (d : Datatype) → slice_get s.kinds kind ≡ Some (valued d) → is_datatype d ≡ true
 datatype_is s kind d at =
-    let names : List (List ℕ) = map (λ t. t.now) s.names.now in
-    declared (length names) s.kinds.now kind (Simple d) (kinds_of s.kinds.now names (map (λ l. map (λ t. t.now) l.now) s.values.now) s.root_bits s.roots.now s.fits) at
+    declared (length s.names) s.kinds kind (valued d) (kinds_of s.kinds s.names s.values s.root_bits s.roots s.fits) at
 
-abbrev pub HasValue : Schema → ℕ → Datatype → Type 0
+abbrev pub HasValue : PlainSchema → ℕ → Datatype → Type 0
 HasValue s kind d = (v : Value) × (t : List ℕ) × IsFormed s kind d v t
 
-some_value : (s : Schema) (kind : ℕ) (d : Datatype) → slice_get s.kinds.now kind ≡ Some (Simple d) → HasValue s kind d
+some_value : (s : PlainSchema) (kind : ℕ) (d : Datatype) → slice_get s.kinds kind ≡ Some (valued d) → HasValue s kind d
 unfolding encode_with
 some_value s kind type.Bool at = (Truth true, codes "true", (tt, refl))
 some_value s kind (type.Named count) at =
     let many : 1 ≤ count = leb-true 1 count (datatype_is s kind (type.Named count) at) in
-    let all : length (value_names s kind) ≡ count = counted s.kinds.now (map (λ l. map (λ t. t.now) l.now) s.values.now) kind (Simple (type.Named count)) (values_of s) at in
+    let all : length (value_names s kind) ≡ count = counted s.kinds s.values kind (valued (type.Named count)) (values_of s) at in
     let one = some_text (value_names s kind) (omega (arith, many, all)) in
     (Ordinal 0, one.0, (tt, one.1))
 some_value s kind (type.Bounded least count) at = (Number (pos 0), decimal 0, (omega arith, refl))
@@ -64,51 +61,51 @@ some_value s kind (type.Text most) at = (Text [], quoted [], (tt, refl))
 
 -- ---- each element can be ended
 
-simple_of : (o : Option Declaration) (d : Datatype) → o ≡ Some (Simple d) → datatype_of o ≡ Some d
+simple_of : (o : Option PlainKind) (d : Datatype) → o ≡ Some (valued d) → datatype_of o ≡ Some d
 simple_of o d e = ap datatype_of e
 
-kind_there : (kinds : List Declaration) (kind : ℕ) → kind < length kinds → (d : Declaration) × (slice_get kinds kind ≡ Some d)
+kind_there : (kinds : List PlainKind) (kind : ℕ) → kind < length kinds → (d : PlainKind) × (slice_get kinds kind ≡ Some d)
 kind_there [] kind low = absurd (omega (arith, low))
 kind_there (d ∷ kinds) zero low = (d, refl)
 kind_there (d ∷ kinds) (suc kind) low = kind_there kinds kind (omega (arith, low))
 
-pub some_of_kind : (s : Schema) (kind : ℕ) (d : Datatype) → simple_at s.kinds.now kind ≡ Some d → (v : Value) × (t : List ℕ) × IsValueOf s kind v t
-some_of_kind s kind d is = by (slice_get s.kinds.now kind) refl is
+pub some_of_kind : (s : PlainSchema) (kind : ℕ) (d : Datatype) → simple_at s.kinds kind ≡ Some d → (v : Value) × (t : List ℕ) × IsValueOf s kind v t
+some_of_kind s kind d is = by (slice_get s.kinds kind) refl is
   where
-    by : (o : Option Declaration) → slice_get s.kinds.now kind ≡ o → datatype_of o ≡ Some d → (v : Value) × (t : List ℕ) × IsValueOf s kind v t
+    by : (o : Option PlainKind) → slice_get s.kinds kind ≡ o → datatype_of o ≡ Some d → (v : Value) × (t : List ℕ) × IsValueOf s kind v t
     by None at has = let wrong : None ≡ Some d = has in absurd cc
-    by (Some (Simple e)) at has = let one = some_value s kind e at in (one.0, one.1, (e, simple_of (slice_get s.kinds.now kind) e at, one.2))
-    by (Some (Complex attributes particles)) at has = let wrong : None ≡ Some d = has in absurd cc
+    by (Some (valued e)) at has = let one = some_value s kind e at in (one.0, one.1, (e, simple_of (slice_get s.kinds kind) e at, one.2))
+    by (Some (containing attributes particles)) at has = let wrong : None ≡ Some d = has in absurd cc
 
-end_then : (s : Schema) (kind : ℕ) (f : Filling) (above : List OpenElement) (added text : List ℕ) → IsEndText (slice_get s.kinds.now kind) f added → Completes s (Within above) text →
+end_then : (s : PlainSchema) (kind : ℕ) (f : Filling) (above : List OpenElement) (added text : List ℕ) → IsEndText (slice_get s.kinds kind) f added → Completes s (Within above) text →
     Completes s (Within (element kind f ∷ above)) (added ++ text)
 end_then s kind f above added text is p = (EndElement ∷ p.0, (Within above, added, text, (is, refl), p.1, refl))
 
-no_element : (d : Datatype) (o : Option Declaration) (name kind : ℕ) → o ≡ Some (Simple d) → element_in o name ≡ Some kind → ⊥
-no_element d o name kind e is = let wrong : None ≡ Some kind = ap (λ (x : Option Declaration). element_in x name) (sym e) ∙ is in cc
+no_element : (d : Datatype) (o : Option PlainKind) (name kind : ℕ) → o ≡ Some (valued d) → element_in o name ≡ Some kind → ⊥
+no_element d o name kind e is = let wrong : None ≡ Some kind = ap (λ (x : Option PlainKind). element_in x name) (sym e) ∙ is in cc
 
-no_attribute : (d : Datatype) (o : Option Declaration) (name kind : ℕ) → o ≡ Some (Simple d) → attribute_in o name ≡ Some kind → ⊥
-no_attribute d o name kind e is = let wrong : None ≡ Some kind = ap (λ (x : Option Declaration). attribute_in x name) (sym e) ∙ is in cc
+no_attribute : (d : Datatype) (o : Option PlainKind) (name kind : ℕ) → o ≡ Some (valued d) → attribute_in o name ≡ Some kind → ⊥
+no_attribute d o name kind e is = let wrong : None ≡ Some kind = ap (λ (x : Option PlainKind). attribute_in x name) (sym e) ∙ is in cc
 
-ends : (s : Schema) (kind : ℕ) (f : Filling) (above : List OpenElement) (d : Declaration) (text : List ℕ) → slice_get s.kinds.now kind ≡ Some d → IsFilled s kind f → Completes s (Within above) text →
+ends : (s : PlainSchema) (kind : ℕ) (f : Filling) (above : List OpenElement) (d : PlainKind) (text : List ℕ) → slice_get s.kinds kind ≡ Some d → IsFilled s kind f → Completes s (Within above) text →
     (other : List ℕ) × Completes s (Within (element kind f ∷ above)) other
-ends s kind f above (Complex attributes particles) text at filled p =
-    (codes "}" ++ text, end_then s kind f above (codes "}") text (subst (λ (o : Option Declaration). IsEndText o f (codes "}")) (sym at) refl) p)
-ends s kind fills.Value above (Simple d) text at filled p =
-    (text, end_then s kind fills.Value above [] text (subst (λ (o : Option Declaration). IsEndText o fills.Value []) (sym at) (refl, refl)) p)
-ends s kind fills.Nothing above (Simple d) text at filled p =
-    let one = some_of_kind s kind d (simple_of (slice_get s.kinds.now kind) d at) in
-    let end = end_then s kind fills.Value above [] text (subst (λ (o : Option Declaration). IsEndText o fills.Value []) (sym at) (refl, refl)) p in
+ends s kind f above (containing attributes particles) text at filled p =
+    (codes "}" ++ text, end_then s kind f above (codes "}") text (subst (λ (o : Option PlainKind). IsEndText o f (codes "}")) (sym at) refl) p)
+ends s kind fills.Value above (valued d) text at filled p =
+    (text, end_then s kind fills.Value above [] text (subst (λ (o : Option PlainKind). IsEndText o fills.Value []) (sym at) (refl, refl)) p)
+ends s kind fills.Nothing above (valued d) text at filled p =
+    let one = some_of_kind s kind d (simple_of (slice_get s.kinds kind) d at) in
+    let end = end_then s kind fills.Value above [] text (subst (λ (o : Option PlainKind). IsEndText o fills.Value []) (sym at) (refl, refl)) p in
     (one.1 ++ text, (Content one.0 ∷ end.0, (Within (element kind fills.Value ∷ above), one.1, text, (refl, one.2, refl), end.1, refl)))
-ends s kind fills.Attributes above (Simple d) text at filled p = absurd (no_attribute d (slice_get s.kinds.now kind) filled.0 filled.1 at filled.2)
-ends s kind fills.Elements above (Simple d) text at filled p = absurd (no_element d (slice_get s.kinds.now kind) filled.0 filled.1 at filled.2)
+ends s kind fills.Attributes above (valued d) text at filled p = absurd (no_attribute d (slice_get s.kinds kind) filled.0 filled.1 at filled.2)
+ends s kind fills.Elements above (valued d) text at filled p = absurd (no_element d (slice_get s.kinds kind) filled.0 filled.1 at filled.2)
 
-pub completes_all : (s : Schema) (elements : List OpenElement) → AreOpen s elements → (text : List ℕ) × Completes s (Within elements) text
+pub completes_all : (s : PlainSchema) (elements : List OpenElement) → AreOpen s elements → (text : List ℕ) × Completes s (Within elements) text
 completes_all s [] are = ([], ([], (refl, refl)))
 completes_all s (top ∷ above) are =
     let more = completes_all s above are.3 in
-    let there = kind_there s.kinds.now top.kind are.0 in
+    let there = kind_there s.kinds top.kind are.0 in
     ends s top.kind top.filling above there.0 more.0 there.1 are.2 more.1
 
-pub completes_root : (s : Schema) (name kind : ℕ) (text : List ℕ) → Completes s (Within (element kind fills.Nothing ∷ [])) text → Completes s (AtRoot name kind) text
+pub completes_root : (s : PlainSchema) (name kind : ℕ) (text : List ℕ) → Completes s (Within (element kind fills.Nothing ∷ [])) text → Completes s (AtRoot name kind) text
 completes_root s name kind text p = (Start name ∷ p.0, (Within (element kind fills.Nothing ∷ []), [], text, (refl, refl, refl), p.1, refl))

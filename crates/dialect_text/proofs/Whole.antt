@@ -3,10 +3,9 @@ use Rattle.std.proofs.Common.{◌≡◌, ℕ, ◌⊎◌, inl, inr, List, [], ◌
 use Rattle.std.specs.Str.{encode_utf8_all}
 use Rattle.std.proofs.lemmas.List.{append_cancel_left}
 use Rattle.std.proofs.lemmas.Option.{slice_get_within}
-use Rattle.exi_schema.specs.declared.schema.Schema.{Schema}
+use Rattle.exi_schema.specs.Schemas.{PlainSchema}
 use Rattle.exi_schema.specs.declared.tables.Datatype.{Datatype}
-use Rattle.exi_schema.specs.declared.tables.Declaration.{Declaration}
-use Rattle.exi_schema.specs.declared.tables.Declaration.TheVariants.{Complex}
+use Rattle.exi_schema.specs.Plain.{PlainKind, containing}
 use Rattle.exi_schema.specs.Steps.{datatype_of}
 use Rattle.exi_documents.specs.Trees.{Event, Document, Start, Attribute, Content, EndElement}
 use Rattle.value_text.specs.declared.cursor.TextCursor.{TextCursor}
@@ -29,17 +28,17 @@ use Rattle.dialect_text.proofs.Starts.{attribute_there}
 use Rattle.dialect_text.proofs.Viable.{completes_all}
 
 -- in a complex kind what follows is its end, or a part behind what stands before one
-pub data Follows (s : Schema) (top : OpenElement) (above : List OpenElement) (text : List ℕ) : Type 0 where
+pub data Follows (s : PlainSchema) (top : OpenElement) (above : List OpenElement) (text : List ℕ) : Type 0 where
   brace : (rest : List ℕ) → text ≡ 125 ∷ rest → Follows s top above text
   part : (rest : List ℕ) → StartsPart s top above rest → text ≡ gap top.filling ++ rest → Follows s top above text
 
-brace_of : (o : Option Declaration) (f : Filling) (attributes : _) (particles : _) (b : List ℕ) → o ≡ Some (Complex attributes particles) → IsEndText o f b → b ≡ 125 ∷ []
-brace_of o f attributes particles b is end = subst (λ (x : Option Declaration). IsEndText x f b) is end
+brace_of : (o : Option PlainKind) (f : Filling) (attributes : _) (particles : _) (b : List ℕ) → o ≡ Some (containing attributes particles) → IsEndText o f b → b ≡ 125 ∷ []
+brace_of o f attributes particles b is end = subst (λ (x : Option PlainKind). IsEndText x f b) is end
 
-no_value : (o : Option Declaration) (attributes : _) (particles : _) (d : Datatype) → o ≡ Some (Complex attributes particles) → datatype_of o ≡ Some d → ⊥
+no_value : (o : Option PlainKind) (attributes : _) (particles : _) (d : Datatype) → o ≡ Some (containing attributes particles) → datatype_of o ≡ Some d → ⊥
 no_value o attributes particles d is has = let wrong : None ≡ Some d = ap datatype_of (sym is) ∙ has in cc
 
-pub follows : (s : Schema) (top : OpenElement) (above : List OpenElement) (attributes : _) (particles : _) (text : List ℕ) → slice_get s.kinds.now top.kind ≡ Some (Complex attributes particles) →
+pub follows : (s : PlainSchema) (top : OpenElement) (above : List OpenElement) (attributes : _) (particles : _) (text : List ℕ) → slice_get s.kinds top.kind ≡ Some (containing attributes particles) →
     Completes s (Within (top ∷ above)) text → Follows s top above text
 follows s top above attributes particles text is p = by p.0 p.1
   where
@@ -60,10 +59,10 @@ follows s top above attributes particles text is p = by p.0 p.1
           attribute_behind named.0 named.1 goes.3.1 goes.2 named.4,
         ))
         (goes.5 ∙ behind goes.1 (gap top.filling) goes.3.1 goes.2 goes.3.5)
-    by (Content v ∷ es) goes = absurd (no_value (slice_get s.kinds.now top.kind) attributes particles goes.3.1.0 is goes.3.1.1)
-    by (EndElement ∷ es) goes = brace goes.2 (goes.5 ∙ ap (λ (bs : List ℕ). bs ++ goes.2) (brace_of (slice_get s.kinds.now top.kind) top.filling attributes particles goes.1 is goes.3.0))
+    by (Content v ∷ es) goes = absurd (no_value (slice_get s.kinds top.kind) attributes particles goes.3.1.0 is goes.3.1.1)
+    by (EndElement ∷ es) goes = brace goes.2 (goes.5 ∙ ap (λ (bs : List ℕ). bs ++ goes.2) (brace_of (slice_get s.kinds top.kind) top.filling attributes particles goes.1 is goes.3.0))
 
-pub part_follows : (s : Schema) (top : OpenElement) (above : List OpenElement) (text : List ℕ) → StartsPart s top above text → Completes s (Within (top ∷ above)) (gap top.filling ++ text)
+pub part_follows : (s : PlainSchema) (top : OpenElement) (above : List OpenElement) (text : List ℕ) → StartsPart s top above text → Completes s (Within (top ∷ above)) (gap top.filling ++ text)
 part_follows s top above text (inl p) = (
   Start p.0 ∷ p.6.0,
   (
@@ -99,7 +98,7 @@ gap_cancel fills.Elements text rest e none = omega (arith, heads_differ 32 125 t
 gap_cancel fills.Value text rest e none = omega (arith, heads_differ 32 125 text rest e)
 
 -- behind what stands before a part, if the element doesn't end
-pub gap_leads : (s : Schema) (top : OpenElement) (above : List OpenElement) (attributes : _) (particles : _) (a b : TextCursor) → slice_get s.kinds.now top.kind ≡ Some (Complex attributes particles) → Passes a (gap top.filling) b →
+pub gap_leads : (s : PlainSchema) (top : OpenElement) (above : List OpenElement) (attributes : _) (particles : _) (a b : TextCursor) → slice_get s.kinds top.kind ≡ Some (containing attributes particles) → Passes a (gap top.filling) b →
     ((rest : List ℕ) → a.rest.now ≡ 125 ∷ rest → ⊥) → Leads (Completes s (Within (top ∷ above))) (gap top.filling) b.rest.now (StartsPart s top above)
 gap_leads s top above attributes particles a b is passes open_still = record {
   from = λ text new. subst (λ (bs : List ℕ). Completes s (Within (top ∷ above)) (bs ++ text)) (sym (gap_chars top.filling)) (part_follows s top above text new);
@@ -116,30 +115,30 @@ gap_leads s top above attributes particles a b is passes open_still = record {
 
 -- ---- something is in an element
 
-gap_or_part : (s : Schema) (top : OpenElement) (above : List OpenElement) (attributes : _) (particles : _) (f : Filling) → f ≡ top.filling → slice_get s.kinds.now top.kind ≡ Some (Complex attributes particles) → IsSound s (Within (top ∷ above)) → IsFilled s top.kind f →
+gap_or_part : (s : PlainSchema) (top : OpenElement) (above : List OpenElement) (attributes : _) (particles : _) (f : Filling) → f ≡ top.filling → slice_get s.kinds top.kind ≡ Some (containing attributes particles) → IsSound s (Within (top ∷ above)) → IsFilled s top.kind f →
     (gap f ≡ []) ⊎ ((text : List ℕ) × StartsPart s top above text)
 gap_or_part s top above attributes particles fills.Nothing e is sound filled = inl refl
 gap_or_part s top above attributes particles fills.Attributes e is sound filled =
-    let name_is = attribute_there attributes.now filled.0 filled.1 (sym (of_complex s top.kind attributes particles filled.0 is) ∙ filled.2) in
-    let some = some_attribute s top above attributes particles is sound (omega (arith, slice_get_within attributes.now name_is.0 name_is.1 name_is.2)) in
+    let name_is = attribute_there attributes filled.0 filled.1 (sym (of_complex s top.kind attributes particles filled.0 is) ∙ filled.2) in
+    let some = some_attribute s top above attributes particles is sound (omega (arith, slice_get_within attributes name_is.0 name_is.1 name_is.2)) in
     inr (64 ∷ some.0, inr (subst IsBeforeElements e tt, some.0, some.1, refl))
 gap_or_part s top above attributes particles fills.Elements e is sound filled =
-    let fits = element_fits s particles.now filled.0 filled.1 (complex_particles s top.kind attributes particles is) (sym (of_element s top.kind attributes particles filled.0 is) ∙ filled.2) in
+    let fits = element_fits s particles filled.0 filled.1 (complex_particles s top.kind attributes particles is) (sym (of_element s top.kind attributes particles filled.0 is) ∙ filled.2) in
     let rest = completes_all s (opened filled.1 top above) (opened_sound s top above filled.0 filled.1 sound filled.2 fits.1).0 in
     let word = name_there s filled.0 fits.0 in
     (inr ((word.0 ++ mark s filled.1 ∷ []) ++ rest.0, inl (filled.0, filled.1, word.0 ++ mark s filled.1 ∷ [], rest.0, filled.2, (word.0, word.1, refl), rest.1, refl)))
-gap_or_part s top above attributes particles fills.Value e is sound filled = absurd (no_value (slice_get s.kinds.now top.kind) attributes particles filled.0 is filled.1)
+gap_or_part s top above attributes particles fills.Value e is sound filled = absurd (no_value (slice_get s.kinds top.kind) attributes particles filled.0 is filled.1)
 
 -- ---- the answers
 
-pub part_end : (s : Schema) (elements popped : List OpenElement) (top : OpenElement) (attributes : _) (particles : _) (a b : TextCursor) → HasTop elements top → slice_get s.kinds.now top.kind ≡ Some (Complex attributes particles) → Passes a (125 ∷ []) b →
+pub part_end : (s : PlainSchema) (elements popped : List OpenElement) (top : OpenElement) (attributes : _) (particles : _) (a b : TextCursor) → HasTop elements top → slice_get s.kinds top.kind ≡ Some (containing attributes particles) → Passes a (125 ∷ []) b →
     ((t : OpenElement) (above : List OpenElement) → elements ≡ t ∷ above → popped ≡ above) → TakesNext s [] (Completes s (Within elements)) (Within elements) a EndElement (Within popped) b
 part_end s elements popped top attributes particles a b has is passes pop =
     subst (λ (x : List OpenElement). TakesNext s [] (Completes s (Within elements)) (Within elements) a EndElement (Within x) b) (sym (pop top has.0 has.1))
     (subst (λ (x : List OpenElement). TakesNext s [] (Completes s (Within x)) (Within x) a EndElement (Within has.0) b) (sym has.1)
-    (takes_end s top has.0 (125 ∷ []) a b (subst (λ (o : Option Declaration). IsEndText o top.filling (encode_utf8_all (125 ∷ []))) (sym is) (one_char 125 (omega arith))) passes))
+    (takes_end s top has.0 (125 ∷ []) a b (subst (λ (o : Option PlainKind). IsEndText o top.filling (encode_utf8_all (125 ∷ []))) (sym is) (one_char 125 (omega arith))) passes))
 
-pub part_stalls : (s : Schema) (elements : List OpenElement) (top : OpenElement) (attributes : _) (particles : _) (a : TextCursor) → HasTop elements top → slice_get s.kinds.now top.kind ≡ Some (Complex attributes particles) → gap top.filling ≡ codes " " →
+pub part_stalls : (s : PlainSchema) (elements : List OpenElement) (top : OpenElement) (attributes : _) (particles : _) (a : TextCursor) → HasTop elements top → slice_get s.kinds top.kind ≡ Some (containing attributes particles) → gap top.filling ≡ codes " " →
     ((rest : List ℕ) → a.rest.now ≡ 125 ∷ rest → ⊥) → ((rest : List ℕ) → a.rest.now ≡ 32 ∷ rest → ⊥) → StallsAt (Completes s (Within elements)) a (fault.Place a.place)
 part_stalls s elements top attributes particles a has is spaced no_brace no_space =
     subst (λ (x : List OpenElement). StallsAt (Completes s (Within x)) a (fault.Place a.place)) (sym has.1)
@@ -149,7 +148,7 @@ part_stalls s elements top attributes particles a has is spaced no_brace no_spac
     by text shares (brace rest e) = let first = shares_first a.rest.now text rest 125 (omega arith) shares e in no_brace first.0 first.1
     by text shares (part rest p e) = let first = shares_first a.rest.now text rest 32 (omega arith) shares (e ∙ ap (λ (bs : List ℕ). bs ++ rest) spaced) in no_space first.0 first.1
 
-pub part_taken : (s : Schema) (elements new : List OpenElement) (top : OpenElement) (attributes : _) (particles : _) (event : Event) (a b c : TextCursor) → (has : HasTop elements top) → slice_get s.kinds.now top.kind ≡ Some (Complex attributes particles) →
+pub part_taken : (s : PlainSchema) (elements new : List OpenElement) (top : OpenElement) (attributes : _) (particles : _) (event : Event) (a b c : TextCursor) → (has : HasTop elements top) → slice_get s.kinds top.kind ≡ Some (containing attributes particles) →
     Passes a (gap top.filling) b → ((rest : List ℕ) → a.rest.now ≡ 125 ∷ rest → ⊥) →
     TakesNext s (gap top.filling) (StartsPart s top has.0) (Within elements) b event (Within new) c → TakesNext s [] (Completes s (Within elements)) (Within elements) a event (Within new) c
 part_taken s elements new top attributes particles event a b c has is passes no_brace p =
@@ -157,7 +156,7 @@ part_taken s elements new top attributes particles event a b c has is passes no_
     (subst (λ (x : List OpenElement). Leads (Completes s (Within x)) (gap top.filling) b.rest.now (StartsPart s top has.0)) (sym has.1) (gap_leads s top has.0 attributes particles a b is passes no_brace))
     (subst (λ (x : List ℕ). TakesNext s x (StartsPart s top has.0) (Within elements) b event (Within new) c) (sym (gap_chars top.filling)) p)
 
-pub part_fault : (s : Schema) (elements : List OpenElement) (top : OpenElement) (attributes : _) (particles : _) (a b : TextCursor) (f : ScanFault) → (has : HasTop elements top) → slice_get s.kinds.now top.kind ≡ Some (Complex attributes particles) →
+pub part_fault : (s : PlainSchema) (elements : List OpenElement) (top : OpenElement) (attributes : _) (particles : _) (a b : TextCursor) (f : ScanFault) → (has : HasTop elements top) → slice_get s.kinds top.kind ≡ Some (containing attributes particles) →
     IsSound s (Within elements) → Passes a (gap top.filling) b → ((rest : List ℕ) → a.rest.now ≡ 125 ∷ rest → ⊥) → StallsAt (StartsPart s top has.0) b f → StallsAt (Completes s (Within elements)) a f
 part_fault s elements top attributes particles a b f has is sound passes no_brace p =
     let open_one = subst (λ (x : List OpenElement). IsSound s (Within x)) has.1 sound in

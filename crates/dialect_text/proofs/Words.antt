@@ -3,8 +3,7 @@ use Rattle.std.proofs.Common.{◌≡◌, ℕ, ◌≤◌, true, false, List, [], 
 use Rattle.std.specs.List.{list_all}
 use Rattle.std.specs.Str.{encode_utf8_all}
 use Rattle.std.proofs.lemmas.Str.{encodes-IsAscii}
-use Rattle.exi_schema.specs.declared.schema.Schema.{Schema}
-use Rattle.exi_schema.specs.Schemas.{is_word_char}
+use Rattle.exi_schema.specs.Schemas.{PlainSchema, is_word_char}
 use Rattle.exi_schema.proofs.Conditions.{and-l, and-r}
 use Rattle.value_text.specs.ValueText.{IsName}
 use Rattle.value_text.proofs.SchemaWords.{IsWordText, word_at, words_of, one_place}
@@ -40,5 +39,5 @@ word_first (g ∷ a) x d y some is n e =
 
 -- ---- names
 
-pub one_name : (s : Schema) (name other : ℕ) (word : List ℕ) → IsName s name word → IsName s other word → name ≡ other
-one_name s name other word p q = one_place (map (λ t. t.now) s.names.now) name other word (words_of s) p q
+pub one_name : (s : PlainSchema) (name other : ℕ) (word : List ℕ) → IsName s name word → IsName s other word → name ≡ other
+one_name s name other word p q = one_place s.names name other word (words_of s) p q

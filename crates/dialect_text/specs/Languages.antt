@@ -1,12 +1,12 @@
 -- Own: how a text goes on, and how far. A language is one of texts in UTF-8, a front is a list of characters.
 use Rattle.std.specs.Prelude.{◌≡◌, ◌⊎◌, ℕ, ◌<◌, List, [], ◌∷◌, ◌++◌, length}
 use Rattle.std.specs.Str.{encode_utf8_all}
-use Rattle.exi_schema.specs.declared.schema.Schema.{Schema}
+use Rattle.exi_schema.specs.Schemas.{PlainSchema}
 use Rattle.exi_documents.specs.Trees.{Event}
 use Rattle.dialect_text.specs.Dialect.{Standing, Within, Adds}
 
 -- from a standing these events, the oldest first, with this text lead behind the root
-abbrev pub Goes : Schema → Standing → List Event → List ℕ → Type 0
+abbrev pub Goes : PlainSchema → Standing → List Event → List ℕ → Type 0
 Goes s standing [] text = (text ≡ []) × (standing ≡ Within [])
 Goes s standing (event ∷ events) text =
     (after : Standing) × (added : List ℕ) × (rest : List ℕ)
@@ -15,7 +15,7 @@ Goes s standing (event ∷ events) text =
     × (text ≡ added ++ rest)
 
 -- the texts that may follow at a standing
-abbrev pub Completes : Schema → Standing → List ℕ → Type 0
+abbrev pub Completes : PlainSchema → Standing → List ℕ → Type 0
 Completes s standing text = (events : List Event) × Goes s standing events text
 
 -- another text is the same for more than so many characters, or throughout

@@ -2,6 +2,8 @@
 
 ghost use Rattle.std.specs.Prelude.{◌≡◌, ◌<◌, ◌++◌, [], List, length, map, All, IfOk, OnOk, IsTrue};
 ghost use Rattle.std.specs.List.{AllByRecursion};
+ghost use Rattle.exi_schema.specs.Plain.{plain_particles};
+ghost use Rattle.exi_schema.specs.Told.{schema_of};
 ghost use Rattle.dialect_text.specs.Scanning.{awaited_root, awaited_attribute, IsAwaitedElement, HasMembers, HasElements};
 
 use crate::kinds::{kind_of_element, mark_behind};
@@ -12,7 +14,7 @@ use value_text::Awaited;
 
 /// The roots, in their order.
 pub(crate) fn awaited_roots(alloc: Global, schema: &Schema) -> Result<Vec<Awaited>, NoMemory>
-    ensures { IfOk result (λ awaited. awaited.items ≡ map (awaited_root schema.now) schema.now.roots.now) }
+    ensures { IfOk result (λ awaited. awaited.items ≡ map (awaited_root (schema_of schema.now)) (schema_of schema.now).roots) }
 {
     let mut awaited = Vec::new(alloc);
     for root in schema.roots {
@@ -48,10 +50,10 @@ fn await_members(
     particles: &[Particle],
     members: &[Member],
 ) -> Result<(), NoMemory>
-    requires kinds { AllByRecursion (λ member. member.kind < length schema.now.kinds.now) members.now }
-    requires only { AllByRecursion (IsAwaitedElement schema.now particles.now) awaited.old.items }
-    ensures only { OnOk result (AllByRecursion (IsAwaitedElement schema.now particles.now) awaited.new.items) }
-    ensures each { OnOk result (HasMembers schema.now particles.now members.now awaited.new.items) }
+    requires kinds { AllByRecursion (λ member. member.kind < length (schema_of schema.now).kinds) members.now }
+    requires only { AllByRecursion (IsAwaitedElement (schema_of schema.now) (plain_particles particles.now)) awaited.old.items }
+    ensures only { OnOk result (AllByRecursion (IsAwaitedElement (schema_of schema.now) (plain_particles particles.now)) awaited.new.items) }
+    ensures each { OnOk result (HasMembers (schema_of schema.now) (plain_particles particles.now) members.now awaited.new.items) }
     ensures kept { OnOk result ((more : List _) × (awaited.new.items ≡ awaited.old.items ++ more)) }
 {
     for member in members {
@@ -75,9 +77,9 @@ pub(crate) fn awaited_elements(
     schema: &Schema,
     particles: &[Particle],
 ) -> Result<Vec<Awaited>, NoMemory>
-    requires kinds { AllByRecursion (λ particle. AllByRecursion (λ member. member.kind < length schema.now.kinds.now) particle.members.now) particles.now }
-    ensures only { IfOk result (λ awaited. AllByRecursion (IsAwaitedElement schema.now particles.now) awaited.items) }
-    ensures each { IfOk result (λ awaited. HasElements schema.now particles.now awaited.items) }
+    requires kinds { AllByRecursion (λ particle. AllByRecursion (λ member. member.kind < length (schema_of schema.now).kinds) particle.members) (plain_particles particles.now) }
+    ensures only { IfOk result (λ awaited. AllByRecursion (IsAwaitedElement (schema_of schema.now) (plain_particles particles.now)) awaited.items) }
+    ensures each { IfOk result (λ awaited. HasElements (schema_of schema.now) (plain_particles particles.now) awaited.items) }
 {
     let mut awaited = Vec::new(alloc);
     for particle in particles {

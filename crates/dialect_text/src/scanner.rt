@@ -1,6 +1,7 @@
 //! Events scanned from a text.
 
 ghost use Rattle.std.specs.Prelude.{◌≡◌, ◌<◌, ◌∷◌, [], List, Some, None, IfSome, IfNone, IfOk, IfErr, Err};
+ghost use Rattle.exi_schema.specs.Told.{schema_of};
 ghost use Rattle.exi_documents.specs.Trees.{Event};
 ghost use Rattle.value_text.specs.declared.fault.ScanFault.TheVariants as fault;
 ghost use Rattle.dialect_text.specs.declared.phase.Phase.TheVariants as phase;
@@ -37,8 +38,8 @@ impl<'t, 's> DialectScanner<'t, 's> {
         ensures text { result.text.now ≡ text.now }
         ensures schema { result.schema.now ≡ schema.now }
         ensures open_still { result.fault ≡ None }
-        ensures ready { IsReady schema.now text.now (standing_of result.phase result.elements) result.cursor result.fault }
-        ensures said { HasSaid schema.now text.now [] (standing_of result.phase result.elements) result.cursor }
+        ensures ready { IsReady (schema_of schema.now) text.now (standing_of result.phase result.elements) result.cursor result.fault }
+        ensures said { HasSaid (schema_of schema.now) text.now [] (standing_of result.phase result.elements) result.cursor }
     {
         DialectScanner {
             alloc,
@@ -56,20 +57,20 @@ impl<'t, 's> DialectScanner<'t, 's> {
     /// `Place` where the whole text is none of the dialect: how many characters its longest front has that begins a text of the dialect.
     /// `Memory` leaves the scanner as it was.
     pub fn next(&mut self) -> Result<Option<Said>, ScanFault>
-        requires ready { IsReady self.old.schema.now self.old.text.now (standing_of self.old.phase self.old.elements) self.old.cursor self.old.fault }
-        ensures ready { IsReady self.old.schema.now self.old.text.now (standing_of self.new.phase self.new.elements) self.new.cursor self.new.fault }
+        requires ready { IsReady (schema_of self.old.schema.now) self.old.text.now (standing_of self.old.phase self.old.elements) self.old.cursor self.old.fault }
+        ensures ready { IsReady (schema_of self.old.schema.now) self.old.text.now (standing_of self.new.phase self.new.elements) self.new.cursor self.new.fault }
         ensures same_text { self.new.text.now ≡ self.old.text.now }
         ensures same_schema { self.new.schema.now ≡ self.old.schema.now }
         ensures again { (place : _) → self.old.fault ≡ Some place → (result ≡ Err (fault.Place place)) × (self.new.fault ≡ Some place) }
         ensures open_still { IfOk result (λ _. (self.old.fault ≡ None) × (self.new.fault ≡ None)) }
         // Of the whole text: the events are those that it says, or this is its fault.
         ensures said { (events : List Event)
-            → HasSaid self.old.schema.now self.old.text.now events (standing_of self.old.phase self.old.elements) self.old.cursor
-            → IfOk result (λ o. IfSome o (λ said. HasSaid self.old.schema.now self.old.text.now (event_of said ∷ events) (standing_of self.new.phase self.new.elements) self.new.cursor)) }
+            → HasSaid (schema_of self.old.schema.now) self.old.text.now events (standing_of self.old.phase self.old.elements) self.old.cursor
+            → IfOk result (λ o. IfSome o (λ said. HasSaid (schema_of self.old.schema.now) self.old.text.now (event_of said ∷ events) (standing_of self.new.phase self.new.elements) self.new.cursor)) }
         ensures ended { (events : List Event)
-            → HasSaid self.old.schema.now self.old.text.now events (standing_of self.old.phase self.old.elements) self.old.cursor
-            → IfOk result (λ o. IfNone o (IsDialectText self.old.schema.now events self.old.text.now)) }
-        ensures fault { IfErr result (IsFaultOf self.old.schema.now self.old.text.now) }
+            → HasSaid (schema_of self.old.schema.now) self.old.text.now events (standing_of self.old.phase self.old.elements) self.old.cursor
+            → IfOk result (λ o. IfNone o (IsDialectText (schema_of self.old.schema.now) events self.old.text.now)) }
+        ensures fault { IfErr result (IsFaultOf (schema_of self.old.schema.now) self.old.text.now) }
         ensures place_kept { (place : _) → result ≡ Err (fault.Place place) → self.new.fault ≡ Some place }
         ensures memory { result ≡ Err fault.Memory → self.new ≡ self.old }
         ensures fewer { IfOk result (λ o. IfSome o (λ _. events_left (standing_of self.new.phase self.new.elements) self.new.cursor < events_left (standing_of self.old.phase self.old.elements) self.old.cursor)) }
@@ -88,12 +89,12 @@ impl<'t, 's> DialectScanner<'t, 's> {
 
     /// The next event, where there was no fault.
     fn step(&mut self) -> Result<Option<Said>, ScanFault>
-        requires ready { IsReady self.old.schema.now self.old.text.now (standing_of self.old.phase self.old.elements) self.old.cursor self.old.fault }
+        requires ready { IsReady (schema_of self.old.schema.now) self.old.text.now (standing_of self.old.phase self.old.elements) self.old.cursor self.old.fault }
         ensures same_text { self.new.text.now ≡ self.old.text.now }
         ensures same_schema { self.new.schema.now ≡ self.old.schema.now }
         ensures same_fault { self.new.fault ≡ self.old.fault }
-        ensures ok { IfOk result (IsNext self.old.schema.now (standing_of self.old.phase self.old.elements) self.old.cursor (standing_of self.new.phase self.new.elements) self.new.cursor) }
-        ensures fault { IfErr result (StallsAt (Completes self.old.schema.now (standing_of self.old.phase self.old.elements)) self.old.cursor) }
+        ensures ok { IfOk result (IsNext (schema_of self.old.schema.now) (standing_of self.old.phase self.old.elements) self.old.cursor (standing_of self.new.phase self.new.elements) self.new.cursor) }
+        ensures fault { IfErr result (StallsAt (Completes (schema_of self.old.schema.now) (standing_of self.old.phase self.old.elements)) self.old.cursor) }
         ensures kept { IfErr result (λ _. self.new ≡ self.old) }
     {
         match self.phase {
@@ -118,14 +119,14 @@ impl<'t, 's> DialectScanner<'t, 's> {
 
     /// The next event inside the elements, or the end of the text behind the root.
     fn step_inside(&mut self) -> Result<Option<Said>, ScanFault>
-        requires ready { IsReady self.old.schema.now self.old.text.now (Within self.old.elements) self.old.cursor self.old.fault }
+        requires ready { IsReady (schema_of self.old.schema.now) self.old.text.now (Within self.old.elements) self.old.cursor self.old.fault }
         requires phase { self.old.phase ≡ phase.Inside }
         ensures same_text { self.new.text.now ≡ self.old.text.now }
         ensures same_schema { self.new.schema.now ≡ self.old.schema.now }
         ensures same_fault { self.new.fault ≡ self.old.fault }
         ensures same_phase { self.new.phase ≡ self.old.phase }
-        ensures ok { IfOk result (IsNext self.old.schema.now (Within self.old.elements) self.old.cursor (Within self.new.elements) self.new.cursor) }
-        ensures fault { IfErr result (StallsAt (Completes self.old.schema.now (Within self.old.elements)) self.old.cursor) }
+        ensures ok { IfOk result (IsNext (schema_of self.old.schema.now) (Within self.old.elements) self.old.cursor (Within self.new.elements) self.new.cursor) }
+        ensures fault { IfErr result (StallsAt (Completes (schema_of self.old.schema.now) (Within self.old.elements)) self.old.cursor) }
         ensures kept { IfErr result (λ _. self.new ≡ self.old) }
     {
         let mut cursor = self.cursor;

@@ -2,8 +2,9 @@
 
 ghost use Rattle.std.specs.Prelude.{◌≡◌, ◌<◌, ◌++◌, ◌∷◌, [], ℕ, List, Some, length, slice_get, codes, IfOk, IfErr, IsSome};
 ghost use Rattle.std.specs.List.{AllByRecursion};
-ghost use Rattle.exi_schema.specs.declared.tables.Declaration.TheVariants.{Complex};
+ghost use Rattle.exi_schema.specs.Plain.{containing, plain_particles};
 ghost use Rattle.exi_schema.specs.Steps.{simple_at};
+ghost use Rattle.exi_schema.specs.Told.{schema_of};
 ghost use Rattle.exi_documents.specs.Trees.{Document};
 ghost use Rattle.dialect_text.specs.Dialect.{Before, AtRoot, Within, attribute_of, attribute_named, element_of, element_named, gap, IsBeforeElements};
 ghost use Rattle.dialect_text.specs.Languages.{Completes};
@@ -24,8 +25,8 @@ pub(crate) fn take_root(
     schema: &Schema,
     cursor: &mut TextCursor,
 ) -> Result<RootOf, ScanFault>
-    ensures ok { IfOk result (λ root. TakesNext schema.now [] (Completes schema.now Before) Before cursor.old (Document root.number) (AtRoot root.name root.kind) cursor.new) }
-    ensures fault { IfErr result (StallsAt (Completes schema.now Before) cursor.old) }
+    ensures ok { IfOk result (λ root. TakesNext (schema_of schema.now) [] (Completes (schema_of schema.now) Before) Before cursor.old (Document root.number) (AtRoot root.name root.kind) cursor.new) }
+    ensures fault { IfErr result (StallsAt (Completes (schema_of schema.now) Before) cursor.old) }
 {
     let awaited = awaited_roots(alloc, schema)?;
     let at = take_name(cursor, schema, awaited.as_slice())?;
@@ -41,10 +42,10 @@ fn take_simple(
     top: OpenElement,
 ) -> Result<Said, ScanFault>
     requires top { (above : List _) × (elements.old ≡ top ∷ above) }
-    requires sound { IsSound schema.now (Within elements.old) }
-    requires simple { IsSome (simple_at schema.now.kinds.now top.kind) }
-    ensures ok { IfOk result (λ said. TakesNext schema.now [] (Completes schema.now (Within elements.old)) (Within elements.old) cursor.old (event_of said) (Within elements.new) cursor.new) }
-    ensures fault { IfErr result (StallsAt (Completes schema.now (Within elements.old)) cursor.old) }
+    requires sound { IsSound (schema_of schema.now) (Within elements.old) }
+    requires simple { IsSome (simple_at (schema_of schema.now).kinds top.kind) }
+    ensures ok { IfOk result (λ said. TakesNext (schema_of schema.now) [] (Completes (schema_of schema.now) (Within elements.old)) (Within elements.old) cursor.old (event_of said) (Within elements.new) cursor.new) }
+    ensures fault { IfErr result (StallsAt (Completes (schema_of schema.now) (Within elements.old)) cursor.old) }
     ensures kept { IfErr result (λ _. elements.new ≡ elements.old) }
 {
     match top.filling {
@@ -70,13 +71,13 @@ fn take_attribute(
     attributes: &[AttributeOf],
 ) -> Result<Said, ScanFault>
     requires top { (above : List _) × (elements.old ≡ top ∷ above) }
-    requires sound { IsSound schema.now (Within elements.old) }
-    requires kind { (name : ℕ) → attribute_of schema.now top.kind name ≡ attribute_named attributes.now name }
-    requires fit { AllByRecursion (λ attribute. (attribute.name < length schema.now.names.now) × (attribute.kind < length schema.now.kinds.now) × IsSome (simple_at schema.now.kinds.now attribute.kind)) attributes.now }
+    requires sound { IsSound (schema_of schema.now) (Within elements.old) }
+    requires kind { (name : ℕ) → attribute_of (schema_of schema.now) top.kind name ≡ attribute_named attributes.now name }
+    requires fit { AllByRecursion (λ attribute. (attribute.name < length (schema_of schema.now).names) × (attribute.kind < length (schema_of schema.now).kinds) × IsSome (simple_at (schema_of schema.now).kinds attribute.kind)) attributes.now }
     requires some { 0 < length attributes.now }
     requires before { IsBeforeElements top.filling }
-    ensures ok { (above : List _) → elements.old ≡ top ∷ above → IfOk result (λ said. TakesNext schema.now (gap top.filling ++ codes "@") (StartsAttribute schema.now top above) (Within elements.old) cursor.old (event_of said) (Within elements.new) cursor.new) }
-    ensures fault { (above : List _) → elements.old ≡ top ∷ above → IfErr result (StallsAt (StartsAttribute schema.now top above) cursor.old) }
+    ensures ok { (above : List _) → elements.old ≡ top ∷ above → IfOk result (λ said. TakesNext (schema_of schema.now) (gap top.filling ++ codes "@") (StartsAttribute (schema_of schema.now) top above) (Within elements.old) cursor.old (event_of said) (Within elements.new) cursor.new) }
+    ensures fault { (above : List _) → elements.old ≡ top ∷ above → IfErr result (StallsAt (StartsAttribute (schema_of schema.now) top above) cursor.old) }
     ensures kept { IfErr result (λ _. elements.new ≡ elements.old) }
 {
     let awaited = awaited_attributes(alloc, attributes)?;
@@ -100,11 +101,11 @@ fn take_start(
     particles: &[Particle],
 ) -> Result<Said, ScanFault>
     requires top { (above : List _) × (elements.old ≡ top ∷ above) }
-    requires sound { IsSound schema.now (Within elements.old) }
-    requires kind { (name : ℕ) → element_of schema.now top.kind name ≡ element_named particles.now name }
-    requires fit { AllByRecursion (λ particle. AllByRecursion (λ member. (member.name < length schema.now.names.now) × (member.kind < length schema.now.kinds.now)) particle.members.now) particles.now }
-    ensures ok { (above : List _) → elements.old ≡ top ∷ above → IfOk result (λ said. TakesNext schema.now (gap top.filling) (StartsElement schema.now top above) (Within elements.old) cursor.old (event_of said) (Within elements.new) cursor.new) }
-    ensures fault { (above : List _) → elements.old ≡ top ∷ above → IfErr result (StallsAt (StartsElement schema.now top above) cursor.old) }
+    requires sound { IsSound (schema_of schema.now) (Within elements.old) }
+    requires kind { (name : ℕ) → element_of (schema_of schema.now) top.kind name ≡ element_named (plain_particles particles.now) name }
+    requires fit { AllByRecursion (λ particle. AllByRecursion (λ member. (member.name < length (schema_of schema.now).names) × (member.kind < length (schema_of schema.now).kinds)) particle.members) (plain_particles particles.now) }
+    ensures ok { (above : List _) → elements.old ≡ top ∷ above → IfOk result (λ said. TakesNext (schema_of schema.now) (gap top.filling) (StartsElement (schema_of schema.now) top above) (Within elements.old) cursor.old (event_of said) (Within elements.new) cursor.new) }
+    ensures fault { (above : List _) → elements.old ≡ top ∷ above → IfErr result (StallsAt (StartsElement (schema_of schema.now) top above) cursor.old) }
     ensures kept { IfErr result (λ _. elements.new ≡ elements.old) }
 {
     let awaited = awaited_elements(alloc, schema, particles)?;
@@ -142,10 +143,10 @@ fn take_behind_gap(
     particles: &[Particle],
 ) -> Result<Said, ScanFault>
     requires top { (above : List _) × (elements.old ≡ top ∷ above) }
-    requires sound { IsSound schema.now (Within elements.old) }
-    requires complex { slice_get schema.now.kinds.now top.kind ≡ Some (Complex attributes particles) }
-    ensures ok { (above : List _) → elements.old ≡ top ∷ above → IfOk result (λ said. TakesNext schema.now (gap top.filling) (StartsPart schema.now top above) (Within elements.old) cursor.old (event_of said) (Within elements.new) cursor.new) }
-    ensures fault { (above : List _) → elements.old ≡ top ∷ above → IfErr result (StallsAt (StartsPart schema.now top above) cursor.old) }
+    requires sound { IsSound (schema_of schema.now) (Within elements.old) }
+    requires complex { slice_get (schema_of schema.now).kinds top.kind ≡ Some (containing attributes.now (plain_particles particles.now)) }
+    ensures ok { (above : List _) → elements.old ≡ top ∷ above → IfOk result (λ said. TakesNext (schema_of schema.now) (gap top.filling) (StartsPart (schema_of schema.now) top above) (Within elements.old) cursor.old (event_of said) (Within elements.new) cursor.new) }
+    ensures fault { (above : List _) → elements.old ≡ top ∷ above → IfErr result (StallsAt (StartsPart (schema_of schema.now) top above) cursor.old) }
     ensures kept { IfErr result (λ _. elements.new ≡ elements.old) }
 {
     if awaits_attribute(top.filling, attributes) {
@@ -170,10 +171,10 @@ fn take_part(
     particles: &[Particle],
 ) -> Result<Said, ScanFault>
     requires top { (above : List _) × (elements.old ≡ top ∷ above) }
-    requires sound { IsSound schema.now (Within elements.old) }
-    requires complex { slice_get schema.now.kinds.now top.kind ≡ Some (Complex attributes particles) }
-    ensures ok { IfOk result (λ said. TakesNext schema.now [] (Completes schema.now (Within elements.old)) (Within elements.old) cursor.old (event_of said) (Within elements.new) cursor.new) }
-    ensures fault { IfErr result (StallsAt (Completes schema.now (Within elements.old)) cursor.old) }
+    requires sound { IsSound (schema_of schema.now) (Within elements.old) }
+    requires complex { slice_get (schema_of schema.now).kinds top.kind ≡ Some (containing attributes.now (plain_particles particles.now)) }
+    ensures ok { IfOk result (λ said. TakesNext (schema_of schema.now) [] (Completes (schema_of schema.now) (Within elements.old)) (Within elements.old) cursor.old (event_of said) (Within elements.new) cursor.new) }
+    ensures fault { IfErr result (StallsAt (Completes (schema_of schema.now) (Within elements.old)) cursor.old) }
     ensures kept { IfErr result (λ _. elements.new ≡ elements.old) }
 {
     if cursor.take_char('}') {
@@ -195,9 +196,9 @@ pub(crate) fn take_inside(
     top: OpenElement,
 ) -> Result<Said, ScanFault>
     requires top { (above : List _) × (elements.old ≡ top ∷ above) }
-    requires sound { IsSound schema.now (Within elements.old) }
-    ensures ok { IfOk result (λ said. TakesNext schema.now [] (Completes schema.now (Within elements.old)) (Within elements.old) cursor.old (event_of said) (Within elements.new) cursor.new) }
-    ensures fault { IfErr result (StallsAt (Completes schema.now (Within elements.old)) cursor.old) }
+    requires sound { IsSound (schema_of schema.now) (Within elements.old) }
+    ensures ok { IfOk result (λ said. TakesNext (schema_of schema.now) [] (Completes (schema_of schema.now) (Within elements.old)) (Within elements.old) cursor.old (event_of said) (Within elements.new) cursor.new) }
+    ensures fault { IfErr result (StallsAt (Completes (schema_of schema.now) (Within elements.old)) cursor.old) }
     ensures kept { IfErr result (λ _. elements.new ≡ elements.old) }
 {
     match &schema.kinds[top.kind as usize] {

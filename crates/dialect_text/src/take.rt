@@ -3,6 +3,7 @@
 ghost use Rattle.std.specs.Prelude.{◌≡◌, ◌<◌, ◌∷◌, ◌++◌, List, Some, All, length, slice_get, encode_utf8, IfOk, IfErr, IsSome};
 ghost use Rattle.std.specs.Str.{encode_utf8_all};
 ghost use Rattle.exi_schema.specs.Steps.{simple_at};
+ghost use Rattle.exi_schema.specs.Told.{schema_of};
 ghost use Rattle.value_text.specs.declared.awaited.Awaited.{Awaited};
 ghost use Rattle.value_text.specs.Scanning.{Takes, MissesAt, IsAnyAwaited, IsAwaitedText, meaning};
 ghost use Rattle.dialect_text.specs.Scanning.{TakesValueOf, MissesValueOf, PassesGap};
@@ -28,13 +29,13 @@ pub(crate) fn take_name(
     schema: &Schema,
     awaited: &[Awaited],
 ) -> Result<usize, ScanFault>
-    requires names { All (λ one. one.name < length schema.now.names.now) awaited.now }
+    requires names { All (λ one. one.name < length (schema_of schema.now).names) awaited.now }
     requires ends { All (λ one. one.end < 128) awaited.now }
     requires any { 0 < length awaited.now }
     ensures taken { IfOk result (λ i. (front : List _) × (one : Awaited)
-        × Takes (IsAnyAwaited schema.now awaited.now) cursor.old front cursor.new
-        × (slice_get awaited.now i ≡ Some one) × IsAwaitedText schema.now one (encode_utf8_all front)) }
-    ensures fault { IfErr result (MissesAt (IsAnyAwaited schema.now awaited.now) cursor.old) }
+        × Takes (IsAnyAwaited (schema_of schema.now) awaited.now) cursor.old front cursor.new
+        × (slice_get awaited.now i ≡ Some one) × IsAwaitedText (schema_of schema.now) one (encode_utf8_all front)) }
+    ensures fault { IfErr result (MissesAt (IsAnyAwaited (schema_of schema.now) awaited.now) cursor.old) }
 {
     match cursor.take_name(schema, awaited) {
         Ok(at) => Ok(at),
@@ -49,10 +50,10 @@ pub(crate) fn take_value(
     cursor: &mut TextCursor,
     kind: u16,
 ) -> Result<Scanned, ScanFault>
-    requires kind { kind < length schema.now.kinds.now }
-    requires simple { IsSome (simple_at schema.now.kinds.now kind) }
-    ensures ok { IfOk result (λ scanned. TakesValueOf schema.now kind (meaning scanned) cursor.old cursor.new) }
-    ensures fault { IfErr result (MissesValueOf schema.now kind cursor.old) }
+    requires kind { kind < length (schema_of schema.now).kinds }
+    requires simple { IsSome (simple_at (schema_of schema.now).kinds kind) }
+    ensures ok { IfOk result (λ scanned. TakesValueOf (schema_of schema.now) kind (meaning scanned) cursor.old cursor.new) }
+    ensures fault { IfErr result (MissesValueOf (schema_of schema.now) kind cursor.old) }
 {
     match schema.datatype(kind) {
         Some(datatype) => cursor.take_value(alloc, schema, kind, datatype),

@@ -3,9 +3,9 @@ use Rattle.std.proofs.Common.{◌≡◌, ℕ, ◌+◌, ◌≤◌, ◌⊎◌, Boo
 use Rattle.exi_spec.specs.Items.{SpellsNumber, Begins, RefusesBits}
 use Rattle.exi_spec.specs.Laws.{IsExact}
 use Rattle.exi_spec.proofs.Readers.{exact, numbers_read}
-use Rattle.exi_schema.specs.declared.schema.Schema.{Schema}
+use Rattle.exi_schema.specs.Schemas.{PlainSchema}
 use Rattle.exi_schema.specs.declared.tables.Datatype.{Datatype}
-use Rattle.exi_schema.specs.declared.tables.Declaration.{Declaration}
+use Rattle.exi_schema.specs.Plain.{PlainKind}
 use Rattle.exi_schema.specs.declared.tables.MemberStanding.{MemberStanding}
 use Rattle.exi_schema.specs.declared.tables.MemberStanding.TheVariants.{Taken, Abstract, OutOfProfile}
 use Rattle.exi_schema.specs.declared.places.Place.{Place}
@@ -32,7 +32,7 @@ use Rattle.document_laws.proofs.Fronts.{before_exact}
 one_of : {X : Type 0} (o : Option X) (x y : X) → o ≡ Some x → o ≡ Some y → x ≡ y
 one_of {X} o x y p q = let e : Some x ≡ Some y = sym p ∙ q in cc
 
-module _ (kinds : List Declaration) (here : Place) where
+module _ (kinds : List PlainKind) (here : Place) where
   abbrev Takes : ℕ → Step → Type 0
   Takes code step = (slice_get (offers kinds here) code ≡ Some step) × (step_cause step ≡ None)
 
@@ -118,7 +118,7 @@ exact_of (Some d) entries name few is =
 
 -- ---- inside an element
 
-module _ (s : Schema) (top : Opened) (above : List Opened) (entries : Entries) where
+module _ (s : PlainSchema) (top : Opened) (above : List Opened) (entries : Entries) where
   abbrev attribute_moves : ℕ → Place → Value × Entries → Event × State
   attribute_moves name next v = (Attribute name v.0, stands (Inside (opened top.name next) above) v.1)
 
@@ -133,56 +133,56 @@ module _ (s : Schema) (top : Opened) (above : List Opened) (entries : Entries) w
 
   -- what stands behind a code, and what leads on
   abbrev Follows : Step → Spelling (Event × State)
-  Follows (step.Attribute name kind next) = SpellsSifted (SpellsOf (simple_at s.kinds.now kind) entries name) (Given (attribute_moves name next))
+  Follows (step.Attribute name kind next) = SpellsSifted (SpellsOf (simple_at s.kinds kind) entries name) (Given (attribute_moves name next))
   Follows (step.Element name kind next standing past_limit) = λ m bits. (bits ≡ []) × (m ≡ start_moves name kind next)
   Follows step.End = λ m bits. (bits ≡ []) × (m ≡ end_moves)
-  Follows (step.Characters next) = SpellsSifted (SpellsOf (simple_at s.kinds.now top.place.kind) entries top.name) (Given (content_moves next))
+  Follows (step.Characters next) = SpellsSifted (SpellsOf (simple_at s.kinds top.place.kind) entries top.name) (Given (content_moves next))
 
   abbrev RefusesFollowing : Step → Refusing
-  RefusesFollowing (step.Attribute name kind next) = RefusesOf (simple_at s.kinds.now kind) entries name
+  RefusesFollowing (step.Attribute name kind next) = RefusesOf (simple_at s.kinds kind) entries name
   RefusesFollowing (step.Element name kind next standing past_limit) = λ bits fault. ⊥
   RefusesFollowing step.End = λ bits fault. ⊥
-  RefusesFollowing (step.Characters next) = RefusesOf (simple_at s.kinds.now top.place.kind) entries top.name
+  RefusesFollowing (step.Characters next) = RefusesOf (simple_at s.kinds top.place.kind) entries top.name
 
-  follows_exact : (x : Step) (bits : List Bool) → IsPlace s.kinds.now top.place → length entries ≤ most_entries → SpellsTaken s.kinds.now top.place x bits → IsExact (Follows x) (RefusesFollowing x)
+  follows_exact : (x : Step) (bits : List Bool) → IsPlace s.kinds top.place → length entries ≤ most_entries → SpellsTaken s.kinds top.place x bits → IsExact (Follows x) (RefusesFollowing x)
   follows_exact (step.Attribute name kind next) bits at few h =
       let fits = step_fits s top.place h.0.code (step.Attribute name kind next) at h.0.offered in
-      given _ _ (attribute_moves name next) (exact_of (simple_at s.kinds.now kind) entries name few fits.2)
+      given _ _ (attribute_moves name next) (exact_of (simple_at s.kinds kind) entries name few fits.2)
   follows_exact (step.Element name kind next standing past_limit) bits at few h = nothing (start_moves name kind next)
   follows_exact step.End bits at few h = nothing end_moves
   follows_exact (step.Characters next) bits at few h =
       let fits = step_fits s top.place h.0.code (step.Characters next) at h.0.offered in
-      given _ _ (content_moves next) (exact_of (simple_at s.kinds.now top.place.kind) entries top.name few fits.0)
+      given _ _ (content_moves next) (exact_of (simple_at s.kinds top.place.kind) entries top.name few fits.0)
 
   abbrev Inner : Spelling (Event × State)
-  Inner = SpellsChained (SpellsTaken s.kinds.now top.place) Follows
+  Inner = SpellsChained (SpellsTaken s.kinds top.place) Follows
 
   abbrev RefusesInner : Refusing
-  RefusesInner = RefusesChained (SpellsTaken s.kinds.now top.place) (RefusesTaken s.kinds.now top.place) RefusesFollowing
+  RefusesInner = RefusesChained (SpellsTaken s.kinds top.place) (RefusesTaken s.kinds top.place) RefusesFollowing
 
   abbrev here : State
   here = stands (Inside top above) entries
 
   -- an element that may stand there
-  element_taken : (name kind : ℕ) (next : Place) (standing : MemberStanding) (past_limit : Bool) (bits : List Bool) → SpellsStep s.kinds.now top.place (step.Element name kind next standing past_limit) bits →
-      step_cause (step.Element name kind next standing past_limit) ≡ None → SpellsStep s.kinds.now top.place (element name kind next) bits
+  element_taken : (name kind : ℕ) (next : Place) (standing : MemberStanding) (past_limit : Bool) (bits : List Bool) → SpellsStep s.kinds top.place (step.Element name kind next standing past_limit) bits →
+      step_cause (step.Element name kind next standing past_limit) ≡ None → SpellsStep s.kinds top.place (element name kind next) bits
   element_taken name kind next standing true bits h none = let wrong = none in absurd cc
   element_taken name kind next Taken false bits h none = h
   element_taken name kind next Abstract false bits h none = let wrong = none in absurd cc
   element_taken name kind next OutOfProfile false bits h none = let wrong = none in absurd cc
 
-  forth_at : (x : Step) (m : Event × State) (bits front rest : List Bool) → SpellsTaken s.kinds.now top.place x front → Follows x m rest → bits ≡ front ++ rest → Moves SpellsValue s here m.0 bits m.1
+  forth_at : (x : Step) (m : Event × State) (bits front rest : List Bool) → SpellsTaken s.kinds top.place x front → Follows x m rest → bits ≡ front ++ rest → Moves SpellsValue s here m.0 bits m.1
   forth_at (step.Attribute name kind next) m bits front rest h f e =
       let v = f.0 in
       subst (λ (x : Event × State). Moves SpellsValue s here x.0 bits x.1) (sym f.2) (kind, next, f.1.0, v.1, front, rest, h.0, f.1.1, f.1.2, e, refl)
   forth_at (step.Element name kind next standing past_limit) m bits front rest h f e =
       let whole : front ≡ bits = sym (e ∙ ap (λ (l : List Bool). front ++ l) f.0 ∙ append-nil front) in
       subst (λ (x : Event × State). Moves SpellsValue s here x.0 bits x.1) (sym f.1)
-      (kind, next, subst (λ (l : List Bool). SpellsStep s.kinds.now top.place (element name kind next) l) whole (element_taken name kind next standing past_limit front h.0 h.1), refl)
+      (kind, next, subst (λ (l : List Bool). SpellsStep s.kinds top.place (element name kind next) l) whole (element_taken name kind next standing past_limit front h.0 h.1), refl)
   forth_at step.End m bits front rest h f e =
       let whole : front ≡ bits = sym (e ∙ ap (λ (l : List Bool). front ++ l) f.0 ∙ append-nil front) in
       subst (λ (x : Event × State). Moves SpellsValue s here x.0 bits x.1) (sym f.1)
-      (subst (λ (l : List Bool). SpellsStep s.kinds.now top.place step.End l) whole h.0, refl)
+      (subst (λ (l : List Bool). SpellsStep s.kinds top.place step.End l) whole h.0, refl)
   forth_at (step.Characters next) m bits front rest h f e =
       let v = f.0 in
       subst (λ (x : Event × State). Moves SpellsValue s here x.0 bits x.1) (sym f.2) (next, f.1.0, v.1, front, rest, h.0, f.1.1, f.1.2, e, refl)
@@ -210,7 +210,7 @@ module _ (s : Schema) (top : Opened) (above : List Opened) (entries : Entries) w
   back EndElement new bits h =
       (step.End, bits, [], (h.0, refl), (refl, ap (λ (state : State). (EndElement, state)) h.1), sym (append-nil bits))
 
-  behind_at : (x : Step) (bits front rest : List Bool) (behind : ℕ) (r : Fault) → SpellsTaken s.kinds.now top.place x front → bits ≡ front ++ rest → RefusesFollowing x rest (r.0, behind) → r.1 ≡ length front + behind →
+  behind_at : (x : Step) (bits front rest : List Bool) (behind : ℕ) (r : Fault) → SpellsTaken s.kinds top.place x front → bits ≡ front ++ rest → RefusesFollowing x rest (r.0, behind) → r.1 ≡ length front + behind →
       RefusesFrom s (Inside top above) entries bits r.0 r.1
   behind_at (step.Attribute name kind next) bits front rest behind r h e f at =
       inr (inl (name, kind, next, f.0, f.1, record { code = front; rest = rest; behind = behind; taken = h.0; bits_are = e; refused = f.2; place = at }))
@@ -232,10 +232,10 @@ module _ (s : Schema) (top : Opened) (above : List Opened) (entries : Entries) w
       let b = h.3 in
       inr (step.Characters h.0, b.code, b.rest, b.behind, (b.taken, refl), b.bits_are, (h.1, h.2, b.refused), b.place)
 
-  pub inside_exact : IsPlace s.kinds.now top.place → length entries ≤ most_entries → IsEventExact s here
+  pub inside_exact : IsPlace s.kinds top.place → length entries ≤ most_entries → IsEventExact s here
   inside_exact at few =
       same Inner _ RefusesInner _
-      (chained (SpellsTaken s.kinds.now top.place) (RefusesTaken s.kinds.now top.place) Follows RefusesFollowing (step_exact s.kinds.now top.place) (λ x front h. follows_exact x front at few h))
+      (chained (SpellsTaken s.kinds top.place) (RefusesTaken s.kinds top.place) Follows RefusesFollowing (step_exact s.kinds top.place) (λ x front h. follows_exact x front at few h))
       (λ m bits h. forth_at h.0 m bits h.1 h.2 h.3 h.4 h.5)
       (λ m bits h. back m.0 m.1 bits h)
       inner_there
@@ -243,7 +243,7 @@ module _ (s : Schema) (top : Opened) (above : List Opened) (entries : Entries) w
 
 -- ---- at the root
 
-module _ (s : Schema) (root kind : ℕ) (entries : Entries) where
+module _ (s : PlainSchema) (root kind : ℕ) (entries : Entries) where
   abbrev root_moves : Event × State
   root_moves = (Start root, stands (Inside (opened root (first kind)) []) entries)
 
@@ -270,11 +270,11 @@ module _ (s : Schema) (root kind : ℕ) (entries : Entries) where
       (λ bits r h. h)
       (λ bits r h. h)
 
-event_at : (s : Schema) (standing : Standing) (entries : Entries) → IsState s (stands standing entries) → GoesOn standing → IsEventExact s (stands standing entries)
+event_at : (s : PlainSchema) (standing : Standing) (entries : Entries) → IsState s (stands standing entries) → GoesOn standing → IsEventExact s (stands standing entries)
 event_at s Before entries is goes = before_exact s entries
 event_at s (AtRoot root kind) entries is goes = at_root_exact s root kind entries
 event_at s (Inside top above) entries is goes = inside_exact s top above entries is.0.0 is.1
 event_at s Behind entries is goes = absurd goes
 
-pub event_exact : (s : Schema) (state : State) → IsState s state → GoesOn state.standing → IsEventExact s state
+pub event_exact : (s : PlainSchema) (state : State) → IsState s state → GoesOn state.standing → IsEventExact s state
 event_exact s state is goes = event_at s state.standing state.entries is goes

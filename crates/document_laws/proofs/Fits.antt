@@ -4,9 +4,8 @@ use Rattle.std.proofs.lemmas.Bool.{ltb-true}
 use Rattle.std.proofs.lemmas.Bool.Decides.{eqb_tells}
 use Rattle.std.specs.List.{list_any, list_all}
 use Rattle.std.specs.Prelude.{◌==◌, ◌^◌, ◌||◌}
-use Rattle.exi_schema.specs.declared.schema.Schema.{Schema}
-use Rattle.exi_schema.specs.declared.tables.Declaration.{Declaration}
-use Rattle.exi_schema.specs.declared.tables.Declaration.TheVariants.{Simple, Complex}
+use Rattle.exi_schema.specs.Schemas.{PlainSchema, is_root, is_within, are_roots, are_kinds, are_words, are_values, are_distinct}
+use Rattle.exi_schema.specs.Plain.{PlainKind, valued, containing}
 use Rattle.exi_schema.specs.declared.tables.RootOf.{RootOf}
 use Rattle.exi_schema.specs.declared.places.Place.{Place}
 use Rattle.exi_schema.specs.declared.places.Root.{Root}
@@ -14,7 +13,6 @@ use Rattle.exi_schema.specs.declared.places.Root.TheVariants.{Kind, NoSuch}
 use Rattle.exi_schema.specs.declared.places.Step.{Step}
 use Rattle.exi_schema.specs.Counts.{root_numbered}
 use Rattle.exi_schema.specs.Offers.{simple_step, complex_steps, offers_of, offers, IsPlaceOf, IsPlace}
-use Rattle.exi_schema.specs.Schemas.{is_root, is_within, are_roots, are_kinds, are_words, are_values, are_distinct}
 use Rattle.exi_schema.specs.Steps.{IsStep, IsRoot}
 use Rattle.exi_schema.proofs.Conditions.{and-l, and-r, all_get, complex_in}
 use Rattle.exi_schema.proofs.Fitting.{each_complex, each_get, simple_fits}
@@ -23,19 +21,19 @@ use Rattle.document_laws.proofs.Offered.{only_code}
 
 -- ---- steps
 
-fits_by : (o : Option Declaration) (s : Schema) (here : Place) (code : ℕ) (step : Step) → slice_get s.kinds.now here.kind ≡ o → IsPlaceOf here o → slice_get (offers_of here o) code ≡ Some step →
-    IsStep s.kinds.now (length s.names.now) here.kind step
+fits_by : (o : Option PlainKind) (s : PlainSchema) (here : Place) (code : ℕ) (step : Step) → slice_get s.kinds here.kind ≡ o → IsPlaceOf here o → slice_get (offers_of here o) code ≡ Some step →
+    IsStep s.kinds (length s.names) here.kind step
 fits_by None s here code step is at h = absurd at
-fits_by (Some (Simple d)) s here code step is at h =
+fits_by (Some (valued d)) s here code step is at h =
     let e = (only_code (simple_step here) step code h).0 in
-    subst (λ (x : Step). IsStep s.kinds.now (length s.names.now) here.kind x) (sym e) (simple_fits s.kinds.now (length s.names.now) here d is at)
-fits_by (Some (Complex attributes particles)) s here code step is at h =
-    each_get s.kinds.now (length s.names.now) here.kind (complex_steps here attributes.now particles.now) code step
-    (each_complex s.kinds.now (length s.names.now) here attributes particles is at (complex_in s here.kind attributes particles is)) (sym h)
+    subst (λ (x : Step). IsStep s.kinds (length s.names) here.kind x) (sym e) (simple_fits s.kinds (length s.names) here d is at)
+fits_by (Some (containing attributes particles)) s here code step is at h =
+    each_get s.kinds (length s.names) here.kind (complex_steps here attributes particles) code step
+    (each_complex s.kinds (length s.names) here attributes particles is at (complex_in s here.kind attributes particles is)) (sym h)
 
 -- a step that is offered at a place of the schema is the schema's
-pub step_fits : (s : Schema) (here : Place) (code : ℕ) (step : Step) → IsPlace s.kinds.now here → slice_get (offers s.kinds.now here) code ≡ Some step → IsStep s.kinds.now (length s.names.now) here.kind step
-step_fits s here code step at h = fits_by (slice_get s.kinds.now here.kind) s here code step refl at h
+pub step_fits : (s : PlainSchema) (here : Place) (code : ℕ) (step : Step) → IsPlace s.kinds here → slice_get (offers s.kinds here) code ≡ Some step → IsStep s.kinds (length s.names) here.kind step
+step_fits s here code step at h = fits_by (slice_get s.kinds here.kind) s here code step refl at h
 
 -- ---- numbers that differ
 
@@ -79,63 +77,63 @@ one_numbered f (z ∷ xs) (suc i) (suc j) x y apart p q e =
 
 -- ---- roots
 
-roots_of : (s : Schema) → are_roots s.root_bits (length (map (λ t. t.now) s.names.now)) s.kinds.now s.roots.now ≡ true
+roots_of : (s : PlainSchema) → are_roots s.root_bits (length s.names) s.kinds s.roots ≡ true
 roots_of s =
-    let texts : List (List ℕ) = map (λ t. t.now) s.names.now in
-    let two = and-l _ (are_words texts) (and-l _ (are_values s.kinds.now (map (λ l. map (λ t. t.now) l.now) s.values.now)) s.fits) in
-    and-r (are_kinds (length texts) s.kinds.now) (are_roots s.root_bits (length texts) s.kinds.now s.roots.now) two
+    let texts : List (List ℕ) = s.names in
+    let two = and-l _ (are_words texts) (and-l _ (are_values s.kinds s.values) s.fits) in
+    and-r (are_kinds (length texts) s.kinds) (are_roots s.root_bits (length texts) s.kinds s.roots) two
 
-pub distinct_numbers : (s : Schema) → are_distinct (map (λ root. root.number) s.roots.now) ≡ true
+pub distinct_numbers : (s : PlainSchema) → are_distinct (map (λ root. root.number) s.roots) ≡ true
 distinct_numbers s =
-    let texts : List (List ℕ) = map (λ t. t.now) s.names.now in
-    and-r (nat_le 1 (length s.roots.now) && nat_le s.root_bits 32 && list_all (is_root s.root_bits (length texts) s.kinds.now) s.roots.now) (are_distinct (map (λ root. root.number) s.roots.now))
-    (and-l _ (are_distinct (map (λ root. root.name) s.roots.now)) (roots_of s))
+    let texts : List (List ℕ) = s.names in
+    and-r (nat_le 1 (length s.roots) && nat_le s.root_bits 32 && list_all (is_root s.root_bits (length texts) s.kinds) s.roots) (are_distinct (map (λ root. root.number) s.roots))
+    (and-l _ (are_distinct (map (λ root. root.name) s.roots)) (roots_of s))
 
-pub distinct_names : (s : Schema) → are_distinct (map (λ root. root.name) s.roots.now) ≡ true
+pub distinct_names : (s : PlainSchema) → are_distinct (map (λ root. root.name) s.roots) ≡ true
 distinct_names s =
-    let texts : List (List ℕ) = map (λ t. t.now) s.names.now in
-    and-r (nat_le 1 (length s.roots.now) && nat_le s.root_bits 32 && list_all (is_root s.root_bits (length texts) s.kinds.now) s.roots.now && are_distinct (map (λ root. root.number) s.roots.now))
-    (are_distinct (map (λ root. root.name) s.roots.now)) (roots_of s)
+    let texts : List (List ℕ) = s.names in
+    and-r (nat_le 1 (length s.roots) && nat_le s.root_bits 32 && list_all (is_root s.root_bits (length texts) s.kinds) s.roots && are_distinct (map (λ root. root.number) s.roots))
+    (are_distinct (map (λ root. root.name) s.roots)) (roots_of s)
 
-root_is : (s : Schema) (i : ℕ) (root : RootOf) → slice_get s.roots.now i ≡ Some root → is_root s.root_bits (length (map (λ t. t.now) s.names.now)) s.kinds.now root ≡ true
+root_is : (s : PlainSchema) (i : ℕ) (root : RootOf) → slice_get s.roots i ≡ Some root → is_root s.root_bits (length s.names) s.kinds root ≡ true
 root_is s i root h =
-    let texts : List (List ℕ) = map (λ t. t.now) s.names.now in
+    let texts : List (List ℕ) = s.names in
     let three = and-l _ _ (and-l _ _ (roots_of s)) in
-    all_get (is_root s.root_bits (length texts) s.kinds.now) s.roots.now i root
-    (and-r (nat_le 1 (length s.roots.now) && nat_le s.root_bits 32) (list_all (is_root s.root_bits (length texts) s.kinds.now) s.roots.now) three) h
+    all_get (is_root s.root_bits (length texts) s.kinds) s.roots i root
+    (and-r (nat_le 1 (length s.roots) && nat_le s.root_bits 32) (list_all (is_root s.root_bits (length texts) s.kinds) s.roots) three) h
 
 -- the kind of a root is the schema's
-pub root_kind : (s : Schema) (number name kind : ℕ) → IsRoot s.roots.now s.root_bits number (Kind name kind) → kind < length s.kinds.now
+pub root_kind : (s : PlainSchema) (number name kind : ℕ) → IsRoot s.roots s.root_bits number (Kind name kind) → kind < length s.kinds
 root_kind s number name kind h =
-    let n = length (map (λ t. t.now) s.names.now) in
-    let four = and-l _ (is_within s.kinds.now 16 kind) (root_is s h.0 (record { number = number; name = name; kind = kind }) h.1) in
-    ltb-true kind (length s.kinds.now) (and-r (nat_lt number (2 ^ s.root_bits) && not (s.root_bits == 2 && number == 3) && nat_lt name n) (nat_lt kind (length s.kinds.now)) four)
+    let n = length s.names in
+    let four = and-l _ (is_within s.kinds 16 kind) (root_is s h.0 (record { number = number; name = name; kind = kind }) h.1) in
+    ltb-true kind (length s.kinds) (and-r (nat_lt number (2 ^ s.root_bits) && not (s.root_bits == 2 && number == 3) && nat_lt name n) (nat_lt kind (length s.kinds)) four)
 
 -- and its name
-pub root_name : (s : Schema) (number name kind : ℕ) → IsRoot s.roots.now s.root_bits number (Kind name kind) → name < length (map (λ t. t.now) s.names.now)
+pub root_name : (s : PlainSchema) (number name kind : ℕ) → IsRoot s.roots s.root_bits number (Kind name kind) → name < length s.names
 root_name s number name kind h =
-    let n = length (map (λ t. t.now) s.names.now) in
-    let three = and-l _ (nat_lt kind (length s.kinds.now)) (and-l _ (is_within s.kinds.now 16 kind) (root_is s h.0 (record { number = number; name = name; kind = kind }) h.1)) in
+    let n = length s.names in
+    let three = and-l _ (nat_lt kind (length s.kinds)) (and-l _ (is_within s.kinds 16 kind) (root_is s h.0 (record { number = number; name = name; kind = kind }) h.1)) in
     ltb-true name n (and-r (nat_lt number (2 ^ s.root_bits) && not (s.root_bits == 2 && number == 3)) (nat_lt name n) three)
 
 tested : (n m : ℕ) → n ≡ m → (n == m) ≡ true
 tested n m e = elim (eqb_tells n m) [ inl tells ↦ tells.0 | inr tells ↦ absurd (tells.1 e) ]
 
 -- no root has the number that is no code
-pub root_coded : (s : Schema) (number name kind : ℕ) → IsRoot s.roots.now s.root_bits number (Kind name kind) → ((s.root_bits ≡ 2) × (number ≡ 3)) → ⊥
+pub root_coded : (s : PlainSchema) (number name kind : ℕ) → IsRoot s.roots s.root_bits number (Kind name kind) → ((s.root_bits ≡ 2) × (number ≡ 3)) → ⊥
 root_coded s number name kind h no_code =
-    let n = length (map (λ t. t.now) s.names.now) in
+    let n = length s.names in
     let is = root_is s h.0 (record { number = number; name = name; kind = kind }) h.1 in
-    let two = and-l _ (nat_lt name n) (and-l _ (nat_lt kind (length s.kinds.now)) (and-l _ (is_within s.kinds.now 16 kind) is)) in
+    let two = and-l _ (nat_lt name n) (and-l _ (nat_lt kind (length s.kinds)) (and-l _ (is_within s.kinds 16 kind) is)) in
     let coded : not (s.root_bits == 2 && number == 3) ≡ true = and-r (nat_lt number (2 ^ s.root_bits)) _ two in
     let wrong : not (true && true) ≡ true =
     subst (λ (b : Bool). not (true && b) ≡ true) (tested number 3 no_code.1) (subst (λ (b : Bool). not (b && number == 3) ≡ true) (tested s.root_bits 2 no_code.0) coded) in
     let w : false ≡ true = wrong in cc
 
 -- a document number names one root
-pub one_root : (s : Schema) (number name kind other odd : ℕ) → IsRoot s.roots.now s.root_bits number (Kind name kind) → IsRoot s.roots.now s.root_bits number (Kind other odd) → (name ≡ other) × (kind ≡ odd)
+pub one_root : (s : PlainSchema) (number name kind other odd : ℕ) → IsRoot s.roots s.root_bits number (Kind name kind) → IsRoot s.roots s.root_bits number (Kind other odd) → (name ≡ other) × (kind ≡ odd)
 one_root s number name kind other odd p q =
-    let same = (one_numbered (λ (root : RootOf). root.number) s.roots.now p.0 q.0 (record { number = number; name = name; kind = kind }) (record { number = number; name = other; kind = odd }) (distinct_numbers s) p.1 q.1 refl).0 in
+    let same = (one_numbered (λ (root : RootOf). root.number) s.roots p.0 q.0 (record { number = number; name = name; kind = kind }) (record { number = number; name = other; kind = odd }) (distinct_numbers s) p.1 q.1 refl).0 in
     (ap (λ (root : RootOf). root.name) same, ap (λ (root : RootOf). root.kind) same)
 
 coded_or_not : (bits number : ℕ) → ((bits ≡ 2) × (number ≡ 3)) ⊎ (((bits ≡ 2) × (number ≡ 3)) → ⊥)
@@ -146,9 +144,9 @@ coded_or_not bits number =
     ]
 
 -- each number names something
-pub some_root : (s : Schema) (number : ℕ) → (root : Root) × IsRoot s.roots.now s.root_bits number root
+pub some_root : (s : PlainSchema) (number : ℕ) → (root : Root) × IsRoot s.roots s.root_bits number root
 some_root s number =
     elim (coded_or_not s.root_bits number) [
       | inl none ↦ (NoSuch, none)
-      | inr coded ↦ (root_numbered s.roots.now number, is_numbered s.roots.now s.root_bits number coded)
+      | inr coded ↦ (root_numbered s.roots number, is_numbered s.roots s.root_bits number coded)
     ]

@@ -7,7 +7,7 @@ use Rattle.exi_spec.specs.Items.{SpellsNumber, RefusesBits}
 use Rattle.exi_spec.specs.Laws.{IsExact}
 use Rattle.exi_spec.proofs.BitLaws.{length-number_bits, number_of-number_bits}
 use Rattle.exi_spec.proofs.Readers.{exact, numbers_read}
-use Rattle.exi_schema.specs.declared.schema.Schema.{Schema}
+use Rattle.exi_schema.specs.Schemas.{PlainSchema}
 use Rattle.exi_schema.specs.declared.places.Root.{Root}
 use Rattle.exi_schema.specs.declared.places.Root.TheVariants.{Kind, Unknown, NoSuch}
 use Rattle.exi_schema.specs.Steps.{IsRoot}
@@ -95,14 +95,14 @@ header_exact =
 abbrev Numbered : Type 0
 Numbered = ℕ × ℕ × ℕ
 
-module _ (s : Schema) where
+module _ (s : PlainSchema) where
   abbrev NamesRoot : ℕ → Numbered → Type 0
-  NamesRoot number w = (w.0 ≡ number) × IsRoot s.roots.now s.root_bits number (Kind w.1 w.2)
+  NamesRoot number w = (w.0 ≡ number) × IsRoot s.roots s.root_bits number (Kind w.1 w.2)
 
   abbrev NamesNone : ℕ → Fault → Type 0
-  NamesNone number fault = (root : Root) × IsRoot s.roots.now s.root_bits number root × (root_cause root ≡ Some fault.0) × (fault.1 ≡ 0)
+  NamesNone number fault = (root : Root) × IsRoot s.roots s.root_bits number root × (root_cause root ≡ Some fault.0) × (fault.1 ≡ 0)
 
-  named_or_none : (number : ℕ) (root : Root) → IsRoot s.roots.now s.root_bits number root → ((w : Numbered) × NamesRoot number w) ⊎ ((r : Fault) × NamesNone number r)
+  named_or_none : (number : ℕ) (root : Root) → IsRoot s.roots s.root_bits number root → ((w : Numbered) × NamesRoot number w) ⊎ ((r : Fault) × NamesNone number r)
   named_or_none number (Kind name kind) h = inl ((number, name, kind), (refl, h))
   named_or_none number Unknown h = inr ((cause.UnknownElement, 0), (Unknown, h, refl, refl))
   named_or_none number NoSuch h = inr ((cause.NoSuchCode, 0), (NoSuch, h, refl, refl))
@@ -113,12 +113,12 @@ module _ (s : Schema) where
       let numbers : w.0 ≡ x.0 = p.0 ∙ sym q.0 in
       ap (λ (n : ℕ). (n, w.1, w.2)) numbers ∙ ap (λ (n : ℕ). (x.0, n, w.2)) e.0 ∙ ap (λ (n : ℕ). (x.0, x.1, n)) e.1
 
-  kind_not : (number name kind : ℕ) (root : Root) (why : RefusalCause) → IsRoot s.roots.now s.root_bits number (Kind name kind) → IsRoot s.roots.now s.root_bits number root → root_cause root ≡ Some why → ⊥
+  kind_not : (number name kind : ℕ) (root : Root) (why : RefusalCause) → IsRoot s.roots s.root_bits number (Kind name kind) → IsRoot s.roots s.root_bits number root → root_cause root ≡ Some why → ⊥
   kind_not number name kind (Kind other odd) why p q e = let wrong : None ≡ Some why = e in cc
   kind_not number name kind Unknown why p q e = q.0 p.0 (record { number = number; name = name; kind = kind }) p.1 refl
   kind_not number name kind NoSuch why p q e = root_coded s number name kind p q
 
-  one_cause : (number : ℕ) (a b : Root) (c d : RefusalCause) → IsRoot s.roots.now s.root_bits number a → IsRoot s.roots.now s.root_bits number b → root_cause a ≡ Some c → root_cause b ≡ Some d → c ≡ d
+  one_cause : (number : ℕ) (a b : Root) (c d : RefusalCause) → IsRoot s.roots s.root_bits number a → IsRoot s.roots s.root_bits number b → root_cause a ≡ Some c → root_cause b ≡ Some d → c ≡ d
   one_cause number (Kind name kind) b c d p q e f = let wrong : None ≡ Some c = e in absurd cc
   one_cause number Unknown (Kind name kind) c d p q e f = let wrong : None ≡ Some d = f in absurd cc
   one_cause number Unknown Unknown c d p q e f = let x : Some cause.UnknownElement ≡ Some c = e in let y : Some cause.UnknownElement ≡ Some d = f in cc
@@ -169,7 +169,7 @@ module _ (s : Schema) where
           w.1,
           w.2,
           c.2,
-          subst (λ (n : ℕ). IsRoot s.roots.now s.root_bits n (Kind w.1 w.2)) (sym number) c.4.2.1,
+          subst (λ (n : ℕ). IsRoot s.roots s.root_bits n (Kind w.1 w.2)) (sym number) c.4.2.1,
           subst (λ (n : ℕ). SpellsNumber s.root_bits n c.2) (sym number) c.4.1,
           c.5 ∙ ap (λ (l : List Bool). l ++ c.2) c.3,
           refl,

@@ -1,7 +1,7 @@
 -- An event leads from a state of the schema to one.
 use Rattle.std.proofs.Common.{◌≡◌, ℕ, ◌≤◌, pos, Bool, List, [], ◌∷◌, length, sym, subst}
 use Rattle.std.specs.List.{AllByRecursion}
-use Rattle.exi_schema.specs.declared.schema.Schema.{Schema}
+use Rattle.exi_schema.specs.Schemas.{PlainSchema}
 use Rattle.exi_schema.specs.declared.tables.Datatype.{Datatype}
 use Rattle.exi_schema.specs.declared.tables.Datatype.TheVariants.{Bool as BoolType, Named, Bounded, Unsigned, Signed, Binary, Text as TextType}
 use Rattle.exi_schema.specs.declared.places.Step.TheVariants as step
@@ -28,11 +28,11 @@ value_kept (Binary most) entries after name (Bytes bytes) bits few h = few_by en
 value_kept (TextType most) entries after name (Text chars) bits few h = h.1
 value_kept d entries after name v bits few h = absurd h
 
-module _ (s : Schema) where
+module _ (s : PlainSchema) where
   abbrev state_by : (old new : State) → old ≡ new → IsState s old → IsState s new
   state_by old new e is = subst (λ (state : State). IsState s state) e is
 
-  around_kept : (above : List Opened) (entries : Entries) → AllByRecursion (λ o. IsPlace s.kinds.now o.place) above → length entries ≤ most_entries → IsState s (stands (around above) entries)
+  around_kept : (above : List Opened) (entries : Entries) → AllByRecursion (λ o. IsPlace s.kinds o.place) above → length entries ≤ most_entries → IsState s (stands (around above) entries)
   around_kept [] entries all few = (tt, few)
   around_kept (o ∷ above) entries all few = ((all.0, all.1), few)
 

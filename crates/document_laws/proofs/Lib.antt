@@ -15,3 +15,5 @@ pub mod Payloads
 pub mod Written
 pub mod Names
 pub mod Encodings
+pub mod Standings
+pub mod Once

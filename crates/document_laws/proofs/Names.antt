@@ -2,17 +2,14 @@
 use Rattle.std.proofs.Common.{◌≡◌, ℕ, zero, suc, ◌+◌, ◌≤◌, Bool, true, false, not, ◌&&◌, nat_lt, nat_le, if◌then◌else◌, List, [], ◌∷◌, ◌++◌, length, drop, map, Option, Some, None, slice_get, refl, sym, ap, ap₂, subst, ◌∙◌, append-nil}
 use Rattle.std.specs.List.{list_any, list_all}
 use Rattle.std.specs.Prelude.{◌==◌, ◌||◌}
-use Rattle.exi_schema.specs.declared.schema.Schema.{Schema}
+use Rattle.exi_schema.specs.Schemas.{PlainSchema, is_attribute, is_particle, widest, attribute_names, element_names, are_distinct, are_offers}
 use Rattle.exi_schema.specs.declared.tables.AttributeOf.{AttributeOf}
-use Rattle.exi_schema.specs.declared.tables.Declaration.{Declaration}
-use Rattle.exi_schema.specs.declared.tables.Declaration.TheVariants.{Simple, Complex}
+use Rattle.exi_schema.specs.Plain.{PlainKind, valued, containing, PlainParticle}
 use Rattle.exi_schema.specs.declared.tables.Member.{Member}
-use Rattle.exi_schema.specs.declared.tables.Particle.{Particle}
 use Rattle.exi_schema.specs.declared.places.Place.{Place}
 use Rattle.exi_schema.specs.declared.places.Step.{Step}
 use Rattle.exi_schema.specs.declared.places.Step.TheVariants.{Attribute, Element, End, Characters}
 use Rattle.exi_schema.specs.Offers.{through_required, attribute_steps, leaves_room, element_step, element_steps, simple_step, complex_steps, offers_of, offers, FitsParticles, IsPlaceOf, IsPlace}
-use Rattle.exi_schema.specs.Schemas.{is_attribute, is_particle, widest, attribute_names, element_names, are_distinct, are_offers}
 use Rattle.exi_schema.proofs.Conditions.{and-l, and-r, each_at, kinds_of, declared, not_below, wide_room}
 use Rattle.exi_documents.specs.Documents.{SpellsStep}
 use Rattle.exi_spec.specs.Bits.{number_bits}
@@ -110,7 +107,7 @@ one_key key (z ∷ steps) (suc i) (suc j) n x y apart p q e f =
     ap suc (one_key key steps i j n x y (distinct_later (key z) (gathered key steps) apart) p q e f)
 
 -- steps of one key are one, and have one code
-pub one_taken_by : (key : Step → Option ℕ) (kinds : List Declaration) (here : Place) (n : ℕ) (x y : Step) (a b : List Bool) → are_distinct (gathered key (offers kinds here)) ≡ true →
+pub one_taken_by : (key : Step → Option ℕ) (kinds : List PlainKind) (here : Place) (n : ℕ) (x y : Step) (a b : List Bool) → are_distinct (gathered key (offers kinds here)) ≡ true →
     SpellsStep kinds here x a → SpellsStep kinds here y b → key x ≡ Some n → key y ≡ Some n → (x ≡ y) × (a ≡ b)
 one_taken_by key kinds here n x y a b apart p q e f =
     let code = one_key key (offers kinds here) p.code q.code n x y apart p.offered q.offered e f in
@@ -123,20 +120,20 @@ one_taken_by key kinds here n x y a b apart p q e f =
 names_of : List Member → List ℕ
 names_of members = map (λ (member : Member). member.name) members
 
-abbrev names_at : ℕ → List Particle → List ℕ
+abbrev names_at : ℕ → List PlainParticle → List ℕ
 names_at copies [] = []
-names_at copies (particle ∷ particles) = names_of particle.members.now ++ (if nat_lt copies particle.least then [] else names_at 0 particles)
+names_at copies (particle ∷ particles) = names_of particle.members ++ (if nat_lt copies particle.least then [] else names_at 0 particles)
 
-member_names : (here : Place) (n at copies : ℕ) (particle : Particle) (members : List Member) → gathered element_key (map (element_step here n at copies particle) members) ≡ names_of members
+member_names : (here : Place) (n at copies : ℕ) (particle : PlainParticle) (members : List Member) → gathered element_key (map (element_step here n at copies particle) members) ≡ names_of members
 unfolding names_of
 member_names here n at copies particle [] = refl
 member_names here n at copies particle (member ∷ members) = ap (λ (l : List ℕ). member.name ∷ l) (member_names here n at copies particle members)
 
-step_names : (here : Place) (n at copies : ℕ) (particles : List Particle) → gathered element_key (element_steps here n at copies particles) ≡ names_at copies particles
+step_names : (here : Place) (n at copies : ℕ) (particles : List PlainParticle) → gathered element_key (element_steps here n at copies particles) ≡ names_at copies particles
 step_names here n at copies [] = refl
 step_names here n at copies (particle ∷ particles) =
-    gathered-append element_key (map (element_step here n at copies particle) particle.members.now) _
-    ∙ ap₂ (λ (x y : List ℕ). x ++ y) (member_names here n at copies particle particle.members.now)
+    gathered-append element_key (map (element_step here n at copies particle) particle.members) _
+    ∙ ap₂ (λ (x y : List ℕ). x ++ y) (member_names here n at copies particle particle.members)
     (gathered_if element_key (nat_lt copies particle.least) (element_steps here n (at + 1) 0 particles)
     ∙ ap (λ (l : List ℕ). if nat_lt copies particle.least then [] else l) (step_names here n (at + 1) 0 particles))
 
@@ -147,7 +144,7 @@ no_names here at (attribute ∷ attributes) = no_names here (at + 1) attributes
 abbrev needs : Place → List AttributeOf → Bool
 needs here attributes = list_any (λ attribute. attribute.required) (drop here.attributes attributes)
 
-complex_names : (here : Place) (attributes : List AttributeOf) (particles : List Particle) →
+complex_names : (here : Place) (attributes : List AttributeOf) (particles : List PlainParticle) →
     gathered element_key (complex_steps here attributes particles) ≡ (if needs here attributes then [] else names_at here.copies (drop here.particle particles))
 complex_names here attributes particles =
     gathered-append element_key (attribute_steps here here.attributes (through_required (drop here.attributes attributes))) _
@@ -173,17 +170,17 @@ distinct_front (x ∷ xs) ys h =
     both a b e f = ap₂ (λ (x y : Bool). x && y) e f
 
 -- after any copies the names are among those after so many that the minimum is just met
-names_distinct : (copies : ℕ) (particles : List Particle) → FitsParticles copies particles → are_distinct (names_at (widest particles) particles) ≡ true → are_distinct (names_at copies particles) ≡ true
+names_distinct : (copies : ℕ) (particles : List PlainParticle) → FitsParticles copies particles → are_distinct (names_at (widest particles) particles) ≡ true → are_distinct (names_at copies particles) ≡ true
 names_distinct copies [] fits apart = refl
 names_distinct copies (particle ∷ particles) fits apart = by_test (nat_lt copies particle.least) refl
   where
-    by_test : (b : Bool) → nat_lt copies particle.least ≡ b → are_distinct (names_of particle.members.now ++ (if b then [] else names_at 0 particles)) ≡ true
-    by_test true is = subst (λ (l : List ℕ). are_distinct l ≡ true) (sym (append-nil (names_of particle.members.now))) (distinct_front (names_of particle.members.now) _ apart)
+    by_test : (b : Bool) → nat_lt copies particle.least ≡ b → are_distinct (names_of particle.members ++ (if b then [] else names_at 0 particles)) ≡ true
+    by_test true is = subst (λ (l : List ℕ). are_distinct l ≡ true) (sym (append-nil (names_of particle.members))) (distinct_front (names_of particle.members) _ apart)
     by_test false is =
         let room : leaves_room particle.most particle.least ≡ true = wide_room particle.most particle.least copies particle.profile fits is in
         let wide : nat_lt (widest (particle ∷ particles)) particle.least ≡ false =
         subst (λ (b : Bool). nat_lt (if b then particle.least else 0) particle.least ≡ false) (sym room) (not_below particle.least) in
-        subst (λ (b : Bool). are_distinct (names_of particle.members.now ++ (if b then [] else names_at 0 particles)) ≡ true) wide apart
+        subst (λ (b : Bool). are_distinct (names_of particle.members ++ (if b then [] else names_at 0 particles)) ≡ true) wide apart
 
 -- ---- attributes
 
@@ -194,7 +191,7 @@ attribute_names_of : (here : Place) (at : ℕ) (attributes : List AttributeOf) �
 attribute_names_of here at [] = refl
 attribute_names_of here at (attribute ∷ attributes) = ap (λ (l : List ℕ). attribute.name ∷ l) (attribute_names_of here (at + 1) attributes)
 
-no_attribute_members : (here : Place) (n at copies : ℕ) (particle : Particle) (members : List Member) → gathered attribute_key (map (element_step here n at copies particle) members) ≡ []
+no_attribute_members : (here : Place) (n at copies : ℕ) (particle : PlainParticle) (members : List Member) → gathered attribute_key (map (element_step here n at copies particle) members) ≡ []
 no_attribute_members here n at copies particle [] = refl
 no_attribute_members here n at copies particle (member ∷ members) = no_attribute_members here n at copies particle members
 
@@ -202,14 +199,14 @@ if_none : (b : Bool) (keys : List ℕ) → keys ≡ [] → (if b then [] else ke
 if_none true keys e = refl
 if_none false keys e = e
 
-no_attribute_steps : (here : Place) (n at copies : ℕ) (particles : List Particle) → gathered attribute_key (element_steps here n at copies particles) ≡ []
+no_attribute_steps : (here : Place) (n at copies : ℕ) (particles : List PlainParticle) → gathered attribute_key (element_steps here n at copies particles) ≡ []
 no_attribute_steps here n at copies [] = refl
 no_attribute_steps here n at copies (particle ∷ particles) =
-    gathered-append attribute_key (map (element_step here n at copies particle) particle.members.now) _
-    ∙ ap₂ (λ (x y : List ℕ). x ++ y) (no_attribute_members here n at copies particle particle.members.now)
+    gathered-append attribute_key (map (element_step here n at copies particle) particle.members) _
+    ∙ ap₂ (λ (x y : List ℕ). x ++ y) (no_attribute_members here n at copies particle particle.members)
     (gathered_if attribute_key (nat_lt copies particle.least) (element_steps here n (at + 1) 0 particles) ∙ if_none (nat_lt copies particle.least) _ (no_attribute_steps here n (at + 1) 0 particles))
 
-complex_attributes : (here : Place) (attributes : List AttributeOf) (particles : List Particle) → gathered attribute_key (complex_steps here attributes particles) ≡ names_through (through_required (drop here.attributes attributes))
+complex_attributes : (here : Place) (attributes : List AttributeOf) (particles : List PlainParticle) → gathered attribute_key (complex_steps here attributes particles) ≡ names_through (through_required (drop here.attributes attributes))
 complex_attributes here attributes particles =
     gathered-append attribute_key (attribute_steps here here.attributes (through_required (drop here.attributes attributes))) _
     ∙ ap₂ (λ (x y : List ℕ). x ++ y) (attribute_names_of here here.attributes (through_required (drop here.attributes attributes)))
@@ -223,7 +220,7 @@ no_end_attributes : (here : Place) (at : ℕ) (attributes : List AttributeOf) �
 no_end_attributes here at [] = refl
 no_end_attributes here at (attribute ∷ attributes) = no_end_attributes here (at + 1) attributes
 
-no_end_members : (here : Place) (n at copies : ℕ) (particle : Particle) (members : List Member) → gathered end_key (map (element_step here n at copies particle) members) ≡ []
+no_end_members : (here : Place) (n at copies : ℕ) (particle : PlainParticle) (members : List Member) → gathered end_key (map (element_step here n at copies particle) members) ≡ []
 no_end_members here n at copies particle [] = refl
 no_end_members here n at copies particle (member ∷ members) = no_end_members here n at copies particle members
 
@@ -234,15 +231,15 @@ distinct_if false keys h = h
 distinct_by : (keys same : List ℕ) → keys ≡ same → are_distinct same ≡ true → are_distinct keys ≡ true
 distinct_by keys same e h = ap (λ (l : List ℕ). are_distinct l) e ∙ h
 
-one_end : (here : Place) (n at copies : ℕ) (particles : List Particle) → are_distinct (gathered end_key (element_steps here n at copies particles)) ≡ true
+one_end : (here : Place) (n at copies : ℕ) (particles : List PlainParticle) → are_distinct (gathered end_key (element_steps here n at copies particles)) ≡ true
 one_end here n at copies [] = refl
 one_end here n at copies (particle ∷ particles) =
     distinct_by _ (if nat_lt copies particle.least then [] else gathered end_key (element_steps here n (at + 1) 0 particles))
-    (gathered-append end_key (map (element_step here n at copies particle) particle.members.now) _
-    ∙ ap₂ (λ (x y : List ℕ). x ++ y) (no_end_members here n at copies particle particle.members.now) (gathered_if end_key (nat_lt copies particle.least) (element_steps here n (at + 1) 0 particles)))
+    (gathered-append end_key (map (element_step here n at copies particle) particle.members) _
+    ∙ ap₂ (λ (x y : List ℕ). x ++ y) (no_end_members here n at copies particle particle.members) (gathered_if end_key (nat_lt copies particle.least) (element_steps here n (at + 1) 0 particles)))
     (distinct_if (nat_lt copies particle.least) _ (one_end here n (at + 1) 0 particles))
 
-complex_end : (here : Place) (attributes : List AttributeOf) (particles : List Particle) → are_distinct (gathered end_key (complex_steps here attributes particles)) ≡ true
+complex_end : (here : Place) (attributes : List AttributeOf) (particles : List PlainParticle) → are_distinct (gathered end_key (complex_steps here attributes particles)) ≡ true
 complex_end here attributes particles =
     distinct_by _ (if needs here attributes then [] else gathered end_key (element_steps here (length attributes) here.particle here.copies (drop here.particle particles)))
     (gathered-append end_key (attribute_steps here here.attributes (through_required (drop here.attributes attributes))) _
@@ -253,7 +250,7 @@ complex_end here attributes particles =
 -- ---- at any place of a schema
 
 -- each key stands once
-pub record HasOnes (kinds : List Declaration) (here : Place) : Type 0 where
+pub record HasOnes (kinds : List PlainKind) (here : Place) : Type 0 where
   pub elements : are_distinct (gathered element_key (offers kinds here)) ≡ true
   pub attributes : are_distinct (gathered attribute_key (offers kinds here)) ≡ true
   pub ends : are_distinct (gathered end_key (offers kinds here)) ≡ true
@@ -262,43 +259,43 @@ one_of_one : (o : Option ℕ) → are_distinct (add o []) ≡ true
 one_of_one None = refl
 one_of_one (Some n) = refl
 
-offers_fit : (s : Schema) (k : ℕ) (attributes : _) (particles : _) (a p : ℕ) → slice_get s.kinds.now k ≡ Some (Complex attributes particles) → a ≤ length attributes.now → p ≤ length particles.now →
-    are_offers (complex_steps (record { kind = 0; particle = p; copies = widest (drop p particles.now); attributes = a }) attributes.now particles.now) ≡ true
+offers_fit : (s : PlainSchema) (k : ℕ) (attributes : _) (particles : _) (a p : ℕ) → slice_get s.kinds k ≡ Some (containing attributes particles) → a ≤ length attributes → p ≤ length particles →
+    are_offers (complex_steps (record { kind = 0; particle = p; copies = widest (drop p particles); attributes = a }) attributes particles) ≡ true
 offers_fit s k attributes particles a p at within inside =
-    let n = length (map (λ t. t.now) s.names.now) in
-    let is = declared n s.kinds.now k (Complex attributes particles) (kinds_of s.kinds.now (map (λ t. t.now) s.names.now) (map (λ l. map (λ t. t.now) l.now) s.values.now) s.root_bits s.roots.now s.fits) at in
-    let whole = and-r (nat_le (length attributes.now) 65535 && nat_le (length particles.now) 65535 && list_all (is_attribute n s.kinds.now) attributes.now && list_all (is_particle n (length s.kinds.now)) particles.now) _ is in
-    each_at (length particles.now) _ p (each_at (length attributes.now) _ a whole within) inside
+    let n = length s.names in
+    let is = declared n s.kinds k (containing attributes particles) (kinds_of s.kinds s.names s.values s.root_bits s.roots s.fits) at in
+    let whole = and-r (nat_le (length attributes) 65535 && nat_le (length particles) 65535 && list_all (is_attribute n s.kinds) attributes && list_all (is_particle n (length s.kinds)) particles) _ is in
+    each_at (length particles) _ p (each_at (length attributes) _ a whole within) inside
 
-ones_by : (o : Option Declaration) (s : Schema) (here : Place) → slice_get s.kinds.now here.kind ≡ o → IsPlaceOf here o →
+ones_by : (o : Option PlainKind) (s : PlainSchema) (here : Place) → slice_get s.kinds here.kind ≡ o → IsPlaceOf here o →
     (are_distinct (gathered element_key (offers_of here o)) ≡ true) × (are_distinct (gathered attribute_key (offers_of here o)) ≡ true) × (are_distinct (gathered end_key (offers_of here o)) ≡ true)
 ones_by None s here is at = absurd at
-ones_by (Some (Simple d)) s here is at =
+ones_by (Some (valued d)) s here is at =
     (one_of_one (element_key (simple_step here)), one_of_one (attribute_key (simple_step here)), one_of_one (end_key (simple_step here)))
-ones_by (Some (Complex attributes particles)) s here is at =
-    let wide : Place = record { kind = 0; particle = here.particle; copies = widest (drop here.particle particles.now); attributes = here.attributes } in
-    let steps = complex_steps wide attributes.now particles.now in
+ones_by (Some (containing attributes particles)) s here is at =
+    let wide : Place = record { kind = 0; particle = here.particle; copies = widest (drop here.particle particles); attributes = here.attributes } in
+    let steps = complex_steps wide attributes particles in
     let fit = offers_fit s here.kind attributes particles here.attributes here.particle is at.0 at.1 in
     let elements : are_distinct (element_names steps) ≡ true = and-r (nat_le (length steps) 65535 && are_distinct (attribute_names steps)) (are_distinct (element_names steps)) fit in
     let named : are_distinct (attribute_names steps) ≡ true = and-r (nat_le (length steps) 65535) (are_distinct (attribute_names steps)) (and-l _ (are_distinct (element_names steps)) fit) in
-    let among : are_distinct (if needs here attributes.now then [] else names_at (widest (drop here.particle particles.now)) (drop here.particle particles.now)) ≡ true =
-    distinct_by _ _ (sym (elements_gathered steps ∙ complex_names wide attributes.now particles.now)) elements in (
-      distinct_by _ _ (complex_names here attributes.now particles.now) (by_test (needs here attributes.now) among),
-      distinct_by _ _ (complex_attributes here attributes.now particles.now ∙ sym (complex_attributes wide attributes.now particles.now) ∙ sym (attributes_gathered steps)) named,
-      complex_end here attributes.now particles.now,
+    let among : are_distinct (if needs here attributes then [] else names_at (widest (drop here.particle particles)) (drop here.particle particles)) ≡ true =
+    distinct_by _ _ (sym (elements_gathered steps ∙ complex_names wide attributes particles)) elements in (
+      distinct_by _ _ (complex_names here attributes particles) (by_test (needs here attributes) among),
+      distinct_by _ _ (complex_attributes here attributes particles ∙ sym (complex_attributes wide attributes particles) ∙ sym (attributes_gathered steps)) named,
+      complex_end here attributes particles,
     )
   where
-    by_test : (b : Bool) → are_distinct (if b then [] else names_at (widest (drop here.particle particles.now)) (drop here.particle particles.now)) ≡ true → are_distinct (if b then [] else names_at here.copies (drop here.particle particles.now)) ≡ true
+    by_test : (b : Bool) → are_distinct (if b then [] else names_at (widest (drop here.particle particles)) (drop here.particle particles)) ≡ true → are_distinct (if b then [] else names_at here.copies (drop here.particle particles)) ≡ true
     by_test true h = refl
-    by_test false h = names_distinct here.copies (drop here.particle particles.now) at.2 h
+    by_test false h = names_distinct here.copies (drop here.particle particles) at.2 h
 
-pub ones_at : (s : Schema) (here : Place) → IsPlace s.kinds.now here → HasOnes s.kinds.now here
-ones_at s here at = let all = ones_by (slice_get s.kinds.now here.kind) s here refl at in record { elements = all.0; attributes = all.1; ends = all.2 }
+pub ones_at : (s : PlainSchema) (here : Place) → IsPlace s.kinds here → HasOnes s.kinds here
+ones_at s here at = let all = ones_by (slice_get s.kinds here.kind) s here refl at in record { elements = all.0; attributes = all.1; ends = all.2 }
 
-pub offers_once : (s : Schema) (here : Place) → IsPlace s.kinds.now here → OffersOnce s.kinds.now here
+pub offers_once : (s : PlainSchema) (here : Place) → IsPlace s.kinds here → OffersOnce s.kinds here
 offers_once s here at =
     let ones = ones_at s here at in
     record {
-      elements = distinct_by _ _ (elements_gathered (offers s.kinds.now here)) ones.elements;
-      attributes = distinct_by _ _ (attributes_gathered (offers s.kinds.now here)) ones.attributes;
+      elements = distinct_by _ _ (elements_gathered (offers s.kinds here)) ones.elements;
+      attributes = distinct_by _ _ (attributes_gathered (offers s.kinds here)) ones.attributes;
     }

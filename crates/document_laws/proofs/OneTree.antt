@@ -1,7 +1,7 @@
 -- Two runs along the same bits go the same way.
 use Rattle.std.proofs.Common.{◌≡◌, ◌≤◌, ◌⊎◌, Bool, List, [], ◌∷◌, ◌++◌, refl, sym, ap, subst, ◌∙◌, append_assoc, append-nil, arith, inl, inr}
 use Rattle.std.proofs.lemmas.List.{append_cancel_left, append_cancel_right}
-use Rattle.exi_schema.specs.declared.schema.Schema.{Schema}
+use Rattle.exi_schema.specs.Schemas.{PlainSchema}
 use Rattle.exi_documents.specs.Trees.{Event, document_events}
 use Rattle.exi_documents.specs.Values.{Entries, SpellsValue}
 use Rattle.exi_documents.specs.Grammar.{Standing, Before, AtRoot, Inside, Behind, State, start, stands, Moves}
@@ -12,17 +12,17 @@ use Rattle.document_laws.proofs.Kept.{event_kept}
 use Rattle.document_laws.proofs.Runs.{Runs, document_runs}
 use Rattle.document_laws.proofs.Told.{none_behind, behind_ends}
 
-goes_at : (s : Schema) (standing : Standing) (entries : Entries) (event : Event) (bits : List Bool) (new : State) → Moves SpellsValue s (stands standing entries) event bits new → GoesOn standing
+goes_at : (s : PlainSchema) (standing : Standing) (entries : Entries) (event : Event) (bits : List Bool) (new : State) → Moves SpellsValue s (stands standing entries) event bits new → GoesOn standing
 goes_at s Before entries event bits new m = tt
 goes_at s (AtRoot name kind) entries event bits new m = tt
 goes_at s (Inside top above) entries event bits new m = tt
 goes_at s Behind entries event bits new m = none_behind SpellsValue s entries event bits new m
 
 -- an event comes only before the end of the root
-pub goes_on : (s : Schema) (old new : State) (event : Event) (bits : List Bool) → Moves SpellsValue s old event bits new → GoesOn old.standing
+pub goes_on : (s : PlainSchema) (old new : State) (event : Event) (bits : List Bool) → Moves SpellsValue s old event bits new → GoesOn old.standing
 goes_on s old new event bits m = goes_at s old.standing old.entries event bits new m
 
-module _ (s : Schema) where
+module _ (s : PlainSchema) where
   pub start_is : IsState s start
   start_is = (tt, arith_low)
     where

@@ -4,8 +4,8 @@ use Rattle.std.proofs.lemmas.Bool.{cases_lt}
 use Rattle.std.proofs.lemmas.List.{append_cancel_right}
 use Rattle.exi_spec.specs.Bits.{bits_of}
 use Rattle.exi_spec.proofs.BitLaws.{length-number_bits}
-use Rattle.exi_schema.specs.declared.schema.Schema.{Schema}
-use Rattle.exi_schema.specs.declared.tables.Declaration.{Declaration}
+use Rattle.exi_schema.specs.Schemas.{PlainSchema}
+use Rattle.exi_schema.specs.Plain.{PlainKind}
 use Rattle.exi_schema.specs.declared.places.Place.{Place}
 use Rattle.exi_schema.specs.declared.places.Step.{Step}
 use Rattle.exi_schema.specs.Offers.{offers, IsWidth}
@@ -16,7 +16,7 @@ use Rattle.exi_documents.specs.Values.{Entries, SpellsValue}
 use Rattle.exi_documents.specs.Documents.{SpellsStep, IsDocument}
 use Rattle.exi_documents.specs.Grammar.{Opened, Standing, Before, AtRoot, Inside, Behind, State, start, around, stands, Moves}
 use Rattle.exi_documents.specs.Refusals.{RefusesNext, IsRefused}
-use Rattle.document_laws.specs.Laws.{Fault, IsState, GoesOn, IsDecided}
+use Rattle.document_laws.specs.Laws.{Fault, IsState, GoesOn, IsDecided, weight}
 use Rattle.document_laws.proofs.Events.{event_exact}
 use Rattle.document_laws.proofs.Kept.{event_kept}
 use Rattle.document_laws.proofs.OneTree.{start_is, run_kept, goes_on, GoesFurther, runs_compared, ends_there, prefix_free}
@@ -24,12 +24,6 @@ use Rattle.document_laws.proofs.Runs.{Runs, from_start, to_start, document_runs}
 use Rattle.document_laws.proofs.Told.{none_behind, events_told}
 
 -- ---- each event takes bits, but the root's start
-
-abbrev pub weight : Standing → ℕ
-weight Before = 2
-weight (AtRoot name kind) = 1
-weight (Inside top above) = 0
-weight Behind = 0
 
 weight_around : (above : List Opened) → weight (around above) ≡ 0
 weight_around [] = refl
@@ -43,7 +37,7 @@ some_there : (steps : List Step) (code : ℕ) (step : Step) → slice_get steps 
 some_there [] code step h = let wrong : None ≡ Some step = h in absurd cc
 some_there (x ∷ steps) code step h = omega arith
 
-step_takes : (kinds : List Declaration) (here : Place) (step : Step) (bits : List Bool) → SpellsStep kinds here step bits → 0 < length bits
+step_takes : (kinds : List PlainKind) (here : Place) (step : Step) (bits : List Bool) → SpellsStep kinds here step bits → 0 < length bits
 step_takes kinds here step bits h =
     let wide = some_wide (length (offers kinds here)) h.width (some_there (offers kinds here) h.code step h.offered) h.is_width in
     omega (arith, wide, ap length h.spelled.spelled, length-number_bits h.width h.code)
@@ -51,7 +45,7 @@ step_takes kinds here step bits h =
 new_weight : (new state : State) → new ≡ state → weight new.standing ≡ weight state.standing
 new_weight new state e = ap (λ (x : State). weight x.standing) e
 
-module _ (s : Schema) where
+module _ (s : PlainSchema) where
   pub shrinks_at : (standing : Standing) (entries : Entries) (new : State) (event : Event) (bits : List Bool) → Moves SpellsValue s (stands standing entries) event bits new → weight new.standing < weight standing + length bits
   shrinks_at Before entries new (Document number) bits m =
       let w : weight new.standing ≡ 1 = new_weight new (stands (AtRoot m.0 m.1) entries) m.6 in
@@ -61,19 +55,19 @@ module _ (s : Schema) where
       omega (arith, w)
   shrinks_at (Inside top above) entries new (Start name) bits m =
       let w : weight new.standing ≡ 0 = ap (λ (x : State). weight x.standing) m.3 in
-      let takes = step_takes s.kinds.now top.place _ bits m.2 in
+      let takes = step_takes s.kinds top.place _ bits m.2 in
       omega (arith, w, takes)
   shrinks_at (Inside top above) entries new (Attribute name value) bits m =
       let w : weight new.standing ≡ 0 = ap (λ (x : State). weight x.standing) m.10 in
-      let takes = step_takes s.kinds.now top.place _ m.4 m.6 in
+      let takes = step_takes s.kinds top.place _ m.4 m.6 in
       omega (arith, w, takes, ap length m.9, length-append m.4 m.5)
   shrinks_at (Inside top above) entries new (Content value) bits m =
       let w : weight new.standing ≡ 0 = ap (λ (x : State). weight x.standing) m.9 in
-      let takes = step_takes s.kinds.now top.place _ m.3 m.5 in
+      let takes = step_takes s.kinds top.place _ m.3 m.5 in
       omega (arith, w, takes, ap length m.8, length-append m.3 m.4)
   shrinks_at (Inside top above) entries new EndElement bits m =
       let w : weight new.standing ≡ 0 = ap (λ (x : State). weight x.standing) m.1 ∙ weight_around above in
-      let takes = step_takes s.kinds.now top.place _ bits m.0 in
+      let takes = step_takes s.kinds top.place _ bits m.0 in
       omega (arith, w, takes)
   shrinks_at standing entries new event bits m = absurd m
 

@@ -4,7 +4,7 @@ use Rattle.std.proofs.lemmas.List.{reverse-append}
 use Rattle.exi_spec.specs.Bits.{number_bits}
 use Rattle.exi_schema.specs.declared.places.Place.{Place}
 use Rattle.exi_schema.specs.declared.places.Step.TheVariants.{End, Characters}
-use Rattle.exi_schema.specs.declared.schema.Schema.{Schema}
+use Rattle.exi_schema.specs.Schemas.{PlainSchema}
 use Rattle.exi_documents.specs.Trees.{Value, Trees, none, simple, complex, Tree, Simple, Complex, Event, Document, Start, Content, EndElement, attribute_events, events_of, document_events}
 use Rattle.exi_documents.specs.Values.{Entries}
 use Rattle.exi_documents.specs.Documents.{Speller, SpellsSimple, SpellsAttributes, SpellsTrees, SpellsDocument, first, header}
@@ -12,7 +12,7 @@ use Rattle.exi_documents.specs.Grammar.{Opened, AtRoot, Inside, Behind, State, s
 use Rattle.document_laws.specs.Laws.{IsToldBy}
 use Rattle.document_laws.proofs.Offered.{offers_simple, one_offered}
 
-abbrev pub Runs : Speller → Schema → State → List Event → List Bool → State → Type 0
+abbrev pub Runs : Speller → PlainSchema → State → List Event → List Bool → State → Type 0
 Runs V s old [] bits new = (bits ≡ []) × (new ≡ old)
 Runs V s old (event ∷ events) bits new =
     (middle : State) × (front : List Bool) × (rest : List Bool)
@@ -28,7 +28,7 @@ regroup {X} a c m f e =
 pub reverse_with : {X : Type 0} (x : X) (xs ys : List X) → reverse (x ∷ xs) ++ ys ≡ reverse xs ++ (x ∷ ys)
 reverse_with {X} x xs ys = ap (λ (l : List X). l ++ ys) (reverse-append (x ∷ []) xs) ∙ append_assoc (reverse xs) (x ∷ []) ys
 
-module _ (V : Speller) (s : Schema) where
+module _ (V : Speller) (s : PlainSchema) where
   pub runs_both : (old middle new : State) (xs ys : List Event) (a b : List Bool) → Runs V s old xs a middle → Runs V s middle ys b new → Runs V s old (xs ++ ys) (a ++ b) new
   runs_both old middle new [] ys a b r q =
       subst (λ (l : List Bool). Runs V s old ys (l ++ b) new) (sym r.0) (subst (λ (state : State). Runs V s state ys b new) r.1 q)
@@ -65,7 +65,7 @@ module _ (V : Speller) (s : Schema) where
 
   -- ---- the events of a tree
 
-  simple_runs : (name kind : ℕ) (above : List Opened) (entries after : Entries) (value : Value) (bits : List Bool) → SpellsSimple V s.kinds.now kind entries name value bits after →
+  simple_runs : (name kind : ℕ) (above : List Opened) (entries after : Entries) (value : Value) (bits : List Bool) → SpellsSimple V s.kinds kind entries name value bits after →
       Runs V s (stands (Inside (opened name (first kind)) above) entries) (Content value ∷ EndElement ∷ []) bits (stands (around above) after)
   simple_runs name kind above entries after value bits h =
       let one = number_bits 1 0 in
@@ -73,12 +73,12 @@ module _ (V : Speller) (s : Schema) where
         stands (Inside (opened name there) above) after,
         one ++ h.inside,
         one,
-        (there, h.datatype, after, one, h.inside, one_offered s.kinds.now (first kind) (Characters there) (offers_simple s.kinds.now (first kind) h.datatype h.is_simple), h.is_simple, h.spelled, refl, refl),
-        (stands (around above) after, one, [], (one_offered s.kinds.now there End (offers_simple s.kinds.now there h.datatype h.is_simple), refl), (refl, refl), sym (append-nil one)),
+        (there, h.datatype, after, one, h.inside, one_offered s.kinds (first kind) (Characters there) (offers_simple s.kinds (first kind) h.datatype h.is_simple), h.is_simple, h.spelled, refl, refl),
+        (stands (around above) after, one, [], (one_offered s.kinds there End (offers_simple s.kinds there h.datatype h.is_simple), refl), (refl, refl), sym (append-nil one)),
         h.bits_are ∙ sym (append_assoc one h.inside one),
       )
 
-  attributes_run : (name : ℕ) (above : List Opened) (here there : Place) (entries after : Entries) (attributes : List (ℕ × Value)) (bits : List Bool) → SpellsAttributes V s.kinds.now here entries attributes bits there after →
+  attributes_run : (name : ℕ) (above : List Opened) (here there : Place) (entries after : Entries) (attributes : List (ℕ × Value)) (bits : List Bool) → SpellsAttributes V s.kinds here entries attributes bits there after →
       Runs V s (stands (Inside (opened name here) above) entries) (attribute_events attributes) bits (stands (Inside (opened name there) above) after)
   attributes_run name above here there entries after [] bits h =
       (h.0, ap (λ (p : Place). stands (Inside (opened name p) above) after) h.1 ∙ ap (λ (e : Entries). stands (Inside (opened name here) above) e) h.2)
@@ -91,7 +91,7 @@ module _ (V : Speller) (s : Schema) where
     h.11 ∙ sym (append_assoc h.4 h.5 h.6),
   )
 
-  trees_run : (name : ℕ) (above : List Opened) (here : Place) (entries after : Entries) (trees : Trees) (bits : List Bool) → SpellsTrees V s.kinds.now here entries trees bits after →
+  trees_run : (name : ℕ) (above : List Opened) (here : Place) (entries after : Entries) (trees : Trees) (bits : List Bool) → SpellsTrees V s.kinds here entries trees bits after →
       Runs V s (stands (Inside (opened name here) above) entries) (events_of trees ++ (EndElement ∷ [])) bits (stands (around above) after)
   trees_run name above here entries after none bits h =
       (stands (around above) after, bits, [], (h.0, ap (λ (e : Entries). stands (around above) e) h.1), (refl, refl), sym (append-nil bits))

@@ -7,7 +7,7 @@ use Rattle.exi_schema.specs.declared.places.Place.{Place}
 use Rattle.exi_schema.specs.declared.places.Root.TheVariants.{Kind}
 use Rattle.exi_schema.specs.declared.places.Step.{Step}
 use Rattle.exi_schema.specs.declared.places.Step.TheVariants as step
-use Rattle.exi_schema.specs.declared.schema.Schema.{Schema}
+use Rattle.exi_schema.specs.Schemas.{PlainSchema}
 use Rattle.exi_schema.specs.declared.tables.Datatype.{Datatype}
 use Rattle.exi_schema.specs.Offers.{offers}
 use Rattle.exi_schema.specs.Steps.{IsRoot, simple_at}
@@ -42,7 +42,7 @@ regroup : {X : Type 0} (a c m : List X) (e : X) → (a ++ (c ++ (e ∷ []))) ++ 
 regroup {X} a c m e =
     append_assoc a (c ++ (e ∷ [])) m ∙ ap (λ (l : List X). a ++ l) (append_assoc c (e ∷ []) m) ∙ sym (append_assoc a c (e ∷ m))
 
-module _ (V : Speller) (s : Schema) where
+module _ (V : Speller) (s : PlainSchema) where
   -- from a place on: attributes, elements and the end
   record Complexly (here : Place) (entries : Entries) (events : List Event) (bits : List Bool) (after : Entries) : Type 0 where
     pub attributes : List (ℕ × Value)
@@ -51,8 +51,8 @@ module _ (V : Speller) (s : Schema) where
     pub within : Entries
     pub front : List Bool
     pub inside : List Bool
-    pub begun : SpellsAttributes V s.kinds.now here entries attributes front there within
-    pub ended : SpellsTrees V s.kinds.now there within children inside after
+    pub begun : SpellsAttributes V s.kinds here entries attributes front there within
+    pub ended : SpellsTrees V s.kinds there within children inside after
     pub bits_are : bits ≡ front ++ inside
     pub events_are : events ≡ attribute_events attributes ++ (events_of children ++ (EndElement ∷ []))
 
@@ -62,8 +62,8 @@ module _ (V : Speller) (s : Schema) where
     pub datatype : Datatype
     pub inside : List Bool
     pub next : Place
-    pub offered : offers s.kinds.now here ≡ step.Characters next ∷ []
-    pub is_simple : simple_at s.kinds.now here.kind ≡ Some datatype
+    pub offered : offers s.kinds here ≡ step.Characters next ∷ []
+    pub is_simple : simple_at s.kinds here.kind ≡ Some datatype
     pub spelled : V datatype entries name value inside after
     pub bits_are : bits ≡ number_bits 1 0 ++ (inside ++ number_bits 1 0)
     pub events_are : events ≡ Content value ∷ EndElement ∷ []
@@ -83,28 +83,28 @@ module _ (V : Speller) (s : Schema) where
   -- elements and the end alone
   record Elements (here : Place) (entries : Entries) (events : List Event) (bits : List Bool) (after : Entries) : Type 0 where
     pub children : Trees
-    pub ended : SpellsTrees V s.kinds.now here entries children bits after
+    pub ended : SpellsTrees V s.kinds here entries children bits after
     pub events_are : events ≡ events_of children ++ (EndElement ∷ [])
 
-  no_attributes : (here there : Place) (entries within : Entries) (attributes : List (ℕ × Value)) (front : List Bool) → HasNoAttribute s.kinds.now here → SpellsAttributes V s.kinds.now here entries attributes front there within →
+  no_attributes : (here there : Place) (entries within : Entries) (attributes : List (ℕ × Value)) (front : List Bool) → HasNoAttribute s.kinds here → SpellsAttributes V s.kinds here entries attributes front there within →
       (attributes ≡ []) × (front ≡ []) × (there ≡ here) × (within ≡ entries)
   no_attributes here there entries within [] front lacks h = (refl, h.0, h.1, h.2)
   no_attributes here there entries within (attribute ∷ attributes) front lacks h = absurd (lacks h.7.code attribute.0 h.0 h.1 h.7.offered)
 
-  elements_from : (here : Place) (entries after : Entries) (events : List Event) (bits : List Bool) → HasNoAttribute s.kinds.now here → Complexly here entries events bits after → Elements here entries events bits after
+  elements_from : (here : Place) (entries after : Entries) (events : List Event) (bits : List Bool) → HasNoAttribute s.kinds here → Complexly here entries events bits after → Elements here entries events bits after
   elements_from here entries after events bits lacks h =
       let nil = no_attributes here h.there entries h.within h.attributes h.front lacks h.begun in
       let e : bits ≡ h.inside = h.bits_are ∙ ap (λ (l : List Bool). l ++ h.inside) nil.1 in
-      let at_here : SpellsTrees V s.kinds.now here entries h.children h.inside after =
-      subst (λ (p : Place). SpellsTrees V s.kinds.now p entries h.children h.inside after) nil.2
-      (subst (λ (es : Entries). SpellsTrees V s.kinds.now h.there es h.children h.inside after) nil.3 h.ended) in
+      let at_here : SpellsTrees V s.kinds here entries h.children h.inside after =
+      subst (λ (p : Place). SpellsTrees V s.kinds p entries h.children h.inside after) nil.2
+      (subst (λ (es : Entries). SpellsTrees V s.kinds h.there es h.children h.inside after) nil.3 h.ended) in
       record {
         children = h.children;
-        ended = subst (λ (l : List Bool). SpellsTrees V s.kinds.now here entries h.children l after) (sym e) at_here;
+        ended = subst (λ (l : List Bool). SpellsTrees V s.kinds here entries h.children l after) (sym e) at_here;
         events_are = h.events_are ∙ ap (λ (l : List (ℕ × Value)). attribute_events l ++ (events_of h.children ++ (EndElement ∷ []))) nil.0;
       }
 
-  complexly_only : (name : ℕ) (here : Place) (entries after : Entries) (events : List Event) (bits : List Bool) → HasNoValue s.kinds.now here →
+  complexly_only : (name : ℕ) (here : Place) (entries after : Entries) (events : List Event) (bits : List Bool) → HasNoValue s.kinds here →
       Simply name here entries events bits after ⊎ Complexly here entries events bits after → Complexly here entries events bits after
   complexly_only name here entries after events bits lacks (inl h) = absurd (lacks h.datatype h.is_simple)
   complexly_only name here entries after events bits lacks (inr h) = h
@@ -126,7 +126,7 @@ module _ (V : Speller) (s : Schema) where
 
   -- an element before others
   with_child : (here next : Place) (name kind : ℕ) (entries middle after : Entries) (code mine others : List Bool) (own later : List Event) →
-      SpellsStep s.kinds.now here (element name kind next) code →
+      SpellsStep s.kinds here (element name kind next) code →
       Simply name (first kind) entries own mine middle ⊎ Complexly (first kind) entries own mine middle →
       Elements next middle later others after →
       Elements here entries (Start name ∷ (own ++ later)) (code ++ (mine ++ others)) after
@@ -167,8 +167,8 @@ module _ (V : Speller) (s : Schema) where
 
   -- an attribute before others
   with_attribute : (here next : Place) (name kind : ℕ) (value : Value) (datatype : Datatype) (entries middle after : Entries) (code word bits : List Bool) (events : List Event) →
-      SpellsStep s.kinds.now here (step.Attribute name kind next) code →
-      simple_at s.kinds.now kind ≡ Some datatype →
+      SpellsStep s.kinds here (step.Attribute name kind next) code →
+      simple_at s.kinds kind ≡ Some datatype →
       V datatype entries name value word middle →
       Complexly next middle events bits after →
       Complexly here entries (Attribute name value ∷ events) ((code ++ word) ++ bits) after
@@ -189,23 +189,23 @@ module _ (V : Speller) (s : Schema) where
       }
 
   -- behind the characters stands the end
-  end_only : (here : Place) (entries after : Entries) (events : List Event) (bits : List Bool) → offers s.kinds.now here ≡ step.End ∷ [] → Elements here entries events bits after →
+  end_only : (here : Place) (entries after : Entries) (events : List Event) (bits : List Bool) → offers s.kinds here ≡ step.End ∷ [] → Elements here entries events bits after →
       (events ≡ EndElement ∷ []) × (bits ≡ number_bits 1 0) × (after ≡ entries)
   end_only here entries after events bits only h = go h.children h.ended h.events_are
     where
-      other : (x : Step) (code : List Bool) → (x ≡ step.End → ⊥) → SpellsStep s.kinds.now here x code → ⊥
-      other x code differs h = differs (one_taken s.kinds.now here step.End x code only h).0
+      other : (x : Step) (code : List Bool) → (x ≡ step.End → ⊥) → SpellsStep s.kinds here x code → ⊥
+      other x code differs h = differs (one_taken s.kinds here step.End x code only h).0
 
-      go : (trees : Trees) → SpellsTrees V s.kinds.now here entries trees bits after → events ≡ events_of trees ++ (EndElement ∷ []) → (events ≡ EndElement ∷ []) × (bits ≡ number_bits 1 0) × (after ≡ entries)
-      go none t e = (e, (one_taken s.kinds.now here step.End step.End bits only t.0).1, t.1)
+      go : (trees : Trees) → SpellsTrees V s.kinds here entries trees bits after → events ≡ events_of trees ++ (EndElement ∷ []) → (events ≡ EndElement ∷ []) × (bits ≡ number_bits 1 0) × (after ≡ entries)
+      go none t e = (e, (one_taken s.kinds here step.End step.End bits only t.0).1, t.1)
       go (simple name value more) t e = absurd (other (element name t.0 t.1) t.3 (λ wrong. cc) t.6)
       go (complex name attributes children more) t e = absurd (other (element name t.0 t.1) t.5 (λ wrong. cc) t.9)
 
-  no_end_attribute : (here : Place) → offers s.kinds.now here ≡ step.End ∷ [] → HasNoAttribute s.kinds.now here
+  no_end_attribute : (here : Place) → offers s.kinds here ≡ step.End ∷ [] → HasNoAttribute s.kinds here
   no_end_attribute here only code name kind next h =
       let same = (only_code step.End (step.Attribute name kind next) code (sym (ap (λ (l : List Step). slice_get l code) only) ∙ h)).0 in cc
 
-  end_only_of : (name : ℕ) (here : Place) (entries after : Entries) (events : List Event) (bits : List Bool) → offers s.kinds.now here ≡ step.End ∷ [] →
+  end_only_of : (name : ℕ) (here : Place) (entries after : Entries) (events : List Event) (bits : List Bool) → offers s.kinds here ≡ step.End ∷ [] →
       Simply name here entries events bits after ⊎ Complexly here entries events bits after → (events ≡ EndElement ∷ []) × (bits ≡ number_bits 1 0) × (after ≡ entries)
   end_only_of name here entries after events bits only (inl h) =
       let wrong : step.Characters h.next ∷ [] ≡ step.End ∷ [] = sym h.offered ∙ only in absurd cc
@@ -223,7 +223,7 @@ module _ (V : Speller) (s : Schema) where
       let inner = closes n child (first m.0) (opened name next ∷ above) entries events r.2 new (omega (arith, few)) behind (subst (λ (state : State). Runs V s state events r.2 new) m.3 r.4) in
       let less : length inner.later ≤ n = omega (arith, few, ap length inner.events_are, length-append inner.own inner.later) in
       let outer = closes n name next above inner.after inner.later inner.others new less behind inner.going in
-      let lacks = behind_element s.kinds.now here next child m.0 r.1 m.2 in
+      let lacks = behind_element s.kinds here next child m.0 r.1 m.2 in
       let more = elements_from next inner.after outer.after outer.own outer.mine lacks.0 (complexly_only name next inner.after outer.after outer.own outer.mine lacks.1 outer.rest) in
       record {
         own = Start child ∷ (inner.own ++ outer.own);
@@ -242,7 +242,7 @@ module _ (V : Speller) (s : Schema) where
       let m = r.3 in
       let next = m.1 in
       let outer = closes n name next above m.3 events r.2 new (omega (arith, few)) behind (subst (λ (state : State). Runs V s state events r.2 new) m.10 r.4) in
-      let more = complexly_only name next m.3 outer.after outer.own outer.mine (behind_attribute s.kinds.now here next child m.0 m.4 m.6) outer.rest in
+      let more = complexly_only name next m.3 outer.after outer.own outer.mine (behind_attribute s.kinds here next child m.0 m.4 m.6) outer.rest in
       record {
         own = Attribute child value ∷ outer.own;
         later = outer.later;
@@ -259,9 +259,9 @@ module _ (V : Speller) (s : Schema) where
       let m = r.3 in
       let next = m.0 in
       let outer = closes n name next above m.2 events r.2 new (omega (arith, few)) behind (subst (λ (state : State). Runs V s state events r.2 new) m.9 r.4) in
-      let only = behind_characters s.kinds.now here next m.1 m.3 m.6 m.5 in
+      let only = behind_characters s.kinds here next m.1 m.3 m.6 m.5 in
       let ended = end_only_of name next m.2 outer.after outer.own outer.mine only.1 outer.rest in
-      let one : m.3 ≡ number_bits 1 0 = (one_taken s.kinds.now here (step.Characters next) (step.Characters next) m.3 only.0 m.5).1 in
+      let one : m.3 ≡ number_bits 1 0 = (one_taken s.kinds here (step.Characters next) (step.Characters next) m.3 only.0 m.5).1 in
       record {
         own = Content value ∷ outer.own;
         later = outer.later;
@@ -317,7 +317,7 @@ module _ (V : Speller) (s : Schema) where
   behind_ends entries (event ∷ events) bits new r = absurd (none_behind entries event r.1 r.0 r.3)
 
   root_tree : (number name kind : ℕ) (after : Entries) (events : List Event) (front inside bits : List Bool) →
-      IsRoot s.roots.now s.root_bits number (Kind name kind) → SpellsNumber s.root_bits number front →
+      IsRoot s.roots s.root_bits number (Kind name kind) → SpellsNumber s.root_bits number front →
       Simply name (first kind) [] events inside after ⊎ Complexly (first kind) [] events inside after → bits ≡ header ++ (front ++ inside) →
       Told (Document number ∷ Start name ∷ events) bits
   root_tree number name kind after events front inside bits named numbered (inl h) are = (
@@ -352,7 +352,7 @@ module _ (V : Speller) (s : Schema) where
   )
 
   at_root : (number name kind : ℕ) (entries : Entries) (events : List Event) (front rest bits : List Bool) →
-      IsRoot s.roots.now s.root_bits number (Kind name kind) → SpellsNumber s.root_bits number front →
+      IsRoot s.roots s.root_bits number (Kind name kind) → SpellsNumber s.root_bits number front →
       Runs V s (stands (AtRoot name kind) []) events rest (stands Behind entries) → bits ≡ header ++ (front ++ rest) →
       Told (Document number ∷ events) bits
   at_root number name kind entries [] front rest bits named numbered r are = absurd (subst (λ (state : State). IsBehind state.standing) r.1 tt)
@@ -367,7 +367,7 @@ module _ (V : Speller) (s : Schema) where
       let all_events : events ≡ c.own = c.events_are ∙ ap (λ (l : List Event). c.own ++ l) nil.0 ∙ append-nil c.own in
       let all_bits : rest ≡ c.mine = r.5 ∙ ap (λ (l : List Bool). l ++ r.2) m.1 ∙ c.bits_are ∙ ap (λ (l : List Bool). c.mine ++ l) nil.1 ∙ append-nil c.mine in
       subst (λ (l : List Event). Told (Document number ∷ Start child ∷ l) bits) (sym all_events)
-      (root_tree number child kind c.after c.own front c.mine bits (subst (λ (n : ℕ). IsRoot s.roots.now s.root_bits number (Kind n kind)) (sym m.0) named) numbered c.rest
+      (root_tree number child kind c.after c.own front c.mine bits (subst (λ (n : ℕ). IsRoot s.roots s.root_bits number (Kind n kind)) (sym m.0) named) numbered c.rest
       (are ∙ ap (λ (l : List Bool). header ++ (front ++ l)) all_bits))
 
   run_told : (entries : Entries) (events : List Event) (bits : List Bool) → Runs V s start events bits (stands Behind entries) → Told events bits

@@ -1,15 +1,19 @@
 -- What is written of a value spells it, and is written in one way.
-use Rattle.std.proofs.Common.{◌≡◌, ℕ, zero, suc, ◌+◌, ◌^◌, ◌<◌, ◌≤◌, ℤ, pos, negsuc, ◌+ℤ◌, neg_ℤ, ◌≤ℤ◌, Bool, leb→le, FitsSigned, w64, List, [], ◌∷◌, ◌++◌, length, Some, None, slice_get, refl, sym, ap, ap₂, subst, ◌∙◌, arith, inl, inr, lt_of_lt_of_le}
+use Rattle.std.proofs.Common.{◌≡◌, ℕ, zero, suc, ◌+◌, ◌^◌, ◌<◌, ◌≤◌, ℤ, pos, negsuc, ◌+ℤ◌, neg_ℤ, ◌≤ℤ◌, Bool, true, ◌&&◌, leb→le, FitsSigned, w64, List, [], ◌∷◌, ◌++◌, length, Some, None, slice_get, refl, sym, ap, ap₂, subst, ◌∙◌, arith, inl, inr, lt_of_lt_of_le}
 use Rattle.std.specs.List.{AllByRecursion}
 use Rattle.std.specs.Char.{IsScalar}
 use lib.Utf8.{scalar_fits}
 use Rattle.std.proofs.Math.IntN.{+ℤ_assoc, +ℤ_invl, +ℤ_idl}
-use Rattle.std.proofs.lemmas.Bool.{cases_lt}
+use Rattle.std.proofs.lemmas.Bool.{cases_lt, ltb-true}
+use Rattle.std.specs.Int.Signed.{le_z}
 use Rattle.exi_spec.specs.Bits.{number_bits, bits_of}
 use Rattle.exi_spec.specs.Items.{SpellsUnsigned, SpellsInteger, SpellsChars, shortest_unsigned, shortest_integer, shortest_chars}
 use Rattle.exi_spec.proofs.ShortestLaws.{shortest}
 use Rattle.exi_schema.specs.declared.tables.Datatype.{Datatype}
 use Rattle.exi_schema.specs.declared.tables.Datatype.TheVariants.{Bool as BoolType, Named, Bounded, Unsigned, Signed, Binary, Text as TextType}
+use Rattle.exi_schema.specs.Schemas.{PlainSchema, is_signed, is_datatype}
+use Rattle.exi_schema.specs.Steps.{simple_at}
+use Rattle.exi_schema.proofs.Conditions.{and-l, and-r, datatype_fits}
 use Rattle.exi_strings.specs.Table.{global_of, local_of}
 use Rattle.exi_strings.specs.Texts.{SpellsIndex, Announces, SpellsText, IsFirstAt, IsAbsent, WritesIndex, WritesHit, WritesText}
 use Rattle.exi_documents.specs.Trees.{Value, Truth, Ordinal, Number, Bytes, Text}
@@ -138,3 +142,23 @@ value_once (Signed least most) entries name (Number v) a b after other p q = (p.
 value_once (Binary most) entries name (Bytes bytes) a b after other p q = (p.1 ∙ sym q.1, p.2 ∙ sym q.2)
 value_once (TextType most) entries name (Text chars) a b after other p q = text_once entries name chars a b after other p.1 q.1
 value_once d entries name v a b after other p q = absurd p
+
+-- ---- the datatypes of a schema
+
+fits_signed : (z : ℤ) → is_signed z ≡ true → FitsSigned w64 z
+fits_signed (pos n) is = record { sfits = ltb-true n (2 ^ 63) is }
+fits_signed (negsuc n) is = record { sfits = ltb-true n (2 ^ 63) is }
+
+in_range : (d : Datatype) → is_datatype d ≡ true → IsInRange d
+in_range BoolType is = tt
+in_range (Named count) is = tt
+in_range (Bounded least count) is = tt
+in_range (Unsigned most) is = ltb-true most (2 ^ 64) is
+in_range (Signed least most) is =
+    let two = and-l _ (is_signed most) is in
+    (fits_signed least (and-r (le_z least most) (is_signed least) two), fits_signed most (and-r (le_z least most && is_signed least) (is_signed most) is))
+in_range (Binary most) is = ltb-true most (2 ^ 32) is
+in_range (TextType most) is = ltb-true most (2 ^ 32) is
+
+pub range_at : (s : PlainSchema) (kind : ℕ) (d : Datatype) → simple_at s.kinds kind ≡ Some d → IsInRange d
+range_at s kind d is = in_range d (datatype_fits s kind d is)

@@ -7,9 +7,9 @@ use Rattle.exi_schema.specs.declared.places.Place.{Place}
 use Rattle.exi_schema.specs.declared.places.Root.TheVariants.{Kind}
 use Rattle.exi_schema.specs.declared.places.Step.{Step}
 use Rattle.exi_schema.specs.declared.places.Step.TheVariants.{Attribute, Element, End}
-use Rattle.exi_schema.specs.declared.schema.Schema.{Schema}
+use Rattle.exi_schema.specs.Schemas.{PlainSchema}
 use Rattle.exi_schema.specs.declared.tables.Datatype.{Datatype}
-use Rattle.exi_schema.specs.declared.tables.Declaration.{Declaration}
+use Rattle.exi_schema.specs.Plain.{PlainKind}
 use Rattle.exi_schema.specs.declared.tables.MemberStanding.TheVariants.{Taken}
 use Rattle.exi_schema.specs.Offers.{offers, IsWidth}
 use Rattle.exi_schema.specs.Steps.{IsRoot, simple_at}
@@ -25,7 +25,7 @@ abbrev pub first : ℕ → Place
 first kind = record { kind = kind; particle = 0; copies = 0; attributes = 0 }
 
 -- the event code of what is offered at a place
-pub record SpellsStep (kinds : List Declaration) (here : Place) (step : Step) (bits : List Bool) : Type 0 where
+pub record SpellsStep (kinds : List PlainKind) (here : Place) (step : Step) (bits : List Bool) : Type 0 where
   pub code : ℕ
   pub width : ℕ
   pub is_width : IsWidth (length (offers kinds here)) width
@@ -37,7 +37,7 @@ abbrev pub element : ℕ → ℕ → Place → Step
 element name kind next = Element name kind next Taken false
 
 -- behind the code that starts it, an element of a simple kind: its characters and its end, each the one code of its place
-pub record SpellsSimple (V : Speller) (kinds : List Declaration) (kind : ℕ) (entries : Entries) (name : ℕ) (value : Value) (bits : List Bool) (after : Entries) : Type 0 where
+pub record SpellsSimple (V : Speller) (kinds : List PlainKind) (kind : ℕ) (entries : Entries) (name : ℕ) (value : Value) (bits : List Bool) (after : Entries) : Type 0 where
   pub datatype : Datatype
   pub is_simple : simple_at kinds kind ≡ Some datatype
   pub inside : List Bool
@@ -45,7 +45,7 @@ pub record SpellsSimple (V : Speller) (kinds : List Declaration) (kind : ℕ) (e
   pub bits_are : bits ≡ number_bits 1 0 ++ (inside ++ number_bits 1 0)
 
 -- attributes from a place on, and the place behind them
-abbrev pub SpellsAttributes : Speller → List Declaration → Place → Entries → List (ℕ × Value) → List Bool → Place → Entries → Type 0
+abbrev pub SpellsAttributes : Speller → List PlainKind → Place → Entries → List (ℕ × Value) → List Bool → Place → Entries → Type 0
 SpellsAttributes V kinds here entries [] bits there after = (bits ≡ []) × (there ≡ here) × (after ≡ entries)
 SpellsAttributes V kinds here entries (attribute ∷ attributes) bits there after =
     (kind : ℕ) × (next : Place) × (datatype : Datatype) × (middle : Entries) × (code : List Bool) × (value : List Bool) × (rest : List Bool)
@@ -56,7 +56,7 @@ SpellsAttributes V kinds here entries (attribute ∷ attributes) bits there afte
     × (bits ≡ code ++ (value ++ rest))
 
 -- the elements from a place on, and the end of the element that they stand in
-abbrev pub SpellsTrees : Speller → List Declaration → Place → Entries → Trees → List Bool → Entries → Type 0
+abbrev pub SpellsTrees : Speller → List PlainKind → Place → Entries → Trees → List Bool → Entries → Type 0
 SpellsTrees V kinds here entries none bits after = SpellsStep kinds here End bits × (after ≡ entries)
 SpellsTrees V kinds here entries (simple name value more) bits after =
     (kind : ℕ) × (next : Place) × (middle : Entries) × (code : List Bool) × (inside : List Bool) × (rest : List Bool)
@@ -74,7 +74,7 @@ SpellsTrees V kinds here entries (complex name attributes children more) bits af
     × (bits ≡ code ++ (front ++ (inside ++ rest)))
 
 -- the root: an element of its kind
-abbrev pub SpellsTree : Speller → List Declaration → ℕ → Entries → Tree → List Bool → Entries → Type 0
+abbrev pub SpellsTree : Speller → List PlainKind → ℕ → Entries → Tree → List Bool → Entries → Type 0
 SpellsTree V kinds kind entries (Simple name value) bits after = SpellsSimple V kinds kind entries name value bits after
 SpellsTree V kinds kind entries (Complex name attributes children) bits after =
     (there : Place) × (within : Entries) × (front : List Bool) × (inside : List Bool)
@@ -91,18 +91,18 @@ abbrev pub header : List Bool
 header = number_bits 8 128
 
 -- a document without the bits that fill its last byte: the header, its number, which names the root, and the root
-pub record SpellsDocument (V : Speller) (s : Schema) (number : ℕ) (tree : Tree) (bits : List Bool) : Type 0 where
+pub record SpellsDocument (V : Speller) (s : PlainSchema) (number : ℕ) (tree : Tree) (bits : List Bool) : Type 0 where
   pub kind : ℕ
   pub front : List Bool
   pub inside : List Bool
   pub after : Entries
-  pub named : IsRoot s.roots.now s.root_bits number (Kind (name_of tree) kind)
+  pub named : IsRoot s.roots s.root_bits number (Kind (name_of tree) kind)
   pub numbered : SpellsNumber s.root_bits number front
-  pub spelled : SpellsTree V s.kinds.now kind [] tree inside after
+  pub spelled : SpellsTree V s.kinds kind [] tree inside after
   pub bits_are : bits ≡ header ++ (front ++ inside)
 
 -- a payload spells a tree. Any bits fill its last byte (own)
-pub record IsDocument (s : Schema) (tree : Tree) (payload : List ℕ) : Type 0 where
+pub record IsDocument (s : PlainSchema) (tree : Tree) (payload : List ℕ) : Type 0 where
   pub number : ℕ
   pub bits : List Bool
   pub pad : List Bool
@@ -111,7 +111,7 @@ pub record IsDocument (s : Schema) (tree : Tree) (payload : List ℕ) : Type 0 w
   pub bits_are : bits_of payload ≡ bits ++ pad
 
 -- the one payload that is written for a tree (own)
-pub record IsEncoding (s : Schema) (tree : Tree) (payload : List ℕ) : Type 0 where
+pub record IsEncoding (s : PlainSchema) (tree : Tree) (payload : List ℕ) : Type 0 where
   pub number : ℕ
   pub bits : List Bool
   pub pad : ℕ

@@ -4,7 +4,7 @@ use Rattle.exi_spec.specs.Items.{SpellsNumber}
 use Rattle.exi_schema.specs.declared.places.Place.{Place}
 use Rattle.exi_schema.specs.declared.places.Root.TheVariants.{Kind}
 use Rattle.exi_schema.specs.declared.places.Step.TheVariants as step
-use Rattle.exi_schema.specs.declared.schema.Schema.{Schema}
+use Rattle.exi_schema.specs.Schemas.{PlainSchema}
 use Rattle.exi_schema.specs.declared.tables.Datatype.{Datatype}
 use Rattle.exi_schema.specs.Steps.{IsRoot, simple_at}
 use Rattle.exi_documents.specs.Trees.{Value, Event, Document, Start, Attribute, Content, EndElement}
@@ -43,45 +43,45 @@ abbrev pub stands : Standing → Entries → State
 stands standing entries = record { standing = standing; entries = entries }
 
 -- the header and the number of a root
-abbrev pub OpensDocument : Schema → ℕ → List Bool → Entries → State → Type 0
+abbrev pub OpensDocument : PlainSchema → ℕ → List Bool → Entries → State → Type 0
 OpensDocument s number bits entries new =
     (name : ℕ) × (kind : ℕ) × (front : List Bool)
-    × IsRoot s.roots.now s.root_bits number (Kind name kind)
+    × IsRoot s.roots s.root_bits number (Kind name kind)
     × SpellsNumber s.root_bits number front
     × (bits ≡ header ++ front)
     × (new ≡ stands (AtRoot name kind) entries)
 
 -- an element that is offered; the place behind it stands in the one around it
-abbrev pub OpensElement : Schema → Opened → List Opened → Entries → ℕ → List Bool → State → Type 0
+abbrev pub OpensElement : PlainSchema → Opened → List Opened → Entries → ℕ → List Bool → State → Type 0
 OpensElement s top above entries name bits new =
     (kind : ℕ) × (next : Place)
-    × SpellsStep s.kinds.now top.place (element name kind next) bits
+    × SpellsStep s.kinds top.place (element name kind next) bits
     × (new ≡ stands (Inside (opened name (first kind)) (opened top.name next ∷ above)) entries)
 
-abbrev pub TakesAttribute : Speller → Schema → Opened → List Opened → Entries → ℕ → Value → List Bool → State → Type 0
+abbrev pub TakesAttribute : Speller → PlainSchema → Opened → List Opened → Entries → ℕ → Value → List Bool → State → Type 0
 TakesAttribute V s top above entries name value bits new =
     (kind : ℕ) × (next : Place) × (datatype : Datatype) × (after : Entries) × (code : List Bool) × (rest : List Bool)
-    × SpellsStep s.kinds.now top.place (step.Attribute name kind next) code
-    × (simple_at s.kinds.now kind ≡ Some datatype)
+    × SpellsStep s.kinds top.place (step.Attribute name kind next) code
+    × (simple_at s.kinds kind ≡ Some datatype)
     × V datatype entries name value rest after
     × (bits ≡ code ++ rest)
     × (new ≡ stands (Inside (opened top.name next) above) after)
 
-abbrev pub TakesContent : Speller → Schema → Opened → List Opened → Entries → Value → List Bool → State → Type 0
+abbrev pub TakesContent : Speller → PlainSchema → Opened → List Opened → Entries → Value → List Bool → State → Type 0
 TakesContent V s top above entries value bits new =
     (next : Place) × (datatype : Datatype) × (after : Entries) × (code : List Bool) × (rest : List Bool)
-    × SpellsStep s.kinds.now top.place (step.Characters next) code
-    × (simple_at s.kinds.now top.place.kind ≡ Some datatype)
+    × SpellsStep s.kinds top.place (step.Characters next) code
+    × (simple_at s.kinds top.place.kind ≡ Some datatype)
     × V datatype entries top.name value rest after
     × (bits ≡ code ++ rest)
     × (new ≡ stands (Inside (opened top.name next) above) after)
 
-abbrev pub ClosesElement : Schema → Opened → List Opened → Entries → List Bool → State → Type 0
+abbrev pub ClosesElement : PlainSchema → Opened → List Opened → Entries → List Bool → State → Type 0
 ClosesElement s top above entries bits new =
-    SpellsStep s.kinds.now top.place step.End bits × (new ≡ stands (around above) entries)
+    SpellsStep s.kinds top.place step.End bits × (new ≡ stands (around above) entries)
 
 -- an event, the bits that spell it, and what comes behind it
-abbrev pub MovesFrom : Speller → Schema → Standing → Entries → Event → List Bool → State → Type 0
+abbrev pub MovesFrom : Speller → PlainSchema → Standing → Entries → Event → List Bool → State → Type 0
 MovesFrom V s Before entries (Document number) bits new = OpensDocument s number bits entries new
 MovesFrom V s (AtRoot root kind) entries (Start name) bits new =
     (name ≡ root) × (bits ≡ []) × (new ≡ stands (Inside (opened name (first kind)) []) entries)
@@ -91,11 +91,11 @@ MovesFrom V s (Inside top above) entries (Content value) bits new = TakesContent
 MovesFrom V s (Inside top above) entries EndElement bits new = ClosesElement s top above entries bits new
 MovesFrom V s _ entries _ bits new = ⊥
 
-abbrev pub Moves : Speller → Schema → State → Event → List Bool → State → Type 0
+abbrev pub Moves : Speller → PlainSchema → State → Event → List Bool → State → Type 0
 Moves V s old event bits new = MovesFrom V s old.standing old.entries event bits new
 
 -- the events so far, the newest first, are spelled by these bits and lead to a state
-abbrev pub Reaches : Speller → Schema → List Event → List Bool → State → Type 0
+abbrev pub Reaches : Speller → PlainSchema → List Event → List Bool → State → Type 0
 Reaches V s [] bits state = (bits ≡ []) × (state ≡ start)
 Reaches V s (event ∷ events) bits state =
     (before : State) × (front : List Bool) × (rest : List Bool)

@@ -8,9 +8,9 @@ use Rattle.exi_schema.specs.declared.places.Root.{Root}
 use Rattle.exi_schema.specs.declared.places.Root.TheVariants.{Kind, Unknown, NoSuch}
 use Rattle.exi_schema.specs.declared.places.Step.{Step}
 use Rattle.exi_schema.specs.declared.places.Step.TheVariants.{Attribute, Element, End, Characters}
-use Rattle.exi_schema.specs.declared.schema.Schema.{Schema}
+use Rattle.exi_schema.specs.Schemas.{PlainSchema}
 use Rattle.exi_schema.specs.declared.tables.Datatype.{Datatype}
-use Rattle.exi_schema.specs.declared.tables.Declaration.{Declaration}
+use Rattle.exi_schema.specs.Plain.{PlainKind}
 use Rattle.exi_schema.specs.declared.tables.MemberStanding.{MemberStanding}
 use Rattle.exi_schema.specs.declared.tables.MemberStanding.TheVariants.{Taken, Abstract, OutOfProfile}
 use Rattle.exi_schema.specs.Offers.{offers, IsWidth}
@@ -42,7 +42,7 @@ abbrev pub code_cause : ℕ → ℕ → Option Step → Option RefusalCause
 code_cause count code (Some step) = step_cause step
 code_cause count code None = Some (if code == count then cause.Deviation else cause.NoSuchCode)
 
-pub record RefusesStep (kinds : List Declaration) (here : Place) (bits : List Bool) (why : RefusalCause) : Type 0 where
+pub record RefusesStep (kinds : List PlainKind) (here : Place) (bits : List Bool) (why : RefusalCause) : Type 0 where
   pub width : ℕ
   pub is_width : IsWidth (length (offers kinds here)) width
   pub refused :
@@ -53,7 +53,7 @@ pub record RefusesStep (kinds : List Declaration) (here : Place) (bits : List Bo
 -- ---- the value of an attribute or of an element
 
 -- behind the code of a step the bits of a value can't be taken
-pub record RefusesBehindStep (kinds : List Declaration) (here : Place) (step : Step) (Refuses : List Bool → RefusalCause → ℕ → Type 0) (bits : List Bool) (why : RefusalCause) (at : ℕ) : Type 0 where
+pub record RefusesBehindStep (kinds : List PlainKind) (here : Place) (step : Step) (Refuses : List Bool → RefusalCause → ℕ → Type 0) (bits : List Bool) (why : RefusalCause) (at : ℕ) : Type 0 where
   pub code : List Bool
   pub rest : List Bool
   pub behind : ℕ
@@ -62,13 +62,13 @@ pub record RefusesBehindStep (kinds : List Declaration) (here : Place) (step : S
   pub refused : Refuses rest why behind
   pub place : at ≡ length code + behind
 
-abbrev pub RefusesAttribute : List Declaration → Opened → Entries → List Bool → RefusalCause → ℕ → Type 0
+abbrev pub RefusesAttribute : List PlainKind → Opened → Entries → List Bool → RefusalCause → ℕ → Type 0
 RefusesAttribute kinds top entries bits why at =
     (name : ℕ) × (kind : ℕ) × (next : Place) × (datatype : Datatype)
     × (simple_at kinds kind ≡ Some datatype)
     × RefusesBehindStep kinds top.place (Attribute name kind next) (RefusesValue datatype entries name) bits why at
 
-abbrev pub RefusesContent : List Declaration → Opened → Entries → List Bool → RefusalCause → ℕ → Type 0
+abbrev pub RefusesContent : List PlainKind → Opened → Entries → List Bool → RefusalCause → ℕ → Type 0
 RefusesContent kinds top entries bits why at =
     (next : Place) × (datatype : Datatype)
     × (simple_at kinds top.place.kind ≡ Some datatype)
@@ -81,17 +81,17 @@ root_cause (Kind name kind) = None
 root_cause Unknown = Some cause.UnknownElement
 root_cause NoSuch = Some cause.NoSuchCode
 
-abbrev pub RefusesNumber : Schema → List Bool → RefusalCause → Type 0
+abbrev pub RefusesNumber : PlainSchema → List Bool → RefusalCause → Type 0
 RefusesNumber s bits why =
     RefusesItem (RefusesBits s.root_bits) bits why
     ⊎ ((number : ℕ) × (root : Root) × Begins (SpellsNumber s.root_bits number) bits
-    × IsRoot s.roots.now s.root_bits number root × (root_cause root ≡ Some why))
+    × IsRoot s.roots s.root_bits number root × (root_cause root ≡ Some why))
 
 abbrev pub RefusesHeader : List Bool → RefusalCause → Type 0
 RefusesHeader bits why =
     RefusesItem (RefusesBits 8) bits why ⊎ ((8 ≤ length bits) × (take 8 bits ≢ header) × (why ≡ cause.BadHeader))
 
-abbrev pub RefusesFront : Schema → List Bool → RefusalCause → ℕ → Type 0
+abbrev pub RefusesFront : PlainSchema → List Bool → RefusalCause → ℕ → Type 0
 RefusesFront s bits why at =
     (RefusesHeader bits why × (at ≡ 0))
     ⊎ ((rest : List Bool) × (bits ≡ header ++ rest) × RefusesNumber s rest why × (at ≡ 8))
@@ -100,19 +100,19 @@ RefusesFront s bits why at =
 
 -- of the bits from an event on, why it can't be taken, and at which of them. Behind the root less than a byte may follow; a whole
 -- one has its place behind the byte in which the root ends
-abbrev pub RefusesFrom : Schema → Standing → Entries → List Bool → RefusalCause → ℕ → Type 0
+abbrev pub RefusesFrom : PlainSchema → Standing → Entries → List Bool → RefusalCause → ℕ → Type 0
 RefusesFrom s Before entries bits why at = RefusesFront s bits why at
 RefusesFrom s (AtRoot name kind) entries bits why at = ⊥
 RefusesFrom s (Inside top above) entries bits why at =
-    (RefusesStep s.kinds.now top.place bits why × (at ≡ 0))
-    ⊎ (RefusesAttribute s.kinds.now top entries bits why at ⊎ RefusesContent s.kinds.now top entries bits why at)
+    (RefusesStep s.kinds top.place bits why × (at ≡ 0))
+    ⊎ (RefusesAttribute s.kinds top entries bits why at ⊎ RefusesContent s.kinds top entries bits why at)
 RefusesFrom s Behind entries bits why at = (8 ≤ length bits) × (why ≡ cause.Trailing) × (at ≡ length bits % 8)
 
-abbrev pub RefusesNext : Schema → State → List Bool → RefusalCause → ℕ → Type 0
+abbrev pub RefusesNext : PlainSchema → State → List Bool → RefusalCause → ℕ → Type 0
 RefusesNext s state bits why at = RefusesFrom s state.standing state.entries bits why at
 
 -- the bits before one spell events that begin a document, and the item there can't be taken
-pub record IsRefused (s : Schema) (payload : List ℕ) (why : RefusalCause) (bit : ℕ) : Type 0 where
+pub record IsRefused (s : PlainSchema) (payload : List ℕ) (why : RefusalCause) (bit : ℕ) : Type 0 where
   pub events : List Event
   pub state : State
   pub front : List Bool

@@ -12,6 +12,7 @@ use Rattle.exi_schema.specs.declared.tables.Datatype.TheVariants.{Bool as BoolTy
 use Rattle.exi_strings.specs.Table.{global_of, local_of}
 use Rattle.exi_strings.specs.Texts.{IsIndexWidth, Announces, SpellsText, WritesText}
 use Rattle.exi_documents.specs.Trees.{Value, Truth, Ordinal, Number, Bytes, Text}
+use Rattle.exi_documents.specs.declared.TheConstants.{MOST_ENTRIES}
 use Rattle.exi_documents.specs.declared.refusal.RefusalCause.{RefusalCause}
 use Rattle.exi_documents.specs.declared.refusal.RefusalCause.TheVariants.{ShortInput, WiderInteger, BadChar, NoSuchIndex, NoSuchValue, TooLong, OutOfRange, TableFull}
 
@@ -21,7 +22,7 @@ Entries = List (ℕ × List ℕ)
 
 -- how many texts a document enters at most (own)
 abbrev pub most_entries : ℕ
-most_entries = 8192
+most_entries = MOST_ENTRIES
 
 -- ---- the values of a datatype
 

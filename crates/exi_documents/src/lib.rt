@@ -5,3 +5,6 @@
 mod refusal;
 
 pub use refusal::{Refusal, RefusalCause};
+
+/// How many texts the string table of a payload holds at most (own).
+pub const MOST_ENTRIES: u32 = 8_192;

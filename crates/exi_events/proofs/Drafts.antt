@@ -9,7 +9,7 @@ use Rattle.exi_bits.specs.Written.{HoldsBits}
 use Rattle.exi_bits.specs.declared.pen.BitPen.{BitPen}
 use Rattle.exi_bits.specs.declared.span.SpanAt.{SpanAt}
 use Rattle.exi_schema.specs.declared.places.Places.{Ghosts}
-use Rattle.exi_schema.specs.declared.schema.Schema.{Schema}
+use Rattle.exi_schema.specs.Schemas.{PlainSchema}
 use Rattle.exi_documents.specs.Grammar.{Opened, State}
 use Rattle.exi_documents.specs.Trees.{Event as TreeEvent}
 use Rattle.exi_values.specs.Meaning.{texts_in, AreTexts}
@@ -68,12 +68,12 @@ module _ {P : Type 0} {p : Ghosts P} where
 
 -- ---- the whole document
 
-one_more : (s : Schema) (events : List TreeEvent) (old new : Draft) (o : Option TreeEvent) → HasPut s events old → IsPut s old new o → (told : TreeEvent) → o ≡ Some told → HasPut s (told ∷ events) new
+one_more : (s : PlainSchema) (events : List TreeEvent) (old new : Draft) (o : Option TreeEvent) → HasPut s events old → IsPut s old new o → (told : TreeEvent) → o ≡ Some told → HasPut s (told ∷ events) new
 one_more s events old new o h put told is =
     let p : IsPut s old new (Some told) = subst (λ (x : Option TreeEvent). IsPut s old new x) is put in
     (old.state, old.bits, p.0, h, p.1, p.2.written)
 
-pub told_more : {T E : Type 0} (r : Result T E) (s : Schema) (events : List TreeEvent) (old new : Draft) (o : Option TreeEvent) → HasPut s events old → OnOk r (IsPut s old new o) → OnOk r ((told : TreeEvent) → o ≡ Some told → HasPut s (told ∷ events) new)
+pub told_more : {T E : Type 0} (r : Result T E) (s : PlainSchema) (events : List TreeEvent) (old new : Draft) (o : Option TreeEvent) → HasPut s events old → OnOk r (IsPut s old new o) → OnOk r ((told : TreeEvent) → o ≡ Some told → HasPut s (told ∷ events) new)
 told_more r s events old new o h put = IfOk-weaker r (λ _. IsPut s old new o) (λ _. (told : TreeEvent) → o ≡ Some told → HasPut s (told ∷ events) new) (λ _ p. one_more s events old new o h p) put
 
 -- ---- texts in the bytes that hold the bits

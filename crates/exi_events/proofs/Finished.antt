@@ -1,14 +1,14 @@
 -- The bytes behind the last event of a document.
 use Rattle.std.proofs.Common.{◌≡◌, ℕ, List, subst}
 use Rattle.exi_bits.specs.Written.{HoldsBits}
-use Rattle.exi_schema.specs.declared.schema.Schema.{Schema}
+use Rattle.exi_schema.specs.Schemas.{PlainSchema}
 use Rattle.exi_documents.specs.Grammar.{Standing, Behind, stands, Reaches}
 use Rattle.exi_documents.specs.Trees.{Event as TreeEvent}
 use Rattle.exi_documents.specs.Values.{WritesValue}
 use Rattle.document_laws.proofs.Told.{tell_trees}
 use Rattle.exi_events.specs.Writer.{Draft, HasPut, IsWritten}
 
-pub written_all : (s : Schema) (draft : Draft) (bytes : List ℕ) (events : List TreeEvent) →
+pub written_all : (s : PlainSchema) (draft : Draft) (bytes : List ℕ) (events : List TreeEvent) →
     HoldsBits bytes draft.bits → HasPut s events draft → draft.state.standing ≡ Behind → IsWritten s events bytes
 written_all s draft bytes events holds put is =
     let P : Standing → Type 0 = λ st. Reaches WritesValue s events draft.bits (stands st draft.state.entries) in

@@ -4,7 +4,7 @@ use Rattle.exi_spec.specs.Bits.{number_bits, number_of}
 use Rattle.exi_spec.specs.Items.{SpellsNumber}
 use Rattle.exi_spec.proofs.BitLaws.{length-number_bits, number_of-number_bits}
 use Rattle.exi_bits.specs.Reading.{Cursor, Takes, ahead}
-use Rattle.exi_schema.specs.declared.schema.Schema.{Schema}
+use Rattle.exi_schema.specs.Schemas.{PlainSchema}
 use Rattle.exi_documents.specs.declared.refusal.Refusal.{Refusal}
 use Rattle.exi_documents.specs.declared.refusal.RefusalCause.{RefusalCause}
 use Rattle.exi_documents.specs.declared.refusal.RefusalCause.TheVariants.{BadHeader}
@@ -38,28 +38,28 @@ takes_both {A} {B} old middle new one two =
     rw (length-append one.0 two.0) (let a : middle.place ≡ old.place + length one.0 = one.2.moved in let b : new.place ≡ middle.place + length two.0 = two.2.moved in omega (arith, a, b)) in
     (one.0 ++ two.0, (one.0, two.0, one.1, two.1, refl), record { same = two.2.same ∙ one.2.same; moved = moved; there = there })
 
-pub front_took : (s : Schema) (old middle new : Cursor) (number : ℕ) → Takes SpellsHeader old middle → Takes (SpellsNumber s.root_bits number) middle new → Takes (SpellsFront s number) old new
+pub front_took : (s : PlainSchema) (old middle new : Cursor) (number : ℕ) → Takes SpellsHeader old middle → Takes (SpellsNumber s.root_bits number) middle new → Takes (SpellsFront s number) old new
 front_took s old middle new number one two =
     let both = takes_both {A = SpellsHeader} {B = SpellsNumber s.root_bits number} old middle new one two in
     (both.0, (both.1.1, both.1.3, both.1.4 ∙ ap (λ xs. xs ++ both.1.1) both.1.2), both.2)
 
-pub header_refused : (s : Schema) (bits : List Bool) (why : RefusalCause) (bit place : ℕ) → RefusesHeader bits why → bit ≡ place →
+pub header_refused : (s : PlainSchema) (bits : List Bool) (why : RefusalCause) (bit place : ℕ) → RefusesHeader bits why → bit ≡ place →
     (at : ℕ) × RefusesFront s bits why at × (bit ≡ place + at)
 header_refused s bits why bit place refused at = (0, inl (refused, refl), omega (arith, at))
 
-pub number_refused : (s : Schema) (old middle : Cursor) (why : RefusalCause) (bit : ℕ) → Takes SpellsHeader old middle → RefusesNumber s (ahead middle) why → bit ≡ middle.place →
+pub number_refused : (s : PlainSchema) (old middle : Cursor) (why : RefusalCause) (bit : ℕ) → Takes SpellsHeader old middle → RefusesNumber s (ahead middle) why → bit ≡ middle.place →
     (at : ℕ) × RefusesFront s (ahead old) why at × (bit ≡ old.place + at)
 number_refused s old middle why bit took refused at =
     let moved : middle.place ≡ old.place + length took.0 = took.2.moved in
     let long : length took.0 ≡ 8 = ap length took.1 ∙ length-number_bits 8 128 in
     (8, inr (ahead middle, took.2.there ∙ ap (λ xs. xs ++ ahead middle) took.1, refused, refl), omega (arith, moved, long, at))
 
-pub roots_took : (s : Schema) (old middle new : Cursor) (result : Result RootNumber Refusal) → Takes SpellsHeader old middle →
+pub roots_took : (s : PlainSchema) (old middle new : Cursor) (result : Result RootNumber Refusal) → Takes SpellsHeader old middle →
     IfOk result (λ root. Takes (SpellsNumber s.root_bits root.number) middle new) → IfOk result (λ root. Takes (SpellsFront s root.number) old new)
 roots_took s old middle new (Ok root) one two = front_took s old middle new root.number one two
 roots_took s old middle new (Err refusal) one two = two
 
-pub roots_refused : (s : Schema) (old middle : Cursor) (result : Result RootNumber Refusal) → Takes SpellsHeader old middle →
+pub roots_refused : (s : PlainSchema) (old middle : Cursor) (result : Result RootNumber Refusal) → Takes SpellsHeader old middle →
     IfErr result (λ r. RefusesNumber s (ahead middle) r.cause) → IfErr result (λ r. r.bit ≡ middle.place) →
     IfErr result (λ r. (at : ℕ) × RefusesFront s (ahead old) r.cause at × (r.bit ≡ old.place + at))
 roots_refused s old middle (Ok root) took refused at = refused

@@ -3,10 +3,8 @@ use Rattle.std.proofs.Common.{◌≡◌, ℕ, zero, suc, ◌+◌, nat_lt, Bool, 
 use Rattle.std.specs.Prelude.{slice_get, ◌==◌}
 use Rattle.std.specs.List.{list_any}
 use Rattle.exi_schema.specs.declared.tables.AttributeOf.{AttributeOf}
-use Rattle.exi_schema.specs.declared.tables.Declaration.{Declaration}
-use Rattle.exi_schema.specs.declared.tables.Declaration.TheVariants.{Simple, Complex}
+use Rattle.exi_schema.specs.Plain.{PlainKind, valued, containing, PlainParticle}
 use Rattle.exi_schema.specs.declared.tables.Member.{Member}
-use Rattle.exi_schema.specs.declared.tables.Particle.{Particle}
 use Rattle.exi_schema.specs.declared.places.Place.{Place}
 use Rattle.exi_schema.specs.declared.places.Step.{Step}
 use Rattle.exi_schema.specs.declared.places.Step.TheVariants.{Attribute, Element, End, Characters}
@@ -44,30 +42,30 @@ kind_by false k p q one two = two
 pub behind_kind : (k attributes at copies : ℕ) (most : Option ℕ) → (behind_copy k attributes at copies most).kind ≡ k
 behind_kind k attributes at copies most = kind_by (leaves_room most (copies + 1)) k _ _ refl refl
 
-pub members_stay : (here : Place) (attributes at copies : ℕ) (particle : Particle) (members : List Member) → AllStay here.kind (map (element_step here attributes at copies particle) members)
+pub members_stay : (here : Place) (attributes at copies : ℕ) (particle : PlainParticle) (members : List Member) → AllStay here.kind (map (element_step here attributes at copies particle) members)
 members_stay here attributes at copies particle [] = tt {0}
 members_stay here attributes at copies particle (member ∷ members) = (
   kind_by (nat_lt copies particle.profile) here.kind (behind_copy here.kind attributes at copies particle.most) here (behind_kind here.kind attributes at copies particle.most) refl,
   members_stay here attributes at copies particle members,
 )
 
-pub elements_stay : (here : Place) (attributes at copies : ℕ) (particles : List Particle) → AllStay here.kind (element_steps here attributes at copies particles)
+pub elements_stay : (here : Place) (attributes at copies : ℕ) (particles : List PlainParticle) → AllStay here.kind (element_steps here attributes at copies particles)
 elements_stay here attributes at copies [] = (tt {0}, tt {0})
 elements_stay here attributes at copies (particle ∷ particles) =
-    stay_append here.kind _ _ (members_stay here attributes at copies particle particle.members.now)
+    stay_append here.kind _ _ (members_stay here attributes at copies particle particle.members)
     (by_flag (nat_lt copies particle.least) (AllStay here.kind) (tt {0}) (elements_stay here attributes (at + 1) 0 particles))
 
 pub simple_stays : (b : Bool) (k : ℕ) (next : Place) → next.kind ≡ k → StaysIn k (if b then Characters next else End)
 simple_stays true k next is = is
 simple_stays false k next is = tt {0}
 
-pub offers_stay : (here : Place) (o : Option Declaration) → AllStay here.kind (offers_of here o)
+pub offers_stay : (here : Place) (o : Option PlainKind) → AllStay here.kind (offers_of here o)
 offers_stay here None = tt {0}
-offers_stay here (Some (Simple datatype)) = (simple_stays (here.particle == 0) here.kind _ refl, tt {0})
-offers_stay here (Some (Complex attributes particles)) =
-    stay_append here.kind _ _ (attributes_stay here here.attributes (through_required (drop here.attributes attributes.now)))
-    (by_flag (list_any (λ attribute. attribute.required) (drop here.attributes attributes.now)) (AllStay here.kind) (tt {0})
-    (elements_stay here (length attributes.now) here.particle here.copies (drop here.particle particles.now)))
+offers_stay here (Some (valued datatype)) = (simple_stays (here.particle == 0) here.kind _ refl, tt {0})
+offers_stay here (Some (containing attributes particles)) =
+    stay_append here.kind _ _ (attributes_stay here here.attributes (through_required (drop here.attributes attributes)))
+    (by_flag (list_any (λ attribute. attribute.required) (drop here.attributes attributes)) (AllStay here.kind) (tt {0})
+    (elements_stay here (length attributes) here.particle here.copies (drop here.particle particles)))
 
-pub next_stays : (kinds : List Declaration) (here : Place) (i : ℕ) (step : Step) → slice_get (offers kinds here) i ≡ Some step → StaysIn here.kind step
+pub next_stays : (kinds : List PlainKind) (here : Place) (i : ℕ) (step : Step) → slice_get (offers kinds here) i ≡ Some step → StaysIn here.kind step
 next_stays kinds here i step is = stay_get here.kind (offers kinds here) i step (offers_stay here (slice_get kinds here.kind)) is

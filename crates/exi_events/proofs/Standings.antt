@@ -4,7 +4,7 @@ use Rattle.std.proofs.lemmas.Bool.Decides.{eqb_tells}
 use Rattle.exi_spec.specs.Bits.{number_bits}
 use Rattle.exi_bits.specs.declared.span.SpanAt.{SpanAt}
 use Rattle.exi_schema.specs.declared.places.Root.TheVariants.{Kind}
-use Rattle.exi_schema.specs.declared.schema.Schema.{Schema}
+use Rattle.exi_schema.specs.Schemas.{PlainSchema}
 use Rattle.exi_schema.specs.Steps.{IsRoot}
 use Rattle.exi_documents.specs.Documents.{header, first}
 use Rattle.exi_documents.specs.Grammar.{Opened, opened, AtRoot, Inside, State, around, stands}
@@ -25,8 +25,8 @@ pub offered_in : (P : State → Event → Type 0) (p q : Phase) (e d : Event) (e
 offered_in P p q e d elements bits entries is same h =
     subst (λ (x : Event). P (state_of p elements bits entries) x) (sym same) (subst (λ (x : Phase). P (state_of x elements bits entries) d) (sym is) h)
 
-pub document_decides : (s : Schema) (p : Phase) (e : Event) (elements : List Opened) (bits : List Bool) (entries : List (ℕ × SpanAt)) (number : ℕ) (b : Bool) → p ≡ phase.Before → e ≡ event.Document number →
-    (IsTrue b ↔ ((name : ℕ) × (kind : ℕ) × IsRoot s.roots.now s.root_bits number (Kind name kind))) → (IsTrue b ↔ IsOffered s (state_of p elements bits entries) e)
+pub document_decides : (s : PlainSchema) (p : Phase) (e : Event) (elements : List Opened) (bits : List Bool) (entries : List (ℕ × SpanAt)) (number : ℕ) (b : Bool) → p ≡ phase.Before → e ≡ event.Document number →
+    (IsTrue b ↔ ((name : ℕ) × (kind : ℕ) × IsRoot s.roots s.root_bits number (Kind name kind))) → (IsTrue b ↔ IsOffered s (state_of p elements bits entries) e)
 document_decides s p e elements bits entries number b is same named =
     offered_in (λ (state : State) (x : Event). IsTrue b ↔ IsOffered s state x) p phase.Before e (event.Document number) elements bits entries is same (
       (λ t.
@@ -36,7 +36,7 @@ document_decides s p e elements bits entries number b is same named =
       (λ h. named.1 (h.2.0, h.2.1, h.2.3)),
     )
 
-pub start_decides : (s : Schema) (p : Phase) (e : Event) (elements : List Opened) (bits : List Bool) (entries : List (ℕ × SpanAt)) (name kind child : ℕ) → p ≡ phase.AtRoot name kind → e ≡ event.Start child →
+pub start_decides : (s : PlainSchema) (p : Phase) (e : Event) (elements : List Opened) (bits : List Bool) (entries : List (ℕ × SpanAt)) (name kind child : ℕ) → p ≡ phase.AtRoot name kind → e ≡ event.Start child →
     (IsTrue (eqb child name) ↔ IsOffered s (state_of p elements bits entries) e)
 start_decides s p e elements bits entries name kind child is same =
     offered_in (λ (state : State) (x : Event). IsTrue (eqb child name) ↔ IsOffered s state x) p (phase.AtRoot name kind) e (event.Start child) elements bits entries is same
@@ -48,7 +48,7 @@ start_decides s p e elements bits entries name kind child is same =
     false_is : false ≡ true → ⊥
     false_is e = absurd cc
 
-pub inside_decides : (s : Schema) (p : Phase) (e : Event) (elements : List Opened) (bits : List Bool) (entries : List (ℕ × SpanAt)) (top : OpenElement) (b : Bool) → p ≡ phase.Inside → HasTop elements top →
+pub inside_decides : (s : PlainSchema) (p : Phase) (e : Event) (elements : List Opened) (bits : List Bool) (entries : List (ℕ × SpanAt)) (top : OpenElement) (b : Bool) → p ≡ phase.Inside → HasTop elements top →
     ((above : List Opened) → (IsTrue b ↔ IsOffered s (stands (Inside (opened_of top) above) (texts_in bits entries)) e)) → (IsTrue b ↔ IsOffered s (state_of p elements bits entries) e)
 inside_decides s p e elements bits entries top b is has decides =
     offered_in (λ (state : State) (x : Event). IsTrue b ↔ IsOffered s state x) p phase.Inside e e elements bits entries is refl

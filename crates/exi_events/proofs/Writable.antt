@@ -11,7 +11,7 @@ use Rattle.exi_strings.specs.Texts.{IsFirstAt, IsAbsent, WritesText, entered}
 use Rattle.exi_documents.specs.Trees.{Value, Truth, Ordinal, Number, Bytes, Text}
 use Rattle.exi_documents.specs.Values.{Entries, most_entries, IsValue, WritesValue}
 use Rattle.exi_writing.specs.Entering.{HasEntryFor}
-use Rattle.exi_schema.specs.declared.tables.Declaration.{Declaration}
+use Rattle.exi_schema.specs.Plain.{PlainKind}
 use Rattle.exi_schema.specs.Steps.{simple_at}
 use Rattle.exi_values.specs.declared.Value.{Value as ShapedValue}
 use Rattle.exi_values.specs.Meaning.{value_of}
@@ -119,13 +119,13 @@ value_writes _ entries name _ few is room = absurd is
 
 -- ---- a value of a simple kind
 
-pub may_write : (kinds : List Declaration) (kind : ℕ) (entries : Entries) (name : ℕ) (v : Value) (d : Datatype) → Some d ≡ simple_at kinds kind → length entries ≤ most_entries → IsValue d v → HasEntryFor entries name v → MayWrite kinds kind entries name v
+pub may_write : (kinds : List PlainKind) (kind : ℕ) (entries : Entries) (name : ℕ) (v : Value) (d : Datatype) → Some d ≡ simple_at kinds kind → length entries ≤ most_entries → IsValue d v → HasEntryFor entries name v → MayWrite kinds kind entries name v
 may_write kinds kind entries name v d is few value room = let w = value_writes d entries name v few value room in (w.0, w.1, (d, sym is, w.2))
 
 one_of : {X : Type 0} (o : Option X) (x y : X) → o ≡ Some x → o ≡ Some y → x ≡ y
 one_of {X} o x y p q = let e : Some x ≡ Some y = sym p ∙ q in cc
 
-pub may_fit : (kinds : List Declaration) (kind : ℕ) (entries : Entries) (name : ℕ) (v : Value) (d : Datatype) → Some d ≡ simple_at kinds kind → MayWrite kinds kind entries name v → IsValue d v × HasEntryFor entries name v
+pub may_fit : (kinds : List PlainKind) (kind : ℕ) (entries : Entries) (name : ℕ) (v : Value) (d : Datatype) → Some d ≡ simple_at kinds kind → MayWrite kinds kind entries name v → IsValue d v × HasEntryFor entries name v
 may_fit kinds kind entries name v d is w =
     let same : w.2.0 ≡ d = one_of (simple_at kinds kind) w.2.0 d w.2.1 (sym is) in
     subst (λ (e : Datatype). IsValue e v × HasEntryFor entries name v) same (value_fits w.2.0 entries w.1 name v w.0 w.2.2)
@@ -134,14 +134,14 @@ some_is : (v w : ShapedValue) → Some v ≡ Some w → v ≡ w
 some_is v w e = cc
 
 -- of the value of an event
-pub value_decides : (kinds : List Declaration) (kind : ℕ) (entries : Entries) (name : ℕ) (o : Option ShapedValue) (given v : ShapedValue) (d : Datatype) (b : Bool) → Some d ≡ simple_at kinds kind → length entries ≤ most_entries →
+pub value_decides : (kinds : List PlainKind) (kind : ℕ) (entries : Entries) (name : ℕ) (o : Option ShapedValue) (given v : ShapedValue) (d : Datatype) (b : Bool) → Some d ≡ simple_at kinds kind → length entries ≤ most_entries →
     o ≡ Some given → o ≡ Some v → IsValue d (value_of given) → (IsTrue b ↔ HasEntryFor entries name (value_of given)) → (IsTrue b ↔ MayWrite kinds kind entries name (value_of v))
 value_decides kinds kind entries name o given v d b is few given_is v_is value room =
     let same : given ≡ v = some_is given v (sym given_is ∙ v_is) in
     subst (λ (w : ShapedValue). IsTrue b ↔ MayWrite kinds kind entries name (value_of w)) same
     ((λ t. may_write kinds kind entries name (value_of given) d is few value (room.0 t)), (λ w. room.1 (may_fit kinds kind entries name (value_of given) d is w).1))
 
-pub no_value : (kinds : List Declaration) (kind : ℕ) (entries : Entries) (name : ℕ) (o : Option ShapedValue) (given v : ShapedValue) (d : Datatype) → Some d ≡ simple_at kinds kind →
+pub no_value : (kinds : List PlainKind) (kind : ℕ) (entries : Entries) (name : ℕ) (o : Option ShapedValue) (given v : ShapedValue) (d : Datatype) → Some d ≡ simple_at kinds kind →
     o ≡ Some given → o ≡ Some v → (IsValue d (value_of given) → ⊥) → MayWrite kinds kind entries name (value_of v) → ⊥
 no_value kinds kind entries name o given v d is given_is v_is other w =
     let same : given ≡ v = some_is given v (sym given_is ∙ v_is) in
@@ -156,20 +156,20 @@ in_event e v (inr h) = ap value_in h
 pub given_is : (o : Option ShapedValue) (given v : ShapedValue) → o ≡ Some given → o ≡ Some v → given ≡ v
 given_is o given v a b = some_is given v (sym a ∙ b)
 
-pub writes_of : (kinds : List Declaration) (kind : ℕ) (entries after : Entries) (name : ℕ) (given v : ShapedValue) (d : Datatype) (bits : List Bool) → Some d ≡ simple_at kinds kind → given ≡ v → WritesValue d entries name (value_of given) bits after → WritesValueOf kinds kind entries name (value_of v) after bits
+pub writes_of : (kinds : List PlainKind) (kind : ℕ) (entries after : Entries) (name : ℕ) (given v : ShapedValue) (d : Datatype) (bits : List Bool) → Some d ≡ simple_at kinds kind → given ≡ v → WritesValue d entries name (value_of given) bits after → WritesValueOf kinds kind entries name (value_of v) after bits
 writes_of kinds kind entries after name given v d bits is same w = (d, sym is, subst (λ (x : ShapedValue). WritesValue d entries name (value_of x) bits after) same w)
 
-pub of_writes : (kinds : List Declaration) (kind : ℕ) (entries after : Entries) (name : ℕ) (given v : ShapedValue) (d : Datatype) (bits : List Bool) → Some d ≡ simple_at kinds kind → given ≡ v → WritesValueOf kinds kind entries name (value_of v) after bits → WritesValue d entries name (value_of given) bits after
+pub of_writes : (kinds : List PlainKind) (kind : ℕ) (entries after : Entries) (name : ℕ) (given v : ShapedValue) (d : Datatype) (bits : List Bool) → Some d ≡ simple_at kinds kind → given ≡ v → WritesValueOf kinds kind entries name (value_of v) after bits → WritesValue d entries name (value_of given) bits after
 of_writes kinds kind entries after name given v d bits is same w =
     let e : w.0 ≡ d = one_of (simple_at kinds kind) w.0 d w.1 (sym is) in
     subst (λ (x : ShapedValue). WritesValue d entries name (value_of x) bits after) (sym same) (subst (λ (k : Datatype). WritesValue k entries name (value_of v) bits after) e w.2)
 
-pub value_put : {R E : Type 0} (r : Result R E) (kinds : List Declaration) (kind : ℕ) (entries after : Entries) (name : ℕ) (given v : ShapedValue) (d : Datatype) (old new : BitPen) → Some d ≡ simple_at kinds kind → given ≡ v →
+pub value_put : {R E : Type 0} (r : Result R E) (kinds : List PlainKind) (kind : ℕ) (entries after : Entries) (name : ℕ) (given v : ShapedValue) (d : Datatype) (old new : BitPen) → Some d ≡ simple_at kinds kind → given ≡ v →
     OnOk r (Puts (λ bits. WritesValue d entries name (value_of given) bits after) old new) → OnOk r (Puts (λ bits. WritesValueOf kinds kind entries name (value_of v) after bits) old new)
 value_put (Ok x) kinds kind entries after name given v d old new is same p = (p.0, writes_of kinds kind entries after name given v d p.0 is same p.1, p.2)
 value_put (Err e) kinds kind entries after name given v d old new is same p = tt
 
-pub value_full : (P : Type 0) (kinds : List Declaration) (kind : ℕ) (entries : Entries) (name : ℕ) (given v : ShapedValue) (d : Datatype) (pen : BitPen) → Some d ≡ simple_at kinds kind → given ≡ v →
+pub value_full : (P : Type 0) (kinds : List PlainKind) (kind : ℕ) (entries : Entries) (name : ℕ) (given v : ShapedValue) (d : Datatype) (pen : BitPen) → Some d ≡ simple_at kinds kind → given ≡ v →
     (P ↔ Lacks (λ bits. (after : Entries) × WritesValue d entries name (value_of given) bits after) pen) → (P ↔ Lacks (λ bits. (after : Entries) × WritesValueOf kinds kind entries name (value_of v) after bits) pen)
 value_full P kinds kind entries name given v d pen is same f = (
   (λ p. let l = f.0 p in (l.0, (l.1.0, writes_of kinds kind entries l.1.0 name given v d l.0 is same l.1.1), l.2)),
@@ -177,7 +177,7 @@ value_full P kinds kind entries name given v d pen is same f = (
 )
 
 -- what was asked of a value that may be put
-pub given_fits : (kinds : List Declaration) (kind : ℕ) (entries : Entries) (name : ℕ) (o : Option ShapedValue) (given : ShapedValue) (d : Datatype) → Some d ≡ simple_at kinds kind → o ≡ Some given →
+pub given_fits : (kinds : List PlainKind) (kind : ℕ) (entries : Entries) (name : ℕ) (o : Option ShapedValue) (given : ShapedValue) (d : Datatype) → Some d ≡ simple_at kinds kind → o ≡ Some given →
     ((v : ShapedValue) × (o ≡ Some v) × MayWrite kinds kind entries name (value_of v)) → IsValue d (value_of given) × HasEntryFor entries name (value_of given)
 given_fits kinds kind entries name o given d is given_in h =
     let same : h.0 ≡ given = given_is o h.0 given h.1 given_in in

@@ -3,8 +3,7 @@ use Rattle.std.specs.Prelude.{◌≡◌, ℕ, ◌+◌, ◌<◌, true, Bool, List
 use Rattle.exi_bits.specs.Reading.{Cursor, Takes, ahead}
 use Rattle.exi_bits.specs.declared.span.SpanAt.{SpanAt}
 use Rattle.exi_schema.specs.declared.places.Place.{Place}
-use Rattle.exi_schema.specs.declared.schema.Schema.{Schema}
-use Rattle.exi_schema.specs.Schemas.{is_within}
+use Rattle.exi_schema.specs.Schemas.{PlainSchema, is_within}
 use Rattle.exi_documents.specs.declared.refusal.Refusal.{Refusal}
 use Rattle.exi_documents.specs.Trees.{Tree, Event as TreeEvent, document_events}
 use Rattle.exi_documents.specs.Values.{SpellsValue, most_entries}
@@ -12,7 +11,9 @@ use Rattle.exi_documents.specs.Documents.{IsDocument}
 use Rattle.exi_documents.specs.Grammar.{Opened, Standing, Before, AtRoot, Inside, Behind, State, around, stands, Moves, Reaches}
 use Rattle.exi_documents.specs.Refusals.{RefusesNext}
 use Rattle.exi_strings.specs.Table.{Table}
+use Rattle.document_laws.specs.Laws.{weight}
 use Rattle.exi_values.specs.Meaning.{texts_in, AreTexts}
+use Rattle.exi_events.specs.declared.reader.EventReader.{EventReader}
 use Rattle.exi_events.specs.declared.reader.Phase.{Phase}
 use Rattle.exi_events.specs.declared.reader.Phase.TheVariants as phase
 use Rattle.exi_events.specs.Inside.{AreOpen}
@@ -34,34 +35,54 @@ innermost_place (Inside top above) = Some top.place
 innermost_place Behind = None
 
 -- the root and the open elements are of the schema
-abbrev pub IsSound : Schema → Phase → List Opened → Type 0
+abbrev pub IsSound : PlainSchema → Phase → List Opened → Type 0
 IsSound s phase.Before elements = elements ≡ []
 IsSound s (phase.AtRoot name kind) elements =
-    (elements ≡ []) × (kind < length s.kinds.now) × (is_within s.kinds.now 16 kind ≡ true)
-IsSound s phase.Inside elements = AreOpen s.kinds.now elements
+    (elements ≡ []) × (kind < length s.kinds) × (is_within s.kinds 16 kind ≡ true)
+IsSound s phase.Inside elements = AreOpen s.kinds elements
 
 -- as a reader is made, and as each call leaves it: the table has its size and places of texts of the payload
-pub record IsReady (s : Schema) (phase : Phase) (elements : List Opened) (bits : List Bool) (table : Table SpanAt) : Type 0 where
+pub record IsReadyAt (s : PlainSchema) (phase : Phase) (elements : List Opened) (bits : List Bool) (table : Table SpanAt) : Type 0 where
   pub cap : table.cap ≡ most_entries
   pub texts : AreTexts bits table.entries
   pub sound : IsSound s phase elements
 
+-- how far a payload is read: the schema, how far the document is, and the bits passed and ahead
+pub record Reading : Type 0 where
+  pub schema : PlainSchema
+  pub state : State
+  pub cursor : Cursor
+
+abbrev pub reading : PlainSchema → State → Cursor → Reading
+reading s state cursor = record { schema = s; state = state; cursor = cursor }
+
+-- of a reader over places that tell a schema
+abbrev pub reading_of : {P : Type 0} → (P → PlainSchema) → EventReader P → Reading
+reading_of schema r = reading (schema r.places.now) (state_of r.phase r.elements r.reader.bits r.table.now.entries) r.reader
+
+abbrev pub IsReady : {P : Type 0} → (P → PlainSchema) → EventReader P → Type 0
+IsReady schema r = IsReadyAt (schema r.places.now) r.phase r.elements r.reader.bits r.table.now
+
+-- how many events may still come at most
+abbrev pub events_left : Reading → ℕ
+events_left r = length (ahead r.cursor) + weight r.state.standing
+
 -- an event is taken, or the document has ended and less than a byte is left
-abbrev pub IsNext : Schema → State → State → Cursor → Cursor → Option TreeEvent → Type 0
-IsNext s old new before after (Some event) = Takes (λ bits. Moves SpellsValue s old event bits new) before after
-IsNext s old new before after None = (old.standing ≡ Behind) × (length (ahead before) < 8) × (new ≡ old) × (after ≡ before)
+abbrev pub IsNext : Reading → Reading → Option TreeEvent → Type 0
+IsNext old new (Some event) = Takes (λ bits. Moves SpellsValue old.schema old.state event bits new.state) old.cursor new.cursor
+IsNext old new None = (old.state.standing ≡ Behind) × (length (ahead old.cursor) < 8) × (new.state ≡ old.state) × (new.cursor ≡ old.cursor)
 
 -- the item at the next event can't be taken
-abbrev pub IsRefusedAt : Schema → State → Cursor → Refusal → Type 0
-IsRefusedAt s state before refusal =
-    (at : ℕ) × RefusesNext s state (ahead before) refusal.cause at × (refusal.bit ≡ before.place + at)
+abbrev pub IsRefusedAt : Reading → Refusal → Type 0
+IsRefusedAt r refusal =
+    (at : ℕ) × RefusesNext r.schema r.state (ahead r.cursor) refusal.cause at × (refusal.bit ≡ r.cursor.place + at)
 
 -- the events up to here, the newest first, are those that the bits passed spell
-abbrev pub HasTold : Schema → List TreeEvent → State → Cursor → Type 0
-HasTold s events state cursor =
-    (front : List Bool) × Reaches SpellsValue s events front state × (cursor.bits ≡ front ++ ahead cursor) × (cursor.place ≡ length front)
+abbrev pub HasTold : Reading → List TreeEvent → Type 0
+HasTold r events =
+    (front : List Bool) × Reaches SpellsValue r.schema events front r.state × (r.cursor.bits ≡ front ++ ahead r.cursor) × (r.cursor.place ≡ length front)
 
 -- the events of a document that the payload spells
-abbrev pub IsTold : Schema → List TreeEvent → List ℕ → Type 0
+abbrev pub IsTold : PlainSchema → List TreeEvent → List ℕ → Type 0
 IsTold s events payload =
     (number : ℕ) × (tree : Tree) × (events ≡ reverse (document_events number tree)) × IsDocument s tree payload

@@ -6,9 +6,9 @@ use Rattle.exi_bits.specs.declared.pen.BitPen.{BitPen}
 use Rattle.exi_schema.specs.declared.places.Places.{Ghosts}
 use Rattle.exi_schema.specs.declared.places.Step.{Step}
 use Rattle.exi_schema.specs.declared.places.Step.TheVariants as step
-use Rattle.exi_schema.specs.declared.schema.Schema.{Schema}
+use Rattle.exi_schema.specs.Schemas.{PlainSchema}
 use Rattle.exi_schema.specs.declared.tables.Datatype.{Datatype}
-use Rattle.exi_schema.specs.declared.tables.Declaration.{Declaration}
+use Rattle.exi_schema.specs.Plain.{PlainKind}
 use Rattle.exi_schema.specs.declared.tables.MemberStanding.TheVariants.{Taken}
 use Rattle.exi_schema.specs.Steps.{simple_at}
 use Rattle.exi_documents.specs.Trees.{Tree, Value as TreeValue, Event as TreeEvent, document_events}
@@ -20,7 +20,7 @@ use Rattle.exi_values.specs.declared.Event.TheVariants as event
 use Rattle.exi_values.specs.declared.Value.{Value}
 use Rattle.exi_values.specs.Meaning.{IsShaped, event_of}
 use Rattle.exi_events.specs.declared.writer.EventWriter.{EventWriter}
-use Rattle.exi_events.specs.Reader.{state_of, IsReady}
+use Rattle.exi_events.specs.Reader.{state_of, IsReadyAt}
 
 -- a document as far as it is written: the bytes of its room, the bits written at their front, and how far the document is
 pub record Draft : Type 0 where
@@ -41,7 +41,7 @@ module _ {P : Type 0} {p : Ghosts P} where
 
   -- as a writer is made, and as each call leaves it
   abbrev pub IsReadyToPut : EventWriter P p → Type 0
-  IsReadyToPut w = IsReady (p.schema w.places.now) w.phase w.elements (draft_of w).bits w.table.now
+  IsReadyToPut w = IsReadyAt (p.schema w.places.now) w.phase w.elements (draft_of w).bits w.table.now
 
 -- the writer has the same room, table and places
 pub record KeepsLent {P : Type 0} {p : Ghosts P} (old new : EventWriter P p) : Type 0 where
@@ -65,17 +65,17 @@ NeedsMore draft n = 8 * length draft.room < length draft.bits + n
 -- ---- events
 
 -- the events up to here, the newest first, are those that the bits write
-abbrev pub HasPut : Schema → List TreeEvent → Draft → Type 0
+abbrev pub HasPut : PlainSchema → List TreeEvent → Draft → Type 0
 HasPut s events draft = Reaches WritesValue s events draft.bits draft.state
 
 -- some bits write what is told; nothing more is told behind the root
-abbrev pub IsOfferedAs : Schema → State → Option TreeEvent → Type 0
+abbrev pub IsOfferedAs : PlainSchema → State → Option TreeEvent → Type 0
 IsOfferedAs s state (Some told) = (bits : List Bool) × (new : State) × Moves WritesValue s state told bits new
 IsOfferedAs s state None = state.standing ≡ Behind
 
 -- an event may be put: the place offers it, an element only as one that may stand there, its value is in its datatype, and the table
 -- has room where a text would enter it
-abbrev pub IsOffered : Schema → State → Event → Type 0
+abbrev pub IsOffered : PlainSchema → State → Event → Type 0
 IsOffered s state e = IsOfferedAs s state (event_of e)
 
 -- the value of an event
@@ -96,18 +96,18 @@ abbrev pub IsShapedEvent : Event → Type 0
 IsShapedEvent e = IsShapedIn (value_in e)
 
 -- the bits of what is told are written; at the end nothing is
-abbrev pub IsPut : Schema → Draft → Draft → Option TreeEvent → Type 0
+abbrev pub IsPut : PlainSchema → Draft → Draft → Option TreeEvent → Type 0
 IsPut s old new (Some told) = (bits : List Bool) × Moves WritesValue s old.state told bits new.state × Adds old new bits
 IsPut s old new None = (old.state.standing ≡ Behind) × (new ≡ old)
 
 -- the room is too small for what writes it
-abbrev pub HasNoRoom : Schema → Draft → Option TreeEvent → Type 0
+abbrev pub HasNoRoom : PlainSchema → Draft → Option TreeEvent → Type 0
 HasNoRoom s draft (Some told) =
     (bits : List Bool) × ((new : State) × Moves WritesValue s draft.state told bits new) × NeedsMore draft (length bits)
 HasNoRoom s draft None = ⊥
 
 -- the events of a document of which this is the encoding
-abbrev pub IsWritten : Schema → List TreeEvent → List ℕ → Type 0
+abbrev pub IsWritten : PlainSchema → List TreeEvent → List ℕ → Type 0
 IsWritten s events payload =
     (number : ℕ) × (tree : Tree) × (events ≡ reverse (document_events number tree)) × IsEncoding s tree payload
 
@@ -122,10 +122,10 @@ IsStepOf (step.Characters next) (event.Value v) = Unit {0}
 IsStepOf _ _ = ⊥
 
 -- a value of a simple kind, as it is written
-abbrev pub WritesValueOf : List Declaration → ℕ → Entries → ℕ → TreeValue → Entries → List Bool → Type 0
+abbrev pub WritesValueOf : List PlainKind → ℕ → Entries → ℕ → TreeValue → Entries → List Bool → Type 0
 WritesValueOf kinds kind entries name value after bits =
     (datatype : Datatype) × (simple_at kinds kind ≡ Some datatype) × WritesValue datatype entries name value bits after
 
 -- some bits write it
-abbrev pub MayWrite : List Declaration → ℕ → Entries → ℕ → TreeValue → Type 0
+abbrev pub MayWrite : List PlainKind → ℕ → Entries → ℕ → TreeValue → Type 0
 MayWrite kinds kind entries name value = (bits : List Bool) × (after : Entries) × WritesValueOf kinds kind entries name value after bits

@@ -24,15 +24,15 @@ fn take_value<'a, P: Places>(
     name: u16,
     table: &mut Table,
 ) -> Result<Value<'a>, Refusal>
-    requires simple { IsSome (simple_at (P.schema places.now).kinds.now kind) }
+    requires simple { IsSome (simple_at (P.schema places.now).kinds kind) }
     requires cap { table.old.cap ≡ most_entries }
     requires texts { AreTexts reader.old.bits table.old.entries }
-    ensures ok { IfOk result (λ v. Takes (SpellsValueOf (P.schema places.now).kinds.now kind (texts_in reader.old.bits table.old.entries) name (value_of v) (texts_in reader.old.bits table.new.entries)) reader.old reader.new) }
+    ensures ok { IfOk result (λ v. Takes (SpellsValueOf (P.schema places.now).kinds kind (texts_in reader.old.bits table.old.entries) name (value_of v) (texts_in reader.old.bits table.new.entries)) reader.old reader.new) }
     ensures lent { IfOk result (λ v. IsLent reader.old.bits v) }
     ensures same { reader.new.bits ≡ reader.old.bits }
     ensures texts { AreTexts reader.old.bits table.new.entries }
     ensures cap { table.new.cap ≡ most_entries }
-    ensures refused { IfErr result (λ r. (at : ℕ) × RefusesValueOf (P.schema places.now).kinds.now kind (texts_in reader.old.bits table.old.entries) name (ahead reader.old) r.cause at × (r.bit ≡ reader.old.place + at)) }
+    ensures refused { IfErr result (λ r. (at : ℕ) × RefusesValueOf (P.schema places.now).kinds kind (texts_in reader.old.bits table.old.entries) name (ahead reader.old) r.cause at × (r.bit ≡ reader.old.place + at)) }
 {
     match places.datatype(kind) {
         Some(datatype) => reader.take_value(datatype, name, table),
@@ -49,12 +49,12 @@ pub(crate) fn take_inside<'a, P: Places>(
     top: OpenElement,
 ) -> Result<Event<'a>, Refusal>
     requires top { HasTop elements.old top }
-    requires elements { AreOpen (P.schema places.now).kinds.now elements.old }
+    requires elements { AreOpen (P.schema places.now).kinds elements.old }
     requires cap { table.old.cap ≡ most_entries }
     requires texts { AreTexts reader.old.bits table.old.entries }
     ensures ok { IfOk result (λ e. Takes (SpellsInside (P.schema places.now) elements.old (texts_in reader.old.bits table.old.entries) e elements.new (texts_in reader.old.bits table.new.entries)) reader.old reader.new) }
     ensures lent { IfOk result (λ e. IsLentEvent reader.old.bits e) }
-    ensures elements { AreOpen (P.schema places.now).kinds.now elements.new }
+    ensures elements { AreOpen (P.schema places.now).kinds elements.new }
     ensures same { reader.new.bits ≡ reader.old.bits }
     ensures texts { AreTexts reader.old.bits table.new.entries }
     ensures cap { table.new.cap ≡ most_entries }

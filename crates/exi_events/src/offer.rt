@@ -20,7 +20,7 @@ use exi_values::{Event, Table, Value};
 
 /// Whether a document number names a root.
 pub(crate) fn names_root<P: Places>(places: &P, number: u32) -> bool
-    ensures { IsTrue result ↔ ((name : ℕ) × (kind : ℕ) × IsRoot (P.schema places.now).roots.now (P.schema places.now).root_bits number (Kind name kind)) }
+    ensures { IsTrue result ↔ ((name : ℕ) × (kind : ℕ) × IsRoot (P.schema places.now).roots (P.schema places.now).root_bits number (Kind name kind)) }
 {
     match places.root(number) {
         Root::Kind { .. } => true,
@@ -37,12 +37,12 @@ pub(crate) struct Offer {
 
 /// The code of an event at a place, an element's only where it may stand there; `None` where the event is not offered.
 pub(crate) fn offer_of<P: Places>(places: &P, here: Place, event: &Event) -> Option<Offer>
-    requires { IsPlace (P.schema places.now).kinds.now here }
-    ensures offered { IfSome result (λ offer. slice_get (offers (P.schema places.now).kinds.now here) offer.code ≡ Some offer.step) }
+    requires { IsPlace (P.schema places.now).kinds here }
+    ensures offered { IfSome result (λ offer. slice_get (offers (P.schema places.now).kinds here) offer.code ≡ Some offer.step) }
     ensures meant { IfSome result (λ offer. IsStepOf offer.step event.now) }
-    ensures of_schema { IfSome result (λ offer. IsStep (P.schema places.now).kinds.now (length (P.schema places.now).names.now) here.kind offer.step) }
-    ensures few { length (offers (P.schema places.now).kinds.now here) < 2 ^ 16 }
-    ensures none { result ≡ None → (code : ℕ) (step : SchemaStep) → slice_get (offers (P.schema places.now).kinds.now here) code ≡ Some step → IsStepOf step event.now → ⊥ }
+    ensures of_schema { IfSome result (λ offer. IsStep (P.schema places.now).kinds (length (P.schema places.now).names) here.kind offer.step) }
+    ensures few { length (offers (P.schema places.now).kinds here) < 2 ^ 16 }
+    ensures none { result ≡ None → (code : ℕ) (step : SchemaStep) → slice_get (offers (P.schema places.now).kinds here) code ≡ Some step → IsStepOf step event.now → ⊥ }
 {
     for code in 0..places.alternatives(here) {
         let step = places.advance(here, code);
@@ -86,7 +86,7 @@ pub(crate) fn offers_inside<P: Places>(
     event: &Event,
 ) -> bool
     requires few { length written.now ≤ 65536 }
-    requires place { IsPlace (P.schema places.now).kinds.now top.place }
+    requires place { IsPlace (P.schema places.now).kinds top.place }
     requires cap { table.now.cap ≡ most_entries }
     requires texts { AreTexts (bits_of written.now) table.now.entries }
     requires shaped { IsShapedEvent event.now }
@@ -116,13 +116,13 @@ fn offers_value<P: Places>(
     event: &Event,
 ) -> bool
     requires few { length written.now ≤ 65536 }
-    requires simple { IsSome (simple_at (P.schema places.now).kinds.now kind) }
+    requires simple { IsSome (simple_at (P.schema places.now).kinds kind) }
     requires cap { table.now.cap ≡ most_entries }
     requires texts { AreTexts (bits_of written.now) table.now.entries }
     requires shaped { IsShapedEvent event.now }
     requires value { IsSome (value_in event.now) }
     ensures { (v : _) → value_in event.now ≡ Some v
-        → (IsTrue result ↔ MayWrite (P.schema places.now).kinds.now kind (texts_in (bits_of written.now) table.now.entries) name (value_of v)) }
+        → (IsTrue result ↔ MayWrite (P.schema places.now).kinds kind (texts_in (bits_of written.now) table.now.entries) name (value_of v)) }
 {
     let Some(datatype) = places.datatype(kind) else {
         unreachable!()

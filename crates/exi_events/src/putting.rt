@@ -10,7 +10,7 @@ ghost use Rattle.exi_values.specs.Meaning.{AreTexts, event_of, texts_in, value_o
 ghost use Rattle.exi_writing.specs.Writing.{Puts, Lacks, WritesMore, PassesRoom};
 ghost use Rattle.exi_events.specs.Front.{SpellsFront};
 ghost use Rattle.exi_events.specs.Inside.{AreOpen, HasTop};
-ghost use Rattle.exi_events.specs.Reader.{state_of, IsReady};
+ghost use Rattle.exi_events.specs.Reader.{state_of, IsReadyAt};
 ghost use Rattle.exi_events.specs.Writer.{drafted, IsOffered, IsShapedEvent, IsPut, HasNoRoom, MayWrite, WritesValueOf, value_in};
 
 use crate::offer::offer_of;
@@ -24,11 +24,11 @@ use exi_writing::put_value;
 
 /// Writes the header and a document number that names a root.
 fn put_front<P: Places>(pen: &mut BitPen, places: &P, number: u32) -> Result<RootNumber, Full>
-    requires { (name : ℕ) × (kind : ℕ) × IsRoot (P.schema places.now).roots.now (P.schema places.now).root_bits number (Kind name kind) }
+    requires { (name : ℕ) × (kind : ℕ) × IsRoot (P.schema places.now).roots (P.schema places.now).root_bits number (Kind name kind) }
     ensures ok { IfOk result (λ root. Puts (SpellsFront (P.schema places.now) root.number) pen.old pen.new) }
     ensures number { IfOk result (λ root. root.number ≡ number) }
-    ensures named { IfOk result (λ root. IsRoot (P.schema places.now).roots.now (P.schema places.now).root_bits root.number (Kind root.name root.kind)) }
-    ensures of_schema { IfOk result (λ root. IsRootOf (P.schema places.now).kinds.now (length (P.schema places.now).names.now) (Kind root.name root.kind)) }
+    ensures named { IfOk result (λ root. IsRoot (P.schema places.now).roots (P.schema places.now).root_bits root.number (Kind root.name root.kind)) }
+    ensures of_schema { IfOk result (λ root. IsRootOf (P.schema places.now).kinds (length (P.schema places.now).names) (Kind root.name root.kind)) }
     ensures full { IsErr result ↔ Lacks (SpellsFront (P.schema places.now) number) pen.old }
     ensures bits { IfErr result (PassesRoom pen.old) }
     ensures more { WritesMore pen.old pen.new }
@@ -50,17 +50,17 @@ fn put_value_of<P: Places>(
     name: u16,
     event: &Event,
 ) -> Result<(), Full>
-    requires simple { IsSome (simple_at (P.schema places.now).kinds.now kind) }
+    requires simple { IsSome (simple_at (P.schema places.now).kinds kind) }
     requires cap { table.old.cap ≡ most_entries }
     requires texts { AreTexts (written_bits pen.old) table.old.entries }
     requires shaped { IsShapedEvent event.now }
-    requires value { (v : _) × (value_in event.now ≡ Some v) × MayWrite (P.schema places.now).kinds.now kind (texts_in (written_bits pen.old) table.old.entries) name (value_of v) }
+    requires value { (v : _) × (value_in event.now ≡ Some v) × MayWrite (P.schema places.now).kinds kind (texts_in (written_bits pen.old) table.old.entries) name (value_of v) }
     ensures ok { (v : _) → value_in event.now ≡ Some v
-        → OnOk result (Puts (λ bits. WritesValueOf (P.schema places.now).kinds.now kind (texts_in (written_bits pen.old) table.old.entries) name (value_of v) (texts_in (written_bits pen.new) table.new.entries) bits) pen.old pen.new) }
+        → OnOk result (Puts (λ bits. WritesValueOf (P.schema places.now).kinds kind (texts_in (written_bits pen.old) table.old.entries) name (value_of v) (texts_in (written_bits pen.new) table.new.entries) bits) pen.old pen.new) }
     ensures texts { AreTexts (written_bits pen.new) table.new.entries }
     ensures cap { table.new.cap ≡ most_entries }
     ensures full { (v : _) → value_in event.now ≡ Some v
-        → (IsErr result ↔ Lacks (λ bits. (after : Entries) × WritesValueOf (P.schema places.now).kinds.now kind (texts_in (written_bits pen.old) table.old.entries) name (value_of v) after bits) pen.old) }
+        → (IsErr result ↔ Lacks (λ bits. (after : Entries) × WritesValueOf (P.schema places.now).kinds kind (texts_in (written_bits pen.old) table.old.entries) name (value_of v) after bits) pen.old) }
     ensures bits { IfErr result (PassesRoom pen.old) }
     ensures more { WritesMore pen.old pen.new }
     ensures stays { OnErr result (table.new ≡ table.old) }
@@ -86,7 +86,7 @@ fn put_inside<P: Places>(
     event: &Event,
 ) -> Result<(), Full>
     requires top { HasTop elements.old top }
-    requires elements { AreOpen (P.schema places.now).kinds.now elements.old }
+    requires elements { AreOpen (P.schema places.now).kinds elements.old }
     requires cap { table.old.cap ≡ most_entries }
     requires texts { AreTexts (written_bits pen.old) table.old.entries }
     requires shaped { IsShapedEvent event.now }
@@ -94,7 +94,7 @@ fn put_inside<P: Places>(
     ensures ok { OnOk result (IsPut (P.schema places.now)
         (drafted pen.old (stands (around elements.old) (texts_in (written_bits pen.old) table.old.entries)))
         (drafted pen.new (stands (around elements.new) (texts_in (written_bits pen.new) table.new.entries))) (event_of event.now)) }
-    ensures elements { AreOpen (P.schema places.now).kinds.now elements.new }
+    ensures elements { AreOpen (P.schema places.now).kinds elements.new }
     ensures texts { AreTexts (written_bits pen.new) table.new.entries }
     ensures cap { table.new.cap ≡ most_entries }
     ensures full { IsErr result ↔ HasNoRoom (P.schema places.now)
@@ -139,10 +139,10 @@ pub(crate) fn put_event<P: Places>(
     elements: &mut OpenElements,
     event: &Event,
 ) -> Result<(), Full>
-    requires ready { IsReady (P.schema places.now) phase.old elements.old (written_bits pen.old) table.old }
+    requires ready { IsReadyAt (P.schema places.now) phase.old elements.old (written_bits pen.old) table.old }
     requires shaped { IsShapedEvent event.now }
     requires offered { IsOffered (P.schema places.now) (state_of phase.old elements.old (written_bits pen.old) table.old.entries) event.now }
-    ensures ready { IsReady (P.schema places.now) phase.new elements.new (written_bits pen.new) table.new }
+    ensures ready { IsReadyAt (P.schema places.now) phase.new elements.new (written_bits pen.new) table.new }
     ensures same_room { pen.new.room.ghost_name ≡ pen.old.room.ghost_name }
     ensures ok { OnOk result (IsPut (P.schema places.now)
         (drafted pen.old (state_of phase.old elements.old (written_bits pen.old) table.old.entries))

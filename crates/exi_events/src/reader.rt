@@ -1,16 +1,9 @@
 //! Events read from a payload.
 
-ghost use Rattle.std.specs.Prelude.{◌≡◌, ℕ, ◌+◌, ◌%◌, ◌≤◌, ◌<◌, ◌∷◌, [], List, length, Some, None, IfSome, IfOk, IfErr, OnErr, Ok, Err};
-ghost use Rattle.exi_spec.specs.Bits.{bits_of};
-ghost use Rattle.exi_bits.specs.Reading.{Cursor, ahead};
+ghost use Rattle.std.specs.Prelude.{◌≡◌, ◌+◌, ◌%◌, ◌≤◌, ◌<◌, length, IfOk, IfErr};
+ghost use Rattle.exi_bits.specs.Reading.{ahead};
 ghost use Rattle.exi_documents.specs.declared.refusal.RefusalCause.TheVariants as cause;
-ghost use Rattle.exi_documents.specs.Refusals.{IsRefused};
-ghost use Rattle.exi_documents.specs.Trees.{Event as TreeEvent};
-ghost use Rattle.exi_documents.specs.Values.{most_entries};
-ghost use Rattle.exi_values.specs.Meaning.{IsLentEvent, event_of};
 ghost use Rattle.exi_values.specs.declared.Event.TheVariants as event;
-ghost use Rattle.exi_schema.specs.Offers.{IsPlace};
-ghost use Rattle.exi_events.specs.Reader.{state_of, innermost_place, IsReady, IsNext, IsRefusedAt, HasTold, IsTold};
 
 use crate::inside::take_inside;
 use crate::open::OpenElements;
@@ -47,6 +40,16 @@ pub struct EventReader<'a, 'p, P: Places> {
 }
 
 impl<'a, 'p, P: Places> EventReader<'a, 'p, P> {
+    ghost use Rattle.std.specs.Prelude.{◌≡◌, ℕ, ◌≤◌, ◌<◌, ◌∷◌, [], List, length, Some, None, IfSome, IfOk, IfErr, Err};
+    ghost use Rattle.exi_spec.specs.Bits.{bits_of};
+    ghost use Rattle.exi_schema.specs.Offers.{IsPlace};
+    ghost use Rattle.exi_documents.specs.Refusals.{IsRefused};
+    ghost use Rattle.exi_documents.specs.Trees.{Event as TreeEvent};
+    ghost use Rattle.exi_documents.specs.Values.{most_entries};
+    ghost use Rattle.exi_values.specs.Meaning.{IsLentEvent, event_of};
+    ghost use Rattle.exi_values.specs.declared.Event.TheVariants as event;
+    ghost use Rattle.exi_events.specs.Reader.{innermost_place, reading_of, events_left, IsReady, IsNext, IsRefusedAt, HasTold, IsTold};
+
     /// A reader at the start of a payload of at most 65,536 bytes. The table is emptied; it has room for 8,192 entries.
     pub fn new(payload: &'a [u8], places: &'p P, table: &'p mut Table) -> EventReader<'a, 'p, P>
         requires payload { length payload.now ≤ 65536 }
@@ -55,8 +58,8 @@ impl<'a, 'p, P: Places> EventReader<'a, 'p, P> {
         ensures places { result.places.now ≡ places.now }
         ensures payload { result.reader ≡ record { bits = bits_of payload.now; place = 0 } }
         ensures open_still { result.refused ≡ None }
-        ensures ready { IsReady (P.schema places.now) result.phase result.elements result.reader.bits result.table.now }
-        ensures told { HasTold (P.schema places.now) [] (state_of result.phase result.elements result.reader.bits result.table.now.entries) result.reader }
+        ensures ready { IsReady P.schema result }
+        ensures told { HasTold (reading_of P.schema result) [] }
     {
         table.clear();
         EventReader {
@@ -71,40 +74,38 @@ impl<'a, 'p, P: Places> EventReader<'a, 'p, P> {
 
     /// The place reached in the innermost element that has started and not ended, a place of the schema; `None` where there is no such element.
     pub fn place(&self) -> Option<Place>
-        requires ready { IsReady (P.schema self.now.places.now) self.now.phase self.now.elements self.now.reader.bits self.now.table.now }
-        ensures place { result ≡ innermost_place (state_of self.now.phase self.now.elements self.now.reader.bits self.now.table.now.entries).standing }
-        ensures of_schema { IfSome result (λ place. IsPlace (P.schema self.now.places.now).kinds.now place) }
+        requires ready { IsReady P.schema self.now }
+        ensures place { result ≡ innermost_place (reading_of P.schema self.now).state.standing }
+        ensures of_schema { IfSome result (λ place. IsPlace (P.schema self.now.places.now).kinds place) }
     {
         self.elements.innermost().map(|top| top.place)
     }
 
-    #[tactic(auto, using(crate::proofs::Told::told_more, crate::proofs::Told::told_all, crate::proofs::Told::told_refused))]
+    #[tactic(auto, using(crate::proofs::Told::told_all, crate::proofs::Told::told_refused, crate::proofs::Told::fewer_left))]
     /// The next event: `Finished` behind the end of the root, where less than a byte is left, and from then on.
     pub fn next(&mut self) -> Result<Event<'a>, Refusal>
-        requires ready { IsReady (P.schema self.old.places.now) self.old.phase self.old.elements self.old.reader.bits self.old.table.now }
-        ensures ready { IsReady (P.schema self.new.places.now) self.new.phase self.new.elements self.new.reader.bits self.new.table.now }
+        requires ready { IsReady P.schema self.old }
+        ensures ready { IsReady P.schema self.new }
         ensures same_reference { self.new.table.ghost_name ≡ self.old.table.ghost_name }
         ensures places { self.new.places.now ≡ self.old.places.now }
         ensures payload { self.new.reader.bits ≡ self.old.reader.bits }
         ensures lent { IfOk result (λ e. IsLentEvent self.old.reader.bits e) }
         ensures again { (r : _) → self.old.refused ≡ Some r → (result ≡ Err r) × (self.new.refused ≡ Some r) }
-        ensures next { IfOk result (λ e. IsNext (P.schema self.old.places.now)
-            (state_of self.old.phase self.old.elements self.old.reader.bits self.old.table.now.entries)
-            (state_of self.new.phase self.new.elements self.new.reader.bits self.new.table.now.entries)
-            self.old.reader self.new.reader (event_of e)) }
+        ensures next { IfOk result (λ e. IsNext (reading_of P.schema self.old) (reading_of P.schema self.new) (event_of e)) }
+        // A loop up to the end of the document ends.
+        ensures fewer { IfOk result (λ e. (e ≡ event.Finished → ⊥) → events_left (reading_of P.schema self.new) < events_left (reading_of P.schema self.old)) }
         ensures open_still { IfOk result (λ e. (self.old.refused ≡ None) × (self.new.refused ≡ None)) }
-        ensures refused { self.old.refused ≡ None → IfErr result (λ r. IsRefusedAt (P.schema self.old.places.now)
-            (state_of self.old.phase self.old.elements self.old.reader.bits self.old.table.now.entries) self.old.reader r × (self.new.refused ≡ Some r)) }
+        ensures refused { self.old.refused ≡ None → IfErr result (λ r. IsRefusedAt (reading_of P.schema self.old) r × (self.new.refused ≡ Some r)) }
         // Of a whole payload: the events are those of its tree, or this is its refusal.
         ensures told { (events : List TreeEvent)
-            → HasTold (P.schema self.old.places.now) events (state_of self.old.phase self.old.elements self.old.reader.bits self.old.table.now.entries) self.old.reader
+            → HasTold (reading_of P.schema self.old) events
             → IfOk result (λ e. (told : TreeEvent) → event_of e ≡ Some told
-            → HasTold (P.schema self.old.places.now) (told ∷ events) (state_of self.new.phase self.new.elements self.new.reader.bits self.new.table.now.entries) self.new.reader) }
+            → HasTold (reading_of P.schema self.new) (told ∷ events)) }
         ensures document { (payload : List ℕ) (events : List TreeEvent) → bits_of payload ≡ self.old.reader.bits
-            → HasTold (P.schema self.old.places.now) events (state_of self.old.phase self.old.elements self.old.reader.bits self.old.table.now.entries) self.old.reader
+            → HasTold (reading_of P.schema self.old) events
             → IfOk result (λ e. event_of e ≡ None → IsTold (P.schema self.old.places.now) events payload) }
         ensures refusal { (payload : List ℕ) (events : List TreeEvent) → bits_of payload ≡ self.old.reader.bits → self.old.refused ≡ None
-            → HasTold (P.schema self.old.places.now) events (state_of self.old.phase self.old.elements self.old.reader.bits self.old.table.now.entries) self.old.reader
+            → HasTold (reading_of P.schema self.old) events
             → IfErr result (λ r. IsRefused (P.schema self.old.places.now) payload r.cause r.bit) }
     {
         if let Some(refusal) = self.refused {
@@ -129,19 +130,15 @@ impl<'a, 'p, P: Places> EventReader<'a, 'p, P> {
 
     /// The next event, where none was refused.
     fn step(&mut self) -> Result<Event<'a>, Refusal>
-        requires ready { IsReady (P.schema self.old.places.now) self.old.phase self.old.elements self.old.reader.bits self.old.table.now }
-        ensures ready { IsReady (P.schema self.new.places.now) self.new.phase self.new.elements self.new.reader.bits self.new.table.now }
+        requires ready { IsReady P.schema self.old }
+        ensures ready { IsReady P.schema self.new }
         ensures same_reference { self.new.table.ghost_name ≡ self.old.table.ghost_name }
         ensures places { self.new.places.now ≡ self.old.places.now }
         ensures payload { self.new.reader.bits ≡ self.old.reader.bits }
         ensures refusals { self.new.refused ≡ self.old.refused }
         ensures lent { IfOk result (λ e. IsLentEvent self.old.reader.bits e) }
-        ensures next { IfOk result (λ e. IsNext (P.schema self.old.places.now)
-            (state_of self.old.phase self.old.elements self.old.reader.bits self.old.table.now.entries)
-            (state_of self.new.phase self.new.elements self.new.reader.bits self.new.table.now.entries)
-            self.old.reader self.new.reader (event_of e)) }
-        ensures refused { IfErr result (λ r. IsRefusedAt (P.schema self.old.places.now)
-            (state_of self.old.phase self.old.elements self.old.reader.bits self.old.table.now.entries) self.old.reader r) }
+        ensures next { IfOk result (λ e. IsNext (reading_of P.schema self.old) (reading_of P.schema self.new) (event_of e)) }
+        ensures refused { IfErr result (λ r. IsRefusedAt (reading_of P.schema self.old) r) }
     {
         match self.phase {
             Phase::Before => {

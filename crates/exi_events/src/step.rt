@@ -22,11 +22,11 @@ pub(crate) fn take_step<P: Places>(
     places: &P,
     here: Place,
 ) -> Result<Step, Refusal>
-    requires { IsPlace (P.schema places.now).kinds.now here }
-    ensures ok { IfOk result (λ step. Takes (SpellsStep (P.schema places.now).kinds.now here step) reader.old reader.new) }
+    requires { IsPlace (P.schema places.now).kinds here }
+    ensures ok { IfOk result (λ step. Takes (SpellsStep (P.schema places.now).kinds here step) reader.old reader.new) }
     ensures taken { IfOk result (λ step. step_cause step ≡ None) }
-    ensures of_schema { IfOk result (λ step. IsStep (P.schema places.now).kinds.now (length (P.schema places.now).names.now) here.kind step) }
-    ensures refused { IfErr result (λ r. RefusesStep (P.schema places.now).kinds.now here (ahead reader.old) r.cause) }
+    ensures of_schema { IfOk result (λ step. IsStep (P.schema places.now).kinds (length (P.schema places.now).names) here.kind step) }
+    ensures refused { IfErr result (λ r. RefusesStep (P.schema places.now).kinds here (ahead reader.old) r.cause) }
     ensures at { IfErr result (λ r. r.bit ≡ reader.old.place) }
     ensures same { reader.new.bits ≡ reader.old.bits }
 {
@@ -110,8 +110,8 @@ pub(crate) struct RootNumber {
 #[tactic(auto, using(crate::proofs::Limits::few_root_bits))]
 fn take_root<P: Places>(reader: &mut PayloadReader, places: &P) -> Result<RootNumber, Refusal>
     ensures ok { IfOk result (λ root. Takes (SpellsNumber (P.schema places.now).root_bits root.number) reader.old reader.new) }
-    ensures named { IfOk result (λ root. IsRoot (P.schema places.now).roots.now (P.schema places.now).root_bits root.number (Kind root.name root.kind)) }
-    ensures of_schema { IfOk result (λ root. IsRootOf (P.schema places.now).kinds.now (length (P.schema places.now).names.now) (Kind root.name root.kind)) }
+    ensures named { IfOk result (λ root. IsRoot (P.schema places.now).roots (P.schema places.now).root_bits root.number (Kind root.name root.kind)) }
+    ensures of_schema { IfOk result (λ root. IsRootOf (P.schema places.now).kinds (length (P.schema places.now).names) (Kind root.name root.kind)) }
     ensures refused { IfErr result (λ r. RefusesNumber (P.schema places.now) (ahead reader.old) r.cause) }
     ensures at { IfErr result (λ r. r.bit ≡ reader.old.place) }
     ensures same { reader.new.bits ≡ reader.old.bits }
@@ -138,8 +138,8 @@ pub(crate) fn take_front<P: Places>(
     places: &P,
 ) -> Result<RootNumber, Refusal>
     ensures ok { IfOk result (λ root. Takes (SpellsFront (P.schema places.now) root.number) reader.old reader.new) }
-    ensures named { IfOk result (λ root. IsRoot (P.schema places.now).roots.now (P.schema places.now).root_bits root.number (Kind root.name root.kind)) }
-    ensures of_schema { IfOk result (λ root. IsRootOf (P.schema places.now).kinds.now (length (P.schema places.now).names.now) (Kind root.name root.kind)) }
+    ensures named { IfOk result (λ root. IsRoot (P.schema places.now).roots (P.schema places.now).root_bits root.number (Kind root.name root.kind)) }
+    ensures of_schema { IfOk result (λ root. IsRootOf (P.schema places.now).kinds (length (P.schema places.now).names) (Kind root.name root.kind)) }
     ensures refused { IfErr result (λ r. (at : ℕ) × RefusesFront (P.schema places.now) (ahead reader.old) r.cause at × (r.bit ≡ reader.old.place + at)) }
     ensures same { reader.new.bits ≡ reader.old.bits }
 {

@@ -7,6 +7,7 @@ ghost use Rattle.exi_events.specs.Writer.{IsShapedEvent, IsReadyToPut, KeepsLent
 
 use crate::choices::four_choices;
 use crate::{Event, EventReader, EventWriter, Full, Refusal, RefusalCause, Table, Value};
+use exi_documents::MOST_ENTRIES;
 use app_schema::negotiation;
 use exi_schema::Places;
 use exi_strings::Partitions;
@@ -56,8 +57,8 @@ const REQUEST: [Told; 20] = [
 ];
 
 fn next_is<P: Places>(rt: &impl Abort, reader: &mut EventReader<P>, told: &Told)
-    requires { IsReady (P.schema reader.old.places.now) reader.old.phase reader.old.elements reader.old.reader.bits reader.old.table.now }
-    ensures { IsReady (P.schema reader.new.places.now) reader.new.phase reader.new.elements reader.new.reader.bits reader.new.table.now }
+    requires { IsReady P.schema reader.old }
+    ensures { IsReady P.schema reader.new }
 {
     let Ok(event) = reader.next() else {
         assert!(rt; false);
@@ -80,7 +81,7 @@ fn next_is<P: Places>(rt: &impl Abort, reader: &mut EventReader<P>, told: &Told)
 
 #[test]
 fn the_published_request_is_told(rt: HostRuntime) {
-    let Ok(mut table) = Partitions::make(rt.alloc(), 8192) else {
+    let Ok(mut table) = Partitions::make(rt.alloc(), MOST_ENTRIES) else {
         assert!(rt; false);
         return;
     };
@@ -96,7 +97,7 @@ fn the_published_request_is_told(rt: HostRuntime) {
 /// Another schema is asked at each place: with a code of three bits the same bits tell another element.
 #[test]
 fn the_places_that_are_lent_are_asked(rt: HostRuntime) {
-    let Ok(mut table) = Partitions::make(rt.alloc(), 8192) else {
+    let Ok(mut table) = Partitions::make(rt.alloc(), MOST_ENTRIES) else {
         assert!(rt; false);
         return;
     };
@@ -114,8 +115,8 @@ fn the_places_that_are_lent_are_asked(rt: HostRuntime) {
 
 /// Reads up to a refusal, which is answered again.
 fn refusal_of<P: Places>(rt: &impl Abort, reader: &mut EventReader<P>) -> Option<Refusal>
-    requires { IsReady (P.schema reader.old.places.now) reader.old.phase reader.old.elements reader.old.reader.bits reader.old.table.now }
-    ensures ready { IsReady (P.schema reader.new.places.now) reader.new.phase reader.new.elements reader.new.reader.bits reader.new.table.now }
+    requires { IsReady P.schema reader.old }
+    ensures ready { IsReady P.schema reader.new }
     ensures same_reference { reader.new.table.ghost_name ≡ reader.old.table.ghost_name }
 {
     for _ in 0..100 {
@@ -143,7 +144,7 @@ fn is_refused(rt: &impl Abort, table: &mut Table, payload: &[u8], cause: Refusal
 
 #[test]
 fn refusals_have_a_bit(rt: HostRuntime) {
-    let Ok(mut table) = Partitions::make(rt.alloc(), 8192) else {
+    let Ok(mut table) = Partitions::make(rt.alloc(), MOST_ENTRIES) else {
         assert!(rt; false);
         return;
     };
@@ -232,7 +233,7 @@ fn put_all(rt: &impl Abort, room: &mut [u8], table: &mut Table, all: &[Told]) ->
 
 #[test]
 fn documents_are_written(rt: HostRuntime) {
-    let Ok(mut table) = Partitions::make(rt.alloc(), 8192) else {
+    let Ok(mut table) = Partitions::make(rt.alloc(), MOST_ENTRIES) else {
         assert!(rt; false);
         return;
     };

@@ -10,6 +10,7 @@ ghost use Rattle.exi_strings.specs.Table.{global_of};
 ghost use Rattle.exi_strings.specs.Texts.{IsAbsent};
 ghost use Rattle.exi_writing.specs.Entering.{HasEntryFor};
 
+use exi_documents::MOST_ENTRIES;
 use exi_bits::{BitSpan, SpanAt};
 use exi_schema::Datatype;
 use exi_values::{Table, Value};
@@ -67,7 +68,7 @@ pub(crate) fn has_entry(written: &[u8], table: &Table, value: &Value) -> bool
     ensures few { length table.now.entries ≤ most_entries }
     ensures room { (name : ℕ) → (IsTrue result ↔ HasEntryFor (texts_in (bits_of written.now) table.now.entries) name (value_of value.now)) }
 {
-    if table.globals() < 8192 {
+    if table.globals() < MOST_ENTRIES {
         return true;
     }
     match value {

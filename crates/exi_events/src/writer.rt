@@ -69,7 +69,7 @@ impl<'b, 'p, P: Places> EventWriter<'b, 'p, P> {
     pub fn place(&self) -> Option<Place>
         requires ready { IsReadyToPut self.now }
         ensures place { result ≡ innermost_place (draft_of self.now).state.standing }
-        ensures of_schema { IfSome result (λ place. IsPlace (P.schema self.now.places.now).kinds.now place) }
+        ensures of_schema { IfSome result (λ place. IsPlace (P.schema self.now.places.now).kinds place) }
     {
         self.elements.innermost().map(|top| top.place)
     }

@@ -6,7 +6,7 @@ ghost use Rattle.exi_documents.specs.Values.{most_entries};
 ghost use Rattle.exi_values.specs.Meaning.{AreTexts};
 
 use crate::PayloadReader;
-use exi_documents::{Refusal, RefusalCause};
+use exi_documents::{MOST_ENTRIES, Refusal, RefusalCause};
 use exi_schema::Datatype;
 use exi_strings::Partitions;
 use exi_values::{Table, Value};
@@ -72,7 +72,7 @@ fn refused(
 {
     let mut reader = PayloadReader::new(payload);
     assert_eq!(rt; reader.take_number(4), Ok(0));
-    match Partitions::make(alloc, 8192) {
+    match Partitions::make(alloc, MOST_ENTRIES) {
         Ok(mut table) => match reader.take_value(datatype, 7, &mut table) {
             Ok(_) => assert!(rt; false),
             Err(refusal) => assert_eq!(rt; refusal, Refusal { cause, bit }),
@@ -83,7 +83,7 @@ fn refused(
 
 #[test]
 fn each_datatype_at_any_bit(rt: HostRuntime) {
-    let Ok(mut table) = Partitions::make(rt.alloc(), 8192) else {
+    let Ok(mut table) = Partitions::make(rt.alloc(), MOST_ENTRIES) else {
         assert!(rt; false);
         return;
     };
@@ -137,7 +137,7 @@ fn each_datatype_at_any_bit(rt: HostRuntime) {
 
 #[test]
 fn texts_are_entered_and_found_again(rt: HostRuntime) {
-    let Ok(mut table) = Partitions::make(rt.alloc(), 8192) else {
+    let Ok(mut table) = Partitions::make(rt.alloc(), MOST_ENTRIES) else {
         assert!(rt; false);
         return;
     };

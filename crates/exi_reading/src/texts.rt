@@ -15,11 +15,8 @@ ghost use Rattle.exi_reading.specs.Refusing.{Refused};
 
 use crate::items::{index_width, refusal, take_number};
 use exi_bits::{BitCursor, BitSpan, SpanAt};
-use exi_documents::{Refusal, RefusalCause};
+use exi_documents::{MOST_ENTRIES, Refusal, RefusalCause};
 use exi_values::Table;
-
-/// How many texts a document enters at most (own).
-const MOST_ENTRIES: u32 = 8192;
 
 /// A text of at most `most` code points, of the element or attribute with this name.
 ///

@@ -3,3 +3,5 @@ pub mod Widths
 pub mod Conditions
 pub mod Fitting
 pub mod Roots
+pub mod TablesTell
+pub mod OneSchema

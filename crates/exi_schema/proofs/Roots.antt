@@ -1,11 +1,9 @@
 -- The first root with a document number is the element that the number names.
-use Rattle.std.proofs.Common.{◌≡◌, ℕ, zero, suc, Bool, true, false, if◌then◌else◌, List, [], ◌∷◌, Some, refl, ap, ◌∙◌, subst, inl, inr, eqb-true, nat_lt, nat_le, not, ◌&&◌, ◌^◌, length, map}
+use Rattle.std.proofs.Common.{◌≡◌, ℕ, zero, suc, Bool, true, false, if◌then◌else◌, List, [], ◌∷◌, Some, refl, ap, ◌∙◌, inl, inr, eqb-true, nat_lt, nat_le, not, ◌&&◌, ◌^◌, length}
 use Rattle.std.proofs.lemmas.Bool.{ltb-true}
-use Rattle.std.proofs.lemmas.List.{length-map}
 use Rattle.std.specs.List.{list_all}
-use Rattle.exi_schema.specs.declared.tables.Declaration.{Declaration}
-use Rattle.exi_schema.specs.declared.schema.Schema.{Schema}
-use Rattle.exi_schema.specs.Schemas.{is_root, is_within, are_roots, are_kinds, are_words, are_values}
+use Rattle.exi_schema.specs.Plain.{PlainKind}
+use Rattle.exi_schema.specs.Schemas.{PlainSchema, is_root, is_within, are_roots, are_kinds, are_words, are_values}
 use Rattle.exi_schema.proofs.Conditions.{and-l, and-r}
 use Rattle.std.proofs.lemmas.Bool.Decides.{eqb_tells}
 use Rattle.std.specs.Prelude.{slice_get, ◌==◌}
@@ -42,7 +40,7 @@ is_numbered (root ∷ roots) bits number coded = numbered_by (root.number == num
 
 -- ---- the roots of a schema are its own
 
-pub numbered_fits_by : (b : Bool) (kinds : List Declaration) (names bits : ℕ) (root : RootOf) (roots : List RootOf) (number : ℕ) → is_root bits names kinds root ≡ true →
+pub numbered_fits_by : (b : Bool) (kinds : List PlainKind) (names bits : ℕ) (root : RootOf) (roots : List RootOf) (number : ℕ) → is_root bits names kinds root ≡ true →
     IsRootOf kinds names (root_numbered roots number) → IsRootOf kinds names (if b then Kind root.name root.kind else root_numbered roots number)
 numbered_fits_by true kinds names bits root roots number is more =
     let four = and-l _ (is_within kinds 16 root.kind) is in
@@ -53,19 +51,16 @@ numbered_fits_by true kinds names bits root roots number is more =
     )
 numbered_fits_by false kinds names bits root roots number is more = more
 
-pub numbered_fits : (kinds : List Declaration) (names bits : ℕ) (roots : List RootOf) (number : ℕ) → list_all (is_root bits names kinds) roots ≡ true → IsRootOf kinds names (root_numbered roots number)
+pub numbered_fits : (kinds : List PlainKind) (names bits : ℕ) (roots : List RootOf) (number : ℕ) → list_all (is_root bits names kinds) roots ≡ true → IsRootOf kinds names (root_numbered roots number)
 numbered_fits kinds names bits [] number all = tt
 numbered_fits kinds names bits (root ∷ roots) number all =
     numbered_fits_by (root.number == number) kinds names bits root roots number (and-l (is_root bits names kinds root) (list_all (is_root bits names kinds) roots) all)
     (numbered_fits kinds names bits roots number (and-r (is_root bits names kinds root) (list_all (is_root bits names kinds) roots) all))
 
-pub root_fits : (s : Schema) (number : ℕ) → IsRootOf s.kinds.now (length s.names.now) (root_numbered s.roots.now number)
+pub root_fits : (s : PlainSchema) (number : ℕ) → IsRootOf s.kinds (length s.names) (root_numbered s.roots number)
 root_fits s number =
-    let n : length (map (λ t. t.now) s.names.now) ≡ length s.names.now = length-map s.names.now (λ t. t.now) in
-    let P : ℕ → Type 0 = λ m. IsRootOf s.kinds.now m (root_numbered s.roots.now number) in
-    let texts : List (List ℕ) = map (λ t. t.now) s.names.now in
-    let two = and-l _ (are_words texts) (and-l _ (are_values s.kinds.now (map (λ l. map (λ t. t.now) l.now) s.values.now)) s.fits) in
-    let rooted = and-r (are_kinds (length texts) s.kinds.now) (are_roots s.root_bits (length texts) s.kinds.now s.roots.now) two in
+    let two = and-l _ (are_words s.names) (and-l _ (are_values s.kinds s.values) s.fits) in
+    let rooted = and-r (are_kinds (length s.names) s.kinds) (are_roots s.root_bits (length s.names) s.kinds s.roots) two in
     let three = and-l _ _ (and-l _ _ rooted) in
-    subst P n (numbered_fits s.kinds.now (length texts) s.root_bits s.roots.now number
-    (and-r (nat_le 1 (length s.roots.now) && nat_le s.root_bits 32) (list_all (is_root s.root_bits (length texts) s.kinds.now) s.roots.now) three))
+    numbered_fits s.kinds (length s.names) s.root_bits s.roots number
+    (and-r (nat_le 1 (length s.roots) && nat_le s.root_bits 32) (list_all (is_root s.root_bits (length s.names) s.kinds) s.roots) three)

@@ -5,7 +5,7 @@ use Rattle.std.specs.Prelude.{slice_get}
 use Rattle.std.specs.List.{list_any}
 use Rattle.exi_schema.specs.declared.tables.AttributeOf.{AttributeOf}
 use Rattle.exi_schema.specs.declared.tables.Member.{Member}
-use Rattle.exi_schema.specs.declared.tables.Particle.{Particle}
+use Rattle.exi_schema.specs.Plain.{PlainParticle}
 use Rattle.exi_schema.specs.declared.places.Place.{Place}
 use Rattle.exi_schema.specs.declared.places.Step.{Step}
 use Rattle.exi_schema.specs.Counts.{element_total}
@@ -27,11 +27,11 @@ get-append-front [] ys i less = absurd (omega (arith, less))
 get-append-front (x ∷ xs) ys zero less = refl
 get-append-front (x ∷ xs) ys (suc i) less = get-append-front xs ys i (omega (arith, less))
 
-pub length_elements : (here : Place) (attributes at copies : ℕ) (particles : List Particle) → length (element_steps here attributes at copies particles) ≡ element_total copies particles
+pub length_elements : (here : Place) (attributes at copies : ℕ) (particles : List PlainParticle) → length (element_steps here attributes at copies particles) ≡ element_total copies particles
 length_elements here attributes at copies [] = refl
 length_elements here attributes at copies (particle ∷ particles) =
     let more : length (element_steps here attributes (at + 1) 0 particles) ≡ element_total 0 particles = length_elements here attributes (at + 1) 0 particles in
-    elim (nat_lt copies particle.least) as (λ b. length (map (element_step here attributes at copies particle) particle.members.now ++ (if b then [] else element_steps here attributes (at + 1) 0 particles)) ≡ length particle.members.now + (if b then 0 else element_total 0 particles)) [
+    elim (nat_lt copies particle.least) as (λ b. length (map (element_step here attributes at copies particle) particle.members ++ (if b then [] else element_steps here attributes (at + 1) 0 particles)) ≡ length particle.members + (if b then 0 else element_total 0 particles)) [
       | true ↦ grind (arith, length-append, length-map)
       | false ↦ grind (arith, length-append, length-map, more)
     ]
@@ -40,7 +40,7 @@ pub length_attributes : (here : Place) (at : ℕ) (attributes : List AttributeOf
 length_attributes here at [] = refl
 length_attributes here at (attribute ∷ attributes) = ap suc (length_attributes here (at + 1) attributes)
 
-pub length_complex : (place : Place) (attributes : List AttributeOf) (particles : List Particle) →
+pub length_complex : (place : Place) (attributes : List AttributeOf) (particles : List PlainParticle) →
     length (complex_steps place attributes particles) ≡ length (through_required (drop place.attributes attributes))
     + (if list_any (λ attribute. attribute.required) (drop place.attributes attributes) then 0 else element_total place.copies (drop place.particle particles))
 length_complex place attributes particles =
@@ -53,11 +53,11 @@ length_complex place attributes particles =
     ]
 
 -- an element of the particle at hand
-pub found_at : (here : Place) (attributes at copies left : ℕ) (particles : List Particle) (d : Particle) (e : Member) → at < length particles →
-    left < length (get_or particles at d).members.now →
-    Some (element_step here attributes at copies (get_or particles at d) (get_or (get_or particles at d).members.now left e)) ≡ slice_get (element_steps here attributes at copies (drop at particles)) left
+pub found_at : (here : Place) (attributes at copies left : ℕ) (particles : List PlainParticle) (d : PlainParticle) (e : Member) → at < length particles →
+    left < length (get_or particles at d).members →
+    Some (element_step here attributes at copies (get_or particles at d) (get_or (get_or particles at d).members left e)) ≡ slice_get (element_steps here attributes at copies (drop at particles)) left
 found_at here attributes at copies left particles d e within less =
-    rw (drop-cons particles at d within) (sym (get-map-append (element_step here attributes at copies (get_or particles at d)) (get_or particles at d).members.now
+    rw (drop-cons particles at d within) (sym (get-map-append (element_step here attributes at copies (get_or particles at d)) (get_or particles at d).members
     (if nat_lt copies (get_or particles at d).least then [] else element_steps here attributes (at + 1) 0 (drop (suc at) particles)) left e less))
 
 pub passed_by : (b : Bool) (n left total : ℕ) (steps : List Step) (whole : Option Step) → n ≤ left → left < n + (if b then 0 else total) →
@@ -66,27 +66,27 @@ passed_by true n left total steps whole more less is = absurd (omega (arith, mor
 passed_by false n left total steps whole more less is = (omega (arith, more, less), is)
 
 -- a particle that is passed over
-pub passed_over : (here : Place) (attributes at copies left : ℕ) (particle : Particle) (particles : List Particle) →
-    length particle.members.now ≤ left → left < element_total copies (particle ∷ particles) →
-    (left - length particle.members.now < element_total 0 particles)
-    × (slice_get (element_steps here attributes (at + 1) 0 particles) (left - length particle.members.now) ≡ slice_get (element_steps here attributes at copies (particle ∷ particles)) left)
+pub passed_over : (here : Place) (attributes at copies left : ℕ) (particle : PlainParticle) (particles : List PlainParticle) →
+    length particle.members ≤ left → left < element_total copies (particle ∷ particles) →
+    (left - length particle.members < element_total 0 particles)
+    × (slice_get (element_steps here attributes (at + 1) 0 particles) (left - length particle.members) ≡ slice_get (element_steps here attributes at copies (particle ∷ particles)) left)
 passed_over here attributes at copies left particle particles more less =
-    let last : slice_get (if nat_lt copies particle.least then [] else element_steps here attributes (at + 1) 0 particles) (left - length particle.members.now) ≡ slice_get (element_steps here attributes at copies (particle ∷ particles)) left =
-    let long : length (map (element_step here attributes at copies particle) particle.members.now) ≡ length particle.members.now = length-map particle.members.now (element_step here attributes at copies particle) in
-    rw (← long) (get-append-past (map (element_step here attributes at copies particle) particle.members.now) (if nat_lt copies particle.least then [] else element_steps here attributes (at + 1) 0 particles) left (omega (arith, long, more))) in
-    passed_by (nat_lt copies particle.least) (length particle.members.now) left (element_total 0 particles) (element_steps here attributes (at + 1) 0 particles) (slice_get (element_steps here attributes at copies (particle ∷ particles)) left) more less last
+    let last : slice_get (if nat_lt copies particle.least then [] else element_steps here attributes (at + 1) 0 particles) (left - length particle.members) ≡ slice_get (element_steps here attributes at copies (particle ∷ particles)) left =
+    let long : length (map (element_step here attributes at copies particle) particle.members) ≡ length particle.members = length-map particle.members (element_step here attributes at copies particle) in
+    rw (← long) (get-append-past (map (element_step here attributes at copies particle) particle.members) (if nat_lt copies particle.least then [] else element_steps here attributes (at + 1) 0 particles) left (omega (arith, long, more))) in
+    passed_by (nat_lt copies particle.least) (length particle.members) left (element_total 0 particles) (element_steps here attributes (at + 1) 0 particles) (slice_get (element_steps here attributes at copies (particle ∷ particles)) left) more less last
 
-pub passed_at : (here : Place) (attributes at copies left : ℕ) (particles : List Particle) (d : Particle) → at < length particles →
-    length (get_or particles at d).members.now ≤ left → left < element_total copies (drop at particles) →
-    (left - length (get_or particles at d).members.now < element_total 0 (drop (at + 1) particles))
-    × (slice_get (element_steps here attributes (at + 1) 0 (drop (at + 1) particles)) (left - length (get_or particles at d).members.now)
+pub passed_at : (here : Place) (attributes at copies left : ℕ) (particles : List PlainParticle) (d : PlainParticle) → at < length particles →
+    length (get_or particles at d).members ≤ left → left < element_total copies (drop at particles) →
+    (left - length (get_or particles at d).members < element_total 0 (drop (at + 1) particles))
+    × (slice_get (element_steps here attributes (at + 1) 0 (drop (at + 1) particles)) (left - length (get_or particles at d).members)
     ≡ slice_get (element_steps here attributes at copies (drop at particles)) left)
 passed_at here attributes at copies left particles d within more less =
     let next : suc at ≡ at + 1 = omega arith in
     let parts : drop at particles ≡ get_or particles at d ∷ drop (at + 1) particles = drop-cons particles at d within ∙ ap (λ k. get_or particles at d ∷ drop k particles) next in
-    let Less : List Particle → Type 0 = λ xs. left < element_total copies xs in
-    let Both : List Particle → Type 0 = λ xs. (left - length (get_or particles at d).members.now < element_total 0 (drop (at + 1) particles))
-    × (slice_get (element_steps here attributes (at + 1) 0 (drop (at + 1) particles)) (left - length (get_or particles at d).members.now)
+    let Less : List PlainParticle → Type 0 = λ xs. left < element_total copies xs in
+    let Both : List PlainParticle → Type 0 = λ xs. (left - length (get_or particles at d).members < element_total 0 (drop (at + 1) particles))
+    × (slice_get (element_steps here attributes (at + 1) 0 (drop (at + 1) particles)) (left - length (get_or particles at d).members)
     ≡ slice_get (element_steps here attributes at copies xs) left) in
     subst Both (sym parts) (passed_over here attributes at copies left (get_or particles at d) (drop (at + 1) particles) more (subst Less parts less))
 
@@ -113,7 +113,7 @@ attribute_get here at (attribute ∷ attributes) zero d less = let e : at + 0 �
 attribute_get here at (attribute ∷ attributes) (suc i) d less =
     attribute_next attribute.required here at attributes i d (λ l. attribute_get here (at + 1) attributes i d l) less
 
-pub found_attribute : (place : Place) (attributes : List AttributeOf) (particles : List Particle) (code : ℕ) (d : AttributeOf) →
+pub found_attribute : (place : Place) (attributes : List AttributeOf) (particles : List PlainParticle) (code : ℕ) (d : AttributeOf) →
     code < length (through_required (drop place.attributes attributes)) →
     Some (attribute_step place (place.attributes + code) (get_or (drop place.attributes attributes) code d)) ≡ slice_get (complex_steps place attributes particles) code
 found_attribute place attributes particles code d less =
@@ -123,7 +123,7 @@ found_attribute place attributes particles code d less =
     code (omega (arith, long, less))
     ∙ attribute_get place place.attributes (drop place.attributes attributes) code d less)
 
-pub found_element : (place : Place) (attributes : List AttributeOf) (particles : List Particle) (code : ℕ) →
+pub found_element : (place : Place) (attributes : List AttributeOf) (particles : List PlainParticle) (code : ℕ) →
     length (through_required (drop place.attributes attributes)) ≤ code → code < length (complex_steps place attributes particles) →
     (code - length (through_required (drop place.attributes attributes)) < element_total place.copies (drop place.particle particles))
     × (slice_get (element_steps place (length attributes) place.particle place.copies (drop place.particle particles)) (code - length (through_required (drop place.attributes attributes)))

@@ -3,10 +3,8 @@
 use Rattle.std.specs.Prelude.{◌≡◌, ℕ, ◌+◌, ◌^◌, ◌<◌, ◌≤◌, ◌==◌, nat_lt, not, Bool, true, if◌then◌else◌, List, [], ◌∷◌, ◌++◌, length, drop, map, Option, Some, None, slice_get}
 use Rattle.std.specs.List.{list_any}
 use Rattle.exi_schema.specs.declared.tables.AttributeOf.{AttributeOf}
-use Rattle.exi_schema.specs.declared.tables.Declaration.{Declaration}
-use Rattle.exi_schema.specs.declared.tables.Declaration.TheVariants.{Simple, Complex}
+use Rattle.exi_schema.specs.Plain.{PlainKind, valued, containing, PlainParticle}
 use Rattle.exi_schema.specs.declared.tables.Member.{Member}
-use Rattle.exi_schema.specs.declared.tables.Particle.{Particle}
 use Rattle.exi_schema.specs.declared.places.Place.{Place}
 use Rattle.exi_schema.specs.declared.places.Step.{Step}
 use Rattle.exi_schema.specs.declared.places.Step.TheVariants.{Attribute, Element, End, Characters}
@@ -39,7 +37,7 @@ behind_copy kind attributes at copies most =
     else record { kind = kind; particle = at + 1; copies = 0; attributes = attributes }
 
 -- a member as copy `copies` of the particle `at`, which passes the profile limit or not (own)
-abbrev pub element_step : Place → ℕ → ℕ → ℕ → Particle → Member → Step
+abbrev pub element_step : Place → ℕ → ℕ → ℕ → PlainParticle → Member → Step
 element_step here attributes at copies particle member =
     Element member.name member.kind
     (if nat_lt copies particle.profile then behind_copy here.kind attributes at copies particle.most else here)
@@ -47,10 +45,10 @@ element_step here attributes at copies particle member =
 
 -- of the particles from `at` on, `copies` of the first being passed: the members of the next copy and, where the minimum is
 -- met, what follows the particle. Behind the last is the end
-abbrev pub element_steps : Place → ℕ → ℕ → ℕ → List Particle → List Step
+abbrev pub element_steps : Place → ℕ → ℕ → ℕ → List PlainParticle → List Step
 element_steps here attributes at copies [] = End ∷ []
 element_steps here attributes at copies (particle ∷ particles) =
-    map (element_step here attributes at copies particle) particle.members.now
+    map (element_step here attributes at copies particle) particle.members
     ++ (if nat_lt copies particle.least then [] else element_steps here attributes (at + 1) 0 particles)
 
 -- in a simple kind: its characters, and behind them the end
@@ -59,22 +57,22 @@ simple_step here =
     if here.particle == 0 then Characters (record { kind = here.kind; particle = 1; copies = 0; attributes = 0 }) else End
 
 -- in a complex kind: attributes and, where none of those left has to be there, elements and the end
-abbrev pub complex_steps : Place → List AttributeOf → List Particle → List Step
+abbrev pub complex_steps : Place → List AttributeOf → List PlainParticle → List Step
 complex_steps here attributes particles =
     attribute_steps here here.attributes (through_required (drop here.attributes attributes))
     ++ (if list_any (λ attribute. attribute.required) (drop here.attributes attributes) then []
     else element_steps here (length attributes) here.particle here.copies (drop here.particle particles))
 
 -- what is offered at a place of a kind, in order of event code
-abbrev pub offers_in : Place → Declaration → List Step
-offers_in here (Simple datatype) = simple_step here ∷ []
-offers_in here (Complex attributes particles) = complex_steps here attributes.now particles.now
+abbrev pub offers_in : Place → PlainKind → List Step
+offers_in here (valued datatype) = simple_step here ∷ []
+offers_in here (containing attributes particles) = complex_steps here attributes particles
 
-abbrev pub offers_of : Place → Option Declaration → List Step
+abbrev pub offers_of : Place → Option PlainKind → List Step
 offers_of here None = []
 offers_of here (Some declaration) = offers_in here declaration
 
-abbrev pub offers : List Declaration → Place → List Step
+abbrev pub offers : List PlainKind → Place → List Step
 offers kinds here = offers_of here (slice_get kinds here.kind)
 
 -- behind the n codes that are offered stands the escape to what isn't declared (8.5.4.4): a code has the least number of bits
@@ -88,23 +86,23 @@ abbrev pub FitsCopies : ℕ → ℕ → Option ℕ → Type 0
 FitsCopies copies profile None = copies ≤ profile
 FitsCopies copies profile (Some most) = copies < most
 
-abbrev pub FitsParticles : ℕ → List Particle → Type 0
+abbrev pub FitsParticles : ℕ → List PlainParticle → Type 0
 FitsParticles copies [] = copies ≡ 0
 FitsParticles copies (particle ∷ particles) = FitsCopies copies particle.profile particle.most
 
-abbrev pub IsPlaceAmong : Place → List AttributeOf → List Particle → Type 0
+abbrev pub IsPlaceAmong : Place → List AttributeOf → List PlainParticle → Type 0
 IsPlaceAmong place attributes particles =
     (place.attributes ≤ length attributes)
     × (place.particle ≤ length particles)
     × FitsParticles place.copies (drop place.particle particles)
 
-abbrev pub IsPlaceIn : Place → Declaration → Type 0
-IsPlaceIn place (Simple datatype) = (place.attributes ≡ 0) × (place.particle ≤ 1) × (place.copies ≡ 0)
-IsPlaceIn place (Complex attributes particles) = IsPlaceAmong place attributes.now particles.now
+abbrev pub IsPlaceIn : Place → PlainKind → Type 0
+IsPlaceIn place (valued datatype) = (place.attributes ≡ 0) × (place.particle ≤ 1) × (place.copies ≡ 0)
+IsPlaceIn place (containing attributes particles) = IsPlaceAmong place attributes particles
 
-abbrev pub IsPlaceOf : Place → Option Declaration → Type 0
+abbrev pub IsPlaceOf : Place → Option PlainKind → Type 0
 IsPlaceOf place None = ⊥
 IsPlaceOf place (Some declaration) = IsPlaceIn place declaration
 
-abbrev pub IsPlace : List Declaration → Place → Type 0
+abbrev pub IsPlace : List PlainKind → Place → Type 0
 IsPlace kinds place = IsPlaceOf place (slice_get kinds place.kind)

@@ -1,15 +1,13 @@
--- Own: the conditions on the tables of a schema, each as a test, so that those of a written table are computed.
-use Rattle.std.specs.Prelude.{ℕ, zero, suc, ◌+◌, ◌^◌, ◌==◌, ◌&&◌, ◌||◌, nat_lt, nat_le, unsigned_abs, not, Bool, true, false, if◌then◌else◌, List, [], ◌∷◌, length, drop, map, Option, Some, None, slice_get}
+-- Own: the conditions on a schema, each as a test, so that those of a written table are computed.
+use Rattle.std.specs.Prelude.{◌≡◌, ℕ, zero, suc, ℤ, pos, negsuc, ◌+◌, ◌^◌, ◌==◌, ◌&&◌, ◌||◌, nat_lt, nat_le, unsigned_abs, not, Bool, true, false, if◌then◌else◌, List, [], ◌∷◌, length, drop, map, Option, Some, None, slice_get}
 use Rattle.std.specs.List.{list_any, list_all}
 use Rattle.std.specs.Int.Signed.{le_z}
 use Rattle.exi_schema.specs.declared.tables.AttributeOf.{AttributeOf}
 use Rattle.exi_schema.specs.declared.tables.Datatype.{Datatype}
 use Rattle.exi_schema.specs.declared.tables.Datatype.TheVariants.{Bool as BoolType, Named, Bounded, Unsigned, Signed, Binary, Text}
-use Rattle.exi_schema.specs.declared.tables.Declaration.{Declaration}
-use Rattle.exi_schema.specs.declared.tables.Declaration.TheVariants.{Simple, Complex}
+use Rattle.exi_schema.specs.Plain.{PlainKind, valued, containing, PlainParticle}
 use Rattle.exi_schema.specs.declared.tables.MemberStanding.{MemberStanding}
 use Rattle.exi_schema.specs.declared.tables.MemberStanding.TheVariants.{Taken, Abstract, OutOfProfile}
-use Rattle.exi_schema.specs.declared.tables.Particle.{Particle}
 use Rattle.exi_schema.specs.declared.tables.RootOf.{RootOf}
 use Rattle.exi_schema.specs.declared.places.Step.{Step}
 use Rattle.exi_schema.specs.declared.places.Step.TheVariants.{Attribute, Element, End, Characters}
@@ -28,38 +26,43 @@ is_most least None = true
 is_most least (Some most) = nat_le 1 most && nat_le least most && nat_lt most 65536
 
 -- what has to be there can be
-abbrev pub can_be_there : Particle → Bool
+abbrev pub can_be_there : PlainParticle → Bool
 can_be_there particle =
     particle.least == 0
-    || (nat_le particle.least particle.profile && list_any (λ member. is_taken member.standing) particle.members.now)
+    || (nat_le particle.least particle.profile && list_any (λ member. is_taken member.standing) particle.members)
 
 -- its members' names and kinds are the schema's
-abbrev pub is_particle : ℕ → ℕ → Particle → Bool
+abbrev pub is_particle : ℕ → ℕ → PlainParticle → Bool
 is_particle names kinds particle =
     is_most particle.least particle.most
     && nat_lt particle.profile 65536
     && can_be_there particle
-    && list_all (λ member. nat_lt member.name names && nat_lt member.kind kinds) particle.members.now
+    && list_all (λ member. nat_lt member.name names && nat_lt member.kind kinds) particle.members
 
 -- ---- a kind
 
-abbrev pub is_simple : Option Declaration → Bool
-is_simple (Some (Simple datatype)) = true
-is_simple (Some (Complex attributes particles)) = false
+abbrev pub is_simple : Option PlainKind → Bool
+is_simple (Some (valued datatype)) = true
+is_simple (Some (containing attributes particles)) = false
 is_simple None = false
 
-abbrev pub is_attribute : ℕ → List Declaration → AttributeOf → Bool
+abbrev pub is_attribute : ℕ → List PlainKind → AttributeOf → Bool
 is_attribute names kinds attribute = nat_lt attribute.name names && is_simple (slice_get kinds attribute.kind)
 
--- the least count, and the order of the bounds, which are numbers of 64 bits
+-- a number of 64 bits with a sign
+abbrev pub is_signed : ℤ → Bool
+is_signed (pos n) = nat_lt n (2 ^ 63)
+is_signed (negsuc n) = nat_lt n (2 ^ 63)
+
+-- the least count, the order of the bounds, and that each bound is a number of its type
 abbrev pub is_datatype : Datatype → Bool
 is_datatype BoolType = true
 is_datatype (Named count) = nat_le 1 count
 is_datatype (Bounded least count) = nat_le 1 count && nat_lt (unsigned_abs least + count) (2 ^ 64)
 is_datatype (Unsigned most) = nat_lt most (2 ^ 64)
-is_datatype (Signed least most) = le_z least most && nat_lt (unsigned_abs least) (2 ^ 64) && nat_lt (unsigned_abs most) (2 ^ 64)
-is_datatype (Binary most) = true
-is_datatype (Text most) = true
+is_datatype (Signed least most) = le_z least most && is_signed least && is_signed most
+is_datatype (Binary most) = nat_lt most (2 ^ 32)
+is_datatype (Text most) = nat_lt most (2 ^ 32)
 
 -- a test of each number up to one
 abbrev pub each_to : ℕ → (ℕ → Bool) → Bool
@@ -67,7 +70,7 @@ each_to zero test = test 0
 each_to (suc n) test = test (suc n) && each_to n test
 
 -- copies of the first particle at which more is offered than at fewer: those at which its minimum is met, if another may follow
-abbrev pub widest : List Particle → ℕ
+abbrev pub widest : List PlainParticle → ℕ
 widest [] = 0
 widest (particle ∷ particles) = if leaves_room particle.most particle.least then particle.least else 0
 
@@ -95,32 +98,32 @@ abbrev pub are_offers : List Step → Bool
 are_offers steps =
     nat_le (length steps) 65535 && are_distinct (attribute_names steps) && are_distinct (element_names steps)
 
-abbrev pub is_declaration : ℕ → List Declaration → Declaration → Bool
-is_declaration names kinds (Simple datatype) = is_datatype datatype
-is_declaration names kinds (Complex attributes particles) =
-    nat_le (length attributes.now) 65535
-    && nat_le (length particles.now) 65535
-    && list_all (is_attribute names kinds) attributes.now
-    && list_all (is_particle names (length kinds)) particles.now
-    && each_to (length attributes.now) (λ a. each_to (length particles.now) (λ p. are_offers
-    (offers_in (record { kind = 0; particle = p; copies = widest (drop p particles.now); attributes = a })
-    (Complex attributes particles))))
+abbrev pub is_declaration : ℕ → List PlainKind → PlainKind → Bool
+is_declaration names kinds (valued datatype) = is_datatype datatype
+is_declaration names kinds (containing attributes particles) =
+    nat_le (length attributes) 65535
+    && nat_le (length particles) 65535
+    && list_all (is_attribute names kinds) attributes
+    && list_all (is_particle names (length kinds)) particles
+    && each_to (length attributes) (λ a. each_to (length particles) (λ p. are_offers
+    (offers_in (record { kind = 0; particle = p; copies = widest (drop p particles); attributes = a })
+    (containing attributes particles))))
 
 -- ---- depth: no element inside one of the kind stands deeper than so many
 
-abbrev pub particles_of : Option Declaration → List Particle
-particles_of (Some (Complex attributes particles)) = particles.now
-particles_of (Some (Simple datatype)) = []
+abbrev pub particles_of : Option PlainKind → List PlainParticle
+particles_of (Some (containing attributes particles)) = particles
+particles_of (Some (valued datatype)) = []
 particles_of None = []
 
-abbrev pub is_within : List Declaration → ℕ → ℕ → Bool
+abbrev pub is_within : List PlainKind → ℕ → ℕ → Bool
 is_within kinds zero kind = false
 is_within kinds (suc depth) kind =
-    list_all (λ particle. list_all (λ member. is_within kinds depth member.kind) particle.members.now) (particles_of (slice_get kinds kind))
+    list_all (λ particle. list_all (λ member. is_within kinds depth member.kind) particle.members) (particles_of (slice_get kinds kind))
 
 -- ---- roots
 
-abbrev pub is_root : ℕ → ℕ → List Declaration → RootOf → Bool
+abbrev pub is_root : ℕ → ℕ → List PlainKind → RootOf → Bool
 is_root bits names kinds root =
     nat_lt root.number (2 ^ bits)
     && not (bits == 2 && root.number == 3)
@@ -128,7 +131,7 @@ is_root bits names kinds root =
     && nat_lt root.kind (length kinds)
     && is_within kinds 16 root.kind
 
-abbrev pub are_roots : ℕ → ℕ → List Declaration → List RootOf → Bool
+abbrev pub are_roots : ℕ → ℕ → List PlainKind → List RootOf → Bool
 are_roots bits names kinds roots =
     nat_le 1 (length roots)
     && nat_le bits 32
@@ -138,7 +141,7 @@ are_roots bits names kinds roots =
 
 -- ---- a whole schema. Where no chain of elements is longer than there are kinds, no kind leads back to itself
 
-abbrev pub are_kinds : ℕ → List Declaration → Bool
+abbrev pub are_kinds : ℕ → List PlainKind → Bool
 are_kinds names kinds =
     list_all (is_declaration names kinds) kinds
     && each_to (length kinds) (λ kind. is_within kinds (length kinds) kind)
@@ -165,20 +168,30 @@ are_words [] = true
 are_words (text ∷ texts) = is_word text && not (list_any (same_text text) texts) && are_words texts
 
 -- how many values an enumeration has
-abbrev pub value_count : Declaration → ℕ
-value_count (Simple (Named count)) = count
+abbrev pub value_count : PlainKind → ℕ
+value_count (valued (Named count)) = count
 value_count _ = 0
 
 -- for each kind the texts of its values
-abbrev pub are_values : List Declaration → List (List (List ℕ)) → Bool
+abbrev pub are_values : List PlainKind → List (List (List ℕ)) → Bool
 are_values [] [] = true
 are_values [] (texts ∷ more) = false
 are_values (kind ∷ kinds) [] = false
 are_values (kind ∷ kinds) (texts ∷ more) = length texts == value_count kind && are_words texts && are_values kinds more
 
-abbrev pub is_schema : List Declaration → List (List ℕ) → List (List (List ℕ)) → ℕ → List RootOf → Bool
+abbrev pub is_schema : List PlainKind → List (List ℕ) → List (List (List ℕ)) → ℕ → List RootOf → Bool
 is_schema kinds names values bits roots =
     are_kinds (length names) kinds
     && are_roots bits (length names) kinds roots
     && are_words names
     && are_values kinds values
+
+-- a schema: what its kinds contain, the texts of its names and for each kind those of its values, how many bits a document number
+-- has, and what may be the root. It meets the conditions
+pub record PlainSchema : Type 0 where
+  pub kinds : List PlainKind
+  pub names : List (List ℕ)
+  pub values : List (List (List ℕ))
+  pub root_bits : ℕ
+  pub roots : List RootOf
+  pub fits : is_schema kinds names values root_bits roots ≡ true

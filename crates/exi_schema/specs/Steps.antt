@@ -1,8 +1,7 @@
 -- Own: what a step and a root say is the schema's.
 use Rattle.std.specs.Prelude.{◌≡◌, ℕ, suc, true, IsSome, ◌<◌, List, [], length, slice_get, Option, Some, None}
 use Rattle.exi_schema.specs.declared.tables.Datatype.{Datatype}
-use Rattle.exi_schema.specs.declared.tables.Declaration.{Declaration}
-use Rattle.exi_schema.specs.declared.tables.Declaration.TheVariants.{Simple, Complex}
+use Rattle.exi_schema.specs.Plain.{PlainKind, valued, containing}
 use Rattle.exi_schema.specs.declared.tables.RootOf.{RootOf}
 use Rattle.exi_schema.specs.declared.places.Root.{Root}
 use Rattle.exi_schema.specs.declared.places.Root.TheVariants.{Kind, Unknown, NoSuch}
@@ -12,17 +11,17 @@ use Rattle.exi_schema.specs.Offers.{IsPlace}
 use Rattle.exi_schema.specs.Schemas.{is_within}
 
 -- the datatype of a simple kind
-abbrev pub datatype_of : Option Declaration → Option Datatype
-datatype_of (Some (Simple datatype)) = Some datatype
-datatype_of (Some (Complex attributes particles)) = None
+abbrev pub datatype_of : Option PlainKind → Option Datatype
+datatype_of (Some (valued datatype)) = Some datatype
+datatype_of (Some (containing attributes particles)) = None
 datatype_of None = None
 
-abbrev pub simple_at : List Declaration → ℕ → Option Datatype
+abbrev pub simple_at : List PlainKind → ℕ → Option Datatype
 simple_at kinds kind = datatype_of (slice_get kinds kind)
 
 -- of a step at a place of the kind `here`: its name and kind are the schema's, and the next place too. An attribute and characters
 -- have a datatype. The elements inside an element stand less deep than those of the kind it stands in
-abbrev pub IsStep : List Declaration → ℕ → ℕ → Step → Type 0
+abbrev pub IsStep : List PlainKind → ℕ → ℕ → Step → Type 0
 IsStep kinds names here (Attribute name kind next) =
     (name < names) × (kind < length kinds) × IsSome (simple_at kinds kind) × IsPlace kinds next
 IsStep kinds names here (Element name kind next standing past_limit) =
@@ -32,7 +31,7 @@ IsStep kinds names here End = Unit {0}
 IsStep kinds names here (Characters next) = IsSome (simple_at kinds here) × IsPlace kinds next
 
 -- a root is the schema's, and no element of its document stands deeper than 16
-abbrev pub IsRootOf : List Declaration → ℕ → Root → Type 0
+abbrev pub IsRootOf : List PlainKind → ℕ → Root → Type 0
 IsRootOf kinds names (Kind name kind) = (name < names) × (kind < length kinds) × (is_within kinds 16 kind ≡ true)
 IsRootOf kinds names Unknown = Unit {0}
 IsRootOf kinds names NoSuch = Unit {0}

@@ -17,13 +17,13 @@ pub struct Place {
 
 impl Place {
     ghost use Rattle.std.specs.Prelude.{◌≡◌, ◌<◌, length};
-    ghost use Rattle.exi_schema.specs.declared.schema.Schema.{Schema};
     ghost use Rattle.exi_schema.specs.Offers.{IsPlace};
+    ghost use Rattle.exi_schema.specs.Schemas.{PlainSchema};
 
     /// The first place of an element of a kind. It is a place of each schema that has the kind.
     pub fn first(kind: u16) -> Place
         ensures first { result ≡ record { kind = kind; particle = 0; copies = 0; attributes = 0 } }
-        ensures of_schema { (s : Schema) → kind < length s.kinds.now → IsPlace s.kinds.now result }
+        ensures of_schema { (s : PlainSchema) → kind < length s.kinds → IsPlace s.kinds result }
     {
         Place {
             kind,
@@ -74,34 +74,34 @@ pub enum Root {
 /// What a reader or a writer asks of a schema, in whatever form the schema is kept.
 pub trait Places {
     ghost use Rattle.std.specs.Prelude.{◌≡◌, ℕ, ◌<◌, ◌≤◌, ◌↔◌, Some, None, slice_get, length};
-    ghost use Rattle.exi_schema.specs.declared.schema.Schema.{Schema};
     ghost use Rattle.exi_schema.specs.Offers.{IsPlace, IsWidth, offers};
+    ghost use Rattle.exi_schema.specs.Schemas.{PlainSchema};
     ghost use Rattle.exi_schema.specs.Steps.{IsStep, IsRoot, IsRootOf, simple_at};
 
-    /// The schema that the value means.
-    ghost schema: { Self → Schema };
+    /// The schema that the value tells.
+    ghost schema: { Self → PlainSchema };
 
     /// How many event codes are offered at a place of the schema.
     fn alternatives(&self, place: Place) -> u16
-        requires { IsPlace (schema self.now).kinds.now place }
-        ensures { result ≡ length (offers (schema self.now).kinds.now place) };
+        requires { IsPlace (schema self.now).kinds place }
+        ensures { result ≡ length (offers (schema self.now).kinds place) };
 
     /// How many bits an event code has at a place of the schema.
     fn width(&self, place: Place) -> u32
-        requires { IsPlace (schema self.now).kinds.now place }
-        ensures { IsWidth (length (offers (schema self.now).kinds.now place)) result };
+        requires { IsPlace (schema self.now).kinds place }
+        ensures { IsWidth (length (offers (schema self.now).kinds place)) result };
 
     /// What an event code means at a place of the schema, where it is below the alternatives.
     fn advance(&self, place: Place, code: u16) -> Step
-        requires place { IsPlace (schema self.now).kinds.now place }
-        requires code { code < length (offers (schema self.now).kinds.now place) }
-        ensures taken { Some result ≡ slice_get (offers (schema self.now).kinds.now place) code }
-        ensures of_schema { IsStep (schema self.now).kinds.now (length (schema self.now).names.now) place.kind result };
+        requires place { IsPlace (schema self.now).kinds place }
+        requires code { code < length (offers (schema self.now).kinds place) }
+        ensures taken { Some result ≡ slice_get (offers (schema self.now).kinds place) code }
+        ensures of_schema { IsStep (schema self.now).kinds (length (schema self.now).names) place.kind result };
 
     /// The datatype of a kind of the schema, `None` exactly where it is complex.
     fn datatype(&self, kind: u16) -> Option<Datatype>
-        requires { kind < length (schema self.now).kinds.now }
-        ensures { result ≡ simple_at (schema self.now).kinds.now kind };
+        requires { kind < length (schema self.now).kinds }
+        ensures { result ≡ simple_at (schema self.now).kinds kind };
 
     /// How many bits a document number has.
     fn root_width(&self) -> u32
@@ -109,6 +109,6 @@ pub trait Places {
 
     /// What a document number names.
     fn root(&self, number: u32) -> Root
-        ensures named { IsRoot (schema self.now).roots.now (schema self.now).root_bits number result }
-        ensures of_schema { IsRootOf (schema self.now).kinds.now (length (schema self.now).names.now) result };
+        ensures named { IsRoot (schema self.now).roots (schema self.now).root_bits number result }
+        ensures of_schema { IsRootOf (schema self.now).kinds (length (schema self.now).names) result };
 }

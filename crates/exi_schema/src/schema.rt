@@ -1,6 +1,7 @@
 //! A schema, and what is asked of one.
 
 ghost use Rattle.std.specs.Prelude.{◌≡◌, true, map};
+ghost use Rattle.exi_schema.specs.Plain.{plain_kinds};
 ghost use Rattle.exi_schema.specs.Schemas.{is_schema};
 
 use crate::places::{Place, Places, Root, Step};
@@ -22,26 +23,27 @@ pub struct Schema<'s> {
     pub root_bits: u32,
     /// The elements that may be the root.
     pub roots: &'s [RootOf],
-    /// The tables meet the conditions on a schema.
-    pub ghost fits: { is_schema kinds.now (map (λ t. t.now) names.now) (map (λ l. map (λ t. t.now) l.now) values.now) root_bits roots.now ≡ true },
+    /// What the tables tell meets the conditions on a schema.
+    pub ghost fits: { is_schema (plain_kinds kinds.now) (map (λ t. t.now) names.now) (map (λ l. map (λ t. t.now) l.now) values.now) root_bits roots.now ≡ true },
 }
 
 impl<'s> Schema<'s> {
-    ghost use Rattle.std.specs.Prelude.{◌≡◌, ◌<◌, length, map, Some, slice_get};
+    ghost use Rattle.std.specs.Prelude.{◌≡◌, ◌<◌, length, Some, slice_get};
     ghost use Rattle.exi_schema.specs.Steps.{texts_at};
+    ghost use Rattle.exi_schema.specs.Told.{schema_of};
 
     /// The text of a name of the schema.
     pub fn name(&self, n: u16) -> &'s str
-        requires { n < length self.now.names.now }
-        ensures { Some result.now ≡ slice_get (map (λ t. t.now) self.now.names.now) n }
+        requires { n < length (schema_of self.now).names }
+        ensures { Some result.now ≡ slice_get (schema_of self.now).names n }
     {
         self.names[n as usize]
     }
 
     /// The text of a value of an enumeration of the schema.
     pub fn value_name(&self, kind: u16, ordinal: u32) -> &'s str
-        requires { ordinal < length (texts_at (map (λ l. map (λ t. t.now) l.now) self.now.values.now) kind) }
-        ensures { Some result.now ≡ slice_get (texts_at (map (λ l. map (λ t. t.now) l.now) self.now.values.now) kind) ordinal }
+        requires { ordinal < length (texts_at (schema_of self.now).values kind) }
+        ensures { Some result.now ≡ slice_get (texts_at (schema_of self.now).values kind) ordinal }
     {
         let texts = self.values[kind as usize];
         texts[ordinal as usize]
@@ -49,7 +51,9 @@ impl<'s> Schema<'s> {
 }
 
 impl Places for Schema<'_> {
-    ghost schema = { λ s. s };
+    ghost use Rattle.exi_schema.specs.Told.{schema_of};
+
+    ghost schema = { schema_of };
 
     fn alternatives(&self, place: Place) -> u16 {
         match &self.kinds[place.kind as usize] {

@@ -3,6 +3,7 @@
 ghost use Rattle.std.specs.Prelude.{◌≡◌, ◌<◌, ◌≤◌, ◌^◌, length, drop, Some, slice_get, All};
 ghost use Rattle.std.specs.List.{list_any};
 ghost use Rattle.exi_schema.specs.Counts.{element_total, root_numbered};
+ghost use Rattle.exi_schema.specs.Plain.{plain_particle, plain_particles};
 ghost use Rattle.exi_schema.specs.Offers.{through_required, element_steps, attribute_step as attribute_of, complex_steps, IsPlaceAmong, element_step as step_of, behind_copy as place_behind, simple_step as step_of_simple, IsWidth};
 
 use crate::places::{Place, Root, Step};
@@ -22,8 +23,8 @@ fn attribute_count(attributes: &[AttributeOf]) -> usize
 
 /// How many elements, with the end, are offered where `copies` of the first particle are passed.
 fn element_count(particles: &[Particle], copies: u32) -> usize
-    requires { element_total copies particles.now ≤ 65535 }
-    ensures { result ≡ element_total copies particles.now }
+    requires { element_total copies (plain_particles particles.now) ≤ 65535 }
+    ensures { result ≡ element_total copies (plain_particles particles.now) }
 {
     let mut count = 0;
     let mut passed = copies;
@@ -48,7 +49,7 @@ fn element_step(
 ) -> Step
     requires particles { at < 65535 }
     requires profile { particle.now.profile < 65536 }
-    ensures { result ≡ step_of here attributes at copies particle.now member }
+    ensures { result ≡ step_of here attributes at copies (plain_particle particle.now) member }
 {
     let past_limit = u32::from(copies) >= particle.profile;
     let next = if past_limit {
@@ -97,8 +98,8 @@ fn element_at(particles: &[Particle], here: Place, attributes: u16, code: usize)
     requires particles { length particles.now ≤ 65535 }
     requires profiles { All (λ particle. particle.profile < 65536) particles.now }
     requires place { here.particle ≤ length particles.now }
-    requires offered { code < element_total here.copies (drop here.particle particles.now) }
-    ensures { Some result ≡ slice_get (element_steps here attributes here.particle here.copies (drop here.particle particles.now)) code }
+    requires offered { code < element_total here.copies (drop here.particle (plain_particles particles.now)) }
+    ensures { Some result ≡ slice_get (element_steps here attributes here.particle here.copies (drop here.particle (plain_particles particles.now))) code }
 {
     let mut left = code;
     let mut copies = here.copies;
@@ -145,11 +146,11 @@ fn any_required(attributes: &[AttributeOf]) -> bool
 }
 
 /// How many codes are offered at a place of a complex kind.
-#[tactic(auto, using(crate::proofs::Walks::length_complex))]
+#[tactic(auto, using(crate::proofs::TablesTell::length_in))]
 pub(crate) fn complex_count(attributes: &[AttributeOf], particles: &[Particle], place: Place) -> u16
-    requires place { IsPlaceAmong place attributes.now particles.now }
-    requires few { length (complex_steps place attributes.now particles.now) ≤ 65535 }
-    ensures { result ≡ length (complex_steps place attributes.now particles.now) }
+    requires place { IsPlaceAmong place attributes.now (plain_particles particles.now) }
+    requires few { length (complex_steps place attributes.now (plain_particles particles.now)) ≤ 65535 }
+    ensures { result ≡ length (complex_steps place attributes.now (plain_particles particles.now)) }
 {
     let (_, left) = attributes.split_at(place.attributes as usize);
     let count = attribute_count(left);
@@ -167,12 +168,12 @@ pub(crate) fn complex_step(
     place: Place,
     code: u16,
 ) -> Step
-    requires place { IsPlaceAmong place attributes.now particles.now }
-    requires offered { code < length (complex_steps place attributes.now particles.now) }
+    requires place { IsPlaceAmong place attributes.now (plain_particles particles.now) }
+    requires offered { code < length (complex_steps place attributes.now (plain_particles particles.now)) }
     requires attributes { length attributes.now ≤ 65535 }
     requires particles { length particles.now ≤ 65535 }
     requires profiles { All (λ particle. particle.profile < 65536) particles.now }
-    ensures { Some result ≡ slice_get (complex_steps place attributes.now particles.now) code }
+    ensures { Some result ≡ slice_get (complex_steps place attributes.now (plain_particles particles.now)) code }
 {
     let (_, left) = attributes.split_at(place.attributes as usize);
     let count = attribute_count(left);

@@ -1,22 +1,22 @@
 -- The places of a declaration are those that the counts tell, and each count fits 16 bits.
-use Rattle.std.proofs.Common.{◌≡◌, ℕ, ◌+◌, ◌<◌, ◌≤◌, true, ◌&&◌, nat_lt, nat_le, List, [], ◌∷◌, length, drop, Option, Some, None, subst, sym, arith}
+use Rattle.std.proofs.Common.{◌≡◌, ℕ, ◌+◌, ◌<◌, ◌≤◌, true, ◌&&◌, nat_lt, nat_le, List, [], ◌∷◌, length, drop, Option, Some, None, get_or, zero, suc, ap, subst, sym, ◌∙◌, arith}
 use Rattle.std.specs.Prelude.{slice_get}
 use Rattle.std.specs.List.{list_all}
 use Rattle.std.proofs.lemmas.Bool.{ltb-true}
-use Rattle.exi_schema.specs.declared.schema.Schema.{Schema}
+use Rattle.exi_schema.specs.Schemas.{PlainSchema, is_most, is_particle, can_be_there}
+use Rattle.exi_schema.specs.Plain.{PlainKind, valued, containing, PlainParticle, plain_particles, plain_kind}
 use Rattle.exi_schema.specs.declared.tables.Declaration.{Declaration}
-use Rattle.exi_schema.specs.declared.tables.Declaration.TheVariants.{Simple, Complex}
+use Rattle.exi_schema.specs.declared.tables.Declaration.TheVariants.{Complex}
 use Rattle.exi_schema.specs.declared.tables.Particle.{Particle}
 use Rattle.exi_schema.specs.declared.places.Place.{Place}
 use Rattle.exi_schema.specs.Offers.{FitsCopies, FitsParticles, IsPlaceIn, IsPlaceOf, IsPlace}
-use Rattle.exi_schema.specs.Schemas.{is_most, is_particle, can_be_there}
 use Rattle.exi_schema.proofs.Conditions.{and-l, and-r, complex_in}
 use Rattle.exi_schema.proofs.Fitting.{fit_drop}
 use Rattle.exi_tables.specs.Counts.{attribute_places, particle_places, copies_within, copies_before, copy_places}
 
 -- ---- the counts tell the places
 
-pub record IsCounted (d : Declaration) (place : Place) : Type 0 where
+pub record IsCounted (d : PlainKind) (place : Place) : Type 0 where
   pub attributes : place.attributes < attribute_places d
   pub particle : place.particle < particle_places d
   pub copies : place.copies < copy_places d place.particle
@@ -25,42 +25,42 @@ copies_counted : (copies profile : ℕ) (most : Option ℕ) → FitsCopies copie
 copies_counted copies profile None fits = omega (arith, fits)
 copies_counted copies profile (Some most) fits = fits
 
-before_counted : (copies : ℕ) (particles : List Particle) → FitsParticles copies particles → copies < copies_before particles
+before_counted : (copies : ℕ) (particles : List PlainParticle) → FitsParticles copies particles → copies < copies_before particles
 before_counted copies [] fits = omega (arith, fits)
 before_counted copies (particle ∷ particles) fits = copies_counted copies particle.profile particle.most fits
 
-pub place_counted : (place : Place) (d : Declaration) → IsPlaceIn place d → IsCounted d place
-place_counted place (Simple datatype) at =
+pub place_counted : (place : Place) (d : PlainKind) → IsPlaceIn place d → IsCounted d place
+place_counted place (valued datatype) at =
     let none : place.attributes ≡ 0 = at.0 in let low : place.particle ≤ 1 = at.1 in let first : place.copies ≡ 0 = at.2 in
     record { attributes = omega (arith, none); particle = omega (arith, low); copies = omega (arith, first) }
-place_counted place (Complex attributes particles) at =
-    let low : place.attributes ≤ length attributes.now = at.0 in let in_them : place.particle ≤ length particles.now = at.1 in
-    record { attributes = omega (arith, low); particle = omega (arith, in_them); copies = before_counted place.copies (drop place.particle particles.now) at.2 }
+place_counted place (containing attributes particles) at =
+    let low : place.attributes ≤ length attributes = at.0 in let in_them : place.particle ≤ length particles = at.1 in
+    record { attributes = omega (arith, low); particle = omega (arith, in_them); copies = before_counted place.copies (drop place.particle particles) at.2 }
 
 copies_fit : (copies profile : ℕ) (most : Option ℕ) → copies < copies_within profile most → FitsCopies copies profile most
 copies_fit copies profile None less = omega (arith, less)
 copies_fit copies profile (Some most) less = less
 
-before_fit : (copies : ℕ) (particles : List Particle) → copies < copies_before particles → FitsParticles copies particles
+before_fit : (copies : ℕ) (particles : List PlainParticle) → copies < copies_before particles → FitsParticles copies particles
 before_fit copies [] less = omega (arith, less)
 before_fit copies (particle ∷ particles) less = copies_fit copies particle.profile particle.most less
 
-counted_in : (place : Place) (d : Declaration) → IsCounted d place → IsPlaceIn place d
-counted_in place (Simple datatype) is =
+counted_in : (place : Place) (d : PlainKind) → IsCounted d place → IsPlaceIn place d
+counted_in place (valued datatype) is =
     let a : place.attributes < 1 = is.attributes in let p : place.particle < 2 = is.particle in let c : place.copies < 1 = is.copies in
     let none : place.attributes ≡ 0 = omega (arith, a) in let low : place.particle ≤ 1 = omega (arith, p) in let first : place.copies ≡ 0 = omega (arith, c) in
     (none, low, first)
-counted_in place (Complex attributes particles) is =
-    let a : place.attributes < length attributes.now + 1 = is.attributes in let p : place.particle < length particles.now + 1 = is.particle in
-    let low : place.attributes ≤ length attributes.now = omega (arith, a) in let in_them : place.particle ≤ length particles.now = omega (arith, p) in
-    (low, in_them, before_fit place.copies (drop place.particle particles.now) is.copies)
+counted_in place (containing attributes particles) is =
+    let a : place.attributes < length attributes + 1 = is.attributes in let p : place.particle < length particles + 1 = is.particle in
+    let low : place.attributes ≤ length attributes = omega (arith, a) in let in_them : place.particle ≤ length particles = omega (arith, p) in
+    (low, in_them, before_fit place.copies (drop place.particle particles) is.copies)
 
-pub counted_place : (kinds : List Declaration) (place : Place) (d : Declaration) → slice_get kinds place.kind ≡ Some d → IsCounted d place → IsPlace kinds place
-counted_place kinds place d there is = let P : Option Declaration → Type 0 = λ o. IsPlaceOf place o in subst P (sym there) (counted_in place d is)
+pub counted_place : (kinds : List PlainKind) (place : Place) (d : PlainKind) → slice_get kinds place.kind ≡ Some d → IsCounted d place → IsPlace kinds place
+counted_place kinds place d there is = let P : Option PlainKind → Type 0 = λ o. IsPlaceOf place o in subst P (sym there) (counted_in place d is)
 
 -- ---- no count is above 2 ^ 16
 
-pub record IsSmall (d : Declaration) : Type 0 where
+pub record IsSmall (d : PlainKind) : Type 0 where
   pub attributes : attribute_places d ≤ 65536
   pub particles : particle_places d ≤ 65536
   pub copies : (at : ℕ) → copy_places d at ≤ 65536
@@ -70,7 +70,7 @@ copies_small least profile None is limit = omega (arith, limit)
 copies_small least profile (Some most) is limit =
     let low : most < 65536 = ltb-true most 65536 (and-r (nat_le 1 most && nat_le least most) (nat_lt most 65536) is) in omega (arith, low)
 
-before_small : (names kinds : ℕ) (particles : List Particle) → list_all (is_particle names kinds) particles ≡ true → copies_before particles ≤ 65536
+before_small : (names kinds : ℕ) (particles : List PlainParticle) → list_all (is_particle names kinds) particles ≡ true → copies_before particles ≤ 65536
 before_small names kinds [] all = omega arith
 before_small names kinds (particle ∷ particles) all =
     let one = and-l (is_particle names kinds particle) (list_all (is_particle names kinds) particles) all in
@@ -78,15 +78,27 @@ before_small names kinds (particle ∷ particles) all =
     copies_small particle.least particle.profile particle.most (and-l (is_most particle.least particle.most) (nat_lt particle.profile 65536) three)
     (ltb-true particle.profile 65536 (and-r (is_most particle.least particle.most) (nat_lt particle.profile 65536) three))
 
-pub few_places : (s : Schema) (kind : ℕ) (d : Declaration) → slice_get s.kinds.now kind ≡ Some d → IsSmall d
-few_places s kind (Simple datatype) there = record { attributes = omega arith; particles = omega arith; copies = λ at. omega arith }
-few_places s kind (Complex attributes particles) there =
+pub few_places : (s : PlainSchema) (kind : ℕ) (d : PlainKind) → slice_get s.kinds kind ≡ Some d → IsSmall d
+few_places s kind (valued datatype) there = record { attributes = omega arith; particles = omega arith; copies = λ at. omega arith }
+few_places s kind (containing attributes particles) there =
     let good = complex_in s kind attributes particles there in
-    let a : length attributes.now ≤ 65535 = good.few_attributes in
-    let p : length particles.now ≤ 65535 = good.few_particles in
+    let a : length attributes ≤ 65535 = good.few_attributes in
+    let p : length particles ≤ 65535 = good.few_particles in
     record {
       attributes = omega (arith, a);
       particles = omega (arith, p);
-      copies = λ at. before_small (length s.names.now) (length s.kinds.now) (drop at particles.now)
-          (fit_drop (is_particle (length s.names.now) (length s.kinds.now)) particles.now at good.particles_fit);
+      copies = λ at. before_small (length s.names) (length s.kinds) (drop at particles)
+          (fit_drop (is_particle (length s.names) (length s.kinds)) particles at good.particles_fit);
     }
+
+-- ---- the particle of a table
+
+copies_at : (particles : List Particle) (at : ℕ) (p : Particle) → at < length particles → p ≡ get_or particles at p → copies_within p.profile p.most ≡ copies_before (drop at (plain_particles particles))
+copies_at [] at p less is = absurd (omega (arith, less))
+copies_at (x ∷ particles) zero p less is = ap (λ (y : Particle). copies_within y.profile y.most) is
+copies_at (x ∷ particles) (suc at) p less is = copies_at particles at p (omega (arith, less)) is
+
+pub copies_in : (d : Declaration) (attributes : _) (particles : _) (at : ℕ) (p : Particle) (n : ℕ) → d ≡ Complex attributes particles → at < length particles.now → p ≡ get_or particles.now at p →
+    n ≡ copies_within p.profile p.most → n ≡ copy_places (plain_kind d) at
+copies_in d attributes particles at p n same less is count =
+    subst (λ (x : Declaration). n ≡ copy_places (plain_kind x) at) (sym same) (count ∙ copies_at particles.now at p less is)

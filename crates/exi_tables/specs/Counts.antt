@@ -1,17 +1,15 @@
 -- Own: how many places an element of a kind has: by the attributes passed, by the particles passed, and at each particle by the
 -- copies passed.
 use Rattle.std.specs.Prelude.{ℕ, ◌+◌, List, [], ◌∷◌, length, drop, Option, Some, None}
-use Rattle.exi_schema.specs.declared.tables.Declaration.{Declaration}
-use Rattle.exi_schema.specs.declared.tables.Declaration.TheVariants.{Simple, Complex}
-use Rattle.exi_schema.specs.declared.tables.Particle.{Particle}
+use Rattle.exi_schema.specs.Plain.{PlainKind, valued, containing, PlainParticle}
 
-abbrev pub attribute_places : Declaration → ℕ
-attribute_places (Simple datatype) = 1
-attribute_places (Complex attributes particles) = length attributes.now + 1
+abbrev pub attribute_places : PlainKind → ℕ
+attribute_places (valued datatype) = 1
+attribute_places (containing attributes particles) = length attributes + 1
 
-abbrev pub particle_places : Declaration → ℕ
-particle_places (Simple datatype) = 2
-particle_places (Complex attributes particles) = length particles.now + 1
+abbrev pub particle_places : PlainKind → ℕ
+particle_places (valued datatype) = 2
+particle_places (containing attributes particles) = length particles + 1
 
 -- before the last copy that a maximum allows, or else at each number of copies up to the profile limit
 abbrev pub copies_within : ℕ → Option ℕ → ℕ
@@ -19,10 +17,10 @@ copies_within profile None = profile + 1
 copies_within profile (Some most) = most
 
 -- at the first of these particles, or behind the last
-abbrev pub copies_before : List Particle → ℕ
+abbrev pub copies_before : List PlainParticle → ℕ
 copies_before [] = 1
 copies_before (particle ∷ particles) = copies_within particle.profile particle.most
 
-abbrev pub copy_places : Declaration → ℕ → ℕ
-copy_places (Simple datatype) at = 1
-copy_places (Complex attributes particles) at = copies_before (drop at particles.now)
+abbrev pub copy_places : PlainKind → ℕ → ℕ
+copy_places (valued datatype) at = 1
+copy_places (containing attributes particles) at = copies_before (drop at particles)

@@ -20,13 +20,14 @@ pub struct Rows<'s> {
 
 impl<'s> Model for Rows<'s> {
     ghost use Rattle.exi_schema.specs.declared.schema.Schema.{Schema};
+    ghost use Rattle.exi_schema.specs.Told.{schema_of};
     ghost use Rattle.exi_tables.specs.Filled.{HoldsKinds};
 
     ghost Value = { Schema };
 
     ghost view = { λ rows. rows.schema };
 
-    ghost invariant = { λ rows. HoldsKinds rows.schema rows.kinds.items };
+    ghost invariant = { λ rows. HoldsKinds (schema_of rows.schema) rows.kinds.items };
 }
 
 /// Makes the rows of a schema. It takes all their memory here, and walks over the schema once for each code of each place.
@@ -47,12 +48,13 @@ pub fn compile<'s>(alloc: Global, schema: &Schema<'s>) -> Result<Rows<'s>, NoMem
 
 impl Rows<'_> {
     ghost use Rattle.exi_schema.specs.Offers.{IsPlace};
+    ghost use Rattle.exi_schema.specs.Told.{schema_of};
     ghost use Rattle.exi_tables.specs.Filled.{IsRow};
 
     /// The row of a place.
     fn row(&self, place: Place) -> &Row
-        requires { IsPlace self.now.kinds.now place }
-        ensures { IsRow self.now place result.now }
+        requires { IsPlace (schema_of self.now).kinds place }
+        ensures { IsRow (schema_of self.now) place result.now }
     {
         let by_attributes = &self.kinds[place.kind as usize];
         let by_particle = &by_attributes[place.attributes as usize];
@@ -62,7 +64,9 @@ impl Rows<'_> {
 }
 
 impl Places for Rows<'_> {
-    ghost schema = { λ rows. rows };
+    ghost use Rattle.exi_schema.specs.Told.{schema_of};
+
+    ghost schema = { schema_of };
 
     fn alternatives(&self, place: Place) -> u16 {
         let row = self.row(place);

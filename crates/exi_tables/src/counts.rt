@@ -1,13 +1,14 @@
 //! How many places a kind has.
 
 ghost use Rattle.std.specs.Prelude.{◌≡◌};
+ghost use Rattle.exi_schema.specs.Plain.{plain_kind};
 ghost use Rattle.exi_tables.specs.Counts.{attribute_places as places_by_attribute, particle_places as places_by_particle, copies_within, copy_places as places_by_copy};
 
 use exi_schema::{Declaration, Particle};
 
 /// How many numbers of attributes may be passed in a kind.
 pub(crate) fn attribute_places(declaration: &Declaration) -> usize
-    ensures { result ≡ places_by_attribute declaration.now }
+    ensures { result ≡ places_by_attribute (plain_kind declaration.now) }
 {
     match declaration {
         Declaration::Simple(_) => 1,
@@ -17,7 +18,7 @@ pub(crate) fn attribute_places(declaration: &Declaration) -> usize
 
 /// How many numbers of particles may be passed in a kind. A simple kind counts as one particle.
 pub(crate) fn particle_places(declaration: &Declaration) -> usize
-    ensures { result ≡ places_by_particle declaration.now }
+    ensures { result ≡ places_by_particle (plain_kind declaration.now) }
 {
     match declaration {
         Declaration::Simple(_) => 2,
@@ -37,7 +38,7 @@ fn copies_of(particle: &Particle) -> usize
 
 /// How many numbers of copies may be passed at a particle of a kind, or behind its last one.
 pub(crate) fn copy_places(declaration: &Declaration, particle: u16) -> usize
-    ensures { result ≡ places_by_copy declaration.now particle }
+    ensures { result ≡ places_by_copy (plain_kind declaration.now) particle }
 {
     match declaration {
         Declaration::Simple(_) => 1,

@@ -2,6 +2,8 @@
 
 ghost use Rattle.std.specs.Prelude.{◌≡◌, ◌<◌, slice_get, Some, IfOk};
 ghost use Rattle.exi_schema.specs.Offers.{IsPlace};
+ghost use Rattle.exi_schema.specs.Plain.{plain_kind};
+ghost use Rattle.exi_schema.specs.Told.{schema_of};
 ghost use Rattle.exi_tables.specs.Counts.{attribute_places as places_by_attribute, particle_places as places_by_particle};
 ghost use Rattle.exi_tables.specs.Filled.{IsRow, HoldsCopies, HoldsParticles, HoldsAttributes};
 
@@ -22,8 +24,8 @@ pub(crate) type KindRows = Vec<Vec<Vec<Row>>>;
 
 /// The row of a place.
 fn row_of(alloc: Global, schema: &Schema, place: Place) -> Result<Row, NoMemory>
-    requires { IsPlace schema.now.kinds.now place }
-    ensures { IfOk result (λ row. IsRow schema.now place row) }
+    requires { IsPlace (schema_of schema.now).kinds place }
+    ensures { IfOk result (λ row. IsRow (schema_of schema.now) place row) }
 {
     let count = schema.alternatives(place);
     let mut steps = Vec::with_capacity(alloc, count as usize)?;
@@ -41,10 +43,10 @@ fn rows_of_copies(
     declaration: &Declaration,
     here: Place,
 ) -> Result<Vec<Row>, NoMemory>
-    requires declared { slice_get schema.now.kinds.now here.kind ≡ Some declaration.now }
-    requires attributes { here.attributes < places_by_attribute declaration.now }
-    requires particle { here.particle < places_by_particle declaration.now }
-    ensures { IfOk result (λ rows. HoldsCopies schema.now declaration.now here rows.items) }
+    requires declared { slice_get (schema_of schema.now).kinds here.kind ≡ Some (plain_kind declaration.now) }
+    requires attributes { here.attributes < places_by_attribute (plain_kind declaration.now) }
+    requires particle { here.particle < places_by_particle (plain_kind declaration.now) }
+    ensures { IfOk result (λ rows. HoldsCopies (schema_of schema.now) (plain_kind declaration.now) here rows.items) }
 {
     let count = copy_places(declaration, here.particle);
     let mut rows = Vec::with_capacity(alloc, count)?;
@@ -65,9 +67,9 @@ fn rows_of_particles(
     declaration: &Declaration,
     here: Place,
 ) -> Result<Vec<Vec<Row>>, NoMemory>
-    requires declared { slice_get schema.now.kinds.now here.kind ≡ Some declaration.now }
-    requires attributes { here.attributes < places_by_attribute declaration.now }
-    ensures { IfOk result (λ tables. HoldsParticles schema.now declaration.now here tables.items) }
+    requires declared { slice_get (schema_of schema.now).kinds here.kind ≡ Some (plain_kind declaration.now) }
+    requires attributes { here.attributes < places_by_attribute (plain_kind declaration.now) }
+    ensures { IfOk result (λ tables. HoldsParticles (schema_of schema.now) (plain_kind declaration.now) here tables.items) }
 {
     let count = particle_places(declaration);
     let mut tables = Vec::with_capacity(alloc, count)?;
@@ -88,8 +90,8 @@ pub(crate) fn rows_of_kind(
     declaration: &Declaration,
     here: Place,
 ) -> Result<KindRows, NoMemory>
-    requires { slice_get schema.now.kinds.now here.kind ≡ Some declaration.now }
-    ensures { IfOk result (λ tables. HoldsAttributes schema.now declaration.now here tables.items) }
+    requires { slice_get (schema_of schema.now).kinds here.kind ≡ Some (plain_kind declaration.now) }
+    ensures { IfOk result (λ tables. HoldsAttributes (schema_of schema.now) (plain_kind declaration.now) here tables.items) }
 {
     let count = attribute_places(declaration);
     let mut tables = Vec::with_capacity(alloc, count)?;

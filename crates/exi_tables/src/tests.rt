@@ -2,6 +2,8 @@
 
 ghost use Rattle.std.specs.Prelude.{◌≡◌, ◌<◌, slice_get, Some, length};
 ghost use Rattle.exi_schema.specs.Offers.{IsPlace};
+ghost use Rattle.exi_schema.specs.Plain.{plain_kind};
+ghost use Rattle.exi_schema.specs.Told.{schema_of};
 ghost use Rattle.exi_tables.specs.Counts.{attribute_places as places_by_attribute, particle_places as places_by_particle};
 
 use super::*;
@@ -85,8 +87,8 @@ const SET_KINDS: [Declaration<'static>; 3] = [
 
 /// Sees that two forms of a schema offer the same at a place.
 fn compare_at<A: Places, B: Places>(rt: &impl Abort, plain: &A, compiled: &B, place: Place)
-    requires plain { IsPlace (A.schema plain.now).kinds.now place }
-    requires compiled { IsPlace (B.schema compiled.now).kinds.now place }
+    requires plain { IsPlace (A.schema plain.now).kinds place }
+    requires compiled { IsPlace (B.schema compiled.now).kinds place }
 {
     let count = plain.alternatives(place);
     assert_eq!(rt; compiled.alternatives(place), count);
@@ -105,9 +107,9 @@ fn compare_copies(
     here: Place,
 ) -> usize
     requires same { rows.now ≡ schema.now }
-    requires declared { slice_get schema.now.kinds.now here.kind ≡ Some declaration.now }
-    requires attributes { here.attributes < places_by_attribute declaration.now }
-    requires particle { here.particle < places_by_particle declaration.now }
+    requires declared { slice_get (schema_of schema.now).kinds here.kind ≡ Some (plain_kind declaration.now) }
+    requires attributes { here.attributes < places_by_attribute (plain_kind declaration.now) }
+    requires particle { here.particle < places_by_particle (plain_kind declaration.now) }
 {
     let count = copy_places(declaration, here.particle);
     for copies in 0..count {
@@ -129,8 +131,8 @@ fn compare_particles(
     here: Place,
 ) -> usize
     requires same { rows.now ≡ schema.now }
-    requires declared { slice_get schema.now.kinds.now here.kind ≡ Some declaration.now }
-    requires attributes { here.attributes < places_by_attribute declaration.now }
+    requires declared { slice_get (schema_of schema.now).kinds here.kind ≡ Some (plain_kind declaration.now) }
+    requires attributes { here.attributes < places_by_attribute (plain_kind declaration.now) }
 {
     let mut places: usize = 0;
     for particle in 0..particle_places(declaration) {
@@ -146,7 +148,7 @@ fn compare_particles(
 /// Compares at each place of a kind, and counts these places.
 fn compare_kind(rt: &impl Abort, schema: &Schema, rows: &Rows, kind: u16) -> usize
     requires same { rows.now ≡ schema.now }
-    requires kind { kind < length schema.now.kinds.now }
+    requires kind { kind < length (schema_of schema.now).kinds }
 {
     let declaration = &schema.kinds[kind as usize];
     let mut places: usize = 0;

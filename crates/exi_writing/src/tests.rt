@@ -6,6 +6,7 @@ ghost use Rattle.exi_documents.specs.Values.{most_entries};
 ghost use Rattle.exi_values.specs.Meaning.{AreTexts};
 
 use crate::put_value;
+use exi_documents::MOST_ENTRIES;
 use exi_bits::{BitCursor, BitPen, BitSpan, Full};
 use exi_schema::Datatype;
 use exi_strings::Partitions;
@@ -20,7 +21,7 @@ fn text(rt: &impl Abort, pen: &mut BitPen, table: &mut Table, name: u16, text: &
     ensures texts { AreTexts (written_bits pen.new) table.new.entries }
 {
     assert!(rt; text.len() <= 2);
-    assert!(rt; table.globals() < 8192);
+    assert!(rt; table.globals() < MOST_ENTRIES);
     let datatype = Datatype::Text { most: 2 };
     assert_eq!(rt;
         put_value(pen, datatype, name, &Value::Written(text), table),
@@ -43,7 +44,7 @@ fn enter_again(rt: &impl Abort, pen: &BitPen, table: &mut Table, name: u16)
 
 #[test]
 fn each_datatype_behind_the_others(rt: HostRuntime) {
-    let Ok(mut table) = Partitions::make(rt.alloc(), 8192) else {
+    let Ok(mut table) = Partitions::make(rt.alloc(), MOST_ENTRIES) else {
         assert!(rt; false);
         return;
     };
@@ -107,7 +108,7 @@ fn each_datatype_behind_the_others(rt: HostRuntime) {
 
 #[test]
 fn texts_are_entered_and_found_again(rt: HostRuntime) {
-    let Ok(mut table) = Partitions::make(rt.alloc(), 8192) else {
+    let Ok(mut table) = Partitions::make(rt.alloc(), MOST_ENTRIES) else {
         assert!(rt; false);
         return;
     };
@@ -133,7 +134,7 @@ fn texts_are_entered_and_found_again(rt: HostRuntime) {
 
 #[test]
 fn a_lent_text_is_written_shorter(rt: HostRuntime) {
-    let Ok(mut table) = Partitions::make(rt.alloc(), 8192) else {
+    let Ok(mut table) = Partitions::make(rt.alloc(), MOST_ENTRIES) else {
         assert!(rt; false);
         return;
     };
@@ -157,7 +158,7 @@ fn a_lent_text_is_written_shorter(rt: HostRuntime) {
 
 #[test]
 fn one_bit_too_many(rt: HostRuntime) {
-    let Ok(mut table) = Partitions::make(rt.alloc(), 8192) else {
+    let Ok(mut table) = Partitions::make(rt.alloc(), MOST_ENTRIES) else {
         assert!(rt; false);
         return;
     };

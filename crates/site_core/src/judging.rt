@@ -7,6 +7,7 @@ ghost use Rattle.app_protocol.specs.Documents.{IsApp, IsAppEncoding, IsAppRefuse
 ghost use Rattle.app_protocol.specs.Messages.{message_of};
 ghost use Rattle.site_core.specs.Replies.{IsJudged};
 
+use exi_documents::MOST_ENTRIES;
 use app_protocol::{AppMessage, AppRes, Offer, Refusal, Table, negotiate, read_app, write_app};
 use arrayvec::ArrayVec;
 use charge_world::NoMemory;
@@ -51,7 +52,7 @@ impl Messages {
     /// Takes the memory of the table.
     pub fn make(alloc: Global) -> Result<Messages, NoMemory> {
         Ok(Messages {
-            table: Table::make(alloc, 8192)?,
+            table: Table::make(alloc, MOST_ENTRIES)?,
         })
     }
 

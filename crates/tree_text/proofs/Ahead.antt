@@ -1,10 +1,9 @@
 -- What an event adds to the text of a tree it adds to a text of the dialect, if the values have the form of their datatypes.
 use Rattle.std.proofs.Common.{◌≡◌, ℕ, Bool, true, List, [], ◌∷◌, ◌++◌, codes, map, Option, Some, None, refl, sym, ap, subst, ◌∙◌, append-nil, slice_get}
 use Rattle.std.specs.List.{AllByRecursion}
-use Rattle.exi_schema.specs.declared.schema.Schema.{Schema}
+use Rattle.exi_schema.specs.Schemas.{PlainSchema}
 use Rattle.exi_schema.specs.declared.tables.Datatype.{Datatype}
-use Rattle.exi_schema.specs.declared.tables.Declaration.{Declaration}
-use Rattle.exi_schema.specs.declared.tables.Declaration.TheVariants.{Simple, Complex}
+use Rattle.exi_schema.specs.Plain.{PlainKind, valued, containing}
 use Rattle.exi_schema.specs.declared.places.Place.{Place}
 use Rattle.exi_schema.specs.declared.places.Step.{Step}
 use Rattle.exi_schema.specs.declared.places.Step.TheVariants as step
@@ -34,11 +33,11 @@ use Rattle.tree_text.proofs.Told.{found}
 use Rattle.tree_text.proofs.Alike.{outer_of, IsAlikeIn, IsOuter, IsAlike, complex_of_element, complex_of_attribute, gaps, end_alone, around_alike, start_regroup, attribute_regroup, one_of, alike_by, content_gap}
 
 -- values that are spelled have the form of their datatype
-abbrev pub HasForm : Speller → Schema → Type 0
+abbrev pub HasForm : Speller → PlainSchema → Type 0
 HasForm V s =
-    (kind name : ℕ) (d : Datatype) (entries after : Entries) (v : Value) (bits : List Bool) → simple_at s.kinds.now kind ≡ Some d → V d entries name v bits after → IsOfForm d v
+    (kind name : ℕ) (d : Datatype) (entries after : Entries) (v : Value) (bits : List Bool) → simple_at s.kinds kind ≡ Some d → V d entries name v bits after → IsOfForm d v
 
-module _ (V : Speller) (s : Schema) (fits : are_consistent s.kinds.now ≡ true) (formed : HasForm V s) where
+module _ (V : Speller) (s : PlainSchema) (fits : are_consistent s.kinds ≡ true) (formed : HasForm V s) where
   pub record Leads (said : dialect.Standing) (event : Event) (new : State) (ahead told : List ℕ) : Type 0 where
     pub added : List ℕ
     pub after : dialect.Standing
@@ -49,7 +48,7 @@ module _ (V : Speller) (s : Schema) (fits : are_consistent s.kinds.now ≡ true)
 
   at_start : (number : ℕ) (entries : Entries) (bits : List Bool) (new : State) (ahead told : List ℕ) → ahead ≡ [] → Moves V s (stands Before entries) (Document number) bits new → told ≡ [] → Leads dialect.Before (Document number) new ahead told
   at_start number entries bits new ahead told none m t =
-      let word = found (map (λ t. t.now) s.names.now) m.0 (root_name s number m.0 m.1 m.3) in
+      let word = found s.names m.0 (root_name s number m.0 m.1 m.3) in
       let added = word.0 ++ (mark s m.1 ∷ []) in
       record {
         added = added;
@@ -64,7 +63,7 @@ module _ (V : Speller) (s : Schema) (fits : are_consistent s.kinds.now ≡ true)
       Moves V s (stands (AtRoot root kind) entries) (Start name) bits new → AddsStart s ends.Nothing name told → Leads (dialect.AtRoot root kind) (Start name) new ahead told
   at_root root kind name entries bits new ahead told word named ahead_is m t =
       let after = dialect.Within (dialect.element kind fills.Nothing ∷ []) in
-      let same : word ≡ t.0 = one_of (slice_get (map (λ t. t.now) s.names.now) name) word t.0 (subst (λ (n : ℕ). IsName s n word) (sym m.0) named) t.1 in
+      let same : word ≡ t.0 = one_of (slice_get s.names name) word t.0 (subst (λ (n : ℕ). IsName s n word) (sym m.0) named) t.1 in
       record {
         added = [];
         after = after;
@@ -81,7 +80,7 @@ module _ (V : Speller) (s : Schema) (fits : are_consistent s.kinds.now ≡ true)
       let offered : IsOffered s top.place (element name m.0 m.1) = (m.2.code, m.2.offered) in
       let declared = element_declared s top.place m.1 name m.0 fits offered in
       let word = t.0 in
-      let complex = complex_of_element s (slice_get s.kinds.now top.place.kind) name m.0 declared in
+      let complex = complex_of_element s (slice_get s.kinds top.place.kind) name m.0 declared in
       let kept = element_kind_kept s top.place m.1 name m.0 offered in
       let text = word ++ (mark s m.0 ∷ []) in
       let after = dialect.Within (dialect.element m.0 fills.Nothing ∷ dialect.element top.place.kind fills.Elements ∷ map outer_of above) in
@@ -93,7 +92,7 @@ module _ (V : Speller) (s : Schema) (fits : are_consistent s.kinds.now ≡ true)
         alike = alike_by V s fits ends.Name new (stands (Inside (opened name (first m.0)) (opened top.name m.1 ∷ above)) entries) after (mark s m.0 ∷ []) m.3 (
           fills.Nothing,
           ap (λ (n : ℕ). dialect.Within (dialect.element m.0 fills.Nothing ∷ dialect.element n fills.Elements ∷ map outer_of above)) (sym kept),
-          (behind_element s.kinds.now top.place m.1 name m.0 bits m.2, all),
+          (behind_element s.kinds top.place m.1 name m.0 bits m.2, all),
           (refl, refl, refl),
         );
         same = start_regroup ahead (dialect.gap filling) word (mark s m.0 ∷ []) (gap end) (gaps s end top.place filling ahead (element name m.0 m.1) is complex offered (λ wrong. cc))
@@ -111,7 +110,7 @@ module _ (V : Speller) (s : Schema) (fits : are_consistent s.kinds.now ≡ true)
   before_elements ends.Part here fills.Elements ahead name kind next is offered = absurd (is.0 offered.0 name kind next offered.1)
   before_elements ends.Part here fills.Value ahead name kind next is offered = absurd is.0
 
-  within_attribute : (end : TextEnd) (top : Opened) (above : List Opened) (filling : Filling) (name : ℕ) (value : Value) (entries : Entries) (bits : List Bool) (new : State) (ahead told : List ℕ) → IsPlace s.kinds.now top.place →
+  within_attribute : (end : TextEnd) (top : Opened) (above : List Opened) (filling : Filling) (name : ℕ) (value : Value) (entries : Entries) (bits : List Bool) (new : State) (ahead told : List ℕ) → IsPlace s.kinds top.place →
       AllByRecursion (IsOuter s) above → IsAlikeIn s end top.place filling ahead → Moves V s (stands (Inside top above) entries) (Attribute name value) bits new → AddsAttribute s end top.place name value told →
       Leads (dialect.Within (dialect.element top.place.kind filling ∷ map outer_of above)) (Attribute name value) new ahead told
   within_attribute end top above filling name value entries bits new ahead told at all is m t =
@@ -122,7 +121,7 @@ module _ (V : Speller) (s : Schema) (fits : are_consistent s.kinds.now ≡ true)
       let word = t.4.0 in
       let said = t.4.1 in
       let text = codes "@" ++ word ++ codes "=" ++ said in
-      let complex = complex_of_attribute s (slice_get s.kinds.now top.place.kind) name m.0 declared in
+      let complex = complex_of_attribute s (slice_get s.kinds top.place.kind) name m.0 declared in
       let kept = attribute_kind_kept s top.place m.1 name m.0 offered in
       let after = dialect.Within (dialect.element top.place.kind fills.Attributes ∷ map outer_of above) in
       record {
@@ -142,14 +141,14 @@ module _ (V : Speller) (s : Schema) (fits : are_consistent s.kinds.now ≡ true)
           fills.Attributes,
           ap (λ (n : ℕ). dialect.Within (dialect.element n fills.Attributes ∷ map outer_of above)) (sym kept),
           all,
-          (tt, behind_attribute s.kinds.now top.place m.1 name m.0 m.4 m.6, refl),
+          (tt, behind_attribute s.kinds top.place m.1 name m.0 m.4 m.6, refl),
         );
         same = attribute_regroup ahead (dialect.gap filling) (codes "@") word (codes "=") said (gap end) (gaps s end top.place filling ahead x is complex offered (λ wrong. cc))
             ∙ ap (λ (l : List ℕ). l ++ []) (ap (λ (l : List ℕ). gap end ++ codes "@" ++ l) (sym t.4.4) ∙ sym t.5);
       }
 
   -- a value is offered behind the name of an element alone
-  before_value : (end : TextEnd) (here : Place) (filling : Filling) (ahead : List ℕ) (d : Datatype) (next : Place) → IsAlikeIn s end here filling ahead → simple_at s.kinds.now here.kind ≡ Some d → IsOffered s here (step.Characters next) → filling ≡ fills.Nothing
+  before_value : (end : TextEnd) (here : Place) (filling : Filling) (ahead : List ℕ) (d : Datatype) (next : Place) → IsAlikeIn s end here filling ahead → simple_at s.kinds here.kind ≡ Some d → IsOffered s here (step.Characters next) → filling ≡ fills.Nothing
   before_value ends.Nothing here filling ahead d next is simple offered = absurd is
   before_value ends.Name here filling ahead d next is simple offered = is.0
   before_value ends.Value here filling ahead d next is simple offered = let wrong = end_alone s here (step.Characters next) is.1 offered in absurd cc
@@ -172,39 +171,39 @@ module _ (V : Speller) (s : Schema) (fits : are_consistent s.kinds.now ≡ true)
           fills.Value,
           ap (λ (n : ℕ). dialect.Within (dialect.element n fills.Value ∷ map outer_of above)) (sym kept),
           all,
-          (refl, (behind_characters s.kinds.now top.place m.0 m.1 m.3 m.6 m.5).1, (m.1, ap (λ (n : ℕ). simple_at s.kinds.now n) kept ∙ m.6), refl),
+          (refl, (behind_characters s.kinds top.place m.0 m.1 m.3 m.6 m.5).1, (m.1, ap (λ (n : ℕ). simple_at s.kinds n) kept ∙ m.6), refl),
         );
         same = ap (λ (l : List ℕ). l ++ t.0) (content_gap V s fits end top.place filling ahead m.1 is none m.6) ∙ sym t.2 ∙ sym (append-nil told);
       }
 
   -- the end of an element
-  no_end_first : (here : Place) (d : Datatype) → here ≡ first here.kind → simple_at s.kinds.now here.kind ≡ Some d → IsOffered s here step.End → ⊥
+  no_end_first : (here : Place) (d : Datatype) → here ≡ first here.kind → simple_at s.kinds here.kind ≡ Some d → IsOffered s here step.End → ⊥
   no_end_first here d is simple offered =
-      let only = offers_simple s.kinds.now (first here.kind) d simple in
+      let only = offers_simple s.kinds (first here.kind) d simple in
       let there : IsOffered s (first here.kind) step.End = subst (λ (p : Place). IsOffered s p step.End) is offered in
       let wrong : step.End ≡ simple_step (first here.kind) = (only_code (simple_step (first here.kind)) step.End there.0 (sym (ap (λ (l : List Step). slice_get l there.0) only) ∙ there.1)).0 in
       cc
 
-  end_in : (o : Option Declaration) (end : TextEnd) (here : Place) (filling : Filling) (ahead : List ℕ) → slice_get s.kinds.now here.kind ≡ o → IsPlaceOf here o → IsAlikeIn s end here filling ahead → IsOffered s here step.End →
+  end_in : (o : Option PlainKind) (end : TextEnd) (here : Place) (filling : Filling) (ahead : List ℕ) → slice_get s.kinds here.kind ≡ o → IsPlaceOf here o → IsAlikeIn s end here filling ahead → IsOffered s here step.End →
       (added : List ℕ) × IsEndText o filling added × (ahead ++ added ≡ closing end)
   end_in None end here filling ahead o at is offered = absurd at
-  end_in (Some (Simple d)) ends.Nothing here filling ahead o at is offered = absurd is
-  end_in (Some (Simple d)) ends.Name here filling ahead o at is offered = absurd (no_end_first here d is.1 (ap datatype_of o) offered)
-  end_in (Some (Simple d)) ends.Value here filling ahead o at is offered = ([], (is.0, refl), append-nil ahead ∙ is.3)
-  end_in (Some (Simple d)) ends.Part here filling ahead o at is offered = absurd (is.1 d (ap datatype_of o))
-  end_in (Some (Complex attributes particles)) ends.Nothing here filling ahead o at is offered = absurd is
-  end_in (Some (Complex attributes particles)) ends.Name here filling ahead o at is offered =
+  end_in (Some (valued d)) ends.Nothing here filling ahead o at is offered = absurd is
+  end_in (Some (valued d)) ends.Name here filling ahead o at is offered = absurd (no_end_first here d is.1 (ap datatype_of o) offered)
+  end_in (Some (valued d)) ends.Value here filling ahead o at is offered = ([], (is.0, refl), append-nil ahead ∙ is.3)
+  end_in (Some (valued d)) ends.Part here filling ahead o at is offered = absurd (is.1 d (ap datatype_of o))
+  end_in (Some (containing attributes particles)) ends.Nothing here filling ahead o at is offered = absurd is
+  end_in (Some (containing attributes particles)) ends.Name here filling ahead o at is offered =
       (codes "}", refl, ap (λ (l : List ℕ). l ++ codes "}") (is.2 ∙ ap (λ (n : ℕ). n ∷ []) (ap mark_of o)))
-  end_in (Some (Complex attributes particles)) ends.Value here filling ahead o at is offered =
+  end_in (Some (containing attributes particles)) ends.Value here filling ahead o at is offered =
       let wrong : None ≡ Some is.2.0 = sym (ap datatype_of o) ∙ is.2.1 in absurd cc
-  end_in (Some (Complex attributes particles)) ends.Part here filling ahead o at is offered =
+  end_in (Some (containing attributes particles)) ends.Part here filling ahead o at is offered =
       (codes "}", refl, ap (λ (l : List ℕ). l ++ codes "}") is.2)
 
-  within_end : (end : TextEnd) (top : Opened) (above : List Opened) (filling : Filling) (entries : Entries) (bits : List Bool) (new : State) (ahead told : List ℕ) → IsPlace s.kinds.now top.place →
+  within_end : (end : TextEnd) (top : Opened) (above : List Opened) (filling : Filling) (entries : Entries) (bits : List Bool) (new : State) (ahead told : List ℕ) → IsPlace s.kinds top.place →
       AllByRecursion (IsOuter s) above → IsAlikeIn s end top.place filling ahead → Moves V s (stands (Inside top above) entries) EndElement bits new → told ≡ closing end →
       Leads (dialect.Within (dialect.element top.place.kind filling ∷ map outer_of above)) EndElement new ahead told
   within_end end top above filling entries bits new ahead told at all is m t =
-      let e = end_in (slice_get s.kinds.now top.place.kind) end top.place filling ahead refl at is (m.0.code, m.0.offered) in
+      let e = end_in (slice_get s.kinds top.place.kind) end top.place filling ahead refl at is (m.0.code, m.0.offered) in
       record {
         added = e.0;
         after = dialect.Within (map outer_of above);

@@ -2,10 +2,9 @@
 -- character behind a name, and at the root by its name.
 use Rattle.std.proofs.Common.{◌≡◌, ℕ, Bool, true, List, [], ◌∷◌, ◌++◌, codes, map, Option, Some, None, refl, sym, ap, ap₂, subst, ◌∙◌, append_assoc, append-nil, slice_get}
 use Rattle.std.specs.List.{AllByRecursion}
-use Rattle.exi_schema.specs.declared.schema.Schema.{Schema}
+use Rattle.exi_schema.specs.Schemas.{PlainSchema}
 use Rattle.exi_schema.specs.declared.tables.Datatype.{Datatype}
-use Rattle.exi_schema.specs.declared.tables.Declaration.{Declaration}
-use Rattle.exi_schema.specs.declared.tables.Declaration.TheVariants.{Simple, Complex}
+use Rattle.exi_schema.specs.Plain.{PlainKind, valued, containing}
 use Rattle.exi_schema.specs.declared.places.Place.{Place}
 use Rattle.exi_schema.specs.declared.places.Step.{Step}
 use Rattle.exi_schema.specs.declared.places.Step.TheVariants as step
@@ -34,11 +33,11 @@ use Rattle.tree_text.proofs.Declared.{attribute_declared, element_declared, attr
 abbrev pub outer_of : Opened → OpenElement
 outer_of o = dialect.element o.place.kind fills.Elements
 
-module _ (s : Schema) where
+module _ (s : PlainSchema) where
   abbrev pub IsPartly : Filling → Place → Type 0
   IsPartly fills.Nothing here = ⊥
   IsPartly fills.Attributes here = Unit {0}
-  IsPartly fills.Elements here = HasNoAttribute s.kinds.now here
+  IsPartly fills.Elements here = HasNoAttribute s.kinds here
   IsPartly fills.Value here = ⊥
 
   -- inside an element, behind such an end of the tree's text
@@ -46,12 +45,12 @@ module _ (s : Schema) where
   IsAlikeIn ends.Nothing here filling ahead = ⊥
   IsAlikeIn ends.Name here filling ahead = (filling ≡ fills.Nothing) × (here ≡ first here.kind) × (ahead ≡ mark s here.kind ∷ [])
   IsAlikeIn ends.Value here filling ahead =
-      (filling ≡ fills.Value) × (offers s.kinds.now here ≡ step.End ∷ []) × ((d : Datatype) × (simple_at s.kinds.now here.kind ≡ Some d)) × (ahead ≡ [])
-  IsAlikeIn ends.Part here filling ahead = IsPartly filling here × HasNoValue s.kinds.now here × (ahead ≡ [])
+      (filling ≡ fills.Value) × (offers s.kinds here ≡ step.End ∷ []) × ((d : Datatype) × (simple_at s.kinds here.kind ≡ Some d)) × (ahead ≡ [])
+  IsAlikeIn ends.Part here filling ahead = IsPartly filling here × HasNoValue s.kinds here × (ahead ≡ [])
 
   -- nothing but elements and the end may follow
   abbrev pub IsOuter : Opened → Type 0
-  IsOuter o = HasNoAttribute s.kinds.now o.place × HasNoValue s.kinds.now o.place
+  IsOuter o = HasNoAttribute s.kinds o.place × HasNoValue s.kinds o.place
 
   abbrev pub IsAlike : TextEnd → Standing → dialect.Standing → List ℕ → Type 0
   IsAlike end Before said ahead = (said ≡ dialect.Before) × (ahead ≡ []) × (end ≡ ends.Nothing)
@@ -64,18 +63,18 @@ module _ (s : Schema) where
 
   -- ---- what stands before an attribute and an element
 
-  pub complex_of_element : (o : Option Declaration) (name kind : ℕ) → element_in o name ≡ Some kind → mark_of o ≡ 123
+  pub complex_of_element : (o : Option PlainKind) (name kind : ℕ) → element_in o name ≡ Some kind → mark_of o ≡ 123
   complex_of_element None name kind h = refl
-  complex_of_element (Some (Simple d)) name kind h = let wrong : None ≡ Some kind = h in absurd cc
-  complex_of_element (Some (Complex attributes particles)) name kind h = refl
+  complex_of_element (Some (valued d)) name kind h = let wrong : None ≡ Some kind = h in absurd cc
+  complex_of_element (Some (containing attributes particles)) name kind h = refl
 
-  pub complex_of_attribute : (o : Option Declaration) (name kind : ℕ) → attribute_in o name ≡ Some kind → mark_of o ≡ 123
+  pub complex_of_attribute : (o : Option PlainKind) (name kind : ℕ) → attribute_in o name ≡ Some kind → mark_of o ≡ 123
   complex_of_attribute None name kind h = refl
-  complex_of_attribute (Some (Simple d)) name kind h = let wrong : None ≡ Some kind = h in absurd cc
-  complex_of_attribute (Some (Complex attributes particles)) name kind h = refl
+  complex_of_attribute (Some (valued d)) name kind h = let wrong : None ≡ Some kind = h in absurd cc
+  complex_of_attribute (Some (containing attributes particles)) name kind h = refl
 
   -- behind a value nothing is offered but the end
-  pub end_alone : (here : Place) (x : Step) → offers s.kinds.now here ≡ step.End ∷ [] → IsOffered s here x → x ≡ step.End
+  pub end_alone : (here : Place) (x : Step) → offers s.kinds here ≡ step.End ∷ [] → IsOffered s here x → x ≡ step.End
   end_alone here x only h = (only_code step.End x h.0 (sym (ap (λ (l : List Step). slice_get l h.0) only) ∙ h.1)).0
 
   part_gap : (filling : Filling) (here : Place) → IsPartly filling here → dialect.gap filling ≡ codes " "
@@ -115,7 +114,7 @@ one_of {X} o x y p q = let e : Some x ≡ Some y = sym p ∙ q in cc
 
 -- ---- one event
 
-module _ (V : Speller) (s : Schema) (fits : are_consistent s.kinds.now ≡ true) where
+module _ (V : Speller) (s : PlainSchema) (fits : are_consistent s.kinds ≡ true) where
   -- the dialect's event adds what the tree's does
   pub record Follows (before : TextEnd) (place : Option Place) (event : Event) (new : State) (ahead added : List ℕ) (after : dialect.Standing) : Type 0 where
     pub told : List ℕ
@@ -164,7 +163,7 @@ module _ (V : Speller) (s : Schema) (fits : are_consistent s.kinds.now ≡ true)
       let offered : IsOffered s top.place (element name m.0 m.1) = (m.2.code, m.2.offered) in
       let kind : d.0 ≡ m.0 = one_of (element_of s top.place.kind name) d.0 m.0 d.2 (element_declared s top.place m.1 name m.0 fits offered) in
       let word = d.3.0 in
-      let complex = complex_of_element s (slice_get s.kinds.now top.place.kind) name d.0 d.2 in
+      let complex = complex_of_element s (slice_get s.kinds top.place.kind) name d.0 d.2 in
       let kept = element_kind_kept s top.place m.1 name m.0 offered in
       record {
         told = gap end ++ word;
@@ -173,7 +172,7 @@ module _ (V : Speller) (s : Schema) (fits : are_consistent s.kinds.now ≡ true)
         alike = alike_by ends.Name new (stands (Inside (opened name (first m.0)) (opened top.name m.1 ∷ above)) entries) after (mark s m.0 ∷ []) m.3 (
           fills.Nothing,
           d.5 ∙ ap₂ (λ (k n : ℕ). dialect.Within (dialect.element k fills.Nothing ∷ dialect.element n fills.Elements ∷ map outer_of above)) kind (sym kept),
-          (behind_element s.kinds.now top.place m.1 name m.0 bits m.2, all),
+          (behind_element s.kinds top.place m.1 name m.0 bits m.2, all),
           (refl, refl, refl),
         );
         same = ap (λ (l : List ℕ). ahead ++ l) (d.4 ∙ ap (λ (l : List ℕ). dialect.gap filling ++ l) (d.3.2 ∙ ap (λ (k : ℕ). word ++ (mark s k ∷ [])) kind))
@@ -190,7 +189,7 @@ module _ (V : Speller) (s : Schema) (fits : are_consistent s.kinds.now ≡ true)
       let word = d.4.0 in
       let said = d.4.1 in
       let part = word ++ codes "=" ++ said in
-      let complex = complex_of_attribute s (slice_get s.kinds.now top.place.kind) name d.0 d.3 in
+      let complex = complex_of_attribute s (slice_get s.kinds top.place.kind) name d.0 d.3 in
       let kept = attribute_kind_kept s top.place m.1 name m.0 offered in
       record {
         told = gap end ++ codes "@" ++ part;
@@ -200,21 +199,21 @@ module _ (V : Speller) (s : Schema) (fits : are_consistent s.kinds.now ≡ true)
           fills.Attributes,
           d.6 ∙ ap (λ (n : ℕ). dialect.Within (dialect.element n fills.Attributes ∷ map outer_of above)) (sym kept),
           all,
-          (tt, behind_attribute s.kinds.now top.place m.1 name m.0 m.4 m.6, refl),
+          (tt, behind_attribute s.kinds top.place m.1 name m.0 m.4 m.6, refl),
         );
         same = ap (λ (l : List ℕ). ahead ++ l) (d.5 ∙ ap (λ (l : List ℕ). dialect.gap filling ++ l) d.4.4)
             ∙ attribute_regroup ahead (dialect.gap filling) (codes "@") word (codes "=") said (gap end) (gaps s end top.place filling ahead x is complex offered (λ wrong. cc));
       }
 
   -- a value stands behind the name of an element alone
-  pub content_gap : (end : TextEnd) (here : Place) (filling : Filling) (ahead : List ℕ) (d : Datatype) → IsAlikeIn s end here filling ahead → filling ≡ fills.Nothing → simple_at s.kinds.now here.kind ≡ Some d → ahead ≡ codes "="
+  pub content_gap : (end : TextEnd) (here : Place) (filling : Filling) (ahead : List ℕ) (d : Datatype) → IsAlikeIn s end here filling ahead → filling ≡ fills.Nothing → simple_at s.kinds here.kind ≡ Some d → ahead ≡ codes "="
   content_gap ends.Nothing here filling ahead d is none simple = absurd is
-  content_gap ends.Name here filling ahead d is none simple = is.2 ∙ ap (λ (n : ℕ). n ∷ []) (simple_mark (slice_get s.kinds.now here.kind) simple)
+  content_gap ends.Name here filling ahead d is none simple = is.2 ∙ ap (λ (n : ℕ). n ∷ []) (simple_mark (slice_get s.kinds here.kind) simple)
     where
-      simple_mark : (o : Option Declaration) → datatype_of o ≡ Some d → mark_of o ≡ 61
+      simple_mark : (o : Option PlainKind) → datatype_of o ≡ Some d → mark_of o ≡ 61
       simple_mark None h = let wrong : None ≡ Some d = h in absurd cc
-      simple_mark (Some (Simple e)) h = refl
-      simple_mark (Some (Complex attributes particles)) h = let wrong : None ≡ Some d = h in absurd cc
+      simple_mark (Some (valued e)) h = refl
+      simple_mark (Some (containing attributes particles)) h = let wrong : None ≡ Some d = h in absurd cc
   content_gap ends.Value here filling ahead d is none simple = let wrong : fills.Value ≡ fills.Nothing = sym is.0 ∙ none in absurd cc
   content_gap ends.Part here filling ahead d is none simple = absurd (is.1 d simple)
 
@@ -232,21 +231,21 @@ module _ (V : Speller) (s : Schema) (fits : are_consistent s.kinds.now ≡ true)
           fills.Value,
           d.2 ∙ ap (λ (n : ℕ). dialect.Within (dialect.element n fills.Value ∷ map outer_of above)) (sym kept),
           all,
-          (refl, (behind_characters s.kinds.now top.place m.0 m.1 m.3 m.6 m.5).1, (m.1, ap (λ (n : ℕ). simple_at s.kinds.now n) kept ∙ m.6), refl),
+          (refl, (behind_characters s.kinds top.place m.0 m.1 m.3 m.6 m.5).1, (m.1, ap (λ (n : ℕ). simple_at s.kinds n) kept ∙ m.6), refl),
         );
         same = ap (λ (l : List ℕ). l ++ added) (content_gap end top.place filling ahead m.1 is d.0 m.6) ∙ sym (append-nil (codes "=" ++ added));
       }
 
   -- the end of an element
-  simple_end : (o : Option Declaration) (d : Datatype) (filling : Filling) (added : List ℕ) → datatype_of o ≡ Some d → IsEndText o filling added → added ≡ []
+  simple_end : (o : Option PlainKind) (d : Datatype) (filling : Filling) (added : List ℕ) → datatype_of o ≡ Some d → IsEndText o filling added → added ≡ []
   simple_end None d filling added h e = absurd e
-  simple_end (Some (Simple x)) d filling added h e = e.1
-  simple_end (Some (Complex attributes particles)) d filling added h e = let wrong : None ≡ Some d = h in absurd cc
+  simple_end (Some (valued x)) d filling added h e = e.1
+  simple_end (Some (containing attributes particles)) d filling added h e = let wrong : None ≡ Some d = h in absurd cc
 
-  complex_end : (o : Option Declaration) (filling : Filling) (added : List ℕ) → (filling ≡ fills.Value → ⊥) → IsEndText o filling added → (added ≡ codes "}") × (mark_of o ≡ 123)
+  complex_end : (o : Option PlainKind) (filling : Filling) (added : List ℕ) → (filling ≡ fills.Value → ⊥) → IsEndText o filling added → (added ≡ codes "}") × (mark_of o ≡ 123)
   complex_end None filling added differs e = absurd e
-  complex_end (Some (Simple d)) filling added differs e = absurd (differs e.0)
-  complex_end (Some (Complex attributes particles)) filling added differs e = (e, refl)
+  complex_end (Some (valued d)) filling added differs e = absurd (differs e.0)
+  complex_end (Some (containing attributes particles)) filling added differs e = (e, refl)
 
   partly_no_value : (filling : Filling) (here : Place) → IsPartly s filling here → filling ≡ fills.Value → ⊥
   partly_no_value fills.Nothing here is e = is
@@ -254,15 +253,15 @@ module _ (V : Speller) (s : Schema) (fits : are_consistent s.kinds.now ≡ true)
   partly_no_value fills.Elements here is e = cc
   partly_no_value fills.Value here is e = is
 
-  end_gap : (end : TextEnd) (here : Place) (filling : Filling) (ahead added : List ℕ) → IsAlikeIn s end here filling ahead → IsEndText (slice_get s.kinds.now here.kind) filling added → ahead ++ added ≡ closing end
+  end_gap : (end : TextEnd) (here : Place) (filling : Filling) (ahead added : List ℕ) → IsAlikeIn s end here filling ahead → IsEndText (slice_get s.kinds here.kind) filling added → ahead ++ added ≡ closing end
   end_gap ends.Nothing here filling ahead added is e = absurd is
   end_gap ends.Name here filling ahead added is e =
-      let both = complex_end (slice_get s.kinds.now here.kind) filling added (λ wrong. let w : fills.Nothing ≡ fills.Value = sym is.0 ∙ wrong in cc) e in
+      let both = complex_end (slice_get s.kinds here.kind) filling added (λ wrong. let w : fills.Nothing ≡ fills.Value = sym is.0 ∙ wrong in cc) e in
       ap₂ (λ (x y : List ℕ). x ++ y) (is.2 ∙ ap (λ (n : ℕ). n ∷ []) both.1) both.0
   end_gap ends.Value here filling ahead added is e =
-      ap₂ (λ (x y : List ℕ). x ++ y) is.3 (simple_end (slice_get s.kinds.now here.kind) is.2.0 filling added is.2.1 e)
+      ap₂ (λ (x y : List ℕ). x ++ y) is.3 (simple_end (slice_get s.kinds here.kind) is.2.0 filling added is.2.1 e)
   end_gap ends.Part here filling ahead added is e =
-      ap₂ (λ (x y : List ℕ). x ++ y) is.2 (complex_end (slice_get s.kinds.now here.kind) filling added (partly_no_value filling here is.0) e).0
+      ap₂ (λ (x y : List ℕ). x ++ y) is.2 (complex_end (slice_get s.kinds here.kind) filling added (partly_no_value filling here is.0) e).0
 
   within_end : (end : TextEnd) (top : Opened) (above : List Opened) (filling : Filling) (entries : Entries) (bits : List Bool) (new : State) (ahead added : List ℕ) (after : dialect.Standing) →
       AllByRecursion (IsOuter s) above → IsAlikeIn s end top.place filling ahead → Moves V s (stands (Inside top above) entries) EndElement bits new →

@@ -6,9 +6,8 @@ use Rattle.std.specs.Prelude.{◌==◌, slice_get}
 use Rattle.exi_schema.specs.declared.places.Place.{Place}
 use Rattle.exi_schema.specs.declared.places.Step.{Step}
 use Rattle.exi_schema.specs.declared.places.Step.TheVariants.{Attribute}
-use Rattle.exi_schema.specs.declared.schema.Schema.{Schema}
+use Rattle.exi_schema.specs.Schemas.{PlainSchema, attribute_names, are_distinct}
 use Rattle.exi_schema.specs.Offers.{offers, IsPlace}
-use Rattle.exi_schema.specs.Schemas.{attribute_names, are_distinct}
 use Rattle.exi_schema.proofs.Conditions.{and-l, and-r}
 use Rattle.document_laws.proofs.Fits.{not_any}
 use Rattle.document_laws.proofs.Names.{offers_once}
@@ -45,16 +44,16 @@ one_named (Attribute m o r ∷ steps) (suc i) (suc j) n k l p q apart a b =
     one_named steps i j n k l p q (and-r (not (list_any (λ x. x == m) (attribute_names steps))) (are_distinct (attribute_names steps)) apart) a b
 one_named (other ∷ steps) (suc i) (suc j) n k l p q apart a b = one_named steps i j n k l p q apart a b
 
-pub one_attribute : (s : Schema) (here : Place) (n k l : ℕ) (p q : Place) → IsPlace s.kinds.now here → IsOffered s here (Attribute n k p) → IsOffered s here (Attribute n l q) → (k ≡ l) × (p ≡ q)
-one_attribute s here n k l p q at a b = one_named (offers s.kinds.now here) a.0 b.0 n k l p q (offers_once s here at).attributes a.1 b.1
+pub one_attribute : (s : PlainSchema) (here : Place) (n k l : ℕ) (p q : Place) → IsPlace s.kinds here → IsOffered s here (Attribute n k p) → IsOffered s here (Attribute n l q) → (k ≡ l) × (p ≡ q)
+one_attribute s here n k l p q at a b = one_named (offers s.kinds here) a.0 b.0 n k l p q (offers_once s here at).attributes a.1 b.1
 
-pub found_offered : (s : Schema) (here next : Place) (other name kind code : ℕ) → Some (Attribute other kind next) ≡ slice_get (offers s.kinds.now here) code → other ≡ name → IsOffered s here (Attribute name kind next)
+pub found_offered : (s : PlainSchema) (here next : Place) (other name kind code : ℕ) → Some (Attribute other kind next) ≡ slice_get (offers s.kinds here) code → other ≡ name → IsOffered s here (Attribute name kind next)
 found_offered s here next other name kind code found is = (code, sym found ∙ ap (λ (n : ℕ). Some (Attribute n kind next)) is)
 
-pub offered_below : (s : Schema) (here next : Place) (name kind count : ℕ) → ((i : ℕ) (k : ℕ) (p : Place) → i < count → slice_get (offers s.kinds.now here) i ≡ Some (Attribute name k p) → ⊥) →
-    length (offers s.kinds.now here) ≤ count → IsOffered s here (Attribute name kind next) → ⊥
+pub offered_below : (s : PlainSchema) (here next : Place) (name kind count : ℕ) → ((i : ℕ) (k : ℕ) (p : Place) → i < count → slice_get (offers s.kinds here) i ≡ Some (Attribute name k p) → ⊥) →
+    length (offers s.kinds here) ≤ count → IsOffered s here (Attribute name kind next) → ⊥
 offered_below s here next name kind count none all h =
-    none h.0 kind next (omega (arith, all, slice_get_within (offers s.kinds.now here) h.0 (Attribute name kind next) h.1)) h.1
+    none h.0 kind next (omega (arith, all, slice_get_within (offers s.kinds here) h.0 (Attribute name kind next) h.1)) h.1
 
 -- ---- an attribute put behind a text
 
@@ -63,12 +62,12 @@ on_ok (Ok x) P Q f h = f h
 on_ok (Err e) P Q f h = h
 
 -- the value has a text of the kind that was found
-pub value_has_text : (s : Schema) (end : TextEnd) (here : Place) (name kind : ℕ) (value : Value) → ((k : ℕ) (next : Place) → IsOffered s here (Attribute name k next) → k ≡ kind) →
+pub value_has_text : (s : PlainSchema) (end : TextEnd) (here : Place) (name kind : ℕ) (value : Value) → ((k : ℕ) (next : Place) → IsOffered s here (Attribute name k next) → k ≡ kind) →
     ((added : List ℕ) × AddsAttribute s end here name value added) → (said : List ℕ) × IsValueText s kind value said
 value_has_text s end here name kind value one h =
     let a = h.1 in (a.4.1, subst (λ (k : ℕ). IsValueText s k value a.4.1) (one a.0 a.1 a.3) a.4.3)
 
-pub attribute_put : (s : Schema) (end : TextEnd) (here next : Place) (name kind : ℕ) (value : Value) (sep old one two three new : List ℕ) → IsOffered s here (Attribute name kind next) →
+pub attribute_put : (s : PlainSchema) (end : TextEnd) (here next : Place) (name kind : ℕ) (value : Value) (sep old one two three new : List ℕ) → IsOffered s here (Attribute name kind next) →
     sep ≡ gap end → one ≡ old ++ sep → two ≡ one ++ codes "@" → ((word : List ℕ) × IsName s name word × (three ≡ two ++ word)) →
     ((said : List ℕ) × IsValueText s kind value said × (new ≡ three ++ codes "=" ++ said)) → (added : List ℕ) × AddsAttribute s end here name value added × (new ≡ old ++ added)
 attribute_put s end here next name kind value sep old one two three new offered sep_is first second w v =

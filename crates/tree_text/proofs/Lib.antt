@@ -1,7 +1,5 @@
 pub mod Pieces
 pub mod Attributes
-pub mod Standings
-pub mod Once
 pub mod Declared
 pub mod Alike
 pub mod Ahead

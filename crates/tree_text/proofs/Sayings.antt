@@ -1,6 +1,6 @@
 -- A text of the dialect that says the events of a document is the text of its tree, and the other way round.
 use Rattle.std.proofs.Common.{◌≡◌, ℕ, Bool, true, List, [], ◌∷◌, ◌++◌, reverse, refl, sym, ap, subst, ◌∙◌, append_assoc, append-nil}
-use Rattle.exi_schema.specs.declared.schema.Schema.{Schema}
+use Rattle.exi_schema.specs.Schemas.{PlainSchema}
 use Rattle.exi_documents.specs.Documents.{Speller, SpellsDocument}
 use Rattle.exi_documents.specs.Grammar.{Standing, Before, AtRoot, Inside, Behind, State, stands, Reaches}
 use Rattle.exi_documents.specs.Trees.{Tree, Event, document_events}
@@ -12,7 +12,7 @@ use Rattle.tree_text.specs.TreeText.{IsTreeText}
 use Rattle.tree_text.specs.declared.print.TextEnd.{TextEnd}
 use Rattle.tree_text.specs.declared.print.TextEnd.TheVariants as ends
 use Rattle.document_laws.specs.Laws.{IsStanding}
-use Rattle.tree_text.proofs.Standings.{standing_kept}
+use Rattle.document_laws.proofs.Standings.{standing_kept}
 use Rattle.tree_text.proofs.Alike.{IsAlike, follows}
 use Rattle.tree_text.proofs.Ahead.{HasForm, leads}
 use Rattle.tree_text.proofs.Shortness.{written_form}
@@ -21,7 +21,7 @@ use Rattle.tree_text.proofs.Told.{has_written_text}
 use Rattle.tree_text.proofs.Tied.{document_told}
 
 -- a tree's text of the same events, and how far the dialect's is ahead
-pub record Told (V : Speller) (s : Schema) (events : List Event) (state : State) (said : dialect.Standing) (text : List ℕ) : Type 0 where
+pub record Told (V : Speller) (s : PlainSchema) (events : List Event) (state : State) (said : dialect.Standing) (text : List ℕ) : Type 0 where
   pub told : List ℕ
   pub ahead : List ℕ
   pub tells : Tells V s events told state
@@ -29,7 +29,7 @@ pub record Told (V : Speller) (s : Schema) (events : List Event) (state : State)
   pub same : text ≡ told ++ ahead
 
 -- a text of the dialect of the same events
-pub record Said (s : Schema) (events : List Event) (state : State) (told : List ℕ) : Type 0 where
+pub record Said (s : PlainSchema) (events : List Event) (state : State) (told : List ℕ) : Type 0 where
   pub standing : dialect.Standing
   pub ahead : List ℕ
   pub says : dialect.Says s events (told ++ ahead) standing
@@ -39,14 +39,14 @@ regroup : (a b c d e : List ℕ) → b ++ c ≡ d ++ e → (a ++ b) ++ c ≡ (a 
 regroup a b c d e is = append_assoc a b c ∙ ap (λ (l : List ℕ). a ++ l) is ∙ sym (append_assoc a d e)
 
 -- behind the root, and not before
-ended : (s : Schema) (end : TextEnd) (standing : Standing) (ahead : List ℕ) → IsAlike s end standing (dialect.Within []) ahead → (standing ≡ Behind) × (ahead ≡ [])
+ended : (s : PlainSchema) (end : TextEnd) (standing : Standing) (ahead : List ℕ) → IsAlike s end standing (dialect.Within []) ahead → (standing ≡ Behind) × (ahead ≡ [])
 ended s end Before ahead is = let wrong : dialect.Within [] ≡ dialect.Before = is.0 in absurd cc
 ended s end (AtRoot name kind) ahead is = let wrong : dialect.Within [] ≡ dialect.AtRoot name kind = is.2 in absurd cc
 ended s end (Inside top above) ahead is =
     let wrong : dialect.Within [] ≡ dialect.Within (dialect.element top.place.kind is.0 ∷ _) = is.1 in absurd cc
 ended s end Behind ahead is = (refl, is.1)
 
-module _ (V : Speller) (s : Schema) (fits : are_consistent s.kinds.now ≡ true) where
+module _ (V : Speller) (s : PlainSchema) (fits : are_consistent s.kinds ≡ true) where
   pub said_told : (events : List Event) (bits : List Bool) (state : State) (text : List ℕ) (said : dialect.Standing) → Reaches V s events bits state → dialect.Says s events text said → Told V s events state said text
   said_told [] bits state text said r h =
       record {
@@ -119,7 +119,7 @@ module _ (V : Speller) (s : Schema) (fits : are_consistent s.kinds.now ≡ true)
         subst (λ (l : List ℕ). dialect.Says s events l (dialect.Within [])) whole (subst (λ (x : dialect.Standing). dialect.Says s events (told ++ t.ahead) x) t.alike.0 t.says)
 
 -- the text of a tree, as it is written, says the events of its document
-pub encoded_said : (s : Schema) → are_consistent s.kinds.now ≡ true → (number : ℕ) (tree : Tree) (text : List ℕ) (bits : List Bool) → IsTreeText s tree text →
+pub encoded_said : (s : PlainSchema) → are_consistent s.kinds ≡ true → (number : ℕ) (tree : Tree) (text : List ℕ) (bits : List Bool) → IsTreeText s tree text →
     SpellsDocument WritesValue s number tree bits → dialect.IsDialectText s (reverse (document_events number tree)) text
 encoded_said s fits number tree text bits is d =
     let told = spelled_told WritesValue s (has_written_text s) number tree text bits is d in

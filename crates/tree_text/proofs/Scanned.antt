@@ -4,7 +4,7 @@ use Rattle.std.specs.Str.{chars}
 use Rattle.std.proofs.lemmas.List.{length-replicate}
 use Rattle.exi_spec.specs.Bits.{bits_of}
 use Rattle.exi_spec.proofs.BitLaws.{length-bits_of}
-use Rattle.exi_schema.specs.declared.schema.Schema.{Schema}
+use Rattle.exi_schema.specs.Schemas.{PlainSchema}
 use Rattle.exi_documents.specs.Documents.{IsEncoding}
 use Rattle.exi_documents.specs.Grammar.{Behind}
 use Rattle.exi_documents.specs.Trees.{Tree, Event, document_events}
@@ -22,7 +22,7 @@ use Rattle.tree_text.specs.Scans.{IsEncodedText, HasNoEncoding, IsScanFault, IsF
 use Rattle.tree_text.specs.TreeText.{IsTreeText}
 use Rattle.tree_text.proofs.Sayings.{encoded_said, said_ends, said_tree}
 
-module _ (s : Schema) (fits : are_consistent s.kinds.now ≡ true) where
+module _ (s : PlainSchema) (fits : are_consistent s.kinds ≡ true) where
   -- events that are put, and that the whole text says
   pub tree_put : (events : List Event) (draft : Draft) (text payload : List ℕ) → HasPut s events draft → IsDialectText s events text → IsWritten s events payload →
       (tree : Tree) × IsTreeText s tree text × IsEncoding s tree payload
@@ -43,16 +43,16 @@ module _ (s : Schema) (fits : are_consistent s.kinds.now ≡ true) where
 
 -- ---- the scanner's schema and text are those at the start
 
-pub still_ready : (s t : Schema) (text other : List ℕ) (standing : Standing) (cursor : TextCursor) (fault : Option ℕ) → s ≡ t → text ≡ other → IsReady s text standing cursor fault → IsReady t other standing cursor fault
+pub still_ready : (s t : PlainSchema) (text other : List ℕ) (standing : Standing) (cursor : TextCursor) (fault : Option ℕ) → s ≡ t → text ≡ other → IsReady s text standing cursor fault → IsReady t other standing cursor fault
 still_ready s t text other standing cursor fault same one is =
-    subst (λ (x : Schema). IsReady x other standing cursor fault) same (subst (λ (l : List ℕ). IsReady s l standing cursor fault) one is)
+    subst (λ (x : PlainSchema). IsReady x other standing cursor fault) same (subst (λ (l : List ℕ). IsReady s l standing cursor fault) one is)
 
-pub said_in : (s t : Schema) (text other : List ℕ) (events : List Event) (standing : Standing) (cursor : TextCursor) → s ≡ t → text ≡ other → HasSaid s text events standing cursor → HasSaid t other events standing cursor
+pub said_in : (s t : PlainSchema) (text other : List ℕ) (events : List Event) (standing : Standing) (cursor : TextCursor) → s ≡ t → text ≡ other → HasSaid s text events standing cursor → HasSaid t other events standing cursor
 said_in s t text other events standing cursor same one is =
-    subst (λ (x : Schema). HasSaid x other events standing cursor) same (subst (λ (l : List ℕ). HasSaid s l events standing cursor) one is)
+    subst (λ (x : PlainSchema). HasSaid x other events standing cursor) same (subst (λ (l : List ℕ). HasSaid s l events standing cursor) one is)
 
 -- an event more
-pub said_on : (s t : Schema) (text other : List ℕ) (o : Option Said) (said : Said) (old new : Standing) (before after : TextCursor) → s ≡ t → text ≡ other → o ≡ Some said →
+pub said_on : (s t : PlainSchema) (text other : List ℕ) (o : Option Said) (said : Said) (old new : Standing) (before after : TextCursor) → s ≡ t → text ≡ other → o ≡ Some said →
     ((events : List Event) → HasSaid s text events old before → IfSome o (λ x. HasSaid s text (event_of x ∷ events) new after)) →
     (events : List Event) → HasSaid t other events old before → HasSaid t other (event_of said ∷ events) new after
 said_on s t text other o said old new before after same one is next events h =
@@ -60,61 +60,61 @@ said_on s t text other o said old new before after same one is next events h =
     said_in s t text other (event_of said ∷ events) new after same one (subst (λ (x : Option Said). IfSome x (λ y. HasSaid s text (event_of y ∷ events) new after)) is (next events here))
 
 -- and none
-pub said_all : (s t : Schema) (text other : List ℕ) (o : Option Said) (old : Standing) (before : TextCursor) → s ≡ t → text ≡ other → o ≡ None →
+pub said_all : (s t : PlainSchema) (text other : List ℕ) (o : Option Said) (old : Standing) (before : TextCursor) → s ≡ t → text ≡ other → o ≡ None →
     ((events : List Event) → HasSaid s text events old before → IfNone o (IsDialectText s events text)) →
     (events : List Event) → HasSaid t other events old before → IsDialectText t events other
 said_all s t text other o old before same one is next events h =
     let here = said_in t s other text events old before (sym same) (sym one) h in
-    subst (λ (x : Schema). IsDialectText x events other) same (subst (λ (l : List ℕ). IsDialectText s events l) one
+    subst (λ (x : PlainSchema). IsDialectText x events other) same (subst (λ (l : List ℕ). IsDialectText s events l) one
     (subst (λ (x : Option Said). IfNone x (IsDialectText s events text)) is (next events here)))
 
 -- ---- the writer's places are the schema
 
-pub stuck_in : (s t : Schema) (events : List Event) → s ≡ t → IsStuck s events → IsStuck t events
-stuck_in s t events same is = subst (λ (x : Schema). IsStuck x events) same is
+pub stuck_in : (s t : PlainSchema) (events : List Event) → s ≡ t → IsStuck s events → IsStuck t events
+stuck_in s t events same is = subst (λ (x : PlainSchema). IsStuck x events) same is
 
-pub put_in : (s t : Schema) (events : List Event) (draft : Draft) → s ≡ t → HasPut s events draft → HasPut t events draft
-put_in s t events draft same h = subst (λ (x : Schema). HasPut x events draft) same h
+pub put_in : (s t : PlainSchema) (events : List Event) (draft : Draft) → s ≡ t → HasPut s events draft → HasPut t events draft
+put_in s t events draft same h = subst (λ (x : PlainSchema). HasPut x events draft) same h
 
 -- at the end of the text
-all_put : (s t : Schema) (events : List Event) (draft : Draft) (text payload : List ℕ) → are_consistent t.kinds.now ≡ true → s ≡ t → HasPut s events draft → IsDialectText t events text →
+all_put : (s t : PlainSchema) (events : List Event) (draft : Draft) (text payload : List ℕ) → are_consistent t.kinds ≡ true → s ≡ t → HasPut s events draft → IsDialectText t events text →
     (HasPut s events draft → draft.state.standing ≡ Behind → IsWritten s events payload) → (tree : Tree) × IsTreeText t tree text × IsEncoding t tree payload
 all_put s t events draft text payload fits same h is ends =
     let put = put_in s t events draft same h in
     let behind = said_ends WritesValue t fits events draft.bits draft.state text put is in
-    tree_put t fits events draft text payload put is (subst (λ (x : Schema). IsWritten x events payload) same (ends h behind))
+    tree_put t fits events draft text payload put is (subst (λ (x : PlainSchema). IsWritten x events payload) same (ends h behind))
 
-pub piece_put : (s t : Schema) (events : List Event) (draft : Draft) (text payload piece : List ℕ) → are_consistent t.kinds.now ≡ true → s ≡ t → length payload ≤ 65536 → HasPut s events draft → IsDialectText t events text →
+pub piece_put : (s t : PlainSchema) (events : List Event) (draft : Draft) (text payload piece : List ℕ) → are_consistent t.kinds ≡ true → s ≡ t → length payload ≤ 65536 → HasPut s events draft → IsDialectText t events text →
     (HasPut s events draft → draft.state.standing ≡ Behind → IsWritten s events payload) → piece ≡ payload → IsEncodedText t text piece
 piece_put s t events draft text payload piece fits same few h is ends copied =
     subst (λ (l : List ℕ). IsEncodedText t text l) (sym copied) (few, all_put s t events draft text payload fits same h is ends)
 
 -- ---- faults
 
-pub rest_ok : (s : Schema) (text other : List ℕ) (events : List Event) (count : ℕ) → text ≡ other → ((later : List Event) × IsDialectText s (later ++ events) text) → count ≡ length (chars other) → IsFaultBehind s text events (Place count)
+pub rest_ok : (s : PlainSchema) (text other : List ℕ) (events : List Event) (count : ℕ) → text ≡ other → ((later : List Event) × IsDialectText s (later ++ events) text) → count ≡ length (chars other) → IsFaultBehind s text events (Place count)
 rest_ok s text other events count same is counted = inr (is.0, is.1, counted ∙ ap (λ (l : List ℕ). length (chars l)) (sym same))
 
-pub rest_fault : (s : Schema) (text : List ℕ) (events : List Event) (fault : ScanFault) → IsFaultOf s text fault → IsFaultBehind s text events fault
+pub rest_fault : (s : PlainSchema) (text : List ℕ) (events : List Event) (fault : ScanFault) → IsFaultOf s text fault → IsFaultBehind s text events fault
 rest_fault s text events (Place place) is = inl is
 rest_fault s text events Memory is = tt
 
-pub scan_fault : (s : Schema) (text other : List ℕ) (fault : ScanFault) → text ≡ other → IsFaultOf s text fault → IsScanFault s other fault
+pub scan_fault : (s : PlainSchema) (text other : List ℕ) (fault : ScanFault) → text ≡ other → IsFaultOf s text fault → IsScanFault s other fault
 scan_fault s text other (Place place) same is = inl (subst (λ (l : List ℕ). IsFault s l place) same is)
 scan_fault s text other Memory same is = tt
 
 -- a text of the dialect of which no document can be put
-pub stuck_fault : (s t : Schema) (text other : List ℕ) (events : List Event) (fault : ScanFault) → are_consistent t.kinds.now ≡ true → s ≡ t → text ≡ other →
+pub stuck_fault : (s t : PlainSchema) (text other : List ℕ) (events : List Event) (fault : ScanFault) → are_consistent t.kinds ≡ true → s ≡ t → text ≡ other →
     IsStuck t events → IsFaultBehind s text events fault → IsScanFault t other fault
 stuck_fault s t text other events (Place place) fits same one stuck is =
     let there : IsFaultBehind t other events (Place place) =
-    subst (λ (x : Schema). IsFaultBehind x other events (Place place)) same (subst (λ (l : List ℕ). IsFaultBehind s l events (Place place)) one is) in
+    subst (λ (x : PlainSchema). IsFaultBehind x other events (Place place)) same (subst (λ (l : List ℕ). IsFaultBehind s l events (Place place)) one is) in
     elim there [
       | inl fault ↦ inl fault
       | inr said ↦ inr ((said.0 ++ events, said.1), stuck_has_none t fits said.0 events other stuck said.1, said.2)
     ]
 stuck_fault s t text other events Memory fits same one stuck is = tt
 
-pub encoded_in : (s : Schema) (text other payload : List ℕ) → text ≡ other → IsEncodedText s text payload → IsEncodedText s other payload
+pub encoded_in : (s : PlainSchema) (text other payload : List ℕ) → text ≡ other → IsEncodedText s text payload → IsEncodedText s other payload
 encoded_in s text other payload same is = subst (λ (l : List ℕ). IsEncodedText s l payload) same is
 
 pub some_of : {X : Type 0} (P : X → Type 0) (o : Option X) (x : X) → o ≡ Some x → IfSome o P → P x

@@ -4,10 +4,9 @@ use Rattle.std.proofs.lemmas.Bool.{ltb-true}
 use Rattle.std.proofs.Math.IntN.{suc_ℤ, +ℤ-suc_ℤ, +ℤ_idr}
 use Rattle.std.specs.Int.Signed.{le_z}
 use Rattle.std.specs.Prelude.{unsigned_abs}
-use Rattle.exi_schema.specs.declared.schema.Schema.{Schema}
+use Rattle.exi_schema.specs.Schemas.{PlainSchema, is_datatype, is_signed}
 use Rattle.exi_schema.specs.declared.tables.Datatype.{Datatype}
 use Rattle.exi_schema.specs.declared.tables.Datatype.TheVariants.{Bool as BoolType, Named, Bounded, Unsigned, Signed, Binary, Text as TextType}
-use Rattle.exi_schema.specs.Schemas.{is_datatype}
 use Rattle.exi_schema.proofs.Conditions.{and-l, and-r}
 use Rattle.exi_documents.specs.Trees.{Value, Truth, Ordinal, Number, Bytes, Text}
 use Rattle.exi_documents.specs.Values.{Entries, WritesValue}
@@ -49,6 +48,10 @@ short_bounded least v count k few less is =
 few : (n : ℕ) → nat_lt n (2 ^ 64) ≡ true → n < 10 ^ 20
 few n is = let low : n < 2 ^ 64 = ltb-true n (2 ^ 64) is in omega (arith, low)
 
+abs_few : (z : ℤ) → is_signed z ≡ true → unsigned_abs z < 10 ^ 20
+abs_few (pos n) is = let low : n < 2 ^ 63 = ltb-true n (2 ^ 63) is in omega (arith, low)
+abs_few (negsuc n) is = let low : n < 2 ^ 63 = ltb-true n (2 ^ 63) is in omega (arith, low)
+
 form_of : (d : Datatype) (entries after : Entries) (name : ℕ) (v : Value) (bits : List Bool) → is_datatype d ≡ true → WritesValue d entries name v bits after → IsOfForm d v
 form_of BoolType entries after name (Truth truth) bits fits h = tt
 form_of (Named count) entries after name (Ordinal ordinal) bits fits h = tt
@@ -57,12 +60,12 @@ form_of (Bounded least count) entries after name (Number v) bits fits h =
 form_of (Unsigned most) entries after name (Number (pos n)) bits fits h =
     let low : most < 10 ^ 20 = few most fits in let within : n ≤ most = h.0 in omega (arith, low, within)
 form_of (Signed least most) entries after name (Number v) bits fits h =
-    short_signed v least most (few (unsigned_abs least) (and-r (le_z least most) (nat_lt (unsigned_abs least) (2 ^ 64)) (and-l (le_z least most && nat_lt (unsigned_abs least) (2 ^ 64)) (nat_lt (unsigned_abs most) (2 ^ 64)) fits)))
-    (few (unsigned_abs most) (and-r (le_z least most && nat_lt (unsigned_abs least) (2 ^ 64)) (nat_lt (unsigned_abs most) (2 ^ 64)) fits)) h.0 h.1
+    short_signed v least most (abs_few least (and-r (le_z least most) (is_signed least) (and-l (le_z least most && is_signed least) (is_signed most) fits)))
+    (abs_few most (and-r (le_z least most && is_signed least) (is_signed most) fits)) h.0 h.1
 form_of (Binary most) entries after name (Bytes bytes) bits fits h = h.0.1
 form_of (TextType most) entries after name (Text chars) bits fits h = h.0.1
 form_of d entries after name v bits fits h = absurd h
 
 -- in a schema, whose numbers are of 64 bits
-pub written_form : (s : Schema) → HasForm WritesValue s
+pub written_form : (s : PlainSchema) → HasForm WritesValue s
 written_form s kind name d entries after v bits is h = form_of d entries after name v bits (datatype_fits s kind d (sym is)) h

@@ -1,6 +1,6 @@
 -- The events that bits spell tell one text, and those of a tree tell its text.
 use Rattle.std.proofs.Common.{ℕ, Bool, List, [], ◌∷◌, ◌++◌, reverse, refl, subst}
-use Rattle.exi_schema.specs.declared.schema.Schema.{Schema}
+use Rattle.exi_schema.specs.Schemas.{PlainSchema}
 use Rattle.exi_documents.specs.Documents.{Speller, SpellsDocument}
 use Rattle.exi_documents.specs.Grammar.{State, Behind, stands, Reaches}
 use Rattle.exi_documents.specs.Trees.{Tree, Event, document_events}
@@ -10,10 +10,10 @@ use Rattle.tree_text.specs.TreeText.{IsTreeText}
 use Rattle.tree_text.specs.EventText.{text_end, Tells}
 use Rattle.tree_text.proofs.OneText.{one_tree_text}
 use Rattle.tree_text.proofs.Tied.{document_told}
-use Rattle.tree_text.proofs.Standings.{standing_reached}
+use Rattle.document_laws.proofs.Standings.{standing_reached}
 use Rattle.tree_text.proofs.Told.{HasTexts, named_reached, adds}
 
-module _ (V : Speller) (s : Schema) (texts : HasTexts V s) where
+module _ (V : Speller) (s : PlainSchema) (texts : HasTexts V s) where
   pub events_have_text : (events : List Event) (bits : List Bool) (state : State) → Reaches V s events bits state → (text : List ℕ) × Tells V s events text state
   events_have_text [] bits state h = ([], (refl, h.1))
   events_have_text (event ∷ events) bits state h =

@@ -3,7 +3,7 @@ use Rattle.std.proofs.Common.{rules, ◌≡◌, ℕ, ◌+◌, ◌*◌, ◌<◌, 
 use Rattle.exi_spec.specs.Bits.{bits_of}
 use Rattle.exi_spec.specs.Items.{shortest_unsigned}
 use Rattle.exi_spec.proofs.BitLaws.{length-bits_of}
-use Rattle.exi_schema.specs.declared.schema.Schema.{Schema}
+use Rattle.exi_schema.specs.Schemas.{PlainSchema}
 use Rattle.exi_schema.specs.declared.tables.Datatype.{Datatype}
 use Rattle.exi_schema.specs.declared.tables.Datatype.TheVariants.{Binary}
 use Rattle.exi_documents.specs.Documents.{SpellsDocument}
@@ -14,10 +14,10 @@ use Rattle.exi_events.specs.Writer.{Draft, HasPut, IsOfferedAs, HasNoRoom}
 use Rattle.document_laws.proofs.Runs.{document_tells}
 use Rattle.document_laws.proofs.Written.{value_once}
 use Rattle.tree_text.specs.Scans.{IsStuck, IsLongBinary, IsTooLong}
-use Rattle.tree_text.proofs.Once.{passed_through, moves_once, reaches_once}
-use Rattle.tree_text.proofs.Standings.{standing_reached}
+use Rattle.document_laws.proofs.Once.{passed_through, moves_once, reaches_once}
+use Rattle.document_laws.proofs.Standings.{standing_reached}
 
-module _ (s : Schema) where
+module _ (s : PlainSchema) where
   -- a document that goes on with an event moves by it from the state that was reached
   record GoesOnBy (events : List Event) (event : Event) (put bits : List Bool) (state : State) : Type 0 where
     pub new : State

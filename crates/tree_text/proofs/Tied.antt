@@ -4,7 +4,7 @@ use Rattle.std.proofs.lemmas.List.{reverse-reverse}
 use Rattle.std.specs.List.{join_with_byte}
 use Rattle.exi_schema.specs.declared.places.Place.{Place}
 use Rattle.exi_schema.specs.declared.places.Root.TheVariants.{Kind}
-use Rattle.exi_schema.specs.declared.schema.Schema.{Schema}
+use Rattle.exi_schema.specs.Schemas.{PlainSchema}
 use Rattle.exi_schema.specs.Steps.{IsRoot}
 use Rattle.exi_documents.specs.Documents.{Speller, first, name_of}
 use Rattle.exi_documents.specs.Grammar.{Opened, AtRoot, Inside, State, start, opened, around, stands, Moves}
@@ -18,11 +18,11 @@ use Rattle.tree_text.specs.EventText.{gap, closing, end_of, text_end, Adds, Tell
 use Rattle.tree_text.specs.declared.print.TextEnd.{TextEnd}
 use Rattle.tree_text.specs.declared.print.TextEnd.TheVariants as ends
 use Rattle.tree_text.proofs.Attributes.{one_attribute}
-use Rattle.tree_text.proofs.Standings.{standing_kept}
+use Rattle.document_laws.proofs.Standings.{standing_kept}
 use Rattle.tree_text.proofs.Spacing.{spaced, end_behind, part_behind, both_in_braces, braced_is}
 
 -- events in their order, behind a text of such an end
-abbrev pub TextRuns : Speller → Schema → TextEnd → State → List Event → List ℕ → State → Type 0
+abbrev pub TextRuns : Speller → PlainSchema → TextEnd → State → List Event → List ℕ → State → Type 0
 TextRuns V s end old [] text new = (text ≡ []) × (new ≡ old)
 TextRuns V s end old (event ∷ events) text new =
     (middle : State) × (bits : List Bool) × (front : List ℕ) × (rest : List ℕ)
@@ -45,7 +45,7 @@ complex_regroup g w b sp r = simp append_assoc
 children_regroup : (A C M L : List Event) (e : Event) → ((A ++ C) ++ (e ∷ M)) ++ L ≡ A ++ (C ++ (e ∷ (M ++ L)))
 children_regroup A C M L e = append_assoc (A ++ C) (e ∷ M) L ∙ append_assoc A C (e ∷ (M ++ L))
 
-module _ (V : Speller) (s : Schema) where
+module _ (V : Speller) (s : PlainSchema) where
   abbrev inside : ℕ → Place → List Opened → Entries → State
   inside name here above entries = stands (Inside (opened name here) above) entries
 
@@ -285,6 +285,6 @@ module _ (V : Speller) (s : Schema) where
       record {
         number = number;
         kind = m.1;
-        named = subst (λ (n : ℕ). IsRoot s.roots.now s.root_bits number (Kind n m.1)) (sym root.0) m.3;
+        named = subst (λ (n : ℕ). IsRoot s.roots s.root_bits number (Kind n m.1)) (sym root.0) m.3;
         written = subst (λ (l : List ℕ). IsRootText s m.1 tree l) (ap (λ (l : List ℕ). l ++ r.3) (sym r.5) ∙ sym r.7) root.1;
       }

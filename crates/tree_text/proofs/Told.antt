@@ -8,12 +8,10 @@ use Rattle.std.specs.Fmt.{signed_decimal}
 use Rattle.hex.specs.Hex.{encode_lower}
 use Rattle.exi_schema.specs.declared.places.Place.{Place}
 use Rattle.exi_schema.specs.declared.places.Step.TheVariants as step
-use Rattle.exi_schema.specs.declared.schema.Schema.{Schema}
+use Rattle.exi_schema.specs.Schemas.{PlainSchema, are_kinds, are_roots, are_words, are_values, value_count}
 use Rattle.exi_schema.specs.declared.tables.Datatype.{Datatype}
 use Rattle.exi_schema.specs.declared.tables.Datatype.TheVariants.{Named}
-use Rattle.exi_schema.specs.declared.tables.Declaration.{Declaration}
-use Rattle.exi_schema.specs.declared.tables.Declaration.TheVariants.{Simple}
-use Rattle.exi_schema.specs.Schemas.{are_kinds, are_roots, are_words, are_values, value_count}
+use Rattle.exi_schema.specs.Plain.{PlainKind, valued}
 use Rattle.exi_schema.specs.Steps.{simple_at, texts_at}
 use Rattle.exi_schema.proofs.Conditions.{and-l, and-r}
 use Rattle.exi_documents.specs.Documents.{Speller, element}
@@ -37,14 +35,14 @@ found xs i less =
       | inr past ↦ let more = past.0 in absurd (omega (arith, less, more))
     ]
 
-pub has_name : (s : Schema) (name : ℕ) → name < length s.names.now → (word : List ℕ) × IsName s name word
-has_name s name less = found (map (λ t. t.now) s.names.now) name (rw length-map less)
+pub has_name : (s : PlainSchema) (name : ℕ) → name < length s.names → (word : List ℕ) × IsName s name word
+has_name s name less = found s.names name less
 
 same_count : (n m : ℕ) → (n == m) ≡ true → n ≡ m
 same_count n m is = elim (eqb_tells n m) [ inl tells ↦ tells.1 | inr tells ↦ let wrong = tells.0 in absurd cc ]
 
 -- an enumeration has as many names as values
-counted : (kinds : List Declaration) (values : List (List (List ℕ))) (k : ℕ) (d : Declaration) → are_values kinds values ≡ true → slice_get kinds k ≡ Some d → length (texts_at values k) ≡ value_count d
+counted : (kinds : List PlainKind) (values : List (List (List ℕ))) (k : ℕ) (d : PlainKind) → are_values kinds values ≡ true → slice_get kinds k ≡ Some d → length (texts_at values k) ≡ value_count d
 counted [] values k d h e = let wrong : None ≡ Some d = e in absurd cc
 counted (kind ∷ kinds) [] k d h e = absurd cc
 counted (kind ∷ kinds) (texts ∷ more) zero d h e =
@@ -53,15 +51,15 @@ counted (kind ∷ kinds) (texts ∷ more) zero d h e =
 counted (kind ∷ kinds) (texts ∷ more) (suc k) d h e =
     counted kinds more k d (and-r (length texts == value_count kind && are_words texts) (are_values kinds more) h) e
 
-has_value_name : (s : Schema) (kind count ordinal : ℕ) → simple_at s.kinds.now kind ≡ Some (Named count) → ordinal < count → (text : List ℕ) × (slice_get (texts_at (map (λ l. map (λ t. t.now) l.now) s.values.now) kind) ordinal ≡ Some text)
+has_value_name : (s : PlainSchema) (kind count ordinal : ℕ) → simple_at s.kinds kind ≡ Some (Named count) → ordinal < count → (text : List ℕ) × (slice_get (texts_at s.values kind) ordinal ≡ Some text)
 has_value_name s kind count ordinal is less =
-    let names : List (List ℕ) = map (λ t. t.now) s.names.now in
-    let values : List (List (List ℕ)) = map (λ l. map (λ t. t.now) l.now) s.values.now in
-    let fit : are_values s.kinds.now values ≡ true = and-r (are_kinds (length names) s.kinds.now && are_roots s.root_bits (length names) s.kinds.now s.roots.now && are_words names) (are_values s.kinds.now values) s.fits in
-    let many = counted s.kinds.now values kind (Simple (Named count)) fit (simple_is (slice_get s.kinds.now kind) (Named count) is) in
+    let names : List (List ℕ) = s.names in
+    let values : List (List (List ℕ)) = s.values in
+    let fit : are_values s.kinds values ≡ true = and-r (are_kinds (length names) s.kinds && are_roots s.root_bits (length names) s.kinds s.roots && are_words names) (are_values s.kinds values) s.fits in
+    let many = counted s.kinds values kind (valued (Named count)) fit (simple_is (slice_get s.kinds kind) (Named count) is) in
     found (texts_at values kind) ordinal (omega (arith, many, less))
 
-pub has_text : (s : Schema) (kind name : ℕ) (d : Datatype) (entries after : Entries) (v : Value) (bits : List Bool) → simple_at s.kinds.now kind ≡ Some d → SpellsValue d entries name v bits after → (said : List ℕ) × IsValueText s kind v said
+pub has_text : (s : PlainSchema) (kind name : ℕ) (d : Datatype) (entries after : Entries) (v : Value) (bits : List Bool) → simple_at s.kinds kind ≡ Some d → SpellsValue d entries name v bits after → (said : List ℕ) × IsValueText s kind v said
 has_text s kind name d entries after (Truth truth) bits is h = (truth_text truth, refl)
 has_text s kind name d entries after (Number n) bits is h = (signed_decimal n, refl)
 has_text s kind name d entries after (Bytes bytes) bits is h = (encode_lower bytes, refl)
@@ -70,7 +68,7 @@ has_text s kind name (Named count) entries after (Ordinal ordinal) bits is h = h
 has_text s kind name d entries after (Ordinal ordinal) bits is h = absurd h
 
 -- as it is written
-pub has_written_text : (s : Schema) (kind name : ℕ) (d : Datatype) (entries after : Entries) (v : Value) (bits : List Bool) → simple_at s.kinds.now kind ≡ Some d → WritesValue d entries name v bits after → (said : List ℕ) × IsValueText s kind v said
+pub has_written_text : (s : PlainSchema) (kind name : ℕ) (d : Datatype) (entries after : Entries) (v : Value) (bits : List Bool) → simple_at s.kinds kind ≡ Some d → WritesValue d entries name v bits after → (said : List ℕ) × IsValueText s kind v said
 has_written_text s kind name d entries after (Truth truth) bits is h = (truth_text truth, refl)
 has_written_text s kind name d entries after (Number n) bits is h = (signed_decimal n, refl)
 has_written_text s kind name d entries after (Bytes bytes) bits is h = (encode_lower bytes, refl)
@@ -79,20 +77,20 @@ has_written_text s kind name (Named count) entries after (Ordinal ordinal) bits 
 has_written_text s kind name d entries after (Ordinal ordinal) bits is h = absurd h
 
 -- each value that is spelled has a text
-abbrev pub HasTexts : Speller → Schema → Type 0
+abbrev pub HasTexts : Speller → PlainSchema → Type 0
 HasTexts V s =
-    (kind name : ℕ) (d : Datatype) (entries after : Entries) (v : Value) (bits : List Bool) → simple_at s.kinds.now kind ≡ Some d → V d entries name v bits after → (said : List ℕ) × IsValueText s kind v said
+    (kind name : ℕ) (d : Datatype) (entries after : Entries) (v : Value) (bits : List Bool) → simple_at s.kinds kind ≡ Some d → V d entries name v bits after → (said : List ℕ) × IsValueText s kind v said
 
 -- ---- where a document stands
 
 -- the root is of the schema's names
-abbrev pub IsNamedAt : Schema → Standing → Type 0
+abbrev pub IsNamedAt : PlainSchema → Standing → Type 0
 IsNamedAt s Before = Unit {0}
-IsNamedAt s (AtRoot name kind) = name < length (map (λ t. t.now) s.names.now)
+IsNamedAt s (AtRoot name kind) = name < length s.names
 IsNamedAt s (Inside top above) = Unit {0}
 IsNamedAt s Behind = Unit {0}
 
-module _ (V : Speller) (s : Schema) (texts : HasTexts V s) where
+module _ (V : Speller) (s : PlainSchema) (texts : HasTexts V s) where
   named_around : (above : List Opened) → IsNamedAt s (around above)
   named_around [] = tt
   named_around (o ∷ above) = tt
@@ -122,7 +120,7 @@ module _ (V : Speller) (s : Schema) (texts : HasTexts V s) where
       (added : List ℕ) × Adds s end (innermost_place standing) event added
   adds_at end Before entries new (Document number) bits is named m = ([], refl)
   adds_at end (AtRoot root kind) entries new (Start name) bits is named m =
-      let word = found (map (λ t. t.now) s.names.now) root named in
+      let word = found s.names root named in
       (gap end ++ word.0, (word.0, subst (λ (n : ℕ). IsName s n word.0) (sym m.0) word.1, refl))
   adds_at end (Inside top above) entries new (Start name) bits is named m =
       let word = has_name s name (step_fits s top.place m.2.code (element name m.0 m.1) is.0 m.2.offered).0 in

@@ -2,7 +2,7 @@
 use Rattle.std.specs.Prelude.{◌≡◌, ℕ, Bool, List, [], ◌∷◌, ◌++◌, codes, Option, Some, None}
 use Rattle.exi_schema.specs.declared.places.Place.{Place}
 use Rattle.exi_schema.specs.declared.places.Step.TheVariants as step
-use Rattle.exi_schema.specs.declared.schema.Schema.{Schema}
+use Rattle.exi_schema.specs.Schemas.{PlainSchema}
 use Rattle.exi_documents.specs.Grammar.{State, start, Moves}
 use Rattle.exi_documents.specs.Trees.{Value, Event, Document, Start, Attribute, Content, EndElement}
 use Rattle.exi_documents.specs.Documents.{Speller}
@@ -38,22 +38,22 @@ closing ends.Name = codes "{}"
 closing ends.Value = []
 closing ends.Part = codes "}"
 
-abbrev pub AddsStart : Schema → TextEnd → ℕ → List ℕ → Type 0
+abbrev pub AddsStart : PlainSchema → TextEnd → ℕ → List ℕ → Type 0
 AddsStart s before name added = (word : List ℕ) × IsName s name word × (added ≡ gap before ++ word)
 
 -- an attribute has the kind that is offered at the place
-abbrev pub AddsAttribute : Schema → TextEnd → Place → ℕ → Value → List ℕ → Type 0
+abbrev pub AddsAttribute : PlainSchema → TextEnd → Place → ℕ → Value → List ℕ → Type 0
 AddsAttribute s before here name value added =
     (kind : ℕ) × (next : Place) × (part : List ℕ)
     × IsOffered s here (step.Attribute name kind next)
     × IsNamedText s name kind value part
     × (added ≡ gap before ++ codes "@" ++ part)
 
-abbrev pub AddsContent : Schema → Place → Value → List ℕ → Type 0
+abbrev pub AddsContent : PlainSchema → Place → Value → List ℕ → Type 0
 AddsContent s here value added = (said : List ℕ) × IsValueText s here.kind value said × (added ≡ codes "=" ++ said)
 
 -- an event at the place reached in the innermost element adds this behind such an end
-abbrev pub Adds : Schema → TextEnd → Option Place → Event → List ℕ → Type 0
+abbrev pub Adds : PlainSchema → TextEnd → Option Place → Event → List ℕ → Type 0
 Adds s before place (Document number) added = added ≡ []
 Adds s before place (Start name) added = AddsStart s before name added
 Adds s before (Some here) (Attribute name value) added = AddsAttribute s before here name value added
@@ -63,7 +63,7 @@ Adds s before None (Content value) added = ⊥
 Adds s before place EndElement added = added ≡ closing before
 
 -- the events so far, the newest first, lead to a state, and this is their text
-abbrev pub Tells : Speller → Schema → List Event → List ℕ → State → Type 0
+abbrev pub Tells : Speller → PlainSchema → List Event → List ℕ → State → Type 0
 Tells V s [] text state = (text ≡ []) × (state ≡ start)
 Tells V s (event ∷ events) text state =
     (before : State) × (bits : List Bool) × (front : List ℕ) × (added : List ℕ)

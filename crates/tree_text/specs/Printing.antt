@@ -1,6 +1,6 @@
 -- Own: what a printer does with events, and what is wrong where no text is printed.
 use Rattle.std.specs.Prelude.{◌≡◌, ℕ, List, Option, Some, None}
-use Rattle.exi_schema.specs.declared.schema.Schema.{Schema}
+use Rattle.exi_schema.specs.Schemas.{PlainSchema}
 use Rattle.exi_documents.specs.Refusals.{IsRefused}
 use Rattle.exi_documents.specs.Trees.{Event as TreeEvent}
 use Rattle.exi_values.specs.declared.Event.{Event}
@@ -11,7 +11,7 @@ use Rattle.tree_text.specs.declared.fault.PrintFault.{PrintFault}
 use Rattle.tree_text.specs.declared.fault.PrintFault.TheVariants.{Refused, Memory}
 
 -- a payload is refused so. Want of memory comes freely
-abbrev pub IsFaultOf : Schema → List ℕ → PrintFault → Type 0
+abbrev pub IsFaultOf : PlainSchema → List ℕ → PrintFault → Type 0
 IsFaultOf s payload (Refused refusal) = IsRefused s payload refusal.cause refusal.bit
 IsFaultOf s payload Memory = Unit {0}
 

@@ -6,7 +6,7 @@ use Rattle.exi_schema.specs.declared.places.Place.{Place}
 use Rattle.exi_schema.specs.declared.places.Root.TheVariants.{Kind}
 use Rattle.exi_schema.specs.declared.places.Step.{Step}
 use Rattle.exi_schema.specs.declared.places.Step.TheVariants as step
-use Rattle.exi_schema.specs.declared.schema.Schema.{Schema}
+use Rattle.exi_schema.specs.Schemas.{PlainSchema}
 use Rattle.exi_schema.specs.Offers.{offers}
 use Rattle.exi_schema.specs.Steps.{IsRoot}
 use Rattle.exi_documents.specs.Documents.{element, first, name_of}
@@ -20,11 +20,11 @@ abbrev pub braced : List ℕ → List (List ℕ) → List ℕ
 braced word parts = word ++ codes "{" ++ join_with_byte 32 parts ++ codes "}"
 
 -- a step is offered at a place
-abbrev pub IsOffered : Schema → Place → Step → Type 0
-IsOffered s here step = (code : ℕ) × (slice_get (offers s.kinds.now here) code ≡ Some step)
+abbrev pub IsOffered : PlainSchema → Place → Step → Type 0
+IsOffered s here step = (code : ℕ) × (slice_get (offers s.kinds here) code ≡ Some step)
 
 -- attributes from a place on, each with its text, and the place behind them
-abbrev pub AreAttributeTexts : Schema → Place → List (ℕ × Value) → List (List ℕ) → Place → Type 0
+abbrev pub AreAttributeTexts : PlainSchema → Place → List (ℕ × Value) → List (List ℕ) → Place → Type 0
 AreAttributeTexts s here [] texts there = (texts ≡ []) × (there ≡ here)
 AreAttributeTexts s here (attribute ∷ attributes) texts there =
     (kind : ℕ) × (next : Place) × (text : List ℕ) × (rest : List (List ℕ))
@@ -34,7 +34,7 @@ AreAttributeTexts s here (attribute ∷ attributes) texts there =
     × (texts ≡ (codes "@" ++ text) ∷ rest)
 
 -- elements from a place on, each with its text
-abbrev pub AreTreeTexts : Schema → Place → Trees → List (List ℕ) → Type 0
+abbrev pub AreTreeTexts : PlainSchema → Place → Trees → List (List ℕ) → Type 0
 AreTreeTexts s here none texts = texts ≡ []
 AreTreeTexts s here (simple name value more) texts =
     (kind : ℕ) × (next : Place) × (text : List ℕ) × (rest : List (List ℕ))
@@ -52,7 +52,7 @@ AreTreeTexts s here (complex name attributes children more) texts =
     × (texts ≡ braced word (front ++ inside) ∷ rest)
 
 -- the root, an element of its kind
-abbrev pub IsRootText : Schema → ℕ → Tree → List ℕ → Type 0
+abbrev pub IsRootText : PlainSchema → ℕ → Tree → List ℕ → Type 0
 IsRootText s kind (Simple name value) text = IsNamedText s name kind value text
 IsRootText s kind (Complex name attributes children) text =
     (there : Place) × (word : List ℕ) × (front : List (List ℕ)) × (inside : List (List ℕ))
@@ -62,8 +62,8 @@ IsRootText s kind (Complex name attributes children) text =
     × (text ≡ braced word (front ++ inside))
 
 -- the text of a tree whose root the schema names
-pub record IsTreeText (s : Schema) (tree : Tree) (text : List ℕ) : Type 0 where
+pub record IsTreeText (s : PlainSchema) (tree : Tree) (text : List ℕ) : Type 0 where
   pub number : ℕ
   pub kind : ℕ
-  pub named : IsRoot s.roots.now s.root_bits number (Kind (name_of tree) kind)
+  pub named : IsRoot s.roots s.root_bits number (Kind (name_of tree) kind)
   pub written : IsRootText s kind tree text

@@ -5,6 +5,7 @@ ghost use Rattle.std.specs.String.{string_bytes};
 ghost use Rattle.exi_schema.specs.declared.places.Place.{Place};
 ghost use Rattle.exi_schema.specs.declared.places.Step.TheVariants.{Attribute};
 ghost use Rattle.exi_schema.specs.Offers.{IsPlace};
+ghost use Rattle.exi_schema.specs.Told.{schema_of};
 ghost use Rattle.exi_documents.specs.Documents.{IsDocument};
 ghost use Rattle.exi_documents.specs.Trees.{Tree};
 ghost use Rattle.exi_documents.specs.Values.{most_entries};
@@ -15,6 +16,7 @@ ghost use Rattle.tree_text.specs.Printing.{IsFaultOf, IsEnd};
 
 use crate::fault::PrintFault;
 use crate::values::{put_equals, put_name};
+use exi_documents::MOST_ENTRIES;
 use charge_world::NoMemory;
 use exi_events::EventReader;
 use exi_schema::{Place, Places, Schema, Step};
@@ -72,10 +74,10 @@ fn end_behind(event: &Event) -> TextEnd
 
 /// The kind of the attribute of a name that is offered at a place.
 fn attribute_kind(schema: &Schema, here: Place, name: u16) -> u16
-    requires place { IsPlace schema.now.kinds.now here }
-    requires offered { (kind : ℕ) × (next : Place) × IsOffered schema.now here (Attribute name kind next) }
-    ensures offered { (next : Place) × IsOffered schema.now here (Attribute name result next) }
-    ensures one { (kind : ℕ) (next : Place) → IsOffered schema.now here (Attribute name kind next) → kind ≡ result }
+    requires place { IsPlace (schema_of schema.now).kinds here }
+    requires offered { (kind : ℕ) × (next : Place) × IsOffered (schema_of schema.now) here (Attribute name kind next) }
+    ensures offered { (next : Place) × IsOffered (schema_of schema.now) here (Attribute name result next) }
+    ensures one { (kind : ℕ) (next : Place) → IsOffered (schema_of schema.now) here (Attribute name kind next) → kind ≡ result }
 {
     for code in 0..schema.alternatives(here) {
         if let Step::Attribute {
@@ -93,8 +95,8 @@ fn attribute_kind(schema: &Schema, here: Place, name: u16) -> u16
 
 /// Puts the start of an element.
 fn put_start(text: &mut String, end: TextEnd, schema: &Schema, name: u16) -> Result<(), NoMemory>
-    requires { (added : List ℕ) × AddsStart schema.now end name added }
-    ensures { OnOk result ((added : List ℕ) × AddsStart schema.now end name added × (string_bytes text.new ≡ string_bytes text.old ++ added)) }
+    requires { (added : List ℕ) × AddsStart (schema_of schema.now) end name added }
+    ensures { OnOk result ((added : List ℕ) × AddsStart (schema_of schema.now) end name added × (string_bytes text.new ≡ string_bytes text.old ++ added)) }
 {
     text.push_str(end.gap())?;
     put_name(text, schema, name)
@@ -109,10 +111,10 @@ fn put_attribute(
     name: u16,
     value: &Value,
 ) -> Result<(), NoMemory>
-    requires place { IsPlace schema.now.kinds.now here }
+    requires place { IsPlace (schema_of schema.now).kinds here }
     requires lent { (bits : List Bool) × IsLent bits value.now }
-    requires has_text { (added : List ℕ) × AddsAttribute schema.now end here name (value_of value.now) added }
-    ensures { OnOk result ((added : List ℕ) × AddsAttribute schema.now end here name (value_of value.now) added × (string_bytes text.new ≡ string_bytes text.old ++ added)) }
+    requires has_text { (added : List ℕ) × AddsAttribute (schema_of schema.now) end here name (value_of value.now) added }
+    ensures { OnOk result ((added : List ℕ) × AddsAttribute (schema_of schema.now) end here name (value_of value.now) added × (string_bytes text.new ≡ string_bytes text.old ++ added)) }
 {
     let kind = attribute_kind(schema, here, name);
     text.push_str(end.gap())?;
@@ -129,10 +131,10 @@ fn put_event(
     place: Option<Place>,
     event: &Event,
 ) -> Result<(), NoMemory>
-    requires place { IfSome place (λ here. IsPlace schema.now.kinds.now here) }
+    requires place { IfSome place (λ here. IsPlace (schema_of schema.now).kinds here) }
     requires lent { (bits : List Bool) × IsLentEvent bits event.now }
-    requires has_text { IfSome (event_of event.now) (λ told. (added : List ℕ) × Adds schema.now end place told added) }
-    ensures { OnOk result (IfSome (event_of event.now) (λ told. (added : List ℕ) × Adds schema.now end place told added × (string_bytes text.new ≡ string_bytes text.old ++ added))) }
+    requires has_text { IfSome (event_of event.now) (λ told. (added : List ℕ) × Adds (schema_of schema.now) end place told added) }
+    ensures { OnOk result (IfSome (event_of event.now) (λ told. (added : List ℕ) × Adds (schema_of schema.now) end place told added × (string_bytes text.new ≡ string_bytes text.old ++ added))) }
 {
     match (event, place) {
         (Event::Start(name), _) => put_start(text, end, schema, *name),
@@ -151,10 +153,10 @@ fn put_event(
 /// `Refused` exactly where the payload spells no tree, with its refusal.
 pub fn print_tree(alloc: Global, schema: &Schema, payload: &[u8]) -> Result<String, PrintFault>
     requires { length payload.now ≤ 65536 }
-    ensures printed { IfOk result (λ text. (tree : Tree) × IsDocument schema.now tree payload.now × IsTreeText schema.now tree (string_bytes text)) }
-    ensures fault { IfErr result (IsFaultOf schema.now payload.now) }
+    ensures printed { IfOk result (λ text. (tree : Tree) × IsDocument (schema_of schema.now) tree payload.now × IsTreeText (schema_of schema.now) tree (string_bytes text)) }
+    ensures fault { IfErr result (IsFaultOf (schema_of schema.now) payload.now) }
 {
-    let mut table = Table::make(alloc, 8192)?;
+    let mut table = Table::make(alloc, MOST_ENTRIES)?;
     print_with_table(alloc, schema, payload, &mut table)
 }
 
@@ -167,8 +169,8 @@ fn print_with_table(
 ) -> Result<String, PrintFault>
     requires payload { length payload.now ≤ 65536 }
     requires cap { table.old.cap ≡ most_entries }
-    ensures printed { IfOk result (λ text. (tree : Tree) × IsDocument schema.now tree payload.now × IsTreeText schema.now tree (string_bytes text)) }
-    ensures fault { IfErr result (IsFaultOf schema.now payload.now) }
+    ensures printed { IfOk result (λ text. (tree : Tree) × IsDocument (schema_of schema.now) tree payload.now × IsTreeText (schema_of schema.now) tree (string_bytes text)) }
+    ensures fault { IfErr result (IsFaultOf (schema_of schema.now) payload.now) }
 {
     let mut reader = EventReader::new(payload, schema, table);
     let mut text = String::new(alloc);

@@ -2,6 +2,7 @@
 
 ghost use Rattle.std.specs.Prelude.{◌≡◌, true, List, [], ◌∷◌, ◌++◌, length, Some, None, IsTrue, IsFalse, MatchOption, IfSome, IfNone, IfOk, IfErr, OnOk};
 ghost use Rattle.std.specs.Str.{chars};
+ghost use Rattle.exi_schema.specs.Told.{schema_of};
 ghost use Rattle.exi_documents.specs.Trees.{Event as TreeEvent};
 ghost use Rattle.exi_documents.specs.Values.{most_entries};
 ghost use Rattle.exi_values.specs.Meaning.{event_of};
@@ -11,6 +12,7 @@ ghost use Rattle.dialect_text.specs.Scanning.{event_of as said_event, standing_o
 ghost use Rattle.tree_text.specs.Consistent.{are_consistent};
 ghost use Rattle.tree_text.specs.Scans.{IsEncodedText, IsScanFault, IsFaultBehind, IsStuck, IsTooLong};
 
+use exi_documents::MOST_ENTRIES;
 use charge_world::Piece;
 use dialect_text::{DialectScanner, Said, ScanFault};
 use exi_events::EventWriter;
@@ -40,10 +42,10 @@ fn put_said(writer: &mut EventWriter<Schema>, said: &Said) -> bool
     ensures lent { KeepsLent writer.old writer.new }
     ensures room { length writer.new.room.now ≡ 65536 }
     ensures open_still { IsTrue result → writer.new.full ≡ None }
-    ensures put { IsTrue result → (events : List TreeEvent) → HasPut writer.old.places.now events (draft_of writer.old)
-        → HasPut writer.old.places.now (said_event said.now ∷ events) (draft_of writer.new) }
-    ensures stuck { IsFalse result → (events : List TreeEvent) → HasPut writer.old.places.now events (draft_of writer.old)
-        → IsStuck writer.old.places.now (said_event said.now ∷ events) }
+    ensures put { IsTrue result → (events : List TreeEvent) → HasPut (schema_of writer.old.places.now) events (draft_of writer.old)
+        → HasPut (schema_of writer.old.places.now) (said_event said.now ∷ events) (draft_of writer.new) }
+    ensures stuck { IsFalse result → (events : List TreeEvent) → HasPut (schema_of writer.old.places.now) events (draft_of writer.old)
+        → IsStuck (schema_of writer.old.places.now) (said_event said.now ∷ events) }
 {
     let Some(event) = event_said(said) else {
         return false;
@@ -59,19 +61,19 @@ fn write_tree(
     room: &mut [u8],
     table: &mut Table,
 ) -> Result<Option<Piece>, ScanFault>
-    requires consistent { are_consistent schema.now.kinds.now ≡ true }
+    requires consistent { are_consistent (schema_of schema.now).kinds ≡ true }
     requires room { length room.old ≡ 65536 }
     requires cap { table.old.cap ≡ most_entries }
     requires same_schema { scanner.old.schema.now ≡ schema.now }
-    requires ready { IsScanning schema.now scanner.old.text.now (standing_of scanner.old.phase scanner.old.elements) scanner.old.cursor scanner.old.fault }
-    requires said { HasSaid schema.now scanner.old.text.now [] (standing_of scanner.old.phase scanner.old.elements) scanner.old.cursor }
+    requires ready { IsScanning (schema_of schema.now) scanner.old.text.now (standing_of scanner.old.phase scanner.old.elements) scanner.old.cursor scanner.old.fault }
+    requires said { HasSaid (schema_of schema.now) scanner.old.text.now [] (standing_of scanner.old.phase scanner.old.elements) scanner.old.cursor }
     ensures same_text { scanner.new.text.now ≡ scanner.old.text.now }
     ensures same_schema { scanner.new.schema.now ≡ schema.now }
-    ensures ready { IsScanning schema.now scanner.old.text.now (standing_of scanner.new.phase scanner.new.elements) scanner.new.cursor scanner.new.fault }
-    ensures written { IfOk result (λ o. IfSome o (IsEncodedText schema.now scanner.old.text.now)) }
+    ensures ready { IsScanning (schema_of schema.now) scanner.old.text.now (standing_of scanner.new.phase scanner.new.elements) scanner.new.cursor scanner.new.fault }
+    ensures written { IfOk result (λ o. IfSome o (IsEncodedText (schema_of schema.now) scanner.old.text.now)) }
     ensures stuck { IfOk result (λ o. IfNone o ((events : List TreeEvent)
-        × HasSaid schema.now scanner.old.text.now events (standing_of scanner.new.phase scanner.new.elements) scanner.new.cursor × IsStuck schema.now events)) }
-    ensures fault { IfErr result (IsFaultOf schema.now scanner.old.text.now) }
+        × HasSaid (schema_of schema.now) scanner.old.text.now events (standing_of scanner.new.phase scanner.new.elements) scanner.new.cursor × IsStuck (schema_of schema.now) events)) }
+    ensures fault { IfErr result (IsFaultOf (schema_of schema.now) scanner.old.text.now) }
 {
     let mut writer = EventWriter::new(room, schema, table);
     while let Some(said) = scanner.next()? {
@@ -87,11 +89,11 @@ fn write_tree(
 
 /// Scans what is left of a text.
 fn scan_rest(scanner: &mut DialectScanner<'_, '_>) -> Result<(), ScanFault>
-    requires { IsScanning scanner.old.schema.now scanner.old.text.now (standing_of scanner.old.phase scanner.old.elements) scanner.old.cursor scanner.old.fault }
+    requires { IsScanning (schema_of scanner.old.schema.now) scanner.old.text.now (standing_of scanner.old.phase scanner.old.elements) scanner.old.cursor scanner.old.fault }
     ensures rest { OnOk result ((events : List TreeEvent)
-        → HasSaid scanner.old.schema.now scanner.old.text.now events (standing_of scanner.old.phase scanner.old.elements) scanner.old.cursor
-        → (later : List TreeEvent) × IsDialectText scanner.old.schema.now (later ++ events) scanner.old.text.now) }
-    ensures fault { IfErr result (IsFaultOf scanner.old.schema.now scanner.old.text.now) }
+        → HasSaid (schema_of scanner.old.schema.now) scanner.old.text.now events (standing_of scanner.old.phase scanner.old.elements) scanner.old.cursor
+        → (later : List TreeEvent) × IsDialectText (schema_of scanner.old.schema.now) (later ++ events) scanner.old.text.now) }
+    ensures fault { IfErr result (IsFaultOf (schema_of scanner.old.schema.now) scanner.old.text.now) }
 {
     while let Some(said) = scanner.next()? {
         drop(said);
@@ -109,10 +111,10 @@ fn character_count(text: &str) -> u64
 /// Scans what is left of a text of which no document can be put, and gives its fault: at its end where it is one of the dialect.
 fn fault_behind(scanner: &mut DialectScanner<'_, '_>, text: &str) -> ScanFault
     requires same_text { scanner.old.text.now ≡ text.now }
-    requires ready { IsScanning scanner.old.schema.now scanner.old.text.now (standing_of scanner.old.phase scanner.old.elements) scanner.old.cursor scanner.old.fault }
+    requires ready { IsScanning (schema_of scanner.old.schema.now) scanner.old.text.now (standing_of scanner.old.phase scanner.old.elements) scanner.old.cursor scanner.old.fault }
     ensures { (events : List TreeEvent)
-        → HasSaid scanner.old.schema.now scanner.old.text.now events (standing_of scanner.old.phase scanner.old.elements) scanner.old.cursor
-        → IsFaultBehind scanner.old.schema.now scanner.old.text.now events result }
+        → HasSaid (schema_of scanner.old.schema.now) scanner.old.text.now events (standing_of scanner.old.phase scanner.old.elements) scanner.old.cursor
+        → IsFaultBehind (schema_of scanner.old.schema.now) scanner.old.text.now events result }
 {
     match scan_rest(scanner) {
         Ok(()) => ScanFault::Place(character_count(text)),
@@ -128,11 +130,11 @@ fn scan_into(
     room: &mut [u8],
     table: &mut Table,
 ) -> Result<Piece, ScanFault>
-    requires consistent { are_consistent schema.now.kinds.now ≡ true }
+    requires consistent { are_consistent (schema_of schema.now).kinds ≡ true }
     requires room { length room.old ≡ 65536 }
     requires cap { table.old.cap ≡ most_entries }
-    ensures encoded { IfOk result (IsEncodedText schema.now text.now) }
-    ensures fault { IfErr result (IsScanFault schema.now text.now) }
+    ensures encoded { IfOk result (IsEncodedText (schema_of schema.now) text.now) }
+    ensures fault { IfErr result (IsScanFault (schema_of schema.now) text.now) }
 {
     let mut scanner = DialectScanner::new(alloc, text, schema);
     match write_tree(alloc, &mut scanner, schema, room, table) {
@@ -148,11 +150,11 @@ fn scan_into(
 /// has that begins one, and for any other text its number of characters. Inside one kind of the schema the elements of one name are of one
 /// kind, and so are the attributes of one name; and no number of a datatype has more than 20 digits, as no bound of 64 bits has.
 pub fn scan_tree(alloc: Global, schema: &Schema, text: &str) -> Result<Piece, ScanFault>
-    requires consistent { are_consistent schema.now.kinds.now ≡ true }
-    ensures encoded { IfOk result (IsEncodedText schema.now text.now) }
-    ensures fault { IfErr result (IsScanFault schema.now text.now) }
+    requires consistent { are_consistent (schema_of schema.now).kinds ≡ true }
+    ensures encoded { IfOk result (IsEncodedText (schema_of schema.now) text.now) }
+    ensures fault { IfErr result (IsScanFault (schema_of schema.now) text.now) }
 {
-    let mut table = Table::make(alloc, 8192)?;
+    let mut table = Table::make(alloc, MOST_ENTRIES)?;
     let mut room = vec![in alloc; 0; 65536]?;
     scan_into(alloc, schema, text, room.as_mut_slice(), &mut table)
 }

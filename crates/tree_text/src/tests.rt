@@ -1,6 +1,7 @@
 //! Payloads and the texts of their trees, in a schema with each form of a value.
 
 ghost use Rattle.std.specs.Prelude.{◌≡◌, ◌≤◌, true, length};
+ghost use Rattle.exi_schema.specs.Told.{schema_of};
 ghost use Rattle.tree_text.specs.Consistent.{are_consistent};
 
 use super::*;
@@ -26,7 +27,7 @@ fn answer(alloc: Global, payload: &[u8], schema: &Schema) -> Result<String, Allo
 
 /// The encoding of the tree of a text in hexadecimal, or the place of its fault.
 fn encoding(alloc: Global, text: &str, schema: &Schema) -> Result<String, AllocError>
-    requires consistent { are_consistent schema.now.kinds.now ≡ true }
+    requires consistent { are_consistent (schema_of schema.now).kinds ≡ true }
 {
     match scan_tree(alloc, schema, text) {
         Ok(piece) => hex::encode(alloc, piece.bytes()),

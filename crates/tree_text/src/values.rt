@@ -5,6 +5,7 @@ ghost use Rattle.std.specs.Char.{IsScalar};
 ghost use Rattle.std.specs.String.{string_bytes};
 ghost use Rattle.hex.specs.Hex.{encode_lower, lower_digits};
 ghost use Rattle.exi_bits.specs.Lent.{items_of};
+ghost use Rattle.exi_schema.specs.Told.{schema_of};
 ghost use Rattle.exi_values.specs.Meaning.{IsLent, value_of};
 ghost use Rattle.tree_text.specs.TreeText.{character_text, quoted, truth_text, IsValueText, IsName, IsNamedText};
 
@@ -72,8 +73,8 @@ fn put_quoted(text: &mut String, span: &BitSpan) -> Result<(), NoMemory>
 /// Puts a value of a kind.
 fn put_value(text: &mut String, schema: &Schema, kind: u16, value: &Value) -> Result<(), NoMemory>
     requires lent { (bits : List Bool) × IsLent bits value.now }
-    requires has_text { (said : List ℕ) × IsValueText schema.now kind (value_of value.now) said }
-    ensures { OnOk result ((said : List ℕ) × IsValueText schema.now kind (value_of value.now) said × (string_bytes text.new ≡ string_bytes text.old ++ said)) }
+    requires has_text { (said : List ℕ) × IsValueText (schema_of schema.now) kind (value_of value.now) said }
+    ensures { OnOk result ((said : List ℕ) × IsValueText (schema_of schema.now) kind (value_of value.now) said × (string_bytes text.new ≡ string_bytes text.old ++ said)) }
 {
     match value {
         Value::Bool(true) => text.push_str("true"),
@@ -91,8 +92,8 @@ fn put_value(text: &mut String, schema: &Schema, kind: u16, value: &Value) -> Re
 
 /// Puts the name of an element or of an attribute.
 pub(crate) fn put_name(text: &mut String, schema: &Schema, name: u16) -> Result<(), NoMemory>
-    requires { (word : List ℕ) × IsName schema.now name word }
-    ensures { OnOk result ((word : List ℕ) × IsName schema.now name word × (string_bytes text.new ≡ string_bytes text.old ++ word)) }
+    requires { (word : List ℕ) × IsName (schema_of schema.now) name word }
+    ensures { OnOk result ((word : List ℕ) × IsName (schema_of schema.now) name word × (string_bytes text.new ≡ string_bytes text.old ++ word)) }
 {
     text.push_str(schema.name(name))
 }
@@ -105,8 +106,8 @@ pub(crate) fn put_equals(
     value: &Value,
 ) -> Result<(), NoMemory>
     requires lent { (bits : List Bool) × IsLent bits value.now }
-    requires has_text { (said : List ℕ) × IsValueText schema.now kind (value_of value.now) said }
-    ensures { OnOk result ((said : List ℕ) × IsValueText schema.now kind (value_of value.now) said × (string_bytes text.new ≡ string_bytes text.old ++ codes "=" ++ said)) }
+    requires has_text { (said : List ℕ) × IsValueText (schema_of schema.now) kind (value_of value.now) said }
+    ensures { OnOk result ((said : List ℕ) × IsValueText (schema_of schema.now) kind (value_of value.now) said × (string_bytes text.new ≡ string_bytes text.old ++ codes "=" ++ said)) }
 {
     text.push_str("=")?;
     put_value(text, schema, kind, value)

@@ -7,7 +7,7 @@ use Rattle.std.specs.Str.Parse.{digits_value}
 use Rattle.std.proofs.lemmas.Fmt.{decimal_is_IsNumeral_wide}
 use Rattle.hex.specs.Hex.{IsBytes, encode_lower, decode_of}
 use Rattle.hex.proofs.HexLemmas.{decode_of-encode_lower}
-use Rattle.exi_schema.specs.declared.schema.Schema.{Schema}
+use Rattle.exi_schema.specs.Schemas.{PlainSchema}
 use Rattle.exi_schema.specs.declared.tables.Datatype.{Datatype}
 use Rattle.exi_schema.specs.declared.tables.Datatype.TheVariants.{Bool as BoolType, Named, Bounded, Unsigned, Signed, Binary, Text as TextType}
 use Rattle.exi_documents.specs.Trees.{Value, Truth, Ordinal, Number, Bytes, Text}
@@ -86,7 +86,7 @@ one_form (TextType most) (Text a) (Text b) p q = texts a b refl refl
 one_form (TextType most) (Text a) _ p q = absurd q
 one_form (TextType most) _ _ p q = absurd p
 
-pub one_value : (s : Schema) (kind : ℕ) (d : Datatype) (v w : Value) (text : List ℕ) → IsFormed s kind d v text → IsFormed s kind d w text → v ≡ w
+pub one_value : (s : PlainSchema) (kind : ℕ) (d : Datatype) (v w : Value) (text : List ℕ) → IsFormed s kind d v text → IsFormed s kind d w text → v ≡ w
 one_value s kind d v w text p q = told (one_form d v w p.0 q.0)
   where
     of : (x y : Value) → x ≡ y → IsValueText s kind x text → IsValueText s kind y text

@@ -4,11 +4,9 @@ use Rattle.std.specs.Prelude.{◌==◌, ◌||◌}
 use Rattle.std.specs.List.{list_any, list_all}
 use Rattle.std.proofs.lemmas.Bool.{leb-true, eqb-true}
 use Rattle.std.proofs.lemmas.Bool.Decides.{eqb_tells}
-use Rattle.exi_schema.specs.declared.schema.Schema.{Schema}
+use Rattle.exi_schema.specs.Schemas.{PlainSchema, are_kinds, are_roots, are_words, are_values, is_word, is_word_char, same_text, value_count, is_declaration}
 use Rattle.exi_schema.specs.declared.tables.Datatype.TheVariants.{Named}
-use Rattle.exi_schema.specs.declared.tables.Declaration.{Declaration}
-use Rattle.exi_schema.specs.declared.tables.Declaration.TheVariants.{Simple}
-use Rattle.exi_schema.specs.Schemas.{are_kinds, are_roots, are_words, are_values, is_word, is_word_char, same_text, value_count, is_declaration}
+use Rattle.exi_schema.specs.Plain.{PlainKind, valued}
 use Rattle.exi_schema.specs.Steps.{texts_at}
 use Rattle.exi_schema.proofs.Conditions.{and-l, and-r, all_get}
 use Rattle.value_text.specs.Forms.{AreAscii}
@@ -41,18 +39,18 @@ word_at (c ∷ text) (suc i) is = word_at text i (and-r (is_word_char c) (list_a
 
 -- ---- the words of a schema
 
-pub words_of : (s : Schema) → are_words (map (λ t. t.now) s.names.now) ≡ true
+pub words_of : (s : PlainSchema) → are_words s.names ≡ true
 words_of s =
-    let texts : List (List ℕ) = map (λ t. t.now) s.names.now in
-    and-r (are_kinds (length texts) s.kinds.now && are_roots s.root_bits (length texts) s.kinds.now s.roots.now) (are_words texts)
-    (and-l _ (are_values s.kinds.now (map (λ l. map (λ t. t.now) l.now) s.values.now)) s.fits)
+    let texts : List (List ℕ) = s.names in
+    and-r (are_kinds (length texts) s.kinds && are_roots s.root_bits (length texts) s.kinds s.roots) (are_words texts)
+    (and-l _ (are_values s.kinds s.values) s.fits)
 
-pub values_of : (s : Schema) → are_values s.kinds.now (map (λ l. map (λ t. t.now) l.now) s.values.now) ≡ true
+pub values_of : (s : PlainSchema) → are_values s.kinds s.values ≡ true
 values_of s =
-    let texts : List (List ℕ) = map (λ t. t.now) s.names.now in
-    and-r (are_kinds (length texts) s.kinds.now && are_roots s.root_bits (length texts) s.kinds.now s.roots.now && are_words texts) (are_values s.kinds.now (map (λ l. map (λ t. t.now) l.now) s.values.now)) s.fits
+    let texts : List (List ℕ) = s.names in
+    and-r (are_kinds (length texts) s.kinds && are_roots s.root_bits (length texts) s.kinds s.roots && are_words texts) (are_values s.kinds s.values) s.fits
 
-pub words_at : (kinds : List Declaration) (values : List (List (List ℕ))) (kind : ℕ) → are_values kinds values ≡ true → are_words (texts_at values kind) ≡ true
+pub words_at : (kinds : List PlainKind) (values : List (List (List ℕ))) (kind : ℕ) → are_values kinds values ≡ true → are_words (texts_at values kind) ≡ true
 words_at [] [] kind is = refl
 words_at [] (texts ∷ values) kind is = let wrong : false ≡ true = is in absurd cc
 words_at (k ∷ kinds) [] kind is = let wrong : false ≡ true = is in absurd cc
@@ -60,8 +58,8 @@ words_at (k ∷ kinds) (texts ∷ values) zero is =
     and-r (length texts == value_count k) (are_words texts) (and-l (length texts == value_count k && are_words texts) (are_values kinds values) is)
 words_at (k ∷ kinds) (texts ∷ values) (suc kind) is = words_at kinds values kind (and-r (length texts == value_count k && are_words texts) (are_values kinds values) is)
 
-pub value_words : (s : Schema) (kind : ℕ) → are_words (value_names s kind) ≡ true
-value_words s kind = words_at s.kinds.now (map (λ l. map (λ t. t.now) l.now) s.values.now) kind (values_of s)
+pub value_words : (s : PlainSchema) (kind : ℕ) → are_words (value_names s kind) ≡ true
+value_words s kind = words_at s.kinds s.values kind (values_of s)
 
 pub word_in : (texts : List (List ℕ)) (i : ℕ) (word : List ℕ) → are_words texts ≡ true → slice_get texts i ≡ Some word → is_word word ≡ true
 word_in [] i word are at = let wrong : None ≡ Some word = at in absurd cc
@@ -73,23 +71,23 @@ word_in (text ∷ texts) (suc i) word are at = word_in texts i word (and-r (is_w
 pub word_text : (word : List ℕ) → is_word word ≡ true → (1 ≤ length word) × IsWordText word
 word_text word is = (leb-true 1 (length word) (and-l (nat_le 1 (length word)) (list_all is_word_char word) is), and-r (nat_le 1 (length word)) (list_all is_word_char word) is)
 
-pub name_word : (s : Schema) (name : ℕ) (word : List ℕ) → IsName s name word → (1 ≤ length word) × IsWordText word
-name_word s name word at = word_text word (word_in (map (λ t. t.now) s.names.now) name word (words_of s) at)
+pub name_word : (s : PlainSchema) (name : ℕ) (word : List ℕ) → IsName s name word → (1 ≤ length word) × IsWordText word
+name_word s name word at = word_text word (word_in s.names name word (words_of s) at)
 
 -- ---- in ASCII
 
 words_ascii : (texts : List (List ℕ)) → are_words texts ≡ true → AreAscii texts
 words_ascii texts are i word at = λ k. word_at word k (word_text word (word_in texts i word are at)).1
 
-pub values_ascii : (s : Schema) (kind : ℕ) → AreAscii (value_names s kind)
+pub values_ascii : (s : PlainSchema) (kind : ℕ) → AreAscii (value_names s kind)
 values_ascii s kind = words_ascii (value_names s kind) (value_words s kind)
 
-pub names_ascii : (s : Schema) → AreAscii (map (λ t. t.now) s.names.now)
-names_ascii s = words_ascii (map (λ t. t.now) s.names.now) (words_of s)
+pub names_ascii : (s : PlainSchema) → AreAscii s.names
+names_ascii s = words_ascii s.names (words_of s)
 
 -- ---- the texts of an enumeration
 
-values_there : (kinds : List Declaration) (values : List (List (List ℕ))) (kind : ℕ) (declaration : Declaration) → are_values kinds values ≡ true → slice_get kinds kind ≡ Some declaration →
+values_there : (kinds : List PlainKind) (values : List (List (List ℕ))) (kind : ℕ) (declaration : PlainKind) → are_values kinds values ≡ true → slice_get kinds kind ≡ Some declaration →
     (texts : List (List ℕ)) × (slice_get values kind ≡ Some texts) × (length texts ≡ value_count declaration)
 values_there [] values kind declaration is at = let wrong : None ≡ Some declaration = at in absurd cc
 values_there (k ∷ kinds) [] kind declaration is at = let wrong : false ≡ true = is in absurd cc
@@ -99,18 +97,18 @@ values_there (k ∷ kinds) (texts ∷ values) zero declaration is at =
     (texts, refl, eqb-true _ _ (and-l (length texts == value_count k) (are_words texts) (and-l (length texts == value_count k && are_words texts) (are_values kinds values) is)) ∙ ap value_count same)
 values_there (k ∷ kinds) (texts ∷ values) (suc kind) declaration is at = values_there kinds values kind declaration (and-r (length texts == value_count k && are_words texts) (are_values kinds values) is) at
 
-pub names_of_kind : (s : Schema) (kind count : ℕ) → slice_get s.kinds.now kind ≡ Some (Simple (Named count)) →
-    (texts : List (List ℕ)) × (slice_get (map (λ l. map (λ t. t.now) l.now) s.values.now) kind ≡ Some texts) × (length texts ≡ count)
-names_of_kind s kind count at = values_there s.kinds.now (map (λ l. map (λ t. t.now) l.now) s.values.now) kind (Simple (Named count)) (values_of s) at
+pub names_of_kind : (s : PlainSchema) (kind count : ℕ) → slice_get s.kinds kind ≡ Some (valued (Named count)) →
+    (texts : List (List ℕ)) × (slice_get s.values kind ≡ Some texts) × (length texts ≡ count)
+names_of_kind s kind count at = values_there s.kinds s.values kind (valued (Named count)) (values_of s) at
 
-pub some_names : (s : Schema) (kind count : ℕ) → slice_get s.kinds.now kind ≡ Some (Simple (Named count)) → 1 ≤ count
+pub some_names : (s : PlainSchema) (kind count : ℕ) → slice_get s.kinds kind ≡ Some (valued (Named count)) → 1 ≤ count
 some_names s kind count at =
-    let texts : List (List ℕ) = map (λ t. t.now) s.names.now in
-    let values : List (List (List ℕ)) = map (λ l. map (λ t. t.now) l.now) s.values.now in
-    let kinds_fit = and-l (are_kinds (length texts) s.kinds.now) (are_roots s.root_bits (length texts) s.kinds.now s.roots.now)
-    (and-l (are_kinds (length texts) s.kinds.now && are_roots s.root_bits (length texts) s.kinds.now s.roots.now) (are_words texts)
-    (and-l _ (are_values s.kinds.now values) s.fits)) in
-    leb-true 1 count (all_get (is_declaration (length texts) s.kinds.now) s.kinds.now kind (Simple (Named count)) (and-l (list_all (is_declaration (length texts) s.kinds.now) s.kinds.now) _ kinds_fit) at)
+    let texts : List (List ℕ) = s.names in
+    let values : List (List (List ℕ)) = s.values in
+    let kinds_fit = and-l (are_kinds (length texts) s.kinds) (are_roots s.root_bits (length texts) s.kinds s.roots)
+    (and-l (are_kinds (length texts) s.kinds && are_roots s.root_bits (length texts) s.kinds s.roots) (are_words texts)
+    (and-l _ (are_values s.kinds values) s.fits)) in
+    leb-true 1 count (all_get (is_declaration (length texts) s.kinds) s.kinds kind (valued (Named count)) (and-l (list_all (is_declaration (length texts) s.kinds) s.kinds) _ kinds_fit) at)
 
 -- ---- no word stands twice
 

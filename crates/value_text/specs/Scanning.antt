@@ -2,7 +2,7 @@
 use Rattle.std.specs.Prelude.{◌≡◌, ℕ, ◌+◌, List, ◌++◌, length, Some, slice_get, encode_utf8}
 use Rattle.std.specs.Str.{encode_utf8_all, chars}
 use Rattle.std.specs.String.{string_bytes}
-use Rattle.exi_schema.specs.declared.schema.Schema.{Schema}
+use Rattle.exi_schema.specs.Schemas.{PlainSchema}
 use Rattle.exi_schema.specs.declared.tables.Datatype.{Datatype}
 use Rattle.exi_documents.specs.Trees.{Value, Truth, Ordinal, Number, Bytes, Text}
 use Rattle.value_text.specs.declared.awaited.Awaited.{Awaited}
@@ -46,15 +46,15 @@ meaning (scanned.Bytes bytes) = Bytes bytes.items
 meaning (scanned.Text text) = Text (chars (string_bytes text))
 
 -- the texts of a kind's values
-abbrev pub IsAnyFormed : Schema → ℕ → Datatype → List ℕ → Type 0
+abbrev pub IsAnyFormed : PlainSchema → ℕ → Datatype → List ℕ → Type 0
 IsAnyFormed s kind datatype text = (value : Value) × IsFormed s kind datatype value text
 
 -- ---- names
 
 -- a name, and the character behind it
-abbrev pub IsAwaitedText : Schema → Awaited → List ℕ → Type 0
+abbrev pub IsAwaitedText : PlainSchema → Awaited → List ℕ → Type 0
 IsAwaitedText s awaited text = (word : List ℕ) × IsName s awaited.name word × (text ≡ word ++ encode_utf8 awaited.end)
 
 -- one of those that are awaited
-abbrev pub IsAnyAwaited : Schema → List Awaited → List ℕ → Type 0
+abbrev pub IsAnyAwaited : PlainSchema → List Awaited → List ℕ → Type 0
 IsAnyAwaited s awaited text = (i : ℕ) × (one : Awaited) × (slice_get awaited i ≡ Some one) × IsAwaitedText s one text

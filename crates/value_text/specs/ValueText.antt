@@ -4,7 +4,7 @@ use Rattle.std.specs.Char.{IsScalar}
 use Rattle.std.specs.Fmt.{digits, signed_decimal}
 use Rattle.std.specs.List.{flat_map, AllByRecursion}
 use Rattle.hex.specs.Hex.{encode_lower}
-use Rattle.exi_schema.specs.declared.schema.Schema.{Schema}
+use Rattle.exi_schema.specs.Schemas.{PlainSchema}
 use Rattle.exi_schema.specs.declared.tables.Datatype.{Datatype}
 use Rattle.exi_schema.specs.declared.tables.Datatype.TheVariants.{Bool as BoolType, Named, Bounded, Unsigned, Signed, Binary, Text as TextType}
 use Rattle.exi_schema.specs.Steps.{texts_at}
@@ -28,11 +28,11 @@ truth_text true = codes "true"
 truth_text false = codes "false"
 
 -- the texts of the values of an enumeration
-abbrev pub value_names : Schema → ℕ → List (List ℕ)
-value_names s kind = texts_at (map (λ l. map (λ t. t.now) l.now) s.values.now) kind
+abbrev pub value_names : PlainSchema → ℕ → List (List ℕ)
+value_names s kind = texts_at s.values kind
 
 -- a value of a kind. Of an enumeration it is the name that the schema has for the ordinal
-abbrev pub IsValueText : Schema → ℕ → Value → List ℕ → Type 0
+abbrev pub IsValueText : PlainSchema → ℕ → Value → List ℕ → Type 0
 IsValueText s kind (Truth truth) text = text ≡ truth_text truth
 IsValueText s kind (Ordinal ordinal) text = slice_get (value_names s kind) ordinal ≡ Some text
 IsValueText s kind (Number v) text = text ≡ signed_decimal v
@@ -41,11 +41,11 @@ IsValueText s kind (Text chars) text = text ≡ quoted chars
 
 -- ---- names
 
-abbrev pub IsName : Schema → ℕ → List ℕ → Type 0
-IsName s name text = slice_get (map (λ t. t.now) s.names.now) name ≡ Some text
+abbrev pub IsName : PlainSchema → ℕ → List ℕ → Type 0
+IsName s name text = slice_get s.names name ≡ Some text
 
 -- a value of a kind behind its name
-abbrev pub IsNamedText : Schema → ℕ → ℕ → Value → List ℕ → Type 0
+abbrev pub IsNamedText : PlainSchema → ℕ → ℕ → Value → List ℕ → Type 0
 IsNamedText s name kind value text =
     (word : List ℕ) × (said : List ℕ) × IsName s name word × IsValueText s kind value said × (text ≡ word ++ codes "=" ++ said)
 
@@ -66,5 +66,5 @@ IsOfForm (TextType most) (Text chars) = AllByRecursion (λ char. IsScalar char) 
 IsOfForm _ _ = ⊥
 
 -- a value of the form of its kind's datatype, and its text
-abbrev pub IsFormed : Schema → ℕ → Datatype → Value → List ℕ → Type 0
+abbrev pub IsFormed : PlainSchema → ℕ → Datatype → Value → List ℕ → Type 0
 IsFormed s kind datatype value text = IsOfForm datatype value × IsValueText s kind value text

@@ -1,6 +1,7 @@
 //! Each form of a value, and each fault with its place.
 
 ghost use Rattle.std.specs.Prelude.{◌≤◌, length};
+ghost use Rattle.exi_schema.specs.Told.{schema_of};
 
 use super::*;
 use exi_schema::{Datatype, Declaration, RootOf, Schema};
@@ -121,7 +122,7 @@ fn forms_and_faults(rt: HostRuntime) -> Result<(), Fail> {
 
 /// Which name is taken of a text and what is left, or the place of the fault.
 fn named(alloc: Global, schema: &Schema, text: &str) -> Result<String, AllocError>
-    requires { 3 ≤ length schema.now.names.now }
+    requires { 3 ≤ length (schema_of schema.now).names }
 {
     let mut cursor = TextCursor::new(text);
     let awaited = [

@@ -2,7 +2,8 @@
 
 ghost use Rattle.std.specs.Prelude.{◌≡◌, ℕ, ◌<◌, List, Some, length, slice_get, IfOk, IfErr, All};
 ghost use Rattle.std.specs.Str.{encode_utf8_all};
-ghost use Rattle.exi_schema.specs.declared.tables.Declaration.TheVariants.{Simple};
+ghost use Rattle.exi_schema.specs.Plain.{valued};
+ghost use Rattle.exi_schema.specs.Told.{schema_of};
 ghost use Rattle.value_text.specs.ValueText.{truth_text, IsFormed};
 ghost use Rattle.value_text.specs.Forms.{IsTruthText};
 ghost use Rattle.value_text.specs.Scanning.{Takes, MissesAt, GoesWrong, meaning, IsAnyFormed, IsAnyAwaited, IsAwaitedText};
@@ -36,11 +37,11 @@ impl<'t> TextCursor<'t> {
         kind: u16,
         datatype: Datatype,
     ) -> Result<(Scanned, TextCursor<'t>), ScanFault>
-        requires { slice_get schema.now.kinds.now kind ≡ Some (Simple datatype) }
+        requires { slice_get (schema_of schema.now).kinds kind ≡ Some (valued datatype) }
         ensures taken { IfOk result (λ x. (front : List ℕ)
-            × Takes (IsAnyFormed schema.now kind datatype) self.now front x.1
-            × IsFormed schema.now kind datatype (meaning x.0) (encode_utf8_all front)) }
-        ensures fault { IfErr result (MissesAt (IsAnyFormed schema.now kind datatype) self.now) }
+            × Takes (IsAnyFormed (schema_of schema.now) kind datatype) self.now front x.1
+            × IsFormed (schema_of schema.now) kind datatype (meaning x.0) (encode_utf8_all front)) }
+        ensures fault { IfErr result (MissesAt (IsAnyFormed (schema_of schema.now) kind datatype) self.now) }
     {
         match datatype {
             Datatype::Bool => match self.truth() {
@@ -80,11 +81,11 @@ impl<'t> TextCursor<'t> {
         kind: u16,
         datatype: Datatype,
     ) -> Result<Scanned, ScanFault>
-        requires { slice_get schema.now.kinds.now kind ≡ Some (Simple datatype) }
+        requires { slice_get (schema_of schema.now).kinds kind ≡ Some (valued datatype) }
         ensures taken { IfOk result (λ scanned. (front : List ℕ)
-            × Takes (IsAnyFormed schema.now kind datatype) self.old front self.new
-            × IsFormed schema.now kind datatype (meaning scanned) (encode_utf8_all front)) }
-        ensures fault { IfErr result (λ fault. MissesAt (IsAnyFormed schema.now kind datatype) self.old fault × (self.new ≡ self.old)) }
+            × Takes (IsAnyFormed (schema_of schema.now) kind datatype) self.old front self.new
+            × IsFormed (schema_of schema.now) kind datatype (meaning scanned) (encode_utf8_all front)) }
+        ensures fault { IfErr result (λ fault. MissesAt (IsAnyFormed (schema_of schema.now) kind datatype) self.old fault × (self.new ≡ self.old)) }
     {
         let (scanned, behind) = self.value(alloc, schema, kind, datatype)?;
         *self = behind;
@@ -95,13 +96,13 @@ impl<'t> TextCursor<'t> {
     /// text, where it is one. It gives the place among those awaited, from 0; of two with one text it is any. Otherwise it gives the
     /// number of characters of the whole text passed up to the end of that front, and nothing is passed.
     pub fn take_name(&mut self, schema: &Schema, awaited: &[Awaited]) -> Result<usize, u64>
-        requires names { All (λ one. one.name < length schema.now.names.now) awaited.now }
+        requires names { All (λ one. one.name < length (schema_of schema.now).names) awaited.now }
         requires ends { All (λ one. one.end < 128) awaited.now }
         requires any { 0 < length awaited.now }
         ensures taken { IfOk result (λ i. (front : List ℕ) × (one : Awaited)
-            × Takes (IsAnyAwaited schema.now awaited.now) self.old front self.new
-            × (slice_get awaited.now i ≡ Some one) × IsAwaitedText schema.now one (encode_utf8_all front)) }
-        ensures fault { IfErr result (λ place. GoesWrong (IsAnyAwaited schema.now awaited.now) self.old place × (self.new ≡ self.old)) }
+            × Takes (IsAnyAwaited (schema_of schema.now) awaited.now) self.old front self.new
+            × (slice_get awaited.now i ≡ Some one) × IsAwaitedText (schema_of schema.now) one (encode_utf8_all front)) }
+        ensures fault { IfErr result (λ place. GoesWrong (IsAnyAwaited (schema_of schema.now) awaited.now) self.old place × (self.new ≡ self.old)) }
     {
         let mut best = Best {
             count: 0,

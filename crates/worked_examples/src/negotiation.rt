@@ -3,6 +3,7 @@
 ghost use Rattle.std.specs.Prelude.{◌≡◌, ◌≤◌, length};
 ghost use Rattle.exi_documents.specs.Values.{most_entries};
 
+use exi_documents::MOST_ENTRIES;
 use app_protocol::{AppMessage, Refusal, Table, read_app, write_app};
 use exi_strings::{Partitions, TableFull};
 use std::alloc::Global;
@@ -79,14 +80,14 @@ fn found_again(rt: &impl Abort, alloc: Global, hex: &str, table: &mut Table) -> 
 fn a_namespace_that_comes_twice_is_read_alike_and_written_as_a_hit(
     rt: HostRuntime,
 ) -> Result<(), Fail> {
-    let mut table = Table::make(rt.alloc(), 8192)?;
+    let mut table = Table::make(rt.alloc(), MOST_ENTRIES)?;
     found_again(&rt, rt.alloc(), NAMESPACE_FOUND, &mut table)?;
     found_again(&rt, rt.alloc(), NAMESPACE_SPELLED, &mut table)
 }
 
 #[test]
 fn behind_the_twentieth_protocol_only_the_end_may_stand(rt: HostRuntime) -> Result<(), Fail> {
-    let mut table = Table::make(rt.alloc(), 8192)?;
+    let mut table = Table::make(rt.alloc(), MOST_ENTRIES)?;
     let mut payload = hex::decode(rt.alloc(), TWENTY)?;
     assert!(rt; payload.len() == 140);
     let texts = namespaces(rt.alloc(), payload.as_slice(), &mut table)?;

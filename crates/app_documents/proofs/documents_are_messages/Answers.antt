@@ -2,4 +2,4 @@ use Rattle.app_documents.proofs.Shapes.{of_message}
 use Rattle.app_documents.proofs.documents_are_messages.Goals as goal
 
 pub returns : goal.returns
-returns c s is number tree bits spelled = of_message s is number tree bits spelled
+returns c number tree bits spelled = of_message number tree bits spelled

@@ -2,4 +2,4 @@ use Rattle.app_documents.proofs.Encoded.{message_encoded}
 use Rattle.app_documents.proofs.messages_are_written.Goals as goal
 
 pub returns : goal.returns
-returns c s negotiation m is = message_encoded s negotiation m is
+returns c m is = message_encoded m is

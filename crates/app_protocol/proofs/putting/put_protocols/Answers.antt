@@ -1,4 +1,6 @@
+use Rattle.std.proofs.Common.{ap}
 use Rattle.std.proofs.lemmas.Result.{err_from_is_err_and}
+use Rattle.exi_schema.specs.Told.{schema_of}
 use Rattle.exi_events.specs.Writer.{draft_of}
 use Rattle.exi_events.proofs.Drafts.{lent_both}
 use Rattle.app_protocol.specs.Messages.{protocol_of}
@@ -14,8 +16,8 @@ put_protocol-requires-clause-may c =
     let i = c.loop-protocol.protocol-index in
     let item = c.protocol-item.result in
     let more = item_more xs i item c.loop-protocol-test.true c.protocol-item.is in
-    turn_may (λ p. protocol_events (protocol_of p)) xs i item more c.args.writer.now.places.now c.loop-protocol.writer.places.now before.lent.places (draft_of c.args.writer.now) (draft_of c.loop-protocol.writer)
-    (sound_stands c.args.writer.now.places.now c.args.writer.now.phase c.args.writer.now.elements c.requires.ready.sound) c.requires.may before.written
+    turn_may (λ p. protocol_events (protocol_of p)) xs i item more (schema_of c.args.writer.now.places.now) (schema_of c.loop-protocol.writer.places.now) (ap schema_of before.lent.places) (draft_of c.args.writer.now) (draft_of c.loop-protocol.writer)
+    (sound_stands (schema_of c.args.writer.now.places.now) c.args.writer.now.phase c.args.writer.now.elements c.requires.ready.sound) c.requires.may before.written
 
 pub returns-in_err-put_protocol-clause-full : goal.returns-in_err-put_protocol-clause-full
 returns-in_err-put_protocol-clause-full c =
@@ -25,8 +27,8 @@ returns-in_err-put_protocol-clause-full c =
     let item = c.protocol-item.result in
     let more = item_more xs i item c.loop-protocol-test.true c.protocol-item.is in
     let p = err_from_is_err_and c.from_residual.result c.from_residual.ensures.1 in
-    rw p.1 (turn_lacks (λ p. protocol_events (protocol_of p)) xs i item more c.args.writer.now.places.now c.loop-protocol.writer.places.now before.lent.places (draft_of c.args.writer.now) (draft_of c.loop-protocol.writer)
-    (sound_stands c.args.writer.now.places.now c.args.writer.now.phase c.args.writer.now.elements c.requires.ready.sound) c.requires.may before.written c.in_err-put_protocol.ensures.full)
+    rw p.1 (turn_lacks (λ p. protocol_events (protocol_of p)) xs i item more (schema_of c.args.writer.now.places.now) (schema_of c.loop-protocol.writer.places.now) (ap schema_of before.lent.places) (draft_of c.args.writer.now) (draft_of c.loop-protocol.writer)
+    (sound_stands (schema_of c.args.writer.now.places.now) c.args.writer.now.phase c.args.writer.now.elements c.requires.ready.sound) c.requires.may before.written c.in_err-put_protocol.ensures.full)
 
 pub loop-protocol-preserved : goal.loop-protocol-preserved
 loop-protocol-preserved c =
@@ -39,6 +41,6 @@ loop-protocol-preserved c =
       lent = lent_both _ _ _ before.lent c.put_protocol.ensures.lent;
       ready = c.put_protocol.ensures.ready;
       open_still = c.in_ok-put_protocol.ensures.open_still;
-      written = turn_written (λ p. protocol_events (protocol_of p)) xs i item more c.args.writer.now.places.now c.loop-protocol.writer.places.now before.lent.places (draft_of c.args.writer.now) (draft_of c.loop-protocol.writer)
-          (sound_stands c.args.writer.now.places.now c.args.writer.now.phase c.args.writer.now.elements c.requires.ready.sound) (draft_of c.put_protocol.new.writer) before.written c.in_ok-put_protocol.ensures.put;
+      written = turn_written (λ p. protocol_events (protocol_of p)) xs i item more (schema_of c.args.writer.now.places.now) (schema_of c.loop-protocol.writer.places.now) (ap schema_of before.lent.places) (draft_of c.args.writer.now) (draft_of c.loop-protocol.writer)
+          (sound_stands (schema_of c.args.writer.now.places.now) c.args.writer.now.phase c.args.writer.now.elements c.requires.ready.sound) (draft_of c.put_protocol.new.writer) before.written c.in_ok-put_protocol.ensures.put;
     }

@@ -6,4 +6,4 @@ use Rattle.exi_events.proofs.offer.offer_of.Given as goal
 
 abbrev pub invariant-loop-code : goal.invariant-loop-code
 invariant-loop-code g l =
-    (code : ℕ) (step : Step) → code < l.code → slice_get (offers (g.P.Places.schema l.places).kinds.now l.here) code ≡ Some step → IsStepOf step l.event → ⊥
+    (code : ℕ) (step : Step) → code < l.code → slice_get (offers (g.P.Places.schema l.places).kinds l.here) code ≡ Some step → IsStepOf step l.event → ⊥

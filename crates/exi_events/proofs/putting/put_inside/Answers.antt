@@ -44,7 +44,7 @@ returns-in_ok-put_value_of-in-Attribute-clause-ok g c =
 
 pub returns-in_ok-put_value_of-in-Attribute-clause-elements : goal.returns-in_ok-put_value_of-in-Attribute-clause-elements
 returns-in_ok-put_value_of-in-Attribute-clause-elements g c =
-    goes_open (g.P.Places.schema c.args.places.now).kinds.now c.args.elements.now c.goes_to.new.self c.args.top c.in-Attribute.next c.requires.top c.goes_to.ensures c.requires.elements
+    goes_open (g.P.Places.schema c.args.places.now).kinds c.args.elements.now c.goes_to.new.self c.args.top c.in-Attribute.next c.requires.top c.goes_to.ensures c.requires.elements
     (is_step _ _ _ _ _ c.in-Attribute.is c.in-Some.ensures.of_schema).3 (found_stays (g.P.Places.schema c.args.places.now) c.args.elements.now c.args.top (texts_in (written_bits c.args.pen.now) c.args.table.now.entries) _ c.args.event.now c.in-Some.offer.code c.width.result c.args.pen.now c.put_bits.new.self (found_as (g.P.Places.schema c.args.places.now) c.args.elements.now c.args.top (texts_in (written_bits c.args.pen.now) c.args.table.now.entries) _ _ c.args.event.now c.in-Some.offer.code c.width.result c.args.pen.now c.put_bits.new.self c.in-Attribute.is (found_by (g.P.Places.schema c.args.places.now) c.args.elements.now c.args.top (texts_in (written_bits c.args.pen.now) c.args.table.now.entries) _ c.args.event.now c.in-Some.offer.code c.from.result c.width.result c.args.pen.now c.put_bits.new.self c.from.ensures c.requires.top c.requires.elements c.width.ensures c.in-Some.ensures.offered c.in-Some.ensures.meant c.requires.offered c.in_ok-put_bits.ensures.ok)))
 
 pub returns-in_ok-put_value_of-in-Attribute-clause-full : goal.returns-in_ok-put_value_of-in-Attribute-clause-full
@@ -71,7 +71,7 @@ returns-in_ok-put_value_of-in-Characters-clause-ok g c =
 
 pub returns-in_ok-put_value_of-in-Characters-clause-elements : goal.returns-in_ok-put_value_of-in-Characters-clause-elements
 returns-in_ok-put_value_of-in-Characters-clause-elements g c =
-    goes_open (g.P.Places.schema c.args.places.now).kinds.now c.args.elements.now c.goes_to-in-Characters.new.self c.args.top c.in-Characters.next c.requires.top c.goes_to-in-Characters.ensures c.requires.elements
+    goes_open (g.P.Places.schema c.args.places.now).kinds c.args.elements.now c.goes_to-in-Characters.new.self c.args.top c.in-Characters.next c.requires.top c.goes_to-in-Characters.ensures c.requires.elements
     (is_step _ _ _ _ _ c.in-Characters.is c.in-Some.ensures.of_schema).1 (found_stays (g.P.Places.schema c.args.places.now) c.args.elements.now c.args.top (texts_in (written_bits c.args.pen.now) c.args.table.now.entries) _ c.args.event.now c.in-Some.offer.code c.width.result c.args.pen.now c.put_bits.new.self (found_as (g.P.Places.schema c.args.places.now) c.args.elements.now c.args.top (texts_in (written_bits c.args.pen.now) c.args.table.now.entries) _ _ c.args.event.now c.in-Some.offer.code c.width.result c.args.pen.now c.put_bits.new.self c.in-Characters.is (found_by (g.P.Places.schema c.args.places.now) c.args.elements.now c.args.top (texts_in (written_bits c.args.pen.now) c.args.table.now.entries) _ c.args.event.now c.in-Some.offer.code c.from.result c.width.result c.args.pen.now c.put_bits.new.self c.from.ensures c.requires.top c.requires.elements c.width.ensures c.in-Some.ensures.offered c.in-Some.ensures.meant c.requires.offered c.in_ok-put_bits.ensures.ok)))
 
 pub returns-in_ok-put_value_of-in-Characters-clause-full : goal.returns-in_ok-put_value_of-in-Characters-clause-full
@@ -80,7 +80,7 @@ returns-in_ok-put_value_of-in-Characters-clause-full g c =
 
 pub push-requires : goal.push-requires
 push-requires g c =
-    (push_room (g.P.Places.schema c.args.places.now).kinds.now (length (g.P.Places.schema c.args.places.now).names.now) c.args.elements.now c.goes_to-in-Element.new.self c.args.top c.in-Element.name c.in-Element.kind c.in-Element.next c.in-Element.standing c.in-Element.past_limit
+    (push_room (g.P.Places.schema c.args.places.now).kinds (length (g.P.Places.schema c.args.places.now).names) c.args.elements.now c.goes_to-in-Element.new.self c.args.top c.in-Element.name c.in-Element.kind c.in-Element.next c.in-Element.standing c.in-Element.past_limit
     c.requires.top c.goes_to-in-Element.ensures c.requires.elements (is_step _ _ _ _ _ c.in-Element.is c.in-Some.ensures.of_schema)).0
 
 pub returns-in-Element-clause-ok : goal.returns-in-Element-clause-ok

@@ -5,4 +5,4 @@ use Rattle.exi_events.proofs.tests.refusal_of.Given as goal
 abbrev pub invariant-loop : goal.invariant-loop
 invariant-loop g l =
     (l.reader.table.ghost_name ≡ l.initial.reader.table.ghost_name)
-    × IsReady (g.P.Places.schema l.reader.places.now) l.reader.phase l.reader.elements l.reader.reader.bits l.reader.table.now
+    × IsReady g.P.Places.schema l.reader

@@ -1,6 +1,7 @@
+use Rattle.exi_schema.specs.Told.{schema_of}
 use Rattle.exi_events.specs.Reader.{IsReady}
 use Rattle.exi_events.proofs.tests.the_places_that_are_lent_are_asked.Given as goal
 
 abbrev pub invariant-loop-told : goal.invariant-loop-told
 invariant-loop-told g l =
-    IsReady l.reader.places.now l.reader.phase l.reader.elements l.reader.reader.bits l.reader.table.now
+    IsReady schema_of l.reader

@@ -11,7 +11,7 @@ returns-else-len-eq0-clause-room c name =
     let count = length-texts_in (bits_of c.args.written.now) c.args.table.now.entries in
     let is = ap value_of c.in-Text.is in
     entered_decides (texts_in (bits_of c.args.written.now) c.args.table.now.entries) name (value_of c.args.value.now) (items_of c.in-Text.span) c.is_entered.result is
-    (λ less. omega (arith, less, count, c.globals.ensures.entries, c.if-globals-lt8192.false))
+    (λ less. omega (arith, less, count, c.globals.ensures.entries, c.if-globals-lt-MOST_ENTRIES.false))
     (λ none. c.if-len-eq0.false (c.len.ensures.items ∙ none))
     (c.is_entered.ensures (items_of c.in-Text.span) is)
 
@@ -28,6 +28,6 @@ returns-else-is_empty-clause-room c name =
     let count = length-texts_in (bits_of c.args.written.now) c.args.table.now.entries in
     let is = ap value_of c.in-Written.is in
     entered_decides (texts_in (bits_of c.args.written.now) c.args.table.now.entries) name (value_of c.args.value.now) (chars c.in-Written.text.now) c.is_entered-else-is_empty.result is
-    (λ less. omega (arith, less, count, c.globals.ensures.entries, c.if-globals-lt8192.false))
+    (λ less. omega (arith, less, count, c.globals.ensures.entries, c.if-globals-lt-MOST_ENTRIES.false))
     (some_char c.in-Written.text.now utf8 some)
     (c.is_entered-else-is_empty.ensures (chars c.in-Written.text.now) is)

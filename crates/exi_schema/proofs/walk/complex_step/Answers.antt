@@ -1,5 +1,6 @@
 use Rattle.std.proofs.Common.{◌≤◌, length, arith, ◌∙◌}
 use Rattle.exi_schema.specs.Offers.{through_required}
+use Rattle.exi_schema.specs.Plain.{plain_particles}
 use Rattle.exi_schema.proofs.Walks.{through_short, found_attribute, found_element}
 use Rattle.exi_schema.proofs.walk.complex_step.Goals as goal
 
@@ -21,12 +22,12 @@ attribute_step-requires c =
 pub element_at-requires-clause-offered : goal.element_at-requires-clause-offered
 element_at-requires-clause-offered c =
     let is = c.attribute_count-count.ensures in
-    rw (is, c.split_at.ensures.back) ((found_element c.args.place c.args.attributes.now c.args.particles.now c.args.code (rw (is, c.split_at.ensures.back) at c.if-code-count.false) c.requires.offered).0)
+    rw (is, c.split_at.ensures.back) ((found_element c.args.place c.args.attributes.now (plain_particles c.args.particles.now) c.args.code (rw (is, c.split_at.ensures.back) at c.if-code-count.false) c.requires.offered).0)
 
 pub returns-then-code-count : goal.returns-then-code-count
 returns-then-code-count c =
-    rw (c.attribute_step.ensures, c.split_at.ensures.back) (found_attribute c.args.place c.args.attributes.now c.args.particles.now c.args.code _ (rw (c.attribute_count-count.ensures, c.split_at.ensures.back) at c.if-code-count.true))
+    rw (c.attribute_step.ensures, c.split_at.ensures.back) (found_attribute c.args.place c.args.attributes.now (plain_particles c.args.particles.now) c.args.code _ (rw (c.attribute_count-count.ensures, c.split_at.ensures.back) at c.if-code-count.true))
 
 pub returns-else-code-count : goal.returns-else-code-count
 returns-else-code-count c =
-    c.element_at.ensures ∙ rw (c.attribute_count-count.ensures, c.split_at.ensures.back) ((found_element c.args.place c.args.attributes.now c.args.particles.now c.args.code (rw (c.attribute_count-count.ensures, c.split_at.ensures.back) at c.if-code-count.false) c.requires.offered).1)
+    c.element_at.ensures ∙ rw (c.attribute_count-count.ensures, c.split_at.ensures.back) ((found_element c.args.place c.args.attributes.now (plain_particles c.args.particles.now) c.args.code (rw (c.attribute_count-count.ensures, c.split_at.ensures.back) at c.if-code-count.false) c.requires.offered).1)

@@ -1,7 +1,7 @@
 use Rattle.std.proofs.Common.{◌≡◌, Bool, List, None, OnOk, ◌↔◌, rules, sym, subst}
 use Rattle.std.specs.Result.{IsErr}
 use Rattle.exi_bits.specs.Pens.{written_bits}
-use Rattle.exi_events.specs.Reader.{state_of, IsReady}
+use Rattle.exi_events.specs.Reader.{state_of, IsReadyAt}
 use Rattle.exi_events.specs.Writer.{Draft, drafted, draft_of, IsOffered, IsPut, HasNoRoom}
 use Rattle.exi_values.specs.Meaning.{event_of}
 use Rattle.exi_events.proofs.Drafts.{begun_in, left_in, told_more}
@@ -16,7 +16,7 @@ put_event-put-requires-clause-offered g c =
 pub returns-clause-ready : goal.returns-clause-ready
 returns-clause-ready g c =
     left_in c.put_event-put.new.phase c.put_event-put.new.elements c.put_event-put.new.table.entries
-    (λ (d : Draft). IsReady (g.P.Places.schema c.args.self.now.places.now) c.put_event-put.new.phase c.put_event-put.new.elements d.bits c.put_event-put.new.table)
+    (λ (d : Draft). IsReadyAt (g.P.Places.schema c.args.self.now.places.now) c.put_event-put.new.phase c.put_event-put.new.elements d.bits c.put_event-put.new.table)
     c.put_event-put.new.pen _ c.into_place-self.result (search rules) c.into_place-self.ensures.written c.put_event-put.ensures.ready
 
 pub returns-clause-put : goal.returns-clause-put

@@ -1,6 +1,7 @@
 use Rattle.std.proofs.Common.{◌≡◌, subst, sym, length}
 use Rattle.exi_schema.specs.declared.places.Root.{Root}
 use Rattle.exi_schema.specs.Steps.{IsRoot, IsRootOf}
+use Rattle.exi_schema.specs.Told.{schema_of}
 use Rattle.exi_schema.proofs.Roots.{is_numbered, root_fits}
 use Rattle.exi_schema.proofs.schema.SchemaPlaces.root.Goals as goal
 use Rattle.exi_schema.proofs.schema.SchemaPlaces.root.Goals.{else-self-eq2-via-then-self-eq2+else-number-eq3, else-self-eq2-via-else-self-eq2}
@@ -16,5 +17,5 @@ returns-clause-named c =
 
 pub returns-clause-of_schema : goal.returns-clause-of_schema
 returns-clause-of_schema c =
-    let P : Root → Type 0 = λ r. IsRootOf c.args.self.now.kinds.now (length c.args.self.now.names.now) r in
-    subst P (sym c.root_in.ensures) (root_fits c.args.self.now c.args.number)
+    let P : Root → Type 0 = λ r. IsRootOf (schema_of c.args.self.now).kinds (length (schema_of c.args.self.now).names) r in
+    subst P (sym c.root_in.ensures) (root_fits (schema_of c.args.self.now) c.args.number)

@@ -1,6 +1,6 @@
 -- Events are written in one way: they lead to one state, by the same bits.
 use Rattle.std.proofs.Common.{◌≡◌, ℕ, Bool, List, [], ◌∷◌, ◌++◌, Option, Some, refl, sym, ap, ap₂, subst, ◌∙◌, append_assoc, append-nil}
-use Rattle.exi_schema.specs.declared.schema.Schema.{Schema}
+use Rattle.exi_schema.specs.Schemas.{PlainSchema}
 use Rattle.exi_schema.specs.declared.tables.Datatype.{Datatype}
 use Rattle.exi_schema.specs.declared.places.Place.{Place}
 use Rattle.exi_schema.specs.declared.places.Step.TheVariants as step
@@ -14,42 +14,42 @@ use Rattle.document_laws.specs.Laws.{WritesOnce, IsStanding}
 use Rattle.document_laws.proofs.Fits.{one_root}
 use Rattle.document_laws.proofs.Names.{element_key, attribute_key, end_key, one_taken_by, ones_at}
 use Rattle.document_laws.proofs.Offered.{offers_simple, one_taken}
-use Rattle.tree_text.proofs.Standings.{standing_reached}
+use Rattle.document_laws.proofs.Standings.{standing_reached}
 
 one_of : {X : Type 0} (o : Option X) (x y : X) → o ≡ Some x → o ≡ Some y → x ≡ y
 one_of {X} o x y p q = let e : Some x ≡ Some y = sym p ∙ q in cc
 
-module _ (V : Speller) (once : WritesOnce V) (s : Schema) where
-  attribute_once : (here next behind : Place) (name kind odd : ℕ) (a b : List Bool) → IsPlace s.kinds.now here → SpellsStep s.kinds.now here (step.Attribute name kind next) a → SpellsStep s.kinds.now here (step.Attribute name odd behind) b →
+module _ (V : Speller) (once : WritesOnce V) (s : PlainSchema) where
+  attribute_once : (here next behind : Place) (name kind odd : ℕ) (a b : List Bool) → IsPlace s.kinds here → SpellsStep s.kinds here (step.Attribute name kind next) a → SpellsStep s.kinds here (step.Attribute name odd behind) b →
       (kind ≡ odd) × (next ≡ behind) × (a ≡ b)
   attribute_once here next behind name kind odd a b at p q =
-      let both = one_taken_by attribute_key s.kinds.now here name (step.Attribute name kind next) (step.Attribute name odd behind) a b (ones_at s here at).attributes p q refl refl in
+      let both = one_taken_by attribute_key s.kinds here name (step.Attribute name kind next) (step.Attribute name odd behind) a b (ones_at s here at).attributes p q refl refl in
       let same = both.0 in
       (let k : kind ≡ odd = cc in k, let n : next ≡ behind = cc in n, both.1)
 
-  element_once : (here next behind : Place) (name kind odd : ℕ) (a b : List Bool) → IsPlace s.kinds.now here → SpellsStep s.kinds.now here (element name kind next) a → SpellsStep s.kinds.now here (element name odd behind) b →
+  element_once : (here next behind : Place) (name kind odd : ℕ) (a b : List Bool) → IsPlace s.kinds here → SpellsStep s.kinds here (element name kind next) a → SpellsStep s.kinds here (element name odd behind) b →
       (kind ≡ odd) × (next ≡ behind) × (a ≡ b)
   element_once here next behind name kind odd a b at p q =
-      let both = one_taken_by element_key s.kinds.now here name (element name kind next) (element name odd behind) a b (ones_at s here at).elements p q refl refl in
+      let both = one_taken_by element_key s.kinds here name (element name kind next) (element name odd behind) a b (ones_at s here at).elements p q refl refl in
       let same : element name kind next ≡ element name odd behind = both.0 in
       (let k : kind ≡ odd = cc in k, let n : next ≡ behind = cc in n, both.1)
 
-  end_once : (here : Place) (a b : List Bool) → IsPlace s.kinds.now here → SpellsStep s.kinds.now here step.End a → SpellsStep s.kinds.now here step.End b → a ≡ b
-  end_once here a b at p q = (one_taken_by end_key s.kinds.now here 0 step.End step.End a b (ones_at s here at).ends p q refl refl).1
+  end_once : (here : Place) (a b : List Bool) → IsPlace s.kinds here → SpellsStep s.kinds here step.End a → SpellsStep s.kinds here step.End b → a ≡ b
+  end_once here a b at p q = (one_taken_by end_key s.kinds here 0 step.End step.End a b (ones_at s here at).ends p q refl refl).1
 
-  characters_once : (here next behind : Place) (d : Datatype) (a b : List Bool) → simple_at s.kinds.now here.kind ≡ Some d → SpellsStep s.kinds.now here (step.Characters next) a → SpellsStep s.kinds.now here (step.Characters behind) b →
+  characters_once : (here next behind : Place) (d : Datatype) (a b : List Bool) → simple_at s.kinds here.kind ≡ Some d → SpellsStep s.kinds here (step.Characters next) a → SpellsStep s.kinds here (step.Characters behind) b →
       (next ≡ behind) × (a ≡ b)
   characters_once here next behind d a b is p q =
-      let only = offers_simple s.kinds.now here d is in
-      let one = one_taken s.kinds.now here (simple_step here) (step.Characters next) a only p in
-      let other = one_taken s.kinds.now here (simple_step here) (step.Characters behind) b only q in
+      let only = offers_simple s.kinds here d is in
+      let one = one_taken s.kinds here (simple_step here) (step.Characters next) a only p in
+      let other = one_taken s.kinds here (simple_step here) (step.Characters behind) b only q in
       let same : step.Characters next ≡ step.Characters behind = one.0 ∙ sym other.0 in
       (let n : next ≡ behind = cc in n, one.1 ∙ sym other.1)
 
-  value_once : (kind odd name : ℕ) (entries : Entries) (v : Value) (d e : Datatype) (a b : List Bool) (after other : Entries) → kind ≡ odd → simple_at s.kinds.now kind ≡ Some d → simple_at s.kinds.now odd ≡ Some e →
+  value_once : (kind odd name : ℕ) (entries : Entries) (v : Value) (d e : Datatype) (a b : List Bool) (after other : Entries) → kind ≡ odd → simple_at s.kinds kind ≡ Some d → simple_at s.kinds odd ≡ Some e →
       V d entries name v a after → V e entries name v b other → (a ≡ b) × (after ≡ other)
   value_once kind odd name entries v d e a b after other same p q one two =
-      let type = one_of (simple_at s.kinds.now odd) d e (ap (λ (k : ℕ). simple_at s.kinds.now k) (sym same) ∙ p) q in
+      let type = one_of (simple_at s.kinds odd) d e (ap (λ (k : ℕ). simple_at s.kinds k) (sym same) ∙ p) q in
       once e entries name v a b after other (subst (λ (x : Datatype). V x entries name v a after) type one) two
 
   once_at : (standing : Standing) (entries : Entries) (event : Event) (a b : List Bool) (new other : State) → IsStanding s standing → Moves V s (stands standing entries) event a new → Moves V s (stands standing entries) event b other → (a ≡ b) × (new ≡ other)
@@ -84,14 +84,14 @@ module _ (V : Speller) (once : WritesOnce V) (s : Schema) where
       (p.5 ∙ ap₂ (λ (x y : List Bool). x ++ y) before.0 last.0 ∙ sym q.5, last.1)
 
 -- events that go on lead there by more bits
-pub record Through (V : Speller) (s : Schema) (events : List Event) (bits : List Bool) : Type 0 where
+pub record Through (V : Speller) (s : PlainSchema) (events : List Event) (bits : List Bool) : Type 0 where
   pub state : State
   pub front : List Bool
   pub rest : List Bool
   pub reached : Reaches V s events front state
   pub bits_are : bits ≡ front ++ rest
 
-pub passed_through : (V : Speller) (s : Schema) (later events : List Event) (bits : List Bool) (new : State) → Reaches V s (later ++ events) bits new → Through V s events bits
+pub passed_through : (V : Speller) (s : PlainSchema) (later events : List Event) (bits : List Bool) (new : State) → Reaches V s (later ++ events) bits new → Through V s events bits
 passed_through V s [] events bits new h = record { state = new; front = bits; rest = []; reached = h; bits_are = sym (append-nil bits) }
 passed_through V s (event ∷ later) events bits new h =
     let through = passed_through V s later events h.1 h.0 h.3 in

@@ -1,7 +1,7 @@
 -- An event leads from a place of the schema to one, however values are spelled.
 use Rattle.std.proofs.Common.{◌≡◌, Bool, List, [], ◌∷◌, sym, subst}
 use Rattle.std.specs.List.{AllByRecursion}
-use Rattle.exi_schema.specs.declared.schema.Schema.{Schema}
+use Rattle.exi_schema.specs.Schemas.{PlainSchema}
 use Rattle.exi_schema.specs.declared.places.Step.TheVariants as step
 use Rattle.exi_schema.specs.Offers.{IsPlace}
 use Rattle.exi_schema.proofs.Fitting.{first_place}
@@ -12,11 +12,11 @@ use Rattle.exi_documents.specs.Grammar.{Opened, Standing, Before, AtRoot, Inside
 use Rattle.document_laws.specs.Laws.{IsStanding}
 use Rattle.document_laws.proofs.Fits.{step_fits, root_kind}
 
-module _ (V : Speller) (s : Schema) where
+module _ (V : Speller) (s : PlainSchema) where
   stands_at : (new state : State) → new ≡ state → IsStanding s state.standing → IsStanding s new.standing
   stands_at new state e is = subst (λ (x : State). IsStanding s x.standing) (sym e) is
 
-  around_stands : (above : List Opened) → AllByRecursion (λ o. IsPlace s.kinds.now o.place) above → IsStanding s (around above)
+  around_stands : (above : List Opened) → AllByRecursion (λ o. IsPlace s.kinds o.place) above → IsStanding s (around above)
   around_stands [] all = tt
   around_stands (o ∷ above) all = all
 
