@@ -6,7 +6,7 @@ use Rattle.std.specs.List.{list_any}
 use Rattle.exi_schema.specs.declared.places.Place.{Place}
 use Rattle.exi_schema.specs.declared.places.Step.{Step}
 use Rattle.exi_schema.specs.declared.places.Step.TheVariants as step
-use Rattle.exi_schema.specs.declared.schema.Schema.{Schema}
+use Rattle.exi_schema.specs.Schemas.{PlainSchema}
 use Rattle.exi_schema.specs.declared.tables.AttributeOf.{AttributeOf}
 use Rattle.exi_schema.specs.declared.tables.Datatype.{Datatype}
 use Rattle.exi_schema.specs.Offers.{offers, attribute_step, attribute_steps, through_required}
@@ -16,13 +16,13 @@ use Rattle.exi_documents.specs.Documents.{SpellsStep, element, first}
 use Rattle.exi_documents.specs.Grammar.{Standing, Inside, Behind, State, opened, MovesFrom}
 use Rattle.exi_documents.specs.Trees.{Event, Document, Start, Attribute, Content, EndElement, Value}
 use Rattle.exi_documents.specs.Values.{SpellsValue, Entries}
-use Rattle.exi_events.specs.Reader.{IsNext}
 use Rattle.exi_values.specs.declared.Event.{Event as ReadEvent}
 use Rattle.exi_values.specs.declared.Event.TheVariants as read
 use Rattle.exi_values.specs.declared.Value.{Value as ReadValue}
 use Rattle.exi_values.specs.Meaning.{event_of, value_of}
-use Rattle.plain_schema.specs.Plain.{PlainKind, PlainParticle, containing, plain_kinds, plain_offers, plain_offers_of, plain_elements, plain_simple_at}
-use Rattle.plain_schema.proofs.Plainly.{offers_plain}
+use Rattle.exi_schema.specs.Plain.{PlainKind, PlainParticle, containing}
+use Rattle.exi_schema.specs.Offers.{offers, offers_of, element_steps}
+use Rattle.exi_schema.specs.Steps.{simple_at}
 use Rattle.document_laws.proofs.Offered.{each_of, one_taken}
 use Rattle.message_parts.specs.Contents.{started, attribute_value}
 use Rattle.message_parts.specs.Particles.{attribute_name, attribute_kind, attribute_at, is_must, is_may, is_last_may}
@@ -30,7 +30,7 @@ use Rattle.message_parts.specs.Reading.{Frame, Seen, Goes, Enters, IsBetween, Re
 use Rattle.message_parts.specs.Values.{IsRead}
 use Rattle.message_parts.proofs.Distinct.{and_first, and_second, not_true, number_is}
 use Rattle.message_parts.proofs.Particles.{drop_at}
-use Rattle.message_parts.proofs.Next.{TellsMore, IsElementOrEnd, all_elements, goes_on, simple_in, is_read, not_simple}
+use Rattle.message_parts.proofs.Next.{TellsMore, Follows, IsElementOrEnd, all_elements, goes_on, simple_in, is_read, not_simple}
 
 attribute_event : (e : ReadEvent) (name : ℕ) (value : Value) → event_of e ≡ Some (Attribute name value) → (n : ℕ) × (x : ReadValue) × (e ≡ read.Attribute n x) × (value_of x ≡ value)
 attribute_event (read.Document number) name value is = absurd cc
@@ -80,7 +80,7 @@ module _ (ks : List PlainKind) (F : Frame) (attributes : List AttributeOf) (decl
   here = before_children kind at
 
   abbrev children : List Step
-  children = plain_elements here (length attributes) 0 0 (drop 0 declared)
+  children = element_steps here (length attributes) 0 0 (drop 0 declared)
 
   abbrev step_of : AttributeOf → Step
   step_of a = step.Attribute a.name a.kind (before_children kind (at + 1))
@@ -90,9 +90,9 @@ module _ (ks : List PlainKind) (F : Frame) (attributes : List AttributeOf) (decl
   steps_for left =
       attribute_steps here at (through_required left) ++ (if list_any (λ (a : AttributeOf). a.required) left then [] else children)
 
-  offered : (left : List AttributeOf) → drop at attributes ≡ left → plain_kinds F.schema.kinds.now ≡ ks → offers F.schema.kinds.now here ≡ steps_for left
+  offered : (left : List AttributeOf) → drop at attributes ≡ left → F.schema.kinds ≡ ks → offers F.schema.kinds here ≡ steps_for left
   offered left is are =
-      offers_plain F.schema.kinds.now here ∙ ap (λ (k : List PlainKind). plain_offers k here) are ∙ ap (λ o. plain_offers_of here o) h.is_kind
+      ap (λ (k : List PlainKind). offers k here) are ∙ ap (λ o. offers_of here o) h.is_kind
       ∙ ap (λ (l : List AttributeOf). steps_for l) is
 
   abbrev tail_for : AttributeOf → List AttributeOf → Bool → List Step
@@ -100,30 +100,30 @@ module _ (ks : List PlainKind) (F : Frame) (attributes : List AttributeOf) (decl
       step_of a ∷ (attribute_steps here (at + 1) (if required then [] else through_required left)
       ++ (if required || list_any (λ (x : AttributeOf). x.required) left then [] else children))
 
-  offered_must : (a : IsAt attributes at true) → plain_kinds F.schema.kinds.now ≡ ks → offers F.schema.kinds.now here ≡ step_of a.attribute ∷ []
+  offered_must : (a : IsAt attributes at true) → F.schema.kinds ≡ ks → offers F.schema.kinds here ≡ step_of a.attribute ∷ []
   offered_must a are =
       offered (a.attribute ∷ drop (suc at) attributes) (drop_at attributes at a.attribute a.there) are
       ∙ ap (λ (b : Bool). tail_for a.attribute (drop (suc at) attributes) b) a.standing
 
-  offered_may : (a : IsAt attributes at false) → length attributes ≡ at + 1 → plain_kinds F.schema.kinds.now ≡ ks → offers F.schema.kinds.now here ≡ step_of a.attribute ∷ children
+  offered_may : (a : IsAt attributes at false) → length attributes ≡ at + 1 → F.schema.kinds ≡ ks → offers F.schema.kinds here ≡ step_of a.attribute ∷ children
   offered_may a last are =
       offered (a.attribute ∷ drop (suc at) attributes) (drop_at attributes at a.attribute a.there) are
       ∙ ap (λ (l : List AttributeOf). steps_for (a.attribute ∷ l)) (drop_all (suc at) attributes (omega (arith, last)))
       ∙ ap (λ (b : Bool). tail_for a.attribute [] b) a.standing
 
-  module _ (d : Datatype) (a : AttributeOf) (simple : plain_simple_at ks a.kind ≡ Some d) where
+  module _ (d : Datatype) (a : AttributeOf) (simple : simple_at ks a.kind ≡ Some d) where
     abbrev Came : ReadValue → Type 0
     Came v = IsRead d (value_of v) × StartsAt ks F attributes declared (suc at) (Attribute a.name (value_of v) ∷ told) new
 
     -- an attribute is taken
-    took : (name inner : ℕ) (next : Place) (t : Datatype) (v : ReadValue) (value : Value) (entries after : Entries) (bits : List Bool) → plain_kinds F.schema.kinds.now ≡ ks →
-        step.Attribute name inner next ≡ step_of a → simple_at F.schema.kinds.now inner ≡ Some t → SpellsValue t entries name value bits after → value ≡ value_of v →
+    took : (name inner : ℕ) (next : Place) (t : Datatype) (v : ReadValue) (value : Value) (entries after : Entries) (bits : List Bool) → F.schema.kinds ≡ ks →
+        step.Attribute name inner next ≡ step_of a → simple_at F.schema.kinds inner ≡ Some t → SpellsValue t entries name value bits after → value ≡ value_of v →
         Goes ks F (Attribute name value ∷ told) new → new.state.standing ≡ Inside (opened F.name next) F.above → Came v
     took name inner next t v value entries after bits are st of spelled v_is goes to =
         let name_is : name ≡ a.name = cc in
         let inner_is : inner ≡ a.kind = cc in
         let next_is : next ≡ before_children kind (at + 1) = cc in
-        let both : Some t ≡ Some d = sym of ∙ ap (λ (k : ℕ). simple_at F.schema.kinds.now k) inner_is ∙ simple_in ks F a.kind d told new simple are in
+        let both : Some t ≡ Some d = sym of ∙ ap (λ (k : ℕ). simple_at F.schema.kinds k) inner_is ∙ simple_in ks F a.kind d told new simple are in
         let t_is : t ≡ d = cc in
         let good : IsRead d value = is_read d entries after name value bits (subst (λ (x : Datatype). SpellsValue x entries name value bits after) t_is spelled) in
         let standing : new.state.standing ≡ Inside (opened F.name (before_children kind (suc at))) F.above =
@@ -135,10 +135,10 @@ module _ (ks : List PlainKind) (F : Frame) (attributes : List AttributeOf) (decl
     -- ---- one that has to be there
 
     module _ (there : IsAt attributes at true) (same_attribute : there.attribute ≡ a) where
-      only : (other : Step) (bits : List Bool) → plain_kinds F.schema.kinds.now ≡ ks → SpellsStep F.schema.kinds.now here other bits → other ≡ step_of a
-      only other bits are st = (one_taken F.schema.kinds.now here (step_of a) other bits (offered_must there are ∙ ap (λ (x : AttributeOf). step_of x ∷ []) same_attribute) st).0
+      only : (other : Step) (bits : List Bool) → F.schema.kinds ≡ ks → SpellsStep F.schema.kinds here other bits → other ≡ step_of a
+      only other bits are st = (one_taken F.schema.kinds here (step_of a) other bits (offered_must there are ∙ ap (λ (x : AttributeOf). step_of x ∷ []) same_attribute) st).0
 
-      attribute_by : (e : ReadEvent) (v : ReadValue) (now : Event) (entries : Entries) (bits : List Bool) → plain_kinds F.schema.kinds.now ≡ ks → event_of e ≡ Some now →
+      attribute_by : (e : ReadEvent) (v : ReadValue) (now : Event) (entries : Entries) (bits : List Bool) → F.schema.kinds ≡ ks → event_of e ≡ Some now →
           ((n : ℕ) (x : ReadValue) → e ≡ read.Attribute n x → v ≡ x) →
           Goes ks F (now ∷ told) new → MovesFrom SpellsValue F.schema (Inside (opened F.name here) F.above) entries now bits new.state → Came v
       attribute_by e v (Document number) entries bits are is in_it goes moves = absurd moves
@@ -152,12 +152,12 @@ module _ (ks : List PlainKind) (F : Frame) (attributes : List AttributeOf) (decl
 
       attribute_next : (e : ReadEvent) (o : Option Event) (v : ReadValue) → event_of e ≡ o → ((n : ℕ) (x : ReadValue) → e ≡ read.Attribute n x → v ≡ x) →
           new.schema ≡ old.schema → new.cursor.bits ≡ old.cursor.bits → new.refused ≡ None →
-          IsNext old.schema old.state new.state old.cursor new.cursor o → TellsMore old new o → Came v
+          Follows old new o → TellsMore old new o → Came v
       attribute_next e None v is in_it same bits open_still next tells =
           let behind : Inside (opened F.name here) F.above ≡ Behind = sym h.standing ∙ next.0 in absurd cc
       attribute_next e (Some now) v is in_it same bits open_still next tells =
-          let P : Schema → Standing → Type 0 = λ s x. MovesFrom SpellsValue s x old.state.entries now next.0 new.state in
-          let moves : P F.schema (Inside (opened F.name here) F.above) = subst (λ x. P F.schema x) h.standing (subst (λ (s : Schema). P s old.state.standing) h.goes.schema_is next.1) in
+          let P : PlainSchema → Standing → Type 0 = λ s x. MovesFrom SpellsValue s x old.state.entries now next.0 new.state in
+          let moves : P F.schema (Inside (opened F.name here) F.above) = subst (λ x. P F.schema x) h.standing (subst (λ (s : PlainSchema). P s old.state.standing) h.goes.schema_is next.1) in
           attribute_by e v now old.state.entries next.0 h.goes.kinds_are is in_it (goes_on ks F a.kind d told new simple now old h.goes same bits open_still tells) moves
 
     -- ---- the last one, which may be there
@@ -166,7 +166,7 @@ module _ (ks : List PlainKind) (F : Frame) (attributes : List AttributeOf) (decl
       abbrev Looked : Option ReadValue → Type 0
       Looked o = MatchOption o (Reads ks F attributes declared 0 told new) Came
 
-      offered_here : plain_kinds F.schema.kinds.now ≡ ks → offers F.schema.kinds.now here ≡ step_of a ∷ children
+      offered_here : F.schema.kinds ≡ ks → offers F.schema.kinds here ≡ step_of a ∷ children
       offered_here are = offered_may there last are ∙ ap (λ (x : AttributeOf). step_of x ∷ children) same_attribute
 
       at_first : (code name inner : ℕ) (next : Place) → slice_get (step_of a ∷ children) code ≡ Some (step.Attribute name inner next) → step.Attribute name inner next ≡ step_of a
@@ -189,7 +189,7 @@ module _ (ks : List PlainKind) (F : Frame) (attributes : List AttributeOf) (decl
             child = subst (λ (o : Option ℕ). IsChild ks F here (length attributes) 0 0 (drop 0 declared) told new o) (sym is) it;
           }
 
-      last_by : (e : ReadEvent) (now : Event) (entries : Entries) (bits : List Bool) → plain_kinds F.schema.kinds.now ≡ ks → event_of e ≡ Some now → new.child ≡ started e →
+      last_by : (e : ReadEvent) (now : Event) (entries : Entries) (bits : List Bool) → F.schema.kinds ≡ ks → event_of e ≡ Some now → new.child ≡ started e →
           Goes ks F (now ∷ told) new → MovesFrom SpellsValue F.schema (Inside (opened F.name here) F.above) entries now bits new.state → Looked (attribute_value e)
       last_by e (Document number) entries bits are is child goes moves = absurd moves
       last_by (read.Start n) (Start name) entries bits are is child goes moves =
@@ -214,12 +214,12 @@ module _ (ks : List PlainKind) (F : Frame) (attributes : List AttributeOf) (decl
       last_by e EndElement entries bits are is child goes moves = absurd cc
 
       last_next : (e : ReadEvent) (o : Option Event) → event_of e ≡ o → new.child ≡ started e → new.schema ≡ old.schema → new.cursor.bits ≡ old.cursor.bits → new.refused ≡ None →
-          IsNext old.schema old.state new.state old.cursor new.cursor o → TellsMore old new o → Looked (attribute_value e)
+          Follows old new o → TellsMore old new o → Looked (attribute_value e)
       last_next e None is child same bits open_still next tells =
           let behind : Inside (opened F.name here) F.above ≡ Behind = sym h.standing ∙ next.0 in absurd cc
       last_next e (Some now) is child same bits open_still next tells =
-          let P : Schema → Standing → Type 0 = λ s x. MovesFrom SpellsValue s x old.state.entries now next.0 new.state in
-          let moves : P F.schema (Inside (opened F.name here) F.above) = subst (λ x. P F.schema x) h.standing (subst (λ (s : Schema). P s old.state.standing) h.goes.schema_is next.1) in
+          let P : PlainSchema → Standing → Type 0 = λ s x. MovesFrom SpellsValue s x old.state.entries now next.0 new.state in
+          let moves : P F.schema (Inside (opened F.name here) F.above) = subst (λ x. P F.schema x) h.standing (subst (λ (s : PlainSchema). P s old.state.standing) h.goes.schema_is next.1) in
           last_by e now old.state.entries next.0 h.goes.kinds_are is child (goes_on ks F a.kind d told new simple now old h.goes same bits open_still tells) moves
 
   -- ---- as the contracts say it
@@ -233,21 +233,21 @@ module _ (ks : List PlainKind) (F : Frame) (attributes : List AttributeOf) (decl
   named : (required : Bool) (there : IsAt attributes at required) → there.attribute.name ≡ name
   named required there = ap attribute_name (sym there.there)
 
-  simple_of : (required : Bool) (there : IsAt attributes at required) (d : Datatype) → plain_simple_at ks (attribute_kind (slice_get attributes at)) ≡ Some d → plain_simple_at ks there.attribute.kind ≡ Some d
-  simple_of required there d simple = ap (λ (k : ℕ). plain_simple_at ks k) (ap attribute_kind (sym there.there)) ∙ simple
+  simple_of : (required : Bool) (there : IsAt attributes at required) (d : Datatype) → simple_at ks (attribute_kind (slice_get attributes at)) ≡ Some d → simple_at ks there.attribute.kind ≡ Some d
+  simple_of required there d simple = ap (λ (k : ℕ). simple_at ks k) (ap attribute_kind (sym there.there)) ∙ simple
 
-  pub given_next : is_must (slice_get attributes at) ≡ true → (d : Datatype) → plain_simple_at ks (attribute_kind (slice_get attributes at)) ≡ Some d →
+  pub given_next : is_must (slice_get attributes at) ≡ true → (d : Datatype) → simple_at ks (attribute_kind (slice_get attributes at)) ≡ Some d →
       (e : ReadEvent) (v : ReadValue) → ((n : ℕ) (x : ReadValue) → e ≡ read.Attribute n x → v ≡ x) →
       new.schema ≡ old.schema → new.cursor.bits ≡ old.cursor.bits → new.refused ≡ None →
-      IsNext old.schema old.state new.state old.cursor new.cursor (event_of e) → TellsMore old new (event_of e) → Given d v
+      Follows old new (event_of e) → TellsMore old new (event_of e) → Given d v
   given_next is d simple e v in_it same bits open_still next tells =
       let there = must_be attributes at (slice_get attributes at) refl is in
       let came = attribute_next d there.attribute (simple_of true there d simple) there refl e (event_of e) v refl in_it same bits open_still next tells in
       subst (λ (m : ℕ). IsRead d (value_of v) × StartsAt ks F attributes declared (suc at) (Attribute m (value_of v) ∷ told) new) (named true there) came
 
-  pub maybe_next : is_last_may attributes at ≡ true → (d : Datatype) → plain_simple_at ks (attribute_kind (slice_get attributes at)) ≡ Some d →
+  pub maybe_next : is_last_may attributes at ≡ true → (d : Datatype) → simple_at ks (attribute_kind (slice_get attributes at)) ≡ Some d →
       (e : ReadEvent) → new.child ≡ started e → new.schema ≡ old.schema → new.cursor.bits ≡ old.cursor.bits → new.refused ≡ None →
-      IsNext old.schema old.state new.state old.cursor new.cursor (event_of e) → TellsMore old new (event_of e) → MatchOption (attribute_value e) (Reads ks F attributes declared 0 told new) (Given d)
+      Follows old new (event_of e) → TellsMore old new (event_of e) → MatchOption (attribute_value e) (Reads ks F attributes declared 0 told new) (Given d)
   maybe_next is d simple e child same bits open_still next tells =
       let there = may_be attributes at (slice_get attributes at) refl (and_first (is_may (slice_get attributes at)) _ is) in
       let last = number_is (length attributes) (at + 1) (and_second (is_may (slice_get attributes at)) _ is) in

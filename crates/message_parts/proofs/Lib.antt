@@ -2,7 +2,6 @@ pub mod Attributes
 pub mod Distinct
 pub mod Ended
 pub mod Next
-pub mod Once
 pub mod Particles
 pub mod Putting
 pub mod Repeated

@@ -7,7 +7,7 @@ use Rattle.exi_bits.specs.Reading.{Cursor, Takes}
 use Rattle.exi_schema.specs.declared.places.Place.{Place}
 use Rattle.exi_schema.specs.declared.places.Step.{Step}
 use Rattle.exi_schema.specs.declared.places.Step.TheVariants as step
-use Rattle.exi_schema.specs.declared.schema.Schema.{Schema}
+use Rattle.exi_schema.specs.Schemas.{PlainSchema}
 use Rattle.exi_schema.specs.declared.tables.AttributeOf.{AttributeOf}
 use Rattle.exi_schema.specs.declared.tables.Member.{Member}
 use Rattle.exi_schema.specs.Offers.{offers, attribute_steps, through_required, simple_step}
@@ -23,41 +23,46 @@ use Rattle.exi_values.specs.Meaning.{event_of, value_of}
 use Rattle.exi_schema.specs.declared.tables.Datatype.{Datatype}
 use Rattle.exi_schema.specs.declared.tables.Datatype.TheVariants as datatype
 use Rattle.message_parts.specs.Values.{IsRead}
-use Rattle.exi_events.specs.Reader.{IsNext, HasTold}
-use Rattle.plain_schema.specs.Plain.{PlainKind, PlainParticle, containing, plain_kinds, plain_offers, plain_offers_of, plain_element, plain_elements, plain_simple_at, plain_datatype}
-use Rattle.plain_schema.proofs.Plainly.{offers_plain, simple_plain}
+use Rattle.exi_events.specs.Reader.{reading, IsNext}
+use Rattle.exi_schema.specs.Plain.{PlainKind, PlainParticle, containing}
+use Rattle.exi_schema.specs.Offers.{offers, offers_of, element_step, element_steps}
+use Rattle.exi_schema.specs.Steps.{simple_at, datatype_of}
 use Rattle.document_laws.proofs.Offered.{EachOf, each_of, each_of_both, each_of_some, one_taken, offers_simple}
 use Rattle.message_parts.specs.Contents.{started}
-use Rattle.message_parts.specs.Reading.{Frame, Seen, Goes, Enters, Leaves, HasValue, IsBetween, ReadsFrom, IsChild, IsRefusalKept, at_particle}
+use Rattle.message_parts.specs.Reading.{Frame, Seen, ToldUpTo, Goes, Enters, Leaves, HasValue, IsBetween, ReadsFrom, IsChild, IsRefusalKept, at_particle}
+
+-- an event is taken, or the document has ended
+abbrev pub Follows : Seen → Seen → Option Event → Type 0
+Follows old new o = IsNext (reading old.schema old.state old.cursor) (reading new.schema new.state new.cursor) o
 
 -- what is told behind more events
 abbrev pub TellsMore : Seen → Seen → Option Event → Type 0
 TellsMore old new o =
-    (events : List Event) → HasTold old.schema events old.state old.cursor → (told : Event) → o ≡ Some told → HasTold old.schema (told ∷ events) new.state new.cursor
+    (events : List Event) → ToldUpTo old.schema events old.state old.cursor → (told : Event) → o ≡ Some told → ToldUpTo new.schema (told ∷ events) new.state new.cursor
 
 -- ---- a descent stays open
 
-open_by : (old new : Seen) (o : Option Event) (events : List Event) → HasTold old.schema events old.state old.cursor →
-    IsNext old.schema old.state new.state old.cursor new.cursor o → TellsMore old new o → (more : List Event) × HasTold old.schema more new.state new.cursor
-open_by old new (Some e) events has next tells = (e ∷ events, tells events has e refl)
-open_by old new None events has next tells =
-    let P : State → Cursor → Type 0 = λ st cu. HasTold old.schema events st cu in
-    (events, subst (λ st. P st new.cursor) (sym next.2) (subst (λ cu. P old.state cu) (sym next.3) has))
+open_by : (old new : Seen) (o : Option Event) (events : List Event) → new.schema ≡ old.schema → ToldUpTo old.schema events old.state old.cursor →
+    Follows old new o → TellsMore old new o → (more : List Event) × ToldUpTo new.schema more new.state new.cursor
+open_by old new (Some e) events same has next tells = (e ∷ events, tells events has e refl)
+open_by old new None events same has next tells =
+    let P : State → Cursor → Type 0 = λ st cu. ToldUpTo old.schema events st cu in
+    let kept : ToldUpTo old.schema events new.state new.cursor = subst (λ st. P st new.cursor) (sym next.2) (subst (λ cu. P old.state cu) (sym next.3) has) in
+    (events, subst (λ (s : PlainSchema). ToldUpTo s events new.state new.cursor) (sym same) kept)
 
-kept_by : (d : Seen) (o : Option _) → o ≡ None → IsRefusalKept d o → (events : List Event) × HasTold d.schema events d.state d.cursor
+kept_by : (d : Seen) (o : Option _) → o ≡ None → IsRefusalKept d o → (events : List Event) × ToldUpTo d.schema events d.state d.cursor
 kept_by d None is kept = kept
 kept_by d (Some r) is kept = absurd cc
 
-kept_with : (d : Seen) (o : Option _) → o ≡ None → ((events : List Event) × HasTold d.schema events d.state d.cursor) → IsRefusalKept d o
+kept_with : (d : Seen) (o : Option _) → o ≡ None → ((events : List Event) × ToldUpTo d.schema events d.state d.cursor) → IsRefusalKept d o
 kept_with d None is kept = kept
 kept_with d (Some r) is kept = absurd cc
 
 pub stays_open : (old new : Seen) (o : Option Event) → new.schema ≡ old.schema → old.refused ≡ None → new.refused ≡ None → IsRefusalKept old old.refused →
-    IsNext old.schema old.state new.state old.cursor new.cursor o → TellsMore old new o → IsRefusalKept new new.refused
+    Follows old new o → TellsMore old new o → IsRefusalKept new new.refused
 stays_open old new o same was is kept next tells =
     let has = kept_by old old.refused was kept in
-    let more = open_by old new o has.0 has.1 next tells in
-    kept_with new new.refused is (more.0, subst (λ (s : Schema). HasTold s more.0 new.state new.cursor) (sym same) more.1)
+    kept_with new new.refused is (open_by old new o has.0 same has.1 next tells)
 
 -- ---- what is offered behind the attributes
 
@@ -66,21 +71,21 @@ behind_attributes : (here : Place) (n : ℕ) (l attributes : List AttributeOf) (
 behind_attributes here n [] attributes E is = refl
 behind_attributes here n (a ∷ l) attributes E is = absurd cc
 
-module _ (s : Schema) (ks : List PlainKind) (kind at copies : ℕ) (attributes : List AttributeOf) (declared : List PlainParticle)
-    (are : plain_kinds s.kinds.now ≡ ks) (is_kind : slice_get ks kind ≡ Some (containing attributes declared)) where
+module _ (s : PlainSchema) (ks : List PlainKind) (kind at copies : ℕ) (attributes : List AttributeOf) (declared : List PlainParticle)
+    (are : s.kinds ≡ ks) (is_kind : slice_get ks kind ≡ Some (containing attributes declared)) where
   abbrev here : Place
   here = at_particle kind (length attributes) at copies
 
   abbrev elements : List Step
-  elements = plain_elements here (length attributes) at copies (drop at declared)
+  elements = element_steps here (length attributes) at copies (drop at declared)
 
-  pub offered_here : offers s.kinds.now here ≡ elements
+  pub offered_here : offers s.kinds here ≡ elements
   offered_here =
-      offers_plain s.kinds.now here ∙ ap (λ (k : List PlainKind). plain_offers k here) are ∙ ap (λ (o : Option PlainKind). plain_offers_of here o) is_kind
+      ap (λ (k : List PlainKind). offers k here) are ∙ ap (λ (o : Option PlainKind). offers_of here o) is_kind
       ∙ behind_attributes here (length attributes) (drop (length attributes) attributes) attributes elements (drop_all (length attributes) attributes (omega arith))
 
-  pub not_simple : simple_at s.kinds.now kind ≡ None
-  not_simple = simple_plain s.kinds.now kind ∙ ap (λ (k : List PlainKind). plain_simple_at k kind) are ∙ ap (λ (o : Option PlainKind). plain_datatype o) is_kind
+  pub not_simple : simple_at s.kinds kind ≡ None
+  not_simple = ap (λ (k : List PlainKind). simple_at k kind) are ∙ ap (λ (o : Option PlainKind). datatype_of o) is_kind
 
 -- ---- no attribute among members and the end
 
@@ -90,14 +95,14 @@ IsElementOrEnd (step.Element name kind next standing past_limit) = Unit {0}
 IsElementOrEnd step.End = Unit {0}
 IsElementOrEnd (step.Characters next) = ⊥
 
-all_members : (here : Place) (n at copies : ℕ) (p : PlainParticle) (members : List Member) → EachOf IsElementOrEnd (map (plain_element here n at copies p) members)
+all_members : (here : Place) (n at copies : ℕ) (p : PlainParticle) (members : List Member) → EachOf IsElementOrEnd (map (element_step here n at copies p) members)
 all_members here n at copies p [] = tt
 all_members here n at copies p (m ∷ members) = (tt, all_members here n at copies p members)
 
-pub all_elements : (here : Place) (n at copies : ℕ) (particles : List PlainParticle) → EachOf IsElementOrEnd (plain_elements here n at copies particles)
+pub all_elements : (here : Place) (n at copies : ℕ) (particles : List PlainParticle) → EachOf IsElementOrEnd (element_steps here n at copies particles)
 all_elements here n at copies [] = (tt, tt)
 all_elements here n at copies (p ∷ particles) =
-    each_of_both IsElementOrEnd (map (plain_element here n at copies p) p.members) _ (all_members here n at copies p p.members)
+    each_of_both IsElementOrEnd (map (element_step here n at copies p) p.members) _ (all_members here n at copies p p.members)
     (each_of_some IsElementOrEnd (nat_lt copies p.least) _ (all_elements here n (at + 1) 0 particles))
 
 -- ---- the next child
@@ -110,7 +115,7 @@ module _ (ks : List PlainKind) (F : Frame) (kind at copies : ℕ) (attributes : 
   abbrev Child : Option ℕ → Type 0
   Child o = IsChild ks F (at_particle kind (length attributes) at copies) (length attributes) at copies (drop at declared) told new o
 
-  child_by : (e : ReadEvent) (entries : Entries) (bits : List Bool) (now : Event) → plain_kinds F.schema.kinds.now ≡ ks → event_of e ≡ Some now →
+  child_by : (e : ReadEvent) (entries : Entries) (bits : List Bool) (now : Event) → F.schema.kinds ≡ ks → event_of e ≡ Some now →
       Goes ks F (now ∷ told) new → MovesFrom SpellsValue F.schema (Inside top F.above) entries now bits new.state → Child (started e)
   child_by e entries bits (Document number) are is goes moves = absurd moves
   child_by (read.Start n) entries bits (Start name) are is goes moves =
@@ -131,14 +136,14 @@ module _ (ks : List PlainKind) (F : Frame) (kind at copies : ℕ) (attributes : 
   child_by e entries bits EndElement are is goes moves = absurd cc
 
   child_next : (e : ReadEvent) (o : Option Event) (old : Seen) → event_of e ≡ o → Goes ks F told old → old.state.standing ≡ Inside top F.above → new.schema ≡ old.schema → new.cursor.bits ≡ old.cursor.bits → new.refused ≡ None →
-      IsNext old.schema old.state new.state old.cursor new.cursor o → TellsMore old new o → Child (started e)
+      Follows old new o → TellsMore old new o → Child (started e)
   child_next e None old is goes st same bits open_still next tells =
       let behind : Inside top F.above ≡ Behind = sym st ∙ next.0 in absurd cc
   child_next e (Some now) old is goes st same bits open_still next tells =
-      let P : Schema → Standing → Type 0 = λ s x. MovesFrom SpellsValue s x old.state.entries now next.0 new.state in
-      let moves : P F.schema (Inside top F.above) = subst (λ x. P F.schema x) st (subst (λ (s : Schema). P s old.state.standing) goes.schema_is next.1) in
-      let has : HasTold old.schema told old.state old.cursor = subst (λ (s : Schema). HasTold s told old.state old.cursor) (sym goes.schema_is) goes.told in
-      let more = subst (λ (s : Schema). HasTold s (now ∷ told) new.state new.cursor) goes.schema_is (tells told has now refl) in
+      let P : PlainSchema → Standing → Type 0 = λ s x. MovesFrom SpellsValue s x old.state.entries now next.0 new.state in
+      let moves : P F.schema (Inside top F.above) = subst (λ x. P F.schema x) st (subst (λ (s : PlainSchema). P s old.state.standing) goes.schema_is next.1) in
+      let has : ToldUpTo old.schema told old.state old.cursor = subst (λ (s : PlainSchema). ToldUpTo s told old.state old.cursor) (sym goes.schema_is) goes.told in
+      let more = subst (λ (s : PlainSchema). ToldUpTo s (now ∷ told) new.state new.cursor) (same ∙ goes.schema_is) (tells told has now refl) in
       let on : Goes ks F (now ∷ told) new =
       record { schema_is = same ∙ goes.schema_is; kinds_are = goes.kinds_are; bits_are = bits ∙ goes.bits_are; none_refused = open_still; told = more } in
       child_by e old.state.entries next.0 now goes.kinds_are is on moves
@@ -146,7 +151,7 @@ module _ (ks : List PlainKind) (F : Frame) (kind at copies : ℕ) (attributes : 
 pub reads_next : (ks : List PlainKind) (F : Frame) (attributes : List AttributeOf) (declared : List PlainParticle) (at copies : ℕ) (told : List Event) (e : ReadEvent) (old new : Seen) →
     IsBetween ks F attributes declared at copies told old →
     new.child ≡ started e → new.schema ≡ old.schema → new.cursor.bits ≡ old.cursor.bits → new.refused ≡ None →
-    IsNext old.schema old.state new.state old.cursor new.cursor (event_of e) → TellsMore old new (event_of e) → ReadsFrom ks F attributes declared at copies told new
+    Follows old new (event_of e) → TellsMore old new (event_of e) → ReadsFrom ks F attributes declared at copies told new
 reads_next ks F attributes declared at copies told e old new h child same bits open_still next tells =
     record {
       kind = h.kind;
@@ -181,25 +186,25 @@ value_event read.Finished value is = absurd cc
 abbrev behind_value : ℕ → Place
 behind_value kind = record { kind = kind; particle = 1; copies = 0; attributes = 0 }
 
-module _ (ks : List PlainKind) (F : Frame) (kind : ℕ) (d : Datatype) (told : List Event) (new : Seen) (simple : plain_simple_at ks kind ≡ Some d) where
-  pub simple_in : plain_kinds F.schema.kinds.now ≡ ks → simple_at F.schema.kinds.now kind ≡ Some d
-  simple_in are = simple_plain F.schema.kinds.now kind ∙ ap (λ (k : List PlainKind). plain_simple_at k kind) are ∙ simple
+module _ (ks : List PlainKind) (F : Frame) (kind : ℕ) (d : Datatype) (told : List Event) (new : Seen) (simple : simple_at ks kind ≡ Some d) where
+  pub simple_in : F.schema.kinds ≡ ks → simple_at F.schema.kinds kind ≡ Some d
+  simple_in are = ap (λ (k : List PlainKind). simple_at k kind) are ∙ simple
 
   pub goes_on : (now : Event) (old : Seen) → Goes ks F told old → new.schema ≡ old.schema → new.cursor.bits ≡ old.cursor.bits → new.refused ≡ None → TellsMore old new (Some now) → Goes ks F (now ∷ told) new
   goes_on now old goes same bits open_still tells =
-      let has : HasTold old.schema told old.state old.cursor = subst (λ (s : Schema). HasTold s told old.state old.cursor) (sym goes.schema_is) goes.told in
-      let more = subst (λ (s : Schema). HasTold s (now ∷ told) new.state new.cursor) goes.schema_is (tells told has now refl) in
+      let has : ToldUpTo old.schema told old.state old.cursor = subst (λ (s : PlainSchema). ToldUpTo s told old.state old.cursor) (sym goes.schema_is) goes.told in
+      let more = subst (λ (s : PlainSchema). ToldUpTo s (now ∷ told) new.state new.cursor) (same ∙ goes.schema_is) (tells told has now refl) in
       record { schema_is = same ∙ goes.schema_is; kinds_are = goes.kinds_are; bits_are = bits ∙ goes.bits_are; none_refused = open_still; told = more }
 
   abbrev Came : ReadValue → Type 0
   Came v = IsRead d (value_of v) × HasValue ks F kind (Content (value_of v) ∷ told) new
 
-  one_step : (place : Place) (given other : Step) (bits : List Bool) → plain_kinds F.schema.kinds.now ≡ ks → place.kind ≡ kind → simple_step place ≡ given → SpellsStep F.schema.kinds.now place other bits → other ≡ given
+  one_step : (place : Place) (given other : Step) (bits : List Bool) → F.schema.kinds ≡ ks → place.kind ≡ kind → simple_step place ≡ given → SpellsStep F.schema.kinds place other bits → other ≡ given
   one_step place given other bits are same is st =
-      let at : simple_at F.schema.kinds.now place.kind ≡ Some d = ap (λ (k : ℕ). simple_at F.schema.kinds.now k) same ∙ simple_in are in
-      (one_taken F.schema.kinds.now place (simple_step place) other bits (offers_simple F.schema.kinds.now place d at) st).0 ∙ is
+      let at : simple_at F.schema.kinds place.kind ≡ Some d = ap (λ (k : ℕ). simple_at F.schema.kinds k) same ∙ simple_in are in
+      (one_taken F.schema.kinds place (simple_step place) other bits (offers_simple F.schema.kinds place d at) st).0 ∙ is
 
-  content_by : (e : ReadEvent) (v : ReadValue) (now : Event) (entries : Entries) (bits : List Bool) → plain_kinds F.schema.kinds.now ≡ ks → event_of e ≡ Some now → ((x : ReadValue) → e ≡ read.Value x → v ≡ x) →
+  content_by : (e : ReadEvent) (v : ReadValue) (now : Event) (entries : Entries) (bits : List Bool) → F.schema.kinds ≡ ks → event_of e ≡ Some now → ((x : ReadValue) → e ≡ read.Value x → v ≡ x) →
       Goes ks F (now ∷ told) new → MovesFrom SpellsValue F.schema (Inside (opened F.name (first kind)) F.above) entries now bits new.state → Came v
   content_by e v (Document number) entries bits are is in_it goes moves = absurd moves
   content_by e v (Start name) entries bits are is in_it goes moves =
@@ -221,15 +226,15 @@ module _ (ks : List PlainKind) (F : Frame) (kind : ℕ) (d : Datatype) (told : L
 
   pub content_next : (e : ReadEvent) (o : Option Event) (v : ReadValue) (old : Seen) → event_of e ≡ o → ((x : ReadValue) → e ≡ read.Value x → v ≡ x) → Enters ks F kind told old →
       new.schema ≡ old.schema → new.cursor.bits ≡ old.cursor.bits → new.refused ≡ None →
-      IsNext old.schema old.state new.state old.cursor new.cursor o → TellsMore old new o → Came v
+      Follows old new o → TellsMore old new o → Came v
   content_next e None v old is in_it enters same bits open_still next tells =
       let behind : Inside (opened F.name (first kind)) F.above ≡ Behind = sym enters.standing ∙ next.0 in absurd cc
   content_next e (Some now) v old is in_it enters same bits open_still next tells =
-      let P : Schema → Standing → Type 0 = λ s x. MovesFrom SpellsValue s x old.state.entries now next.0 new.state in
-      let moves : P F.schema (Inside (opened F.name (first kind)) F.above) = subst (λ x. P F.schema x) enters.standing (subst (λ (s : Schema). P s old.state.standing) enters.goes.schema_is next.1) in
+      let P : PlainSchema → Standing → Type 0 = λ s x. MovesFrom SpellsValue s x old.state.entries now next.0 new.state in
+      let moves : P F.schema (Inside (opened F.name (first kind)) F.above) = subst (λ x. P F.schema x) enters.standing (subst (λ (s : PlainSchema). P s old.state.standing) enters.goes.schema_is next.1) in
       content_by e v now old.state.entries next.0 enters.goes.kinds_are is in_it (goes_on now old enters.goes same bits open_still tells) moves
 
-  end_by : (now : Event) (entries : Entries) (bits : List Bool) → plain_kinds F.schema.kinds.now ≡ ks →
+  end_by : (now : Event) (entries : Entries) (bits : List Bool) → F.schema.kinds ≡ ks →
       Goes ks F (now ∷ told) new → MovesFrom SpellsValue F.schema (Inside (opened F.name (behind_value kind)) F.above) entries now bits new.state → Leaves ks F told new
   end_by (Document number) entries bits are goes moves = absurd moves
   end_by (Start name) entries bits are goes moves =
@@ -242,10 +247,10 @@ module _ (ks : List PlainKind) (F : Frame) (kind : ℕ) (d : Datatype) (told : L
 
   pub end_next : (o : Option Event) (old : Seen) → HasValue ks F kind told old →
       new.schema ≡ old.schema → new.cursor.bits ≡ old.cursor.bits → new.refused ≡ None →
-      IsNext old.schema old.state new.state old.cursor new.cursor o → TellsMore old new o → Leaves ks F told new
+      Follows old new o → TellsMore old new o → Leaves ks F told new
   end_next None old has same bits open_still next tells =
       let behind : Inside (opened F.name (behind_value kind)) F.above ≡ Behind = sym has.standing ∙ next.0 in absurd cc
   end_next (Some now) old has same bits open_still next tells =
-      let P : Schema → Standing → Type 0 = λ s x. MovesFrom SpellsValue s x old.state.entries now next.0 new.state in
-      let moves : P F.schema (Inside (opened F.name (behind_value kind)) F.above) = subst (λ x. P F.schema x) has.standing (subst (λ (s : Schema). P s old.state.standing) has.goes.schema_is next.1) in
+      let P : PlainSchema → Standing → Type 0 = λ s x. MovesFrom SpellsValue s x old.state.entries now next.0 new.state in
+      let moves : P F.schema (Inside (opened F.name (behind_value kind)) F.above) = subst (λ x. P F.schema x) has.standing (subst (λ (s : PlainSchema). P s old.state.standing) has.goes.schema_is next.1) in
       end_by now old.state.entries next.0 has.goes.kinds_are (goes_on now old has.goes same bits open_still tells) moves

@@ -13,7 +13,8 @@ use Rattle.exi_schema.specs.declared.tables.MemberStanding.TheVariants.{Taken}
 use Rattle.exi_documents.specs.Documents.{element, first}
 use Rattle.exi_documents.specs.Grammar.{Inside, Opened, opened}
 use Rattle.exi_documents.specs.Trees.{Event, Start, EndElement}
-use Rattle.plain_schema.specs.Plain.{PlainKind, PlainParticle, plain_element, plain_elements}
+use Rattle.exi_schema.specs.Plain.{PlainKind, PlainParticle}
+use Rattle.exi_schema.specs.Offers.{element_step, element_steps}
 use Rattle.message_parts.specs.Particles.{alternatives, kind_among}
 use Rattle.message_parts.specs.Reading.{Frame, Seen, Goes, Enters, Leaves, IsBetween, ReadsFrom, Reads, IsChild, at_particle, names_in}
 use Rattle.message_parts.proofs.Distinct.{has, names, same_number, or_later, and_first, and_second, not_both, is_false, is_true, distinct_front, later_distinct, not_in_both, among_more, none_among, among_has, number_is}
@@ -50,12 +51,12 @@ behind_least false steps c y is = (refl, is)
 -- ---- names of what is offered
 
 has_name : (here : Place) (n at copies m inner : ℕ) (next : Place) (members : List Member) (p : PlainParticle) (more : List Step) (rest : List ℕ) (code : ℕ) →
-    slice_get (map (plain_element here n at copies p) members ++ more) code ≡ Some (element m inner next) →
+    slice_get (map (element_step here n at copies p) members ++ more) code ≡ Some (element m inner next) →
     ((c : ℕ) → slice_get more c ≡ Some (element m inner next) → has m rest ≡ true) →
     has m (names members ++ rest) ≡ true
 has_name here n at copies m inner next [] p more rest code is later = later code is
 has_name here n at copies m inner next (q ∷ members) p more rest zero is later =
-    let same : Some (plain_element here n at copies p q) ≡ Some (element m inner next) = is in
+    let same : Some (element_step here n at copies p q) ≡ Some (element m inner next) = is in
     let name_is : q.name ≡ m = cc in
     ap (λ (b : Bool). b || has m (names members ++ rest)) (ap (λ (x : ℕ). x == m) name_is ∙ same_number m)
 has_name here n at copies m inner next (q ∷ members) p more rest (suc code) is later =
@@ -65,7 +66,7 @@ ends_no_name : (m inner : ℕ) (next : Place) (code : ℕ) → slice_get (step.E
 ends_no_name m inner next code is = let wrong = first_is step.End (element m inner next) code is in absurd cc
 
 names_offered : (here : Place) (n at copies m inner : ℕ) (next : Place) (ps : List PlainParticle) (code : ℕ) →
-    slice_get (plain_elements here n at copies ps) code ≡ Some (element m inner next) → has m (names_in ps) ≡ true
+    slice_get (element_steps here n at copies ps) code ≡ Some (element m inner next) → has m (names_in ps) ≡ true
 names_offered here n at copies m inner next [] code is = ends_no_name m inner next code is
 names_offered here n at copies m inner next (p ∷ ps) code is =
     has_name here n at copies m inner next p.members p _ (names_in ps) code is
@@ -81,7 +82,7 @@ module _ (here : Place) (n at copies : ℕ) (p : PlainParticle) where
     pub next_is : next ≡ behind_copy here.kind n at copies p.most
 
   module _ (rest : List Step) where
-    taken_now : (q : Member) (members : List Member) (m inner : ℕ) (next : Place) → plain_element here n at copies p q ≡ element m inner next → IsMember (q ∷ members) m inner next
+    taken_now : (q : Member) (members : List Member) (m inner : ℕ) (next : Place) → element_step here n at copies p q ≡ element m inner next → IsMember (q ∷ members) m inner next
     taken_now q members m inner next same =
         let name_is : q.name ≡ m = cc in
         let kind_is : q.kind ≡ inner = cc in
@@ -104,11 +105,11 @@ module _ (here : Place) (n at copies : ℕ) (p : PlainParticle) where
         record { among = among_more (is_taken q.standing) q (alternatives members) m other ∙ found.among; below = found.below; next_is = found.next_is }
 
     front : (members : List Member) (code m inner : ℕ) (next : Place) → are_distinct (names members) ≡ true →
-        slice_get (map (plain_element here n at copies p) members ++ rest) code ≡ Some (element m inner next) →
+        slice_get (map (element_step here n at copies p) members ++ rest) code ≡ Some (element m inner next) →
         IsMember members m inner next ⊎ ((c : ℕ) × (slice_get rest c ≡ Some (element m inner next)))
     front [] code m inner next apart is = inr (code, is)
     front (q ∷ members) zero m inner next apart is =
-        let same : Some (plain_element here n at copies p q) ≡ Some (element m inner next) = is in
+        let same : Some (element_step here n at copies p q) ≡ Some (element m inner next) = is in
         inl (taken_now q members m inner next cc)
     front (q ∷ members) (suc code) m inner next apart is =
         elim (front members code m inner next (and_second _ _ apart) is) [
@@ -116,7 +117,7 @@ module _ (here : Place) (n at copies : ℕ) (p : PlainParticle) where
           | inr later ↦ inr later
         ]
 
-    end_behind : (members : List Member) (code : ℕ) → slice_get (map (plain_element here n at copies p) members ++ rest) code ≡ Some step.End → (c : ℕ) × (slice_get rest c ≡ Some step.End)
+    end_behind : (members : List Member) (code : ℕ) → slice_get (map (element_step here n at copies p) members ++ rest) code ≡ Some step.End → (c : ℕ) × (slice_get rest c ≡ Some step.End)
     end_behind [] code is = (code, is)
     end_behind (q ∷ members) zero is = absurd cc
     end_behind (q ∷ members) (suc code) is = end_behind members code is
@@ -161,14 +162,14 @@ module _ (ks : List PlainKind) (F : Frame) (k n at copies : ℕ) (told : List Ev
   pub decided : (here : Place) (child : Option ℕ) → here.kind ≡ k → are_distinct (names p.members ++ names_in ps) ≡ true → IsChild ks F here n at copies (p ∷ ps) told d child →
       IsOfIt child ⊎ IsLater here child
   decided here None of apart is =
-      let c = end_behind here n at copies p (if nat_lt copies p.least then [] else plain_elements here n (at + 1) 0 ps) p.members is.0.0 is.0.1 in
-      let b = behind_least (nat_lt copies p.least) (plain_elements here n (at + 1) 0 ps) c.0 step.End c.1 in
+      let c = end_behind here n at copies p (if nat_lt copies p.least then [] else element_steps here n (at + 1) 0 ps) p.members is.0.0 is.0.1 in
+      let b = behind_least (nat_lt copies p.least) (element_steps here n (at + 1) 0 ps) c.0 step.End c.1 in
       inr (record { later = ((c.0, b.1), is.1, is.2); least = b.0; other = refl })
   decided here (Some m) of apart is =
-      elim (front here n at copies p (if nat_lt copies p.least then [] else plain_elements here n (at + 1) 0 ps) p.members is.0 m is.1 is.2 (distinct_front (names p.members) (names_in ps) apart) is.3) [
+      elim (front here n at copies p (if nat_lt copies p.least then [] else element_steps here n (at + 1) 0 ps) p.members is.0 m is.1 is.2 (distinct_front (names p.members) (names_in ps) apart) is.3) [
         | inl found ↦ inl (entered here m is.1 is.2 of found is.4 is.5)
         | inr c ↦
-            (let b = behind_least (nat_lt copies p.least) (plain_elements here n (at + 1) 0 ps) c.0 (element m is.1 is.2) c.1 in
+            (let b = behind_least (nat_lt copies p.least) (element_steps here n (at + 1) 0 ps) c.0 (element m is.1 is.2) c.1 in
             let named = names_offered here n (at + 1) 0 m is.1 is.2 ps c.0 b.1 in
             inr (record {
               later = (c.0, is.1, is.2, b.1, is.4, is.5);

@@ -1,10 +1,10 @@
 -- An event that is put where it is the next one.
 use Rattle.std.proofs.Common.{slice_index_or, drop, zero, suc, add-one, ◌≡◌, ◌≢◌, ℕ, ◌+◌, ◌*◌, ◌<◌, Bool, List, [], ◌∷◌, ◌++◌, length, length-append, append_assoc, Option, Some, None, Result, Ok, Err, IsErr, OnOk, OnErr, IfErr, ◌↔◌, ◌⊎◌, inl, inr, refl, sym, ap, subst, ◌∙◌, arith}
 use Rattle.exi_bits.specs.declared.pen.Full.{Full}
-use Rattle.exi_schema.specs.declared.schema.Schema.{Schema}
+use Rattle.exi_schema.specs.Schemas.{PlainSchema}
 use Rattle.std.specs.List.{AllByRecursion}
 use Rattle.exi_schema.specs.Offers.{IsPlace}
-use Rattle.exi_schema.specs.declared.tables.Declaration.{Declaration}
+use Rattle.exi_schema.specs.Plain.{PlainKind}
 use Rattle.exi_events.specs.Inside.{AreOpen}
 use Rattle.exi_events.specs.Reader.{IsSound, standing_of}
 use Rattle.exi_events.specs.declared.reader.Phase.{Phase}
@@ -16,7 +16,7 @@ use Rattle.exi_documents.specs.Values.{WritesValue}
 use Rattle.exi_events.specs.Writer.{Draft, Adds, IsPut, HasNoRoom, NeedsMore}
 use Rattle.document_laws.specs.Laws.{IsStanding}
 use Rattle.document_laws.proofs.Written.{value_once}
-use Rattle.message_parts.proofs.Once.{moves_once}
+use Rattle.document_laws.proofs.Once.{moves_once}
 use Rattle.message_parts.specs.Writing.{Target, Put, HasLeft, Writes, Leads, IsTooMuch}
 
 module _ (F : Target) (e : Event) (rest : List Event) (old new : Put) (room : List ℕ) (same : old.schema ≡ F.schema) (now : new.schema ≡ F.schema) (has : old.room ≡ F.room) (keeps : new.room ≡ F.room)
@@ -30,15 +30,15 @@ module _ (F : Target) (e : Event) (rest : List Event) (old new : Put) (room : Li
       h.bits_are ∙ ap (λ (b : List Bool). old.bits ++ b) l.5 ∙ sym (append_assoc old.bits l.1 l.2) ∙ ap (λ (b : List Bool). (old.bits ++ b) ++ l.2) (sym once.0) ∙ ap (λ (b : List Bool). b ++ l.2) (sym adds) in
       record { schema_is = now; room_is = keeps; so = inl (record { open_still = open_still; left = l.2; leads = leads; bits_are = all }) }
 
-abbrev pub seen : Schema → Draft → Option Full → Put
+abbrev pub seen : PlainSchema → Draft → Option Full → Put
 seen s d full = record { schema = s; bits = d.bits; state = d.state; room = length d.room; full = full }
 
-module _ (F : Target) (e : Event) (rest : List Event) (s t : Schema) (d g : Draft) (before after : Option Full) (same : t ≡ s) (long : length g.room ≡ length d.room) (is : IsStanding s d.state.standing) where
+module _ (F : Target) (e : Event) (rest : List Event) (s t : PlainSchema) (d g : Draft) (before after : Option Full) (same : t ≡ s) (long : length g.room ≡ length d.room) (is : IsStanding s d.state.standing) where
   lacks : Writes F (e ∷ rest) (seen s d before) → HasLeft F (e ∷ rest) (seen s d before) → HasNoRoom s d (Some e) → (f : Full) → after ≡ Some f → 8 * length d.room < f.bits → Writes F rest (seen t g after)
   lacks w h absent f is_full needs =
       let l = h.leads in
-      let moves : Moves WritesValue F.schema d.state e absent.0 absent.1.0 = subst (λ (x : Schema). Moves WritesValue x d.state e absent.0 absent.1.0) w.schema_is absent.1.1 in
-      let once = moves_once WritesValue value_once F.schema d.state e _ _ _ _ (subst (λ (x : Schema). IsStanding x d.state.standing) w.schema_is is) moves l.3 in
+      let moves : Moves WritesValue F.schema d.state e absent.0 absent.1.0 = subst (λ (x : PlainSchema). Moves WritesValue x d.state e absent.0 absent.1.0) w.schema_is absent.1.1 in
+      let once = moves_once WritesValue value_once F.schema d.state e _ _ _ _ (subst (λ (x : PlainSchema). IsStanding x d.state.standing) w.schema_is is) moves l.3 in
       let more : 8 * length d.room < length d.bits + length absent.0 = absent.2 in
       let front : length absent.0 ≡ length l.1 = ap length once.0 in
       let all : length F.bits ≡ length d.bits + (length l.1 + length l.2) =
@@ -50,9 +50,9 @@ module _ (F : Target) (e : Event) (rest : List Event) (s t : Schema) (d g : Draf
 
   goes : Writes F (e ∷ rest) (seen s d before) → HasLeft F (e ∷ rest) (seen s d before) → IsPut s d g (Some e) → after ≡ None → Writes F rest (seen t g after)
   goes w h put open_still =
-      let moves : Moves WritesValue F.schema d.state e put.0 g.state = subst (λ (x : Schema). Moves WritesValue x d.state e put.0 g.state) w.schema_is put.1 in
+      let moves : Moves WritesValue F.schema d.state e put.0 g.state = subst (λ (x : PlainSchema). Moves WritesValue x d.state e put.0 g.state) w.schema_is put.1 in
       put_ok F e rest (seen s d before) (seen t g after) d.room w.schema_is (same ∙ w.schema_is) w.room_is (long ∙ w.room_is)
-      (subst (λ (x : Schema). IsStanding x d.state.standing) w.schema_is is) h put.0 moves put.2.written open_still
+      (subst (λ (x : PlainSchema). IsStanding x d.state.standing) w.schema_is is) h put.0 moves put.2.written open_still
 
   -- where the room is full, nothing changes
   pub stays_full : (f : Full) → before ≡ Some f → after ≡ Some f → Writes F (e ∷ rest) (seen s d before) → Writes F rest (seen t g after)
@@ -93,15 +93,15 @@ module _ (F : Target) (e : Event) (rest : List Event) (s t : Schema) (d g : Draf
   put_any {T} r put open_still absent bits again w = by_full r before refl put open_still absent bits again w
 
 -- where a writer stands is in the schema
-open_places : (kinds : List Declaration) (elements : List Opened) → AreOpen kinds elements → AllByRecursion (λ o. IsPlace kinds o.place) elements
+open_places : (kinds : List PlainKind) (elements : List Opened) → AreOpen kinds elements → AllByRecursion (λ o. IsPlace kinds o.place) elements
 open_places kinds [] open_all = tt {0}
 open_places kinds (top ∷ above) open_all = (open_all.0, open_places kinds above open_all.2)
 
-around_stands : (s : Schema) (elements : List Opened) → AreOpen s.kinds.now elements → IsStanding s (around elements)
+around_stands : (s : PlainSchema) (elements : List Opened) → AreOpen s.kinds elements → IsStanding s (around elements)
 around_stands s [] all = tt {0}
-around_stands s (top ∷ above) all = (all.0, open_places s.kinds.now above all.2)
+around_stands s (top ∷ above) all = (all.0, open_places s.kinds above all.2)
 
-pub sound_stands : (s : Schema) (phase : Phase) (elements : List Opened) → IsSound s phase elements → IsStanding s (standing_of phase elements)
+pub sound_stands : (s : PlainSchema) (phase : Phase) (elements : List Opened) → IsSound s phase elements → IsStanding s (standing_of phase elements)
 sound_stands s phase.Before elements is = tt {0}
 sound_stands s (phase.AtRoot name kind) elements is = is.1
 sound_stands s phase.Inside elements is = around_stands s elements is

@@ -7,20 +7,10 @@ use Rattle.exi_schema.specs.declared.tables.AttributeOf.{AttributeOf}
 use Rattle.exi_schema.specs.declared.tables.Datatype.{Datatype}
 use Rattle.exi_schema.specs.declared.tables.Member.{Member}
 use Rattle.exi_schema.specs.declared.tables.RootOf.{RootOf}
-use Rattle.exi_schema.specs.declared.tables.MemberStanding.TheVariants.{Taken}
-use Rattle.plain_schema.specs.Plain.{PlainKind, PlainParticle, plain_simple_at}
+use Rattle.exi_schema.specs.Plain.{PlainKind, PlainParticle, one_of}
+use Rattle.exi_schema.specs.Steps.{simple_at}
 
 -- ---- particles, as they are written down
-
--- an element that may stand there
-abbrev pub one_of : ℕ → ℕ → Member
-one_of name kind = record { name = name; kind = kind; standing = Taken }
-
-abbrev pub once : ℕ → ℕ → PlainParticle
-once name kind = record { members = one_of name kind ∷ []; least = 1; most = Some 1; profile = 1 }
-
-abbrev pub at_most_once : ℕ → ℕ → PlainParticle
-at_most_once name kind = record { members = one_of name kind ∷ []; least = 0; most = Some 1; profile = 1 }
 
 -- from so many to so many, of which n are accepted
 abbrev pub repeated : ℕ → ℕ → ℕ → Option ℕ → ℕ → PlainParticle
@@ -153,7 +143,7 @@ takes_of takes None = false
 takes_of takes (Some d) = takes d
 
 abbrev pub takes_kind : (Datatype → Bool) → List PlainKind → ℕ → Bool
-takes_kind takes ks kind = takes_of takes (plain_simple_at ks kind)
+takes_kind takes ks kind = takes_of takes (simple_at ks kind)
 
 abbrev pub takes_at : (Datatype → Bool) → List PlainKind → List PlainParticle → ℕ → Bool
 takes_at takes ks declared at = takes_kind takes ks (kind_at declared at)

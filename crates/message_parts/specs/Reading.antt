@@ -6,7 +6,7 @@ use Rattle.exi_bits.specs.Reading.{Cursor}
 use Rattle.exi_schema.specs.declared.places.Place.{Place}
 use Rattle.exi_schema.specs.declared.places.Step.TheVariants.{End}
 use Rattle.exi_schema.specs.declared.tables.AttributeOf.{AttributeOf}
-use Rattle.exi_schema.specs.declared.schema.Schema.{Schema}
+use Rattle.exi_schema.specs.Schemas.{PlainSchema}
 use Rattle.exi_schema.specs.declared.tables.Member.{Member}
 use Rattle.exi_schema.specs.Schemas.{are_distinct}
 use Rattle.exi_schema.specs.Steps.{IsRoot}
@@ -16,27 +16,28 @@ use Rattle.exi_documents.specs.declared.refusal.Refusal.{Refusal}
 use Rattle.exi_documents.specs.Grammar.{Opened, Inside, Before, AtRoot, State, opened, around}
 use Rattle.exi_documents.specs.Refusals.{IsRefused}
 use Rattle.exi_documents.specs.Trees.{Event, Document, Start, EndElement}
-use Rattle.exi_events.specs.Reader.{state_of, IsReady, HasTold}
-use Rattle.plain_schema.specs.Plain.{PlainKind, PlainParticle, containing, plain_kinds, plain_elements}
+use Rattle.exi_events.specs.Reader.{state_of, reading, IsReady, HasTold}
+use Rattle.exi_schema.specs.Plain.{PlainKind, PlainParticle, containing}
+use Rattle.exi_schema.specs.Offers.{element_steps}
 use Rattle.message_parts.specs.Particles.{kind_among}
 use Rattle.message_parts.specs.declared.descent.Descent.{Descent}
 
 -- what is known around an element: the schema, the bits of the payload, its name and the elements that it stands in
 pub record Frame : Type 0 where
-  pub schema : Schema
+  pub schema : PlainSchema
   pub bits : List Bool
   pub name : ℕ
   pub above : List Opened
 
 -- what a contract sees of a descent
 pub record Seen : Type 0 where
-  pub schema : Schema
+  pub schema : PlainSchema
   pub state : State
   pub cursor : Cursor
   pub refused : Option Refusal
   pub child : Option ℕ
 
-abbrev pub seen_of : {P : Type 0} → (P → Schema) → Descent P → Seen
+abbrev pub seen_of : {P : Type 0} → (P → PlainSchema) → Descent P → Seen
 seen_of schema d = record {
   schema = schema d.reader.places.now;
   state = state_of d.reader.phase d.reader.elements d.reader.reader.bits d.reader.table.now.entries;
@@ -45,13 +46,17 @@ seen_of schema d = record {
   child = d.child;
 }
 
+-- these events, the newest first, are told up to a state
+abbrev pub ToldUpTo : PlainSchema → List Event → State → Cursor → Type 0
+ToldUpTo s events state cursor = HasTold (reading s state cursor) events
+
 -- nothing is refused so far, and these events were told
 pub record Goes (ks : List PlainKind) (F : Frame) (events : List Event) (d : Seen) : Type 0 where
   pub schema_is : d.schema ≡ F.schema
-  pub kinds_are : plain_kinds F.schema.kinds.now ≡ ks
+  pub kinds_are : F.schema.kinds ≡ ks
   pub bits_are : d.cursor.bits ≡ F.bits
   pub none_refused : d.refused ≡ None
-  pub told : HasTold F.schema events d.state d.cursor
+  pub told : ToldUpTo F.schema events d.state d.cursor
 
 -- inside an element of a kind, of which nothing but its start is told
 pub record Enters (ks : List PlainKind) (F : Frame) (kind : ℕ) (told : List Event) (d : Seen) : Type 0 where
@@ -73,12 +78,12 @@ abbrev pub IsRefusal : Seen → Refusal → Type 0
 IsRefusal d r = (payload : List ℕ) → bits_of payload ≡ d.cursor.bits → IsRefused d.schema payload r.cause r.bit
 
 abbrev pub IsRefusalKept : Seen → Option Refusal → Type 0
-IsRefusalKept d None = (events : List Event) × HasTold d.schema events d.state d.cursor
+IsRefusalKept d None = (events : List Event) × ToldUpTo d.schema events d.state d.cursor
 IsRefusalKept d (Some r) = IsRefusal d r
 
 -- as a descent is made, and as each call leaves it
-pub record IsOpen {P : Type 0} (schema : P → Schema) (d : Descent P) : Type 0 where
-  pub ready : IsReady (schema d.reader.places.now) d.reader.phase d.reader.elements d.reader.reader.bits d.reader.table.now
+pub record IsOpen {P : Type 0} (schema : P → PlainSchema) (d : Descent P) : Type 0 where
+  pub ready : IsReady schema d.reader
   pub kept : IsRefusalKept (seen_of schema d) d.reader.refused
 
 -- ---- attributes and children
@@ -111,12 +116,12 @@ pub record IsBetween (ks : List PlainKind) (F : Frame) (attributes : List Attrib
 -- the child that has started, or none where the element has ended
 abbrev pub IsChild : List PlainKind → Frame → Place → ℕ → ℕ → ℕ → List PlainParticle → List Event → Seen → Option ℕ → Type 0
 IsChild ks F here attributes at copies particles told d None =
-    ((code : ℕ) × (slice_get (plain_elements here attributes at copies particles) code ≡ Some End))
+    ((code : ℕ) × (slice_get (element_steps here attributes at copies particles) code ≡ Some End))
     × Goes ks F (EndElement ∷ told) d
     × (d.state.standing ≡ around F.above)
 IsChild ks F here attributes at copies particles told d (Some name) =
     (code : ℕ) × (inner : ℕ) × (next : Place)
-    × (slice_get (plain_elements here attributes at copies particles) code ≡ Some (element name inner next))
+    × (slice_get (element_steps here attributes at copies particles) code ≡ Some (element name inner next))
     × Goes ks F (Start name ∷ told) d
     × (d.state.standing ≡ Inside (opened name (first inner)) (opened F.name next ∷ F.above))
 
@@ -142,33 +147,33 @@ pub record IsChosen (ks : List PlainKind) (F : Frame) (alternatives : List (ℕ 
 -- ---- the root
 
 -- nothing is taken
-pub record Begins (s : Schema) (bits : List Bool) (d : Seen) : Type 0 where
+pub record Begins (s : PlainSchema) (bits : List Bool) (d : Seen) : Type 0 where
   pub schema_is : d.schema ≡ s
   pub bits_are : d.cursor.bits ≡ bits
   pub none_refused : d.refused ≡ None
   pub standing : d.state.standing ≡ Before
-  pub told : HasTold s [] d.state d.cursor
+  pub told : ToldUpTo s [] d.state d.cursor
 
-abbrev pub root_frame : Schema → List Bool → ℕ → Frame
+abbrev pub root_frame : PlainSchema → List Bool → ℕ → Frame
 root_frame s bits name = record { schema = s; bits = bits; name = name; above = [] }
 
 -- a document number is told, which names a root
-pub record IsNumbered (s : Schema) (bits : List Bool) (d : Seen) : Type 0 where
+pub record IsNumbered (s : PlainSchema) (bits : List Bool) (d : Seen) : Type 0 where
   pub schema_is : d.schema ≡ s
   pub bits_are : d.cursor.bits ≡ bits
   pub none_refused : d.refused ≡ None
   pub number : ℕ
   pub name : ℕ
   pub kind : ℕ
-  pub named : IsRoot s.roots.now s.root_bits number (Kind name kind)
+  pub named : IsRoot s.roots s.root_bits number (Kind name kind)
   pub standing : d.state.standing ≡ AtRoot name kind
-  pub told : HasTold s (Document number ∷ []) d.state d.cursor
+  pub told : ToldUpTo s (Document number ∷ []) d.state d.cursor
 
 -- and the start of the root
-pub record IsAtRoot (s : Schema) (bits : List Bool) (d : Seen) : Type 0 where
+pub record IsAtRoot (s : PlainSchema) (bits : List Bool) (d : Seen) : Type 0 where
   pub number : ℕ
   pub name : ℕ
   pub kind : ℕ
-  pub named : IsRoot s.roots.now s.root_bits number (Kind name kind)
+  pub named : IsRoot s.roots s.root_bits number (Kind name kind)
   pub child : d.child ≡ Some name
-  pub enters : Enters (plain_kinds s.kinds.now) (root_frame s bits name) kind (Start name ∷ Document number ∷ []) d
+  pub enters : Enters (s.kinds) (root_frame s bits name) kind (Start name ∷ Document number ∷ []) d

@@ -2,7 +2,7 @@
 use Rattle.std.specs.Prelude.{◌≡◌, ℕ, ◌*◌, ◌<◌, Bool, List, [], ◌++◌, ◌∷◌, length, Option, Some, None, ◌⊎◌}
 use Rattle.exi_bits.specs.declared.pen.Full.{Full}
 use Rattle.exi_schema.specs.declared.places.Places.{Ghosts}
-use Rattle.exi_schema.specs.declared.schema.Schema.{Schema}
+use Rattle.exi_schema.specs.Schemas.{PlainSchema}
 use Rattle.exi_documents.specs.Grammar.{State, Moves}
 use Rattle.exi_documents.specs.Trees.{Event}
 use Rattle.exi_documents.specs.Values.{WritesValue}
@@ -11,14 +11,14 @@ use Rattle.exi_events.specs.declared.writer.EventWriter.{EventWriter}
 
 -- what is to be written: all bits of a document, behind which it ends
 pub record Target : Type 0 where
-  pub schema : Schema
+  pub schema : PlainSchema
   pub bits : List Bool
   pub last : State
   pub room : ℕ
 
 -- what a contract sees of a writer
 pub record Put : Type 0 where
-  pub schema : Schema
+  pub schema : PlainSchema
   pub bits : List Bool
   pub state : State
   pub room : ℕ
@@ -34,7 +34,7 @@ put_of {P} {p} w = record {
 }
 
 -- events lead from one state to another, each by the bits that are written of it
-abbrev pub Leads : Schema → State → List Event → List Bool → State → Type 0
+abbrev pub Leads : PlainSchema → State → List Event → List Bool → State → Type 0
 Leads s old [] bits new = (bits ≡ []) × (new ≡ old)
 Leads s old (event ∷ events) bits new =
     (middle : State) × (front : List Bool) × (rest : List Bool)

@@ -4,7 +4,8 @@ ghost use Rattle.std.specs.Prelude.{◌≡◌, ℕ, suc, ◌∷◌, [], List, tr
 ghost use Rattle.exi_documents.specs.Trees.{Event as TreeEvent, Attribute};
 ghost use Rattle.exi_schema.specs.declared.tables.AttributeOf.{AttributeOf};
 ghost use Rattle.exi_schema.specs.declared.tables.Datatype.{Datatype};
-ghost use Rattle.plain_schema.specs.Plain.{PlainKind, PlainParticle, containing, plain_simple_at};
+ghost use Rattle.exi_schema.specs.Plain.{PlainKind, PlainParticle, containing};
+ghost use Rattle.exi_schema.specs.Steps.{simple_at};
 ghost use Rattle.message_parts.specs.Contents.{Of, holding_with, mapped, told_one, told_perhaps, told_each, told_inside, told_maybe, told_choice};
 ghost use Rattle.message_parts.specs.Particles.{name_at, kind_at, alternatives_at, is_once_at, is_optional_at, is_repeated_at, is_required, is_single, is_left_out, is_must, is_last_may, attribute_at, takes_at, takes_attribute, kind_among};
 ghost use Rattle.message_parts.specs.Reading.{Frame, seen_of, IsOpen, Enters, Leaves, Reads, IsRefusal, IsChosen, StartsAt};
@@ -26,7 +27,7 @@ fn simple_inside<'a, T: Simple<'a>, P: Places>(
     ensures payload { descent.new.reader.reader.bits ≡ descent.old.reader.reader.bits }
     ensures refused { IfErr result (λ r. IsRefusal (seen_of P.schema descent.old) r) }
     ensures read { (ks : List PlainKind) (F : Frame) (kind : ℕ) (d : Datatype) (told : List TreeEvent) → Enters ks F kind told (seen_of P.schema descent.old)
-        → plain_simple_at ks kind ≡ Some d → T.takes d ≡ true
+        → simple_at ks kind ≡ Some d → T.takes d ≡ true
         → IfOk result (λ v. Leaves ks F (told_inside (Of (T.value v)) told) (seen_of P.schema descent.new)) }
 {
     let value = descent.content()?;
@@ -298,7 +299,7 @@ pub fn member_value<'a, T: Simple<'a>, P: Places>(
     ensures payload { descent.new.reader.reader.bits ≡ descent.old.reader.reader.bits }
     ensures refused { IfErr result (λ r. IsRefusal (seen_of P.schema descent.old) r) }
     ensures read { (ks : List PlainKind) (F : Frame) (members : List (ℕ × ℕ)) (name kind : ℕ) (d : Datatype) (told : List TreeEvent) → IsChosen ks F members told (seen_of P.schema descent.old)
-        → descent.old.child ≡ Some name → kind_among members name ≡ Some kind → plain_simple_at ks kind ≡ Some d → T.takes d ≡ true
+        → descent.old.child ≡ Some name → kind_among members name ≡ Some kind → simple_at ks kind ≡ Some d → T.takes d ≡ true
         → IfOk result (λ v. (name ≡ F.name) × Leaves ks F (told_inside (Of (T.value v)) told) (seen_of P.schema descent.new)) }
 {
     simple_inside(descent)

@@ -75,12 +75,13 @@ impl<'a, 'p, P: Places> Descent<'a, 'p, P> {
     ghost use Rattle.exi_values.specs.Meaning.{value_of, IsLent};
     ghost use Rattle.exi_schema.specs.declared.tables.AttributeOf.{AttributeOf};
     ghost use Rattle.exi_schema.specs.Schemas.{are_distinct};
-    ghost use Rattle.plain_schema.specs.Plain.{PlainKind, PlainParticle, containing, plain_simple_at};
+    ghost use Rattle.exi_schema.specs.Plain.{PlainKind, PlainParticle, containing};
+    ghost use Rattle.exi_schema.specs.Steps.{simple_at};
     ghost use Rattle.message_parts.specs.Particles.{is_must, is_last_may, attribute_kind, attribute_at, is_child_among};
     ghost use Rattle.message_parts.specs.Reading.{Frame, seen_of, IsOpen, Enters, Leaves, Reads, IsRefusal, IsBetween, ReadsFrom, HasValue, StartsAt, Begins, IsNumbered, IsAtRoot};
     ghost use Rattle.std.specs.Prelude.{◌≤◌, Bool};
     ghost use Rattle.exi_spec.specs.Bits.{bits_of};
-    ghost use Rattle.exi_schema.specs.declared.schema.Schema.{Schema};
+    ghost use Rattle.exi_schema.specs.Schemas.{PlainSchema};
     ghost use Rattle.exi_documents.specs.Values.{most_entries};
     ghost use Rattle.exi_events.specs.Reader.{IsTold};
 
@@ -108,7 +109,7 @@ impl<'a, 'p, P: Places> Descent<'a, 'p, P> {
         ensures places { self.new.reader.places.now ≡ self.old.reader.places.now }
         ensures payload { self.new.reader.reader.bits ≡ self.old.reader.reader.bits }
         ensures refused { IfErr result (λ r. IsRefusal (seen_of P.schema self.old) r) }
-        ensures number { (s : Schema) (bits : List Bool) → Begins s bits (seen_of P.schema self.old) → IfOk result (λ _. IsNumbered s bits (seen_of P.schema self.new)) }
+        ensures number { (s : PlainSchema) (bits : List Bool) → Begins s bits (seen_of P.schema self.old) → IfOk result (λ _. IsNumbered s bits (seen_of P.schema self.new)) }
     {
         let _number = self.reader.next()?;
         Ok(())
@@ -122,7 +123,7 @@ impl<'a, 'p, P: Places> Descent<'a, 'p, P> {
         ensures places { self.new.reader.places.now ≡ self.old.reader.places.now }
         ensures payload { self.new.reader.reader.bits ≡ self.old.reader.reader.bits }
         ensures refused { IfErr result (λ r. IsRefusal (seen_of P.schema self.old) r) }
-        ensures root { (s : Schema) (bits : List Bool) → IsNumbered s bits (seen_of P.schema self.old) → IfOk result (λ _. IsAtRoot s bits (seen_of P.schema self.new)) }
+        ensures root { (s : PlainSchema) (bits : List Bool) → IsNumbered s bits (seen_of P.schema self.old) → IfOk result (λ _. IsAtRoot s bits (seen_of P.schema self.new)) }
     {
         let event = self.reader.next()?;
         self.child = child_of(&event);
@@ -196,7 +197,7 @@ impl<'a, 'p, P: Places> Descent<'a, 'p, P> {
         ensures payload { self.new.reader.reader.bits ≡ self.old.reader.reader.bits }
         ensures refused { IfErr result (λ r. IsRefusal (seen_of P.schema self.old) r) }
         ensures lent { IfOk result (λ v. IsLent self.old.reader.reader.bits v) }
-        ensures content { (ks : List PlainKind) (F : Frame) (kind : ℕ) (d : Datatype) (told : List TreeEvent) → plain_simple_at ks kind ≡ Some d
+        ensures content { (ks : List PlainKind) (F : Frame) (kind : ℕ) (d : Datatype) (told : List TreeEvent) → simple_at ks kind ≡ Some d
             → Enters ks F kind told (seen_of P.schema self.old)
             → IfOk result (λ v. IsRead d (value_of v) × HasValue ks F kind (Content (value_of v) ∷ told) (seen_of P.schema self.new)) }
     {
@@ -215,7 +216,7 @@ impl<'a, 'p, P: Places> Descent<'a, 'p, P> {
         ensures lent { IfOk result (λ v. IsLent self.old.reader.reader.bits v) }
         ensures attribute { (ks : List PlainKind) (F : Frame) (attributes : List AttributeOf) (declared : List PlainParticle) (at : ℕ) (d : Datatype) (told : List TreeEvent)
             → StartsAt ks F attributes declared at told (seen_of P.schema self.old) → is_must (slice_get attributes at) ≡ true
-            → plain_simple_at ks (attribute_kind (slice_get attributes at)) ≡ Some d
+            → simple_at ks (attribute_kind (slice_get attributes at)) ≡ Some d
             → IfOk result (λ v. IsRead d (value_of v) × StartsAt ks F attributes declared (suc at) (Attribute (attribute_at attributes at) (value_of v) ∷ told) (seen_of P.schema self.new)) }
     {
         let event = self.reader.next()?;
@@ -233,7 +234,7 @@ impl<'a, 'p, P: Places> Descent<'a, 'p, P> {
         ensures lent { IfOk result (λ o. IfSome o (λ v. IsLent self.old.reader.reader.bits v)) }
         ensures attribute { (ks : List PlainKind) (F : Frame) (attributes : List AttributeOf) (declared : List PlainParticle) (at : ℕ) (d : Datatype) (told : List TreeEvent)
             → StartsAt ks F attributes declared at told (seen_of P.schema self.old) → is_last_may attributes at ≡ true
-            → plain_simple_at ks (attribute_kind (slice_get attributes at)) ≡ Some d
+            → simple_at ks (attribute_kind (slice_get attributes at)) ≡ Some d
             → IfOk result (λ o. MatchOption o (Reads ks F attributes declared 0 told (seen_of P.schema self.new))
             (λ v. IsRead d (value_of v) × StartsAt ks F attributes declared (suc at) (Attribute (attribute_at attributes at) (value_of v) ∷ told) (seen_of P.schema self.new))) }
     {
@@ -250,7 +251,7 @@ impl<'a, 'p, P: Places> Descent<'a, 'p, P> {
         ensures places { self.new.reader.places.now ≡ self.old.reader.places.now }
         ensures payload { self.new.reader.reader.bits ≡ self.old.reader.reader.bits }
         ensures refused { IfErr result (λ r. IsRefusal (seen_of P.schema self.old) r) }
-        ensures end { (ks : List PlainKind) (F : Frame) (kind : ℕ) (d : Datatype) (told : List TreeEvent) → plain_simple_at ks kind ≡ Some d
+        ensures end { (ks : List PlainKind) (F : Frame) (kind : ℕ) (d : Datatype) (told : List TreeEvent) → simple_at ks kind ≡ Some d
             → HasValue ks F kind told (seen_of P.schema self.old)
             → IfOk result (λ _. Leaves ks F told (seen_of P.schema self.new)) }
     {

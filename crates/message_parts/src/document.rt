@@ -2,11 +2,10 @@
 
 ghost use Rattle.std.specs.Prelude.{◌≡◌, ℕ, Bool, None, OnOk, OnErr, ◌*◌, ◌<◌, ◌≤◌, ◌↔◌, ◌∷◌, [], List, true, length, take, IfOk, IfErr, IsErr};
 ghost use Rattle.exi_spec.specs.Bits.{bits_of};
-ghost use Rattle.exi_schema.specs.declared.schema.Schema.{Schema};
+ghost use Rattle.exi_schema.specs.Schemas.{PlainSchema};
 ghost use Rattle.exi_documents.specs.Documents.{IsDocument, IsEncoding};
 ghost use Rattle.exi_documents.specs.Refusals.{IsRefused};
 ghost use Rattle.exi_documents.specs.Values.{most_entries, WritesValue};
-ghost use Rattle.plain_schema.specs.Plain.{plain_kinds};
 ghost use Rattle.message_parts.specs.Contents.{root_of};
 ghost use Rattle.message_parts.specs.Documents.{IsWritable, PassesBytes};
 ghost use Rattle.message_parts.specs.Particles.{are_among};
@@ -32,8 +31,8 @@ pub fn read<'a, T: Choice<'a>, P: Places>(
 ) -> Result<T, Refusal>
     requires payload { length payload.now ≤ 65536 }
     requires cap { table.old.cap ≡ most_entries }
-    requires kinds { plain_kinds (P.schema places.now).kinds.now ≡ T.kinds }
-    requires roots { are_among T.members (P.schema places.now).roots.now ≡ true }
+    requires kinds { (P.schema places.now).kinds ≡ T.kinds }
+    requires roots { are_among T.members (P.schema places.now).roots ≡ true }
     ensures cap { table.new.cap ≡ most_entries }
     ensures read { IfOk result (λ m. IsDocument (P.schema places.now) (root_of (T.name m) (T.inside m)) payload.now) }
     ensures refused { IfErr result (λ r. IsRefused (P.schema places.now) payload.now r.cause r.bit) }
@@ -50,7 +49,7 @@ fn root_in<'a, T: Choice<'a>, P: Places>(descent: &mut Descent<'a, '_, P>) -> Re
     ensures open { IsOpen P.schema descent.new }
     ensures table { descent.new.reader.table.ghost_name ≡ descent.old.reader.table.ghost_name }
     ensures refused { IfErr result (λ r. IsRefusal (seen_of P.schema descent.old) r) }
-    ensures read { (s : Schema) (payload : List ℕ) → Begins s (bits_of payload) (seen_of P.schema descent.old) → plain_kinds s.kinds.now ≡ T.kinds → are_among T.members s.roots.now ≡ true
+    ensures read { (s : PlainSchema) (payload : List ℕ) → Begins s (bits_of payload) (seen_of P.schema descent.old) → s.kinds ≡ T.kinds → are_among T.members s.roots ≡ true
         → IfOk result (λ m. IsDocument s (root_of (T.name m) (T.inside m)) payload) }
 {
     descent.number()?;
@@ -95,6 +94,7 @@ fn put_document<T: Root, P: Places>(
     requires nothing { HasPut (P.schema writer.old.places.now) [] (draft_of writer.old) }
     ensures ready { IsReadyToPut writer.new }
     ensures lent { KeepsLent writer.old writer.new }
+    ensures room { length writer.new.room.now ≡ length writer.old.room.now }
     ensures put { (bits : List Bool) → SpellsDocument WritesValue (P.schema writer.old.places.now) (T.number message.now) (root_of (T.name message.now) (T.inside message.now)) bits
         → OnOk result ((draft_of writer.new).bits ≡ bits) }
     ensures full { (bits : List Bool) → SpellsDocument WritesValue (P.schema writer.old.places.now) (T.number message.now) (root_of (T.name message.now) (T.inside message.now)) bits

@@ -4,6 +4,7 @@
 mod children;
 mod descent;
 mod document;
+mod lent_text;
 mod numbers;
 mod part;
 mod texts;
@@ -16,7 +17,8 @@ pub use children::{
 pub use descent::Descent;
 pub use document::{read, write};
 pub use part::{Choice, Group, PutChoice, PutRecord, Record, Root, Simple};
-pub use texts::{Binary, LentText, Text};
+pub use lent_text::LentText;
+pub use texts::{Binary, Text};
 pub use writer::{
     put_attribute, put_choice, put_event, put_optional, put_optional_attribute,
     put_optional_choice, put_optional_value, put_record, put_records, put_value, put_values,

@@ -6,7 +6,7 @@ ghost use Rattle.message_parts.specs.Values.{IsRead};
 ghost use Rattle.exi_schema.specs.declared.tables.Datatype.{Datatype};
 ghost use Rattle.exi_schema.specs.Schemas.{are_distinct};
 ghost use Rattle.exi_values.specs.Meaning.{value_of, IsShaped, IsLent};
-ghost use Rattle.plain_schema.specs.Plain.{PlainKind, PlainParticle};
+ghost use Rattle.exi_schema.specs.Plain.{PlainKind, PlainParticle};
 ghost use Rattle.message_parts.specs.Contents.{Inside, Given, Part, told_parts, told_given, told_inside, given_onto, parts_onto, one_onto};
 ghost use Rattle.message_parts.specs.Particles.{names_among};
 ghost use Rattle.message_parts.specs.Reading.{Frame, seen_of, IsOpen, Leaves, Reads, IsRefusal, IsChosen, StartsAt, names_in};

@@ -8,16 +8,10 @@ ghost use Rattle.exi_values.specs.Meaning.{value_of, IsShaped};
 ghost use Rattle.message_parts.specs.Values.{is_text, is_binary};
 ghost use Rattle.message_parts.specs.Texts.{text_value};
 
+use crate::lent_text::LentText;
 use crate::part::Simple;
 use exi_bits::BitSpan;
 use exi_events::Value;
-
-/// A text that is lent from a payload.
-#[derive(Drop)]
-pub struct LentText<'a> {
-    span: BitSpan<'a>,
-    ghost text: { span.is_text ≡ true },
-}
 
 /// A text (W3C EXI 1.0, Second Edition, 7.1.10 String).
 #[derive(Drop)]

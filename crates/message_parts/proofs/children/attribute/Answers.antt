@@ -1,4 +1,4 @@
-use Rattle.std.proofs.Common.{suc, sym, subst, List, ◌∷◌}
+use Rattle.std.proofs.Common.{refl, suc, sym, subst, List, ◌∷◌}
 use Rattle.exi_documents.specs.Trees.{Attribute, Value}
 use Rattle.message_parts.specs.Particles.{attribute_at}
 use Rattle.message_parts.specs.Reading.{StartsAt, seen_of}
@@ -6,7 +6,7 @@ use Rattle.message_parts.proofs.Singles.{taken}
 use Rattle.message_parts.proofs.children.attribute.Goals as goal
 
 pub of-requires : goal.of-requires
-of-requires g c = record { lent = (c.args.descent.now.reader.reader.bits, c.in_ok-value.ensures.lent) }
+of-requires g c κs = ((refl, tt), (c.args.descent.now.reader.reader.bits, c.in_ok-value.ensures.lent))
 
 pub returns-clause-read : goal.returns-clause-read
 returns-clause-read g c = λ ks F attributes declared at told h must takes.

@@ -1,10 +1,10 @@
-use Rattle.std.proofs.Common.{sym, subst, List, ◌∷◌}
+use Rattle.std.proofs.Common.{refl, sym, subst, List, ◌∷◌}
 use Rattle.exi_documents.specs.Trees.{Content, Value}
 use Rattle.message_parts.specs.Reading.{Leaves, seen_of}
 use Rattle.message_parts.proofs.children.simple_inside.Goals as goal
 
 pub of-requires : goal.of-requires
-of-requires g c = record { lent = (c.args.descent.now.reader.reader.bits, c.in_ok-value.ensures.lent) }
+of-requires g c κs = ((refl, tt), (c.args.descent.now.reader.reader.bits, c.in_ok-value.ensures.lent))
 
 pub returns-clause-read : goal.returns-clause-read
 returns-clause-read g c = λ ks F kind d told h simple takes.
