@@ -95,15 +95,15 @@ IsElementOrEnd (step.Element name kind next standing past_limit) = Unit {0}
 IsElementOrEnd step.End = Unit {0}
 IsElementOrEnd (step.Characters next) = ⊥
 
-all_members : (here : Place) (n at copies : ℕ) (p : PlainParticle) (members : List Member) → EachOf IsElementOrEnd (map (element_step here n at copies p) members)
-all_members here n at copies p [] = tt
-all_members here n at copies p (m ∷ members) = (tt, all_members here n at copies p members)
+all_members : (place : Place) (n at copies : ℕ) (p : PlainParticle) (members : List Member) → EachOf IsElementOrEnd (map (element_step place n at copies p) members)
+all_members place n at copies p [] = tt
+all_members place n at copies p (m ∷ members) = (tt, all_members place n at copies p members)
 
-pub all_elements : (here : Place) (n at copies : ℕ) (particles : List PlainParticle) → EachOf IsElementOrEnd (element_steps here n at copies particles)
-all_elements here n at copies [] = (tt, tt)
-all_elements here n at copies (p ∷ particles) =
-    each_of_both IsElementOrEnd (map (element_step here n at copies p) p.members) _ (all_members here n at copies p p.members)
-    (each_of_some IsElementOrEnd (nat_lt copies p.least) _ (all_elements here n (at + 1) 0 particles))
+pub all_elements : (place : Place) (n at copies : ℕ) (particles : List PlainParticle) → EachOf IsElementOrEnd (element_steps place n at copies particles)
+all_elements place n at copies [] = (tt, tt)
+all_elements place n at copies (p ∷ particles) =
+    each_of_both IsElementOrEnd (map (element_step place n at copies p) p.members) _ (all_members place n at copies p p.members)
+    (each_of_some IsElementOrEnd (nat_lt copies p.least) _ (all_elements place n (at + 1) 0 particles))
 
 -- ---- the next child
 

@@ -10,3 +10,13 @@ pub struct LentText<'a> {
     pub(crate) span: BitSpan<'a>,
     pub(crate) ghost text: { span.is_text ≡ true },
 }
+
+impl<'a> LentText<'a> {
+    /// The text as it stands in the payload.
+    pub fn span(&self) -> &BitSpan<'a>
+        ensures span { result.now ≡ self.now.span }
+        ensures text { result.now.is_text ≡ true }
+    {
+        &self.span
+    }
+}

@@ -16,8 +16,8 @@ pub use children::{
 };
 pub use descent::Descent;
 pub use document::{read, write};
-pub use part::{Choice, Group, PutChoice, PutRecord, Record, Root, Simple};
 pub use lent_text::LentText;
+pub use part::{Choice, Group, PutChoice, PutRecord, Record, Root, Simple};
 pub use texts::{Binary, Text};
 pub use writer::{
     put_attribute, put_choice, put_event, put_optional, put_optional_attribute,

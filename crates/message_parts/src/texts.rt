@@ -1,7 +1,6 @@
 //! Texts and Binaries as values, lent from the payload or from what the message is made of.
 
-ghost use Rattle.std.specs.Prelude.{◌≡◌, ◌≤◌, ◌↔◌, List, IsTrue, true, false, length};
-ghost use Rattle.std.specs.Str.{chars};
+ghost use Rattle.std.specs.Prelude.{◌≡◌, ◌≤◌, true, false, length};
 ghost use Rattle.exi_bits.specs.Lent.{items_of};
 ghost use Rattle.exi_documents.specs.Trees.{Bytes as TreeBytes, Text as TreeText};
 ghost use Rattle.exi_values.specs.Meaning.{value_of, IsShaped};
@@ -52,18 +51,6 @@ fn binary_again<'a>(span: &BitSpan<'a>) -> Value<'a>
     match span.cursor().take_bytes(span.len()) {
         Ok(again) => Value::Binary(again),
         Err(_) => Value::Bool(false),
-    }
-}
-
-impl<'a> Text<'a> {
-    /// Whether both are the same code points.
-    pub fn is(&self, text: &str) -> bool
-        ensures { IsTrue result ↔ (text_value self.now ≡ TreeText (chars text.now)) }
-    {
-        match self {
-            Text::Lent(lent) => lent.span.same_str(text),
-            Text::Written(written) => *written == text,
-        }
     }
 }
 

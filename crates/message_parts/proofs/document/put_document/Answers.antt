@@ -30,7 +30,7 @@ returns-clause-put g c = λ bits spelled.
     let m = c.args.message.now in
     let of = begun s (g.T.Root.number m) (g.T.PutChoice.name m) (g.T.PutChoice.inside m) bits spelled (put_of c.args.writer.now) refl c.requires.nothing.0 c.requires.nothing.1 c.requires.open_still in
     let left = c.put_choice.ensures.write _ [] (c.put_event.ensures.write _ _ _ of (ap (λ (n : ℕ). Some (Document n)) c.number.ensures)) in
-    finished c.put.result _ (put_of c.put_choice.new.writer) left (draft_of c.put_choice.new.writer) (draft_of c.put.new.self) _ _ refl c.put.ensures.put c.put.ensures.open_still
+    finished c.put.result _ (put_of c.put_choice.new.writer) left (draft_of c.put_choice.new.writer) (draft_of c.put.new.self) s (c.put.new.self.full ≡ None) refl c.put.ensures.put c.put.ensures.open_still
 
 pub returns-clause-full : goal.returns-clause-full
 returns-clause-full g c = λ bits spelled.

@@ -25,8 +25,7 @@ returns-clause-full g c =
     let s = g.P.Places.schema c.args.places.now in
     let m = c.args.message.now in
     let number = g.T.Root.number m in
-    let tree = root_of (g.T.PutChoice.name m) (g.T.PutChoice.inside m) in
-    (
+    let tree = root_of (g.T.PutChoice.name m) (g.T.PutChoice.inside m) in (
       λ wrong. absurd cc,
       λ more.
           let there = subst (λ (x : PlainSchema). SpellsDocument WritesValue x number tree more.0) (sym (ap g.P.Places.schema c.new-writer.ensures.places)) more.1 in

@@ -1,0 +1,16 @@
+//! A report: one message with each shape of element that the dialects have, as an example of how a message is written down.
+#![tactic(auto)]
+
+mod names;
+mod parts;
+mod report;
+mod tables;
+
+pub use parts::{
+    AcLimit, Amount, DcLimit, Entry, Limit, Nothing, Parameter, ParameterSet, Plan, Setting, Unit,
+};
+pub use report::{Document, Report};
+pub use tables::report;
+
+#[cfg(test)]
+mod tests;
