@@ -8,9 +8,9 @@ use exi_documents::Refusal;
 use exi_events::{EventWriter, Value};
 use exi_schema::Places;
 use message_parts::{
-    Choice, Descent, Group, PutChoice, PutRecord, Record, Simple, Text, attribute, choice, first_child,
-    member, member_value, optional_value, put_attribute, put_choice, put_optional_value, put_record,
-    put_records, put_value, records, required, value,
+    Choice, Descent, Group, PutChoice, PutRecord, Record, Simple, Text, attribute, choice,
+    first_child, member, member_value, optional_value, put_attribute, put_choice,
+    put_optional_value, put_record, put_records, put_value, records, required, value,
 };
 
 /// A unit of time.

@@ -8,7 +8,8 @@ use arrayvec::ArrayVec;
 use exi_documents::Refusal;
 use exi_events::EventWriter;
 use exi_schema::Places;
-use message_parts::{Binary, Choice, Descent, PutChoice, PutRecord, Record, Root, Text, last_attribute, left_out,
+use message_parts::{
+    Binary, Choice, Descent, PutChoice, PutRecord, Record, Root, Text, last_attribute, left_out,
     member, optional_choice, optional_value, put_optional_attribute, put_optional_choice,
     put_optional_value, put_record, put_values, required, values,
 };

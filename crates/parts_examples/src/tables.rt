@@ -6,8 +6,8 @@ ghost use Rattle.parts_examples.specs.Declarations.{report_schema};
 
 use crate::names::{
     AC_LIMIT, AMOUNT, CHALLENGE, COUNT, CURRENT, DC_LIMIT, END, ENTRY, FLAG, ID, LIMIT, NAME, NOTE,
-    NOTHING, OFFSET, OTHER_LIMIT, PARAMETER, PARAMETER_SET, PERCENT, PLAN, REPORT, SIGNATURE, STAMP,
-    START, STATE, UNIT, VALUE,
+    NOTHING, OFFSET, OTHER_LIMIT, PARAMETER, PARAMETER_SET, PERCENT, PLAN, REPORT, SIGNATURE,
+    STAMP, START, STATE, UNIT, VALUE,
 };
 use exi_schema::{
     AttributeOf, Datatype, Declaration, Member, MemberStanding, Particle, RootOf, Schema,
@@ -233,7 +233,7 @@ static KINDS: [Declaration<'static>; 17] = [
 ];
 
 /// The schema of a report.
-pub fn report() -> Schema<'static>
+pub fn schema() -> Schema<'static>
     ensures { schema_of result ≡ report_schema }
 {
     Schema {
