@@ -1,0 +1,12 @@
+pub mod Again
+pub mod Attributes
+pub mod Distinct
+pub mod Ended
+pub mod Next
+pub mod Particles
+pub mod Putting
+pub mod Repeated
+pub mod Rooted
+pub mod Singles
+pub mod Told
+pub mod Written

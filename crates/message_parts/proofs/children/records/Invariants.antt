@@ -1,0 +1,22 @@
+use Rattle.std.proofs.Common.{◌≡◌, ℕ, Some, List, length, map, slice_get, true}
+use Rattle.exi_documents.specs.Trees.{Event}
+use Rattle.exi_schema.specs.declared.tables.AttributeOf.{AttributeOf}
+use Rattle.exi_schema.specs.Plain.{PlainKind, PlainParticle, containing}
+use Rattle.message_parts.specs.Contents.{holding_with, told_each}
+use Rattle.message_parts.specs.Particles.{name_at, kind_at, is_repeated_at, takes_at}
+use Rattle.message_parts.specs.Reading.{Frame, seen_of, IsOpen, Reads}
+use Rattle.message_parts.proofs.Repeated.{Repeats}
+use Rattle.message_parts.proofs.children.records.Given as goal
+
+abbrev pub invariant-loop : goal.invariant-loop
+invariant-loop g l =
+    record {
+      ready : IsOpen g.P.Places.schema l.descent;
+      table : l.descent.reader.table.ghost_name ≡ l.initial.descent.reader.table.ghost_name;
+      places : l.descent.reader.places.now ≡ l.initial.descent.reader.places.now;
+      payload : l.descent.reader.reader.bits ≡ l.initial.descent.reader.reader.bits;
+      counted : length l.items.items ≡ l.counter;
+      read : (F : Frame) (attributes : List AttributeOf) (declared : List PlainParticle) (at : ℕ) (told : List Event) → Reads g.T.Record.kinds F attributes declared at told (seen_of g.P.Places.schema l.initial.descent)
+          → is_repeated_at declared at g.row.N ≡ true → l.name ≡ name_at declared at → slice_get g.T.Record.kinds (kind_at declared at) ≡ Some (containing g.T.Record.attributes g.T.Record.particles)
+          → Repeats g.T.Record.kinds F attributes declared at g.row.N l.counter (told_each l.name (map (λ x. holding_with (g.T.PutRecord.given x) (g.T.PutRecord.parts x)) l.items.items) told) (seen_of g.P.Places.schema l.descent);
+    }

@@ -1,0 +1,46 @@
+use Rattle.std.proofs.Common.{rules, ◌≡◌, suc, List, Some, ◌⊎◌, inl, inr, sym, ap, subst, ◌∙◌, ◌+◌, arith}
+use Rattle.std.proofs.lemmas.Bool.Decides.{nat_tests}
+use Rattle.exi_documents.specs.Trees.{Event}
+use Rattle.message_parts.specs.Contents.{Of}
+use Rattle.message_parts.specs.Particles.{name_at, kind_at}
+use Rattle.message_parts.specs.Reading.{seen_of, Reads, ReadsFrom}
+use Rattle.message_parts.proofs.Repeated.{goes_on, enters_more, told_pushed, stops, fills}
+use Rattle.message_parts.proofs.Singles.{taken}
+use Rattle.message_parts.proofs.children.values.Goals.{else-loop-test, then-loop-test+then-not-is_at}
+use Rattle.message_parts.proofs.children.values.Goals as goal
+
+pub loop-preserved : goal.loop-preserved
+loop-preserved g c =
+    let i = c.loop.invariant in
+    let k = c.loop.counter in
+    let counted = i.counted in
+    record {
+      ready = c.in_ok-next_child.ensures.open;
+      table = search rules;
+      places = search rules;
+      payload = search rules;
+      counted = omega (arith, c.push.ensures.len);
+      read = λ ks F attributes declared at told h is named kind.
+          let before = goes_on _ F attributes declared at k _ _ g.row.N is (i.read ks F attributes declared at told h is named kind) c.loop-test.true in
+          let e = enters_more _ F attributes declared at k _ _ g.row.N before is (c.is_at.ensures.here (search (rules, c.if-not-is_at.false)) ∙ ap Some named) in
+          let t = taken _ _ kind in
+          let l = c.in_ok-simple_inside.ensures.read ks _ (kind_at declared at) t.0 _ e.enters t.1 t.2 in
+          let same = told_pushed (λ x. Of (g.T.Simple.value x)) c.args.name (name_at declared at) c.loop.items.items c.push.new.self.items c.in_ok-simple_inside.field-0 told c.push.ensures.items named in
+          elim (e.follows _ _ l) [
+            | inl more ↦ inl (subst (λ (t : List Event). ReadsFrom ks F attributes declared at (k + 1) t (seen_of g.P.Places.schema c.next_child.new.self)) same
+                (c.in_ok-next_child.ensures.child _ F attributes declared at (k + 1) _ more))
+            | inr last ↦ inr (
+              last.0,
+              subst (λ (t : List Event). Reads ks F attributes declared (suc at) t (seen_of g.P.Places.schema c.next_child.new.self)) same
+                  (c.in_ok-next_child.ensures.child _ F attributes declared (suc at) 0 _ last.1),
+            )
+          ];
+    }
+
+pub returns-clause-read : goal.returns-clause-read
+returns-clause-read g c = λ ks F attributes declared at told h is named kind.
+    let all = c.loop.invariant.read ks F attributes declared at told h is named kind in
+    elim c.loop-test.branch [
+      | else-loop-test w ↦ fills _ F attributes declared at c.loop.counter _ _ g.row.N is all (grind (arith, nat_tests))
+      | then-loop-test+then-not-is_at w ↦ stops _ F attributes declared at c.loop.counter _ _ g.row.N is all (λ here. w.is_at.ensures.absent (search (rules, w.if-not-is_at.true)) (here ∙ ap Some (sym named)))
+    ]

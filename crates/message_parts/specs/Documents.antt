@@ -1,0 +1,15 @@
+-- Own: what is written of a document, as far as the schema says it.
+use Rattle.std.specs.Prelude.{ℕ, ◌*◌, ◌<◌, Bool, List, length}
+use Rattle.exi_schema.specs.Schemas.{PlainSchema}
+use Rattle.exi_documents.specs.Documents.{SpellsDocument}
+use Rattle.exi_documents.specs.Trees.{Tree}
+use Rattle.exi_documents.specs.Values.{WritesValue}
+
+-- some bits are written for it
+abbrev pub IsWritable : PlainSchema → ℕ → Tree → Type 0
+IsWritable s number tree = (bits : List Bool) × SpellsDocument WritesValue s number tree bits
+
+-- they are more than so many bytes hold
+abbrev pub PassesBytes : PlainSchema → ℕ → Tree → ℕ → Type 0
+PassesBytes s number tree bytes =
+    (bits : List Bool) × SpellsDocument WritesValue s number tree bits × (8 * bytes < length bits)

@@ -1,0 +1,7 @@
+pub mod Contents
+pub mod Documents
+pub mod Particles
+pub mod Reading
+pub mod Texts
+pub mod Values
+pub mod Writing

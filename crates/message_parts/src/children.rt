@@ -1,0 +1,328 @@
+//! The children of an element, one after the other.
+
+ghost use Rattle.std.specs.Prelude.{◌≡◌, ℕ, suc, ◌∷◌, [], List, true, Some, IfOk, IfErr, slice_get, map, length};
+ghost use Rattle.exi_documents.specs.Trees.{Event as TreeEvent, Attribute};
+ghost use Rattle.exi_schema.specs.declared.tables.AttributeOf.{AttributeOf};
+ghost use Rattle.exi_schema.specs.declared.tables.Datatype.{Datatype};
+ghost use Rattle.exi_schema.specs.Plain.{PlainKind, PlainParticle, containing};
+ghost use Rattle.exi_schema.specs.Steps.{simple_at};
+ghost use Rattle.message_parts.specs.Contents.{Of, holding_with, mapped, told_one, told_perhaps, told_each, told_inside, told_maybe, told_choice};
+ghost use Rattle.message_parts.specs.Particles.{name_at, kind_at, alternatives_at, is_once_at, is_optional_at, is_repeated_at, is_required, is_single, is_left_out, is_must, is_last_may, attribute_at, takes_at, takes_attribute, kind_among};
+ghost use Rattle.message_parts.specs.Reading.{Frame, seen_of, IsOpen, Enters, Leaves, Reads, IsRefusal, IsChosen, StartsAt};
+
+use crate::descent::Descent;
+use crate::part::{Choice, Group, Record, Simple};
+use arrayvec::ArrayVec;
+use exi_documents::Refusal;
+use exi_schema::Places;
+
+/// The rest of an element that has started and has a value.
+fn simple_inside<'a, T: Simple<'a>, P: Places>(
+    descent: &mut Descent<'a, '_, P>,
+) -> Result<T, Refusal>
+    requires open { IsOpen P.schema descent.old }
+    ensures open { IsOpen P.schema descent.new }
+    ensures table { descent.new.reader.table.ghost_name ≡ descent.old.reader.table.ghost_name }
+    ensures places { descent.new.reader.places.now ≡ descent.old.reader.places.now }
+    ensures payload { descent.new.reader.reader.bits ≡ descent.old.reader.reader.bits }
+    ensures refused { IfErr result (λ r. IsRefusal (seen_of P.schema descent.old) r) }
+    ensures read { (ks : List PlainKind) (F : Frame) (kind : ℕ) (d : Datatype) (told : List TreeEvent) → Enters ks F kind told (seen_of P.schema descent.old)
+        → simple_at ks kind ≡ Some d → T.takes d ≡ true
+        → IfOk result (λ v. Leaves ks F (told_inside (Of (T.value v)) told) (seen_of P.schema descent.new)) }
+{
+    let value = descent.content()?;
+    descent.end_value()?;
+    Ok(T::of(value))
+}
+
+/// The rest of an element that has started and has attributes and children.
+fn record_inside<'a, T: Record<'a>, P: Places>(
+    descent: &mut Descent<'a, '_, P>,
+) -> Result<T, Refusal>
+    requires open { IsOpen P.schema descent.old }
+    ensures open { IsOpen P.schema descent.new }
+    ensures table { descent.new.reader.table.ghost_name ≡ descent.old.reader.table.ghost_name }
+    ensures places { descent.new.reader.places.now ≡ descent.old.reader.places.now }
+    ensures payload { descent.new.reader.reader.bits ≡ descent.old.reader.reader.bits }
+    ensures refused { IfErr result (λ r. IsRefusal (seen_of P.schema descent.old) r) }
+    ensures read { (F : Frame) (kind : ℕ) (told : List TreeEvent) → Enters T.kinds F kind told (seen_of P.schema descent.old)
+        → slice_get T.kinds kind ≡ Some (containing T.attributes T.particles)
+        → IfOk result (λ v. Leaves T.kinds F (told_inside (holding_with (T.given v) (T.parts v)) told) (seen_of P.schema descent.new)) }
+{
+    T::read(descent)
+}
+
+// ---- attributes
+
+/// An attribute that has to be there.
+pub fn attribute<'a, T: Simple<'a>, P: Places>(
+    descent: &mut Descent<'a, '_, P>,
+) -> Result<T, Refusal>
+    requires open { IsOpen P.schema descent.old }
+    ensures open { IsOpen P.schema descent.new }
+    ensures table { descent.new.reader.table.ghost_name ≡ descent.old.reader.table.ghost_name }
+    ensures places { descent.new.reader.places.now ≡ descent.old.reader.places.now }
+    ensures payload { descent.new.reader.reader.bits ≡ descent.old.reader.reader.bits }
+    ensures refused { IfErr result (λ r. IsRefusal (seen_of P.schema descent.old) r) }
+    ensures read { (ks : List PlainKind) (F : Frame) (attributes : List AttributeOf) (declared : List PlainParticle) (at : ℕ) (told : List TreeEvent) → StartsAt ks F attributes declared at told (seen_of P.schema descent.old)
+        → is_must (slice_get attributes at) ≡ true → takes_attribute T.takes ks attributes at ≡ true
+        → IfOk result (λ v. StartsAt ks F attributes declared (suc at) (Attribute (attribute_at attributes at) (T.value v) ∷ told) (seen_of P.schema descent.new)) }
+{
+    let value = descent.attribute()?;
+    Ok(T::of(value))
+}
+
+/// The last attribute, which may be there; behind it the first child is looked at.
+pub fn last_attribute<'a, T: Simple<'a>, P: Places>(
+    descent: &mut Descent<'a, '_, P>,
+) -> Result<Option<T>, Refusal>
+    requires open { IsOpen P.schema descent.old }
+    ensures open { IsOpen P.schema descent.new }
+    ensures table { descent.new.reader.table.ghost_name ≡ descent.old.reader.table.ghost_name }
+    ensures places { descent.new.reader.places.now ≡ descent.old.reader.places.now }
+    ensures payload { descent.new.reader.reader.bits ≡ descent.old.reader.reader.bits }
+    ensures refused { IfErr result (λ r. IsRefusal (seen_of P.schema descent.old) r) }
+    ensures read { (ks : List PlainKind) (F : Frame) (attributes : List AttributeOf) (declared : List PlainParticle) (at : ℕ) (told : List TreeEvent) → StartsAt ks F attributes declared at told (seen_of P.schema descent.old)
+        → is_last_may attributes at ≡ true → takes_attribute T.takes ks attributes at ≡ true
+        → IfOk result (λ v. Reads ks F attributes declared 0 (told_maybe (attribute_at attributes at) (mapped T.value v) told) (seen_of P.schema descent.new)) }
+{
+    let Some(value) = descent.last_attribute()? else {
+        return Ok(None);
+    };
+    let value = T::of(value);
+    descent.next_child()?;
+    Ok(Some(value))
+}
+
+/// The first child, behind the last attribute that has to be there.
+pub fn first_child<'a, P: Places>(descent: &mut Descent<'a, '_, P>) -> Result<(), Refusal>
+    requires open { IsOpen P.schema descent.old }
+    ensures open { IsOpen P.schema descent.new }
+    ensures table { descent.new.reader.table.ghost_name ≡ descent.old.reader.table.ghost_name }
+    ensures places { descent.new.reader.places.now ≡ descent.old.reader.places.now }
+    ensures payload { descent.new.reader.reader.bits ≡ descent.old.reader.reader.bits }
+    ensures refused { IfErr result (λ r. IsRefusal (seen_of P.schema descent.old) r) }
+    ensures read { (ks : List PlainKind) (F : Frame) (attributes : List AttributeOf) (declared : List PlainParticle) (told : List TreeEvent)
+        → StartsAt ks F attributes declared (length attributes) told (seen_of P.schema descent.old)
+        → IfOk result (λ _. Reads ks F attributes declared 0 told (seen_of P.schema descent.new)) }
+{
+    descent.next_child()
+}
+
+// ---- values
+
+/// A value that has to be there.
+pub fn value<'a, T: Simple<'a>, P: Places>(descent: &mut Descent<'a, '_, P>) -> Result<T, Refusal>
+    requires open { IsOpen P.schema descent.old }
+    ensures open { IsOpen P.schema descent.new }
+    ensures table { descent.new.reader.table.ghost_name ≡ descent.old.reader.table.ghost_name }
+    ensures places { descent.new.reader.places.now ≡ descent.old.reader.places.now }
+    ensures payload { descent.new.reader.reader.bits ≡ descent.old.reader.reader.bits }
+    ensures refused { IfErr result (λ r. IsRefusal (seen_of P.schema descent.old) r) }
+    ensures read { (ks : List PlainKind) (F : Frame) (attributes : List AttributeOf) (declared : List PlainParticle) (at : ℕ) (told : List TreeEvent) → Reads ks F attributes declared at told (seen_of P.schema descent.old)
+        → is_once_at declared at ≡ true → takes_at T.takes ks declared at ≡ true
+        → IfOk result (λ v. Reads ks F attributes declared (suc at) (told_one (name_at declared at) (Of (T.value v)) told) (seen_of P.schema descent.new)) }
+{
+    let value = simple_inside(descent)?;
+    descent.next_child()?;
+    Ok(value)
+}
+
+/// A value that may be there.
+pub fn optional_value<'a, T: Simple<'a>, P: Places>(
+    descent: &mut Descent<'a, '_, P>,
+    name: u16,
+) -> Result<Option<T>, Refusal>
+    requires open { IsOpen P.schema descent.old }
+    ensures open { IsOpen P.schema descent.new }
+    ensures table { descent.new.reader.table.ghost_name ≡ descent.old.reader.table.ghost_name }
+    ensures places { descent.new.reader.places.now ≡ descent.old.reader.places.now }
+    ensures payload { descent.new.reader.reader.bits ≡ descent.old.reader.reader.bits }
+    ensures refused { IfErr result (λ r. IsRefusal (seen_of P.schema descent.old) r) }
+    ensures read { (ks : List PlainKind) (F : Frame) (attributes : List AttributeOf) (declared : List PlainParticle) (at : ℕ) (told : List TreeEvent) → Reads ks F attributes declared at told (seen_of P.schema descent.old)
+        → is_optional_at declared at ≡ true → name ≡ name_at declared at → takes_at T.takes ks declared at ≡ true
+        → IfOk result (λ v. Reads ks F attributes declared (suc at) (told_perhaps name (mapped (λ x. Of (T.value x)) v) told) (seen_of P.schema descent.new)) }
+{
+    if !descent.is_at(name) {
+        return Ok(None);
+    }
+    let value = simple_inside(descent)?;
+    descent.next_child()?;
+    Ok(Some(value))
+}
+
+/// Values of one name, of which N are accepted.
+pub fn values<'a, T: Simple<'a> + Default, P: Places, const N: usize>(
+    descent: &mut Descent<'a, '_, P>,
+    name: u16,
+) -> Result<ArrayVec<T, N>, Refusal>
+    requires open { IsOpen P.schema descent.old }
+    ensures open { IsOpen P.schema descent.new }
+    ensures table { descent.new.reader.table.ghost_name ≡ descent.old.reader.table.ghost_name }
+    ensures places { descent.new.reader.places.now ≡ descent.old.reader.places.now }
+    ensures payload { descent.new.reader.reader.bits ≡ descent.old.reader.reader.bits }
+    ensures refused { IfErr result (λ r. IsRefusal (seen_of P.schema descent.old) r) }
+    ensures read { (ks : List PlainKind) (F : Frame) (attributes : List AttributeOf) (declared : List PlainParticle) (at : ℕ) (told : List TreeEvent) → Reads ks F attributes declared at told (seen_of P.schema descent.old)
+        → is_repeated_at declared at N ≡ true → name ≡ name_at declared at → takes_at T.takes ks declared at ≡ true
+        → IfOk result (λ v. Reads ks F attributes declared (suc at) (told_each name (map (λ x. Of (T.value x)) v.items) told) (seen_of P.schema descent.new)) }
+{
+    let mut items = ArrayVec::new();
+    for _ in 0..N {
+        if !descent.is_at(name) {
+            break;
+        }
+        items.push(simple_inside(descent)?);
+        descent.next_child()?;
+    }
+    Ok(items)
+}
+
+// ---- elements with attributes and children
+
+/// An element with attributes and children that has to be there.
+pub fn required<'a, T: Record<'a>, P: Places>(
+    descent: &mut Descent<'a, '_, P>,
+) -> Result<T, Refusal>
+    requires open { IsOpen P.schema descent.old }
+    ensures open { IsOpen P.schema descent.new }
+    ensures table { descent.new.reader.table.ghost_name ≡ descent.old.reader.table.ghost_name }
+    ensures places { descent.new.reader.places.now ≡ descent.old.reader.places.now }
+    ensures payload { descent.new.reader.reader.bits ≡ descent.old.reader.reader.bits }
+    ensures refused { IfErr result (λ r. IsRefusal (seen_of P.schema descent.old) r) }
+    ensures read { (F : Frame) (attributes : List AttributeOf) (declared : List PlainParticle) (at : ℕ) (told : List TreeEvent) → Reads T.kinds F attributes declared at told (seen_of P.schema descent.old)
+        → is_once_at declared at ≡ true → slice_get T.kinds (kind_at declared at) ≡ Some (containing T.attributes T.particles)
+        → IfOk result (λ v. Reads T.kinds F attributes declared (suc at) (told_one (name_at declared at) (holding_with (T.given v) (T.parts v)) told) (seen_of P.schema descent.new)) }
+{
+    let value = record_inside(descent)?;
+    descent.next_child()?;
+    Ok(value)
+}
+
+/// One that may be there.
+pub fn optional<'a, T: Record<'a>, P: Places>(
+    descent: &mut Descent<'a, '_, P>,
+    name: u16,
+) -> Result<Option<T>, Refusal>
+    requires open { IsOpen P.schema descent.old }
+    ensures open { IsOpen P.schema descent.new }
+    ensures table { descent.new.reader.table.ghost_name ≡ descent.old.reader.table.ghost_name }
+    ensures places { descent.new.reader.places.now ≡ descent.old.reader.places.now }
+    ensures payload { descent.new.reader.reader.bits ≡ descent.old.reader.reader.bits }
+    ensures refused { IfErr result (λ r. IsRefusal (seen_of P.schema descent.old) r) }
+    ensures read { (F : Frame) (attributes : List AttributeOf) (declared : List PlainParticle) (at : ℕ) (told : List TreeEvent) → Reads T.kinds F attributes declared at told (seen_of P.schema descent.old)
+        → is_optional_at declared at ≡ true → name ≡ name_at declared at → slice_get T.kinds (kind_at declared at) ≡ Some (containing T.attributes T.particles)
+        → IfOk result (λ v. Reads T.kinds F attributes declared (suc at) (told_perhaps name (mapped (λ x. holding_with (T.given x) (T.parts x)) v) told) (seen_of P.schema descent.new)) }
+{
+    if !descent.is_at(name) {
+        return Ok(None);
+    }
+    let value = record_inside(descent)?;
+    descent.next_child()?;
+    Ok(Some(value))
+}
+
+/// Those of one name, of which N are accepted.
+pub fn records<'a, T: Record<'a> + Default, P: Places, const N: usize>(
+    descent: &mut Descent<'a, '_, P>,
+    name: u16,
+) -> Result<ArrayVec<T, N>, Refusal>
+    requires open { IsOpen P.schema descent.old }
+    ensures open { IsOpen P.schema descent.new }
+    ensures table { descent.new.reader.table.ghost_name ≡ descent.old.reader.table.ghost_name }
+    ensures places { descent.new.reader.places.now ≡ descent.old.reader.places.now }
+    ensures payload { descent.new.reader.reader.bits ≡ descent.old.reader.reader.bits }
+    ensures refused { IfErr result (λ r. IsRefusal (seen_of P.schema descent.old) r) }
+    ensures read { (F : Frame) (attributes : List AttributeOf) (declared : List PlainParticle) (at : ℕ) (told : List TreeEvent) → Reads T.kinds F attributes declared at told (seen_of P.schema descent.old)
+        → is_repeated_at declared at N ≡ true → name ≡ name_at declared at → slice_get T.kinds (kind_at declared at) ≡ Some (containing T.attributes T.particles)
+        → IfOk result (λ v. Reads T.kinds F attributes declared (suc at) (told_each name (map (λ x. holding_with (T.given x) (T.parts x)) v.items) told) (seen_of P.schema descent.new)) }
+{
+    let mut items = ArrayVec::new();
+    for _ in 0..N {
+        if !descent.is_at(name) {
+            break;
+        }
+        items.push(record_inside(descent)?);
+        descent.next_child()?;
+    }
+    Ok(items)
+}
+
+// ---- one of several elements
+
+/// One of several elements that has to be there.
+pub fn choice<'a, T: Choice<'a>, P: Places>(descent: &mut Descent<'a, '_, P>) -> Result<T, Refusal>
+    requires open { IsOpen P.schema descent.old }
+    ensures open { IsOpen P.schema descent.new }
+    ensures table { descent.new.reader.table.ghost_name ≡ descent.old.reader.table.ghost_name }
+    ensures places { descent.new.reader.places.now ≡ descent.old.reader.places.now }
+    ensures payload { descent.new.reader.reader.bits ≡ descent.old.reader.reader.bits }
+    ensures refused { IfErr result (λ r. IsRefusal (seen_of P.schema descent.old) r) }
+    ensures read { (F : Frame) (attributes : List AttributeOf) (declared : List PlainParticle) (at : ℕ) (told : List TreeEvent) → Reads T.kinds F attributes declared at told (seen_of P.schema descent.old)
+        → is_required (slice_get declared at) ≡ true → alternatives_at declared at ≡ T.members
+        → IfOk result (λ v. Reads T.kinds F attributes declared (suc at) (told_one (T.name v) (T.inside v) told) (seen_of P.schema descent.new)) }
+{
+    let value = T::read_member(descent)?;
+    descent.next_child()?;
+    Ok(value)
+}
+
+/// One of several elements that may be there.
+pub fn optional_choice<'a, T: Group<'a>, P: Places>(
+    descent: &mut Descent<'a, '_, P>,
+) -> Result<Option<T>, Refusal>
+    requires open { IsOpen P.schema descent.old }
+    ensures open { IsOpen P.schema descent.new }
+    ensures table { descent.new.reader.table.ghost_name ≡ descent.old.reader.table.ghost_name }
+    ensures places { descent.new.reader.places.now ≡ descent.old.reader.places.now }
+    ensures payload { descent.new.reader.reader.bits ≡ descent.old.reader.reader.bits }
+    ensures refused { IfErr result (λ r. IsRefusal (seen_of P.schema descent.old) r) }
+    ensures read { (F : Frame) (attributes : List AttributeOf) (declared : List PlainParticle) (at : ℕ) (told : List TreeEvent) → Reads T.kinds F attributes declared at told (seen_of P.schema descent.old)
+        → is_single (slice_get declared at) ≡ true → alternatives_at declared at ≡ T.members
+        → IfOk result (λ o. Reads T.kinds F attributes declared (suc at) (told_choice (mapped (λ v. (T.name v, T.inside v)) o) told) (seen_of P.schema descent.new)) }
+{
+    if !descent.is_among(T::names()) {
+        return Ok(None);
+    }
+    let value = T::read_member(descent)?;
+    descent.next_child()?;
+    Ok(Some(value))
+}
+
+/// What a member with a value contains, where the child that has started is this member.
+pub fn member_value<'a, T: Simple<'a>, P: Places>(
+    descent: &mut Descent<'a, '_, P>,
+) -> Result<T, Refusal>
+    requires open { IsOpen P.schema descent.old }
+    ensures open { IsOpen P.schema descent.new }
+    ensures table { descent.new.reader.table.ghost_name ≡ descent.old.reader.table.ghost_name }
+    ensures places { descent.new.reader.places.now ≡ descent.old.reader.places.now }
+    ensures payload { descent.new.reader.reader.bits ≡ descent.old.reader.reader.bits }
+    ensures refused { IfErr result (λ r. IsRefusal (seen_of P.schema descent.old) r) }
+    ensures read { (ks : List PlainKind) (F : Frame) (members : List (ℕ × ℕ)) (name kind : ℕ) (d : Datatype) (told : List TreeEvent) → IsChosen ks F members told (seen_of P.schema descent.old)
+        → descent.old.child ≡ Some name → kind_among members name ≡ Some kind → simple_at ks kind ≡ Some d → T.takes d ≡ true
+        → IfOk result (λ v. (name ≡ F.name) × Leaves ks F (told_inside (Of (T.value v)) told) (seen_of P.schema descent.new)) }
+{
+    simple_inside(descent)
+}
+
+/// What a member with attributes and children contains, where the child that has started is this member.
+pub fn member<'a, T: Record<'a>, P: Places>(descent: &mut Descent<'a, '_, P>) -> Result<T, Refusal>
+    requires open { IsOpen P.schema descent.old }
+    ensures open { IsOpen P.schema descent.new }
+    ensures table { descent.new.reader.table.ghost_name ≡ descent.old.reader.table.ghost_name }
+    ensures places { descent.new.reader.places.now ≡ descent.old.reader.places.now }
+    ensures payload { descent.new.reader.reader.bits ≡ descent.old.reader.reader.bits }
+    ensures refused { IfErr result (λ r. IsRefusal (seen_of P.schema descent.old) r) }
+    ensures read { (F : Frame) (members : List (ℕ × ℕ)) (name kind : ℕ) (told : List TreeEvent) → IsChosen T.kinds F members told (seen_of P.schema descent.old)
+        → descent.old.child ≡ Some name → kind_among members name ≡ Some kind → slice_get T.kinds kind ≡ Some (containing T.attributes T.particles)
+        → IfOk result (λ v. (name ≡ F.name) × Leaves T.kinds F (told_inside (holding_with (T.given v) (T.parts v)) told) (seen_of P.schema descent.new)) }
+{
+    record_inside(descent)
+}
+
+/// What is left out of the profile: nothing of it stands there.
+pub fn left_out<P: Places>(descent: &Descent<'_, '_, P>)
+    ensures read { (ks : List PlainKind) (F : Frame) (attributes : List AttributeOf) (declared : List PlainParticle) (at : ℕ) (told : List TreeEvent)
+        → Reads ks F attributes declared at told (seen_of P.schema descent.now) → is_left_out (slice_get declared at) ≡ true
+        → Reads ks F attributes declared (suc at) told (seen_of P.schema descent.now) }
+{}

@@ -1,0 +1,135 @@
+//! What an element contains.
+
+ghost use Rattle.std.specs.Prelude.{◌≡◌, ℕ, ◌∷◌, [], List, Bool, true, Some, IfOk, IfErr, slice_get, length};
+ghost use Rattle.exi_documents.specs.Trees.{Event as TreeEvent, Value as TreeValue};
+ghost use Rattle.message_parts.specs.Values.{IsRead};
+ghost use Rattle.exi_schema.specs.declared.tables.Datatype.{Datatype};
+ghost use Rattle.exi_schema.specs.Schemas.{are_distinct};
+ghost use Rattle.exi_values.specs.Meaning.{value_of, IsShaped, IsLent};
+ghost use Rattle.exi_schema.specs.Plain.{PlainKind, PlainParticle};
+ghost use Rattle.message_parts.specs.Contents.{Inside, Given, Part, told_parts, told_given, told_inside, given_onto, parts_onto, one_onto};
+ghost use Rattle.message_parts.specs.Particles.{names_among};
+ghost use Rattle.message_parts.specs.Reading.{Frame, seen_of, IsOpen, Leaves, Reads, IsRefusal, IsChosen, StartsAt, names_in};
+ghost use Rattle.message_parts.specs.Writing.{Target, Writes, put_of};
+ghost use Rattle.exi_events.specs.Writer.{IsReadyToPut, KeepsLent};
+ghost use Rattle.exi_schema.specs.declared.tables.AttributeOf.{AttributeOf};
+
+use crate::descent::Descent;
+use exi_documents::Refusal;
+use exi_events::{EventWriter, Value};
+use exi_schema::Places;
+
+/// A value of a simple kind.
+pub trait Simple<'a>: Drop {
+    /// The datatypes whose values it takes.
+    ghost takes: { Datatype → Bool };
+
+    /// What it is.
+    ghost value: { Self → TreeValue };
+
+    /// As it is written.
+    fn as_value(&self) -> Value<'_>
+        ensures shaped { IsShaped result }
+        ensures value { value_of result ≡ value self.now };
+
+    /// What is read as a value of one of these datatypes.
+    fn of(read: Value<'a>) -> Self
+        requires lent { (bits : List Bool) × IsLent bits read }
+        ensures { (d : Datatype) → takes d ≡ true → IsRead d (value_of read.entry) → value result ≡ value_of read.entry };
+}
+
+/// What an element of a complex kind contains, attributes and then elements, and how it is put.
+pub trait PutRecord: Drop {
+    /// What stands at its attributes.
+    ghost given: { Self → List Given };
+
+    /// What stands at its particles.
+    ghost parts: { Self → List Part };
+
+    /// Puts the attributes and the elements.
+    fn write<P: Places>(&self, writer: &mut EventWriter<'_, '_, P>)
+        requires ready { IsReadyToPut writer.old }
+        ensures ready { IsReadyToPut writer.new }
+        ensures lent { KeepsLent writer.old writer.new }
+        ensures write { (F : Target) (rest : List TreeEvent) → Writes F (given_onto (given self.now) (parts_onto (parts self.now) rest)) (put_of writer.old)
+            → Writes F rest (put_of writer.new) };
+}
+
+/// What an element of a complex kind contains, as it is read.
+pub trait Record<'a>: PutRecord {
+    /// The declarations of its schema.
+    ghost kinds: { List PlainKind };
+
+    /// Those of its attributes.
+    ghost attributes: { List AttributeOf };
+
+    /// Those of its elements.
+    ghost particles: { List PlainParticle };
+
+    /// Reads the attributes and the elements, up to where there is no more.
+    fn read<P: Places>(descent: &mut Descent<'a, '_, P>) -> Result<Self, Refusal>
+        requires open { IsOpen P.schema descent.old }
+        ensures open { IsOpen P.schema descent.new }
+        ensures table { descent.new.reader.table.ghost_name ≡ descent.old.reader.table.ghost_name }
+        ensures places { descent.new.reader.places.now ≡ descent.old.reader.places.now }
+        ensures payload { descent.new.reader.reader.bits ≡ descent.old.reader.reader.bits }
+        ensures refused { IfErr result (λ r. IsRefusal (seen_of P.schema descent.old) r) }
+        // No two elements have one name.
+        ensures distinct { are_distinct (names_in particles) ≡ true }
+        ensures read { (F : Frame) (told : List TreeEvent) → StartsAt kinds F attributes particles 0 told (seen_of P.schema descent.old)
+            → IfOk result (λ v. Reads kinds F attributes particles (length particles) (told_parts (Self.parts v) (told_given (Self.given v) told)) (seen_of P.schema descent.new)) };
+}
+
+/// One of several elements, of a choice or of a substitution group, and how it is put.
+pub trait PutChoice: Drop {
+    /// Which it is.
+    ghost name: { Self → ℕ };
+
+    /// What it contains.
+    ghost inside: { Self → Inside };
+
+    /// Puts it.
+    fn write_member<P: Places>(&self, writer: &mut EventWriter<'_, '_, P>)
+        requires ready { IsReadyToPut writer.old }
+        ensures ready { IsReadyToPut writer.new }
+        ensures lent { KeepsLent writer.old writer.new }
+        ensures write { (F : Target) (rest : List TreeEvent) → Writes F (one_onto (name self.now) (inside self.now) rest) (put_of writer.old)
+            → Writes F rest (put_of writer.new) };
+}
+
+/// One of several elements, as it is read.
+pub trait Choice<'a>: PutChoice {
+    /// The declarations of its schema.
+    ghost kinds: { List PlainKind };
+
+    /// The names and kinds of the elements that may stand there.
+    ghost members: { List (ℕ × ℕ) };
+
+    /// Reads the rest of the element, which has started.
+    fn read_member<P: Places>(descent: &mut Descent<'a, '_, P>) -> Result<Self, Refusal>
+        requires open { IsOpen P.schema descent.old }
+        ensures open { IsOpen P.schema descent.new }
+        ensures table { descent.new.reader.table.ghost_name ≡ descent.old.reader.table.ghost_name }
+        ensures places { descent.new.reader.places.now ≡ descent.old.reader.places.now }
+        ensures payload { descent.new.reader.reader.bits ≡ descent.old.reader.reader.bits }
+        ensures refused { IfErr result (λ r. IsRefusal (seen_of P.schema descent.old) r) }
+        ensures read { (F : Frame) (told : List TreeEvent) → IsChosen kinds F members told (seen_of P.schema descent.old)
+            → IfOk result (λ v. (Self.name v ≡ F.name) × Leaves kinds F (told_inside (Self.inside v) told) (seen_of P.schema descent.new)) };
+}
+
+/// One of several elements where none may stand either.
+pub trait Group<'a>: Choice<'a> {
+    /// The names of the elements that may stand there.
+    fn names() -> &'static [u16]
+        ensures { result.now ≡ names_among Self.members };
+}
+
+/// The root of a document.
+pub trait Root: PutChoice {
+    /// Its document number.
+    ghost number: { Self → ℕ };
+
+    /// Its document number.
+    fn number(&self) -> u32
+        ensures { result ≡ number self.now };
+}

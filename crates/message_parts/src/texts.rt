@@ -1,0 +1,123 @@
+//! Texts and Binaries as values, lent from the payload or from what the message is made of.
+
+ghost use Rattle.std.specs.Prelude.{◌≡◌, ◌≤◌, true, false, length};
+ghost use Rattle.exi_bits.specs.Lent.{items_of};
+ghost use Rattle.exi_documents.specs.Trees.{Bytes as TreeBytes, Text as TreeText};
+ghost use Rattle.exi_values.specs.Meaning.{value_of, IsShaped};
+ghost use Rattle.message_parts.specs.Values.{is_text, is_binary};
+ghost use Rattle.message_parts.specs.Texts.{text_value};
+
+use crate::lent_text::LentText;
+use crate::part::Simple;
+use exi_bits::BitSpan;
+use exi_events::Value;
+
+/// A text (W3C EXI 1.0, Second Edition, 7.1.10 String).
+#[derive(Drop)]
+pub enum Text<'a> {
+    /// Lent from the payload in which it was read.
+    Lent(LentText<'a>),
+    /// To be written.
+    Written(&'a str),
+}
+
+/// A Binary (W3C EXI 1.0, Second Edition, 7.1.1), lent from the payload in which it was read, or from bytes.
+#[derive(Drop)]
+pub struct Binary<'a> {
+    span: BitSpan<'a>,
+    ghost binary: { span.is_text ≡ false },
+}
+
+/// The value of a text's span, once more.
+fn text_again<'a>(span: &BitSpan<'a>) -> Value<'a>
+    requires { span.now.is_text ≡ true }
+    ensures shaped { IsShaped result }
+    ensures value { value_of result ≡ TreeText (items_of span.now) }
+{
+    let _at = span.at();
+    match span.cursor().take_chars(span.len()) {
+        Ok(again) => Value::Text(again),
+        Err(_) => Value::Written(""),
+    }
+}
+
+/// The value of a Binary's span, once more.
+fn binary_again<'a>(span: &BitSpan<'a>) -> Value<'a>
+    requires { span.now.is_text ≡ false }
+    ensures shaped { IsShaped result }
+    ensures value { value_of result ≡ TreeBytes (items_of span.now) }
+{
+    let _at = span.at();
+    match span.cursor().take_bytes(span.len()) {
+        Ok(again) => Value::Binary(again),
+        Err(_) => Value::Bool(false),
+    }
+}
+
+impl<'a> Binary<'a> {
+    /// The Binary of these bytes, at most 65,536.
+    pub fn of_bytes(bytes: &'a [u8]) -> Binary<'a>
+        requires { length bytes.now ≤ 65536 }
+        ensures { items_of result.span ≡ bytes.now }
+    {
+        Binary {
+            span: BitSpan::of_bytes(bytes),
+        }
+    }
+
+    /// The bytes as they stand in the payload.
+    pub fn span(&self) -> &BitSpan<'a>
+        ensures { result.now ≡ self.now.span }
+    {
+        &self.span
+    }
+}
+
+impl<'a> Simple<'a> for Text<'a> {
+    ghost takes = { is_text };
+
+    ghost value = { text_value };
+
+    fn as_value(&self) -> Value<'_> {
+        match self {
+            Text::Lent(lent) => text_again(&lent.span),
+            Text::Written(text) => Value::Written(text),
+        }
+    }
+
+    fn of(read: Value<'a>) -> Text<'a> {
+        match read {
+            Value::Text(span) => Text::Lent(LentText { span }),
+            _ => Text::Written(""),
+        }
+    }
+}
+
+impl<'a> Default for Text<'a> {
+    fn default() -> Text<'a> {
+        Text::Written("")
+    }
+}
+
+impl<'a> Simple<'a> for Binary<'a> {
+    ghost takes = { is_binary };
+
+    ghost value = { λ x. TreeBytes (items_of x.span) };
+
+    fn as_value(&self) -> Value<'_> {
+        binary_again(&self.span)
+    }
+
+    fn of(read: Value<'a>) -> Binary<'a> {
+        match read {
+            Value::Binary(span) => Binary { span },
+            _ => Binary::of_bytes(&[]),
+        }
+    }
+}
+
+impl<'a> Default for Binary<'a> {
+    fn default() -> Binary<'a> {
+        Binary::of_bytes(&[])
+    }
+}

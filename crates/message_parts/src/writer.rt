@@ -1,0 +1,192 @@
+//! The elements of a message, put one after the other.
+
+ghost use Rattle.std.specs.Prelude.{◌≡◌, ℕ, ◌∷◌, [], ◌≤◌, List, None, Some, map, length, true, IfOk, MatchOption};
+ghost use Rattle.exi_documents.specs.Trees.{Event as TreeEvent, Attribute};
+ghost use Rattle.exi_events.specs.Writer.{IsReadyToPut, KeepsLent, IsShapedEvent};
+ghost use Rattle.exi_values.specs.Meaning.{event_of};
+ghost use Rattle.message_parts.specs.Contents.{Of, holding_with, one_onto, perhaps_onto, each_onto, maybe_onto, choice_onto, mapped};
+ghost use Rattle.message_parts.specs.Writing.{Target, Writes, put_of};
+
+use crate::part::{PutChoice, PutRecord, Simple};
+use arrayvec::ArrayVec;
+use exi_events::{Event, EventWriter};
+use exi_schema::Places;
+
+/// Puts an event where it is offered. The first lack of room is kept by the writer, and nothing is put from then on.
+pub fn put_event<P: Places>(writer: &mut EventWriter<'_, '_, P>, event: &Event<'_>)
+    requires ready { IsReadyToPut writer.old }
+    requires shaped { IsShapedEvent event.now }
+    ensures ready { IsReadyToPut writer.new }
+    ensures lent { KeepsLent writer.old writer.new }
+    ensures write { (F : Target) (e : TreeEvent) (rest : List TreeEvent) → Writes F (e ∷ rest) (put_of writer.old) → event_of event.now ≡ Some e
+        → Writes F rest (put_of writer.new) }
+{
+    if writer.offers(event) {
+        let _full = writer.put(event);
+    }
+}
+
+/// Puts an attribute.
+pub fn put_attribute<'a, T: Simple<'a>, P: Places>(
+    writer: &mut EventWriter<'_, '_, P>,
+    name: u16,
+    value: &T,
+)
+    requires ready { IsReadyToPut writer.old }
+    ensures ready { IsReadyToPut writer.new }
+    ensures lent { KeepsLent writer.old writer.new }
+    ensures write { (F : Target) (rest : List TreeEvent) → Writes F (Attribute name (T.value value.now) ∷ rest) (put_of writer.old)
+        → Writes F rest (put_of writer.new) }
+{
+    put_event(writer, &Event::Attribute(name, value.as_value()));
+}
+
+/// Puts an attribute, where it is there.
+pub fn put_optional_attribute<'a, T: Simple<'a>, P: Places>(
+    writer: &mut EventWriter<'_, '_, P>,
+    name: u16,
+    value: &Option<T>,
+)
+    requires ready { IsReadyToPut writer.old }
+    ensures ready { IsReadyToPut writer.new }
+    ensures lent { KeepsLent writer.old writer.new }
+    ensures write { (F : Target) (rest : List TreeEvent) → Writes F (maybe_onto name (mapped T.value value.now) rest) (put_of writer.old)
+        → Writes F rest (put_of writer.new) }
+{
+    match value {
+        None => {}
+        Some(value) => put_attribute(writer, name, value),
+    }
+}
+
+/// Puts a value.
+pub fn put_value<'a, T: Simple<'a>, P: Places>(
+    writer: &mut EventWriter<'_, '_, P>,
+    name: u16,
+    value: &T,
+)
+    requires ready { IsReadyToPut writer.old }
+    ensures ready { IsReadyToPut writer.new }
+    ensures lent { KeepsLent writer.old writer.new }
+    ensures write { (F : Target) (rest : List TreeEvent) → Writes F (one_onto name (Of (T.value value.now)) rest) (put_of writer.old)
+        → Writes F rest (put_of writer.new) }
+{
+    put_event(writer, &Event::Start(name));
+    put_event(writer, &Event::Value(value.as_value()));
+    put_event(writer, &Event::EndElement);
+}
+
+/// Puts a value, where it is there.
+pub fn put_optional_value<'a, T: Simple<'a>, P: Places>(
+    writer: &mut EventWriter<'_, '_, P>,
+    name: u16,
+    value: &Option<T>,
+)
+    requires ready { IsReadyToPut writer.old }
+    ensures ready { IsReadyToPut writer.new }
+    ensures lent { KeepsLent writer.old writer.new }
+    ensures write { (F : Target) (rest : List TreeEvent) → Writes F (perhaps_onto name (mapped (λ x. Of (T.value x)) value.now) rest) (put_of writer.old)
+        → Writes F rest (put_of writer.new) }
+{
+    match value {
+        None => {}
+        Some(value) => put_value(writer, name, value),
+    }
+}
+
+/// Puts values of one name.
+pub fn put_values<'a, T: Simple<'a>, P: Places, const N: usize>(
+    writer: &mut EventWriter<'_, '_, P>,
+    name: u16,
+    values: &ArrayVec<T, N>,
+)
+    requires ready { IsReadyToPut writer.old }
+    ensures ready { IsReadyToPut writer.new }
+    ensures lent { KeepsLent writer.old writer.new }
+    ensures write { (F : Target) (rest : List TreeEvent) → Writes F (each_onto name (map (λ x. Of (T.value x)) values.now.items) rest) (put_of writer.old)
+        → Writes F rest (put_of writer.new) }
+{
+    for value in values.as_slice() {
+        put_value(writer, name, value);
+    }
+}
+
+/// Puts an element with attributes and children.
+pub fn put_record<T: PutRecord, P: Places>(
+    writer: &mut EventWriter<'_, '_, P>,
+    name: u16,
+    value: &T,
+)
+    requires ready { IsReadyToPut writer.old }
+    ensures ready { IsReadyToPut writer.new }
+    ensures lent { KeepsLent writer.old writer.new }
+    ensures write { (F : Target) (rest : List TreeEvent) → Writes F (one_onto name (holding_with (T.given value.now) (T.parts value.now)) rest) (put_of writer.old)
+        → Writes F rest (put_of writer.new) }
+{
+    put_event(writer, &Event::Start(name));
+    value.write(writer);
+    put_event(writer, &Event::EndElement);
+}
+
+/// Puts one where it is there.
+pub fn put_optional<T: PutRecord, P: Places>(
+    writer: &mut EventWriter<'_, '_, P>,
+    name: u16,
+    value: &Option<T>,
+)
+    requires ready { IsReadyToPut writer.old }
+    ensures ready { IsReadyToPut writer.new }
+    ensures lent { KeepsLent writer.old writer.new }
+    ensures write { (F : Target) (rest : List TreeEvent) → Writes F (perhaps_onto name (mapped (λ x. holding_with (T.given x) (T.parts x)) value.now) rest) (put_of writer.old)
+        → Writes F rest (put_of writer.new) }
+{
+    match value {
+        None => {}
+        Some(value) => put_record(writer, name, value),
+    }
+}
+
+/// Puts those of one name.
+pub fn put_records<T: PutRecord, P: Places, const N: usize>(
+    writer: &mut EventWriter<'_, '_, P>,
+    name: u16,
+    values: &ArrayVec<T, N>,
+)
+    requires ready { IsReadyToPut writer.old }
+    ensures ready { IsReadyToPut writer.new }
+    ensures lent { KeepsLent writer.old writer.new }
+    ensures write { (F : Target) (rest : List TreeEvent) → Writes F (each_onto name (map (λ x. holding_with (T.given x) (T.parts x)) values.now.items) rest) (put_of writer.old)
+        → Writes F rest (put_of writer.new) }
+{
+    for value in values.as_slice() {
+        put_record(writer, name, value);
+    }
+}
+
+/// Puts one of several elements.
+pub fn put_choice<T: PutChoice, P: Places>(writer: &mut EventWriter<'_, '_, P>, value: &T)
+    requires ready { IsReadyToPut writer.old }
+    ensures ready { IsReadyToPut writer.new }
+    ensures lent { KeepsLent writer.old writer.new }
+    ensures write { (F : Target) (rest : List TreeEvent) → Writes F (one_onto (T.name value.now) (T.inside value.now) rest) (put_of writer.old)
+        → Writes F rest (put_of writer.new) }
+{
+    value.write_member(writer);
+}
+
+/// Puts one of several elements, where it is there.
+pub fn put_optional_choice<T: PutChoice, P: Places>(
+    writer: &mut EventWriter<'_, '_, P>,
+    value: &Option<T>,
+)
+    requires ready { IsReadyToPut writer.old }
+    ensures ready { IsReadyToPut writer.new }
+    ensures lent { KeepsLent writer.old writer.new }
+    ensures write { (F : Target) (rest : List TreeEvent) → Writes F (choice_onto (mapped (λ v. (T.name v, T.inside v)) value.now) rest) (put_of writer.old)
+        → Writes F rest (put_of writer.new) }
+{
+    match value {
+        None => {}
+        Some(value) => value.write_member(writer),
+    }
+}
