@@ -6,9 +6,17 @@
 #![tactic(auto)]
 
 pub mod allowed;
+pub mod asking;
 pub mod causes;
+pub mod deadlines;
+pub mod finishing;
+pub mod rows;
 pub mod stage;
 
-pub use allowed::Lowered;
+pub use allowed::{Lowered, allowed_watts, lowered_by};
+pub use asking::{ask_of, asks, shows_watts};
 pub use causes::{Break, Found, Watch};
-pub use stage::{PreCharged, Stage};
+pub use deadlines::timeout_of;
+pub use finishing::{is_ac, is_finished, is_valid};
+pub use rows::{accepts, is_spoken, leads, may_stop};
+pub use stage::{PreCharged, Stage, is_set_up, is_waiting};
