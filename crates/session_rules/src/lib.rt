@@ -9,9 +9,12 @@ pub mod allowed;
 pub mod asking;
 pub mod causes;
 pub mod deadlines;
+mod delivery;
 pub mod finishing;
+mod parameters;
 pub mod rows;
 pub mod stage;
+pub mod verdict;
 
 pub use allowed::{Lowered, allowed_watts, lowered_by};
 pub use asking::{ask_of, asks, shows_watts};
@@ -20,3 +23,4 @@ pub use deadlines::timeout_of;
 pub use finishing::{is_ac, is_finished, is_valid};
 pub use rows::{accepts, is_spoken, leads, may_stop};
 pub use stage::{PreCharged, Stage, is_set_up, is_waiting};
+pub use verdict::{is_accepted, joins, judge};
