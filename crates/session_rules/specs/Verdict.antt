@@ -95,9 +95,9 @@ accepting_code s facts named other = code.Ok
 abbrev pub refusal : Stage → Facts → PostPlan → Request → Option Code
 refusal s facts plan r =
     first_line (
-      line (is_misnamed s r.session) (Some code.FailedUnknownSession) ∷
-      line (not (accepts s.dialect s.row r.ask)) (Some code.FailedSequenceError) ∷
-      content_lines s facts plan r.ask) None
+    line (is_misnamed s r.session) (Some code.FailedUnknownSession) ∷
+    line (not (accepts s.dialect s.row r.ask)) (Some code.FailedSequenceError) ∷
+    content_lines s facts plan r.ask) None
 
 -- the code of the reply
 abbrev pub verdict : Stage → Facts → PostPlan → Request → Code

@@ -74,7 +74,9 @@ fn is_within_post(plan: &PostPlan, car: &CarLimits) -> bool
                 <= u64::from(plan.max_watts)
         }
         CarLimits::Dc {
-            current, voltage, ..
+            current,
+            voltage,
+            ..
         } => {
             !ac && u32::from(plan.min_voltage.get()) <= voltage.size
                 && u32::from(plan.min_current.get()) <= current.size

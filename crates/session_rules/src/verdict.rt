@@ -86,19 +86,21 @@ fn content_fault(stage: &Stage, facts: &Facts, plan: &PostPlan, ask: &Ask) -> Op
         }
         Ask::CableCheck { .. } => cable_fault(facts),
         Ask::PreCharge {
-            voltage, current, ..
+            voltage,
+            current,
+            ..
         } => pre_charge_fault(plan, *voltage, *current),
         Ask::CurrentDemand {
-            voltage, current, ..
+            voltage,
+            current,
+            ..
         } => (!(voltage.right && current.right)).then_some(Code::Failed),
         Ask::PowerDelivery {
             progress,
             tuple,
             profile,
         } => delivery_fault(stage, facts, *progress, *tuple, *profile),
-        Ask::SessionStop { pause } => {
-            (*pause && !is_stopped(stage.row)).then_some(Code::Failed)
-        }
+        Ask::SessionStop { pause } => { (*pause && !is_stopped(stage.row)).then_some(Code::Failed) }
         Ask::SessionSetup { .. }
         | Ask::ServiceDiscovery
         | Ask::Authorization
