@@ -1,1 +1,3 @@
+pub mod ClosingLemmas
 pub mod Targets
+pub mod VerdictLemmas

@@ -91,13 +91,16 @@ abbrev pub accepting_code : Stage → Facts → SessionId → Ask → Code
 accepting_code s facts named (ask.SessionSetup car) = setup_code (joins s.dialect facts named)
 accepting_code s facts named other = code.Ok
 
--- the code of the first line that applies
-abbrev pub refusal : Stage → Facts → PostPlan → Request → Option Code
-refusal s facts plan r =
-    first_line (
+-- all lines, in their order
+abbrev pub verdict_lines : Stage → Facts → PostPlan → Request → List (Line (Option Code))
+verdict_lines s facts plan r =
     line (is_misnamed s r.session) (Some code.FailedUnknownSession) ∷
     line (not (accepts s.dialect s.row r.ask)) (Some code.FailedSequenceError) ∷
-    content_lines s facts plan r.ask) None
+    content_lines s facts plan r.ask
+
+-- the code of the first line that applies
+abbrev pub refusal : Stage → Facts → PostPlan → Request → Option Code
+refusal s facts plan r = first_line (verdict_lines s facts plan r) None
 
 -- the code of the reply
 abbrev pub verdict : Stage → Facts → PostPlan → Request → Code

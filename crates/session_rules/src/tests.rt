@@ -7,7 +7,7 @@ use charge_world::{Dialect, IsolationLevel, Order, PilotState, PlantEvent, Tenth
 use session_words::{
     Amount, Ask, CarLimits, Code, DcStatus, EndCause, EvseId, EvseText, Facts, Mode, Notify, Phase,
     PostLimits, PostPlan, PostStatus, Processing, Progress, Request, SessionId, Standing,
-    StatusCode, Tell, Timeout,
+    StatusCode, Tell, Timeout, Tuple,
 };
 use std::process::Abort;
 
@@ -292,47 +292,60 @@ fn a_cable_check_waits_for_the_isolation_and_fails_by_a_fault(rt: HostRuntime) {
     answers(&rt, &plan, stage(Phase::DcReady), &fault, &ask, row);
 }
 
-#[test]
-fn events_of_the_charger_that_end_a_session(rt: HostRuntime) {
-    let charging = Watch {
+/// A charging session of three phases that may take 22,080 W.
+fn charging() -> Watch {
+    Watch {
         row: Phase::AcCharging,
         standing: Standing::Closed,
         live: true,
         phases: 3,
         allowed: 22080,
-    };
-    let checked = Watch {
+    }
+}
+
+/// A session whose isolation was checked, and whose contactor is open.
+fn checked() -> Watch {
+    Watch {
         row: Phase::DcChecked,
         standing: Standing::Opened,
         live: false,
-        ..charging
-    };
-    let measured = |current: u16| PlantEvent::Measured {
+        phases: 1,
+        allowed: 22080,
+    }
+}
+
+/// 230.0 V and this current, in tenths of an ampere.
+fn measured(current: u16) -> PlantEvent
+    requires { current ≤ 30000 }
+{
+    PlantEvent::Measured {
         voltage: tenths(2300),
-        current: tenths(current.min(30000)),
-    };
+        current: tenths(current),
+    }
+}
+
+#[test]
+fn events_of_the_charger_that_end_a_session(rt: HostRuntime) {
     let invalid = PlantEvent::Isolation(IsolationLevel::Invalid);
-    let table = [
-        (charging, measured(336), None),
-        (charging, measured(337), Some(EndCause::OverPower)),
-        (checked, measured(337), None),
-        (checked, invalid, Some(EndCause::IsolationLost)),
-        (charging, invalid, None),
-        (
-            charging,
-            PlantEvent::Pilot(PilotState::B),
-            Some(EndCause::PilotLost),
-        ),
-        (checked, PlantEvent::Pilot(PilotState::B), None),
-        (charging, PlantEvent::Emergency, Some(EndCause::Emergency)),
-        (
-            charging,
-            PlantEvent::Feedback { closed: false },
-            Some(EndCause::FeedbackWrong),
-        ),
-    ];
-    for (watch, event, cause) in table {
-        assert_eq!(rt; plant_cause(watch, event), cause, "at {event:?}");
+    let not_ready = PlantEvent::Pilot(PilotState::B);
+    let opened = PlantEvent::Feedback { closed: false };
+    for (event, cause) in [
+        (measured(336), None),
+        (measured(337), Some(EndCause::OverPower)),
+        (invalid, None),
+        (not_ready, Some(EndCause::PilotLost)),
+        (PlantEvent::Emergency, Some(EndCause::Emergency)),
+        (opened, Some(EndCause::FeedbackWrong)),
+    ] {
+        assert_eq!(rt; plant_cause(charging(), event), cause);
+    }
+    for (event, cause) in [
+        (measured(337), None),
+        (invalid, Some(EndCause::IsolationLost)),
+        (not_ready, None),
+        (opened, None),
+    ] {
+        assert_eq!(rt; plant_cause(checked(), event), cause);
     }
     assert_eq!(rt; break_cause(Break::OrderFailed), EndCause::OrderFailed);
 }
@@ -516,6 +529,17 @@ fn a_demand_is_cut_and_hears_of_renegotiation_and_of_stop(rt: HostRuntime) {
     }
 }
 
+/// The one tuple of a schedule, where these watts are any.
+fn schedule(watts: u32) -> Option<ArrayVec<Tuple, 3>> {
+    let mut tuples = ArrayVec::new();
+    tuples.push(Tuple {
+        id: 1,
+        entries: 1,
+        least: amount(watts),
+    });
+    (watts > 0).then_some(tuples)
+}
+
 #[test]
 fn parameters_are_shown_their_share_and_wait_without_one(rt: HostRuntime) {
     let plan = post(Mode::DcExtended);
@@ -545,17 +569,21 @@ fn parameters_are_shown_their_share_and_wait_without_one(rt: HostRuntime) {
         (0, Phase::Authorized, Processing::Ongoing),
     ] {
         let reply = reply_to(&stage(Phase::Authorized), &facts(None), &plan, &ask, shown);
-        match reply.tell {
-            Tell::ChargeParameters {
-                processing: said,
-                schedule,
-                limits: PostLimits::Dc { watts, .. },
-            } => {
-                assert_eq!(rt; (said, watts), (processing, Some(amount(shown))));
-                assert_eq!(rt; schedule.is_some(), shown > 0);
-            }
-            _ => assert!(rt; false),
-        }
+        let limits = PostLimits::Dc {
+            status: dc_status(None, StatusCode::EvseReady),
+            current: amount(1250),
+            watts: Some(amount(shown)),
+            voltage: amount(9200),
+            least_current: amount(0),
+            least_voltage: amount(1500),
+            ripple: amount(10),
+        };
+        let told = Tell::ChargeParameters {
+            processing,
+            schedule: schedule(shown),
+            limits,
+        };
+        assert_eq!(rt; reply.tell, told);
         let behind = stage_behind(stage(Phase::Authorized), &facts(None), &plan, &ask, shown);
         assert_eq!(rt; (behind.row, behind.told), (row, shown));
     }
