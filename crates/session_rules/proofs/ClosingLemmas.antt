@@ -1,5 +1,5 @@
 -- When the contactor is ordered closed.
-use Rattle.std.proofs.Common.{◌≡◌, ℕ, ◌≤◌, ℤ, Bool, true, false, not, ◌&&◌, nat_le, Option, Some, None, if◌then◌else◌, is_some, refl, subst, arith, ◌⊎◌, inl, inr, ◌∙◌, sym}
+use Rattle.std.proofs.Common.{◌≡◌, ℕ, ℤ, Bool, true, false, not, ◌&&◌, Option, Some, None, if◌then◌else◌, refl, subst, arith, ◌⊎◌, inl, inr, ◌∙◌, sym}
 use Rattle.std.proofs.lemmas.Grind.{common_steps}
 use Rattle.charge_world.specs.declared.offer.Dialect.{Dialect}
 use Rattle.charge_world.specs.declared.offer.Dialect.TheVariants as dialect
@@ -20,11 +20,11 @@ use Rattle.session_words.specs.declared.word.Request.{Request}
 use Rattle.contactor.specs.Rights.{is_ready}
 use Rattle.session_rules.specs.declared.stage.PreCharged.{PreCharged}
 use Rattle.session_rules.specs.declared.stage.Stage.{Stage}
-use Rattle.session_rules.specs.Delivery.{is_opened, is_pre_charged, off_of}
+use Rattle.session_rules.specs.Delivery.{is_opened, is_pre_charged}
 use Rattle.session_rules.specs.Laws.{ClosesRight, ClosesFor, IsNear, IsStart}
 use Rattle.session_rules.specs.Lines.{none_applies}
-use Rattle.session_rules.specs.Orders.{order_of, granted_order}
-use Rattle.session_rules.specs.Rows.{accepts, leads}
+use Rattle.session_rules.specs.Orders.{granted_order}
+use Rattle.session_rules.specs.Rows.{accepts}
 use Rattle.session_rules.specs.Verdict.{verdict, verdict_lines, is_accepted}
 use Rattle.session_rules.proofs.VerdictLemmas.{accepts_without_line}
 

@@ -1,11 +1,9 @@
 -- What the lines of the verdict give.
-use Rattle.std.proofs.Common.{◌≡◌, ℕ, Bool, true, false, not, ◌&&◌, List, [], ◌∷◌, Option, Some, None, unwrap_or, if◌then◌else◌, refl}
+use Rattle.std.proofs.Common.{◌≡◌, Bool, true, false, not, ◌&&◌, List, [], ◌∷◌, Option, Some, None, unwrap_or, if◌then◌else◌, refl}
 use Rattle.charge_world.specs.declared.offer.Dialect.{Dialect}
 use Rattle.charge_world.specs.declared.offer.Dialect.TheVariants as dialect
-use Rattle.session_words.specs.declared.amount.Amount.{Amount}
 use Rattle.session_words.specs.declared.code.Code.{Code}
 use Rattle.session_words.specs.declared.code.Code.TheVariants as code
-use Rattle.session_words.specs.declared.code.Progress.{Progress}
 use Rattle.session_words.specs.declared.code.Progress.TheVariants as progress
 use Rattle.session_words.specs.declared.facts.Facts.{Facts}
 use Rattle.session_words.specs.declared.plan.PostPlan.{PostPlan}
@@ -14,11 +12,11 @@ use Rattle.session_words.specs.declared.word.Ask.{Ask}
 use Rattle.session_words.specs.declared.word.Ask.TheVariants as ask
 use Rattle.session_words.specs.declared.word.Request.{Request}
 use Rattle.session_rules.specs.declared.stage.Stage.{Stage}
-use Rattle.session_rules.specs.Delivery.{delivery_lines, contactor_code}
+use Rattle.session_rules.specs.Delivery.{contactor_code}
 use Rattle.session_rules.specs.Laws.{AcceptsWithoutLine, AnswersInDialect, is_code_of}
 use Rattle.session_rules.specs.Lines.{Line, line, first_line, none_applies}
-use Rattle.session_rules.specs.Parameters.{parameter_lines, wrong_mode}
-use Rattle.session_rules.specs.Verdict.{verdict, verdict_lines, content_lines, accepting_code, setup_code, joins, is_accepted}
+use Rattle.session_rules.specs.Parameters.{wrong_mode}
+use Rattle.session_rules.specs.Verdict.{verdict_lines, content_lines, accepting_code, setup_code, joins, is_accepted}
 
 -- each line gives a FAILED code that the dialect has
 abbrev pub Fails : Dialect → List (Line (Option Code)) → Type 0

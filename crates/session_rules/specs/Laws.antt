@@ -1,10 +1,8 @@
 -- Own: what follows from the rules of a session, whatever it keeps and is asked.
-use Rattle.std.specs.Prelude.{◌≡◌, ℕ, ◌≤◌, Bool, true, false, ◌⊎◌, Option, Some, None}
+use Rattle.std.specs.Prelude.{◌≡◌, ◌≢◌, ℕ, ◌+◌, ◌*◌, ◌^◌, ◌<◌, ◌≤◌, Bool, true, false, ◌⊎◌, Option, Some, None}
 use Rattle.charge_world.specs.declared.offer.Dialect.{Dialect}
 use Rattle.charge_world.specs.declared.offer.Dialect.TheVariants as dialect
-use Rattle.charge_world.specs.declared.ports.Order.{Order}
 use Rattle.charge_world.specs.declared.ports.Order.TheVariants as order
-use Rattle.session_words.specs.declared.amount.Amount.{Amount}
 use Rattle.session_words.specs.declared.code.Code.{Code}
 use Rattle.session_words.specs.declared.code.Code.TheVariants as code
 use Rattle.session_words.specs.declared.code.Progress.TheVariants as progress
@@ -16,14 +14,21 @@ use Rattle.session_words.specs.declared.plan.PostPlan.{PostPlan}
 use Rattle.session_words.specs.declared.word.Ask.{Ask}
 use Rattle.session_words.specs.declared.word.Ask.TheVariants as ask
 use Rattle.session_words.specs.declared.word.Request.{Request}
+use Rattle.session_words.specs.Amounts.{IsWrittenWatts}
+use Rattle.session_timers.specs.declared.deadlines.Last.{Last}
+use Rattle.session_timers.specs.declared.deadlines.Last.TheVariants as last_was
+use Rattle.session_timers.specs.Due.{due_in}
+use Rattle.session_timers.specs.Law.{span_of}
 use Rattle.contactor.specs.Rights.{is_ready}
 use Rattle.session_rules.specs.declared.stage.PreCharged.{PreCharged}
 use Rattle.session_rules.specs.declared.stage.Stage.{Stage}
+use Rattle.session_rules.specs.Deadlines.{timeout_of}
 use Rattle.session_rules.specs.Delivery.{off_of}
 use Rattle.session_rules.specs.Lines.{none_applies}
 use Rattle.session_rules.specs.Moves.{stage_behind, facts_behind}
 use Rattle.session_rules.specs.Orders.{order_of}
-use Rattle.session_rules.specs.Stages.{is_set_up}
+use Rattle.session_rules.specs.Offers.{p_max_of}
+use Rattle.session_rules.specs.Stages.{is_set_up, is_waiting}
 use Rattle.session_rules.specs.Verdict.{verdict, verdict_lines, is_accepted}
 
 -- a request is accepted exactly where no line of the verdict applies
@@ -78,3 +83,26 @@ pub record ClosesFor (s : Stage) (facts : Facts) (plan : PostPlan) (r : Request)
 abbrev pub ClosesRight : Type 0
 ClosesRight = (s : Stage) (facts : Facts) (plan : PostPlan) (r : Request) (shown : ℕ)
     → order_of s facts plan r shown ≡ Some order.Close → ClosesFor s facts plan r
+
+-- a reply waits
+abbrev pub is_closing : Last → Bool
+is_closing (last_was.Closing at) = true
+is_closing last_was.Nothing = false
+is_closing (last_was.Replied at) = false
+
+-- what the deadlines of a session in this row count from: Came; and behind SessionSetup the last reply, or the Close whose reply waits
+pub record FitsRow (in_row : Phase) (came : ℕ) (last : Last) : Type 0 where
+  pub waits : is_closing last ≡ is_waiting in_row
+  pub replied : is_set_up in_row ≡ true → last ≢ last_was.Nothing
+
+-- the deadline that runs is the one of the row
+abbrev pub RunsByRow : Type 0
+RunsByRow = (in_row : Phase) (came : ℕ) (last : Last) → FitsRow in_row came last
+    → (from : ℕ) × (due_in (Some came) (is_set_up in_row) last ≡ Some (record { timeout = timeout_of in_row; moment = from + span_of (timeout_of in_row) }))
+
+-- the PMax of a schedule is the number that its Value and Multiplier write, and never more than the watts that are shown
+abbrev pub SpellsSchedule : Type 0
+SpellsSchedule = (watts multiplier value : ℕ) → watts < 32768000 → IsWrittenWatts watts multiplier value → p_max_of dialect.Iso watts ≡ value * 10 ^ multiplier
+
+abbrev pub SchedulesWithin : Type 0
+SchedulesWithin = (d : Dialect) (watts : ℕ) → p_max_of d watts ≤ watts

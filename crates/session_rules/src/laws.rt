@@ -1,6 +1,6 @@
 //! What follows from the rules of a session, whatever it keeps and is asked.
 
-ghost use Rattle.session_rules.specs.Laws.{AcceptsWithoutLine, NamesItsSession, AnswersInDialect, LeavesRefused, ClosesRight};
+ghost use Rattle.session_rules.specs.Laws.{AcceptsWithoutLine, NamesItsSession, AnswersInDialect, LeavesRefused, ClosesRight, RunsByRow, SpellsSchedule, SchedulesWithin};
 
 /// What the code of a reply says: it is of the OK class exactly where no line of the verdict applies; a session that is set
 /// up accepts only requests that name it; and each dialect has its codes.
@@ -19,4 +19,15 @@ pub fn law_of_refusals()
 /// in DC only behind a pre-charge that came within 20.0 V of its target.
 pub fn law_of_closing()
     ensures { ClosesRight }
+{}
+
+/// The deadline that runs in a session is the one of its row (`timeout_of`), by the rule of `session_timers`.
+pub fn law_of_timeouts()
+    ensures { RunsByRow }
+{}
+
+/// The watts of a schedule that profiles are held against are those that its message writes, and never more than are shown.
+pub fn law_of_schedules()
+    ensures spelled { SpellsSchedule }
+    ensures within { SchedulesWithin }
 {}

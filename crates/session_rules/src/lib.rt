@@ -29,7 +29,9 @@ pub use causes::{
 };
 pub use deadlines::timeout_of;
 pub use finishing::{is_ac, is_finished, is_valid};
-pub use laws::{law_of_closing, law_of_refusals, law_of_verdicts};
+pub use laws::{
+    law_of_closing, law_of_refusals, law_of_schedules, law_of_timeouts, law_of_verdicts,
+};
 pub use moves::{facts_behind, next_row, stage_behind};
 pub use orders::order_of;
 pub use reply::{reply_to, waiting_reply};

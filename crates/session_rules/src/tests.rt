@@ -324,29 +324,33 @@ fn measured(current: u16) -> PlantEvent
     }
 }
 
+/// The event is this cause in a charging session, and this one in a session that was checked.
+fn ends(rt: &impl Abort, event: PlantEvent, then: Option<EndCause>, before: Option<EndCause>) {
+    assert_eq!(rt; plant_cause(charging(), event), then);
+    assert_eq!(rt; plant_cause(checked(), event), before);
+}
+
 #[test]
 fn events_of_the_charger_that_end_a_session(rt: HostRuntime) {
-    let invalid = PlantEvent::Isolation(IsolationLevel::Invalid);
-    let not_ready = PlantEvent::Pilot(PilotState::B);
+    let lost = Some(EndCause::IsolationLost);
+    let emergency = Some(EndCause::Emergency);
     let opened = PlantEvent::Feedback { closed: false };
-    for (event, cause) in [
-        (measured(336), None),
-        (measured(337), Some(EndCause::OverPower)),
-        (invalid, None),
-        (not_ready, Some(EndCause::PilotLost)),
-        (PlantEvent::Emergency, Some(EndCause::Emergency)),
-        (opened, Some(EndCause::FeedbackWrong)),
-    ] {
-        assert_eq!(rt; plant_cause(charging(), event), cause);
-    }
-    for (event, cause) in [
-        (measured(337), None),
-        (invalid, Some(EndCause::IsolationLost)),
-        (not_ready, None),
-        (opened, None),
-    ] {
-        assert_eq!(rt; plant_cause(checked(), event), cause);
-    }
+    ends(&rt, measured(336), None, None);
+    ends(&rt, measured(337), Some(EndCause::OverPower), None);
+    ends(
+        &rt,
+        PlantEvent::Isolation(IsolationLevel::Invalid),
+        None,
+        lost,
+    );
+    ends(
+        &rt,
+        PlantEvent::Pilot(PilotState::B),
+        Some(EndCause::PilotLost),
+        None,
+    );
+    ends(&rt, PlantEvent::Emergency, emergency, emergency);
+    ends(&rt, opened, Some(EndCause::FeedbackWrong), None);
     assert_eq!(rt; break_cause(Break::OrderFailed), EndCause::OrderFailed);
 }
 
