@@ -105,21 +105,21 @@ fn is_against(standing: Standing, closed: bool) -> bool
 }
 
 /// The cause that an event of the charger is in a session, if it is one.
-pub fn plant_cause(watch: Watch, event: PlantEvent) -> Option<EndCause>
-    ensures { result ≡ rule.plant_cause watch event }
+pub fn plant_cause(watch: &Watch, event: &PlantEvent) -> Option<EndCause>
+    ensures { result ≡ rule.plant_cause watch.now event.now }
 {
     let (stands, cause) = match event {
-        PlantEvent::Pilot(pilot) => (is_pilot_lost(watch.live, pilot), EndCause::PilotLost),
+        PlantEvent::Pilot(pilot) => (is_pilot_lost(watch.live, *pilot), EndCause::PilotLost),
         PlantEvent::Isolation(level) => (
-            needs_isolation(watch.row) && !is_valid(Some(level)),
+            needs_isolation(watch.row) && !is_valid(Some(*level)),
             EndCause::IsolationLost,
         ),
         PlantEvent::Measured { voltage, current } => (
-            is_closing(watch.standing) && is_over(watch.phases, watch.allowed, voltage, current),
+            is_closing(watch.standing) && is_over(watch.phases, watch.allowed, *voltage, *current),
             EndCause::OverPower,
         ),
         PlantEvent::Feedback { closed } => {
-            (is_against(watch.standing, closed), EndCause::FeedbackWrong)
+            (is_against(watch.standing, *closed), EndCause::FeedbackWrong)
         }
         PlantEvent::Emergency => (true, EndCause::Emergency),
         PlantEvent::Paid | PlantEvent::StopAsked | PlantEvent::RenewAsked => return None,

@@ -326,8 +326,8 @@ fn measured(current: u16) -> PlantEvent
 
 /// The event is this cause in a charging session, and this one in a session that was checked.
 fn ends(rt: &impl Abort, event: PlantEvent, then: Option<EndCause>, before: Option<EndCause>) {
-    assert_eq!(rt; plant_cause(charging(), event), then);
-    assert_eq!(rt; plant_cause(checked(), event), before);
+    assert_eq!(rt; plant_cause(&charging(), &event), then);
+    assert_eq!(rt; plant_cause(&checked(), &event), before);
 }
 
 #[test]
