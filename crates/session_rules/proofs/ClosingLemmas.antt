@@ -53,7 +53,8 @@ start_by plan told shown (ask.SessionStop pause) h = cc
 abbrev pub TakesStart : Phase → Type 0
 TakesStart r = (r ≡ row.DcPreCharging) ⊎ (r ≡ row.AcReady)
 
-taken_in : (d : Dialect) (r : Phase) (tuple : Option ℤ) (profile : Option Amount) → accepts d r (ask.PowerDelivery progress.Start tuple profile) ≡ true → TakesStart r
+taken_in : (d : Dialect) (r : Phase) (tuple : Option ℤ) (profile : Option Amount)
+    → accepts d r (ask.PowerDelivery progress.Start tuple profile) ≡ true → TakesStart r
 taken_in dialect.Iso row.DcPreCharging tuple profile h = inl refl
 taken_in dialect.Din row.DcPreCharging tuple profile h = inl refl
 taken_in dialect.Iso row.AcReady tuple profile h = inr refl
@@ -94,7 +95,8 @@ pub record Passed (a b c d e : Bool) : Type 0 where
   pub opened : d ≡ true
   pub charged : e ≡ true
 
-start_passes : (m a t p c d e : Bool) → (not m && (not (not a) && (not t && (not p && (not (not c) && (not (not d) && (not (not e) && true))))))) ≡ true → Passed a t c d e
+start_passes : (m a t p c d e : Bool)
+    → (not m && (not (not a) && (not t && (not p && (not (not c) && (not (not d) && (not (not e) && true))))))) ≡ true → Passed a t c d e
 start_passes true a t p c d e h = cc
 start_passes false false t p c d e h = cc
 start_passes false true true p c d e h = cc
@@ -115,19 +117,22 @@ near_by : (p : Option PreCharged) → is_pre_charged row.DcPreCharging p ≡ tru
 near_by None h = cc
 near_by (Some p) h = grind (arith, common_steps)
 
-starts_right : (s : Stage) (facts : Facts) (plan : PostPlan) (named : SessionId) (a : Ask) → IsStart a → is_accepted (verdict s facts plan (record { session = named; ask = a })) ≡ true
+starts_right : (s : Stage) (facts : Facts) (plan : PostPlan) (named : SessionId) (a : Ask) → IsStart a
+    → is_accepted (verdict s facts plan (record { session = named; ask = a })) ≡ true
     → ClosesFor s facts plan (record { session = named; ask = a })
 starts_right s facts plan named (ask.PowerDelivery progress.Start tuple profile) start accepted =
     let r : Request = record { session = named; ask = ask.PowerDelivery progress.Start tuple profile } in
     let none : none_applies (verdict_lines s facts plan r) ≡ true = sym (accepts_without_line s facts plan r) ∙ accepted in
-    let passed = start_passes _ (accepts s.dialect s.row (ask.PowerDelivery progress.Start tuple profile)) _ _ (is_ready facts.pilot) (is_opened facts.contactor) (is_pre_charged s.row s.pre_charge) none in
+    let passed = start_passes _ (accepts s.dialect s.row r.ask) _ _
+    (is_ready facts.pilot) (is_opened facts.contactor) (is_pre_charged s.row s.pre_charge) none in
     record {
       accepted = accepted;
       start = tt;
       in_row = taken_in s.dialect s.row tuple profile passed.taken;
       pilot = passed.ready;
       opened = opened_by facts.contactor passed.opened;
-      near = λ (e : s.row ≡ row.DcPreCharging). near_by s.pre_charge (subst (λ (x : Phase). is_pre_charged x s.pre_charge ≡ true) e passed.charged);
+      near = λ (e : s.row ≡ row.DcPreCharging).
+          near_by s.pre_charge (subst (λ (x : Phase). is_pre_charged x s.pre_charge ≡ true) e passed.charged);
     }
 starts_right s facts plan named (ask.SessionSetup car) start accepted = absurd start
 starts_right s facts plan named ask.ServiceDiscovery start accepted = absurd start

@@ -37,7 +37,8 @@ kind_of row.AcCharging = refl
 kind_of row.AcStopped = refl
 
 due_by : (came : ℕ) (set_up waiting : Bool) (last : Last) → is_closing last ≡ waiting → (set_up ≡ true → last ≢ Nothing)
-    → (from : ℕ) × (due_in (Some came) set_up last ≡ Some (record { timeout = by_kind set_up waiting; moment = from + span_of (by_kind set_up waiting) }))
+    → (from : ℕ) × (due_in (Some came) set_up last
+    ≡ Some (record { timeout = by_kind set_up waiting; moment = from + span_of (by_kind set_up waiting) }))
 due_by came false waiting last w r = (came, refl)
 due_by came true true Nothing w r = absurd (r refl refl)
 due_by came true false Nothing w r = absurd (r refl refl)

@@ -23,7 +23,12 @@ abbrev pub Fails : Dialect → List (Line (Option Code)) → Type 0
 Fails d [] = Unit {0}
 Fails d (l ∷ lines) = (is_accepted (unwrap_or l.gives code.Ok) ≡ false) × (is_code_of d (unwrap_or l.gives code.Ok) ≡ true) × Fails d lines
 
-start_fails : (d : Dialect) → Fails d (line true (Some code.FailedTariffSelectionInvalid) ∷ line true (Some code.FailedChargingProfileInvalid) ∷ line true (Some code.FailedPowerDeliveryNotApplied) ∷ line true (Some (contactor_code d)) ∷ line true (Some code.FailedPowerDeliveryNotApplied) ∷ [])
+start_fails : (d : Dialect) → Fails d (
+    line true (Some code.FailedTariffSelectionInvalid) ∷
+    line true (Some code.FailedChargingProfileInvalid) ∷
+    line true (Some code.FailedPowerDeliveryNotApplied) ∷
+    line true (Some (contactor_code d)) ∷
+    line true (Some code.FailedPowerDeliveryNotApplied) ∷ [])
 start_fails dialect.Iso = (refl, refl, (refl, refl, (refl, refl, (refl, refl, (refl, refl, tt)))))
 start_fails dialect.Din = (refl, refl, (refl, refl, (refl, refl, (refl, refl, (refl, refl, tt)))))
 
@@ -43,11 +48,14 @@ service_fails : (d : Dialect) → Fails d (line true (Some code.FailedServiceIdI
 service_fails dialect.Iso = (refl, refl, tt)
 service_fails dialect.Din = (refl, refl, tt)
 
-selection_fails : (d : Dialect) → Fails d (line true (Some code.FailedPaymentSelectionInvalid) ∷ line true (Some code.FailedServiceSelectionInvalid) ∷ [])
+selection_fails : (d : Dialect) → Fails d (
+    line true (Some code.FailedPaymentSelectionInvalid) ∷
+    line true (Some code.FailedServiceSelectionInvalid) ∷ [])
 selection_fails dialect.Iso = (refl, refl, (refl, refl, tt))
 selection_fails dialect.Din = (refl, refl, (refl, refl, tt))
 
-header_fails : (d : Dialect) (lines : List (Line (Option Code))) → Fails d lines → Fails d (line true (Some code.FailedUnknownSession) ∷ line true (Some code.FailedSequenceError) ∷ lines)
+header_fails : (d : Dialect) (lines : List (Line (Option Code))) → Fails d lines
+    → Fails d (line true (Some code.FailedUnknownSession) ∷ line true (Some code.FailedSequenceError) ∷ lines)
 header_fails dialect.Iso lines f = (refl, refl, (refl, refl, f))
 header_fails dialect.Din lines f = (refl, refl, (refl, refl, f))
 
@@ -82,7 +90,8 @@ ok_good dialect.Iso = (refl, refl)
 ok_good dialect.Din = (refl, refl)
 
 -- without a line that applies, the code is of the OK class
-accepting_good : (s : Stage) (facts : Facts) (named : SessionId) (a : Ask) → (is_accepted (accepting_code s facts named a) ≡ true) × (is_code_of s.dialect (accepting_code s facts named a) ≡ true)
+accepting_good : (s : Stage) (facts : Facts) (named : SessionId) (a : Ask)
+    → (is_accepted (accepting_code s facts named a) ≡ true) × (is_code_of s.dialect (accepting_code s facts named a) ≡ true)
 accepting_good s facts named (ask.SessionSetup car) = setup_good s.dialect (joins s.dialect facts named)
 accepting_good s facts named ask.ServiceDiscovery = ok_good s.dialect
 accepting_good s facts named (ask.ServiceDetail service) = ok_good s.dialect
@@ -98,30 +107,37 @@ accepting_good s facts named (ask.WeldingDetection ready soc) = ok_good s.dialec
 accepting_good s facts named (ask.SessionStop pause) = ok_good s.dialect
 
 -- a line more, of which is known whether it applies
-step_accepts : (b : Bool) (g rest : Option Code) (ok : Code) (tail : Bool) → is_accepted (unwrap_or g code.Ok) ≡ false → is_accepted ok ≡ true → is_accepted (unwrap_or rest ok) ≡ tail
+step_accepts : (b : Bool) (g rest : Option Code) (ok : Code) (tail : Bool)
+    → is_accepted (unwrap_or g code.Ok) ≡ false → is_accepted ok ≡ true → is_accepted (unwrap_or rest ok) ≡ tail
     → is_accepted (unwrap_or (if b then g else rest) ok) ≡ (not b && tail)
 step_accepts true None rest ok tail f o e = cc
 step_accepts true (Some c) rest ok tail f o e = f
 step_accepts false g rest ok tail f o e = e
 
-accepts_lines : (d : Dialect) (lines : List (Line (Option Code))) (ok : Code) → Fails d lines → is_accepted ok ≡ true → is_accepted (unwrap_or (first_line lines None) ok) ≡ none_applies lines
+accepts_lines : (d : Dialect) (lines : List (Line (Option Code))) (ok : Code)
+    → Fails d lines → is_accepted ok ≡ true → is_accepted (unwrap_or (first_line lines None) ok) ≡ none_applies lines
 accepts_lines d [] ok f o = o
-accepts_lines d (l ∷ lines) ok f o = step_accepts l.applies l.gives (first_line lines None) ok (none_applies lines) f.0 o (accepts_lines d lines ok f.2 o)
+accepts_lines d (l ∷ lines) ok f o =
+    step_accepts l.applies l.gives (first_line lines None) ok (none_applies lines) f.0 o (accepts_lines d lines ok f.2 o)
 
-step_codes : (d : Dialect) (b : Bool) (g rest : Option Code) (ok : Code) → is_code_of d (unwrap_or g code.Ok) ≡ true → is_code_of d ok ≡ true → is_code_of d (unwrap_or rest ok) ≡ true
+step_codes : (d : Dialect) (b : Bool) (g rest : Option Code) (ok : Code)
+    → is_code_of d (unwrap_or g code.Ok) ≡ true → is_code_of d ok ≡ true → is_code_of d (unwrap_or rest ok) ≡ true
     → is_code_of d (unwrap_or (if b then g else rest) ok) ≡ true
 step_codes d true None rest ok f o e = o
 step_codes d true (Some c) rest ok f o e = f
 step_codes d false g rest ok f o e = e
 
-codes_lines : (d : Dialect) (lines : List (Line (Option Code))) (ok : Code) → Fails d lines → is_code_of d ok ≡ true → is_code_of d (unwrap_or (first_line lines None) ok) ≡ true
+codes_lines : (d : Dialect) (lines : List (Line (Option Code))) (ok : Code)
+    → Fails d lines → is_code_of d ok ≡ true → is_code_of d (unwrap_or (first_line lines None) ok) ≡ true
 codes_lines d [] ok f o = o
 codes_lines d (l ∷ lines) ok f o = step_codes d l.applies l.gives (first_line lines None) ok f.1 o (codes_lines d lines ok f.2 o)
 
 pub accepts_without_line : AcceptsWithoutLine
 accepts_without_line s facts plan r =
-    accepts_lines s.dialect (verdict_lines s facts plan r) (accepting_code s facts r.session r.ask) (lines_fail s facts plan r) ((accepting_good s facts r.session r.ask).0)
+    accepts_lines s.dialect (verdict_lines s facts plan r) (accepting_code s facts r.session r.ask)
+    (lines_fail s facts plan r) ((accepting_good s facts r.session r.ask).0)
 
 pub answers_in_dialect : AnswersInDialect
 answers_in_dialect s facts plan r =
-    codes_lines s.dialect (verdict_lines s facts plan r) (accepting_code s facts r.session r.ask) (lines_fail s facts plan r) ((accepting_good s facts r.session r.ask).1)
+    codes_lines s.dialect (verdict_lines s facts plan r) (accepting_code s facts r.session r.ask)
+    (lines_fail s facts plan r) ((accepting_good s facts r.session r.ask).1)

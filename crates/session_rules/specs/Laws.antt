@@ -98,11 +98,13 @@ pub record FitsRow (in_row : Phase) (came : ℕ) (last : Last) : Type 0 where
 -- the deadline that runs is the one of the row
 abbrev pub RunsByRow : Type 0
 RunsByRow = (in_row : Phase) (came : ℕ) (last : Last) → FitsRow in_row came last
-    → (from : ℕ) × (due_in (Some came) (is_set_up in_row) last ≡ Some (record { timeout = timeout_of in_row; moment = from + span_of (timeout_of in_row) }))
+    → (from : ℕ) × (due_in (Some came) (is_set_up in_row) last
+    ≡ Some (record { timeout = timeout_of in_row; moment = from + span_of (timeout_of in_row) }))
 
 -- the PMax of a schedule is the number that its Value and Multiplier write, and never more than the watts that are shown
 abbrev pub SpellsSchedule : Type 0
-SpellsSchedule = (watts multiplier value : ℕ) → watts < 32768000 → IsWrittenWatts watts multiplier value → p_max_of dialect.Iso watts ≡ value * 10 ^ multiplier
+SpellsSchedule = (watts multiplier value : ℕ) → watts < 32768000 → IsWrittenWatts watts multiplier value
+    → p_max_of dialect.Iso watts ≡ value * 10 ^ multiplier
 
 abbrev pub SchedulesWithin : Type 0
 SchedulesWithin = (d : Dialect) (watts : ℕ) → p_max_of d watts ≤ watts
