@@ -1,0 +1,16 @@
+pub mod Lines
+pub mod Stages
+pub mod Rows
+pub mod Finishing
+pub mod Asks
+pub mod Parameters
+pub mod Delivery
+pub mod Verdict
+pub mod Status
+pub mod Offers
+pub mod Moves
+pub mod Reply
+pub mod Orders
+pub mod Allowed
+pub mod Causes
+pub mod Deadlines
