@@ -21,7 +21,7 @@ use Rattle.post_spec.specs.Sessions.{brought}
 use Rattle.post_spec.specs.Steps.{Event, Came, Bytes, Gone, Datagram, Plant, Clock, Over, Act, Give, Send, Answer, End, Step, Hears, Does, Reading}
 use Rattle.station_spec.specs.States.{Spoken, Response, Said, Agenda, Repeating, Session, State, nothing, fresh, first_session, first}
 use Rattle.station_spec.specs.States as states
-use Rattle.station_spec.specs.Deciding.{ending_by, ending_in, decided}
+use Rattle.station_spec.specs.Deciding.{ending_in, decided}
 use Rattle.station_spec.specs.Judging.{wanted, filled, IsRead}
 
 -- the newest word of the charger is its fact; a connection clears the isolation and what was asked for

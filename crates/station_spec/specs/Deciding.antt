@@ -1,6 +1,6 @@
 -- Own: what a post decides to do in a hearing without reading a word, part by part. A part is looked at once all that was decided
 -- before it is done. ISO 15118-2:2014, section 8.7, has the deadlines.
-use Rattle.std.specs.Prelude.{◌≡◌, ℕ, ◌+◌, nat_le, nat_lt, Bool, true, false, ◌&&◌, if◌then◌else◌, List, [], ◌∷◌, Option, Some, None, Result, Ok, Err}
+use Rattle.std.specs.Prelude.{ℕ, ◌+◌, nat_le, nat_lt, Bool, false, ◌&&◌, if◌then◌else◌, Option, Some, None, Result, Ok, Err}
 use Rattle.charge_world.specs.declared.heard.PlantEvent.{PlantEvent}
 use Rattle.charge_world.specs.declared.heard.PlantEvent.TheVariants as plant
 use Rattle.charge_world.specs.declared.ports.Order.{Order}
@@ -14,8 +14,7 @@ use Rattle.v2gtp_frames.specs.declared.FrameFault.{FrameFault}
 use Rattle.v2gtp_frames.specs.Reading.{whole_at}
 use Rattle.session_words.specs.Modes.{phases_of}
 use Rattle.session_timers.specs.Due.{never}
-use Rattle.session_words.specs.declared.cause.Timeout.{Timeout}
-use Rattle.session_words.specs.declared.cause.Timeout.TheVariants.{Setup, Sequence, Feedback}
+use Rattle.session_timers.specs.Law.{span_of}
 use Rattle.session_words.specs.Causes.{cause_of}
 use Rattle.session_rules.specs.declared.causes.Watch.{Watch}
 use Rattle.session_rules.specs.Allowed.{allowed_watts}
@@ -46,12 +45,6 @@ repeating standing.Opened = nothing
 repeating standing.Closing = nothing
 repeating standing.Closed = nothing
 repeating standing.Opening = nothing
-
--- how long a deadline lasts, in milliseconds
-abbrev pub span_of : Timeout → ℕ
-span_of Setup = 18000
-span_of Sequence = 60000
-span_of Feedback = 3000
 
 -- when a session is due
 abbrev pub due : Session → ℕ

@@ -1,10 +1,9 @@
 -- Own: what a post makes of a word. ISO 15118-2:2014, section 8.4, has the requests and replies.
-use Rattle.std.specs.Prelude.{◌≡◌, ℕ, Bool, true, false, ◌&&◌, if◌then◌else◌, List, [], ◌∷◌, Option, Some, None, unwrap_or, Result, Ok, Err, MatchBool}
+use Rattle.std.specs.Prelude.{◌≡◌, ℕ, Bool, false, ◌&&◌, if◌then◌else◌, List, Option, Some, None, unwrap_or, Result, Ok, Err, MatchBool}
 use Rattle.charge_world.specs.declared.offer.Dialect.{Dialect}
 use Rattle.charge_world.specs.declared.ports.Order.{Order}
 use Rattle.session_words.specs.declared.cause.EndCause.{EndCause}
 use Rattle.session_words.specs.declared.cause.EndCause.TheVariants.{NoNegotiation, Refused as PayloadRefused, WrongSide as FromWrongSide}
-use Rattle.session_words.specs.declared.code.Code.{Code}
 use Rattle.session_words.specs.declared.phase.Phase.{Phase}
 use Rattle.session_words.specs.declared.phase.Phase.TheVariants as row
 use Rattle.session_words.specs.declared.plan.PostPlan.{PostPlan}
@@ -22,7 +21,7 @@ use Rattle.session_rules.specs.Stages.{negotiated, is_waiting}
 use Rattle.session_rules.specs.Verdict.{verdict, is_accepted}
 use Rattle.post_spec.specs.Codecs.{Judged, Negotiated, Asked, WrongSide, Refused, Codecs, Judges}
 use Rattle.post_spec.specs.Steps.{Reading}
-use Rattle.station_spec.specs.States.{Spoken, Response, Said, Agenda, Part, Wording, Session, State, nothing, is_done}
+use Rattle.station_spec.specs.States.{Response, Said, Agenda, Wording, Session, State, nothing, is_done}
 use Rattle.station_spec.specs.Deciding.{opening_if, ending_by, decided}
 
 -- a payload that has to be read now, in the schema of the negotiation or in a dialect

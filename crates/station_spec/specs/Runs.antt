@@ -1,6 +1,6 @@
 -- Own: the runs of a site. Each entry follows from those before it: a hearing behind a whole block, else what the first post that has
 -- something to do does next.
-use Rattle.std.specs.Prelude.{◌≡◌, ◌<◌, ◌≤◌, ℕ, suc, ◌+◌, length, map, max, Bool, true, false, List, [], ◌∷◌, ◌++◌, Option, Some, None, ◌⊎◌, MatchBool}
+use Rattle.std.specs.Prelude.{◌≡◌, ◌<◌, ℕ, suc, ◌+◌, length, map, max, Bool, true, false, List, [], ◌∷◌, ◌++◌, Option, ◌⊎◌, MatchBool}
 use Rattle.std.specs.List.{AllByRecursion}
 use Rattle.charge_world.specs.declared.entry.Entry.{Entry}
 use Rattle.charge_world.specs.declared.entry.Entry.TheVariants as entry
