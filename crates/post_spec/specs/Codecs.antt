@@ -33,3 +33,7 @@ judged_word (Some word.Nothing) = WrongSide
 abbrev pub Judges : Codecs → List Dialect → Option Dialect → List ℕ → Judged → Type 0
 Judges c offers None payload judged = c.Negotiates offers payload judged
 Judges c offers (Some dialect) payload judged = (word : Option Word) × c.Reads dialect payload word × (judged ≡ judged_word word)
+
+-- the codecs of these three
+abbrev pub codecs : (List Dialect → List ℕ → Judged → Type 0) → (Dialect → List ℕ → Option Word → Type 0) → (Dialect → Reply → List ℕ → Type 0) → Codecs
+codecs negotiates reads encodes = record { Negotiates = negotiates; Reads = reads; Encodes = encodes }

@@ -4,3 +4,7 @@ pub mod Steps
 pub mod Facts
 pub mod Sessions
 pub mod Words
+pub mod Talk
+pub mod Kinds
+pub mod Mandated
+pub mod Spelled

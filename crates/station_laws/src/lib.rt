@@ -1,0 +1,12 @@
+//! What holds of every run of a station, whatever its codecs are.
+#![tactic(auto)]
+
+ghost use Rattle.post_spec.specs.Codecs.{codecs};
+ghost use Rattle.station_laws.specs.Within.{RunsTellWithin};
+
+use post_spec::Coded;
+
+/// The watts that all posts were told together stay within the site's limit, after every entry.
+pub fn told_within_limit<C: Coded>()
+    ensures { RunsTellWithin (codecs C.negotiates C.reads C.encodes) }
+{}
