@@ -8,3 +8,5 @@ pub mod Talk
 pub mod Kinds
 pub mod Mandated
 pub mod Spelled
+pub mod Course
+pub mod Causes
