@@ -1,5 +1,6 @@
 -- Own: how the posts of a site share its watts.
-use Rattle.std.specs.Prelude.{◌≡◌, ℕ, ◌+◌, ◌-◌, min, List, ◌∷◌, ◌++◌, map, sum, Option, Some, None}
+use Rattle.std.specs.Prelude.{◌≡◌, ℕ, ◌+◌, ◌-◌, min, List, ◌∷◌, ◌++◌, map, Option, Some, None}
+use Rattle.std.specs.List.{sum_by}
 use Rattle.session_words.specs.declared.plan.PostPlan.{PostPlan}
 use Rattle.power_share.specs.Sharing.{IsLevel}
 use Rattle.post_spec.specs.Steps.{Step}
@@ -31,7 +32,7 @@ told_of post = told_in (state_of post).session
 
 -- what all posts were told together
 abbrev pub told_total : List Post → ℕ
-told_total posts = sum (map told_of posts)
+told_total posts = sum_by told_of posts
 
 -- what a post that asks for these watts is shown between those before and behind it: the least of what it asks for, the level, and the
 -- limit less what the others were told
