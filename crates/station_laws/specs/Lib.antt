@@ -1,1 +1,2 @@
+pub mod PostRuns
 pub mod Within

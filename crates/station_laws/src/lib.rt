@@ -2,6 +2,7 @@
 #![tactic(auto)]
 
 ghost use Rattle.post_spec.specs.Codecs.{codecs};
+ghost use Rattle.station_laws.specs.PostRuns.{RunsArePostRuns};
 ghost use Rattle.station_laws.specs.Within.{RunsTellWithin};
 
 use post_spec::Coded;
@@ -9,4 +10,9 @@ use post_spec::Coded;
 /// The watts that all posts were told together stay within the site's limit, after every entry.
 pub fn told_within_limit<C: Coded>()
     ensures { RunsTellWithin (codecs C.negotiates C.reads C.encodes) }
+{}
+
+/// Behind any run, the steps of each post are a run of that post, and they are what the past shows of it.
+pub fn runs_of_posts<C: Coded>()
+    ensures { RunsArePostRuns (codecs C.negotiates C.reads C.encodes) }
 {}
