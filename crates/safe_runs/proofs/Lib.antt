@@ -1,3 +1,11 @@
 pub mod Orders
 pub mod Rows
 pub mod Verdicts
+pub mod Growth
+pub mod Links
+pub mod Parts
+pub mod Asked
+pub mod Words
+pub mod Filled
+pub mod Acted
+pub mod Safety

@@ -7,12 +7,12 @@ use Rattle.session_words.specs.declared.code.Code.TheVariants as code
 use Rattle.session_rules.specs.Delivery.{contactor_code}
 use Rattle.session_rules.specs.Verdict.{is_accepted}
 
-lines_accept : (misnamed taken : Bool) (rest : Option Code) (ok : Code) → is_accepted (unwrap_or (if misnamed then Some code.FailedUnknownSession else (if not taken then Some code.FailedSequenceError else rest)) ok) ≡ true → taken ≡ true
+pub lines_accept : (misnamed taken : Bool) (rest : Option Code) (ok : Code) → is_accepted (unwrap_or (if misnamed then Some code.FailedUnknownSession else (if not taken then Some code.FailedSequenceError else rest)) ok) ≡ true → taken ≡ true
 lines_accept true taken rest ok h = cc
 lines_accept false false rest ok h = cc
 lines_accept false true rest ok h = refl
 
-lines_start : (misnamed taken tuple profile ready opened charged : Bool) (d : Dialect) (ok : Code)
+pub lines_start : (misnamed taken tuple profile ready opened charged : Bool) (d : Dialect) (ok : Code)
     → is_accepted (unwrap_or (if misnamed then Some code.FailedUnknownSession else (if not taken then Some code.FailedSequenceError else
         (if tuple then Some code.FailedTariffSelectionInvalid else (if profile then Some code.FailedChargingProfileInvalid else
         (if not ready then Some code.FailedPowerDeliveryNotApplied else (if not opened then Some (contactor_code d) else
