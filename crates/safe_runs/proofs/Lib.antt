@@ -9,3 +9,4 @@ pub mod Words
 pub mod Filled
 pub mod Acted
 pub mod Safety
+pub mod Openings
