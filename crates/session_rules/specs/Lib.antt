@@ -14,3 +14,4 @@ pub mod Orders
 pub mod Allowed
 pub mod Causes
 pub mod Deadlines
+pub mod Laws

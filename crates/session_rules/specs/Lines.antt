@@ -1,5 +1,5 @@
 -- Own: rules that are lists of lines, of which the first that applies decides.
-use Rattle.std.specs.Prelude.{Bool, if◌then◌else◌, List, [], ◌∷◌}
+use Rattle.std.specs.Prelude.{Bool, true, not, ◌&&◌, if◌then◌else◌, List, [], ◌∷◌}
 
 pub record Line (A : Type 0) : Type 0 where
   pub applies : Bool
@@ -12,3 +12,8 @@ line applies gives = record { applies = applies; gives = gives }
 abbrev pub first_line : {A : Type 0} → List (Line A) → A → A
 first_line [] otherwise = otherwise
 first_line (l ∷ lines) otherwise = if l.applies then l.gives else first_line lines otherwise
+
+-- no line applies
+abbrev pub none_applies : {A : Type 0} → List (Line A) → Bool
+none_applies [] = true
+none_applies (l ∷ lines) = not l.applies && none_applies lines

@@ -54,4 +54,4 @@ limits_of true d facts plan code asked watts =
     limits.Ac (notify_of d facts code asked) (amount (10 * plan.nominal)) (amount (ac_current_at plan watts))
 limits_of false d facts plan code asked watts =
     limits.Dc (dc_status d facts code asked) (amount plan.max_current) (Some (amount watts)) (amount plan.max_voltage)
-      (amount plan.min_current) (amount plan.min_voltage) (amount plan.ripple)
+    (amount plan.min_current) (amount plan.min_voltage) (amount plan.ripple)

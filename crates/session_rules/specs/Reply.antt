@@ -3,6 +3,7 @@ use Rattle.std.specs.Prelude.{ℕ, Bool, not, ◌&&◌, nat_lt, if◌then◌else
 use Rattle.arrayvec.specs.ArrayVec.{ArrayVec}
 use Rattle.charge_world.specs.declared.offer.Dialect.{Dialect}
 use Rattle.charge_world.specs.declared.offer.Dialect.TheVariants as dialect
+use Rattle.session_words.specs.declared.amount.Amount.{Amount}
 use Rattle.session_words.specs.declared.code.Code.{Code}
 use Rattle.session_words.specs.declared.code.Code.TheVariants as code
 use Rattle.session_words.specs.declared.code.Processing.{Processing}
@@ -44,8 +45,28 @@ evse_if_iso dialect.Din plan = None
 abbrev pub schedule_if : Bool → Dialect → ℕ → Option (ArrayVec Tuple)
 schedule_if there d watts = if there then schedule_of d watts else None
 
--- what a reply with this code tells, where these watts are shown. Behind a FAILED code the charging replies tell the watts
--- told before, and ChargeParameterDiscovery tells none
+-- what the reply to ChargeParameterDiscovery tells: behind a FAILED code no watts
+abbrev pub parameters_told : Stage → Facts → PostPlan → Code → ℕ → Ask → Tell
+parameters_told s facts plan code shown asked =
+    tell.ChargeParameters
+    (processing_of processing.Ongoing (is_accepted code) (nat_lt 0 shown))
+    (schedule_if (is_accepted code && nat_lt 0 shown) s.dialect shown)
+    (limits_of (is_ac plan.mode) s.dialect facts plan code asked (if is_accepted code then shown else 0))
+
+-- what the reply to CurrentDemand tells: whether the targets are above what the post gives, and the greatest values. Behind a
+-- FAILED code nothing is cut, and the watts are those told before
+abbrev pub demand_told : Stage → Facts → PostPlan → Code → ℕ → Ask → Amount → Amount → Tell
+demand_told s facts plan code shown asked voltage current =
+    tell.CurrentDemand (dc_status s.dialect facts code asked)
+    (amount facts.voltage) (amount facts.current)
+    (is_accepted code && nat_lt plan.max_current current.size)
+    (is_accepted code && nat_lt plan.max_voltage voltage.size)
+    (is_accepted code && nat_lt shown (dc_watts_of voltage.size current.size))
+    (Some (amount plan.max_voltage)) (Some (amount plan.max_current))
+    (Some (amount (if is_accepted code then shown else s.told)))
+    (evse_if_iso s.dialect plan)
+
+-- what a reply with this code tells, where these watts are shown
 abbrev pub tell_of : Stage → Facts → PostPlan → Code → ℕ → Ask → Tell
 tell_of s facts plan code shown (ask.SessionSetup car) = tell.SessionSetup (evse_of s.dialect plan)
 tell_of s facts plan code shown ask.ServiceDiscovery =
@@ -55,29 +76,19 @@ tell_of s facts plan code shown (ask.PaymentSelection external services) = tell.
 tell_of s facts plan code shown ask.Authorization =
     tell.Authorization (processing_of (awaiting s.dialect) (is_accepted code) (is_finished facts plan ask.Authorization shown))
 tell_of s facts plan code shown (ask.ChargeParameters mode limits) =
-    tell.ChargeParameters
-      (processing_of processing.Ongoing (is_accepted code) (nat_lt 0 shown))
-      (schedule_if (is_accepted code && nat_lt 0 shown) s.dialect shown)
-      (limits_of (is_ac plan.mode) s.dialect facts plan code (ask.ChargeParameters mode limits) (if is_accepted code then shown else 0))
+    parameters_told s facts plan code shown (ask.ChargeParameters mode limits)
 tell_of s facts plan code shown (ask.CableCheck ready soc) =
     tell.CableCheck (dc_status s.dialect facts code (ask.CableCheck ready soc))
-      (processing_of processing.Ongoing (is_accepted code) (is_finished facts plan (ask.CableCheck ready soc) shown))
+    (processing_of processing.Ongoing (is_accepted code) (is_finished facts plan (ask.CableCheck ready soc) shown))
 tell_of s facts plan code shown (ask.PreCharge ready soc voltage current) =
     tell.PreCharge (dc_status s.dialect facts code (ask.PreCharge ready soc voltage current)) (amount facts.voltage)
 tell_of s facts plan code shown (ask.PowerDelivery progress tuple profile) =
     tell.PowerDelivery (post_status (is_ac plan.mode) s.dialect facts code (ask.PowerDelivery progress tuple profile))
 tell_of s facts plan code shown (ask.CurrentDemand ready soc voltage current) =
-    tell.CurrentDemand (dc_status s.dialect facts code (ask.CurrentDemand ready soc voltage current))
-      (amount facts.voltage) (amount facts.current)
-      (is_accepted code && nat_lt plan.max_current current.size)
-      (is_accepted code && nat_lt plan.max_voltage voltage.size)
-      (is_accepted code && nat_lt shown (dc_watts_of voltage.size current.size))
-      (Some (amount plan.max_voltage)) (Some (amount plan.max_current))
-      (Some (amount (if is_accepted code then shown else s.told)))
-      (evse_if_iso s.dialect plan)
+    demand_told s facts plan code shown (ask.CurrentDemand ready soc voltage current) voltage current
 tell_of s facts plan code shown ask.ChargingStatus =
     tell.ChargingStatus (notify_of s.dialect facts code ask.ChargingStatus) (evse_of s.dialect plan)
-      (Some (amount (ac_current_at plan (if is_accepted code then shown else s.told))))
+    (Some (amount (ac_current_at plan (if is_accepted code then shown else s.told))))
 tell_of s facts plan code shown (ask.WeldingDetection ready soc) =
     tell.WeldingDetection (dc_status s.dialect facts code (ask.WeldingDetection ready soc)) (amount facts.voltage)
 tell_of s facts plan code shown (ask.SessionStop pause) = tell.SessionStop

@@ -32,9 +32,9 @@ is_renegotiation other = false
 abbrev pub notify_of : Dialect → Facts → Code → Ask → Notify
 notify_of d facts code asked =
     first_line (
-      line facts.stop notify.StopCharging ∷
-      line (is_iso d && facts.renew && not (is_renegotiation asked && is_accepted code)) notify.ReNegotiation ∷ [])
-      notify.None
+    line facts.stop notify.StopCharging ∷
+    line (is_iso d && facts.renew && not (is_renegotiation asked && is_accepted code)) notify.ReNegotiation ∷ [])
+    notify.None
 
 -- requests that stop charging, or come behind that
 abbrev pub ends_power : Ask → Bool
@@ -51,11 +51,11 @@ is_monitoring facts other = false
 abbrev pub status_code : Facts → Code → Ask → StatusCode
 status_code facts code asked =
     first_line (
-      line (not (is_accepted code)) status.EvseMalfunction ∷
-      line (ends_power asked) status.EvseNotReady ∷
-      line facts.stop status.EvseShutdown ∷
-      line (is_monitoring facts asked) status.EvseIsolationMonitoringActive ∷ [])
-      status.EvseReady
+    line (not (is_accepted code)) status.EvseMalfunction ∷
+    line (ends_power asked) status.EvseNotReady ∷
+    line facts.stop status.EvseShutdown ∷
+    line (is_monitoring facts asked) status.EvseIsolationMonitoringActive ∷ [])
+    status.EvseReady
 
 -- the isolation of the last event. DIN has no name for a post without a monitor
 abbrev pub isolation_told : Dialect → Option IsolationLevel → Option IsolationLevel

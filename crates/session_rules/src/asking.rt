@@ -14,7 +14,8 @@ fn car_watts(plan: &PostPlan, car: &CarLimits) -> u64
             ac_watts(most_current.size, plan.nominal, plan.mode.phases())
         }
         CarLimits::Dc {
-            watts: Some(watts), ..
+            watts: Some(watts),
+            ..
         } => u64::from(watts.size),
         CarLimits::Dc {
             watts: None,

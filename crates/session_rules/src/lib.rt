@@ -9,14 +9,35 @@ pub mod allowed;
 pub mod asking;
 pub mod causes;
 pub mod deadlines;
+mod delivery;
 pub mod finishing;
+pub mod laws;
+pub mod moves;
+mod offers;
+pub mod orders;
+mod parameters;
+pub mod reply;
 pub mod rows;
 pub mod stage;
+mod status;
+pub mod verdict;
 
 pub use allowed::{Lowered, allowed_watts, lowered_by};
 pub use asking::{ask_of, asks, shows_watts};
-pub use causes::{Break, Found, Watch};
+pub use causes::{
+    Break, Found, Watch, break_cause, found_by, needs_isolation, plant_cause, word_cause,
+};
 pub use deadlines::timeout_of;
 pub use finishing::{is_ac, is_finished, is_valid};
+pub use laws::{
+    law_of_closing, law_of_refusals, law_of_schedules, law_of_timeouts, law_of_verdicts,
+};
+pub use moves::{facts_behind, next_row, stage_behind};
+pub use orders::order_of;
+pub use reply::{reply_to, waiting_reply};
 pub use rows::{accepts, is_spoken, leads, may_stop};
 pub use stage::{PreCharged, Stage, is_set_up, is_waiting};
+pub use verdict::{is_accepted, joins, judge};
+
+#[cfg(test)]
+mod tests;

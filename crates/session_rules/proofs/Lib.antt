@@ -1,0 +1,5 @@
+pub mod ClosingLemmas
+pub mod ScheduleLemmas
+pub mod Targets
+pub mod TimeoutLemmas
+pub mod VerdictLemmas
