@@ -1,0 +1,13 @@
+//! What a post does in a run depends on nothing of the other posts but the moments of their hearings and the watts that it is shown.
+#![tactic(auto)]
+
+ghost use Rattle.post_spec.specs.Codecs.{codecs};
+ghost use Rattle.isolated_runs.specs.Isolated.{RunsAreIsolated};
+
+use post_spec::Coded;
+
+/// Two whole runs in which a post with the same plan hears the same at the same moments, has the same outcomes and is shown the same
+/// watts: the post does the same in both, whatever the other posts are and do.
+pub fn posts_are_isolated<C: Coded>()
+    ensures { RunsAreIsolated (codecs C.negotiates C.reads C.encodes) }
+{}

@@ -1,0 +1,12 @@
+pub mod Codecs
+pub mod Discovery
+pub mod Steps
+pub mod Facts
+pub mod Sessions
+pub mod Words
+pub mod Talk
+pub mod Kinds
+pub mod Mandated
+pub mod Spelled
+pub mod Course
+pub mod Causes

@@ -1,0 +1,12 @@
+pub mod Orders
+pub mod Rows
+pub mod Verdicts
+pub mod Growth
+pub mod Links
+pub mod Parts
+pub mod Asked
+pub mod Words
+pub mod Filled
+pub mod Acted
+pub mod Safety
+pub mod Openings

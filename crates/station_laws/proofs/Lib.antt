@@ -1,0 +1,4 @@
+pub mod Decided
+pub mod Contactors
+pub mod PostRuns
+pub mod Told

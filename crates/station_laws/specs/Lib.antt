@@ -1,0 +1,3 @@
+pub mod Contactors
+pub mod PostRuns
+pub mod Within

@@ -1,0 +1,9 @@
+pub mod States
+pub mod Deciding
+pub mod Judging
+pub mod Acting
+pub mod Sharing
+pub mod Blocks
+pub mod Runs
+pub mod Until
+pub mod Report
