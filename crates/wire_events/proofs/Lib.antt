@@ -1,0 +1,2 @@
+pub mod KindPlaces
+pub mod Waits
