@@ -20,6 +20,7 @@ loop-preserved g c =
           (c.loop.invariant.untils (carries_told mid after (AtRest offer plan.turns i c.loop.site) (AtRest offer plan.turns (i + 1) c.turn.new.site) t told));
       calm = c.turn.ensures.calm;
       few = omega (arith, c.turn.ensures.sessions, c.loop.invariant.few);
+      started = c.turn.ensures.started ∙ c.loop.invariant.started;
       posts = c.turn.ensures.posts;
       faults = omega (arith, c.turn.ensures.faults, c.loop.invariant.faults);
     }
