@@ -1,4 +1,4 @@
-use Rattle.std.proofs.Common.{◌≡◌, ◌+◌, ℕ, [], Some, replicate, arith, refl}
+use Rattle.std.proofs.Common.{◌≡◌, ◌+◌, ℕ, [], Some, replicate, arith, refl, ◌∙◌}
 use Rattle.session_spec.specs.Past.{hearings}
 use Rattle.site_core.specs.Serving.{AtRest, Served, Turned}
 use Rattle.site_core.proofs.Carry.{carries_then, carries_to, carries_told, carries_know}
