@@ -1,3 +1,4 @@
 pub mod Seats
 pub mod Boards
 pub mod Told
+pub mod Law

@@ -5,11 +5,13 @@
 mod board;
 mod faults;
 mod keys;
+mod law;
 mod seat;
 mod told;
 
 pub use board::{Board, Step};
 pub use faults::Faults;
 pub use keys::{Key, key_of, number_of};
+pub use law::law_of_turns;
 pub use seat::{Kind, Line, Seat, Socket};
 pub use told::{piece_or_end, token_of};
