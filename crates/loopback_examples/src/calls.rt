@@ -1,41 +1,15 @@
 //! A station's wire, call by call: two posts at once, a charger, discovery, and a peer that reads nothing.
 
-ghost use Rattle.std.specs.Prelude.{◌≡◌, length};
-
 use crate::free::{free_port, free_udp_port, loopback};
+use crate::scene::{Act, Scene};
 use arrayvec::ArrayVec;
-use charge_world::{Failed, Order, PilotState, PlantEvent, PortPair, Ports, What, Wire};
+use charge_world::{Failed, Order, PortPair, Ports, Wire};
 use net_wire::NetWire;
-use std::io::{Read, Write};
-use std::net::Net;
+use std::alloc::Global;
+use std::net::{Net, TcpStream};
+use std::random::RandomSource;
 use std::test::*;
-
-/// How long a test hears, in milliseconds since the start of the wire.
-pub const LAST: u64 = 10_000;
-
-/// What is heard next but charger events, with a token of 0. A tick comes behind `LAST` alone.
-pub fn next_of<W: Wire>(wire: &mut W, room: &mut [u8]) -> Result<What, Failed>
-    requires { length room.old ≡ 4096 }
-{
-    for _ in 0..100 {
-        match wire.next(LAST, room)?.what {
-            What::Plant { .. } => {}
-            What::Came { post, token: _ } => return Ok(What::Came { post, token: 0 }),
-            what => return Ok(what),
-        }
-    }
-    Err(Failed)
-}
-
-/// The next event of the charger, and nothing else.
-fn next_plant<W: Wire>(wire: &mut W, room: &mut [u8]) -> Result<PlantEvent, Failed>
-    requires { length room.old ≡ 4096 }
-{
-    match wire.next(LAST, room)?.what {
-        What::Plant { post: 1, event } => Ok(event),
-        _ => Err(Failed),
-    }
-}
+use std::time::Clock;
 
 /// Posts at these ports, until so many connections have ended.
 pub fn posts(pairs: &[PortPair], sessions: u32) -> Ports {
@@ -49,52 +23,79 @@ pub fn posts(pairs: &[PortPair], sessions: u32) -> Ports {
     }
 }
 
+/// What comes of these acts over a station's wire that was started so, which is number 0.
+pub fn played<R: Net<Stream = TcpStream> + Clock + RandomSource>(
+    rt: &R,
+    alloc: Global,
+    ports: &Ports,
+    acts: &[Act<'_>],
+) -> Result<String, Fail> {
+    let mut wire = NetWire::new(rt, alloc);
+    if wire.start(ports).is_err() {
+        return Ok(String::from_str(alloc, "not started")?);
+    }
+    let mut scene = Scene::new(alloc, vec![in alloc; wire]?);
+    scene.play(rt, acts)?;
+    Ok(scene.text.clone()?)
+}
+
 #[test]
 fn two_posts_are_served_at_once(rt: HostRuntime) -> Result<(), Fail> {
     let one = free_port(&rt)?;
     let two = free_port(&rt)?;
-    let mut wire = NetWire::new(&rt, rt.alloc());
     let pairs = [PortPair { tcp: one, sdp: 0 }, PortPair { tcp: two, sdp: 0 }];
-    assert_eq!(rt; wire.start(&posts(&pairs, 2)), Ok(()));
-    let mut room = [0u8; 4096];
-    // the first says nothing yet
-    let mut first = rt.connect(loopback(one))?;
-    assert_eq!(rt; next_of(&mut wire, &mut room), Ok(What::Came { post: 1, token: 0 }));
-    let mut second = rt.connect(loopback(two))?;
-    second.write_all(b"two")?;
-    assert_eq!(rt; next_of(&mut wire, &mut room), Ok(What::Came { post: 2, token: 0 }));
-    assert_eq!(rt; next_of(&mut wire, &mut room), Ok(What::Bytes { post: 2, n: 3 }));
-    assert_eq!(rt; wire.send(2, b"answer"), Ok(()));
-    let mut got = [0u8; 8];
-    assert_eq!(rt; second.read(&mut got)?, 6);
-    first.write_all(b"now")?;
-    assert_eq!(rt; next_of(&mut wire, &mut room), Ok(What::Bytes { post: 1, n: 3 }));
-    assert_eq!(rt; &room[..3], b"now".as_slice());
-    drop(second);
-    assert_eq!(rt; next_of(&mut wire, &mut room), Ok(What::Gone { post: 2 }));
-    assert_eq!(rt; wire.send(2, b"late"), Err(Failed));
-    wire.end(1, 1);
-    assert_eq!(rt; first.read(&mut got)?, 0);
-    assert_eq!(rt; next_of(&mut wire, &mut room), Ok(What::Over));
+    let acts = [
+        // the first client says nothing yet
+        Act::Connect(one),
+        Act::Hear(0),
+        Act::Connect(two),
+        Act::Say(1, b"two"),
+        Act::Hear(0),
+        Act::Hear(0),
+        Act::Send(0, 2, b"answer"),
+        Act::Read(1),
+        Act::Say(0, b"late"),
+        Act::Hear(0),
+        Act::Leave(1),
+        Act::Hear(0),
+        Act::Send(0, 2, b"answer"),
+        Act::End(0, 1),
+        Act::Read(0),
+        Act::Hear(0),
+    ];
+    let text = played(&rt, rt.alloc(), &posts(&pairs, 2), &acts)?;
+    assert_eq!(rt;
+        text.as_str(),
+        " came 1 came 2 bytes 2 3 sent read 6 bytes 1 4 gone 2 not sent read 0 over"
+    );
     Ok(())
 }
 
 #[test]
 fn a_charger_tells_of_the_car_and_of_orders(rt: HostRuntime) -> Result<(), Fail> {
     let tcp = free_port(&rt)?;
-    let mut wire = NetWire::new(&rt, rt.alloc());
-    assert_eq!(rt; wire.start(&posts(&[PortPair { tcp, sdp: 0 }], 1)), Ok(()));
-    let _client = rt.connect(loopback(tcp))?;
-    let mut room = [0u8; 4096];
-    let came = wire.next(LAST, &mut room);
-    assert!(rt; matches!(came, Ok(_)));
-    assert_eq!(rt; next_plant(&mut wire, &mut room), Ok(PlantEvent::Pilot(PilotState::C)));
-    assert!(rt; next_plant(&mut wire, &mut room).is_ok());
-    assert_eq!(rt; next_plant(&mut wire, &mut room), Ok(PlantEvent::Paid));
-    assert!(rt; next_plant(&mut wire, &mut room).is_ok());
-    assert_eq!(rt; wire.drive(1, Order::Close), Ok(()));
-    assert_eq!(rt; next_plant(&mut wire, &mut room), Ok(PlantEvent::Feedback { closed: true }));
-    assert_eq!(rt; wire.drive(2, Order::Close), Err(Failed));
+    let acts = [
+        Act::Connect(tcp),
+        Act::HearAny(0),
+        Act::HearAny(0),
+        Act::HearAny(0),
+        Act::HearAny(0),
+        Act::HearAny(0),
+        Act::Drive(0, 1, Order::Close),
+        Act::HearAny(0),
+        Act::Drive(0, 2, Order::Close),
+    ];
+    let text = played(
+        &rt,
+        rt.alloc(),
+        &posts(&[PortPair { tcp, sdp: 0 }], 1),
+        &acts,
+    )?;
+    assert_eq!(rt;
+        text.as_str(),
+        " came 1 plant 1 Pilot(C) plant 1 Isolation(Invalid) plant 1 Paid plant 1 Isolation(Valid) drove \
+plant 1 Feedback { closed: true } not drove"
+    );
     Ok(())
 }
 
@@ -104,14 +105,14 @@ fn a_datagram_is_answered_to_its_sender(rt: HostRuntime) -> Result<(), Fail> {
     let sdp = free_udp_port(&rt)?;
     let mut wire = NetWire::new(&rt, rt.alloc());
     assert_eq!(rt; wire.start(&posts(&[PortPair { tcp, sdp }], 1)), Ok(()));
-    let mut room = [0u8; 4096];
-    assert_eq!(rt; wire.answer(1, b"nobody asked"), Err(Failed));
+    let mut scene = Scene::new(rt.alloc(), vec![in rt.alloc(); wire]?);
     let asking = rt.bind_udp(loopback(0))?;
+    scene.play(&rt, &[Act::Answer(0, 1, b"nobody asked")])?;
     asking.send_to(b"ask", loopback(sdp))?;
-    assert_eq!(rt; next_of(&mut wire, &mut room), Ok(What::Datagram { post: 1, n: 3 }));
-    assert_eq!(rt; wire.answer(1, b"answer"), Ok(()));
+    scene.play(&rt, &[Act::Hear(0), Act::Answer(0, 1, b"answer")])?;
     let mut got = [0u8; 8];
     assert_eq!(rt; asking.recv_from(&mut got)?.0, 6);
+    assert_eq!(rt; scene.text.as_str(), " not answered datagram 1 3 answered");
     Ok(())
 }
 
@@ -122,15 +123,16 @@ fn a_peer_that_reads_nothing_fails_a_send(rt: HostRuntime) -> Result<(), Fail> {
     assert_eq!(rt; wire.start(&posts(&[PortPair { tcp, sdp: 0 }], 1)), Ok(()));
     let _client = rt.connect(loopback(tcp))?;
     let mut room = [0u8; 4096];
-    assert_eq!(rt; next_of(&mut wire, &mut room), Ok(What::Came { post: 1, token: 0 }));
+    assert!(rt; wire.next(1000, &mut room).is_ok());
     let bytes = vec![in rt.alloc(); 7u8; 65_536]?;
-    let mut failed = false;
+    assert_eq!(rt; sent_often(&mut wire, bytes.as_slice()), Err(Failed));
+    Ok(())
+}
+
+/// Sends these bytes a thousand times.
+fn sent_often<W: Wire>(wire: &mut W, bytes: &[u8]) -> Result<(), Failed> {
     for _ in 0..1000 {
-        if wire.send(1, bytes.as_slice()).is_err() {
-            failed = true;
-            break;
-        }
+        wire.send(1, bytes)?;
     }
-    assert!(rt; failed);
     Ok(())
 }

@@ -91,7 +91,9 @@ impl Clients {
                     got: Vec::new(self.alloc),
                     ended: false,
                 };
-                self.lines.push(line).map_err(|_| io::Error::from(io::ErrorKind::OutOfMemory))?;
+                self.lines
+                    .push(line)
+                    .map_err(|_| io::Error::from(io::ErrorKind::OutOfMemory))?;
                 Ok(true)
             }
             Some(Deed::Send(number, bytes)) => {

@@ -15,4 +15,6 @@ mod free;
 #[cfg(test)]
 mod runs;
 #[cfg(test)]
+mod scene;
+#[cfg(test)]
 mod visited;

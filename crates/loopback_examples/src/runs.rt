@@ -63,11 +63,14 @@ fn the_published_request_in_one_piece_is_answered(rt: HostRuntime) -> Result<(),
         Deed::Connect,
         Deed::Send(0, bytes_of(rt.alloc(), REQUEST)?),
         Deed::Await(0, 12),
-        Deed::Close(0)
+        Deed::Close(0),
     ]?;
     let left = served(&rt, rt.alloc(), free_port(&rt)?, 1, deeds)?;
     assert_eq!(rt; left.got[0].as_str(), ANSWER);
-    assert_eq!(rt; left.out.as_str(), "post 1 sessions 1 closed 0 causes 00008000\n");
+    assert_eq!(rt;
+        left.out.as_str(),
+        "post 1 sessions 1 closed 0 causes 00008000\n"
+    );
     assert_eq!(rt; left.status, Status::Done);
     assert!(rt; left.done);
     Ok(())
@@ -85,12 +88,17 @@ fn the_published_request_in_42_pieces_is_answered_once(rt: HostRuntime) -> Resul
     assert_eq!(rt; deeds.len(), 87);
     let left = served(&rt, rt.alloc(), free_port(&rt)?, 1, deeds)?;
     assert_eq!(rt; left.got[0].as_str(), ANSWER);
-    assert_eq!(rt; left.out.as_str(), "post 1 sessions 1 closed 0 causes 00008000\n");
+    assert_eq!(rt;
+        left.out.as_str(),
+        "post 1 sessions 1 closed 0 causes 00008000\n"
+    );
     Ok(())
 }
 
 #[test]
-fn a_silent_client_and_half_a_frame_and_a_reset_end_their_session_alone(rt: HostRuntime) -> Result<(), Fail> {
+fn a_silent_client_and_half_a_frame_and_a_reset_end_their_session_alone(
+    rt: HostRuntime,
+) -> Result<(), Fail> {
     let request = bytes_of(rt.alloc(), REQUEST)?;
     let deeds = vec![in rt.alloc();
         // says nothing, until another takes its place
@@ -115,7 +123,10 @@ fn a_silent_client_and_half_a_frame_and_a_reset_end_their_session_alone(rt: Host
     ]?;
     let left = served(&rt, rt.alloc(), free_port(&rt)?, 4, deeds)?;
     assert_eq!(rt; left.got[0].as_str(), ".");
-    assert_eq!(rt; left.out.as_str(), "post 1 sessions 4 closed 0 causes 00008000\n");
+    assert_eq!(rt;
+        left.out.as_str(),
+        "post 1 sessions 4 closed 0 causes 00008000\n"
+    );
     assert!(rt; left.done);
     Ok(())
 }

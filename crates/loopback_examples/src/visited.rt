@@ -25,7 +25,13 @@ pub struct Visited<'r, R: Net<Stream = TcpStream>, W: Wire + Drop> {
 }
 
 impl<'r, R: Net<Stream = TcpStream>, W: Wire + Drop> Visited<'r, R, W> {
-    pub fn new(rt: &'r R, wire: W, clients: Clients, port: u16, sessions: u32) -> Visited<'r, R, W> {
+    pub fn new(
+        rt: &'r R,
+        wire: W,
+        clients: Clients,
+        port: u16,
+        sessions: u32,
+    ) -> Visited<'r, R, W> {
         Visited {
             rt,
             wire,
