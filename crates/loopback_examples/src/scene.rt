@@ -60,9 +60,9 @@ impl<W: Wire + Drop> Scene<W> {
         acts: &[Act<'_>],
     ) -> Result<(), Fail> {
         for act in acts {
-            match self.of_client(rt, *act)? {
+            match self.of_client(rt, act)? {
                 Some(client) => self.read(client)?,
-                None => self.of_wire(*act)?,
+                None => self.of_wire(act)?,
             }
         }
         Ok(())
@@ -72,21 +72,21 @@ impl<W: Wire + Drop> Scene<W> {
     fn of_client<R: Net<Stream = TcpStream>>(
         &mut self,
         rt: &R,
-        act: Act<'_>,
+        act: &Act<'_>,
     ) -> Result<Option<usize>, Fail> {
         match act {
-            Act::Connect(port) => self.clients.push(Some(rt.connect(loopback(port))?))?,
+            Act::Connect(port) => self.clients.push(Some(rt.connect(loopback(*port))?))?,
             Act::Say(client, bytes) => {
-                if let Some(Some(stream)) = self.clients.get_mut(client) {
+                if let Some(Some(stream)) = self.clients.get_mut(*client) {
                     stream.write_all(bytes)?;
                 }
             }
             Act::Leave(client) => {
-                if let Some(place) = self.clients.get_mut(client) {
+                if let Some(place) = self.clients.get_mut(*client) {
                     *place = None;
                 }
             }
-            Act::Read(client) => return Ok(Some(client)),
+            Act::Read(client) => return Ok(Some(*client)),
             _ => {}
         }
         Ok(None)
@@ -104,41 +104,41 @@ impl<W: Wire + Drop> Scene<W> {
     }
 
     /// What is done on wires.
-    fn of_wire(&mut self, act: Act<'_>) -> Result<(), Fail> {
+    fn of_wire(&mut self, act: &Act<'_>) -> Result<(), Fail> {
         match act {
-            Act::Hear(wire) => self.hear(wire, 20),
-            Act::HearAny(wire) => self.hear(wire, 0),
+            Act::Hear(wire) => self.hear(*wire, 20),
+            Act::HearAny(wire) => self.hear(*wire, 0),
             Act::Send(wire, post, bytes) => {
                 let done = self
                     .wires
-                    .get_mut(wire)
-                    .is_some_and(|wire| wire.send(post, bytes).is_ok());
+                    .get_mut(*wire)
+                    .is_some_and(|wire| wire.send(*post, bytes).is_ok());
                 self.tell("sent", done)
             }
             Act::Answer(wire, post, bytes) => {
                 let done = self
                     .wires
-                    .get_mut(wire)
-                    .is_some_and(|wire| wire.answer(post, bytes).is_ok());
+                    .get_mut(*wire)
+                    .is_some_and(|wire| wire.answer(*post, bytes).is_ok());
                 self.tell("answered", done)
             }
             Act::Drive(wire, post, order) => {
                 let done = self
                     .wires
-                    .get_mut(wire)
-                    .is_some_and(|wire| wire.drive(post, order).is_ok());
+                    .get_mut(*wire)
+                    .is_some_and(|wire| wire.drive(*post, *order).is_ok());
                 self.tell("drove", done)
             }
             Act::Dial(wire, port) => {
                 let done = self
                     .wires
-                    .get_mut(wire)
-                    .is_some_and(|wire| wire.dial(port).is_ok());
+                    .get_mut(*wire)
+                    .is_some_and(|wire| wire.dial(*port).is_ok());
                 self.tell("dialed", done)
             }
             Act::End(wire, post) => {
-                if let Some(wire) = self.wires.get_mut(wire) {
-                    wire.end(post, 1);
+                if let Some(wire) = self.wires.get_mut(*wire) {
+                    wire.end(*post, 1);
                 }
                 Ok(())
             }
