@@ -3,6 +3,8 @@ use Rattle.std.specs.Prelude.{◌≡◌, ◌⊎◌, ℕ, List, [], ◌∷◌, �
 use Rattle.std.specs.Str.{chars}
 use Rattle.charge_world.specs.declared.entry.Entry.{Entry}
 use Rattle.charge_world.specs.declared.offer.Dialect.{Dialect}
+use Rattle.charge_world.specs.declared.ports.Ports.{Ports}
+use Rattle.charge_world.specs.declared.ports.Ports.TheVariants.{Posts}
 use Rattle.charge_world.specs.declared.offer.Dialect.TheVariants.{Iso, Din}
 use Rattle.charge_world.specs.Outside.{Appends, AppendsSome}
 use Rattle.exi_documents.specs.declared.refusal.RefusalCause.{RefusalCause}
@@ -37,6 +39,10 @@ number_of status.TurnsSpent = 8
 
 abbrev pub both_dialects : List Dialect
 both_dialects = Iso ∷ Din ∷ []
+
+-- post 1 at TCP port 15120, without discovery, until ten connections have ended
+abbrev pub station_ports : Ports
+station_ports = Posts (record { items = record { tcp = 15120; sdp = 0 } ∷ [] }) 10
 
 -- the status that a past has. A report line that was not written takes the place of the first two
 abbrev pub Ran : Status → List Entry → Type 0

@@ -1,13 +1,12 @@
 //! The command that serves a station.
 
-ghost use Rattle.std.specs.Prelude.{◌≡◌, ◌≢◌, ◌^◌, ◌-◌, ◌<◌, [], replicate};
-ghost use Rattle.charge_world.specs.Outside.{posts_of};
+ghost use Rattle.std.specs.Prelude.{◌≡◌, ◌≢◌, ◌^◌, ◌-◌, ◌<◌, ◌⊎◌, [], Some, replicate};
 ghost use Rattle.session_spec.specs.Past.{hearings};
 ghost use Rattle.session_spec.specs.SiteRun.{IsSiteRun};
 ghost use Rattle.site_core.specs.Judging.{Judges};
 ghost use Rattle.site_core.specs.Serving.{Carries, Reports};
 ghost use Rattle.site_core.specs.declared.report.PostReport.{PostReport};
-ghost use Rattle.charge_run.specs.Runs.{both_dialects, Ran, Outputs, IsStatusOf};
+ghost use Rattle.charge_run.specs.Runs.{both_dialects, station_ports, Ran, Outputs, IsStatusOf};
 
 use crate::fault::tell_fault;
 use crate::report::line_of;
@@ -17,7 +16,8 @@ use charge_world::{Dialect, Offer, PortPair, Ports, Sink, Wire};
 use site_core::{Ended, Plan, PostReport, Site, serve};
 use std::alloc::Global;
 
-/// Serves post 1, with both dialects on offer, for at most 1,000,000 hearings, and then prints its report.
+/// Serves post 1 at TCP port 15120, with both dialects on offer, for at most 10 connections and 1,000,000 hearings, and then prints
+/// its report.
 pub(crate) fn station<K: Sink, W: Wire>(alloc: Global, out: &mut K, wire: &mut W) -> Status
     // The past is a run of the site, and has the status's cause.
     ensures past { Carries (W.past wire.old) (W.past wire.new) (λ past. past ≡ []) (Ran result) }
@@ -28,8 +28,12 @@ pub(crate) fn station<K: Sink, W: Wire>(alloc: Global, out: &mut K, wire: &mut W
     ensures lines { (report : PostReport) × Carries (W.past wire.old) (W.past wire.new) (λ past. past ≡ []) (Reports 1 report)
         × Outputs result report (K.taken out.old) (K.taken out.new) (K.faults out.old) (K.faults out.new) }
 
+    // The wire tells what start was given.
+    ensures ports { (result ≡ Status.NoMemory) ⊎ (W.started wire.new ≡ Some station_ports) }
+
     // Nothing was begun.
-    ensures no_memory { result ≡ Status.NoMemory → (W.past wire.new ≡ W.past wire.old) × (W.faults wire.new ≡ W.faults wire.old) × (K.faults out.new ≡ K.faults out.old) }
+    ensures no_memory { result ≡ Status.NoMemory → (W.past wire.new ≡ W.past wire.old) × (W.started wire.new ≡ W.started wire.old)
+        × (W.faults wire.new ≡ W.faults wire.old) × (K.faults out.new ≡ K.faults out.old) }
 
     // A fault is told only where a call failed.
     ensures wire_fault { result ≡ Status.WireFault → W.faults wire.old < W.faults wire.new }
@@ -52,11 +56,14 @@ pub(crate) fn station<K: Sink, W: Wire>(alloc: Global, out: &mut K, wire: &mut W
 
 /// Post 1 without discovery.
 fn post_1() -> Ports
-    ensures { posts_of result ≡ 1 }
+    ensures { result ≡ station_ports }
 {
     let mut pairs = ArrayVec::new();
     pairs.push(PortPair { tcp: 15120, sdp: 0 });
-    Ports::Posts { pairs, sessions: 1 }
+    Ports::Posts {
+        pairs,
+        sessions: 10,
+    }
 }
 
 /// ISO 15118-2 and DIN SPEC 70121, in that order.

@@ -1,6 +1,6 @@
 //! The top call.
 
-ghost use Rattle.std.specs.Prelude.{◌≡◌, ◌≢◌, ◌^◌, ◌-◌, ◌<◌, ◌⊎◌, ℕ, List, [], replicate};
+ghost use Rattle.std.specs.Prelude.{◌≡◌, ◌≢◌, ◌^◌, ◌-◌, ◌<◌, ◌⊎◌, ℕ, List, [], Some, replicate};
 ghost use Rattle.session_spec.specs.Past.{hearings};
 ghost use Rattle.session_spec.specs.SiteRun.{IsSiteRun};
 ghost use Rattle.site_core.specs.Judging.{Judges};
@@ -9,7 +9,7 @@ ghost use Rattle.site_core.specs.declared.report.PostReport.{PostReport};
 ghost use Rattle.app_protocol.specs.Scanning.{IsAppUnscanned};
 ghost use Rattle.command_words.specs.Command.{IsStation, IsDecode, IsEncode, IsNoCommand};
 ghost use Rattle.charge_run.specs.FaultLines.{Tells, words_line};
-ghost use Rattle.charge_run.specs.Runs.{both_dialects, Ran, Outputs, Decodes, IsDecodeFault, Encodes};
+ghost use Rattle.charge_run.specs.Runs.{both_dialects, station_ports, Ran, Outputs, Decodes, IsDecodeFault, Encodes};
 
 use crate::decode::decode;
 use crate::encode::encode;
@@ -22,7 +22,8 @@ use std::alloc::Global;
 
 /// Does all that the program does. The words are one command:
 ///
-/// - `station` serves post 1, with both dialects on offer, for at most 1,000,000 hearings, and prints its report.
+/// - `station` serves post 1 at TCP port 15120, with both dialects on offer, for at most 10 connections and 1,000,000 hearings, and
+///   prints its report.
 /// - `decode app HEX` prints the tree text of the message of the negotiation that a payload spells.
 /// - `encode app TEXT` prints the payload that is written for the message whose tree text this is, in hexadecimal digits.
 ///
@@ -57,6 +58,9 @@ pub fn run<F: Source, K: Sink, J: Sink, W: Wire>(
     ensures lines { IsStation words.now → (report : PostReport) × Carries (W.past wire.old) (W.past wire.new) (λ past. past ≡ []) (Reports 1 report)
         × Outputs result report (K.taken out.old) (K.taken out.new) (K.faults out.old) (K.faults out.new) }
 
+    // The wire tells what start was given: post 1 at TCP port 15120 without discovery, for 10 connections.
+    ensures ports { IsStation words.now → (result ≡ Status.NoMemory) ⊎ (W.started wire.new ≡ Some station_ports) }
+
     // `decode`: the line is the text of the message, or tells where the input is refused.
     ensures decode { (hex : List ℕ) → IsDecode words.now hex → Decodes hex result (K.taken out.old) (K.taken out.new) (K.faults out.old) (K.faults out.new) }
 
@@ -70,11 +74,12 @@ pub fn run<F: Source, K: Sink, J: Sink, W: Wire>(
     ensures encode_refused { (text : List ℕ) (place : ℕ) → IsEncode words.now text → IsAppUnscanned text place → (result ≡ Status.Input) ⊎ (result ≡ Status.NoMemory) }
 
     // Nothing was begun.
-    ensures no_memory { result ≡ Status.NoMemory → (W.past wire.new ≡ W.past wire.old) × (W.faults wire.new ≡ W.faults wire.old)
+    ensures no_memory { result ≡ Status.NoMemory → (W.past wire.new ≡ W.past wire.old) × (W.started wire.new ≡ W.started wire.old) × (W.faults wire.new ≡ W.faults wire.old)
         × (K.taken out.new ≡ K.taken out.old) × (K.faults out.new ≡ K.faults out.old) }
 
     // Only `station` calls the wire.
-    ensures wire { (IsStation words.now → ⊥) → (W.past wire.new ≡ W.past wire.old) × (W.untils wire.new ≡ W.untils wire.old) × (W.faults wire.new ≡ W.faults wire.old) }
+    ensures wire { (IsStation words.now → ⊥) → (W.past wire.new ≡ W.past wire.old) × (W.untils wire.new ≡ W.untils wire.old) × (W.started wire.new ≡ W.started wire.old)
+        × (W.faults wire.new ≡ W.faults wire.old) }
 
     // A fault is told only where a call failed.
     ensures wire_fault { result ≡ Status.WireFault → W.faults wire.old < W.faults wire.new }

@@ -14,6 +14,7 @@ use Rattle.charge_world.specs.Scripting.{FitsAt, NoneFits, moment_of}
 pub record IsUnused (script : List Scripted) (failing : List ℕ) (entries bytes : ℕ) (w : MemoryWire) : Type 0 where
   pub script_is : w.script.items ≡ script
   pub at : w.at ≡ 0
+  pub started : w.started ≡ None
   pub failing_are : w.outages.failing ≡ failing
   pub calls : w.outages.calls ≡ 0
   pub log : w.log ≡ record { past = Some []; entries = entries; bytes = bytes }
@@ -26,6 +27,7 @@ pub record Untouched (old new : MemoryWire) : Type 0 where
   pub untils : new.untils ≡ old.untils
   pub outages : new.outages ≡ old.outages
   pub posts : new.posts ≡ old.posts
+  pub started : new.started ≡ old.started
 
 -- the past stays told exactly where one `until` more has room; it is then the newest, and that room is spent
 pub record KeepsUntil (until : ℕ) (old new : MemoryWire) : Type 0 where
@@ -37,6 +39,7 @@ pub record KeepsUntil (until : ℕ) (old new : MemoryWire) : Type 0 where
   pub at : new.at ≡ old.at
   pub outages : new.outages ≡ old.outages
   pub posts : new.posts ≡ old.posts
+  pub started : new.started ≡ old.started
 
 -- one entry with so many bytes is noted, and no `until`
 pub record Notes (old new : MemoryWire) (n : ℕ) : Type 0 where

@@ -34,6 +34,7 @@ pub struct Scripted {
 pub struct MemoryWire {
     script: Vec<Scripted>,
     at: usize,
+    started: Option<Ports>,
     posts: u8,
     outages: Outages,
     log: Log,
@@ -57,6 +58,7 @@ impl MemoryWire {
         Ok(MemoryWire {
             script,
             at: 0,
+            started: None,
             posts: 0,
             outages: Outages::of(failing),
             log: Log::make(alloc, entries, bytes)?,
@@ -92,7 +94,7 @@ impl MemoryWire {
     /// Counts a call, and answers whether it fails.
     fn fails(&mut self) -> bool
         ensures outage { Counts self.old.outages result self.new.outages }
-        ensures same { (self.new.log ≡ self.old.log) × (self.new.untils ≡ self.old.untils) × (self.new.posts ≡ self.old.posts) }
+        ensures same { (self.new.log ≡ self.old.log) × (self.new.untils ≡ self.old.untils) × (self.new.posts ≡ self.old.posts) × (self.new.started ≡ self.old.started) }
     {
         self.outages.fails()
     }
@@ -101,7 +103,7 @@ impl MemoryWire {
     fn lose(&mut self)
         ensures kept { GrowsByOne self.old.log.past self.new.log.past entry.Lost }
         ensures room { Spends self.old.log self.new.log 0 }
-        ensures same { (self.new.outages ≡ self.old.outages) × (self.new.untils ≡ self.old.untils) × (self.new.posts ≡ self.old.posts) }
+        ensures same { (self.new.outages ≡ self.old.outages) × (self.new.untils ≡ self.old.untils) × (self.new.posts ≡ self.old.posts) × (self.new.started ≡ self.old.started) }
     {
         self.log.note(Note::Lost, &[]);
     }
@@ -114,6 +116,7 @@ impl MemoryWire {
         ensures room { Spends self.old.log self.new.log (length (bytes_of heard.now.what room.now)) }
         ensures untils { self.new.untils ≡ self.old.untils }
         ensures posts { self.new.posts ≡ self.old.posts }
+        ensures started { self.new.started ≡ self.old.started }
         ensures outages { self.new.outages ≡ self.old.outages }
     {
         let n = brought(heard.what);
@@ -169,6 +172,8 @@ impl Wire for MemoryWire {
 
     ghost untils = { λ w. reverse w.untils.items };
 
+    ghost started = { λ w. w.started };
+
     ghost posts = { λ w. w.posts };
 
     ghost faults = { λ w. w.outages.faults };
@@ -176,11 +181,13 @@ impl Wire for MemoryWire {
     fn start(&mut self, ports: &Ports) -> Result<(), Failed>
         ensures past { Grows self.old.log.past self.new.log.past [] }
         ensures untils { IsSome self.new.log.past → reverse self.new.untils.items ≡ reverse self.old.untils.items }
+        ensures started { self.new.started ≡ Some ports.now }
         ensures posts { OnOk result (self.new.posts ≡ posts_of ports.now) }
         ensures faults { IsFault self.old.outages.faults self.new.outages.faults result }
         ensures outage { Counts self.old.outages (is_err result) self.new.outages }
         ensures room { (self.new.log ≡ self.old.log) × (self.new.untils ≡ self.old.untils) }
     {
+        self.started = Some(ports.copied());
         if self.outages.fails() {
             return Err(Failed);
         }
@@ -198,6 +205,7 @@ impl Wire for MemoryWire {
         ensures post { IfOk result (λ heard. IsOfPosts self.old.posts heard.what) }
         ensures count { IfOk result (λ heard. HasCount heard.what) }
         ensures untils { IsSome self.new.log.past → reverse self.new.untils.items ≡ until ∷ reverse self.old.untils.items }
+        ensures started { self.new.started ≡ self.old.started }
         ensures posts { self.new.posts ≡ self.old.posts }
         ensures faults { IsFault self.old.outages.faults self.new.outages.faults result }
         ensures outage { Counts self.old.outages (is_err result) self.new.outages }
@@ -217,6 +225,7 @@ impl Wire for MemoryWire {
     fn send(&mut self, post: u8, bytes: &[u8]) -> Result<(), Failed>
         ensures sent { GrowsByOne self.old.log.past self.new.log.past (entry.Sent post bytes.now (is_ok result)) }
         ensures untils { IsSome self.new.log.past → reverse self.new.untils.items ≡ reverse self.old.untils.items }
+        ensures started { self.new.started ≡ self.old.started }
         ensures posts { self.new.posts ≡ self.old.posts }
         ensures faults { IsFault self.old.outages.faults self.new.outages.faults result }
         ensures outage { Counts self.old.outages (is_err result) self.new.outages }
@@ -230,6 +239,7 @@ impl Wire for MemoryWire {
     fn answer(&mut self, post: u8, bytes: &[u8]) -> Result<(), Failed>
         ensures answered { GrowsByOne self.old.log.past self.new.log.past (entry.Answered post bytes.now (is_ok result)) }
         ensures untils { IsSome self.new.log.past → reverse self.new.untils.items ≡ reverse self.old.untils.items }
+        ensures started { self.new.started ≡ self.old.started }
         ensures posts { self.new.posts ≡ self.old.posts }
         ensures faults { IsFault self.old.outages.faults self.new.outages.faults result }
         ensures outage { Counts self.old.outages (is_err result) self.new.outages }
@@ -243,6 +253,7 @@ impl Wire for MemoryWire {
     fn drive(&mut self, post: u8, order: Order) -> Result<(), Failed>
         ensures drove { GrowsByOne self.old.log.past self.new.log.past (entry.Drove post order (is_ok result)) }
         ensures untils { IsSome self.new.log.past → reverse self.new.untils.items ≡ reverse self.old.untils.items }
+        ensures started { self.new.started ≡ self.old.started }
         ensures posts { self.new.posts ≡ self.old.posts }
         ensures faults { IsFault self.old.outages.faults self.new.outages.faults result }
         ensures outage { Counts self.old.outages (is_err result) self.new.outages }
@@ -256,6 +267,7 @@ impl Wire for MemoryWire {
     fn dial(&mut self, port: u16) -> Result<(), Failed>
         ensures dialed { GrowsByOne self.old.log.past self.new.log.past (entry.Dialed port (is_ok result)) }
         ensures untils { IsSome self.new.log.past → reverse self.new.untils.items ≡ reverse self.old.untils.items }
+        ensures started { self.new.started ≡ self.old.started }
         ensures posts { self.new.posts ≡ self.old.posts }
         ensures faults { IsFault self.old.outages.faults self.new.outages.faults result }
         ensures outage { Counts self.old.outages (is_err result) self.new.outages }
@@ -269,6 +281,7 @@ impl Wire for MemoryWire {
     fn end(&mut self, post: u8, cause: u8)
         ensures ended { GrowsByOne self.old.log.past self.new.log.past (entry.Ended post cause) }
         ensures untils { IsSome self.new.log.past → reverse self.new.untils.items ≡ reverse self.old.untils.items }
+        ensures started { self.new.started ≡ self.old.started }
         ensures posts { self.new.posts ≡ self.old.posts }
         ensures faults { self.new.outages.faults ≡ self.old.outages.faults }
         ensures room { Notes self.old self.new 0 }

@@ -1,8 +1,9 @@
 //! The three traits through which everything goes that is heard, done, read and written.
 
-ghost use Rattle.std.specs.Prelude.{◌≡◌, ◌+◌, ◌<◌, ◌≤◌, ◌↔◌, ℕ, List, [], ◌∷◌, ◌++◌, length, take, Option, IsTrue, IsSome, IsErr, IsSomeAnd, OnOk, OnErr, IfOk, IfSome, is_ok};
+ghost use Rattle.std.specs.Prelude.{◌≡◌, ◌+◌, ◌<◌, ◌≤◌, ◌↔◌, ℕ, List, [], ◌∷◌, ◌++◌, length, take, Option, Some, IsTrue, IsSome, IsErr, IsSomeAnd, OnOk, OnErr, IfOk, IfSome, is_ok};
 ghost use Rattle.charge_world.specs.declared.entry.Entry.{Entry};
 ghost use Rattle.charge_world.specs.declared.entry.Entry.TheVariants as entry;
+ghost use Rattle.charge_world.specs.declared.ports.Ports.{Ports};
 ghost use Rattle.charge_world.specs.Outside.{Grows, GrowsByOne, IsOfPosts, HasCount, bytes_of, posts_of, IsFault, Takes, GoesOn, Appends, AppendsSome};
 
 use crate::failed::Failed;
@@ -19,7 +20,10 @@ pub trait Wire {
     /// The `until` of each `next` so far, the newest first. It counts where the past is told.
     ghost untils: { Self → List ℕ };
 
-    /// How many posts `start` was given; 1 for a car.
+    /// What `start` was given last, whether or not it was done; `None` before it was called.
+    ghost started: { Self → Option Ports };
+
+    /// How many posts the last `start` that was done was given; 1 for a car.
     ghost posts: { Self → ℕ };
 
     /// A number that never falls, and rises exactly where a call answers `Failed`.
@@ -29,6 +33,7 @@ pub trait Wire {
     fn start(&mut self, ports: &Ports) -> Result<(), Failed>
         ensures past { Grows (past self.old) (past self.new) [] }
         ensures untils { IsSome (past self.new) → untils self.new ≡ untils self.old }
+        ensures started { started self.new ≡ Some ports.now }
         ensures posts { OnOk result (posts self.new ≡ posts_of ports.now) }
         ensures faults { IsFault (faults self.old) (faults self.new) result };
 
@@ -41,6 +46,7 @@ pub trait Wire {
         ensures post { IfOk result (λ heard. IsOfPosts (posts self.old) heard.what) }
         ensures count { IfOk result (λ heard. HasCount heard.what) }
         ensures untils { IsSome (past self.new) → untils self.new ≡ until ∷ untils self.old }
+        ensures started { started self.new ≡ started self.old }
         ensures posts { posts self.new ≡ posts self.old }
         ensures faults { IsFault (faults self.old) (faults self.new) result };
 
@@ -48,6 +54,7 @@ pub trait Wire {
     fn send(&mut self, post: u8, bytes: &[u8]) -> Result<(), Failed>
         ensures sent { GrowsByOne (past self.old) (past self.new) (entry.Sent post bytes.now (is_ok result)) }
         ensures untils { IsSome (past self.new) → untils self.new ≡ untils self.old }
+        ensures started { started self.new ≡ started self.old }
         ensures posts { posts self.new ≡ posts self.old }
         ensures faults { IsFault (faults self.old) (faults self.new) result };
 
@@ -55,6 +62,7 @@ pub trait Wire {
     fn answer(&mut self, post: u8, bytes: &[u8]) -> Result<(), Failed>
         ensures answered { GrowsByOne (past self.old) (past self.new) (entry.Answered post bytes.now (is_ok result)) }
         ensures untils { IsSome (past self.new) → untils self.new ≡ untils self.old }
+        ensures started { started self.new ≡ started self.old }
         ensures posts { posts self.new ≡ posts self.old }
         ensures faults { IsFault (faults self.old) (faults self.new) result };
 
@@ -62,6 +70,7 @@ pub trait Wire {
     fn drive(&mut self, post: u8, order: Order) -> Result<(), Failed>
         ensures drove { GrowsByOne (past self.old) (past self.new) (entry.Drove post order (is_ok result)) }
         ensures untils { IsSome (past self.new) → untils self.new ≡ untils self.old }
+        ensures started { started self.new ≡ started self.old }
         ensures posts { posts self.new ≡ posts self.old }
         ensures faults { IsFault (faults self.old) (faults self.new) result };
 
@@ -69,6 +78,7 @@ pub trait Wire {
     fn dial(&mut self, port: u16) -> Result<(), Failed>
         ensures dialed { GrowsByOne (past self.old) (past self.new) (entry.Dialed port (is_ok result)) }
         ensures untils { IsSome (past self.new) → untils self.new ≡ untils self.old }
+        ensures started { started self.new ≡ started self.old }
         ensures posts { posts self.new ≡ posts self.old }
         ensures faults { IsFault (faults self.old) (faults self.new) result };
 
@@ -76,6 +86,7 @@ pub trait Wire {
     fn end(&mut self, post: u8, cause: u8)
         ensures ended { GrowsByOne (past self.old) (past self.new) (entry.Ended post cause) }
         ensures untils { IsSome (past self.new) → untils self.new ≡ untils self.old }
+        ensures started { started self.new ≡ started self.old }
         ensures posts { posts self.new ≡ posts self.old }
         ensures faults { faults self.new ≡ faults self.old };
 }

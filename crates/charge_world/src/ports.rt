@@ -1,5 +1,7 @@
 //! What a site is started with, and what it orders.
 
+ghost use Rattle.std.specs.Prelude.{◌≡◌};
+
 use crate::numbers::Tenths;
 use arrayvec::ArrayVec;
 
@@ -38,4 +40,30 @@ pub enum Ports {
         tcp: u16,
         sdp: u16,
     },
+}
+
+impl Ports {
+    /// The same ports once more.
+    pub fn copied(&self) -> Ports
+        ensures { result ≡ self.now }
+    {
+        match self {
+            Ports::Posts { pairs, sessions } => Ports::Posts {
+                pairs: copied_pairs(pairs),
+                sessions: *sessions,
+            },
+            Ports::Car { tcp, sdp } => Ports::Car {
+                tcp: *tcp,
+                sdp: *sdp,
+            },
+        }
+    }
+}
+
+fn copied_pairs(pairs: &ArrayVec<PortPair, 8>) -> ArrayVec<PortPair, 8>
+    ensures { result ≡ pairs.now }
+{
+    let mut copies = ArrayVec::new();
+    copies.try_extend_from_slice(pairs.as_slice()).unwrap();
+    copies
 }

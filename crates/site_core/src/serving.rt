@@ -26,6 +26,7 @@ fn finish<W: Wire>(site: &mut Site, ending: Ending, wire: &mut W)
     ensures frames { site.new.frames ≡ site.old.frames }
     ensures sessions { site.new.report.sessions ≡ site.old.report.sessions }
     ensures untils { IsSome (W.past wire.new) → W.untils wire.new ≡ W.untils wire.old }
+    ensures started { W.started wire.new ≡ W.started wire.old }
     ensures posts { W.posts wire.new ≡ W.posts wire.old }
     ensures faults { W.faults wire.old ≤ W.faults wire.new }
 {
@@ -43,6 +44,7 @@ fn send<W: Wire>(site: &mut Site, reply: &Reply, wire: &mut W)
     ensures sessions { site.new.report.sessions ≡ site.old.report.sessions }
     ensures calm { IsCalm site.new.stage site.new.frames }
     ensures untils { IsSome (W.past wire.new) → W.untils wire.new ≡ W.untils wire.old }
+    ensures started { W.started wire.new ≡ W.started wire.old }
     ensures posts { W.posts wire.new ≡ W.posts wire.old }
     ensures faults { W.faults wire.old ≤ W.faults wire.new }
 {
@@ -73,6 +75,7 @@ fn act<W: Wire>(site: &mut Site, wire: &mut W, offer: &Offer) -> bool
     ensures calm { IsCalm site.old.stage site.old.frames → IsCalm site.new.stage site.new.frames }
     ensures sessions { site.new.report.sessions ≡ site.old.report.sessions }
     ensures untils { IsSome (W.past wire.new) → W.untils wire.new ≡ W.untils wire.old }
+    ensures started { W.started wire.new ≡ W.started wire.old }
     ensures posts { W.posts wire.new ≡ W.posts wire.old }
     ensures faults { W.faults wire.old ≤ W.faults wire.new }
 {
@@ -96,6 +99,7 @@ fn act_on<W: Wire>(site: &mut Site, wire: &mut W, offer: &Offer) -> bool
     ensures calm { IsCalm site.new.stage site.new.frames }
     ensures sessions { site.new.report.sessions ≡ site.old.report.sessions }
     ensures untils { IsSome (W.past wire.new) → W.untils wire.new ≡ W.untils wire.old }
+    ensures started { W.started wire.new ≡ W.started wire.old }
     ensures posts { W.posts wire.new ≡ W.posts wire.old }
     ensures faults { W.faults wire.old ≤ W.faults wire.new }
 {
@@ -188,6 +192,7 @@ fn hear<W: Wire>(site: &mut Site, heard: &Heard, room: &[u8], wire: &mut W, offe
     ensures calm { IsCalm site.new.stage site.new.frames }
     ensures sessions { site.new.report.sessions ≤ site.old.report.sessions + 1 }
     ensures untils { IsSome (W.past wire.new) → W.untils wire.new ≡ W.untils wire.old }
+    ensures started { W.started wire.new ≡ W.started wire.old }
     ensures posts { W.posts wire.new ≡ W.posts wire.old }
     ensures faults { W.faults wire.old ≤ W.faults wire.new }
 {
@@ -226,6 +231,7 @@ pub fn serve<W: Wire>(wire: &mut W, site: &mut Site, plan: &Plan) -> Ended
     requires turns { plan.now.turns ≤ 2 ^ 32 }
     ensures served { Carries (W.past wire.old) (W.past wire.new) (λ past. past ≡ []) (Served plan.now.offer.entries.items plan.now.turns result site.new.report) }
     ensures untils { Carries (W.past wire.old) (W.past wire.new) (λ past. (past ≡ []) × (W.untils wire.old ≡ [])) (λ past. W.untils wire.new ≡ replicate (hearings past) (2 ^ 64 - 1)) }
+    ensures started { W.started wire.new ≡ W.started wire.old }
     ensures lost { result ≡ Ended.Lost → W.faults wire.old < W.faults wire.new }
     ensures faults { W.faults wire.old ≤ W.faults wire.new }
 {
@@ -249,6 +255,7 @@ fn turn<W: Wire>(wire: &mut W, site: &mut Site, plan: &Plan, room: &mut [u8]) ->
     ensures untils { IsSome (W.past wire.new) → W.untils wire.new ≡ (2 ^ 64 - 1) ∷ W.untils wire.old }
     ensures calm { IsCalm site.new.stage site.new.frames }
     ensures sessions { site.new.report.sessions ≤ site.old.report.sessions + 1 }
+    ensures started { W.started wire.new ≡ W.started wire.old }
     ensures posts { W.posts wire.new ≡ 1 }
     ensures faults { W.faults wire.old ≤ W.faults wire.new }
     ensures lost { result ≡ Some Ended.Lost → W.faults wire.old < W.faults wire.new }

@@ -1,6 +1,6 @@
 //! A wire that ticks for ever.
 
-ghost use Rattle.std.specs.Prelude.{◌≡◌, ◌+◌, ◌-◌, ◌^◌, [], None, Ok, min};
+ghost use Rattle.std.specs.Prelude.{◌≡◌, ◌+◌, ◌-◌, ◌^◌, [], None, Some, Ok, min};
 ghost use Rattle.charge_world.specs.Outside.{posts_of};
 
 use charge_world::{Failed, Heard, Order, Ports, What, Wire};
@@ -8,9 +8,10 @@ use std::marker::Model;
 
 /// A wire that hears a tick at each hearing, always at moment 0. It tells no past, and none of its calls fails.
 ///
-/// Contracts see how many posts it started, and how many hearings it gave, at most 2^32 - 1.
+/// Contracts see what it was started with, how many posts that were, and how many hearings it gave, at most 2^32 - 1.
 #[derive(Drop)]
 pub struct Ticking {
+    started: Option<Ports>,
     posts: u8,
     hearings: u32,
 }
@@ -20,15 +21,16 @@ impl Model for Ticking {
 
     ghost Value = { Ticks };
 
-    ghost view = { λ w. record { posts = w.posts; hearings = w.hearings } };
+    ghost view = { λ w. record { started = w.started; posts = w.posts; hearings = w.hearings } };
 }
 
 impl Ticking {
     /// A wire that started no post and gave no hearing.
     pub fn new() -> Ticking
-        ensures { result ≡ record { posts = 0; hearings = 0 } }
+        ensures { result ≡ record { started = None; posts = 0; hearings = 0 } }
     {
         Ticking {
+            started: None,
             posts: 0,
             hearings: 0,
         }
@@ -47,14 +49,17 @@ impl Wire for Ticking {
 
     ghost untils = { λ _. [] };
 
+    ghost started = { λ w. w.started };
+
     ghost posts = { λ w. w.posts };
 
     ghost faults = { λ _. 0 };
 
     fn start(&mut self, ports: &Ports) -> Result<(), Failed>
         ensures done { result ≡ Ok tt }
-        ensures started { self.new ≡ record self.old { posts = posts_of ports.now } }
+        ensures started { self.new ≡ record self.old { started = Some ports.now; posts = posts_of ports.now } }
     {
+        self.started = Some(ports.copied());
         self.posts = match ports {
             Ports::Posts { pairs, sessions: _ } => pairs.len() as u8,
             Ports::Car { .. } => 1,

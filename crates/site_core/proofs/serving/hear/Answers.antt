@@ -18,6 +18,7 @@ loop-preserved g c =
       calm = act.calm c.loop.invariant.calm;
       sessions = act.sessions ∙ c.loop.invariant.sessions;
       untils = λ told. act.untils told ∙ c.loop.invariant.untils (carries_told mid after (InBlock offer 0 0 None c.loop.site) (InBlock offer 0 0 None c.act.new.site) (act.carried 0 0 None) told);
+      started = act.started ∙ c.loop.invariant.started;
       posts = act.posts ∙ c.loop.invariant.posts;
       faults = omega (arith, act.faults, c.loop.invariant.faults);
     }

@@ -11,6 +11,7 @@ invariant-loop g l = record {
   calm : IsCalm l.site.stage l.site.frames;
   sessions : l.site.report.sessions ≡ l.initial.site.report.sessions;
   untils : IsSome (g.W.Wire.past l.wire) → g.W.Wire.untils l.wire ≡ g.W.Wire.untils l.initial.wire;
+  started : g.W.Wire.started l.wire ≡ g.W.Wire.started l.initial.wire;
   posts : g.W.Wire.posts l.wire ≡ g.W.Wire.posts l.initial.wire;
   faults : g.W.Wire.faults l.initial.wire ≤ g.W.Wire.faults l.wire;
 }

@@ -1,4 +1,4 @@
-use Rattle.std.proofs.Common.{◌≡◌, ◌+◌, ℕ, [], Some, replicate, arith, refl}
+use Rattle.std.proofs.Common.{◌≡◌, ◌+◌, ℕ, [], Some, replicate, arith, refl, ◌∙◌}
 use Rattle.session_spec.specs.Past.{hearings}
 use Rattle.site_core.specs.Serving.{AtRest, Served, Turned}
 use Rattle.site_core.proofs.Carry.{carries_then, carries_to, carries_told, carries_know}
@@ -20,6 +20,7 @@ loop-preserved g c =
           (c.loop.invariant.untils (carries_told mid after (AtRest offer plan.turns i c.loop.site) (AtRest offer plan.turns (i + 1) c.turn.new.site) t told));
       calm = c.turn.ensures.calm;
       few = omega (arith, c.turn.ensures.sessions, c.loop.invariant.few);
+      started = c.turn.ensures.started ∙ c.loop.invariant.started;
       posts = c.turn.ensures.posts;
       faults = omega (arith, c.turn.ensures.faults, c.loop.invariant.faults);
     }

@@ -10,6 +10,7 @@ invariant-loop g l = record {
   untils : IsSome (g.W.Wire.past l.wire) → g.W.Wire.untils l.wire ≡ replicate l.counter (2 ^ 64 - 1) ++ g.W.Wire.untils l.fn.wire;
   calm : IsCalm l.site.stage l.site.frames;
   few : l.site.report.sessions ≤ l.counter;
+  started : g.W.Wire.started l.wire ≡ g.W.Wire.started l.fn.wire;
   posts : g.W.Wire.posts l.wire ≡ 1;
   faults : g.W.Wire.faults l.fn.wire ≤ g.W.Wire.faults l.wire;
 }

@@ -1,0 +1,16 @@
+//! The outside itself: sockets of the loopback network, a clock, files, standard output and a simulated charger at each post.
+//!
+//! What a socket, a file or the clock gives isn't known to any proof. Here it is only proved that nothing goes wrong in between, and
+//! that each object keeps the promises of its trait. All that is a function over values stands in `wire_events`.
+#![tactic(auto)]
+
+mod files;
+mod open;
+mod post;
+mod sinks;
+mod sockets;
+mod wire;
+
+pub use files::FileSource;
+pub use sinks::{StandardOutput, TraceFile};
+pub use wire::NetWire;

@@ -1,0 +1,3 @@
+pub mod KindPlaces
+pub mod Waits
+pub mod Closer

@@ -1,0 +1,4 @@
+pub mod Seats
+pub mod Boards
+pub mod Told
+pub mod Law

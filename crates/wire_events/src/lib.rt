@@ -1,0 +1,17 @@
+//! What a wire over real sockets can decide over values alone: how the connections of its posts stand, which event it tells next
+//! of those that are due, and what a read, a random token and a failure come to.
+#![tactic(auto)]
+
+mod board;
+mod faults;
+mod keys;
+mod law;
+mod seat;
+mod told;
+
+pub use board::{Board, Step};
+pub use faults::Faults;
+pub use keys::{Key, key_of, number_of};
+pub use law::law_of_turns;
+pub use seat::{Kind, Line, Seat, Socket};
+pub use told::{piece_or_end, token_of};
