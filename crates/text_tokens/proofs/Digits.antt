@@ -4,7 +4,7 @@ use Rattle.std.specs.Prelude.{MatchResult}
 use Rattle.std.specs.Int.{w64, to_be_bytes, from_be_bytes}
 use Rattle.std.specs.List.{list_all}
 use Rattle.std.proofs.lemmas.Bool.{and_parts}
-use Rattle.std.proofs.lemmas.Nat.{be_bytes_8}
+use Rattle.std.proofs.lemmas.Nat.{be_bytes_8, from_be_bytes-to_be_bytes_8}
 use Rattle.hex.specs.Hex.{IsBytes, encode_lower, encode_with, lower_digits, decode_of, decode_sized}
 use Rattle.hex.specs.declared.error.FromHexError.{FromHexError}
 use Rattle.hex.proofs.HexLemmas.{length-encode_with, decode_of-encode_lower, decode_of-same, decode_sized-encode_lower, decode_sized-ok, decode_sized-twice}
@@ -103,3 +103,14 @@ no_identifier word out e n answers small spells =
     let read : decode_sized word 8 ≡ Ok (to_be_bytes w64 n) = rw spells (decode_sized-encode_lower (to_be_bytes w64 n) 8 refl (eight_bytes n)) in
     let both = subst (λ (r : Result (List ℕ) FromHexError). Answers r (Err e) out) read answers in
     cc both.0
+
+-- ---- one text for each
+
+pub hex_injective : (a b : List ℕ) → IsBytes a → IsBytes b → encode_lower a ≡ encode_lower b → a ≡ b
+hex_injective a b fits_a fits_b e =
+    decode_of-same (encode_lower b) a b (sym (ap decode_of e) ∙ decode_of-encode_lower a fits_a) (decode_of-encode_lower b fits_b)
+
+pub identifier_injective : (m n : ℕ) → m < 2 ^ 64 → n < 2 ^ 64 → identifier_text m ≡ identifier_text n → m ≡ n
+identifier_injective m n small_m small_n e =
+    let same = hex_injective (to_be_bytes w64 m) (to_be_bytes w64 n) (eight_bytes m) (eight_bytes n) e in
+    sym (from_be_bytes-to_be_bytes_8 m small_m) ∙ ap (from_be_bytes w64) same ∙ from_be_bytes-to_be_bytes_8 n small_n

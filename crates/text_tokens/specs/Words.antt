@@ -1,8 +1,8 @@
 -- Own: the words of a line, which stand there with one space between each two.
-use Rattle.std.specs.Prelude.{◌≡◌, ℕ, ◌==◌, ◌&&◌, ◌||◌, nat_le, Bool, false, All, List, [], ◌∷◌, ◌++◌, ◌+◌, ◌≤◌, length, take, drop, map, decimal, Option, Some, None}
+use Rattle.std.specs.Prelude.{◌≡◌, ℕ, ◌==◌, ◌&&◌, ◌||◌, nat_le, nat_lt, Bool, true, List, [], ◌∷◌, ◌++◌, ◌+◌, ◌≤◌, length, take, drop, map, decimal, Option, Some, None}
 use Rattle.std.specs.Borrow.{Bor}
 use Rattle.std.specs.Int.{w64, to_be_bytes}
-use Rattle.std.specs.List.{join_with_byte, slice_split, flat_map}
+use Rattle.std.specs.List.{join_with_byte, slice_split, flat_map, list_all, AllByRecursion}
 use Rattle.hex.specs.Hex.{encode_lower, IsBytes}
 use Rattle.text_tokens.specs.declared.word.Word.{Word}
 use Rattle.text_tokens.specs.declared.word.Word.TheVariants.{Plain, Number, Bytes, Identifier}
@@ -19,9 +19,15 @@ line_text words = spaced words ++ 10 ∷ []
 abbrev pub spaced_out : List (List ℕ) → List ℕ
 spaced_out words = flat_map (λ word. word ++ 32 ∷ []) words
 
--- a word has no space
+-- a word has no space and no line feed, and none of the characters below them
+abbrev pub stands_out : ℕ → Bool
+stands_out byte = nat_lt 32 byte
+
 abbrev pub IsWord : List ℕ → Type 0
-IsWord word = All (λ byte. (byte == 32) ≡ false) word
+IsWord word = list_all stands_out word ≡ true
+
+abbrev pub AreWords : List (List ℕ) → Type 0
+AreWords words = AllByRecursion IsWord words
 
 -- a digit of lower-case hexadecimal
 abbrev pub is_lower_digit : ℕ → Bool
