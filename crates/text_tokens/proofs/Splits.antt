@@ -16,7 +16,7 @@ no_space : (b : ℕ) → stands_out b ≡ true → is_space b ≡ false
 no_space b h = grind arith
 
 -- a word before a space
-cut_word : (word rest : List ℕ) → IsWord word → slice_split is_space (word ++ 32 ∷ rest) ≡ word ∷ slice_split is_space rest
+pub cut_word : (word rest : List ℕ) → IsWord word → slice_split is_space (word ++ 32 ∷ rest) ≡ word ∷ slice_split is_space rest
 cut_word [] rest is = refl
 cut_word (b ∷ word) rest is =
     let parts = and_parts _ _ is in
@@ -69,7 +69,7 @@ all_append : (p : ℕ → Bool) (a b : List ℕ) → list_all p a ≡ true → l
 all_append p [] b ha hb = hb
 all_append p (x ∷ a) b ha hb = let parts = and_parts (p x) (list_all p a) ha in rw (parts.0, all_append p a b parts.1 hb) refl
 
-line_bytes : (words : List (List ℕ)) → AreWords words → list_all (λ b. nat_le 32 b) (spaced words) ≡ true
+pub line_bytes : (words : List (List ℕ)) → AreWords words → list_all (λ b. nat_le 32 b) (spaced words) ≡ true
 line_bytes [] are = refl
 line_bytes (w ∷ []) are = all_more stands_out (λ b. nat_le 32 b) word_in_line w are.0
 line_bytes (w ∷ v ∷ words) are =
@@ -97,3 +97,12 @@ same_line a b r s are_a are_b some_a some_b e =
     let regrouped : spaced a ++ 10 ∷ r ≡ spaced b ++ 10 ∷ s = sym (append_assoc (spaced a) (10 ∷ []) r) ∙ e ∙ append_assoc (spaced b) (10 ∷ []) s in
     let first = first_line (spaced a) (spaced b) r s (line_bytes a are_a) (line_bytes b are_b) regrouped in
     (sym (cut_spaced a are_a some_a) ∙ ap (slice_split is_space) first.0 ∙ cut_spaced b are_b some_b, first.1)
+
+-- a word more at the front
+pub line_cons : (word : List ℕ) (words : List (List ℕ)) → 0 < length words → line_text (word ∷ words) ≡ (word ++ 32 ∷ []) ++ line_text words
+line_cons word [] some = absurd (omega arith)
+line_cons word (v ∷ words) some = simp append_assoc
+
+pub spaced_more : (word : List ℕ) (words : List (List ℕ)) → (words ≡ [] → ⊥) → spaced (word ∷ words) ≡ word ++ 32 ∷ spaced words
+spaced_more word [] some = absurd (some refl)
+spaced_more word (v ∷ words) some = refl

@@ -8,12 +8,11 @@ pub mod hexadecimal;
 pub mod laws;
 pub mod line;
 pub mod numbers;
-pub mod word;
+mod word;
 pub mod words;
 
 pub use hexadecimal::{hex_bytes, identifier, is_hex};
 pub use laws::{texts_are_unambiguous, words_are_cut};
 pub use line::{Full, Line};
 pub use numbers::number;
-pub use word::Word;
-pub use words::Words;
+pub use words::{Words, before_line_feed};

@@ -1,7 +1,8 @@
 //! Lines that are written.
 
-ghost use Rattle.std.specs.Prelude.{◌≡◌, ◌+◌, ◌<◌, ◌≤◌, ◌^◌, ◌↔◌, ◌++◌, length, drop, IsOk, IfOk, IfErr, OnErr};
-ghost use Rattle.text_tokens.specs.Words.{texts_of, spaced_out, line_text, Puts};
+ghost use Rattle.std.specs.Prelude.{◌≡◌, ◌+◌, ◌<◌, ◌≤◌, ◌^◌, ◌↔◌, [], ◌∷◌, ◌++◌, length, drop, decimal, IsOk, IfOk, IfErr, OnErr};
+ghost use Rattle.hex.specs.Hex.{encode_lower};
+ghost use Rattle.text_tokens.specs.Words.{text_of, texts_of, identifier_text, spaced_out, line_text, Puts};
 
 use crate::word::{Word, put, put_word};
 use arrayvec::ArrayVec;
@@ -57,20 +58,60 @@ impl<'a> Model for Line<'a> {
 }
 
 impl<'a> Line<'a> {
-    /// The line of these words, at most eight.
-    pub fn of(words: &[Word<'a>]) -> Line<'a>
-        requires { length words.now ≤ 8 }
-        ensures { result ≡ texts_of words.now }
+    /// No words yet.
+    pub fn new() -> Line<'a>
+        ensures { result ≡ [] }
     {
         Line {
-            words: ArrayVec::try_from(words).unwrap(),
+            words: ArrayVec::new(),
         }
     }
 
+    /// These words and one behind them.
+    fn with(mut self, word: Word<'a>) -> Line<'a>
+        requires { length self < 8 }
+        ensures { result ≡ self.entry ++ text_of word.entry ∷ [] }
+    {
+        self.words.push(word);
+        self
+    }
+
+    /// These words and one that stands as it is. It has no space.
+    pub fn plain(self, word: &'a [u8]) -> Line<'a>
+        requires { length self < 8 }
+        ensures { result ≡ self.entry ++ word.now ∷ [] }
+    {
+        self.with(Word::Plain(word))
+    }
+
+    /// These words and a number in decimal digits.
+    pub fn number(self, n: u64) -> Line<'a>
+        requires { length self < 8 }
+        ensures { result ≡ self.entry ++ decimal n ∷ [] }
+    {
+        self.with(Word::Number(n))
+    }
+
+    /// These words and bytes in lower-case hexadecimal.
+    pub fn bytes(self, bytes: &'a [u8]) -> Line<'a>
+        requires { length self < 8 }
+        ensures { result ≡ self.entry ++ encode_lower bytes.now ∷ [] }
+    {
+        self.with(Word::Bytes(bytes))
+    }
+
+    /// These words and a number in sixteen digits of lower-case hexadecimal, the highest first.
+    pub fn identifier(self, n: u64) -> Line<'a>
+        requires { length self < 8 }
+        ensures { result ≡ self.entry ++ identifier_text n ∷ [] }
+    {
+        self.with(Word::Identifier(n))
+    }
+
     /// These words and those of another line behind them.
-    pub fn then(mut self, more: &Line<'a>) -> Line<'a>
-        requires { length self + length more.now ≤ 8 }
-        ensures { result ≡ self.entry ++ more.now }
+    pub fn then(mut self, more: Line<'a>) -> Line<'a>
+        requires { length self + length more ≤ 8 }
+        ensures { result ≡ self.entry ++ more.entry }
     {
         let _ = self.words.try_extend_from_slice(more.words.as_slice());
         self

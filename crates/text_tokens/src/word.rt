@@ -8,7 +8,7 @@ use itoa::Buffer;
 
 /// One word of a line.
 #[derive(Clone, Copy, Debug)]
-pub enum Word<'a> {
+pub(crate) enum Word<'a> {
     /// A word that stands as it is. It has no space.
     Plain(&'a [u8]),
     /// A number in decimal digits, without a leading zero.

@@ -1,6 +1,6 @@
 //! The words of a line, taken one after another.
 
-ghost use Rattle.std.specs.Prelude.{◌≡◌, ◌==◌, ◌≢◌, ◌≤◌, length, ℕ, List, [], ◌∷◌, MatchOption, IsTrue, ◌↔◌};
+ghost use Rattle.std.specs.Prelude.{◌≡◌, ◌==◌, ◌≢◌, ◌≤◌, length, ℕ, List, [], ◌∷◌, ◌++◌, MatchOption, IsTrue, ◌↔◌};
 ghost use Rattle.std.specs.List.{slice_split, position_or_len};
 
 use std::marker::Model;
@@ -54,6 +54,13 @@ impl<'a> Words<'a> {
         Some(&text[..len])
     }
 
+    /// The text of the words that are left, `None` exactly where there are none.
+    pub fn rest(self) -> Option<&'a [u8]>
+        ensures { MatchOption result (self.entry ≡ []) (λ rest. self.entry ≡ slice_split (λ byte. byte == 32) rest.now) }
+    {
+        self.rest
+    }
+
     /// A value, where no word is left.
     pub fn end<T: Drop>(mut self, value: T) -> Option<T>
         ensures { MatchOption result (self.entry ≢ []) (λ v. (self.entry ≡ []) × (v ≡ value)) }
@@ -71,4 +78,12 @@ impl<'a> Words<'a> {
         let word = self.next()?;
         self.end(word)
     }
+}
+
+/// The text before the line feed at the end of a line, `None` exactly where it ends in none.
+pub fn before_line_feed(line: &[u8]) -> Option<&[u8]>
+    ensures { MatchOption result ((text : List ℕ) → line.now ≢ text ++ 10 ∷ []) (λ text. line.now ≡ text.now ++ 10 ∷ []) }
+{
+    let (last, text) = line.split_last()?;
+    if *last == b'\n' { Some(text) } else { None }
 }
