@@ -11,7 +11,8 @@ use std::alloc::{AllocError, Global};
 fn all_digits(word: &[u8]) -> bool
     ensures { result ≡ list_all is_lower_digit word.now }
 {
-    word.iter().all(|byte| matches!(*byte, b'0'..=b'9' | b'a'..=b'f'))
+    word.iter()
+        .all(|byte| matches!(*byte, b'0'..=b'9' | b'a'..=b'f'))
 }
 
 /// Whether a word spells bytes in lower-case hexadecimal. No bytes are spelled by a word without a letter.

@@ -10,6 +10,6 @@ returns-then-len-text c =
 pub returns : goal.returns
 returns c =
     rw (c.split_at.ensures.back, c.word_len-len.ensures.len) (
-      sym c.self.view_is ∙ ap words_left c.in_ok-text.was
-      ∙ cut_first c.in_ok-text.text.now (omega (arith, c.word_len-len.ensures.len))
+    sym c.self.view_is ∙ ap words_left c.in_ok-text.was
+    ∙ cut_first c.in_ok-text.text.now (omega (arith, c.word_len-len.ensures.len))
     )
