@@ -5,7 +5,8 @@ use Rattle.std.proofs.lemmas.Slice.Eq.{text_from_reads}
 use borrow.Rule.Slice.PartMut.{put_mid}
 use Rattle.byteorder.specs.Endian.{big_number, big_bytes}
 use Rattle.sdp_discovery.specs.declared.message.SdpResponse.{SdpResponse}
-use Rattle.sdp_discovery.specs.Discovery.{request_type, response_type, request_spelling, response_spelling, security, tcp, security_of, transport_of, HasLength, IsResponse, header}
+use Rattle.sdp_discovery.specs.Discovery.{request_type, response_type, request_spelling, response_spelling, security, tcp, security_of, transport_of, HasLength, IsResponse}
+use Rattle.v2gtp_frames.specs.Header.{header}
 
 abbrev pub IsBytes : List ℕ → Type 0
 IsBytes bytes = (i : ℕ) → get_or bytes i 0 < 256

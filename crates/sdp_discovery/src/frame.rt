@@ -1,22 +1,19 @@
 //! The V2GTP frame of a discovery message (ISO 15118-2:2014, section 7.8.3).
 
 ghost use Rattle.std.specs.Prelude.{◌≡◌, ◌+◌, ◌≤◌, ◌<◌, ◌++◌, length, drop, slice_index, IfOk, IfErr, IsTrue, ◌↔◌};
-ghost use Rattle.sdp_discovery.specs.Discovery.{header, security, tcp, HasLength, IsFault, HasSecurity, security_of, transport_of};
+ghost use Rattle.v2gtp_frames.specs.Header.{header};
+ghost use Rattle.sdp_discovery.specs.Discovery.{security, tcp, HasLength, IsFault, HasSecurity, security_of, transport_of};
 
 use crate::fault::SdpFault;
 use byteorder::{BigEndian, ByteOrder};
-
-/// The version of the protocol, and its inverse.
-const VERSION: u16 = 0x01fe;
+use v2gtp_frames::{VERSION, put_frame};
 
 /// Writes a header: a payload type, and a payload's length in bytes.
 pub(crate) fn put_header(frame: &mut [u8], kind: u16, size: u32)
     requires { 8 ≤ length frame.old }
     ensures { frame.new ≡ header kind size ++ drop 8 frame.old }
 {
-    BigEndian::write_u16(frame, VERSION);
-    BigEndian::write_u16(&mut frame[2..], kind);
-    BigEndian::write_u32(&mut frame[4..], size);
+    frame[..8].copy_from_slice(&put_frame(kind, size));
 }
 
 /// The byte that says whether TLS is used.

@@ -11,7 +11,7 @@ pub mod writing;
 pub use fault::SdpFault;
 pub use message::{LOOPBACK, SdpRequest, SdpResponse};
 pub use reading::{read_request, read_response};
-pub use writing::{write_request, write_response};
+pub use writing::{answer_to, write_request, write_response};
 
 #[cfg(test)]
 mod tests;

@@ -1,7 +1,8 @@
 use super::{
-    LOOPBACK, SdpFault, SdpRequest, SdpResponse, read_request, read_response, write_request,
-    write_response,
+    LOOPBACK, SdpFault, SdpRequest, SdpResponse, answer_to, read_request, read_response,
+    write_request, write_response,
 };
+use std::test::Fail;
 
 #[test]
 fn reads_requests_and_names_the_first_fault(rt: HostRuntime) {
@@ -47,6 +48,7 @@ fn a_post_with_port_15120_answers(rt: HostRuntime) {
     let datagram =
         *b"\x01\xfe\x90\x01\x00\x00\x00\x14\0\0\0\0\0\0\0\0\0\0\xff\xff\x7f\0\0\x01\x3b\x10\x10\x00";
     assert_eq!(rt; write_response(&response), datagram);
+    assert_eq!(rt; answer_to(15120), datagram);
     assert_eq!(rt; read_response(&datagram), Ok(response));
     assert_eq!(rt; read_response(&datagram[..27]), Err(SdpFault::BadLength));
 }
@@ -58,4 +60,20 @@ fn a_car_asks_without_tls(rt: HostRuntime) {
         write_request(&request),
         *b"\x01\xfe\x90\x00\x00\x00\x00\x02\x10\x00"
     );
+}
+
+#[test]
+fn a_fault_names_its_field_in_hexadecimal(rt: HostRuntime) -> Result<(), Fail> {
+    let rows = [
+        (SdpFault::BadVersion(0x02fe), "the version is 0x02fe"),
+        (SdpFault::BadType(0x8001), "the payload type is 0x8001"),
+        (SdpFault::BadLength, "the length is wrong"),
+        (SdpFault::BadSecurity(0x01), "the security is 0x01"),
+        (SdpFault::BadTransport(0x10), "the transport is 0x10"),
+    ];
+    for (fault, text) in rows {
+        let shown = format!(in rt.alloc(); "{fault}")?;
+        assert_eq!(rt; shown.as_str(), text);
+    }
+    Ok(())
 }

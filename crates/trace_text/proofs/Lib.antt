@@ -1,8 +1,5 @@
-pub mod Pens
-pub mod Lengths
-pub mod Digits
-pub mod Words
-pub mod Numbers
-pub mod Hex
-pub mod OfEvents
-pub mod OfEntries
+pub mod Posts
+pub mod Spelling
+pub mod Injective
+pub mod WholeLines
+pub mod Traces

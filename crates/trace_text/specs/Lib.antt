@@ -1,3 +1,3 @@
-pub mod Pen
 pub mod TraceText
 pub mod Reading
+pub mod Pasts

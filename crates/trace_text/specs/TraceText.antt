@@ -1,10 +1,8 @@
--- Own: the lines of a trace. Each entry of a past has one line, which is ended by a line feed.
-use Rattle.std.specs.Prelude.{◌≡◌, ℕ, ◌^◌, ◌<◌, ◌≤◌, Bool, true, false, List, [], ◌∷◌, ◌++◌, length, codes, decimal}
-use Rattle.std.specs.Int.{w64, to_be_bytes}
+-- Own: the words of an entry, and its line in a trace. An entry has at most seven words.
+use Rattle.std.specs.Prelude.{◌≡◌, ℕ, ◌^◌, ◌<◌, ◌≤◌, Bool, true, false, if◌then◌else◌, List, [], ◌∷◌, length, codes, decimal}
 use Rattle.hex.specs.Hex.{encode_lower, IsBytes}
 use Rattle.charge_world.specs.declared.entry.Entry.{Entry}
 use Rattle.charge_world.specs.declared.entry.Entry.TheVariants as entry
-use Rattle.charge_world.specs.declared.heard.Heard.{Heard}
 use Rattle.charge_world.specs.declared.heard.What.{What}
 use Rattle.charge_world.specs.declared.heard.What.TheVariants.{Came, Bytes, Gone, Datagram, Plant, Tick, Over}
 use Rattle.charge_world.specs.declared.heard.PlantEvent.{PlantEvent}
@@ -15,87 +13,98 @@ use Rattle.charge_world.specs.declared.heard.IsolationLevel.{IsolationLevel}
 use Rattle.charge_world.specs.declared.heard.IsolationLevel.TheVariants as isolation
 use Rattle.charge_world.specs.declared.ports.Order.{Order}
 use Rattle.charge_world.specs.declared.ports.Order.TheVariants.{Open, Close, Limits}
+use Rattle.text_tokens.specs.Words.{identifier_text, line_text}
 
--- ---- the texts
+-- ---- the words
 
-abbrev pub pilot_text : PilotState → List ℕ
-pilot_text pilot.A = codes "A"
-pilot_text pilot.B = codes "B"
-pilot_text pilot.C = codes "C"
-pilot_text pilot.D = codes "D"
-pilot_text pilot.E = codes "E"
-pilot_text pilot.F = codes "F"
+abbrev pub pilot_word : PilotState → List ℕ
+pilot_word pilot.A = codes "A"
+pilot_word pilot.B = codes "B"
+pilot_word pilot.C = codes "C"
+pilot_word pilot.D = codes "D"
+pilot_word pilot.E = codes "E"
+pilot_word pilot.F = codes "F"
 
-abbrev pub isolation_text : IsolationLevel → List ℕ
-isolation_text isolation.Invalid = codes "invalid"
-isolation_text isolation.Valid = codes "valid"
-isolation_text isolation.Warning = codes "warning"
-isolation_text isolation.Fault = codes "fault"
-isolation_text isolation.NoImd = codes "noimd"
+abbrev pub isolation_word : IsolationLevel → List ℕ
+isolation_word isolation.Invalid = codes "invalid"
+isolation_word isolation.Valid = codes "valid"
+isolation_word isolation.Warning = codes "warning"
+isolation_word isolation.Fault = codes "fault"
+isolation_word isolation.NoImd = codes "noimd"
 
-abbrev pub feedback_text : Bool → List ℕ
-feedback_text true = codes "closed"
-feedback_text false = codes "open"
+abbrev pub feedback_word : Bool → List ℕ
+feedback_word true = codes "closed"
+feedback_word false = codes "open"
 
--- a voltage and a current, in tenths
-abbrev pub pair_text : ℕ → ℕ → List ℕ
-pair_text voltage current = decimal voltage ++ codes " " ++ decimal current
-
--- what a charger tells
-abbrev pub event_text : PlantEvent → List ℕ
-event_text (Pilot state) = codes "pilot " ++ pilot_text state
-event_text (Isolation level) = codes "isolation " ++ isolation_text level
-event_text (Measured voltage current) = codes "measured " ++ pair_text voltage current
-event_text (Feedback closed) = codes "feedback " ++ feedback_text closed
-event_text Paid = codes "paid"
-event_text Emergency = codes "emergency"
-event_text StopAsked = codes "stop"
-event_text RenewAsked = codes "renew"
+-- what a charger tells; a voltage and a current are in tenths
+abbrev pub event_words : PlantEvent → List (List ℕ)
+event_words (Pilot state) = codes "pilot" ∷ pilot_word state ∷ []
+event_words (Isolation level) = codes "isolation" ∷ isolation_word level ∷ []
+event_words (Measured voltage current) = codes "measured" ∷ decimal voltage ∷ decimal current ∷ []
+event_words (Feedback closed) = codes "feedback" ∷ feedback_word closed ∷ []
+event_words Paid = codes "paid" ∷ []
+event_words Emergency = codes "emergency" ∷ []
+event_words StopAsked = codes "stop" ∷ []
+event_words RenewAsked = codes "renew" ∷ []
 
 -- an order, with its watts
-abbrev pub order_text : Order → List ℕ
-order_text Open = codes "open"
-order_text Close = codes "close"
-order_text (Limits voltage current watts) = codes "limits " ++ pair_text voltage current ++ codes " " ++ decimal watts
+abbrev pub order_words : Order → List (List ℕ)
+order_words Open = codes "open" ∷ []
+order_words Close = codes "close" ∷ []
+order_words (Limits voltage current watts) = codes "limits" ∷ decimal voltage ∷ decimal current ∷ decimal watts ∷ []
 
 -- the bytes of a datagram, or a dash for none
-abbrev pub datagram_text : List ℕ → List ℕ
-datagram_text [] = codes "-"
-datagram_text (b ∷ bytes) = encode_lower (b ∷ bytes)
+abbrev pub datagram_word : List ℕ → List ℕ
+datagram_word [] = codes "-"
+datagram_word (b ∷ bytes) = encode_lower (b ∷ bytes)
 
--- a token has sixteen digits
-abbrev pub token_text : ℕ → List ℕ
-token_text token = encode_lower (to_be_bytes w64 token)
+-- what is heard at a post, with its bytes: the words behind the number of the post
+abbrev pub at_post_words : What → List ℕ → List (List ℕ)
+at_post_words (Came post token) bytes = codes "came" ∷ identifier_text token ∷ []
+at_post_words (Bytes post n) bytes = codes "bytes" ∷ encode_lower bytes ∷ []
+at_post_words (Gone post) bytes = codes "gone" ∷ []
+at_post_words (Datagram post n) bytes = codes "datagram" ∷ datagram_word bytes ∷ []
+at_post_words (Plant post event) bytes = codes "plant" ∷ event_words event
+at_post_words Tick bytes = []
+at_post_words Over bytes = []
 
-abbrev pub what_text : What → List ℕ → List ℕ
-what_text (Came post token) bytes = (decimal post ++ codes " came ") ++ token_text token
-what_text (Bytes post n) bytes = (decimal post ++ codes " bytes ") ++ encode_lower bytes
-what_text (Gone post) bytes = (decimal post ++ codes " gone")
-what_text (Datagram post n) bytes = (decimal post ++ codes " datagram ") ++ datagram_text bytes
-what_text (Plant post event) bytes = (decimal post ++ codes " plant ") ++ event_text event
-what_text Tick bytes = codes "tick"
-what_text Over bytes = codes "over"
+abbrev pub what_words : What → List ℕ → List (List ℕ)
+what_words (Came post token) bytes = decimal post ∷ at_post_words (Came post token) bytes
+what_words (Bytes post n) bytes = decimal post ∷ at_post_words (Bytes post n) bytes
+what_words (Gone post) bytes = decimal post ∷ at_post_words (Gone post) bytes
+what_words (Datagram post n) bytes = decimal post ∷ at_post_words (Datagram post n) bytes
+what_words (Plant post event) bytes = decimal post ∷ at_post_words (Plant post event) bytes
+what_words Tick bytes = codes "tick" ∷ []
+what_words Over bytes = codes "over" ∷ []
 
-abbrev pub heard_text : Heard → List ℕ → List ℕ
-heard_text heard bytes = codes "heard " ++ decimal heard.at ++ codes " " ++ what_text heard.what bytes ++ codes "\n"
+-- an entry, whether a call was taken or not
+abbrev pub plain_words : Entry → List (List ℕ)
+plain_words (entry.Heard heard bytes) = codes "heard" ∷ decimal heard.at ∷ what_words heard.what bytes
+plain_words entry.Lost = codes "lost" ∷ []
+plain_words (entry.Sent post bytes taken) = codes "sent" ∷ decimal post ∷ encode_lower bytes ∷ []
+plain_words (entry.Answered post bytes taken) = codes "answered" ∷ decimal post ∷ encode_lower bytes ∷ []
+plain_words (entry.Drove post order taken) = codes "drove" ∷ decimal post ∷ order_words order
+plain_words (entry.Dialed port taken) = codes "dialed" ∷ decimal port ∷ []
+plain_words (entry.Ended post cause) = codes "ended" ∷ decimal post ∷ decimal cause ∷ []
+
+-- only a call can fail
+abbrev pub taken_of : Entry → Bool
+taken_of (entry.Sent post bytes taken) = taken
+taken_of (entry.Answered post bytes taken) = taken
+taken_of (entry.Drove post order taken) = taken
+taken_of (entry.Dialed port taken) = taken
+taken_of _ = true
 
 -- a call that failed says so first
-abbrev pub call_text : Bool → List ℕ
-call_text true = []
-call_text false = codes "failed "
+abbrev pub words_of : Entry → List (List ℕ)
+words_of e = if taken_of e then plain_words e else codes "failed" ∷ plain_words e
 
+-- the line of an entry, with its line feed; and with the number of its hearing before it
 abbrev pub line_of : Entry → List ℕ
-line_of (entry.Heard heard bytes) = heard_text heard bytes
-line_of entry.Lost = codes "lost\n"
-line_of (entry.Sent post bytes taken) = call_text taken ++ codes "sent " ++ (decimal post ++ codes " ") ++ encode_lower bytes ++ codes "\n"
-line_of (entry.Answered post bytes taken) = call_text taken ++ codes "answered " ++ (decimal post ++ codes " ") ++ encode_lower bytes ++ codes "\n"
-line_of (entry.Drove post order taken) = call_text taken ++ codes "drove " ++ (decimal post ++ codes " ") ++ order_text order ++ codes "\n"
-line_of (entry.Dialed port taken) = call_text taken ++ codes "dialed " ++ decimal port ++ codes "\n"
-line_of (entry.Ended post cause) = codes "ended " ++ (decimal post ++ codes " ") ++ decimal cause ++ codes "\n"
+line_of e = line_text (words_of e)
 
--- the line of an entry with the number of its hearing before it
 abbrev pub numbered_line_of : ℕ → Entry → List ℕ
-numbered_line_of hearing e = decimal hearing ++ codes " " ++ line_of e
+numbered_line_of hearing e = line_text (decimal hearing ∷ words_of e)
 
 -- ---- the entries that have a line
 
@@ -122,7 +131,7 @@ InBounds (entry.Drove post order taken) = IsPost post
 InBounds (entry.Dialed port taken) = Unit {0}
 InBounds (entry.Ended post cause) = IsPost post
 
--- a line has at most 131,200 bytes, with its line feed
+-- a line has at most 131,200 bytes, with its line feed and without a number before it
 abbrev pub longest : ℕ
 longest = 131200
 

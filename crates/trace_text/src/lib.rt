@@ -4,19 +4,17 @@
 //! feed, which the calls write and want.
 #![tactic(auto)]
 
-mod entries;
-mod events;
 pub mod laws;
-mod parts;
-mod pen;
-mod putting;
+mod lines;
 pub mod reading;
 mod refused;
+mod words;
 pub mod writing;
 
-pub use laws::lines_are_unambiguous;
+pub use laws::{lines_are_unambiguous, traces_are_unambiguous};
 pub use reading::{LineFault, read_line, read_numbered};
-pub use writing::{Full, write_line, write_numbered};
+pub use text_tokens::Full;
+pub use writing::{write_line, write_numbered};
 
 #[cfg(test)]
 mod tests;

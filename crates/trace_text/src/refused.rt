@@ -1,6 +1,6 @@
-//! Why a part of a line isn't read.
+//! Why words aren't read.
 
-/// The text is outside the grammar, or memory ran out.
+/// The words are no entry's, or memory ran out.
 #[derive(Clone, Copy, Debug, PartialEq, Eq)]
 pub(crate) enum Refused {
     Bad,

@@ -4,7 +4,8 @@ use Rattle.std.specs.Prelude.{All}
 use Rattle.std.proofs.lemmas.List.{length-append, take_at, drop-drop, drop_at, length-take-le, take-append-drop}
 use Rattle.byteorder.specs.Endian.{big_bytes, big_number}
 use Rattle.byteorder.specs.Numbers.{big_number-reads_back}
-use Rattle.v2gtp_frames.specs.Frames.{frame, header, IsPayload}
+use Rattle.v2gtp_frames.specs.Frames.{frame, IsPayload}
+use Rattle.v2gtp_frames.specs.Header.{header}
 use Rattle.v2gtp_frames.specs.Reading.{whole_at, payload_at, behind_front}
 use Rattle.v2gtp_frames.proofs.Growing.{WholeAt, whole_fits, fits_whole}
 

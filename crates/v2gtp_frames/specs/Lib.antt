@@ -1,3 +1,4 @@
+pub mod Header
 pub mod Frames
 pub mod Reading
 pub mod Splits

@@ -2,7 +2,7 @@
 -- contract of `split`.
 use Rattle.std.specs.Prelude.{◌≡◌, ℕ, zero, suc, ◌+◌, List, length, take, drop, not, ◌==◌, nat_lt, if◌then◌else◌, Option, Some, None, Result, Ok, Err}
 use Rattle.std.specs.Borrow.{Bor}
-use Rattle.byteorder.specs.Endian.{big_number}
+use Rattle.v2gtp_frames.specs.Header.{version, version_of, type_of, length_of}
 use Rattle.v2gtp_frames.specs.declared.FrameFault.{FrameFault}
 use Rattle.v2gtp_frames.specs.declared.FrameFault.TheVariants.{BadVersion, BadType, LongPayload}
 
@@ -10,13 +10,13 @@ use Rattle.v2gtp_frames.specs.declared.FrameFault.TheVariants.{BadVersion, BadTy
 unfoldable pub whole_at : List ℕ → Result (Option ℕ) FrameFault
 whole_at bytes =
     if nat_lt (length bytes) 2 then Ok None
-    else if not (big_number 2 bytes == 0x01fe) then Err (BadVersion (big_number 2 bytes))
+    else if not (version_of bytes == version) then Err (BadVersion (version_of bytes))
     else if nat_lt (length bytes) 4 then Ok None
-    else if not (big_number 2 (drop 2 bytes) == 0x8001) then Err (BadType (big_number 2 (drop 2 bytes)))
+    else if not (type_of bytes == 0x8001) then Err (BadType (type_of bytes))
     else if nat_lt (length bytes) 8 then Ok None
-    else if nat_lt 65536 (big_number 4 (drop 4 bytes)) then Err (LongPayload (big_number 4 (drop 4 bytes)))
-    else if nat_lt (length bytes) (8 + big_number 4 (drop 4 bytes)) then Ok None
-    else Ok (Some (big_number 4 (drop 4 bytes)))
+    else if nat_lt 65536 (length_of bytes) then Err (LongPayload (length_of bytes))
+    else if nat_lt (length bytes) (8 + length_of bytes) then Ok None
+    else Ok (Some (length_of bytes))
 
 -- the bytes of a payload of this length at the front
 abbrev pub payload_at : ℕ → List ℕ → List ℕ

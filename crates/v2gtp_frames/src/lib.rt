@@ -4,7 +4,8 @@
 ghost use Rattle.std.specs.Prelude.{ℕ, List, ◌≡◌, ◌≤◌, ◌++◌, ◌+◌, ◌<◌, ◌↔◌, [], length, take, drop, slice_index_or, All, Ok, Err, None, Some, IfOk, IfSome, OnOk, vec_len, vec_capacity};
 ghost use Rattle.std.specs.Borrow.{sem};
 ghost use Rattle.std.specs.Io.BufRead.{Rests};
-ghost use Rattle.v2gtp_frames.specs.Frames.{header, Frames, IsFault, IsRest, IsRight};
+ghost use Rattle.v2gtp_frames.specs.Frames.{Frames, IsFault, IsRest, IsRight};
+ghost use Rattle.v2gtp_frames.specs.Header.{header};
 ghost use Rattle.v2gtp_frames.specs.Reading.{whole_at, behind, payload_at, behind_front, behind_frames, IsNext};
 
 mod splitting;
@@ -16,6 +17,9 @@ pub use splitting::{StreamFrames, split};
 pub use std::alloc::AllocError as NoMemory;
 use std::alloc::Global;
 use std::marker::Model;
+
+/// The version of the protocol, and its inverse.
+pub const VERSION: u16 = 0x01fe;
 
 /// The first wrong field of a frame, with its value.
 #[derive(Clone, Copy, Debug, PartialEq, Eq)]
@@ -33,7 +37,7 @@ pub fn put_frame(kind: u16, payload_len: u32) -> [u8; 8]
     ensures { result ≡ header kind payload_len }
 {
     let mut bytes = [0u8; 8];
-    BigEndian::write_u16(&mut bytes, 0x01fe);
+    BigEndian::write_u16(&mut bytes, VERSION);
     BigEndian::write_u16(&mut bytes[2..], kind);
     BigEndian::write_u32(&mut bytes[4..], payload_len);
     bytes
@@ -49,7 +53,7 @@ fn whole(bytes: &[u8]) -> Result<Option<usize>, FrameFault>
         return Ok(None);
     }
     let version = BigEndian::read_u16(bytes);
-    if version != 0x01fe {
+    if version != VERSION {
         return Err(FrameFault::BadVersion(version));
     }
     if bytes.len() < 4 {

@@ -1,0 +1,15 @@
+use Rattle.std.proofs.Common.{ap, sym, ◌∙◌, arith}
+use Rattle.text_tokens.proofs.Cuts.{cut_none, cut_first}
+use Rattle.text_tokens.specs.Words.{words_left}
+use Rattle.text_tokens.proofs.words.Words.next.Goals as goal
+
+pub returns-then-len-text : goal.returns-then-len-text
+returns-then-len-text c =
+    sym c.self.view_is ∙ ap words_left c.in_ok-text.was ∙ cut_none c.in_ok-text.text.now (sym c.word_len-len.ensures.len ∙ c.if-len-text.true)
+
+pub returns : goal.returns
+returns c =
+    rw (c.split_at.ensures.back, c.word_len-len.ensures.len) (
+    sym c.self.view_is ∙ ap words_left c.in_ok-text.was
+    ∙ cut_first c.in_ok-text.text.now (omega (arith, c.word_len-len.ensures.len))
+    )

@@ -1,0 +1,164 @@
+-- No two entries have the same words.
+use Rattle.std.proofs.Common.{◌≡◌, ℕ, ◌+◌, ◌^◌, ◌<◌, ◌≤◌, Bool, true, false, cond, List, [], ◌∷◌, length, rules, refl, sym, ap, ◌∙◌, arith}
+use Rattle.std.specs.Prelude.{decimal, codes}
+use Rattle.std.proofs.lemmas.Fmt.{decimal_injective}
+use Rattle.hex.specs.Hex.{IsBytes, encode_lower}
+use Rattle.text_tokens.proofs.Digits.{hex_injective, identifier_injective, length_hex}
+use Rattle.charge_world.specs.declared.entry.Entry.{Entry}
+use Rattle.charge_world.specs.declared.entry.Entry.TheVariants as entry
+use Rattle.charge_world.specs.declared.heard.Heard.{Heard}
+use Rattle.charge_world.specs.declared.heard.What.{What}
+use Rattle.charge_world.specs.declared.heard.What.TheVariants.{Came, Bytes, Gone, Datagram, Plant, Tick, Over}
+use Rattle.charge_world.specs.declared.heard.PlantEvent.{PlantEvent}
+use Rattle.charge_world.specs.declared.heard.PlantEvent.TheVariants.{Pilot, Isolation, Measured, Feedback, Paid, Emergency, StopAsked, RenewAsked}
+use Rattle.charge_world.specs.declared.heard.PilotState.{PilotState}
+use Rattle.charge_world.specs.declared.heard.PilotState.TheVariants as pilot
+use Rattle.charge_world.specs.declared.heard.IsolationLevel.{IsolationLevel}
+use Rattle.charge_world.specs.declared.heard.IsolationLevel.TheVariants as isolation
+use Rattle.charge_world.specs.declared.ports.Order.{Order}
+use Rattle.charge_world.specs.declared.ports.Order.TheVariants.{Open, Close, Limits}
+use Rattle.trace_text.specs.TraceText.{pilot_word, isolation_word, feedback_word, event_words, order_words, datagram_word, at_post_words, what_words, plain_words, taken_of, words_of, IsPost, HasBytes, InBounds, IsEventOfTypes, IsOrderOfTypes, IsWhatOfTypes, IsOfTypes}
+
+pilot_same : (s t : PilotState) → pilot_word s ≡ pilot_word t → s ≡ t
+pilot_same pilot.A pilot.A e = refl
+pilot_same pilot.B pilot.B e = refl
+pilot_same pilot.C pilot.C e = refl
+pilot_same pilot.D pilot.D e = refl
+pilot_same pilot.E pilot.E e = refl
+pilot_same pilot.F pilot.F e = refl
+pilot_same _ _ e = search rules
+
+isolation_same : (s t : IsolationLevel) → isolation_word s ≡ isolation_word t → s ≡ t
+isolation_same isolation.Invalid isolation.Invalid e = refl
+isolation_same isolation.Valid isolation.Valid e = refl
+isolation_same isolation.Warning isolation.Warning e = refl
+isolation_same isolation.Fault isolation.Fault e = refl
+isolation_same isolation.NoImd isolation.NoImd e = refl
+isolation_same _ _ e = search rules
+
+feedback_same : (s t : Bool) → feedback_word s ≡ feedback_word t → s ≡ t
+feedback_same true true e = refl
+feedback_same false false e = refl
+feedback_same _ _ e = search rules
+
+same_number : (m n : ℕ) → m < 2 ^ 64 → n < 2 ^ 64 → decimal m ≡ decimal n → m ≡ n
+same_number m n small_m small_n e = decimal_injective m n small_m small_n e
+
+event_same : (d e : PlantEvent) → IsEventOfTypes d → IsEventOfTypes e → event_words d ≡ event_words e → d ≡ e
+event_same (Pilot s) (Pilot t) x y e = ap Pilot (pilot_same s t cc)
+event_same (Isolation s) (Isolation t) x y e = ap Isolation (isolation_same s t cc)
+event_same (Measured v i) (Measured w j) x y e =
+    let voltage = same_number v w (omega (arith, x.0)) (omega (arith, y.0)) cc in
+    let current = same_number i j (omega (arith, x.1)) (omega (arith, y.1)) cc in
+    rw (voltage, current) refl
+event_same (Feedback s) (Feedback t) x y e = ap Feedback (feedback_same s t cc)
+event_same Paid Paid x y e = refl
+event_same Emergency Emergency x y e = refl
+event_same StopAsked StopAsked x y e = refl
+event_same RenewAsked RenewAsked x y e = refl
+event_same _ _ x y e = search rules
+
+order_same : (d e : Order) → IsOrderOfTypes d → IsOrderOfTypes e → order_words d ≡ order_words e → d ≡ e
+order_same Open Open x y e = refl
+order_same Close Close x y e = refl
+order_same (Limits v i w) (Limits v' i' w') x y e =
+    let voltage = same_number v v' (omega (arith, x.0)) (omega (arith, y.0)) cc in
+    let current = same_number i i' (omega (arith, x.1)) (omega (arith, y.1)) cc in
+    let watts = same_number w w' (omega (arith, x.2)) (omega (arith, y.2)) cc in
+    rw (voltage, current, watts) refl
+order_same _ _ x y e = search rules
+
+same_post : (p q : ℕ) → IsPost p → IsPost q → decimal p ≡ decimal q → p ≡ q
+same_post p q x y e = same_number p q (omega (arith, x.1)) (omega (arith, y.1)) e
+
+dash : (b : ℕ) (bytes : List ℕ) → codes "-" ≡ encode_lower (b ∷ bytes) → ⊥
+dash b bytes e = omega (arith, ap length e, length_hex (b ∷ bytes))
+
+datagram_same : (a b : List ℕ) → IsBytes a → IsBytes b → datagram_word a ≡ datagram_word b → a ≡ b
+datagram_same [] [] x y e = refl
+datagram_same [] (d ∷ b) x y e = absurd (dash d b e)
+datagram_same (c ∷ a) [] x y e = absurd (dash c a (sym e))
+datagram_same (c ∷ a) (d ∷ b) x y e = hex_injective (c ∷ a) (d ∷ b) x y e
+
+abbrev IsHeard : What → List ℕ → Type 0
+IsHeard what bytes = HasBytes what bytes × IsWhatOfTypes what × IsBytes bytes
+
+what_same : (v w : What) (a b : List ℕ) → IsHeard v a → IsHeard w b → what_words v a ≡ what_words w b → (v ≡ w) × (a ≡ b)
+what_same (Came p t) (Came q u) a b x y e =
+    let post = same_post p q x.0.0 y.0.0 cc in
+    let token = identifier_injective t u x.1 y.1 cc in
+    (rw (post, token) refl, x.0.1 ∙ sym y.0.1)
+what_same (Bytes p n) (Bytes q m) a b x y e =
+    let post = same_post p q x.0.0 y.0.0 cc in
+    let bytes = hex_injective a b x.2 y.2 cc in
+    let count : n ≡ m = x.0.1 ∙ ap length bytes ∙ sym y.0.1 in
+    (rw (post, count) refl, bytes)
+what_same (Gone p) (Gone q) a b x y e =
+    let post = same_post p q x.0.0 y.0.0 cc in
+    (rw post refl, x.0.1 ∙ sym y.0.1)
+what_same (Datagram p n) (Datagram q m) a b x y e =
+    let post = same_post p q x.0.0 y.0.0 cc in
+    let bytes = datagram_same a b x.2 y.2 cc in
+    let count : n ≡ m = x.0.1 ∙ ap length bytes ∙ sym y.0.1 in
+    (rw (post, count) refl, bytes)
+what_same (Plant p event) (Plant q other) a b x y e =
+    let post = same_post p q x.0.0 y.0.0 cc in
+    let same = event_same event other x.1 y.1 cc in
+    (rw (post, same) refl, x.0.1 ∙ sym y.0.1)
+what_same Tick Tick a b x y e = (refl, x.0 ∙ sym y.0)
+what_same Over Over a b x y e = (refl, x.0 ∙ sym y.0)
+what_same _ _ a b x y e = search rules
+
+heard_same : (h k : Heard) (a b : List ℕ) → h.at ≡ k.at → h.what ≡ k.what → a ≡ b → entry.Heard h a ≡ entry.Heard k b
+heard_same h k a b at what bytes =
+    ap (λ (x : ℕ). entry.Heard (record { at = x; what = h.what }) a) at
+    ∙ ap (λ (x : What). entry.Heard (record { at = k.at; what = x }) a) what
+    ∙ ap (λ (x : List ℕ). entry.Heard k x) bytes
+
+plain_same : (d e : Entry) → InBounds d → IsOfTypes d → InBounds e → IsOfTypes e → taken_of d ≡ taken_of e → plain_words d ≡ plain_words e → d ≡ e
+plain_same (entry.Heard h a) (entry.Heard k b) x s y t o e =
+    let at = same_number h.at k.at s.0 t.0 cc in
+    let what = what_same h.what k.what a b (x, s.1, s.2) (y, t.1, t.2) cc in
+    heard_same h k a b at what.0 what.1
+plain_same entry.Lost entry.Lost x s y t o e = refl
+plain_same (entry.Sent p a taken) (entry.Sent q b other) x s y t o e =
+    let post = same_post p q x.0 y.0 cc in
+    let bytes = hex_injective a b s t cc in
+    rw (post, bytes, o) refl
+plain_same (entry.Answered p a taken) (entry.Answered q b other) x s y t o e =
+    let post = same_post p q x.0 y.0 cc in
+    let bytes = hex_injective a b s t cc in
+    rw (post, bytes, o) refl
+plain_same (entry.Drove p order taken) (entry.Drove q ordered other) x s y t o e =
+    let post = same_post p q x y cc in
+    let same = order_same order ordered s t cc in
+    rw (post, same, o) refl
+plain_same (entry.Dialed p taken) (entry.Dialed q other) x s y t o e =
+    let port = same_number p q (omega (arith, s)) (omega (arith, t)) cc in
+    rw (port, o) refl
+plain_same (entry.Ended p c) (entry.Ended q d) x s y t o e =
+    let post = same_post p q x y cc in
+    let cause = same_number c d (omega (arith, s)) (omega (arith, t)) cc in
+    rw (post, cause) refl
+plain_same _ _ x s y t o e = search rules
+
+not_failed : (e : Entry) (rest : List (List ℕ)) → plain_words e ≡ codes "failed" ∷ rest → ⊥
+not_failed (entry.Heard h a) rest e = search rules
+not_failed entry.Lost rest e = search rules
+not_failed (entry.Sent p a taken) rest e = search rules
+not_failed (entry.Answered p a taken) rest e = search rules
+not_failed (entry.Drove p order taken) rest e = search rules
+not_failed (entry.Dialed p taken) rest e = search rules
+not_failed (entry.Ended p c) rest e = search rules
+
+outcome_same : (t u : Bool) (ws vs : List (List ℕ)) → ((rest : List (List ℕ)) → ws ≡ codes "failed" ∷ rest → ⊥) → ((rest : List (List ℕ)) → vs ≡ codes "failed" ∷ rest → ⊥)
+    → cond t ws (codes "failed" ∷ ws) ≡ cond u vs (codes "failed" ∷ vs) → (t ≡ u) × (ws ≡ vs)
+outcome_same true true ws vs x y e = (refl, e)
+outcome_same false false ws vs x y e = (refl, cc)
+outcome_same true false ws vs x y e = absurd (x vs e)
+outcome_same false true ws vs x y e = absurd (y ws (sym e))
+
+pub words_same : (d e : Entry) → InBounds d → IsOfTypes d → InBounds e → IsOfTypes e → words_of d ≡ words_of e → d ≡ e
+words_same d e x s y t same =
+    let parts = outcome_same (taken_of d) (taken_of e) (plain_words d) (plain_words e) (not_failed d) (not_failed e) same in
+    plain_same d e x s y t parts.0 parts.1

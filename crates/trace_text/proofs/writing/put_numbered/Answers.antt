@@ -1,5 +1,0 @@
-use Rattle.trace_text.proofs.Pens.{◌▸◌}
-use Rattle.trace_text.proofs.writing.put_numbered.Goals as goal
-
-pub returns-clause-put : goal.returns-clause-put
-returns-clause-put c = c.put_number-number.ensures.put ▸ c.put-gap.ensures ▸ c.put_line.ensures.put
