@@ -1,2 +1,2 @@
 mod Hexadecimal
-mod Items
+pub mod Items

@@ -1,5 +1,5 @@
 -- Own: what the keys of a TOML table say, each by its rule, or what is wrong with them.
-use Rattle.std.specs.Prelude.{◌≡◌, ℕ, ◌<◌, ◌≤◌, ◌+◌, ◌%◌, ◌/◌, ◌==◌, Bool, true, false, ◌&&◌, nat_lt, nat_le, if◌then◌else◌, ℤ, pos, negsuc, List, [], ◌∷◌, length, All, Option, Some, None, Result, Ok, Err}
+use Rattle.std.specs.Prelude.{◌≡◌, ℕ, ◌<◌, ◌≤◌, ◌+◌, ◌%◌, ◌/◌, ◌==◌, Bool, true, false, ◌&&◌, nat_lt, nat_le, position, slice_get, if◌then◌else◌, ℤ, pos, negsuc, List, [], ◌∷◌, length, All, Option, Some, None, Result, Ok, Err}
 use Rattle.std.specs.List.{list_all}
 use Rattle.std.specs.Str.{bytes_eq}
 use Rattle.std.specs.Borrow.{Bor}
@@ -51,12 +51,12 @@ abbrev pub truth_says : Data → Result Bool Wrong
 truth_says d = on_some (as_bool d) (λ b. Ok b) (Err BadValue)
 
 -- a word of a list, each of which has a meaning
-abbrev pub named : {X : Type 0} → List (List ℕ × X) → List ℕ → Option X
-named [] s = None
-named (w ∷ ws) s = if bytes_eq w.0 s then Some w.1 else named ws s
+abbrev pub named : {X : Type 0} → List (List ℕ) → List X → List ℕ → Option X
+named words meanings s = on_some (position (λ word. bytes_eq word s) words) (slice_get meanings) None
 
-abbrev pub word_says : {X : Type 0} → List (List ℕ × X) → Data → Result X Wrong
-word_says words d = on_some (as_str d) (λ s. on_some (named words s) (λ x. Ok x) (Err BadValue)) (Err BadValue)
+abbrev pub word_says : {X : Type 0} → List (List ℕ) → List X → Data → Result X Wrong
+word_says words meanings d =
+    on_some (as_str d) (λ s. on_some (named words meanings s) (λ x. Ok x) (Err BadValue)) (Err BadValue)
 
 -- a text of ASCII characters
 abbrev pub IsAscii : ℕ → ℕ → List ℕ → Type 0
@@ -110,15 +110,16 @@ abbrev pub number : List ℕ → ℕ → ℕ → Option ℕ → Rule ℕ
 number name least most default = record { name = name; form = number_says least most; default = default; otherwise = least }
 
 -- a number that may be left out
-abbrev pub perhaps : List ℕ → ℕ → ℕ → Rule (Option ℕ)
-perhaps name least most =
-    record { name = name; form = λ d. seen (λ n. Some n) (number_says least most d); default = Some None; otherwise = None }
+abbrev pub perhaps : List ℕ → ℕ → ℕ → Option ℕ → Rule (Option ℕ)
+perhaps name least most default =
+    record { name = name; form = λ d. seen (λ n. Some n) (number_says least most d); default = Some default; otherwise = default }
 
 abbrev pub truth : List ℕ → Option Bool → Rule Bool
 truth name default = record { name = name; form = truth_says; default = default; otherwise = false }
 
-abbrev pub word : {X : Type 0} → List ℕ → List (List ℕ × X) → Option X → X → Rule X
-word name words default otherwise = record { name = name; form = word_says words; default = default; otherwise = otherwise }
+abbrev pub word : {X : Type 0} → List ℕ → List (List ℕ) → List X → Option X → X → Rule X
+word name words meanings default otherwise =
+    record { name = name; form = word_says words meanings; default = default; otherwise = otherwise }
 
 abbrev pub ascii : List ℕ → ℕ → ℕ → List ℕ → Rule (List ℕ)
 ascii name least most default = record { name = name; form = ascii_says least most; default = Some default; otherwise = default }
@@ -144,3 +145,14 @@ value_or x (Err w) = x
 
 abbrev pub value_at : {X : Type 0} → Rule X → Members → X
 value_at rule table = value_or rule.otherwise (says rule table)
+
+-- what is made of each table of a list
+abbrev pub OfTable : (Members → Type 0) → Option Members → Type 0
+OfTable P (Some table) = P table
+OfTable P None = ⊥
+
+abbrev pub Each : {X : Type 0} → (Members → X → Type 0) → Items → List X → Type 0
+Each R no_items [] = Unit {0}
+Each R (item d rest) (x ∷ xs) = OfTable (λ table. R table x) (as_table d) × Each R rest xs
+Each R no_items (x ∷ xs) = ⊥
+Each R (item d rest) [] = ⊥

@@ -1,11 +1,12 @@
 //! What a value says by its form, or what is wrong with it.
 
-ghost use Rattle.std.specs.Prelude.{◌≡◌, ◌≤◌, ◌<◌, ◌*◌, true, All, IsTrue, IfOk, IfSome, map, nat_lt, length, option_copied, option_map, ◌==◌, ◌&&◌, ◌%◌, is_ok};
+ghost use Rattle.std.specs.Prelude.{◌≡◌, ◌≤◌, ◌<◌, ◌*◌, true, All, IsTrue, IfOk, IfSome, map, position, nat_lt, length, option_copied, option_map, ◌==◌, ◌&&◌, ◌%◌, is_ok};
 ghost use Rattle.std.specs.List.{list_all};
+ghost use Rattle.std.specs.Str.{bytes_eq};
 ghost use Rattle.hex.specs.Hex.{decode_of, is_hex_digit};
 ghost use Rattle.toml.specs.Data.{as_str};
 ghost use Rattle.toml.specs.View.{view, items_view};
-ghost use Rattle.plan_keys.specs.Keys.{seen, has_bounds, bounded, number_says, truth_says, named as named_by, word_says, IsAscii, ascii_says, is_digits, hex_value, hex_says, all_tables, item_count, tables_says};
+ghost use Rattle.plan_keys.specs.Keys.{seen, has_bounds, bounded, number_says, truth_says, word_says, IsAscii, ascii_says, is_digits, hex_value, hex_says, all_tables, item_count, tables_says};
 
 use crate::keys::Wrong;
 use arrayvec::ArrayVec;
@@ -161,6 +162,7 @@ fn has_count(least: usize, most: usize, items: &[Value]) -> bool
 pub(crate) fn tables_of(least: usize, most: usize, value: &Value) -> Result<&[Value], Wrong>
     ensures value { seen (λ v. items_view v.now) result ≡ tables_says least most (view value.now) }
     ensures bounds { IfOk result (λ v. (least ≤ length v.now) × (length v.now ≤ most)) }
+    ensures tables { IfOk result (λ v. all_tables (items_view v.now) ≡ true) }
 {
     let Some(array) = value.as_array() else {
         return Err(Wrong::BadValue);
@@ -175,24 +177,27 @@ pub(crate) fn tables_of(least: usize, most: usize, value: &Value) -> Result<&[Va
     Ok(items)
 }
 
-/// What stands beside a word in a list.
-pub(crate) fn named<T: Copy>(words: &[(&str, T)], text: &str) -> Option<T>
-    ensures { result ≡ named_by (map (λ w. (w.0.now, w.1)) words.now) text.now }
+/// The place of a word in a list.
+fn place_of(words: &[&str], text: &str) -> Option<usize>
+    ensures { result ≡ position (λ w. bytes_eq w text.now) (map (λ w. w.now) words.now) }
 {
-    for (word, meaning) in words {
+    for (i, word) in words.iter().enumerate() {
         if *word == text {
-            return Some(*meaning);
+            return Some(i);
         }
     }
     None
 }
 
-/// The meaning of a word.
-pub(crate) fn word_of<T: Copy>(words: &[(&str, T)], value: &Value) -> Result<T, Wrong>
-    ensures { result ≡ word_says (map (λ w. (w.0.now, w.1)) words.now) (view value.now) }
+/// The meaning of the word that a value says.
+pub(crate) fn word_of<T: Copy>(words: &[&str], meanings: &[T], value: &Value) -> Result<T, Wrong>
+    ensures { result ≡ word_says (map (λ w. w.now) words.now) meanings.now (view value.now) }
 {
-    match value.as_str() {
-        Some(text) => named(words, text).ok_or(Wrong::BadValue),
-        None => Err(Wrong::BadValue),
-    }
+    let Some(text) = value.as_str() else {
+        return Err(Wrong::BadValue);
+    };
+    let Some(place) = place_of(words, text) else {
+        return Err(Wrong::BadValue);
+    };
+    meanings.get(place).copied().ok_or(Wrong::BadValue)
 }

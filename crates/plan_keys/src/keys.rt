@@ -1,9 +1,9 @@
 //! The keys of a table, read one after another.
 
-ghost use Rattle.std.specs.Prelude.{◌≡◌, ◌≤◌, IfSome, OnOk, IfErr, None, option_map, map, length};
+ghost use Rattle.std.specs.Prelude.{◌≡◌, ◌≤◌, true, IfSome, OnOk, IfErr, None, option_map, map, length};
 ghost use Rattle.toml.specs.Data.{get_member};
 ghost use Rattle.toml.specs.View.{view, table_view, items_view};
-ghost use Rattle.plan_keys.specs.Keys.{members_of, number as number_rule, perhaps as perhaps_rule, truth as truth_rule, word as word_rule, ascii as ascii_rule, hex as hex_rule, tables as tables_rule, IsAscii, value_or, value_at};
+ghost use Rattle.plan_keys.specs.Keys.{members_of, number as number_rule, perhaps as perhaps_rule, truth as truth_rule, word as word_rule, ascii as ascii_rule, hex as hex_rule, tables as tables_rule, IsAscii, all_tables, value_or, value_at};
 ghost use Rattle.plan_keys.specs.Faults.{Keeps, wrong_in, trouble_at, needed_at, told_at, trouble_of, Tells};
 
 use crate::fault::{Key, PlanFault, Wanted};
@@ -119,17 +119,24 @@ impl<'a> Keys<'a> {
         self.keep(name, Wanted::Number(least, most), judged, least)
     }
 
-    /// A number from the least to the greatest, if it is there.
-    pub fn perhaps(&mut self, name: &'static str, least: u64, most: u64) -> Option<u64>
-        ensures value { result ≡ value_at (perhaps_rule name.now least most) (members_of self.old.table) }
-        ensures kept { Keeps self.old self.new (trouble_at (perhaps_rule name.now least most) (members_of self.old.table)) }
+    /// A number from the least to the greatest, if it is there, or the default, if there is one.
+    pub fn perhaps(
+        &mut self,
+        name: &'static str,
+        least: u64,
+        most: u64,
+        default: Option<u64>,
+    ) -> Option<u64>
+        requires { IfSome default (λ n. (least ≤ n) × (n ≤ most)) }
+        ensures value { result ≡ value_at (perhaps_rule name.now least most default) (members_of self.old.table) }
+        ensures kept { Keeps self.old self.new (trouble_at (perhaps_rule name.now least most default) (members_of self.old.table)) }
         ensures bounds { IfSome result (λ n. (least ≤ n) × (n ≤ most)) }
     {
         let judged = match self.find(name) {
             Some(value) => forms::number_of(least, most, value).map(Some),
-            None => Ok(None),
+            None => Ok(default),
         };
-        self.keep(name, Wanted::Number(least, most), judged, None)
+        self.keep(name, Wanted::Number(least, most), judged, default)
     }
 
     /// Says that a key has to be there, unless it is excused.
@@ -160,19 +167,19 @@ impl<'a> Keys<'a> {
     pub fn word<T: Copy>(
         &mut self,
         name: &'static str,
-        wanted: Wanted,
-        words: &[(&str, T)],
+        words: &'static [&'static str],
+        meanings: &[T],
         default: Option<T>,
         otherwise: T,
     ) -> T
-        ensures value { result ≡ value_at (word_rule name.now (map (λ w. (w.0.now, w.1)) words.now) default otherwise) (members_of self.old.table) }
-        ensures kept { Keeps self.old self.new (trouble_at (word_rule name.now (map (λ w. (w.0.now, w.1)) words.now) default otherwise) (members_of self.old.table)) }
+        ensures value { result ≡ value_at (word_rule name.now (map (λ w. w.now) words.now) meanings.now default otherwise) (members_of self.old.table) }
+        ensures kept { Keeps self.old self.new (trouble_at (word_rule name.now (map (λ w. w.now) words.now) meanings.now default otherwise) (members_of self.old.table)) }
     {
         let judged = match self.find(name) {
-            Some(value) => forms::word_of(words, value),
+            Some(value) => forms::word_of(words, meanings, value),
             None => default.ok_or(Wrong::Missing),
         };
-        self.keep(name, wanted, judged, otherwise)
+        self.keep(name, Wanted::Word(words), judged, otherwise)
     }
 
     /// From so many to so many ASCII characters, or the default.
@@ -221,6 +228,7 @@ impl<'a> Keys<'a> {
         ensures value { items_view result.now ≡ value_at (tables_rule name.now least most) (members_of self.old.table) }
         ensures kept { Keeps self.old self.new (trouble_at (tables_rule name.now least most) (members_of self.old.table)) }
         ensures bound { length result.now ≤ most }
+        ensures tables { all_tables (items_view result.now) ≡ true }
     {
         let judged = match self.find(name) {
             Some(value) => forms::tables_of(least, most, value),

@@ -1,3 +1,1 @@
-mod Posts
-mod Says
 mod Texts

@@ -1,3 +1,2 @@
-pub mod Keys
-pub mod Plans
-pub mod Fixed
+pub mod Words
+pub mod PostKeys
