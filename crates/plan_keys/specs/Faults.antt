@@ -9,7 +9,7 @@ use Rattle.plan_keys.specs.declared.keys.Found.{Found}
 use Rattle.plan_keys.specs.declared.keys.Keys.{Keys}
 use Rattle.plan_keys.specs.declared.fault.PlanFault.{PlanFault}
 use Rattle.plan_keys.specs.declared.fault.PlanFault.TheVariants.{Missing, BadValue, OverLimit, Memory}
-use Rattle.plan_keys.specs.Keys.{Rule, says, value_at, on_some}
+use Rattle.plan_keys.specs.Keys.{Rule, members_of, says, value_at, on_some}
 
 -- ---- the keys of one table
 
@@ -68,10 +68,11 @@ pub record Keeps (old new : Keys) (trouble : Option Trouble) : Type 0 where
   pub table : new.table ≡ old.table
   pub found : trouble_of new.found ≡ first_of (trouble_of old.found) trouble
 
--- what a reader has found behind the keys of these rules
-pub record KeepsAll (old new : Keys) (wrongs : List (Option Trouble)) : Type 0 where
+-- the keys of these rules are read, one after another, into a plan
+pub record Reads {P : Type 0} (old new : Keys) (lines : List (Line P)) (plan : P) : Type 0 where
   pub table : new.table ≡ old.table
-  pub found : trouble_of new.found ≡ first_in (trouble_of old.found) wrongs
+  pub found : trouble_of new.found ≡ first_in (trouble_of old.found) (troubles lines (members_of old.table))
+  pub holds : Holds lines (members_of old.table) plan
 
 -- ---- places
 

@@ -1,2 +1,5 @@
 pub mod Words
 pub mod PostKeys
+pub mod SiteKeys
+pub mod CarKeys
+pub mod Plans

@@ -3,4 +3,5 @@
 
 mod dialects;
 mod post;
+mod site;
 mod words;

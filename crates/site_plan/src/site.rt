@@ -123,7 +123,12 @@ pub(crate) fn site_plan(alloc: Global, table: &Table) -> Result<SitePlan, PlanFa
     let items = keys.tables("post", 1, 8);
     keys.judged(alloc, &whole)?;
     let post = read_posts(alloc, items)?;
-    known_keys(alloc, &whole, &["limit", "turns", "sessions", "post"], table)?;
+    known_keys(
+        alloc,
+        &whole,
+        &["limit", "turns", "sessions", "post"],
+        table,
+    )?;
     know_posts(alloc, items)?;
     Ok(SitePlan {
         limit,

@@ -3,9 +3,9 @@
 ghost use Rattle.std.specs.Prelude.{◌≡◌, ◌≤◌, map};
 ghost use Rattle.site_plan.specs.Words as spec;
 
-use session_words::{Mode, Stop};
 use charge_world::Tenths;
 use plan_keys::Keys;
+use session_words::{Mode, Stop};
 
 /// The names of the modes.
 pub(crate) fn mode_names() -> &'static [&'static str]
