@@ -1,5 +1,5 @@
 -- The items of a list of a TOML document, one after another.
-use Rattle.std.proofs.Common.{◌≡◌, ℕ, ◌+◌, ◌<◌, zero, suc, Bool, true, false, List, [], ◌∷◌, ◌++◌, length, get_or, take, drop, map, Option, Some, None, IsSome, arith, refl, ap, sym, ◌∙◌}
+use Rattle.std.proofs.Common.{◌≡◌, ℕ, ◌+◌, ◌<◌, zero, suc, Bool, true, false, List, [], ◌∷◌, ◌++◌, length, get_or, take, drop, map, Option, Some, None, IsSome, arith, refl, ap, sym, subst, ◌∙◌}
 use Rattle.std.proofs.lemmas.List.{drop_more, take_more}
 use Rattle.toml.specs.Data.{Data, Items, no_items, item, Members, as_table}
 use Rattle.toml.specs.View.{view, items_view}
@@ -45,3 +45,7 @@ all_tables_at (w ∷ ws) zero v all below = (first_table (as_table (view w)) (al
 all_tables_at (w ∷ ws) (suc i) v all below =
     let rest : i < length ws = omega (arith, below) in
     all_tables_at ws i v (first_table (as_table (view w)) (all_tables (items_view ws)) all).1 rest
+
+pub table_here : (vs : List Value) (i : ℕ) (v : Value) → v ≡ get_or vs i v → all_tables (items_view vs) ≡ true → i < length vs
+    → IsSome (as_table (view v))
+table_here vs i v is all below = subst (λ (w : Value). IsSome (as_table (view w))) (sym is) (all_tables_at vs i v all below)

@@ -12,8 +12,8 @@ one_fault t a b (inr p) (inl q) = absurd (omega (arith, p.0, q.0))
 one_fault t a b (inr p) (inr q) = p.2 ∙ sym q.2
 
 no_document : (text : List ℕ) (a : PlanFault) → IsNoDocument text a → length text ≤ 65536 → (members : Members) → IsDocument text members → ⊥
-no_document t a (inl p) short members h = omega (arith, p.0, short)
-no_document t a (inr p) short members h = p.1 members h
+no_document t a (inl p) short table h = omega (arith, p.0, short)
+no_document t a (inr p) short table h = p.1 table h
 
 pub one_told : (of_members : Members → Option PlanFault) (text : List ℕ) (a b : Option PlanFault)
     → IsTold of_members text a → IsTold of_members text b → a ≡ b

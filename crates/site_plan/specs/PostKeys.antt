@@ -3,13 +3,9 @@ use Rattle.std.specs.Prelude.{ℕ, true, List, [], ◌∷◌, codes, Option, Som
 use Rattle.toml.specs.Data.{Members}
 use Rattle.session_words.specs.declared.mode.Mode.{Mode}
 use Rattle.session_words.specs.declared.plan.PostPlan.{PostPlan}
-use Rattle.plan_keys.specs.Keys.{Rule, value_at, number, truth, ascii, hex}
+use Rattle.plan_keys.specs.Keys.{value_at, number, truth, hex}
 use Rattle.plan_keys.specs.Faults.{Line, key}
-use Rattle.site_plan.specs.Words.{mode_rule, dialects_rule}
-
--- tenths of a volt or of an ampere
-abbrev pub tenths_rule : List ℕ → ℕ → Rule ℕ
-tenths_rule name default = number name 0 30000 (Some default)
+use Rattle.site_plan.specs.Words.{tenths_rule, evse_id_rule, mode_rule, dialects_rule}
 
 -- A port has no default in a file. Watts, tenths of a volt and of an ampere, and volts.
 abbrev pub post_rules : Option ℕ → Mode → Members → List (Line PostPlan)
@@ -18,7 +14,7 @@ post_rules port mode table =
     ∷ key (number (codes "sdp") 0 65535 (Some 0)) (λ p. p.sdp)
     ∷ key (mode_rule mode) (λ p. p.mode)
     ∷ key (dialects_rule (value_at (mode_rule mode) table)) (λ p. p.dialects.items)
-    ∷ key (ascii (codes "evse_id") 7 37 (codes "ZZ00000")) (λ p. p.evse_id)
+    ∷ key evse_id_rule (λ p. p.evse_id)
     ∷ key (hex (codes "evse_id_din") 1 32 (0 ∷ [])) (λ p. p.evse_id_din.items)
     ∷ key (truth (codes "free") (Some true)) (λ p. p.free)
     ∷ key (number (codes "max_watts") 1 1000000 (Some 50000)) (λ p. p.max_watts)

@@ -1,5 +1,5 @@
 -- Own: the keys of a station's plan in the order in which they are judged, and its first fault.
-use Rattle.std.specs.Prelude.{ℕ, List, [], ◌∷◌, codes, Option, Some, None}
+use Rattle.std.specs.Prelude.{ℕ, List, [], ◌∷◌, ◌++◌, codes, Option, Some, None}
 use Rattle.toml.specs.Data.{Items, Members}
 use Rattle.session_words.specs.declared.mode.Mode.TheVariants.{DcExtended}
 use Rattle.session_words.specs.declared.plan.PostPlan.{PostPlan}
@@ -12,13 +12,15 @@ use Rattle.site_plan.specs.PostKeys.{post_rules}
 abbrev pub post_tables : Rule Items
 post_tables = tables (codes "post") 1 8
 
-abbrev pub site_rules : Members → List (Line SitePlan)
-site_rules table =
+abbrev pub limit_rules : List (Line SitePlan)
+limit_rules =
     key (number (codes "limit") 1 8000000 (Some 150000)) (λ s. s.limit)
     ∷ key (number (codes "turns") 1 4294967296 (Some 1000000)) (λ s. s.turns)
     ∷ key (number (codes "sessions") 1 1000000 (Some 1)) (λ s. s.sessions)
-    ∷ also (codes "post") (trouble_at post_tables table)
     ∷ []
+
+abbrev pub site_rules : Members → List (Line SitePlan)
+site_rules table = limit_rules ++ also (codes "post") (trouble_at post_tables table) ∷ []
 
 -- the plan of a post in a file
 abbrev pub IsPostOf : Members → PostPlan → Type 0

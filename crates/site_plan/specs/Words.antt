@@ -11,7 +11,14 @@ use Rattle.session_words.specs.declared.plan.Stop.{Stop}
 use Rattle.session_words.specs.declared.plan.Stop.TheVariants.{Terminate, Pause}
 use Rattle.plan_keys.specs.declared.keys.Wrong.{Wrong}
 use Rattle.plan_keys.specs.declared.keys.Wrong.TheVariants.{BadValue}
-use Rattle.plan_keys.specs.Keys.{Rule, on_some, word}
+use Rattle.plan_keys.specs.Keys.{Rule, on_some, number, word, ascii}
+
+-- tenths of a volt or of an ampere
+abbrev pub tenths_rule : List ℕ → ℕ → Rule ℕ
+tenths_rule name default = number name 0 30000 (Some default)
+
+abbrev pub evse_id_rule : Rule (List ℕ)
+evse_id_rule = ascii (codes "evse_id") 7 37 (codes "ZZ00000")
 
 abbrev pub mode_names : List (List ℕ)
 mode_names =

@@ -1,13 +1,13 @@
 //! The keys of a station.
 
-ghost use Rattle.std.specs.Prelude.{◌≡◌, ◌≤◌, All, IfOk, IfErr, IsSome, OnOk, None, Some, true, length};
+ghost use Rattle.std.specs.Prelude.{◌≡◌, ◌≤◌, All, IfOk, IfErr, IsSome, OnOk, None, Some, true, [], length};
 ghost use Rattle.arrayvec.specs.ArrayVec.{array_vec_len};
-ghost use Rattle.session_words.specs.Plans.{IsPostPlan, IsSitePlan};
+ghost use Rattle.session_words.specs.Plans.{IsPostPlan, IsSitePlan, IsWithin};
 ghost use Rattle.toml.specs.Data.{as_table};
 ghost use Rattle.toml.specs.View.{view, table_view, items_view};
-ghost use Rattle.plan_keys.specs.Keys.{all_tables, Each};
-ghost use Rattle.plan_keys.specs.Faults.{Tells, each_fault};
-ghost use Rattle.site_plan.specs.SiteKeys.{IsPostOf, IsSiteOf, post_fault, post_unknown, site_fault};
+ghost use Rattle.plan_keys.specs.Keys.{members_of, all_tables, Each};
+ghost use Rattle.plan_keys.specs.Faults.{Tells, Reads, each_fault};
+ghost use Rattle.site_plan.specs.SiteKeys.{limit_rules, IsPostOf, IsSiteOf, post_fault, post_unknown, site_fault};
 
 use crate::post::post_plan;
 use arrayvec::ArrayVec;
@@ -108,6 +108,23 @@ fn know_posts(alloc: Global, items: &[Value]) -> Result<(), PlanFault>
     Ok(())
 }
 
+/// Reads what a station's plan says of the whole, without its posts.
+pub(crate) fn site_limits(keys: &mut Keys<'_>) -> SitePlan
+    ensures read { Reads keys.old keys.new limit_rules result }
+    ensures limits { IsWithin 1 8000000 result.limit × IsWithin 1 4294967296 result.turns × IsWithin 1 1000000 result.sessions }
+    ensures posts { result.post.items ≡ [] }
+{
+    let limit = keys.number("limit", 1, 8_000_000, Some(150_000)) as u32;
+    let turns = keys.number("turns", 1, 4_294_967_296, Some(1_000_000));
+    let sessions = keys.number("sessions", 1, 1_000_000, Some(1)) as u32;
+    SitePlan {
+        limit,
+        turns,
+        sessions,
+        post: ArrayVec::new(),
+    }
+}
+
 /// Reads the plan of a station.
 pub(crate) fn site_plan(alloc: Global, table: &Table) -> Result<SitePlan, PlanFault>
     ensures plan { IfOk result (IsSiteOf (table_view table.now)) }
@@ -117,12 +134,10 @@ pub(crate) fn site_plan(alloc: Global, table: &Table) -> Result<SitePlan, PlanFa
 {
     let whole = Place { prefix: "" };
     let mut keys = Keys::of(table);
-    let limit = keys.number("limit", 1, 8_000_000, Some(150_000)) as u32;
-    let turns = keys.number("turns", 1, 4_294_967_296, Some(1_000_000));
-    let sessions = keys.number("sessions", 1, 1_000_000, Some(1)) as u32;
+    let mut site = site_limits(&mut keys);
     let items = keys.tables("post", 1, 8);
     keys.judged(alloc, &whole)?;
-    let post = read_posts(alloc, items)?;
+    site.post = read_posts(alloc, items)?;
     known_keys(
         alloc,
         &whole,
@@ -130,10 +145,5 @@ pub(crate) fn site_plan(alloc: Global, table: &Table) -> Result<SitePlan, PlanFa
         table,
     )?;
     know_posts(alloc, items)?;
-    Ok(SitePlan {
-        limit,
-        turns,
-        sessions,
-        post,
-    })
+    Ok(site)
 }
