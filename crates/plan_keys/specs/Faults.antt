@@ -39,26 +39,31 @@ abbrev pub first_in : {X : Type 0} → Option X → List (Option X) → Option X
 first_in found [] = found
 first_in found (x ∷ xs) = first_in (first_of found x) xs
 
--- the rules of a table in their order, each with the field of a plan that has what its key says; and a key that is judged otherwise
+-- the rules of a table in their order: a key with the field of a plan that has what it says, a list of tables, and what
+-- else is wrong there
 pub data Line (P : Type 0) : Type 1 where
   key : {X : Type 0} → Rule X → (P → X) → Line P
-  also : List ℕ → Option Trouble → Line P
+  lists : Rule Items → Line P
+  also : Option Trouble → Line P
 
 -- a plan has what the keys of a table say
 abbrev pub Holds : {P : Type 0} → List (Line P) → Members → P → Type 0
 Holds [] table plan = Unit {0}
 Holds (key rule field ∷ lines) table plan = (field plan ≡ value_at rule table) × Holds lines table plan
-Holds (also name trouble ∷ lines) table plan = Holds lines table plan
+Holds (lists rule ∷ lines) table plan = Holds lines table plan
+Holds (also trouble ∷ lines) table plan = Holds lines table plan
 
 abbrev pub troubles : {P : Type 0} → List (Line P) → Members → List (Option Trouble)
 troubles [] table = []
 troubles (key rule field ∷ lines) table = trouble_at rule table ∷ troubles lines table
-troubles (also name trouble ∷ lines) table = trouble ∷ troubles lines table
+troubles (lists rule ∷ lines) table = trouble_at rule table ∷ troubles lines table
+troubles (also trouble ∷ lines) table = trouble ∷ troubles lines table
 
 abbrev pub names : {P : Type 0} → List (Line P) → List (List ℕ)
 names [] = []
 names (key rule field ∷ lines) = rule.name ∷ names lines
-names (also name trouble ∷ lines) = name ∷ names lines
+names (lists rule ∷ lines) = rule.name ∷ names lines
+names (also trouble ∷ lines) = names lines
 
 -- what a reader of keys has found, and what a key adds to it
 abbrev pub trouble_of : Option Found → Option Trouble

@@ -17,7 +17,7 @@ abbrev pub port_rules : Option ℕ → Members → List (Line CarPlan)
 port_rules port table =
     key (perhaps (codes "tcp") 1 65535 port) (λ c. c.tcp)
     ∷ key sdp_rule (λ c. c.sdp)
-    ∷ also (codes "tcp") (needed_at (codes "tcp") (is_some port || not (value_at sdp_rule table == 0)) table)
+    ∷ also (needed_at (codes "tcp") (is_some port || not (value_at sdp_rule table == 0)) table)
     ∷ []
 
 -- percent, tenths of a volt and of an ampere, watts, replies, detections and milliseconds

@@ -1,8 +1,15 @@
 //! The plans of a charging site and of a car, read from TOML (own).
+//!
+//! `specs/SiteKeys.antt`, `PostKeys.antt` and `CarKeys.antt` are the tables of their keys, one line a key.
 #![tactic(auto)]
 
 mod car;
 mod dialects;
 mod post;
+mod reading;
 mod site;
 mod words;
+
+pub use plan_keys::{Key, PlanFault};
+pub use reading::{car_plan_of, site_plan_of};
+pub use session_words::{CarPlan, Mode, PostPlan, SitePlan, Stop};
