@@ -1,2 +1,3 @@
+mod Defaults
 mod Ports
 mod Texts

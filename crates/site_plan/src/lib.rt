@@ -8,8 +8,10 @@ mod dialects;
 mod post;
 mod reading;
 mod site;
+mod stored;
 mod words;
 
 pub use plan_keys::{Key, PlanFault};
 pub use reading::{car_plan_of, site_plan_of};
 pub use session_words::{CarPlan, Mode, PostPlan, SitePlan, Stop};
+pub use stored::{fixed, fixed_car};

@@ -15,7 +15,6 @@ use session_words::{CarPlan, SitePlan};
 use std::alloc::Global;
 
 /// Reads the plan of a station from TOML, or names its first fault (own).
-#[tactic(auto, using(plan_keys::proofs::Told::one_told))]
 pub fn site_plan_of(alloc: Global, text: &[u8]) -> Result<SitePlan, PlanFault>
     ensures plan { IfOk result (IsSitePlanOf text.now) }
     ensures fault { IfErr result (λ fault. (fault ≡ PlanFault.Memory) ⊎ IsTold site_fault text.now (Some fault)) }
@@ -27,7 +26,6 @@ pub fn site_plan_of(alloc: Global, text: &[u8]) -> Result<SitePlan, PlanFault>
 }
 
 /// Reads the plan of a car from TOML, or names its first fault (own).
-#[tactic(auto, using(plan_keys::proofs::Told::one_told))]
 pub fn car_plan_of(alloc: Global, text: &[u8]) -> Result<CarPlan, PlanFault>
     ensures plan { IfOk result (IsCarPlanOf text.now) }
     ensures fault { IfErr result (λ fault. (fault ≡ PlanFault.Memory) ⊎ IsTold car_fault text.now (Some fault)) }
