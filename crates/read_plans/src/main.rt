@@ -5,7 +5,9 @@
 
 use anyhow::Result;
 use charge_world::{Dialect, Tenths};
-use site_plan::{CarPlan, PlanFault, PostPlan, SitePlan, Stop, car_plan_of, mode_name, site_plan_of};
+use site_plan::{
+    CarPlan, PlanFault, PostPlan, SitePlan, Stop, car_plan_of, mode_name, site_plan_of,
+};
 use std::process::ExitCode;
 use std::{env, fmt, fs, io};
 
@@ -108,7 +110,10 @@ fn print_post(rt: &impl Print, post: &PostPlan) -> io::Result<()> {
     println!(rt; "    mode {}", mode_name(post.mode))?;
     println!(rt; "    dialects {}", Names(post.dialects.as_slice()))?;
     println!(rt; "    evse_id {}", post.evse_id.as_str())?;
-    println!(rt; "    evse_id_din {}", Hexadecimal(post.evse_id_din.as_slice()))?;
+    println!(rt;
+        "    evse_id_din {}",
+        Hexadecimal(post.evse_id_din.as_slice())
+    )?;
     println!(rt; "    free {}", post.free)?;
     println!(rt; "    max_watts {} W", post.max_watts)?;
     println!(rt; "    max_voltage {} V", OneDecimal(post.max_voltage))?;
@@ -145,9 +150,12 @@ fn print_drive(rt: &impl Print, plan: &CarPlan) -> io::Result<()> {
     println!(rt; "  cycles {} replies", plan.cycles)?;
     println!(rt; "  welding {} detections", plan.welding)?;
     println!(rt; "  pace {} ms", plan.pace)?;
-    println!(rt; "  stop {}", match plan.stop {
-        Stop::Terminate => "terminate",
-        Stop::Pause => "pause",
-    })?;
+    println!(rt;
+        "  stop {}",
+        match plan.stop {
+            Stop::Terminate => "terminate",
+            Stop::Pause => "pause",
+        }
+    )?;
     println!(rt; "  session {}", Hexadecimal(plan.session.bytes.as_slice()))
 }

@@ -22,12 +22,9 @@ fn fixed_mode(ac: bool) -> Mode
     }
 }
 
-/// The plan of a station with one post at the TCP port 15120, and else the defaults (own). The post gives alternating
-/// current in three phases and speaks ISO alone where `ac` is true; else it gives direct current and speaks ISO and DIN.
-#[tactic(auto, using(crate::proofs::Defaults::site_said))]
-pub fn fixed(ac: bool) -> SitePlan
+/// The plan of a station with the defaults of its keys.
+fn default_site(ac: bool) -> SitePlan
     ensures fields { IsFixedSite ac result }
-    ensures text { IsSitePlanOf (spec.site_text ac) result }
     ensures within { IsSitePlan result }
 {
     let mut site = site_limits(&mut Keys::none());
@@ -36,13 +33,31 @@ pub fn fixed(ac: bool) -> SitePlan
     site
 }
 
+/// The plan of a car with the defaults of its keys.
+#[tactic(auto, using(crate::proofs::Defaults::nothing_wrong))]
+fn default_car(ac: bool) -> CarPlan
+    ensures fields { IsFixedCar ac result }
+    ensures within { IsCarPlan result }
+{
+    car_keys(&mut Keys::none(), Some(15120), fixed_mode(ac))
+}
+
+/// The plan of a station with one post at the TCP port 15120, and else the defaults (own). The post gives alternating
+/// current in three phases and speaks ISO alone where `ac` is true; else it gives direct current and speaks ISO and DIN.
+pub fn fixed(ac: bool) -> SitePlan
+    ensures fields { IsFixedSite ac result }
+    ensures text { IsSitePlanOf (spec.site_text ac) result }
+    ensures within { IsSitePlan result }
+{
+    default_site(ac)
+}
+
 /// The plan of a car that dials the TCP port 15120, and else the defaults (own). It takes alternating current in three
 /// phases and speaks ISO alone where `ac` is true; else it takes direct current and speaks ISO and DIN.
-#[tactic(auto, using(crate::proofs::Defaults::car_said, crate::proofs::Defaults::nothing_wrong))]
 pub fn fixed_car(ac: bool) -> CarPlan
     ensures fields { IsFixedCar ac result }
     ensures text { IsCarPlanOf (spec.car_text ac) result }
     ensures within { IsCarPlan result }
 {
-    car_keys(&mut Keys::none(), Some(15120), fixed_mode(ac))
+    default_car(ac)
 }

@@ -26,10 +26,7 @@ fn faults_of_stations(rt: HostRuntime) -> Result<(), Fail> {
         ("limit = 0", "limit must be 1 to 8000000"),
         ("", "post is missing, and must be 1 to 8 tables"),
         ("post = []", "post must be 1 to 8 tables"),
-        (
-            "[[post]]",
-            "post.1.tcp is missing, and must be 1 to 65535",
-        ),
+        ("[[post]]", "post.1.tcp is missing, and must be 1 to 65535"),
         (
             "[[post]]\ntcp = 15120\nmax_watts = 0",
             "post.1.max_watts must be 1 to 1000000",

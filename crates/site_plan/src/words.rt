@@ -1,7 +1,7 @@
 //! The words of plans.
 
-ghost use Rattle.std.specs.Prelude.{◌≡◌, ◌≤◌, map};
-ghost use Rattle.plan_keys.specs.Keys.{IsAscii, members_of, value_at};
+ghost use Rattle.std.specs.Prelude.{◌≡◌, ◌≤◌, map, Some};
+ghost use Rattle.plan_keys.specs.Keys.{IsAscii, named, members_of, value_at};
 ghost use Rattle.plan_keys.specs.Faults.{Keeps, trouble_at};
 ghost use Rattle.site_plan.specs.Words as spec;
 ghost use Rattle.site_plan.specs.Words.{mode_rule, stop_rule, evse_id_rule, tenths_rule};
@@ -22,6 +22,20 @@ fn mode_names() -> &'static [&'static str]
         "DC_combo_core",
         "DC_unique",
     ]
+}
+
+/// The name of a mode in plans.
+pub fn mode_name(mode: Mode) -> &'static str
+    ensures { named spec.mode_names spec.modes result.now ≡ Some mode }
+{
+    match mode {
+        Mode::AcSinglePhaseCore => "AC_single_phase_core",
+        Mode::AcThreePhaseCore => "AC_three_phase_core",
+        Mode::DcCore => "DC_core",
+        Mode::DcExtended => "DC_extended",
+        Mode::DcComboCore => "DC_combo_core",
+        Mode::DcUnique => "DC_unique",
+    }
 }
 
 /// The modes in the same order.
