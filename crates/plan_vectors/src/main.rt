@@ -36,13 +36,7 @@ fn main(rt: HostRuntime) -> Result<ExitCode> {
 }
 
 /// Prints how many vectors of a text are answered as they say, and whether all are.
-fn count(
-    rt: &impl Print,
-    alloc: Global,
-    whose: Whose,
-    file: &str,
-    text: &str,
-) -> Result<bool> {
+fn count(rt: &impl Print, alloc: Global, whose: Whose, file: &str, text: &str) -> Result<bool> {
     let mut all = 0u64;
     let mut right = 0u64;
     for block in text.split("=== ").skip(1) {
@@ -52,7 +46,7 @@ fn count(
         if said.as_str() == wanted {
             right = right.wrapping_add(1);
         } else {
-            println!(rt; "{file}: {said} in place of {wanted}: {plan}")?;
+            println!(rt; "{file}: vector {all} gives {said}")?;
         }
     }
     println!(rt; "{file}: {right} of {all}")?;

@@ -45,6 +45,7 @@ fn main(rt: HostRuntime) -> Result<ExitCode> {
 }
 
 /// So many tenths, with one decimal.
+#[derive(Clone, Copy)]
 struct OneDecimal(Tenths);
 
 impl fmt::Display for OneDecimal {
@@ -57,6 +58,7 @@ impl fmt::Display for OneDecimal {
 }
 
 /// Bytes in hexadecimal.
+#[derive(Clone, Copy)]
 struct Hexadecimal<'a>(&'a [u8]);
 
 impl fmt::Display for Hexadecimal<'_> {
@@ -70,6 +72,7 @@ impl fmt::Display for Hexadecimal<'_> {
 }
 
 /// Dialects in order of preference.
+#[derive(Clone, Copy)]
 struct Names<'a>(&'a [Dialect]);
 
 impl fmt::Display for Names<'_> {
