@@ -3,7 +3,7 @@ use Rattle.std.proofs.Common.{◌≡◌, ℕ, List, [], ◌∷◌, ◌++◌, Opt
 use Rattle.toml.specs.Data.{Members}
 use Rattle.plan_keys.specs.declared.keys.Keys.{Keys}
 use Rattle.plan_keys.specs.Keys.{Rule, members_of, value_at}
-use Rattle.plan_keys.specs.Faults.{Trouble, first_of, first_in, trouble_of, trouble_at, Line, key, lists, also, Holds, troubles, Keeps, Reads, told_at, table_fault}
+use Rattle.plan_keys.specs.Faults.{first_of, first_in, trouble_of, trouble_at, Line, key, lists, also, Holds, troubles, Keeps, Reads, told_at, table_fault}
 
 -- the same as Reads, over members that stay
 pub record ReadsOf {P : Type 0} (table : Members) (old new : Keys) (lines : List (Line P)) (plan : P) : Type 0 where
@@ -21,8 +21,8 @@ pub one_key : {P X : Type 0} {table : Members} {k l m : Keys} {rule : Rule X} {f
 one_key {table = table} {k = k} {l = l} {m = m} {rule = rule} {lines = lines} by is at value keeps rest =
     let behind = rest (ap members_of keeps.table ∙ at) in
     let added : trouble_of l.found ≡ first_of (trouble_of k.found) (trouble_at rule table) =
-        keeps.found ∙ ap (λ r. first_of (trouble_of k.found) (trouble_at r (members_of k.table))) is
-        ∙ ap (λ t. first_of (trouble_of k.found) (trouble_at rule t)) at in
+    keeps.found ∙ ap (λ r. first_of (trouble_of k.found) (trouble_at r (members_of k.table))) is
+    ∙ ap (λ t. first_of (trouble_of k.found) (trouble_at rule t)) at in
     record {
       same = behind.same ∙ keeps.table;
       found = behind.found ∙ ap (λ e. first_in e (troubles lines table)) added;

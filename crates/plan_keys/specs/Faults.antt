@@ -1,8 +1,8 @@
 -- Own: which fault of a plan is told: the first, and in which words.
-use Rattle.std.specs.Prelude.{◌≡◌, ℕ, ◌+◌, Bool, true, false, List, [], ◌∷◌, ◌++◌, codes, decimal, if◌then◌else◌, Option, Some, None, option_map, Result, Ok, Err, ◌⊎◌, map}
+use Rattle.std.specs.Prelude.{◌≡◌, ℕ, ◌+◌, Bool, true, false, List, [], ◌∷◌, ◌++◌, codes, decimal, if◌then◌else◌, Option, Some, None, option_map, Result, Ok, Err, ◌⊎◌}
 use Rattle.std.specs.List.{list_any}
 use Rattle.std.specs.Str.{bytes_eq}
-use Rattle.toml.specs.Data.{Data, Items, no_items, item, Members, no_members, member, get_member, as_table}
+use Rattle.toml.specs.Data.{Items, no_items, item, Members, no_members, member, get_member, as_table}
 use Rattle.plan_keys.specs.declared.keys.Wrong.{Wrong}
 use Rattle.plan_keys.specs.declared.keys.Wrong.TheVariants as wrong
 use Rattle.plan_keys.specs.declared.keys.Found.{Found}

@@ -1,5 +1,5 @@
 -- Own: what the keys of a TOML table say, each by its rule, or what is wrong with them.
-use Rattle.std.specs.Prelude.{◌≡◌, ℕ, ◌<◌, ◌≤◌, ◌+◌, ◌%◌, ◌/◌, ◌==◌, Bool, true, false, ◌&&◌, nat_lt, nat_le, position, slice_get, if◌then◌else◌, ℤ, pos, negsuc, List, [], ◌∷◌, length, All, Option, Some, None, Result, Ok, Err}
+use Rattle.std.specs.Prelude.{ℕ, ◌<◌, ◌≤◌, ◌+◌, ◌%◌, ◌/◌, ◌==◌, Bool, true, false, ◌&&◌, nat_lt, nat_le, position, slice_get, if◌then◌else◌, ℤ, pos, negsuc, List, [], ◌∷◌, length, All, Option, Some, None, Result, Ok, Err}
 use Rattle.std.specs.List.{list_all}
 use Rattle.std.specs.Str.{bytes_eq}
 use Rattle.std.specs.Borrow.{Bor}

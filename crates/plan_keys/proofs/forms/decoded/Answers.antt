@@ -1,4 +1,4 @@
-use Rattle.std.proofs.Common.{◌≤◌, length, arith, ◌∙◌}
+use Rattle.std.proofs.Common.{◌∙◌}
 use Rattle.plan_keys.proofs.Hexadecimal.{hex_written}
 use Rattle.plan_keys.proofs.forms.decoded.Goals as goal
 
