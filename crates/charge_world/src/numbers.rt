@@ -37,11 +37,28 @@ impl Tenths {
         }
     }
 
+    /// So many tenths, at most 30,000.
+    pub fn exactly(n: u16) -> Tenths
+        requires { n ≤ 30000 }
+        ensures { result ≡ n }
+    {
+        Tenths { tenths: n }
+    }
+
     /// The number of tenths.
     pub fn get(&self) -> u16
         ensures value { result ≡ self.now }
         ensures bound { result ≤ 30000 }
     {
         self.tenths
+    }
+}
+
+impl Default for Tenths {
+    ghost is_default = { λ tenths. tenths ≡ 0 };
+
+    /// No tenths.
+    fn default() -> Tenths {
+        Tenths { tenths: 0 }
     }
 }

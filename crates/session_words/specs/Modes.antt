@@ -1,5 +1,5 @@
 -- ISO 15118-2:2014, EnergyTransferModeType; DIN SPEC 70121:2014, EVSESupportedEnergyTransferType.
-use Rattle.std.specs.Prelude.{ℕ}
+use Rattle.std.specs.Prelude.{ℕ, Bool, true, false, IsTrue}
 use Rattle.session_words.specs.declared.mode.Mode.{Mode}
 use Rattle.session_words.specs.declared.mode.Mode.TheVariants.{AcSinglePhaseCore, AcThreePhaseCore, DcCore, DcExtended, DcComboCore, DcUnique}
 use Rattle.session_words.specs.declared.mode.OfferedMode.{OfferedMode}
@@ -24,13 +24,16 @@ phases_of DcComboCore = 1
 phases_of DcUnique = 1
 
 -- the modes that a post of DIN SPEC 70121 may have
+abbrev pub speaks_din : Mode → Bool
+speaks_din DcCore = true
+speaks_din DcExtended = true
+speaks_din DcComboCore = true
+speaks_din AcSinglePhaseCore = false
+speaks_din AcThreePhaseCore = false
+speaks_din DcUnique = false
+
 abbrev pub CanSpeakDin : Mode → Type 0
-CanSpeakDin DcCore = Unit {0}
-CanSpeakDin DcExtended = Unit {0}
-CanSpeakDin DcComboCore = Unit {0}
-CanSpeakDin AcSinglePhaseCore = ⊥
-CanSpeakDin AcThreePhaseCore = ⊥
-CanSpeakDin DcUnique = ⊥
+CanSpeakDin mode = IsTrue (speaks_din mode)
 
 -- the mode of the same name
 abbrev pub offered_of : Mode → OfferedMode

@@ -32,8 +32,8 @@ IsWithin least most n = (least ≤ n) × (n ≤ most)
 pub record IsPostPlan (post : PostPlan) : Type 0 where
   pub tcp : 1 ≤ post.tcp
   pub dialects : IsOffer post.mode post.dialects.items
-  pub evse_id_ascii : All (λ c. c < 128) post.evse_id.bytes
-  pub evse_id : IsWithin 7 37 (length post.evse_id.bytes)
+  pub evse_id_ascii : All (λ c. c < 128) post.evse_id
+  pub evse_id : IsWithin 7 37 (length post.evse_id)
   pub evse_id_din : IsWithin 1 32 (length post.evse_id_din.items)
   pub max_watts : IsWithin 1 1000000 post.max_watts
   pub nominal : IsWithin 1 1000 post.nominal

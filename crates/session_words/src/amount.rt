@@ -97,7 +97,7 @@ pub fn ac_current(watts: u32, nominal: u16, phases: u8) -> Tenths
     ensures quotient { result ≡ ac_current_of watts nominal phases }
 {
     let most = 10 * watts as u64 / (nominal as u64 * phases as u64);
-    Tenths::of(most.min(30000) as u16).unwrap()
+    Tenths::exactly(most.min(30000) as u16)
 }
 
 /// A number of watts as a message writes it: the Value and its Multiplier.

@@ -1,8 +1,10 @@
 //! What the two ends tell of themselves.
 
-ghost use Rattle.std.specs.Prelude.{◌≡◌, ◌≤◌, ℕ, List, length, nat_eq};
+ghost use Rattle.std.specs.Prelude.{◌≡◌, ◌≤◌, ℕ, List, [], length, nat_eq};
+ghost use Rattle.std.specs.Option.{SomeIff};
 ghost use Rattle.std.specs.Cmp.{on_equiv, on_per, partial_equiv_from_equiv};
 ghost use Rattle.std.specs.Cmp.Lexicographic.{pointwise, nat_list_eq_equiv};
+ghost use Rattle.session_words.specs.EvseTexts.{begins_point, code_points, IsEvseText};
 
 use crate::amount::Amount;
 use crate::code::{Notify, StatusCode};
@@ -10,32 +12,57 @@ use arrayvec::{ArrayString, ArrayVec};
 use charge_world::IsolationLevel;
 use std::marker::Model;
 
-/// A text of at most 148 bytes, which hold 37 code points. Contracts see its bytes.
+/// How many code points a text has.
+fn code_points_of(text: &str) -> usize
+    ensures { result ≡ code_points text.now }
+{
+    text.as_bytes()
+        .iter()
+        .filter(|byte| starts_point(**byte))
+        .count()
+}
+
+/// Whether a byte of UTF-8 begins a code point.
+fn starts_point(byte: u8) -> bool
+    ensures { result ≡ begins_point byte }
+{
+    byte < 128 || 192 <= byte
+}
+
+/// A text of at most 37 code points, and so of at most 148 bytes. Contracts see its bytes.
 #[derive(Debug, Drop)]
 pub struct EvseText {
     text: ArrayString<148>,
 }
 
 impl Model for EvseText {
-    ghost use Rattle.std.specs.Prelude.{ℕ, List};
+    ghost use Rattle.std.specs.Prelude.{ℕ, List, ◌≤◌};
+    ghost use Rattle.session_words.specs.EvseTexts.{code_points};
 
     ghost Value = { List ℕ };
 
     ghost view = { λ t. t.text.bytes };
+
+    ghost invariant = { λ t. code_points t.text.bytes ≤ 37 };
 }
 
 impl EvseText {
-    /// This text.
-    pub fn of(text: ArrayString<148>) -> EvseText
-        ensures { result ≡ text.bytes }
+    /// This text; `None` exactly where it has more than 37 code points, or more bytes than so many can have.
+    pub fn of(text: &str) -> Option<EvseText>
+        ensures { SomeIff result (IsEvseText text.now) text.now }
     {
-        EvseText { text }
+        if text.len() > 148 || code_points_of(text) > 37 {
+            return None;
+        }
+        let mut copy = ArrayString::new();
+        copy.push_str(text);
+        Some(EvseText { text: copy })
     }
 
     /// The text.
     pub fn as_str(&self) -> &str
         ensures value { result.now ≡ self.now }
-        ensures bound { length result.now ≤ 148 }
+        ensures bound { IsEvseText result.now }
     {
         self.text.as_str()
     }
@@ -45,6 +72,17 @@ impl EvseText {
         ensures { result ≡ self.now }
     {
         EvseText { text: self.text }
+    }
+}
+
+impl Default for EvseText {
+    ghost is_default = { λ text. text ≡ [] };
+
+    /// The empty text.
+    fn default() -> EvseText {
+        EvseText {
+            text: ArrayString::new(),
+        }
     }
 }
 

@@ -1,7 +1,7 @@
 //! How energy goes from the post into the car.
 
 ghost use Rattle.std.specs.Prelude.{◌≡◌, ◌↔◌, IsTrue};
-ghost use Rattle.session_words.specs.Modes.{phases_of, IsAc, CanSpeakDin, offered_of};
+ghost use Rattle.session_words.specs.Modes.{phases_of, IsAc, speaks_din, CanSpeakDin, offered_of};
 
 /// The energy transfer modes of ISO 15118-2:2014 (EnergyTransferModeType).
 #[derive(Clone, Copy, Debug, Default, PartialEq, Eq)]
@@ -54,7 +54,8 @@ impl Mode {
     /// Whether a post of this mode can speak DIN SPEC 70121, which has direct current through the basic, the
     /// extended and the combined plug alone.
     pub fn can_speak_din(&self) -> bool
-        ensures { IsTrue result ↔ CanSpeakDin self.now }
+        ensures value { result ≡ speaks_din self.now }
+        ensures din { IsTrue result ↔ CanSpeakDin self.now }
     {
         matches!(self, Mode::DcCore | Mode::DcExtended | Mode::DcComboCore)
     }

@@ -3,9 +3,10 @@
 
 ghost use Rattle.std.specs.Prelude.{◌≡◌};
 
+use crate::limits::EvseText;
 use crate::mode::Mode;
 use crate::session::SessionId;
-use arrayvec::{ArrayString, ArrayVec};
+use arrayvec::ArrayVec;
 use charge_world::{Dialect, Tenths};
 
 /// The plan of a charging site.
@@ -34,7 +35,7 @@ pub struct PostPlan {
     /// `DcCore`, `DcExtended` and `DcComboCore` alone.
     pub dialects: ArrayVec<Dialect, 2>,
     /// The EVSEID in ISO, 7 to 37 ASCII characters.
-    pub evse_id: ArrayString<148>,
+    pub evse_id: EvseText,
     /// The EVSEID in DIN, 1 to 32 bytes.
     pub evse_id_din: ArrayVec<u8, 32>,
     /// Whether charging is free. Elsewhere somebody has to pay at the post first.
@@ -65,15 +66,15 @@ impl Default for PostPlan {
             sdp: 0,
             mode: Mode::DcExtended,
             dialects: ArrayVec::new(),
-            evse_id: ArrayString::new(),
+            evse_id: EvseText::default(),
             evse_id_din: ArrayVec::new(),
             free: false,
             max_watts: 0,
-            max_voltage: Tenths::of(0).unwrap(),
-            min_voltage: Tenths::of(0).unwrap(),
-            max_current: Tenths::of(0).unwrap(),
-            min_current: Tenths::of(0).unwrap(),
-            ripple: Tenths::of(0).unwrap(),
+            max_voltage: Tenths::default(),
+            min_voltage: Tenths::default(),
+            max_current: Tenths::default(),
+            min_current: Tenths::default(),
+            ripple: Tenths::default(),
             nominal: 0,
         }
     }

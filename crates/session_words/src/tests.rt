@@ -61,10 +61,12 @@ fn causes_and_codes(rt: HostRuntime) {
 
 #[test]
 fn the_name_of_a_post_is_copied(rt: HostRuntime) -> Result<(), Fail> {
-    let text = EvseText::of(ArrayString::from("ZZ00000")?);
+    let text = EvseText::of("ZZ00000").ok_or("a text")?;
     assert_eq!(rt; text.copied().as_str(), "ZZ00000");
     let named = EvseId::Bytes(ArrayVec::from([7; 32]));
     assert_eq!(rt; named.copied(), named);
     assert_eq!(rt; PostPlan::default().tcp, 0);
+    assert!(rt; EvseText::of("äöüäöüäöüäöüäöüäöüäöüäöüäöüäöüäöüäöüß").is_some());
+    assert!(rt; EvseText::of("ZZ00000000000000000000000000000000000000").is_none());
     Ok(())
 }

@@ -1,3 +1,3 @@
-mod Posts
-mod Says
+mod Defaults
+mod Ports
 mod Texts

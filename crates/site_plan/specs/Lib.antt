@@ -1,3 +1,5 @@
-pub mod Keys
+pub mod Words
+pub mod PostKeys
+pub mod SiteKeys
+pub mod CarKeys
 pub mod Plans
-pub mod Fixed

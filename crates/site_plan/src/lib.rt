@@ -1,22 +1,21 @@
 //! The plans of a charging site and of a car, read from TOML (own).
+//!
+//! `specs/SiteKeys.antt`, `PostKeys.antt` and `CarKeys.antt` are the tables of their keys, one line a key.
 #![tactic(auto)]
 
 mod car;
-mod fault;
-mod keys;
-mod names;
+mod dialects;
 mod post;
 mod reading;
 mod site;
 mod stored;
-mod values;
+mod words;
 
-pub use fault::{Key, PlanFault};
+pub use plan_keys::{Key, PlanFault};
 pub use reading::{car_plan_of, site_plan_of};
 pub use session_words::{CarPlan, Mode, PostPlan, SitePlan, Stop};
 pub use stored::{fixed, fixed_car};
+pub use words::mode_name;
 
-#[cfg(test)]
-mod tables;
 #[cfg(test)]
 mod tests;

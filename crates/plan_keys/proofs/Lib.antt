@@ -1,0 +1,4 @@
+pub mod Chains
+mod Hexadecimal
+pub mod Items
+pub mod Told

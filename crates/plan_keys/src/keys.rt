@@ -1,0 +1,255 @@
+//! The keys of a table, read one after another.
+
+ghost use Rattle.std.specs.Prelude.{◌≡◌, ◌≤◌, true, IfSome, OnOk, IfErr, None, option_map, map, length};
+ghost use Rattle.toml.specs.Data.{get_member};
+ghost use Rattle.toml.specs.View.{view, table_view, items_view};
+ghost use Rattle.plan_keys.specs.Keys.{members_of, number as number_rule, perhaps as perhaps_rule, truth as truth_rule, word as word_rule, ascii as ascii_rule, hex as hex_rule, tables as tables_rule, IsAscii, all_tables, value_or, value_at};
+ghost use Rattle.plan_keys.specs.Faults.{Keeps, wrong_in, trouble_at, needed_at, told_at, trouble_of, Tells};
+
+use crate::fault::{Key, PlanFault, Wanted};
+use crate::forms::{self, Short};
+use crate::unknown::{Place, key_text};
+use std::alloc::Global;
+use toml::{Table, Value};
+
+/// What is wrong with a key.
+#[derive(Clone, Copy, Debug, PartialEq, Eq)]
+pub enum Wrong {
+    /// It isn't there.
+    Missing,
+    /// Its value is of the wrong kind or form.
+    BadValue,
+    /// Its number or length is outside its bounds.
+    OverLimit,
+}
+
+/// A key that is wrong, and what it has to say.
+#[derive(Clone, Copy, Debug)]
+pub struct Found {
+    pub name: &'static str,
+    pub wrong: Wrong,
+    pub wanted: Wanted,
+}
+
+/// The keys of a table, or of none, which has only defaults. Each key is asked for once, in the order in which they are
+/// judged. What a wrong key says is any value within its rule; the first wrong key is kept.
+#[derive(Clone, Copy)]
+pub struct Keys<'a> {
+    pub table: Option<&'a Table>,
+    pub found: Option<Found>,
+}
+
+/// The value at a key.
+fn find<'a>(table: &'a Table, name: &str) -> Option<&'a Value>
+    ensures { option_map (λ v. view v.now) result ≡ get_member name.now (table_view table.now) }
+{
+    table.get(name)
+}
+
+impl<'a> Keys<'a> {
+    /// The keys of a table.
+    pub fn of(table: &'a Table) -> Keys<'a>
+        ensures table { members_of result.table ≡ table_view table.now }
+        ensures found { result.found ≡ None }
+    {
+        Keys {
+            table: Some(table),
+            found: None,
+        }
+    }
+
+    /// Keys that all have their defaults.
+    pub fn none() -> Keys<'static>
+        ensures { (result.table ≡ None) × (result.found ≡ None) }
+    {
+        Keys {
+            table: None,
+            found: None,
+        }
+    }
+
+    /// The value at a key.
+    pub fn find(&self, name: &str) -> Option<&'a Value>
+        ensures { option_map (λ v. view v.now) result ≡ get_member name.now (members_of self.now.table) }
+    {
+        match self.table {
+            Some(table) => find(table, name),
+            None => None,
+        }
+    }
+
+    /// What a key was judged to say; what is wrong is kept, where nothing was wrong before.
+    pub fn keep<T: Drop>(
+        &mut self,
+        name: &'static str,
+        wanted: Wanted,
+        judged: Result<T, Wrong>,
+        otherwise: T,
+    ) -> T
+        ensures value { result ≡ value_or otherwise judged }
+        ensures kept { Keeps self.old self.new (wrong_in name.now judged) }
+    {
+        match judged {
+            Ok(value) => value,
+            Err(wrong) => {
+                if self.found.is_none() {
+                    self.found = Some(Found {
+                        name,
+                        wrong,
+                        wanted,
+                    });
+                }
+                otherwise
+            }
+        }
+    }
+
+    /// A number from the least to the greatest, or the default; without one it has to be there.
+    pub fn number(&mut self, name: &'static str, least: u64, most: u64, default: Option<u64>) -> u64
+        requires bounds { least ≤ most }
+        requires default { IfSome default (λ n. (least ≤ n) × (n ≤ most)) }
+        ensures value { result ≡ value_at (number_rule name.now least most default) (members_of self.old.table) }
+        ensures kept { Keeps self.old self.new (trouble_at (number_rule name.now least most default) (members_of self.old.table)) }
+        ensures bounds { (least ≤ result) × (result ≤ most) }
+    {
+        let judged = match self.find(name) {
+            Some(value) => forms::number_of(least, most, value),
+            None => default.ok_or(Wrong::Missing),
+        };
+        self.keep(name, Wanted::Number(least, most), judged, least)
+    }
+
+    /// A number from the least to the greatest, if it is there, or the default, if there is one.
+    pub fn perhaps(
+        &mut self,
+        name: &'static str,
+        least: u64,
+        most: u64,
+        default: Option<u64>,
+    ) -> Option<u64>
+        requires { IfSome default (λ n. (least ≤ n) × (n ≤ most)) }
+        ensures value { result ≡ value_at (perhaps_rule name.now least most default) (members_of self.old.table) }
+        ensures kept { Keeps self.old self.new (trouble_at (perhaps_rule name.now least most default) (members_of self.old.table)) }
+        ensures bounds { IfSome result (λ n. (least ≤ n) × (n ≤ most)) }
+    {
+        let judged = match self.find(name) {
+            Some(value) => forms::number_of(least, most, value).map(Some),
+            None => Ok(default),
+        };
+        self.keep(name, Wanted::Number(least, most), judged, default)
+    }
+
+    /// Says that a key has to be there, unless it is excused.
+    pub fn needed(&mut self, name: &'static str, wanted: Wanted, excused: bool)
+        ensures { Keeps self.old self.new (needed_at name.now excused (members_of self.old.table)) }
+    {
+        let judged = if excused || self.find(name).is_some() {
+            Ok(())
+        } else {
+            Err(Wrong::Missing)
+        };
+        self.keep(name, wanted, judged, ())
+    }
+
+    /// A truth value, or the default; without one it has to be there.
+    pub fn truth(&mut self, name: &'static str, default: Option<bool>) -> bool
+        ensures value { result ≡ value_at (truth_rule name.now default) (members_of self.old.table) }
+        ensures kept { Keeps self.old self.new (trouble_at (truth_rule name.now default) (members_of self.old.table)) }
+    {
+        let judged = match self.find(name) {
+            Some(value) => forms::truth_of(value),
+            None => default.ok_or(Wrong::Missing),
+        };
+        self.keep(name, Wanted::Truth, judged, false)
+    }
+
+    /// The meaning of one of these words, or the default; without one it has to be there.
+    pub fn word<T: Copy>(
+        &mut self,
+        name: &'static str,
+        words: &'static [&'static str],
+        meanings: &[T],
+        default: Option<T>,
+        otherwise: T,
+    ) -> T
+        ensures value { result ≡ value_at (word_rule name.now (map (λ w. w.now) words.now) meanings.now default otherwise) (members_of self.old.table) }
+        ensures kept { Keeps self.old self.new (trouble_at (word_rule name.now (map (λ w. w.now) words.now) meanings.now default otherwise) (members_of self.old.table)) }
+    {
+        let judged = match self.find(name) {
+            Some(value) => forms::word_of(words, meanings, value),
+            None => default.ok_or(Wrong::Missing),
+        };
+        self.keep(name, Wanted::Word(words), judged, otherwise)
+    }
+
+    /// From so many to so many ASCII characters, or the default.
+    pub fn ascii(
+        &mut self,
+        name: &'static str,
+        least: usize,
+        most: usize,
+        default: &'static str,
+    ) -> &'a str
+        requires default { IsAscii least most default.now }
+        ensures value { result.now ≡ value_at (ascii_rule name.now least most default.now) (members_of self.old.table) }
+        ensures kept { Keeps self.old self.new (trouble_at (ascii_rule name.now least most default.now) (members_of self.old.table)) }
+        ensures fits { IsAscii least most result.now }
+    {
+        let otherwise: &'a str = default;
+        let judged = match self.find(name) {
+            Some(value) => forms::ascii_of(least, most, value),
+            None => Ok(otherwise),
+        };
+        self.keep(name, Wanted::Characters(least, most), judged, otherwise)
+    }
+
+    /// From so many to so many bytes in hexadecimal of either case, at most 32, or the default.
+    pub fn bytes(&mut self, name: &'static str, least: usize, most: usize, default: &[u8]) -> Short
+        requires bounds { (least ≤ length default.now) × (length default.now ≤ most) }
+        requires room { most ≤ 32 }
+        ensures value { result.items ≡ value_at (hex_rule name.now least most default.now) (members_of self.old.table) }
+        ensures kept { Keeps self.old self.new (trouble_at (hex_rule name.now least most default.now) (members_of self.old.table)) }
+        ensures bounds { (least ≤ length result.items) × (length result.items ≤ most) }
+    {
+        let judged = match self.find(name) {
+            Some(value) => forms::hex_of(least, most, value),
+            None => Ok(forms::short(default)),
+        };
+        self.keep(
+            name,
+            Wanted::Bytes(least, most),
+            judged,
+            forms::short(default),
+        )
+    }
+
+    /// From so many to so many tables of a list, which has to be there.
+    pub fn tables(&mut self, name: &'static str, least: usize, most: usize) -> &'a [Value]
+        ensures value { items_view result.now ≡ value_at (tables_rule name.now least most) (members_of self.old.table) }
+        ensures kept { Keeps self.old self.new (trouble_at (tables_rule name.now least most) (members_of self.old.table)) }
+        ensures bound { length result.now ≤ most }
+        ensures tables { all_tables (items_view result.now) ≡ true }
+    {
+        let judged = match self.find(name) {
+            Some(value) => forms::tables_of(least, most, value),
+            None => Err(Wrong::Missing),
+        };
+        self.keep(name, Wanted::Tables(least, most), judged, &[])
+    }
+
+    /// Refuses the first key that was wrong, at the place of its table.
+    pub fn judged(&self, alloc: Global, place: &Place<'_>) -> Result<(), PlanFault>
+        ensures ok { OnOk result (trouble_of self.now.found ≡ None) }
+        ensures err { IfErr result (λ fault. Tells fault (told_at place.now.prefix.now (trouble_of self.now.found))) }
+    {
+        let Some(found) = self.found else {
+            return Ok(());
+        };
+        let key = Key::of(key_text(alloc, place, found.name)?, found.wanted);
+        Err(match found.wrong {
+            Wrong::Missing => PlanFault::Missing(key),
+            Wrong::BadValue => PlanFault::BadValue(key),
+            Wrong::OverLimit => PlanFault::OverLimit(key),
+        })
+    }
+}

@@ -1,0 +1,86 @@
+//! The places of tables in a plan, and the keys that a table doesn't have.
+
+ghost use Rattle.std.specs.Prelude.{◌≡◌, ◌++◌, IfOk, IfErr, OnOk, None, option_map, string_bytes, map};
+ghost use Rattle.toml.specs.View.{table_view};
+ghost use Rattle.plan_keys.specs.Faults.{prefix_in, is_known, first_unknown, unknown_at, Tells};
+
+use crate::fault::{Key, PlanFault, Wanted};
+use itoa::Buffer;
+use std::alloc::{AllocError, Global};
+use toml::Table;
+
+/// Where a table stands in a plan, by what comes before the names of its keys: nothing for the whole, `post.2.` for the
+/// second table of the list `post`.
+#[derive(Clone, Copy)]
+pub struct Place<'a> {
+    pub prefix: &'a str,
+}
+
+/// The text of a key at a place.
+pub(crate) fn key_text(alloc: Global, place: &Place<'_>, name: &str) -> Result<String, AllocError>
+    ensures { IfOk result (λ text. string_bytes text ≡ place.now.prefix.now ++ name.now) }
+{
+    let mut text = String::from_str(alloc, place.prefix)?;
+    text.push_str(name)?;
+    Ok(text)
+}
+
+/// What comes before the names of the keys of a list's table, the first of which has the number 1.
+pub fn place_in(
+    alloc: Global,
+    place: &Place<'_>,
+    list: &str,
+    number: u16,
+) -> Result<String, AllocError>
+    ensures { IfOk result (λ text. string_bytes text ≡ prefix_in place.now.prefix.now list.now number) }
+{
+    let mut buffer = Buffer::new();
+    let mut text = key_text(alloc, place, list)?;
+    text.push_str(".")?;
+    text.push_str(buffer.format(number))?;
+    text.push_str(".")?;
+    Ok(text)
+}
+
+/// Whether a name is one of these.
+fn is_among(names: &[&str], name: &str) -> bool
+    ensures { result ≡ is_known (map (λ s. s.now) names.now) name.now }
+{
+    for known in names {
+        if *known == name {
+            return true;
+        }
+    }
+    false
+}
+
+/// The first key of a table, in the order of their bytes, that is none of these.
+fn unknown_key<'a>(names: &[&str], table: &'a Table) -> Option<&'a String>
+    ensures { option_map (λ k. string_bytes k.now) result ≡ first_unknown (map (λ s. s.now) names.now) (table_view table.now) }
+{
+    for (name, _) in table {
+        if !is_among(names, name.as_str()) {
+            return Some(name);
+        }
+    }
+    None
+}
+
+/// Refuses the least key of a table, in the order of their bytes, that is none of these.
+pub fn known_keys(
+    alloc: Global,
+    place: &Place<'_>,
+    names: &[&str],
+    table: &Table,
+) -> Result<(), PlanFault>
+    ensures ok { OnOk result (unknown_at place.now.prefix.now (map (λ s. s.now) names.now) (table_view table.now) ≡ None) }
+    ensures err { IfErr result (λ fault. Tells fault (unknown_at place.now.prefix.now (map (λ s. s.now) names.now) (table_view table.now))) }
+{
+    match unknown_key(names, table) {
+        Some(name) => {
+            let text = key_text(alloc, place, name.as_str())?;
+            Err(PlanFault::BadValue(Key::of(text, Wanted::NoKey)))
+        }
+        None => Ok(()),
+    }
+}
