@@ -30,6 +30,22 @@ fn text(rt: &impl Abort, pen: &mut BitPen, table: &mut Table, name: u16, text: &
     assert_eq!(rt; pen.place(), place);
 }
 
+/// Finds no room for a text of at most two bytes, with which `bits` would be written.
+fn no_room(rt: &impl Abort, pen: &mut BitPen, table: &mut Table, name: u16, text: &str, bits: u64)
+    requires cap { table.old.cap ≡ most_entries }
+    requires texts { AreTexts (written_bits pen.old) table.old.entries }
+    ensures cap { table.new.cap ≡ most_entries }
+    ensures texts { AreTexts (written_bits pen.new) table.new.entries }
+{
+    assert!(rt; text.len() <= 2);
+    assert!(rt; table.globals() < MOST_ENTRIES);
+    let datatype = Datatype::Text { most: 2 };
+    assert_eq!(rt;
+        put_value(pen, datatype, name, &Value::Written(text), table),
+        Err(Full { bits })
+    );
+}
+
 /// Enters the first text of a name once more.
 fn enter_again(rt: &impl Abort, pen: &BitPen, table: &mut Table, name: u16)
     requires texts { AreTexts (written_bits pen.now) table.old.entries }
@@ -185,4 +201,17 @@ fn one_bit_too_many(rt: HostRuntime) {
     );
     assert_eq!(rt; pen.finish(), 1);
     assert_eq!(rt; room, [0x81]);
+}
+
+#[test]
+fn full_counts_the_whole_text(rt: HostRuntime) {
+    let Ok(mut table) = Partitions::make(rt.alloc(), MOST_ENTRIES) else {
+        assert!(rt; false);
+        return;
+    };
+    let mut room = [0; 2];
+    let mut pen = BitPen::new(&mut room);
+    assert_eq!(rt; pen.put_bit(true), Ok(()));
+    // 1 00000100 01100001 01100010
+    no_room(&rt, &mut pen, &mut table, 7, "ab", 25);
 }
