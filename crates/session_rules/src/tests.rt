@@ -172,6 +172,13 @@ fn the_first_request_out_of_order_and_the_last_one(rt: HostRuntime) {
         processing: Processing::Finished,
     };
     assert_eq!(rt; told, finished);
+    let nameless = Request {
+        session: SessionId::zero(),
+        ask: Ask::Authorization,
+    };
+    let unknown = failed(Code::FailedUnknownSession, Phase::SetUp);
+    let row = stage(Phase::SetUp);
+    answers(&rt, &plan, row, &facts(None), &nameless, unknown);
     let stop = request(Ask::SessionStop { pause: false });
     let zeros = Request {
         session: SessionId::zero(),
