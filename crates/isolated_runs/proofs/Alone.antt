@@ -1,25 +1,23 @@
 -- Two runs of a post that are alike are the same.
-use Rattle.std.proofs.Common.{arith, ◌≡◌, ℕ, suc, ◌+◌, Bool, true, false, if◌then◌else◌, ◌&&◌, List, [], ◌∷◌, ◌++◌, length, map, Option, Some, None, refl, sym, ap, subst, ◌∙◌, MatchBool}
+use Rattle.std.proofs.Common.{◌≡◌, ℕ, ◌+◌, Bool, true, false, List, [], ◌∷◌, ◌++◌, length, map, Option, Some, None, refl, sym, ap, subst, ◌∙◌, MatchBool}
 use Rattle.charge_world.specs.declared.entry.Entry.{Entry}
 use Rattle.charge_world.specs.declared.offer.Dialect.{Dialect}
 use Rattle.charge_world.specs.declared.ports.Order.TheVariants as order
 use Rattle.session_words.specs.declared.plan.PostPlan.{PostPlan}
 use Rattle.session_words.specs.declared.plan.SitePlan.{SitePlan}
-use Rattle.session_words.specs.declared.word.Word.{Word}
-use Rattle.session_words.specs.Causes.{number_of}
 use Rattle.v2gtp_frames.specs.Frames.{frame}
 use Rattle.post_spec.specs.Codecs.{Judged, Codecs, Judges, judged_word}
 use Rattle.post_spec.specs.Facts.{live}
 use Rattle.post_spec.specs.Spelled.{AreDetermined}
-use Rattle.post_spec.specs.Steps.{Event, Act, Give, Send, Answer, End, Seen, Heard, Did, Reading, Step, Hears, Does, seen, seen_of}
+use Rattle.post_spec.specs.Steps.{Act, Give, Send, Seen, Did, Reading, Step, Hears, Does, seen, seen_of}
 use Rattle.station_spec.specs.States.{Spoken, Response, Said, State, fresh, first}
 use Rattle.station_spec.specs.States as states
 use Rattle.station_spec.specs.Deciding.{decided}
-use Rattle.station_spec.specs.Judging.{Payload, wanted, read, filled, IsRead}
+use Rattle.station_spec.specs.Judging.{Payload, wanted, filled, IsRead}
 use Rattle.station_spec.specs.Acting.{state, hearing, acted, IsQuiet, IsSpoken, IsDone, Acts}
 use Rattle.station_spec.specs.Sharing.{Post, Shows}
 use Rattle.station_spec.specs.Runs.{IsSiteRun, AreQuiet}
-use Rattle.station_laws.specs.PostRuns.{IsPostRun, IsPostOf, ArePostsOf}
+use Rattle.station_laws.specs.PostRuns.{IsPostRun, ArePostsOf}
 use Rattle.station_laws.proofs.PostRuns.{run_posts, post_at, quiet_at}
 use Rattle.safe_runs.specs.Opening.{EndsOpen}
 use Rattle.safe_runs.proofs.Openings.{runs_end_open}
@@ -143,9 +141,9 @@ alone c one plan xs ys o o' x y q p h k n =
     let hs = λ (zs : List Step). sym (append_none (of_steps hearing_in (onto zs []))) ∙ gather_onto (λ z. hearing_in (seen_of z)) zs [] [] in
     let ns = λ (zs : List Step). sym (append_none (gather shown_in (onto zs []))) ∙ gather_onto shown_in zs [] [] in
     let same = same_runs c one plan fresh (onto xs []) (onto ys []) o o' (from_first c plan xs [] x q) (from_first c plan ys [] y p)
-        (hs xs ∙ ap (λ l. onto l []) h ∙ sym (hs ys))
-        (gather_onto (λ z. outcome_in (seen_of z)) xs [] o ∙ k ∙ sym (gather_onto (λ z. outcome_in (seen_of z)) ys [] o'))
-        (ns xs ∙ ap (λ l. onto l []) n ∙ sym (ns ys)) in
+    (hs xs ∙ ap (λ l. onto l []) h ∙ sym (hs ys))
+    (gather_onto (λ z. outcome_in (seen_of z)) xs [] o ∙ k ∙ sym (gather_onto (λ z. outcome_in (seen_of z)) ys [] o'))
+    (ns xs ∙ ap (λ l. onto l []) n ∙ sym (ns ys)) in
     (sym (onto_back xs []) ∙ ap (λ (l : List Step). onto l []) same.0 ∙ onto_back ys [], same.1)
 
 -- The closing order.
@@ -197,9 +195,9 @@ both_same : (c : Codecs) → AreDetermined c → (post post' : Post) (past past'
 both_same c one post post' past past' blocks blocks' w w' a =
     let plan = a.plan in
     let same = alone c one post.plan post.steps post'.steps (closing_of (live blocks) past blocks w.ends) (closing_of (live blocks') past' blocks' w'.ends) w.run
-        (subst (λ (p : PostPlan). IsPostRun c p post'.steps) (sym plan) w'.run) w.quiet (subst (λ (p : PostPlan). IsQuiet p (state p post'.steps)) (sym plan) w'.quiet)
-        (sym (hearings_of c post past blocks w) ∙ a.hearings ∙ hearings_of c post' past' blocks' w')
-        (sym (outcomes_of c post past blocks w) ∙ ap (λ os. onto os []) a.outcomes ∙ outcomes_of c post' past' blocks' w') a.shown in
+    (subst (λ (p : PostPlan). IsPostRun c p post'.steps) (sym plan) w'.run) w.quiet (subst (λ (p : PostPlan). IsQuiet p (state p post'.steps)) (sym plan) w'.quiet)
+    (sym (hearings_of c post past blocks w) ∙ a.hearings ∙ hearings_of c post' past' blocks' w')
+    (sym (outcomes_of c post past blocks w) ∙ ap (λ os. onto os []) a.outcomes ∙ outcomes_of c post' past' blocks' w') a.shown in
     ends_same (live blocks) (live blocks') past blocks past' blocks' w.ends w'.ends (w.seen_is ∙ ap (map seen_of) same.0 ∙ sym w'.seen_is) same.1
 
 pub runs_are_isolated : (c : Codecs) → RunsAreIsolated c

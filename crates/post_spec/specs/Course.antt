@@ -1,7 +1,6 @@
 -- ISO 15118-2:2014, section 8.8.4: how far the words of a session have led it. The row is reached along the words; whether each was
 -- accepted is judged by what the charger told just before the post's first act about it.
 use Rattle.std.specs.Prelude.{ℕ, Bool, true, false, ◌&&◌, ◌==◌, if◌then◌else◌, List, [], ◌∷◌, map, Option, Some, None, unwrap_or}
-use Rattle.charge_world.specs.declared.heard.PlantEvent.{PlantEvent}
 use Rattle.charge_world.specs.declared.heard.PlantEvent.TheVariants as plant
 use Rattle.charge_world.specs.declared.offer.Dialect.{Dialect}
 use Rattle.session_words.specs.declared.facts.Facts.{Facts}
@@ -18,7 +17,7 @@ use Rattle.session_rules.specs.Verdict.{verdict, is_accepted}
 use Rattle.post_spec.specs.Codecs.{Judged, Negotiated, Asked, WrongSide, Refused}
 use Rattle.post_spec.specs.Facts.{now, pilot, isolation, measured, paid, stop, standing}
 use Rattle.post_spec.specs.Sessions.{arriving, token_of}
-use Rattle.post_spec.specs.Steps.{Event, Came, Bytes, Gone, Datagram, Plant, Clock, Over, Act, Give, Send, Answer, End, Seen, Heard, Did, Reading, Step, Hears, Does, seen_of}
+use Rattle.post_spec.specs.Steps.{Event, Came, Plant, Act, Give, Send, Answer, End, Seen, Heard, Did, Reading, Step, Hears, Does, seen_of}
 
 -- what the words made of a session: its stage, the watts that it asks for, and those that stay allowed
 pub record Talked : Type 0 where

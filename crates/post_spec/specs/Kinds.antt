@@ -1,5 +1,5 @@
 -- ISO 15118-2:2014, section 8.4: what an answered word is, by its request and the reply to it.
-use Rattle.std.specs.Prelude.{ℕ, Bool, true, false, ◌&&◌, max, nat_le, ◌-◌, ◌+◌, List, [], ◌∷◌, fold, map, Option, Some, None}
+use Rattle.std.specs.Prelude.{ℕ, Bool, true, false, ◌&&◌, max, fold, map, Option, Some, None}
 use Rattle.session_words.specs.declared.amount.Amount.{Amount}
 use Rattle.session_words.specs.declared.code.Processing.{Processing}
 use Rattle.session_words.specs.declared.code.Processing.TheVariants as processing
@@ -15,7 +15,6 @@ use Rattle.session_words.specs.declared.word.Tell.TheVariants as tell
 use Rattle.session_words.specs.Amounts.{ac_watts_of}
 use Rattle.session_words.specs.Modes.{phases_of}
 use Rattle.arrayvec.specs.ArrayVec.{ArrayVec}
-use Rattle.session_rules.specs.Asks.{shows_watts}
 use Rattle.post_spec.specs.Talk.{Exchange, Negotiation, Answered}
 
 abbrev pub is_finished : Processing → Bool

@@ -1,5 +1,5 @@
 -- Own: the watts that a post's last reply on watts spells, read off its bytes; and how a reply reads that was encoded.
-use Rattle.std.specs.Prelude.{◌≡◌, ℕ, if◌then◌else◌, List, [], ◌∷◌, map, Option, Some, None}
+use Rattle.std.specs.Prelude.{◌≡◌, ℕ, if◌then◌else◌, List, [], ◌∷◌, map, Option, Some}
 use Rattle.std.specs.Option.{option_map}
 use Rattle.arrayvec.specs.ArrayVec.{ArrayVec}
 use Rattle.charge_world.specs.declared.offer.Dialect.{Dialect}

@@ -1,6 +1,6 @@
 -- Own: a past as one post sees it. This is the one place in which the entries of all posts are told apart. Pasts have their newest
 -- entry first.
-use Rattle.std.specs.Prelude.{◌≡◌, ℕ, max, Bool, true, ◌==◌, if◌then◌else◌, List, [], ◌∷◌, Option}
+use Rattle.std.specs.Prelude.{ℕ, max, Bool, true, ◌==◌, if◌then◌else◌, List, [], ◌∷◌, Option}
 use Rattle.charge_world.specs.declared.entry.Entry.{Entry}
 use Rattle.charge_world.specs.declared.entry.Entry.TheVariants as entry
 use Rattle.charge_world.specs.declared.heard.PlantEvent.{PlantEvent}

@@ -1,14 +1,14 @@
 -- Own: what a session talked about, read off its bytes: each word that was answered, with the reply to it.
-use Rattle.std.specs.Prelude.{◌≡◌, ℕ, Bool, true, false, List, [], ◌∷◌, length, Option, Some, None}
+use Rattle.std.specs.Prelude.{◌≡◌, ℕ, List, [], ◌∷◌, length, Option, Some, None}
 use Rattle.charge_world.specs.declared.offer.Dialect.{Dialect}
 use Rattle.session_words.specs.declared.word.Reply.{Reply}
 use Rattle.session_words.specs.declared.word.Request.{Request}
 use Rattle.session_words.specs.declared.word.Word.TheVariants as word
 use Rattle.session_words.specs.Codes.{IsOkClass}
 use Rattle.v2gtp_frames.specs.Frames.{frame}
-use Rattle.post_spec.specs.Codecs.{Judged, Negotiated, Codecs}
+use Rattle.post_spec.specs.Codecs.{Negotiated, Codecs}
 use Rattle.post_spec.specs.Sessions.{arriving, session, stream}
-use Rattle.post_spec.specs.Steps.{Act, Give, Send, Answer, End, Seen, Heard, Did}
+use Rattle.post_spec.specs.Steps.{Give, Send, Answer, End, Seen, Heard, Did}
 use Rattle.post_spec.specs.Words.{IsPayloadAt}
 
 -- an answered word: the negotiation, with the dialect that was chosen, or a request, its reply, and the past before that reply

@@ -1,13 +1,13 @@
 -- ISO 15118-2:2014, section 7.8.3: the words of a session are the payloads of its stream's frames, each answered once. The first is of
 -- the negotiation (section 8.2), the others are of the dialect that was chosen by it.
-use Rattle.std.specs.Prelude.{◌≡◌, ℕ, ◌+◌, List, [], ◌∷◌, ◌++◌, drop, length, Bool, if◌then◌else◌, Option, Some, None, Result, Ok, Err}
+use Rattle.std.specs.Prelude.{◌≡◌, ℕ, ◌+◌, List, [], ◌∷◌, ◌++◌, drop, length, if◌then◌else◌, Option, Some, None, Ok}
 use Rattle.charge_world.specs.declared.offer.Dialect.{Dialect}
 use Rattle.v2gtp_frames.specs.declared.FrameFault.{FrameFault}
 use Rattle.v2gtp_frames.specs.Frames.{Frames, IsFault, IsRight}
 use Rattle.v2gtp_frames.specs.Reading.{whole_at, payload_at, behind_frames}
 use Rattle.post_spec.specs.Steps.{Seen}
 use Rattle.post_spec.specs.Codecs.{Judged, Negotiated, Asked, WrongSide, Refused, Codecs, Judges}
-use Rattle.post_spec.specs.Sessions.{stream, replies, waits}
+use Rattle.post_spec.specs.Sessions.{replies, waits}
 
 -- a word that was heard: a payload as it is judged, or the fault of a frame
 pub data HeardWord : Type 0 where

@@ -1,8 +1,6 @@
 -- An act that is done keeps the tie.
-use Rattle.std.proofs.Common.{arith, ◌≡◌, ℕ, suc, ◌+◌, Bool, true, false, if◌then◌else◌, ◌&&◌, List, [], ◌∷◌, ◌++◌, length, Option, Some, None, refl, sym, ap, subst, ◌∙◌, inl, inr, ◌⊎◌, MatchBool}
-use Rattle.std.specs.List.{AllByRecursion}
+use Rattle.std.proofs.Common.{arith, ◌≡◌, ℕ, suc, Bool, true, false, ◌&&◌, List, [], ◌∷◌, length, Option, Some, None, refl, sym, ap, subst, ◌∙◌, inl, inr, MatchBool}
 use Rattle.std.specs.Option.{option_map}
-use Rattle.charge_world.specs.declared.heard.IsolationLevel.TheVariants.{Valid}
 use Rattle.charge_world.specs.declared.offer.Dialect.{Dialect}
 use Rattle.charge_world.specs.declared.ports.Order.{Order}
 use Rattle.charge_world.specs.declared.ports.Order.TheVariants as order
@@ -17,7 +15,6 @@ use Rattle.session_words.specs.declared.word.Ask.TheVariants as ask
 use Rattle.session_words.specs.declared.word.Reply.{Reply}
 use Rattle.session_words.specs.declared.word.Request.{Request}
 use Rattle.session_words.specs.declared.word.Tell.{Tell}
-use Rattle.v2gtp_frames.specs.Frames.{frame}
 use Rattle.session_rules.specs.declared.stage.Stage.{Stage}
 use Rattle.session_rules.specs.Causes.{needs_isolation}
 use Rattle.session_rules.specs.Finishing.{is_ac}
@@ -26,18 +23,17 @@ use Rattle.post_spec.specs.Codecs.{Codecs}
 use Rattle.post_spec.specs.Facts.{newer, isolation}
 use Rattle.post_spec.specs.Kinds.{any, says_finished, asks_cable_check, asks_start, asks_renegotiation}
 use Rattle.session_words.specs.Causes.{number_of}
-use Rattle.post_spec.specs.Mandated.{renegotiates, StaysValid, off_in, pre_charge_off, Mandated}
+use Rattle.post_spec.specs.Mandated.{renegotiates, StaysValid, off_in, pre_charge_off}
 use Rattle.post_spec.specs.Sessions.{session, with_seen, stream, waits}
 use Rattle.post_spec.specs.Spelled.{read_back, ReadsBack}
 use Rattle.post_spec.specs.Steps.{Act, Give, Send, Answer, End, Seen, Did}
-use Rattle.post_spec.specs.Talk.{Exchange, Negotiation, Answered, dialect_of, IsExchange, OneMore, InSession, Talks, IsOk}
+use Rattle.post_spec.specs.Talk.{Exchange, Negotiation, Answered, IsExchange, OneMore, InSession, Talks, IsOk}
 use Rattle.station_spec.specs.States.{Spoken, Response, Said, Agenda, Session, State, nothing, first, first_of}
 use Rattle.station_spec.specs.States as states
-use Rattle.station_spec.specs.Deciding.{opening_if, ending_by, ending_in}
-use Rattle.station_spec.specs.Judging.{speaks, speaks_in}
-use Rattle.station_spec.specs.Acting.{ordered, live_ordered, since_order, failing, giving, agenda_said, replied, saying, telling, ended, acted, IsSpoken, IsDone}
-use Rattle.safe_runs.proofs.Growth.{AreWhole}
-use Rattle.safe_runs.proofs.Links.{is_cable, Premise, Cabled, Rowed, CabledThen, RowedThen, Chosen, Asks, Owes, Pending, IsOkReply, Waits, Link, Tie, IsWaitingIn, LinkedAt, Linked}
+use Rattle.station_spec.specs.Deciding.{opening_if}
+use Rattle.station_spec.specs.Judging.{speaks_in}
+use Rattle.station_spec.specs.Acting.{live_ordered, since_order, failing, giving, agenda_said, replied, saying, telling, ended, acted, IsSpoken, IsDone}
+use Rattle.safe_runs.proofs.Links.{is_cable, Premise, Cabled, Rowed, CabledThen, Chosen, Asks, Owes, Pending, Waits, Link, Tie, IsWaitingIn, Linked}
 use Rattle.safe_runs.proofs.Rows.{RowHas, PowerOf}
 use Rattle.safe_runs.proofs.Orders.{round_more}
 
@@ -57,8 +53,18 @@ pub record IsMore (c : Codecs) (plan : PostPlan) (past es : List Seen) (x : Seen
 
 pub cabled_more : (past : List Seen) (x : Seen) (xs : List Exchange) → StaysValid x → Cabled past xs → Cabled (x ∷ past) xs
 cabled_more past x xs s k = record {
-  behind = k.behind; request = k.request; reply = k.reply; before = k.before; earlier = k.earlier; xs_are = k.xs_are; cable_check = k.cable_check; newest = k.newest;
-  since = x ∷ k.since; past_is = ap (λ (ys : List Seen). x ∷ ys) k.past_is; valid = k.valid; stays = (s, k.stays);
+  behind = k.behind;
+  request = k.request;
+  reply = k.reply;
+  before = k.before;
+  earlier = k.earlier;
+  xs_are = k.xs_are;
+  cable_check = k.cable_check;
+  newest = k.newest;
+  since = x ∷ k.since;
+  past_is = ap (λ (ys : List Seen). x ∷ ys) k.past_is;
+  valid = k.valid;
+  stays = (s, k.stays);
 }
 
 cabled_in_more : (b : Bool) (past : List Seen) (x : Seen) (xs : List Exchange) → StaysValid x → MatchBool b (Cabled past xs) (Unit {0}) → MatchBool b (Cabled (x ∷ past) xs) (Unit {0})
@@ -133,12 +139,16 @@ tie_given c plan past (order.Limits voltage current watts) now None (Some es) (S
 
 gave_linked : (c : Codecs) (plan : PostPlan) (past : List Seen) (s : State) (o : Order) (taken : Bool) → s.agenda.order ≡ Some o → Linked c plan past s → Linked c plan (Did (Give o) taken ∷ past) (giving o taken s)
 gave_linked c plan past s o true h l = record {
-  arrives = l.arrives; pilot_is = l.pilot_is; isolation_is = l.isolation_is;
+  arrives = l.arrives;
+  pilot_is = l.pilot_is;
+  isolation_is = l.isolation_is;
   tie = tie_given c plan past o s.clock s.agenda.ending (session past) s.session s.agenda.reply s.agenda.behind_reply (Premise s.part s.event) (λ e. (l.closing (h ∙ ap (λ (x : Order). Some x) e)).2) l.tie;
   closing = λ h. absurd (no_close h);
 }
 gave_linked c plan past s o false h l = record {
-  arrives = l.arrives; pilot_is = l.pilot_is; isolation_is = l.isolation_is;
+  arrives = l.arrives;
+  pilot_is = l.pilot_is;
+  isolation_is = l.isolation_is;
   tie = tie_failed c plan past (Did (Give o) false) s.agenda.ending (session past) s.session s.agenda.reply s.agenda.behind_reply (Premise s.part s.event) OrderFailed (live_ordered o false s.live) l.tie;
   closing = λ h. absurd (closing_failed c plan past s.agenda.ending s.session OrderFailed (live_ordered o false s.live) h);
 }
@@ -155,7 +165,9 @@ tie_answered c plan past d taken None (Some es) (Some ss) r b V t =
 
 answered_linked : (c : Codecs) (plan : PostPlan) (past : List Seen) (s : State) (d : List ℕ) (taken : Bool) → s.agenda.datagram ≡ Some d → Linked c plan past s → Linked c plan (Did (Answer d) taken ∷ past) (telling s)
 answered_linked c plan past s d taken u l = record {
-  arrives = l.arrives; pilot_is = l.pilot_is; isolation_is = l.isolation_is;
+  arrives = l.arrives;
+  pilot_is = l.pilot_is;
+  isolation_is = l.isolation_is;
   tie = tie_answered c plan past d taken s.agenda.ending (session past) s.session s.agenda.reply s.agenda.behind_reply (Premise s.part s.event) l.tie;
   closing = λ h. absurd (let k = l.closing h in let x : None ≡ Some d = sym k.0 ∙ u in cc);
 }
@@ -201,11 +213,32 @@ cabled_by : (past : List Seen) (x : Seen) (r : Request) (reply : Reply) (xs : Li
 cabled_by past x r reply xs s (inl h) =
     let k = cabled_more past x xs s h.0 in
     record {
-      behind = Answered r reply past ∷ k.behind; request = k.request; reply = k.reply; before = k.before; earlier = k.earlier; xs_are = ap (λ (ys : List Exchange). Answered r reply past ∷ ys) k.xs_are; cable_check = k.cable_check;
-      newest = (h.1, k.newest); since = k.since; past_is = k.past_is; valid = k.valid; stays = k.stays;
+      behind = Answered r reply past ∷ k.behind;
+      request = k.request;
+      reply = k.reply;
+      before = k.before;
+      earlier = k.earlier;
+      xs_are = ap (λ (ys : List Exchange). Answered r reply past ∷ ys) k.xs_are;
+      cable_check = k.cable_check;
+      newest = (h.1, k.newest);
+      since = k.since;
+      past_is = k.past_is;
+      valid = k.valid;
+      stays = k.stays;
     }
 cabled_by past x r reply xs s (inr h) = record {
-  behind = []; request = r; reply = reply; before = past; earlier = xs; xs_are = refl; cable_check = h.0; newest = tt; since = x ∷ []; past_is = refl; valid = h.1; stays = (s, tt);
+  behind = [];
+  request = r;
+  reply = reply;
+  before = past;
+  earlier = xs;
+  xs_are = refl;
+  cable_check = h.0;
+  newest = tt;
+  since = x ∷ [];
+  past_is = refl;
+  valid = h.1;
+  stays = (s, tt);
 }
 
 cabled_by_if : (b : Bool) (past : List Seen) (x : Seen) (r : Request) (reply : Reply) (xs : List Exchange) → StaysValid x → MatchBool b (CabledThen past r reply xs) (Unit {0}) → MatchBool b (Cabled (x ∷ past) (Answered r reply past ∷ xs)) (Unit {0})
@@ -216,8 +249,18 @@ cabled_over : (b : Bool) (past : List Seen) (x : Seen) (y : Exchange) (xs : List
 cabled_over true past x y xs s n h =
     let k = cabled_more past x xs s h in
     record {
-      behind = y ∷ k.behind; request = k.request; reply = k.reply; before = k.before; earlier = k.earlier; xs_are = ap (λ (ys : List Exchange). y ∷ ys) k.xs_are; cable_check = k.cable_check;
-      newest = (n, k.newest); since = k.since; past_is = k.past_is; valid = k.valid; stays = k.stays;
+      behind = y ∷ k.behind;
+      request = k.request;
+      reply = k.reply;
+      before = k.before;
+      earlier = k.earlier;
+      xs_are = ap (λ (ys : List Exchange). y ∷ ys) k.xs_are;
+      cable_check = k.cable_check;
+      newest = (n, k.newest);
+      since = k.since;
+      past_is = k.past_is;
+      valid = k.valid;
+      stays = k.stays;
     }
 cabled_over false past x y xs s n h = tt
 
@@ -247,7 +290,10 @@ pending_said c plan past es xs bytes stage taken (Response response) V back w s 
 pending_said c plan past es xs bytes stage taken (Said d reply) V back w s (count, (r, asks, ok, owed)) =
     let x : Exchange = Answered r (read_back reply) past in
     let rowed : Rowed plan (Did (Send bytes) true ∷ past) stage (x ∷ xs) V = record {
-      has = owed.has past; power = owed.power; dialect = owed.dialect; off = owed.off;
+      has = owed.has past;
+      power = owed.power;
+      dialect = owed.dialect;
+      off = owed.off;
       cabled = λ v. cabled_by_if (needs_isolation stage.row) past (Did (Send bytes) true) r (read_back reply) xs tt (owed.cabled v);
     } in
     record {
@@ -275,7 +321,10 @@ waiting_said c plan past es xs bytes stage taken (Said d reply) V back w s t =
       count = longer taken x xs t.count;
       goes = k.goes;
       rowed = record {
-        has = k.has; power = k.power; dialect = t.rowed.dialect ∙ sym (k.talks stage.dialect); off = f.2 ∙ t.rowed.off;
+        has = k.has;
+        power = k.power;
+        dialect = t.rowed.dialect ∙ sym (k.talks stage.dialect);
+        off = f.2 ∙ t.rowed.off;
         cabled = λ v. subst (λ (b : Bool). MatchBool b (Cabled (Did (Send bytes) true ∷ past) (x ∷ xs)) (Unit {0})) (sym k.needs) (cabled_over (needs_isolation stage.row) past (Did (Send bytes) true) x xs tt f.1 (t.rowed.cabled v));
       };
     }
@@ -320,7 +369,7 @@ tie_said c plan past bytes now live a spoken (Some k) None (Some es) (Some ss) V
 tie_said c plan past bytes now live a spoken None None (Some es) (Some ss) V back here s f g t =
     let l = link_said c plan past es bytes ss.stage ss.unread spoken V back here s t in
     let m : Link c plan (Did (Send bytes) true ∷ past) (Did (Send bytes) true ∷ es) (confirmed ss.stage) ss.unread None a.behind_reply V =
-        subst (λ (x : Option EndCause). Link c plan (Did (Send bytes) true ∷ past) (Did (Send bytes) true ∷ es) (confirmed ss.stage) ss.unread None x V) (sym g) l in
+    subst (λ (x : Option EndCause). Link c plan (Did (Send bytes) true ∷ past) (Did (Send bytes) true ∷ es) (confirmed ss.stage) ss.unread None x V) (sym g) l in
     subst (λ (x : Option EndCause). Tie c plan (Did (Send bytes) true ∷ past) x (Some (Did (Send bytes) true ∷ es)) (Some (replied now ss)) None a.behind_reply V) (sym f) m
 
 closing_said : (b : Option EndCause) (kept : Option Session) (a : Agenda) (live : Bool) → a.order ≡ None → (agenda_said b kept a live).order ≡ Some order.Close → ⊥
@@ -332,12 +381,16 @@ said_linked : (c : Codecs) (plan : PostPlan) (past : List Seen) (s : State) (byt
 said_linked c plan past s bytes true spoken back r n i l =
     let t = subst (λ (x : Option Spoken). Tie c plan past s.agenda.ending (session past) s.session x s.agenda.behind_reply (Premise s.part s.event)) r l.tie in
     record {
-      arrives = l.arrives; pilot_is = l.pilot_is; isolation_is = l.isolation_is;
+      arrives = l.arrives;
+      pilot_is = l.pilot_is;
+      isolation_is = l.isolation_is;
       tie = tie_said c plan past bytes s.clock s.live s.agenda spoken s.agenda.ending s.agenda.behind_reply (session past) s.session (Premise s.part s.event) back refl i refl refl t;
       closing = λ h. absurd (closing_said s.agenda.behind_reply s.session s.agenda s.live n h);
     }
 said_linked c plan past s bytes false spoken back r n i l = record {
-  arrives = l.arrives; pilot_is = l.pilot_is; isolation_is = l.isolation_is;
+  arrives = l.arrives;
+  pilot_is = l.pilot_is;
+  isolation_is = l.isolation_is;
   tie = tie_failed c plan past (Did (Send bytes) false) s.agenda.ending (session past) s.session s.agenda.reply s.agenda.behind_reply (Premise s.part s.event) SendFailed s.live l.tie;
   closing = λ h. absurd (closing_failed c plan past s.agenda.ending s.session SendFailed s.live h);
 }

@@ -1,13 +1,11 @@
 -- What is to be done about a request, where it is accepted.
-use Rattle.std.proofs.Common.{◌≡◌, ◌≤◌, ℕ, ◌+◌, ◌-◌, Bool, true, false, if◌then◌else◌, ◌&&◌, ◌||◌, not, nat_le, nat_lt, List, [], ◌∷◌, Option, Some, None, is_some, unwrap_or, refl, sym, ap, subst, ◌∙◌}
+use Rattle.std.proofs.Common.{◌≡◌, ℕ, Bool, true, false, ◌||◌, nat_lt, List, Option, Some, None, is_some, refl}
 use Rattle.std.specs.Option.{option_map}
 use Rattle.charge_world.specs.declared.heard.IsolationLevel.{IsolationLevel}
 use Rattle.charge_world.specs.declared.heard.IsolationLevel.TheVariants.{Invalid, Valid, Warning, Fault, NoImd}
 use Rattle.charge_world.specs.declared.offer.Dialect.{Dialect}
 use Rattle.charge_world.specs.declared.offer.Dialect.TheVariants as dialect
-use Rattle.charge_world.specs.declared.ports.Order.{Order}
 use Rattle.charge_world.specs.declared.ports.Order.TheVariants as order
-use Rattle.session_words.specs.declared.cause.EndCause.{EndCause}
 use Rattle.session_words.specs.declared.cause.EndCause.TheVariants.{FailedReply}
 use Rattle.session_words.specs.declared.code.Code.{Code}
 use Rattle.session_words.specs.declared.code.Code.TheVariants as code
@@ -29,7 +27,7 @@ use Rattle.session_rules.specs.Moves.{next_pre_charge, facts_by, facts_behind}
 use Rattle.session_rules.specs.Orders.{granted_order}
 use Rattle.session_rules.specs.Reply.{tell_of, processing_of, awaiting}
 use Rattle.session_rules.specs.Rows.{leads, accepts, is_spoken}
-use Rattle.session_rules.specs.Verdict.{verdict, refusal, is_accepted, is_misnamed, content_lines, accepting_code}
+use Rattle.session_rules.specs.Verdict.{verdict, is_accepted, is_misnamed, content_lines, accepting_code}
 use Rattle.session_rules.specs.Lines.{first_line}
 use Rattle.post_spec.specs.Facts.{newer}
 use Rattle.post_spec.specs.Kinds as kinds

@@ -1,6 +1,6 @@
 -- What is decided behind what was read keeps the tie.
 use Rattle.std.specs.Prelude.{ℤ, is_some}
-use Rattle.std.proofs.Common.{◌≡◌, ℕ, suc, Bool, true, false, if◌then◌else◌, List, [], ◌∷◌, length, Option, Some, None, Result, Ok, Err, refl, sym, ap, subst, ◌∙◌, inl, inr, ◌⊎◌, MatchBool}
+use Rattle.std.proofs.Common.{◌≡◌, ℕ, Bool, true, false, if◌then◌else◌, List, Option, Some, None, Result, Ok, Err, refl, sym, ap, subst, ◌∙◌}
 use Rattle.charge_world.specs.declared.offer.Dialect.{Dialect}
 use Rattle.charge_world.specs.declared.ports.Order.{Order}
 use Rattle.charge_world.specs.declared.ports.Order.TheVariants as order
@@ -31,17 +31,16 @@ use Rattle.session_rules.specs.Rows.{leads}
 use Rattle.session_rules.specs.Stages.{is_waiting}
 use Rattle.session_rules.specs.Verdict.{verdict, is_accepted}
 use Rattle.post_spec.specs.Codecs.{Judged, Negotiated, Asked, WrongSide, Refused, Codecs, Judges, judged_word}
-use Rattle.post_spec.specs.Mandated.{Mandated}
 use Rattle.post_spec.specs.Sessions.{session}
 use Rattle.post_spec.specs.Steps.{Seen, Reading}
-use Rattle.station_spec.specs.States.{Spoken, Response, Said, Agenda, Session, State, nothing, is_done}
-use Rattle.station_spec.specs.Deciding.{opening_if, ending_by, decided}
-use Rattle.station_spec.specs.Judging.{Payload, speaks, speaks_in, payload_by, payload_in, wanted, order_by, cause_by, asked_agenda, asked_session, chosen_stage, unmatched, passed, judged, taken_in, read, filled, IsShown, IsRead}
+use Rattle.station_spec.specs.States.{Spoken, Response, Said, Session, State, nothing, is_done}
+use Rattle.station_spec.specs.Deciding.{opening_if, decided}
+use Rattle.station_spec.specs.Judging.{Payload, speaks, speaks_in, payload_by, payload_in, wanted, order_by, cause_by, asked_agenda, asked_session, chosen_stage, unmatched, passed, judged, taken_in, read, filled, IsRead}
 use Rattle.safe_runs.proofs.Asked.{IsStop, found_failed, found_accepted, row_takes, not_close, same_pilot, same_isolation}
-use Rattle.safe_runs.proofs.Links.{Link, Tie, IsWaitingIn, LinkedAt, Linked, Clear}
+use Rattle.safe_runs.proofs.Links.{Link, Tie, LinkedAt, Linked}
 use Rattle.safe_runs.proofs.Parts.{Planned, decided_planned}
-use Rattle.safe_runs.proofs.Rows.{IsPlain, row_step}
-use Rattle.safe_runs.proofs.Words.{Free, free, plain_link, Started, start_link, chosen_link}
+use Rattle.safe_runs.proofs.Rows.{IsPlain}
+use Rattle.safe_runs.proofs.Words.{free, plain_link, start_link, chosen_link}
 
 opens : (live : Bool) → opening_if live ≡ Some order.Close → ⊥
 opens true h = cc
@@ -204,7 +203,9 @@ judged_linked c plan past t ss (Negotiated chosen response) shown n still w j l 
     let m = negotiated_at c plan past k.0 ss.stage ss.unread chosen response n (speaks ss.stage) k.2 refl still w j in
     let ts : Session = record ss { stage = chosen_stage ss.stage chosen; unread = behind_front ss.unread } in
     record {
-      arrives = l.arrives; pilot_is = l.pilot_is; isolation_is = l.isolation_is;
+      arrives = l.arrives;
+      pilot_is = l.pilot_is;
+      isolation_is = l.isolation_is;
       tie = tie_made c plan past (session past) k.0 ts None (Some (Response response)) (Some (Response response)) (unmatched chosen) (unmatched chosen) (chosen_stage ss.stage chosen) k.1 refl refl refl refl m;
       closing = λ h. absurd (let y : None ≡ Some order.Close = h in cc);
     }

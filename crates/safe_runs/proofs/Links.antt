@@ -1,11 +1,9 @@
 -- What ties a past to what its post keeps, as long as the session has no cause.
-use Rattle.std.proofs.Common.{◌≡◌, ◌≤◌, ℕ, suc, ◌+◌, Bool, true, false, List, [], ◌∷◌, ◌++◌, length, Option, Some, None, refl, sym, ap, ◌∙◌, inl, inr, ◌⊎◌, MatchBool, IsSome}
+use Rattle.std.proofs.Common.{◌≡◌, ℕ, suc, Bool, true, false, List, [], ◌∷◌, ◌++◌, length, Option, Some, None, ◌⊎◌, MatchBool, IsSome}
 use Rattle.std.specs.List.{AllByRecursion}
 use Rattle.std.specs.Option.{option_map}
-use Rattle.charge_world.specs.declared.heard.IsolationLevel.{IsolationLevel}
 use Rattle.charge_world.specs.declared.heard.IsolationLevel.TheVariants.{Valid}
 use Rattle.charge_world.specs.declared.offer.Dialect.{Dialect}
-use Rattle.charge_world.specs.declared.ports.Order.{Order}
 use Rattle.charge_world.specs.declared.ports.Order.TheVariants as order
 use Rattle.session_words.specs.declared.cause.EndCause.{EndCause}
 use Rattle.session_words.specs.declared.facts.Facts.{Facts}
@@ -26,10 +24,10 @@ use Rattle.post_spec.specs.Kinds.{is_of, says_finished, asks_cable_check, asks_s
 use Rattle.post_spec.specs.Mandated.{HasNo, IsValidIfTold, StaysValid, pre_charge_off, Mandated}
 use Rattle.post_spec.specs.Sessions.{arriving, session, stream, waits}
 use Rattle.post_spec.specs.Spelled.{read_back}
-use Rattle.post_spec.specs.Steps.{Event, Seen, Heard, Did}
+use Rattle.post_spec.specs.Steps.{Event, Seen}
 use Rattle.post_spec.specs.Talk.{Exchange, Negotiation, Answered, dialect_of, Talks, IsOk}
 use Rattle.post_spec.specs.Words.{IsPayloadAt}
-use Rattle.station_spec.specs.States.{Spoken, Response, Said, Agenda, Part, Repeating, Timing, Eventing, Wording, Session, State, nothing, is_done}
+use Rattle.station_spec.specs.States.{Spoken, Response, Said, Agenda, Part, Repeating, Timing, Eventing, Wording, Session, State, nothing}
 use Rattle.station_spec.specs.Judging.{speaks}
 use Rattle.safe_runs.proofs.Growth.{AreWhole}
 use Rattle.safe_runs.proofs.Rows.{RowHas, PowerOf}

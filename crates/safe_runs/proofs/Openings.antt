@@ -1,5 +1,5 @@
 -- A contactor is ordered open again.
-use Rattle.std.proofs.Common.{arith, ◌≡◌, ◌≢◌, ◌<◌, ℕ, zero, suc, ◌+◌, Bool, true, false, if◌then◌else◌, List, [], ◌∷◌, ◌++◌, length, map, Option, Some, None, refl, sym, ap, subst, ◌∙◌, MatchBool}
+use Rattle.std.proofs.Common.{arith, ◌≡◌, ◌≢◌, ◌<◌, ℕ, suc, ◌+◌, Bool, true, false, List, [], ◌∷◌, ◌++◌, length, map, Option, Some, None, refl, sym, ap, subst, ◌∙◌, MatchBool}
 use Rattle.std.proofs.lemmas.Bool.{eq-eqb, ne_eqb}
 use Rattle.charge_world.specs.declared.entry.Entry.{Entry}
 use Rattle.charge_world.specs.declared.entry.Entry.TheVariants as entry
@@ -8,23 +8,22 @@ use Rattle.charge_world.specs.declared.ports.Order.TheVariants as order
 use Rattle.session_words.specs.declared.facts.Facts.{Facts}
 use Rattle.session_words.specs.declared.phase.Standing.TheVariants as standing
 use Rattle.session_words.specs.declared.plan.PostPlan.{PostPlan}
-use Rattle.session_words.specs.declared.plan.SitePlan.{SitePlan}
 use Rattle.contactor.specs.Standing.{Kind, last_order, feedback_since, standing_by}
 use Rattle.contactor.specs.Standing as contactor
 use Rattle.post_spec.specs.Codecs.{Codecs}
-use Rattle.post_spec.specs.Facts.{contactor_acts, standing as standing_in, live}
-use Rattle.post_spec.specs.Steps.{Event, Came, Bytes, Gone, Datagram, Plant, Clock, Over, Act, Give, Send, Answer, End, Seen, Heard, Did, Reading, Step, Hears, Does, seen, seen_of}
+use Rattle.post_spec.specs.Facts.{contactor_acts, live}
+use Rattle.post_spec.specs.Steps.{Event, Came, Bytes, Gone, Datagram, Plant, Clock, Over, Act, Give, Seen, Heard, Did, Reading, Step, Hears, Does, seen, seen_of}
 use Rattle.station_spec.specs.States.{Agenda, Timing, State, nothing, first}
 use Rattle.station_spec.specs.States as states
 use Rattle.station_spec.specs.Deciding.{decided}
-use Rattle.station_spec.specs.Judging.{wanted, read, filled, IsRead}
+use Rattle.station_spec.specs.Judging.{wanted, read, IsRead}
 use Rattle.station_spec.specs.Acting.{heard_facts, hearing, state, IsQuiet, IsDone, Acts}
 use Rattle.station_spec.specs.Sharing.{Post, state_of, Shows}
-use Rattle.station_spec.specs.Runs.{IsRun, AreQuiet, Closes}
+use Rattle.station_spec.specs.Runs.{AreQuiet, Closes}
 use Rattle.station_laws.specs.PostRuns.{IsPostRun, ArePostsOf}
 use Rattle.station_laws.proofs.Contactors.{contactors_are_read}
 use Rattle.station_laws.proofs.PostRuns.{run_posts, post_at, quiet_at}
-use Rattle.safe_runs.specs.Opening.{HasFailed, IsOpen, RepeatsOpen, OpensAgain, HasOpened, RunsOpenAgain, EndsOpen, RunsEndOpen}
+use Rattle.safe_runs.specs.Opening.{HasFailed, RepeatsOpen, OpensAgain, HasOpened, RunsOpenAgain, RunsEndOpen}
 
 taken_not : (b : Bool) → true ≡ false → ⊥
 taken_not b h = cc
@@ -111,9 +110,10 @@ steps_again c plan (Does r a taken ∷ steps) (run, (limit, before, behind, acts
 pub runs_open_again : (c : Codecs) → RunsOpenAgain c
 runs_open_again c site past posts before post behind run is =
     let all = subst (ArePostsOf c past 1) is (run_posts c site past posts run) in
-    let k = post_at c past (length before + 1) 1 before post behind refl all in
-    (subst OpensAgain (sym k.seen_is) (steps_again c post.plan post.steps k.run),
-      λ q. subst HasOpened (sym k.seen_is) (quiet_opened post.plan post.steps (quiet_at before post behind (subst AreQuiet is q))))
+    let k = post_at c past (length before + 1) 1 before post behind refl all in (
+      subst OpensAgain (sym k.seen_is) (steps_again c post.plan post.steps k.run),
+      λ q. subst HasOpened (sym k.seen_is) (quiet_opened post.plan post.steps (quiet_at before post behind (subst AreQuiet is q))),
+    )
 
 -- The orders that close a run.
 

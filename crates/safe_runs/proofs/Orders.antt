@@ -1,6 +1,5 @@
 -- Exchanges that are there in order.
-use Rattle.std.proofs.Common.{◌≡◌, ℕ, Bool, true, false, List, [], ◌∷◌, ◌++◌, Option, Some, None, refl, sym, ap, ◌∙◌, inl, inr, ◌⊎◌}
-use Rattle.std.specs.List.{AllByRecursion}
+use Rattle.std.proofs.Common.{◌≡◌, Bool, true, false, List, [], ◌∷◌, ◌++◌, refl, ap, inl, inr, ◌⊎◌}
 use Rattle.post_spec.specs.Talk.{Exchange}
 use Rattle.post_spec.specs.Mandated.{Has, HasNo, set_up, renegotiates}
 

@@ -1,5 +1,5 @@
 -- What is decided without a word keeps the tie.
-use Rattle.std.proofs.Common.{◌≡◌, ℕ, suc, Bool, true, false, if◌then◌else◌, ◌&&◌, not, List, [], ◌∷◌, ◌++◌, length, Option, Some, None, Result, Ok, Err, refl, sym, ap, subst, ◌∙◌, inl, inr, ◌⊎◌, MatchBool}
+use Rattle.std.proofs.Common.{◌≡◌, ℕ, Bool, true, false, if◌then◌else◌, ◌&&◌, List, Option, Some, None, Result, Ok, Err, refl, sym, subst, ◌∙◌, MatchBool}
 use Rattle.charge_world.specs.declared.heard.IsolationLevel.{IsolationLevel}
 use Rattle.charge_world.specs.declared.heard.IsolationLevel.TheVariants.{Invalid, Valid, Warning, Fault, NoImd}
 use Rattle.charge_world.specs.declared.heard.PlantEvent.{PlantEvent}
@@ -19,13 +19,13 @@ use Rattle.session_rules.specs.Reply.{waiting_reply}
 use Rattle.session_rules.specs.Stages.{is_waiting}
 use Rattle.post_spec.specs.Codecs.{Codecs}
 use Rattle.post_spec.specs.Facts.{told_by, isolation_in}
-use Rattle.post_spec.specs.Mandated.{IsValidIfTold, Mandated}
+use Rattle.post_spec.specs.Mandated.{IsValidIfTold}
 use Rattle.post_spec.specs.Sessions.{session}
 use Rattle.post_spec.specs.Steps.{Event, Came, Bytes, Gone, Datagram, Plant, Clock, Over, Seen}
 use Rattle.post_spec.specs.Talk.{Exchange}
-use Rattle.station_spec.specs.States.{Spoken, Response, Said, Agenda, Part, Repeating, Timing, Eventing, Wording, Session, State, nothing, is_done, is_none, first_of}
+use Rattle.station_spec.specs.States.{Spoken, Said, Agenda, Part, Repeating, Timing, Eventing, Wording, Session, State, nothing, is_done, is_none, first_of}
 use Rattle.station_spec.specs.Deciding.{opening_if, ending_by, ending_in, repeating, timing, watch, confirms, confirming, charging_by, charging, eventing, fronting_by, fronting, decide, from_wording, from_eventing, from_timing, from_repeating, from_part, decided, due, is_reached}
-use Rattle.safe_runs.proofs.Links.{Premise, Cabled, Rowed, RowedThen, Pending, Waits, Link, Tie, LinkedAt, Linked, Clear}
+use Rattle.safe_runs.proofs.Links.{Premise, Cabled, Rowed, Pending, Waits, Tie, LinkedAt, Linked, Clear}
 
 -- another premise on what was heard
 cabled_as : (b : Bool) (V W C : Type 0) (n : Bool) → n ≡ b → (n ≡ true → W → V) → (V → MatchBool n C (Unit {0})) → W → MatchBool n C (Unit {0})

@@ -1,7 +1,5 @@
 -- What the exchanges of a session are in each row.
-use Rattle.std.proofs.Common.{◌≡◌, ℕ, Bool, true, false, if◌then◌else◌, List, [], ◌∷◌, ◌++◌, Option, Some, None, unwrap_or, is_some, refl, sym, ap, subst, ◌∙◌, inl, inr, ◌⊎◌}
-use Rattle.std.specs.List.{AllByRecursion}
-use Rattle.session_words.specs.declared.code.Progress.{Progress}
+use Rattle.std.proofs.Common.{◌≡◌, Bool, true, false, List, [], ◌∷◌, ◌++◌, Option, Some, unwrap_or, is_some, refl, sym, subst, inl, inr, ◌⊎◌}
 use Rattle.session_words.specs.declared.code.Progress.TheVariants as progress
 use Rattle.session_words.specs.declared.phase.Phase.{Phase}
 use Rattle.session_words.specs.declared.phase.Phase.TheVariants as row
@@ -20,7 +18,7 @@ use Rattle.post_spec.specs.Mandated.{Has, HasNo, set_up, powered, renegotiates, 
 use Rattle.session_words.specs.declared.amount.Amount.{Amount}
 use Rattle.std.specs.Prelude.{ℤ}
 use Rattle.post_spec.specs.Steps.{Seen}
-use Rattle.post_spec.specs.Talk.{Exchange, Negotiation, Answered}
+use Rattle.post_spec.specs.Talk.{Exchange, Answered}
 use Rattle.safe_runs.proofs.Orders.{has_more, Rounded, round_more, round_add, round_drop, round_again}
 
 abbrev pub First : List (Exchange → Bool) → List Exchange → Type 0
@@ -115,7 +113,6 @@ pub record Stepped (here next : Phase) (asked : Ask) (finished ac : Bool) (name 
 
 pub row_step : (here : Phase) (asked : Ask) (finished ac : Bool) (name : SessionId) (reply : Reply) (xs : List Exchange)
     → is_some (leads here asked true true) ≡ true → Says asked finished reply.tell → RowHas here xs → PowerOf here ac → Stepped here (unwrap_or (leads here asked finished ac) here) asked finished ac name reply xs
-
 row_step row.Negotiated (ask.SessionSetup car) finished ac name reply xs h s r p = record { has = λ before. (first_add (is_of asks_setup any) (is_negotiation ∷ []) (asked_of name (ask.SessionSetup car) reply before) xs refl refl r); power = tt; goes = refl; talks = λ d. refl; talked = λ d. refl; cabled = λ n. absurd (cc) }
 row_step row.SetUp ask.ServiceDiscovery finished ac name reply xs h s r p = record { has = λ before. (first_add (is_of asks_services any) named (asked_of name ask.ServiceDiscovery reply before) xs refl refl r); power = tt; goes = refl; talks = λ d. refl; talked = λ d. refl; cabled = λ n. absurd (cc) }
 row_step row.Discovered (ask.ServiceDetail service) finished ac name reply xs h s r p = record { has = λ before. (first_more offered (asked_of name (ask.ServiceDetail service) reply before) xs refl r); power = tt; goes = refl; talks = λ d. refl; talked = λ d. refl; cabled = λ n. absurd (cc) }

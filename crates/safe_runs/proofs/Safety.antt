@@ -1,32 +1,27 @@
 -- In every run a contactor is ordered closed only as mandated.
-use Rattle.std.proofs.Common.{◌≡◌, ℕ, zero, suc, ◌+◌, Bool, true, false, if◌then◌else◌, List, [], ◌∷◌, ◌++◌, length, map, Option, Some, None, unwrap_or, refl, sym, ap, subst, ◌∙◌, append_assoc, inl, inr, ◌⊎◌, MatchBool}
+use Rattle.std.proofs.Common.{◌≡◌, ℕ, ◌+◌, Bool, true, false, List, [], ◌∷◌, ◌++◌, length, map, Option, Some, None, refl, sym, ap, subst, ◌∙◌, MatchBool}
 use Rattle.std.specs.Option.{option_map}
-use Rattle.charge_world.specs.declared.entry.Entry.{Entry}
 use Rattle.charge_world.specs.declared.heard.PlantEvent.TheVariants as plant
 use Rattle.charge_world.specs.declared.ports.Order.{Order}
 use Rattle.charge_world.specs.declared.ports.Order.TheVariants as order
 use Rattle.session_words.specs.declared.cause.EndCause.{EndCause}
 use Rattle.session_words.specs.declared.facts.Facts.{Facts}
 use Rattle.session_words.specs.declared.plan.PostPlan.{PostPlan}
-use Rattle.session_words.specs.declared.plan.SitePlan.{SitePlan}
-use Rattle.v2gtp_frames.specs.Reading.{behind_frames}
 use Rattle.session_rules.specs.declared.stage.Stage.{Stage}
 use Rattle.session_rules.specs.Causes.{needs_isolation}
 use Rattle.session_rules.specs.Stages.{is_waiting}
 use Rattle.post_spec.specs.Codecs.{Codecs}
-use Rattle.post_spec.specs.Facts.{last, since_came, told_by, pilot_in, isolation_in, pilot, isolation}
-use Rattle.post_spec.specs.Mandated.{IsValidIfTold, Mandated}
-use Rattle.post_spec.specs.Sessions.{if_came, arriving, session_behind, session, with_seen, stream, waits, brought}
+use Rattle.post_spec.specs.Facts.{told_by, isolation_in, pilot, isolation}
+use Rattle.post_spec.specs.Mandated.{IsValidIfTold}
+use Rattle.post_spec.specs.Sessions.{arriving, session_behind, session, with_seen, stream, waits, brought}
 use Rattle.post_spec.specs.Spelled.{ReadsBack}
-use Rattle.post_spec.specs.Steps.{Event, Came, Bytes, Gone, Datagram, Plant, Clock, Over, Act, Give, Send, Answer, End, Seen, Heard, Did, Reading, Step, Hears, Does, seen, seen_of}
+use Rattle.post_spec.specs.Steps.{Event, Came, Bytes, Gone, Datagram, Plant, Clock, Over, Act, Give, Send, Answer, End, Seen, Heard, Did, Step, Hears, Does, seen_of}
 use Rattle.post_spec.specs.Talk.{Exchange, Unless, Talks}
 use Rattle.station_spec.specs.States.{Spoken, Agenda, Session, State, nothing, fresh, first_session, first, first_of, is_none, is_done}
 use Rattle.station_spec.specs.States as states
-use Rattle.station_spec.specs.Deciding.{decided}
 use Rattle.station_spec.specs.Judging.{filled}
-use Rattle.station_spec.specs.Acting.{heard_facts, arrival, session_opened, with_bytes, hearing, state, IsQuiet, IsSpoken, IsDone}
-use Rattle.station_spec.specs.Sharing.{Post, Shows}
-use Rattle.station_spec.specs.Runs.{IsRun}
+use Rattle.station_spec.specs.Acting.{heard_facts, arrival, session_opened, with_bytes, hearing, state, IsQuiet, IsDone}
+use Rattle.station_spec.specs.Sharing.{Shows}
 use Rattle.station_laws.specs.PostRuns.{IsPostRun, ArePostsOf}
 use Rattle.station_laws.proofs.Decided.{planned}
 use Rattle.station_laws.proofs.PostRuns.{run_posts, post_at}
@@ -34,7 +29,7 @@ use Rattle.safe_runs.specs.Closing.{ClosesMandated, RunsCloseMandated}
 use Rattle.safe_runs.proofs.Acted.{cabled_more, acted_linked}
 use Rattle.safe_runs.proofs.Filled.{filled_linked}
 use Rattle.safe_runs.proofs.Growth.{AreWhole, grown, payload_stays}
-use Rattle.safe_runs.proofs.Links.{Cabled, Rowed, Asks, Pending, Waits, Link, Tie, SameArrival, LinkedAt, Linked, Clear}
+use Rattle.safe_runs.proofs.Links.{Cabled, Rowed, Pending, Waits, Link, Tie, SameArrival, LinkedAt, Linked, Clear}
 use Rattle.safe_runs.proofs.Parts.{decided_planned}
 
 -- What a hearing tells.
@@ -98,9 +93,12 @@ talk_heard : (c : Codecs) (plan : PostPlan) (past es : List Seen) (at : ℕ) (e 
 talk_heard c plan past es at e xs taken stage true w t =
     let whole = subst (λ (n : ℕ). AreWhole n (stream es)) t.count w in
     record {
-      count = t.count; request = t.request;
+      count = t.count;
+      request = t.request;
       asks = record { payload = t.asks.payload; place = payload_stays (length xs) (stream es) (brought e) t.asks.payload whole.0 t.asks.place; reads = t.asks.reads; dialect_is = t.asks.dialect_is };
-      start = t.start; ok = t.ok; rowed = rowed_heard plan past at e stage xs t.rowed;
+      start = t.start;
+      ok = t.ok;
+      rowed = rowed_heard plan past at e stage xs t.rowed;
     }
 talk_heard c plan past es at e xs taken stage false w t = (t.0, rowed_heard plan past at e stage xs t.1)
 
@@ -191,11 +189,13 @@ run_closes c plan (Hears at e ∷ steps) back run = (run_closes c plan steps bac
 run_closes c plan (Does r a taken ∷ steps) back (run, (limit, before, behind, acts)) =
     let past = map seen_of steps in
     let l = filled_linked c plan (Shows limit before behind) past (state plan steps) r acts.read (run_linked c plan steps back run) in
-    let f = filled plan r (state plan steps) in
-    (run_closes c plan steps back run, λ t h.
-        let todo = close_todo c acts.todo a taken acts.done (act_is a taken t order.Close h) in
-        let o = close_first f.agenda.datagram f.agenda.order f.agenda.reply f.agenda.ending (acts.acts ∙ ap Some todo) in
-        (l.closing o).1)
+    let f = filled plan r (state plan steps) in (
+      run_closes c plan steps back run,
+      λ t h.
+          let todo = close_todo c acts.todo a taken acts.done (act_is a taken t order.Close h) in
+          let o = close_first f.agenda.datagram f.agenda.order f.agenda.reply f.agenda.ending (acts.acts ∙ ap Some todo) in
+          (l.closing o).1,
+    )
 
 pub runs_close : (c : Codecs) → RunsCloseMandated c
 runs_close c site past posts before post behind back run is =

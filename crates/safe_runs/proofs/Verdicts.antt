@@ -1,5 +1,5 @@
 -- What an accepted request met.
-use Rattle.std.proofs.Common.{◌≡◌, ℕ, Bool, true, false, if◌then◌else◌, ◌&&◌, not, List, [], ◌∷◌, Option, Some, None, unwrap_or, refl, sym, ap, ◌∙◌}
+use Rattle.std.proofs.Common.{◌≡◌, Bool, true, false, if◌then◌else◌, ◌&&◌, not, Option, Some, None, unwrap_or, refl}
 use Rattle.charge_world.specs.declared.offer.Dialect.{Dialect}
 use Rattle.charge_world.specs.declared.offer.Dialect.TheVariants as dialect
 use Rattle.session_words.specs.declared.code.Code.{Code}
@@ -14,9 +14,9 @@ lines_accept false true rest ok h = refl
 
 pub lines_start : (misnamed taken tuple profile ready opened charged : Bool) (d : Dialect) (ok : Code)
     → is_accepted (unwrap_or (if misnamed then Some code.FailedUnknownSession else (if not taken then Some code.FailedSequenceError else
-        (if tuple then Some code.FailedTariffSelectionInvalid else (if profile then Some code.FailedChargingProfileInvalid else
-        (if not ready then Some code.FailedPowerDeliveryNotApplied else (if not opened then Some (contactor_code d) else
-        (if not charged then Some code.FailedPowerDeliveryNotApplied else None))))))) ok) ≡ true → (ready ≡ true) × (charged ≡ true)
+    (if tuple then Some code.FailedTariffSelectionInvalid else (if profile then Some code.FailedChargingProfileInvalid else
+    (if not ready then Some code.FailedPowerDeliveryNotApplied else (if not opened then Some (contactor_code d) else
+    (if not charged then Some code.FailedPowerDeliveryNotApplied else None))))))) ok) ≡ true → (ready ≡ true) × (charged ≡ true)
 lines_start true taken tuple profile ready opened charged d ok h = cc
 lines_start false false tuple profile ready opened charged d ok h = cc
 lines_start false true true profile ready opened charged d ok h = cc

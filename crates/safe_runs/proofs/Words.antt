@@ -1,14 +1,9 @@
 -- A word that is read keeps the tie.
-use Rattle.std.proofs.Common.{arith, ◌≡◌, ◌≤◌, ℕ, suc, ◌+◌, Bool, true, false, if◌then◌else◌, ◌&&◌, nat_le, List, [], ◌∷◌, ◌++◌, length, Option, Some, None, Result, Ok, Err, is_some, unwrap_or, refl, sym, ap, subst, ◌∙◌, inl, inr, ◌⊎◌, MatchBool}
-use Rattle.std.specs.List.{AllByRecursion}
+use Rattle.std.proofs.Common.{arith, ◌≡◌, ◌≤◌, ℕ, suc, Bool, true, false, if◌then◌else◌, List, [], length, Option, Some, None, Ok, refl, sym, ap, subst, ◌∙◌, inl, inr, MatchBool}
 use Rattle.std.specs.Option.{option_map}
 use Rattle.std.proofs.lemmas.Bool.Decides.{nat_tests}
-use Rattle.charge_world.specs.declared.heard.IsolationLevel.TheVariants.{Valid}
 use Rattle.charge_world.specs.declared.offer.Dialect.{Dialect}
-use Rattle.charge_world.specs.declared.ports.Order.{Order}
-use Rattle.charge_world.specs.declared.ports.Order.TheVariants as order
 use Rattle.session_words.specs.declared.amount.Amount.{Amount}
-use Rattle.session_words.specs.declared.cause.EndCause.{EndCause}
 use Rattle.session_words.specs.declared.code.Progress.TheVariants as progress
 use Rattle.session_words.specs.declared.facts.Facts.{Facts}
 use Rattle.session_words.specs.declared.phase.Phase.{Phase}
@@ -18,7 +13,6 @@ use Rattle.session_words.specs.declared.session.SessionId.{SessionId}
 use Rattle.session_words.specs.declared.word.Ask.{Ask}
 use Rattle.session_words.specs.declared.word.Ask.TheVariants as ask
 use Rattle.session_words.specs.declared.word.Request.{Request}
-use Rattle.session_words.specs.declared.word.Word.{Word}
 use Rattle.session_words.specs.declared.word.Word.TheVariants as word
 use Rattle.v2gtp_frames.specs.Reading.{whole_at, payload_at, behind_front, behind_frames}
 use Rattle.contactor.specs.Rights.{is_ready}
@@ -29,24 +23,23 @@ use Rattle.session_rules.specs.Delivery.{off_of, is_pre_charged, is_other_tuple,
 use Rattle.session_rules.specs.Finishing.{is_ac, is_finished}
 use Rattle.session_rules.specs.Moves.{moved}
 use Rattle.session_rules.specs.Reply.{reply_to}
-use Rattle.session_rules.specs.Rows.{leads, accepts}
+use Rattle.session_rules.specs.Rows.{accepts}
 use Rattle.session_rules.specs.Stages.{is_waiting}
 use Rattle.session_rules.specs.Verdict.{verdict, is_accepted, is_misnamed, accepting_code}
-use Rattle.post_spec.specs.Codecs.{Judged, Negotiated, Asked, WrongSide, Refused, Codecs, Judges, judged_word}
+use Rattle.post_spec.specs.Codecs.{Negotiated, Codecs}
 use Rattle.post_spec.specs.Facts.{pilot, isolation}
-use Rattle.post_spec.specs.Kinds.{says_finished, is_of, asks_cable_check}
 use Rattle.post_spec.specs.Mandated.{before_close, pre_charge_off, IsStarting, IsChecked, Mandated}
 use Rattle.post_spec.specs.Sessions.{session, stream, waits}
 use Rattle.post_spec.specs.Spelled.{read_back}
 use Rattle.post_spec.specs.Steps.{Seen}
-use Rattle.post_spec.specs.Talk.{Exchange, Negotiation, Answered, dialect_of}
+use Rattle.post_spec.specs.Talk.{Exchange}
 use Rattle.post_spec.specs.Words.{IsPayloadAt}
 use Rattle.station_spec.specs.States.{Spoken, Response, Said}
 use Rattle.station_spec.specs.Judging.{speaks, speaks_in, chosen_stage, unmatched}
 use Rattle.std.specs.Prelude.{ℤ}
 use Rattle.safe_runs.proofs.Asked.{ok_class, row_takes, says, off_step, cable_valid}
-use Rattle.safe_runs.proofs.Links.{Cabled, Rowed, CabledThen, RowedThen, Asks, Owes, Pending, Waits, Link}
-use Rattle.safe_runs.proofs.Rows.{IsPlain, RowHas, PowerOf, Stepped, row_step, Starting, start_step}
+use Rattle.safe_runs.proofs.Links.{Cabled, Rowed, CabledThen, RowedThen, Asks, Pending, Waits, Link}
+use Rattle.safe_runs.proofs.Rows.{IsPlain, RowHas, row_step, start_step}
 use Rattle.safe_runs.proofs.Verdicts.{lines_start}
 
 -- the payload at the front is the one behind those that were taken
@@ -92,13 +85,13 @@ pub plain_link : (c : Codecs) (plan : PostPlan) (past es : List Seen) (stage : S
     → Free c plan past es stage unread l → whole_at unread ≡ Ok (Some n) → c.Reads d (payload_at n unread) (Some (word.Request (record { session = name; ask = a }))) → speaks stage ≡ Some d → isolation past ≡ facts.isolation
     → is_accepted (verdict stage facts plan (record { session = name; ask = a })) ≡ true → IsPlain a
     → (is_waiting (moved stage facts plan (record { session = name; ask = a }) shown).row ≡ false)
-      × Link c plan past es (moved stage facts plan (record { session = name; ask = a }) shown) (behind_front unread) (Some (Said stage.dialect (reply_to stage facts plan (record { session = name; ask = a }) shown))) None (Unit {0})
+    × Link c plan past es (moved stage facts plan (record { session = name; ask = a }) shown) (behind_front unread) (Some (Said stage.dialect (reply_to stage facts plan (record { session = name; ask = a }) shown))) None (Unit {0})
 plain_link c plan past es stage unread facts name a shown n d l f w reads sp iso ok plain =
     let r : Request = record { session = name; ask = a } in
     let reply = reply_to stage facts plan r shown in
     let next = moved stage facts plan r shown in
     let step = row_step stage.row a (is_finished facts plan a shown) (is_ac plan.mode) name (read_back reply) l.xs (row_takes stage facts plan r ok)
-        (says stage facts plan (verdict stage facts plan r) shown a plain ok) f.rowed.has f.rowed.power in
+    (says stage facts plan (verdict stage facts plan r) shown a plain ok) f.rowed.has f.rowed.power in
     let same : d ≡ stage.dialect = some_one d stage.dialect (sym sp ∙ step.talked stage.dialect) in
     let asks : Asks c (stream es) l.xs r stage.dialect = record {
       payload = payload_at n unread;
@@ -107,7 +100,7 @@ plain_link c plan past es stage unread facts name a shown n d l f w reads sp iso
       dialect_is = f.rowed.dialect ∙ step.talked stage.dialect;
     } in
     let cab : needs_isolation next.row ≡ true → CabledThen past r (read_back reply) l.xs = λ m. elim (step.cabled m) [
-      inl h ↦ inl (cabled_in (Cabled past l.xs) (needs_isolation stage.row) h.0 (f.rowed.cabled tt), h.1)
+      | inl h ↦ inl (cabled_in (Cabled past l.xs) (needs_isolation stage.row) h.0 (f.rowed.cabled tt), h.1)
       | inr h ↦ inr (h.0, iso ∙ cable_valid facts plan a shown h.2 h.1)
     ] in
     let owed : RowedThen plan past next r (read_back reply) l.xs (Unit {0}) = record {
@@ -118,17 +111,19 @@ plain_link c plan past es stage unread facts name a shown n d l f w reads sp iso
       cabled = λ u. cabled_if (CabledThen past r (read_back reply) l.xs) (needs_isolation next.row) cab;
     } in
     let pending : Pending c plan past es l.xs (suc l.taken) next (Some (Said stage.dialect reply)) None (Unit {0}) =
-        (ap suc f.count, (r, asks, ok_class (verdict stage facts plan r) ok, owed)) in
-    (step.goes, record {
-      xs = l.xs;
-      talks = l.talks;
-      ok = l.ok;
-      taken = suc l.taken;
-      whole = (l.whole, (n, subst (λ (x : List ℕ). whole_at x ≡ Ok (Some n)) l.unread_is w));
-      unread_is = ap behind_front l.unread_is;
-      quiet = λ q. f.still;
-      talk = pending_in c plan past es l.xs (suc l.taken) next (Some (Said stage.dialect reply)) (is_waiting next.row) step.goes pending;
-    })
+    (ap suc f.count, (r, asks, ok_class (verdict stage facts plan r) ok, owed)) in (
+      step.goes,
+      record {
+        xs = l.xs;
+        talks = l.talks;
+        ok = l.ok;
+        taken = suc l.taken;
+        whole = (l.whole, (n, subst (λ (x : List ℕ). whole_at x ≡ Ok (Some n)) l.unread_is w));
+        unread_is = ap behind_front l.unread_is;
+        quiet = λ q. f.still;
+        talk = pending_in c plan past es l.xs (suc l.taken) next (Some (Said stage.dialect reply)) (is_waiting next.row) step.goes pending;
+      },
+    )
 
 -- PowerDelivery Start: it is mandated, and its reply waits
 pub record Started (c : Codecs) (plan : PostPlan) (past es : List Seen) (next stage : Stage) (unread : List ℕ) : Type 0 where
@@ -149,9 +144,21 @@ checked_at : (plan : PostPlan) (past : List Seen) (stage : Stage) (xs : List Exc
 checked_at plan past stage xs here e h charged r k =
     let p = pre_off stage.pre_charge (subst (λ (x : Phase). is_pre_charged x stage.pre_charge ≡ true) h charged) in
     record {
-      behind = k.behind; request = k.request; reply = k.reply; before = k.before; earlier = k.earlier; xs_are = k.xs_are; cable_check = k.cable_check; newest = k.newest;
-      since = k.since; past_is = k.past_is; valid = k.valid; stays = k.stays;
-      off = p.0; off_is = r.off ∙ p.1; within = p.2;
+      behind = k.behind;
+      request = k.request;
+      reply = k.reply;
+      before = k.before;
+      earlier = k.earlier;
+      xs_are = k.xs_are;
+      cable_check = k.cable_check;
+      newest = k.newest;
+      since = k.since;
+      past_is = k.past_is;
+      valid = k.valid;
+      stays = k.stays;
+      off = p.0;
+      off_is = r.off ∙ p.1;
+      within = p.2;
     }
 
 ac_checked : (C : Type 0) (ac : Bool) → ac ≡ true → MatchBool ac (Unit {0}) C
@@ -175,7 +182,7 @@ start_link c plan past es stage unread facts name tuple profile shown n d l f he
     let next = moved stage facts plan r shown in
     let step = start_step stage.row tuple profile (is_finished facts plan r.ask shown) (is_ac plan.mode) l.xs (row_takes stage facts plan r ok) f.rowed.has f.rowed.power in
     let met = lines_start (is_misnamed stage name) (accepts stage.dialect stage.row r.ask) (is_other_tuple tuple) (is_profile_off stage.dialect stage.schedule profile) (is_ready facts.pilot) (is_opened facts.contactor)
-        (is_pre_charged stage.row stage.pre_charge) stage.dialect (accepting_code stage facts name r.ask) ok in
+    (is_pre_charged stage.row stage.pre_charge) stage.dialect (accepting_code stage facts name r.ask) ok in
     let same : d ≡ stage.dialect = some_one d stage.dialect (sym sp ∙ step.talked stage.dialect) in
     let place = subst (λ (i : ℕ). IsPayloadAt (stream es) i (payload_at n unread)) f.count (place_at n l.taken (stream es) unread l.unread_is w) in
     let own = subst (λ (x : Dialect). c.Reads x (payload_at n unread) (Some (word.Request r))) same reads in
@@ -186,11 +193,18 @@ start_link c plan past es stage unread facts name tuple profile shown n d l f he
       dialect_is = f.rowed.dialect ∙ step.talked stage.dialect;
     } in
     let checks : MatchBool (is_ac plan.mode) (Unit {0}) (IsChecked past l.xs) = elim step.direct [
-      inl h ↦ dc_checked (IsChecked past l.xs) (is_ac plan.mode) h.1 (checked_at plan past stage l.xs stage.row refl h.2 met.1 f.rowed (cabled_in (Cabled past l.xs) (needs_isolation stage.row) h.0 (f.rowed.cabled tt)))
+      | inl h ↦ dc_checked (IsChecked past l.xs) (is_ac plan.mode) h.1 (checked_at plan past stage l.xs stage.row refl h.2 met.1 f.rowed (cabled_in (Cabled past l.xs) (needs_isolation stage.row) h.0 (f.rowed.cabled tt)))
       | inr h ↦ ac_checked (IsChecked past l.xs) (is_ac plan.mode) h
     ] in
     let starts : IsStarting c past es l.xs l.xs past = record {
-      spoken = stage.dialect; payload = payload_at n unread; request = r; dialect_is = asks.dialect_is; next = place; request_is = own; start = refl; earlier_is = refl;
+      spoken = stage.dialect;
+      payload = payload_at n unread;
+      request = r;
+      dialect_is = asks.dialect_is;
+      next = place;
+      request_is = own;
+      start = refl;
+      earlier_is = refl;
       judged_is = judged_now (waits es) past f.still;
     } in
     let rowed : Rowed plan past next l.xs (Unit {0}) = record {
@@ -202,8 +216,17 @@ start_link c plan past es stage unread facts name tuple profile shown n d l f he
     } in
     record {
       mandated = record {
-        es = es; session_is = here; xs = l.xs; talks = l.talks; ok = l.ok; earlier = l.xs; judged = past;
-        starts = inl starts; prepared = step.prepared; checked = checks; ready = ap is_ready pil ∙ met.0;
+        es = es;
+        session_is = here;
+        xs = l.xs;
+        talks = l.talks;
+        ok = l.ok;
+        earlier = l.xs;
+        judged = past;
+        starts = inl starts;
+        prepared = step.prepared;
+        checked = checks;
+        ready = ap is_ready pil ∙ met.0;
       };
       waiting = step.waits;
       link = record {
@@ -232,14 +255,25 @@ owes_response : (c : Codecs) (plan : PostPlan) (past es : List Seen) (xs : List 
 owes_response c plan past es xs taken stage None response count none connected r payload place neg =
     let still : is_waiting stage.row ≡ false = ap is_waiting connected in
     rw still (count, (none, (None, payload, place, neg, refl)))
-owes_response c plan past es xs taken stage (Some d) response count none connected r payload place neg =
-    (count, (none, (Some d, payload, place, neg, record {
-      has = ((refl, tt), inl (refl, tt));
-      power = tt;
-      dialect = refl;
-      off = sym (ap pre_charge_off none) ∙ r.off;
-      cabled = λ u. tt;
-    })))
+owes_response c plan past es xs taken stage (Some d) response count none connected r payload place neg = (
+  count,
+  (
+    none,
+    (
+      Some d,
+      payload,
+      place,
+      neg,
+      record {
+        has = ((refl, tt), inl (refl, tt));
+        power = tt;
+        dialect = refl;
+        off = sym (ap pre_charge_off none) ∙ r.off;
+        cabled = λ u. tt;
+      },
+    ),
+  ),
+)
 
 pub chosen_link : (c : Codecs) (plan : PostPlan) (past es : List Seen) (stage : Stage) (unread : List ℕ) (chosen : Option Dialect) (response : List ℕ) (n : ℕ) (l : Link c plan past es stage unread None None (Unit {0}))
     → Free c plan past es stage unread l → whole_at unread ≡ Ok (Some n) → c.Negotiates plan.dialects.items (payload_at n unread) (Negotiated chosen response) → speaks stage ≡ None

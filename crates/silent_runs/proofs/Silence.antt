@@ -1,25 +1,20 @@
 -- Replies and ends are of sessions.
-use Rattle.std.proofs.Common.{◌≡◌, ℕ, ◌+◌, Bool, true, false, if◌then◌else◌, ◌&&◌, List, [], ◌∷◌, ◌++◌, length, map, Option, Some, None, Result, Ok, Err, IsSome, is_some, refl, sym, ap, subst, ◌∙◌}
+use Rattle.std.proofs.Common.{◌≡◌, ℕ, ◌+◌, Bool, true, false, List, [], ◌∷◌, length, map, Option, Some, None, IsSome, is_some, refl, sym, ap, subst, ◌∙◌}
 use Rattle.std.specs.Option.{option_map}
-use Rattle.charge_world.specs.declared.entry.Entry.{Entry}
 use Rattle.charge_world.specs.declared.heard.PlantEvent.{PlantEvent}
 use Rattle.charge_world.specs.declared.ports.Order.{Order}
 use Rattle.session_words.specs.declared.cause.EndCause.{EndCause}
 use Rattle.session_words.specs.declared.phase.Standing.{Standing}
 use Rattle.session_words.specs.declared.phase.Standing.TheVariants as standing
 use Rattle.session_words.specs.declared.plan.PostPlan.{PostPlan}
-use Rattle.session_words.specs.declared.plan.SitePlan.{SitePlan}
-use Rattle.session_words.specs.Causes.{number_of}
 use Rattle.post_spec.specs.Codecs.{Judged, Negotiated, Asked, WrongSide, Refused, Codecs}
-use Rattle.post_spec.specs.Sessions.{arriving, session_behind, session, with_seen, brought}
-use Rattle.post_spec.specs.Steps.{Event, Came, Bytes, Gone, Datagram, Plant, Clock, Over, Act, Give, Send, Answer, End, Seen, Heard, Did, Reading, Step, Hears, Does, seen, seen_of}
+use Rattle.post_spec.specs.Sessions.{arriving, session_behind, session, brought}
+use Rattle.post_spec.specs.Steps.{Event, Came, Bytes, Gone, Datagram, Plant, Clock, Over, Act, Give, Send, Answer, End, Seen, Heard, Did, Reading, Step, Hears, Does, seen_of}
 use Rattle.station_spec.specs.States.{Spoken, Agenda, Session, State, nothing, first, first_of}
 use Rattle.station_spec.specs.States as states
 use Rattle.station_spec.specs.Deciding.{ending_in, repeating, timing, eventing, charging, fronting, decided}
 use Rattle.station_spec.specs.Judging.{judged, taken_in, read, filled}
-use Rattle.station_spec.specs.Acting.{arrival, session_opened, with_bytes, since_order, replied, failing, agenda_said, giving, saying, telling, ended, acted, hearing, state, IsDone}
-use Rattle.station_spec.specs.Sharing.{Post}
-use Rattle.station_spec.specs.Runs.{IsRun}
+use Rattle.station_spec.specs.Acting.{arrival, session_opened, with_bytes, since_order, replied, failing, agenda_said, acted, state, IsDone}
 use Rattle.station_laws.specs.PostRuns.{IsPostRun, ArePostsOf}
 use Rattle.station_laws.proofs.Decided.{decided_by, same_session}
 use Rattle.station_laws.proofs.PostRuns.{run_posts, post_at}
@@ -245,10 +240,11 @@ act_in c past s (states.Finish cause) a taken l i f x =
 steps_silent : (c : Codecs) (plan : PostPlan) (steps : List Step) → IsPostRun c plan steps → IsSilent (map seen_of steps)
 steps_silent c plan [] run = tt
 steps_silent c plan (Hears at e ∷ steps) run = steps_silent c plan steps run.0
-steps_silent c plan (Does r a taken ∷ steps) (run, (limit, before, behind, acts)) =
-    (steps_silent c plan steps run,
-      act_in c (map seen_of steps) (filled plan r (state plan steps)) acts.todo a taken (filled_same plan (map seen_of steps) r (state plan steps) (steps_live plan steps))
-      (filled_idle plan r (state plan steps) (steps_idle plan steps)) acts.acts acts.done)
+steps_silent c plan (Does r a taken ∷ steps) (run, (limit, before, behind, acts)) = (
+  steps_silent c plan steps run,
+  act_in c (map seen_of steps) (filled plan r (state plan steps)) acts.todo a taken (filled_same plan (map seen_of steps) r (state plan steps) (steps_live plan steps))
+      (filled_idle plan r (state plan steps) (steps_idle plan steps)) acts.acts acts.done,
+)
 
 pub runs_are_silent : (c : Codecs) → RunsAreSilent c
 runs_are_silent c site past posts before post behind run is =

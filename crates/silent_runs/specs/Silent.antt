@@ -1,5 +1,5 @@
 -- Own: without a session nothing is sent on the connection, and nothing ends.
-use Rattle.std.specs.Prelude.{◌≡◌, ℕ, ◌+◌, Bool, List, [], ◌∷◌, ◌++◌, length, IsSome}
+use Rattle.std.specs.Prelude.{◌≡◌, ◌+◌, List, [], ◌∷◌, ◌++◌, length, IsSome}
 use Rattle.charge_world.specs.declared.entry.Entry.{Entry}
 use Rattle.session_words.specs.declared.plan.SitePlan.{SitePlan}
 use Rattle.post_spec.specs.Codecs.{Codecs}

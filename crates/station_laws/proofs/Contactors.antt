@@ -1,8 +1,6 @@
 -- What a post keeps of its contactor.
-use Rattle.std.proofs.Common.{◌≡◌, ℕ, Bool, true, false, cond, if◌then◌else◌, List, [], ◌∷◌, map, Option, Some, None, refl, sym, ap, subst, ◌∙◌}
-use Rattle.charge_world.specs.declared.heard.PlantEvent.{PlantEvent}
+use Rattle.std.proofs.Common.{◌≡◌, ℕ, Bool, true, false, List, [], ◌∷◌, map, Option, Some, None, refl, ap, ◌∙◌}
 use Rattle.charge_world.specs.declared.heard.PlantEvent.TheVariants as plant
-use Rattle.charge_world.specs.declared.offer.Dialect.{Dialect}
 use Rattle.charge_world.specs.declared.ports.Order.{Order}
 use Rattle.charge_world.specs.declared.ports.Order.TheVariants as order
 use Rattle.session_words.specs.declared.code.Progress.TheVariants as progress
@@ -20,11 +18,11 @@ use Rattle.session_rules.specs.Moves.{facts_by, facts_behind}
 use Rattle.session_rules.specs.Verdict.{verdict, is_accepted}
 use Rattle.post_spec.specs.Codecs.{Judged, Negotiated, Asked, WrongSide, Refused}
 use Rattle.post_spec.specs.Facts.{contactor_acts, standing, live}
-use Rattle.post_spec.specs.Steps.{Event, Came, Bytes, Gone, Datagram, Plant, Clock, Over, Act, Give, Send, Answer, End, Seen, Heard, Did, Reading, Step, Hears, Does, seen_of}
+use Rattle.post_spec.specs.Steps.{Event, Came, Bytes, Gone, Datagram, Plant, Clock, Over, Act, Give, Send, Answer, End, Seen, Heard, Did, Reading, Hears, Does, seen_of}
 use Rattle.station_spec.specs.States.{Session, State}
 use Rattle.station_spec.specs.Deciding.{decided}
 use Rattle.station_spec.specs.Judging.{judged, taken_in, read, filled}
-use Rattle.station_spec.specs.Acting.{heard_facts, hearing, ordered, giving, saying, acted, state}
+use Rattle.station_spec.specs.Acting.{heard_facts, ordered, acted, state}
 use Rattle.station_laws.specs.Contactors.{IsContactor, ContactorsAreRead}
 use Rattle.station_laws.proofs.Decided.{same_live, same_facts}
 

@@ -1,10 +1,8 @@
 -- What holds of each thing that may be decided holds of what is decided: one eliminator for every law.
-use Rattle.std.proofs.Common.{◌≡◌, ℕ, Bool, true, false, List, [], ◌∷◌, Option, Some, None, refl, sym, ap, ◌∙◌}
+use Rattle.std.proofs.Common.{◌≡◌, Bool, true, false, refl, ap}
 use Rattle.session_words.specs.declared.plan.PostPlan.{PostPlan}
-use Rattle.post_spec.specs.Steps.{Reading}
-use Rattle.station_spec.specs.States.{Agenda, Part, Repeating, Timing, Eventing, Wording, Session, State, is_done}
-use Rattle.station_spec.specs.Deciding.{decide, repeating, timing, eventing, fronting, from_wording, from_eventing, from_timing, from_repeating, from_part, decided}
-use Rattle.station_spec.specs.Judging.{judged, taken_in, read, filled}
+use Rattle.station_spec.specs.States.{Agenda, Part, Repeating, Timing, Eventing, Wording, State, is_done}
+use Rattle.station_spec.specs.Deciding.{decide, repeating, timing, eventing, fronting, from_wording, from_eventing, from_timing, from_part, decided}
 
 -- what each part decides, where all that was decided before is done
 pub record Parts (P : State → Type 0) (plan : PostPlan) (s : State) : Type 0 where

@@ -1,6 +1,5 @@
 -- What each post goes by in a run.
-use Rattle.std.proofs.Common.{◌≡◌, ◌≢◌, ◌<◌, ◌≤◌, ℕ, zero, suc, ◌+◌, max, Bool, true, false, List, [], ◌∷◌, ◌++◌, length, map, Option, Some, None, refl, sym, ap, subst, ◌∙◌, arith, inl, inr, ◌⊎◌}
-use Rattle.std.specs.List.{AllByRecursion}
+use Rattle.std.proofs.Common.{◌≡◌, ◌≢◌, ◌<◌, ℕ, suc, ◌+◌, max, Bool, true, List, [], ◌∷◌, ◌++◌, length, map, Option, refl, sym, ap, subst, ◌∙◌, arith, inl, inr}
 use Rattle.std.proofs.lemmas.Bool.{eq-eqb, ne_eqb}
 use Rattle.charge_world.specs.declared.entry.Entry.{Entry}
 use Rattle.charge_world.specs.declared.entry.Entry.TheVariants as entry
@@ -12,7 +11,7 @@ use Rattle.post_spec.specs.Steps.{Act, Give, Send, Answer, End, Seen, Did, Step,
 use Rattle.post_spec.specs.Steps as steps
 use Rattle.station_spec.specs.States as states
 use Rattle.station_spec.specs.Acting.{IsDone}
-use Rattle.station_spec.specs.Sharing.{Post, state_of, Shows}
+use Rattle.station_spec.specs.Sharing.{Post}
 use Rattle.station_spec.specs.Runs.{entry_of, with_step, unheard, heard_from, Rests, AreQuiet, HeardBy, MayAct, IsRun}
 use Rattle.station_laws.specs.PostRuns.{IsPostRun, IsPostOf, ArePostsOf}
 
@@ -81,7 +80,7 @@ acted_posts c limit past posts e later m all =
     let n = length m.before + 1 in
     let before : ArePostsOf c past 1 (m.before ++ m.post ∷ m.behind) = subst (ArePostsOf c past 1) m.posts_are all in
     let behind = acted_at c past n 1 m.before m.post m.behind m.reading m.act m.taken refl (end_taken c m.acts.todo m.act m.taken m.acts.done)
-        (λ run. (run, (limit, m.before, m.behind, m.acts))) before in
+    (λ run. (run, (limit, m.before, m.behind, m.acts))) before in
     subst (λ (x : Entry). ArePostsOf c (x ∷ past) 1 later) (sym m.entry_is) (subst (ArePostsOf c (entry_of n m.act m.taken ∷ past) 1) (sym m.later_is) behind)
 
 unheard_posts : (c : Codecs) (k : ℕ) (plans : List PostPlan) → ArePostsOf c [] k (map unheard plans)

@@ -1,6 +1,5 @@
 -- The told watts stay within the limit.
-use Rattle.std.proofs.Common.{◌≡◌, ◌≤◌, ℕ, zero, suc, ◌+◌, ◌-◌, min, max, Bool, true, false, if◌then◌else◌, ◌&&◌, List, [], ◌∷◌, ◌++◌, map, Option, Some, None, unwrap_or, refl, sym, ap, subst, ◌∙◌, arith, inl, inr, ◌⊎◌, MatchBool}
-use Rattle.std.specs.List.{sum_by}
+use Rattle.std.proofs.Common.{◌≡◌, ◌≤◌, ℕ, suc, ◌+◌, ◌-◌, min, max, Bool, true, false, ◌&&◌, List, [], ◌∷◌, ◌++◌, map, Option, Some, None, unwrap_or, refl, ap, subst, ◌∙◌, arith, inl, inr, ◌⊎◌, MatchBool}
 use Rattle.std.specs.Option.{option_map}
 use Rattle.std.proofs.lemmas.List.Sums.{sum_by-cons, sum_by-append}
 use Rattle.charge_world.specs.declared.entry.Entry.{Entry}
@@ -16,11 +15,11 @@ use Rattle.session_rules.specs.Asks.{asks, shows_watts}
 use Rattle.session_rules.specs.Verdict.{verdict, is_accepted}
 use Rattle.post_spec.specs.Codecs.{Judged, Negotiated, Asked, WrongSide, Refused, Codecs}
 use Rattle.post_spec.specs.Sessions.{brought}
-use Rattle.post_spec.specs.Steps.{Event, Act, Give, Send, Answer, End, Step, Hears, Does, Reading, moment, event_at}
+use Rattle.post_spec.specs.Steps.{Event, Act, Give, Send, Answer, End, Hears, Does, Reading, moment, event_at}
 use Rattle.station_spec.specs.States.{Session, State}
 use Rattle.station_spec.specs.Deciding.{decided}
 use Rattle.station_spec.specs.Judging.{Payload, wanted, judged, taken_in, read, filled, IsShown, IsRead, asked_behind}
-use Rattle.station_spec.specs.Acting.{acted, giving, saying, session_opened, with_bytes, since_order, replied, hearing, Acts}
+use Rattle.station_spec.specs.Acting.{acted, session_opened, with_bytes, since_order, replied, hearing}
 use Rattle.station_spec.specs.Sharing.{Post, state_of, told_in, told_of, told_total, Shows}
 use Rattle.station_spec.specs.Runs.{with_step, unheard, heard_from, HeardBy, MayAct, IsRun}
 use Rattle.station_laws.proofs.Decided.{same_session}
@@ -118,10 +117,10 @@ acted_within c limit posts e later m w =
     let less = acted_told m.act m.taken t in
     let le : told_total m.before + (told_in s.session + told_total m.behind) ≤ limit = omega (arith, old, w) in
     let all = sums limit (told_total m.before) (told_in s.session) (told_in (acted m.act m.taken t).session) (told_in t.session) (told_total m.behind) le less
-        (elim (filled_told c (Shows limit m.before m.behind) m.post.plan s m.reading m.acts.read) [
-          inl h ↦ inl h
-          | inr h ↦ inr (least_le (told_in t.session) h.0 h.1.level limit (told_total m.before + told_total m.behind) h.1.least)
-        ]) in
+    (elim (filled_told c (Shows limit m.before m.behind) m.post.plan s m.reading m.acts.read) [
+      | inl h ↦ inl h
+      | inr h ↦ inr (least_le (told_in t.session) h.0 h.1.level limit (told_total m.before + told_total m.behind) h.1.least)
+    ]) in
     omega (arith, new, all)
 
 heard_within : (past : List Entry) (posts : List Post) (e : Entry) (later : List Post) → HeardBy past posts e later → told_total later ≤ told_total posts

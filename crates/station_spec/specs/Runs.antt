@@ -88,8 +88,8 @@ abbrev pub Closes : ℕ → List Post → List Entry → List Entry → Type 0
 Closes k [] blocks past = past ≡ blocks
 Closes k (post ∷ posts) blocks past =
     MatchBool (state_of post).live
-      ((taken : Bool) × Closes (suc k) posts (entry.Drove k order.Open taken ∷ blocks) past)
-      (Closes (suc k) posts blocks past)
+    ((taken : Bool) × Closes (suc k) posts (entry.Drove k order.Open taken ∷ blocks) past)
+    (Closes (suc k) posts blocks past)
 
 -- how the blocks of a run end: with Over or a lost hearing, at the last turn, or before the first hearing
 abbrev pub IsEnded : ℕ → List Entry → Type 0

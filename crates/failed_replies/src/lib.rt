@@ -1,0 +1,12 @@
+//! No FAILED reply is sent while the contactor is live: it is ordered open before.
+#![tactic(auto)]
+
+ghost use Rattle.post_spec.specs.Codecs.{codecs};
+ghost use Rattle.failed_replies.specs.Replies.{RunsReplyOpened};
+
+use post_spec::Coded;
+
+/// Whatever is sent on a connection while the contactor is live is a reply of the OK class, or the response to a negotiation.
+pub fn no_failed_reply_while_live<C: Coded>()
+    ensures { RunsReplyOpened (codecs C.negotiates C.reads C.encodes) }
+{}
