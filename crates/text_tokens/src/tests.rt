@@ -40,11 +40,11 @@ fn bytes_have_one_text(rt: HostRuntime) -> Result<(), Fail> {
 
 #[test]
 fn a_line_is_words_with_one_space_between(rt: HostRuntime) {
-    let line = Line::new().plain(b"sent").number(8).bytes(&[0, 0x0a]);
-    let mut room = [7; 13];
-    assert_eq!(rt; line.write(&mut room[..11]), Err(Full { bytes: 12 }));
-    assert_eq!(rt; line.write(&mut room), Ok(12));
-    assert_eq!(rt; &room, b"sent 8 000a\n\x07");
+    let line = Line::new().plain(b"sent").plain(b"8");
+    let mut room = [7; 8];
+    assert_eq!(rt; line.write(&mut room[..6]), Err(Full { bytes: 7 }));
+    assert_eq!(rt; line.write(&mut room), Ok(7));
+    assert_eq!(rt; &room, b"sent 8\n\x07");
 }
 
 #[test]

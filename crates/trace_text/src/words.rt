@@ -94,7 +94,8 @@ fn post(word: &[u8]) -> Option<u8>
 
 /// Reads a voltage and a current, which are all the words.
 fn amounts(mut words: Words) -> Option<(Tenths, Tenths)>
-    ensures { MatchOption result ((v i : ℕ) → v ≤ 30000 → i ≤ 30000 → words.entry ≢ decimal v ∷ decimal i ∷ []) (λ a. (a.0 ≤ 30000) × (a.1 ≤ 30000) × (words.entry ≡ decimal a.0 ∷ decimal a.1 ∷ [])) }
+    ensures { MatchOption result ((v i : ℕ) → v ≤ 30000 → i ≤ 30000 → words.entry ≢ decimal v ∷ decimal i ∷ [])
+        (λ a. (a.0 ≤ 30000) × (a.1 ≤ 30000) × (words.entry ≡ decimal a.0 ∷ decimal a.1 ∷ [])) }
 {
     let voltage = tenths(words.next()?)?;
     let current = tenths(words.only()?)?;
@@ -204,7 +205,8 @@ fn datagram(alloc: Global, word: &[u8]) -> Result<Piece, Refused>
 
 /// Reads the one word that is left.
 fn only<'a>(words: Words<'a>) -> Result<&'a [u8], Refused>
-    ensures { MatchResult result (λ word. words.entry ≡ word.now ∷ []) (λ refused. (refused ≡ Refused.Bad) × ((word : List ℕ) → words.entry ≢ word ∷ [])) }
+    ensures { MatchResult result (λ word. words.entry ≡ word.now ∷ [])
+        (λ refused. (refused ≡ Refused.Bad) × ((word : List ℕ) → words.entry ≢ word ∷ [])) }
 {
     words.only().ok_or(Refused::Bad)
 }
