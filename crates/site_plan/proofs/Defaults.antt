@@ -1,6 +1,6 @@
 -- What the texts of the plans that are there without a file say.
-use Rattle.std.specs.Prelude.{◌≡◌, ◌≤◌, Bool, true, false, length, codes, pos, List, [], ◌∷◌, Option, Some, None, refl}
-use Rattle.std.proofs.Common.{arith, sym, subst, inr, ap, ◌∙◌}
+use Rattle.std.specs.Prelude.{◌≡◌, ◌≤◌, Bool, true, false, length, codes, pos, List, [], ◌∷◌, Some, None, refl}
+use Rattle.std.proofs.Common.{arith, sym, subst, inr, ◌∙◌}
 use Rattle.std.specs.Str.{IsUtf8}
 use Rattle.toml.specs.Data.{Members, no_members, member, no_items, item, string, integer, array, table}
 use Rattle.toml.specs.Parse.{parse_document}
@@ -11,7 +11,7 @@ use Rattle.session_words.specs.declared.plan.CarPlan.{CarPlan}
 use Rattle.plan_keys.specs.declared.keys.Keys.{Keys}
 use Rattle.plan_keys.specs.Keys.{members_of, value_at, Each}
 use Rattle.plan_keys.specs.Faults.{Holds, Reads, trouble_of}
-use Rattle.site_plan.specs.SiteKeys.{limit_rules, post_tables, IsPostOf, IsSiteOf, site_fault}
+use Rattle.site_plan.specs.SiteKeys.{limit_rules, post_tables, IsPostOf, site_fault}
 use Rattle.site_plan.specs.PostKeys.{post_rules}
 use Rattle.site_plan.specs.CarKeys.{car_rules, car_file, car_fault}
 use Rattle.site_plan.specs.Plans.{fixed_mode, site_text, car_text, IsFixedSite, IsFixedCar, IsSitePlanOf, IsCarPlanOf}

@@ -1,5 +1,5 @@
 -- A car has a port where it has no discovery, if nothing is wrong.
-use Rattle.std.proofs.Common.{◌≡◌, ℕ, [], ◌∷◌, ◌==◌, ◌||◌, not, List, codes, Option, Some, None, IsSome, is_some, Result, Ok, Err, refl, ap, sym, ◌∙◌}
+use Rattle.std.proofs.Common.{◌≡◌, ℕ, [], ◌∷◌, ◌==◌, ◌||◌, not, List, codes, Option, Some, None, IsSome, is_some, Result, Ok, Err, refl}
 use Rattle.toml.specs.Data.{Data, Members, get_member}
 use Rattle.plan_keys.specs.declared.keys.Wrong.{Wrong}
 use Rattle.plan_keys.specs.declared.keys.Wrong.TheVariants.{Missing}

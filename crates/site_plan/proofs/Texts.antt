@@ -1,5 +1,5 @@
 -- Short texts.
-use Rattle.std.proofs.Common.{◌≤◌, ℕ, List, length, arith}
+use Rattle.std.proofs.Common.{◌≤◌, ℕ, List, length}
 use Rattle.std.proofs.lemmas.List.Sums.{count_by-le-length}
 use Rattle.session_words.specs.EvseTexts.{begins_point, code_points}
 

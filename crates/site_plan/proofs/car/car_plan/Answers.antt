@@ -1,10 +1,10 @@
-use Rattle.std.proofs.Common.{◌≡◌, [], IfErr, Option, arith, ap, sym, subst, ◌∙◌}
+use Rattle.std.proofs.Common.{[], IfErr, Option, arith, ap, sym, subst, ◌∙◌}
 use Rattle.std.proofs.lemmas.Grind.{common_steps}
 use Rattle.toml.specs.View.{table_view}
 use Rattle.plan_keys.specs.declared.fault.PlanFault.{PlanFault}
 use Rattle.plan_keys.specs.Faults.{names, table_fault, told_at, unknown_at, Tells}
 use Rattle.plan_keys.proofs.Chains.{told_of, first_none}
-use Rattle.site_plan.specs.CarKeys.{car_file, car_fault}
+use Rattle.site_plan.specs.CarKeys.{car_file}
 use Rattle.site_plan.proofs.car.car_plan.Goals as goal
 
 pub returns-clause-none : goal.returns-clause-none
