@@ -21,7 +21,7 @@ abbrev pub amount : ℕ → Amount
 amount size = record { size = size; right = true }
 
 abbrev pub evse_of : Dialect → PostPlan → EvseId
-evse_of dialect.Iso plan = evse.Text plan.evse_id.bytes
+evse_of dialect.Iso plan = evse.Text plan.evse_id
 evse_of dialect.Din plan = evse.Bytes plan.evse_id_din
 
 -- the power of a schedule: in DIN it is a number of 16 bits with a sign

@@ -8,9 +8,7 @@ ghost use Rattle.session_rules.specs.Offers as rule;
 use crate::status::{dc_status, notify_of};
 use arrayvec::ArrayVec;
 use charge_world::{Dialect, Tenths};
-use session_words::{
-    Amount, Ask, Code, EvseId, EvseText, Facts, PostLimits, PostPlan, Tuple, ac_current,
-};
+use session_words::{Amount, Ask, Code, EvseId, Facts, PostLimits, PostPlan, Tuple, ac_current};
 
 /// An amount in the unit that its place wants.
 pub(crate) fn amount(size: u32) -> Amount
@@ -31,7 +29,7 @@ pub(crate) fn evse_of(dialect: Dialect, plan: &PostPlan) -> EvseId
     ensures { result ≡ rule.evse_of dialect plan.now }
 {
     match dialect {
-        Dialect::Iso => EvseId::Text(EvseText::of(plan.evse_id)),
+        Dialect::Iso => EvseId::Text(plan.evse_id.copied()),
         Dialect::Din => { EvseId::Bytes(ArrayVec::try_from(plan.evse_id_din.as_slice()).unwrap()) }
     }
 }

@@ -2,7 +2,7 @@ ghost use Rattle.std.specs.Prelude.{◌≤◌};
 ghost use Rattle.session_words.specs.Plans.{IsPostPlan};
 
 use super::*;
-use arrayvec::{ArrayString, ArrayVec};
+use arrayvec::ArrayVec;
 use charge_world::{Dialect, IsolationLevel, Order, PilotState, PlantEvent, Tenths};
 use session_words::{
     Amount, Ask, CarLimits, Code, DcStatus, EndCause, EvseId, EvseText, Facts, Mode, Notify, Phase,
@@ -30,8 +30,6 @@ fn post(mode: Mode) -> PostPlan
 {
     let mut dialects = ArrayVec::new();
     dialects.push(Dialect::Iso);
-    let mut evse_id = ArrayString::new();
-    evse_id.push_str("ZZ00000");
     let mut evse_id_din = ArrayVec::new();
     evse_id_din.push(0);
     PostPlan {
@@ -39,7 +37,7 @@ fn post(mode: Mode) -> PostPlan
         sdp: 0,
         mode,
         dialects,
-        evse_id,
+        evse_id: EvseText::of("ZZ00000").unwrap(),
         evse_id_din,
         free: true,
         max_watts: 50_000,
@@ -399,7 +397,7 @@ fn three_phases_at_32_amperes(rt: HostRuntime) {
     };
     let order = order_of(&confirmed, &facts(None), &plan, &status, 22080);
     assert_eq!(rt; order, Some(limits));
-    let evse = EvseId::Text(EvseText::of(plan.evse_id));
+    let evse = EvseId::Text(plan.evse_id.copied());
     let told = Tell::ChargingStatus {
         notify: Notify::None,
         evse,
@@ -524,7 +522,7 @@ fn a_demand_is_cut_and_hears_of_renegotiation_and_of_stop(rt: HostRuntime) {
             most_voltage: Some(amount(9200)),
             most_current: Some(amount(1250)),
             most_watts: Some(amount(50_000)),
-            evse: Some(EvseId::Text(EvseText::of(plan.evse_id))),
+            evse: Some(EvseId::Text(plan.evse_id.copied())),
         };
         let reply = reply_to(&charging, &asking, &plan, &demand, 50_000);
         assert_eq!(rt; reply.tell, told);
