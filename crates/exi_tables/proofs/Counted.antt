@@ -4,7 +4,7 @@ use Rattle.std.specs.Prelude.{slice_get}
 use Rattle.std.specs.List.{list_all}
 use Rattle.std.proofs.lemmas.Bool.{ltb-true}
 use Rattle.exi_schema.specs.Schemas.{PlainSchema, is_most, is_particle, can_be_there}
-use Rattle.exi_schema.specs.Plain.{PlainKind, valued, containing, PlainParticle, plain_particles, plain_kind}
+use Rattle.exi_schema.specs.Plain.{PlainKind, valued, containing, PlainParticle, plain_particles, plain_kind, plain_kinds}
 use Rattle.exi_schema.specs.declared.tables.Declaration.{Declaration}
 use Rattle.exi_schema.specs.declared.tables.Declaration.TheVariants.{Complex}
 use Rattle.exi_schema.specs.declared.tables.Particle.{Particle}
@@ -102,3 +102,10 @@ pub copies_in : (d : Declaration) (attributes : _) (particles : _) (at : ℕ) (p
     n ≡ copies_within p.profile p.most → n ≡ copy_places (plain_kind d) at
 copies_in d attributes particles at p n same less is count =
     subst (λ (x : Declaration). n ≡ copy_places (plain_kind x) at) (sym same) (count ∙ copies_at particles.now at p less is)
+
+-- ---- the kind of a table
+
+pub kind_found : (kinds : List Declaration) (k : ℕ) (d : Declaration) → k < length (plain_kinds kinds) → d ≡ get_or kinds k d → slice_get (plain_kinds kinds) k ≡ Some (plain_kind d)
+kind_found [] k d less is = absurd (omega (arith, less))
+kind_found (x ∷ kinds) zero d less is = ap (λ (y : Declaration). Some (plain_kind y)) (sym is)
+kind_found (x ∷ kinds) (suc k) d less is = kind_found kinds k d (omega (arith, less)) is
