@@ -1,10 +1,12 @@
 -- The places of a declaration are those that the counts tell, and each count fits 16 bits.
-use Rattle.std.proofs.Common.{◌≡◌, ℕ, ◌+◌, ◌<◌, ◌≤◌, true, ◌&&◌, nat_lt, nat_le, List, [], ◌∷◌, length, drop, Option, Some, None, get_or, zero, suc, ap, subst, sym, ◌∙◌, arith}
+use Rattle.std.proofs.Common.{◌≡◌, ℕ, ◌+◌, ◌<◌, ◌≤◌, true, ◌&&◌, nat_lt, nat_le, List, [], ◌∷◌, length, drop, Option, Some, None, get_or, zero, suc, refl, ap, subst, sym, ◌∙◌, arith}
 use Rattle.std.specs.Prelude.{slice_get}
 use Rattle.std.specs.List.{list_all}
 use Rattle.std.proofs.lemmas.Bool.{ltb-true}
 use Rattle.exi_schema.specs.Schemas.{PlainSchema, is_most, is_particle, can_be_there}
-use Rattle.exi_schema.specs.Plain.{PlainKind, valued, containing, PlainParticle, plain_particles, plain_kind}
+use Rattle.exi_schema.specs.Plain.{PlainKind, valued, containing, PlainParticle, plain_particles, plain_kind, plain_kinds}
+use Rattle.exi_schema.specs.declared.schema.Schema.{Schema}
+use Rattle.exi_schema.specs.Told.{schema_of}
 use Rattle.exi_schema.specs.declared.tables.Declaration.{Declaration}
 use Rattle.exi_schema.specs.declared.tables.Declaration.TheVariants.{Complex}
 use Rattle.exi_schema.specs.declared.tables.Particle.{Particle}
@@ -102,3 +104,15 @@ pub copies_in : (d : Declaration) (attributes : _) (particles : _) (at : ℕ) (p
     n ≡ copies_within p.profile p.most → n ≡ copy_places (plain_kind d) at
 copies_in d attributes particles at p n same less is count =
     subst (λ (x : Declaration). n ≡ copy_places (plain_kind x) at) (sym same) (count ∙ copies_at particles.now at p less is)
+
+-- ---- the kind of a table
+
+kind_found : (kinds : List Declaration) (k : ℕ) (D : Declaration) → k < length (plain_kinds kinds) → slice_get (plain_kinds kinds) k ≡ Some (plain_kind (get_or kinds k D))
+kind_found [] k D less = absurd (omega (arith, less))
+kind_found (x ∷ kinds) zero D less = refl
+kind_found (x ∷ kinds) (suc k) D less = kind_found kinds k D (omega (arith, less))
+
+pub few_attributes : (s : Schema) (k : ℕ) (D : Declaration) (n : ℕ) → k < length (plain_kinds s.kinds.now) → n ≡ attribute_places (plain_kind (get_or s.kinds.now k D)) → n ≤ 65536
+few_attributes s k D n less is =
+    let few : attribute_places (plain_kind (get_or s.kinds.now k D)) ≤ 65536 = (few_places (schema_of s) k (plain_kind (get_or s.kinds.now k D)) (kind_found s.kinds.now k D less)).attributes in
+    omega (arith, few, is)

@@ -1,5 +1,6 @@
 use Rattle.exi_schema.specs.Offers.{IsPlace}
+use Rattle.exi_schema.specs.Told.{schema_of}
 use Rattle.app_schema.proofs.tests.follow.Given as goal
 
 abbrev pub invariant-loop-width : goal.invariant-loop-width
-invariant-loop-width g l = IsPlace l.schema.kinds.now l.place
+invariant-loop-width g l = IsPlace (schema_of l.schema).kinds l.place
