@@ -26,7 +26,8 @@ pub fn value_bits(pen: &BitPen, datatype: Datatype, name: u16, value: &Value, ta
     requires cap { table.now.cap ≡ most_entries }
     requires texts { AreTexts (written_bits pen.now) table.now.entries }
     requires room { HasEntryFor (texts_in (written_bits pen.now) table.now.entries) name (value_of value.now) }
-    ensures bits { HasLength (λ bits. (after : Entries) × WritesValue datatype (texts_in (written_bits pen.now) table.now.entries) name (value_of value.now) bits after) result }
+    ensures bits { HasLength (λ bits. (after : Entries)
+        × WritesValue datatype (texts_in (written_bits pen.now) table.now.entries) name (value_of value.now) bits after) result }
     ensures few { result < 2 ^ 44 }
 {
     match value {
@@ -74,7 +75,8 @@ fn text_bits(pen: &BitPen, name: u16, text: &TextSource, table: &Table) -> u64
     requires cap { table.now.cap ≡ most_entries }
     requires texts { AreTexts (written_bits pen.now) table.now.entries }
     requires room { HasEntryFor (texts_in (written_bits pen.now) table.now.entries) name (Text (chars_of text.now)) }
-    ensures bits { HasLength (λ bits. (after : Entries) × WritesTextInto (texts_in (written_bits pen.now) table.now.entries) name (chars_of text.now) bits after) result }
+    ensures bits { HasLength (λ bits. (after : Entries)
+        × WritesTextInto (texts_in (written_bits pen.now) table.now.entries) name (chars_of text.now) bits after) result }
     ensures few { result < 2 ^ 44 }
 {
     let globals = table.globals();

@@ -37,7 +37,8 @@ pub fn put_value(
     ensures texts { AreTexts (written_bits pen.new) table.new.entries }
     ensures cap { table.new.cap ≡ most_entries }
     ensures full { IsErr result ↔ Lacks (λ bits. (after : Entries) × WritesValue datatype (texts_in (written_bits pen.old) table.old.entries) name (value_of value.now) bits after) pen.old }
-    ensures needed { IfErr result (NeedsInAll (λ bits. (after : Entries) × WritesValue datatype (texts_in (written_bits pen.old) table.old.entries) name (value_of value.now) bits after) pen.old) }
+    ensures needed { IfErr result (NeedsInAll (λ bits. (after : Entries)
+        × WritesValue datatype (texts_in (written_bits pen.old) table.old.entries) name (value_of value.now) bits after) pen.old) }
     ensures bits { IfErr result (PassesRoom pen.old) }
     ensures more { WritesMore pen.old pen.new }
     ensures stays { OnErr result (table.new ≡ table.old) }
