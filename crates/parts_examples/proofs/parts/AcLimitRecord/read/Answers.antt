@@ -1,8 +1,0 @@
-use Rattle.std.proofs.Common.{refl, []}
-use Rattle.parts_examples.specs.Declarations.{kinds, ac_particles}
-use Rattle.parts_examples.proofs.parts.AcLimitRecord.read.Goals as goal
-
-pub returns-clause-read : goal.returns-clause-read
-returns-clause-read g c = λ F told h.
-    let s0 = c.in_ok-first_child.ensures.read kinds F [] ac_particles _ h in
-    c.in_ok-current.ensures.read F [] ac_particles 0 _ s0 refl refl

@@ -1,4 +1,0 @@
-use Rattle.parts_examples.proofs.report.ReportPutRecord.write.Goals as goal
-
-pub returns-clause-write : goal.returns-clause-write
-returns-clause-write g c = λ F rest h. c.put_values.ensures.write F _ (c.put_record-3.ensures.write F _ (c.put_record-2.ensures.write F _ (c.put_record.ensures.write F _ (c.put_optional_choice.ensures.write F _ (c.put_optional_value.ensures.write F _ (c.put_optional_attribute.ensures.write F _ h))))))
