@@ -1,5 +1,6 @@
 pub mod Again
 pub mod Attributes
+pub mod Chosen
 pub mod Distinct
 pub mod Ended
 pub mod Next
