@@ -1,27 +1,25 @@
 -- One act follows.
-use Rattle.std.proofs.Common.{arith, ◌≡◌, ◌≤◌, ℕ, ◌+◌, ◌-◌, min, max, Bool, true, false, if◌then◌else◌, ◌&&◌, List, [], ◌∷◌, ◌++◌, length, map, Option, Some, None, refl, sym, ap, subst, ◌∙◌, MatchBool}
+use Rattle.std.proofs.Common.{arith, ◌≡◌, ℕ, ◌+◌, ◌-◌, min, Bool, true, false, ◌&&◌, List, [], ◌∷◌, ◌++◌, length, map, Option, Some, None, refl, sym, ap, subst, ◌∙◌, inl, inr, MatchBool}
 use Rattle.charge_world.specs.declared.entry.Entry.{Entry}
 use Rattle.charge_world.specs.declared.entry.Entry.TheVariants as entry
 use Rattle.charge_world.specs.declared.offer.Dialect.{Dialect}
 use Rattle.session_words.specs.declared.plan.PostPlan.{PostPlan}
 use Rattle.session_words.specs.declared.plan.SitePlan.{SitePlan}
-use Rattle.session_words.specs.declared.word.Request.{Request}
-use Rattle.session_words.specs.Causes.{number_of}
 use Rattle.v2gtp_frames.specs.Frames.{frame}
 use Rattle.session_rules.specs.Asks.{shows_watts}
 use Rattle.session_rules.specs.Verdict.{verdict, is_accepted}
 use Rattle.power_share.specs.Sharing.{IsLevel}
 use Rattle.post_spec.specs.Codecs.{Judged, Negotiated, Asked, WrongSide, Refused, Codecs, Judges, judged_word}
 use Rattle.post_spec.specs.Spelled.{AreDetermined}
-use Rattle.post_spec.specs.Steps.{Act, Give, Send, Answer, End, Reading, Step, Does}
+use Rattle.post_spec.specs.Steps.{Act, Send, Reading, Does}
 use Rattle.station_spec.specs.States.{Spoken, Response, Said, Session, State, first}
 use Rattle.station_spec.specs.States as states
 use Rattle.station_spec.specs.Deciding.{decided}
-use Rattle.station_spec.specs.Judging.{Payload, wanted, filled, shows, asked_behind, IsShown, IsRead}
+use Rattle.station_spec.specs.Judging.{Payload, wanted, filled, asked_behind, IsShown, IsRead}
 use Rattle.station_spec.specs.Acting.{IsQuiet, IsSpoken, IsDone, Acts}
 use Rattle.station_spec.specs.Sharing.{Post, state_of, asked_of, told_total, Shows}
-use Rattle.station_spec.specs.Runs.{entry_of, with_step, Rests, AreQuiet, HeardBy, MayHear, MayAct}
-use Rattle.determined_runs.specs.Determined.{outcome, IsDetermined, RunsAreDetermined}
+use Rattle.station_spec.specs.Runs.{entry_of, with_step, Rests, AreQuiet, HeardBy, MayAct, Follows}
+use Rattle.determined_runs.specs.Determined.{outcome, heard_in, RunsAreDetermined, InputsDetermine}
 
 -- one word, one level, one share
 word_once : (c : Codecs) → AreDetermined c → (offers : List Dialect) (d : Option Dialect) (payload : List ℕ) (a b : Judged) → Judges c offers d payload a → Judges c offers d payload b → a ≡ b
@@ -112,8 +110,8 @@ acts_same : (c : Codecs) → AreDetermined c → (limit : ℕ) (before before' b
     → Acts c p.plan (Shows limit before behind) (state_of p) r a t → Acts c p'.plan (Shows limit before' behind') (state_of p') r' a' t' → (r ≡ r') × (a ≡ a')
 acts_same c one limit before before' behind behind' p p' r r' a a' t t' i j k x y =
     let z = subst (λ (xs : List Post). Acts c p.plan (Shows limit xs behind) (state_of p) r' a' t') (sym i)
-        (subst (λ (xs : List Post). Acts c p.plan (Shows limit before' xs) (state_of p) r' a' t') (sym k)
-        (subst (λ (q : Post). Acts c q.plan (Shows limit before' behind') (state_of q) r' a' t') (sym j) y)) in
+    (subst (λ (xs : List Post). Acts c p.plan (Shows limit before' xs) (state_of p) r' a' t') (sym k)
+    (subst (λ (q : Post). Acts c q.plan (Shows limit before' behind') (state_of q) r' a' t') (sym j) y)) in
     act_once c one limit before behind p.plan (state_of p) r r' a a' t t' x z
 
 acted_once : (c : Codecs) → AreDetermined c → (limit : ℕ) (posts : List Post) (e e' : Entry) (later later' : List Post) → MayAct c limit posts e later → MayAct c limit posts e' later' → outcome e ≡ outcome e' → (e ≡ e') × (later ≡ later')
@@ -121,14 +119,14 @@ acted_once c one limit posts e e' later later' m m' o =
     let s = split_once m.before m'.before m.post m'.post m.behind m'.behind (sym m.posts_are ∙ m'.posts_are) m.first m'.first (busy c limit posts e later m) (busy c limit posts e' later' m') in
     let x = acts_same c one limit m.before m'.before m.behind m'.behind m.post m'.post m.reading m'.reading m.act m'.act m.taken m'.taken s.0 s.1 s.2 m.acts m'.acts in
     let t : m.taken ≡ m'.taken =
-        sym (taken_is c m.acts.todo (length m.before + 1) m.act m.taken m.acts.done) ∙ sym (ap outcome m.entry_is) ∙ o ∙ ap outcome m'.entry_is ∙ taken_is c m'.acts.todo (length m'.before + 1) m'.act m'.taken m'.acts.done in
+    sym (taken_is c m.acts.todo (length m.before + 1) m.act m.taken m.acts.done) ∙ sym (ap outcome m.entry_is) ∙ o ∙ ap outcome m'.entry_is ∙ taken_is c m'.acts.todo (length m'.before + 1) m'.act m'.taken m'.acts.done in
     let e1 = ap (λ (xs : List Post). entry_of (length xs + 1) m.act m.taken) s.0 ∙ ap (λ (y : Act). entry_of (length m'.before + 1) y m.taken) x.1 ∙ ap (entry_of (length m'.before + 1) m'.act) t in
     let l1 = ap (λ (xs : List Post). xs ++ with_step (Does m.reading m.act m.taken) m.post ∷ m.behind) s.0
-        ∙ ap (λ (q : Post). m'.before ++ with_step (Does m.reading m.act m.taken) q ∷ m.behind) s.1
-        ∙ ap (λ (xs : List Post). m'.before ++ with_step (Does m.reading m.act m.taken) m'.post ∷ xs) s.2
-        ∙ ap (λ (q : Option Reading). m'.before ++ with_step (Does q m.act m.taken) m'.post ∷ m'.behind) x.0
-        ∙ ap (λ (y : Act). m'.before ++ with_step (Does m'.reading y m.taken) m'.post ∷ m'.behind) x.1
-        ∙ ap (λ (b : Bool). m'.before ++ with_step (Does m'.reading m'.act b) m'.post ∷ m'.behind) t in
+    ∙ ap (λ (q : Post). m'.before ++ with_step (Does m.reading m.act m.taken) q ∷ m.behind) s.1
+    ∙ ap (λ (xs : List Post). m'.before ++ with_step (Does m.reading m.act m.taken) m'.post ∷ xs) s.2
+    ∙ ap (λ (q : Option Reading). m'.before ++ with_step (Does q m.act m.taken) m'.post ∷ m'.behind) x.0
+    ∙ ap (λ (y : Act). m'.before ++ with_step (Does m'.reading y m.taken) m'.post ∷ m'.behind) x.1
+    ∙ ap (λ (b : Bool). m'.before ++ with_step (Does m'.reading m'.act b) m'.post ∷ m'.behind) t in
     (m.entry_is ∙ e1 ∙ sym m'.entry_is, m.later_is ∙ l1 ∙ sym m'.later_is)
 
 heard_once : (past : List Entry) (posts : List Post) (e : Entry) (later later' : List Post) → HeardBy past posts e later → HeardBy past posts e later' → later ≡ later'
@@ -150,3 +148,41 @@ runs_are_determined c site past posts one = record {
   hears = λ e later later' h h'. heard_once past posts e later later' h.heard h'.heard;
   apart = λ e e' later later' h m. busy c site.limit posts e' later' m (quiet_of m.before m.post m.behind (subst AreQuiet m.posts_are h.whole));
 }
+
+is_heard : (past : List Entry) (posts : List Post) (e : Entry) (later : List Post) → HeardBy past posts e later → heard_in e ≡ Some e
+is_heard past posts (entry.Heard h bytes) later a = refl
+is_heard past posts entry.Lost later a = refl
+is_heard past posts (entry.Sent post bytes taken) later a = absurd a
+is_heard past posts (entry.Answered post bytes taken) later a = absurd a
+is_heard past posts (entry.Drove post order taken) later a = absurd a
+is_heard past posts (entry.Dialed port taken) later a = absurd a
+is_heard past posts (entry.Ended post cause) later a = absurd a
+
+some_entry : (a b : Entry) → Some a ≡ Some b → a ≡ b
+some_entry a b h = cc
+
+same_first : (a b : Option Entry) (xs ys : List (Option Entry)) → a ∷ xs ≡ b ∷ ys → (a ≡ b) × (xs ≡ ys)
+same_first a b xs ys h = (cc, cc)
+
+same_outcome : (a b : Bool) (xs ys : List Bool) → a ∷ xs ≡ b ∷ ys → (a ≡ b) × (xs ≡ ys)
+same_outcome a b xs ys h = (cc, cc)
+
+follows_once : (c : Codecs) → AreDetermined c → (site : SitePlan) (past : List Entry) (posts : List Post) (e e' : Entry) (later later' : List Post) → Follows c site past posts e later → Follows c site past posts e' later' → heard_in e ≡ heard_in e' → outcome e ≡ outcome e' → (e ≡ e') × (later ≡ later')
+follows_once c one site past posts e e' later later' (inl h) (inl k) i o =
+    let s : e ≡ e' = some_entry e e' (sym (is_heard past posts e later h.heard) ∙ i ∙ is_heard past posts e' later' k.heard) in
+    (s, heard_once past posts e later later' h.heard (subst (λ (x : Entry). HeardBy past posts x later') (sym s) k.heard))
+follows_once c one site past posts e e' later later' (inl h) (inr m) i o = absurd (busy c site.limit posts e' later' m (quiet_of m.before m.post m.behind (subst AreQuiet m.posts_are h.whole)))
+follows_once c one site past posts e e' later later' (inr m) (inl h) i o = absurd (busy c site.limit posts e later m (quiet_of m.before m.post m.behind (subst AreQuiet m.posts_are h.whole)))
+follows_once c one site past posts e e' later later' (inr m) (inr n) i o = acted_once c one site.limit posts e e' later later' m n o
+
+pub inputs_determine : (c : Codecs) → InputsDetermine c
+inputs_determine c site [] [] posts posts' one run run' h o = (refl, run ∙ sym run')
+inputs_determine c site [] (e ∷ past) posts posts' one run run' h o = absurd (cc)
+inputs_determine c site (e ∷ past) [] posts posts' one run run' h o = absurd (cc)
+inputs_determine c site (e ∷ past) (e' ∷ past') posts posts' one (before, run, f) (before', run', f') h o =
+    let i = same_first (heard_in e) (heard_in e') (map heard_in past) (map heard_in past') h in
+    let p = same_outcome (outcome e) (outcome e') (map outcome past) (map outcome past') o in
+    let s = inputs_determine c site past past' before before' one run run' i.1 p.1 in
+    let g = subst (λ (xs : List Entry). Follows c site xs before e' posts') (sym s.0) (subst (λ (ps : List Post). Follows c site past' ps e' posts') (sym s.1) f') in
+    let n = follows_once c one site past before e e' posts posts' f g i.0 p.0 in
+    (ap (λ (x : Entry). x ∷ past) n.0 ∙ ap (λ (xs : List Entry). e' ∷ xs) s.0, n.1)
