@@ -1,4 +1,3 @@
-use Rattle.std.proofs.Common.{arith}
 use Rattle.text_tokens.proofs.Digits.{length_hex}
 use Rattle.text_tokens.proofs.word.put_word.Goals as goal
 
