@@ -1,5 +1,5 @@
 use super::*;
-use arrayvec::{ArrayString, ArrayVec};
+use arrayvec::ArrayVec;
 use std::test::Fail;
 
 #[test]
