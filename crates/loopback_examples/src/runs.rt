@@ -17,6 +17,9 @@ use std::time::Clock;
 const REQUEST: &str = "01fe800100000022\
 8000dbab9371d3234b71d1b981899189d191818991d26b9b3a232b30020000040040";
 
+/// Its first 20 bytes.
+const HALF: &str = "01fe8001000000228000dbab9371d3234b71d1b9";
+
 /// Its answer: DIN, by SchemaID 1.
 const ANSWER: &str = "01fe80010000000480400040";
 
@@ -106,7 +109,7 @@ fn a_silent_client_and_half_a_frame_and_a_reset_end_their_session_alone(
         Deed::Rest(2),
         // half a frame, and then closes
         Deed::Connect,
-        Deed::Send(1, request[..20].to_vec(rt.alloc())?),
+        Deed::Send(1, bytes_of(rt.alloc(), HALF)?),
         Deed::Await(0, 1),
         Deed::Close(1),
         // closes with the answer unread, which is a reset
