@@ -160,7 +160,12 @@ impl OpenWire {
     }
 
     /// The connection that waited to be told.
-    fn tell_came<R: RandomSource>(&mut self, rt: &R, place: usize, at: u64) -> io::Result<Option<What>>
+    fn tell_came<R: RandomSource>(
+        &mut self,
+        rt: &R,
+        place: usize,
+        at: u64,
+    ) -> io::Result<Option<What>>
         requires { place < posts_in self.old }
         ensures posts { posts_in self.new ≡ posts_in self.old }
         ensures post { IfOk result (λ told. IfSome told (IsOfPosts (posts_in self.old))) }
@@ -205,7 +210,12 @@ impl OpenWire {
     }
 
     /// A connection that was accepted: that it came, or that the one before it is gone.
-    fn tell_accepted<R: RandomSource>(&mut self, rt: &R, place: usize, at: u64) -> io::Result<Option<What>>
+    fn tell_accepted<R: RandomSource>(
+        &mut self,
+        rt: &R,
+        place: usize,
+        at: u64,
+    ) -> io::Result<Option<What>>
         requires { place < posts_in self.old }
         ensures posts { posts_in self.new ≡ posts_in self.old }
         ensures post { IfOk result (λ told. IfSome told (IsOfPosts (posts_in self.old))) }
@@ -239,7 +249,11 @@ impl OpenWire {
             return Ok(None);
         };
         match listener.accept() {
-            Ok((mut stream, _)) => Ok(watch(self.poll.registry(), place, &mut stream).is_ok().then_some(stream)),
+            Ok((mut stream, _)) => Ok(
+                watch(self.poll.registry(), place, &mut stream)
+                    .is_ok()
+                    .then_some(stream),
+            ),
             Err(error) => match error.kind() {
                 ErrorKind::WouldBlock => {
                     self.board.raise(place, Socket::Listener, false);
@@ -400,7 +414,9 @@ impl OpenWire {
         let socket = post.and_then(|post| post.discovery.as_ref());
         let address = post.and_then(|post| post.partner.address());
         match (socket, address) {
-            (Some(socket), Some(address)) if socket.send_to(bytes, address)? == bytes.len() => Ok(()),
+            (Some(socket), Some(address)) if socket.send_to(bytes, address)? == bytes.len() => Ok(
+                (),
+            ),
             _ => Err(io::Error::from(ErrorKind::NotConnected)),
         }
     }
@@ -422,10 +438,17 @@ impl OpenWire {
     }
 
     /// Connects a car that has no connection. The connection waits to be told.
-    pub(crate) fn dial<R: Net<Stream = net::TcpStream>>(&mut self, rt: &R, port: u16) -> io::Result<()>
+    pub(crate) fn dial<R: Net<Stream = net::TcpStream>>(
+        &mut self,
+        rt: &R,
+        port: u16,
+    ) -> io::Result<()>
         ensures { posts_in self.new ≡ posts_in self.old }
     {
-        let is_station = self.posts.first().is_some_and(|post| post.listener.is_some());
+        let is_station = self
+            .posts
+            .first()
+            .is_some_and(|post| post.listener.is_some());
         if is_station || self.board.line(0) != Line::Free {
             return Err(io::Error::from(ErrorKind::AlreadyExists));
         }

@@ -2,6 +2,7 @@
 
 ghost use Rattle.std.specs.Prelude.{◌<◌, ◌^◌};
 
+use crate::post::{Partner, Post};
 use charge_world::PortPair;
 use mio::net::{TcpListener, TcpStream, UdpSocket};
 use mio::{Interest, Registry, Token};
@@ -10,8 +11,6 @@ use std::net::{Ipv4Addr, Net, SocketAddr};
 use std::time::Duration;
 use std::{io, net};
 use wire_events::{Key, Socket, number_of};
-
-use crate::post::{Partner, Post};
 
 /// How long a car waits until its connection is made, in milliseconds.
 const DIALING: u64 = 1000;
@@ -28,11 +27,20 @@ fn token(place: usize, socket: Socket) -> Token
 }
 
 /// Opens the sockets of a station's post.
-pub(crate) fn open_post<R: Net>(rt: &R, registry: &Registry, place: usize, pair: PortPair) -> io::Result<Post>
+pub(crate) fn open_post<R: Net>(
+    rt: &R,
+    registry: &Registry,
+    place: usize,
+    pair: PortPair,
+) -> io::Result<Post>
     requires { place < 2 ^ 32 }
 {
     let mut listener = TcpListener::bind(rt, loopback(pair.tcp))?;
-    registry.register(&mut listener, token(place, Socket::Listener), Interest::READABLE)?;
+    registry.register(
+        &mut listener,
+        token(place, Socket::Listener),
+        Interest::READABLE,
+    )?;
     let discovery = if pair.sdp == 0 {
         None
     } else {
@@ -64,11 +72,20 @@ pub(crate) fn open_car<R: Net>(rt: &R, registry: &Registry, sdp: u16) -> io::Res
 }
 
 /// A socket for datagrams, at any port where 0 is given.
-fn open_discovery<R: Net>(rt: &R, registry: &Registry, place: usize, port: u16) -> io::Result<UdpSocket>
+fn open_discovery<R: Net>(
+    rt: &R,
+    registry: &Registry,
+    place: usize,
+    port: u16,
+) -> io::Result<UdpSocket>
     requires { place < 2 ^ 32 }
 {
     let mut socket = UdpSocket::bind(rt, loopback(port))?;
-    registry.register(&mut socket, token(place, Socket::Discovery), Interest::READABLE)?;
+    registry.register(
+        &mut socket,
+        token(place, Socket::Discovery),
+        Interest::READABLE,
+    )?;
     Ok(socket)
 }
 
