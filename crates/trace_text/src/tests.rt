@@ -7,7 +7,13 @@ use std::test::Fail;
 #[test]
 fn a_line_ends_in_its_one_line_feed(rt: HostRuntime) {
     let bad = Some(LineFault::BadLine(7));
-    for line in [b"lost".as_slice(), b"lost\n\n", b"", b"\n", b"heard 5 1 plant renew\n"] {
+    for line in [
+        b"lost".as_slice(),
+        b"lost\n\n",
+        b"",
+        b"\n",
+        b"heard 5 1 plant renew\n",
+    ] {
         assert_eq!(rt; read_line(rt.alloc(), line, 7).err(), bad, "{line:?}");
     }
 }
