@@ -1,5 +1,6 @@
 //! Texts of the negotiation, ISO 15118-2:2014 section 8.2: how many events they say, and where others are at fault.
 
+ghost use Rattle.exi_schema.specs.Told.{schema_of};
 ghost use Rattle.dialect_text.specs.Scanning.{standing_of, IsReady};
 
 use crate::{DialectScanner, ScanFault};
@@ -8,7 +9,7 @@ use std::process::Abort;
 
 /// Scans up to the end or a fault, which is answered again: how many events are said.
 fn scanned(rt: &impl Abort, scanner: &mut DialectScanner) -> Result<u32, ScanFault>
-    requires { IsReady scanner.old.schema.now scanner.old.text.now (standing_of scanner.old.phase scanner.old.elements) scanner.old.cursor scanner.old.fault }
+    requires { IsReady (schema_of scanner.old.schema.now) scanner.old.text.now (standing_of scanner.old.phase scanner.old.elements) scanner.old.cursor scanner.old.fault }
 {
     for count in 0..1000 {
         match scanner.next() {
