@@ -20,10 +20,11 @@ use Rattle.session_rules.specs.Causes.{needs_isolation}
 use Rattle.session_rules.specs.Finishing.{is_ac}
 use Rattle.session_rules.specs.Stages.{is_waiting, confirmed_row, confirmed}
 use Rattle.post_spec.specs.Codecs.{Codecs}
-use Rattle.post_spec.specs.Facts.{newer, isolation}
-use Rattle.post_spec.specs.Kinds.{any, says_finished, asks_cable_check, asks_start, asks_renegotiation}
+use Rattle.post_spec.specs.Facts.{newer, pilot, isolation}
+use Rattle.post_spec.specs.Kinds.{is_of, any, says_finished, asks_cable_check, asks_start, asks_renegotiation, asks_opening}
+use Rattle.contactor.specs.Rights.{is_ready}
 use Rattle.session_words.specs.Causes.{number_of}
-use Rattle.post_spec.specs.Mandated.{renegotiates, StaysValid, off_in, pre_charge_off}
+use Rattle.post_spec.specs.Mandated.{renegotiates, IsChecked, IsStarted, StaysValid, before_close, off_in, pre_charge_off}
 use Rattle.post_spec.specs.Sessions.{session, with_seen, stream, waits}
 use Rattle.post_spec.specs.Spelled.{read_back, ReadsBack}
 use Rattle.post_spec.specs.Steps.{Act, Give, Send, Answer, End, Seen, Did}
@@ -33,9 +34,10 @@ use Rattle.station_spec.specs.States as states
 use Rattle.station_spec.specs.Deciding.{opening_if}
 use Rattle.station_spec.specs.Judging.{speaks_in}
 use Rattle.station_spec.specs.Acting.{live_ordered, since_order, failing, giving, agenda_said, replied, saying, telling, ended, acted, IsSpoken, IsDone}
-use Rattle.safe_runs.proofs.Links.{is_cable, Premise, Cabled, Rowed, CabledThen, Chosen, Asks, Owes, Pending, Waits, Link, Tie, IsWaitingIn, Linked}
-use Rattle.safe_runs.proofs.Rows.{RowHas, PowerOf}
+use Rattle.safe_runs.proofs.Links.{is_cable, Premise, Cabled, Delivers, Rowed, CabledThen, DeliversThen, Chosen, Asks, Owes, Pending, Waits, Link, Tie, IsWaitingIn, Linked}
+use Rattle.safe_runs.proofs.Rows.{RowHas, PowerOf, is_charging}
 use Rattle.safe_runs.proofs.Orders.{round_more}
+use Rattle.safe_runs.proofs.Shut.{Still, Shut, shut_still}
 
 opens : (live : Bool) → opening_if live ≡ Some order.Close → ⊥
 opens true h = cc
@@ -50,6 +52,7 @@ pub record IsMore (c : Codecs) (plan : PostPlan) (past es : List Seen) (x : Seen
   pub talks : (xs : List Exchange) → Talks c plan.dialects.items past xs → Talks c plan.dialects.items (x ∷ past) xs
   pub isolation_is : isolation (x ∷ past) ≡ isolation past
   pub stays : StaysValid x
+  pub ready : (waits es ≡ true → is_ready (pilot (before_close past)) ≡ true) → waits (x ∷ es) ≡ true → is_ready (pilot (before_close (x ∷ past))) ≡ true
 
 pub cabled_more : (past : List Seen) (x : Seen) (xs : List Exchange) → StaysValid x → Cabled past xs → Cabled (x ∷ past) xs
 cabled_more past x xs s k = record {
@@ -76,8 +79,41 @@ then_more true past x r reply xs s i (inl h) = inl (cabled_more past x xs s h.0,
 then_more true past x r reply xs s i (inr h) = inr (h.0, i ∙ h.1)
 then_more false past x r reply xs s i k = tt
 
+pub checked_more : (b : Bool) (past : List Seen) (x : Seen) (xs : List Exchange) → StaysValid x → MatchBool b (IsChecked past xs) (Unit {0}) → MatchBool b (IsChecked (x ∷ past) xs) (Unit {0})
+checked_more false past x xs s k = tt
+checked_more true past x xs s k = record {
+  behind = k.behind;
+  request = k.request;
+  reply = k.reply;
+  before = k.before;
+  earlier = k.earlier;
+  xs_are = k.xs_are;
+  cable_check = k.cable_check;
+  newest = k.newest;
+  since = x ∷ k.since;
+  past_is = ap (λ (ys : List Seen). x ∷ ys) k.past_is;
+  valid = k.valid;
+  stays = (s, k.stays);
+  off = k.off;
+  off_is = k.off_is;
+  within = k.within;
+}
+
+delivers_more : (plan : PostPlan) (past : List Seen) (x : Seen) (n : Bool) (xs : List Exchange) (V W : Type 0) → (W → V) → (W → StaysValid x) → Delivers plan past n xs V → Delivers plan (x ∷ past) n xs W
+delivers_more plan past x n xs V W f s k =
+    record { earlier = k.earlier; judged = k.judged; started = k.started; prepared = k.prepared; checked = λ w. checked_more n past x k.earlier (s w) (k.checked (f w)); ready = k.ready }
+
+pub delivers_in_more : (b : Bool) (plan : PostPlan) (past : List Seen) (x : Seen) (n : Bool) (xs : List Exchange) (V W : Type 0) → (W → V) → (W → StaysValid x) → MatchBool b (Delivers plan past n xs V) (Unit {0}) → MatchBool b (Delivers plan (x ∷ past) n xs W) (Unit {0})
+delivers_in_more true plan past x n xs V W f s k = delivers_more plan past x n xs V W f s k
+delivers_in_more false plan past x n xs V W f s k = tt
+
+delivers_then_more : (b : Bool) (plan : PostPlan) (past : List Seen) (x : Seen) (n : Bool) (r : Request) (reply : Reply) (xs : List Exchange) (V : Type 0) → StaysValid x
+    → MatchBool b (DeliversThen plan past n r reply xs V) (Unit {0}) → MatchBool b (DeliversThen plan (x ∷ past) n r reply xs V) (Unit {0})
+delivers_then_more true plan past x n r reply xs V s k = (delivers_more plan past x n xs V V (λ v. v) (λ v. s) k.0, k.1)
+delivers_then_more false plan past x n r reply xs V s k = tt
+
 rowed_more : (plan : PostPlan) (past : List Seen) (x : Seen) (stage : Stage) (xs : List Exchange) (V : Type 0) → StaysValid x → Rowed plan past stage xs V → Rowed plan (x ∷ past) stage xs V
-rowed_more plan past x stage xs V s r = record { has = r.has; power = r.power; dialect = r.dialect; off = r.off; cabled = λ v. cabled_in_more (needs_isolation stage.row) past x xs s (r.cabled v) }
+rowed_more plan past x stage xs V s r = record { has = r.has; power = r.power; dialect = r.dialect; off = r.off; cabled = λ v. cabled_in_more (needs_isolation stage.row) past x xs s (r.cabled v); delivers = delivers_in_more (is_charging stage.row) plan past x (needs_isolation stage.row) xs V V (λ v. v) (λ v. s) r.delivers }
 
 chosen_more : (plan : PostPlan) (past : List Seen) (x : Seen) (stage : Stage) (chosen : Option Dialect) (behind : Option EndCause) (V : Type 0) → StaysValid x → Chosen plan past stage chosen behind V → Chosen plan (x ∷ past) stage chosen behind V
 chosen_more plan past x stage None behind V s h = h
@@ -87,11 +123,11 @@ owes_more : (c : Codecs) (plan : PostPlan) (past es : List Seen) (x : Seen) (xs 
 owes_more c plan past es x xs stage (Response response) behind V m o =
     (o.0, (o.1.0, o.1.1, rw m.heard o.1.2, o.1.3, chosen_more plan past x stage o.1.0 behind V m.stays o.1.4))
 owes_more c plan past es x xs stage (Said dialect reply) behind V m o =
-    (o.0, rw m.heard o.1, o.2, record { has = o.3.has; power = o.3.power; dialect = o.3.dialect; off = o.3.off; cabled = λ v. then_more (needs_isolation stage.row) past x o.0 (read_back reply) xs m.stays m.isolation_is (o.3.cabled v) })
+    (o.0, rw m.heard o.1, o.2, record { has = o.3.has; power = o.3.power; dialect = o.3.dialect; off = o.3.off; cabled = λ v. then_more (needs_isolation stage.row) past x o.0 (read_back reply) xs m.stays m.isolation_is (o.3.cabled v); delivers = delivers_then_more (is_charging stage.row) plan past x (needs_isolation stage.row) o.0 (read_back reply) xs V m.stays o.3.delivers })
 
 talk_more : (c : Codecs) (plan : PostPlan) (past es : List Seen) (x : Seen) (xs : List Exchange) (taken : ℕ) (stage : Stage) (reply : Option Spoken) (behind : Option EndCause) (V : Type 0) (b : Bool) → IsMore c plan past es x
     → MatchBool b (Waits c plan past es xs taken stage reply V) (Pending c plan past es xs taken stage reply behind V) → MatchBool b (Waits c plan (x ∷ past) (x ∷ es) xs taken stage reply V) (Pending c plan (x ∷ past) (x ∷ es) xs taken stage reply behind V)
-talk_more c plan past es x xs taken stage reply behind V true m t = record { count = t.count; request = t.request; asks = rw m.heard t.asks; start = t.start; ok = t.ok; rowed = rowed_more plan past x stage xs V m.stays t.rowed }
+talk_more c plan past es x xs taken stage reply behind V true m t = record { count = t.count; request = t.request; asks = rw m.heard t.asks; start = t.start; ok = t.ok; rowed = rowed_more plan past x stage xs V m.stays t.rowed; prepared = t.prepared; checked = λ v. checked_more (needs_isolation stage.row) past x xs m.stays (t.checked v); ready = m.ready t.ready }
 talk_more c plan past es x xs taken stage None behind V false m t = (t.0, rowed_more plan past x stage xs V m.stays t.1)
 talk_more c plan past es x xs taken stage (Some spoken) behind V false m t = (t.0, owes_more c plan past es x xs stage spoken behind V m t.1)
 
@@ -124,25 +160,25 @@ closing_failed c plan past None (Some ss) cause live h = opens live h
 closing_failed c plan past (Some k) kept cause live h = no_close h
 
 -- an order that was taken
-tie_given : (c : Codecs) (plan : PostPlan) (past : List Seen) (o : Order) (now : ℕ) (e : Option EndCause) (es : Option (List Seen)) (kept : Option Session) (r : Option Spoken) (b : Option EndCause) (V : Type 0) → (o ≡ order.Close → IsWaitingIn kept)
+tie_given : (c : Codecs) (plan : PostPlan) (past : List Seen) (o : Order) (now : ℕ) (e : Option EndCause) (es : Option (List Seen)) (kept : Option Session) (r : Option Spoken) (b : Option EndCause) (V : Type 0) → (o ≡ order.Close → IsWaitingIn kept × (is_ready (pilot past) ≡ true))
     → Tie c plan past e es kept r b V → Tie c plan (Did (Give o) true ∷ past) e (with_seen (Did (Give o) true) es) (option_map (since_order now o) kept) r b V
 tie_given c plan past o now e None None r b V w t = tt
 tie_given c plan past o now e None (Some ss) r b V w t = absurd t
 tie_given c plan past o now e (Some es) None r b V w t = absurd t
 tie_given c plan past o now (Some k) (Some es) (Some ss) r b V w t = tt
 tie_given c plan past order.Open now None (Some es) (Some ss) r b V w t =
-    link_more c plan past es (Did (Give order.Open) true) ss.stage ss.unread r b V (record { heard = refl; talks = λ xs h. h; isolation_is = refl; stays = tt }) (λ n q. q) t
+    link_more c plan past es (Did (Give order.Open) true) ss.stage ss.unread r b V (record { heard = refl; talks = λ xs h. h; isolation_is = refl; stays = tt; ready = λ h u. h u }) (λ n q. q) t
 tie_given c plan past order.Close now None (Some es) (Some ss) r b V w t =
-    link_more c plan past es (Did (Give order.Close) true) ss.stage ss.unread r b V (record { heard = refl; talks = λ xs h. h; isolation_is = refl; stays = tt }) (λ n q. absurd (let z : true ≡ false = sym (w refl) ∙ n in cc)) t
+    link_more c plan past es (Did (Give order.Close) true) ss.stage ss.unread r b V (record { heard = refl; talks = λ xs h. h; isolation_is = refl; stays = tt; ready = λ h u. (w refl).1 }) (λ n q. absurd (let z : true ≡ false = sym (w refl).0 ∙ n in cc)) t
 tie_given c plan past (order.Limits voltage current watts) now None (Some es) (Some ss) r b V w t =
-    link_more c plan past es (Did (Give (order.Limits voltage current watts)) true) ss.stage ss.unread r b V (record { heard = refl; talks = λ xs h. h; isolation_is = refl; stays = tt }) (λ n q. q) t
+    link_more c plan past es (Did (Give (order.Limits voltage current watts)) true) ss.stage ss.unread r b V (record { heard = refl; talks = λ xs h. h; isolation_is = refl; stays = tt; ready = λ h u. h u }) (λ n q. q) t
 
 gave_linked : (c : Codecs) (plan : PostPlan) (past : List Seen) (s : State) (o : Order) (taken : Bool) → s.agenda.order ≡ Some o → Linked c plan past s → Linked c plan (Did (Give o) taken ∷ past) (giving o taken s)
 gave_linked c plan past s o true h l = record {
   arrives = l.arrives;
   pilot_is = l.pilot_is;
   isolation_is = l.isolation_is;
-  tie = tie_given c plan past o s.clock s.agenda.ending (session past) s.session s.agenda.reply s.agenda.behind_reply (Premise s.part s.event) (λ e. (l.closing (h ∙ ap (λ (x : Order). Some x) e)).2) l.tie;
+  tie = tie_given c plan past o s.clock s.agenda.ending (session past) s.session s.agenda.reply s.agenda.behind_reply (Premise s.part s.event) (λ e. let k = l.closing (h ∙ ap (λ (x : Order). Some x) e) in (k.2, k.3)) l.tie;
   closing = λ h. absurd (no_close h);
 }
 gave_linked c plan past s o false h l = record {
@@ -161,7 +197,7 @@ tie_answered c plan past d taken e None (Some ss) r b V t = absurd t
 tie_answered c plan past d taken e (Some es) None r b V t = absurd t
 tie_answered c plan past d taken (Some k) (Some es) (Some ss) r b V t = tt
 tie_answered c plan past d taken None (Some es) (Some ss) r b V t =
-    link_more c plan past es (Did (Answer d) taken) ss.stage ss.unread r b V (record { heard = refl; talks = λ xs h. h; isolation_is = refl; stays = tt }) (λ n q. q) t
+    link_more c plan past es (Did (Answer d) taken) ss.stage ss.unread r b V (record { heard = refl; talks = λ xs h. h; isolation_is = refl; stays = tt; ready = λ h u. h u }) (λ n q. q) t
 
 answered_linked : (c : Codecs) (plan : PostPlan) (past : List Seen) (s : State) (d : List ℕ) (taken : Bool) → s.agenda.datagram ≡ Some d → Linked c plan past s → Linked c plan (Did (Answer d) taken ∷ past) (telling s)
 answered_linked c plan past s d taken u l = record {
@@ -264,6 +300,43 @@ cabled_over true past x y xs s n h =
     }
 cabled_over false past x y xs s n h = tt
 
+-- a reply more, that opens nothing
+delivers_by : (b : Bool) (plan : PostPlan) (past : List Seen) (x : Seen) (n : Bool) (r : Request) (reply : Reply) (xs : List Exchange) (V : Type 0) → StaysValid x
+    → MatchBool b (DeliversThen plan past n r reply xs V) (Unit {0}) → MatchBool b (Delivers plan (x ∷ past) n (Answered r reply past ∷ xs) V) (Unit {0})
+delivers_by false plan past x n r reply xs V s h = tt
+delivers_by true plan past x n r reply xs V s h =
+    let k = delivers_more plan past x n xs V V (λ v. v) (λ v. s) h.0 in
+    record {
+      earlier = k.earlier;
+      judged = k.judged;
+      started = record {
+        behind = Answered r reply past ∷ k.started.behind;
+        request = k.started.request;
+        reply = k.started.reply;
+        before = k.started.before;
+        xs_are = ap (λ (ys : List Exchange). Answered r reply past ∷ ys) k.started.xs_are;
+        start = k.started.start;
+        goes_on = (h.1, k.started.goes_on);
+        judged_is = k.started.judged_is;
+      };
+      prepared = k.prepared;
+      checked = k.checked;
+      ready = k.ready;
+    }
+
+-- the reply to PowerDelivery Start
+delivers_from : (c : Codecs) (plan : PostPlan) (past es : List Seen) (xs : List Exchange) (taken : ℕ) (stage : Stage) (reply : Option Spoken) (x : Seen) (told : Reply) (n b : Bool) (V : Type 0) → needs_isolation stage.row ≡ n → waits es ≡ true → StaysValid x
+    → (t : Waits c plan past es xs taken stage reply V) → MatchBool b (Delivers plan (x ∷ past) n (Answered t.request told past ∷ xs) V) (Unit {0})
+delivers_from c plan past es xs taken stage reply x told n false V e w s t = tt
+delivers_from c plan past es xs taken stage reply x told n true V e w s t = record {
+  earlier = xs;
+  judged = before_close past;
+  started = record { behind = []; request = t.request; reply = told; before = past; xs_are = refl; start = t.start; goes_on = tt; judged_is = refl };
+  prepared = t.prepared;
+  checked = λ v. checked_more n past x xs s (subst (λ (m : Bool). MatchBool m (IsChecked past xs) (Unit {0})) e (t.checked v));
+  ready = t.ready w;
+}
+
 -- what is said, and what the session is behind it
 pub record Saying (c : Codecs) (plan : PostPlan) (past es : List Seen) (xs : List Exchange) (bytes : List ℕ) (stage : Stage) (taken : ℕ) (V : Type 0) : Type 0 where
   pub x : Exchange
@@ -295,6 +368,7 @@ pending_said c plan past es xs bytes stage taken (Said d reply) V back w s (coun
       dialect = owed.dialect;
       off = owed.off;
       cabled = λ v. cabled_by_if (needs_isolation stage.row) past (Did (Send bytes) true) r (read_back reply) xs tt (owed.cabled v);
+      delivers = delivers_by (is_charging stage.row) plan past (Did (Send bytes) true) (needs_isolation stage.row) r (read_back reply) xs V tt owed.delivers;
     } in
     record {
       x = x;
@@ -305,10 +379,10 @@ pending_said c plan past es xs bytes stage taken (Said d reply) V back w s (coun
       rowed = subst (λ (t : Stage). Rowed plan (Did (Send bytes) true ∷ past) t (x ∷ xs) V) (sym (stage_stays stage w)) rowed;
     }
 
-waiting_said : (c : Codecs) (plan : PostPlan) (past es : List Seen) (xs : List Exchange) (bytes : List ℕ) (stage : Stage) (taken : ℕ) (spoken : Spoken) (V : Type 0) → ReadsBack c → is_waiting stage.row ≡ true → IsSpoken c spoken bytes
+waiting_said : (c : Codecs) (plan : PostPlan) (past es : List Seen) (xs : List Exchange) (bytes : List ℕ) (stage : Stage) (taken : ℕ) (spoken : Spoken) (V : Type 0) → ReadsBack c → is_waiting stage.row ≡ true → waits es ≡ true → IsSpoken c spoken bytes
     → Waits c plan past es xs taken stage (Some spoken) V → Saying c plan past es xs bytes stage taken V
-waiting_said c plan past es xs bytes stage taken (Response response) V back w s t = absurd t.ok
-waiting_said c plan past es xs bytes stage taken (Said d reply) V back w s t =
+waiting_said c plan past es xs bytes stage taken (Response response) V back w u s t = absurd t.ok
+waiting_said c plan past es xs bytes stage taken (Said d reply) V back w u s t =
     let r = t.request in
     let x : Exchange = Answered r (read_back reply) past in
     let f = start_asks r.ask (read_back reply).tell (pre_charge_off xs) t.start in
@@ -326,23 +400,24 @@ waiting_said c plan past es xs bytes stage taken (Said d reply) V back w s t =
         dialect = t.rowed.dialect ∙ sym (k.talks stage.dialect);
         off = f.2 ∙ t.rowed.off;
         cabled = λ v. subst (λ (b : Bool). MatchBool b (Cabled (Did (Send bytes) true ∷ past) (x ∷ xs)) (Unit {0})) (sym k.needs) (cabled_over (needs_isolation stage.row) past (Did (Send bytes) true) x xs tt f.1 (t.rowed.cabled v));
+        delivers = delivers_from c plan past es xs taken stage (Some (Said d reply)) (Did (Send bytes) true) (read_back reply) (needs_isolation (confirmed_row stage.row)) (is_charging (confirmed_row stage.row)) V (sym k.needs) u tt t;
       };
     }
 
-either_said : (c : Codecs) (plan : PostPlan) (past es : List Seen) (xs : List Exchange) (bytes : List ℕ) (stage : Stage) (taken : ℕ) (spoken : Spoken) (V : Type 0) (b : Bool) → is_waiting stage.row ≡ b → ReadsBack c → IsSpoken c spoken bytes
+either_said : (c : Codecs) (plan : PostPlan) (past es : List Seen) (xs : List Exchange) (bytes : List ℕ) (stage : Stage) (taken : ℕ) (spoken : Spoken) (V : Type 0) (b : Bool) → is_waiting stage.row ≡ b → (is_waiting stage.row ≡ true → waits es ≡ true) → ReadsBack c → IsSpoken c spoken bytes
     → MatchBool b (Waits c plan past es xs taken stage (Some spoken) V) (Pending c plan past es xs taken stage (Some spoken) None V) → Saying c plan past es xs bytes stage taken V
-either_said c plan past es xs bytes stage taken spoken V true w back s t = waiting_said c plan past es xs bytes stage taken spoken V back w s t
-either_said c plan past es xs bytes stage taken spoken V false w back s t = pending_said c plan past es xs bytes stage taken spoken V back w s t
+either_said c plan past es xs bytes stage taken spoken V true w u back s t = waiting_said c plan past es xs bytes stage taken spoken V back w (u w) s t
+either_said c plan past es xs bytes stage taken spoken V false w u back s t = pending_said c plan past es xs bytes stage taken spoken V back w s t
 
 talk_said : (c : Codecs) (plan : PostPlan) (past es : List Seen) (xs : List Exchange) (stage : Stage) (taken : ℕ) (V : Type 0) (b : Bool) → b ≡ false → taken ≡ length xs → Rowed plan past stage xs V
     → MatchBool b (Waits c plan past es xs taken stage None V) (Pending c plan past es xs taken stage None None V)
 talk_said c plan past es xs stage taken V true w n r = cc
 talk_said c plan past es xs stage taken V false w n r = (n, r)
 
-link_said : (c : Codecs) (plan : PostPlan) (past es : List Seen) (bytes : List ℕ) (stage : Stage) (unread : List ℕ) (spoken : Spoken) (V : Type 0) → ReadsBack c → session past ≡ Some es → IsSpoken c spoken bytes
+link_said : (c : Codecs) (plan : PostPlan) (past es : List Seen) (bytes : List ℕ) (stage : Stage) (unread : List ℕ) (spoken : Spoken) (V : Type 0) → ReadsBack c → (is_waiting stage.row ≡ true → waits es ≡ true) → session past ≡ Some es → IsSpoken c spoken bytes
     → Link c plan past es stage unread (Some spoken) None V → Link c plan (Did (Send bytes) true ∷ past) (Did (Send bytes) true ∷ es) (confirmed stage) unread None None V
-link_said c plan past es bytes stage unread spoken V back here s l =
-    let y = either_said c plan past es l.xs bytes stage l.taken spoken V (is_waiting stage.row) refl back s l.talk in
+link_said c plan past es bytes stage unread spoken V back u here s l =
+    let y = either_said c plan past es l.xs bytes stage l.taken spoken V (is_waiting stage.row) refl u back s l.talk in
     record {
       xs = y.x ∷ l.xs;
       talks = subst (λ (o : Option (List Seen)). InSession o (λ zs. OneMore c plan.dialects.items zs past bytes (Talks c plan.dialects.items past) (y.x ∷ l.xs)) (y.x ∷ l.xs ≡ [])) (sym here)
@@ -356,18 +431,18 @@ link_said c plan past es bytes stage unread spoken V back here s l =
     }
 
 -- the agenda behind it
-tie_said : (c : Codecs) (plan : PostPlan) (past : List Seen) (bytes : List ℕ) (now : ℕ) (live : Bool) (a : Agenda) (spoken : Spoken) (e b : Option EndCause) (es : Option (List Seen)) (kept : Option Session) (V : Type 0) → ReadsBack c → session past ≡ es → IsSpoken c spoken bytes
+tie_said : (c : Codecs) (plan : PostPlan) (past : List Seen) (bytes : List ℕ) (now : ℕ) (live : Bool) (a : Agenda) (spoken : Spoken) (e b : Option EndCause) (es : Option (List Seen)) (kept : Option Session) (V : Type 0) → ReadsBack c → (e ≡ None → Still es kept) → session past ≡ es → IsSpoken c spoken bytes
     → a.ending ≡ e → a.behind_reply ≡ b → Tie c plan past e es kept (Some spoken) b V
     → Tie c plan (Did (Send bytes) true ∷ past) (agenda_said b kept a live).ending (with_seen (Did (Send bytes) true) es) (option_map (replied now) kept) (agenda_said b kept a live).reply (agenda_said b kept a live).behind_reply V
-tie_said c plan past bytes now live a spoken e b None (Some ss) V back here s f g t = absurd t
-tie_said c plan past bytes now live a spoken e b (Some es) None V back here s f g t = absurd t
-tie_said c plan past bytes now live a spoken e None None None V back here s f g t = tt
-tie_said c plan past bytes now live a spoken e (Some k) None None V back here s f g t = tt
-tie_said c plan past bytes now live a spoken e (Some k) (Some es) (Some ss) V back here s f g t = tt
-tie_said c plan past bytes now live a spoken (Some k) None (Some es) (Some ss) V back here s f g t =
+tie_said c plan past bytes now live a spoken e b None (Some ss) V back u here s f g t = absurd t
+tie_said c plan past bytes now live a spoken e b (Some es) None V back u here s f g t = absurd t
+tie_said c plan past bytes now live a spoken e None None None V back u here s f g t = tt
+tie_said c plan past bytes now live a spoken e (Some k) None None V back u here s f g t = tt
+tie_said c plan past bytes now live a spoken e (Some k) (Some es) (Some ss) V back u here s f g t = tt
+tie_said c plan past bytes now live a spoken (Some k) None (Some es) (Some ss) V back u here s f g t =
     subst (λ (x : Option EndCause). Tie c plan (Did (Send bytes) true ∷ past) x (Some (Did (Send bytes) true ∷ es)) (Some (replied now ss)) None a.behind_reply V) (sym f) tt
-tie_said c plan past bytes now live a spoken None None (Some es) (Some ss) V back here s f g t =
-    let l = link_said c plan past es bytes ss.stage ss.unread spoken V back here s t in
+tie_said c plan past bytes now live a spoken None None (Some es) (Some ss) V back u here s f g t =
+    let l = link_said c plan past es bytes ss.stage ss.unread spoken V back (u refl es ss refl refl) here s t in
     let m : Link c plan (Did (Send bytes) true ∷ past) (Did (Send bytes) true ∷ es) (confirmed ss.stage) ss.unread None a.behind_reply V =
     subst (λ (x : Option EndCause). Link c plan (Did (Send bytes) true ∷ past) (Did (Send bytes) true ∷ es) (confirmed ss.stage) ss.unread None x V) (sym g) l in
     subst (λ (x : Option EndCause). Tie c plan (Did (Send bytes) true ∷ past) x (Some (Did (Send bytes) true ∷ es)) (Some (replied now ss)) None a.behind_reply V) (sym f) m
@@ -377,17 +452,17 @@ closing_said None kept a live n h = no_close (sym n ∙ h)
 closing_said (Some k) None a live n h = no_close h
 closing_said (Some k) (Some ss) a live n h = opens live h
 
-said_linked : (c : Codecs) (plan : PostPlan) (past : List Seen) (s : State) (bytes : List ℕ) (taken : Bool) (spoken : Spoken) → ReadsBack c → s.agenda.reply ≡ Some spoken → s.agenda.order ≡ None → IsSpoken c spoken bytes → Linked c plan past s → Linked c plan (Did (Send bytes) taken ∷ past) (saying taken s)
-said_linked c plan past s bytes true spoken back r n i l =
+said_linked : (c : Codecs) (plan : PostPlan) (past : List Seen) (s : State) (bytes : List ℕ) (taken : Bool) (spoken : Spoken) → ReadsBack c → (s.agenda.ending ≡ None → Still (session past) s.session) → s.agenda.reply ≡ Some spoken → s.agenda.order ≡ None → IsSpoken c spoken bytes → Linked c plan past s → Linked c plan (Did (Send bytes) taken ∷ past) (saying taken s)
+said_linked c plan past s bytes true spoken back u r n i l =
     let t = subst (λ (x : Option Spoken). Tie c plan past s.agenda.ending (session past) s.session x s.agenda.behind_reply (Premise s.part s.event)) r l.tie in
     record {
       arrives = l.arrives;
       pilot_is = l.pilot_is;
       isolation_is = l.isolation_is;
-      tie = tie_said c plan past bytes s.clock s.live s.agenda spoken s.agenda.ending s.agenda.behind_reply (session past) s.session (Premise s.part s.event) back refl i refl refl t;
+      tie = tie_said c plan past bytes s.clock s.live s.agenda spoken s.agenda.ending s.agenda.behind_reply (session past) s.session (Premise s.part s.event) back u refl i refl refl t;
       closing = λ h. absurd (closing_said s.agenda.behind_reply s.session s.agenda s.live n h);
     }
-said_linked c plan past s bytes false spoken back r n i l = record {
+said_linked c plan past s bytes false spoken back u r n i l = record {
   arrives = l.arrives;
   pilot_is = l.pilot_is;
   isolation_is = l.isolation_is;
@@ -420,13 +495,13 @@ say_is None None (Some r) e x h = (cc, refl)
 say_is None None None (Some e) x h = cc
 say_is None None None None x h = cc
 
-pub acted_linked : (c : Codecs) (plan : PostPlan) (past : List Seen) (s : State) (todo : states.Todo) (a : Act) (taken : Bool) → ReadsBack c → first s.agenda ≡ Some todo → IsDone c todo a taken → Linked c plan past s → Linked c plan (Did a taken ∷ past) (acted a taken s)
-acted_linked c plan past s (states.Tell d) a taken back f i l =
+pub acted_linked : (c : Codecs) (plan : PostPlan) (past : List Seen) (s : State) (todo : states.Todo) (a : Act) (taken : Bool) → ReadsBack c → Shut past s → first s.agenda ≡ Some todo → IsDone c todo a taken → Linked c plan past s → Linked c plan (Did a taken ∷ past) (acted a taken s)
+acted_linked c plan past s (states.Tell d) a taken back u f i l =
     subst (λ (x : Act). Linked c plan (Did x taken ∷ past) (acted x taken s)) (sym i) (answered_linked c plan past s d taken (tell_is s.agenda.datagram s.agenda.order s.agenda.reply s.agenda.ending d f) l)
-acted_linked c plan past s (states.Give o) a taken back f i l =
+acted_linked c plan past s (states.Give o) a taken back u f i l =
     subst (λ (x : Act). Linked c plan (Did x taken ∷ past) (acted x taken s)) (sym i) (gave_linked c plan past s o taken (give_is s.agenda.datagram s.agenda.order s.agenda.reply s.agenda.ending o f) l)
-acted_linked c plan past s (states.Say spoken) a taken back f i l =
+acted_linked c plan past s (states.Say spoken) a taken back u f i l =
     let e = say_is s.agenda.datagram s.agenda.order s.agenda.reply s.agenda.ending spoken f in
-    subst (λ (x : Act). Linked c plan (Did x taken ∷ past) (acted x taken s)) (sym i.2) (said_linked c plan past s i.0 taken spoken back e.0 e.1 i.1 l)
-acted_linked c plan past s (states.Finish cause) a taken back f i l =
+    subst (λ (x : Act). Linked c plan (Did x taken ∷ past) (acted x taken s)) (sym i.2) (said_linked c plan past s i.0 taken spoken back (λ n. shut_still past s (u n) e.1) e.0 e.1 i.1 l)
+acted_linked c plan past s (states.Finish cause) a taken back u f i l =
     subst (λ (x : Act). Linked c plan (Did x taken ∷ past) (acted x taken s)) (sym i.0) (ended_linked c plan past s (number_of cause) taken l)

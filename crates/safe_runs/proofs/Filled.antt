@@ -140,7 +140,7 @@ asked_start c plan past t ss name tuple profile shown n d ok still w reads sp l 
       isolation_is = l.isolation_is ∙ sym (same_isolation ss.stage t.facts plan r);
       tie = tie_made c plan past (session past) k.0 (asked_session ss plan t r shown) (cause_by ss.stage plan t r) _ None None None
           (moved ss.stage t.facts plan r shown) k.1 cause (reply_none (is_waiting (stage_behind ss.stage t.facts plan r shown).row) (Some (Said ss.stage.dialect (reply_to ss.stage t.facts plan r shown))) waits) refl stage m.link;
-      closing = λ h. (refl, m.mandated, waits);
+      closing = λ h. (refl, m.mandated, waits, m.ready);
     }
 
 -- an accepted request of any kind

@@ -4,6 +4,7 @@ pub mod Verdicts
 pub mod Growth
 pub mod Links
 pub mod Parts
+pub mod Shut
 pub mod Asked
 pub mod Words
 pub mod Filled

@@ -18,10 +18,11 @@ use Rattle.session_rules.specs.Causes.{needs_isolation}
 use Rattle.session_rules.specs.Delivery.{off_of}
 use Rattle.session_rules.specs.Finishing.{is_ac}
 use Rattle.session_rules.specs.Stages.{is_waiting}
+use Rattle.contactor.specs.Rights.{is_ready}
 use Rattle.post_spec.specs.Codecs.{Codecs, Negotiated}
 use Rattle.post_spec.specs.Facts.{told_by, isolation_in, pilot, isolation}
-use Rattle.post_spec.specs.Kinds.{is_of, says_finished, asks_cable_check, asks_start}
-use Rattle.post_spec.specs.Mandated.{HasNo, IsValidIfTold, StaysValid, pre_charge_off, Mandated}
+use Rattle.post_spec.specs.Kinds.{is_of, any, says_finished, asks_cable_check, asks_start, asks_opening}
+use Rattle.post_spec.specs.Mandated.{HasNo, IsPrepared, IsChecked, IsStarted, IsValidIfTold, StaysValid, before_close, pre_charge_off, Mandated}
 use Rattle.post_spec.specs.Sessions.{arriving, session, stream, waits}
 use Rattle.post_spec.specs.Spelled.{read_back}
 use Rattle.post_spec.specs.Steps.{Event, Seen}
@@ -30,7 +31,7 @@ use Rattle.post_spec.specs.Words.{IsPayloadAt}
 use Rattle.station_spec.specs.States.{Spoken, Response, Said, Agenda, Part, Repeating, Timing, Eventing, Wording, Session, State, nothing}
 use Rattle.station_spec.specs.Judging.{speaks}
 use Rattle.safe_runs.proofs.Growth.{AreWhole}
-use Rattle.safe_runs.proofs.Rows.{RowHas, PowerOf}
+use Rattle.safe_runs.proofs.Rows.{RowHas, PowerOf, is_charging}
 
 abbrev pub is_cable : Exchange → Bool
 is_cable = is_of asks_cable_check says_finished
@@ -57,6 +58,15 @@ Premise Timing event = IsValidIfTold (told_by isolation_in event)
 Premise Eventing event = IsValidIfTold (told_by isolation_in event)
 Premise Wording event = Unit {0}
 
+-- PowerDelivery Start was answered, and nothing behind it opens; what it was judged by still holds
+pub record Delivers (plan : PostPlan) (past : List Seen) (needs : Bool) (xs : List Exchange) (valid : Type 0) : Type 0 where
+  pub earlier : List Exchange
+  pub judged : List Seen
+  pub started : IsStarted xs earlier judged
+  pub prepared : IsPrepared (is_ac plan.mode) earlier
+  pub checked : valid → MatchBool needs (IsChecked past earlier) (Unit {0})
+  pub ready : is_ready (pilot judged) ≡ true
+
 -- the exchanges of a session in its stage
 pub record Rowed (plan : PostPlan) (past : List Seen) (stage : Stage) (xs : List Exchange) (valid : Type 0) : Type 0 where
   pub has : RowHas stage.row xs
@@ -64,11 +74,16 @@ pub record Rowed (plan : PostPlan) (past : List Seen) (stage : Stage) (xs : List
   pub dialect : dialect_of xs ≡ speaks stage
   pub off : pre_charge_off xs ≡ option_map off_of stage.pre_charge
   pub cabled : valid → MatchBool (needs_isolation stage.row) (Cabled past xs) (Unit {0})
+  pub delivers : MatchBool (is_charging stage.row) (Delivers plan past (needs_isolation stage.row) xs valid) (Unit {0})
 
 -- the same once a request is answered, which it isn't yet
 abbrev pub CabledThen : List Seen → Request → Reply → List Exchange → Type 0
 CabledThen past request reply xs =
     (Cabled past xs × (is_cable (Answered request reply []) ≡ false)) ⊎ ((is_cable (Answered request reply []) ≡ true) × (isolation past ≡ Some Valid))
+
+abbrev pub DeliversThen : PostPlan → List Seen → Bool → Request → Reply → List Exchange → Type 0 → Type 0
+DeliversThen plan past needs request reply xs valid =
+    Delivers plan past needs xs valid × (is_of asks_opening any (Answered request reply []) ≡ false)
 
 pub record RowedThen (plan : PostPlan) (past : List Seen) (stage : Stage) (request : Request) (reply : Reply) (xs : List Exchange) (valid : Type 0) : Type 0 where
   pub has : (before : List Seen) → RowHas stage.row (Answered request reply before ∷ xs)
@@ -76,6 +91,7 @@ pub record RowedThen (plan : PostPlan) (past : List Seen) (stage : Stage) (reque
   pub dialect : dialect_of xs ≡ speaks stage
   pub off : pre_charge_off (Answered request reply [] ∷ xs) ≡ option_map off_of stage.pre_charge
   pub cabled : valid → MatchBool (needs_isolation stage.row) (CabledThen past request reply xs) (Unit {0})
+  pub delivers : MatchBool (is_charging stage.row) (DeliversThen plan past (needs_isolation stage.row) request reply xs valid) (Unit {0})
 
 abbrev pub Chosen : PostPlan → List Seen → Stage → Option Dialect → Option EndCause → Type 0 → Type 0
 Chosen plan past stage None behind valid = IsSome behind
@@ -106,7 +122,7 @@ IsOkReply dialect None = Unit {0}
 IsOkReply dialect (Some (Response payload)) = ⊥
 IsOkReply dialect (Some (Said spoken reply)) = (spoken ≡ dialect) × IsOkClass reply.code
 
--- the reply to PowerDelivery Start waits
+-- the reply to PowerDelivery Start waits; the pilot was ready as the charger was ordered to close
 pub record Waits (c : Codecs) (plan : PostPlan) (past es : List Seen) (xs : List Exchange) (taken : ℕ) (stage : Stage) (reply : Option Spoken) (valid : Type 0) : Type 0 where
   pub count : taken ≡ suc (length xs)
   pub request : Request
@@ -114,6 +130,9 @@ pub record Waits (c : Codecs) (plan : PostPlan) (past es : List Seen) (xs : List
   pub start : asks_start request.ask ≡ true
   pub ok : IsOkReply stage.dialect reply
   pub rowed : Rowed plan past stage xs valid
+  pub prepared : IsPrepared (is_ac plan.mode) xs
+  pub checked : valid → MatchBool (needs_isolation stage.row) (IsChecked past xs) (Unit {0})
+  pub ready : waits es ≡ true → is_ready (pilot (before_close past)) ≡ true
 
 pub record Link (c : Codecs) (plan : PostPlan) (past es : List Seen) (stage : Stage) (unread : List ℕ) (reply : Option Spoken) (behind : Option EndCause) (valid : Type 0) : Type 0 where
   pub xs : List Exchange
@@ -148,7 +167,7 @@ pub record LinkedAt (c : Codecs) (plan : PostPlan) (past : List Seen) (arrived :
   pub pilot_is : pilot past ≡ facts.pilot
   pub isolation_is : isolation past ≡ facts.isolation
   pub tie : Tie c plan past agenda.ending (session past) kept agenda.reply agenda.behind_reply valid
-  pub closing : agenda.order ≡ Some order.Close → (agenda.datagram ≡ None) × Mandated c plan past × IsWaitingIn kept
+  pub closing : agenda.order ≡ Some order.Close → (agenda.datagram ≡ None) × Mandated c plan past × IsWaitingIn kept × (is_ready (pilot past) ≡ true)
 
 abbrev pub Linked : Codecs → PostPlan → List Seen → State → Type 0
 Linked c plan past s = LinkedAt c plan past s.arrived s.facts s.session s.agenda (Premise s.part s.event)

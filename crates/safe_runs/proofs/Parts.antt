@@ -19,25 +19,41 @@ use Rattle.session_rules.specs.Reply.{waiting_reply}
 use Rattle.session_rules.specs.Stages.{is_waiting}
 use Rattle.post_spec.specs.Codecs.{Codecs}
 use Rattle.post_spec.specs.Facts.{told_by, isolation_in}
-use Rattle.post_spec.specs.Mandated.{IsValidIfTold}
+use Rattle.post_spec.specs.Mandated.{IsChecked, IsValidIfTold}
 use Rattle.post_spec.specs.Sessions.{session}
 use Rattle.post_spec.specs.Steps.{Event, Came, Bytes, Gone, Datagram, Plant, Clock, Over, Seen}
 use Rattle.post_spec.specs.Talk.{Exchange}
 use Rattle.station_spec.specs.States.{Spoken, Said, Agenda, Part, Repeating, Timing, Eventing, Wording, Session, State, nothing, is_done, is_none, first_of}
 use Rattle.station_spec.specs.Deciding.{opening_if, ending_by, ending_in, repeating, timing, watch, confirms, confirming, charging_by, charging, eventing, fronting_by, fronting, decide, from_wording, from_eventing, from_timing, from_repeating, from_part, decided, due, is_reached}
-use Rattle.safe_runs.proofs.Links.{Premise, Cabled, Rowed, Pending, Waits, Tie, LinkedAt, Linked, Clear}
+use Rattle.safe_runs.proofs.Links.{Premise, Cabled, Delivers, Rowed, Pending, Waits, Tie, LinkedAt, Linked, Clear}
+use Rattle.safe_runs.proofs.Rows.{is_charging}
 
 -- another premise on what was heard
 cabled_as : (b : Bool) (V W C : Type 0) (n : Bool) → n ≡ b → (n ≡ true → W → V) → (V → MatchBool n C (Unit {0})) → W → MatchBool n C (Unit {0})
 cabled_as true V W C n e f g w = g (f e w)
 cabled_as false V W C n e f g w = rw e tt
 
+delivers_as : (V W : Type 0) (plan : PostPlan) (past : List Seen) (b n : Bool) (xs : List Exchange) → (n ≡ true → W → V) → MatchBool b (Delivers plan past n xs V) (Unit {0}) → MatchBool b (Delivers plan past n xs W) (Unit {0})
+delivers_as V W plan past true n xs f k =
+    record { earlier = k.earlier; judged = k.judged; started = k.started; prepared = k.prepared; checked = cabled_as n V W (IsChecked past k.earlier) n refl f k.checked; ready = k.ready }
+delivers_as V W plan past false n xs f k = tt
+
 rowed_as : (plan : PostPlan) (V W : Type 0) (past : List Seen) (ss : Session) (xs : List Exchange) → (needs_isolation ss.stage.row ≡ true → W → V) → Rowed plan past ss.stage xs V → Rowed plan past ss.stage xs W
-rowed_as plan V W past ss xs f r = record { has = r.has; power = r.power; dialect = r.dialect; off = r.off; cabled = cabled_as (needs_isolation ss.stage.row) V W (Cabled past xs) (needs_isolation ss.stage.row) refl f r.cabled }
+rowed_as plan V W past ss xs f r = record { has = r.has; power = r.power; dialect = r.dialect; off = r.off; cabled = cabled_as (needs_isolation ss.stage.row) V W (Cabled past xs) (needs_isolation ss.stage.row) refl f r.cabled; delivers = delivers_as V W plan past (is_charging ss.stage.row) (needs_isolation ss.stage.row) xs f r.delivers }
 
 talk_as : (c : Codecs) (plan : PostPlan) (past es : List Seen) (ss : Session) (xs : List Exchange) (taken : ℕ) (behind : Option EndCause) (V W : Type 0) (b : Bool) → (needs_isolation ss.stage.row ≡ true → W → V)
     → MatchBool b (Waits c plan past es xs taken ss.stage None V) (Pending c plan past es xs taken ss.stage None behind V) → MatchBool b (Waits c plan past es xs taken ss.stage None W) (Pending c plan past es xs taken ss.stage None None W)
-talk_as c plan past es ss xs taken behind V W true f t = record { count = t.count; request = t.request; asks = t.asks; start = t.start; ok = tt; rowed = rowed_as plan V W past ss xs f t.rowed }
+talk_as c plan past es ss xs taken behind V W true f t = record {
+  count = t.count;
+  request = t.request;
+  asks = t.asks;
+  start = t.start;
+  ok = tt;
+  rowed = rowed_as plan V W past ss xs f t.rowed;
+  prepared = t.prepared;
+  checked = cabled_as (needs_isolation ss.stage.row) V W (IsChecked past xs) (needs_isolation ss.stage.row) refl f t.checked;
+  ready = t.ready;
+}
 talk_as c plan past es ss xs taken behind V W false f t = (t.0, rowed_as plan V W past ss xs f t.1)
 
 tie_as : (c : Codecs) (plan : PostPlan) (past : List Seen) (es : Option (List Seen)) (kept : Option Session) (behind : Option EndCause) (V W : Type 0) → ((ss : Session) → kept ≡ Some ss → needs_isolation ss.stage.row ≡ true → W → V)
@@ -119,7 +135,7 @@ fronting_linked c plan past arrived facts (Some ss) live l = fronting_at c plan 
 talk_confirmed : (c : Codecs) (plan : PostPlan) (past es : List Seen) (ss : Session) (facts : Facts) (xs : List Exchange) (taken : ℕ) (b : Bool) → b ≡ true
     → MatchBool b (Waits c plan past es xs taken ss.stage None (Unit {0})) (Pending c plan past es xs taken ss.stage None None (Unit {0}))
     → MatchBool b (Waits c plan past es xs taken ss.stage (Some (Said ss.stage.dialect (waiting_reply ss.stage facts plan))) (Unit {0})) (Pending c plan past es xs taken ss.stage (Some (Said ss.stage.dialect (waiting_reply ss.stage facts plan))) None (Unit {0}))
-talk_confirmed c plan past es ss facts xs taken true e t = record { count = t.count; request = t.request; asks = t.asks; start = t.start; ok = (refl, tt); rowed = t.rowed }
+talk_confirmed c plan past es ss facts xs taken true e t = record { count = t.count; request = t.request; asks = t.asks; start = t.start; ok = (refl, tt); rowed = t.rowed; prepared = t.prepared; checked = t.checked; ready = t.ready }
 talk_confirmed c plan past es ss facts xs taken false e t = cc
 
 tie_confirmed : (c : Codecs) (plan : PostPlan) (past : List Seen) (es : Option (List Seen)) (ss : Session) (facts : Facts) → is_waiting ss.stage.row ≡ true → Tie c plan past None es (Some ss) None None (Unit {0})

@@ -13,7 +13,7 @@ use Rattle.session_rules.specs.Causes.{needs_isolation}
 use Rattle.session_rules.specs.Rows.{leads}
 use Rattle.session_rules.specs.Stages.{is_waiting}
 use Rattle.station_spec.specs.Judging.{speaks_in}
-use Rattle.post_spec.specs.Kinds.{is_negotiation, is_of, any, says_finished, asks_setup, asks_services, asks_payment, asks_authorization, asks_parameters, asks_cable_check, asks_pre_charge}
+use Rattle.post_spec.specs.Kinds.{is_negotiation, is_of, any, says_finished, asks_setup, asks_services, asks_payment, asks_authorization, asks_parameters, asks_cable_check, asks_pre_charge, asks_opening}
 use Rattle.post_spec.specs.Mandated.{Has, HasNo, set_up, powered, renegotiates, IsPrepared}
 use Rattle.session_words.specs.declared.amount.Amount.{Amount}
 use Rattle.std.specs.Prelude.{ℤ}
@@ -88,6 +88,12 @@ abbrev pub is_cable_check : Ask → Bool
 is_cable_check (ask.CableCheck ready soc) = true
 is_cable_check other = false
 
+-- rows behind a Close that was confirmed
+abbrev pub is_charging : Phase → Bool
+is_charging row.DcCharging = true
+is_charging row.AcCharging = true
+is_charging other = false
+
 -- rows of power are those of the post's kind
 abbrev pub PowerOf : Phase → Bool → Type 0
 PowerOf row.DcReady ac = ac ≡ false
@@ -110,29 +116,31 @@ pub record Stepped (here next : Phase) (asked : Ask) (finished ac : Bool) (name 
   pub cabled : needs_isolation next ≡ true
       → ((needs_isolation here ≡ true) × (is_of asks_cable_check says_finished (asked_of name asked reply []) ≡ false))
       ⊎ ((is_of asks_cable_check says_finished (asked_of name asked reply []) ≡ true) × (finished ≡ true) × (is_cable_check asked ≡ true))
+  pub charges : is_charging next ≡ true
+      → (is_charging here ≡ true) × (is_of asks_opening any (asked_of name asked reply []) ≡ false) × (needs_isolation here ≡ needs_isolation next)
 
 pub row_step : (here : Phase) (asked : Ask) (finished ac : Bool) (name : SessionId) (reply : Reply) (xs : List Exchange)
     → is_some (leads here asked true true) ≡ true → Says asked finished reply.tell → RowHas here xs → PowerOf here ac → Stepped here (unwrap_or (leads here asked finished ac) here) asked finished ac name reply xs
-row_step row.Negotiated (ask.SessionSetup car) finished ac name reply xs h s r p = record { has = λ before. (first_add (is_of asks_setup any) (is_negotiation ∷ []) (asked_of name (ask.SessionSetup car) reply before) xs refl refl r); power = tt; goes = refl; talks = λ d. refl; talked = λ d. refl; cabled = λ n. absurd (cc) }
-row_step row.SetUp ask.ServiceDiscovery finished ac name reply xs h s r p = record { has = λ before. (first_add (is_of asks_services any) named (asked_of name ask.ServiceDiscovery reply before) xs refl refl r); power = tt; goes = refl; talks = λ d. refl; talked = λ d. refl; cabled = λ n. absurd (cc) }
-row_step row.Discovered (ask.ServiceDetail service) finished ac name reply xs h s r p = record { has = λ before. (first_more offered (asked_of name (ask.ServiceDetail service) reply before) xs refl r); power = tt; goes = refl; talks = λ d. refl; talked = λ d. refl; cabled = λ n. absurd (cc) }
-row_step row.Discovered (ask.PaymentSelection external services) finished ac name reply xs h s r p = record { has = λ before. (first_add (is_of asks_payment any) offered (asked_of name (ask.PaymentSelection external services) reply before) xs refl refl r); power = tt; goes = refl; talks = λ d. refl; talked = λ d. refl; cabled = λ n. absurd (cc) }
-row_step row.Selected ask.Authorization true ac name reply xs h s r p = record { has = λ before. inl (first_add (is_of asks_authorization says_finished) selected (asked_of name ask.Authorization reply before) xs refl s r); power = tt; goes = refl; talks = λ d. refl; talked = λ d. refl; cabled = λ n. absurd (cc) }
-row_step row.Selected ask.Authorization false ac name reply xs h s r p = record { has = λ before. (first_more selected (asked_of name ask.Authorization reply before) xs refl r); power = tt; goes = refl; talks = λ d. refl; talked = λ d. refl; cabled = λ n. absurd (cc) }
-row_step row.Authorized (ask.ChargeParameters mode limits) true true name reply xs h s r p = record { has = λ before. (round_add (is_of asks_parameters says_finished) [] (asked_of name (ask.ChargeParameters mode limits) reply before) xs refl s r); power = refl; goes = refl; talks = λ d. refl; talked = λ d. refl; cabled = λ n. absurd (cc) }
-row_step row.Authorized (ask.ChargeParameters mode limits) true false name reply xs h s r p = record { has = λ before. (round_add (is_of asks_parameters says_finished) [] (asked_of name (ask.ChargeParameters mode limits) reply before) xs refl s r); power = refl; goes = refl; talks = λ d. refl; talked = λ d. refl; cabled = λ n. absurd (cc) }
-row_step row.Authorized (ask.ChargeParameters mode limits) false ac name reply xs h s r p = record { has = λ before. (round_more [] (asked_of name (ask.ChargeParameters mode limits) reply before) xs refl r); power = tt; goes = refl; talks = λ d. refl; talked = λ d. refl; cabled = λ n. absurd (cc) }
-row_step row.DcReady (ask.CableCheck ready soc) true ac name reply xs h s r p = record { has = λ before. (round_add (is_of asks_cable_check says_finished) parameters (asked_of name (ask.CableCheck ready soc) reply before) xs refl s r); power = p; goes = refl; talks = λ d. refl; talked = λ d. refl; cabled = λ n. inr (s, refl, refl) }
-row_step row.DcReady (ask.CableCheck ready soc) false ac name reply xs h s r p = record { has = λ before. (round_more parameters (asked_of name (ask.CableCheck ready soc) reply before) xs refl r); power = p; goes = refl; talks = λ d. refl; talked = λ d. refl; cabled = λ n. absurd (cc) }
-row_step row.DcChecked (ask.PreCharge ready soc voltage current) finished ac name reply xs h s r p = record { has = λ before. (round_add (is_of asks_pre_charge any) cabled (asked_of name (ask.PreCharge ready soc voltage current) reply before) xs refl refl r); power = p; goes = refl; talks = λ d. refl; talked = λ d. refl; cabled = λ n. inl (refl, refl) }
-row_step row.DcPreCharging (ask.PreCharge ready soc voltage current) finished ac name reply xs h s r p = record { has = λ before. (round_more pre_charged (asked_of name (ask.PreCharge ready soc voltage current) reply before) xs refl r); power = p; goes = refl; talks = λ d. refl; talked = λ d. refl; cabled = λ n. inl (refl, refl) }
-row_step row.DcCharging (ask.CurrentDemand ready soc voltage current) finished ac name reply xs h s r p = record { has = λ before. (round_more [] (asked_of name (ask.CurrentDemand ready soc voltage current) reply before) xs refl r); power = p; goes = refl; talks = λ d. refl; talked = λ d. refl; cabled = λ n. inl (refl, refl) }
-row_step row.DcCharging (ask.PowerDelivery progress.Stop tuple profile) finished ac name reply xs h s r p = record { has = λ before. tt; power = tt; goes = refl; talks = λ d. refl; talked = λ d. refl; cabled = λ n. absurd (cc) }
-row_step row.DcCharging (ask.PowerDelivery progress.Renegotiate tuple profile) finished ac name reply xs h s r p = record { has = λ before. (round_again (asked_of name (ask.PowerDelivery progress.Renegotiate tuple profile) reply before) xs refl r); power = tt; goes = refl; talks = λ d. refl; talked = λ d. refl; cabled = λ n. absurd (cc) }
-row_step row.DcStopped (ask.WeldingDetection ready soc) finished ac name reply xs h s r p = record { has = λ before. tt; power = tt; goes = refl; talks = λ d. refl; talked = λ d. refl; cabled = λ n. absurd (cc) }
-row_step row.AcCharging ask.ChargingStatus finished ac name reply xs h s r p = record { has = λ before. (round_more [] (asked_of name ask.ChargingStatus reply before) xs refl r); power = p; goes = refl; talks = λ d. refl; talked = λ d. refl; cabled = λ n. absurd (cc) }
-row_step row.AcCharging (ask.PowerDelivery progress.Stop tuple profile) finished ac name reply xs h s r p = record { has = λ before. tt; power = tt; goes = refl; talks = λ d. refl; talked = λ d. refl; cabled = λ n. absurd (cc) }
-row_step row.AcCharging (ask.PowerDelivery progress.Renegotiate tuple profile) finished ac name reply xs h s r p = record { has = λ before. (round_again (asked_of name (ask.PowerDelivery progress.Renegotiate tuple profile) reply before) xs refl r); power = tt; goes = refl; talks = λ d. refl; talked = λ d. refl; cabled = λ n. absurd (cc) }
+row_step row.Negotiated (ask.SessionSetup car) finished ac name reply xs h s r p = record { has = λ before. (first_add (is_of asks_setup any) (is_negotiation ∷ []) (asked_of name (ask.SessionSetup car) reply before) xs refl refl r); power = tt; goes = refl; talks = λ d. refl; talked = λ d. refl; cabled = λ n. absurd (cc); charges = λ m. absurd (cc) }
+row_step row.SetUp ask.ServiceDiscovery finished ac name reply xs h s r p = record { has = λ before. (first_add (is_of asks_services any) named (asked_of name ask.ServiceDiscovery reply before) xs refl refl r); power = tt; goes = refl; talks = λ d. refl; talked = λ d. refl; cabled = λ n. absurd (cc); charges = λ m. absurd (cc) }
+row_step row.Discovered (ask.ServiceDetail service) finished ac name reply xs h s r p = record { has = λ before. (first_more offered (asked_of name (ask.ServiceDetail service) reply before) xs refl r); power = tt; goes = refl; talks = λ d. refl; talked = λ d. refl; cabled = λ n. absurd (cc); charges = λ m. absurd (cc) }
+row_step row.Discovered (ask.PaymentSelection external services) finished ac name reply xs h s r p = record { has = λ before. (first_add (is_of asks_payment any) offered (asked_of name (ask.PaymentSelection external services) reply before) xs refl refl r); power = tt; goes = refl; talks = λ d. refl; talked = λ d. refl; cabled = λ n. absurd (cc); charges = λ m. absurd (cc) }
+row_step row.Selected ask.Authorization true ac name reply xs h s r p = record { has = λ before. inl (first_add (is_of asks_authorization says_finished) selected (asked_of name ask.Authorization reply before) xs refl s r); power = tt; goes = refl; talks = λ d. refl; talked = λ d. refl; cabled = λ n. absurd (cc); charges = λ m. absurd (cc) }
+row_step row.Selected ask.Authorization false ac name reply xs h s r p = record { has = λ before. (first_more selected (asked_of name ask.Authorization reply before) xs refl r); power = tt; goes = refl; talks = λ d. refl; talked = λ d. refl; cabled = λ n. absurd (cc); charges = λ m. absurd (cc) }
+row_step row.Authorized (ask.ChargeParameters mode limits) true true name reply xs h s r p = record { has = λ before. (round_add (is_of asks_parameters says_finished) [] (asked_of name (ask.ChargeParameters mode limits) reply before) xs refl s r); power = refl; goes = refl; talks = λ d. refl; talked = λ d. refl; cabled = λ n. absurd (cc); charges = λ m. absurd (cc) }
+row_step row.Authorized (ask.ChargeParameters mode limits) true false name reply xs h s r p = record { has = λ before. (round_add (is_of asks_parameters says_finished) [] (asked_of name (ask.ChargeParameters mode limits) reply before) xs refl s r); power = refl; goes = refl; talks = λ d. refl; talked = λ d. refl; cabled = λ n. absurd (cc); charges = λ m. absurd (cc) }
+row_step row.Authorized (ask.ChargeParameters mode limits) false ac name reply xs h s r p = record { has = λ before. (round_more [] (asked_of name (ask.ChargeParameters mode limits) reply before) xs refl r); power = tt; goes = refl; talks = λ d. refl; talked = λ d. refl; cabled = λ n. absurd (cc); charges = λ m. absurd (cc) }
+row_step row.DcReady (ask.CableCheck ready soc) true ac name reply xs h s r p = record { has = λ before. (round_add (is_of asks_cable_check says_finished) parameters (asked_of name (ask.CableCheck ready soc) reply before) xs refl s r); power = p; goes = refl; talks = λ d. refl; talked = λ d. refl; cabled = λ n. inr (s, refl, refl); charges = λ m. absurd (cc) }
+row_step row.DcReady (ask.CableCheck ready soc) false ac name reply xs h s r p = record { has = λ before. (round_more parameters (asked_of name (ask.CableCheck ready soc) reply before) xs refl r); power = p; goes = refl; talks = λ d. refl; talked = λ d. refl; cabled = λ n. absurd (cc); charges = λ m. absurd (cc) }
+row_step row.DcChecked (ask.PreCharge ready soc voltage current) finished ac name reply xs h s r p = record { has = λ before. (round_add (is_of asks_pre_charge any) cabled (asked_of name (ask.PreCharge ready soc voltage current) reply before) xs refl refl r); power = p; goes = refl; talks = λ d. refl; talked = λ d. refl; cabled = λ n. inl (refl, refl); charges = λ m. absurd (cc) }
+row_step row.DcPreCharging (ask.PreCharge ready soc voltage current) finished ac name reply xs h s r p = record { has = λ before. (round_more pre_charged (asked_of name (ask.PreCharge ready soc voltage current) reply before) xs refl r); power = p; goes = refl; talks = λ d. refl; talked = λ d. refl; cabled = λ n. inl (refl, refl); charges = λ m. absurd (cc) }
+row_step row.DcCharging (ask.CurrentDemand ready soc voltage current) finished ac name reply xs h s r p = record { has = λ before. (round_more [] (asked_of name (ask.CurrentDemand ready soc voltage current) reply before) xs refl r); power = p; goes = refl; talks = λ d. refl; talked = λ d. refl; cabled = λ n. inl (refl, refl); charges = λ m. (refl, refl, refl) }
+row_step row.DcCharging (ask.PowerDelivery progress.Stop tuple profile) finished ac name reply xs h s r p = record { has = λ before. tt; power = tt; goes = refl; talks = λ d. refl; talked = λ d. refl; cabled = λ n. absurd (cc); charges = λ m. absurd (cc) }
+row_step row.DcCharging (ask.PowerDelivery progress.Renegotiate tuple profile) finished ac name reply xs h s r p = record { has = λ before. (round_again (asked_of name (ask.PowerDelivery progress.Renegotiate tuple profile) reply before) xs refl r); power = tt; goes = refl; talks = λ d. refl; talked = λ d. refl; cabled = λ n. absurd (cc); charges = λ m. absurd (cc) }
+row_step row.DcStopped (ask.WeldingDetection ready soc) finished ac name reply xs h s r p = record { has = λ before. tt; power = tt; goes = refl; talks = λ d. refl; talked = λ d. refl; cabled = λ n. absurd (cc); charges = λ m. absurd (cc) }
+row_step row.AcCharging ask.ChargingStatus finished ac name reply xs h s r p = record { has = λ before. (round_more [] (asked_of name ask.ChargingStatus reply before) xs refl r); power = p; goes = refl; talks = λ d. refl; talked = λ d. refl; cabled = λ n. absurd (cc); charges = λ m. (refl, refl, refl) }
+row_step row.AcCharging (ask.PowerDelivery progress.Stop tuple profile) finished ac name reply xs h s r p = record { has = λ before. tt; power = tt; goes = refl; talks = λ d. refl; talked = λ d. refl; cabled = λ n. absurd (cc); charges = λ m. absurd (cc) }
+row_step row.AcCharging (ask.PowerDelivery progress.Renegotiate tuple profile) finished ac name reply xs h s r p = record { has = λ before. (round_again (asked_of name (ask.PowerDelivery progress.Renegotiate tuple profile) reply before) xs refl r); power = tt; goes = refl; talks = λ d. refl; talked = λ d. refl; cabled = λ n. absurd (cc); charges = λ m. absurd (cc) }
 row_step here (ask.SessionStop pause) finished ac name reply xs h s r p = absurd s
 row_step here (ask.PowerDelivery progress.Start tuple profile) finished ac name reply xs h s r p = absurd s
 row_step here asked finished ac name reply xs h s r p = absurd (cc)
@@ -162,10 +170,11 @@ pub record Starting (here next : Phase) (ac : Bool) (xs : List Exchange) : Type 
   pub has : RowHas next xs
   pub power : PowerOf next ac
   pub waits : is_waiting next ≡ true
+  pub still : is_charging next ≡ false
   pub talks : (d : Dialect) → speaks_in next d ≡ Some d
   pub talked : (d : Dialect) → speaks_in here d ≡ Some d
   pub needs : needs_isolation next ≡ needs_isolation here
-  pub direct : (needs_isolation here ≡ true) × (ac ≡ false) × (here ≡ row.DcPreCharging) ⊎ (ac ≡ true)
+  pub direct : (needs_isolation here ≡ true) × (ac ≡ false) × (here ≡ row.DcPreCharging) ⊎ ((ac ≡ true) × (needs_isolation here ≡ false))
 
 pub start_step : (here : Phase) (tuple : Option ℤ) (profile : Option Amount) (finished ac : Bool) (xs : List Exchange)
     → is_some (leads here (ask.PowerDelivery progress.Start tuple profile) true true) ≡ true → RowHas here xs → PowerOf here ac
@@ -175,6 +184,7 @@ start_step row.DcPreCharging tuple profile finished ac xs h r p = record {
   has = round_drop (is_of asks_parameters says_finished) [] xs (round_drop (is_of asks_cable_check says_finished) parameters xs (round_drop (is_of asks_pre_charge any) cabled xs r));
   power = p;
   waits = refl;
+  still = refl;
   talks = λ d. refl;
   talked = λ d. refl;
   needs = refl;
@@ -185,9 +195,10 @@ start_step row.AcReady tuple profile finished ac xs h r p = record {
   has = round_drop (is_of asks_parameters says_finished) [] xs r;
   power = p;
   waits = refl;
+  still = refl;
   talks = λ d. refl;
   talked = λ d. refl;
   needs = refl;
-  direct = inr p;
+  direct = inr (p, refl);
 }
 start_step here tuple profile finished ac xs h r p = absurd (cc)

@@ -1,5 +1,5 @@
 -- In every run a contactor is ordered closed only as mandated.
-use Rattle.std.proofs.Common.{◌≡◌, ℕ, ◌+◌, Bool, true, false, List, [], ◌∷◌, ◌++◌, length, map, Option, Some, None, refl, sym, ap, subst, ◌∙◌, MatchBool}
+use Rattle.std.proofs.Common.{◌≡◌, ℕ, ◌+◌, Bool, true, false, List, [], ◌∷◌, ◌++◌, length, map, Option, Some, None, refl, sym, ap, subst, ◌∙◌, inr, MatchBool}
 use Rattle.std.specs.Option.{option_map}
 use Rattle.charge_world.specs.declared.heard.PlantEvent.TheVariants as plant
 use Rattle.charge_world.specs.declared.ports.Order.{Order}
@@ -19,18 +19,21 @@ use Rattle.post_spec.specs.Steps.{Event, Came, Bytes, Gone, Datagram, Plant, Clo
 use Rattle.post_spec.specs.Talk.{Exchange, Unless, Talks}
 use Rattle.station_spec.specs.States.{Spoken, Agenda, Session, State, nothing, fresh, first_session, first, first_of, is_none, is_done}
 use Rattle.station_spec.specs.States as states
+use Rattle.station_spec.specs.Deciding.{decided}
 use Rattle.station_spec.specs.Judging.{filled}
 use Rattle.station_spec.specs.Acting.{heard_facts, arrival, session_opened, with_bytes, hearing, state, IsQuiet, IsDone}
 use Rattle.station_spec.specs.Sharing.{Shows}
 use Rattle.station_laws.specs.PostRuns.{IsPostRun, ArePostsOf}
-use Rattle.station_laws.proofs.Decided.{planned}
+use Rattle.station_laws.proofs.Decided.{planned, same_session}
 use Rattle.station_laws.proofs.PostRuns.{run_posts, post_at}
 use Rattle.safe_runs.specs.Closing.{ClosesMandated, RunsCloseMandated}
-use Rattle.safe_runs.proofs.Acted.{cabled_more, acted_linked}
+use Rattle.safe_runs.proofs.Acted.{cabled_more, checked_more, delivers_in_more, acted_linked}
 use Rattle.safe_runs.proofs.Filled.{filled_linked}
 use Rattle.safe_runs.proofs.Growth.{AreWhole, grown, payload_stays}
 use Rattle.safe_runs.proofs.Links.{Cabled, Rowed, Pending, Waits, Link, Tie, SameArrival, LinkedAt, Linked, Clear}
 use Rattle.safe_runs.proofs.Parts.{decided_planned}
+use Rattle.safe_runs.proofs.Rows.{is_charging}
+use Rattle.safe_runs.proofs.Shut.{Still, Shut, done_still, decided_shut, filled_shut, with_more, with_row, first_still, acted_shut}
 
 -- What a hearing tells.
 
@@ -85,7 +88,7 @@ cabled_heard true past at e xs v k = cabled_more past (Heard at e) xs v k
 cabled_heard false past at e xs v k = tt
 
 rowed_heard : (plan : PostPlan) (past : List Seen) (at : ℕ) (e : Event) (stage : Stage) (xs : List Exchange) → Rowed plan past stage xs (Unit {0}) → Rowed plan (Heard at e ∷ past) stage xs (V e)
-rowed_heard plan past at e stage xs r = record { has = r.has; power = r.power; dialect = r.dialect; off = r.off; cabled = λ v. cabled_heard (needs_isolation stage.row) past at e xs v (r.cabled tt) }
+rowed_heard plan past at e stage xs r = record { has = r.has; power = r.power; dialect = r.dialect; off = r.off; cabled = λ v. cabled_heard (needs_isolation stage.row) past at e xs v (r.cabled tt); delivers = delivers_in_more (is_charging stage.row) plan past (Heard at e) (needs_isolation stage.row) xs (Unit {0}) (V e) (λ v. tt) (λ v. v) r.delivers }
 
 talk_heard : (c : Codecs) (plan : PostPlan) (past es : List Seen) (at : ℕ) (e : Event) (xs : List Exchange) (taken : ℕ) (stage : Stage) (b : Bool) → AreWhole taken (stream es)
     → MatchBool b (Waits c plan past es xs taken stage None (Unit {0})) (Pending c plan past es xs taken stage None None (Unit {0}))
@@ -99,6 +102,9 @@ talk_heard c plan past es at e xs taken stage true w t =
       start = t.start;
       ok = t.ok;
       rowed = rowed_heard plan past at e stage xs t.rowed;
+      prepared = t.prepared;
+      checked = λ v. checked_more (needs_isolation stage.row) past (Heard at e) xs v (t.checked tt);
+      ready = t.ready;
     }
 talk_heard c plan past es at e xs taken stage false w t = (t.0, rowed_heard plan past at e stage xs t.1)
 
@@ -128,7 +134,7 @@ link_opened c plan past came at token now e a s w = record {
   whole = tt;
   unread_is = ap (λ (bs : List ℕ). bs ++ brought e) (sym s);
   quiet = λ q. w;
-  talk = (refl, record { has = refl; power = tt; dialect = refl; off = refl; cabled = λ v. tt });
+  talk = (refl, record { has = refl; power = tt; dialect = refl; off = refl; cabled = λ v. tt; delivers = tt });
 }
 
 tie_heard : (c : Codecs) (plan : PostPlan) (past : List Seen) (at now : ℕ) (e : Event) (came : Option Seen) (arrived : Option ℕ) (es : Option (List Seen)) (kept : Option Session) → arriving past ≡ came → SameArrival came arrived
@@ -158,13 +164,48 @@ quiet_clear c plan past s l q =
     let k = (decided_planned c plan past s l).clear (ap is_none q.none) in
     subst (λ (t : State). LinkedAt c plan past t.arrived t.facts t.session nothing (Unit {0})) p.is k
 
+-- a reply that waits has its Close
+heard_still : (past : List Seen) (at now : ℕ) (e : Event) (came : Option Seen) (arrived : Option ℕ) (lives : Option (List Seen)) (kept : Option Session) → SameArrival came arrived → Still lives kept
+    → Still (with_seen (Heard at e) (session_behind came lives)) (option_map (with_bytes (brought e)) (session_opened arrived now kept))
+heard_still past at now e None (Some token) lives kept a k = absurd a
+heard_still past at now e (Some came) None lives kept a k = absurd a
+heard_still past at now e (Some came) (Some token) lives kept a k = first_still (with_seen (Heard at e) (Some (came ∷ []))) token now (brought e)
+heard_still past at now e None None lives kept a k = with_row (with_seen (Heard at e) lives) kept (with_bytes (brought e)) (λ ss. refl) (with_more (Heard at e) lives kept (λ es w. w) k)
+
 -- every run of a post
+pub record Tied (c : Codecs) (plan : PostPlan) (past : List Seen) (s : State) : Type 0 where
+  pub linked : Linked c plan past s
+  pub shut : Shut past s
+
+pub quiet_still : (plan : PostPlan) (past : List Seen) (s : State) → Shut past s → IsQuiet plan s → Still (session past) s.session
+quiet_still plan past s k q = subst (λ (kept : Option Session). Still (session past) kept) (same_session plan s) (done_still past (decided plan s) (ap is_none q.none) (decided_shut plan past s k))
+
+pub run_tied : (c : Codecs) (plan : PostPlan) (steps : List Step) → ReadsBack c → IsPostRun c plan steps → Tied c plan (map seen_of steps) (state plan steps)
+run_tied c plan [] back run = record {
+  linked = record { arrives = tt; pilot_is = refl; isolation_is = refl; tie = tt; closing = λ h. absurd (let x : None ≡ Some order.Close = h in cc) };
+  shut = λ e. inr (λ es ss l k w. cc);
+}
+run_tied c plan (Hears at e ∷ steps) back run =
+    let past = map seen_of steps in
+    let s = state plan steps in
+    let t = run_tied c plan steps back run.0 in
+    let k = quiet_clear c plan past s t.linked run.1 in
+    record {
+      linked = heard_linked c plan past at e s k;
+      shut = λ h. inr (heard_still past at s.clock e (arriving past) s.arrived (session past) s.session k.arrives (quiet_still plan past s t.shut run.1));
+    }
+run_tied c plan (Does r a taken ∷ steps) back (run, (limit, before, behind, acts)) =
+    let past = map seen_of steps in
+    let s = state plan steps in
+    let t = run_tied c plan steps back run in
+    let u = filled_shut c plan (Shows limit before behind) past s r acts.read t.shut in
+    record {
+      linked = acted_linked c plan past (filled plan r s) acts.todo a taken back u acts.acts acts.done (filled_linked c plan (Shows limit before behind) past s r acts.read t.linked);
+      shut = acted_shut c past (filled plan r s) acts.todo a taken acts.acts acts.done u;
+    }
+
 pub run_linked : (c : Codecs) (plan : PostPlan) (steps : List Step) → ReadsBack c → IsPostRun c plan steps → Linked c plan (map seen_of steps) (state plan steps)
-run_linked c plan [] back run = record { arrives = tt; pilot_is = refl; isolation_is = refl; tie = tt; closing = λ h. absurd (let x : None ≡ Some order.Close = h in cc) }
-run_linked c plan (Hears at e ∷ steps) back run = heard_linked c plan (map seen_of steps) at e (state plan steps) (quiet_clear c plan (map seen_of steps) (state plan steps) (run_linked c plan steps back run.0) run.1)
-run_linked c plan (Does r a taken ∷ steps) back (run, (limit, before, behind, acts)) =
-    acted_linked c plan (map seen_of steps) (filled plan r (state plan steps)) acts.todo a taken back acts.acts acts.done
-    (filled_linked c plan (Shows limit before behind) (map seen_of steps) (state plan steps) r acts.read (run_linked c plan steps back run))
+run_linked c plan steps back run = (run_tied c plan steps back run).linked
 
 -- an order to close was decided
 close_todo : (c : Codecs) (todo : states.Todo) (a : Act) (taken : Bool) → IsDone c todo a taken → a ≡ Give order.Close → todo ≡ states.Give order.Close

@@ -38,8 +38,8 @@ use Rattle.station_spec.specs.States.{Spoken, Response, Said}
 use Rattle.station_spec.specs.Judging.{speaks, speaks_in, chosen_stage, unmatched}
 use Rattle.std.specs.Prelude.{ℤ}
 use Rattle.safe_runs.proofs.Asked.{ok_class, row_takes, says, off_step, cable_valid}
-use Rattle.safe_runs.proofs.Links.{Cabled, Rowed, CabledThen, RowedThen, Asks, Pending, Waits, Link}
-use Rattle.safe_runs.proofs.Rows.{IsPlain, RowHas, row_step, start_step}
+use Rattle.safe_runs.proofs.Links.{Cabled, Delivers, Rowed, CabledThen, DeliversThen, RowedThen, Asks, Pending, Waits, Link}
+use Rattle.safe_runs.proofs.Rows.{IsPlain, RowHas, is_charging, row_step, start_step}
 use Rattle.safe_runs.proofs.Verdicts.{lines_start}
 
 -- the payload at the front is the one behind those that were taken
@@ -71,6 +71,10 @@ cabled_in C false e m = cc
 cabled_if : (C : Type 0) (b : Bool) → (b ≡ true → C) → MatchBool b C (Unit {0})
 cabled_if C true f = f refl
 cabled_if C false f = tt
+
+unless_it : (C : Type 0) (b : Bool) → b ≡ false → MatchBool b C (Unit {0})
+unless_it C true e = cc
+unless_it C false e = tt
 
 some_one : (a b : Dialect) → Some a ≡ Some b → a ≡ b
 some_one a b h = cc
@@ -109,6 +113,10 @@ plain_link c plan past es stage unread facts name a shown n d l f w reads sp iso
       dialect = f.rowed.dialect ∙ step.talked stage.dialect ∙ sym (step.talks stage.dialect);
       off = off_step stage facts plan (verdict stage facts plan r) shown l.xs a f.rowed.off;
       cabled = λ u. cabled_if (CabledThen past r (read_back reply) l.xs) (needs_isolation next.row) cab;
+      delivers = cabled_if (DeliversThen plan past (needs_isolation next.row) r (read_back reply) l.xs (Unit {0})) (is_charging next.row) (λ m.
+      let k = step.charges m in
+      let here = cabled_in (Delivers plan past (needs_isolation stage.row) l.xs (Unit {0})) (is_charging stage.row) k.0 f.rowed.delivers in
+      (subst (λ (n : Bool). Delivers plan past n l.xs (Unit {0})) k.2 here, k.1));
     } in
     let pending : Pending c plan past es l.xs (suc l.taken) next (Some (Said stage.dialect reply)) None (Unit {0}) =
     (ap suc f.count, (r, asks, ok_class (verdict stage facts plan r) ok, owed)) in (
@@ -129,6 +137,7 @@ plain_link c plan past es stage unread facts name a shown n d l f w reads sp iso
 pub record Started (c : Codecs) (plan : PostPlan) (past es : List Seen) (next stage : Stage) (unread : List ℕ) : Type 0 where
   pub mandated : Mandated c plan past
   pub waiting : is_waiting next.row ≡ true
+  pub ready : is_ready (pilot past) ≡ true
   pub link : Link c plan past es next (behind_front unread) None None (Unit {0})
 
 waits_in : (c : Codecs) (plan : PostPlan) (past es : List Seen) (xs : List Exchange) (taken : ℕ) (stage : Stage) (b : Bool) → b ≡ true → Waits c plan past es xs taken stage None (Unit {0})
@@ -192,9 +201,13 @@ start_link c plan past es stage unread facts name tuple profile shown n d l f he
       reads = own;
       dialect_is = f.rowed.dialect ∙ step.talked stage.dialect;
     } in
+    let charged : MatchBool (needs_isolation stage.row) (IsChecked past l.xs) (Unit {0}) = elim step.direct [
+      | inl h ↦ cabled_if (IsChecked past l.xs) (needs_isolation stage.row) (λ n. checked_at plan past stage l.xs stage.row refl h.2 met.1 f.rowed (cabled_in (Cabled past l.xs) (needs_isolation stage.row) h.0 (f.rowed.cabled tt)))
+      | inr h ↦ unless_it (IsChecked past l.xs) (needs_isolation stage.row) h.1
+    ] in
     let checks : MatchBool (is_ac plan.mode) (Unit {0}) (IsChecked past l.xs) = elim step.direct [
       | inl h ↦ dc_checked (IsChecked past l.xs) (is_ac plan.mode) h.1 (checked_at plan past stage l.xs stage.row refl h.2 met.1 f.rowed (cabled_in (Cabled past l.xs) (needs_isolation stage.row) h.0 (f.rowed.cabled tt)))
-      | inr h ↦ ac_checked (IsChecked past l.xs) (is_ac plan.mode) h
+      | inr h ↦ ac_checked (IsChecked past l.xs) (is_ac plan.mode) h.0
     ] in
     let starts : IsStarting c past es l.xs l.xs past = record {
       spoken = stage.dialect;
@@ -213,6 +226,7 @@ start_link c plan past es stage unread facts name tuple profile shown n d l f he
       dialect = f.rowed.dialect ∙ step.talked stage.dialect ∙ sym (step.talks stage.dialect);
       off = f.rowed.off;
       cabled = λ u. subst (λ (b : Bool). MatchBool b (Cabled past l.xs) (Unit {0})) (sym step.needs) (f.rowed.cabled tt);
+      delivers = unless_it (Delivers plan past (needs_isolation next.row) l.xs (Unit {0})) (is_charging next.row) step.still;
     } in
     record {
       mandated = record {
@@ -229,6 +243,7 @@ start_link c plan past es stage unread facts name tuple profile shown n d l f he
         ready = ap is_ready pil ∙ met.0;
       };
       waiting = step.waits;
+      ready = ap is_ready pil ∙ met.0;
       link = record {
         xs = l.xs;
         talks = l.talks;
@@ -237,7 +252,17 @@ start_link c plan past es stage unread facts name tuple profile shown n d l f he
         whole = (l.whole, (n, subst (λ (x : List ℕ). whole_at x ≡ Ok (Some n)) l.unread_is w));
         unread_is = ap behind_front l.unread_is;
         quiet = λ q. f.still;
-        talk = waits_in c plan past es l.xs (suc l.taken) next (is_waiting next.row) step.waits (record { count = ap suc f.count; request = r; asks = asks; start = refl; ok = tt; rowed = rowed });
+        talk = waits_in c plan past es l.xs (suc l.taken) next (is_waiting next.row) step.waits (record {
+          count = ap suc f.count;
+          request = r;
+          asks = asks;
+          start = refl;
+          ok = tt;
+          rowed = rowed;
+          prepared = step.prepared;
+          checked = λ u. subst (λ (b : Bool). MatchBool b (IsChecked past l.xs) (Unit {0})) (sym step.needs) charged;
+          ready = λ w. absurd (let x : true ≡ false = sym w ∙ f.still in cc);
+        });
       };
     }
 
@@ -270,6 +295,7 @@ owes_response c plan past es xs taken stage (Some d) response count none connect
         dialect = refl;
         off = sym (ap pre_charge_off none) ∙ r.off;
         cabled = λ u. tt;
+        delivers = tt;
       },
     ),
   ),
