@@ -21,10 +21,10 @@ use Rattle.session_rules.specs.Finishing.{is_ac}
 use Rattle.session_rules.specs.Stages.{is_waiting, confirmed_row, confirmed}
 use Rattle.post_spec.specs.Codecs.{Codecs}
 use Rattle.post_spec.specs.Facts.{newer, pilot, isolation}
-use Rattle.post_spec.specs.Kinds.{is_of, any, says_finished, asks_cable_check, asks_start, asks_renegotiation, asks_opening}
+use Rattle.post_spec.specs.Kinds.{any, says_finished, asks_cable_check, asks_start, asks_renegotiation}
 use Rattle.contactor.specs.Rights.{is_ready}
 use Rattle.session_words.specs.Causes.{number_of}
-use Rattle.post_spec.specs.Mandated.{renegotiates, IsChecked, IsStarted, StaysValid, before_close, off_in, pre_charge_off}
+use Rattle.post_spec.specs.Mandated.{renegotiates, IsChecked, StaysValid, before_close, off_in, pre_charge_off}
 use Rattle.post_spec.specs.Sessions.{session, with_seen, stream, waits}
 use Rattle.post_spec.specs.Spelled.{read_back, ReadsBack}
 use Rattle.post_spec.specs.Steps.{Act, Give, Send, Answer, End, Seen, Did}

@@ -158,7 +158,7 @@ heard_linked c plan past at e s l = record {
 }
 
 -- at rest nothing is left to do
-quiet_clear : (c : Codecs) (plan : PostPlan) (past : List Seen) (s : State) → Linked c plan past s → IsQuiet plan s → Clear c plan past s
+pub quiet_clear : (c : Codecs) (plan : PostPlan) (past : List Seen) (s : State) → Linked c plan past s → IsQuiet plan s → Clear c plan past s
 quiet_clear c plan past s l q =
     let p = planned plan s in
     let k = (decided_planned c plan past s l).clear (ap is_none q.none) in

@@ -1,5 +1,5 @@
 -- While the reply to PowerDelivery Start waits, its Close was taken, or is still to be ordered.
-use Rattle.std.proofs.Common.{◌≡◌, ℕ, Bool, true, false, if◌then◌else◌, List, [], ◌∷◌, Option, Some, None, unwrap_or, refl, sym, ap, subst, ◌∙◌, inl, inr, ◌⊎◌}
+use Rattle.std.proofs.Common.{◌≡◌, ℕ, Bool, true, false, if◌then◌else◌, List, ◌∷◌, Option, Some, None, unwrap_or, refl, sym, ap, subst, ◌∙◌, inl, inr, ◌⊎◌}
 use Rattle.std.specs.Option.{option_map}
 use Rattle.charge_world.specs.declared.offer.Dialect.{Dialect}
 use Rattle.charge_world.specs.declared.ports.Order.{Order}
@@ -22,13 +22,13 @@ use Rattle.session_rules.specs.Stages.{is_waiting, confirmed_row}
 use Rattle.session_rules.specs.Verdict.{verdict, is_accepted}
 use Rattle.post_spec.specs.Codecs.{Judged, Negotiated, Asked, WrongSide, Refused, Codecs}
 use Rattle.post_spec.specs.Sessions.{session, with_seen, waits}
-use Rattle.post_spec.specs.Steps.{Act, Give, Send, Answer, End, Seen, Did, Reading}
+use Rattle.post_spec.specs.Steps.{Act, Give, Send, Answer, Seen, Did, Reading}
 use Rattle.station_spec.specs.States.{Agenda, Session, State, nothing, first_session, first, first_of, is_none, is_done}
 use Rattle.station_spec.specs.States as states
 use Rattle.station_spec.specs.Deciding.{decided}
 use Rattle.station_spec.specs.Judging.{Payload, payload_in, wanted, order_by, cause_by, chosen_stage, judged, taken_in, read, filled, IsRead}
-use Rattle.station_spec.specs.Acting.{with_bytes, since_order, failing, agenda_said, replied, acted, giving, saying, live_ordered, IsSpoken, IsDone}
-use Rattle.station_laws.proofs.Decided.{decided_by, same_session}
+use Rattle.station_spec.specs.Acting.{with_bytes, since_order, failing, replied, acted, giving, saying, IsDone}
+use Rattle.station_laws.proofs.Decided.{decided_by}
 
 abbrev pub Still : Option (List Seen) → Option Session → Type 0
 Still lives kept = (es : List Seen) (ss : Session) → lives ≡ Some es → kept ≡ Some ss → is_waiting ss.stage.row ≡ true → waits es ≡ true

@@ -114,9 +114,9 @@ plain_link c plan past es stage unread facts name a shown n d l f w reads sp iso
       off = off_step stage facts plan (verdict stage facts plan r) shown l.xs a f.rowed.off;
       cabled = λ u. cabled_if (CabledThen past r (read_back reply) l.xs) (needs_isolation next.row) cab;
       delivers = cabled_if (DeliversThen plan past (needs_isolation next.row) r (read_back reply) l.xs (Unit {0})) (is_charging next.row) (λ m.
-      let k = step.charges m in
-      let here = cabled_in (Delivers plan past (needs_isolation stage.row) l.xs (Unit {0})) (is_charging stage.row) k.0 f.rowed.delivers in
-      (subst (λ (n : Bool). Delivers plan past n l.xs (Unit {0})) k.2 here, k.1));
+          let k = step.charges m in
+          let here = cabled_in (Delivers plan past (needs_isolation stage.row) l.xs (Unit {0})) (is_charging stage.row) k.0 f.rowed.delivers in
+          (subst (λ (n : Bool). Delivers plan past n l.xs (Unit {0})) k.2 here, k.1));
     } in
     let pending : Pending c plan past es l.xs (suc l.taken) next (Some (Said stage.dialect reply)) None (Unit {0}) =
     (ap suc f.count, (r, asks, ok_class (verdict stage facts plan r) ok, owed)) in (
