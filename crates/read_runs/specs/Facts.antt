@@ -1,0 +1,25 @@
+-- Own: what a post keeps of its clock and its charger is what its past tells of them.
+use Rattle.std.specs.Prelude.{◌≡◌, List, map, is_some}
+use Rattle.session_words.specs.declared.plan.PostPlan.{PostPlan}
+use Rattle.post_spec.specs.Facts.{now, pilot, measured, isolation, paid, stop, standing, live}
+use Rattle.post_spec.specs.Sessions.{session}
+use Rattle.post_spec.specs.Steps.{Seen, Step, seen_of}
+use Rattle.station_spec.specs.States.{State}
+use Rattle.station_spec.specs.Acting.{state}
+
+pub record AreFacts (past : List Seen) (s : State) : Type 0 where
+  pub clock_is : s.clock ≡ now past
+  pub pilot_is : s.facts.pilot ≡ pilot past
+  pub isolation_is : s.facts.isolation ≡ isolation past
+  pub voltage_is : s.facts.voltage ≡ (measured past).0
+  pub current_is : s.facts.current ≡ (measured past).1
+  pub paid_is : s.facts.paid ≡ paid past
+  pub stop_is : s.facts.stop ≡ stop past
+  pub contactor_is : s.facts.contactor ≡ standing past
+  pub live_is : s.live ≡ live past
+  -- a session lives in both or in neither
+  pub session_is : is_some s.session ≡ is_some (session past)
+
+-- behind any steps
+abbrev pub FactsAreRead : Type 0
+FactsAreRead = (plan : PostPlan) (steps : List Step) → AreFacts (map seen_of steps) (state plan steps)

@@ -1,0 +1,19 @@
+//! What a post keeps of its steps is what is read off its past.
+#![tactic(auto)]
+
+ghost use Rattle.post_spec.specs.Codecs.{codecs};
+ghost use Rattle.read_runs.specs.Facts.{FactsAreRead};
+ghost use Rattle.read_runs.specs.Courses.{CoursesAreRead};
+
+use post_spec::Coded;
+
+/// Behind any steps the clock is the greatest moment heard, and what a post keeps of its charger is what its past tells.
+pub fn facts_are_read()
+    ensures { FactsAreRead }
+{}
+
+/// Behind the steps of any run, the stage of a session and its watts, and the facts by which words are judged, are those to which the
+/// words of the past have led.
+pub fn courses_are_read<C: Coded>()
+    ensures { CoursesAreRead (codecs C.negotiates C.reads C.encodes) }
+{}
