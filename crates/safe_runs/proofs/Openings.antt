@@ -39,7 +39,7 @@ failed_by (Some (contactor.Open, true)) fed kind h = absurd (taken_not true (ap 
 failed_by (Some (contactor.Close, false)) fed kind h = refl
 failed_by (Some (contactor.Open, false)) fed kind h = refl
 
-must_open : (plan : PostPlan) (steps : List Step) → HasFailed (map seen_of steps) → (state plan steps).facts.contactor ≡ standing.MustOpen
+pub must_open : (plan : PostPlan) (steps : List Step) → HasFailed (map seen_of steps) → (state plan steps).facts.contactor ≡ standing.MustOpen
 must_open plan steps h =
     let past = map seen_of steps in
     (contactors_are_read plan steps).standing_is ∙ failed_by (last_order (contactor_acts past)) (feedback_since (contactor_acts past)) h.0 h.1
@@ -61,13 +61,13 @@ heard_must (Plant plant.RenewAsked) f h = h
 heard_must Clock f h = h
 heard_must Over f h = h
 
-abbrev opening : Agenda
+abbrev pub opening : Agenda
 opening = record nothing { order = Some order.Open }
 
-opens_decided : (plan : PostPlan) (at : ℕ) (e : Event) (s : State) → s.facts.contactor ≡ standing.MustOpen → decided plan (hearing at e s) ≡ record (hearing at e s) { agenda = opening; part = Timing }
+pub opens_decided : (plan : PostPlan) (at : ℕ) (e : Event) (s : State) → s.facts.contactor ≡ standing.MustOpen → decided plan (hearing at e s) ≡ record (hearing at e s) { agenda = opening; part = Timing }
 opens_decided plan at e s h = let m = heard_must e s.facts h in rw m refl
 
-open_todo : (c : Codecs) (todo : states.Todo) (a : Act) (taken : Bool) → IsDone c todo a taken → todo ≡ states.Give order.Open → a ≡ Give order.Open
+pub open_todo : (c : Codecs) (todo : states.Todo) (a : Act) (taken : Bool) → IsDone c todo a taken → todo ≡ states.Give order.Open → a ≡ Give order.Open
 open_todo c (states.Tell d) a taken i h = cc
 open_todo c (states.Give o) a taken i h = let x : o ≡ order.Open = cc in i ∙ ap Give x
 open_todo c (states.Say spoken) a taken i h = cc
