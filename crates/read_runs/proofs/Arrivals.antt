@@ -13,10 +13,10 @@ use Rattle.session_rules.specs.Stages.{is_waiting}
 use Rattle.post_spec.specs.Codecs.{Judged, Negotiated, Asked, WrongSide, Refused, Codecs}
 use Rattle.post_spec.specs.Facts.{now}
 use Rattle.post_spec.specs.Sessions.{arriving, brought}
-use Rattle.post_spec.specs.Steps.{Event, Came, Bytes, Gone, Datagram, Plant, Clock, Over, Act, Give, Send, Answer, End, Seen, Heard, Did, Reading, Step, Hears, Does, seen_of}
+use Rattle.post_spec.specs.Steps.{Event, Came, Bytes, Gone, Datagram, Plant, Clock, Over, Act, Give, Send, Answer, End, Seen, Heard, Reading, Step, Hears, Does, seen_of}
 use Rattle.station_spec.specs.States.{Spoken, Agenda, Part, Repeating, Timing, Eventing, Wording, Session, State, Todo, is_done, is_none, first, first_of}
 use Rattle.station_spec.specs.Deciding.{decide, ending_in, repeating, timing, eventing, fronting, fronting_by, from_wording, from_eventing, from_timing, from_part, decided}
-use Rattle.station_spec.specs.Judging.{Payload, payload_in, wanted, judged, taken_in, read, filled, IsRead}
+use Rattle.station_spec.specs.Judging.{Payload, payload_in, judged, taken_in, read, filled, IsRead}
 use Rattle.station_spec.specs.Acting.{heard_facts, arrival, session_opened, with_bytes, since_order, replied, failing, agenda_said, acted, state, IsQuiet, Acts}
 use Rattle.station_laws.specs.PostRuns.{IsPostRun}
 use Rattle.station_laws.proofs.Decided.{decided_by, same_session, same_facts}

@@ -1,5 +1,5 @@
 -- Where the words of a session have led it.
-use Rattle.std.proofs.Common.{◌≡◌, ◌==◌, ℕ, Bool, true, false, if◌then◌else◌, List, [], ◌∷◌, map, Option, Some, None, refl, sym, ap, subst, ◌∙◌}
+use Rattle.std.proofs.Common.{◌≡◌, ℕ, Bool, true, false, List, [], ◌∷◌, map, Option, Some, None, refl, sym, ap, subst, ◌∙◌}
 use Rattle.std.specs.Option.{option_map}
 use Rattle.charge_world.specs.declared.heard.PlantEvent.TheVariants as plant
 use Rattle.charge_world.specs.declared.offer.Dialect.{Dialect}
@@ -7,7 +7,6 @@ use Rattle.charge_world.specs.declared.ports.Order.{Order}
 use Rattle.charge_world.specs.declared.ports.Order.TheVariants as order
 use Rattle.session_words.specs.declared.cause.EndCause.{EndCause}
 use Rattle.session_words.specs.declared.cause.EndCause.TheVariants as cause
-use Rattle.session_words.specs.declared.code.Progress.TheVariants as progress
 use Rattle.session_words.specs.declared.facts.Facts.{Facts}
 use Rattle.session_words.specs.declared.phase.Standing.{Standing}
 use Rattle.session_words.specs.declared.plan.PostPlan.{PostPlan}
@@ -19,19 +18,19 @@ use Rattle.post_spec.specs.Codecs.{Judged, Negotiated, Asked, WrongSide, Refused
 use Rattle.post_spec.specs.Course.{Talked, Course, unmoved, opened, renew_heard, facts_of, asked_talk, read_in, read_by, confirmed_in, kept_by, course}
 use Rattle.post_spec.specs.Course as course
 use Rattle.post_spec.specs.Facts.{now, standing}
-use Rattle.post_spec.specs.Sessions.{arriving, brought, token_of}
-use Rattle.post_spec.specs.Steps.{Event, Came, Plant, Act, Give, Send, Answer, End, Seen, Heard, Did, Reading, Step, Hears, Does, seen_of}
+use Rattle.post_spec.specs.Sessions.{arriving, brought}
+use Rattle.post_spec.specs.Steps.{Event, Came, Plant, Act, End, Seen, Heard, Did, Reading, Step, Hears, Does, seen_of}
 use Rattle.station_spec.specs.States.{Spoken, Session, State, Todo, first, first_of}
 use Rattle.station_spec.specs.States as states
 use Rattle.station_spec.specs.Deciding.{decided}
 use Rattle.station_spec.specs.Judging.{judged, taken_in, read, filled}
-use Rattle.station_spec.specs.Acting.{heard_facts, session_opened, with_bytes, since_order, replied, kept_behind, acted, state, IsDone, IsQuiet, Acts}
+use Rattle.station_spec.specs.Acting.{heard_facts, session_opened, with_bytes, since_order, replied, kept_behind, acted, state, IsDone}
 use Rattle.station_laws.specs.PostRuns.{IsPostRun}
 use Rattle.station_laws.proofs.Contactors.{contactors_are_read}
 use Rattle.station_laws.proofs.Decided.{same_session, same_facts}
-use Rattle.read_runs.specs.Courses.{talked_of, talked_in, IsCourse, CoursesAreRead}
+use Rattle.read_runs.specs.Courses.{talked_of, talked_in, CoursesAreRead}
 use Rattle.read_runs.proofs.Arrivals.{Arrives, steps_arrive, came_unjoined}
-use Rattle.read_runs.proofs.Facts.{Charger, charger_of, charger, behind_charger, steps_charger, steps_clock, Hearing, decided_hearing}
+use Rattle.read_runs.proofs.Facts.{Charger, charger_of, charger, steps_charger, steps_clock, Hearing, decided_hearing}
 
 -- the facts are the charger's, its contactor's, and those of the course
 abbrev facts_with : Charger → Standing → Option SessionId → Bool → Bool → Facts

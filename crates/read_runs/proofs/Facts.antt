@@ -1,9 +1,8 @@
 -- What a post keeps of its clock and its charger.
-use Rattle.std.proofs.Common.{◌≡◌, ℕ, Bool, true, false, List, [], ◌∷◌, map, Option, Some, None, is_some, refl, sym, ap, ◌∙◌}
+use Rattle.std.proofs.Common.{◌≡◌, ℕ, Bool, true, false, List, [], ◌∷◌, map, Option, Some, None, refl, sym, ap, ◌∙◌}
 use Rattle.charge_world.specs.declared.heard.IsolationLevel.{IsolationLevel}
 use Rattle.charge_world.specs.declared.heard.PilotState.{PilotState}
 use Rattle.charge_world.specs.declared.heard.PlantEvent.TheVariants as plant
-use Rattle.charge_world.specs.declared.ports.Order.{Order}
 use Rattle.session_words.specs.declared.code.Progress.TheVariants as progress
 use Rattle.session_words.specs.declared.facts.Facts.{Facts}
 use Rattle.session_words.specs.declared.plan.PostPlan.{PostPlan}
@@ -15,8 +14,7 @@ use Rattle.session_rules.specs.declared.stage.Stage.{Stage}
 use Rattle.session_rules.specs.Moves.{facts_by, facts_behind}
 use Rattle.session_rules.specs.Verdict.{verdict, is_accepted}
 use Rattle.post_spec.specs.Codecs.{Judged, Negotiated, Asked, WrongSide, Refused}
-use Rattle.post_spec.specs.Facts.{now, pilot, measured, isolation, paid, stop, standing, live}
-use Rattle.post_spec.specs.Sessions.{session}
+use Rattle.post_spec.specs.Facts.{now, pilot, measured, isolation, paid, stop}
 use Rattle.post_spec.specs.Steps.{Event, Came, Plant, Act, Give, Send, Answer, End, Seen, Heard, Did, Reading, Step, Hears, Does, seen_of}
 use Rattle.station_spec.specs.States.{Session, State}
 use Rattle.station_spec.specs.Deciding.{decided}
@@ -25,7 +23,7 @@ use Rattle.station_spec.specs.Acting.{heard_facts, acted, state}
 use Rattle.station_laws.proofs.Contactors.{contactors_are_read}
 use Rattle.station_laws.proofs.Decided.{planned, same_facts}
 use Rattle.silent_runs.proofs.Silence.{steps_live}
-use Rattle.read_runs.specs.Facts.{AreFacts, FactsAreRead}
+use Rattle.read_runs.specs.Facts.{FactsAreRead}
 
 -- what is known of the charger, but for its contactor
 pub record Charger : Type 0 where

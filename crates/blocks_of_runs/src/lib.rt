@@ -1,0 +1,13 @@
+//! A run of a station is a list of blocks: a hearing, and then the answers of each post in order of number.
+#![tactic(auto)]
+
+ghost use Rattle.post_spec.specs.Codecs.{codecs};
+ghost use Rattle.blocks_of_runs.specs.BlockRuns.{RunsAreBlocks};
+
+use post_spec::Coded;
+
+/// What holds entry by entry holds block by block, and the other way round: each post answers a hearing in three parts, whole, before
+/// the next post does, and all posts before anything else is heard.
+pub fn runs_are_blocks<C: Coded>()
+    ensures { RunsAreBlocks (codecs C.negotiates C.reads C.encodes) }
+{}
