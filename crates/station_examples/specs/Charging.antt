@@ -40,7 +40,8 @@ abbrev pub MeasuredAtBound : Type 0
 MeasuredAtBound = (tells ac_post 10000 (plant.Measured 2300 336) charges).did ≡ []
 
 abbrev pub MeasuredAboveEnds : Type 0
-MeasuredAboveEnds = (tells ac_post 10000 (plant.Measured 2300 337) charges).did ≡ Give order.Open ∷ Finish cause.OverPower ∷ []
+MeasuredAboveEnds = (tells ac_post 10000 (plant.Measured 2300 337) charges).did
+    ≡ Give order.Open ∷ Finish cause.OverPower ∷ []
 
 -- the watts that were allowed before told ones were lowered stay so for 5,000 ms
 abbrev pub lowers : Play
@@ -68,7 +69,9 @@ FailedOpenDropsReply =
 -- PowerDelivery Stop opens before its reply
 abbrev pub StopOpens : Type 0
 StopOpens = (request dc_post 10000 (asks (delivery progress.Stop)) (closed_in row.DcCharging)).did
-    ≡ Give order.Open ∷ replies code.Ok (tell.PowerDelivery (of_post.Dc (status (Some isolation.Valid) status_code.EvseNotReady))) ∷ []
+   
+    ≡ Give order.Open
+    ∷ replies code.Ok (tell.PowerDelivery (of_post.Dc (status (Some isolation.Valid) status_code.EvseNotReady))) ∷ []
 
 -- the first pre-charge orders its target, 2.0 A and the told watts
 abbrev pub PreChargeLimits : Type 0
@@ -88,7 +91,8 @@ abbrev pub big_demand : Ask
 big_demand = ask.CurrentDemand true 40 (amount 4000) (amount 1251)
 
 abbrev pub told_to : Notify → StatusCode → Tell
-told_to wish status_code = tell.CurrentDemand (record { notify = wish; isolation = Some isolation.Valid; code = status_code })
+told_to wish status_code =
+    tell.CurrentDemand (record { notify = wish; isolation = Some isolation.Valid; code = status_code })
     (amount 0) (amount 0) true false true (Some (amount 9200)) (Some (amount 1250)) (Some (amount 40000)) (Some (of_evse.Text dc_post.evse_id))
 
 abbrev pub demands : Play → List Todo

@@ -40,7 +40,8 @@ abbrev pub ClosesNearAbove : Type 0
 ClosesNearAbove = (start (pre_charged_in row.DcPreCharging 4200)).did ≡ Give order.Close ∷ []
 
 abbrev pub far : List Todo
-far = replies code.FailedPowerDeliveryNotApplied (tell.PowerDelivery (of_post.Dc (status (Some isolation.Valid) status_code.EvseMalfunction)))
+far =
+    replies code.FailedPowerDeliveryNotApplied (tell.PowerDelivery (of_post.Dc (status (Some isolation.Valid) status_code.EvseMalfunction)))
     ∷ Finish cause.FailedReply ∷ []
 
 abbrev pub StaysOpenFar : Type 0
@@ -56,11 +57,13 @@ StaysOpenFarAbove = (start (pre_charged_in row.DcPreCharging 4201)).did ≡ far
 abbrev pub StaysOpenWhileOpening : Type 0
 StaysOpenWhileOpening =
     (start (keeping (session_in row.DcPreCharging 40000 (near 4000)) (facts_at (Some isolation.Valid) standing.Opening) false)).did
+   
     ≡ replies code.FailedContactorError (tell.PowerDelivery (of_post.Dc (status (Some isolation.Valid) status_code.EvseMalfunction)))
     ∷ Finish cause.FailedReply ∷ []
 
 abbrev pub StaysOpenWithoutCar : Type 0
-StaysOpenWithoutCar = (start (tells dc_post 10000 (plant.Pilot pilot.B) (pre_charged_in row.DcPreCharging 4000))).did ≡ far
+StaysOpenWithoutCar = (start (tells dc_post 10000 (plant.Pilot pilot.B) (pre_charged_in row.DcPreCharging 4000))).did
+    ≡ far
 
 -- the reply waits for the feedback, up to 3,000 ms
 abbrev pub closes_at : Play
@@ -70,10 +73,12 @@ abbrev pub ready : DcStatus
 ready = status (Some isolation.Valid) status_code.EvseReady
 
 abbrev pub ConfirmedIsAnswered : Type 0
-ConfirmedIsAnswered = (tells dc_post 12999 (plant.Feedback true) closes_at).did ≡ replies code.Ok (tell.PowerDelivery (of_post.Dc ready)) ∷ []
+ConfirmedIsAnswered = (tells dc_post 12999 (plant.Feedback true) closes_at).did
+    ≡ replies code.Ok (tell.PowerDelivery (of_post.Dc ready)) ∷ []
 
 abbrev pub UnconfirmedEnds : Type 0
-UnconfirmedEnds = (tells dc_post 13000 (plant.Feedback true) closes_at).did ≡ Give order.Open ∷ Finish cause.FeedbackTimeout ∷ []
+UnconfirmedEnds = (tells dc_post 13000 (plant.Feedback true) closes_at).did
+    ≡ Give order.Open ∷ Finish cause.FeedbackTimeout ∷ []
 
 -- a frame behind Start in the same piece is a request while the reply waits
 abbrev pub FrameBehindStartEnds : Type 0
@@ -83,7 +88,8 @@ FrameBehindStartEnds =
 
 -- in alternating current no pre-charge is asked for
 abbrev pub ac_start : List Bool → Play
-ac_start = λ outcomes. hear ac_post 10000 a_frame (asks (delivery progress.Start) ∷ []) outcomes (ac_in row.AcReady standing.Opened false)
+ac_start =
+    λ outcomes. hear ac_post 10000 a_frame (asks (delivery progress.Start) ∷ []) outcomes (ac_in row.AcReady standing.Opened false)
 
 abbrev pub AcCloses : Type 0
 AcCloses = (ac_start []).did ≡ Give order.Close ∷ []
@@ -103,5 +109,6 @@ CheckWaits = (request dc_post 10000 (asks cable_check) (unchecked_in row.DcReady
 
 abbrev pub CheckFails : Type 0
 CheckFails = (request dc_post 10000 (asks cable_check) (unchecked_in row.DcReady (Some isolation.Fault))).did
+   
     ≡ replies code.Failed (tell.CableCheck (status (Some isolation.Fault) status_code.EvseMalfunction) processing.Finished)
     ∷ Finish cause.FailedReply ∷ []

@@ -42,20 +42,24 @@ FailedOpenIsRepeatedAgain = (tick dc_post 11200 again).did ≡ Give order.Open �
 abbrev pub TakenOpenIsDone : Type 0
 TakenOpenIsDone = (tick dc_post 11300 (tick dc_post 11200 again)).did ≡ []
 
--- an isolation that isn't valid: behind the cable check it ends the session, and Open goes first where the contactor is live
+-- an isolation that isn't valid: behind the cable check it ends the session, and Open goes first where the contactor is
+-- live
 abbrev pub InvalidEndsChecked : Type 0
-InvalidEndsChecked = (tells dc_post 10000 (plant.Isolation isolation.Invalid) (open_in row.DcChecked)).did ≡ Finish cause.IsolationLost ∷ []
+InvalidEndsChecked = (tells dc_post 10000 (plant.Isolation isolation.Invalid) (open_in row.DcChecked)).did
+    ≡ Finish cause.IsolationLost ∷ []
 
 abbrev pub WarningOpensCharging : Type 0
 WarningOpensCharging = (tells dc_post 10000 (plant.Isolation isolation.Warning) (closed_in row.DcCharging)).did
     ≡ Give order.Open ∷ Finish cause.IsolationLost ∷ []
 
 abbrev pub InvalidBeforeCheckWaits : Type 0
-InvalidBeforeCheckWaits = (tells dc_post 10000 (plant.Isolation isolation.Invalid) (unchecked_in row.DcReady None)).did ≡ []
+InvalidBeforeCheckWaits = (tells dc_post 10000 (plant.Isolation isolation.Invalid) (unchecked_in row.DcReady None)).did
+    ≡ []
 
 -- the pilot: B ends a session whose contactor is live, A any
 abbrev pub PilotBOpens : Type 0
-PilotBOpens = (tells dc_post 10000 (plant.Pilot pilot.B) (closed_in row.DcCharging)).did ≡ Give order.Open ∷ Finish cause.PilotLost ∷ []
+PilotBOpens = (tells dc_post 10000 (plant.Pilot pilot.B) (closed_in row.DcCharging)).did
+    ≡ Give order.Open ∷ Finish cause.PilotLost ∷ []
 
 abbrev pub PilotBWaits : Type 0
 PilotBWaits = (tells dc_post 10000 (plant.Pilot pilot.B) (open_in row.DcPreCharging)).did ≡ []
@@ -72,7 +76,8 @@ abbrev pub OpenWhileClosingWaits : Type 0
 OpenWhileClosingWaits = (tells dc_post 10000 (plant.Feedback false) (closing_in row.DcClosing)).did ≡ []
 
 abbrev pub ClosedAgainstOrderEnds : Type 0
-ClosedAgainstOrderEnds = (tells dc_post 10000 (plant.Feedback true) (open_in row.DcPreCharging)).did ≡ Finish cause.FeedbackWrong ∷ []
+ClosedAgainstOrderEnds = (tells dc_post 10000 (plant.Feedback true) (open_in row.DcPreCharging)).did
+    ≡ Finish cause.FeedbackWrong ∷ []
 
 -- SessionStop behind the charging, of this session and of another
 abbrev pub StopEnds : Type 0
@@ -88,7 +93,8 @@ abbrev pub GoneOpens : Type 0
 GoneOpens = (hear dc_post 10000 Gone [] [] (closed_in row.DcCharging)).did ≡ Give order.Open ∷ Finish cause.Gone ∷ []
 
 abbrev pub CameOpens : Type 0
-CameOpens = (hear dc_post 10000 (Came 7) [] [] (closed_in row.DcCharging)).did ≡ Give order.Open ∷ Finish cause.Gone ∷ []
+CameOpens = (hear dc_post 10000 (Came 7) [] [] (closed_in row.DcCharging)).did
+    ≡ Give order.Open ∷ Finish cause.Gone ∷ []
 
 abbrev pub OverOpens : Type 0
 OverOpens = (hear dc_post 10000 Over [] [] (closed_in row.DcCharging)).did ≡ Give order.Open ∷ Finish cause.RunOver ∷ []

@@ -1,4 +1,5 @@
--- Own: the posts, the words and the sessions of the examples. Voltages and currents are tenths of a volt and of an ampere.
+-- Own: the posts, the words and the sessions of the examples. Voltages and currents are tenths of a volt and of an
+-- ampere.
 use Rattle.std.specs.Prelude.{ℕ, true, [], ◌∷◌, Option}
 use Rattle.charge_world.specs.declared.heard.IsolationLevel.{IsolationLevel}
 use Rattle.charge_world.specs.declared.heard.PlantEvent.{PlantEvent}

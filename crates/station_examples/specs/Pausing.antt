@@ -35,7 +35,8 @@ abbrev pub PauseKeeps : Type 0
 PauseKeeps = (pauses (open_in row.DcStopped)).keeps.facts.kept ≡ Some named
 
 abbrev pub StopKeepsNothing : Type 0
-StopKeepsNothing = (request dc_post 10000 (asks (ask.SessionStop false)) (open_in row.DcStopped)).keeps.facts.kept ≡ None
+StopKeepsNothing = (request dc_post 10000 (asks (ask.SessionStop false)) (open_in row.DcStopped)).keeps.facts.kept
+    ≡ None
 
 abbrev pub EarlyPauseFails : Type 0
 EarlyPauseFails = (pauses (closed_in row.DcCharging)).did
@@ -80,12 +81,16 @@ renegotiates = request dc_post 10000 (asks (delivery progress.Renegotiate)) (clo
 
 abbrev pub RenegotiationOpens : Type 0
 RenegotiationOpens = renegotiates.did
-    ≡ Give order.Open ∷ replies code.Ok (tell.PowerDelivery (of_post.Dc (status (Some isolation.Valid) status_code.EvseNotReady))) ∷ []
+   
+    ≡ Give order.Open
+    ∷ replies code.Ok (tell.PowerDelivery (of_post.Dc (status (Some isolation.Valid) status_code.EvseNotReady))) ∷ []
 
 abbrev pub StartBehindRenegotiationFails : Type 0
 StartBehindRenegotiationFails = (request dc_post 10000 (asks (delivery progress.Start)) renegotiates).did
+   
     ≡ replies code.FailedSequenceError (tell.PowerDelivery (of_post.Dc (status (Some isolation.Valid) status_code.EvseMalfunction)))
     ∷ Finish cause.FailedReply ∷ []
 
 abbrev pub ParametersBehindRenegotiation : Type 0
-ParametersBehindRenegotiation = shown_of (request dc_post 10000 (asks_shown dc_parameters 40000) renegotiates).did ≡ Coded code.Ok ∷ []
+ParametersBehindRenegotiation = shown_of (request dc_post 10000 (asks_shown dc_parameters 40000) renegotiates).did
+    ≡ Coded code.Ok ∷ []

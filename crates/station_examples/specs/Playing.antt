@@ -46,7 +46,8 @@ later_outcomes [] = []
 later_outcomes (taken ∷ outcomes) = outcomes
 
 -- one thing more is done, and what follows is left to `go_on`
-abbrev pub doing : PostPlan → (List Reading → List Bool → Play → Play) → List Reading → List Bool → Play → Option Reading → Option Todo → Play
+abbrev pub doing : PostPlan → (List Reading → List Bool → Play → Play) → List Reading → List Bool → Play
+    → Option Reading → Option Todo → Play
 doing plan go_on words outcomes p read None = p
 doing plan go_on words outcomes p read (Some todo) = go_on (later_words read words) (later_outcomes outcomes) (record {
   steps = Does read (act_of todo) (outcome outcomes) ∷ p.steps;

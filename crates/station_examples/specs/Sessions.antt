@@ -53,7 +53,8 @@ closed_in row = keeping (session_in row 40000 (near 4000)) (facts_at (Some isola
 
 -- the same of a session that pre-charges, behind a pre-charge in which the outlet had this voltage
 abbrev pub pre_charged_in : Phase → ℕ → Play
-pre_charged_in row voltage = keeping (session_in row 40000 (near voltage)) (facts_at (Some isolation.Valid) standing.Opened) false
+pre_charged_in row voltage =
+    keeping (session_in row 40000 (near voltage)) (facts_at (Some isolation.Valid) standing.Opened) false
 
 -- before the isolation was told
 abbrev pub unchecked_in : Phase → Option IsolationLevel → Play

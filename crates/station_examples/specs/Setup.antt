@@ -26,19 +26,22 @@ connected = hear dc_post 0 (Came token) [] [] unplayed
 
 -- the bytes of a frame come one after the other: it is answered once, at the last of them
 abbrev pub front : Play
-front = hear dc_post 2 (Bytes (254 ∷ 128 ∷ 1 ∷ 0 ∷ 0 ∷ 0 ∷ [])) [] [] (tick dc_post 1 (hear dc_post 1 (Bytes (1 ∷ [])) [] [] connected))
+front =
+    hear dc_post 2 (Bytes (254 ∷ 128 ∷ 1 ∷ 0 ∷ 0 ∷ 0 ∷ [])) [] [] (tick dc_post 1 (hear dc_post 1 (Bytes (1 ∷ [])) [] [] connected))
 
 abbrev pub PiecesWait : Type 0
 PiecesWait = front.did ≡ []
 
 abbrev pub PiecesGiveOneReply : Type 0
 PiecesGiveOneReply =
-    (hear dc_post 3 (Bytes (0 ∷ [])) (word (Negotiated (Some dialect.Din) response) ∷ []) [] front).did ≡ Say (Response response) ∷ []
+    (hear dc_post 3 (Bytes (0 ∷ [])) (word (Negotiated (Some dialect.Din) response) ∷ []) [] front).did
+    ≡ Say (Response response) ∷ []
 
 -- where no protocol matches, the session ends behind the response
 abbrev pub EndsWithoutMatch : Type 0
 EndsWithoutMatch =
-    (request dc_post 0 (word (Negotiated None response)) connected).did ≡ Say (Response response) ∷ Finish cause.NoNegotiation ∷ []
+    (request dc_post 0 (word (Negotiated None response)) connected).did
+    ≡ Say (Response response) ∷ Finish cause.NoNegotiation ∷ []
 
 -- a fault of a frame, a payload that is no message, and a reply from the car
 abbrev pub EndsByBadFrame : Type 0
@@ -83,7 +86,8 @@ PaymentFinishes = (paying (tells dc_post 10000 plant.Paid (paying (open_in row.S
 
 -- what was paid is for one session: behind its end nobody has paid
 abbrev pub PaymentIsUsedUp : Type 0
-PaymentIsUsedUp = (hear dc_post 10000 Gone [] [] (tells dc_post 10000 plant.Paid (open_in row.Selected))).keeps.facts.paid ≡ false
+PaymentIsUsedUp =
+    (hear dc_post 10000 Gone [] [] (tells dc_post 10000 plant.Paid (open_in row.Selected))).keeps.facts.paid ≡ false
 
 -- parameters that are shown no watts are asked for again
 abbrev pub WithoutWattsWaits : Type 0

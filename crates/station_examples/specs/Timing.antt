@@ -30,11 +30,13 @@ EndsAtDeadline = (tick dc_post 70000 (open_in row.SetUp)).did ≡ Finish cause.S
 
 -- a request that comes with the deadline comes too late
 abbrev pub DeadlineGoesFirst : Type 0
-DeadlineGoesFirst = (request dc_post 70000 (asks ask.ServiceDiscovery) (open_in row.SetUp)).did ≡ Finish cause.SequenceTimeout ∷ []
+DeadlineGoesFirst = (request dc_post 70000 (asks ask.ServiceDiscovery) (open_in row.SetUp)).did
+    ≡ Finish cause.SequenceTimeout ∷ []
 
 -- so does an event
 abbrev pub DeadlineGoesBeforeEvent : Type 0
-DeadlineGoesBeforeEvent = (tells dc_post 70000 plant.Emergency (open_in row.SetUp)).did ≡ Finish cause.SequenceTimeout ∷ []
+DeadlineGoesBeforeEvent = (tells dc_post 70000 plant.Emergency (open_in row.SetUp)).did
+    ≡ Finish cause.SequenceTimeout ∷ []
 
 -- a reply begins the time anew
 abbrev pub ReplyBeginsAnew : Type 0
@@ -60,7 +62,8 @@ EndsWithoutSetup = (tick dc_post 18000 (comes_at 0)).did ≡ Finish cause.SetupT
 -- the negotiation's response doesn't begin that time anew
 abbrev pub NegotiationDelaysNothing : Type 0
 NegotiationDelaysNothing =
-    (tick dc_post 18000 (request dc_post 10000 (word (Negotiated (Some dialect.Iso) [])) (comes_at 0))).did ≡ Finish cause.SetupTimeout ∷ []
+    (tick dc_post 18000 (request dc_post 10000 (word (Negotiated (Some dialect.Iso) [])) (comes_at 0))).did
+    ≡ Finish cause.SetupTimeout ∷ []
 
 -- a moment of 2^64 - 1 or more is never reached
 abbrev pub NeverIsDue : Type 0
@@ -70,11 +73,13 @@ abbrev pub LastMomentIsNever : Type 0
 LastMomentIsNever = (tick dc_post 18446744073709551615 (comes_at 18446744073709533615)).did ≡ []
 
 abbrev pub LastButOneIsDue : Type 0
-LastButOneIsDue = (tick dc_post 18446744073709551615 (comes_at 18446744073709533614)).did ≡ Finish cause.SetupTimeout ∷ []
+LastButOneIsDue = (tick dc_post 18446744073709551615 (comes_at 18446744073709533614)).did
+    ≡ Finish cause.SetupTimeout ∷ []
 
 -- a hearing at another post is a look at the clock
 abbrev pub OtherPostIsClock : Type 0
-OtherPostIsClock = seen 2 (entry.Heard (record { at = 70000; what = what.Plant 1 plant.Emergency }) [] ∷ []) ≡ Heard 70000 Clock ∷ []
+OtherPostIsClock = seen 2 (entry.Heard (record { at = 70000; what = what.Plant 1 plant.Emergency }) [] ∷ [])
+    ≡ Heard 70000 Clock ∷ []
 
 abbrev pub OtherPostChangesNoReply : Type 0
 OtherPostChangesNoReply =

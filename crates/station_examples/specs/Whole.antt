@@ -1,4 +1,5 @@
--- ISO 15118-2:2014, section 8.8.4: whole sessions, from the connection to SessionStop. Each reply is of the OK class, and the
+-- ISO 15118-2:2014, section 8.8.4: whole sessions, from the connection to SessionStop. Each reply is of the OK class,
+-- and the
 -- contactor is ordered closed once.
 use Rattle.std.specs.Prelude.{◌≡◌, ℕ, true, false, List, [], ◌∷◌, ◌++◌, Some}
 use Rattle.charge_world.specs.declared.heard.IsolationLevel.TheVariants as isolation

@@ -19,7 +19,8 @@ delivery progress = ask.PowerDelivery progress (Some (pos 1)) None
 
 -- 400.0 V and at most 40 kW
 abbrev pub dc_parameters : Ask
-dc_parameters = ask.ChargeParameters mode.DcExtended (limits.Dc true 20 (amount 1250) (Some (amount 40000)) (amount 4000))
+dc_parameters =
+    ask.ChargeParameters mode.DcExtended (limits.Dc true 20 (amount 1250) (Some (amount 40000)) (amount 4000))
 
 -- 32.0 A
 abbrev pub ac_parameters : Ask

@@ -1,4 +1,5 @@
-//! Worked examples of what a post does, computed from the definitions of a station: each clause is one. Where the definitions that
+//! Worked examples of what a post does, computed from the definitions of a station: each clause is one. Where the
+//! definitions that
 //! they speak of change, the example that shows it is refused.
 #![tactic(auto)]
 
