@@ -1,0 +1,4 @@
+pub mod Requests
+pub mod Charger
+pub mod Conforming
+pub mod Laws

@@ -1,0 +1,11 @@
+pub mod Playing
+pub mod Fixtures
+pub mod Sessions
+pub mod Words
+pub mod Whole
+pub mod Setup
+pub mod Closing
+pub mod Charging
+pub mod Ending
+pub mod Timing
+pub mod Pausing
