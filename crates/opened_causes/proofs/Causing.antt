@@ -1,5 +1,6 @@
 -- Each cause that is heard, and each call that failed, leads to an order to open.
 use Rattle.std.proofs.Common.{◌≡◌, ℕ, ◌+◌, Bool, true, false, List, [], ◌∷◌, ◌++◌, length, map, Option, Some, None, is_some, refl, sym, ap, subst, ◌∙◌, inl, inr, ◌⊎◌, MatchBool}
+use Rattle.std.specs.Option.{option_map}
 use Rattle.charge_world.specs.declared.heard.PlantEvent.{PlantEvent}
 use Rattle.charge_world.specs.declared.ports.Order.{Order}
 use Rattle.charge_world.specs.declared.ports.Order.TheVariants as order
@@ -11,24 +12,30 @@ use Rattle.session_words.specs.declared.word.Ask.{Ask}
 use Rattle.session_words.specs.declared.word.Ask.TheVariants as ask
 use Rattle.session_words.specs.declared.word.Request.{Request}
 use Rattle.session_rules.specs.declared.stage.Stage.{Stage}
-use Rattle.session_rules.specs.Causes.{plant_cause}
+use Rattle.session_rules.specs.Causes.{plant_cause, word_cause}
 use Rattle.session_rules.specs.Verdict.{verdict, is_accepted}
 use Rattle.post_spec.specs.Causes.{IsCause, IsDue, IsTold, HasLeft, HasCome, IsOver, HasNotSent, HasNotDriven, HasNoMatch, IsWord}
+use Rattle.post_spec.specs.Causes.{found_word}
 use Rattle.post_spec.specs.Causes as causes
+use Rattle.post_spec.specs.Spelled.{ReadsBack, AreDetermined}
+use Rattle.post_spec.specs.Words.{HeardWord, Words, next_words}
+use Rattle.charge_world.specs.declared.entry.Entry.{Entry}
+use Rattle.session_words.specs.declared.plan.SitePlan.{SitePlan}
 use Rattle.post_spec.specs.Codecs.{Asked, Codecs}
 use Rattle.post_spec.specs.Course.{Talked, course, facts_of}
 use Rattle.post_spec.specs.Facts.{standing, live}
 use Rattle.post_spec.specs.Kinds.{asks_opening}
-use Rattle.post_spec.specs.Sessions.{session}
-use Rattle.post_spec.specs.Steps.{Event, Came, Gone, Plant, Over, Act, Give, Send, Seen, Heard, Did, Reading, Step, Hears, Does, seen, seen_of}
-use Rattle.station_spec.specs.States.{Spoken, Session, State, first}
+use Rattle.post_spec.specs.Sessions.{session, stream, waits}
+use Rattle.post_spec.specs.Steps.{Event, Came, Bytes, Gone, Plant, Over, Act, Give, Send, Seen, Heard, Did, Reading, Step, Hears, Does, seen, seen_of}
+use Rattle.station_spec.specs.States.{Spoken, Part, Wording, Session, State, nothing, first, first_of, is_done}
+use Rattle.station_spec.specs.States.{Agenda}
 use Rattle.station_spec.specs.States as states
-use Rattle.station_spec.specs.Deciding.{ending_by, ending_in, watch, charging, eventing, decided}
+use Rattle.station_spec.specs.Deciding.{ending_by, ending_in, repeating, timing, watch, charging, eventing, from_wording, from_part, decided}
 use Rattle.station_spec.specs.Judging.{cause_by, judged, taken_in, read, filled, wanted, IsRead}
-use Rattle.station_spec.specs.Acting.{failing, hearing, live_ordered, state, IsQuiet, IsSpoken, IsDone, Acts}
+use Rattle.station_spec.specs.Acting.{failing, agenda_said, hearing, live_ordered, state, IsQuiet, IsSpoken, IsDone, Acts}
 use Rattle.station_spec.specs.Sharing.{Post, Shows}
-use Rattle.station_spec.specs.Runs.{Rests}
-use Rattle.station_laws.specs.PostRuns.{IsPostRun, ArePostsOf}
+use Rattle.station_spec.specs.Runs.{Rests, IsRun}
+use Rattle.station_laws.specs.PostRuns.{IsPostRun, IsPostOf, ArePostsOf}
 use Rattle.station_laws.proofs.Contactors.{contactors_are_read}
 use Rattle.station_laws.proofs.Decided.{same_session, same_facts}
 use Rattle.station_laws.proofs.PostRuns.{run_posts, post_at}
@@ -36,10 +43,16 @@ use Rattle.read_runs.specs.Courses.{talked_of, talked_in}
 use Rattle.read_runs.proofs.Courses.{courses_are_read}
 use Rattle.read_runs.proofs.Facts.{facts_are_read}
 use Rattle.safe_runs.proofs.Asked.{IsStop, found_accepted}
+use Rattle.safe_runs.proofs.Links.{Premise, LinkedAt, Linked, Clear}
+use Rattle.safe_runs.proofs.Parts.{cleared}
+use Rattle.safe_runs.proofs.Safety.{run_tied}
+use Rattle.safe_runs.proofs.Shut.{done_still}
 use Rattle.safe_runs.proofs.Openings.{opening, must_open, opens_decided, runs_end_open}
-use Rattle.opened_causes.specs.Causing.{Repeats, WasAsked, IsFirst, IsFirstBehind, Breaks, IsBreak, IsOpening, OpenAtCauses, RunsOpenAtCauses, RunsEndAtCauses}
+use Rattle.opened_causes.specs.Causing.{IsBreak, IsNext, IsNewWord, Repeats, WasAsked, IsFirst, IsFirstBehind, Stands, OpenBehind, OpensAt, RunsOpenAtBreaks, RunsOpenAtWords, RunsEndAtCauses}
 use Rattle.opened_causes.proofs.Ending.{Ends, steps_end, filled_ends, give_is, say_is}
-use Rattle.opened_causes.proofs.Opens.{OpensIn, Opens, not_wanted, opens_next, opens_busy, undone_opens, ending_opens, in_opens, hearing_opens}
+use Rattle.opened_causes.proofs.Wording.{Next, opens_it, AtWords, word_next}
+use Rattle.opened_causes.proofs.Worded.{Worded, filled_worded, steps_worded}
+use Rattle.opened_causes.proofs.Opens.{repeating_opens, timing_opens, OpensIn, Opens, not_wanted, opens_next, opens_busy, undone_opens, ending_opens, in_opens, hearing_opens}
 
 -- A session that the past tells is kept.
 
@@ -175,8 +188,6 @@ undriven_opens c plan S r o steps run acts h k l =
     let f = filled plan r (state plan steps) in
     failing_opens f.agenda.ending f.session OrderFailed (live_ordered o false f.live) (undriven_none c plan S r o steps run acts h) k l
 
--- Every cause of these kinds.
-
 break_opens : (c : Codecs) (plan : PostPlan) (steps : List Step) (cause : EndCause) (k : IsCause c plan steps cause) → IsBreak c plan steps cause k → live (map seen_of steps) ≡ true → IsFirst plan steps → IsPostRun c plan steps → Opens plan (state plan steps)
 break_opens c plan steps cause (IsTold at event before t it session_is told) b l f run = told_opens c plan at event before t it run session_is told l
 break_opens c plan steps cause (HasLeft at before es session_is) b l f run =
@@ -198,30 +209,188 @@ break_opens c plan steps cause (IsDue before t es course_is session_is reached b
 break_opens c plan steps cause (HasNoMatch reading bytes before talks) b l f run = absurd b
 break_opens c plan steps cause (IsWord before t es words rest word it course_is session_is heard next judged) b l f run = absurd b
 
-steps_break : (c : Codecs) (plan : PostPlan) (steps : List Step) → IsPostRun c plan steps → Breaks c plan steps → Opens plan (state plan steps)
-steps_break c plan steps run b = break_opens c plan steps b.cause b.is b.breaks b.live_is b.first run
+-- The next word.
 
-steps_open : (c : Codecs) (plan : PostPlan) (steps : List Step) → IsPostRun c plan steps → OpenAtCauses c plan steps
-steps_open c plan [] run = tt
-steps_open c plan (Hears at e ∷ steps) run = (steps_open c plan steps run.0, λ b. absurd (opens_busy plan (state plan steps) (steps_break c plan steps run.0 b) run.1))
-steps_open c plan (Does r a taken ∷ steps) (run, (limit, before, behind, acts)) = (
-  steps_open c plan steps run,
-  λ b. (r, taken, ap (λ (x : Act). Does r x taken) (opens_next c plan (Shows limit before behind) (state plan steps) r a taken (steps_break c plan steps run b) acts)),
+-- with the session that the past tells
+at_words : (c : Codecs) (plan : PostPlan) (steps : List Step) (es : List Seen) (ss : Session) → ReadsBack c → IsPostRun c plan steps → is_done (state plan steps).agenda ≡ true → Clear c plan (map seen_of steps) (state plan steps) → live (map seen_of steps) ≡ true
+    → session (map seen_of steps) ≡ Some es → (state plan steps).session ≡ Some ss → AtWords c plan (map seen_of steps) (course plan steps) (state plan steps) es ss
+at_words c plan steps es ss back run d k l here kept =
+    let t = run_tied c plan steps back run in
+    record {
+      done = d;
+      clear = k;
+      still = done_still (map seen_of steps) (state plan steps) d t.shut;
+      live_is = is_live plan steps l;
+      facts_are = (courses_are_read c plan steps run).facts_are;
+      session_is = here;
+      kept_is = kept;
+    }
+
+word_there : (c : Codecs) (plan : PostPlan) (steps : List Step) (t : Talked) (es : List Seen) (words tail : List HeardWord) (word : HeardWord) (cause : EndCause) → ReadsBack c → AreDetermined c → IsPostRun c plan steps
+    → is_done (state plan steps).agenda ≡ true → Clear c plan (map seen_of steps) (state plan steps) → decided plan (state plan steps) ≡ from_wording (state plan steps) → live (map seen_of steps) ≡ true
+    → (course plan steps).session ≡ Some t → session (map seen_of steps) ≡ Some es → Words c plan.dialects.items (stream es) words → next_words es words ≡ word ∷ tail
+    → word_cause (waits es) (found_word t (map seen_of steps) (course plan steps) plan word) ≡ Some cause → Next c plan (state plan steps)
+word_there c plan steps t es words tail word cause back det run d k f l led here heard next h =
+    let s = state plan steps in
+    let x = kept_by s.session t ((courses_are_read c plan steps run).session_is ∙ led) in
+    let a = at_words c plan steps es x.ss back run d k l here x.kept_is in
+    word_next c plan (map seen_of steps) (course plan steps) s es x.ss words tail word cause det a f heard next
+    (subst (λ (u : Talked). word_cause (waits es) (found_word u (map seen_of steps) (course plan steps) plan word) ≡ Some cause) (sym x.talked_is) h)
+
+-- behind bytes that came
+heard_front : (plan : PostPlan) (at : ℕ) (bytes : List ℕ) (s : State) (b d : Bool) → s.live ≡ true → is_done (repeating s.facts.contactor) ≡ b → is_done (timing (hearing at (Bytes bytes) s).session at s.live) ≡ d
+    → Opens plan (hearing at (Bytes bytes) s) ⊎ (decided plan (hearing at (Bytes bytes) s) ≡ from_wording (hearing at (Bytes bytes) s))
+heard_front plan at bytes s false d l e f = inl (rw e (repeating_opens s.facts.contactor e))
+heard_front plan at bytes s true false l e f = inl (rw (e, f) (timing_opens (hearing at (Bytes bytes) s).session at s.live l f))
+heard_front plan at bytes s true true l e f = inr (rw (e, f) refl)
+
+-- behind a reply that was sent
+from_done : (plan : PostPlan) (s : State) → is_done s.agenda ≡ true → s.part ≡ Wording → decided plan s ≡ from_wording s
+from_done plan s d p = rw d (ap (λ (q : Part). from_part plan q s) p)
+
+clear_at : (c : Codecs) (plan : PostPlan) (past : List Seen) (s : State) → is_done s.agenda ≡ true → s.part ≡ Wording → Linked c plan past s → Clear c plan past s
+clear_at c plan past s d p l =
+    subst (λ (q : Part). LinkedAt c plan past s.arrived s.facts s.session nothing (Premise q s.event)) p (cleared c plan past s.arrived s.facts s.session (Premise s.part s.event) s.agenda d l)
+
+first_say : (d : Option (List ℕ)) (o : Option Order) (r : Option Spoken) (e : Option EndCause) (x : Spoken) → first_of d o r e ≡ Some (states.Say x) → (d ≡ None) × (o ≡ None) × (r ≡ Some x)
+first_say (Some d) o r e x h = cc
+first_say None (Some o) r e x h = cc
+first_say None None (Some r) e x h = (refl, refl, cc)
+first_say None None None (Some e) x h = cc
+first_say None None None None x h = cc
+
+said_done : (b : Option EndCause) (s : State) → b ≡ None → s.agenda.datagram ≡ None → s.agenda.order ≡ None → s.agenda.ending ≡ None → is_done (agenda_said b s.session s.agenda s.live) ≡ true
+said_done None s e d o n = rw (d, o, n) refl
+said_done (Some k) s e d o n = cc
+
+worded_part : (s : State) (spoken : Spoken) → s.agenda.reply ≡ Some spoken → Worded s → s.part ≡ Wording
+worded_part s spoken r (inl h) = h
+worded_part s spoken r (inr h) = absurd (let x : Some spoken ≡ None = sym r ∙ h.1 in cc)
+
+said_opens : (b : Option EndCause) (k : EndCause) (kept : Option Session) (a : Agenda) (on : Bool) → b ≡ Some k → is_some kept ≡ true → on ≡ true → OpensIn (agenda_said b kept a on)
+said_opens None k kept a on e h l = cc
+said_opens (Some cause) k kept a on e h l = in_opens kept cause on h l
+
+map_some : (f : Session → Session) (kept : Option Session) → is_some (option_map f kept) ≡ true → is_some kept ≡ true
+map_some f None h = h
+map_some f (Some ss) h = refl
+
+-- what was sent, and what stands behind it
+pub record Sent (s : State) (spoken : Spoken) : Type 0 where
+  pub datagram : s.agenda.datagram ≡ None
+  pub order : s.agenda.order ≡ None
+  pub reply : s.agenda.reply ≡ Some spoken
+  pub ending : s.agenda.ending ≡ None
+  pub part : s.part ≡ Wording
+
+sent_at : (c : Codecs) (plan : PostPlan) (S : ℕ → ℕ → Type 0) (r : Option Reading) (bytes : List ℕ) (steps : List Step) → IsPostRun c plan steps → Acts c plan S (state plan steps) r (Send bytes) true → (filled plan r (state plan steps)).live ≡ true
+    → (spoken : Spoken) × Sent (filled plan r (state plan steps)) spoken
+sent_at c plan S r bytes steps run acts l =
+    let f = filled plan r (state plan steps) in
+    let todo = say_todo c acts.todo bytes true acts.done in
+    let h = acts.acts ∙ ap Some todo.1 in
+    let x = first_say f.agenda.datagram f.agenda.order f.agenda.reply f.agenda.ending todo.0 h in (
+      todo.0,
+      record {
+        datagram = x.0;
+        order = x.1;
+        reply = x.2;
+        ending = unsaid f todo.0 (filled_ends plan r (state plan steps) (steps_end c plan steps run)) h l;
+        part = worded_part f todo.0 x.2 (filled_worded plan r (state plan steps) (steps_worded plan steps));
+      },
+    )
+
+-- a reply, and what it leaves
+sent_next : (c : Codecs) (plan : PostPlan) (r : Option Reading) (bytes : List ℕ) (before : List Step) (t : Talked) (es : List Seen) (words tail : List HeardWord) (word : HeardWord) (cause : EndCause) (b : Option EndCause) → (filled plan r (state plan before)).agenda.behind_reply ≡ b → ReadsBack c → AreDetermined c
+    → IsPostRun c plan (Does r (Send bytes) true ∷ before) → live (map seen_of (Does r (Send bytes) true ∷ before)) ≡ true → (course plan (Does r (Send bytes) true ∷ before)).session ≡ Some t → session (map seen_of (Does r (Send bytes) true ∷ before)) ≡ Some es
+    → Words c plan.dialects.items (stream es) words → next_words es words ≡ word ∷ tail → word_cause (waits es) (found_word t (map seen_of (Does r (Send bytes) true ∷ before)) (course plan (Does r (Send bytes) true ∷ before)) plan word) ≡ Some cause
+    → Next c plan (state plan (Does r (Send bytes) true ∷ before))
+sent_next c plan r bytes before t es words tail word cause (Some k) e back det run l led here heard next h =
+    let all = Does r (Send bytes) true ∷ before in
+    let f = filled plan r (state plan before) in
+    let kept = map_some _ f.session (lives plan all es here) in
+    opens_it c plan (state plan all) (undone_opens plan (state plan all) (said_opens f.agenda.behind_reply k f.session f.agenda f.live e kept (is_live plan all l)))
+sent_next c plan r bytes before t es words tail word cause None e back det (run, (limit, front, behind, acts)) l led here heard next h =
+    let all = Does r (Send bytes) true ∷ before in
+    let f = filled plan r (state plan before) in
+    let s = state plan all in
+    let x = sent_at c plan (Shows limit front behind) r bytes before run acts (is_live plan all l) in
+    let d : is_done s.agenda ≡ true = said_done f.agenda.behind_reply f e x.1.datagram x.1.order x.1.ending in
+    let tied = run_tied c plan all back (run, (limit, front, behind, acts)) in
+    word_there c plan all t es words tail word cause back det (run, (limit, front, behind, acts)) d (clear_at c plan (map seen_of all) s d x.1.part tied.linked) (from_done plan s d x.1.part) l led here heard next h
+
+-- bytes that came
+brought_next : (c : Codecs) (plan : PostPlan) (at : ℕ) (bytes : List ℕ) (before : List Step) (t : Talked) (es : List Seen) (words tail : List HeardWord) (word : HeardWord) (cause : EndCause) → ReadsBack c → AreDetermined c → IsPostRun c plan (Hears at (Bytes bytes) ∷ before)
+    → live (map seen_of (Hears at (Bytes bytes) ∷ before)) ≡ true → (course plan (Hears at (Bytes bytes) ∷ before)).session ≡ Some t → session (map seen_of (Hears at (Bytes bytes) ∷ before)) ≡ Some es
+    → Words c plan.dialects.items (stream es) words → next_words es words ≡ word ∷ tail → word_cause (waits es) (found_word t (map seen_of (Hears at (Bytes bytes) ∷ before)) (course plan (Hears at (Bytes bytes) ∷ before)) plan word) ≡ Some cause
+    → Next c plan (state plan (Hears at (Bytes bytes) ∷ before))
+brought_next c plan at bytes before t es words tail word cause back det run l led here heard next h =
+    let all = Hears at (Bytes bytes) ∷ before in
+    let s = state plan all in
+    let on = is_live plan all l in
+    let tied = run_tied c plan all back run in
+    elim (heard_front plan at bytes (state plan before) (is_done (repeating (state plan before).facts.contactor)) (is_done (timing s.session at (state plan before).live)) on refl refl) [
+      | inl x ↦ opens_it c plan s x
+      | inr x ↦ word_there c plan all t es words tail word cause back det run refl tied.linked x l led here heard next h
+    ]
+
+next_opens : (c : Codecs) (plan : PostPlan) (steps : List Step) (t : Talked) (es : List Seen) (words tail : List HeardWord) (word : HeardWord) (cause : EndCause) → ReadsBack c → AreDetermined c → IsNext steps → IsPostRun c plan steps → live (map seen_of steps) ≡ true
+    → (course plan steps).session ≡ Some t → session (map seen_of steps) ≡ Some es → Words c plan.dialects.items (stream es) words → next_words es words ≡ word ∷ tail
+    → word_cause (waits es) (found_word t (map seen_of steps) (course plan steps) plan word) ≡ Some cause → Next c plan (state plan steps)
+next_opens c plan [] t es words tail word cause back det b run l led here heard next h = absurd b
+next_opens c plan (Hears at (Bytes bytes) ∷ before) t es words tail word cause back det b run l led here heard next h = brought_next c plan at bytes before t es words tail word cause back det run l led here heard next h
+next_opens c plan (Does r (Send bytes) true ∷ before) t es words tail word cause back det b run l led here heard next h =
+    sent_next c plan r bytes before t es words tail word cause (filled plan r (state plan before)).agenda.behind_reply refl back det run l led here heard next h
+next_opens c plan (Hears at event ∷ before) t es words tail word cause back det b run l led here heard next h = absurd b
+next_opens c plan (Does r a taken ∷ before) t es words tail word cause back det b run l led here heard next h = absurd b
+
+-- Every cause of these kinds.
+
+word_opens : (c : Codecs) (plan : PostPlan) (steps : List Step) (cause : EndCause) (k : IsCause c plan steps cause) → ReadsBack c → AreDetermined c → IsNewWord c plan steps cause k → live (map seen_of steps) ≡ true → IsPostRun c plan steps → Next c plan (state plan steps)
+word_opens c plan steps cause (IsWord before t es words rest word it course_is session_is heard next judged) back det b l run = next_opens c plan before t es words rest word cause back det b run l course_is session_is heard next judged
+word_opens c plan steps cause (IsTold at event before t it session_is told) back det b l run = absurd b
+word_opens c plan steps cause (HasLeft at before es session_is) back det b l run = absurd b
+word_opens c plan steps cause (HasCome at token before es session_is) back det b l run = absurd b
+word_opens c plan steps cause (IsOver at before es session_is) back det b l run = absurd b
+word_opens c plan steps cause (HasNotSent reading bytes before es session_is) back det b l run = absurd b
+word_opens c plan steps cause (HasNotDriven reading o before es session_is) back det b l run = absurd b
+word_opens c plan steps cause (IsDue before t es course_is session_is reached bound) back det b l run = absurd b
+word_opens c plan steps cause (HasNoMatch reading bytes before talks) back det b l run = absurd b
+
+break_next : (c : Codecs) (plan : PostPlan) (steps : List Step) → IsPostRun c plan steps → Stands c plan (IsBreak c plan) steps → Next c plan (state plan steps)
+break_next c plan steps run b = opens_it c plan (state plan steps) (break_opens c plan steps b.cause b.is b.kind b.live_is b.first run)
+
+new_next : (c : Codecs) (plan : PostPlan) (steps : List Step) → ReadsBack c → AreDetermined c → IsPostRun c plan steps → Stands c plan (IsNewWord c plan) steps → Next c plan (state plan steps)
+new_next c plan steps back det run b = word_opens c plan steps b.cause b.is back det b.kind b.live_is run
+
+steps_open : (c : Codecs) (plan : PostPlan) (Causing : List Step → Type 0) (steps : List Step) → ((earlier : List Step) → IsPostRun c plan earlier → Causing earlier → Next c plan (state plan earlier)) → IsPostRun c plan steps → OpenBehind Causing steps
+steps_open c plan Causing [] f run = tt
+steps_open c plan Causing (Hears at e ∷ steps) f run = (steps_open c plan Causing steps f run.0, λ b. absurd ((f steps run.0 b).busy run.1))
+steps_open c plan Causing (Does r a taken ∷ steps) f (run, (limit, before, behind, acts)) = (
+  steps_open c plan Causing steps f run,
+  λ b. (r, taken, ap (λ (x : Act). Does r x taken) ((f steps run b).acts (Shows limit before behind) r a taken acts)),
 )
 
-pub runs_open : (c : Codecs) → RunsOpenAtCauses c
-runs_open c site past posts before post behind run is =
-    let all = subst (ArePostsOf c past 1) is (run_posts c site past posts run) in
-    let k = post_at c past (length before + 1) 1 before post behind refl all in
-    (steps_open c post.plan post.steps k.run, λ q b. opens_busy post.plan (state post.plan post.steps) (steps_break c post.plan post.steps k.run b) q)
+post_opens : (c : Codecs) (post : Post) (Causing : List Step → Type 0) → ((earlier : List Step) → IsPostRun c post.plan earlier → Causing earlier → Next c post.plan (state post.plan earlier)) → IsPostRun c post.plan post.steps → OpensAt Causing post
+post_opens c post Causing f run = (steps_open c post.plan Causing post.steps f run, λ q b. (f post.steps run b).busy q)
+
+run_of : (c : Codecs) (site : SitePlan) (past : List Entry) (posts before : List Post) (post : Post) (behind : List Post) → IsRun c site past posts → posts ≡ before ++ post ∷ behind → IsPostOf c past (length before + 1) post
+run_of c site past posts before post behind run is = post_at c past (length before + 1) 1 before post behind refl (subst (ArePostsOf c past 1) is (run_posts c site past posts run))
+
+pub runs_open_at_breaks : (c : Codecs) → RunsOpenAtBreaks c
+runs_open_at_breaks c site past posts before post behind run is =
+    post_opens c post (Stands c post.plan (IsBreak c post.plan)) (λ steps r b. break_next c post.plan steps r b) (run_of c site past posts before post behind run is).run
+
+pub runs_open_at_words : (c : Codecs) → RunsOpenAtWords c
+runs_open_at_words c site past posts before post behind back det run is =
+    post_opens c post (Stands c post.plan (IsNewWord c post.plan)) (λ steps r b. new_next c post.plan steps back det r b) (run_of c site past posts before post behind run is).run
 
 ends_live : (past blocks : List Seen) (b : Bool) → b ≡ true → MatchBool b ((taken : Bool) × (past ≡ Did (Give order.Open) taken ∷ blocks)) (past ≡ blocks) → (taken : Bool) × (past ≡ Did (Give order.Open) taken ∷ blocks)
 ends_live past blocks true e m = m
 ends_live past blocks false e m = cc
 
 pub runs_end : (c : Codecs) → RunsEndAtCauses c
-runs_end c site past blocks posts before post behind run closes is b =
+runs_end c site past blocks posts before post behind cause run closes is k l =
     let n = length before + 1 in
-    let all = subst (ArePostsOf c blocks 1) is (run_posts c site blocks posts run) in
-    let k = post_at c blocks n 1 before post behind refl all in
-    ends_live (seen n past) (seen n blocks) (live (seen n blocks)) (ap live k.seen_is ∙ b.live_is) (runs_end_open c site past blocks posts before post behind run closes is)
+    let p = run_of c site blocks posts before post behind run is in
+    ends_live (seen n past) (seen n blocks) (live (seen n blocks)) (ap live p.seen_is ∙ l) (runs_end_open c site past blocks posts before post behind run closes is)

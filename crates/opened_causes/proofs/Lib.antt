@@ -1,3 +1,6 @@
 pub mod Ending
 pub mod Opens
+pub mod Spoken
+pub mod Worded
+pub mod Wording
 pub mod Causing

@@ -59,7 +59,7 @@ decide_now : (agenda : Agenda) (part : Part) (s rest : State) (b : Bool) → is_
 decide_now agenda part s rest true e h = absurd (let x : false ≡ true = sym (ap is_none h) ∙ e in cc)
 decide_now agenda part s rest false e h = rw e h
 
-repeating_opens : (st : Standing) → is_done (repeating st) ≡ false → OpensIn (repeating st)
+pub repeating_opens : (st : Standing) → is_done (repeating st) ≡ false → OpensIn (repeating st)
 repeating_opens standing.MustOpen h = refl
 repeating_opens standing.Opened h = cc
 repeating_opens standing.Closing h = cc
@@ -70,7 +70,7 @@ either_opens : (b live : Bool) (cause : EndCause) → live ≡ true → is_done 
 either_opens true live cause l h = ending_opens cause live l
 either_opens false live cause l h = cc
 
-timing_opens : (kept : Option Session) (now : ℕ) (live : Bool) → live ≡ true → is_done (timing kept now live) ≡ false → OpensIn (timing kept now live)
+pub timing_opens : (kept : Option Session) (now : ℕ) (live : Bool) → live ≡ true → is_done (timing kept now live) ≡ false → OpensIn (timing kept now live)
 timing_opens None now live l h = cc
 timing_opens (Some ss) now live l h = either_opens (is_reached (due ss) now) live _ l h
 

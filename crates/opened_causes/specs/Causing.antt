@@ -13,12 +13,13 @@ use Rattle.post_spec.specs.Codecs.{Asked, Codecs}
 use Rattle.post_spec.specs.Course.{Talked, course, facts_of}
 use Rattle.post_spec.specs.Facts.{live}
 use Rattle.post_spec.specs.Kinds.{asks_opening}
-use Rattle.post_spec.specs.Steps.{Act, Give, Send, Answer, End, Did, Reading, Step, Hears, Does, seen, seen_of}
+use Rattle.post_spec.specs.Spelled.{ReadsBack, AreDetermined}
+use Rattle.post_spec.specs.Steps.{Bytes, Act, Give, Send, Did, Reading, Step, Hears, Does, seen, seen_of}
 use Rattle.station_spec.specs.Sharing.{Post}
 use Rattle.station_spec.specs.Runs.{Rests, IsRun, Closes}
 use Rattle.safe_runs.specs.Opening.{HasFailed}
 
--- a cause that is heard, or a call that failed: not a deadline, nor a word
+-- the kinds of causes of which the laws speak: one that is heard of the connection or the charger, or a call that failed
 abbrev pub IsBreak : (c : Codecs) (plan : PostPlan) (steps : List Step) (cause : EndCause) → IsCause c plan steps cause → Type 0
 IsBreak c plan steps cause (IsTold at event before t it session_is told) = Unit {0}
 IsBreak c plan steps cause (HasLeft at before es session_is) = Unit {0}
@@ -29,6 +30,25 @@ IsBreak c plan steps cause (HasNotDriven reading order before es session_is) = U
 IsBreak c plan steps cause (IsDue before t es course_is session_is reached bound) = ⊥
 IsBreak c plan steps cause (HasNoMatch reading bytes before talks) = ⊥
 IsBreak c plan steps cause (IsWord before t es words rest word it course_is session_is heard next judged) = ⊥
+
+-- and the next word, which is next from the bytes on that brought it, or from the reply on to the word before it
+abbrev pub IsNext : List Step → Type 0
+IsNext [] = ⊥
+IsNext (Hears at (Bytes bytes) ∷ steps) = Unit {0}
+IsNext (Hears at event ∷ steps) = ⊥
+IsNext (Does reading (Send bytes) true ∷ steps) = Unit {0}
+IsNext (Does reading act taken ∷ steps) = ⊥
+
+abbrev pub IsNewWord : (c : Codecs) (plan : PostPlan) (steps : List Step) (cause : EndCause) → IsCause c plan steps cause → Type 0
+IsNewWord c plan steps cause (IsWord before t es words rest word it course_is session_is heard next judged) = IsNext steps
+IsNewWord c plan steps cause (IsTold at event before t it session_is told) = ⊥
+IsNewWord c plan steps cause (HasLeft at before es session_is) = ⊥
+IsNewWord c plan steps cause (HasCome at token before es session_is) = ⊥
+IsNewWord c plan steps cause (IsOver at before es session_is) = ⊥
+IsNewWord c plan steps cause (HasNotSent reading bytes before es session_is) = ⊥
+IsNewWord c plan steps cause (HasNotDriven reading order before es session_is) = ⊥
+IsNewWord c plan steps cause (IsDue before t es course_is session_is reached bound) = ⊥
+IsNewWord c plan steps cause (HasNoMatch reading bytes before talks) = ⊥
 
 -- An order to open may itself fail. It is that of an earlier cause, whose session ends then, but where it repeated one that had failed,
 -- or where the car asked to stop or to negotiate anew, and that was accepted.
@@ -55,11 +75,11 @@ IsFirst plan [] = Unit {0}
 IsFirst plan (Hears at event ∷ steps) = Unit {0}
 IsFirst plan (Does reading act taken ∷ steps) = IsFirstBehind plan reading act taken steps
 
--- such a cause stands behind these steps, while the contactor is live
-pub record Breaks (c : Codecs) (plan : PostPlan) (steps : List Step) : Type 0 where
+-- a cause of this kind stands behind these steps, while the contactor is live
+pub record Stands (c : Codecs) (plan : PostPlan) (Of : (steps : List Step) (cause : EndCause) → IsCause c plan steps cause → Type 0) (steps : List Step) : Type 0 where
   pub cause : EndCause
   pub is : IsCause c plan steps cause
-  pub breaks : IsBreak c plan steps cause is
+  pub kind : Of steps cause is
   pub live_is : live (map seen_of steps) ≡ true
   pub first : IsFirst plan steps
 
@@ -67,18 +87,27 @@ abbrev pub IsOpening : Step → Type 0
 IsOpening step = (reading : Option Reading) × (taken : Bool) × (step ≡ Does reading (Give order.Open) taken)
 
 -- the step behind it is an order to open
-abbrev pub OpenAtCauses : Codecs → PostPlan → List Step → Type 0
-OpenAtCauses c plan [] = Unit {0}
-OpenAtCauses c plan (step ∷ steps) = OpenAtCauses c plan steps × (Breaks c plan steps → IsOpening step)
+abbrev pub OpenBehind : (List Step → Type 0) → List Step → Type 0
+OpenBehind Causing [] = Unit {0}
+OpenBehind Causing (step ∷ steps) = OpenBehind Causing steps × (Causing steps → IsOpening step)
 
--- in every run, of each post; and no whole block ends at such a cause
-abbrev pub RunsOpenAtCauses : Codecs → Type 0
-RunsOpenAtCauses c = (site : SitePlan) (past : List Entry) (posts before : List Post) (post : Post) (behind : List Post)
-    → IsRun c site past posts → posts ≡ before ++ post ∷ behind
-    → OpenAtCauses c post.plan post.steps × (Rests post → Breaks c post.plan post.steps → ⊥)
+-- so of a post, and a whole block doesn't end there
+abbrev pub OpensAt : (List Step → Type 0) → Post → Type 0
+OpensAt Causing post = OpenBehind Causing post.steps × (Rests post → Causing post.steps → ⊥)
 
--- where a run is cut at one, it is closed by an order to open that contactor
+-- in every run, of each post
+abbrev pub RunsOpenAtBreaks : Codecs → Type 0
+RunsOpenAtBreaks c = (site : SitePlan) (past : List Entry) (posts before : List Post) (post : Post) (behind : List Post)
+    → IsRun c site past posts → posts ≡ before ++ post ∷ behind → OpensAt (Stands c post.plan (IsBreak c post.plan)) post
+
+abbrev pub RunsOpenAtWords : Codecs → Type 0
+RunsOpenAtWords c = (site : SitePlan) (past : List Entry) (posts before : List Post) (post : Post) (behind : List Post)
+    → ReadsBack c → AreDetermined c → IsRun c site past posts → posts ≡ before ++ post ∷ behind
+    → OpensAt (Stands c post.plan (IsNewWord c post.plan)) post
+
+-- where a run, whole or cut, ends at a cause of any kind, it is closed by an order to open that contactor
 abbrev pub RunsEndAtCauses : Codecs → Type 0
-RunsEndAtCauses c = (site : SitePlan) (past blocks : List Entry) (posts before : List Post) (post : Post) (behind : List Post)
-    → IsRun c site blocks posts → Closes 1 posts blocks past → posts ≡ before ++ post ∷ behind → Breaks c post.plan post.steps
+RunsEndAtCauses c = (site : SitePlan) (past blocks : List Entry) (posts before : List Post) (post : Post) (behind : List Post) (cause : EndCause)
+    → IsRun c site blocks posts → Closes 1 posts blocks past → posts ≡ before ++ post ∷ behind
+    → IsCause c post.plan post.steps cause → live (map seen_of post.steps) ≡ true
     → (taken : Bool) × (seen (length before + 1) past ≡ Did (Give order.Open) taken ∷ seen (length before + 1) blocks)
