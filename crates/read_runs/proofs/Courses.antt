@@ -25,6 +25,7 @@ use Rattle.station_spec.specs.States as states
 use Rattle.station_spec.specs.Deciding.{decided}
 use Rattle.station_spec.specs.Judging.{judged, taken_in, read, filled}
 use Rattle.station_spec.specs.Acting.{heard_facts, session_opened, with_bytes, since_order, replied, kept_behind, acted, state, IsDone}
+use Rattle.station_spec.specs.Sharing.{asked_in, told_in}
 use Rattle.station_laws.specs.PostRuns.{IsPostRun}
 use Rattle.station_laws.proofs.Contactors.{contactors_are_read}
 use Rattle.station_laws.proofs.Decided.{same_session, same_facts}
@@ -218,7 +219,23 @@ steps_moved c plan (Does r a taken ∷ steps) (run, (limit, before, behind, acts
     acted_moved c acts.todo a taken (filled plan r s) acts.acts acts.done
     ∙ ap (course.acted a taken) (filled_moved plan s past (course plan steps) r (steps_facts plan steps m) (steps_clock plan steps) m)
 
+asked_same : (kept : Option Session) → asked_in kept ≡ course.ask_in (talked_in kept)
+asked_same None = refl
+asked_same (Some ss) = refl
+
+told_same : (kept : Option Session) → told_in kept ≡ course.told_in (talked_in kept)
+told_same None = refl
+told_same (Some ss) = refl
+
 pub courses_are_read : (c : Codecs) → CoursesAreRead c
 courses_are_read c plan steps run =
     let m = steps_moved c plan steps run in
-    record { session_is = ap (λ (x : Course). x.session) m; facts_are = steps_facts plan steps m }
+    let s = state plan steps in
+    let h = ap (λ (x : Course). x.session) m in
+    record {
+      session_is = h;
+      asked_is = asked_same s.session ∙ ap course.ask_in h;
+      told_is = told_same s.session ∙ ap course.told_in h;
+      allowed_is = ap (λ (x : Option Talked). course.allowed_in x s.clock) h ∙ ap (λ (n : ℕ). course.allowed_in (course plan steps).session n) (steps_clock plan steps);
+      facts_are = steps_facts plan steps m;
+    }

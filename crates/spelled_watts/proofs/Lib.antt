@@ -1,5 +1,6 @@
 pub mod Links
 pub mod Once
+pub mod Places
 pub mod Rows
 pub mod Shares
 pub mod Tied

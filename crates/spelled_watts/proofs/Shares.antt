@@ -22,8 +22,8 @@ use Rattle.session_rules.specs.Verdict.{verdict, is_accepted}
 use Rattle.post_spec.specs.Codecs.{Judged, Negotiated, Asked, WrongSide, Refused, Codecs}
 use Rattle.post_spec.specs.Sessions.{brought}
 use Rattle.post_spec.specs.Steps.{Event, Act, Give, Send, Answer, End, Reading, Step, Hears, Does, event_at, moment}
-use Rattle.station_spec.specs.States.{Spoken, Said, Agenda, Session, State, Todo, is_done, is_none, first, first_of}
-use Rattle.station_spec.specs.Deciding.{decided, from_part}
+use Rattle.station_spec.specs.States.{Spoken, Said, Session, State, Todo, is_done, is_none, first, first_of}
+use Rattle.station_spec.specs.Deciding.{decided}
 use Rattle.station_spec.specs.Judging.{Payload, payload_in, wanted, judged, taken_in, read, filled, IsRead}
 use Rattle.station_spec.specs.Acting.{session_opened, with_bytes, since_order, replied, failing, acted, state, IsQuiet}
 use Rattle.station_spec.specs.Sharing.{Post, state_of, told_in, told_of, told_total, Shows}
@@ -32,6 +32,7 @@ use Rattle.station_laws.specs.PostRuns.{IsPostRun, ArePostsOf}
 use Rattle.station_laws.proofs.Decided.{same_session}
 use Rattle.station_laws.proofs.PostRuns.{run_posts}
 use Rattle.station_laws.proofs.Told.{filled_told, acted_told, least_le}
+use Rattle.read_runs.proofs.Agendas.{decided_not, quiet_done}
 use Rattle.spelled_watts.proofs.Rows.{goes_on}
 
 abbrev pub opened_said : Option ℕ → ℕ → ℕ
@@ -75,12 +76,6 @@ false_true false h k = cc
 done_kept : (s : State) (n : ℕ) → is_done s.agenda ≡ true → Kept s n → n ≤ told_in s.session
 done_kept s n d (inl h) = h
 done_kept s n d (inr o) = absurd (false_true (is_done s.agenda) (owing_undone s o) d)
-
-decided_done : (plan : PostPlan) (s : State) → is_done s.agenda ≡ true → decided plan s ≡ from_part plan s.part s
-decided_done plan s d = rw d refl
-
-decided_not : (plan : PostPlan) (s : State) → is_done s.agenda ≡ false → decided plan s ≡ s
-decided_not plan s d = rw d refl
 
 decided_kept : (b : Bool) (plan : PostPlan) (s : State) (n : ℕ) → is_done s.agenda ≡ b → Kept s n → Kept (decided plan s) n
 decided_kept true plan s n d k = inl (subst (λ (x : Option Session). n ≤ told_in x) (sym (same_session plan s)) (done_kept s n d k))
@@ -185,20 +180,6 @@ acted_kept (Send bytes) false s n k = inl (omega arith)
 acted_kept (Answer bytes) taken s n (inl h) = inl h
 acted_kept (Answer bytes) taken s n (inr h) = inr h
 acted_kept (End cause) taken s n k = inl (omega arith)
-
--- at rest nothing is owed
-none_done : (a : Agenda) → first a ≡ None → is_done a ≡ true
-none_done a h = ap is_none h
-
-quiet_if : (b : Bool) (plan : PostPlan) (s : State) → is_done s.agenda ≡ b → IsQuiet plan s → is_done s.agenda ≡ true
-quiet_if true plan s d q = d
-quiet_if false plan s d q =
-    let x = none_done (decided plan s).agenda q.none in
-    let y = ap (λ (t : State). is_done t.agenda) (decided_not plan s d) in
-    sym y ∙ x
-
-pub quiet_done : (plan : PostPlan) (s : State) → IsQuiet plan s → is_done s.agenda ≡ true
-quiet_done plan s q = quiet_if (is_done s.agenda) plan s refl q
 
 opened_kept : (arrived : Option ℕ) (at : ℕ) (kept : Option Session) (n : ℕ) → n ≤ told_in kept → opened_said arrived n ≤ told_in (session_opened arrived at kept)
 opened_kept None at kept n h = h

@@ -1,5 +1,5 @@
 -- The tie is kept by every step.
-use Rattle.std.proofs.Common.{◌≡◌, ◌≤◌, ℕ, suc, Bool, true, false, ◌&&◌, if◌then◌else◌, List, [], ◌∷◌, ◌++◌, length, map, Option, Some, None, Result, Ok, Err, refl, sym, ap, subst, ◌∙◌, arith, MatchBool}
+use Rattle.std.proofs.Common.{◌≡◌, ◌≤◌, ℕ, suc, Bool, true, false, ◌&&◌, if◌then◌else◌, List, [], ◌∷◌, ◌++◌, length, map, Option, Some, None, refl, sym, ap, subst, ◌∙◌, arith, MatchBool}
 use Rattle.std.specs.Option.{option_map}
 use Rattle.charge_world.specs.declared.heard.PlantEvent.{PlantEvent}
 use Rattle.charge_world.specs.declared.offer.Dialect.{Dialect}
@@ -8,22 +8,16 @@ use Rattle.charge_world.specs.declared.ports.Order.TheVariants as order
 use Rattle.session_words.specs.declared.cause.EndCause.{EndCause}
 use Rattle.session_words.specs.declared.cause.EndCause.TheVariants.{Gone as ConnectionGone, RunOver, SendFailed, OrderFailed}
 use Rattle.session_words.specs.declared.facts.Facts.{Facts}
-use Rattle.session_words.specs.declared.phase.Standing.{Standing}
-use Rattle.session_words.specs.declared.phase.Standing.TheVariants as standing
 use Rattle.session_words.specs.declared.phase.Phase.{Phase}
-use Rattle.session_words.specs.declared.phase.Phase.TheVariants as row
 use Rattle.session_words.specs.declared.plan.PostPlan.{PostPlan}
 use Rattle.session_words.specs.declared.word.Reply.{Reply}
 use Rattle.session_words.specs.declared.word.Request.{Request}
 use Rattle.session_words.specs.declared.word.Word.{Word}
 use Rattle.session_words.specs.declared.word.Word.TheVariants as word
-use Rattle.session_words.specs.Causes.{cause_of}
-use Rattle.v2gtp_frames.specs.declared.FrameFault.{FrameFault}
-use Rattle.v2gtp_frames.specs.Reading.{whole_at, payload_at, behind_front, behind_frames}
+use Rattle.v2gtp_frames.specs.Reading.{payload_at, behind_front, behind_frames}
 use Rattle.session_rules.specs.declared.stage.Stage.{Stage}
 use Rattle.session_rules.specs.Asks.{shows_watts}
 use Rattle.session_rules.specs.Causes.{plant_cause}
-use Rattle.session_rules.specs.Deadlines.{timeout_of}
 use Rattle.session_rules.specs.Finishing.{is_ac, is_finished}
 use Rattle.session_rules.specs.Moves.{stage_behind}
 use Rattle.session_rules.specs.Reply.{tell_of, reply_to, waiting_reply}
@@ -38,35 +32,22 @@ use Rattle.post_spec.specs.Talk.{Exchange, Negotiation, Answered, dialect_of, Is
 use Rattle.post_spec.specs.Words.{IsPayloadAt}
 use Rattle.station_spec.specs.States.{Spoken, Response, Said, Agenda, Session, State, Todo, nothing, first_session, is_done, is_none, first, first_of}
 use Rattle.station_spec.specs.States as states
-use Rattle.station_spec.specs.Deciding.{ending_by, ending_in, repeating, is_reached, due, timing, watch, confirms, confirming, charging_by, charging, eventing, fronting_by, fronting, decided}
-use Rattle.station_spec.specs.Judging.{Payload, speaks, speaks_in, payload_by, payload_in, wanted, cause_by, chosen_stage, unmatched, judged, taken_in, read, filled, IsRead}
+use Rattle.station_spec.specs.Deciding.{ending_in, repeating, timing, watch, confirms, confirming, charging_by, charging, eventing, fronting, decided}
+use Rattle.station_spec.specs.Judging.{Payload, speaks, speaks_in, wanted, cause_by, chosen_stage, unmatched, judged, taken_in, read, filled, IsRead}
 use Rattle.station_spec.specs.Acting.{session_opened, with_bytes, since_order, replied, failing, agenda_said, acted, state, IsSpoken, IsDone}
 use Rattle.station_spec.specs.Sharing.{told_in, Shows}
 use Rattle.station_laws.specs.PostRuns.{IsPostRun}
 use Rattle.station_laws.proofs.Decided.{decided_by}
 use Rattle.safe_runs.proofs.Growth.{AreWhole, grown, payload_stays}
+use Rattle.read_runs.proofs.Agendas.{quiet_done, done_empty, say_is, chosen_first, repeating_silent, timing_silent, ending_silent, fronting_silent, IsWanted, WantedIn, wanted_in, wanted_done}
 use Rattle.read_runs.proofs.Arrivals.{Arrives, steps_arrive}
 use Rattle.read_runs.proofs.Facts.{steps_clock}
 use Rattle.spelled_watts.specs.Spelling.{NegotiatesFirst}
 use Rattle.spelled_watts.proofs.Links.{Asks, Owes, Free, Waits, Talk, Stands, Link, Tie, Tied}
+use Rattle.spelled_watts.proofs.Places.{place_at, more_whole}
 use Rattle.spelled_watts.proofs.Rows.{speaks_on, row_confirmed, row_stays, spoken_is}
-use Rattle.spelled_watts.proofs.Shares.{said_by, opened_said, said, quiet_done, goes_behind}
+use Rattle.spelled_watts.proofs.Shares.{said_by, opened_said, said, goes_behind}
 use Rattle.spelled_watts.proofs.Watts.{tell_within}
-
--- what is done owes nothing
-pub record Empty (a : Agenda) : Type 0 where
-  pub reply : a.reply ≡ None
-  pub ending : a.ending ≡ None
-
-empty_of : (d : Option (List ℕ)) (o : Option Order) (r : Option Spoken) (e : Option EndCause) → is_none (first_of d o r e) ≡ true → (r ≡ None) × (e ≡ None)
-empty_of None None None None h = (refl, refl)
-empty_of (Some d) o r e h = cc
-empty_of None (Some o) r e h = cc
-empty_of None None (Some r) e h = cc
-empty_of None None None (Some e) h = cc
-
-done_empty : (a : Agenda) → is_done a ≡ true → Empty a
-done_empty a h = let e = empty_of a.datagram a.order a.reply a.ending h in record { reply = e.0; ending = e.1 }
 
 -- nothing is owed behind what has no reply
 rest_link : (c : Codecs) (plan : PostPlan) (past es : List Seen) (n : ℕ) (stage : Stage) (unread : List ℕ) (b e' b' : Option EndCause) → Link c plan past es n None stage unread None b → Link c plan past es n e' stage unread None b'
@@ -162,36 +143,6 @@ confirm_link c plan past es n stage unread facts b b' back w l =
       };
     }
 
--- what each part decides
-repeating_silent : (st : Standing) → (repeating st).reply ≡ None
-repeating_silent standing.MustOpen = refl
-repeating_silent standing.Opened = refl
-repeating_silent standing.Closing = refl
-repeating_silent standing.Closed = refl
-repeating_silent standing.Opening = refl
-
-timed_silent : (b : Bool) (k : EndCause) (live : Bool) → (if b then ending_by k live else nothing).reply ≡ None
-timed_silent true k live = refl
-timed_silent false k live = refl
-
-timing_silent : (kept : Option Session) (now : ℕ) (live : Bool) → (timing kept now live).reply ≡ None
-timing_silent None now live = refl
-timing_silent (Some ss) now live = timed_silent (is_reached (due ss) now) (cause_of (timeout_of ss.stage.row)) live
-
-ending_silent : (kept : Option Session) (k : EndCause) (live : Bool) → (ending_in kept k live).reply ≡ None
-ending_silent None k live = refl
-ending_silent (Some ss) k live = refl
-
-front_silent : (f : Result (Option ℕ) FrameFault) (waiting live : Bool) → (fronting_by f waiting live).reply ≡ None
-front_silent (Err fault) waiting live = refl
-front_silent (Ok None) waiting live = refl
-front_silent (Ok (Some n)) true live = refl
-front_silent (Ok (Some n)) false live = refl
-
-fronting_silent : (kept : Option Session) (live : Bool) → (fronting kept live).reply ≡ None
-fronting_silent None live = refl
-fronting_silent (Some ss) live = front_silent (whole_at ss.unread) (is_waiting ss.stage.row) live
-
 abbrev Owed : Codecs → PostPlan → List Seen → ℕ → Option (List Seen) → Option Session → Agenda → Type 0
 Owed c plan past n es kept a = Tie c plan past n a.ending es kept a.reply a.behind_reply
 
@@ -234,17 +185,6 @@ decided_tied c plan past n s back t =
       events = evented c plan past n (session past) s.event s s.agenda.behind_reply back r;
       fronts = silent_owed c plan past n (session past) s.session s.agenda.behind_reply (fronting s.session s.live) (fronting_silent s.session s.live) r;
     }) t
-
--- a word: the payload at the front is the one behind those that were taken
-place_at : (n taken : ℕ) (heard unread : List ℕ) → unread ≡ behind_frames taken heard → whole_at unread ≡ Ok (Some n) → IsPayloadAt heard taken (payload_at n unread)
-place_at n taken heard unread u w = record {
-  count = n;
-  whole = subst (λ (x : List ℕ). whole_at x ≡ Ok (Some n)) u w;
-  payload_is = ap (payload_at n) u;
-}
-
-more_whole : (n taken : ℕ) (heard unread : List ℕ) → unread ≡ behind_frames taken heard → whole_at unread ≡ Ok (Some n) → AreWhole taken heard → AreWhole (suc taken) heard
-more_whole n taken heard unread u w h = (h, (n, subst (λ (x : List ℕ). whole_at x ≡ Ok (Some n)) u w))
 
 -- what is told behind a request, and where it leads
 told_if : (b w : Bool) (s : Stage) (facts : Facts) (plan : PostPlan) (r : Request) (shown : ℕ) → is_accepted (verdict s facts plan r) ≡ b → shows_watts r.ask ≡ w → (stage_behind s facts plan r shown).told ≡ (if b && w then shown else s.told)
@@ -339,10 +279,6 @@ asked_stands c plan heard xs taken s ss r shown (Some k) behind true back a more
 asked_stands c plan heard xs taken s ss r shown (Some k) behind false back a more u f sp g e = asked_owes c plan heard xs ss.stage s.facts r shown behind back a sp f.within e
 
 -- the first response
-connected_of : (here : Phase) (d : Dialect) → speaks_in here d ≡ None → here ≡ row.Connected
-connected_of row.Connected d h = refl
-connected_of here d h = cc
-
 chosen_waits : (stage : Stage) (chosen : Option Dialect) → is_waiting stage.row ≡ false → is_waiting (confirmed (chosen_stage stage chosen)).row ≡ false
 chosen_waits stage None w = ap is_waiting (row_stays stage.row w) ∙ w
 chosen_waits stage (Some d) w = refl
@@ -371,56 +307,12 @@ chosen_owes c plan heard xs stage chosen response payload none place neg w h = r
   talks = λ past b. chosen_talks stage chosen xs b;
 }
 
--- a payload that is wanted
-pub record IsWanted (s : State) (ss : Session) (n : ℕ) (p : Payload) : Type 0 where
-  pub done : is_done s.agenda ≡ true
-  pub goes : is_waiting ss.stage.row ≡ false
-  pub front : whole_at ss.unread ≡ Ok (Some n)
-  pub dialect_is : p.dialect ≡ speaks ss.stage
-  pub bytes_are : p.bytes ≡ payload_at n ss.unread
-
-abbrev WantedIn : State → Option Session → Payload → Type 0
-WantedIn s None p = ⊥
-WantedIn s (Some ss) p = (n : ℕ) × IsWanted s ss n p
-
-front_wanted : (s : State) (ss : Session) (p : Payload) (f : Result (Option ℕ) FrameFault) → whole_at ss.unread ≡ f → is_done s.agenda ≡ true → is_waiting ss.stage.row ≡ false → payload_by f ss ≡ Some p → WantedIn s (Some ss) p
-front_wanted s ss p (Err fault) f d w h = cc
-front_wanted s ss p (Ok None) f d w h = cc
-front_wanted s ss p (Ok (Some n)) f d w h =
-    let e : record { dialect = speaks ss.stage; bytes = payload_at n ss.unread } ≡ p = cc in
-    (n, record { done = d; goes = w; front = f; dialect_is = ap (λ (x : Payload). x.dialect) (sym e); bytes_are = ap (λ (x : Payload). x.bytes) (sym e) })
-
-session_wanted : (b : Bool) (s : State) (ss : Session) (p : Payload) → is_waiting ss.stage.row ≡ b → is_done s.agenda ≡ true → (if b then None else payload_by (whole_at ss.unread) ss) ≡ Some p → WantedIn s (Some ss) p
-session_wanted true s ss p w d h = cc
-session_wanted false s ss p w d h = front_wanted s ss p (whole_at ss.unread) refl d w h
-
-payload_wanted : (s : State) (kept : Option Session) (p : Payload) → is_done s.agenda ≡ true → payload_in kept ≡ Some p → WantedIn s kept p
-payload_wanted s None p d h = cc
-payload_wanted s (Some ss) p d h = session_wanted (is_waiting ss.stage.row) s ss p refl d h
-
-wanted_if : (b : Bool) (o : Option Payload) (p : Payload) → (if b then o else None) ≡ Some p → (b ≡ true) × (o ≡ Some p)
-wanted_if true o p h = (refl, h)
-wanted_if false o p h = cc
-
-wanted_in : (s : State) (p : Payload) → wanted s ≡ Some p → WantedIn s s.session p
-wanted_in s p h = let x = wanted_if (is_done s.agenda) (payload_in s.session) p h in payload_wanted s s.session p x.0 x.1
-
 -- what a payload is judged as
 not_asked : (r : Request) (w : Option Word) → Asked r ≡ judged_word w → w ≡ Some (word.Request r)
 not_asked r None e = cc
 not_asked r (Some (word.Request q)) e = let s : r ≡ q = cc in ap (λ (x : Request). Some (word.Request x)) (sym s)
 not_asked r (Some (word.Reply reply)) e = cc
 not_asked r (Some word.Nothing) e = cc
-
-not_negotiated : (chosen : Option Dialect) (response : List ℕ) (w : Option Word) → Negotiated chosen response ≡ judged_word w → ⊥
-not_negotiated chosen response None e = cc
-not_negotiated chosen response (Some (word.Request q)) e = cc
-not_negotiated chosen response (Some (word.Reply reply)) e = cc
-not_negotiated chosen response (Some word.Nothing) e = cc
-
-chosen_first : (c : Codecs) (offers : List Dialect) (o : Option Dialect) (payload : List ℕ) (chosen : Option Dialect) (response : List ℕ) → Judges c offers o payload (Negotiated chosen response) → (o ≡ None) × c.Negotiates offers payload (Negotiated chosen response)
-chosen_first c offers None payload chosen response j = (refl, j)
-chosen_first c offers (Some d) payload chosen response j = absurd (not_negotiated chosen response j.0 j.2)
 
 asked_later : (c : Codecs) (offers : List Dialect) (o : Option Dialect) (payload : List ℕ) (r : Request) → NegotiatesFirst c → Judges c offers o payload (Asked r) → (d : Dialect) × (o ≡ Some d) × c.Reads d payload (Some (word.Request r))
 asked_later c offers None payload r neg j = absurd (neg offers payload r j)
@@ -479,10 +371,6 @@ taken_tied : (c : Codecs) (plan : PostPlan) (past : List Seen) (n : ℕ) (s : St
     → Tie c plan past n None (session past) kept None s.agenda.behind_reply → Tied c plan past n (taken_in plan s kept r)
 taken_tied c plan past n s None p r back neg i j t = absurd i
 taken_tied c plan past n s (Some ss) p r back neg i j t = judged_tied c plan past (session past) n i.0 s ss p r.judged r.shown s.agenda.behind_reply back neg i.1 j t
-
-wanted_done : (s : State) (kept : Option Session) (p : Payload) → WantedIn s kept p → is_done s.agenda ≡ true
-wanted_done s None p i = absurd i
-wanted_done s (Some ss) p i = i.1.done
 
 read_tied : (c : Codecs) (plan : PostPlan) (S : ℕ → ℕ → Type 0) (past : List Seen) (n : ℕ) (s : State) (w : Option Payload) (r : Option Reading) → wanted s ≡ w → ReadsBack c → NegotiatesFirst c → IsRead c plan S s w r → Tied c plan past n s → Tied c plan past n (read plan s r)
 read_tied c plan S past n s w None e back neg i t = t
@@ -607,13 +495,6 @@ unsent_tie c plan past bytes n live e b spoken (Some es) None here s t = absurd 
 unsent_tie c plan past bytes n live None b spoken (Some es) (Some ss) here s t = sent_link c plan past es bytes false n None ss.stage ss.stage ss.unread spoken b SendFailed None here s t
 unsent_tie c plan past bytes n live (Some k) b spoken (Some es) (Some ss) here s t = sent_link c plan past es bytes false n (Some k) ss.stage ss.stage ss.unread spoken b k None here s t
 
-say_is : (d : Option (List ℕ)) (o : Option Order) (r : Option Spoken) (e : Option EndCause) (x : Spoken) → first_of d o r e ≡ Some (states.Say x) → r ≡ Some x
-say_is (Some d) o r e x h = cc
-say_is None (Some o) r e x h = cc
-say_is None None (Some r) e x h = cc
-say_is None None None (Some e) x h = cc
-say_is None None None None x h = cc
-
 acted_tied : (c : Codecs) (plan : PostPlan) (past : List Seen) (n : ℕ) (s : State) (todo : Todo) (a : Act) (taken : Bool) → first s.agenda ≡ Some todo → IsDone c todo a taken → Tied c plan past n s → Tied c plan (Did a taken ∷ past) (said_by a (told_in s.session) n) (acted a taken s)
 acted_tied c plan past n s (states.Tell d) a taken f i t =
     subst (λ (x : Act). Tied c plan (Did x taken ∷ past) (said_by x (told_in s.session) n) (acted x taken s)) (sym i) (answered_tie c plan past d taken n s.agenda.ending (session past) s.session s.agenda.reply s.agenda.behind_reply t)
@@ -622,12 +503,12 @@ acted_tied c plan past n s (states.Give o) a true f i t =
 acted_tied c plan past n s (states.Give o) a false f i t =
     subst (λ (x : Act). Tied c plan (Did x false ∷ past) (said_by x (told_in s.session) n) (acted x false s)) (sym i) (failed_tie c plan past o n _ s.agenda.ending (session past) s.session s.agenda.reply s.agenda.behind_reply t)
 acted_tied c plan past n s (states.Say spoken) a true f i t =
-    let r = say_is s.agenda.datagram s.agenda.order s.agenda.reply s.agenda.ending spoken f in
+    let r = (say_is s.agenda.datagram s.agenda.order s.agenda.reply s.agenda.ending spoken f).0 in
     subst (λ (x : Act). Tied c plan (Did x true ∷ past) (said_by x (told_in s.session) n) (acted x true s)) (sym i.2)
     (sent_tie c plan past i.0 n s.clock s.live s.agenda s.agenda.ending s.agenda.behind_reply spoken (session past) s.session refl refl i.1
     (subst (λ (x : Option Spoken). Tie c plan past n s.agenda.ending (session past) s.session x s.agenda.behind_reply) r t))
 acted_tied c plan past n s (states.Say spoken) a false f i t =
-    let r = say_is s.agenda.datagram s.agenda.order s.agenda.reply s.agenda.ending spoken f in
+    let r = (say_is s.agenda.datagram s.agenda.order s.agenda.reply s.agenda.ending spoken f).0 in
     subst (λ (x : Act). Tied c plan (Did x false ∷ past) (said_by x (told_in s.session) n) (acted x false s)) (sym i.2)
     (unsent_tie c plan past i.0 n s.live s.agenda.ending s.agenda.behind_reply spoken (session past) s.session refl i.1
     (subst (λ (x : Option Spoken). Tie c plan past n s.agenda.ending (session past) s.session x s.agenda.behind_reply) r t))
