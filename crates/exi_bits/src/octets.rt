@@ -1,6 +1,6 @@
 //! Numbers at a bit of a payload.
 
-ghost use Rattle.std.specs.Prelude.{◌≡◌, ℕ, ◌+◌, ◌*◌, ◌%◌, ◌<◌, ◌≤◌, ◌^◌, List, Bool, ◌∷◌, ◌++◌, length, drop, MatchResult, MatchOption, IfOk};
+ghost use Rattle.std.specs.Prelude.{◌≡◌, ℕ, ◌+◌, ◌*◌, ◌%◌, ◌<◌, ◌≤◌, ◌^◌, List, Bool, ◌∷◌, ◌++◌, length, drop, MatchResult, MatchOption, IfOk, IfSome};
 ghost use Rattle.exi_spec.specs.Bits.{bits_of, number_bits};
 ghost use Rattle.exi_spec.specs.Items.{SpellsOctets, RefusesOctets, SpellsChar, RefusesChar, SpellsChars, RefusesChars};
 ghost use Rattle.exi_bits.specs.Reading.{ItemAt};
@@ -113,6 +113,34 @@ pub fn octets_at(payload: &[u8], bit: u32, most: u32) -> Result<(u64, u32), BitC
 
 /// The code point at a bit, and how many bits spell it.
 pub fn char_at(payload: &[u8], bit: u32) -> Result<(char, u32), BitCause>
+    requires room { length payload.now ≤ 65536 }
+    requires within { bit ≤ 8 * length payload.now }
+    ensures within { IfOk result (λ found. bit + found.1 ≤ 8 * length payload.now) }
+    ensures found { MatchResult result
+        (λ found. ItemAt (SpellsChar found.0) (bits_of payload.now) bit found.1)
+        (λ cause. RefusesChar (drop bit (bits_of payload.now)) cause) }
+{
+    match ascii_at(payload, bit) {
+        Some(c) => Ok((c, 8)),
+        None => any_char_at(payload, bit),
+    }
+}
+
+/// The code point at a bit, where one octet below 128 spells it.
+fn ascii_at(payload: &[u8], bit: u32) -> Option<char>
+    requires room { length payload.now ≤ 65536 }
+    requires within { bit ≤ 8 * length payload.now }
+    ensures within { IfSome result (λ _. bit + 8 ≤ 8 * length payload.now) }
+    ensures found { IfSome result (λ c. ItemAt (SpellsChar c) (bits_of payload.now) bit 8) }
+{
+    match octet_at(payload, bit) {
+        Some(octet) if octet < 128 => Some(char::from(octet as u8)),
+        _ => None,
+    }
+}
+
+/// The code point at a bit, in any number of octets.
+fn any_char_at(payload: &[u8], bit: u32) -> Result<(char, u32), BitCause>
     requires room { length payload.now ≤ 65536 }
     requires within { bit ≤ 8 * length payload.now }
     ensures within { IfOk result (λ found. bit + found.1 ≤ 8 * length payload.now) }

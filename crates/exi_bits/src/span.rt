@@ -46,6 +46,17 @@ impl<'a> Model for BitSpan<'a> {
         (length s.payload.now ≤ 65536) × Holds span (items_of span) };
 }
 
+impl<'a> Default for BitSpan<'a> {
+    ghost use Rattle.std.specs.Prelude.{[], true};
+
+    /// The empty text.
+    fn default() -> BitSpan<'a>
+        ensures { result ≡ record { bits = []; bit = 0; count = 0; is_text = true } }
+    {
+        BitSpan::text_at(&[], 0, 0)
+    }
+}
+
 impl<'a> BitSpan<'a> {
     ghost use Rattle.exi_bits.specs.Lent.{Span, Holds, IsSpan, items_of, text_at};
     ghost use Rattle.exi_bits.specs.Reading.{Cursor};

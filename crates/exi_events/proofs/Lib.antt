@@ -15,3 +15,4 @@ pub mod Standings
 pub mod Coded
 pub mod Starting
 pub mod Drafts
+pub mod Measured

@@ -206,11 +206,11 @@ offered_rest s top above entries e st code at offered is =
       (λ r. let m = move_join s top above entries st e (number_bits width.0 code) r.0 spelled is r.1 in offered_as s top above entries e (number_bits width.0 code ++ r.0, m.0, m.1)),
     )
 
-attribute_rest : (s : PlainSchema) (top : Opened) (entries : Entries) (name kind : ℕ) (next : Place) (e : Event) → IsStepOf (step.Attribute name kind next) e → (v : Value) × (value_in e ≡ Some v) × ((rest : List Bool) → (after : Entries) → WritesValueOf s.kinds kind entries name (value_of v) after rest → IsRest s top entries (step.Attribute name kind next) e rest)
+pub attribute_rest : (s : PlainSchema) (top : Opened) (entries : Entries) (name kind : ℕ) (next : Place) (e : Event) → IsStepOf (step.Attribute name kind next) e → (v : Value) × (value_in e ≡ Some v) × ((rest : List Bool) → (after : Entries) → WritesValueOf s.kinds kind entries name (value_of v) after rest → IsRest s top entries (step.Attribute name kind next) e rest)
 attribute_rest s top entries name kind next (event.Attribute n v) is = (v, refl, λ rest after w. (after, w))
 attribute_rest s top entries name kind next _ is = absurd is
 
-characters_rest : (s : PlainSchema) (top : Opened) (entries : Entries) (next : Place) (e : Event) → IsStepOf (step.Characters next) e → (v : Value) × (value_in e ≡ Some v) × ((rest : List Bool) → (after : Entries) → WritesValueOf s.kinds top.place.kind entries top.name (value_of v) after rest → IsRest s top entries (step.Characters next) e rest)
+pub characters_rest : (s : PlainSchema) (top : Opened) (entries : Entries) (next : Place) (e : Event) → IsStepOf (step.Characters next) e → (v : Value) × (value_in e ≡ Some v) × ((rest : List Bool) → (after : Entries) → WritesValueOf s.kinds top.place.kind entries top.name (value_of v) after rest → IsRest s top entries (step.Characters next) e rest)
 characters_rest s top entries next (event.Value v) is = (v, refl, λ rest after w. (after, w))
 characters_rest s top entries next _ is = absurd is
 
@@ -242,7 +242,7 @@ characters_decides s top above entries e st code next b at offered is st_is deci
     )
 
 -- a step of an event with no value
-plain_rest : (s : PlainSchema) (top : Opened) (entries : Entries) (st : Step) (e : Event) → IsStepOf st e → IsPlain st → IsRest s top entries st e []
+pub plain_rest : (s : PlainSchema) (top : Opened) (entries : Entries) (st : Step) (e : Event) → IsStepOf st e → IsPlain st → IsRest s top entries st e []
 plain_rest s top entries (step.Element name kind next standing past_limit) (event.Start n) is plain = refl
 plain_rest s top entries step.End event.EndElement is plain = refl
 plain_rest s top entries (step.Attribute name kind next) e is plain = absurd plain

@@ -1,10 +1,13 @@
 -- What is offered before a document, at its root and inside it.
-use Rattle.std.proofs.Common.{◌≡◌, ℕ, eqb, Bool, true, false, List, [], ◌++◌, refl, sym, subst, ◌∙◌, inl, inr, IsTrue, ◌↔◌, Option, Some, None, IsSome}
+use Rattle.std.proofs.Common.{◌≡◌, ℕ, eqb, Bool, true, false, List, [], ◌∷◌, ◌++◌, refl, sym, subst, ◌∙◌, inl, inr, IsTrue, ◌↔◌, Option, Some, None, IsSome}
 use Rattle.std.specs.Prelude.{IfSome}
+use Rattle.std.specs.List.{AllByRecursion}
 use Rattle.std.proofs.lemmas.Bool.Decides.{eqb_tells}
 use Rattle.exi_spec.specs.Bits.{number_bits}
 use Rattle.exi_bits.specs.declared.span.SpanAt.{SpanAt}
 use Rattle.exi_schema.specs.declared.places.Root.TheVariants.{Kind}
+use Rattle.exi_schema.specs.Offers.{IsPlace}
+use Rattle.exi_schema.specs.Plain.{PlainKind}
 use Rattle.exi_schema.specs.Schemas.{PlainSchema}
 use Rattle.exi_schema.specs.Steps.{IsRoot}
 use Rattle.exi_documents.specs.Documents.{header, first}
@@ -18,9 +21,10 @@ use Rattle.exi_events.specs.declared.offer.Offer.{Offer}
 use Rattle.exi_events.specs.declared.open.OpenElement.{OpenElement}
 use Rattle.exi_events.specs.declared.reader.Phase.{Phase}
 use Rattle.exi_events.specs.declared.reader.Phase.TheVariants as phase
-use Rattle.exi_events.specs.Inside.{HasTop}
+use Rattle.document_laws.specs.Laws.{IsStanding}
+use Rattle.exi_events.specs.Inside.{AreOpen, HasTop}
 use Rattle.exi_events.specs.Open.{opened_of}
-use Rattle.exi_events.specs.Reader.{standing_of, state_of}
+use Rattle.exi_events.specs.Reader.{IsSound, standing_of, state_of}
 use Rattle.exi_events.specs.Writer.{IsOffered, IsFound, IsFoundAt, IsFoundIn}
 use Rattle.exi_events.proofs.Rooted.{root_range}
 
@@ -94,3 +98,18 @@ found_by_offer s p elements top offer None e is has good same some = tt
 found_by_offer s p elements top None (Some f) e is has good same some = let wrong : false ≡ true = some.0 refl in absurd cc
 found_by_offer s p elements top (Some o) (Some f) e is has good same some =
     inside_found s p elements top f e is has (subst (λ (x : Found). IsFoundIn s top.place x e) (sym same) good)
+
+-- ---- where a reader or a writer stands is in the schema
+
+open_places : (kinds : List PlainKind) (elements : List Opened) → AreOpen kinds elements → AllByRecursion (λ o. IsPlace kinds o.place) elements
+open_places kinds [] open_all = tt {0}
+open_places kinds (top ∷ above) open_all = (open_all.0, open_places kinds above open_all.2)
+
+around_stands : (s : PlainSchema) (elements : List Opened) → AreOpen s.kinds elements → IsStanding s (around elements)
+around_stands s [] all = tt {0}
+around_stands s (top ∷ above) all = (all.0, open_places s.kinds above all.2)
+
+pub sound_stands : (s : PlainSchema) (p : Phase) (elements : List Opened) → IsSound s p elements → IsStanding s (standing_of p elements)
+sound_stands s phase.Before elements is = tt {0}
+sound_stands s (phase.AtRoot name kind) elements is = is.1
+sound_stands s phase.Inside elements is = around_stands s elements is

@@ -3,6 +3,7 @@ use Rattle.std.specs.Prelude.{◌≡◌, ℕ, ◌+◌, ◌*◌, ◌^◌, ◌<◌
 use Rattle.exi_spec.specs.Bits.{bits_of}
 use Rattle.exi_bits.specs.Pens.{written_bits}
 use Rattle.exi_bits.specs.declared.pen.BitPen.{BitPen}
+use Rattle.exi_bits.specs.declared.pen.Full.{Full}
 use Rattle.exi_schema.specs.declared.places.Places.{Ghosts}
 use Rattle.exi_schema.specs.declared.places.Place.{Place}
 use Rattle.exi_schema.specs.declared.places.Step.{Step}
@@ -110,6 +111,16 @@ abbrev pub HasNoRoom : PlainSchema → Draft → Option TreeEvent → Type 0
 HasNoRoom s draft (Some told) =
     (bits : List Bool) × ((new : State) × Moves WritesValue s draft.state told bits new) × NeedsMore draft (length bits)
 HasNoRoom s draft None = ⊥
+
+-- so many bits write what is told; behind the root nothing is told
+abbrev pub HasBits : PlainSchema → State → Option TreeEvent → ℕ → Type 0
+HasBits s state (Some told) n =
+    (bits : List Bool) × ((new : State) × Moves WritesValue s state told bits new) × (n ≡ length bits)
+HasBits s state None n = n ≡ 0
+
+-- what was written and what writes it have so many bits together
+abbrev pub IsNeeded : PlainSchema → Draft → Option TreeEvent → Full → Type 0
+IsNeeded s draft o full = (n : ℕ) × HasBits s draft.state o n × (full.bits ≡ length draft.bits + n)
 
 -- the events of a document of which this is the encoding
 abbrev pub IsWritten : PlainSchema → List TreeEvent → List ℕ → Type 0

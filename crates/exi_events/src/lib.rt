@@ -3,6 +3,7 @@
 #![tactic(auto)]
 
 mod inside;
+mod needed;
 mod offer;
 mod open;
 mod putting;

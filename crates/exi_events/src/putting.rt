@@ -11,8 +11,9 @@ ghost use Rattle.exi_writing.specs.Writing.{Puts, Lacks, WritesMore, PassesRoom}
 ghost use Rattle.exi_events.specs.Front.{SpellsFront};
 ghost use Rattle.exi_events.specs.Inside.{AreOpen, HasTop};
 ghost use Rattle.exi_events.specs.Reader.{standing_of, state_of, IsReadyAt};
-ghost use Rattle.exi_events.specs.Writer.{drafted, IsFound, IsFoundAt, IsOffered, IsShapedEvent, IsPut, HasNoRoom, MayWrite, WritesValueOf, value_in};
+ghost use Rattle.exi_events.specs.Writer.{drafted, IsFound, IsFoundAt, IsOffered, IsShapedEvent, IsPut, HasNoRoom, IsNeeded, MayWrite, WritesValueOf, value_in};
 
+use crate::needed::event_bits;
 use crate::offer::{Found, Offer};
 use crate::open::{OpenElement, OpenElements};
 use crate::reader::Phase;
@@ -129,8 +130,8 @@ fn put_inside<P: Places>(
     Ok(())
 }
 
-/// Writes an event that is offered.
-pub(crate) fn put_event<P: Places>(
+/// Writes an event that is offered, part by part.
+fn put_parts<P: Places>(
     pen: &mut BitPen,
     places: &P,
     table: &mut Table,
@@ -180,5 +181,44 @@ pub(crate) fn put_event<P: Places>(
             }
             None => Ok(()),
         },
+    }
+}
+
+/// Writes an event that is offered.
+///
+/// `Full` exactly where the room is too small for it, with the bits of all that was written and of the whole event.
+pub(crate) fn put_event<P: Places>(
+    pen: &mut BitPen,
+    places: &P,
+    table: &mut Table,
+    phase: &mut Phase,
+    elements: &mut OpenElements,
+    found: Found,
+    event: &Event,
+) -> Result<(), Full>
+    requires found { IsFoundAt (P.schema places.now) (standing_of phase.old elements.old) found event.now }
+    requires ready { IsReadyAt (P.schema places.now) phase.old elements.old (written_bits pen.old) table.old }
+    requires shaped { IsShapedEvent event.now }
+    requires offered { IsOffered (P.schema places.now) (state_of phase.old elements.old (written_bits pen.old) table.old.entries) event.now }
+    ensures ready { IsReadyAt (P.schema places.now) phase.new elements.new (written_bits pen.new) table.new }
+    ensures same_room { pen.new.room.ghost_name ≡ pen.old.room.ghost_name }
+    ensures ok { OnOk result (IsPut (P.schema places.now)
+        (drafted pen.old (state_of phase.old elements.old (written_bits pen.old) table.old.entries))
+        (drafted pen.new (state_of phase.new elements.new (written_bits pen.new) table.new.entries)) (event_of event.now)) }
+    ensures full { IsErr result ↔ HasNoRoom (P.schema places.now)
+        (drafted pen.old (state_of phase.old elements.old (written_bits pen.old) table.old.entries)) (event_of event.now) }
+    ensures needed { IfErr result (IsNeeded (P.schema places.now)
+        (drafted pen.old (state_of phase.old elements.old (written_bits pen.old) table.old.entries)) (event_of event.now)) }
+    ensures bits { IfErr result (PassesRoom pen.old) }
+    ensures more { WritesMore pen.old pen.new }
+    ensures stays { OnErr result ((phase.new ≡ phase.old) × (elements.new ≡ elements.old) × (table.new ≡ table.old)) }
+{
+    let before = pen.place();
+    match put_parts(pen, places, table, phase, elements, found, event) {
+        Ok(()) => Ok(()),
+        Err(_) => Err(Full {
+            bits: u64::from(before)
+                + event_bits(pen, places, table, *phase, elements, found, event),
+        }),
     }
 }

@@ -47,7 +47,7 @@ impl<'b, 'p, P: Places> EventWriter<'b, 'p, P> {
     ghost use Rattle.exi_values.specs.Meaning.{event_of};
     ghost use Rattle.exi_schema.specs.Offers.{IsPlace};
     ghost use Rattle.exi_events.specs.Reader.{innermost_place};
-    ghost use Rattle.exi_events.specs.Writer.{draft_of, IsReadyToPut, KeepsLent, AddsSome, HasPut, IsOffered, IsFoundAt, IsShapedEvent, IsPut, HasNoRoom, IsWritten};
+    ghost use Rattle.exi_events.specs.Writer.{draft_of, IsReadyToPut, KeepsLent, AddsSome, HasPut, IsOffered, IsFoundAt, IsShapedEvent, IsPut, HasNoRoom, IsNeeded, IsWritten};
     ghost use Rattle.exi_events.specs.declared.writer.NotPut.TheVariants as not_put;
 
     /// A writer at the start of a room of at most 65,536 bytes. The table is emptied; it has room for 8,192 entries.
@@ -127,7 +127,8 @@ impl<'b, 'p, P: Places> EventWriter<'b, 'p, P> {
     /// Puts an event behind those put before, if it is offered.
     ///
     /// `NotOffered` exactly where it is not, and changes nothing. `Full` exactly where the event is offered and the room is too small for
-    /// it: the document and the table stay as they were, and this `Full` is answered from then on.
+    /// it, with the bits of all that was put and of this event: the document and the table stay as they were, and this `Full` is answered
+    /// from then on.
     pub fn try_put(&mut self, event: &Event) -> Result<(), NotPut>
         requires ready { IsReadyToPut self.old }
         requires shaped { IsShapedEvent event.now }
@@ -141,6 +142,7 @@ impl<'b, 'p, P: Places> EventWriter<'b, 'p, P> {
         ensures put { OnOk result (IsPut (P.schema self.old.places.now) (draft_of self.old) (draft_of self.new) (event_of event.now)) }
         ensures open_still { OnOk result ((self.old.full ≡ None) × (self.new.full ≡ None)) }
         ensures full { self.old.full ≡ None → (((f : _) × (result ≡ Err (not_put.Full f))) ↔ HasNoRoom (P.schema self.old.places.now) (draft_of self.old) (event_of event.now)) }
+        ensures needed { self.old.full ≡ None → (f : _) → result ≡ Err (not_put.Full f) → IsNeeded (P.schema self.old.places.now) (draft_of self.old) (event_of event.now) f }
         ensures bits { self.old.full ≡ None → (f : _) → result ≡ Err (not_put.Full f) → (8 * length self.old.room.now < f.bits) × (self.new.full ≡ Some f) }
         ensures stays { OnErr result ((self.new.phase ≡ self.old.phase) × (self.new.elements ≡ self.old.elements) × (self.new.table.now ≡ self.old.table.now)) }
         // Of the whole document: these bits write the events up to here.
@@ -161,8 +163,8 @@ impl<'b, 'p, P: Places> EventWriter<'b, 'p, P> {
 
     /// Puts an event that is offered, behind those put before.
     ///
-    /// `Full` exactly where the room is too small for it: the document and the table stay as they were, and this `Full` is answered
-    /// from then on.
+    /// `Full` exactly where the room is too small for it, with the bits of all that was put and of this event: the document and the
+    /// table stay as they were, and this `Full` is answered from then on.
     pub fn put(&mut self, event: &Event) -> Result<(), Full>
         requires ready { IsReadyToPut self.old }
         requires shaped { IsShapedEvent event.now }
@@ -175,6 +177,7 @@ impl<'b, 'p, P: Places> EventWriter<'b, 'p, P> {
         ensures put { OnOk result (IsPut (P.schema self.old.places.now) (draft_of self.old) (draft_of self.new) (event_of event.now)) }
         ensures open_still { OnOk result ((self.old.full ≡ None) × (self.new.full ≡ None)) }
         ensures full { self.old.full ≡ None → (IsErr result ↔ HasNoRoom (P.schema self.old.places.now) (draft_of self.old) (event_of event.now)) }
+        ensures needed { self.old.full ≡ None → IfErr result (IsNeeded (P.schema self.old.places.now) (draft_of self.old) (event_of event.now)) }
         ensures bits { self.old.full ≡ None → IfErr result (λ f. (8 * length self.old.room.now < f.bits) × (self.new.full ≡ Some f)) }
         ensures stays { OnErr result ((self.new.phase ≡ self.old.phase) × (self.new.elements ≡ self.old.elements) × (self.new.table.now ≡ self.old.table.now)) }
         // Of the whole document: these bits write the events up to here.
@@ -203,6 +206,7 @@ impl<'b, 'p, P: Places> EventWriter<'b, 'p, P> {
         ensures put { OnOk result (IsPut (P.schema self.old.places.now) (draft_of self.old) (draft_of self.new) (event_of event.now)) }
         ensures open_still { OnOk result (self.new.full ≡ None) }
         ensures full { IsErr result ↔ HasNoRoom (P.schema self.old.places.now) (draft_of self.old) (event_of event.now) }
+        ensures needed { IfErr result (IsNeeded (P.schema self.old.places.now) (draft_of self.old) (event_of event.now)) }
         ensures bits { IfErr result (λ f. (8 * length self.old.room.now < f.bits) × (self.new.full ≡ Some f)) }
         ensures stays { OnErr result ((self.new.phase ≡ self.old.phase) × (self.new.elements ≡ self.old.elements) × (self.new.table.now ≡ self.old.table.now)) }
         ensures told { (events : List TreeEvent) → HasPut (P.schema self.old.places.now) events (draft_of self.old)

@@ -218,8 +218,8 @@ pub(crate) fn width_for(n: u32) -> u32
     width
 }
 
-/// The element with a document number.
-pub(crate) fn root_in(roots: &[RootOf], number: u32) -> Root
+/// The element that a document number names among some roots: the first that has it.
+pub fn root_in(roots: &[RootOf], number: u32) -> Root
     ensures { result ≡ root_numbered roots.now number }
 {
     for root in roots {

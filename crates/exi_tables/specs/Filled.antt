@@ -6,6 +6,8 @@ use Rattle.exi_schema.specs.Plain.{PlainKind}
 use Rattle.exi_schema.specs.declared.places.Place.{Place}
 use Rattle.exi_schema.specs.Schemas.{PlainSchema}
 use Rattle.exi_schema.specs.Offers.{offers, IsWidth}
+use Rattle.exi_schema.specs.Steps.{simple_at}
+use Rattle.exi_tables.specs.declared.filling.KindTable.{KindTable}
 use Rattle.exi_tables.specs.declared.filling.Row.{Row}
 use Rattle.exi_tables.specs.Counts.{attribute_places, particle_places, copy_places}
 
@@ -34,8 +36,13 @@ abbrev pub HoldsAttributes : PlainSchema → PlainKind → Place → List (Vec (
 HoldsAttributes s declaration here tables =
     IsTable (attribute_places declaration) (λ attributes rows. HoldsParticles s declaration (record here { attributes = attributes }) rows.items) tables
 
+-- the table of a kind: its datatype, if it is simple, and the rows of its places
+pub record IsKindTable (s : PlainSchema) (kind : ℕ) (table : KindTable) : Type 0 where
+  pub datatype : table.datatype ≡ simple_at s.kinds kind
+  pub rows :
+      (declaration : PlainKind) → slice_get s.kinds kind ≡ Some declaration →
+      HoldsAttributes s declaration (record { kind = kind; particle = 0; copies = 0; attributes = 0 }) table.by_attributes.items
+
 -- a kind's number has 16 bits
-abbrev pub HoldsKinds : PlainSchema → List (Vec (Vec (Vec Row Global) Global) Global) → Type 0
-HoldsKinds s tables =
-    IsTable (min (length s.kinds) 65536) (λ kind rows. (declaration : PlainKind) → slice_get s.kinds kind ≡ Some declaration →
-    HoldsAttributes s declaration (record { kind = kind; particle = 0; copies = 0; attributes = 0 }) rows.items) tables
+abbrev pub HoldsKinds : PlainSchema → List KindTable → Type 0
+HoldsKinds s tables = IsTable (min (length s.kinds) 65536) (IsKindTable s) tables

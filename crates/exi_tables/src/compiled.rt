@@ -1,72 +1,85 @@
 //! Compiled rows in a schema's place.
 
 ghost use Rattle.std.specs.Prelude.{◌≡◌, IfOk};
+ghost use Rattle.exi_schema.specs.Told.{schema_of};
 
-use crate::filling::{KindRows, Row, rows_of_kind};
+use crate::filling::{KindTable, Row, table_of_kind};
 use charge_world::NoMemory;
-use exi_schema::{Datatype, Place, Places, Root, Schema, Step};
+use exi_schema::{Datatype, Place, Places, Root, RootOf, Schema, Step, root_in};
 use std::alloc::Global;
-use std::marker::Model;
+use std::marker::{Model, PhantomData};
 
 /// How many kinds a number of 16 bits tells apart.
 const KIND_NUMBERS: usize = 65_536;
 
-/// A schema with a row for each of its places. Contracts see the schema that it was made of.
-#[derive(Drop)]
-pub struct Rows<'s> {
-    schema: Schema<'s>,
-    kinds: Vec<KindRows>,
+/// A type that stands for a schema, as the declarations of one dialect. No value of it is needed.
+pub trait Declared {
+    ghost use Rattle.exi_schema.specs.Schemas.{PlainSchema};
+
+    /// The schema.
+    ghost schema: { PlainSchema };
 }
 
-impl<'s> Model for Rows<'s> {
-    ghost use Rattle.exi_schema.specs.declared.schema.Schema.{Schema};
-    ghost use Rattle.exi_schema.specs.Told.{schema_of};
+/// The schema that `D` stands for, with a row for each of its places. It owns all that it holds, and borrows no declaration.
+#[derive(Drop)]
+pub struct Rows<D: Declared> {
+    kinds: Vec<KindTable>,
+    root_bits: u32,
+    roots: Vec<RootOf>,
+    of: PhantomData<D>,
+}
+
+impl<D: Declared> Model for Rows<D> {
+    ghost use Rattle.std.specs.Prelude.{◌≡◌};
+    ghost use Rattle.exi_schema.specs.Schemas.{PlainSchema};
     ghost use Rattle.exi_tables.specs.Filled.{HoldsKinds};
 
-    ghost Value = { Schema };
+    ghost Value = { PlainSchema };
 
-    ghost view = { λ rows. rows.schema };
+    ghost view = { λ rows. D.schema };
 
-    ghost invariant = { λ rows. HoldsKinds (schema_of rows.schema) rows.kinds.items };
+    ghost invariant = { λ rows. HoldsKinds D.schema rows.kinds.items × (rows.root_bits ≡ D.schema.root_bits) × (rows.roots.items ≡ D.schema.roots) };
 }
 
-/// Makes the rows of a schema. It takes all their memory here, and walks over the schema once for each code of each place.
-pub fn compile<'s>(alloc: Global, schema: &Schema<'s>) -> Result<Rows<'s>, NoMemory>
-    ensures { IfOk result (λ rows. rows ≡ schema.now) }
+/// Makes the rows of the schema that `D` stands for. It takes all their memory here, and walks over the schema once for each code of each
+/// place.
+pub fn compile<D: Declared>(alloc: Global, schema: &Schema) -> Result<Rows<D>, NoMemory>
+    requires { schema_of schema.now ≡ D.schema }
+    ensures { IfOk result (λ rows. rows ≡ schema_of schema.now) }
 {
     let count = schema.kinds.len().min(KIND_NUMBERS);
     let mut kinds = Vec::with_capacity(alloc, count)?;
     for kind in 0..count {
-        let here = Place::first(kind as u16);
-        kinds.push(rows_of_kind(alloc, schema, &schema.kinds[kind], here)?)?;
+        kinds.push(table_of_kind(alloc, schema, kind as u16)?)?;
     }
+    let mut roots = Vec::with_capacity(alloc, schema.roots.len())?;
+    roots.extend_from_slice(schema.roots)?;
     Ok(Rows {
-        schema: *schema,
         kinds,
+        root_bits: schema.root_bits,
+        roots,
+        of: PhantomData,
     })
 }
 
-impl Rows<'_> {
+impl<D: Declared> Rows<D> {
     ghost use Rattle.exi_schema.specs.Offers.{IsPlace};
-    ghost use Rattle.exi_schema.specs.Told.{schema_of};
     ghost use Rattle.exi_tables.specs.Filled.{IsRow};
 
     /// The row of a place.
     fn row(&self, place: Place) -> &Row
-        requires { IsPlace (schema_of self.now).kinds place }
-        ensures { IsRow (schema_of self.now) place result.now }
+        requires { IsPlace D.schema.kinds place }
+        ensures { IsRow D.schema place result.now }
     {
-        let by_attributes = &self.kinds[place.kind as usize];
-        let by_particle = &by_attributes[place.attributes as usize];
+        let table = &self.kinds[place.kind as usize];
+        let by_particle = &table.by_attributes[place.attributes as usize];
         let by_copies = &by_particle[place.particle as usize];
         &by_copies[place.copies as usize]
     }
 }
 
-impl Places for Rows<'_> {
-    ghost use Rattle.exi_schema.specs.Told.{schema_of};
-
-    ghost schema = { schema_of };
+impl<D: Declared> Places for Rows<D> {
+    ghost schema = { λ rows. D.schema };
 
     fn alternatives(&self, place: Place) -> u16 {
         let row = self.row(place);
@@ -83,14 +96,17 @@ impl Places for Rows<'_> {
     }
 
     fn datatype(&self, kind: u16) -> Option<Datatype> {
-        self.schema.datatype(kind)
+        self.kinds[kind as usize].datatype
     }
 
     fn root_width(&self) -> u32 {
-        self.schema.root_width()
+        self.root_bits
     }
 
     fn root(&self, number: u32) -> Root {
-        self.schema.root(number)
+        if self.root_bits == 2 && number == 3 {
+            return Root::NoSuch;
+        }
+        root_in(self.roots.as_slice(), number)
     }
 }

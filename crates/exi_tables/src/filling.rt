@@ -1,15 +1,15 @@
 //! The rows of a schema, place by place.
 
-ghost use Rattle.std.specs.Prelude.{◌≡◌, ◌<◌, slice_get, Some, IfOk};
+ghost use Rattle.std.specs.Prelude.{◌≡◌, ◌<◌, length, slice_get, Some, IfOk};
 ghost use Rattle.exi_schema.specs.Offers.{IsPlace};
 ghost use Rattle.exi_schema.specs.Plain.{plain_kind};
 ghost use Rattle.exi_schema.specs.Told.{schema_of};
 ghost use Rattle.exi_tables.specs.Counts.{attribute_places as places_by_attribute, particle_places as places_by_particle};
-ghost use Rattle.exi_tables.specs.Filled.{IsRow, HoldsCopies, HoldsParticles, HoldsAttributes};
+ghost use Rattle.exi_tables.specs.Filled.{IsRow, HoldsCopies, HoldsParticles, HoldsAttributes, IsKindTable};
 
 use crate::counts::{attribute_places, copy_places, particle_places};
 use charge_world::NoMemory;
-use exi_schema::{Declaration, Place, Places, Schema, Step};
+use exi_schema::{Datatype, Declaration, Place, Places, Schema, Step};
 use std::alloc::Global;
 
 /// What is offered at a place: a step for each code, and how many bits a code has.
@@ -19,8 +19,12 @@ pub(crate) struct Row {
     pub(crate) width: u32,
 }
 
-/// The rows of a kind: by the attributes passed, by the particles passed, and by the copies passed.
-pub(crate) type KindRows = Vec<Vec<Vec<Row>>>;
+/// A kind: its datatype, if it is simple, and its rows by the attributes passed, by the particles passed, and by the copies passed.
+#[derive(Drop)]
+pub(crate) struct KindTable {
+    pub(crate) datatype: Option<Datatype>,
+    pub(crate) by_attributes: Vec<Vec<Vec<Row>>>,
+}
 
 /// The row of a place.
 fn row_of(alloc: Global, schema: &Schema, place: Place) -> Result<Row, NoMemory>
@@ -84,12 +88,12 @@ fn rows_of_particles(
 }
 
 /// The rows of the places of a kind.
-pub(crate) fn rows_of_kind(
+fn rows_of_kind(
     alloc: Global,
     schema: &Schema,
     declaration: &Declaration,
     here: Place,
-) -> Result<KindRows, NoMemory>
+) -> Result<Vec<Vec<Vec<Row>>>, NoMemory>
     requires { slice_get (schema_of schema.now).kinds here.kind ≡ Some (plain_kind declaration.now) }
     ensures { IfOk result (λ tables. HoldsAttributes (schema_of schema.now) (plain_kind declaration.now) here tables.items) }
 {
@@ -103,4 +107,22 @@ pub(crate) fn rows_of_kind(
         tables.push(rows_of_particles(alloc, schema, declaration, place)?)?;
     }
     Ok(tables)
+}
+
+/// The table of a kind of the schema.
+pub(crate) fn table_of_kind(
+    alloc: Global,
+    schema: &Schema,
+    kind: u16,
+) -> Result<KindTable, NoMemory>
+    requires { kind < length (schema_of schema.now).kinds }
+    ensures { IfOk result (λ table. IsKindTable (schema_of schema.now) kind table) }
+{
+    let declaration = &schema.kinds[kind as usize];
+    let by_attributes = rows_of_kind(alloc, schema, declaration, Place::first(kind))?;
+    let datatype = schema.datatype(kind);
+    Ok(KindTable {
+        datatype,
+        by_attributes,
+    })
 }

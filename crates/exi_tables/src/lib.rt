@@ -6,7 +6,7 @@ mod counts;
 mod filling;
 
 pub use charge_world::NoMemory;
-pub use compiled::{Rows, compile};
+pub use compiled::{Declared, Rows, compile};
 
 #[cfg(test)]
 mod tests;

@@ -85,6 +85,36 @@ const SET_KINDS: [Declaration<'static>; 3] = [
     },
 ];
 
+/// Stands for the schema of the negotiation.
+struct Negotiation;
+
+impl Declared for Negotiation {
+    ghost use Rattle.app_schema.specs.Declarations.{negotiation_schema};
+
+    ghost schema = { negotiation_schema };
+}
+
+/// Stands for the schema of these tables.
+struct Sets;
+
+impl Declared for Sets {
+    ghost use Rattle.std.specs.Prelude.{[], ◌∷◌, true, false, codes, refl};
+    ghost use Rattle.exi_schema.specs.declared.tables.Datatype.TheVariants.{Text};
+    ghost use Rattle.exi_schema.specs.declared.tables.MemberStanding.TheVariants.{OutOfProfile};
+    ghost use Rattle.exi_schema.specs.Plain.{valued, containing, choice, one_of, standing, at_least_one};
+
+    ghost schema = { record {
+      kinds = valued (Text 64)
+          ∷ containing (record { name = 2; kind = 0; required = true } ∷ []) (choice (one_of 3 0 ∷ standing OutOfProfile 4 0 ∷ []) ∷ [])
+          ∷ containing (record { name = 2; kind = 0; required = false } ∷ []) (at_least_one 2 1 1 ∷ []) ∷ [];
+      names = codes "Set" ∷ codes "Entry" ∷ codes "Name" ∷ codes "Small" ∷ codes "Large" ∷ [];
+      values = [] ∷ [] ∷ [] ∷ [];
+      root_bits = 1;
+      roots = record { number = 0; name = 0; kind = 2 } ∷ [];
+      fits = refl;
+    } };
+}
+
 /// Sees that two forms of a schema offer the same at a place.
 fn compare_at<A: Places, B: Places>(rt: &impl Abort, plain: &A, compiled: &B, place: Place)
     requires plain { IsPlace (A.schema plain.now).kinds place }
@@ -99,14 +129,14 @@ fn compare_at<A: Places, B: Places>(rt: &impl Abort, plain: &A, compiled: &B, pl
 }
 
 /// Compares at each place that differs from `here` in the copies, and counts these places.
-fn compare_copies(
+fn compare_copies<D: Declared>(
     rt: &impl Abort,
     schema: &Schema,
-    rows: &Rows,
+    rows: &Rows<D>,
     declaration: &Declaration,
     here: Place,
 ) -> usize
-    requires same { rows.now ≡ schema.now }
+    requires same { schema_of schema.now ≡ D.schema }
     requires declared { slice_get (schema_of schema.now).kinds here.kind ≡ Some (plain_kind declaration.now) }
     requires attributes { here.attributes < places_by_attribute (plain_kind declaration.now) }
     requires particle { here.particle < places_by_particle (plain_kind declaration.now) }
@@ -123,14 +153,14 @@ fn compare_copies(
 }
 
 /// Compares at each place that differs from `here` in the particle or the copies, and counts these places.
-fn compare_particles(
+fn compare_particles<D: Declared>(
     rt: &impl Abort,
     schema: &Schema,
-    rows: &Rows,
+    rows: &Rows<D>,
     declaration: &Declaration,
     here: Place,
 ) -> usize
-    requires same { rows.now ≡ schema.now }
+    requires same { schema_of schema.now ≡ D.schema }
     requires declared { slice_get (schema_of schema.now).kinds here.kind ≡ Some (plain_kind declaration.now) }
     requires attributes { here.attributes < places_by_attribute (plain_kind declaration.now) }
 {
@@ -146,8 +176,8 @@ fn compare_particles(
 }
 
 /// Compares at each place of a kind, and counts these places.
-fn compare_kind(rt: &impl Abort, schema: &Schema, rows: &Rows, kind: u16) -> usize
-    requires same { rows.now ≡ schema.now }
+fn compare_kind<D: Declared>(rt: &impl Abort, schema: &Schema, rows: &Rows<D>, kind: u16) -> usize
+    requires same { schema_of schema.now ≡ D.schema }
     requires kind { kind < length (schema_of schema.now).kinds }
 {
     let declaration = &schema.kinds[kind as usize];
@@ -165,7 +195,7 @@ fn compare_kind(rt: &impl Abort, schema: &Schema, rows: &Rows, kind: u16) -> usi
 #[test]
 fn rows_answer_as_the_schema_at_each_place_of_the_negotiation(rt: HostRuntime) -> Result<(), Fail> {
     let schema = negotiation();
-    let rows = compile(rt.alloc(), &schema)?;
+    let rows = compile::<Negotiation>(rt.alloc(), &schema)?;
     assert_eq!(rt; schema.kinds.len(), 8);
     for (kind, places) in [
         (0, 2),
@@ -197,7 +227,7 @@ fn rows_answer_as_a_schema_with_attributes_a_choice_and_a_list_without_a_maximum
         root_bits: 1,
         roots: &SET_ROOTS,
     };
-    let rows = compile(rt.alloc(), &schema)?;
+    let rows = compile::<Sets>(rt.alloc(), &schema)?;
     for (kind, places) in [(0, 2), (1, 4), (2, 8)] {
         assert_eq!(rt;
             compare_kind(&rt, &schema, &rows, kind),

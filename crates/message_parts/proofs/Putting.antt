@@ -1,19 +1,14 @@
 -- An event that is put where it is the next one.
-use Rattle.std.proofs.Common.{slice_index_or, drop, zero, suc, add-one, ◌≡◌, ◌≢◌, ℕ, ◌+◌, ◌*◌, ◌<◌, Bool, List, [], ◌∷◌, ◌++◌, length, length-append, append_assoc, Option, Some, None, Result, Ok, Err, IsErr, OnOk, OnErr, IfErr, ◌↔◌, ◌⊎◌, inl, inr, refl, sym, ap, subst, ◌∙◌, arith}
+use Rattle.std.proofs.Common.{slice_index_or, drop, zero, suc, add-one, ◌≡◌, ◌≢◌, ℕ, ◌+◌, ◌*◌, ◌<◌, ◌≤◌, Bool, List, [], ◌∷◌, ◌++◌, length, length-append, append_assoc, Option, Some, None, Result, Ok, Err, IsErr, OnOk, OnErr, IfErr, ◌↔◌, ◌⊎◌, inl, inr, refl, sym, ap, subst, ◌∙◌, arith}
 use Rattle.exi_bits.specs.declared.pen.Full.{Full}
 use Rattle.exi_schema.specs.Schemas.{PlainSchema}
-use Rattle.std.specs.List.{AllByRecursion}
-use Rattle.exi_schema.specs.Offers.{IsPlace}
-use Rattle.exi_schema.specs.Plain.{PlainKind}
-use Rattle.exi_events.specs.Inside.{AreOpen}
-use Rattle.exi_events.specs.Reader.{IsSound, standing_of}
-use Rattle.exi_events.specs.declared.reader.Phase.{Phase}
-use Rattle.exi_events.specs.declared.reader.Phase.TheVariants as phase
-use Rattle.exi_documents.specs.Grammar.{Opened, around, State, Moves}
+use Rattle.exi_documents.specs.Grammar.{State, Moves}
 use Rattle.exi_documents.specs.Trees.{Event, Attribute, Trees}
 use Rattle.message_parts.specs.Contents.{Inside as Contents, Of, Holding, Given, given, perhaps_given, Part, one, perhaps, each, perhaps_one, attributes_of, trees_of, perhaps_trees, each_trees, choice_trees, attributes_onto, trees_onto, one_onto, perhaps_onto, each_onto, choice_onto, given_onto, parts_onto}
 use Rattle.exi_documents.specs.Values.{WritesValue}
-use Rattle.exi_events.specs.Writer.{Draft, Adds, IsPut, HasNoRoom, NeedsMore}
+use Rattle.exi_events.specs.Writer.{Draft, IsPut, IsNeeded, IsOfferedAs}
+use Rattle.exi_events.specs.declared.writer.NotPut.{NotPut}
+use Rattle.exi_events.specs.declared.writer.NotPut.TheVariants.{NotOffered, Full as NoRoom}
 use Rattle.document_laws.specs.Laws.{IsStanding}
 use Rattle.document_laws.proofs.Written.{value_once}
 use Rattle.document_laws.proofs.Once.{moves_once}
@@ -34,19 +29,19 @@ abbrev pub seen : PlainSchema → Draft → Option Full → Put
 seen s d full = record { schema = s; bits = d.bits; state = d.state; room = length d.room; full = full }
 
 module _ (F : Target) (e : Event) (rest : List Event) (s t : PlainSchema) (d g : Draft) (before after : Option Full) (same : t ≡ s) (long : length g.room ≡ length d.room) (is : IsStanding s d.state.standing) where
-  lacks : Writes F (e ∷ rest) (seen s d before) → HasLeft F (e ∷ rest) (seen s d before) → HasNoRoom s d (Some e) → (f : Full) → after ≡ Some f → 8 * length d.room < f.bits → Writes F rest (seen t g after)
-  lacks w h absent f is_full needs =
+  lacks : Writes F (e ∷ rest) (seen s d before) → HasLeft F (e ∷ rest) (seen s d before) → (f : Full) → IsNeeded s d (Some e) f → after ≡ Some f → 8 * length d.room < f.bits → Writes F rest (seen t g after)
+  lacks w h f needed is_full needs =
       let l = h.leads in
-      let moves : Moves WritesValue F.schema d.state e absent.0 absent.1.0 = subst (λ (x : PlainSchema). Moves WritesValue x d.state e absent.0 absent.1.0) w.schema_is absent.1.1 in
+      let mine = needed.1.1 in
+      let moves : Moves WritesValue F.schema d.state e needed.1.0 mine.0 = subst (λ (x : PlainSchema). Moves WritesValue x d.state e needed.1.0 mine.0) w.schema_is mine.1 in
       let once = moves_once WritesValue value_once F.schema d.state e _ _ _ _ (subst (λ (x : PlainSchema). IsStanding x d.state.standing) w.schema_is is) moves l.3 in
-      let more : 8 * length d.room < length d.bits + length absent.0 = absent.2 in
-      let front : length absent.0 ≡ length l.1 = ap length once.0 in
+      let front : length needed.1.0 ≡ length l.1 = ap length once.0 in
       let all : length F.bits ≡ length d.bits + (length l.1 + length l.2) =
       ap length h.bits_are ∙ length-append d.bits h.left ∙ ap (λ (b : List Bool). length d.bits + length b) l.5 ∙ ap (λ (n : ℕ). length d.bits + n) (length-append l.1 l.2) in
       let room : length d.room ≡ F.room = w.room_is in
       let told : 8 * F.room < f.bits = omega (arith, needs, room) in
-      let much : 8 * F.room < length F.bits = omega (arith, more, front, all, room) in
-      record { schema_is = same ∙ w.schema_is; room_is = long ∙ room; so = inr (subst (λ (o : Option Full). IsTooMuch F o) (sym is_full) (told, much)) }
+      let within : f.bits ≤ length F.bits = omega (arith, needed.2, needed.1.2, front, all) in
+      record { schema_is = same ∙ w.schema_is; room_is = long ∙ room; so = inr (subst (λ (o : Option Full). IsTooMuch F o) (sym is_full) (told, within)) }
 
   goes : Writes F (e ∷ rest) (seen s d before) → HasLeft F (e ∷ rest) (seen s d before) → IsPut s d g (Some e) → after ≡ None → Writes F rest (seen t g after)
   goes w h put open_still =
@@ -71,40 +66,40 @@ module _ (F : Target) (e : Event) (rest : List Event) (s t : PlainSchema) (d g :
       ]
 
   -- it lacks room
-  pub lacks_now : (f : Full) → before ≡ None → after ≡ Some f → HasNoRoom s d (Some e) → 8 * length d.room < f.bits → Writes F (e ∷ rest) (seen s d before) → Writes F rest (seen t g after)
-  lacks_now f was is_full absent needs w =
+  pub lacks_now : (f : Full) → before ≡ None → after ≡ Some f → IsNeeded s d (Some e) f → 8 * length d.room < f.bits → Writes F (e ∷ rest) (seen s d before) → Writes F rest (seen t g after)
+  lacks_now f was is_full needed needs w =
       elim w.so [
-        | inl h ↦ lacks w h absent f is_full needs
+        | inl h ↦ lacks w h f needed is_full needs
         | inr much ↦ absurd (subst (λ (o : Option Full). IsTooMuch F o) was much)
       ]
 
-  by_result : {T : Type 0} (r : Result T Full) → before ≡ None → OnOk r (IsPut s d g (Some e)) → OnOk r ((before ≡ None) × (after ≡ None)) → (IsErr r → HasNoRoom s d (Some e)) →
-      IfErr r (λ f. (8 * length d.room < f.bits) × (after ≡ Some f)) → Writes F (e ∷ rest) (seen s d before) → Writes F rest (seen t g after)
-  by_result {T} (Ok x) was put open_still absent bits w = put_now was open_still.1 put w
-  by_result {T} (Err f) was put open_still absent bits w = lacks_now f was bits.1 (absent refl) bits.0 w
+  -- it is offered, as it is the next
+  not_other : before ≡ None → (IsOfferedAs s d.state (Some e) → ⊥) → Writes F (e ∷ rest) (seen s d before) → ⊥
+  not_other was other w =
+      elim w.so [
+        | inl h ↦ (let l = h.leads in other (l.1, l.0, subst (λ (x : PlainSchema). Moves WritesValue x d.state e l.1 l.0) (sym w.schema_is) l.3))
+        | inr much ↦ (let wrong : ⊥ = subst (λ (o : Option Full). IsTooMuch F o) was much in wrong)
+      ]
 
-  by_full : {T : Type 0} (r : Result T Full) (o : Option Full) → before ≡ o → OnOk r (IsPut s d g (Some e)) → OnOk r ((before ≡ None) × (after ≡ None)) → (before ≡ None → IsErr r → HasNoRoom s d (Some e)) →
-      (before ≡ None → IfErr r (λ f. (8 * length d.room < f.bits) × (after ≡ Some f))) → ((f : Full) → before ≡ Some f → after ≡ before) → Writes F (e ∷ rest) (seen s d before) → Writes F rest (seen t g after)
-  by_full {T} r None is put open_still absent bits again w = by_result r is put open_still (absent is) (bits is) w
-  by_full {T} r (Some f) is put open_still absent bits again w = stays_full f is (again f is ∙ is) w
+  -- what an answer says of a writer that was open still
+  pub record Answers {T : Type 0} (r : Result T NotPut) : Type 0 where
+    pub put : OnOk r (IsPut s d g (Some e))
+    pub open_still : OnOk r ((before ≡ None) × (after ≡ None))
+    pub other : before ≡ None → r ≡ Err NotOffered → IsOfferedAs s d.state (Some e) → ⊥
+    pub needed : before ≡ None → (f : Full) → r ≡ Err (NoRoom f) → IsNeeded s d (Some e) f
+    pub bits : before ≡ None → (f : Full) → r ≡ Err (NoRoom f) → (8 * length d.room < f.bits) × (after ≡ Some f)
 
-  pub put_any : {T : Type 0} (r : Result T Full) → OnOk r (IsPut s d g (Some e)) → OnOk r ((before ≡ None) × (after ≡ None)) → (before ≡ None → IsErr r → HasNoRoom s d (Some e)) →
-      (before ≡ None → IfErr r (λ f. (8 * length d.room < f.bits) × (after ≡ Some f))) → ((f : Full) → before ≡ Some f → after ≡ before) → Writes F (e ∷ rest) (seen s d before) → Writes F rest (seen t g after)
-  put_any {T} r put open_still absent bits again w = by_full r before refl put open_still absent bits again w
+  by_result : {T : Type 0} (r : Result T NotPut) → before ≡ None → Answers r → Writes F (e ∷ rest) (seen s d before) → Writes F rest (seen t g after)
+  by_result {T} (Ok x) was a w = put_now was a.open_still.1 a.put w
+  by_result {T} (Err NotOffered) was a w = absurd (not_other was (a.other was refl) w)
+  by_result {T} (Err (NoRoom f)) was a w = lacks_now f was (a.bits was f refl).1 (a.needed was f refl) (a.bits was f refl).0 w
 
--- where a writer stands is in the schema
-open_places : (kinds : List PlainKind) (elements : List Opened) → AreOpen kinds elements → AllByRecursion (λ o. IsPlace kinds o.place) elements
-open_places kinds [] open_all = tt {0}
-open_places kinds (top ∷ above) open_all = (open_all.0, open_places kinds above open_all.2)
+  by_full : {T : Type 0} (r : Result T NotPut) (o : Option Full) → before ≡ o → Answers r → ((f : Full) → before ≡ Some f → after ≡ before) → Writes F (e ∷ rest) (seen s d before) → Writes F rest (seen t g after)
+  by_full {T} r None is a again w = by_result r is a w
+  by_full {T} r (Some f) is a again w = stays_full f is (again f is ∙ is) w
 
-around_stands : (s : PlainSchema) (elements : List Opened) → AreOpen s.kinds elements → IsStanding s (around elements)
-around_stands s [] all = tt {0}
-around_stands s (top ∷ above) all = (all.0, open_places s.kinds above all.2)
-
-pub sound_stands : (s : PlainSchema) (phase : Phase) (elements : List Opened) → IsSound s phase elements → IsStanding s (standing_of phase elements)
-sound_stands s phase.Before elements is = tt {0}
-sound_stands s (phase.AtRoot name kind) elements is = is.1
-sound_stands s phase.Inside elements is = around_stands s elements is
+  pub put_any : {T : Type 0} (r : Result T NotPut) → Answers r → ((f : Full) → before ≡ Some f → after ≡ before) → Writes F (e ∷ rest) (seen s d before) → Writes F rest (seen t g after)
+  put_any {T} r a again w = by_full r before refl a again w
 
 -- ---- trees and the parts that they are made of lie alike ahead
 

@@ -84,7 +84,7 @@ module _ {T : Type 0} (r : Result T Full) (F : Target) (w : Put) (writes : Write
       by_none : {U : Type 0} (q : Result U Full) → (IsErr q → ⊥) → OnErr q (8 * F.room < length F.bits)
       by_none {U} (Ok x) never = tt
       by_none {U} (Err f) never = absurd (never refl)
-  no_room_by (Some f) is never = on_err r (too_much F w f is writes).1
+  no_room_by (Some f) is never = let much = too_much F w f is writes in on_err r (omega (arith, much.0, much.1))
     where
       on_err : {U : Type 0} (q : Result U Full) → 8 * F.room < length F.bits → OnErr q (8 * F.room < length F.bits)
       on_err {U} (Ok x) much = tt
@@ -93,13 +93,18 @@ module _ {T : Type 0} (r : Result T Full) (F : Target) (w : Put) (writes : Write
   pub no_room : (w.full ≡ None → IsErr r → ⊥) → OnErr r (8 * F.room < length F.bits)
   no_room never = no_room_by w.full refl never
 
-  needs_by : (o : Option Full) → w.full ≡ o → (w.full ≡ None → IsErr r → ⊥) → ((f : Full) → w.full ≡ Some f → r ≡ Err f) → IfErr r (λ f. 8 * F.room < f.bits)
-  needs_by None is never again = by_none r (never is)
-    where
-      by_none : {U : Type 0} (q : Result U Full) → (IsErr q → ⊥) → IfErr q (λ f. 8 * F.room < f.bits)
-      by_none {U} (Ok x) never = tt
-      by_none {U} (Err f) never = absurd (never refl)
-  needs_by (Some f) is never again = subst (λ (q : Result T Full). IfErr q (λ f. 8 * F.room < f.bits)) (sym (again f is)) (too_much F w f is writes).0
+  -- more than the room has are told to be needed, and no more than all
+  abbrev pub Tells : Full → Type 0
+  Tells full = (8 * F.room < full.bits) × (full.bits ≤ length F.bits)
 
-  pub needs : (w.full ≡ None → IsErr r → ⊥) → ((f : Full) → w.full ≡ Some f → r ≡ Err f) → IfErr r (λ f. 8 * F.room < f.bits)
-  needs never again = needs_by w.full refl never again
+  module _ (P : Full → Type 0) (follows : (full : Full) → Tells full → P full) where
+    needs_by : (o : Option Full) → w.full ≡ o → (w.full ≡ None → IsErr r → ⊥) → ((f : Full) → w.full ≡ Some f → r ≡ Err f) → IfErr r P
+    needs_by None is never again = by_none r (never is)
+      where
+        by_none : {U : Type 0} (q : Result U Full) → (IsErr q → ⊥) → IfErr q P
+        by_none {U} (Ok x) never = tt
+        by_none {U} (Err f) never = absurd (never refl)
+    needs_by (Some f) is never again = subst (λ (q : Result T Full). IfErr q P) (sym (again f is)) (follows f (too_much F w f is writes))
+
+    pub needs : (w.full ≡ None → IsErr r → ⊥) → ((f : Full) → w.full ≡ Some f → r ≡ Err f) → IfErr r P
+    needs never again = needs_by w.full refl never again

@@ -1,5 +1,5 @@
 -- Own: how far a message is written.
-use Rattle.std.specs.Prelude.{◌≡◌, ℕ, ◌*◌, ◌<◌, Bool, List, [], ◌++◌, ◌∷◌, length, Option, Some, None, ◌⊎◌}
+use Rattle.std.specs.Prelude.{◌≡◌, ℕ, ◌*◌, ◌<◌, ◌≤◌, Bool, List, [], ◌++◌, ◌∷◌, length, Option, Some, None, ◌⊎◌}
 use Rattle.exi_bits.specs.declared.pen.Full.{Full}
 use Rattle.exi_schema.specs.declared.places.Places.{Ghosts}
 use Rattle.exi_schema.specs.Schemas.{PlainSchema}
@@ -49,10 +49,10 @@ pub record HasLeft (F : Target) (events : List Event) (w : Put) : Type 0 where
   pub leads : Leads F.schema w.state events left F.last
   pub bits_are : F.bits ≡ w.bits ++ left
 
--- all together have no room, nor the bits that it is said to need
+-- all together have no room, nor those up to the event that lacks room first, which are the bits that are told
 abbrev pub IsTooMuch : Target → Option Full → Type 0
 IsTooMuch F None = ⊥
-IsTooMuch F (Some full) = (8 * F.room < full.bits) × (8 * F.room < length F.bits)
+IsTooMuch F (Some full) = (8 * F.room < full.bits) × (full.bits ≤ length F.bits)
 
 -- these events are left to put, or all together have no room
 pub record Writes (F : Target) (events : List Event) (w : Put) : Type 0 where

@@ -62,7 +62,8 @@ fn root_in<'a, T: Choice<'a>, P: Places>(descent: &mut Descent<'a, '_, P>) -> Re
 /// Writes the one encoding of a message to the front of a room of at most 65,536 bytes, and returns how many bytes it has. The table,
 /// which has room for 8,192 entries, is emptied.
 ///
-/// `Full` exactly where the encoding has more bits than the room.
+/// `Full` exactly where the encoding has more bits than the room. It tells the bits up to the first event that has no room, that event
+/// included: more than the room has, and no more than the encoding.
 pub fn write<T: Root, P: Places>(
     message: &T,
     room: &mut [u8],
@@ -77,6 +78,8 @@ pub fn write<T: Root, P: Places>(
     ensures written { IfOk result (λ n. IsEncoding (P.schema places.now) (root_of (T.name message.now) (T.inside message.now)) (take n room.new)) }
     ensures full { IsErr result ↔ PassesBytes (P.schema places.now) (T.number message.now) (root_of (T.name message.now) (T.inside message.now)) (length room.old) }
     ensures bits { IfErr result (λ full. 8 * length room.old < full.bits) }
+    ensures most { (bits : List Bool) → SpellsDocument WritesValue (P.schema places.now) (T.number message.now) (root_of (T.name message.now) (T.inside message.now)) bits
+        → IfErr result (λ full. full.bits ≤ length bits) }
 {
     let mut writer = EventWriter::new(room, places, table);
     put_document(&mut writer, message)?;
@@ -100,6 +103,8 @@ fn put_document<T: Root, P: Places>(
     ensures full { (bits : List Bool) → SpellsDocument WritesValue (P.schema writer.old.places.now) (T.number message.now) (root_of (T.name message.now) (T.inside message.now)) bits
         → OnErr result (8 * length writer.old.room.now < length bits) }
     ensures bits { IfErr result (λ full. 8 * length writer.old.room.now < full.bits) }
+    ensures most { (bits : List Bool) → SpellsDocument WritesValue (P.schema writer.old.places.now) (T.number message.now) (root_of (T.name message.now) (T.inside message.now)) bits
+        → IfErr result (λ full. full.bits ≤ length bits) }
 {
     put_event(writer, &Event::Document(message.number()));
     put_choice(writer, message);

@@ -21,9 +21,7 @@ pub fn put_event<P: Places>(writer: &mut EventWriter<'_, '_, P>, event: &Event<'
     ensures write { (F : Target) (e : TreeEvent) (rest : List TreeEvent) → Writes F (e ∷ rest) (put_of writer.old) → event_of event.now ≡ Some e
         → Writes F rest (put_of writer.new) }
 {
-    if writer.offers(event) {
-        let _full = writer.put(event);
-    }
+    let _put = writer.try_put(event);
 }
 
 /// Puts an attribute.

@@ -1,5 +1,5 @@
 -- Events with which no document begins that has room: one is not offered, is too long, or has no room.
-use Rattle.std.proofs.Common.{rules, ◌≡◌, ℕ, ◌+◌, ◌*◌, ◌<◌, ◌↔◌, IsTrue, IsFalse, not, Bool, true, false, List, ◌∷◌, ◌++◌, length, reverse, Option, Some, sym, ap, subst, ◌∙◌, arith, length-append}
+use Rattle.std.proofs.Common.{rules, ◌≡◌, ℕ, ◌+◌, ◌*◌, ◌<◌, ◌↔◌, IsTrue, IsFalse, not, Bool, true, false, List, ◌∷◌, ◌++◌, length, reverse, Option, Some, Result, Ok, Err, IsErr, refl, sym, ap, subst, ◌∙◌, arith, length-append}
 use Rattle.exi_spec.specs.Bits.{bits_of}
 use Rattle.exi_spec.specs.Items.{shortest_unsigned}
 use Rattle.exi_spec.proofs.BitLaws.{length-bits_of}
@@ -10,6 +10,9 @@ use Rattle.exi_documents.specs.Documents.{SpellsDocument}
 use Rattle.exi_documents.specs.Grammar.{Standing, Inside, Behind, State, stands, Moves, Reaches}
 use Rattle.exi_documents.specs.Trees.{Value, Truth, Ordinal, Number, Bytes, Text, Tree, Event, Document, Start, Attribute, Content, EndElement, document_events}
 use Rattle.exi_documents.specs.Values.{Entries, WritesValue}
+use Rattle.exi_bits.specs.declared.pen.Full.{Full}
+use Rattle.exi_events.specs.declared.writer.NotPut.{NotPut}
+use Rattle.exi_events.specs.declared.writer.NotPut.TheVariants.{NotOffered, Full as NoRoom}
 use Rattle.exi_events.specs.Writer.{Draft, HasPut, IsOfferedAs, HasNoRoom}
 use Rattle.document_laws.proofs.Runs.{document_tells}
 use Rattle.document_laws.proofs.Written.{value_once}
@@ -96,14 +99,16 @@ module _ (s : PlainSchema) where
 
   -- ---- as a writer answers
 
-  pub stuck_offer : (events : List Event) (event : Event) (told : Option Event) (draft : Draft) (offered : Bool) → told ≡ Some event → HasPut s events draft →
-      (IsTrue offered ↔ IsOfferedAs s draft.state told) → offered ≡ false → IsStuck s (event ∷ events)
-  stuck_offer events event told draft offered is h tells differs =
-      not_offered events event draft h (λ o. let yes : IsTrue offered = tells.1 (subst (λ (x : Option Event). IsOfferedAs s draft.state x) (sym is) o) in let wrong : IsTrue false = subst (λ (b : Bool). IsTrue b) differs yes in search rules)
-
-  pub stuck_room : (events : List Event) (event : Event) (told : Option Event) (draft : Draft) → told ≡ Some event → HasPut s events draft → length draft.room ≡ 65536 →
+  stuck_room : (events : List Event) (event : Event) (told : Option Event) (draft : Draft) → told ≡ Some event → HasPut s events draft → length draft.room ≡ 65536 →
       HasNoRoom s draft told → IsStuck s (event ∷ events)
   stuck_room events event told draft is h room full = no_room events event draft h room (subst (λ (x : Option Event). HasNoRoom s draft x) is full)
+
+  pub stuck_tried : {T : Type 0} (r : Result T NotPut) (events : List Event) (event : Event) (told : Option Event) (draft : Draft) → told ≡ Some event → HasPut s events draft → length draft.room ≡ 65536 →
+      (r ≡ Err NotOffered → IsOfferedAs s draft.state told → ⊥) → ((f : Full) → r ≡ Err (NoRoom f) → HasNoRoom s draft told) → IsErr r → IsStuck s (event ∷ events)
+  stuck_tried {T} (Ok x) events event told draft is h room other full failed = absurd cc
+  stuck_tried {T} (Err NotOffered) events event told draft is h room other full failed =
+      not_offered events event draft h (λ o. other refl (subst (λ (x : Option Event). IsOfferedAs s draft.state x) (sym is) o))
+  stuck_tried {T} (Err (NoRoom f)) events event told draft is h room other full failed = stuck_room events event told draft is h room (full f refl)
 
 pub failed_by : (b failed : Bool) → failed ≡ not b → IsFalse b → IsTrue failed
 failed_by true failed is no_more = absurd (search rules)

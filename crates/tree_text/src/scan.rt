@@ -50,7 +50,7 @@ fn put_said(writer: &mut EventWriter<Schema>, said: &Said) -> bool
     let Some(event) = event_said(said) else {
         return false;
     };
-    writer.offers(&event) && writer.put(&event).is_ok()
+    writer.try_put(&event).is_ok()
 }
 
 /// Writes the tree that a text spells into a room, and gives the bytes; `None` behind the first event that can't be put.

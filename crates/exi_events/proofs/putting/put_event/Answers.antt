@@ -1,32 +1,38 @@
-use Rattle.std.proofs.lemmas.Bool.{false≢true}
+use Rattle.std.proofs.Common.{◌≡◌, ℕ, ◌+◌, ◌∙◌, List, refl, sym, subst, ap}
 use Rattle.exi_bits.specs.Pens.{written_bits}
-use Rattle.exi_events.proofs.Starting.{names_offered, ready_more, ready_root, document_put, root_room, inside_put}
+use Rattle.exi_documents.specs.Grammar.{Opened, State}
+use Rattle.exi_events.specs.declared.reader.Phase.{Phase}
+use Rattle.exi_events.specs.Reader.{standing_of, state_of}
+use Rattle.exi_events.specs.Writer.{drafted, IsFoundAt, IsOffered, HasBits}
+use Rattle.exi_values.specs.Meaning.{event_of}
+use Rattle.exi_events.proofs.Measured.{state_stays, passes}
+use Rattle.exi_events.proofs.Standings.{sound_stands}
 use Rattle.exi_events.proofs.putting.put_event.Goals as goal
 
-pub put_front-requires : goal.put_front-requires
-put_front-requires g c =
-    names_offered (g.P.Places.schema c.args.places.now) c.args.phase.now c.args.event.now c.args.elements.now (written_bits c.args.pen.now) c.args.table.now.entries c.in-Document.number c.in-Before.is c.in-Document.is c.requires.offered
+pub event_bits-requires-clause-found : goal.event_bits-requires-clause-found
+event_bits-requires-clause-found g c =
+    let s = g.P.Places.schema c.args.places.now in
+    let stays = c.in-Err.ensures.stays in
+    subst (λ (p : Phase). IsFoundAt s (standing_of p c.put_parts.new.elements) c.args.found c.args.event.now) (sym stays.0)
+    (subst (λ (es : List Opened). IsFoundAt s (standing_of c.args.phase.now es) c.args.found c.args.event.now) (sym stays.1) c.requires.found)
 
-pub returns-in_err-root-in-Before-clause-ready : goal.returns-in_err-root-in-Before-clause-ready
-returns-in_err-root-in-Before-clause-ready g c =
-    ready_more (g.P.Places.schema c.args.places.now) c.args.phase.now c.args.elements.now c.args.pen.now c.put_front.new.pen c.args.table.now c.requires.ready c.in_err-root-in-Before.ensures.more
+pub event_bits-requires-clause-offered : goal.event_bits-requires-clause-offered
+event_bits-requires-clause-offered g c =
+    let stays = c.in-Err.ensures.stays in
+    subst (λ (state : State). IsOffered (g.P.Places.schema c.args.places.now) state c.args.event.now)
+    (sym (state_stays c.args.phase.now c.put_parts.new.phase c.args.elements.now c.put_parts.new.elements c.args.pen.now c.put_parts.new.pen c.args.table.now c.put_parts.new.table stays.0 stays.1 stays.2 c.in-Err.ensures.more c.requires.ready.texts))
+    c.requires.offered
 
-pub returns-in_ok-root-in-Before-clause-ready : goal.returns-in_ok-root-in-Before-clause-ready
-returns-in_ok-root-in-Before-clause-ready g c =
-    ready_root (g.P.Places.schema c.args.places.now) c.args.phase.now c.args.elements.now c.args.pen.now c.put_front.new.pen c.args.table.now c.in_ok-root-in-Before.root.name c.in_ok-root-in-Before.root.kind
-    c.in-Before.is c.requires.ready c.in_ok-root-in-Before.ensures.more c.in_ok-root-in-Before.ensures.of_schema
+pub returns-in-Err-clause-needed : goal.returns-in-Err-clause-needed
+returns-in-Err-clause-needed g c =
+    let stays = c.in-Err.ensures.stays in
+    let has = subst (λ (state : State). HasBits (g.P.Places.schema c.args.places.now) state (event_of c.args.event.now) c.event_bits.result)
+    (state_stays c.args.phase.now c.put_parts.new.phase c.args.elements.now c.put_parts.new.elements c.args.pen.now c.put_parts.new.pen c.args.table.now c.put_parts.new.table stays.0 stays.1 stays.2 c.in-Err.ensures.more c.requires.ready.texts)
+    c.event_bits.ensures.bits in
+    (c.event_bits.result, has, ap (λ (n : ℕ). n + c.event_bits.result) (c.from.ensures ∙ c.place-before.ensures.place))
 
-pub returns-in_ok-root-in-Before-clause-ok : goal.returns-in_ok-root-in-Before-clause-ok
-returns-in_ok-root-in-Before-clause-ok g c =
-    document_put (g.P.Places.schema c.args.places.now) c.args.phase.now c.args.event.now c.args.elements.now c.args.table.now.entries c.args.pen.now c.put_front.new.pen c.in-Document.number c.in_ok-root-in-Before.root.number c.in_ok-root-in-Before.root.name c.in_ok-root-in-Before.root.kind
-    c.in-Before.is c.in-Document.is c.in_ok-root-in-Before.ensures.number c.requires.ready.texts c.in_ok-root-in-Before.ensures.ok c.in_ok-root-in-Before.ensures.named
-
-pub returns-in-AtRoot-clause-full : goal.returns-in-AtRoot-clause-full
-returns-in-AtRoot-clause-full g c = (
-  λ no. absurd (false≢true no),
-  λ lacks. absurd (root_room (g.P.Places.schema c.args.places.now) c.args.phase.now c.args.event.now c.args.elements.now (written_bits c.args.pen.now) c.args.table.now.entries c.args.pen.now c.in-AtRoot.name c.in-AtRoot.kind c.in-AtRoot.is lacks),
-)
-
-pub returns-in-Inside-found-clause-ok : goal.returns-in-Inside-found-clause-ok
-returns-in-Inside-found-clause-ok g c =
-    inside_put c.put_inside.result (g.P.Places.schema c.args.places.now) c.args.phase.now c.args.event.now c.args.elements.now c.put_inside.new.elements c.args.table.now.entries c.put_inside.new.table.entries c.args.pen.now c.put_inside.new.pen c.in-Inside.is c.put_inside.ensures.ok
+pub returns-in-Err-clause-bits : goal.returns-in-Err-clause-bits
+returns-in-Err-clause-bits g c =
+    let s = g.P.Places.schema c.args.places.now in
+    let draft = drafted c.args.pen.now (state_of c.args.phase.now c.args.elements.now (written_bits c.args.pen.now) c.args.table.now.entries) in
+    passes s draft (event_of c.args.event.now) _ (sound_stands s c.args.phase.now c.args.elements.now c.requires.ready.sound) (c.in-Err.ensures.full.0 refl) (returns-in-Err-clause-needed g c)

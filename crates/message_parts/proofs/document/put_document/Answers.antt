@@ -1,4 +1,4 @@
-use Rattle.std.proofs.Common.{ap, refl, ◌∙◌, ◌≡◌, Some, None, ℕ, List, Bool, ◌∷◌, []}
+use Rattle.std.proofs.Common.{ap, refl, ◌∙◌, ◌≡◌, ◌*◌, ◌<◌, ◌≤◌, length, Some, None, ℕ, List, Bool, ◌∷◌, []}
 use Rattle.exi_documents.specs.Documents.{SpellsDocument}
 use Rattle.exi_documents.specs.Trees.{Document}
 use Rattle.exi_documents.specs.Values.{WritesValue}
@@ -46,4 +46,12 @@ returns-clause-bits g c =
     let m = c.args.message.now in
     let of = begun s (g.T.Root.number m) (g.T.PutChoice.name m) (g.T.PutChoice.inside m) c.requires.message.0 c.requires.message.1 (put_of c.args.writer.now) refl c.requires.nothing.0 c.requires.nothing.1 c.requires.open_still in
     let left = c.put_choice.ensures.write _ [] (c.put_event.ensures.write _ _ _ of (ap (λ (n : ℕ). Some (Document n)) c.number.ensures)) in
-    needs c.put.result _ (put_of c.put_choice.new.writer) left (λ none err. (c.put.ensures.full none).0 err) (λ f is. (c.put.ensures.again f is).0)
+    needs c.put.result _ (put_of c.put_choice.new.writer) left (λ full. 8 * length c.args.writer.now.room.now < full.bits) (λ full tells. tells.0) (λ none err. (c.put.ensures.full none).0 err) (λ f is. (c.put.ensures.again f is).0)
+
+pub returns-clause-most : goal.returns-clause-most
+returns-clause-most g c = λ bits spelled.
+    let s = g.P.Places.schema c.args.writer.now.places.now in
+    let m = c.args.message.now in
+    let of = begun s (g.T.Root.number m) (g.T.PutChoice.name m) (g.T.PutChoice.inside m) bits spelled (put_of c.args.writer.now) refl c.requires.nothing.0 c.requires.nothing.1 c.requires.open_still in
+    let left = c.put_choice.ensures.write _ [] (c.put_event.ensures.write _ _ _ of (ap (λ (n : ℕ). Some (Document n)) c.number.ensures)) in
+    needs c.put.result _ (put_of c.put_choice.new.writer) left (λ full. full.bits ≤ length bits) (λ full tells. tells.1) (λ none err. (c.put.ensures.full none).0 err) (λ f is. (c.put.ensures.again f is).0)

@@ -1,8 +1,8 @@
-use Rattle.std.proofs.Common.{◌≡◌, Bool, List, OnOk, ◌↔◌, rules, sym, subst}
+use Rattle.std.proofs.Common.{◌≡◌, Bool, List, OnOk, IfErr, ◌↔◌, rules, sym, subst}
 use Rattle.std.specs.Result.{IsErr}
 use Rattle.exi_bits.specs.Pens.{written_bits}
 use Rattle.exi_events.specs.Reader.{state_of, IsReadyAt}
-use Rattle.exi_events.specs.Writer.{Draft, drafted, draft_of, IsOffered, IsPut, HasNoRoom}
+use Rattle.exi_events.specs.Writer.{Draft, drafted, draft_of, IsOffered, IsPut, HasNoRoom, IsNeeded}
 use Rattle.exi_values.specs.Meaning.{event_of}
 use Rattle.exi_events.proofs.Drafts.{begun_in, left_in, told_more}
 use Rattle.exi_events.proofs.writer.EventWriter.put_found.Goals as goal
@@ -38,3 +38,9 @@ returns-clause-full g c =
 pub returns-clause-told : goal.returns-clause-told
 returns-clause-told g c events h =
     told_more c.put_event-put.result (g.P.Places.schema c.args.self.now.places.now) events (draft_of c.args.self.now) _ (event_of c.args.event.now) h (returns-clause-put g c)
+
+pub returns-clause-needed : goal.returns-clause-needed
+returns-clause-needed g c =
+    begun_in c.args.self.now.phase c.args.self.now.elements c.args.self.now.table.now.entries
+    (λ (d : Draft). IfErr c.put_event-put.result (IsNeeded (g.P.Places.schema c.args.self.now.places.now) d (event_of c.args.event.now)))
+    c.behind-pen.result c.args.self.now.room.now c.args.self.now.bits c.behind-pen.ensures.room c.behind-pen.ensures.written c.put_event-put.ensures.needed
