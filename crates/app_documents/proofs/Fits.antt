@@ -70,7 +70,11 @@ offered_is members trees divided held =
     let d4 = once_divided PRIORITY 3 [] d3.0 d3.1 in
     let f4 = has_field kinds PRIORITY 3 (datatype.Bounded (pos 1) 20) d3.0 d4.0 f3.more d4.2 refl f3.held in
     let v4 = is_bounded 1 20 f4.value f4.is_value in
-    let last = nothing_held kinds d4.0 f4.more d4.1 f4.held in (
+    let last = nothing_held kinds d4.0 f4.more d4.1 f4.held in
+    let priority : Trees = simple PRIORITY (Number (pos v4.0)) none in
+    let schema : Trees = simple SCHEMA_ID (Number (pos v3.0)) priority in
+    let minor : Trees = simple MINOR (Number (pos v2.0)) schema in
+    let major : Trees = simple MAJOR (Number (pos v1.0)) minor in (
       record { namespace = v0.0; major = v1.0; minor = v2.0; schema = v3.0; priority = v4.0 },
       record {
         namespace_fits = v0.2.0;
@@ -81,10 +85,10 @@ offered_is members trees divided held =
         priority_least = v4.2;
         priority_most = omega (arith, v4.3);
       },
-      field_is NAMESPACE f0.value (Text v0.0) trees f0.more _ f0.trees_are v0.1
-          (field_is MAJOR f1.value (Number (pos v1.0)) f0.more f1.more _ f1.trees_are v1.1
-          (field_is MINOR f2.value (Number (pos v2.0)) f1.more f2.more _ f2.trees_are v2.1
-          (field_is SCHEMA_ID f3.value (Number (pos v3.0)) f2.more f3.more _ f3.trees_are v3.1
+      field_is NAMESPACE f0.value (Text v0.0) trees f0.more major f0.trees_are v0.1
+          (field_is MAJOR f1.value (Number (pos v1.0)) f0.more f1.more minor f1.trees_are v1.1
+          (field_is MINOR f2.value (Number (pos v2.0)) f1.more f2.more schema f2.trees_are v2.1
+          (field_is SCHEMA_ID f3.value (Number (pos v3.0)) f2.more f3.more priority f3.trees_are v3.1
           (field_is PRIORITY f4.value (Number (pos v4.0)) f3.more f4.more none f4.trees_are v4.1 last)))),
     )
 

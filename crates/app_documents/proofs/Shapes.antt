@@ -1,5 +1,5 @@
 -- The elements inside a message's tree.
-use Rattle.std.proofs.Common.{List, ◌∷◌, [], map, Option}
+use Rattle.std.proofs.Common.{ℕ, List, ◌∷◌, [], map, Option}
 use Rattle.exi_documents.specs.Trees.{Trees, none}
 use Rattle.message_parts.specs.Contents.{trees_of, each_trees, perhaps_trees, mapped, holding}
 use Rattle.app_documents.specs.Trees.{Offered, offered_parts, request_parts, number}

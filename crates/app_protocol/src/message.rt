@@ -1,6 +1,6 @@
 //! The messages of the negotiation, and how they are read and put.
 
-ghost use Rattle.std.specs.Prelude.{◌≡◌};
+ghost use Rattle.std.specs.Prelude.{[]};
 ghost use Rattle.exi_documents.specs.Trees.{Ordinal};
 ghost use Rattle.message_parts.specs.Values.{is_named};
 ghost use Rattle.app_schema.specs.Declarations.{kinds as all_kinds, protocol_particles, request_particles, response_particles};

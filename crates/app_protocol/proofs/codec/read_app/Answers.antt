@@ -15,10 +15,7 @@ pub returns-clause-refused : goal.returns-clause-refused
 returns-clause-refused c = subst (λ (s : PlainSchema). IfErr c.read.result (λ r. IsRefused s c.args.payload.now r.cause r.bit)) c.negotiation.ensures c.read.ensures.refused
 
 pub read-requires : goal.read-requires
-read-requires c =
-    record {
-      payload = c.requires.payload;
-      cap = c.requires.cap;
-      kinds = ap (λ (s : PlainSchema). s.kinds) c.negotiation.ensures;
-      roots = subst (λ (s : PlainSchema). are_among root_members s.roots ≡ true) (sym c.negotiation.ensures) refl;
-    }
+read-requires c = λ k.
+    let kinds = ap (λ (s : PlainSchema). s.kinds) c.negotiation.ensures in
+    let roots = subst (λ (s : PlainSchema). are_among root_members s.roots ≡ true) (sym c.negotiation.ensures) refl in
+    ((refl, tt {0}), (c.requires.payload, (c.requires.cap, (kinds, roots))))

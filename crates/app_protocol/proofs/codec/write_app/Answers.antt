@@ -18,10 +18,5 @@ returns-clause-full c =
     let both = passes (schema_of c.negotiation.result) c.negotiation.ensures c.args.message.now (length c.args.room.now) in
     (λ err. both.0 (c.write.ensures.full.0 err), λ more. c.write.ensures.full.1 (both.1 more))
 
-pub write-requires : goal.write-requires
-write-requires c =
-    record {
-      message = is_writable (schema_of c.negotiation.result) c.negotiation.ensures c.args.message.now c.requires.message;
-      room = c.requires.room;
-      cap = c.requires.cap;
-    }
+pub write-requires-clause-message : goal.write-requires-clause-message
+write-requires-clause-message c = is_writable (schema_of c.negotiation.result) c.negotiation.ensures c.args.message.now c.requires.message
