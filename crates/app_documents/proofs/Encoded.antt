@@ -20,12 +20,21 @@ use Rattle.exi_documents.specs.Values.{Entries, WritesValue}
 use Rattle.exi_documents.specs.Documents.{SpellsStep, SpellsTrees, SpellsTree, SpellsDocument, element, first, header}
 use Rattle.document_laws.proofs.IndexWidths.{code_width}
 use Rattle.app_schema.specs.Declarations.{kinds, roots, negotiation_schema}
-use Rattle.app_documents.specs.Trees.{Offered, IsOffered, Message, Request, Response, IsMessage, IsByte, fields_of, protocol_trees, schema_tree, tree_of, number_of}
-use Rattle.app_documents.proofs.Fields.{behind}
-use Rattle.app_documents.proofs.Shapes.{at_copy, among}
+use Rattle.app_documents.specs.Trees.{Offered, IsOffered, Message, Request, Response, IsMessage, IsByte, tree_of, number_of}
+use Rattle.app_documents.proofs.Shapes.{fields_of, protocol_trees, schema_tree}
 use Rattle.app_documents.proofs.Written.{IsWritten, unsigned_written, bounded_written, ordinal_written, text_written}
 
--- ---- steps
+-- ---- places and steps
+
+abbrev behind : ℕ → ℕ → Place
+behind kind particle = record { kind = kind; particle = particle; copies = 0; attributes = 0 }
+
+-- the place behind so many protocols
+abbrev among : ℕ → Place
+among n = record { kind = 6; particle = 0; copies = n; attributes = 0 }
+
+abbrev at_copy : ℕ → Place
+at_copy n = if nat_lt n 20 then among n else behind 6 1
 
 -- a step has a code of at most so many bits
 abbrev IsCoded : List PlainKind → Place → Step → ℕ → Type 0

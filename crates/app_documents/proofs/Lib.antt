@@ -1,7 +1,6 @@
-pub mod Scalars
-pub mod Steps
-pub mod Fields
 pub mod Shapes
+pub mod Divided
+pub mod Fits
 pub mod Places
 pub mod Written
 pub mod Encoded

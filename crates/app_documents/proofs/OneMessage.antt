@@ -1,83 +1,40 @@
 -- A tree is that of one message.
-use Rattle.std.proofs.Common.{◌≡◌, ℕ, zero, suc, pos, List, [], ◌∷◌, Option, Some, None, refl, sym, ap, ◌∙◌}
-use Rattle.exi_documents.specs.Trees.{Value, Ordinal, Number, Text, Trees, none, simple, complex, Tree, Complex}
-use Rattle.app_documents.specs.Trees.{Offered, Message, Request, Response, protocol_trees, schema_tree, tree_of}
+use Rattle.std.proofs.Common.{◌≡◌, ℕ, pos, List, [], ◌∷◌, Option, Some, None, refl, ap, ap₂, ◌∙◌}
+use Rattle.exi_documents.specs.Trees.{Ordinal, Number, Text, Trees, none, simple, complex, Tree, Complex}
+use Rattle.app_documents.specs.Trees.{Offered, Message, Request, Response, tree_of}
+use Rattle.app_documents.proofs.Shapes.{fields_of, protocol_trees, schema_tree}
 
--- ---- what stands in a tree
+one_offered : (p q : Offered) → fields_of p ≡ fields_of q → p ≡ q
+one_offered p q same =
+    let n : p.namespace ≡ q.namespace = cc in
+    let a : p.major ≡ q.major = cc in
+    let i : p.minor ≡ q.minor = cc in
+    let s : p.schema ≡ q.schema = cc in
+    let r : p.priority ≡ q.priority = cc in
+    ap (λ x. record p { namespace = x }) n ∙ ap (λ x. record p { namespace = q.namespace; major = x }) a
+    ∙ ap (λ x. record q { minor = x; schema = p.schema; priority = p.priority }) i
+    ∙ ap (λ x. record q { schema = x; priority = p.priority }) s ∙ ap (λ x. record q { priority = x }) r
 
-abbrev value_or : Value → Trees → Value
-value_or other none = other
-value_or other (simple name value more) = value
-value_or other (complex name attributes children more) = other
+one_list : (ps qs : List Offered) → protocol_trees ps ≡ protocol_trees qs → ps ≡ qs
+one_list [] [] same = refl
+one_list [] (q ∷ qs) same = absurd cc
+one_list (p ∷ ps) [] same = absurd cc
+one_list (p ∷ ps) (q ∷ qs) same =
+    let first : fields_of p ≡ fields_of q = cc in
+    let rest : protocol_trees ps ≡ protocol_trees qs = cc in
+    ap₂ (λ (x : Offered) (xs : List Offered). x ∷ xs) (one_offered p q first) (one_list ps qs rest)
 
-abbrev behind_first : Trees → Trees
-behind_first none = none
-behind_first (simple name value more) = more
-behind_first (complex name attributes children more) = more
-
-abbrev text_in : Value → List ℕ
-text_in (Text text) = text
-text_in _ = []
-
-abbrev number_in : Value → ℕ
-number_in (Number (pos n)) = n
-number_in _ = 0
-
-abbrev ordinal_in : Value → ℕ
-ordinal_in (Ordinal n) = n
-ordinal_in _ = 0
-
-abbrev inside_first : Trees → Trees
-inside_first none = none
-inside_first (simple name value more) = none
-inside_first (complex name attributes children more) = children
-
-abbrev children_of : Tree → Trees
-children_of (Complex name attributes children) = children
-children_of _ = none
-
--- ---- the message that a tree has
-
-abbrev offered_in : Trees → Offered
-offered_in trees =
-    let value : Trees → Value = value_or (Ordinal 0) in
-    record {
-      namespace = text_in (value trees);
-      major = number_in (value (behind_first trees));
-      minor = number_in (value (behind_first (behind_first trees)));
-      schema = number_in (value (behind_first (behind_first (behind_first trees))));
-      priority = number_in (value (behind_first (behind_first (behind_first (behind_first trees)))));
-    }
-
-abbrev offered_all : Trees → List Offered
-offered_all none = []
-offered_all (simple name value more) = []
-offered_all (complex name attributes children more) = offered_in children ∷ offered_all more
-
-abbrev schema_in : Trees → Option ℕ
-schema_in none = None
-schema_in (simple name value more) = Some (number_in value)
-schema_in (complex name attributes children more) = None
-
-abbrev message_in : ℕ → Trees → Message
-message_in zero trees = Request (offered_all trees)
-message_in (suc n) trees = Response (ordinal_in (value_or (Ordinal 0) trees)) (schema_in (behind_first trees))
-
-abbrev message_of : Tree → Message
-message_of (Complex name attributes children) = message_in name children
-message_of _ = Request []
-
-all_back : (ps : List Offered) → offered_all (protocol_trees ps) ≡ ps
-all_back [] = refl
-all_back (p ∷ ps) = ap (λ (l : List Offered). p ∷ l) (all_back ps)
-
-schema_back : (schema : Option ℕ) → schema_in (schema_tree schema) ≡ schema
-schema_back None = refl
-schema_back (Some schema) = refl
-
-message_back : (m : Message) → message_of (tree_of m) ≡ m
-message_back (Request ps) = ap Request (all_back ps)
-message_back (Response code schema) = ap (λ (s : Option ℕ). Response code s) (schema_back schema)
+one_schema : (one other : Option ℕ) → schema_tree one ≡ schema_tree other → one ≡ other
+one_schema None None same = refl
+one_schema None (Some n) same = absurd cc
+one_schema (Some m) None same = absurd cc
+one_schema (Some m) (Some n) same = cc
 
 pub one_message : (m n : Message) → tree_of m ≡ tree_of n → m ≡ n
-one_message m n same = sym (message_back m) ∙ ap message_of same ∙ message_back n
+one_message (Request ps) (Request qs) same = let inside : protocol_trees ps ≡ protocol_trees qs = cc in ap Request (one_list ps qs inside)
+one_message (Request ps) (Response code schema) same = absurd cc
+one_message (Response code schema) (Request ps) same = absurd cc
+one_message (Response code schema) (Response other more) same =
+    let codes : code ≡ other = cc in
+    let schemas : schema_tree schema ≡ schema_tree more = cc in
+    ap₂ (λ (c : ℕ) (s : Option ℕ). Response c s) codes (one_schema schema more schemas)

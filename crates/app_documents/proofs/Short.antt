@@ -8,7 +8,7 @@ use Rattle.app_schema.specs.Declarations.{negotiation_schema}
 use Rattle.app_documents.specs.Trees.{Message, Response, IsMessage, tree_of}
 use Rattle.app_documents.proofs.Encoded.{response_encoded}
 use Rattle.app_documents.proofs.OneMessage.{one_message}
-use Rattle.app_documents.proofs.Shapes.{of_message}
+use Rattle.app_documents.proofs.Fits.{of_message}
 
 pub response_short : (number code : ℕ) (schema : Option ℕ) (bits : List Bool) → SpellsDocument WritesValue negotiation_schema number (tree_of (Response code schema)) bits → length bits ≤ 28
 response_short number code schema bits written =

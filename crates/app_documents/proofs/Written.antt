@@ -10,7 +10,8 @@ use Rattle.exi_documents.specs.Trees.{Ordinal, Number, Text}
 use Rattle.exi_documents.specs.Values.{Entries, WritesValue, SpellsCode}
 use Rattle.document_laws.proofs.IndexWidths.{index_width}
 use Rattle.app_documents.proofs.Places.{first_or_absent, local_few, global_few}
-use Rattle.app_documents.proofs.Scalars.{AreScalars}
+use Rattle.std.specs.Char.{IsScalar}
+use Rattle.std.specs.List.{AllByRecursion}
 
 -- some bits write it, no more than so many, and so many texts are entered behind it at most
 abbrev pub IsWritten : (List Bool → Entries → Type 0) → ℕ → ℕ → Type 0
@@ -95,7 +96,7 @@ text_out entries name chars short few =
       ]
     ]
 
-pub text_written : (n name : ℕ) (entries : Entries) (chars : List ℕ) → length chars ≤ 100 → AreScalars chars → length entries ≤ n → n ≤ 32 → IsWritten (WritesValue (datatype.Text 100) entries name (Text chars)) 8080 (n + 1)
+pub text_written : (n name : ℕ) (entries : Entries) (chars : List ℕ) → length chars ≤ 100 → AllByRecursion (λ char. IsScalar char) chars → length entries ≤ n → n ≤ 32 → IsWritten (WritesValue (datatype.Text 100) entries name (Text chars)) 8080 (n + 1)
 text_written n name entries chars short scalars few small =
     let out = text_out entries name chars short (omega (arith, few, small)) in
     (out.0, out.1, ((short, scalars), out.2, omega (arith, out.4, few, small)), out.3, omega (arith, out.4, few))

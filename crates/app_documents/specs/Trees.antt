@@ -1,8 +1,10 @@
--- ISO 15118-2:2014 section 8.2: the tree of a request and of a response.
-use Rattle.std.specs.Prelude.{ℕ, pos, ◌<◌, ◌≤◌, ◌^◌, List, [], ◌∷◌, length, Option, Some, None}
+-- ISO 15118-2:2014 section 8.2: what a request and a response contain.
+use Rattle.std.specs.Prelude.{ℕ, pos, ◌<◌, ◌≤◌, ◌^◌, List, [], ◌∷◌, length, map, Option, Some, None}
 use Rattle.std.specs.Char.{IsScalar}
 use Rattle.std.specs.List.{AllByRecursion}
-use Rattle.exi_documents.specs.Trees.{Ordinal, Number, Text, Trees, none, simple, complex, Tree, Complex}
+use Rattle.exi_documents.specs.Trees.{Ordinal, Number, Text, Tree}
+use Rattle.message_parts.specs.Contents.{Inside, Of, Part, one, perhaps, each, mapped, holding, root_of}
+use Rattle.app_schema.specs.declared.names.TheConstants.{REQUEST, RESPONSE, APP_PROTOCOL, NAMESPACE, MAJOR, MINOR, SCHEMA_ID, PRIORITY, RESPONSE_CODE}
 
 -- one protocol that a car offers; its namespace is its code points
 pub record Offered : Type 0 where
@@ -37,22 +39,30 @@ IsMessage (Response code schema) = (code < 3) × IsByte schema
 
 -- ---- trees
 
-abbrev pub fields_of : Offered → Trees
-fields_of p =
-    simple 3 (Text p.namespace) (simple 4 (Number (pos p.major)) (simple 5 (Number (pos p.minor))
-    (simple 6 (Number (pos p.schema)) (simple 7 (Number (pos p.priority)) none))))
+abbrev pub number : ℕ → Inside
+number n = Of (Number (pos n))
 
-abbrev pub protocol_trees : List Offered → Trees
-protocol_trees [] = none
-protocol_trees (p ∷ ps) = complex 2 [] (fields_of p) (protocol_trees ps)
+abbrev pub offered_parts : Offered → List Part
+offered_parts p =
+    one NAMESPACE (Of (Text p.namespace)) ∷ one MAJOR (number p.major) ∷ one MINOR (number p.minor)
+    ∷ one SCHEMA_ID (number p.schema) ∷ one PRIORITY (number p.priority) ∷ []
 
-abbrev pub schema_tree : Option ℕ → Trees
-schema_tree None = none
-schema_tree (Some schema) = simple 6 (Number (pos schema)) none
+abbrev pub request_parts : List Inside → List Part
+request_parts protocols = each APP_PROTOCOL protocols ∷ []
+
+abbrev pub response_parts : ℕ → Option ℕ → List Part
+response_parts code schema = one RESPONSE_CODE (Of (Ordinal code)) ∷ perhaps SCHEMA_ID (mapped number schema) ∷ []
+
+abbrev pub inside_of : Message → Inside
+inside_of (Request protocols) = holding (request_parts (map (λ p. holding (offered_parts p)) protocols))
+inside_of (Response code schema) = holding (response_parts code schema)
+
+abbrev pub name_of : Message → ℕ
+name_of (Request protocols) = REQUEST
+name_of (Response code schema) = RESPONSE
 
 abbrev pub tree_of : Message → Tree
-tree_of (Request protocols) = Complex 0 [] (protocol_trees protocols)
-tree_of (Response code schema) = Complex 1 [] (simple 8 (Ordinal code) (schema_tree schema))
+tree_of m = root_of (name_of m) (inside_of m)
 
 -- the document number names which of the two it is
 abbrev pub number_of : Message → ℕ

@@ -8,12 +8,15 @@ use Rattle.exi_documents.specs.Trees.{Tree}
 use Rattle.document_laws.specs.Laws.{AreBytes}
 use Rattle.document_laws.proofs.Encodings as laws
 use Rattle.app_schema.specs.Declarations.{negotiation_schema}
-use Rattle.app_documents.specs.Trees.{Message, Response, tree_of}
+use Rattle.app_documents.specs.Trees.{Message, Response, IsMessage, tree_of}
 use Rattle.app_documents.proofs.Short.{response_short}
-use Rattle.app_protocol.specs.Documents.{IsAppEncoding, PassesBytes}
+use Rattle.app_protocol.specs.Documents.{IsApp, IsAppEncoding, PassesBytes}
 
 pub one_encoding : (m : Message) (payload other : List ℕ) → AreBytes payload → AreBytes other → IsAppEncoding m payload → IsAppEncoding m other → payload ≡ other
 one_encoding m payload other bytes more a b = laws.one_encoding negotiation_schema (tree_of m) payload other bytes more a b
+
+pub read_back : (m : Message) (payload : List ℕ) → IsMessage m → IsAppEncoding m payload → IsApp m payload
+read_back m payload is e = record { message = is; document = laws.encoding_spelled negotiation_schema (tree_of m) payload e }
 
 pub encoding_long : (s : PlainSchema) (tree : Tree) (payload : List ℕ) (e : IsEncoding s tree payload) → 8 * length payload ≡ length e.bits + e.pad
 encoding_long s tree payload e =

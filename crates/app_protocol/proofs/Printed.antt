@@ -7,7 +7,7 @@ use Rattle.tree_text.specs.Printing.{IsFaultOf}
 use Rattle.tree_text.specs.declared.fault.PrintFault.{PrintFault}
 use Rattle.tree_text.specs.declared.fault.PrintFault.TheVariants.{Refused, Memory}
 use Rattle.app_schema.specs.Declarations.{negotiation_schema}
-use Rattle.app_documents.proofs.Shapes.{of_message}
+use Rattle.app_documents.proofs.Fits.{of_message}
 use Rattle.app_protocol.specs.Printing.{IsPrinted, IsAppFault}
 
 pub message_printed : (payload text : List ℕ) → (tree : Tree) × IsDocument negotiation_schema tree payload × IsTreeText negotiation_schema tree text → IsPrinted payload text

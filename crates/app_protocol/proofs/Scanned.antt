@@ -14,12 +14,11 @@ use Rattle.tree_text.proofs.Sayings.{encoded_said}
 use Rattle.app_schema.specs.Declarations.{negotiation_schema}
 use Rattle.app_documents.specs.Trees.{Message, IsMessage, tree_of, number_of}
 use Rattle.app_documents.proofs.Encoded.{message_encoded}
-use Rattle.app_documents.proofs.Shapes.{of_message}
+use Rattle.app_documents.proofs.Fits.{of_message}
 use Rattle.app_protocol.specs.Documents.{IsAppEncoding}
 use Rattle.app_protocol.specs.Scanning.{IsAppScanned, IsAppUnscanned, IsAppScanFault}
 use Rattle.app_protocol.proofs.Consistency.{is_consistent_negotiation}
-use Rattle.app_protocol.proofs.Encoded.{read_back}
-use Rattle.app_protocol.proofs.Encodings.{encoding_long}
+use Rattle.app_protocol.proofs.Encodings.{encoding_long, read_back}
 
 pub message_scanned : (text payload : List ℕ) → IsEncodedText negotiation_schema text payload → IsAppScanned text payload
 message_scanned text payload scanned =

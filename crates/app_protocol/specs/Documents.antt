@@ -1,9 +1,9 @@
 -- ISO 15118-2:2014 section 8.2: the payloads of the negotiation.
-use Rattle.std.specs.Prelude.{ℕ, ◌*◌, ◌<◌, Bool, List, length}
+use Rattle.std.specs.Prelude.{ℕ, List}
 use Rattle.exi_documents.specs.declared.refusal.RefusalCause.{RefusalCause}
-use Rattle.exi_documents.specs.Documents.{IsDocument, IsEncoding, SpellsDocument}
+use Rattle.exi_documents.specs.Documents.{IsDocument, IsEncoding}
 use Rattle.exi_documents.specs.Refusals.{IsRefused}
-use Rattle.exi_documents.specs.Values.{WritesValue}
+use Rattle.message_parts.specs.Documents.{PassesBytes as DocumentPasses}
 use Rattle.app_schema.specs.Declarations.{negotiation_schema}
 use Rattle.app_documents.specs.Trees.{Message, IsMessage, tree_of, number_of}
 
@@ -20,10 +20,6 @@ IsAppRefused payload why bit = IsRefused negotiation_schema payload why bit
 abbrev pub IsAppEncoding : Message → List ℕ → Type 0
 IsAppEncoding m payload = IsEncoding negotiation_schema (tree_of m) payload
 
--- its bits, without those that fill its last byte
-abbrev pub IsWrittenBy : Message → List Bool → Type 0
-IsWrittenBy m bits = SpellsDocument WritesValue negotiation_schema (number_of m) (tree_of m) bits
-
--- they are more than so many bytes hold
+-- its bits are more than so many bytes hold
 abbrev pub PassesBytes : Message → ℕ → Type 0
-PassesBytes m bytes = (bits : List Bool) × IsWrittenBy m bits × (8 * bytes < length bits)
+PassesBytes m bytes = DocumentPasses negotiation_schema (number_of m) (tree_of m) bytes

@@ -1,9 +1,6 @@
 pub mod Messages
 pub mod Negotiation
 pub mod Winning
-pub mod Building
 pub mod Documents
 pub mod Printing
-pub mod Writing
-pub mod Numbers
 pub mod Scanning

@@ -1,12 +1,28 @@
-//! The messages of the negotiation.
+//! The messages of the negotiation, and how they are read and put.
 
-use arrayvec::{ArrayString, ArrayVec};
+ghost use Rattle.std.specs.Prelude.{[]};
+ghost use Rattle.exi_documents.specs.Trees.{Ordinal};
+ghost use Rattle.message_parts.specs.Values.{is_named};
+ghost use Rattle.app_schema.specs.Declarations.{kinds as all_kinds, protocol_particles, request_particles, response_particles};
+ghost use Rattle.app_protocol.specs.Messages.{ordinal_of, protocol_parts, parts_of_request, parts_of_response, root_name, root_inside, root_number};
+
+use app_schema::names::{
+    APP_PROTOCOL, MAJOR, MINOR, NAMESPACE, PRIORITY, REQUEST, RESPONSE, RESPONSE_CODE, SCHEMA_ID,
+};
+use arrayvec::ArrayVec;
+use exi_documents::Refusal;
+use exi_events::{EventWriter, Value};
+use exi_schema::Places;
+use message_parts::{
+    Choice, Descent, PutChoice, PutRecord, Record, Root, Simple, Text, first_child, member,
+    optional_value, put_optional_value, put_record, put_records, put_value, records, value,
+};
 
 /// One protocol that a car offers.
-#[derive(Debug, Drop)]
-pub struct AppProtocol {
+#[derive(Drop)]
+pub struct AppProtocol<'a> {
     /// ProtocolNamespace: at most 100 characters.
-    pub namespace: ArrayString<400>,
+    pub namespace: Text<'a>,
     /// VersionNumberMajor.
     pub major: u32,
     /// VersionNumberMinor.
@@ -17,17 +33,10 @@ pub struct AppProtocol {
     pub priority: u8,
 }
 
-impl Default for AppProtocol {
-    ghost use Rattle.std.specs.Prelude.{◌≡◌};
-    ghost use Rattle.app_protocol.specs.Building.{blank};
-    ghost use Rattle.app_protocol.specs.Messages.{protocol_of};
-
-    #[tactic(auto, using(crate::proofs::Spelled::no_chars))]
-    fn default() -> AppProtocol
-        ensures { protocol_of result ≡ blank }
-    {
+impl<'a> Default for AppProtocol<'a> {
+    fn default() -> AppProtocol<'a> {
         AppProtocol {
-            namespace: ArrayString::new(),
+            namespace: Text::default(),
             major: 0,
             minor: 0,
             schema: 0,
@@ -36,15 +45,77 @@ impl Default for AppProtocol {
     }
 }
 
+impl<'a> PutRecord for AppProtocol<'a> {
+    ghost given = { λ _. [] };
+
+    ghost parts = { protocol_parts };
+
+    fn write<P: Places>(&self, writer: &mut EventWriter<'_, '_, P>) {
+        put_value(writer, NAMESPACE, &self.namespace);
+        put_value(writer, MAJOR, &self.major);
+        put_value(writer, MINOR, &self.minor);
+        put_value(writer, SCHEMA_ID, &self.schema);
+        put_value(writer, PRIORITY, &self.priority);
+    }
+}
+
+impl<'a> Record<'a> for AppProtocol<'a> {
+    ghost kinds = { all_kinds };
+
+    ghost attributes = { [] };
+
+    ghost particles = { protocol_particles };
+
+    fn read<P: Places>(descent: &mut Descent<'a, '_, P>) -> Result<AppProtocol<'a>, Refusal> {
+        first_child(descent)?;
+        let namespace = value(descent)?;
+        let major = value(descent)?;
+        let minor = value(descent)?;
+        let schema = value(descent)?;
+        let priority = value(descent)?;
+        Ok(AppProtocol {
+            namespace,
+            major,
+            minor,
+            schema,
+            priority,
+        })
+    }
+}
+
 /// A car's request: what it offers, 1 to 20 protocols.
-#[derive(Debug, Drop)]
-pub struct AppReq {
+#[derive(Drop)]
+pub struct AppReq<'a> {
     /// In the order of the request.
-    pub protocols: ArrayVec<AppProtocol, 20>,
+    pub protocols: ArrayVec<AppProtocol<'a>, 20>,
+}
+
+impl<'a> PutRecord for AppReq<'a> {
+    ghost given = { λ _. [] };
+
+    ghost parts = { parts_of_request };
+
+    fn write<P: Places>(&self, writer: &mut EventWriter<'_, '_, P>) {
+        put_records(writer, APP_PROTOCOL, &self.protocols);
+    }
+}
+
+impl<'a> Record<'a> for AppReq<'a> {
+    ghost kinds = { all_kinds };
+
+    ghost attributes = { [] };
+
+    ghost particles = { request_particles };
+
+    fn read<P: Places>(descent: &mut Descent<'a, '_, P>) -> Result<AppReq<'a>, Refusal> {
+        first_child(descent)?;
+        let protocols = records(descent, APP_PROTOCOL)?;
+        Ok(AppReq { protocols })
+    }
 }
 
 /// The response code.
-#[derive(Clone, Copy, Debug, PartialEq, Eq)]
+#[derive(Clone, Copy, Debug, PartialEq, Eq, Drop)]
 pub enum AppCode {
     /// OK_SuccessfulNegotiation.
     Successful,
@@ -54,24 +125,30 @@ pub enum AppCode {
     Failed,
 }
 
-impl AppCode {
-    ghost use Rattle.std.specs.Prelude.{◌≡◌};
-    ghost use Rattle.app_protocol.specs.Messages.{ordinal_of};
+impl<'a> Simple<'a> for AppCode {
+    ghost takes = { is_named 3 };
 
-    /// Its place in the enumeration.
-    pub(crate) fn ordinal(self) -> u32
-        ensures { result ≡ ordinal_of self }
-    {
+    ghost value = { λ code. Ordinal (ordinal_of code) };
+
+    fn as_value(&self) -> Value<'_> {
         match self {
-            AppCode::Successful => 0,
-            AppCode::MinorDeviation => 1,
-            AppCode::Failed => 2,
+            AppCode::Successful => Value::Ordinal(0),
+            AppCode::MinorDeviation => Value::Ordinal(1),
+            AppCode::Failed => Value::Ordinal(2),
+        }
+    }
+
+    fn of(read: Value<'a>) -> AppCode {
+        match read {
+            Value::Ordinal(0) => AppCode::Successful,
+            Value::Ordinal(1) => AppCode::MinorDeviation,
+            _ => AppCode::Failed,
         }
     }
 }
 
 /// A station's response.
-#[derive(Clone, Copy, Debug, PartialEq, Eq)]
+#[derive(Clone, Copy, Debug, PartialEq, Eq, Drop)]
 pub struct AppRes {
     /// ResponseCode.
     pub code: AppCode,
@@ -79,11 +156,78 @@ pub struct AppRes {
     pub schema: Option<u8>,
 }
 
+impl PutRecord for AppRes {
+    ghost given = { λ _. [] };
+
+    ghost parts = { parts_of_response };
+
+    fn write<P: Places>(&self, writer: &mut EventWriter<'_, '_, P>) {
+        put_value(writer, RESPONSE_CODE, &self.code);
+        put_optional_value(writer, SCHEMA_ID, &self.schema);
+    }
+}
+
+impl<'a> Record<'a> for AppRes {
+    ghost kinds = { all_kinds };
+
+    ghost attributes = { [] };
+
+    ghost particles = { response_particles };
+
+    fn read<P: Places>(descent: &mut Descent<'a, '_, P>) -> Result<AppRes, Refusal> {
+        first_child(descent)?;
+        let code = value(descent)?;
+        let schema = optional_value(descent, SCHEMA_ID)?;
+        Ok(AppRes { code, schema })
+    }
+}
+
 /// A message of the negotiation.
-#[derive(Debug, Drop)]
-pub enum AppMessage {
+#[derive(Drop)]
+pub enum AppMessage<'a> {
     /// supportedAppProtocolReq.
-    Req(AppReq),
+    Req(AppReq<'a>),
     /// supportedAppProtocolRes.
     Res(AppRes),
+}
+
+impl<'a> PutChoice for AppMessage<'a> {
+    ghost name = { root_name };
+
+    ghost inside = { root_inside };
+
+    fn write_member<P: Places>(&self, writer: &mut EventWriter<'_, '_, P>) {
+        match self {
+            AppMessage::Req(request) => put_record(writer, REQUEST, request),
+            AppMessage::Res(response) => put_record(writer, RESPONSE, response),
+        }
+    }
+}
+
+impl<'a> Choice<'a> for AppMessage<'a> {
+    ghost use Rattle.app_protocol.specs.Messages.{root_members};
+
+    ghost kinds = { all_kinds };
+
+    ghost members = { root_members };
+
+    fn read_member<P: Places>(descent: &mut Descent<'a, '_, P>) -> Result<AppMessage<'a>, Refusal> {
+        if descent.is_at(REQUEST) {
+            let request = member(descent)?;
+            return Ok(AppMessage::Req(request));
+        }
+        let response = member(descent)?;
+        Ok(AppMessage::Res(response))
+    }
+}
+
+impl<'a> Root for AppMessage<'a> {
+    ghost number = { root_number };
+
+    fn number(&self) -> u32 {
+        match self {
+            AppMessage::Req(_) => 0,
+            AppMessage::Res(_) => 1,
+        }
+    }
 }

@@ -1,6 +1,7 @@
 //! The rule of the negotiation.
 
 ghost use Rattle.std.specs.Prelude.{◌≡◌, ◌<◌, ℕ, Option, MatchOption, IsTrue, ◌↔◌, List, [], ◌∷◌, ◌++◌};
+ghost use Rattle.std.specs.Str.{chars};
 ghost use Rattle.charge_world.specs.declared.offer.Dialect.{Dialect};
 ghost use Rattle.app_protocol.specs.Messages.{Protocol, protocol_of, protocols_of};
 ghost use Rattle.app_protocol.specs.Winning.{Won};
@@ -19,7 +20,7 @@ struct Winner {
 
 /// The response to a request, and the dialect that both ends speak from then on; none where no entry matches a
 /// dialect on offer.
-pub fn negotiate(request: &AppReq, offer: &Offer) -> (AppRes, Option<Dialect>)
+pub fn negotiate(request: &AppReq<'_>, offer: &Offer) -> (AppRes, Option<Dialect>)
     ensures { Negotiates offer.now.entries.items (protocols_of request.now) result.0 result.1 }
 {
     let mut best: Option<Winner> = None;
@@ -39,7 +40,7 @@ pub fn negotiate(request: &AppReq, offer: &Offer) -> (AppRes, Option<Dialect>)
 }
 
 /// The winner with one entry more.
-fn winner_with(best: Option<Winner>, protocol: &AppProtocol, offer: &Offer) -> Option<Winner>
+fn winner_with(best: Option<Winner>, protocol: &AppProtocol<'_>, offer: &Offer) -> Option<Winner>
     ensures { (taken : List Protocol) → Won offer.now.entries.items taken best → Won offer.now.entries.items (taken ++ protocol_of protocol.now ∷ []) result }
 {
     let Some(dialect) = dialect_of(protocol, offer) else {
@@ -63,7 +64,7 @@ fn winner_with(best: Option<Winner>, protocol: &AppProtocol, offer: &Offer) -> O
 }
 
 /// The dialect on offer that the entry names.
-fn dialect_of(protocol: &AppProtocol, offer: &Offer) -> Option<Dialect>
+fn dialect_of(protocol: &AppProtocol<'_>, offer: &Offer) -> Option<Dialect>
     ensures { MatchOption result (NoMatch offer.now.entries.items (protocol_of protocol.now)) (Matches offer.now.entries.items (protocol_of protocol.now)) }
 {
     for dialect in offer.entries.as_slice() {
@@ -74,20 +75,14 @@ fn dialect_of(protocol: &AppProtocol, offer: &Offer) -> Option<Dialect>
     None
 }
 
-fn names(protocol: &AppProtocol, dialect: Dialect) -> bool
+fn names(protocol: &AppProtocol<'_>, dialect: Dialect) -> bool
     ensures { IsTrue result ↔ Names (protocol_of protocol.now) dialect }
 {
-    protocol.major == 2 && is_namespace(protocol.namespace.as_str(), dialect)
-}
-
-fn is_namespace(text: &str, dialect: Dialect) -> bool
-    ensures { IsTrue result ↔ (text.now ≡ namespace_of dialect) }
-{
-    text == namespace(dialect)
+    protocol.major == 2 && protocol.namespace.is(namespace(dialect))
 }
 
 fn namespace(dialect: Dialect) -> &'static str
-    ensures { result.now ≡ namespace_of dialect }
+    ensures { chars result.now ≡ namespace_of dialect }
 {
     match dialect {
         Dialect::Iso => "urn:iso:15118:2:2013:MsgDef",
@@ -96,7 +91,7 @@ fn namespace(dialect: Dialect) -> &'static str
 }
 
 /// The response that chooses this entry.
-fn accepted(protocol: &AppProtocol, dialect: Dialect) -> AppRes
+fn accepted(protocol: &AppProtocol<'_>, dialect: Dialect) -> AppRes
     ensures { result ≡ record { code = code_for protocol.now.minor dialect; schema = Some protocol.now.schema } }
 {
     let code = if protocol.minor == minor(dialect) {

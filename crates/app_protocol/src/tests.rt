@@ -5,7 +5,7 @@ ghost use Rattle.app_protocol.specs.Messages.{message_of};
 
 use super::*;
 use crate::lines::LINES;
-use arrayvec::{ArrayString, ArrayVec};
+use arrayvec::ArrayVec;
 use exi_documents::MOST_ENTRIES;
 use std::alloc::{AllocError, Global};
 use std::process::Abort;
@@ -34,7 +34,7 @@ fn one_protocol(rt: &impl Abort, payload: &[u8], table: &mut Table)
     };
     assert_eq!(rt; request.protocols.len(), 1);
     for protocol in request.protocols.as_slice() {
-        assert_eq!(rt; protocol.namespace.as_str(), DIN);
+        assert!(rt; protocol.namespace.is(DIN));
         assert_eq!(rt; (protocol.major, protocol.minor), (2, 0));
         assert_eq!(rt; (protocol.schema, protocol.priority), (1, 1));
     }
@@ -117,7 +117,7 @@ fn a_response_is_read(rt: HostRuntime) {
 }
 
 /// Reads a payload into `message`, or ends the test.
-fn read(rt: &impl Abort, payload: &[u8], table: &mut Table) -> AppMessage
+fn read<'a>(rt: &impl Abort, payload: &'a [u8], table: &mut Table) -> AppMessage<'a>
     requires payload { length payload.now ≤ 65536 }
     requires cap { table.old.cap ≡ most_entries }
     ensures cap { table.new.cap ≡ most_entries }
@@ -287,28 +287,26 @@ fn responses_are_written(rt: HostRuntime) -> Result<(), Fail> {
 }
 
 #[test]
-fn the_least_priority_wins(rt: HostRuntime) -> Result<(), Fail> {
-    let request = request(protocol(DIN, 0, 1, 2)?, protocol(ISO, 0, 2, 1)?);
+fn the_least_priority_wins(rt: HostRuntime) {
+    let request = request(protocol(DIN, 0, 1, 2), protocol(ISO, 0, 2, 1));
     assert_eq!(rt;
         negotiate(&request, &both()),
         (response(AppCode::Successful, Some(2)), Some(Dialect::Iso))
     );
-    Ok(())
 }
 
 #[test]
-fn a_tie_goes_to_the_earlier(rt: HostRuntime) -> Result<(), Fail> {
-    let request = request(protocol(DIN, 0, 1, 1)?, protocol(ISO, 0, 2, 1)?);
+fn a_tie_goes_to_the_earlier(rt: HostRuntime) {
+    let request = request(protocol(DIN, 0, 1, 1), protocol(ISO, 0, 2, 1));
     assert_eq!(rt;
         negotiate(&request, &both()),
         (response(AppCode::Successful, Some(1)), Some(Dialect::Din))
     );
-    Ok(())
 }
 
 #[test]
-fn another_minor_version_is_a_minor_deviation(rt: HostRuntime) -> Result<(), Fail> {
-    let request = request(protocol(DIN, 1, 1, 1)?, protocol("urn:other", 0, 2, 1)?);
+fn another_minor_version_is_a_minor_deviation(rt: HostRuntime) {
+    let request = request(protocol(DIN, 1, 1, 1), protocol("urn:other", 0, 2, 1));
     assert_eq!(rt;
         negotiate(&request, &both()),
         (
@@ -316,33 +314,29 @@ fn another_minor_version_is_a_minor_deviation(rt: HostRuntime) -> Result<(), Fai
             Some(Dialect::Din)
         )
     );
-    Ok(())
 }
 
 #[test]
-fn an_unknown_namespace_fails(rt: HostRuntime) -> Result<(), Fail> {
-    let request = request(protocol("urn:other", 0, 1, 1)?, protocol("", 0, 2, 1)?);
+fn an_unknown_namespace_fails(rt: HostRuntime) {
+    let request = request(protocol("urn:other", 0, 1, 1), protocol("", 0, 2, 1));
     assert_eq!(rt;
         negotiate(&request, &both()),
         (response(AppCode::Failed, None), None)
     );
-    Ok(())
 }
 
 /// Of major version 2.
-fn protocol(namespace: &str, minor: u32, schema: u8, priority: u8) -> Result<AppProtocol, Fail> {
-    Ok(AppProtocol {
-        namespace: ArrayString::from(namespace)
-            .ok()
-            .ok_or("the namespace has room")?,
+fn protocol<'a>(namespace: &'a str, minor: u32, schema: u8, priority: u8) -> AppProtocol<'a> {
+    AppProtocol {
+        namespace: Text::Written(namespace),
         major: 2,
         minor,
         schema,
         priority,
-    })
+    }
 }
 
-fn request(first: AppProtocol, second: AppProtocol) -> AppReq {
+fn request<'a>(first: AppProtocol<'a>, second: AppProtocol<'a>) -> AppReq<'a> {
     let mut protocols = ArrayVec::new();
     protocols.push(first);
     protocols.push(second);

@@ -49,7 +49,7 @@ fn read_rounds(payloads: &Vec<Vec<u8>>, table: &mut Table, rounds: u32) -> u64
 }
 
 /// Writes each message in each round, and counts them.
-fn write_rounds(messages: &Vec<AppMessage>, table: &mut Table, rounds: u32) -> u64
+fn write_rounds(messages: &Vec<AppMessage<'_>>, table: &mut Table, rounds: u32) -> u64
     requires cap { table.old.cap ≡ most_entries }
     requires messages { AllByRecursion (λ m. IsMessage (message_of m)) messages.now.items }
 {
@@ -94,7 +94,11 @@ fn read_all(payloads: &Vec<Vec<u8>>, table: &mut Table, count: u64) -> u64
 }
 
 /// The messages that the payloads spell.
-fn messages_of(alloc: Global, payloads: &Vec<Vec<u8>>, table: &mut Table) -> Result<Vec<AppMessage>>
+fn messages_of<'a>(
+    alloc: Global,
+    payloads: &'a Vec<Vec<u8>>,
+    table: &mut Table,
+) -> Result<Vec<AppMessage<'a>>>
     requires { table.old.cap ≡ most_entries }
     ensures cap { table.new.cap ≡ most_entries }
     ensures messages { IfOk result (λ messages. AllByRecursion (λ m. IsMessage (message_of m)) messages.items) }
@@ -112,7 +116,7 @@ fn messages_of(alloc: Global, payloads: &Vec<Vec<u8>>, table: &mut Table) -> Res
 }
 
 /// Writes each message once, and adds their number to the count.
-fn write_all(messages: &Vec<AppMessage>, table: &mut Table, count: u64) -> u64
+fn write_all(messages: &Vec<AppMessage<'_>>, table: &mut Table, count: u64) -> u64
     requires cap { table.old.cap ≡ most_entries }
     requires messages { AllByRecursion (λ m. IsMessage (message_of m)) messages.now.items }
     ensures { table.new.cap ≡ most_entries }

@@ -1,6 +1,7 @@
 //! Texts and Binaries as values, lent from the payload or from what the message is made of.
 
-ghost use Rattle.std.specs.Prelude.{◌≡◌, ◌≤◌, true, false, length};
+ghost use Rattle.std.specs.Prelude.{◌≡◌, ◌↔◌, ◌≤◌, IsTrue, true, false, length};
+ghost use Rattle.std.specs.Str.{chars};
 ghost use Rattle.exi_bits.specs.Lent.{items_of};
 ghost use Rattle.exi_documents.specs.Trees.{Bytes as TreeBytes, Text as TreeText};
 ghost use Rattle.exi_values.specs.Meaning.{value_of, IsShaped};
@@ -19,6 +20,20 @@ pub enum Text<'a> {
     Lent(LentText<'a>),
     /// To be written.
     Written(&'a str),
+}
+
+impl Text<'_> {
+    ghost use Rattle.message_parts.specs.Texts.{chars_of};
+
+    /// Whether it has the code points of this text.
+    pub fn is(&self, text: &str) -> bool
+        ensures { IsTrue result ↔ (chars_of self.now ≡ chars text.now) }
+    {
+        match self {
+            Text::Lent(lent) => lent.span.same_str(text),
+            Text::Written(written) => is_same(written, text),
+        }
+    }
 }
 
 /// A Binary (W3C EXI 1.0, Second Edition, 7.1.1), lent from the payload in which it was read, or from bytes.
@@ -52,6 +67,20 @@ fn binary_again<'a>(span: &BitSpan<'a>) -> Value<'a>
         Ok(again) => Value::Binary(again),
         Err(_) => Value::Bool(false),
     }
+}
+
+/// Whether two texts have the same bytes.
+fn has_same_bytes(one: &str, other: &str) -> bool
+    ensures { IsTrue result ↔ (one.now ≡ other.now) }
+{
+    one == other
+}
+
+/// Whether two texts have the same code points.
+fn is_same(one: &str, other: &str) -> bool
+    ensures { IsTrue result ↔ (chars one.now ≡ chars other.now) }
+{
+    has_same_bytes(one, other)
 }
 
 impl<'a> Binary<'a> {

@@ -1,4 +1,4 @@
-use Rattle.app_documents.proofs.Shapes.{of_message}
+use Rattle.app_documents.proofs.Fits.{of_message}
 use Rattle.app_documents.proofs.documents_are_messages.Goals as goal
 
 pub returns : goal.returns

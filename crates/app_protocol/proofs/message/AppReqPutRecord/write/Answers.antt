@@ -1,0 +1,4 @@
+use Rattle.app_protocol.proofs.message.AppReqPutRecord.write.Goals as goal
+
+pub returns-clause-write : goal.returns-clause-write
+returns-clause-write g c = λ F rest h. c.put_records.ensures.write F rest h

@@ -1,0 +1,4 @@
+use Rattle.app_protocol.proofs.message.AppResPutRecord.write.Goals as goal
+
+pub returns-clause-write : goal.returns-clause-write
+returns-clause-write g c = λ F rest h. c.put_optional_value.ensures.write F rest (c.put_value.ensures.write F _ h)

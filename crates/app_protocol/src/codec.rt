@@ -1,0 +1,44 @@
+//! Messages read from payloads, and their encodings.
+
+ghost use Rattle.std.specs.Prelude.{◌≡◌, ◌*◌, ◌<◌, ◌≤◌, ◌↔◌, length, take, IfOk, IfErr, IsErr};
+ghost use Rattle.exi_documents.specs.Values.{most_entries};
+ghost use Rattle.app_documents.specs.Trees.{IsMessage};
+ghost use Rattle.app_protocol.specs.Documents.{IsApp, IsAppRefused, IsAppEncoding, PassesBytes};
+ghost use Rattle.app_protocol.specs.Messages.{message_of};
+
+use crate::message::AppMessage;
+use app_schema::negotiation;
+use exi_documents::Refusal;
+use exi_events::{Full, Table};
+
+/// Reads a message from a payload of at most 65,536 bytes (ISO 15118-2:2014, section 8.2). The table, which has room for 8,192 entries, is
+/// emptied. Its namespaces are lent from the payload.
+///
+/// Refused exactly where the payload spells no message, with the cause and the bit of the first item that can't be taken.
+pub fn read_app<'a>(payload: &'a [u8], table: &mut Table) -> Result<AppMessage<'a>, Refusal>
+    requires payload { length payload.now ≤ 65536 }
+    requires cap { table.old.cap ≡ most_entries }
+    ensures cap { table.new.cap ≡ most_entries }
+    ensures read { IfOk result (λ m. IsApp (message_of m) payload.now) }
+    ensures refused { IfErr result (λ r. IsAppRefused payload.now r.cause r.bit) }
+{
+    message_parts::read(payload, &negotiation(), table)
+}
+
+/// Writes the one encoding of a message within its ranges (ISO 15118-2:2014, section 8.2) to the front of a room of at most 65,536
+/// bytes, and returns how many bytes it has. The table, which has room for 8,192 entries, is emptied.
+///
+/// `Full` exactly where the encoding has more bits than the room.
+pub fn write_app(message: &AppMessage<'_>, room: &mut [u8], table: &mut Table) -> Result<u32, Full>
+    requires message { IsMessage (message_of message.now) }
+    requires room { length room.old ≤ 65536 }
+    requires cap { table.old.cap ≡ most_entries }
+    ensures cap { table.new.cap ≡ most_entries }
+    ensures within { IfOk result (λ n. n ≤ length room.new) }
+    ensures written { IfOk result (λ n. IsAppEncoding (message_of message.now) (take n room.new)) }
+    ensures read { IfOk result (λ n. IsApp (message_of message.now) (take n room.new)) }
+    ensures full { IsErr result ↔ PassesBytes (message_of message.now) (length room.old) }
+    ensures bits { IfErr result (λ full. 8 * length room.old < full.bits) }
+{
+    message_parts::write(message, room, &negotiation(), table)
+}
