@@ -1,10 +1,9 @@
 -- A command that printed a line or told of a fault.
 use Rattle.std.proofs.Common.{◌≡◌, ℕ, List, Option, Some, None, Ok, refl, sym, ◌∙◌, subst, ◌⊎◌, inl, inr}
-use Rattle.app_protocol.specs.Documents.{IsAppRefused}
-use Rattle.app_protocol.proofs.Decided.{apart}
-use Rattle.app_protocol.proofs.Scanned.{scanned_apart}
+use Rattle.message_dialects.specs.declared.dialect.MessageDialect.{MessageDialect}
+use Rattle.message_trees.specs.Texts.{IsRefusedIn, IsUnscanned}
+use Rattle.message_trees.proofs.Decided.{apart, scanned_apart}
 use Rattle.charge_run.specs.Runs.{Answers, Prints, Refuses, HasFault, Decodes, IsDecodedLine, IsDecodeFault, Encodes, IsEncodedLine}
-use Rattle.app_protocol.specs.Scanning.{IsAppUnscanned}
 use Rattle.charge_run.specs.declared.fault.InputFault.{InputFault}
 use Rattle.charge_run.specs.declared.fault.InputFault.TheVariants.{Place, Memory}
 use Rattle.charge_run.specs.declared.status.Status.{Status}
@@ -25,12 +24,12 @@ answers_fault IsLine IsFaultAt Memory s before after n m is h =
     subst (λ (s : Status). Answers IsLine IsFaultAt s before after n m) (sym h.0) h.1
 
 -- a text that is refused gives no line
-no_line : (hex line : List ℕ) (place : ℕ) → IsDecodedLine hex line → IsDecodeFault hex place → ⊥
-no_line hex line place is (inl h) = let both : Some place ≡ None = sym h ∙ is.1.1.right in absurd cc
-no_line hex line place is (inr h) =
+no_line : (dialect : MessageDialect) (hex line : List ℕ) (place : ℕ) → IsDecodedLine dialect hex line → IsDecodeFault dialect hex place → ⊥
+no_line dialect hex line place is (inl h) = let both : Some place ≡ None = sym h ∙ is.1.1.right in absurd cc
+no_line dialect hex line place is (inr h) =
     let both : Ok h.payload ≡ Ok is.1.0 = sym h.spelled.spelled ∙ is.1.1.spelled in
     let same : h.payload ≡ is.1.0 = cc in
-    apart is.1.0 is.1.2.0 h.why place is.1.2.1 (subst (λ (p : List ℕ). IsAppRefused p h.why place) same h.refused)
+    apart dialect is.1.0 is.0 h.why place is.1.2 (subst (λ (p : List ℕ). IsRefusedIn dialect p h.why place) same h.refused)
 
 -- where no line is right at such a place, the status is that of a fault
 answers_refused : (IsLine : List ℕ → Type 0) (IsFaultAt : ℕ → Type 0) → ((line : List ℕ) (place : ℕ) → IsLine line → IsFaultAt place → ⊥) →
@@ -42,12 +41,26 @@ answers_refused IsLine IsFaultAt alone place status.Input before after n m h fau
 answers_refused IsLine IsFaultAt alone place status.NoMemory before after n m h fault = inr refl
 answers_refused IsLine IsFaultAt alone place _ before after n m h fault = absurd h
 
-pub only_refused : (hex : List ℕ) (place : ℕ) (s : Status) (before after : Option (List ℕ)) (n m : ℕ) →
-    Decodes hex s before after n m → IsDecodeFault hex place → (s ≡ status.Input) ⊎ (s ≡ status.NoMemory)
-only_refused hex place s before after n m h fault =
-    answers_refused (IsDecodedLine hex) (IsDecodeFault hex) (λ line other is at. no_line hex line other is at) place s before after n m h fault
+pub only_refused : (dialect : MessageDialect) (hex : List ℕ) (place : ℕ) (s : Status) (before after : Option (List ℕ)) (n m : ℕ) →
+    Decodes dialect hex s before after n m → IsDecodeFault dialect hex place → (s ≡ status.Input) ⊎ (s ≡ status.NoMemory)
+only_refused dialect hex place s before after n m h fault =
+    answers_refused (IsDecodedLine dialect hex) (IsDecodeFault dialect hex) (λ line other is at. no_line dialect hex line other is at) place s before after n m h fault
 
-pub only_unscanned : (text : List ℕ) (place : ℕ) (s : Status) (before after : Option (List ℕ)) (n m : ℕ) →
-    Encodes text s before after n m → IsAppUnscanned text place → (s ≡ status.Input) ⊎ (s ≡ status.NoMemory)
-only_unscanned text place s before after n m h fault =
-    answers_refused (IsEncodedLine text) (IsAppUnscanned text) (λ line other is at. scanned_apart text is.0 other is.1 at) place s before after n m h fault
+pub only_unscanned : (dialect : MessageDialect) (text : List ℕ) (place : ℕ) (s : Status) (before after : Option (List ℕ)) (n m : ℕ) →
+    Encodes dialect text s before after n m → IsUnscanned dialect text place → (s ≡ status.Input) ⊎ (s ≡ status.NoMemory)
+only_unscanned dialect text place s before after n m h fault =
+    answers_refused (IsEncodedLine dialect text) (IsUnscanned dialect text) (λ line other is at. scanned_apart dialect text is.0 other is.1 at) place s before after n m h fault
+
+-- ---- the words say one command
+
+pub same_decoded : (d e : MessageDialect) (a b : List ℕ) → (d ≡ e) × (a ≡ b) → (s : Status) (before after : Option (List ℕ)) (n m : ℕ) →
+    Decodes d a s before after n m → Decodes e b s before after n m
+same_decoded d e a b same s before after n m h =
+    subst (λ (x : MessageDialect). Decodes x b s before after n m) same.0
+    (subst (λ (x : List ℕ). Decodes d x s before after n m) same.1 h)
+
+pub same_encoded : (d e : MessageDialect) (a b : List ℕ) → (d ≡ e) × (a ≡ b) → (s : Status) (before after : Option (List ℕ)) (n m : ℕ) →
+    Encodes d a s before after n m → Encodes e b s before after n m
+same_encoded d e a b same s before after n m h =
+    subst (λ (x : MessageDialect). Encodes x b s before after n m) same.0
+    (subst (λ (x : List ℕ). Encodes d x s before after n m) same.1 h)

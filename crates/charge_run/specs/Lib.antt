@@ -1,5 +1,4 @@
-pub use Rattle.app_protocol.specs.Documents
-pub use Rattle.app_protocol.specs.Printing
+pub use Rattle.message_trees.specs.Texts
 pub use Rattle.site_core.specs.Judging
 pub use Rattle.site_core.specs.Serving
 pub mod ReportLine

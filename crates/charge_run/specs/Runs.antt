@@ -8,8 +8,8 @@ use Rattle.charge_world.specs.declared.ports.Ports.TheVariants.{Posts}
 use Rattle.charge_world.specs.declared.offer.Dialect.TheVariants.{Iso, Din}
 use Rattle.charge_world.specs.Outside.{Appends, AppendsSome}
 use Rattle.exi_documents.specs.declared.refusal.RefusalCause.{RefusalCause}
-use Rattle.app_protocol.specs.Documents.{IsAppRefused}
-use Rattle.app_protocol.specs.Printing.{IsPrinted}
+use Rattle.message_dialects.specs.declared.dialect.MessageDialect.{MessageDialect}
+use Rattle.message_trees.specs.Texts.{IsPrinted, IsRefusedIn, IsScanned, IsUnscanned}
 use Rattle.site_core.specs.declared.report.PostReport.{PostReport}
 use Rattle.site_core.specs.declared.serving.Ended.{Ended}
 use Rattle.site_core.specs.declared.serving.Ended.TheVariants as ended
@@ -17,7 +17,6 @@ use Rattle.site_core.specs.Serving.{EndedAs}
 use Rattle.charge_run.specs.FaultLines.{Tells, input_line, turns_line, wire_line}
 use Rattle.charge_run.specs.HexText.{hex_fault, IsHexOf}
 use Rattle.charge_run.specs.ReportLine.{report_line}
-use Rattle.app_protocol.specs.Scanning.{IsAppScanned, IsAppUnscanned}
 use Rattle.hex.specs.Hex.{encode_lower}
 use Rattle.charge_run.specs.declared.fault.InputFault.{InputFault}
 use Rattle.charge_run.specs.declared.fault.InputFault.TheVariants.{Place, Memory}
@@ -112,32 +111,32 @@ HasFault IsFaultAt Memory = Unit {0}
 
 -- ---- decode
 
--- hexadecimal text of a payload, and the text of the message that the payload spells
-abbrev pub IsDecoded : List ℕ → List ℕ → Type 0
-IsDecoded hex text = (payload : List ℕ) × IsHexOf hex payload × IsPrinted payload text
+-- hexadecimal text of a payload, and the text of the tree that the payload spells in a dialect
+abbrev pub IsDecoded : MessageDialect → List ℕ → List ℕ → Type 0
+IsDecoded dialect hex text = (payload : List ℕ) × IsHexOf hex payload × IsPrinted dialect payload text
 
-abbrev pub IsDecodedLine : List ℕ → List ℕ → Type 0
-IsDecodedLine hex line = (text : List ℕ) × IsDecoded hex text × (line ≡ text ++ codes "\n")
+abbrev pub IsDecodedLine : MessageDialect → List ℕ → List ℕ → Type 0
+IsDecodedLine dialect hex line = (text : List ℕ) × IsDecoded dialect hex text × (line ≡ text ++ codes "\n")
 
 -- the payload is refused at this bit
-pub record IsPayloadFault (hex : List ℕ) (bit : ℕ) : Type 0 where
+pub record IsPayloadFault (dialect : MessageDialect) (hex : List ℕ) (bit : ℕ) : Type 0 where
   pub payload : List ℕ
   pub why : RefusalCause
   pub spelled : IsHexOf hex payload
-  pub refused : IsAppRefused payload why bit
+  pub refused : IsRefusedIn dialect payload why bit
 
 -- the text is refused at this character, or its payload at this bit
-abbrev pub IsDecodeFault : List ℕ → ℕ → Type 0
-IsDecodeFault hex place = (hex_fault (chars hex) ≡ Some place) ⊎ IsPayloadFault hex place
+abbrev pub IsDecodeFault : MessageDialect → List ℕ → ℕ → Type 0
+IsDecodeFault dialect hex place = (hex_fault (chars hex) ≡ Some place) ⊎ IsPayloadFault dialect hex place
 
-abbrev pub Decodes : List ℕ → Status → Option (List ℕ) → Option (List ℕ) → ℕ → ℕ → Type 0
-Decodes hex s before after n m = Answers (IsDecodedLine hex) (IsDecodeFault hex) s before after n m
+abbrev pub Decodes : MessageDialect → List ℕ → Status → Option (List ℕ) → Option (List ℕ) → ℕ → ℕ → Type 0
+Decodes dialect hex s before after n m = Answers (IsDecodedLine dialect hex) (IsDecodeFault dialect hex) s before after n m
 
 -- ---- encode
 
--- the payload that is written for the message whose text this is, in lower-case digits
-abbrev pub IsEncodedLine : List ℕ → List ℕ → Type 0
-IsEncodedLine text line = (payload : List ℕ) × IsAppScanned text payload × (line ≡ encode_lower payload ++ codes "\n")
+-- the payload that is written for the tree whose text this is, in lower-case digits
+abbrev pub IsEncodedLine : MessageDialect → List ℕ → List ℕ → Type 0
+IsEncodedLine dialect text line = (payload : List ℕ) × IsScanned dialect text payload × (line ≡ encode_lower payload ++ codes "\n")
 
-abbrev pub Encodes : List ℕ → Status → Option (List ℕ) → Option (List ℕ) → ℕ → ℕ → Type 0
-Encodes text s before after n m = Answers (IsEncodedLine text) (IsAppUnscanned text) s before after n m
+abbrev pub Encodes : MessageDialect → List ℕ → Status → Option (List ℕ) → Option (List ℕ) → ℕ → ℕ → Type 0
+Encodes dialect text s before after n m = Answers (IsEncodedLine dialect text) (IsUnscanned dialect text) s before after n m

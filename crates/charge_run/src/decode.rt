@@ -8,19 +8,24 @@ use crate::answer::{print_line, refuse};
 use crate::fault::InputFault;
 use crate::hex_text::bytes_of;
 use crate::status::Status;
-use app_protocol::{PrintFault, print};
 use charge_world::Sink;
+use message_trees::{MessageDialect, PrintFault, print_payload};
 use std::alloc::Global;
 
-/// Prints the tree text of the message of the negotiation that a payload spells, which comes as hexadecimal text, as a line.
+/// Prints the tree text of the message that a payload spells in a dialect, which comes as hexadecimal text, as a line.
 ///
 /// `Input` where the text spells no bytes or the payload no message. `NoMemory` leaves the output as it was.
-pub(crate) fn decode<K: Sink>(alloc: Global, hex: &str, out: &mut K) -> Status
-    ensures leaves { Decodes hex.now result (K.taken out.old) (K.taken out.new) (K.faults out.old) (K.faults out.new) }
+pub(crate) fn decode<K: Sink>(
+    alloc: Global,
+    dialect: MessageDialect,
+    hex: &str,
+    out: &mut K,
+) -> Status
+    ensures leaves { Decodes dialect hex.now result (K.taken out.old) (K.taken out.new) (K.faults out.old) (K.faults out.new) }
     ensures no_memory { result ≡ Status.NoMemory → K.faults out.new ≡ K.faults out.old }
     ensures sink_fault { result ≡ Status.SinkFault → K.faults out.old < K.faults out.new }
 {
-    match line_of(alloc, hex) {
+    match line_of(alloc, dialect, hex) {
         Ok(line) => print_line(out, line.as_str()),
         Err(fault) => refuse(out, fault),
     }
@@ -28,12 +33,12 @@ pub(crate) fn decode<K: Sink>(alloc: Global, hex: &str, out: &mut K) -> Status
 
 /// The line that is printed.
 #[tactic(auto, using(crate::proofs::HexLengths::length_hex))]
-fn line_of(alloc: Global, hex: &str) -> Result<String, InputFault>
-    ensures line { IfOk result (λ line. IsDecodedLine hex.now (string_bytes line)) }
-    ensures fault { IfErr result (HasFault (IsDecodeFault hex.now)) }
+fn line_of(alloc: Global, dialect: MessageDialect, hex: &str) -> Result<String, InputFault>
+    ensures line { IfOk result (λ line. IsDecodedLine dialect hex.now (string_bytes line)) }
+    ensures fault { IfErr result (HasFault (IsDecodeFault dialect hex.now)) }
 {
     let payload = bytes_of(alloc, hex)?;
-    let mut line = match print(alloc, &payload) {
+    let mut line = match print_payload(alloc, dialect, &payload) {
         Ok(text) => text,
         Err(PrintFault::Refused(refusal)) => return Err(InputFault::Place(u64::from(refusal.bit))),
         Err(PrintFault::Memory) => return Err(InputFault::Memory),

@@ -6,7 +6,8 @@ ghost use Rattle.session_spec.specs.SiteRun.{IsSiteRun};
 ghost use Rattle.site_core.specs.Judging.{Judges};
 ghost use Rattle.site_core.specs.Serving.{Carries, Reports};
 ghost use Rattle.site_core.specs.declared.report.PostReport.{PostReport};
-ghost use Rattle.app_protocol.specs.Scanning.{IsAppUnscanned};
+ghost use Rattle.message_dialects.specs.declared.dialect.MessageDialect.{MessageDialect as OfDialect};
+ghost use Rattle.message_trees.specs.Texts.{IsUnscanned};
 ghost use Rattle.command_words.specs.Command.{IsStation, IsDecode, IsEncode, IsNoCommand};
 ghost use Rattle.charge_run.specs.FaultLines.{Tells, words_line};
 ghost use Rattle.charge_run.specs.Runs.{both_dialects, station_ports, Ran, Outputs, Decodes, IsDecodeFault, Encodes};
@@ -24,8 +25,9 @@ use std::alloc::Global;
 ///
 /// - `station` serves post 1 at TCP port 15120, with both dialects on offer, for at most 10 connections and 1,000,000 hearings, and
 ///   prints its report.
-/// - `decode app HEX` prints the tree text of the message of the negotiation that a payload spells.
-/// - `encode app TEXT` prints the payload that is written for the message whose tree text this is, in hexadecimal digits.
+/// - `decode DIALECT HEX` prints the tree text of the message that a payload spells. DIALECT is `app` for the negotiation, `iso` for
+///   ISO 15118-2 or `din` for DIN SPEC 70121.
+/// - `encode DIALECT TEXT` prints the payload that is written for the message whose tree text this is, in hexadecimal digits.
 ///
 /// `station`: where the wire tells its past, and was lent with an empty one, that is a run of the site, and the status is the one
 /// that the past has: `Done` where Over was heard, `TurnsSpent` behind the last turn, `WireFault` where a hearing was lost or the
@@ -62,16 +64,21 @@ pub fn run<F: Source, K: Sink, J: Sink, W: Wire>(
     ensures ports { IsStation words.now → (result ≡ Status.NoMemory) ⊎ (W.started wire.new ≡ Some station_ports) }
 
     // `decode`: the line is the text of the message, or tells where the input is refused.
-    ensures decode { (hex : List ℕ) → IsDecode words.now hex → Decodes hex result (K.taken out.old) (K.taken out.new) (K.faults out.old) (K.faults out.new) }
+    ensures decode { (dialect : OfDialect) (hex : List ℕ) → IsDecode words.now dialect hex
+        → Decodes dialect hex result (K.taken out.old) (K.taken out.new) (K.faults out.old) (K.faults out.new) }
 
     // `encode`: the line is the payload of the message, or tells where the text is refused.
-    ensures encode { (text : List ℕ) → IsEncode words.now text → Encodes text result (K.taken out.old) (K.taken out.new) (K.faults out.old) (K.faults out.new) }
+    ensures encode { (dialect : OfDialect) (text : List ℕ) → IsEncode words.now dialect text
+        → Encodes dialect text result (K.taken out.old) (K.taken out.new) (K.faults out.old) (K.faults out.new) }
 
     // Exactly where the input is refused, but for want of memory.
-    ensures input { result ≡ Status.Input → ((hex : List ℕ) × (place : ℕ) × IsDecode words.now hex × IsDecodeFault hex place)
-        ⊎ ((text : List ℕ) × (place : ℕ) × IsEncode words.now text × IsAppUnscanned text place) }
-    ensures refused { (hex : List ℕ) (place : ℕ) → IsDecode words.now hex → IsDecodeFault hex place → (result ≡ Status.Input) ⊎ (result ≡ Status.NoMemory) }
-    ensures encode_refused { (text : List ℕ) (place : ℕ) → IsEncode words.now text → IsAppUnscanned text place → (result ≡ Status.Input) ⊎ (result ≡ Status.NoMemory) }
+    ensures input { result ≡ Status.Input
+        → ((dialect : OfDialect) × (hex : List ℕ) × (place : ℕ) × IsDecode words.now dialect hex × IsDecodeFault dialect hex place)
+        ⊎ ((dialect : OfDialect) × (text : List ℕ) × (place : ℕ) × IsEncode words.now dialect text × IsUnscanned dialect text place) }
+    ensures refused { (dialect : OfDialect) (hex : List ℕ) (place : ℕ) → IsDecode words.now dialect hex → IsDecodeFault dialect hex place
+        → (result ≡ Status.Input) ⊎ (result ≡ Status.NoMemory) }
+    ensures encode_refused { (dialect : OfDialect) (text : List ℕ) (place : ℕ) → IsEncode words.now dialect text → IsUnscanned dialect text place
+        → (result ≡ Status.Input) ⊎ (result ≡ Status.NoMemory) }
 
     // Nothing was begun.
     ensures no_memory { result ≡ Status.NoMemory → (W.past wire.new ≡ W.past wire.old) × (W.started wire.new ≡ W.started wire.old) × (W.faults wire.new ≡ W.faults wire.old)
@@ -93,8 +100,8 @@ pub fn run<F: Source, K: Sink, J: Sink, W: Wire>(
     let _ = trace;
     match read_words(alloc, words) {
         Ok(Command::Station) => station(alloc, out, wire),
-        Ok(Command::Decode { hex }) => decode(alloc, hex, out),
-        Ok(Command::Encode { text }) => encode(alloc, text, out),
+        Ok(Command::Decode { dialect, hex }) => decode(alloc, dialect, hex, out),
+        Ok(Command::Encode { dialect, text }) => encode(alloc, dialect, text, out),
         Err(WordsFault::NoCommand) => {
             tell_fault(out, b"words\n");
             Status::Words

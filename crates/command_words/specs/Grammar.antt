@@ -5,6 +5,8 @@ use Rattle.clap.specs.Walk.{Row, Rule, Text, first_of}
 use Rattle.clap.specs.Simple.{App, Shape, new_rule, new_shape}
 use Rattle.clap.specs.declared.builder.value_parser.Reading.TheVariants.{AsWritten}
 use Rattle.clap.specs.declared.parser.matches.ValueSource.TheVariants.{CommandLine}
+use Rattle.message_dialects.specs.declared.dialect.MessageDialect.{MessageDialect}
+use Rattle.command_words.specs.Command.{dialect_word, dialect_named}
 use Rattle.command_words.specs.declared.reading.Command.{Command}
 use Rattle.command_words.specs.declared.reading.Command.TheVariants.{Station, Decode, Encode}
 
@@ -65,20 +67,25 @@ pub record IsUnmatched (words : List Text) : Type 0 where
 -- the words of a command
 abbrev pub words_of : Command → List Text
 words_of Station = codes "station" ∷ []
-words_of (Decode hex) = codes "decode" ∷ codes "app" ∷ hex.now ∷ []
-words_of (Encode text) = codes "encode" ∷ codes "app" ∷ text.now ∷ []
+words_of (Decode dialect hex) = codes "decode" ∷ dialect_word dialect ∷ hex.now ∷ []
+words_of (Encode dialect text) = codes "encode" ∷ dialect_word dialect ∷ text.now ∷ []
 
--- the value beside the dialect `app`
-abbrev pub app_value_of : List Row → Option Text
-app_value_of rows =
-    option_and_then (λ dialect. if bytes_eq dialect (codes "app") then first_of (codes "VALUE") rows else None) (first_of (codes "DIALECT") rows)
+-- the dialect and the value that were given
+abbrev pub given_of : List Row → Option (MessageDialect × Text)
+given_of rows =
+    option_and_then (λ dialect. option_map (λ value. (dialect, value)) (first_of (codes "VALUE") rows))
+    (option_and_then dialect_named (first_of (codes "DIALECT") rows))
+
+-- the words of a command with a dialect and a value
+abbrev pub words_with : Text → MessageDialect × Text → List Text
+words_with name pair = name ∷ dialect_word pair.0 ∷ pair.1 ∷ []
 
 -- the words of the command that a subcommand and its values are
 abbrev pub told_of : Text → List Row → Option (List Text)
 told_of name rows =
     if bytes_eq name (codes "station") then Some (codes "station" ∷ [])
-    else if bytes_eq name (codes "decode") then option_map (λ value. codes "decode" ∷ codes "app" ∷ value ∷ []) (app_value_of rows)
-    else if bytes_eq name (codes "encode") then option_map (λ value. codes "encode" ∷ codes "app" ∷ value ∷ []) (app_value_of rows)
+    else if bytes_eq name (codes "decode") then option_map (words_with (codes "decode")) (given_of rows)
+    else if bytes_eq name (codes "encode") then option_map (words_with (codes "encode")) (given_of rows)
     else None
 
 abbrev pub told : Option (Text × List Row) → Option (List Text)

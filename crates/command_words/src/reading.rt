@@ -2,13 +2,14 @@
 
 ghost use Rattle.std.specs.Prelude.{◌≡◌, ◌↔◌, IfOk, IfErr, option_map};
 ghost use Rattle.clap.specs.Words.{found_of, rows_of, subcommand_rows_of};
-ghost use Rattle.command_words.specs.Command.{HasWordsFault, IsCommand};
-ghost use Rattle.command_words.specs.Grammar.{app_value_of, told, words_of};
+ghost use Rattle.command_words.specs.Command.{HasWordsFault, IsCommand, dialect_named};
+ghost use Rattle.command_words.specs.Grammar.{given_of, told, words_of};
 
 use crate::grammar::matches_of;
 use crate::word_list::WordList;
 use clap::ArgMatches;
 use clap::error::ErrorKind;
+use message_dialects::MessageDialect;
 use std::alloc::Global;
 
 /// A command.
@@ -16,10 +17,16 @@ use std::alloc::Global;
 pub enum Command<'a> {
     /// Serves a station.
     Station,
-    /// Prints the text of a payload of the negotiation.
-    Decode { hex: &'a str },
-    /// Prints the payload of a tree text of the negotiation.
-    Encode { text: &'a str },
+    /// Prints the text of a payload of a dialect.
+    Decode {
+        dialect: MessageDialect,
+        hex: &'a str,
+    },
+    /// Prints the payload of a tree text of a dialect.
+    Encode {
+        dialect: MessageDialect,
+        text: &'a str,
+    },
 }
 
 /// Why no command was read.
@@ -54,20 +61,31 @@ fn command_of<'a>(matches: &ArgMatches<'a>) -> Option<Command<'a>>
     let (name, values) = matches.subcommand()?;
     match name {
         "station" => Some(Command::Station),
-        "decode" => app_value(values).map(|hex| Command::Decode { hex }),
-        "encode" => app_value(values).map(|text| Command::Encode { text }),
+        "decode" => given(values).map(|(dialect, hex)| Command::Decode { dialect, hex }),
+        "encode" => given(values).map(|(dialect, text)| Command::Encode { dialect, text }),
         _ => None,
     }
 }
 
-/// The value of a command whose dialect is `app`.
-fn app_value<'a>(values: &ArgMatches<'a>) -> Option<&'a str>
-    ensures { option_map (λ value. value.now) result ≡ app_value_of (rows_of (found_of values.now)) }
+/// The dialect and the value of a command.
+fn given<'a>(values: &ArgMatches<'a>) -> Option<(MessageDialect, &'a str)>
+    ensures { option_map (λ pair. (pair.0, pair.1.now)) result ≡ given_of (rows_of (found_of values.now)) }
 {
-    if values.get_str("DIALECT")? != "app" {
-        return None;
+    let dialect = dialect_named(values.get_str("DIALECT")?)?;
+    let value = values.get_str("VALUE")?;
+    Some((dialect, value))
+}
+
+/// The dialect of a word.
+fn dialect_named(word: &str) -> Option<MessageDialect>
+    ensures { result ≡ dialect_named word.now }
+{
+    match word {
+        "app" => Some(MessageDialect::App),
+        "iso" => Some(MessageDialect::Iso),
+        "din" => Some(MessageDialect::Din),
+        _ => None,
     }
-    values.get_str("VALUE")
 }
 
 /// What an error of `clap` says of the words.

@@ -1,4 +1,5 @@
 use crate::{Command, WordList, WordsFault, read_words};
+use message_dialects::MessageDialect;
 use std::alloc::{AllocError, Global};
 use std::test::*;
 
@@ -15,26 +16,41 @@ fn commands_are_read(rt: HostRuntime) -> Result<(), Fail> {
     let alloc = rt.alloc();
     let station = list_of(alloc, &["station"])?;
     assert!(rt; matches!(&read_words(alloc, &station), Ok(Command::Station)));
-    for hex in ["80400040", "", "app", "decode", "8-", "=", "é"] {
-        let words = list_of(alloc, &["decode", "app", hex])?;
-        let Ok(Command::Decode { hex: read }) = read_words(alloc, &words) else {
+    let payloads = [
+        ("app", MessageDialect::App, "80400040"),
+        ("app", MessageDialect::App, ""),
+        ("iso", MessageDialect::Iso, "app"),
+        ("iso", MessageDialect::Iso, "decode"),
+        ("din", MessageDialect::Din, "8-"),
+        ("din", MessageDialect::Din, "é"),
+    ];
+    for (word, wanted, value) in payloads {
+        let words = list_of(alloc, &["decode", word, value])?;
+        let Ok(Command::Decode { dialect, hex }) = read_words(alloc, &words) else {
             return Err(Fail::from("no decode"));
         };
-        assert_eq!(rt; read, hex);
+        assert_eq!(rt; dialect, wanted);
+        assert_eq!(rt; hex, value);
     }
-    for text in ["a{b=1 c=2}", "", "encode", "{-}"] {
-        let words = list_of(alloc, &["encode", "app", text])?;
-        let Ok(Command::Encode { text: read }) = read_words(alloc, &words) else {
+    let texts = [
+        ("app", MessageDialect::App, "a{b=1 c=2}"),
+        ("iso", MessageDialect::Iso, ""),
+        ("din", MessageDialect::Din, "{-}"),
+    ];
+    for (word, wanted, value) in texts {
+        let words = list_of(alloc, &["encode", word, value])?;
+        let Ok(Command::Encode { dialect, text }) = read_words(alloc, &words) else {
             return Err(Fail::from("no encode"));
         };
-        assert_eq!(rt; read, text);
+        assert_eq!(rt; dialect, wanted);
+        assert_eq!(rt; text, value);
     }
     Ok(())
 }
 
 #[test]
 fn other_words_are_refused(rt: HostRuntime) -> Result<(), Fail> {
-    let table: [&[&str]; 34] = [
+    let table: [&[&str]; 37] = [
         // no word, and no command's name
         &[],
         &[""],
@@ -68,6 +84,9 @@ fn other_words_are_refused(rt: HostRuntime) -> Result<(), Fail> {
         &["decode", "", "80"],
         &["decode", "APP", "80"],
         &["encode", "appp", "a"],
+        &["encode", "Iso", "a"],
+        &["decode", "dim", "80"],
+        &["decode", "iso din", "80"],
         // `-` begins a word
         &["-", "app", "80"],
         &["--", "station"],

@@ -1,0 +1,8 @@
+//! The dialects in which messages are spelled, each with its declarations.
+#![tactic(auto)]
+
+mod dialect;
+mod tables;
+
+pub use dialect::MessageDialect;
+pub use tables::DialectTables;
