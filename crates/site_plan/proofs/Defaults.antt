@@ -1,6 +1,6 @@
 -- What the texts of the plans that are there without a file say.
 use Rattle.std.specs.Prelude.{◌≡◌, ◌≤◌, Bool, true, false, length, codes, pos, List, [], ◌∷◌, Some, None, refl}
-use Rattle.std.proofs.Common.{arith, sym, subst, inr, ◌∙◌}
+use Rattle.std.proofs.Common.{arith, ap, sym, subst, inr, ◌∙◌}
 use Rattle.std.specs.Str.{IsUtf8}
 use Rattle.toml.specs.Data.{Members, no_members, member, no_items, item, string, integer, array, table}
 use Rattle.toml.specs.Parse.{parse_document}
@@ -10,7 +10,7 @@ use Rattle.session_words.specs.declared.plan.SitePlan.{SitePlan}
 use Rattle.session_words.specs.declared.plan.CarPlan.{CarPlan}
 use Rattle.plan_keys.specs.declared.keys.Keys.{Keys}
 use Rattle.plan_keys.specs.Keys.{members_of, value_at, Each}
-use Rattle.plan_keys.specs.Faults.{Holds, Reads, trouble_of}
+use Rattle.plan_keys.specs.Faults.{Holds, Asked, asked_of, fresh, ask_all, Reads, trouble_of}
 use Rattle.site_plan.specs.SiteKeys.{limit_rules, post_tables, IsPostOf, site_fault}
 use Rattle.site_plan.specs.PostKeys.{post_rules}
 use Rattle.site_plan.specs.CarKeys.{car_rules, car_file, car_fault}
@@ -93,7 +93,14 @@ car_said ac car h = (
 )
 
 -- the defaults of a car, with a port, have nothing wrong
-pub nothing_wrong : (ac : Bool) (old new : Keys) (car : CarPlan) → old.table ≡ None → old.found ≡ None
-    → Reads old new (car_rules (Some 15120) (fixed_mode ac) (members_of old.table)) car → trouble_of new.found ≡ None
-nothing_wrong true old new car none found h = h.found ∙ rw (none, found) refl
-nothing_wrong false old new car none found h = h.found ∙ rw (none, found) refl
+abbrev default_asked : Bool → Asked → Asked
+default_asked ac asked = ask_all (car_rules (Some 15120) (fixed_mode ac) asked.members) asked
+
+right : (ac : Bool) → (default_asked ac (fresh no_members)).found ≡ None
+right true = refl
+right false = refl
+
+pub nothing_wrong : (ac : Bool) (old new : Keys) (car : CarPlan) → asked_of old ≡ fresh no_members
+    → Reads (car_rules (Some 15120) (fixed_mode ac) (members_of old.table)) old new car → trouble_of new.found ≡ None
+nothing_wrong ac old new car is read =
+    ap (λ (asked : Asked). asked.found) read.asked ∙ ap (λ (asked : Asked). (default_asked ac asked).found) is ∙ right ac
