@@ -23,20 +23,14 @@ fn is(word: &[u8], text: &[u8]) -> bool
 fn pilot(word: &[u8]) -> Option<PilotState>
     ensures { Reads pilot_word (λ _. Unit {0}) word.now result }
 {
-    if is(word, b"A") {
-        Some(PilotState::A)
-    } else if is(word, b"B") {
-        Some(PilotState::B)
-    } else if is(word, b"C") {
-        Some(PilotState::C)
-    } else if is(word, b"D") {
-        Some(PilotState::D)
-    } else if is(word, b"E") {
-        Some(PilotState::E)
-    } else if is(word, b"F") {
-        Some(PilotState::F)
-    } else {
-        None
+    match word {
+        b"A" => Some(PilotState::A),
+        b"B" => Some(PilotState::B),
+        b"C" => Some(PilotState::C),
+        b"D" => Some(PilotState::D),
+        b"E" => Some(PilotState::E),
+        b"F" => Some(PilotState::F),
+        _ => None,
     }
 }
 
@@ -44,18 +38,13 @@ fn pilot(word: &[u8]) -> Option<PilotState>
 fn isolation(word: &[u8]) -> Option<IsolationLevel>
     ensures { Reads isolation_word (λ _. Unit {0}) word.now result }
 {
-    if is(word, b"invalid") {
-        Some(IsolationLevel::Invalid)
-    } else if is(word, b"valid") {
-        Some(IsolationLevel::Valid)
-    } else if is(word, b"warning") {
-        Some(IsolationLevel::Warning)
-    } else if is(word, b"fault") {
-        Some(IsolationLevel::Fault)
-    } else if is(word, b"noimd") {
-        Some(IsolationLevel::NoImd)
-    } else {
-        None
+    match word {
+        b"invalid" => Some(IsolationLevel::Invalid),
+        b"valid" => Some(IsolationLevel::Valid),
+        b"warning" => Some(IsolationLevel::Warning),
+        b"fault" => Some(IsolationLevel::Fault),
+        b"noimd" => Some(IsolationLevel::NoImd),
+        _ => None,
     }
 }
 
@@ -63,12 +52,10 @@ fn isolation(word: &[u8]) -> Option<IsolationLevel>
 fn feedback(word: &[u8]) -> Option<bool>
     ensures { Reads feedback_word (λ _. Unit {0}) word.now result }
 {
-    if is(word, b"closed") {
-        Some(true)
-    } else if is(word, b"open") {
-        Some(false)
-    } else {
-        None
+    match word {
+        b"closed" => Some(true),
+        b"open" => Some(false),
+        _ => None,
     }
 }
 
@@ -76,20 +63,14 @@ fn feedback(word: &[u8]) -> Option<bool>
 fn tenths(word: &[u8]) -> Option<Tenths>
     ensures { Reads decimal (λ n. n ≤ 30000) word.now result }
 {
-    match number(word, 0, 30_000) {
-        Some(n) => Tenths::of(n as u16),
-        None => None,
-    }
+    Tenths::of(number(word, 0, 30_000)? as u16)
 }
 
 /// Reads the number of a post.
 fn post(word: &[u8]) -> Option<u8>
     ensures { Reads decimal IsPost word.now result }
 {
-    match number(word, 1, 8) {
-        Some(n) => Some(n as u8),
-        None => None,
-    }
+    Some(number(word, 1, 8)? as u8)
 }
 
 /// Reads a voltage and a current, which are all the words.
