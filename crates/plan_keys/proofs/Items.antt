@@ -1,6 +1,7 @@
 -- The items of a list of a TOML document, one after another.
 use Rattle.std.proofs.Common.{◌≡◌, ℕ, ◌+◌, ◌<◌, zero, suc, Bool, true, false, List, [], ◌∷◌, ◌++◌, length, get_or, take, drop, Option, Some, None, IsSome, arith, refl, ap, sym, subst, ◌∙◌}
 use Rattle.std.proofs.lemmas.List.{drop_more, take_more}
+use Rattle.std.specs.Option.{option_or}
 use Rattle.toml.specs.Data.{Members, as_table}
 use Rattle.toml.specs.View.{view, items_view}
 use Rattle.toml.specs.declared.value.Value.{Value}
@@ -49,3 +50,14 @@ all_tables_at (w ∷ ws) (suc i) v all below =
 pub table_here : (vs : List Value) (i : ℕ) (v : Value) → v ≡ get_or vs i v → all_tables (items_view vs) ≡ true → i < length vs
     → IsSome (as_table (view v))
 table_here vs i v is all below = subst (λ (w : Value). IsSome (as_table (view w))) (sym is) (all_tables_at vs i v all below)
+
+-- the same behind a fault that is kept
+pub kept_more : (f : ℕ → Members → Option PlanFault) (n : ℕ) (kept : Option PlanFault) (vs : List Value) (i : ℕ) (v : Value) → i < length vs → get_or vs i v ≡ v
+    → first_of kept (each_fault f n (items_view (drop i vs)))
+    ≡ first_of (first_of kept (on_some (as_table (view v)) (f n) None)) (each_fault f (n + 1) (items_view (drop (i + 1) vs)))
+kept_more f n (Some x) vs i v below is = refl
+kept_more f n None vs i v below is = each_fault_more f n vs i v below is
+
+pub or_first : (a b : Option PlanFault) → option_or a b ≡ first_of a b
+or_first (Some x) b = refl
+or_first None b = refl

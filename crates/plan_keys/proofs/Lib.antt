@@ -1,4 +1,5 @@
 pub mod Chains
 mod Hexadecimal
+mod Least
 pub mod Items
 pub mod Told

@@ -1,15 +1,16 @@
 //! The keys of a table, read one after another.
 
-ghost use Rattle.std.specs.Prelude.{◌≡◌, ◌≤◌, true, IfSome, OnOk, IfErr, None, option_map, map, length};
+ghost use Rattle.std.specs.Prelude.{◌≡◌, ◌≤◌, IfSome, OnOk, IfErr, IfOk, Some, None, option_map, map, length, true};
 ghost use Rattle.toml.specs.Data.{get_member};
 ghost use Rattle.toml.specs.View.{view, table_view, items_view};
-ghost use Rattle.plan_keys.specs.Keys.{members_of, number as number_rule, perhaps as perhaps_rule, truth as truth_rule, word as word_rule, ascii as ascii_rule, hex as hex_rule, tables as tables_rule, IsAscii, all_tables, value_or, value_at};
-ghost use Rattle.plan_keys.specs.Faults.{Keeps, wrong_in, trouble_at, needed_at, told_at, trouble_of, Tells};
+ghost use Rattle.plan_keys.specs.Keys.{number as number_rule, perhaps as perhaps_rule, truth as truth_rule, word as word_rule, ascii as ascii_rule, hex as hex_rule, tables as tables_rule, IsAscii, all_tables, members_of, value_or};
+ghost use Rattle.plan_keys.specs.Faults.{asked_of, trouble_of, fresh, noted, named_too, wrong_in, missing_unless, told_at, unknown_at, first_unknown, IsLeastUnknown, Says, Tells};
 
 use crate::fault::{Key, PlanFault, Wanted};
 use crate::forms::{self, Short};
-use crate::unknown::{Place, key_text};
-use std::alloc::Global;
+use crate::unknown::{Place, key_text, unknown_key};
+use arrayvec::ArrayVec;
+use std::alloc::{AllocError, Global};
 use toml::{Table, Value};
 
 /// What is wrong with a key.
@@ -32,10 +33,12 @@ pub struct Found {
 }
 
 /// The keys of a table, or of none, which has only defaults. Each key is asked for once, in the order in which they are
-/// judged. What a wrong key says is any value within its rule; the first wrong key is kept.
-#[derive(Clone, Copy)]
+/// judged, and up to 32 of them are known afterwards. What a wrong key says is any value within its rule; the first
+/// wrong key is kept.
+#[derive(Drop)]
 pub struct Keys<'a> {
     pub table: Option<&'a Table>,
+    pub names: ArrayVec<&'static str, 32>,
     pub found: Option<Found>,
 }
 
@@ -47,23 +50,14 @@ fn find<'a>(table: &'a Table, name: &str) -> Option<&'a Value>
 }
 
 impl<'a> Keys<'a> {
-    /// The keys of a table.
-    pub fn of(table: &'a Table) -> Keys<'a>
-        ensures table { members_of result.table ≡ table_view table.now }
-        ensures found { result.found ≡ None }
+    /// The keys of a table, or of none.
+    pub fn of(table: Option<&'a Table>) -> Keys<'a>
+        ensures table { result.table ≡ table.entry }
+        ensures fresh { asked_of result ≡ fresh (members_of table.entry) }
     {
         Keys {
-            table: Some(table),
-            found: None,
-        }
-    }
-
-    /// Keys that all have their defaults.
-    pub fn none() -> Keys<'static>
-        ensures { (result.table ≡ None) × (result.found ≡ None) }
-    {
-        Keys {
-            table: None,
+            table,
+            names: ArrayVec::new(),
             found: None,
         }
     }
@@ -78,6 +72,28 @@ impl<'a> Keys<'a> {
         }
     }
 
+    /// Keeps a name that was asked for.
+    fn name(&mut self, name: &'static str)
+        ensures { asked_of self.new ≡ named_too name.now (asked_of self.old) }
+    {
+        if self.names.len() < 32 {
+            self.names.push(name);
+        }
+    }
+
+    /// Keeps what is wrong, where nothing was wrong before.
+    fn note(&mut self, name: &'static str, wanted: Wanted, wrong: Wrong)
+        ensures { asked_of self.new ≡ noted (Some (record { name = name.now; wrong = wrong })) (asked_of self.old) }
+    {
+        if self.found.is_none() {
+            self.found = Some(Found {
+                name,
+                wrong,
+                wanted,
+            });
+        }
+    }
+
     /// What a key was judged to say; what is wrong is kept, where nothing was wrong before.
     pub fn keep<T: Drop>(
         &mut self,
@@ -87,20 +103,24 @@ impl<'a> Keys<'a> {
         otherwise: T,
     ) -> T
         ensures value { result ≡ value_or otherwise judged }
-        ensures kept { Keeps self.old self.new (wrong_in name.now judged) }
+        ensures asked { asked_of self.new ≡ noted (wrong_in name.now judged) (named_too name.now (asked_of self.old)) }
     {
+        self.name(name);
         match judged {
             Ok(value) => value,
             Err(wrong) => {
-                if self.found.is_none() {
-                    self.found = Some(Found {
-                        name,
-                        wrong,
-                        wanted,
-                    });
-                }
+                self.note(name, wanted, wrong);
                 otherwise
             }
+        }
+    }
+
+    /// Says that a key has to be there, unless it is there or excused.
+    pub fn needed(&mut self, name: &'static str, wanted: Wanted, excused: bool)
+        ensures { asked_of self.new ≡ noted (missing_unless name.now excused) (asked_of self.old) }
+    {
+        if !excused {
+            self.note(name, wanted, Wrong::Missing);
         }
     }
 
@@ -108,8 +128,7 @@ impl<'a> Keys<'a> {
     pub fn number(&mut self, name: &'static str, least: u64, most: u64, default: Option<u64>) -> u64
         requires bounds { least ≤ most }
         requires default { IfSome default (λ n. (least ≤ n) × (n ≤ most)) }
-        ensures value { result ≡ value_at (number_rule name.now least most default) (members_of self.old.table) }
-        ensures kept { Keeps self.old self.new (trouble_at (number_rule name.now least most default) (members_of self.old.table)) }
+        ensures said { Says (number_rule name.now least most default) self.old self.new result }
         ensures bounds { (least ≤ result) × (result ≤ most) }
     {
         let judged = match self.find(name) {
@@ -128,8 +147,7 @@ impl<'a> Keys<'a> {
         default: Option<u64>,
     ) -> Option<u64>
         requires { IfSome default (λ n. (least ≤ n) × (n ≤ most)) }
-        ensures value { result ≡ value_at (perhaps_rule name.now least most default) (members_of self.old.table) }
-        ensures kept { Keeps self.old self.new (trouble_at (perhaps_rule name.now least most default) (members_of self.old.table)) }
+        ensures said { Says (perhaps_rule name.now least most default) self.old self.new result }
         ensures bounds { IfSome result (λ n. (least ≤ n) × (n ≤ most)) }
     {
         let judged = match self.find(name) {
@@ -139,22 +157,9 @@ impl<'a> Keys<'a> {
         self.keep(name, Wanted::Number(least, most), judged, default)
     }
 
-    /// Says that a key has to be there, unless it is excused.
-    pub fn needed(&mut self, name: &'static str, wanted: Wanted, excused: bool)
-        ensures { Keeps self.old self.new (needed_at name.now excused (members_of self.old.table)) }
-    {
-        let judged = if excused || self.find(name).is_some() {
-            Ok(())
-        } else {
-            Err(Wrong::Missing)
-        };
-        self.keep(name, wanted, judged, ())
-    }
-
     /// A truth value, or the default; without one it has to be there.
     pub fn truth(&mut self, name: &'static str, default: Option<bool>) -> bool
-        ensures value { result ≡ value_at (truth_rule name.now default) (members_of self.old.table) }
-        ensures kept { Keeps self.old self.new (trouble_at (truth_rule name.now default) (members_of self.old.table)) }
+        ensures { Says (truth_rule name.now default) self.old self.new result }
     {
         let judged = match self.find(name) {
             Some(value) => forms::truth_of(value),
@@ -172,8 +177,7 @@ impl<'a> Keys<'a> {
         default: Option<T>,
         otherwise: T,
     ) -> T
-        ensures value { result ≡ value_at (word_rule name.now (map (λ w. w.now) words.now) meanings.now default otherwise) (members_of self.old.table) }
-        ensures kept { Keeps self.old self.new (trouble_at (word_rule name.now (map (λ w. w.now) words.now) meanings.now default otherwise) (members_of self.old.table)) }
+        ensures { Says (word_rule name.now (map (λ w. w.now) words.now) meanings.now default otherwise) self.old self.new result }
     {
         let judged = match self.find(name) {
             Some(value) => forms::word_of(words, meanings, value),
@@ -191,8 +195,7 @@ impl<'a> Keys<'a> {
         default: &'static str,
     ) -> &'a str
         requires default { IsAscii least most default.now }
-        ensures value { result.now ≡ value_at (ascii_rule name.now least most default.now) (members_of self.old.table) }
-        ensures kept { Keeps self.old self.new (trouble_at (ascii_rule name.now least most default.now) (members_of self.old.table)) }
+        ensures said { Says (ascii_rule name.now least most default.now) self.old self.new result.now }
         ensures fits { IsAscii least most result.now }
     {
         let otherwise: &'a str = default;
@@ -207,8 +210,7 @@ impl<'a> Keys<'a> {
     pub fn bytes(&mut self, name: &'static str, least: usize, most: usize, default: &[u8]) -> Short
         requires bounds { (least ≤ length default.now) × (length default.now ≤ most) }
         requires room { most ≤ 32 }
-        ensures value { result.items ≡ value_at (hex_rule name.now least most default.now) (members_of self.old.table) }
-        ensures kept { Keeps self.old self.new (trouble_at (hex_rule name.now least most default.now) (members_of self.old.table)) }
+        ensures said { Says (hex_rule name.now least most default.now) self.old self.new result.items }
         ensures bounds { (least ≤ length result.items) × (length result.items ≤ most) }
     {
         let judged = match self.find(name) {
@@ -225,8 +227,7 @@ impl<'a> Keys<'a> {
 
     /// From so many to so many tables of a list, which has to be there.
     pub fn tables(&mut self, name: &'static str, least: usize, most: usize) -> &'a [Value]
-        ensures value { items_view result.now ≡ value_at (tables_rule name.now least most) (members_of self.old.table) }
-        ensures kept { Keeps self.old self.new (trouble_at (tables_rule name.now least most) (members_of self.old.table)) }
+        ensures said { Says (tables_rule name.now least most) self.old self.new (items_view result.now) }
         ensures bound { length result.now ≤ most }
         ensures tables { all_tables (items_view result.now) ≡ true }
     {
@@ -251,5 +252,20 @@ impl<'a> Keys<'a> {
             Wrong::BadValue => PlanFault::BadValue(key),
             Wrong::OverLimit => PlanFault::OverLimit(key),
         })
+    }
+
+    /// The fault of the least key of the table, in the order of their bytes, that was never asked for.
+    pub fn unknown(&self, alloc: Global, place: &Place<'_>) -> Result<Option<PlanFault>, AllocError>
+        ensures told { IfOk result (λ told. told ≡ unknown_at place.now.prefix.now (asked_of self.now)) }
+        ensures least { IfSome (first_unknown (asked_of self.now).names (asked_of self.now).members) (IsLeastUnknown (asked_of self.now).names (asked_of self.now).members) }
+    {
+        let Some(table) = self.table else {
+            return Ok(None);
+        };
+        let Some(name) = unknown_key(self.names.as_slice(), table) else {
+            return Ok(None);
+        };
+        let text = key_text(alloc, place, name.as_str())?;
+        Ok(Some(PlanFault::BadValue(Key::of(text, Wanted::NoKey))))
     }
 }

@@ -15,4 +15,4 @@ pub use fault::{Key, PlanFault, Wanted};
 pub use forms::Short;
 pub use keys::{Found, Keys, Wrong};
 pub use texts::{LONGEST, document};
-pub use unknown::{Place, known_keys, place_in};
+pub use unknown::{Place, place_in};

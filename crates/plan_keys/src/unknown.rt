@@ -1,10 +1,9 @@
 //! The places of tables in a plan, and the keys that a table doesn't have.
 
-ghost use Rattle.std.specs.Prelude.{◌≡◌, ◌++◌, IfOk, IfErr, OnOk, None, option_map, string_bytes, map};
+ghost use Rattle.std.specs.Prelude.{◌≡◌, ◌++◌, IfOk, IfSome, option_map, string_bytes, map};
 ghost use Rattle.toml.specs.View.{table_view};
-ghost use Rattle.plan_keys.specs.Faults.{prefix_in, is_known, first_unknown, unknown_at, Tells};
+ghost use Rattle.plan_keys.specs.Faults.{prefix_in, is_known, first_unknown, IsLeastUnknown};
 
-use crate::fault::{Key, PlanFault, Wanted};
 use itoa::Buffer;
 use std::alloc::{AllocError, Global};
 use toml::Table;
@@ -54,33 +53,15 @@ fn is_among(names: &[&str], name: &str) -> bool
     false
 }
 
-/// The first key of a table, in the order of their bytes, that is none of these.
-fn unknown_key<'a>(names: &[&str], table: &'a Table) -> Option<&'a String>
-    ensures { option_map (λ k. string_bytes k.now) result ≡ first_unknown (map (λ s. s.now) names.now) (table_view table.now) }
+/// The first key of a table that is none of these. The keys ascend by their bytes, so it is the least of them.
+pub(crate) fn unknown_key<'a>(names: &[&str], table: &'a Table) -> Option<&'a String>
+    ensures first { option_map (λ k. string_bytes k.now) result ≡ first_unknown (map (λ s. s.now) names.now) (table_view table.now) }
+    ensures least { IfSome (first_unknown (map (λ s. s.now) names.now) (table_view table.now)) (IsLeastUnknown (map (λ s. s.now) names.now) (table_view table.now)) }
 {
-    for (name, _) in table {
+    for (name, _) in table.iter() {
         if !is_among(names, name.as_str()) {
             return Some(name);
         }
     }
     None
-}
-
-/// Refuses the least key of a table, in the order of their bytes, that is none of these.
-pub fn known_keys(
-    alloc: Global,
-    place: &Place<'_>,
-    names: &[&str],
-    table: &Table,
-) -> Result<(), PlanFault>
-    ensures ok { OnOk result (unknown_at place.now.prefix.now (map (λ s. s.now) names.now) (table_view table.now) ≡ None) }
-    ensures err { IfErr result (λ fault. Tells fault (unknown_at place.now.prefix.now (map (λ s. s.now) names.now) (table_view table.now))) }
-{
-    match unknown_key(names, table) {
-        Some(name) => {
-            let text = key_text(alloc, place, name.as_str())?;
-            Err(PlanFault::BadValue(Key::of(text, Wanted::NoKey)))
-        }
-        None => Ok(()),
-    }
 }

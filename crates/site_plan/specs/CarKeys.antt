@@ -1,24 +1,19 @@
 -- Own: the keys of a car's plan in the order in which they are judged, and its first fault.
-use Rattle.std.specs.Prelude.{ℕ, ◌==◌, ◌||◌, not, is_some, List, [], ◌∷◌, ◌++◌, codes, Option, Some, None}
+use Rattle.std.specs.Prelude.{ℕ, ◌==◌, ◌||◌, not, is_some, List, [], ◌∷◌, codes, Option, Some, None}
 use Rattle.toml.specs.Data.{Members}
 use Rattle.session_words.specs.declared.mode.Mode.{Mode}
 use Rattle.session_words.specs.declared.mode.Mode.TheVariants.{DcExtended}
 use Rattle.session_words.specs.declared.plan.CarPlan.{CarPlan}
 use Rattle.plan_keys.specs.declared.fault.PlanFault.{PlanFault}
 use Rattle.plan_keys.specs.Keys.{Rule, value_at, number, perhaps, hex}
-use Rattle.plan_keys.specs.Faults.{Line, key, also, needed_at, names, table_fault, first_of, unknown_at}
+use Rattle.plan_keys.specs.Faults.{Line, key, also, missing_unless, Asked, fresh, ask_all, told_at, first_of, unknown_at}
 use Rattle.site_plan.specs.Words.{tenths_rule, mode_rule, stop_rule, dialects_rule}
+
+abbrev pub tcp_rule : Option ℕ → Rule (Option ℕ)
+tcp_rule port = perhaps (codes "tcp") 1 65535 port
 
 abbrev pub sdp_rule : Rule ℕ
 sdp_rule = number (codes "sdp") 0 65535 (Some 0)
-
--- where a car calls: the port has to be there where there is no discovery
-abbrev pub port_rules : Option ℕ → Members → List (Line CarPlan)
-port_rules port table =
-    key (perhaps (codes "tcp") 1 65535 port) (λ c. c.tcp)
-    ∷ key sdp_rule (λ c. c.sdp)
-    ∷ also (needed_at (codes "tcp") (is_some port || not (value_at sdp_rule table == 0)) table)
-    ∷ []
 
 -- percent, tenths of a volt and of an ampere, watts, replies, detections and milliseconds
 abbrev pub drive_rules : Mode → Members → List (Line CarPlan)
@@ -41,13 +36,21 @@ drive_rules mode table =
     ∷ key (hex (codes "session") 0 8 []) (λ c. c.session.bytes.items)
     ∷ []
 
+-- the port has to be there where there is no discovery
 abbrev pub car_rules : Option ℕ → Mode → Members → List (Line CarPlan)
-car_rules port mode table = port_rules port table ++ drive_rules mode table
+car_rules port mode table =
+    key (tcp_rule port) (λ c. c.tcp)
+    ∷ key sdp_rule (λ c. c.sdp)
+    ∷ also (missing_unless (codes "tcp") (is_some (value_at (tcp_rule port) table) || not (value_at sdp_rule table == 0)))
+    ∷ drive_rules mode table
 
 -- the plan of a car in a file
 abbrev pub car_file : Members → List (Line CarPlan)
 car_file table = car_rules None DcExtended table
 
+abbrev pub car_asked : Members → Asked
+car_asked table = ask_all (car_file table) (fresh table)
+
 -- the first fault of a car's table: that of its keys, and of unknown keys
 abbrev pub car_fault : Members → Option PlanFault
-car_fault table = first_of (table_fault [] (car_file table) table) (unknown_at [] (names (car_file table)) table)
+car_fault table = first_of (told_at [] (car_asked table).found) (unknown_at [] (car_asked table))

@@ -6,7 +6,7 @@ use Rattle.session_words.specs.declared.plan.PostPlan.{PostPlan}
 use Rattle.session_words.specs.declared.plan.SitePlan.{SitePlan}
 use Rattle.plan_keys.specs.declared.fault.PlanFault.{PlanFault}
 use Rattle.plan_keys.specs.Keys.{Rule, value_at, number, tables, Each}
-use Rattle.plan_keys.specs.Faults.{Line, key, lists, Holds, names, table_fault, first_of, each_fault, prefix_in, unknown_at}
+use Rattle.plan_keys.specs.Faults.{Line, key, lists, Holds, Asked, fresh, ask_all, told_at, first_of, each_fault, prefix_in, unknown_at}
 use Rattle.site_plan.specs.PostKeys.{post_rules}
 
 abbrev pub post_tables : Rule Items
@@ -35,16 +35,22 @@ pub record IsSiteOf (table : Members) (site : SitePlan) : Type 0 where
 abbrev pub post_prefix : ℕ → List ℕ
 post_prefix number = prefix_in [] (codes "post") number
 
+abbrev pub post_asked : Members → Asked
+post_asked table = ask_all (post_rules None DcExtended table) (fresh table)
+
 abbrev pub post_fault : ℕ → Members → Option PlanFault
-post_fault number table = table_fault (post_prefix number) (post_rules None DcExtended table) table
+post_fault number table = told_at (post_prefix number) (post_asked table).found
 
 abbrev pub post_unknown : ℕ → Members → Option PlanFault
-post_unknown number table = unknown_at (post_prefix number) (names (post_rules None DcExtended table)) table
+post_unknown number table = unknown_at (post_prefix number) (post_asked table)
 
 -- the first fault of a station's table: that of its keys, of its posts one after another, and of unknown keys
+abbrev pub site_asked : Members → Asked
+site_asked table = ask_all site_rules (fresh table)
+
 abbrev pub site_fault : Members → Option PlanFault
 site_fault table =
-    first_of (table_fault [] site_rules table)
+    first_of (told_at [] (site_asked table).found)
     (first_of (each_fault post_fault 1 (value_at post_tables table))
-    (first_of (unknown_at [] (names site_rules) table)
+    (first_of (unknown_at [] (site_asked table))
     (each_fault post_unknown 1 (value_at post_tables table))))

@@ -4,8 +4,8 @@ ghost use Rattle.std.specs.Prelude.{◌≡◌, IfOk, IfSome, true, [], ◌∷◌
 ghost use Rattle.session_words.specs.Modes.{speaks_din};
 ghost use Rattle.session_words.specs.Plans.{IsOffer};
 ghost use Rattle.toml.specs.View.{view};
-ghost use Rattle.plan_keys.specs.Keys.{members_of, seen, value_at};
-ghost use Rattle.plan_keys.specs.Faults.{Keeps, trouble_at};
+ghost use Rattle.plan_keys.specs.Keys.{seen};
+ghost use Rattle.plan_keys.specs.Faults.{Says};
 ghost use Rattle.site_plan.specs.Words as spec;
 ghost use Rattle.site_plan.specs.Words.{dialects_rule};
 
@@ -98,8 +98,7 @@ fn all_dialects(mode: Mode) -> Dialects
 
 /// The dialects, or all that go with the mode.
 pub(crate) fn dialects(keys: &mut Keys<'_>, mode: Mode) -> Dialects
-    ensures value { result.items ≡ value_at (dialects_rule mode) (members_of keys.old.table) }
-    ensures kept { Keeps keys.old keys.new (trouble_at (dialects_rule mode) (members_of keys.old.table)) }
+    ensures said { Says (dialects_rule mode) keys.old keys.new result.items }
     ensures fits { IsOffer mode result.items }
 {
     let judged = match keys.find("dialects") {

@@ -27,9 +27,8 @@ fn default_site(ac: bool) -> SitePlan
     ensures fields { IsFixedSite ac result }
     ensures within { IsSitePlan result }
 {
-    let mut site = site_limits(&mut Keys::none());
-    site.post
-        .push(post_plan(&mut Keys::none(), Some(15120), fixed_mode(ac)));
+    let mut site = site_limits(&mut Keys::of(None));
+    site.post.push(post_plan(&mut Keys::of(None), Some(15120), fixed_mode(ac)));
     site
 }
 
@@ -39,7 +38,7 @@ fn default_car(ac: bool) -> CarPlan
     ensures fields { IsFixedCar ac result }
     ensures within { IsCarPlan result }
 {
-    car_keys(&mut Keys::none(), Some(15120), fixed_mode(ac))
+    car_keys(&mut Keys::of(None), Some(15120), fixed_mode(ac))
 }
 
 /// The plan of a station with one post at the TCP port 15120, and else the defaults (own). The post gives alternating

@@ -1,8 +1,8 @@
 //! The words of plans.
 
 ghost use Rattle.std.specs.Prelude.{◌≡◌, ◌≤◌, map, Some};
-ghost use Rattle.plan_keys.specs.Keys.{IsAscii, named, members_of, value_at};
-ghost use Rattle.plan_keys.specs.Faults.{Keeps, trouble_at};
+ghost use Rattle.plan_keys.specs.Keys.{IsAscii, named};
+ghost use Rattle.plan_keys.specs.Faults.{Says};
 ghost use Rattle.site_plan.specs.Words as spec;
 ghost use Rattle.site_plan.specs.Words.{mode_rule, stop_rule, evse_id_rule, tenths_rule};
 
@@ -50,8 +50,7 @@ const MODES: [Mode; 6] = [
 
 /// The mode of a plan, or the default.
 pub(crate) fn mode(keys: &mut Keys<'_>, default: Mode) -> Mode
-    ensures value { result ≡ value_at (mode_rule default) (members_of keys.old.table) }
-    ensures kept { Keeps keys.old keys.new (trouble_at (mode_rule default) (members_of keys.old.table)) }
+    ensures { Says (mode_rule default) keys.old keys.new result }
 {
     keys.word("mode", mode_names(), &MODES, Some(default), default)
 }
@@ -68,8 +67,7 @@ const STOPS: [Stop; 2] = [Stop::Terminate, Stop::Pause];
 
 /// The way to stop of a plan.
 pub(crate) fn stop(keys: &mut Keys<'_>) -> Stop
-    ensures value { result ≡ value_at stop_rule (members_of keys.old.table) }
-    ensures kept { Keeps keys.old keys.new (trouble_at stop_rule (members_of keys.old.table)) }
+    ensures { Says stop_rule keys.old keys.new result }
 {
     let usual = Stop::Terminate;
     keys.word("stop", stop_names(), &STOPS, Some(usual), usual)
@@ -78,8 +76,7 @@ pub(crate) fn stop(keys: &mut Keys<'_>) -> Stop
 /// An EVSEID in ISO, or that of no operator.
 #[tactic(auto, using(crate::proofs::Texts::code_points_fit))]
 pub(crate) fn evse_id(keys: &mut Keys<'_>) -> EvseText
-    ensures value { result ≡ value_at evse_id_rule (members_of keys.old.table) }
-    ensures kept { Keeps keys.old keys.new (trouble_at evse_id_rule (members_of keys.old.table)) }
+    ensures said { Says evse_id_rule keys.old keys.new result }
     ensures fits { IsAscii 7 37 result }
 {
     let text = keys.ascii("evse_id", 7, 37, "ZZ00000");
@@ -89,8 +86,7 @@ pub(crate) fn evse_id(keys: &mut Keys<'_>) -> EvseText
 /// So many tenths, or the default.
 pub(crate) fn tenths(keys: &mut Keys<'_>, name: &'static str, default: u64) -> Tenths
     requires { default ≤ 30000 }
-    ensures value { result ≡ value_at (tenths_rule name.now default) (members_of keys.old.table) }
-    ensures kept { Keeps keys.old keys.new (trouble_at (tenths_rule name.now default) (members_of keys.old.table)) }
+    ensures { Says (tenths_rule name.now default) keys.old keys.new result }
 {
     Tenths::exactly(keys.number(name, 0, 30000, Some(default)) as u16)
 }

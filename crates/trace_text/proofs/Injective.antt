@@ -21,19 +21,10 @@ use Rattle.trace_text.specs.TraceText.{pilot_word, isolation_word, feedback_word
 
 pilot_same : (s t : PilotState) → pilot_word s ≡ pilot_word t → s ≡ t
 pilot_same pilot.A pilot.A e = refl
-pilot_same pilot.B pilot.B e = refl
-pilot_same pilot.C pilot.C e = refl
-pilot_same pilot.D pilot.D e = refl
-pilot_same pilot.E pilot.E e = refl
-pilot_same pilot.F pilot.F e = refl
 pilot_same _ _ e = search rules
 
 isolation_same : (s t : IsolationLevel) → isolation_word s ≡ isolation_word t → s ≡ t
 isolation_same isolation.Invalid isolation.Invalid e = refl
-isolation_same isolation.Valid isolation.Valid e = refl
-isolation_same isolation.Warning isolation.Warning e = refl
-isolation_same isolation.Fault isolation.Fault e = refl
-isolation_same isolation.NoImd isolation.NoImd e = refl
 isolation_same _ _ e = search rules
 
 feedback_same : (s t : Bool) → feedback_word s ≡ feedback_word t → s ≡ t
@@ -52,15 +43,9 @@ event_same (Measured v i) (Measured w j) x y e =
     let current = same_number i j (omega (arith, x.1)) (omega (arith, y.1)) cc in
     rw (voltage, current) refl
 event_same (Feedback s) (Feedback t) x y e = ap Feedback (feedback_same s t cc)
-event_same Paid Paid x y e = refl
-event_same Emergency Emergency x y e = refl
-event_same StopAsked StopAsked x y e = refl
-event_same RenewAsked RenewAsked x y e = refl
 event_same _ _ x y e = search rules
 
 order_same : (d e : Order) → IsOrderOfTypes d → IsOrderOfTypes e → order_words d ≡ order_words e → d ≡ e
-order_same Open Open x y e = refl
-order_same Close Close x y e = refl
 order_same (Limits v i w) (Limits v' i' w') x y e =
     let voltage = same_number v v' (omega (arith, x.0)) (omega (arith, y.0)) cc in
     let current = same_number i i' (omega (arith, x.1)) (omega (arith, y.1)) cc in
@@ -120,7 +105,6 @@ plain_same (entry.Heard h a) (entry.Heard k b) x s y t o e =
     let at = same_number h.at k.at s.0 t.0 cc in
     let what = what_same h.what k.what a b (x, s.1, s.2) (y, t.1, t.2) cc in
     heard_same h k a b at what.0 what.1
-plain_same entry.Lost entry.Lost x s y t o e = refl
 plain_same (entry.Sent p a taken) (entry.Sent q b other) x s y t o e =
     let post = same_post p q x.0 y.0 cc in
     let bytes = hex_injective a b s t cc in
@@ -144,12 +128,7 @@ plain_same _ _ x s y t o e = search rules
 
 not_failed : (e : Entry) (rest : List (List ℕ)) → plain_words e ≡ codes "failed" ∷ rest → ⊥
 not_failed (entry.Heard h a) rest e = search rules
-not_failed entry.Lost rest e = search rules
-not_failed (entry.Sent p a taken) rest e = search rules
-not_failed (entry.Answered p a taken) rest e = search rules
-not_failed (entry.Drove p order taken) rest e = search rules
-not_failed (entry.Dialed p taken) rest e = search rules
-not_failed (entry.Ended p c) rest e = search rules
+not_failed _ rest e = search rules
 
 outcome_same : (t u : Bool) (ws vs : List (List ℕ)) → ((rest : List (List ℕ)) → ws ≡ codes "failed" ∷ rest → ⊥) → ((rest : List (List ℕ)) → vs ≡ codes "failed" ∷ rest → ⊥)
     → cond t ws (codes "failed" ∷ ws) ≡ cond u vs (codes "failed" ∷ vs) → (t ≡ u) × (ws ≡ vs)

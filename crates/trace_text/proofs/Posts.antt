@@ -27,13 +27,9 @@ no_post k word is four e = let one = one_digit k is in omega (arith, one, four, 
 
 -- behind a word of four letters nothing follows
 alone : (what : What) (bytes word : List ℕ) (rest : List (List ℕ)) → HasBytes what bytes → length word ≡ 4 → word ∷ rest ≡ what_words what bytes → rest ≡ []
-alone (Came k token) bytes word rest has four e = absurd (no_post k word has.0 four cc)
-alone (Bytes k n) bytes word rest has four e = absurd (no_post k word has.0 four cc)
-alone (Gone k) bytes word rest has four e = absurd (no_post k word has.0 four cc)
-alone (Datagram k n) bytes word rest has four e = absurd (no_post k word has.0 four cc)
-alone (Plant k event) bytes word rest has four e = absurd (no_post k word has.0 four cc)
 alone Tick bytes word rest has four e = cc
 alone Over bytes word rest has four e = cc
+alone _ bytes word rest has four e = absurd (no_post _ word has.0 four cc)
 
 abbrev pub spell : What × List ℕ → List (List ℕ)
 spell w = what_words w.0 w.1
@@ -46,26 +42,18 @@ word_read what word words rest None is four has types e h =
     λ x heard said. h (alone x.0 x.1 word rest heard.0 four (sym e ∙ said))
 
 at_post_is : (k : ℕ) (what : What) (bytes : List ℕ) → IsOfPost k what → decimal k ∷ at_post_words what bytes ≡ what_words what bytes
-at_post_is k (Came post token) bytes is = rw is refl
-at_post_is k (Bytes post n) bytes is = rw is refl
-at_post_is k (Gone post) bytes is = rw is refl
-at_post_is k (Datagram post n) bytes is = rw is refl
-at_post_is k (Plant post event) bytes is = rw is refl
 at_post_is k Tick bytes is = absurd is
 at_post_is k Over bytes is = absurd is
+at_post_is k _ bytes is = rw is refl
 
 same_post : (k j : ℕ) → IsPost k → IsPost j → decimal k ≡ decimal j → j ≡ k
 same_post k j is_k is_j e = sym (decimal_injective k j (omega arith) (omega arith) e)
 
 post_at : (k : ℕ) (what : What) (bytes : List ℕ) (rest : List (List ℕ)) → IsPost k → HasBytes what bytes → decimal k ∷ rest ≡ what_words what bytes
     → IsOfPost k what × (rest ≡ at_post_words what bytes)
-post_at k (Came j token) bytes rest is has e = (same_post k j is has.0 cc, cc)
-post_at k (Bytes j n) bytes rest is has e = (same_post k j is has.0 cc, cc)
-post_at k (Gone j) bytes rest is has e = (same_post k j is has.0 cc, cc)
-post_at k (Datagram j n) bytes rest is has e = (same_post k j is has.0 cc, cc)
-post_at k (Plant j event) bytes rest is has e = (same_post k j is has.0 cc, cc)
 post_at k Tick bytes rest is has e = absurd (no_post k (codes "tick") is refl cc)
 post_at k Over bytes rest is has e = absurd (no_post k (codes "over") is refl cc)
+post_at k _ bytes rest is has e = (same_post k _ is has.0 cc, cc)
 
 pub post_read : (k : ℕ) (words rest : List (List ℕ)) (r : Result (What × List ℕ) Refused) → IsPost k → words ≡ decimal k ∷ rest
     → Gives (λ w. at_post_words w.0 w.1) (IsHeardAt k) rest r → Gives spell IsHeard words r

@@ -22,18 +22,11 @@ use Rattle.trace_text.specs.TraceText.{pilot_word, isolation_word, feedback_word
 
 pilot_is : (s : PilotState) → IsWord (pilot_word s)
 pilot_is pilot.A = refl
-pilot_is pilot.B = refl
-pilot_is pilot.C = refl
-pilot_is pilot.D = refl
-pilot_is pilot.E = refl
-pilot_is pilot.F = refl
+pilot_is _ = refl
 
 isolation_is : (l : IsolationLevel) → IsWord (isolation_word l)
 isolation_is isolation.Invalid = refl
-isolation_is isolation.Valid = refl
-isolation_is isolation.Warning = refl
-isolation_is isolation.Fault = refl
-isolation_is isolation.NoImd = refl
+isolation_is _ = refl
 
 feedback_is : (closed : Bool) → IsWord (feedback_word closed)
 feedback_is true = refl
@@ -44,16 +37,12 @@ event_are (Pilot state) types = (refl, (pilot_is state, tt))
 event_are (Isolation level) types = (refl, (isolation_is level, tt))
 event_are (Measured voltage current) types = (refl, (decimal_word voltage (omega (arith, types.0)), (decimal_word current (omega (arith, types.1)), tt)))
 event_are (Feedback closed) types = (refl, (feedback_is closed, tt))
-event_are Paid types = (refl, tt)
-event_are Emergency types = (refl, tt)
-event_are StopAsked types = (refl, tt)
-event_are RenewAsked types = (refl, tt)
+event_are _ types = (refl, tt)
 
 order_are : (order : Order) → IsOrderOfTypes order → AreWords (order_words order)
-order_are Open types = (refl, tt)
-order_are Close types = (refl, tt)
 order_are (Limits voltage current watts) types =
     (refl, (decimal_word voltage (omega (arith, types.0)), (decimal_word current (omega (arith, types.1)), (decimal_word watts (omega (arith, types.2)), tt))))
+order_are _ types = (refl, tt)
 
 datagram_is : (bytes : List ℕ) → IsBytes bytes → IsWord (datagram_word bytes)
 datagram_is [] fits = refl
@@ -68,8 +57,7 @@ what_are (Bytes post n) bytes has types fits = (post_is post has.0, (refl, (hex_
 what_are (Gone post) bytes has types fits = (post_is post has.0, (refl, tt))
 what_are (Datagram post n) bytes has types fits = (post_is post has.0, (refl, (datagram_is bytes fits, tt)))
 what_are (Plant post event) bytes has types fits = (post_is post has.0, (refl, event_are event types))
-what_are Tick bytes has types fits = (refl, tt)
-what_are Over bytes has types fits = (refl, tt)
+what_are _ bytes has types fits = (refl, tt)
 
 plain_are : (e : Entry) → InBounds e → IsOfTypes e → AreWords (plain_words e)
 plain_are (entry.Heard heard bytes) bounds types = (refl, (decimal_word heard.at types.0, what_are heard.what bytes bounds types.1 types.2))
@@ -89,12 +77,7 @@ words_are e bounds types =
 
 some_plain : (e : Entry) → 0 < length (plain_words e)
 some_plain (entry.Heard heard bytes) = omega arith
-some_plain entry.Lost = omega arith
-some_plain (entry.Sent post bytes taken) = omega arith
-some_plain (entry.Answered post bytes taken) = omega arith
-some_plain (entry.Drove post order taken) = omega arith
-some_plain (entry.Dialed port taken) = omega arith
-some_plain (entry.Ended post cause) = omega arith
+some_plain _ = omega arith
 
 pub some_words : (e : Entry) → 0 < length (words_of e)
 some_words e =

@@ -27,16 +27,16 @@ pub enum LineFault {
 fn is_of_format_1(entry: &Entry) -> bool
     ensures { IsTrue result ↔ IsOfFormat1 entry.now }
 {
-    match entry {
-        Entry::Heard { heard, .. } => match heard.what {
-            What::Plant { event, .. } => match event {
-                PlantEvent::RenewAsked => false,
-                _ => true,
-            },
-            _ => true,
-        },
-        _ => true,
-    }
+    let Entry::Heard { heard, .. } = entry else {
+        return true;
+    };
+    !matches!(
+        heard.what,
+        What::Plant {
+            event: PlantEvent::RenewAsked,
+            ..
+        }
+    )
 }
 
 /// Reads the line of an entry.

@@ -23,20 +23,14 @@ fn is(word: &[u8], text: &[u8]) -> bool
 fn pilot(word: &[u8]) -> Option<PilotState>
     ensures { Reads pilot_word (λ _. Unit {0}) word.now result }
 {
-    if is(word, b"A") {
-        Some(PilotState::A)
-    } else if is(word, b"B") {
-        Some(PilotState::B)
-    } else if is(word, b"C") {
-        Some(PilotState::C)
-    } else if is(word, b"D") {
-        Some(PilotState::D)
-    } else if is(word, b"E") {
-        Some(PilotState::E)
-    } else if is(word, b"F") {
-        Some(PilotState::F)
-    } else {
-        None
+    match word {
+        b"A" => Some(PilotState::A),
+        b"B" => Some(PilotState::B),
+        b"C" => Some(PilotState::C),
+        b"D" => Some(PilotState::D),
+        b"E" => Some(PilotState::E),
+        b"F" => Some(PilotState::F),
+        _ => None,
     }
 }
 
@@ -44,18 +38,13 @@ fn pilot(word: &[u8]) -> Option<PilotState>
 fn isolation(word: &[u8]) -> Option<IsolationLevel>
     ensures { Reads isolation_word (λ _. Unit {0}) word.now result }
 {
-    if is(word, b"invalid") {
-        Some(IsolationLevel::Invalid)
-    } else if is(word, b"valid") {
-        Some(IsolationLevel::Valid)
-    } else if is(word, b"warning") {
-        Some(IsolationLevel::Warning)
-    } else if is(word, b"fault") {
-        Some(IsolationLevel::Fault)
-    } else if is(word, b"noimd") {
-        Some(IsolationLevel::NoImd)
-    } else {
-        None
+    match word {
+        b"invalid" => Some(IsolationLevel::Invalid),
+        b"valid" => Some(IsolationLevel::Valid),
+        b"warning" => Some(IsolationLevel::Warning),
+        b"fault" => Some(IsolationLevel::Fault),
+        b"noimd" => Some(IsolationLevel::NoImd),
+        _ => None,
     }
 }
 
@@ -63,12 +52,10 @@ fn isolation(word: &[u8]) -> Option<IsolationLevel>
 fn feedback(word: &[u8]) -> Option<bool>
     ensures { Reads feedback_word (λ _. Unit {0}) word.now result }
 {
-    if is(word, b"closed") {
-        Some(true)
-    } else if is(word, b"open") {
-        Some(false)
-    } else {
-        None
+    match word {
+        b"closed" => Some(true),
+        b"open" => Some(false),
+        _ => None,
     }
 }
 
@@ -76,20 +63,14 @@ fn feedback(word: &[u8]) -> Option<bool>
 fn tenths(word: &[u8]) -> Option<Tenths>
     ensures { Reads decimal (λ n. n ≤ 30000) word.now result }
 {
-    match number(word, 0, 30_000) {
-        Some(n) => Tenths::of(n as u16),
-        None => None,
-    }
+    Tenths::of(number(word, 0, 30_000)? as u16)
 }
 
 /// Reads the number of a post.
 fn post(word: &[u8]) -> Option<u8>
     ensures { Reads decimal IsPost word.now result }
 {
-    match number(word, 1, 8) {
-        Some(n) => Some(n as u8),
-        None => None,
-    }
+    Some(number(word, 1, 8)? as u8)
 }
 
 /// Reads a voltage and a current, which are all the words.
@@ -203,6 +184,14 @@ fn datagram(alloc: Global, word: &[u8]) -> Result<Piece, Refused>
     short_bytes(alloc, word)
 }
 
+/// Takes the next word.
+fn next<'a>(words: &mut Words<'a>) -> Result<&'a [u8], Refused>
+    ensures { MatchResult result (λ word. words.old ≡ word.now ∷ words.new)
+        (λ refused. (refused ≡ Refused.Bad) × (words.old ≡ [])) }
+{
+    words.next().ok_or(Refused::Bad)
+}
+
 /// Reads the one word that is left.
 fn only<'a>(words: Words<'a>) -> Result<&'a [u8], Refused>
     ensures { MatchResult result (λ word. words.entry ≡ word.now ∷ [])
@@ -216,14 +205,10 @@ fn at_post(alloc: Global, post: u8, mut words: Words) -> Result<(What, Piece), R
     requires { IsPost post }
     ensures { Gives (λ w. at_post_words w.0 w.1) (IsHeardAt post) words.entry result }
 {
-    let Some(kind) = words.next() else {
-        return Err(Refused::Bad);
-    };
+    let kind = next(&mut words)?;
     if is(kind, b"came") {
-        return match identifier(only(words)?) {
-            Some(token) => Ok((What::Came { post, token }, nothing(alloc))),
-            None => Err(Refused::Bad),
-        };
+        let token = identifier(only(words)?).ok_or(Refused::Bad)?;
+        return Ok((What::Came { post, token }, nothing(alloc)));
     }
     if is(kind, b"bytes") {
         let piece = short_bytes(alloc, only(words)?)?;
@@ -240,10 +225,8 @@ fn at_post(alloc: Global, post: u8, mut words: Words) -> Result<(What, Piece), R
         return Ok((What::Datagram { post, n }, piece));
     }
     if is(kind, b"plant") {
-        return match event(words) {
-            Some(event) => Ok((What::Plant { post, event }, nothing(alloc))),
-            None => Err(Refused::Bad),
-        };
+        let event = event(words).ok_or(Refused::Bad)?;
+        return Ok((What::Plant { post, event }, nothing(alloc)));
     }
     Err(Refused::Bad)
 }
@@ -252,28 +235,24 @@ fn at_post(alloc: Global, post: u8, mut words: Words) -> Result<(What, Piece), R
 fn what(alloc: Global, mut words: Words) -> Result<(What, Piece), Refused>
     ensures { Gives (λ w. what_words w.0 w.1) IsHeard words.entry result }
 {
-    let Some(first) = words.next() else {
-        return Err(Refused::Bad);
-    };
+    let first = next(&mut words)?;
     if is(first, b"tick") {
         return words.end((What::Tick, nothing(alloc))).ok_or(Refused::Bad);
     }
     if is(first, b"over") {
         return words.end((What::Over, nothing(alloc))).ok_or(Refused::Bad);
     }
-    match post(first) {
-        Some(post) => at_post(alloc, post, words),
-        None => Err(Refused::Bad),
-    }
+    let Some(post) = post(first) else {
+        return Err(Refused::Bad);
+    };
+    at_post(alloc, post, words)
 }
 
 /// Reads a heard entry behind its first word.
 fn heard(alloc: Global, mut words: Words) -> Result<Entry, Refused>
     ensures { Gives plain_words IsRead (codes "heard" ∷ words.entry) result }
 {
-    let Some(moment) = words.next() else {
-        return Err(Refused::Bad);
-    };
+    let moment = next(&mut words)?;
     let Some(at) = number(moment, 0, u64::MAX) else {
         return Err(Refused::Bad);
     };
@@ -300,19 +279,9 @@ fn sent(alloc: Global, mut words: Words) -> Result<(u8, Piece), Refused>
     ensures { MatchResult result (λ s. IsPost s.0 × AreSent s.1 × (words.entry ≡ decimal s.0 ∷ encode_lower s.1 ∷ []))
         (λ refused. refused ≡ Refused.Bad → (k : ℕ) (b : List ℕ) → IsPost k → AreSent b → words.entry ≢ decimal k ∷ encode_lower b ∷ []) }
 {
-    let Some(first) = words.next() else {
-        return Err(Refused::Bad);
-    };
-    let Some(post) = post(first) else {
-        return Err(Refused::Bad);
-    };
-    let Some(word) = words.only() else {
-        return Err(Refused::Bad);
-    };
-    match bytes(alloc, word) {
-        Ok(bytes) => Ok((post, bytes)),
-        Err(refused) => Err(refused),
-    }
+    let post = post(next(&mut words)?).ok_or(Refused::Bad)?;
+    let bytes = bytes(alloc, only(words)?)?;
+    Ok((post, bytes))
 }
 
 /// Reads a post and an order.
@@ -338,22 +307,12 @@ fn call(alloc: Global, kind: &[u8], words: Words, taken: bool) -> Result<Entry, 
         return Ok(Entry::Answered { post, bytes, taken });
     }
     if is(kind, b"drove") {
-        return match drove(words) {
-            Some((post, order)) => Ok(Entry::Drove { post, order, taken }),
-            None => Err(Refused::Bad),
-        };
+        let (post, order) = drove(words).ok_or(Refused::Bad)?;
+        return Ok(Entry::Drove { post, order, taken });
     }
     if is(kind, b"dialed") {
-        let Some(word) = words.only() else {
-            return Err(Refused::Bad);
-        };
-        return match number(word, 0, 65_535) {
-            Some(port) => Ok(Entry::Dialed {
-                port: port as u16,
-                taken,
-            }),
-            None => Err(Refused::Bad),
-        };
+        let port = number(only(words)?, 0, 65_535).ok_or(Refused::Bad)? as u16;
+        return Ok(Entry::Dialed { port, taken });
     }
     Err(Refused::Bad)
 }
@@ -362,9 +321,7 @@ fn call(alloc: Global, kind: &[u8], words: Words, taken: bool) -> Result<Entry, 
 pub(crate) fn entry(alloc: Global, mut words: Words) -> Result<Entry, Refused>
     ensures { Gives words_of IsRead words.entry result }
 {
-    let Some(kind) = words.next() else {
-        return Err(Refused::Bad);
-    };
+    let kind = next(&mut words)?;
     if is(kind, b"heard") {
         return heard(alloc, words);
     }
@@ -377,8 +334,6 @@ pub(crate) fn entry(alloc: Global, mut words: Words) -> Result<Entry, Refused>
     if !is(kind, b"failed") {
         return call(alloc, kind, words, true);
     }
-    match words.next() {
-        Some(kind) => call(alloc, kind, words, false),
-        None => Err(Refused::Bad),
-    }
+    let kind = next(&mut words)?;
+    call(alloc, kind, words, false)
 }

@@ -1,25 +1,22 @@
-use Rattle.std.proofs.Common.{[], IfErr, Option, arith, ap, sym, subst, ◌∙◌}
-use Rattle.std.proofs.lemmas.Grind.{common_steps}
+use Rattle.std.proofs.Common.{[], None, sym, ap, inr, ◌∙◌}
 use Rattle.toml.specs.View.{table_view}
-use Rattle.plan_keys.specs.declared.fault.PlanFault.{PlanFault}
-use Rattle.plan_keys.specs.Faults.{names, table_fault, told_at, unknown_at, Tells}
-use Rattle.plan_keys.proofs.Chains.{told_of, first_none}
+use Rattle.session_words.specs.declared.mode.Mode.TheVariants.{DcExtended}
+use Rattle.plan_keys.specs.Faults.{Asked, unknown_at}
+use Rattle.plan_keys.proofs.Chains.{all_asked, keys_right}
 use Rattle.site_plan.specs.CarKeys.{car_file}
+use Rattle.site_plan.proofs.Ports.{car_there}
 use Rattle.site_plan.proofs.car.car_plan.Goals as goal
 
-pub returns-clause-none : goal.returns-clause-none
-returns-clause-none c =
-    let t = table_view c.args.table.now in
-    let known = first_none (table_fault [] (car_file t) t) (unknown_at [] (names (car_file t)) t)
-    (told_of [] car_file c.of-keys.result c.car_keys-car.new.keys c.car_keys-car.result t c.of-keys.ensures.table c.of-keys.ensures.found c.car_keys-car.ensures.read
-    ∙ ap (λ e. told_at [] e) c.in_ok-judged.ensures.ok) in
-    known ∙ c.in_ok-known_keys.ensures.ok
+pub returns-in-Some-clause-fault : goal.returns-in-Some-clause-fault
+returns-in-Some-clause-fault c =
+    let asked = all_asked car_file c.of-keys.result c.car_keys-car.new.keys c.car_keys-car.result (table_view c.args.table.now) c.of-keys.ensures.fresh c.car_keys-car.ensures.read in
+    inr (keys_right [] _ _ _ asked c.in_ok-judged.ensures.ok ∙ ap (λ (a : Asked). unknown_at [] a) (sym asked) ∙ sym c.in_ok-fault.ensures.told ∙ c.in-Some.is)
 
-pub returns-in_err-known_keys-clause-fault : goal.returns-in_err-known_keys-clause-fault
-returns-in_err-known_keys-clause-fault c =
-    let t = table_view c.args.table.now in
-    let known = first_none (table_fault [] (car_file t) t) (unknown_at [] (names (car_file t)) t)
-    (told_of [] car_file c.of-keys.result c.car_keys-car.new.keys c.car_keys-car.result t c.of-keys.ensures.table c.of-keys.ensures.found c.car_keys-car.ensures.read
-    ∙ ap (λ e. told_at [] e) c.in_ok-judged.ensures.ok) in
-    let told : IfErr c.from_residual-in_err-known_keys.result (λ fault. Tells fault (unknown_at [] (names (car_file t)) t)) = grind (arith, common_steps) in
-    subst (λ (x : Option PlanFault). IfErr c.from_residual-in_err-known_keys.result (λ fault. Tells fault x)) (sym known) told
+pub returns-in-None-clause-none : goal.returns-in-None-clause-none
+returns-in-None-clause-none c =
+    let asked = all_asked car_file c.of-keys.result c.car_keys-car.new.keys c.car_keys-car.result (table_view c.args.table.now) c.of-keys.ensures.fresh c.car_keys-car.ensures.read in
+    keys_right [] _ _ _ asked c.in_ok-judged.ensures.ok ∙ ap (λ (a : Asked). unknown_at [] a) (sym asked) ∙ sym c.in_ok-fault.ensures.told ∙ c.in-None.is
+
+pub returns-in-None-clause-within : goal.returns-in-None-clause-within
+returns-in-None-clause-within c =
+    c.car_keys-car.ensures.within (car_there None DcExtended c.of-keys.result c.car_keys-car.new.keys c.car_keys-car.result c.car_keys-car.ensures.read c.in_ok-judged.ensures.ok)
