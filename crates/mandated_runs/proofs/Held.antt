@@ -284,7 +284,7 @@ not_negotiated chosen response (Some (word.Request q)) e = cc
 not_negotiated chosen response (Some (word.Reply reply)) e = cc
 not_negotiated chosen response (Some word.Nothing) e = cc
 
-spoken_not : (c : Codecs) (offers : List Dialect) (d : Option Dialect) (k : Dialect) (payload : List ℕ) (chosen : Option Dialect) (response : List ℕ) → d ≡ Some k → Judges c offers d payload (Negotiated chosen response) → ⊥
+pub spoken_not : (c : Codecs) (offers : List Dialect) (d : Option Dialect) (k : Dialect) (payload : List ℕ) (chosen : Option Dialect) (response : List ℕ) → d ≡ Some k → Judges c offers d payload (Negotiated chosen response) → ⊥
 spoken_not c offers None k payload chosen response e j = cc
 spoken_not c offers (Some d) k payload chosen response e j = not_negotiated chosen response j.0 j.2
 
@@ -310,7 +310,7 @@ front_of ss (Err fault) p e = cc
 front_of ss (Ok None) p e = cc
 front_of ss (Ok (Some n)) p e = let x : record { dialect = speaks ss.stage; bytes = payload_at n ss.unread } ≡ p = cc in sym (ap (λ (y : Payload). y.dialect) x)
 
-front_in : (ss : Session) (p : Payload) (b : Bool) → is_waiting ss.stage.row ≡ b → (if b then None else payload_by (whole_at ss.unread) ss) ≡ Some p → Front ss p
+pub front_in : (ss : Session) (p : Payload) (b : Bool) → is_waiting ss.stage.row ≡ b → (if b then None else payload_by (whole_at ss.unread) ss) ≡ Some p → Front ss p
 front_in ss p true w e = cc
 front_in ss p false w e = record { still = w; spoken = front_of ss (whole_at ss.unread) p e }
 

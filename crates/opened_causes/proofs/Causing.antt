@@ -1,5 +1,5 @@
 -- Each cause that is heard, and each call that failed, leads to an order to open.
-use Rattle.std.proofs.Common.{◌≡◌, ℕ, ◌+◌, Bool, true, false, List, [], ◌∷◌, ◌++◌, length, map, Option, Some, None, is_some, refl, sym, ap, subst, ◌∙◌, inl, inr, ◌⊎◌, MatchBool}
+use Rattle.std.proofs.Common.{◌≡◌, ◌≤◌, ◌<◌, ℕ, ◌+◌, Bool, true, false, List, [], ◌∷◌, ◌++◌, length, map, Option, Some, None, is_some, refl, sym, ap, subst, ◌∙◌, inl, inr, ◌⊎◌, MatchBool}
 use Rattle.std.specs.Option.{option_map}
 use Rattle.charge_world.specs.declared.heard.PlantEvent.{PlantEvent}
 use Rattle.charge_world.specs.declared.ports.Order.{Order}
@@ -11,6 +11,7 @@ use Rattle.session_words.specs.declared.plan.PostPlan.{PostPlan}
 use Rattle.session_words.specs.declared.word.Ask.{Ask}
 use Rattle.session_words.specs.declared.word.Ask.TheVariants as ask
 use Rattle.session_words.specs.declared.word.Request.{Request}
+use Rattle.session_timers.specs.Due.{never}
 use Rattle.session_rules.specs.declared.stage.Stage.{Stage}
 use Rattle.session_rules.specs.Causes.{plant_cause, word_cause}
 use Rattle.session_rules.specs.Verdict.{verdict, is_accepted}
@@ -23,14 +24,14 @@ use Rattle.charge_world.specs.declared.entry.Entry.{Entry}
 use Rattle.session_words.specs.declared.plan.SitePlan.{SitePlan}
 use Rattle.post_spec.specs.Codecs.{Asked, Codecs}
 use Rattle.post_spec.specs.Course.{Talked, course, facts_of}
-use Rattle.post_spec.specs.Facts.{standing, live}
+use Rattle.post_spec.specs.Facts.{now, standing, live}
 use Rattle.post_spec.specs.Kinds.{asks_opening}
 use Rattle.post_spec.specs.Sessions.{session, stream, waits}
 use Rattle.post_spec.specs.Steps.{Event, Came, Bytes, Gone, Plant, Over, Act, Give, Send, Seen, Heard, Did, Reading, Step, Hears, Does, seen, seen_of}
-use Rattle.station_spec.specs.States.{Spoken, Part, Wording, Session, State, nothing, first, first_of, is_done}
+use Rattle.station_spec.specs.States.{is_none, Spoken, Part, Wording, Session, State, nothing, first, first_of, is_done}
 use Rattle.station_spec.specs.States.{Agenda}
 use Rattle.station_spec.specs.States as states
-use Rattle.station_spec.specs.Deciding.{ending_by, ending_in, repeating, timing, watch, charging, eventing, from_wording, from_part, decided}
+use Rattle.station_spec.specs.Deciding.{ending_by, ending_in, repeating, timing, watch, charging, eventing, from_wording, from_part, decided, due, is_reached}
 use Rattle.station_spec.specs.Judging.{cause_by, judged, taken_in, read, filled, wanted, IsRead}
 use Rattle.station_spec.specs.Acting.{failing, agenda_said, hearing, live_ordered, state, IsQuiet, IsSpoken, IsDone, Acts}
 use Rattle.station_spec.specs.Sharing.{Post, Shows}
@@ -48,7 +49,8 @@ use Rattle.safe_runs.proofs.Parts.{cleared}
 use Rattle.safe_runs.proofs.Safety.{run_tied}
 use Rattle.safe_runs.proofs.Shut.{done_still}
 use Rattle.safe_runs.proofs.Openings.{opening, must_open, opens_decided, runs_end_open}
-use Rattle.opened_causes.specs.Causing.{IsBreak, IsNext, IsNewWord, Repeats, WasAsked, IsFirst, IsFirstBehind, Stands, OpenBehind, OpensAt, RunsOpenAtBreaks, RunsOpenAtWords, RunsEndAtCauses}
+use Rattle.opened_causes.specs.Causing.{IsBreak, IsNext, IsNewWord, IsHeard, IsDeadline, Repeats, WasAsked, IsFirst, IsFirstBehind, Stands, OpenBehind, OpensAt, RunsOpenAtBreaks, RunsOpenAtWords, RunsOpenAtDeadlines, RunsEndAtCauses}
+use Rattle.opened_causes.proofs.Deadlines.{steps_since, stands_waiting, due_is, reached}
 use Rattle.opened_causes.proofs.Ending.{Ends, steps_end, filled_ends, give_is, say_is}
 use Rattle.opened_causes.proofs.Wording.{Next, opens_it, AtWords, word_next}
 use Rattle.opened_causes.proofs.Worded.{Worded, filled_worded, steps_worded}
@@ -344,6 +346,45 @@ next_opens c plan (Does r (Send bytes) true ∷ before) t es words tail word cau
 next_opens c plan (Hears at event ∷ before) t es words tail word cause back det b run l led here heard next h = absurd b
 next_opens c plan (Does r a taken ∷ before) t es words tail word cause back det b run l led here heard next h = absurd b
 
+-- A deadline.
+
+first_timing : (plan : PostPlan) (at : ℕ) (e : Event) (s : State) (b : Bool) → is_done (repeating (hearing at e s).facts.contactor) ≡ b → OpensIn (timing (hearing at e s).session at s.live) → Opens plan (hearing at e s)
+first_timing plan at e s false d h = rw d (repeating_opens (hearing at e s).facts.contactor d)
+first_timing plan at e s true d h = let n : is_done (timing (hearing at e s).session at s.live) ≡ false = ap is_none h in rw (d, n) h
+
+timing_due : (kept : Option Session) (ss : Session) (clock : ℕ) (on : Bool) → kept ≡ Some ss → is_reached (due ss) clock ≡ true → on ≡ true → OpensIn (timing kept clock on)
+timing_due kept ss clock on k r l = rw (k, r, l) refl
+
+due_next : (c : Codecs) (plan : PostPlan) (at : ℕ) (e : Event) (before : List Step) (t : Talked) (es : List Seen) → ReadsBack c → IsPostRun c plan (Hears at e ∷ before) → live (map seen_of (Hears at e ∷ before)) ≡ true → (course plan (Hears at e ∷ before)).session ≡ Some t
+    → session (map seen_of (Hears at e ∷ before)) ≡ Some es → causes.due (Some t) es ≤ at → causes.due (Some t) es < never → Next c plan (state plan (Hears at e ∷ before))
+due_next c plan at e before t es back run l led here le lt =
+    let all = Hears at e ∷ before in
+    let s = state plan all in
+    let x = kept_by s.session t ((courses_are_read c plan all run).session_is ∙ led) in
+    let tied = run_tied c plan all back run in
+    let p = steps_since c plan all back run es x.ss here x.kept_is refl in
+    let w = stands_waiting c plan all es x.ss tied.linked (done_still (map seen_of all) s refl tied.shut) here x.kept_is refl in
+    let d = due_is es x.ss t x.talked_is w p in
+    let r = subst (λ (m : ℕ). is_reached m at ≡ true) (sym d) (reached (causes.due (Some t) es) at le lt) in
+    opens_it c plan s (first_timing plan at e (state plan before) (is_done (repeating s.facts.contactor)) refl (timing_due s.session x.ss at s.live x.kept_is r (is_live plan all l)))
+
+deadline_opens : (c : Codecs) (plan : PostPlan) (steps : List Step) (t : Talked) (es : List Seen) → IsHeard steps → ReadsBack c → IsPostRun c plan steps → live (map seen_of steps) ≡ true → (course plan steps).session ≡ Some t → session (map seen_of steps) ≡ Some es
+    → causes.due (Some t) es ≤ now (map seen_of steps) → causes.due (Some t) es < never → Next c plan (state plan steps)
+deadline_opens c plan [] t es b back run l led here le lt = absurd b
+deadline_opens c plan (Hears at e ∷ before) t es b back run l led here le lt = due_next c plan at e before t es back run l led here le lt
+deadline_opens c plan (Does r a taken ∷ before) t es b back run l led here le lt = absurd b
+
+due_opens : (c : Codecs) (plan : PostPlan) (steps : List Step) (cause : EndCause) (k : IsCause c plan steps cause) → ReadsBack c → IsDeadline c plan steps cause k → live (map seen_of steps) ≡ true → IsPostRun c plan steps → Next c plan (state plan steps)
+due_opens c plan steps cause (IsDue before t es course_is session_is reached bound) back b l run = deadline_opens c plan before t es b back run l course_is session_is reached bound
+due_opens c plan steps cause (IsWord before t es words rest word it course_is session_is heard next judged) back b l run = absurd b
+due_opens c plan steps cause (IsTold at event before t it session_is told) back b l run = absurd b
+due_opens c plan steps cause (HasLeft at before es session_is) back b l run = absurd b
+due_opens c plan steps cause (HasCome at token before es session_is) back b l run = absurd b
+due_opens c plan steps cause (IsOver at before es session_is) back b l run = absurd b
+due_opens c plan steps cause (HasNotSent reading bytes before es session_is) back b l run = absurd b
+due_opens c plan steps cause (HasNotDriven reading o before es session_is) back b l run = absurd b
+due_opens c plan steps cause (HasNoMatch reading bytes before talks) back b l run = absurd b
+
 -- Every cause of these kinds.
 
 word_opens : (c : Codecs) (plan : PostPlan) (steps : List Step) (cause : EndCause) (k : IsCause c plan steps cause) → ReadsBack c → AreDetermined c → IsNewWord c plan steps cause k → live (map seen_of steps) ≡ true → IsPostRun c plan steps → Next c plan (state plan steps)
@@ -356,6 +397,9 @@ word_opens c plan steps cause (HasNotSent reading bytes before es session_is) ba
 word_opens c plan steps cause (HasNotDriven reading o before es session_is) back det b l run = absurd b
 word_opens c plan steps cause (IsDue before t es course_is session_is reached bound) back det b l run = absurd b
 word_opens c plan steps cause (HasNoMatch reading bytes before talks) back det b l run = absurd b
+
+deadline_next : (c : Codecs) (plan : PostPlan) (steps : List Step) → ReadsBack c → IsPostRun c plan steps → Stands c plan (IsDeadline c plan) steps → Next c plan (state plan steps)
+deadline_next c plan steps back run b = due_opens c plan steps b.cause b.is back b.kind b.live_is run
 
 break_next : (c : Codecs) (plan : PostPlan) (steps : List Step) → IsPostRun c plan steps → Stands c plan (IsBreak c plan) steps → Next c plan (state plan steps)
 break_next c plan steps run b = opens_it c plan (state plan steps) (break_opens c plan steps b.cause b.is b.kind b.live_is b.first run)
@@ -384,6 +428,10 @@ runs_open_at_breaks c site past posts before post behind run is =
 pub runs_open_at_words : (c : Codecs) → RunsOpenAtWords c
 runs_open_at_words c site past posts before post behind back det run is =
     post_opens c post (Stands c post.plan (IsNewWord c post.plan)) (λ steps r b. new_next c post.plan steps back det r b) (run_of c site past posts before post behind run is).run
+
+pub runs_open_at_deadlines : (c : Codecs) → RunsOpenAtDeadlines c
+runs_open_at_deadlines c site past posts before post behind back run is =
+    post_opens c post (Stands c post.plan (IsDeadline c post.plan)) (λ steps r b. deadline_next c post.plan steps back r b) (run_of c site past posts before post behind run is).run
 
 ends_live : (past blocks : List Seen) (b : Bool) → b ≡ true → MatchBool b ((taken : Bool) × (past ≡ Did (Give order.Open) taken ∷ blocks)) (past ≡ blocks) → (taken : Bool) × (past ≡ Did (Give order.Open) taken ∷ blocks)
 ends_live past blocks true e m = m

@@ -3,4 +3,5 @@ pub mod Opens
 pub mod Spoken
 pub mod Worded
 pub mod Wording
+pub mod Deadlines
 pub mod Causing

@@ -50,6 +50,23 @@ IsNewWord c plan steps cause (HasNotDriven reading order before es session_is) =
 IsNewWord c plan steps cause (IsDue before t es course_is session_is reached bound) = ⊥
 IsNewWord c plan steps cause (HasNoMatch reading bytes before talks) = ⊥
 
+-- and a deadline, which is reached as a hearing tells of its moment
+abbrev pub IsHeard : List Step → Type 0
+IsHeard [] = ⊥
+IsHeard (Hears at event ∷ steps) = Unit {0}
+IsHeard (Does reading act taken ∷ steps) = ⊥
+
+abbrev pub IsDeadline : (c : Codecs) (plan : PostPlan) (steps : List Step) (cause : EndCause) → IsCause c plan steps cause → Type 0
+IsDeadline c plan steps cause (IsDue before t es course_is session_is reached bound) = IsHeard before
+IsDeadline c plan steps cause (IsWord before t es words rest word it course_is session_is heard next judged) = ⊥
+IsDeadline c plan steps cause (IsTold at event before t it session_is told) = ⊥
+IsDeadline c plan steps cause (HasLeft at before es session_is) = ⊥
+IsDeadline c plan steps cause (HasCome at token before es session_is) = ⊥
+IsDeadline c plan steps cause (IsOver at before es session_is) = ⊥
+IsDeadline c plan steps cause (HasNotSent reading bytes before es session_is) = ⊥
+IsDeadline c plan steps cause (HasNotDriven reading order before es session_is) = ⊥
+IsDeadline c plan steps cause (HasNoMatch reading bytes before talks) = ⊥
+
 -- An order to open may itself fail. It is that of an earlier cause, whose session ends then, but where it repeated one that had failed,
 -- or where the car asked to stop or to negotiate anew, and that was accepted.
 abbrev pub Repeats : List Step → Type 0
@@ -104,6 +121,11 @@ abbrev pub RunsOpenAtWords : Codecs → Type 0
 RunsOpenAtWords c = (site : SitePlan) (past : List Entry) (posts before : List Post) (post : Post) (behind : List Post)
     → ReadsBack c → AreDetermined c → IsRun c site past posts → posts ≡ before ++ post ∷ behind
     → OpensAt (Stands c post.plan (IsNewWord c post.plan)) post
+
+abbrev pub RunsOpenAtDeadlines : Codecs → Type 0
+RunsOpenAtDeadlines c = (site : SitePlan) (past : List Entry) (posts before : List Post) (post : Post) (behind : List Post)
+    → ReadsBack c → IsRun c site past posts → posts ≡ before ++ post ∷ behind
+    → OpensAt (Stands c post.plan (IsDeadline c post.plan)) post
 
 -- where a run, whole or cut, ends at a cause of any kind, it is closed by an order to open that contactor
 abbrev pub RunsEndAtCauses : Codecs → Type 0

@@ -2,7 +2,7 @@
 #![tactic(auto)]
 
 ghost use Rattle.post_spec.specs.Codecs.{codecs};
-ghost use Rattle.opened_causes.specs.Causing.{RunsOpenAtBreaks, RunsOpenAtWords, RunsEndAtCauses};
+ghost use Rattle.opened_causes.specs.Causing.{RunsOpenAtBreaks, RunsOpenAtWords, RunsOpenAtDeadlines, RunsEndAtCauses};
 
 use post_spec::Coded;
 
@@ -16,6 +16,11 @@ pub fn opens_at_breaks<C: Coded>()
 /// and whatever comes while a reply waits.
 pub fn opens_at_words<C: Coded>()
     ensures { RunsOpenAtWords (codecs C.negotiates C.reads C.encodes) }
+{}
+
+/// So it is where a deadline of the session is reached: that of SessionSetup, of the next request, or of the contactor's feedback.
+pub fn opens_at_deadlines<C: Coded>()
+    ensures { RunsOpenAtDeadlines (codecs C.negotiates C.reads C.encodes) }
 {}
 
 /// Where a run, whole or cut, ends at a cause while the contactor is live, an order to open it follows.
