@@ -15,7 +15,11 @@ fn words_of(alloc: Global, texts: &[&str]) -> Result<Vec<String>, NoMemory> {
 }
 
 /// Runs these words over a wire that brings nothing, with an output whose writes of these numbers fail: the status, and the output.
-fn said(alloc: Global, texts: &[&str], unwritten: &[u32]) -> Result<(Status, String), Fail> {
+pub(crate) fn said(
+    alloc: Global,
+    texts: &[&str],
+    unwritten: &[u32],
+) -> Result<(Status, String), Fail> {
     let mut wire = MemoryWire::make(alloc, Vec::new(alloc), Vec::new(alloc), 16, 64)?;
     told(alloc, words_of(alloc, texts)?, unwritten, &mut wire)
 }

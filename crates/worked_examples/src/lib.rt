@@ -3,6 +3,8 @@
 
 #[cfg(test)]
 mod commands;
+#[cfg(test)]
+mod dialects;
 pub mod events;
 #[cfg(test)]
 mod fakes;
