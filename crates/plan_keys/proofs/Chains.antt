@@ -4,7 +4,8 @@ use Rattle.toml.specs.Data.{Members}
 use Rattle.plan_keys.specs.declared.fault.PlanFault.{PlanFault}
 use Rattle.plan_keys.specs.Keys.{Rule, members_of, value_at}
 use Rattle.plan_keys.specs.declared.keys.Keys.{Keys}
-use Rattle.plan_keys.specs.Faults.{first_of, Asked, asked_of, fresh, noted, ask, Says, Trouble, Line, key, also, ask_all, Holds, Reads, told_at}
+use Rattle.plan_keys.specs.Asked.{first_of, Asked, asked_of, fresh, noted, ask, Says, Trouble, Line, key, also, ask_all, Holds, Reads}
+use Rattle.plan_keys.specs.Faults.{told_at}
 
 pub none_left : {P : Type 0} {keys : Keys} {plan : P} → Reads [] keys keys plan
 none_left = record { asked = refl; holds = tt }

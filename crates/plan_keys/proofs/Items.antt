@@ -7,7 +7,8 @@ use Rattle.toml.specs.View.{view, items_view}
 use Rattle.toml.specs.declared.value.Value.{Value}
 use Rattle.plan_keys.specs.declared.fault.PlanFault.{PlanFault}
 use Rattle.plan_keys.specs.Keys.{on_some, item_count, all_tables, OfTable, Each}
-use Rattle.plan_keys.specs.Faults.{first_of, each_fault}
+use Rattle.plan_keys.specs.Asked.{first_of}
+use Rattle.plan_keys.specs.Faults.{each_fault}
 
 pub item_count_view : (vs : List Value) → item_count (items_view vs) ≡ length vs
 item_count_view [] = refl

@@ -1,3 +1,4 @@
 pub mod Keys
+pub mod Asked
 pub mod Faults
 pub mod Texts

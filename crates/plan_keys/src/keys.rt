@@ -4,7 +4,8 @@ ghost use Rattle.std.specs.Prelude.{◌≡◌, ◌≤◌, IfSome, OnOk, IfErr, I
 ghost use Rattle.toml.specs.Data.{get_member};
 ghost use Rattle.toml.specs.View.{view, table_view, items_view};
 ghost use Rattle.plan_keys.specs.Keys.{number as number_rule, perhaps as perhaps_rule, truth as truth_rule, word as word_rule, ascii as ascii_rule, hex as hex_rule, tables as tables_rule, IsAscii, all_tables, members_of, value_or};
-ghost use Rattle.plan_keys.specs.Faults.{asked_of, trouble_of, fresh, noted, named_too, wrong_in, missing_unless, told_at, unknown_at, first_unknown, IsLeastUnknown, Says, Tells};
+ghost use Rattle.plan_keys.specs.Asked.{asked_of, trouble_of, fresh, noted, named_too, wrong_in, missing_unless, Says};
+ghost use Rattle.plan_keys.specs.Faults.{told_at, unknown_at, first_unknown, IsLeastUnknown, Tells};
 
 use crate::fault::{Key, PlanFault, Wanted};
 use crate::forms::{self, Short};

@@ -12,7 +12,7 @@ use Rattle.plan_keys.specs.declared.fault.PlanFault.{PlanFault}
 use Rattle.plan_keys.specs.declared.keys.Keys.{Keys}
 use Rattle.plan_keys.specs.Texts.{IsDocument, IsTold}
 use Rattle.plan_keys.specs.Keys.{members_of, value_at, Each}
-use Rattle.plan_keys.specs.Faults.{Holds, Asked, asked_of, fresh, ask_all, Reads, trouble_of}
+use Rattle.plan_keys.specs.Asked.{Holds, Asked, asked_of, fresh, ask_all, Reads, trouble_of}
 use Rattle.site_plan.specs.SiteKeys.{limit_rules, post_tables, IsPostOf, site_fault}
 use Rattle.site_plan.specs.PostKeys.{post_rules}
 use Rattle.site_plan.specs.CarKeys.{car_rules, car_file, car_fault}

@@ -4,7 +4,7 @@ use Rattle.session_words.specs.declared.mode.Mode.{Mode}
 use Rattle.session_words.specs.declared.plan.CarPlan.{CarPlan}
 use Rattle.plan_keys.specs.declared.keys.Keys.{Keys}
 use Rattle.plan_keys.specs.Keys.{members_of, value_at}
-use Rattle.plan_keys.specs.Faults.{Asked, asked_of, noted, ask, first_of, missing_unless, Line, key, lists, also, ask_all, trouble_of, Reads}
+use Rattle.plan_keys.specs.Asked.{Asked, asked_of, noted, ask, first_of, missing_unless, Line, key, lists, also, ask_all, trouble_of, Reads}
 use Rattle.site_plan.specs.CarKeys.{tcp_rule, sdp_rule, drive_rules, car_rules}
 
 none_before : {X : Type 0} (a b : Option X) → first_of a b ≡ None → a ≡ None

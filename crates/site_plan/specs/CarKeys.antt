@@ -6,7 +6,8 @@ use Rattle.session_words.specs.declared.mode.Mode.TheVariants.{DcExtended}
 use Rattle.session_words.specs.declared.plan.CarPlan.{CarPlan}
 use Rattle.plan_keys.specs.declared.fault.PlanFault.{PlanFault}
 use Rattle.plan_keys.specs.Keys.{Rule, value_at, number, perhaps, hex}
-use Rattle.plan_keys.specs.Faults.{Line, key, also, missing_unless, Asked, fresh, ask_all, told_at, first_of, unknown_at}
+use Rattle.plan_keys.specs.Asked.{Line, key, also, missing_unless, Asked, fresh, ask_all, first_of}
+use Rattle.plan_keys.specs.Faults.{told_at, unknown_at}
 use Rattle.site_plan.specs.Words.{tenths_rule, mode_rule, stop_rule, dialects_rule}
 
 abbrev pub tcp_rule : Option ℕ → Rule (Option ℕ)

@@ -6,7 +6,7 @@ use Rattle.session_words.specs.declared.mode.Mode.TheVariants.{AcThreePhaseCore,
 use Rattle.session_words.specs.declared.plan.PostPlan.{PostPlan}
 use Rattle.session_words.specs.declared.plan.SitePlan.{SitePlan}
 use Rattle.session_words.specs.declared.plan.CarPlan.{CarPlan}
-use Rattle.plan_keys.specs.Faults.{Holds}
+use Rattle.plan_keys.specs.Asked.{Holds}
 use Rattle.plan_keys.specs.Texts.{IsDocument, IsTold}
 use Rattle.site_plan.specs.SiteKeys.{limit_rules, IsSiteOf, site_fault}
 use Rattle.site_plan.specs.CarKeys.{car_rules, car_file, car_fault}

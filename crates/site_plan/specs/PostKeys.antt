@@ -4,7 +4,7 @@ use Rattle.toml.specs.Data.{Members}
 use Rattle.session_words.specs.declared.mode.Mode.{Mode}
 use Rattle.session_words.specs.declared.plan.PostPlan.{PostPlan}
 use Rattle.plan_keys.specs.Keys.{value_at, number, truth, hex}
-use Rattle.plan_keys.specs.Faults.{Line, key}
+use Rattle.plan_keys.specs.Asked.{Line, key}
 use Rattle.site_plan.specs.Words.{tenths_rule, evse_id_rule, mode_rule, dialects_rule}
 
 -- A port has no default in a file. Watts, tenths of a volt and of an ampere, and volts.

@@ -6,7 +6,8 @@ use Rattle.session_words.specs.declared.plan.PostPlan.{PostPlan}
 use Rattle.session_words.specs.declared.plan.SitePlan.{SitePlan}
 use Rattle.plan_keys.specs.declared.fault.PlanFault.{PlanFault}
 use Rattle.plan_keys.specs.Keys.{Rule, value_at, number, tables, Each}
-use Rattle.plan_keys.specs.Faults.{Line, key, lists, Holds, Asked, fresh, ask_all, told_at, first_of, each_fault, prefix_in, unknown_at}
+use Rattle.plan_keys.specs.Asked.{Line, key, lists, Holds, Asked, fresh, ask_all, first_of}
+use Rattle.plan_keys.specs.Faults.{told_at, each_fault, prefix_in, unknown_at}
 use Rattle.site_plan.specs.PostKeys.{post_rules}
 
 abbrev pub post_tables : Rule Items

@@ -4,7 +4,8 @@ ghost use Rattle.std.specs.Prelude.{◌≡◌, ◌≤◌, ◌||◌, ◌==◌, no
 ghost use Rattle.session_words.specs.Plans.{IsCarPlan, IsWithin};
 ghost use Rattle.toml.specs.View.{table_view};
 ghost use Rattle.plan_keys.specs.Keys.{members_of};
-ghost use Rattle.plan_keys.specs.Faults.{Holds, Reads, Tells};
+ghost use Rattle.plan_keys.specs.Asked.{Holds, Reads};
+ghost use Rattle.plan_keys.specs.Faults.{Tells};
 ghost use Rattle.site_plan.specs.CarKeys.{car_rules, car_file, car_fault};
 
 use crate::dialects::dialects;

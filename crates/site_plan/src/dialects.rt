@@ -5,7 +5,7 @@ ghost use Rattle.session_words.specs.Modes.{speaks_din};
 ghost use Rattle.session_words.specs.Plans.{IsOffer};
 ghost use Rattle.toml.specs.View.{view};
 ghost use Rattle.plan_keys.specs.Keys.{seen};
-ghost use Rattle.plan_keys.specs.Faults.{Says};
+ghost use Rattle.plan_keys.specs.Asked.{Says};
 ghost use Rattle.site_plan.specs.Words as spec;
 ghost use Rattle.site_plan.specs.Words.{dialects_rule};
 

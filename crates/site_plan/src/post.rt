@@ -3,7 +3,7 @@
 ghost use Rattle.std.specs.Prelude.{IfSome};
 ghost use Rattle.session_words.specs.Plans.{IsPostPlan, IsWithin};
 ghost use Rattle.plan_keys.specs.Keys.{members_of};
-ghost use Rattle.plan_keys.specs.Faults.{Reads};
+ghost use Rattle.plan_keys.specs.Asked.{Reads};
 ghost use Rattle.site_plan.specs.PostKeys.{post_rules};
 
 use crate::dialects::dialects;

@@ -6,7 +6,8 @@ ghost use Rattle.session_words.specs.Plans.{IsPostPlan, IsSitePlan, IsWithin};
 ghost use Rattle.toml.specs.Data.{as_table};
 ghost use Rattle.toml.specs.View.{view, table_view, items_view};
 ghost use Rattle.plan_keys.specs.Keys.{all_tables, Each};
-ghost use Rattle.plan_keys.specs.Faults.{Tells, Reads, each_fault};
+ghost use Rattle.plan_keys.specs.Asked.{Reads};
+ghost use Rattle.plan_keys.specs.Faults.{Tells, each_fault};
 ghost use Rattle.site_plan.specs.SiteKeys.{limit_rules, IsPostOf, IsSiteOf, post_fault, post_unknown, site_fault};
 
 use crate::post::post_plan;

@@ -2,7 +2,7 @@
 
 ghost use Rattle.std.specs.Prelude.{◌≡◌, ◌≤◌, map, Some};
 ghost use Rattle.plan_keys.specs.Keys.{IsAscii, named};
-ghost use Rattle.plan_keys.specs.Faults.{Says};
+ghost use Rattle.plan_keys.specs.Asked.{Says};
 ghost use Rattle.site_plan.specs.Words as spec;
 ghost use Rattle.site_plan.specs.Words.{mode_rule, stop_rule, evse_id_rule, tenths_rule};
 

@@ -2,7 +2,7 @@ use Rattle.std.proofs.Common.{ℕ, Bool, Option, codes, ap, subst, ◌∙◌, �
 use Rattle.toml.specs.Data.{Members}
 use Rattle.session_words.specs.declared.mode.Mode.{Mode}
 use Rattle.plan_keys.specs.Keys.{members_of, value_at}
-use Rattle.plan_keys.specs.Faults.{Asked, asked_of, noted, missing_unless, Says}
+use Rattle.plan_keys.specs.Asked.{Asked, asked_of, noted, missing_unless, Says}
 use Rattle.plan_keys.proofs.Chains.{none_left, stays, in_words, and_also, ◌▸◌}
 use Rattle.site_plan.specs.Words.{mode_rule, dialects_rule}
 use Rattle.site_plan.specs.CarKeys.{tcp_rule, sdp_rule}

@@ -1,7 +1,8 @@
 use Rattle.std.proofs.Common.{[], None, sym, ap, inr, ◌∙◌}
 use Rattle.toml.specs.View.{table_view}
 use Rattle.session_words.specs.declared.mode.Mode.TheVariants.{DcExtended}
-use Rattle.plan_keys.specs.Faults.{Asked, unknown_at}
+use Rattle.plan_keys.specs.Asked.{Asked}
+use Rattle.plan_keys.specs.Faults.{unknown_at}
 use Rattle.plan_keys.proofs.Chains.{all_asked, keys_right}
 use Rattle.site_plan.specs.CarKeys.{car_file}
 use Rattle.site_plan.proofs.Ports.{car_there}

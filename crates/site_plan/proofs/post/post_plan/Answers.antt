@@ -2,7 +2,7 @@ use Rattle.std.proofs.Common.{ap, subst, ◌∙◌}
 use Rattle.toml.specs.Data.{Members}
 use Rattle.session_words.specs.declared.mode.Mode.{Mode}
 use Rattle.plan_keys.specs.Keys.{value_at}
-use Rattle.plan_keys.specs.Faults.{Says}
+use Rattle.plan_keys.specs.Asked.{Says}
 use Rattle.plan_keys.proofs.Chains.{none_left, stays, ◌▸◌}
 use Rattle.site_plan.specs.Words.{mode_rule, dialects_rule}
 use Rattle.site_plan.proofs.post.post_plan.Goals as goal

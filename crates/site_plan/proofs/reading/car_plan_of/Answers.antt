@@ -1,6 +1,6 @@
 use Rattle.toml.specs.View.{table_view}
 use Rattle.plan_keys.proofs.Told.{read_plan, read_answer}
-use Rattle.plan_keys.specs.Faults.{Holds}
+use Rattle.plan_keys.specs.Asked.{Holds}
 use Rattle.site_plan.specs.CarKeys.{car_file, car_fault}
 use Rattle.site_plan.proofs.reading.car_plan_of.Goals as goal
 

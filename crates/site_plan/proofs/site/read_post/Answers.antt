@@ -3,7 +3,8 @@ use Rattle.toml.specs.Data.{Members}
 use Rattle.toml.specs.View.{table_view}
 use Rattle.session_words.specs.declared.mode.Mode.TheVariants.{DcExtended}
 use Rattle.std.proofs.Common.{None}
-use Rattle.plan_keys.specs.Faults.{Asked, asked_of, unknown_at}
+use Rattle.plan_keys.specs.Asked.{Asked, asked_of}
+use Rattle.plan_keys.specs.Faults.{unknown_at}
 use Rattle.plan_keys.proofs.Chains.{all_asked}
 use Rattle.site_plan.specs.PostKeys.{post_rules}
 use Rattle.site_plan.specs.SiteKeys.{post_prefix}

@@ -5,7 +5,8 @@ use Rattle.session_words.specs.Plans.{IsPostPlan}
 use Rattle.plan_keys.proofs.Items.{table_here, Each-more, each_fault_more, kept_more, or_first}
 use Rattle.toml.specs.View.{items_view}
 use Rattle.plan_keys.specs.declared.fault.PlanFault.{PlanFault}
-use Rattle.plan_keys.specs.Faults.{first_of, each_fault}
+use Rattle.plan_keys.specs.Asked.{first_of}
+use Rattle.plan_keys.specs.Faults.{each_fault}
 use Rattle.site_plan.specs.SiteKeys.{IsPostOf, post_fault, post_unknown}
 use Rattle.site_plan.proofs.site.read_posts.Goals as goal
 

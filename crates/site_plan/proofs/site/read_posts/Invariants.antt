@@ -3,7 +3,8 @@ use Rattle.arrayvec.specs.ArrayVec.{array_vec_len}
 use Rattle.toml.specs.View.{items_view}
 use Rattle.session_words.specs.Plans.{IsPostPlan}
 use Rattle.plan_keys.specs.Keys.{Each}
-use Rattle.plan_keys.specs.Faults.{each_fault, first_of}
+use Rattle.plan_keys.specs.Asked.{first_of}
+use Rattle.plan_keys.specs.Faults.{each_fault}
 use Rattle.site_plan.specs.SiteKeys.{IsPostOf, post_fault, post_unknown}
 use Rattle.site_plan.proofs.site.read_posts.Given as goal
 
