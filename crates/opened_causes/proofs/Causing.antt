@@ -31,15 +31,15 @@ use Rattle.post_spec.specs.Course.{Talked, course, facts_of}
 use Rattle.post_spec.specs.Facts.{now, standing, live}
 use Rattle.post_spec.specs.Kinds.{asks_opening}
 use Rattle.post_spec.specs.Sessions.{session, with_seen, stream, waits}
-use Rattle.post_spec.specs.Steps.{Event, Came, Bytes, Gone, Plant, Over, Act, Give, Send, Seen, Heard, Did, Reading, Step, Hears, Does, seen, seen_of}
+use Rattle.post_spec.specs.Steps.{Event, Came, Bytes, Gone, Plant, Over, Act, Give, Send, Seen, Did, Reading, Step, Hears, Does, seen, seen_of}
 use Rattle.station_spec.specs.States.{is_none, Response, Said, Spoken, Part, Wording, Session, State, nothing, first, first_of, is_done}
 use Rattle.station_spec.specs.States.{Agenda}
 use Rattle.station_spec.specs.States as states
-use Rattle.station_spec.specs.Deciding.{ending_by, ending_in, repeating, timing, watch, charging, eventing, from_wording, from_part, decided, due, is_reached}
-use Rattle.station_spec.specs.Judging.{cause_by, judged, taken_in, read, filled, wanted, IsRead}
-use Rattle.station_spec.specs.Acting.{failing, agenda_said, hearing, live_ordered, state, IsQuiet, IsSpoken, IsDone, Acts}
+use Rattle.station_spec.specs.Deciding.{repeating, timing, watch, charging, from_wording, from_part, decided, due, is_reached}
+use Rattle.station_spec.specs.Judging.{cause_by, judged, taken_in, filled, wanted, IsRead}
+use Rattle.station_spec.specs.Acting.{failing, agenda_said, hearing, live_ordered, state, IsDone, Acts}
 use Rattle.station_spec.specs.Sharing.{Post, Shows}
-use Rattle.station_spec.specs.Runs.{Rests, IsRun}
+use Rattle.station_spec.specs.Runs.{IsRun}
 use Rattle.station_laws.specs.PostRuns.{IsPostRun, IsPostOf, ArePostsOf}
 use Rattle.station_laws.proofs.Contactors.{contactors_are_read}
 use Rattle.station_laws.proofs.Decided.{same_session, same_facts}
@@ -60,7 +60,7 @@ use Rattle.opened_causes.proofs.Shutting.{filled_shutting, steps_shutting}
 use Rattle.opened_causes.proofs.Ending.{Ends, steps_end, filled_ends, give_is, say_is}
 use Rattle.opened_causes.proofs.Wording.{Next, opens_it, AtWords, word_next}
 use Rattle.opened_causes.proofs.Worded.{Worded, filled_worded, steps_worded}
-use Rattle.opened_causes.proofs.Opens.{repeating_opens, timing_opens, OpensIn, Opens, not_wanted, opens_next, opens_busy, undone_opens, ending_opens, in_opens, hearing_opens}
+use Rattle.opened_causes.proofs.Opens.{repeating_opens, timing_opens, OpensIn, Opens, not_wanted, undone_opens, ending_opens, in_opens, hearing_opens}
 
 -- A session that the past tells is kept.
 

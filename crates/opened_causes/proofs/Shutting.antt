@@ -1,5 +1,5 @@
 -- An order to close stands alone: its reply waits.
-use Rattle.std.proofs.Common.{◌≡◌, ℕ, Bool, true, false, if◌then◌else◌, ◌&&◌, List, [], ◌∷◌, Option, Some, None, unwrap_or, is_some, Result, Ok, Err, refl, sym, ap, subst, ◌∙◌}
+use Rattle.std.proofs.Common.{◌≡◌, ℕ, Bool, true, false, if◌then◌else◌, ◌&&◌, List, [], ◌∷◌, Option, Some, None, unwrap_or, is_some, Result, Ok, Err, refl, sym, subst, ◌∙◌}
 use Rattle.charge_world.specs.declared.heard.PlantEvent.{PlantEvent}
 use Rattle.charge_world.specs.declared.ports.Order.{Order}
 use Rattle.charge_world.specs.declared.ports.Order.TheVariants as order
@@ -25,10 +25,10 @@ use Rattle.session_rules.specs.Rows.{leads}
 use Rattle.session_rules.specs.Stages.{is_waiting}
 use Rattle.session_rules.specs.Verdict.{verdict, is_accepted}
 use Rattle.post_spec.specs.Codecs.{Judged, Negotiated, Asked, WrongSide, Refused, Codecs}
-use Rattle.post_spec.specs.Steps.{Event, Came, Bytes, Gone, Datagram, Plant, Clock, Over, Act, Give, Send, Answer, End, Reading, Step, Hears, Does}
+use Rattle.post_spec.specs.Steps.{Event, Came, Bytes, Gone, Datagram, Plant, Clock, Over, Act, Give, Send, Reading, Step, Hears, Does}
 use Rattle.station_spec.specs.States.{Agenda, Spoken, Wording, Session, State, nothing, first, first_of}
 use Rattle.station_spec.specs.States as states
-use Rattle.station_spec.specs.Deciding.{opening_if, ending_by, ending_in, repeating, timing, watch, confirms, confirming, charging_by, charging, eventing, fronting_by, fronting, decided, due, is_reached}
+use Rattle.station_spec.specs.Deciding.{opening_if, ending_in, repeating, timing, watch, confirms, confirming, charging_by, charging, eventing, fronting_by, fronting, decided, due, is_reached}
 use Rattle.station_spec.specs.Judging.{order_by, cause_by, judged, taken_in, read, filled}
 use Rattle.station_spec.specs.Acting.{failing, agenda_said, acted, state, IsDone}
 use Rattle.station_laws.specs.PostRuns.{IsPostRun}
