@@ -13,13 +13,14 @@ use Rattle.session_rules.specs.Stages.{is_waiting}
 use Rattle.post_spec.specs.Codecs.{Judged, Negotiated, Asked, WrongSide, Refused, Codecs}
 use Rattle.post_spec.specs.Facts.{now}
 use Rattle.post_spec.specs.Sessions.{arriving, brought}
-use Rattle.post_spec.specs.Steps.{Event, Came, Bytes, Gone, Datagram, Plant, Clock, Over, Act, Give, Send, Answer, End, Seen, Heard, Did, Reading, Step, Hears, Does, seen_of}
+use Rattle.post_spec.specs.Steps.{Event, Came, Bytes, Gone, Datagram, Plant, Clock, Over, Act, Give, Send, Answer, End, Seen, Heard, Reading, Step, Hears, Does, seen_of}
 use Rattle.station_spec.specs.States.{Spoken, Agenda, Part, Repeating, Timing, Eventing, Wording, Session, State, Todo, is_done, is_none, first, first_of}
 use Rattle.station_spec.specs.Deciding.{decide, ending_in, repeating, timing, eventing, fronting, fronting_by, from_wording, from_eventing, from_timing, from_part, decided}
-use Rattle.station_spec.specs.Judging.{Payload, payload_in, wanted, judged, taken_in, read, filled, IsRead}
+use Rattle.station_spec.specs.Judging.{Payload, payload_in, judged, taken_in, read, filled, IsRead}
 use Rattle.station_spec.specs.Acting.{heard_facts, arrival, session_opened, with_bytes, since_order, replied, failing, agenda_said, acted, state, IsQuiet, Acts}
 use Rattle.station_laws.specs.PostRuns.{IsPostRun}
 use Rattle.station_laws.proofs.Decided.{decided_by, same_session, same_facts}
+use Rattle.read_runs.proofs.Agendas.{decided_done, decided_not, none_done}
 use Rattle.read_runs.proofs.Facts.{Hearing, judged_hearing, decided_hearing, does_hearing}
 
 -- the connection that began in the newest hearing, in the past and in the post
@@ -105,21 +106,12 @@ part_busy plan s token ss Repeating p e k l d =
     (ap (λ (t : State). is_done t.agenda) (decide_not (eventing plan s.event s) Wording s (from_wording s) (ends_undone (eventing plan s.event s) (event_ends plan s token ss e k)))
     ∙ ends_undone (eventing plan s.event s) (event_ends plan s token ss e k)))
 
-decided_done : (plan : PostPlan) (s : State) → is_done s.agenda ≡ true → decided plan s ≡ from_part plan s.part s
-decided_done plan s d = rw d refl
-
-decided_not : (plan : PostPlan) (s : State) → is_done s.agenda ≡ false → decided plan s ≡ s
-decided_not plan s d = rw d refl
-
 busy_if : (plan : PostPlan) (s : State) (token : ℕ) (ss : Session) (b : Bool) → is_done s.agenda ≡ b → s.event ≡ Came token → s.session ≡ Some ss → Leaves s → is_done (decided plan s).agenda ≡ false
 busy_if plan s token ss true d e k l = ap (λ (t : State). is_done t.agenda) (decided_done plan s d) ∙ part_busy plan s token ss s.part refl e k l d
 busy_if plan s token ss false d e k l = ap (λ (t : State). is_done t.agenda) (decided_not plan s d) ∙ d
 
 busy : (plan : PostPlan) (s : State) (token : ℕ) (ss : Session) → s.event ≡ Came token → s.session ≡ Some ss → Leaves s → is_done (decided plan s).agenda ≡ false
 busy plan s token ss e k l = busy_if plan s token ss (is_done s.agenda) refl e k l
-
-none_done : (a : Agenda) → first a ≡ None → is_done a ≡ true
-none_done a h = ap is_none h
 
 quiet_if : (plan : PostPlan) (s : State) (token : ℕ) (kept : Option Session) → s.session ≡ kept → IsQuiet plan s → Leaves s → s.event ≡ Came token → s.session ≡ None
 quiet_if plan s token None k q l e = k

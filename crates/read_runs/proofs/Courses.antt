@@ -1,5 +1,5 @@
 -- Where the words of a session have led it.
-use Rattle.std.proofs.Common.{◌≡◌, ◌==◌, ℕ, Bool, true, false, if◌then◌else◌, List, [], ◌∷◌, map, Option, Some, None, refl, sym, ap, subst, ◌∙◌}
+use Rattle.std.proofs.Common.{◌≡◌, ℕ, Bool, true, false, List, [], ◌∷◌, map, Option, Some, None, refl, sym, ap, subst, ◌∙◌}
 use Rattle.std.specs.Option.{option_map}
 use Rattle.charge_world.specs.declared.heard.PlantEvent.TheVariants as plant
 use Rattle.charge_world.specs.declared.offer.Dialect.{Dialect}
@@ -7,7 +7,6 @@ use Rattle.charge_world.specs.declared.ports.Order.{Order}
 use Rattle.charge_world.specs.declared.ports.Order.TheVariants as order
 use Rattle.session_words.specs.declared.cause.EndCause.{EndCause}
 use Rattle.session_words.specs.declared.cause.EndCause.TheVariants as cause
-use Rattle.session_words.specs.declared.code.Progress.TheVariants as progress
 use Rattle.session_words.specs.declared.facts.Facts.{Facts}
 use Rattle.session_words.specs.declared.phase.Standing.{Standing}
 use Rattle.session_words.specs.declared.plan.PostPlan.{PostPlan}
@@ -19,19 +18,20 @@ use Rattle.post_spec.specs.Codecs.{Judged, Negotiated, Asked, WrongSide, Refused
 use Rattle.post_spec.specs.Course.{Talked, Course, unmoved, opened, renew_heard, facts_of, asked_talk, read_in, read_by, confirmed_in, kept_by, course}
 use Rattle.post_spec.specs.Course as course
 use Rattle.post_spec.specs.Facts.{now, standing}
-use Rattle.post_spec.specs.Sessions.{arriving, brought, token_of}
-use Rattle.post_spec.specs.Steps.{Event, Came, Plant, Act, Give, Send, Answer, End, Seen, Heard, Did, Reading, Step, Hears, Does, seen_of}
+use Rattle.post_spec.specs.Sessions.{arriving, brought}
+use Rattle.post_spec.specs.Steps.{Event, Came, Plant, Act, End, Seen, Heard, Did, Reading, Step, Hears, Does, seen_of}
 use Rattle.station_spec.specs.States.{Spoken, Session, State, Todo, first, first_of}
 use Rattle.station_spec.specs.States as states
 use Rattle.station_spec.specs.Deciding.{decided}
 use Rattle.station_spec.specs.Judging.{judged, taken_in, read, filled}
-use Rattle.station_spec.specs.Acting.{heard_facts, session_opened, with_bytes, since_order, replied, kept_behind, acted, state, IsDone, IsQuiet, Acts}
+use Rattle.station_spec.specs.Acting.{heard_facts, session_opened, with_bytes, since_order, replied, kept_behind, acted, state, IsDone}
+use Rattle.station_spec.specs.Sharing.{asked_in, told_in}
 use Rattle.station_laws.specs.PostRuns.{IsPostRun}
 use Rattle.station_laws.proofs.Contactors.{contactors_are_read}
 use Rattle.station_laws.proofs.Decided.{same_session, same_facts}
-use Rattle.read_runs.specs.Courses.{talked_of, talked_in, IsCourse, CoursesAreRead}
+use Rattle.read_runs.specs.Courses.{talked_of, talked_in, CoursesAreRead}
 use Rattle.read_runs.proofs.Arrivals.{Arrives, steps_arrive, came_unjoined}
-use Rattle.read_runs.proofs.Facts.{Charger, charger_of, charger, behind_charger, steps_charger, steps_clock, Hearing, decided_hearing}
+use Rattle.read_runs.proofs.Facts.{Charger, charger_of, charger, steps_charger, steps_clock, Hearing, decided_hearing}
 
 -- the facts are the charger's, its contactor's, and those of the course
 abbrev facts_with : Charger → Standing → Option SessionId → Bool → Bool → Facts
@@ -219,7 +219,23 @@ steps_moved c plan (Does r a taken ∷ steps) (run, (limit, before, behind, acts
     acted_moved c acts.todo a taken (filled plan r s) acts.acts acts.done
     ∙ ap (course.acted a taken) (filled_moved plan s past (course plan steps) r (steps_facts plan steps m) (steps_clock plan steps) m)
 
+asked_same : (kept : Option Session) → asked_in kept ≡ course.ask_in (talked_in kept)
+asked_same None = refl
+asked_same (Some ss) = refl
+
+told_same : (kept : Option Session) → told_in kept ≡ course.told_in (talked_in kept)
+told_same None = refl
+told_same (Some ss) = refl
+
 pub courses_are_read : (c : Codecs) → CoursesAreRead c
 courses_are_read c plan steps run =
     let m = steps_moved c plan steps run in
-    record { session_is = ap (λ (x : Course). x.session) m; facts_are = steps_facts plan steps m }
+    let s = state plan steps in
+    let h = ap (λ (x : Course). x.session) m in
+    record {
+      session_is = h;
+      asked_is = asked_same s.session ∙ ap course.ask_in h;
+      told_is = told_same s.session ∙ ap course.told_in h;
+      allowed_is = ap (λ (x : Option Talked). course.allowed_in x s.clock) h ∙ ap (λ (n : ℕ). course.allowed_in (course plan steps).session n) (steps_clock plan steps);
+      facts_are = steps_facts plan steps m;
+    }

@@ -1,3 +1,4 @@
+pub mod Agendas
 pub mod Arrivals
 pub mod Courses
 pub mod Facts

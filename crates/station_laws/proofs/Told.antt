@@ -71,7 +71,7 @@ since_told now (order.Limits voltage current watts) ss = refl
 same_le : (a b : ℕ) → a ≡ b → a ≤ b
 same_le a b e = omega (arith, e)
 
-acted_told : (a : Act) (taken : Bool) (s : State) → told_in (acted a taken s).session ≤ told_in s.session
+pub acted_told : (a : Act) (taken : Bool) (s : State) → told_in (acted a taken s).session ≤ told_in s.session
 acted_told (Give o) true s = same_le _ _ (map_told (since_order s.clock o) s.session (since_told s.clock o))
 acted_told (Give o) false s = omega arith
 acted_told (Send bytes) true s = same_le _ _ (map_told (replied s.clock) s.session (λ ss. refl))
@@ -101,7 +101,7 @@ none_told (plan ∷ plans) = let x = sum_by-cons told_of (unheard plan) (map unh
 pub split_told : (before : List Post) (p : Post) (behind : List Post) → told_total (before ++ p ∷ behind) ≡ told_total before + (told_of p + told_total behind)
 split_told before p behind = sum_by-append told_of before (p ∷ behind) ∙ ap (λ (n : ℕ). told_total before + n) (sum_by-cons told_of p behind)
 
-least_le : (shown asked level limit others : ℕ) → shown ≡ min (min asked level) (limit - others) → shown ≤ limit - others
+pub least_le : (shown asked level limit others : ℕ) → shown ≡ min (min asked level) (limit - others) → shown ≤ limit - others
 least_le shown asked level limit others e = omega (arith, e)
 
 sums : (limit before old new shown behind : ℕ) → before + (old + behind) ≤ limit → new ≤ shown → (shown ≡ old) ⊎ (shown ≤ limit - (before + behind)) → before + (new + behind) ≤ limit

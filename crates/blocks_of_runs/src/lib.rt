@@ -1,0 +1,14 @@
+//! A run of a station is a list of blocks: a hearing, and then the answers of each post in order of number.
+#![tactic(auto)]
+
+ghost use Rattle.post_spec.specs.Codecs.{codecs};
+ghost use Rattle.blocks_of_runs.specs.CutRuns.{RunsAreBlocks};
+
+use post_spec::Coded;
+
+/// What holds entry by entry holds block by block, and the other way round: each post answers a hearing in three parts, whole, before
+/// the next post does, and all posts before anything else is heard. So it is of whole runs and of those that are cut, with the orders
+/// that close them.
+pub fn runs_are_blocks<C: Coded>()
+    ensures { RunsAreBlocks (codecs C.negotiates C.reads C.encodes) }
+{}

@@ -1,0 +1,14 @@
+//! What a post keeps of its session is what is read off the session's entries.
+#![tactic(auto)]
+
+ghost use Rattle.post_spec.specs.Codecs.{codecs};
+ghost use Rattle.read_sessions.specs.Sessions.{SessionsAreRead};
+
+use post_spec::Coded;
+
+/// In any run, of a post that has nothing to do: the bytes that it hasn't read are those of its session's stream behind the words that
+/// are answered and the one whose reply waits; it waits where a Close was taken behind the last reply; and it is due as its deadline
+/// says, counted from the connection, the last reply or that Close.
+pub fn sessions_are_read<C: Coded>()
+    ensures { SessionsAreRead (codecs C.negotiates C.reads C.encodes) }
+{}

@@ -1,0 +1,18 @@
+//! The watts that the replies of a site's posts spell, read off their bytes.
+#![tactic(auto)]
+
+ghost use Rattle.post_spec.specs.Codecs.{codecs};
+ghost use Rattle.spelled_watts.specs.Spelling.{RunsSpellWithin, AreSpelledOnce};
+
+use post_spec::Coded;
+
+/// The watts that the last replies sent to all posts spell, in watts or as a current at the nominal voltage, add up to at most the
+/// site's limit, after every entry; where an encoded reply reads as that reply, and a first payload is none of a dialect.
+pub fn spelled_within_limit<C: Coded>()
+    ensures { RunsSpellWithin (codecs C.negotiates C.reads C.encodes) }
+{}
+
+/// Where a payload is judged one way, a past spells one list of watts.
+pub fn spelled_once<C: Coded>()
+    ensures { AreSpelledOnce (codecs C.negotiates C.reads C.encodes) }
+{}
