@@ -250,6 +250,9 @@ Fresh plan steps = At plan Repeating steps
 pub hearing_fresh : (plan : PostPlan) (at : ℕ) (e : Event) (steps : List Step) → Fresh plan (Hears at e ∷ steps)
 hearing_fresh plan at e steps = record { idle = refl; decides = refl }
 
+four_parts : (moves one rest two last three words joint : List Move) → moves ≡ one ++ rest → rest ≡ two ++ last → last ≡ three ++ words → words ≡ joint → moves ≡ one ++ (two ++ (three ++ joint))
+four_parts moves one rest two last three words joint h k l m = h ∙ ap (λ (xs : List Move). one ++ xs) (k ∙ ap (λ (xs : List Move). two ++ xs) (l ∙ ap (λ (xs : List Move). three ++ xs) m))
+
 pub to_answers : (c : Codecs) (plan : PostPlan) (S : ℕ → ℕ → Type 0) (steps : List Step) (moves : List Move) → Fresh plan steps → Acting c plan S steps moves → Answers c plan S steps moves
 to_answers c plan S steps moves at x =
     let one = part_out c plan S Timing repeats (from_timing plan) steps moves at.decides x in
@@ -264,7 +267,7 @@ to_answers c plan S steps moves at x =
       timed = two.done;
       asked = three.done;
       words = four.words;
-      moves_are = one.moves_are ∙ ap (λ (xs : List Move). one.done ++ xs) (two.moves_are ∙ ap (λ (xs : List Move). two.done ++ xs) (three.moves_are ∙ ap (λ (xs : List Move). three.done ++ xs) four.moves_are));
+      moves_are = four_parts moves one.done one.rest two.done two.rest three.done three.rest (joined four.words) one.moves_are two.moves_are three.moves_are four.moves_are;
       first = one.are;
       second = two.are;
       third = three.are;

@@ -15,7 +15,7 @@ use Rattle.station_spec.specs.Blocks.{is_last, hearings}
 use Rattle.station_spec.specs.Sharing.{Post, state_of, Shows}
 use Rattle.station_spec.specs.Runs.{entry_of, with_step, unheard, heard_from, Rests, AreQuiet, HeardBy, MayAct, IsRun}
 use Rattle.blocks_of_runs.specs.Answers.{Move, behind, Answers}
-use Rattle.blocks_of_runs.specs.BlockRuns.{past_behind, with_moves, AreAnswered, IsBlock, AreBlocks, RunsAreBlocks}
+use Rattle.blocks_of_runs.specs.BlockRuns.{past_behind, with_moves, AreAnswered, IsBlock, AreBlocks}
 use Rattle.blocks_of_runs.proofs.Chains.{Acting}
 use Rattle.blocks_of_runs.proofs.Parts.{hearing_fresh, to_answers, from_answers}
 
@@ -26,23 +26,23 @@ InTurn c limit before (post ∷ posts) past answered later =
     (moves : List Move) × Acting c post.plan (Shows limit before posts) post.steps moves
     × InTurn c limit (before ++ with_moves moves post ∷ []) posts (past_behind (length before + 1) moves past) answered later
 
-append_nil : (posts : List Post) → posts ++ [] ≡ posts
+pub append_nil : (posts : List Post) → posts ++ [] ≡ posts
 append_nil [] = refl
 append_nil (p ∷ posts) = ap (λ (ps : List Post). p ∷ ps) (append_nil posts)
 
-one_more : (before : List Post) (p : Post) (behind : List Post) → (before ++ p ∷ []) ++ behind ≡ before ++ p ∷ behind
+pub one_more : (before : List Post) (p : Post) (behind : List Post) → (before ++ p ∷ []) ++ behind ≡ before ++ p ∷ behind
 one_more before p behind = append_assoc before (p ∷ []) behind
 
-quiet_more : (before : List Post) (p : Post) → AreQuiet before → Rests p → AreQuiet (before ++ p ∷ [])
+pub quiet_more : (before : List Post) (p : Post) → AreQuiet before → Rests p → AreQuiet (before ++ p ∷ [])
 quiet_more [] p q r = (r, tt)
 quiet_more (b ∷ before) p q r = (q.0, quiet_more before p q.1 r)
 
 -- at rest nothing is done
-busy_read : (c : Codecs) (plan : PostPlan) (S : ℕ → ℕ → Type 0) (s : State) (r : Option Reading) (todo : Todo) → IsQuiet plan s → IsRead c plan S (decided plan s) (wanted (decided plan s)) r → first (filled plan r s).agenda ≡ Some todo → ⊥
+pub busy_read : (c : Codecs) (plan : PostPlan) (S : ℕ → ℕ → Type 0) (s : State) (r : Option Reading) (todo : Todo) → IsQuiet plan s → IsRead c plan S (decided plan s) (wanted (decided plan s)) r → first (filled plan r s).agenda ≡ Some todo → ⊥
 busy_read c plan S s None todo q i f = let g : None ≡ Some todo = sym q.none ∙ f in cc
 busy_read c plan S s (Some x) todo q i f = subst (λ (w : Option Payload). IsRead c plan S (decided plan s) w (Some x)) q.no_word i
 
-quiet_moves : (c : Codecs) (plan : PostPlan) (S : ℕ → ℕ → Type 0) (steps : List Step) (moves : List Move) → IsQuiet plan (state plan steps) → Acting c plan S steps moves → moves ≡ []
+pub quiet_moves : (c : Codecs) (plan : PostPlan) (S : ℕ → ℕ → Type 0) (steps : List Step) (moves : List Move) → IsQuiet plan (state plan steps) → Acting c plan S steps moves → moves ≡ []
 quiet_moves c plan S steps [] q x = refl
 quiet_moves c plan S steps (m ∷ moves) q x = absurd (busy_read c plan S (state plan steps) m.reading x.0.todo q x.0.read x.0.acts)
 
@@ -69,7 +69,7 @@ act_turn c limit before (y ∷ xs) p behind r a taken past answered later q x (m
     )
 
 -- and posts at rest do nothing in their turns
-rest_turn : (c : Codecs) (limit : ℕ) (before xs : List Post) (past : List Entry) → AreQuiet xs → InTurn c limit before xs past (before ++ xs) past
+pub rest_turn : (c : Codecs) (limit : ℕ) (before xs : List Post) (past : List Entry) → AreQuiet xs → InTurn c limit before xs past (before ++ xs) past
 rest_turn c limit before [] past q = (append_nil before, refl)
 rest_turn c limit before (y ∷ xs) past q =
     ([], q.0, subst (λ (ps : List Post). InTurn c limit (before ++ y ∷ []) xs past ps past) (one_more before y xs) (rest_turn c limit (before ++ y ∷ []) xs past q.1))
@@ -83,22 +83,22 @@ posts_turn c limit posts e later past answered end m x =
     subst (λ (ps : List Post). InTurn c limit [] ps past answered end) (sym m.posts_are) (act_turn c limit [] m.before m.post m.behind m.reading m.act m.taken past answered end m.first m.acts a)
 
 -- posts that have just heard answer in three parts
-abbrev HasHeard : List Step → Type 0
+abbrev pub HasHeard : List Step → Type 0
 HasHeard [] = ⊥
 HasHeard (Hears at event ∷ steps) = Unit {0}
 HasHeard (Does reading act taken ∷ steps) = ⊥
 
-heard_to : (c : Codecs) (plan : PostPlan) (S : ℕ → ℕ → Type 0) (steps : List Step) (moves : List Move) → HasHeard steps → Acting c plan S steps moves → Answers c plan S steps moves
+pub heard_to : (c : Codecs) (plan : PostPlan) (S : ℕ → ℕ → Type 0) (steps : List Step) (moves : List Move) → HasHeard steps → Acting c plan S steps moves → Answers c plan S steps moves
 heard_to c plan S [] moves h x = absurd h
 heard_to c plan S (Hears at event ∷ steps) moves h x = to_answers c plan S (Hears at event ∷ steps) moves (hearing_fresh plan at event steps) x
 heard_to c plan S (Does reading act taken ∷ steps) moves h x = absurd h
 
-heard_back : (c : Codecs) (plan : PostPlan) (S : ℕ → ℕ → Type 0) (steps : List Step) (moves : List Move) → HasHeard steps → Answers c plan S steps moves → Acting c plan S steps moves
+pub heard_back : (c : Codecs) (plan : PostPlan) (S : ℕ → ℕ → Type 0) (steps : List Step) (moves : List Move) → HasHeard steps → Answers c plan S steps moves → Acting c plan S steps moves
 heard_back c plan S [] moves h x = absurd h
 heard_back c plan S (Hears at event ∷ steps) moves h x = from_answers c plan S (Hears at event ∷ steps) moves (hearing_fresh plan at event steps) x
 heard_back c plan S (Does reading act taken ∷ steps) moves h x = absurd h
 
-abbrev HaveHeard : List Post → Type 0
+abbrev pub HaveHeard : List Post → Type 0
 HaveHeard [] = Unit {0}
 HaveHeard (post ∷ posts) = HasHeard post.steps × HaveHeard posts
 
@@ -117,10 +117,10 @@ answers_turn c limit before (p ∷ xs) past answered later h (moves, k, rest) =
     (moves, heard_back c p.plan (Shows limit before xs) p.steps moves h.0 k, answers_turn c limit (before ++ with_moves moves p ∷ []) xs (past_behind (length before + 1) moves past) answered later h.1 rest)
 
 -- nothing is heard by acts
-heard_by : (past : List Entry) (posts : List Post) (h : Heard) (bytes : List ℕ) (later : List Post) → HeardBy past posts (entry.Heard h bytes) later → HaveHeard later
+pub heard_by : (past : List Entry) (posts : List Post) (h : Heard) (bytes : List ℕ) (later : List Post) → HeardBy past posts (entry.Heard h bytes) later → HaveHeard later
 heard_by past posts h bytes later x = subst HaveHeard (sym x.2) (heard_posts 1 (max (moment past) h.at) h bytes posts)
 
-fresh_quiet : (plans : List PostPlan) → AreQuiet (map unheard plans)
+pub fresh_quiet : (plans : List PostPlan) → AreQuiet (map unheard plans)
 fresh_quiet [] = tt
 fresh_quiet (plan ∷ plans) = (record { none = refl; no_word = refl }, fresh_quiet plans)
 
@@ -153,7 +153,7 @@ blocks_heard c site past before (entry.Drove post order taken) posts answered la
 blocks_heard c site past before (entry.Dialed port taken) posts answered later b l t q x turn = absurd x
 blocks_heard c site past before (entry.Ended post cause) posts answered later b l t q x turn = absurd x
 
-blocks_by : (c : Codecs) (site : SitePlan) (past : List Entry) (posts answered : List Post) (later : List Entry) → IsRun c site past posts → InTurn c site.limit [] posts past answered later → InBlocks c site later answered
+pub blocks_by : (c : Codecs) (site : SitePlan) (past : List Entry) (posts answered : List Post) (later : List Entry) → IsRun c site past posts → InTurn c site.limit [] posts past answered later → InBlocks c site later answered
 blocks_by c site [] posts answered later run turn =
     let r = turn_rests c site.limit [] posts [] answered later (subst AreQuiet (sym run) (fresh_quiet site.post.items)) turn in
     record { heard = []; are = (r.1, r.0 ∙ run) }
@@ -167,28 +167,31 @@ pub record RunsOn (c : Codecs) (site : SitePlan) (past : List Entry) (posts : Li
   pub quiet : AreQuiet posts
 
 -- the moves of one post
-moves_run : (c : Codecs) (site : SitePlan) (before : List Post) (p : Post) (behind : List Post) (moves : List Move) (past : List Entry) → AreQuiet before → IsRun c site past (before ++ p ∷ behind) → Acting c p.plan (Shows site.limit before behind) p.steps moves
+pub run_more : (c : Codecs) (site : SitePlan) (before : List Post) (p : Post) (behind : List Post) (m : Move) (past : List Entry) → AreQuiet before → IsRun c site past (before ++ p ∷ behind) → Acts c p.plan (Shows site.limit before behind) (state_of p) m.reading m.act m.taken
+    → IsRun c site (entry_of (length before + 1) m.act m.taken ∷ past) (before ++ with_step (Does m.reading m.act m.taken) p ∷ behind)
+run_more c site before p behind m past q run x = (
+  before ++ p ∷ behind,
+  run,
+  inr (record {
+    before = before;
+    post = p;
+    behind = behind;
+    posts_are = refl;
+    first = q;
+    reading = m.reading;
+    act = m.act;
+    taken = m.taken;
+    acts = x;
+    entry_is = refl;
+    later_is = refl;
+  }),
+)
+
+pub moves_run : (c : Codecs) (site : SitePlan) (before : List Post) (p : Post) (behind : List Post) (moves : List Move) (past : List Entry) → AreQuiet before → IsRun c site past (before ++ p ∷ behind) → Acting c p.plan (Shows site.limit before behind) p.steps moves
     → IsRun c site (past_behind (length before + 1) moves past) (before ++ with_moves moves p ∷ behind) × Rests (with_moves moves p)
 moves_run c site before p behind [] past q run x = (run, x)
 moves_run c site before p behind (m ∷ moves) past q run x =
-    moves_run c site before (with_step (Does m.reading m.act m.taken) p) behind moves (entry_of (length before + 1) m.act m.taken ∷ past) q (
-      before ++ p ∷ behind,
-      run,
-      inr (record {
-        before = before;
-        post = p;
-        behind = behind;
-        posts_are = refl;
-        first = q;
-        reading = m.reading;
-        act = m.act;
-        taken = m.taken;
-        acts = x.0;
-        entry_is = refl;
-        later_is = refl;
-      }),
-    )
-    x.1
+    moves_run c site before (with_step (Does m.reading m.act m.taken) p) behind moves (entry_of (length before + 1) m.act m.taken ∷ past) q (run_more c site before p behind m past q run x.0) x.1
 
 turns_run : (c : Codecs) (site : SitePlan) (before xs : List Post) (past : List Entry) (answered : List Post) (later : List Entry) → AreQuiet before → IsRun c site past (before ++ xs) → InTurn c site.limit before xs past answered later → RunsOn c site later answered
 turns_run c site before [] past answered later q run x =
@@ -212,24 +215,10 @@ block_run c site past before (entry.Drove post order taken) posts later r l t x 
 block_run c site past before (entry.Dialed port taken) posts later r l t x = absurd x
 block_run c site past before (entry.Ended post cause) posts later r l t x = absurd x
 
-runs_by : (c : Codecs) (site : SitePlan) (heard : List Entry) (past : List Entry) (posts : List Post) → AreBlocks c site heard past posts → RunsOn c site past posts
+pub runs_by : (c : Codecs) (site : SitePlan) (heard : List Entry) (past : List Entry) (posts : List Post) → AreBlocks c site heard past posts → RunsOn c site past posts
 runs_by c site [] past posts (none, fresh) =
     subst (λ (es : List Entry). RunsOn c site es posts) (sym none) (record { run = fresh; quiet = subst AreQuiet (sym fresh) (fresh_quiet site.post.items) })
 runs_by c site (e ∷ heard) past posts (earlier, before, are, l, t, block) = block_run c site earlier before e posts past (runs_by c site heard earlier before are) l t block
 
-to_blocks : (c : Codecs) (site : SitePlan) (past : List Entry) (posts : List Post) → IsRun c site past posts → AreQuiet posts → InBlocks c site past posts
+pub to_blocks : (c : Codecs) (site : SitePlan) (past : List Entry) (posts : List Post) → IsRun c site past posts → AreQuiet posts → InBlocks c site past posts
 to_blocks c site past posts run q = blocks_by c site past posts posts past run (rest_turn c site.limit [] posts past q)
-
-pub runs_are_blocks : (c : Codecs) → RunsAreBlocks c
-runs_are_blocks c = record {
-  pasts = λ site past posts. record {
-    to_blocks = λ run q. let b = to_blocks c site past posts run q in (b.heard, b.are);
-    to_run = λ heard are. let r = runs_by c site heard past posts are in (r.run, r.quiet);
-  };
-  whole_to_blocks = λ site past w.
-      let b = to_blocks c site w.blocks w.posts w.run w.whole in
-      record { blocks = w.blocks; posts = w.posts; heard = b.heard; are = b.are; ended = w.ended; closes = w.closes };
-  whole_to_run = λ site past w.
-      let r = runs_by c site w.heard w.blocks w.posts w.are in
-      record { blocks = w.blocks; posts = w.posts; run = r.run; whole = r.quiet; ended = w.ended; closes = w.closes };
-}

@@ -6,7 +6,7 @@ use Rattle.session_words.specs.declared.plan.SitePlan.{SitePlan}
 use Rattle.post_spec.specs.Codecs.{Codecs}
 use Rattle.station_spec.specs.Blocks.{is_last, hearings}
 use Rattle.station_spec.specs.Sharing.{Post, Shows}
-use Rattle.station_spec.specs.Runs.{entry_of, unheard, AreQuiet, HeardBy, IsRun, IsEnded, Closes, IsSiteRun}
+use Rattle.station_spec.specs.Runs.{entry_of, unheard, AreQuiet, HeardBy, IsRun, IsEnded, Closes}
 use Rattle.blocks_of_runs.specs.Answers.{Move, behind, Answers}
 
 -- the past behind the moves of post k
@@ -56,8 +56,3 @@ pub record IsBlockRun (c : Codecs) (site : SitePlan) (past : List Entry) : Type 
   pub are : AreBlocks c site heard blocks posts
   pub ended : IsEnded site.turns blocks
   pub closes : Closes 1 posts blocks past
-
-pub record RunsAreBlocks (c : Codecs) : Type 0 where
-  pub pasts : (site : SitePlan) (past : List Entry) (posts : List Post) → AreSame c site past posts
-  pub whole_to_blocks : (site : SitePlan) (past : List Entry) → IsSiteRun c site past → IsBlockRun c site past
-  pub whole_to_run : (site : SitePlan) (past : List Entry) → IsBlockRun c site past → IsSiteRun c site past

@@ -2,12 +2,13 @@
 #![tactic(auto)]
 
 ghost use Rattle.post_spec.specs.Codecs.{codecs};
-ghost use Rattle.blocks_of_runs.specs.BlockRuns.{RunsAreBlocks};
+ghost use Rattle.blocks_of_runs.specs.CutRuns.{RunsAreBlocks};
 
 use post_spec::Coded;
 
 /// What holds entry by entry holds block by block, and the other way round: each post answers a hearing in three parts, whole, before
-/// the next post does, and all posts before anything else is heard.
+/// the next post does, and all posts before anything else is heard. So it is of whole runs and of those that are cut, with the orders
+/// that close them.
 pub fn runs_are_blocks<C: Coded>()
     ensures { RunsAreBlocks (codecs C.negotiates C.reads C.encodes) }
 {}

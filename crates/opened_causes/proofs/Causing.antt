@@ -1,5 +1,5 @@
 -- Each cause that is heard, and each call that failed, leads to an order to open.
-use Rattle.std.proofs.Common.{◌≡◌, ◌≤◌, ◌<◌, ℕ, ◌+◌, Bool, true, false, List, [], ◌∷◌, ◌++◌, length, map, Option, Some, None, is_some, refl, sym, ap, subst, ◌∙◌, inl, inr, ◌⊎◌, MatchBool}
+use Rattle.std.proofs.Common.{◌≡◌, ◌≤◌, ◌<◌, ℕ, ◌+◌, Bool, true, false, List, [], ◌∷◌, ◌++◌, length, map, Option, Some, None, is_some, refl, sym, ap, subst, ◌∙◌, inl, inr, ◌⊎◌, MatchBool, IsSome, suc, arith}
 use Rattle.std.specs.Option.{option_map}
 use Rattle.charge_world.specs.declared.heard.PlantEvent.{PlantEvent}
 use Rattle.charge_world.specs.declared.ports.Order.{Order}
@@ -19,23 +19,27 @@ use Rattle.post_spec.specs.Causes.{IsCause, IsDue, IsTold, HasLeft, HasCome, IsO
 use Rattle.post_spec.specs.Causes.{found_word}
 use Rattle.post_spec.specs.Causes as causes
 use Rattle.post_spec.specs.Spelled.{ReadsBack, AreDetermined}
-use Rattle.post_spec.specs.Words.{HeardWord, Words, next_words}
+use Rattle.post_spec.specs.Words.{HeardWord, chosen_by, Words, next_words}
 use Rattle.charge_world.specs.declared.entry.Entry.{Entry}
 use Rattle.session_words.specs.declared.plan.SitePlan.{SitePlan}
-use Rattle.post_spec.specs.Codecs.{Asked, Codecs}
+use Rattle.post_spec.specs.Codecs.{Negotiated, Asked, Codecs}
+use Rattle.post_spec.specs.Talk.{Exchange, Negotiation, dialect_of, Negotiates, IsExchange, OneMore, InSession, Talks}
+use Rattle.charge_world.specs.declared.offer.Dialect.{Dialect}
+use Rattle.session_rules.specs.Stages.{is_waiting}
+use Rattle.opened_causes.proofs.Spoken.{same_payload, counted}
 use Rattle.post_spec.specs.Course.{Talked, course, facts_of}
 use Rattle.post_spec.specs.Facts.{now, standing, live}
 use Rattle.post_spec.specs.Kinds.{asks_opening}
-use Rattle.post_spec.specs.Sessions.{session, stream, waits}
-use Rattle.post_spec.specs.Steps.{Event, Came, Bytes, Gone, Plant, Over, Act, Give, Send, Seen, Heard, Did, Reading, Step, Hears, Does, seen, seen_of}
-use Rattle.station_spec.specs.States.{is_none, Spoken, Part, Wording, Session, State, nothing, first, first_of, is_done}
+use Rattle.post_spec.specs.Sessions.{session, with_seen, stream, waits}
+use Rattle.post_spec.specs.Steps.{Event, Came, Bytes, Gone, Plant, Over, Act, Give, Send, Seen, Did, Reading, Step, Hears, Does, seen, seen_of}
+use Rattle.station_spec.specs.States.{is_none, Response, Said, Spoken, Part, Wording, Session, State, nothing, first, first_of, is_done}
 use Rattle.station_spec.specs.States.{Agenda}
 use Rattle.station_spec.specs.States as states
-use Rattle.station_spec.specs.Deciding.{ending_by, ending_in, repeating, timing, watch, charging, eventing, from_wording, from_part, decided, due, is_reached}
-use Rattle.station_spec.specs.Judging.{cause_by, judged, taken_in, read, filled, wanted, IsRead}
-use Rattle.station_spec.specs.Acting.{failing, agenda_said, hearing, live_ordered, state, IsQuiet, IsSpoken, IsDone, Acts}
+use Rattle.station_spec.specs.Deciding.{repeating, timing, watch, charging, from_wording, from_part, decided, due, is_reached}
+use Rattle.station_spec.specs.Judging.{cause_by, judged, taken_in, filled, wanted, IsRead}
+use Rattle.station_spec.specs.Acting.{failing, agenda_said, hearing, live_ordered, state, IsDone, Acts}
 use Rattle.station_spec.specs.Sharing.{Post, Shows}
-use Rattle.station_spec.specs.Runs.{Rests, IsRun}
+use Rattle.station_spec.specs.Runs.{IsRun}
 use Rattle.station_laws.specs.PostRuns.{IsPostRun, IsPostOf, ArePostsOf}
 use Rattle.station_laws.proofs.Contactors.{contactors_are_read}
 use Rattle.station_laws.proofs.Decided.{same_session, same_facts}
@@ -44,17 +48,19 @@ use Rattle.read_runs.specs.Courses.{talked_of, talked_in}
 use Rattle.read_runs.proofs.Courses.{courses_are_read}
 use Rattle.read_runs.proofs.Facts.{facts_are_read}
 use Rattle.safe_runs.proofs.Asked.{IsStop, found_accepted}
-use Rattle.safe_runs.proofs.Links.{Premise, LinkedAt, Linked, Clear}
+use Rattle.safe_runs.proofs.Filled.{filled_linked}
+use Rattle.safe_runs.proofs.Links.{Premise, Owes, Pending, Waits, Tie, LinkedAt, Linked, Clear}
 use Rattle.safe_runs.proofs.Parts.{cleared}
-use Rattle.safe_runs.proofs.Safety.{run_tied}
+use Rattle.safe_runs.proofs.Safety.{run_tied, run_linked}
 use Rattle.safe_runs.proofs.Shut.{done_still}
 use Rattle.safe_runs.proofs.Openings.{opening, must_open, opens_decided, runs_end_open}
-use Rattle.opened_causes.specs.Causing.{IsBreak, IsNext, IsNewWord, IsHeard, IsDeadline, Repeats, WasAsked, IsFirst, IsFirstBehind, Stands, OpenBehind, OpensAt, RunsOpenAtBreaks, RunsOpenAtWords, RunsOpenAtDeadlines, RunsEndAtCauses}
+use Rattle.opened_causes.specs.Causing.{IsHeard, IsNext, Comes, Repeats, WasAsked, IsFirst, IsFirstBehind, HasCause, OpenAtCauses, RunsOpenAtCauses, RunsEndAtCauses}
 use Rattle.opened_causes.proofs.Deadlines.{steps_since, stands_waiting, due_is, reached}
+use Rattle.opened_causes.proofs.Shutting.{filled_shutting, steps_shutting}
 use Rattle.opened_causes.proofs.Ending.{Ends, steps_end, filled_ends, give_is, say_is}
 use Rattle.opened_causes.proofs.Wording.{Next, opens_it, AtWords, word_next}
 use Rattle.opened_causes.proofs.Worded.{Worded, filled_worded, steps_worded}
-use Rattle.opened_causes.proofs.Opens.{repeating_opens, timing_opens, OpensIn, Opens, not_wanted, opens_next, opens_busy, undone_opens, ending_opens, in_opens, hearing_opens}
+use Rattle.opened_causes.proofs.Opens.{repeating_opens, timing_opens, OpensIn, Opens, not_wanted, undone_opens, ending_opens, in_opens, hearing_opens}
 
 -- A session that the past tells is kept.
 
@@ -190,27 +196,6 @@ undriven_opens c plan S r o steps run acts h k l =
     let f = filled plan r (state plan steps) in
     failing_opens f.agenda.ending f.session OrderFailed (live_ordered o false f.live) (undriven_none c plan S r o steps run acts h) k l
 
-break_opens : (c : Codecs) (plan : PostPlan) (steps : List Step) (cause : EndCause) (k : IsCause c plan steps cause) → IsBreak c plan steps cause k → live (map seen_of steps) ≡ true → IsFirst plan steps → IsPostRun c plan steps → Opens plan (state plan steps)
-break_opens c plan steps cause (IsTold at event before t it session_is told) b l f run = told_opens c plan at event before t it run session_is told l
-break_opens c plan steps cause (HasLeft at before es session_is) b l f run =
-    let on = is_live plan (Hears at Gone ∷ before) l in
-    hearing_opens plan at Gone (state plan before) on (in_opens (hearing at Gone (state plan before)).session _ (state plan before).live (lives plan (Hears at Gone ∷ before) es session_is) on)
-break_opens c plan steps cause (HasCome at token before es session_is) b l f run =
-    let on = is_live plan (Hears at (Came token) ∷ before) l in
-    hearing_opens plan at (Came token) (state plan before) on (in_opens (hearing at (Came token) (state plan before)).session _ (state plan before).live (lives plan (Hears at (Came token) ∷ before) es session_is) on)
-break_opens c plan steps cause (IsOver at before es session_is) b l f run =
-    let on = is_live plan (Hears at Over ∷ before) l in
-    hearing_opens plan at Over (state plan before) on (in_opens (hearing at Over (state plan before)).session _ (state plan before).live (lives plan (Hears at Over ∷ before) es session_is) on)
-break_opens c plan steps cause (HasNotSent reading bytes before es session_is) b l f (run, (limit, front, behind, acts)) =
-    let all = Does reading (Send bytes) false ∷ before in
-    undone_opens plan (state plan all) (unsent_opens c plan (Shows limit front behind) reading bytes before run acts (lives plan all es session_is) (is_live plan all l))
-break_opens c plan steps cause (HasNotDriven reading o before es session_is) b l f (run, (limit, front, behind, acts)) =
-    let all = Does reading (Give o) false ∷ before in
-    undone_opens plan (state plan all) (undriven_opens c plan (Shows limit front behind) reading o before run acts f (lives plan all es session_is) (is_live plan all l))
-break_opens c plan steps cause (IsDue before t es course_is session_is reached bound) b l f run = absurd b
-break_opens c plan steps cause (HasNoMatch reading bytes before talks) b l f run = absurd b
-break_opens c plan steps cause (IsWord before t es words rest word it course_is session_is heard next judged) b l f run = absurd b
-
 -- The next word.
 
 -- with the session that the past tells
@@ -336,6 +321,108 @@ brought_next c plan at bytes before t es words tail word cause back det run l le
       | inr x ↦ word_there c plan all t es words tail word cause back det run refl tied.linked x l led here heard next h
     ]
 
+-- behind an order to close that was taken
+first_give : (d : Option (List ℕ)) (o : Option Order) (r : Option Spoken) (e : Option EndCause) (x : Order) → first_of d o r e ≡ Some (states.Give x) → (d ≡ None) × (o ≡ Some x)
+first_give (Some d) o r e x h = cc
+first_give None (Some o) r e x h = (refl, cc)
+first_give None None (Some r) e x h = cc
+first_give None None None (Some e) x h = cc
+first_give None None None None x h = cc
+
+given_done : (a : Agenda) → a.datagram ≡ None → a.reply ≡ None → a.ending ≡ None → is_done (record a { order = None }) ≡ true
+given_done a d r e = rw (d, r, e) refl
+
+closed_next : (c : Codecs) (plan : PostPlan) (r : Option Reading) (before : List Step) (t : Talked) (es : List Seen) (words tail : List HeardWord) (word : HeardWord) (cause : EndCause) → ReadsBack c → AreDetermined c
+    → IsPostRun c plan (Does r (Give order.Close) true ∷ before) → live (map seen_of (Does r (Give order.Close) true ∷ before)) ≡ true → (course plan (Does r (Give order.Close) true ∷ before)).session ≡ Some t → session (map seen_of (Does r (Give order.Close) true ∷ before)) ≡ Some es
+    → Words c plan.dialects.items (stream es) words → next_words es words ≡ word ∷ tail → word_cause (waits es) (found_word t (map seen_of (Does r (Give order.Close) true ∷ before)) (course plan (Does r (Give order.Close) true ∷ before)) plan word) ≡ Some cause
+    → Next c plan (state plan (Does r (Give order.Close) true ∷ before))
+closed_next c plan r before t es words tail word cause back det (run, (limit, front, behind, acts)) l led here heard next h =
+    let all = Does r (Give order.Close) true ∷ before in
+    let b = state plan before in
+    let f = filled plan r b in
+    let s = state plan all in
+    let todo = acts.acts ∙ ap Some (give_todo c acts.todo order.Close true acts.done) in
+    let x = first_give f.agenda.datagram f.agenda.order f.agenda.reply f.agenda.ending order.Close todo in
+    let n = undriven f order.Close (filled_ends plan r b (steps_end c plan before run)) todo (λ e. cc) in
+    let k = filled_shutting plan r b (steps_shutting c plan before run) x.1 in
+    let d : is_done s.agenda ≡ true = given_done f.agenda x.0 k.0 n in
+    let tied = run_tied c plan all back (run, (limit, front, behind, acts)) in
+    word_there c plan all t es words tail word cause back det (run, (limit, front, behind, acts)) d (clear_at c plan (map seen_of all) s d k.1 tied.linked) (from_done plan s d k.1) l led here heard next h
+
+-- A negotiation that matched nothing.
+
+pub record NoMatch (c : Codecs) (offers : List Dialect) (past : List Seen) (bytes : List ℕ) : Type 0 where
+  pub zs : List Seen
+  pub session_is : session past ≡ Some zs
+  pub heard : Negotiates c offers (stream zs) bytes None
+  pub before : Talks c offers past []
+
+tail_is : (x y : Exchange) (xs ys : List Exchange) → x ∷ xs ≡ y ∷ ys → (x ≡ y) × (xs ≡ ys)
+tail_is x y xs ys h = (cc, cc)
+
+no_match_in : (c : Codecs) (offers : List Dialect) (past : List Seen) (bytes : List ℕ) (lives : Option (List Seen)) → session past ≡ lives → InSession lives (λ zs. OneMore c offers zs past bytes (Talks c offers past) (Negotiation None ∷ [])) (Negotiation None ∷ [] ≡ []) → NoMatch c offers past bytes
+no_match_in c offers past bytes None l t = absurd (cc)
+no_match_in c offers past bytes (Some zs) l t =
+    let e = tail_is (Negotiation None) t.newest [] t.earlier t.xs_are in
+    record {
+      zs = zs;
+      session_is = l;
+      heard = subst (λ (x : Exchange). IsExchange c offers (stream zs) [] bytes past x) (sym e.0) (subst (λ (xs : List Exchange). IsExchange c offers (stream zs) xs bytes past t.newest) (sym e.1) t.is);
+      before = subst (λ (xs : List Exchange). Talks c offers past xs) (sym e.1) t.before;
+    }
+
+empty_list : (xs : List Exchange) → length xs ≡ 0 → xs ≡ []
+empty_list [] h = refl
+empty_list (x ∷ xs) h = absurd (let l : length (x ∷ xs) ≡ suc (length xs) = refl in omega (arith, h, l))
+
+no_dialect : (xs : List Exchange) (d : Dialect) → xs ≡ [] → dialect_of xs ≡ Some d → ⊥
+no_dialect xs d n h = absurd (let y : None ≡ Some d = sym (ap dialect_of n) ∙ h in cc)
+
+some_of : (b : Option EndCause) → IsSome b → (k : EndCause) × (b ≡ Some k)
+some_of None h = absurd (cc)
+some_of (Some k) h = (k, refl)
+
+owed_cause : (c : Codecs) (plan : PostPlan) (past es : List Seen) (xs : List Exchange) (stage : Stage) (spoken : Spoken) (behind : Option EndCause) (V : Type 0) (bytes : List ℕ) → AreDetermined c → xs ≡ [] → Negotiates c plan.dialects.items (stream es) bytes None
+    → Owes c plan past es xs stage spoken behind V → (k : EndCause) × (behind ≡ Some k)
+owed_cause c plan past es xs stage (Said d reply) behind V bytes det n g (r, asks, ok, owed) = absurd (no_dialect xs d n asks.dialect_is)
+owed_cause c plan past es xs stage (Response response) behind V bytes det n g (none, (None, payload, place, neg, chosen)) = some_of behind chosen
+owed_cause c plan past es xs stage (Response response) behind V bytes det n g (none, (Some d, payload, place, neg, chosen)) =
+    let same : g.payload ≡ payload = same_payload (stream es) 0 g.payload payload g.first place in
+    let e = det.negotiates plan.dialects.items payload (Negotiated (Some d) response) (Negotiated None g.response) neg (subst (λ (x : List ℕ). c.Negotiates plan.dialects.items x (Negotiated None g.response)) same g.judged) in
+    absurd (let x : Some d ≡ None = ap chosen_by e in cc)
+
+talk_cause : (c : Codecs) (plan : PostPlan) (past es : List Seen) (xs : List Exchange) (taken : ℕ) (stage : Stage) (spoken : Spoken) (behind : Option EndCause) (V : Type 0) (bytes : List ℕ) (b : Bool) → AreDetermined c → xs ≡ [] → Negotiates c plan.dialects.items (stream es) bytes None
+    → MatchBool b (Waits c plan past es xs taken stage (Some spoken) V) (Pending c plan past es xs taken stage (Some spoken) behind V) → (k : EndCause) × (behind ≡ Some k)
+talk_cause c plan past es xs taken stage spoken behind V bytes true det n g t = absurd (no_dialect xs stage.dialect n t.asks.dialect_is)
+talk_cause c plan past es xs taken stage spoken behind V bytes false det n g t = owed_cause c plan past es xs stage spoken behind V bytes det n g t.1
+
+tie_cause : (c : Codecs) (plan : PostPlan) (past : List Seen) (ending : Option EndCause) (lives : Option (List Seen)) (kept : Option Session) (reply : Option Spoken) (spoken : Spoken) (behind : Option EndCause) (V : Type 0) (es : List Seen) (bytes : List ℕ) → AreDetermined c
+    → ending ≡ None → session past ≡ lives → lives ≡ Some es → reply ≡ Some spoken → Negotiates c plan.dialects.items (stream es) bytes None → Talks c plan.dialects.items past [] → Tie c plan past ending lives kept reply behind V → (k : EndCause) × (behind ≡ Some k)
+tie_cause c plan past (Some k) lives kept reply spoken behind V es bytes det n q l r g t tie = cc
+tie_cause c plan past None None kept reply spoken behind V es bytes det n q l r g t tie = cc
+tie_cause c plan past None (Some ys) None reply spoken behind V es bytes det n q l r g t tie = absurd tie
+tie_cause c plan past None (Some ys) (Some ss) None spoken behind V es bytes det n q l r g t tie = cc
+tie_cause c plan past None (Some ys) (Some ss) (Some said) spoken behind V es bytes det n q l r g t tie =
+    let y : ys ≡ es = cc in
+    let a = counted c plan.dialects.items past ys tie.xs q tie.talks in
+    let b = counted c plan.dialects.items past ys [] q t in
+    let none = empty_list tie.xs (sym a ∙ b) in
+    talk_cause c plan past ys tie.xs tie.taken ss.stage said behind V bytes (is_waiting ss.stage.row) det none (subst (λ (zs : List Seen). Negotiates c plan.dialects.items (stream zs) bytes None) (sym y) g) tie.talk
+
+unmatched_next : (c : Codecs) (plan : PostPlan) (r : Option Reading) (bytes : List ℕ) (before : List Step) → ReadsBack c → AreDetermined c → IsPostRun c plan (Does r (Send bytes) true ∷ before) → live (map seen_of (Does r (Send bytes) true ∷ before)) ≡ true
+    → Talks c plan.dialects.items (map seen_of (Does r (Send bytes) true ∷ before)) (Negotiation None ∷ []) → Next c plan (state plan (Does r (Send bytes) true ∷ before))
+unmatched_next c plan r bytes before back det (run, (limit, front, behind, acts)) l talks =
+    let all = Does r (Send bytes) true ∷ before in
+    let past = map seen_of before in
+    let b = state plan before in
+    let f = filled plan r b in
+    let m = no_match_in c plan.dialects.items past bytes (session past) refl talks in
+    let x = sent_at c plan (Shows limit front behind) r bytes before run acts (is_live plan all l) in
+    let linked = filled_linked c plan (Shows limit front behind) past b r acts.read (run_linked c plan before back run) in
+    let k = tie_cause c plan past f.agenda.ending (session past) f.session f.agenda.reply x.0 f.agenda.behind_reply (Premise f.part f.event) m.zs bytes det x.1.ending refl m.session_is x.1.reply m.heard m.before linked.tie in
+    let kept = map_some _ f.session (lives plan all (Did (Send bytes) true ∷ m.zs) (ap (with_seen (Did (Send bytes) true)) m.session_is)) in
+    opens_it c plan (state plan all) (undone_opens plan (state plan all) (said_opens f.agenda.behind_reply k.0 f.session f.agenda f.live k.1 kept (is_live plan all l)))
+
 next_opens : (c : Codecs) (plan : PostPlan) (steps : List Step) (t : Talked) (es : List Seen) (words tail : List HeardWord) (word : HeardWord) (cause : EndCause) → ReadsBack c → AreDetermined c → IsNext steps → IsPostRun c plan steps → live (map seen_of steps) ≡ true
     → (course plan steps).session ≡ Some t → session (map seen_of steps) ≡ Some es → Words c plan.dialects.items (stream es) words → next_words es words ≡ word ∷ tail
     → word_cause (waits es) (found_word t (map seen_of steps) (course plan steps) plan word) ≡ Some cause → Next c plan (state plan steps)
@@ -343,6 +430,7 @@ next_opens c plan [] t es words tail word cause back det b run l led here heard 
 next_opens c plan (Hears at (Bytes bytes) ∷ before) t es words tail word cause back det b run l led here heard next h = brought_next c plan at bytes before t es words tail word cause back det run l led here heard next h
 next_opens c plan (Does r (Send bytes) true ∷ before) t es words tail word cause back det b run l led here heard next h =
     sent_next c plan r bytes before t es words tail word cause (filled plan r (state plan before)).agenda.behind_reply refl back det run l led here heard next h
+next_opens c plan (Does r (Give order.Close) true ∷ before) t es words tail word cause back det b run l led here heard next h = closed_next c plan r before t es words tail word cause back det run l led here heard next h
 next_opens c plan (Hears at event ∷ before) t es words tail word cause back det b run l led here heard next h = absurd b
 next_opens c plan (Does r a taken ∷ before) t es words tail word cause back det b run l led here heard next h = absurd b
 
@@ -374,64 +462,47 @@ deadline_opens c plan [] t es b back run l led here le lt = absurd b
 deadline_opens c plan (Hears at e ∷ before) t es b back run l led here le lt = due_next c plan at e before t es back run l led here le lt
 deadline_opens c plan (Does r a taken ∷ before) t es b back run l led here le lt = absurd b
 
-due_opens : (c : Codecs) (plan : PostPlan) (steps : List Step) (cause : EndCause) (k : IsCause c plan steps cause) → ReadsBack c → IsDeadline c plan steps cause k → live (map seen_of steps) ≡ true → IsPostRun c plan steps → Next c plan (state plan steps)
-due_opens c plan steps cause (IsDue before t es course_is session_is reached bound) back b l run = deadline_opens c plan before t es b back run l course_is session_is reached bound
-due_opens c plan steps cause (IsWord before t es words rest word it course_is session_is heard next judged) back b l run = absurd b
-due_opens c plan steps cause (IsTold at event before t it session_is told) back b l run = absurd b
-due_opens c plan steps cause (HasLeft at before es session_is) back b l run = absurd b
-due_opens c plan steps cause (HasCome at token before es session_is) back b l run = absurd b
-due_opens c plan steps cause (IsOver at before es session_is) back b l run = absurd b
-due_opens c plan steps cause (HasNotSent reading bytes before es session_is) back b l run = absurd b
-due_opens c plan steps cause (HasNotDriven reading o before es session_is) back b l run = absurd b
-due_opens c plan steps cause (HasNoMatch reading bytes before talks) back b l run = absurd b
+-- Every cause.
 
--- Every cause of these kinds.
+cause_opens : (c : Codecs) (plan : PostPlan) (steps : List Step) (cause : EndCause) (k : IsCause c plan steps cause) → ReadsBack c → AreDetermined c → Comes c plan steps cause k → live (map seen_of steps) ≡ true → IsFirst plan steps → IsPostRun c plan steps → Next c plan (state plan steps)
+cause_opens c plan steps cause (IsTold at event before t it session_is told) back det b l f run = opens_it c plan (state plan (Hears at (Plant event) ∷ before)) (told_opens c plan at event before t it run session_is told l)
+cause_opens c plan steps cause (HasLeft at before es session_is) back det b l f run =
+    let on = is_live plan (Hears at Gone ∷ before) l in
+    opens_it c plan (hearing at Gone (state plan before)) (hearing_opens plan at Gone (state plan before) on (in_opens (hearing at Gone (state plan before)).session _ (state plan before).live (lives plan (Hears at Gone ∷ before) es session_is) on))
+cause_opens c plan steps cause (HasCome at token before es session_is) back det b l f run =
+    let on = is_live plan (Hears at (Came token) ∷ before) l in
+    opens_it c plan (hearing at (Came token) (state plan before)) (hearing_opens plan at (Came token) (state plan before) on (in_opens (hearing at (Came token) (state plan before)).session _ (state plan before).live (lives plan (Hears at (Came token) ∷ before) es session_is) on))
+cause_opens c plan steps cause (IsOver at before es session_is) back det b l f run =
+    let on = is_live plan (Hears at Over ∷ before) l in
+    opens_it c plan (hearing at Over (state plan before)) (hearing_opens plan at Over (state plan before) on (in_opens (hearing at Over (state plan before)).session _ (state plan before).live (lives plan (Hears at Over ∷ before) es session_is) on))
+cause_opens c plan steps cause (HasNotSent reading bytes before es session_is) back det b l f (run, (limit, front, behind, acts)) =
+    let all = Does reading (Send bytes) false ∷ before in
+    opens_it c plan (state plan all) (undone_opens plan (state plan all) (unsent_opens c plan (Shows limit front behind) reading bytes before run acts (lives plan all es session_is) (is_live plan all l)))
+cause_opens c plan steps cause (HasNotDriven reading o before es session_is) back det b l f (run, (limit, front, behind, acts)) =
+    let all = Does reading (Give o) false ∷ before in
+    opens_it c plan (state plan all) (undone_opens plan (state plan all) (undriven_opens c plan (Shows limit front behind) reading o before run acts f (lives plan all es session_is) (is_live plan all l)))
+cause_opens c plan steps cause (IsDue before t es course_is session_is reached bound) back det b l f run = deadline_opens c plan before t es b back run l course_is session_is reached bound
+cause_opens c plan steps cause (HasNoMatch reading bytes before talks) back det b l f run = unmatched_next c plan reading bytes before back det run l talks
+cause_opens c plan steps cause (IsWord before t es words rest word it course_is session_is heard next judged) back det b l f run = next_opens c plan before t es words rest word it back det b run l course_is session_is heard next judged
 
-word_opens : (c : Codecs) (plan : PostPlan) (steps : List Step) (cause : EndCause) (k : IsCause c plan steps cause) → ReadsBack c → AreDetermined c → IsNewWord c plan steps cause k → live (map seen_of steps) ≡ true → IsPostRun c plan steps → Next c plan (state plan steps)
-word_opens c plan steps cause (IsWord before t es words rest word it course_is session_is heard next judged) back det b l run = next_opens c plan before t es words rest word cause back det b run l course_is session_is heard next judged
-word_opens c plan steps cause (IsTold at event before t it session_is told) back det b l run = absurd b
-word_opens c plan steps cause (HasLeft at before es session_is) back det b l run = absurd b
-word_opens c plan steps cause (HasCome at token before es session_is) back det b l run = absurd b
-word_opens c plan steps cause (IsOver at before es session_is) back det b l run = absurd b
-word_opens c plan steps cause (HasNotSent reading bytes before es session_is) back det b l run = absurd b
-word_opens c plan steps cause (HasNotDriven reading o before es session_is) back det b l run = absurd b
-word_opens c plan steps cause (IsDue before t es course_is session_is reached bound) back det b l run = absurd b
-word_opens c plan steps cause (HasNoMatch reading bytes before talks) back det b l run = absurd b
+steps_cause : (c : Codecs) (plan : PostPlan) (steps : List Step) → ReadsBack c → AreDetermined c → IsPostRun c plan steps → HasCause c plan steps → Next c plan (state plan steps)
+steps_cause c plan steps back det run b = cause_opens c plan steps b.cause b.is back det b.comes b.live_is b.first run
 
-deadline_next : (c : Codecs) (plan : PostPlan) (steps : List Step) → ReadsBack c → IsPostRun c plan steps → Stands c plan (IsDeadline c plan) steps → Next c plan (state plan steps)
-deadline_next c plan steps back run b = due_opens c plan steps b.cause b.is back b.kind b.live_is run
-
-break_next : (c : Codecs) (plan : PostPlan) (steps : List Step) → IsPostRun c plan steps → Stands c plan (IsBreak c plan) steps → Next c plan (state plan steps)
-break_next c plan steps run b = opens_it c plan (state plan steps) (break_opens c plan steps b.cause b.is b.kind b.live_is b.first run)
-
-new_next : (c : Codecs) (plan : PostPlan) (steps : List Step) → ReadsBack c → AreDetermined c → IsPostRun c plan steps → Stands c plan (IsNewWord c plan) steps → Next c plan (state plan steps)
-new_next c plan steps back det run b = word_opens c plan steps b.cause b.is back det b.kind b.live_is run
-
-steps_open : (c : Codecs) (plan : PostPlan) (Causing : List Step → Type 0) (steps : List Step) → ((earlier : List Step) → IsPostRun c plan earlier → Causing earlier → Next c plan (state plan earlier)) → IsPostRun c plan steps → OpenBehind Causing steps
-steps_open c plan Causing [] f run = tt
-steps_open c plan Causing (Hears at e ∷ steps) f run = (steps_open c plan Causing steps f run.0, λ b. absurd ((f steps run.0 b).busy run.1))
-steps_open c plan Causing (Does r a taken ∷ steps) f (run, (limit, before, behind, acts)) = (
-  steps_open c plan Causing steps f run,
-  λ b. (r, taken, ap (λ (x : Act). Does r x taken) ((f steps run b).acts (Shows limit before behind) r a taken acts)),
+steps_open : (c : Codecs) (plan : PostPlan) (steps : List Step) → ReadsBack c → AreDetermined c → IsPostRun c plan steps → OpenAtCauses c plan steps
+steps_open c plan [] back det run = tt
+steps_open c plan (Hears at e ∷ steps) back det run = (steps_open c plan steps back det run.0, λ b. absurd ((steps_cause c plan steps back det run.0 b).busy run.1))
+steps_open c plan (Does r a taken ∷ steps) back det (run, (limit, before, behind, acts)) = (
+  steps_open c plan steps back det run,
+  λ b. (r, taken, ap (λ (x : Act). Does r x taken) ((steps_cause c plan steps back det run b).acts (Shows limit before behind) r a taken acts)),
 )
-
-post_opens : (c : Codecs) (post : Post) (Causing : List Step → Type 0) → ((earlier : List Step) → IsPostRun c post.plan earlier → Causing earlier → Next c post.plan (state post.plan earlier)) → IsPostRun c post.plan post.steps → OpensAt Causing post
-post_opens c post Causing f run = (steps_open c post.plan Causing post.steps f run, λ q b. (f post.steps run b).busy q)
 
 run_of : (c : Codecs) (site : SitePlan) (past : List Entry) (posts before : List Post) (post : Post) (behind : List Post) → IsRun c site past posts → posts ≡ before ++ post ∷ behind → IsPostOf c past (length before + 1) post
 run_of c site past posts before post behind run is = post_at c past (length before + 1) 1 before post behind refl (subst (ArePostsOf c past 1) is (run_posts c site past posts run))
 
-pub runs_open_at_breaks : (c : Codecs) → RunsOpenAtBreaks c
-runs_open_at_breaks c site past posts before post behind run is =
-    post_opens c post (Stands c post.plan (IsBreak c post.plan)) (λ steps r b. break_next c post.plan steps r b) (run_of c site past posts before post behind run is).run
-
-pub runs_open_at_words : (c : Codecs) → RunsOpenAtWords c
-runs_open_at_words c site past posts before post behind back det run is =
-    post_opens c post (Stands c post.plan (IsNewWord c post.plan)) (λ steps r b. new_next c post.plan steps back det r b) (run_of c site past posts before post behind run is).run
-
-pub runs_open_at_deadlines : (c : Codecs) → RunsOpenAtDeadlines c
-runs_open_at_deadlines c site past posts before post behind back run is =
-    post_opens c post (Stands c post.plan (IsDeadline c post.plan)) (λ steps r b. deadline_next c post.plan steps back r b) (run_of c site past posts before post behind run is).run
+pub runs_open : (c : Codecs) → RunsOpenAtCauses c
+runs_open c site past posts before post behind back det run is =
+    let p = run_of c site past posts before post behind run is in
+    (steps_open c post.plan post.steps back det p.run, λ q b. (steps_cause c post.plan post.steps back det p.run b).busy q)
 
 ends_live : (past blocks : List Seen) (b : Bool) → b ≡ true → MatchBool b ((taken : Bool) × (past ≡ Did (Give order.Open) taken ∷ blocks)) (past ≡ blocks) → (taken : Bool) × (past ≡ Did (Give order.Open) taken ∷ blocks)
 ends_live past blocks true e m = m

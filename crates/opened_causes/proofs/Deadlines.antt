@@ -1,5 +1,5 @@
 -- A deadline that is reached opens a live contactor.
-use Rattle.std.proofs.Common.{◌≡◌, ◌≤◌, ◌<◌, ℕ, suc, ◌+◌, nat_le, nat_lt, Bool, true, false, if◌then◌else◌, ◌&&◌, List, [], ◌∷◌, ◌++◌, map, Option, Some, None, unwrap_or, is_some, refl, sym, ap, subst, ◌∙◌, inl, inr, ◌⊎◌, MatchBool}
+use Rattle.std.proofs.Common.{◌≡◌, ◌≤◌, ◌<◌, ℕ, ◌+◌, Bool, true, false, if◌then◌else◌, List, [], ◌∷◌, map, Option, Some, None, unwrap_or, refl, sym, ap, subst, ◌∙◌}
 use Rattle.std.specs.Option.{option_map}
 use Rattle.std.proofs.lemmas.Bool.Decides.{nat_tests}
 use Rattle.std.proofs.Common.{arith}
@@ -31,12 +31,12 @@ use Rattle.post_spec.specs.Codecs.{Judged, Negotiated, Asked, WrongSide, Refused
 use Rattle.post_spec.specs.Facts.{now}
 use Rattle.post_spec.specs.Sessions.{arriving, session_behind, session, with_seen, waits, came_at, replied_at, closed_at, brought}
 use Rattle.post_spec.specs.Spelled.{ReadsBack}
-use Rattle.post_spec.specs.Steps.{Event, Came, Act, Give, Send, Answer, End, Seen, Heard, Did, Reading, Step, Hears, Does, seen_of}
+use Rattle.post_spec.specs.Steps.{Event, Act, Give, Send, Answer, End, Seen, Heard, Did, Reading, Step, Hears, Does, seen_of}
 use Rattle.station_spec.specs.States.{Agenda, Spoken, Session, State, nothing, first_session, first, first_of, is_none, is_done}
 use Rattle.station_spec.specs.States as states
 use Rattle.station_spec.specs.Deciding.{ending_in, decided, due, is_reached}
-use Rattle.station_spec.specs.Judging.{Payload, payload_in, wanted, speaks, speaks_in, cause_by, chosen_stage, judged, taken_in, read, filled, IsRead}
-use Rattle.station_spec.specs.Acting.{with_bytes, session_opened, since_order, failing, agenda_said, replied, giving, saying, acted, hearing, state, IsQuiet, IsDone}
+use Rattle.station_spec.specs.Judging.{Payload, payload_in, wanted, speaks, speaks_in, chosen_stage, judged, taken_in, read, filled, IsRead}
+use Rattle.station_spec.specs.Acting.{with_bytes, session_opened, since_order, failing, agenda_said, replied, giving, saying, acted, state, IsDone}
 use Rattle.station_spec.specs.Sharing.{Shows}
 use Rattle.station_laws.specs.PostRuns.{IsPostRun}
 use Rattle.station_laws.proofs.Decided.{decided_by, same_session}
@@ -44,11 +44,11 @@ use Rattle.read_runs.proofs.Arrivals.{Arrives, steps_arrive}
 use Rattle.read_runs.specs.Courses.{talked_of}
 use Rattle.read_runs.proofs.Facts.{Hearing, filled_hearing, facts_are_read}
 use Rattle.safe_runs.proofs.Filled.{filled_linked}
-use Rattle.safe_runs.proofs.Links.{Premise, IsWaitingIn, Link, Tie, Linked}
+use Rattle.safe_runs.proofs.Links.{Premise, IsWaitingIn, Tie, Linked}
 use Rattle.safe_runs.proofs.Parts.{decided_planned}
-use Rattle.safe_runs.proofs.Safety.{run_tied, run_linked}
+use Rattle.safe_runs.proofs.Safety.{run_linked}
 use Rattle.safe_runs.proofs.Shut.{Still}
-use Rattle.mandated_runs.proofs.Held.{Front, front_in, spoken_not}
+use Rattle.mandated_runs.proofs.Held.{front_in, spoken_not}
 use Rattle.opened_causes.proofs.Ending.{give_is}
 
 -- the moment of the newest hearing, and the first entry of a session

@@ -7,19 +7,18 @@ use Rattle.session_words.specs.declared.cause.EndCause.{EndCause}
 use Rattle.session_words.specs.declared.phase.Standing.{Standing}
 use Rattle.session_words.specs.declared.phase.Standing.TheVariants as standing
 use Rattle.session_words.specs.declared.plan.PostPlan.{PostPlan}
-use Rattle.session_words.specs.declared.word.Request.{Request}
 use Rattle.v2gtp_frames.specs.declared.FrameFault.{FrameFault}
 use Rattle.v2gtp_frames.specs.Reading.{whole_at}
 use Rattle.session_rules.specs.Causes.{plant_cause}
 use Rattle.session_rules.specs.Orders.{order_of}
 use Rattle.session_rules.specs.Stages.{is_waiting}
 use Rattle.post_spec.specs.Codecs.{Judged, Negotiated, Asked, WrongSide, Refused, Codecs}
-use Rattle.post_spec.specs.Steps.{Event, Came, Bytes, Gone, Datagram, Plant, Clock, Over, Act, Give, Send, Answer, End, Reading, Step, Hears, Does}
+use Rattle.post_spec.specs.Steps.{Event, Came, Bytes, Gone, Datagram, Plant, Clock, Over, Act, Send, Reading, Step, Hears, Does}
 use Rattle.station_spec.specs.States.{Spoken, Agenda, Session, State, nothing, first, first_of}
 use Rattle.station_spec.specs.States as states
 use Rattle.station_spec.specs.Deciding.{opening_if, ending_by, ending_in, repeating, timing, watch, confirms, confirming, charging_by, charging, eventing, fronting_by, fronting, decided, due, is_reached}
 use Rattle.station_spec.specs.Judging.{order_by, cause_by, judged, taken_in, read, filled}
-use Rattle.station_spec.specs.Acting.{failing, agenda_said, giving, saying, acted, live_ordered, state, IsDone}
+use Rattle.station_spec.specs.Acting.{failing, agenda_said, giving, acted, live_ordered, state, IsDone}
 use Rattle.station_laws.specs.PostRuns.{IsPostRun}
 use Rattle.station_laws.proofs.Decided.{decided_by}
 

@@ -4,4 +4,5 @@ pub mod Spoken
 pub mod Worded
 pub mod Wording
 pub mod Deadlines
+pub mod Shutting
 pub mod Causing

@@ -9,9 +9,9 @@ use Rattle.post_spec.specs.Codecs.{Codecs}
 use Rattle.post_spec.specs.Steps.{Event, Act, Give, Reading}
 use Rattle.station_spec.specs.States.{Agenda, Part, Timing, Eventing, Wording, Session, State, nothing, first, is_none, is_done}
 use Rattle.station_spec.specs.States as states
-use Rattle.station_spec.specs.Deciding.{opening_if, ending_by, ending_in, repeating, timing, eventing, decide, from_wording, from_eventing, from_timing, decided, due, is_reached}
-use Rattle.station_spec.specs.Judging.{wanted, read, filled, IsRead}
-use Rattle.station_spec.specs.Acting.{failing, hearing, IsQuiet, Acts}
+use Rattle.station_spec.specs.Deciding.{ending_by, ending_in, repeating, timing, eventing, decide, from_wording, from_eventing, from_timing, decided, due, is_reached}
+use Rattle.station_spec.specs.Judging.{wanted, read, IsRead}
+use Rattle.station_spec.specs.Acting.{hearing, IsQuiet, Acts}
 use Rattle.safe_runs.proofs.Openings.{open_todo}
 
 -- Open is the first thing of an agenda, and of what is decided

@@ -1,8 +1,8 @@
 -- What the next word of a stream is: a payload as it is judged, or the fault of a frame.
-use Rattle.std.proofs.Common.{◌≡◌, ◌<◌, ◌≤◌, ℕ, zero, suc, ◌+◌, Bool, true, false, List, [], ◌∷◌, ◌++◌, length, drop, get_or, Option, Some, None, Ok, Err, refl, sym, ap, subst, ◌∙◌, inl, inr, ◌⊎◌, arith}
+use Rattle.std.proofs.Common.{◌≡◌, ◌<◌, ℕ, zero, suc, ◌+◌, Bool, List, [], ◌∷◌, ◌++◌, length, drop, get_or, Option, Some, None, Ok, Err, refl, sym, ap, subst, ◌∙◌, inl, inr, ◌⊎◌, arith}
 use Rattle.charge_world.specs.declared.offer.Dialect.{Dialect}
 use Rattle.v2gtp_frames.specs.declared.FrameFault.{FrameFault}
-use Rattle.v2gtp_frames.specs.Frames.{Frames, IsFault}
+use Rattle.v2gtp_frames.specs.Frames.{Frames}
 use Rattle.v2gtp_frames.specs.Reading.{whole_at, payload_at, behind_frames}
 use Rattle.v2gtp_frames.proofs.Ends.{is_fault}
 use Rattle.v2gtp_frames.proofs.Same.{next_word, last_rest}
@@ -10,7 +10,7 @@ use Rattle.post_spec.specs.Codecs.{Judged, Negotiated, Codecs, Judges}
 use Rattle.post_spec.specs.Sessions.{arriving, session_behind, session, with_seen, stream, brought, replies}
 use Rattle.post_spec.specs.Spelled.{AreDetermined}
 use Rattle.post_spec.specs.Steps.{Event, Came, Bytes, Gone, Datagram, Plant, Clock, Over, Give, Send, Answer, End, Seen, Heard, Did}
-use Rattle.post_spec.specs.Talk.{Exchange, Negotiation, Answered, dialect_of, Negotiates, IsExchange, OneMore, InSession, Unless, Talks}
+use Rattle.post_spec.specs.Talk.{Exchange, Negotiation, Answered, dialect_of, IsExchange, OneMore, InSession, Unless, Talks}
 use Rattle.post_spec.specs.Words.{HeardWord, Payload, Fault, chosen_by, AreRead, AreJudged, EndsSo, Words, IsPayloadAt}
 use Rattle.safe_runs.proofs.Growth.{payload_stays}
 

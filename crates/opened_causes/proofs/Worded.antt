@@ -1,7 +1,5 @@
 -- What is said is decided in the last part of a hearing.
-use Rattle.std.proofs.Common.{◌≡◌, ℕ, Bool, true, false, if◌then◌else◌, List, [], ◌∷◌, Option, Some, None, refl, sym, ap, subst, ◌∙◌, inl, inr, ◌⊎◌}
-use Rattle.charge_world.specs.declared.ports.Order.{Order}
-use Rattle.charge_world.specs.declared.ports.Order.TheVariants as order
+use Rattle.std.proofs.Common.{◌≡◌, ℕ, Bool, true, false, if◌then◌else◌, List, [], ◌∷◌, Option, Some, None, refl, inl, inr, ◌⊎◌}
 use Rattle.session_words.specs.declared.cause.EndCause.{EndCause}
 use Rattle.session_words.specs.declared.phase.Standing.{Standing}
 use Rattle.session_words.specs.declared.phase.Standing.TheVariants as standing
@@ -9,7 +7,7 @@ use Rattle.session_words.specs.declared.plan.PostPlan.{PostPlan}
 use Rattle.post_spec.specs.Codecs.{Judged, Negotiated, Asked, WrongSide, Refused}
 use Rattle.post_spec.specs.Steps.{Act, Give, Send, Answer, End, Reading, Step, Hears, Does}
 use Rattle.station_spec.specs.States.{Agenda, Wording, Session, State, nothing}
-use Rattle.station_spec.specs.Deciding.{opening_if, ending_by, ending_in, repeating, timing, decided, due, is_reached}
+use Rattle.station_spec.specs.Deciding.{ending_in, repeating, timing, decided, due, is_reached}
 use Rattle.station_spec.specs.Judging.{judged, taken_in, read, filled}
 use Rattle.station_spec.specs.Acting.{failing, agenda_said, acted, state}
 use Rattle.station_laws.proofs.Decided.{decided_by}

@@ -1,5 +1,5 @@
 -- A word that ends the session opens its contactor.
-use Rattle.std.proofs.Common.{◌≡◌, ℕ, zero, suc, ◌+◌, Bool, true, false, if◌then◌else◌, ◌&&◌, List, [], ◌∷◌, ◌++◌, length, drop, map, Option, Some, None, is_some, Result, Ok, Err, refl, sym, ap, subst, ◌∙◌, inl, inr, ◌⊎◌, MatchBool, arith}
+use Rattle.std.proofs.Common.{◌≡◌, ℕ, zero, suc, ◌+◌, Bool, true, false, if◌then◌else◌, List, [], ◌∷◌, length, drop, Option, Some, None, Ok, Err, refl, sym, ap, subst, ◌∙◌, inl, inr, ◌⊎◌, MatchBool, arith}
 use Rattle.charge_world.specs.declared.offer.Dialect.{Dialect}
 use Rattle.charge_world.specs.declared.ports.Order.{Order}
 use Rattle.charge_world.specs.declared.ports.Order.TheVariants as order
@@ -8,35 +8,32 @@ use Rattle.session_words.specs.declared.facts.Facts.{Facts}
 use Rattle.session_words.specs.declared.phase.Phase.{Phase}
 use Rattle.session_words.specs.declared.phase.Phase.TheVariants as row
 use Rattle.session_words.specs.declared.plan.PostPlan.{PostPlan}
-use Rattle.session_words.specs.declared.word.Request.{Request}
-use Rattle.session_words.specs.declared.word.Word.{Word}
 use Rattle.v2gtp_frames.specs.declared.FrameFault.{FrameFault}
 use Rattle.v2gtp_frames.specs.Reading.{whole_at, payload_at, behind_frames}
-use Rattle.session_rules.specs.declared.stage.Stage.{Stage}
 use Rattle.session_rules.specs.Causes.{found_by, word_cause}
 use Rattle.session_rules.specs.Orders.{order_of}
 use Rattle.session_rules.specs.Stages.{is_waiting}
 use Rattle.session_rules.specs.Verdict.{verdict}
 use Rattle.post_spec.specs.Causes.{found_judged, found_word}
 use Rattle.post_spec.specs.Codecs.{Judged, Negotiated, Asked, WrongSide, Refused, Codecs, Judges, judged_word}
-use Rattle.post_spec.specs.Course.{Talked, Course, facts_of}
+use Rattle.post_spec.specs.Course.{Course, facts_of}
 use Rattle.post_spec.specs.Sessions.{session, stream, waits, replies}
 use Rattle.post_spec.specs.Spelled.{AreDetermined}
 use Rattle.post_spec.specs.Steps.{Act, Give, Seen, Reading}
 use Rattle.post_spec.specs.Talk.{Exchange, dialect_of}
-use Rattle.post_spec.specs.Words.{HeardWord, Payload, Fault, Words, IsPayloadAt, next_words}
+use Rattle.post_spec.specs.Words.{HeardWord, Words, next_words}
 use Rattle.station_spec.specs.States.{Agenda, Session, State, Wording, nothing, first, is_none, is_done}
 use Rattle.station_spec.specs.States as states
-use Rattle.station_spec.specs.Deciding.{opening_if, ending_by, fronting_by, fronting, decide, from_wording, decided}
-use Rattle.station_spec.specs.Judging.{Payload as Wanted, payload_by, payload_in, wanted, speaks, speaks_in, order_by, cause_by, judged, taken_in, read, filled, IsRead}
+use Rattle.station_spec.specs.Deciding.{fronting, from_wording, decided}
+use Rattle.station_spec.specs.Judging.{Payload as Wanted, wanted, speaks, speaks_in, order_by, cause_by, judged, taken_in, read, IsRead}
 use Rattle.station_spec.specs.Acting.{IsQuiet, Acts}
 use Rattle.read_runs.specs.Courses.{talked_of}
 use Rattle.safe_runs.proofs.Links.{Rowed, Pending, Waits, Link, Tie, Clear}
 use Rattle.safe_runs.proofs.Openings.{open_todo}
 use Rattle.safe_runs.proofs.Rows.{RowHas}
 use Rattle.safe_runs.proofs.Shut.{Still}
-use Rattle.opened_causes.proofs.Opens.{OpensIn, Opens, opens_next, opens_busy, ending_opens}
-use Rattle.opened_causes.proofs.Spoken.{Spoke, spoke, counted, DialectAt, FaultAt, PayloadAt, WordAt, word_at}
+use Rattle.opened_causes.proofs.Opens.{OpensIn, Opens, opens_next, opens_busy}
+use Rattle.opened_causes.proofs.Spoken.{Spoke, spoke, counted, DialectAt, PayloadAt, word_at}
 
 -- Open is what the post does next
 pub record Next (c : Codecs) (plan : PostPlan) (s : State) : Type 1 where

@@ -19,53 +19,31 @@ use Rattle.station_spec.specs.Sharing.{Post}
 use Rattle.station_spec.specs.Runs.{Rests, IsRun, Closes}
 use Rattle.safe_runs.specs.Opening.{HasFailed}
 
--- the kinds of causes of which the laws speak: one that is heard of the connection or the charger, or a call that failed
-abbrev pub IsBreak : (c : Codecs) (plan : PostPlan) (steps : List Step) (cause : EndCause) → IsCause c plan steps cause → Type 0
-IsBreak c plan steps cause (IsTold at event before t it session_is told) = Unit {0}
-IsBreak c plan steps cause (HasLeft at before es session_is) = Unit {0}
-IsBreak c plan steps cause (HasCome at token before es session_is) = Unit {0}
-IsBreak c plan steps cause (IsOver at before es session_is) = Unit {0}
-IsBreak c plan steps cause (HasNotSent reading bytes before es session_is) = Unit {0}
-IsBreak c plan steps cause (HasNotDriven reading order before es session_is) = Unit {0}
-IsBreak c plan steps cause (IsDue before t es course_is session_is reached bound) = ⊥
-IsBreak c plan steps cause (HasNoMatch reading bytes before talks) = ⊥
-IsBreak c plan steps cause (IsWord before t es words rest word it course_is session_is heard next judged) = ⊥
-
--- and the next word, which is next from the bytes on that brought it, or from the reply on to the word before it
-abbrev pub IsNext : List Step → Type 0
-IsNext [] = ⊥
-IsNext (Hears at (Bytes bytes) ∷ steps) = Unit {0}
-IsNext (Hears at event ∷ steps) = ⊥
-IsNext (Does reading (Send bytes) true ∷ steps) = Unit {0}
-IsNext (Does reading act taken ∷ steps) = ⊥
-
-abbrev pub IsNewWord : (c : Codecs) (plan : PostPlan) (steps : List Step) (cause : EndCause) → IsCause c plan steps cause → Type 0
-IsNewWord c plan steps cause (IsWord before t es words rest word it course_is session_is heard next judged) = IsNext steps
-IsNewWord c plan steps cause (IsTold at event before t it session_is told) = ⊥
-IsNewWord c plan steps cause (HasLeft at before es session_is) = ⊥
-IsNewWord c plan steps cause (HasCome at token before es session_is) = ⊥
-IsNewWord c plan steps cause (IsOver at before es session_is) = ⊥
-IsNewWord c plan steps cause (HasNotSent reading bytes before es session_is) = ⊥
-IsNewWord c plan steps cause (HasNotDriven reading order before es session_is) = ⊥
-IsNewWord c plan steps cause (IsDue before t es course_is session_is reached bound) = ⊥
-IsNewWord c plan steps cause (HasNoMatch reading bytes before talks) = ⊥
-
--- and a deadline, which is reached as a hearing tells of its moment
+-- Where a cause comes: a deadline is reached as a hearing tells of its moment; a word is next from the bytes on that brought it, from the
+-- reply on to the word before it, or from the Close on behind whose Start none may come; any other is what was heard or done last.
 abbrev pub IsHeard : List Step → Type 0
 IsHeard [] = ⊥
 IsHeard (Hears at event ∷ steps) = Unit {0}
 IsHeard (Does reading act taken ∷ steps) = ⊥
 
-abbrev pub IsDeadline : (c : Codecs) (plan : PostPlan) (steps : List Step) (cause : EndCause) → IsCause c plan steps cause → Type 0
-IsDeadline c plan steps cause (IsDue before t es course_is session_is reached bound) = IsHeard before
-IsDeadline c plan steps cause (IsWord before t es words rest word it course_is session_is heard next judged) = ⊥
-IsDeadline c plan steps cause (IsTold at event before t it session_is told) = ⊥
-IsDeadline c plan steps cause (HasLeft at before es session_is) = ⊥
-IsDeadline c plan steps cause (HasCome at token before es session_is) = ⊥
-IsDeadline c plan steps cause (IsOver at before es session_is) = ⊥
-IsDeadline c plan steps cause (HasNotSent reading bytes before es session_is) = ⊥
-IsDeadline c plan steps cause (HasNotDriven reading order before es session_is) = ⊥
-IsDeadline c plan steps cause (HasNoMatch reading bytes before talks) = ⊥
+abbrev pub IsNext : List Step → Type 0
+IsNext [] = ⊥
+IsNext (Hears at (Bytes bytes) ∷ steps) = Unit {0}
+IsNext (Hears at event ∷ steps) = ⊥
+IsNext (Does reading (Send bytes) true ∷ steps) = Unit {0}
+IsNext (Does reading (Give order.Close) true ∷ steps) = Unit {0}
+IsNext (Does reading act taken ∷ steps) = ⊥
+
+abbrev pub Comes : (c : Codecs) (plan : PostPlan) (steps : List Step) (cause : EndCause) → IsCause c plan steps cause → Type 0
+Comes c plan steps cause (IsDue before t es course_is session_is reached bound) = IsHeard before
+Comes c plan steps cause (IsWord before t es words rest word it course_is session_is heard next judged) = IsNext before
+Comes c plan steps cause (IsTold at event before t it session_is told) = Unit {0}
+Comes c plan steps cause (HasLeft at before es session_is) = Unit {0}
+Comes c plan steps cause (HasCome at token before es session_is) = Unit {0}
+Comes c plan steps cause (IsOver at before es session_is) = Unit {0}
+Comes c plan steps cause (HasNotSent reading bytes before es session_is) = Unit {0}
+Comes c plan steps cause (HasNotDriven reading order before es session_is) = Unit {0}
+Comes c plan steps cause (HasNoMatch reading bytes before talks) = Unit {0}
 
 -- An order to open may itself fail. It is that of an earlier cause, whose session ends then, but where it repeated one that had failed,
 -- or where the car asked to stop or to negotiate anew, and that was accepted.
@@ -92,11 +70,11 @@ IsFirst plan [] = Unit {0}
 IsFirst plan (Hears at event ∷ steps) = Unit {0}
 IsFirst plan (Does reading act taken ∷ steps) = IsFirstBehind plan reading act taken steps
 
--- a cause of this kind stands behind these steps, while the contactor is live
-pub record Stands (c : Codecs) (plan : PostPlan) (Of : (steps : List Step) (cause : EndCause) → IsCause c plan steps cause → Type 0) (steps : List Step) : Type 0 where
+-- a cause comes behind these steps, while the contactor is live, in a session that had none
+pub record HasCause (c : Codecs) (plan : PostPlan) (steps : List Step) : Type 0 where
   pub cause : EndCause
   pub is : IsCause c plan steps cause
-  pub kind : Of steps cause is
+  pub comes : Comes c plan steps cause is
   pub live_is : live (map seen_of steps) ≡ true
   pub first : IsFirst plan steps
 
@@ -104,28 +82,15 @@ abbrev pub IsOpening : Step → Type 0
 IsOpening step = (reading : Option Reading) × (taken : Bool) × (step ≡ Does reading (Give order.Open) taken)
 
 -- the step behind it is an order to open
-abbrev pub OpenBehind : (List Step → Type 0) → List Step → Type 0
-OpenBehind Causing [] = Unit {0}
-OpenBehind Causing (step ∷ steps) = OpenBehind Causing steps × (Causing steps → IsOpening step)
+abbrev pub OpenAtCauses : Codecs → PostPlan → List Step → Type 0
+OpenAtCauses c plan [] = Unit {0}
+OpenAtCauses c plan (step ∷ steps) = OpenAtCauses c plan steps × (HasCause c plan steps → IsOpening step)
 
--- so of a post, and a whole block doesn't end there
-abbrev pub OpensAt : (List Step → Type 0) → Post → Type 0
-OpensAt Causing post = OpenBehind Causing post.steps × (Rests post → Causing post.steps → ⊥)
-
--- in every run, of each post
-abbrev pub RunsOpenAtBreaks : Codecs → Type 0
-RunsOpenAtBreaks c = (site : SitePlan) (past : List Entry) (posts before : List Post) (post : Post) (behind : List Post)
-    → IsRun c site past posts → posts ≡ before ++ post ∷ behind → OpensAt (Stands c post.plan (IsBreak c post.plan)) post
-
-abbrev pub RunsOpenAtWords : Codecs → Type 0
-RunsOpenAtWords c = (site : SitePlan) (past : List Entry) (posts before : List Post) (post : Post) (behind : List Post)
+-- in every run, of each post; and no whole block ends at a cause
+abbrev pub RunsOpenAtCauses : Codecs → Type 0
+RunsOpenAtCauses c = (site : SitePlan) (past : List Entry) (posts before : List Post) (post : Post) (behind : List Post)
     → ReadsBack c → AreDetermined c → IsRun c site past posts → posts ≡ before ++ post ∷ behind
-    → OpensAt (Stands c post.plan (IsNewWord c post.plan)) post
-
-abbrev pub RunsOpenAtDeadlines : Codecs → Type 0
-RunsOpenAtDeadlines c = (site : SitePlan) (past : List Entry) (posts before : List Post) (post : Post) (behind : List Post)
-    → ReadsBack c → IsRun c site past posts → posts ≡ before ++ post ∷ behind
-    → OpensAt (Stands c post.plan (IsDeadline c post.plan)) post
+    → OpenAtCauses c post.plan post.steps × (Rests post → HasCause c post.plan post.steps → ⊥)
 
 -- where a run, whole or cut, ends at a cause of any kind, it is closed by an order to open that contactor
 abbrev pub RunsEndAtCauses : Codecs → Type 0

@@ -5,6 +5,7 @@ use Rattle.charge_world.specs.declared.heard.PilotState.{PilotState}
 use Rattle.charge_world.specs.declared.heard.PlantEvent.TheVariants as plant
 use Rattle.session_words.specs.declared.code.Progress.TheVariants as progress
 use Rattle.session_words.specs.declared.facts.Facts.{Facts}
+use Rattle.session_words.specs.declared.phase.Standing.{Standing}
 use Rattle.session_words.specs.declared.plan.PostPlan.{PostPlan}
 use Rattle.session_words.specs.declared.session.SessionId.{SessionId}
 use Rattle.session_words.specs.declared.word.Ask.{Ask}
@@ -14,16 +15,16 @@ use Rattle.session_rules.specs.declared.stage.Stage.{Stage}
 use Rattle.session_rules.specs.Moves.{facts_by, facts_behind}
 use Rattle.session_rules.specs.Verdict.{verdict, is_accepted}
 use Rattle.post_spec.specs.Codecs.{Judged, Negotiated, Asked, WrongSide, Refused}
-use Rattle.post_spec.specs.Facts.{now, pilot, measured, isolation, paid, stop}
+use Rattle.post_spec.specs.Facts.{standing, now, pilot, measured, isolation, paid, stop}
 use Rattle.post_spec.specs.Steps.{Event, Came, Plant, Act, Give, Send, Answer, End, Seen, Heard, Did, Reading, Step, Hears, Does, seen_of}
 use Rattle.station_spec.specs.States.{Session, State}
 use Rattle.station_spec.specs.Deciding.{decided}
 use Rattle.station_spec.specs.Judging.{judged, taken_in, read, filled}
-use Rattle.station_spec.specs.Acting.{heard_facts, acted, state}
+use Rattle.station_spec.specs.Acting.{heard_facts, arrival, acted, state}
 use Rattle.station_laws.proofs.Contactors.{contactors_are_read}
 use Rattle.station_laws.proofs.Decided.{planned, same_facts}
 use Rattle.silent_runs.proofs.Silence.{steps_live}
-use Rattle.read_runs.specs.Facts.{FactsAreRead}
+use Rattle.read_runs.specs.Facts.{newest_event, before_hearing, FactsAreRead}
 
 -- what is known of the charger, but for its contactor
 pub record Charger : Type 0 where
@@ -106,9 +107,10 @@ pub record Hearing : Type 0 where
   pub clock : ℕ
   pub arrived : Option ℕ
   pub event : Event
+  pub stood : Standing
 
 abbrev pub hearing_of : State → Hearing
-hearing_of s = record { clock = s.clock; arrived = s.arrived; event = s.event }
+hearing_of s = record { clock = s.clock; arrived = s.arrived; event = s.event; stood = s.stood }
 
 pub judged_hearing : (plan : PostPlan) (s : State) (ss : Session) (w : Judged) (shown : ℕ) → hearing_of (judged plan s ss w shown) ≡ hearing_of s
 judged_hearing plan s ss (Negotiated chosen response) shown = refl
@@ -141,18 +143,28 @@ acted_hearing (End cause) taken s = refl
 pub does_hearing : (plan : PostPlan) (r : Option Reading) (a : Act) (taken : Bool) (s : State) → hearing_of (acted a taken (filled plan r s)) ≡ hearing_of s
 does_hearing plan r a taken s = acted_hearing a taken (filled plan r s) ∙ filled_hearing plan r s
 
+abbrev hearing_in : List Seen → Hearing
+hearing_in past = record { clock = now past; arrived = arrival (newest_event past); event = newest_event past; stood = standing (before_hearing past) }
+
+steps_hearing : (plan : PostPlan) (steps : List Step) → hearing_of (state plan steps) ≡ hearing_in (map seen_of steps)
+steps_hearing plan [] = refl
+steps_hearing plan (Hears at e ∷ steps) = ap (λ (x : Standing). record { clock = at; arrived = arrival e; event = e; stood = x }) (contactors_are_read plan steps).standing_is
+steps_hearing plan (Does r a taken ∷ steps) = does_hearing plan r a taken (state plan steps) ∙ steps_hearing plan steps
+
 pub steps_clock : (plan : PostPlan) (steps : List Step) → (state plan steps).clock ≡ now (map seen_of steps)
-steps_clock plan [] = refl
-steps_clock plan (Hears at e ∷ steps) = refl
-steps_clock plan (Does r a taken ∷ steps) = ap (λ (h : Hearing). h.clock) (does_hearing plan r a taken (state plan steps)) ∙ steps_clock plan steps
+steps_clock plan steps = ap (λ (h : Hearing). h.clock) (steps_hearing plan steps)
 
 pub facts_are_read : FactsAreRead
 facts_are_read plan steps =
     let h = steps_charger plan steps in
     let k = contactors_are_read plan steps in
     let l = steps_live plan steps in
+    let w = steps_hearing plan steps in
     record {
       clock_is = steps_clock plan steps;
+      event_is = ap (λ (x : Hearing). x.event) w;
+      arrived_is = ap (λ (x : Hearing). x.arrived) w;
+      stood_is = ap (λ (x : Hearing). x.stood) w;
       pilot_is = ap (λ (x : Charger). x.pilot) h;
       isolation_is = ap (λ (x : Charger). x.isolation) h;
       voltage_is = ap (λ (x : Charger). x.voltage) h;

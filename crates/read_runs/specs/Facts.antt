@@ -1,14 +1,28 @@
 -- Own: what a post keeps of its clock and its charger is what its past tells of them.
-use Rattle.std.specs.Prelude.{◌≡◌, List, map, is_some}
+use Rattle.std.specs.Prelude.{◌≡◌, List, [], ◌∷◌, map, is_some}
 use Rattle.session_words.specs.declared.plan.PostPlan.{PostPlan}
 use Rattle.post_spec.specs.Facts.{now, pilot, measured, isolation, paid, stop, standing, live}
 use Rattle.post_spec.specs.Sessions.{session}
-use Rattle.post_spec.specs.Steps.{Seen, Step, seen_of}
+use Rattle.post_spec.specs.Steps.{Event, Clock, Seen, Heard, Did, Step, seen_of}
 use Rattle.station_spec.specs.States.{State}
-use Rattle.station_spec.specs.Acting.{state}
+use Rattle.station_spec.specs.Acting.{arrival, state}
+
+-- the newest hearing: its event, and the past before it
+abbrev pub newest_event : List Seen → Event
+newest_event [] = Clock
+newest_event (Heard at event ∷ past) = event
+newest_event (Did act taken ∷ past) = newest_event past
+
+abbrev pub before_hearing : List Seen → List Seen
+before_hearing [] = []
+before_hearing (Heard at event ∷ past) = past
+before_hearing (Did act taken ∷ past) = before_hearing past
 
 pub record AreFacts (past : List Seen) (s : State) : Type 0 where
   pub clock_is : s.clock ≡ now past
+  pub event_is : s.event ≡ newest_event past
+  pub arrived_is : s.arrived ≡ arrival (newest_event past)
+  pub stood_is : s.stood ≡ standing (before_hearing past)
   pub pilot_is : s.facts.pilot ≡ pilot past
   pub isolation_is : s.facts.isolation ≡ isolation past
   pub voltage_is : s.facts.voltage ≡ (measured past).0

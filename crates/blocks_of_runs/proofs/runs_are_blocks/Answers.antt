@@ -1,4 +1,4 @@
-use Rattle.blocks_of_runs.proofs.Posts.{runs_are_blocks}
+use Rattle.blocks_of_runs.proofs.Cuts.{runs_are_blocks}
 use Rattle.blocks_of_runs.proofs.runs_are_blocks.Goals as goal
 
 pub returns : goal.returns
