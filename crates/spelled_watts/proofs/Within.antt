@@ -1,20 +1,24 @@
 -- What the posts spell is what they may spell.
-use Rattle.std.proofs.Common.{◌≡◌, ◌≤◌, ℕ, suc, ◌+◌, List, [], ◌∷◌, map, Option, Some, None, refl, sym, subst, arith}
+use Rattle.std.proofs.Common.{◌≡◌, ◌≤◌, ℕ, suc, ◌+◌, List, [], ◌∷◌, map, Option, Some, None, refl, sym, subst, arith, Bool, true, false, ◌==◌, MatchBool}
 use Rattle.std.specs.Prelude.{sum}
 use Rattle.std.proofs.lemmas.List.Sums.{sum_by-cons}
 use Rattle.charge_world.specs.declared.entry.Entry.{Entry}
+use Rattle.charge_world.specs.declared.entry.Entry.TheVariants as entry
+use Rattle.charge_world.specs.declared.ports.Order.{Order}
+use Rattle.charge_world.specs.declared.ports.Order.TheVariants as order
 use Rattle.session_words.specs.declared.plan.PostPlan.{PostPlan}
 use Rattle.post_spec.specs.Codecs.{Codecs}
 use Rattle.post_spec.specs.Sessions.{session}
 use Rattle.post_spec.specs.Spelled.{IsSpelled, ReadsBack}
-use Rattle.post_spec.specs.Steps.{Seen, Step, seen_of}
+use Rattle.post_spec.specs.Steps.{Seen, Step, seen, seen_of}
 use Rattle.station_spec.specs.States.{Spoken, Session}
 use Rattle.session_words.specs.declared.cause.EndCause.{EndCause}
 use Rattle.station_spec.specs.Acting.{state}
-use Rattle.station_spec.specs.Sharing.{Post}
+use Rattle.station_spec.specs.Sharing.{Post, state_of}
+use Rattle.station_spec.specs.Runs.{Closes}
 use Rattle.station_laws.specs.PostRuns.{IsPostRun, ArePostsOf}
 use Rattle.station_laws.proofs.PostRuns.{run_posts}
-use Rattle.spelled_watts.specs.Spelling.{AreSpelled, NegotiatesFirst, RunsSpellWithin}
+use Rattle.spelled_watts.specs.Spelling.{SpellsWithin, AreSpelled, NegotiatesFirst, RunsSpellWithin, ClosedRunsSpellWithin}
 use Rattle.spelled_watts.proofs.Links.{Tie}
 use Rattle.spelled_watts.proofs.Shares.{said, pledged, pledged_total, pledged_within}
 use Rattle.spelled_watts.proofs.Tied.{steps_tied}
@@ -59,3 +63,29 @@ pub runs_spell_within : (c : Codecs) → RunsSpellWithin c
 runs_spell_within c site past posts back neg run =
     let all = posts_spell c past 1 posts back neg (run_posts c site past posts run) in
     record { watts = all.watts; are = all.are; within = omega (arith, all.within, pledged_within c site past posts run) }
+
+-- An order changes nothing of it.
+drove_spells : (b : Bool) (c : Codecs) (plan : PostPlan) (past : List Entry) (k n : ℕ) (o : Order) (taken : Bool) (watts : ℕ) → (n == k) ≡ b → IsSpelled c plan (seen k past) watts → IsSpelled c plan (seen k (entry.Drove n o taken ∷ past)) watts
+drove_spells true c plan past k n o taken watts e i = rw e (record { xs = i.xs; talks = i.talks; watts_are = i.watts_are })
+drove_spells false c plan past k n o taken watts e i = rw e i
+
+drove_all : (c : Codecs) (past : List Entry) (k n : ℕ) (o : Order) (taken : Bool) (posts : List Post) (watts : List ℕ) → AreSpelled c past k posts watts → AreSpelled c (entry.Drove n o taken ∷ past) k posts watts
+drove_all c past k n o taken [] watts a = a
+drove_all c past k n o taken (p ∷ posts) [] a = absurd a
+drove_all c past k n o taken (p ∷ posts) (w ∷ watts) a = (drove_spells (n == k) c p.plan past k n o taken w refl a.0, drove_all c past (suc k) n o taken posts watts a.1)
+
+drove_within : (c : Codecs) (limit : ℕ) (past : List Entry) (n : ℕ) (o : Order) (taken : Bool) (posts : List Post) → SpellsWithin c limit past posts → SpellsWithin c limit (entry.Drove n o taken ∷ past) posts
+drove_within c limit past n o taken posts s = record { watts = s.watts; are = drove_all c past 1 n o taken posts s.watts s.are; within = s.within }
+
+closed_one : (b : Bool) (c : Codecs) (limit k : ℕ) (rest posts : List Post) (blocks past : List Entry) → ((earlier : List Entry) → Closes (suc k) rest earlier past → SpellsWithin c limit earlier posts → SpellsWithin c limit past posts)
+    → MatchBool b ((taken : Bool) × Closes (suc k) rest (entry.Drove k order.Open taken ∷ blocks) past) (Closes (suc k) rest blocks past) → SpellsWithin c limit blocks posts → SpellsWithin c limit past posts
+closed_one true c limit k rest posts blocks past next (taken, h) s = next (entry.Drove k order.Open taken ∷ blocks) h (drove_within c limit blocks k order.Open taken posts s)
+closed_one false c limit k rest posts blocks past next h s = next blocks h s
+
+closed_within : (c : Codecs) (limit k : ℕ) (rest posts : List Post) (blocks past : List Entry) → Closes k rest blocks past → SpellsWithin c limit blocks posts → SpellsWithin c limit past posts
+closed_within c limit k [] posts blocks past h s = subst (λ (es : List Entry). SpellsWithin c limit es posts) (sym h) s
+closed_within c limit k (p ∷ rest) posts blocks past h s =
+    closed_one (state_of p).live c limit k rest posts blocks past (λ earlier g t. closed_within c limit (suc k) rest posts earlier past g t) h s
+
+pub closed_runs_spell_within : (c : Codecs) → ClosedRunsSpellWithin c
+closed_runs_spell_within c site past blocks posts back neg run closes = closed_within c site.limit 1 posts posts blocks past closes (runs_spell_within c site blocks posts back neg run)

@@ -8,7 +8,7 @@ use Rattle.post_spec.specs.Codecs.{Codecs, Asked}
 use Rattle.post_spec.specs.Spelled.{IsSpelled, ReadsBack, AreDetermined}
 use Rattle.post_spec.specs.Steps.{seen}
 use Rattle.station_spec.specs.Sharing.{Post}
-use Rattle.station_spec.specs.Runs.{IsRun}
+use Rattle.station_spec.specs.Runs.{IsRun, Closes}
 
 -- the watts that each post spells, from number k on
 abbrev pub AreSpelled : Codecs → List Entry → ℕ → List Post → List ℕ → Type 0
@@ -30,6 +30,11 @@ pub record SpellsWithin (c : Codecs) (limit : ℕ) (past : List Entry) (posts : 
 abbrev pub RunsSpellWithin : Codecs → Type 0
 RunsSpellWithin c = (site : SitePlan) (past : List Entry) (posts : List Post) → ReadsBack c → NegotiatesFirst c → IsRun c site past posts
     → SpellsWithin c site.limit past posts
+
+-- and behind the orders that close it
+abbrev pub ClosedRunsSpellWithin : Codecs → Type 0
+ClosedRunsSpellWithin c = (site : SitePlan) (past blocks : List Entry) (posts : List Post) → ReadsBack c → NegotiatesFirst c
+    → IsRun c site blocks posts → Closes 1 posts blocks past → SpellsWithin c site.limit past posts
 
 -- a past spells one list of watts
 abbrev pub AreSpelledOnce : Codecs → Type 0

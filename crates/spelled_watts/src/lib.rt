@@ -2,14 +2,16 @@
 #![tactic(auto)]
 
 ghost use Rattle.post_spec.specs.Codecs.{codecs};
-ghost use Rattle.spelled_watts.specs.Spelling.{RunsSpellWithin, AreSpelledOnce};
+ghost use Rattle.spelled_watts.specs.Spelling.{RunsSpellWithin, ClosedRunsSpellWithin, AreSpelledOnce};
 
 use post_spec::Coded;
 
 /// The watts that the last replies sent to all posts spell, in watts or as a current at the nominal voltage, add up to at most the
-/// site's limit, after every entry; where an encoded reply reads as that reply, and a first payload is none of a dialect.
+/// site's limit, after every entry and behind the orders that close a run; where an encoded reply reads as that reply, and a first
+/// payload is no request of a dialect.
 pub fn spelled_within_limit<C: Coded>()
-    ensures { RunsSpellWithin (codecs C.negotiates C.reads C.encodes) }
+    ensures runs { RunsSpellWithin (codecs C.negotiates C.reads C.encodes) }
+    ensures closed { ClosedRunsSpellWithin (codecs C.negotiates C.reads C.encodes) }
 {}
 
 /// Where a payload is judged one way, a past spells one list of watts.
