@@ -114,3 +114,12 @@ fn an_item_that_cannot_be_taken_is_refused_at_its_bit(rt: HostRuntime) {
         }
     }
 }
+
+#[test]
+fn the_blank_span_is_the_empty_text(rt: HostRuntime) {
+    let blank = BitSpan::default();
+    assert_eq!(rt; blank.len(), 0);
+    assert_eq!(rt; blank.at(), SpanAt { bit: 0, chars: 0 });
+    assert!(rt; blank.same_str(""));
+    assert!(rt; !blank.same_str("a"));
+}

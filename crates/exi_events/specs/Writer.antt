@@ -12,7 +12,7 @@ use Rattle.exi_schema.specs.Schemas.{PlainSchema}
 use Rattle.exi_schema.specs.declared.tables.Datatype.{Datatype}
 use Rattle.exi_schema.specs.Plain.{PlainKind}
 use Rattle.exi_schema.specs.declared.tables.MemberStanding.TheVariants.{Taken}
-use Rattle.exi_schema.specs.Offers.{offers}
+use Rattle.exi_schema.specs.Offers.{IsWidth, offers}
 use Rattle.exi_schema.specs.Steps.{IsStep, simple_at}
 use Rattle.exi_documents.specs.Trees.{Tree, Value as TreeValue, Event as TreeEvent, document_events}
 use Rattle.exi_documents.specs.Values.{Entries, WritesValue}
@@ -137,9 +137,10 @@ IsStepOf step.End event.EndElement = Unit {0}
 IsStepOf (step.Characters next) (event.Value v) = Unit {0}
 IsStepOf _ _ = ⊥
 
--- the code of an event at a place, and what it means
+-- the code of an event at a place, its width, and what it means
 pub record IsFound (s : PlainSchema) (here : Place) (offer : Offer) (e : Event) : Type 0 where
   pub offered : slice_get (offers s.kinds here) offer.code ≡ Some offer.step
+  pub is_width : IsWidth (length (offers s.kinds here)) offer.width
   pub meant : IsStepOf offer.step e
   pub of_schema : IsStep s.kinds (length s.names) here.kind offer.step
   pub few : length (offers s.kinds here) < 2 ^ 16

@@ -67,7 +67,7 @@ fn inside_bits<P: Places>(
     ensures bits { (above : _) → HasBits (P.schema places.now) (stands (Inside (opened_of top) above) (texts_in (written_bits pen.now) table.now.entries)) (event_of event.now) result }
     ensures few { result < 2 ^ 45 }
 {
-    let code = u64::from(places.width(top.place));
+    let code = u64::from(offer.width);
     match offer.step {
         Step::Attribute { name, kind, .. } => {
             code + value_bits_of(pen, places, table, kind, name, event)

@@ -4,7 +4,7 @@ ghost use Rattle.std.specs.Prelude.{◌≡◌, ◌<◌, ◌≤◌, ◌^◌, ℕ,
 ghost use Rattle.exi_spec.specs.Bits.{bits_of};
 ghost use Rattle.exi_schema.specs.declared.places.Root.TheVariants.{Kind};
 ghost use Rattle.exi_schema.specs.declared.places.Step.{Step as SchemaStep};
-ghost use Rattle.exi_schema.specs.Offers.{IsPlace, offers};
+ghost use Rattle.exi_schema.specs.Offers.{IsPlace, IsWidth, offers};
 ghost use Rattle.exi_schema.specs.Steps.{IsStep, IsRoot, simple_at};
 ghost use Rattle.exi_documents.specs.Grammar.{Inside, stands, Opened};
 ghost use Rattle.exi_documents.specs.Values.{most_entries, IsValue};
@@ -14,6 +14,7 @@ ghost use Rattle.exi_events.specs.Open.{opened_of};
 ghost use Rattle.exi_events.specs.Writer.{IsOffered, IsShapedEvent, IsStepOf, IsFound, MayWrite, value_in};
 
 use crate::open::OpenElement;
+use crate::step::codes_at;
 use crate::value::{has_entry, is_value};
 use exi_schema::{MemberStanding, Place, Places, Root, Step};
 use exi_values::{Event, Table, Value};
@@ -28,10 +29,11 @@ pub(crate) fn names_root<P: Places>(places: &P, number: u32) -> bool
     }
 }
 
-/// An event code that is offered at a place, and what it means.
+/// An event code that is offered at a place, how many bits it has, and what it means.
 #[derive(Clone, Copy, Debug, PartialEq, Eq)]
 pub(crate) struct Offer {
     pub(crate) code: u16,
+    pub(crate) width: u32,
     pub(crate) step: Step,
 }
 
@@ -39,15 +41,21 @@ pub(crate) struct Offer {
 pub(crate) fn offer_of<P: Places>(places: &P, here: Place, event: &Event) -> Option<Offer>
     requires { IsPlace (P.schema places.now).kinds here }
     ensures offered { IfSome result (λ offer. slice_get (offers (P.schema places.now).kinds here) offer.code ≡ Some offer.step) }
+    ensures width { IfSome result (λ offer. IsWidth (length (offers (P.schema places.now).kinds here)) offer.width) }
     ensures meant { IfSome result (λ offer. IsStepOf offer.step event.now) }
     ensures of_schema { IfSome result (λ offer. IsStep (P.schema places.now).kinds (length (P.schema places.now).names) here.kind offer.step) }
     ensures few { length (offers (P.schema places.now).kinds here) < 2 ^ 16 }
     ensures none { result ≡ None → (code : ℕ) (step : SchemaStep) → slice_get (offers (P.schema places.now).kinds here) code ≡ Some step → IsStepOf step event.now → ⊥ }
 {
-    for code in 0..places.alternatives(here) {
+    let codes = codes_at(places, here);
+    for code in 0..codes.offered {
         let step = places.advance(here, code);
         if is_step_of(&step, event) {
-            return Some(Offer { code, step });
+            return Some(Offer {
+                code,
+                width: codes.width,
+                step,
+            });
         }
     }
     None

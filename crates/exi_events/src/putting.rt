@@ -106,7 +106,7 @@ fn put_inside<P: Places>(
     ensures more { WritesMore pen.old pen.new }
     ensures stays { OnErr result ((elements.new ≡ elements.old) × (table.new ≡ table.old)) }
 {
-    pen.put_bits(u32::from(offer.code), places.width(top.place))?;
+    pen.put_bits(u32::from(offer.code), offer.width)?;
     match offer.step {
         Step::Attribute { name, kind, next } => {
             put_value_of(pen, places, table, kind, name, event)?;

@@ -9,4 +9,4 @@ mod walk;
 pub use places::{Place, Places, Root, Step};
 pub use schema::Schema;
 pub use tables::{AttributeOf, Datatype, Declaration, Member, MemberStanding, Particle, RootOf};
-pub use walk::root_in;
+pub use walk::{root_in, width_for};

@@ -204,8 +204,8 @@ pub(crate) fn simple_step(here: Place) -> Step
     }
 }
 
-/// The least number of bits in which n + 1 codes differ.
-pub(crate) fn width_for(n: u32) -> u32
+/// How many bits a code has where n codes are offered: the least number in which n + 1 codes differ (8.5.4.4).
+pub fn width_for(n: u32) -> u32
     requires { n ≤ 65535 }
     ensures { IsWidth n result }
 {
