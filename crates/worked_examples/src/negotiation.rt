@@ -30,8 +30,9 @@ fn push_text(texts: &mut String, text: &Text<'_>) -> Result<(), Fail> {
         Text::Written(written) => texts.push_str(written)?,
         Text::Lent(lent) => {
             let mut contents = lent.span().contents();
-            while let Some(item) = contents.next() {
-                texts.push(char::from_u32(item).ok_or("a character")?)?;
+            for _ in 0..lent.span().len() {
+                let item = contents.next().ok_or("a character")?;
+                texts.push(char::from_u32(item).ok_or("a scalar value")?)?;
             }
         }
     }
