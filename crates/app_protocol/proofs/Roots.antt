@@ -1,6 +1,5 @@
 -- A message in memory and the tree of its document.
 use Rattle.std.proofs.Common.{◌≡◌, ℕ, ◌↔◌, Bool, List, [], ◌∷◌, map, refl, sym, ap, subst}
-use Rattle.exi_schema.specs.Schemas.{PlainSchema}
 use Rattle.exi_documents.specs.Documents.{IsDocument, IsEncoding, SpellsDocument}
 use Rattle.exi_documents.specs.Trees.{Tree}
 use Rattle.exi_documents.specs.Values.{WritesValue}
@@ -35,22 +34,19 @@ within m payload document =
     let of = of_message document.number (tree_of m) document.bits document.spelled in
     record { message = subst (λ (n : Message). IsMessage n) (sym (one_message m of.0 of.2)) of.1; document = document }
 
-module _ (s : PlainSchema) (same : s ≡ negotiation_schema) (m : AppMessage) where
-  pub is_app : (payload : List ℕ) → IsDocument s (root_tree m) payload → IsApp (message_of m) payload
-  is_app payload document =
-      within (message_of m) payload (subst (λ (t : Tree). IsDocument negotiation_schema t payload) (tree_is m) (subst (λ (x : PlainSchema). IsDocument x (root_tree m) payload) same document))
+pub is_app : (m : AppMessage) (payload : List ℕ) → IsDocument negotiation_schema (root_tree m) payload → IsApp (message_of m) payload
+is_app m payload document = within (message_of m) payload (subst (λ (t : Tree). IsDocument negotiation_schema t payload) (tree_is m) document)
 
-  pub is_encoding : (payload : List ℕ) → IsEncoding s (root_tree m) payload → IsAppEncoding (message_of m) payload
-  is_encoding payload encoding =
-      subst (λ (t : Tree). IsEncoding negotiation_schema t payload) (tree_is m) (subst (λ (x : PlainSchema). IsEncoding x (root_tree m) payload) same encoding)
+pub is_encoding : (m : AppMessage) (payload : List ℕ) → IsEncoding negotiation_schema (root_tree m) payload → IsAppEncoding (message_of m) payload
+is_encoding m payload encoding = subst (λ (t : Tree). IsEncoding negotiation_schema t payload) (tree_is m) encoding
 
-  pub is_writable : IsMessage (message_of m) → IsWritable s (root_number m) (root_tree m)
-  is_writable is =
-      let written = message_encoded (message_of m) is in
-      subst (λ (t : Tree). IsWritable s (root_number m) t) (sym (tree_is m)) (subst (λ (x : PlainSchema). IsWritable x (root_number m) (tree_of (message_of m))) (sym same) (written.0, written.1))
+pub is_writable : (m : AppMessage) → IsMessage (message_of m) → IsWritable negotiation_schema (root_number m) (root_tree m)
+is_writable m is =
+    let written = message_encoded (message_of m) is in
+    subst (λ (t : Tree). IsWritable negotiation_schema (root_number m) t) (sym (tree_is m)) (written.0, written.1)
 
-  pub passes : (bytes : ℕ) → DocumentPasses s (root_number m) (root_tree m) bytes ↔ PassesBytes (message_of m) bytes
-  passes bytes = (
-    λ more. subst (λ (t : Tree). DocumentPasses negotiation_schema (root_number m) t bytes) (tree_is m) (subst (λ (x : PlainSchema). DocumentPasses x (root_number m) (root_tree m) bytes) same more),
-    λ more. subst (λ (t : Tree). DocumentPasses s (root_number m) t bytes) (sym (tree_is m)) (subst (λ (x : PlainSchema). DocumentPasses x (root_number m) (tree_of (message_of m)) bytes) (sym same) more),
-  )
+pub passes : (m : AppMessage) (bytes : ℕ) → DocumentPasses negotiation_schema (root_number m) (root_tree m) bytes ↔ PassesBytes (message_of m) bytes
+passes m bytes = (
+  subst (λ (t : Tree). DocumentPasses negotiation_schema (root_number m) t bytes) (tree_is m),
+  subst (λ (t : Tree). DocumentPasses negotiation_schema (root_number m) t bytes) (sym (tree_is m)),
+)

@@ -7,7 +7,7 @@ ghost use Rattle.app_protocol.specs.Documents.{IsApp, IsAppRefused, IsAppEncodin
 ghost use Rattle.app_protocol.specs.Messages.{message_of};
 
 use crate::message::AppMessage;
-use app_schema::negotiation;
+use app_schema::NegotiationPlaces;
 use exi_documents::Refusal;
 use exi_events::{Full, Table};
 
@@ -22,7 +22,7 @@ pub fn read_app<'a>(payload: &'a [u8], table: &mut Table) -> Result<AppMessage<'
     ensures read { IfOk result (λ m. IsApp (message_of m) payload.now) }
     ensures refused { IfErr result (λ r. IsAppRefused payload.now r.cause r.bit) }
 {
-    message_parts::read(payload, &negotiation(), table)
+    message_parts::read(payload, &NegotiationPlaces, table)
 }
 
 /// Writes the one encoding of a message within its ranges (ISO 15118-2:2014, section 8.2) to the front of a room of at most 65,536
@@ -40,5 +40,5 @@ pub fn write_app(message: &AppMessage<'_>, room: &mut [u8], table: &mut Table) -
     ensures full { IsErr result ↔ PassesBytes (message_of message.now) (length room.old) }
     ensures bits { IfErr result (λ full. 8 * length room.old < full.bits) }
 {
-    message_parts::write(message, room, &negotiation(), table)
+    message_parts::write(message, room, &NegotiationPlaces, table)
 }

@@ -2,8 +2,10 @@
 #![tactic(auto)]
 
 pub mod names;
+mod places;
 mod tables;
 
+pub use places::NegotiationPlaces;
 pub use tables::negotiation;
 
 #[cfg(test)]

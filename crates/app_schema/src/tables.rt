@@ -35,21 +35,21 @@ static VALUES: [&'static [&'static str]; 8] = [
 ];
 
 // the numbers of the kinds
-const NAMESPACE_TEXT: u16 = 0;
+pub(crate) const NAMESPACE_TEXT: u16 = 0;
 
-const UNSIGNED_INT: u16 = 1;
+pub(crate) const UNSIGNED_INT: u16 = 1;
 
-const UNSIGNED_BYTE: u16 = 2;
+pub(crate) const UNSIGNED_BYTE: u16 = 2;
 
-const PRIORITY_NUMBER: u16 = 3;
+pub(crate) const PRIORITY_NUMBER: u16 = 3;
 
-const CODE_NAME: u16 = 4;
+pub(crate) const CODE_NAME: u16 = 4;
 
-const PROTOCOL: u16 = 5;
+pub(crate) const PROTOCOL: u16 = 5;
 
-const REQUEST_KIND: u16 = 6;
+pub(crate) const REQUEST_KIND: u16 = 6;
 
-const RESPONSE_KIND: u16 = 7;
+pub(crate) const RESPONSE_KIND: u16 = 7;
 
 static ROOTS: [RootOf; 2] = [
     RootOf {

@@ -57,7 +57,7 @@ impl Messages {
     }
 
     /// Reads a payload of at most 65,536 bytes.
-    fn read(&mut self, payload: &[u8]) -> Result<AppMessage, Refusal>
+    fn read<'a>(&mut self, payload: &'a [u8]) -> Result<AppMessage<'a>, Refusal>
         requires { length payload.now ≤ 65536 }
         ensures read { IfOk result (λ m. IsApp (message_of m) payload.now) }
         ensures refused { IfErr result (λ r. IsAppRefused payload.now r.cause r.bit) }

@@ -3,7 +3,7 @@
 ghost use Rattle.std.specs.Prelude.{◌≡◌, ◌≤◌, length};
 ghost use Rattle.exi_documents.specs.Values.{most_entries};
 
-use app_protocol::{AppMessage, Refusal, Table, read_app, write_app};
+use app_protocol::{AppMessage, Refusal, Table, Text, read_app, write_app};
 use exi_documents::MOST_ENTRIES;
 use exi_strings::{Partitions, TableFull};
 use std::alloc::Global;
@@ -24,6 +24,21 @@ const TWENTY: &str =
 0000004000060000000080000e0000000100002000000002000048000000040000a000000008000160000000100003000000002000068000\
 000040000e0000000080001e0000000100004000000002000088000000040001200000000800026000";
 
+/// A text behind another.
+fn push_text(texts: &mut String, text: &Text<'_>) -> Result<(), Fail> {
+    match text {
+        Text::Written(written) => texts.push_str(written)?,
+        Text::Lent(lent) => {
+            let mut contents = lent.span().contents();
+            for _ in 0..lent.span().len() {
+                let item = contents.next().ok_or("a character")?;
+                texts.push(char::from_u32(item).ok_or("a scalar value")?)?;
+            }
+        }
+    }
+    Ok(())
+}
+
 /// The namespaces of a request, each behind a space, or how it is refused.
 fn namespaces(alloc: Global, payload: &[u8], table: &mut Table) -> Result<String, Fail>
     requires payload { length payload.now ≤ 65536 }
@@ -34,7 +49,8 @@ fn namespaces(alloc: Global, payload: &[u8], table: &mut Table) -> Result<String
     match read_app(payload, table) {
         Ok(AppMessage::Req(request)) => {
             for protocol in request.protocols.as_slice() {
-                write!(texts, " {}", protocol.namespace.as_str())?;
+                texts.push(' ')?;
+                push_text(&mut texts, &protocol.namespace)?;
             }
         }
         Ok(AppMessage::Res(_)) => texts.push_str("a response")?,

@@ -1,0 +1,235 @@
+//! What is offered at each place, written out.
+
+ghost use Rattle.std.specs.Prelude.{◌≡◌, ◌≤◌, ◌<◌, ℕ, List, [], ◌∷◌, nat_lt, if◌then◌else◌, Some, false, slice_get};
+ghost use Rattle.exi_schema.specs.Offers.{IsPlace, offers, behind_copy, simple_step};
+ghost use Rattle.exi_schema.specs.declared.places.Step.TheVariants.{Element, End as TheEnd};
+ghost use Rattle.exi_schema.specs.declared.tables.MemberStanding.TheVariants.{Taken};
+ghost use Rattle.app_schema.specs.Declarations.{kinds, negotiation_schema};
+ghost use Rattle.app_schema.specs.Rows.{at, list_of, steps_of};
+
+use crate::names::{APP_PROTOCOL, MAJOR, MINOR, NAMESPACE, PRIORITY, RESPONSE_CODE, SCHEMA_ID};
+use crate::tables::{
+    CODE_NAME, NAMESPACE_TEXT, PRIORITY_NUMBER, PROTOCOL, REQUEST_KIND, RESPONSE_KIND,
+    UNSIGNED_BYTE, UNSIGNED_INT, negotiation,
+};
+use exi_schema::{Datatype, MemberStanding, Place, Places, Root, Step};
+
+/// What is offered at a place: one step, or two.
+#[derive(Clone, Copy)]
+struct Row {
+    first: Step,
+    second: Option<Step>,
+}
+
+impl Row {
+    ghost use Rattle.std.specs.Prelude.{length};
+    ghost use Rattle.exi_schema.specs.Offers.{IsWidth};
+
+    /// How many steps it has.
+    fn count(self) -> u16
+        ensures { result ≡ length (steps_of self) }
+    {
+        match self.second {
+            Some(_) => 2,
+            None => 1,
+        }
+    }
+
+    /// How many bits a code has.
+    #[tactic(auto, using(crate::proofs::Placed::width_of_one, crate::proofs::Placed::width_of_two))]
+    fn width(self) -> u32
+        ensures { IsWidth (length (steps_of self)) result }
+    {
+        match self.second {
+            Some(_) => 2,
+            None => 1,
+        }
+    }
+
+    /// The step of a code.
+    fn step(self, code: u16) -> Step
+        requires { code < length (steps_of self) }
+        ensures { Some result ≡ slice_get (steps_of self) code }
+    {
+        match self.second {
+            Some(second) => {
+                if code == 0 {
+                    self.first
+                } else {
+                    second
+                }
+            }
+            None => self.first,
+        }
+    }
+}
+
+/// A place behind so many particles of a kind.
+fn behind(kind: u16, particle: u16) -> Place
+    ensures { result ≡ at kind particle 0 }
+{
+    Place {
+        kind,
+        particle,
+        copies: 0,
+        attributes: 0,
+    }
+}
+
+/// An element that may stand there, and the place behind it.
+fn element(name: u16, kind: u16, next: Place) -> Step
+    ensures { result ≡ Element name kind next Taken false }
+{
+    Step::Element {
+        name,
+        kind,
+        next,
+        standing: MemberStanding::Taken,
+        past_limit: false,
+    }
+}
+
+/// The characters of a value, or the end behind them.
+fn value_step(kind: u16, particle: u16) -> Step
+    ensures { result ≡ simple_step (at kind particle 0) }
+{
+    if particle == 0 {
+        Step::Characters {
+            next: behind(kind, 1),
+        }
+    } else {
+        Step::End
+    }
+}
+
+/// What stands in an AppProtocol behind so many of its five elements.
+fn protocol_step(particle: u16) -> Step
+    requires { particle ≤ 5 }
+    ensures { result ∷ [] ≡ offers kinds (at 5 particle 0) }
+{
+    match particle {
+        0 => element(NAMESPACE, NAMESPACE_TEXT, behind(PROTOCOL, 1)),
+        1 => element(MAJOR, UNSIGNED_INT, behind(PROTOCOL, 2)),
+        2 => element(MINOR, UNSIGNED_INT, behind(PROTOCOL, 3)),
+        3 => element(SCHEMA_ID, UNSIGNED_BYTE, behind(PROTOCOL, 4)),
+        4 => element(PRIORITY, PRIORITY_NUMBER, behind(PROTOCOL, 5)),
+        _ => Step::End,
+    }
+}
+
+/// The place behind an AppProtocol, before which there are so many.
+fn behind_protocol(copies: u16) -> Place
+    requires { copies < 20 }
+    ensures { result ≡ behind_copy 6 0 0 copies (Some 20) }
+{
+    if copies < 19 {
+        Place {
+            copies: copies + 1,
+            ..behind(REQUEST_KIND, 0)
+        }
+    } else {
+        behind(REQUEST_KIND, 1)
+    }
+}
+
+/// The end of a request, where it has a protocol.
+fn end_behind(copies: u16) -> Option<Step>
+    ensures { list_of result ≡ (if nat_lt copies 1 then [] else TheEnd ∷ []) }
+{
+    if copies < 1 { None } else { Some(Step::End) }
+}
+
+/// What stands in a request behind so many protocols.
+fn protocol_or_end(copies: u16) -> Row
+    requires { copies < 20 }
+    ensures { steps_of result ≡ offers kinds (at 6 0 copies) }
+{
+    Row {
+        first: element(APP_PROTOCOL, PROTOCOL, behind_protocol(copies)),
+        second: end_behind(copies),
+    }
+}
+
+/// What stands in a response behind so many of its elements.
+fn response_row(particle: u16) -> Row
+    requires { particle ≤ 2 }
+    ensures { steps_of result ≡ offers kinds (at 7 particle 0) }
+{
+    match particle {
+        0 => Row {
+            first: element(RESPONSE_CODE, CODE_NAME, behind(RESPONSE_KIND, 1)),
+            second: None,
+        },
+        1 => Row {
+            first: element(SCHEMA_ID, UNSIGNED_BYTE, behind(RESPONSE_KIND, 2)),
+            second: Some(Step::End),
+        },
+        _ => Row {
+            first: Step::End,
+            second: None,
+        },
+    }
+}
+
+/// What is offered at a place of the schema.
+fn row_at(place: Place) -> Row
+    requires { IsPlace kinds place }
+    ensures { steps_of result ≡ offers kinds place }
+{
+    if place.kind == PROTOCOL {
+        return one(protocol_step(place.particle));
+    }
+    if place.kind == REQUEST_KIND {
+        if place.particle == 0 {
+            return protocol_or_end(place.copies);
+        }
+        return one(Step::End);
+    }
+    if place.kind == RESPONSE_KIND {
+        return response_row(place.particle);
+    }
+    one(value_step(place.kind, place.particle))
+}
+
+/// One step.
+fn one(first: Step) -> Row
+    ensures { steps_of result ≡ first ∷ [] }
+{
+    Row {
+        first,
+        second: None,
+    }
+}
+
+/// The schema of the negotiation in code, so that a look-up is no walk over tables (W3C EXI 1.0, Second Edition, 8.5.4). Contracts see
+/// `negotiation_schema`.
+#[derive(Clone, Copy)]
+pub struct NegotiationPlaces;
+
+impl Places for NegotiationPlaces {
+    ghost schema = { λ _. negotiation_schema };
+
+    fn alternatives(&self, place: Place) -> u16 {
+        row_at(place).count()
+    }
+
+    fn width(&self, place: Place) -> u32 {
+        row_at(place).width()
+    }
+
+    fn advance(&self, place: Place, code: u16) -> Step {
+        row_at(place).step(code)
+    }
+
+    fn datatype(&self, kind: u16) -> Option<Datatype> {
+        negotiation().datatype(kind)
+    }
+
+    fn root_width(&self) -> u32 {
+        2
+    }
+
+    fn root(&self, number: u32) -> Root {
+        negotiation().root(number)
+    }
+}
