@@ -444,4 +444,5 @@ def squeezed(text):
     return re.sub(r",(?=[\])}])", "", re.sub(r"\s+", "", text))
 
 
-main()
+if __name__ == "__main__":
+    main()

@@ -1,0 +1,39 @@
+-- ISO 15118-2:2014 8.5: what elements of these types contain, part by part.
+use Rattle.std.specs.Prelude.{pos, List, [], ◌∷◌}
+use Rattle.exi_documents.specs.Trees.{Truth, Ordinal, Number}
+use Rattle.message_parts.specs.Contents.{Part, Of, one, perhaps, mapped}
+use Rattle.iso_schema.specs.declared.names.TheConstants.{MULTIPLIER, UNIT, VALUE, EV_READY, EV_ERROR_CODE, EVRESS_SOC, NOTIFICATION_MAX_DELAY, EVSE_NOTIFICATION, RCD, EVSE_ISOLATION_STATUS, EVSE_STATUS_CODE}
+use Rattle.iso_parts.specs.Enumerations.{unit_symbol_ordinal, ev_error_code_ordinal, evse_notification_ordinal, isolation_level_ordinal, evse_status_code_ordinal}
+use Rattle.iso_parts.specs.declared.values.PhysicalValue.{PhysicalValue}
+use Rattle.iso_parts.specs.declared.values.DcEvStatus.{DcEvStatus}
+use Rattle.iso_parts.specs.declared.values.AcEvseStatus.{AcEvseStatus}
+use Rattle.iso_parts.specs.declared.values.DcEvseStatus.{DcEvseStatus}
+
+abbrev pub physical_value_parts : PhysicalValue → List Part
+physical_value_parts v =
+    one MULTIPLIER (Of (Number v.multiplier))
+    ∷ one UNIT (Of (Ordinal (unit_symbol_ordinal v.unit)))
+    ∷ one VALUE (Of (Number v.value))
+    ∷ []
+
+abbrev pub dc_ev_status_parts : DcEvStatus → List Part
+dc_ev_status_parts v =
+    one EV_READY (Of (Truth v.ev_ready))
+    ∷ one EV_ERROR_CODE (Of (Ordinal (ev_error_code_ordinal v.ev_error_code)))
+    ∷ one EVRESS_SOC (Of (Number (pos v.evress_soc)))
+    ∷ []
+
+abbrev pub ac_evse_status_parts : AcEvseStatus → List Part
+ac_evse_status_parts v =
+    one NOTIFICATION_MAX_DELAY (Of (Number (pos v.notification_max_delay)))
+    ∷ one EVSE_NOTIFICATION (Of (Ordinal (evse_notification_ordinal v.evse_notification)))
+    ∷ one RCD (Of (Truth v.rcd))
+    ∷ []
+
+abbrev pub dc_evse_status_parts : DcEvseStatus → List Part
+dc_evse_status_parts v =
+    one NOTIFICATION_MAX_DELAY (Of (Number (pos v.notification_max_delay)))
+    ∷ one EVSE_NOTIFICATION (Of (Ordinal (evse_notification_ordinal v.evse_notification)))
+    ∷ perhaps EVSE_ISOLATION_STATUS (mapped (λ x. Of (Ordinal (isolation_level_ordinal x))) v.evse_isolation_status)
+    ∷ one EVSE_STATUS_CODE (Of (Ordinal (evse_status_code_ordinal v.evse_status_code)))
+    ∷ []

@@ -1,0 +1,20 @@
+//! What the messages of ISO 15118-2:2014 share: enumerations, physical values, the states of both ends, and the header of a message.
+#![tactic(auto)]
+
+mod codes;
+mod enumerations;
+mod frame;
+mod values;
+
+pub use codes::{
+    ChargeProgress, ChargingSession, EnergyTransferMode, EvseProcessing, PaymentOption,
+    ResponseCode, ServiceCategory,
+};
+pub use enumerations::{
+    EvErrorCode, EvseNotification, EvseStatusCode, FaultCode, IsolationLevel, UnitSymbol,
+};
+pub use frame::{Header, Notification};
+pub use values::{AcEvseStatus, DcEvStatus, DcEvseStatus, PhysicalValue};
+
+#[cfg(test)]
+mod tests;

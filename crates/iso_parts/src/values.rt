@@ -1,0 +1,210 @@
+//! Types of elements of the messages of ISO 15118-2.
+
+ghost use Rattle.std.specs.Prelude.{[]};
+
+use crate::enumerations::{
+    EvErrorCode, EvseNotification, EvseStatusCode, IsolationLevel, UnitSymbol,
+};
+use exi_documents::Refusal;
+use exi_events::EventWriter;
+use exi_schema::Places;
+use iso_schema::names;
+use message_parts::{
+    Descent, PutRecord, Record, first_child, optional_value, put_optional_value, put_value, value,
+};
+
+/// PhysicalValue.
+#[derive(Clone, Copy, Debug, PartialEq, Eq)]
+pub struct PhysicalValue {
+    pub multiplier: i8,
+    pub unit: UnitSymbol,
+    pub value: i16,
+}
+
+impl PutRecord for PhysicalValue {
+    ghost use Rattle.iso_parts.specs.Values.{physical_value_parts};
+
+    ghost given = { λ v. [] };
+
+    ghost parts = { physical_value_parts };
+
+    fn write<P: Places>(&self, writer: &mut EventWriter<'_, '_, P>) {
+        put_value(writer, names::MULTIPLIER, &self.multiplier);
+        put_value(writer, names::UNIT, &self.unit);
+        put_value(writer, names::VALUE, &self.value);
+    }
+}
+
+impl<'a> Record<'a> for PhysicalValue {
+    ghost use Rattle.iso_schema.specs.Declarations.{kinds};
+    ghost use Rattle.iso_schema.specs.Frame.{physical_value};
+
+    ghost kinds = { kinds };
+
+    ghost attributes = { [] };
+
+    ghost particles = { physical_value };
+
+    fn read<P: Places>(descent: &mut Descent<'a, '_, P>) -> Result<PhysicalValue, Refusal> {
+        first_child(descent)?;
+        let multiplier = value(descent)?;
+        let unit = value(descent)?;
+        let value = value(descent)?;
+        Ok(PhysicalValue {
+            multiplier,
+            unit,
+            value,
+        })
+    }
+}
+
+/// DC_EVStatus.
+#[derive(Clone, Copy, Debug, PartialEq, Eq)]
+pub struct DcEvStatus {
+    pub ev_ready: bool,
+    pub ev_error_code: EvErrorCode,
+    pub evress_soc: u8,
+}
+
+impl PutRecord for DcEvStatus {
+    ghost use Rattle.iso_parts.specs.Values.{dc_ev_status_parts};
+
+    ghost given = { λ v. [] };
+
+    ghost parts = { dc_ev_status_parts };
+
+    fn write<P: Places>(&self, writer: &mut EventWriter<'_, '_, P>) {
+        put_value(writer, names::EV_READY, &self.ev_ready);
+        put_value(writer, names::EV_ERROR_CODE, &self.ev_error_code);
+        put_value(writer, names::EVRESS_SOC, &self.evress_soc);
+    }
+}
+
+impl<'a> Record<'a> for DcEvStatus {
+    ghost use Rattle.iso_schema.specs.Declarations.{kinds};
+    ghost use Rattle.iso_schema.specs.Frame.{dc_ev_status};
+
+    ghost kinds = { kinds };
+
+    ghost attributes = { [] };
+
+    ghost particles = { dc_ev_status };
+
+    fn read<P: Places>(descent: &mut Descent<'a, '_, P>) -> Result<DcEvStatus, Refusal> {
+        first_child(descent)?;
+        let ev_ready = value(descent)?;
+        let ev_error_code = value(descent)?;
+        let evress_soc = value(descent)?;
+        Ok(DcEvStatus {
+            ev_ready,
+            ev_error_code,
+            evress_soc,
+        })
+    }
+}
+
+/// AC_EVSEStatus.
+#[derive(Clone, Copy, Debug, PartialEq, Eq)]
+pub struct AcEvseStatus {
+    pub notification_max_delay: u16,
+    pub evse_notification: EvseNotification,
+    pub rcd: bool,
+}
+
+impl PutRecord for AcEvseStatus {
+    ghost use Rattle.iso_parts.specs.Values.{ac_evse_status_parts};
+
+    ghost given = { λ v. [] };
+
+    ghost parts = { ac_evse_status_parts };
+
+    fn write<P: Places>(&self, writer: &mut EventWriter<'_, '_, P>) {
+        put_value(
+            writer,
+            names::NOTIFICATION_MAX_DELAY,
+            &self.notification_max_delay,
+        );
+        put_value(writer, names::EVSE_NOTIFICATION, &self.evse_notification);
+        put_value(writer, names::RCD, &self.rcd);
+    }
+}
+
+impl<'a> Record<'a> for AcEvseStatus {
+    ghost use Rattle.iso_schema.specs.Declarations.{kinds};
+    ghost use Rattle.iso_schema.specs.Frame.{ac_evse_status};
+
+    ghost kinds = { kinds };
+
+    ghost attributes = { [] };
+
+    ghost particles = { ac_evse_status };
+
+    fn read<P: Places>(descent: &mut Descent<'a, '_, P>) -> Result<AcEvseStatus, Refusal> {
+        first_child(descent)?;
+        let notification_max_delay = value(descent)?;
+        let evse_notification = value(descent)?;
+        let rcd = value(descent)?;
+        Ok(AcEvseStatus {
+            notification_max_delay,
+            evse_notification,
+            rcd,
+        })
+    }
+}
+
+/// DC_EVSEStatus.
+#[derive(Clone, Copy, Debug, PartialEq, Eq)]
+pub struct DcEvseStatus {
+    pub notification_max_delay: u16,
+    pub evse_notification: EvseNotification,
+    pub evse_isolation_status: Option<IsolationLevel>,
+    pub evse_status_code: EvseStatusCode,
+}
+
+impl PutRecord for DcEvseStatus {
+    ghost use Rattle.iso_parts.specs.Values.{dc_evse_status_parts};
+
+    ghost given = { λ v. [] };
+
+    ghost parts = { dc_evse_status_parts };
+
+    fn write<P: Places>(&self, writer: &mut EventWriter<'_, '_, P>) {
+        put_value(
+            writer,
+            names::NOTIFICATION_MAX_DELAY,
+            &self.notification_max_delay,
+        );
+        put_value(writer, names::EVSE_NOTIFICATION, &self.evse_notification);
+        put_optional_value(
+            writer,
+            names::EVSE_ISOLATION_STATUS,
+            &self.evse_isolation_status,
+        );
+        put_value(writer, names::EVSE_STATUS_CODE, &self.evse_status_code);
+    }
+}
+
+impl<'a> Record<'a> for DcEvseStatus {
+    ghost use Rattle.iso_schema.specs.Declarations.{kinds};
+    ghost use Rattle.iso_schema.specs.Frame.{dc_evse_status};
+
+    ghost kinds = { kinds };
+
+    ghost attributes = { [] };
+
+    ghost particles = { dc_evse_status };
+
+    fn read<P: Places>(descent: &mut Descent<'a, '_, P>) -> Result<DcEvseStatus, Refusal> {
+        first_child(descent)?;
+        let notification_max_delay = value(descent)?;
+        let evse_notification = value(descent)?;
+        let evse_isolation_status = optional_value(descent, names::EVSE_ISOLATION_STATUS)?;
+        let evse_status_code = value(descent)?;
+        Ok(DcEvseStatus {
+            notification_max_delay,
+            evse_notification,
+            evse_isolation_status,
+            evse_status_code,
+        })
+    }
+}
