@@ -24,7 +24,8 @@ behind (m ∷ moves) steps = behind moves (Does m.reading m.act m.taken ∷ step
 abbrev pub AreDone : Codecs → State → List Move → Type 0
 AreDone c s [] = first s.agenda ≡ None
 AreDone c s (m ∷ moves) =
-    (todo : Todo) × (first s.agenda ≡ Some todo) × IsDone c todo m.act m.taken × (m.reading ≡ None) × AreDone c (acted m.act m.taken s) moves
+    (todo : Todo) × (first s.agenda ≡ Some todo) × IsDone c todo m.act m.taken × (m.reading ≡ None)
+    × AreDone c (acted m.act m.taken s) moves
 
 -- the moves of a part that puts this on the agenda of a post
 abbrev pub IsPart : Codecs → PostPlan → Part → (State → Agenda) → List Step → List Move → Type 0
@@ -47,7 +48,8 @@ fronts s = fronting s.session s.live
 abbrev pub IsWordBy : Codecs → PostPlan → (ℕ → ℕ → Type 0) → List Step → Option Reading → Move → List Move → Type 0
 IsWordBy c plan Shows steps None m moves = IsPart c plan Wording fronts steps (m ∷ moves)
 IsWordBy c plan Shows steps (Some reading) m moves =
-    (first (fronts (state plan steps)) ≡ None) × IsRead c plan Shows (state plan steps) (payload_in (state plan steps).session) (Some reading)
+    (first (fronts (state plan steps)) ≡ None)
+    × IsRead c plan Shows (state plan steps) (payload_in (state plan steps).session) (Some reading)
     × AreDone c (read plan (state plan steps) (Some reading)) (record m { reading = None } ∷ moves)
 
 abbrev pub IsWord : Codecs → PostPlan → (ℕ → ℕ → Type 0) → List Step → List Move → Type 0
