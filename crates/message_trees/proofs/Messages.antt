@@ -5,7 +5,7 @@ use Rattle.exi_documents.specs.Trees.{Tree}
 use Rattle.document_laws.proofs.Encodings.{encoding_spelled}
 use Rattle.tree_text.specs.TreeText.{IsTreeText}
 use Rattle.tree_text.specs.Scans.{IsEncodedText}
-use Rattle.app_documents.proofs.Shapes.{of_message}
+use Rattle.app_documents.proofs.Fits.{of_message}
 use Rattle.message_dialects.specs.Dialects.{declarations}
 use Rattle.message_dialects.specs.declared.dialect.MessageDialect.{MessageDialect}
 use Rattle.message_dialects.specs.declared.dialect.MessageDialect.TheVariants.{App, Iso, Din}
