@@ -43,9 +43,9 @@ pub fn put_frame(kind: u16, payload_len: u32) -> [u8; 8]
     bytes
 }
 
-/// The payload length of the whole frame at the front.
+/// The payload length of the whole frame at the front: none yet where no frame is whole, or the first wrong field.
 #[tactic(auto, unfolding(crate::specs::Reading::whole_at))]
-fn whole(bytes: &[u8]) -> Result<Option<usize>, FrameFault>
+pub fn whole_frame(bytes: &[u8]) -> Result<Option<usize>, FrameFault>
     ensures value { result ≡ whole_at bytes.now }
     ensures fits { IfOk result (λ answer. IfSome answer (λ n. (8 + n ≤ length bytes.now) × (n ≤ 65536))) }
 {
@@ -131,7 +131,7 @@ impl FrameReader {
         ensures short { IfOk result (λ answer. IfSome answer (λ payload. length payload.now ≤ 65536)) }
         ensures* after { sem 𝓛 (Rests the_row self.entry (λ new. new ≡ behind (whole_at self.old) self.old)) }
     {
-        match whole(&self.buf[self.start..])? {
+        match whole_frame(&self.buf[self.start..])? {
             None => Ok(None),
             Some(len) => {
                 let from = self.start + 8;
