@@ -52,13 +52,7 @@ impl Row {
         ensures { Some result ≡ slice_get (steps_of self) code }
     {
         match self.second {
-            Some(second) => {
-                if code == 0 {
-                    self.first
-                } else {
-                    second
-                }
-            }
+            Some(second) => { if code == 0 { self.first } else { second } }
             None => self.first,
         }
     }
