@@ -15,7 +15,7 @@ use Rattle.app_schema.specs.Declarations.{kinds, roots, negotiation_schema, prot
 use Rattle.app_documents.specs.Trees.{Offered, IsOffered, Message, Request, Response, IsMessage, IsByte, tree_of, number_of}
 use Rattle.app_documents.proofs.Shapes.{fields_of, protocol_trees, schema_tree}
 use Rattle.app_schema.specs.declared.names.TheConstants.{REQUEST, RESPONSE, APP_PROTOCOL, NAMESPACE, MAJOR, MINOR, SCHEMA_ID, PRIORITY, RESPONSE_CODE}
-use Rattle.app_documents.proofs.Divided.{once_divided, perhaps_divided, sole, nothing_held, has_field, has_element, AreHeld}
+use Rattle.kind_laws.proofs.Single.{once_divided, perhaps_divided, sole, nothing_held, has_field, has_element, AreHeld}
 
 -- ---- values
 

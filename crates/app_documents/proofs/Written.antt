@@ -1,5 +1,6 @@
 -- Values that are written, and how many bits they have at most.
 use Rattle.std.proofs.Common.{◌≡◌, ℕ, zero, suc, pos, ◌+◌, ◌-◌, ◌*◌, ◌/◌, ◌%◌, ◌^◌, ◌<◌, ◌≤◌, nat_lt, Bool, true, false, if◌then◌else◌, List, [], ◌∷◌, ◌++◌, length, length-append, refl, ap, inl, inr, arith}
+use Rattle.std.specs.Prelude.{◌==◌}
 use Rattle.exi_spec.specs.Bits.{number_bits}
 use Rattle.exi_spec.specs.Items.{octet, shortest_within, shortest_unsigned, shortest_chars}
 use Rattle.exi_spec.proofs.BitLaws.{length-number_bits}
@@ -9,7 +10,7 @@ use Rattle.exi_strings.specs.Texts.{IsFirstAt, WritesHit, WritesText, entered}
 use Rattle.exi_documents.specs.Trees.{Ordinal, Number, Text}
 use Rattle.exi_documents.specs.Values.{Entries, WritesValue, SpellsCode}
 use Rattle.document_laws.proofs.IndexWidths.{index_width}
-use Rattle.app_documents.proofs.Places.{first_or_absent, local_few, global_few}
+use Rattle.kind_laws.proofs.Entering.{first_or_absent, global_length}
 use Rattle.std.specs.Char.{IsScalar}
 use Rattle.std.specs.List.{AllByRecursion}
 
@@ -58,6 +59,15 @@ ordinal_written count n width texts name entries below small few =
 
 -- ---- texts
 
+one_or_none : (b : Bool) (x : List ℕ) (xs : List (List ℕ)) (n : ℕ) → length xs ≤ n → length (if b then x ∷ xs else xs) ≤ n + 1
+one_or_none true x xs n few = omega (arith, few)
+one_or_none false x xs n few = omega (arith, few)
+
+local_few : (name : ℕ) (entries : Entries) → length (local_of name entries) ≤ length entries
+local_few name [] = omega arith
+local_few name (entry ∷ entries) =
+    let more = one_or_none (entry.0 == name) entry.1 (local_of name entries) (length entries) (local_few name entries) in omega (arith, more)
+
 chars_few : (chars : List ℕ) → length (shortest_chars chars) ≤ 80 * length chars
 chars_few [] = omega arith
 chars_few (char ∷ chars) = omega (arith, unsigned_few char, chars_few chars, length-append (shortest_unsigned char) (shortest_chars chars))
@@ -83,7 +93,7 @@ text_out entries name chars short few =
           (hit.0, entries, inl (hit.1, refl), omega (arith, hit.2), omega arith)
       | inr not_near ↦ elim (first_or_absent (global_of entries) chars) [
         | inl far ↦
-            let hit = hit_written 1 far.0 (global_of entries) chars far.1 (omega (arith, few, global_few entries)) in
+            let hit = hit_written 1 far.0 (global_of entries) chars far.1 (omega (arith, few, global_length entries)) in
             (hit.0, entries, inr (inl (not_near, hit.1, refl)), omega (arith, hit.2), omega arith)
         | inr not_far ↦
             let length_bits = shortest_unsigned (length chars + 2) in (

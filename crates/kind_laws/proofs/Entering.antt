@@ -38,7 +38,7 @@ first_more : (x t : List ℕ) (partition : List (List ℕ)) (i : ℕ) → x ≢ 
 first_more x t partition i other before zero less h = other (one_of (Some x) x t refl h)
 first_more x t partition i other before (suc k) less h = before k (omega (arith, less)) h
 
-first_or_absent : (partition : List (List ℕ)) (t : List ℕ) → ((i : ℕ) × IsFirstAt partition t i) ⊎ IsAbsent partition t
+pub first_or_absent : (partition : List (List ℕ)) (t : List ℕ) → ((i : ℕ) × IsFirstAt partition t i) ⊎ IsAbsent partition t
 first_or_absent [] t = inr (λ k h. none_of t h)
 first_or_absent (x ∷ partition) t =
     elim (same_or_not x t) [

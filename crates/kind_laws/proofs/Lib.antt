@@ -11,3 +11,4 @@ pub mod Documents
 pub mod Filling
 pub mod Completing
 pub mod Ascending
+pub mod Single
