@@ -20,6 +20,4 @@ pub use scanning::scan;
 pub use tree_text::{PrintFault, ScanFault};
 
 #[cfg(test)]
-mod lines;
-#[cfg(test)]
 mod tests;

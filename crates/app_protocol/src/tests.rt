@@ -1,10 +1,7 @@
 ghost use Rattle.std.specs.Prelude.{◌≡◌, ◌≤◌, length};
 ghost use Rattle.exi_documents.specs.Values.{most_entries};
-ghost use Rattle.app_documents.specs.Trees.{IsMessage};
-ghost use Rattle.app_protocol.specs.Messages.{message_of};
 
 use super::*;
-use crate::lines::LINES;
 use arrayvec::ArrayVec;
 use exi_documents::MOST_ENTRIES;
 use std::alloc::{AllocError, Global};
@@ -116,64 +113,6 @@ fn a_response_is_read(rt: HostRuntime) {
     );
 }
 
-/// Reads a payload into `message`, or ends the test.
-fn read<'a>(rt: &impl Abort, payload: &'a [u8], table: &mut Table) -> AppMessage<'a>
-    requires payload { length payload.now ≤ 65536 }
-    requires cap { table.old.cap ≡ most_entries }
-    ensures cap { table.new.cap ≡ most_entries }
-    ensures message { IsMessage (message_of result) }
-{
-    match read_app(payload, table) {
-        Ok(message) => message,
-        Err(_) => panic!(rt; "no message"),
-    }
-}
-
-/// The payload is what is written for its message, in a room of its length and in no shorter one.
-fn written_back(rt: &impl Abort, payload: &[u8], table: &mut Table)
-    requires payload { length payload.now ≤ 65536 }
-    requires cap { table.old.cap ≡ most_entries }
-    ensures { table.new.cap ≡ most_entries }
-{
-    let message = read(rt, payload, table);
-    let mut room = [0xff; 136];
-    assert!(rt; payload.len() <= 136);
-    assert!(rt; payload.len() >= 1);
-    let count = payload.len();
-    assert_eq!(rt;
-        write_app(&message, &mut room[..count], table),
-        Ok(count as u32)
-    );
-    assert_eq!(rt; &room[..count], payload);
-    assert!(rt; write_app(&message, &mut room[..count - 1], table).is_err());
-}
-
-/// The bytes of hexadecimal text; a dash is none.
-fn bytes_of(alloc: Global, text: &str) -> Result<Vec<u8>, Fail> {
-    if text == "-" {
-        return Ok(Vec::new(alloc));
-    }
-    Ok(hex::decode(alloc, text)?)
-}
-
-#[test]
-fn messages_are_written_back(rt: HostRuntime) -> Result<(), Fail> {
-    let mut count = 0u64;
-    for line in LINES.lines() {
-        let (word, rest) = line.split_once(' ').ok_or("a line without a word")?;
-        if word == "ok" {
-            let (payload, _) = rest.split_once(' ').ok_or("a line without an answer")?;
-            let mut table = Table::make(rt.alloc(), MOST_ENTRIES)?;
-            let payload = bytes_of(rt.alloc(), payload)?;
-            assert!(rt; payload.len() <= 65536);
-            written_back(&rt, payload.as_slice(), &mut table);
-            count = count.wrapping_add(1);
-        }
-    }
-    assert_eq!(rt; count, 60);
-    Ok(())
-}
-
 #[test]
 fn the_published_response_is_written(rt: HostRuntime) -> Result<(), Fail> {
     let mut table = Table::make(rt.alloc(), MOST_ENTRIES)?;
@@ -186,20 +125,6 @@ fn the_published_response_is_written(rt: HostRuntime) -> Result<(), Fail> {
     Ok(())
 }
 
-/// The text of a payload, or why and at which bit it is refused.
-fn printed(alloc: Global, payload: &[u8]) -> Result<String, AllocError>
-    requires { length payload.now ≤ 65536 }
-{
-    match print(alloc, payload) {
-        Ok(text) => Ok(text),
-        Err(PrintFault::Refused(refusal)) => {
-            let Refusal { cause, bit } = refusal;
-            format!(in alloc; "{cause:?} {bit}")
-        }
-        Err(PrintFault::Memory) => Err(AllocError),
-    }
-}
-
 /// The payload of a text in hexadecimal, or the place of its fault.
 fn scanned(alloc: Global, text: &str) -> Result<String, AllocError> {
     match scan(alloc, text) {
@@ -207,26 +132,6 @@ fn scanned(alloc: Global, text: &str) -> Result<String, AllocError> {
         Err(ScanFault::Place(place)) => format!(in alloc; "{place}"),
         Err(ScanFault::Memory) => Err(AllocError),
     }
-}
-
-#[test]
-fn payloads_are_printed_and_their_texts_scanned_back(rt: HostRuntime) -> Result<(), Fail> {
-    let mut count = 0u64;
-    for line in LINES.lines() {
-        let (word, rest) = line.split_once(' ').ok_or("a line without a word")?;
-        let (payload, expected) = rest.split_once(' ').ok_or("a line without an answer")?;
-        if word == "ok" {
-            let written = scanned(rt.alloc(), expected)?;
-            assert_eq!(rt; written.as_str(), payload, "{line}");
-        }
-        let payload = bytes_of(rt.alloc(), payload)?;
-        assert!(rt; payload.len() <= 65536);
-        let text = printed(rt.alloc(), payload.as_slice())?;
-        assert_eq!(rt; text.as_str(), expected, "{line}");
-        count = count.wrapping_add(1);
-    }
-    assert_eq!(rt; count, 220);
-    Ok(())
 }
 
 /// Texts, and their payloads or the places of their faults.
