@@ -18,6 +18,13 @@ NUMBERS = {
 }
 
 
+def listed_types(path):
+    """(CRATE, FILE, KINDS) of each line of the list of types."""
+    lines = [it for it in open(path, encoding="utf-8") if it.strip() and not it.startswith("#")]
+    for place, _, kinds in (it.partition(":") for it in lines):
+        yield (*place.split("/"), kinds.split())
+
+
 class Field:
     def __init__(self, name, kind, particle, at):
         self.name, self.kind, self.at, self.optional = name, kind, at, particle.least == 0
@@ -168,18 +175,24 @@ use message_parts::Simple;
         return head + "".join(enumeration(s, crate, file, it) for it in kinds)
     body = "".join(struct(s, crate, file, it) for it in kinds)
     words = ["Binary", "Descent", "PutRecord", "Record", "Text", "first_child", "left_out", "optional", "optional_value", "put_optional", "put_optional_value", "put_record", "put_value", "required", "value"]
-    named = [it for it in s.enumerations if re.search(rf"\b{camel(s, it)}\b", body)]
+    used = [it for it in s.places if it not in kinds and re.search(rf"\b{camel(s, it)}\b", re.sub(r"(?m)^ *//.*$", "", body))]
+    uses = {}
+    for it in used:
+        uses.setdefault(f"crate::{s.places[it][1]}" if s.places[it][0] == crate else s.places[it][0], []).append(camel(s, it))
+    lines = [f"use {it}::{{{', '.join(sorted(names))}}};" for it, names in uses.items()]
+    lines += ["use exi_documents::Refusal;", "use exi_events::EventWriter;", "use exi_schema::Places;", f"use {s.crate}::names;"]
+    lines += [f"use message_parts::{{{', '.join(it for it in words if re.search(rf'{chr(92)}b{it}{chr(92)}b', body))}}};"]
     return f"""//! Types of elements of {s.title}.
 
 ghost use Rattle.std.specs.Prelude.{{[]}};
 
-{f"use crate::enumerations::{{{', '.join(sorted(camel(s, it) for it in named))}}};" if named else ""}
-use exi_documents::Refusal;
-use exi_events::EventWriter;
-use exi_schema::Places;
-use {s.crate}::names;
-use message_parts::{{{", ".join(it for it in words if re.search(rf"{chr(92)}b{it}{chr(92)}b", body))}}};
+{chr(10).join(sorted(lines, key=order))}
 """ + body
+
+
+def order(line):
+    """As rt fmt orders imports."""
+    return line.split("{")[0].replace(";", "")
 
 
 # ---- definitions
@@ -219,7 +232,7 @@ def definitions(s, crate, file, kinds):
             rows.append(f"perhaps {it.name} (mapped (λ x. {value_part(s, it.kind, 'x')}) v.{it.field})" if it.optional else f"one {it.name} ({value_part(s, it.kind, f'v.{it.field}')})")
         body += "\n    ∷ ".join(rows + ["[]"]) + "\n\n"
     has = lambda word: re.search(rf"(?<!\w){word}(?!\w)", body)
-    uses = f"-- {s.standard} 8.5: what elements of these types contain, part by part.\n"
+    uses = f"-- {s.standard} {s.sections[section_of(s, kinds[0]).lower()][0]}: what elements of these types contain, part by part.\n"
     uses += f"use Rattle.std.specs.Prelude.{{{'pos, ' if has('pos') else ''}List, [], ◌∷◌}}\n"
     if has("items_of"):
         uses += "use Rattle.exi_bits.specs.Lent.{items_of}\n"
@@ -228,9 +241,12 @@ def definitions(s, crate, file, kinds):
     if has("text_value"):
         uses += "use Rattle.message_parts.specs.Texts.{text_value}\n"
     uses += f"use Rattle.{s.crate}.specs.declared.names.TheConstants.{{{', '.join(dict.fromkeys(it.name for k in kinds for it in fields(s, k) if not it.out))}}}\n"
-    ordinals = [it for it in s.enumerations if has(f"{s.lower(it)}_ordinal")]
-    if ordinals:
-        uses += f"use Rattle.{crate}.specs.Enumerations.{{{', '.join(s.lower(it) + '_ordinal' for it in ordinals)}}}\n"
+    words = {}
+    for it in s.places:
+        word = f"{s.lower(it)}_ordinal" if it in s.enumerations else f"{s.lower(it)}_parts"
+        if it not in kinds and has(word):
+            words.setdefault(f"{s.places[it][0]}.specs.{s.places[it][1].capitalize()}", []).append(word)
+    uses += "".join(f"use Rattle.{place}.{{{', '.join(those)}}}\n" for place, those in words.items())
     uses += "".join(f"use Rattle.{crate}.specs.declared.{file}.{camel(s, it)}.{{{camel(s, it)}}}\n" for it in kinds)
     return uses + "\n" + body.rstrip("\n") + "\n"
 
@@ -283,12 +299,9 @@ returns-clause-read g c = λ F told h.
 
 def written(s, path):
     files = {}
-    for line in open(path, encoding="utf-8"):
-        if line.startswith("#") or not line.strip():
-            continue
-        place, _, kinds = line.partition(":")
-        crate, file = place.split("/")
-        kinds = kinds.split()
+    types = list(listed_types(path))
+    s.places = {kind: (crate, file) for crate, file, kinds in types for kind in kinds}
+    for crate, file, kinds in types:
         files[f"{crate}/src/{file}.rt"] = code(s, crate, file, kinds)
         files[f"{crate}/specs/{file.capitalize()}.antt"] = definitions(s, crate, file, kinds)
         for kind in kinds:

@@ -1,4 +1,4 @@
--- ISO 15118-2:2014 8.5: what elements of these types contain, part by part.
+-- ISO 15118-2:2014 8.3, message, header and body, and 8.5, data types: what elements of these types contain, part by part.
 use Rattle.std.specs.Prelude.{List, [], ◌∷◌}
 use Rattle.exi_bits.specs.Lent.{items_of}
 use Rattle.exi_documents.specs.Trees.{Ordinal, Bytes}
