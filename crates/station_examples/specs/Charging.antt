@@ -69,7 +69,6 @@ FailedOpenDropsReply =
 -- PowerDelivery Stop opens before its reply
 abbrev pub StopOpens : Type 0
 StopOpens = (request dc_post 10000 (asks (delivery progress.Stop)) (closed_in row.DcCharging)).did
-   
     ≡ Give order.Open
     ∷ replies code.Ok (tell.PowerDelivery (of_post.Dc (status (Some isolation.Valid) status_code.EvseNotReady))) ∷ []
 

@@ -57,7 +57,6 @@ StaysOpenFarAbove = (start (pre_charged_in row.DcPreCharging 4201)).did ≡ far
 abbrev pub StaysOpenWhileOpening : Type 0
 StaysOpenWhileOpening =
     (start (keeping (session_in row.DcPreCharging 40000 (near 4000)) (facts_at (Some isolation.Valid) standing.Opening) false)).did
-   
     ≡ replies code.FailedContactorError (tell.PowerDelivery (of_post.Dc (status (Some isolation.Valid) status_code.EvseMalfunction)))
     ∷ Finish cause.FailedReply ∷ []
 
@@ -109,6 +108,5 @@ CheckWaits = (request dc_post 10000 (asks cable_check) (unchecked_in row.DcReady
 
 abbrev pub CheckFails : Type 0
 CheckFails = (request dc_post 10000 (asks cable_check) (unchecked_in row.DcReady (Some isolation.Fault))).did
-   
     ≡ replies code.Failed (tell.CableCheck (status (Some isolation.Fault) status_code.EvseMalfunction) processing.Finished)
     ∷ Finish cause.FailedReply ∷ []

@@ -81,13 +81,11 @@ renegotiates = request dc_post 10000 (asks (delivery progress.Renegotiate)) (clo
 
 abbrev pub RenegotiationOpens : Type 0
 RenegotiationOpens = renegotiates.did
-   
     ≡ Give order.Open
     ∷ replies code.Ok (tell.PowerDelivery (of_post.Dc (status (Some isolation.Valid) status_code.EvseNotReady))) ∷ []
 
 abbrev pub StartBehindRenegotiationFails : Type 0
 StartBehindRenegotiationFails = (request dc_post 10000 (asks (delivery progress.Start)) renegotiates).did
-   
     ≡ replies code.FailedSequenceError (tell.PowerDelivery (of_post.Dc (status (Some isolation.Valid) status_code.EvseMalfunction)))
     ∷ Finish cause.FailedReply ∷ []
 
