@@ -1,7 +1,5 @@
--- ISO 15118-2:2014, section 8.8: a post's sessions in which the car, the charger and the outside do as they should:
--- each word is a
--- request in its row, each event goes well, nothing is late, nothing fails, and the connection stays until the session
--- has ended.
+-- ISO 15118-2:2014, section 8.8: a post's sessions in which the car, the charger and the outside do as they should: each word is a
+-- request in its row, each event goes well, nothing is late, nothing fails, and the connection stays until the session has ended.
 use Rattle.std.specs.Prelude.{◌≡◌, ◌<◌, ◌+◌, ℕ, true, List, [], ◌∷◌, length, map, Option, Some, None, IsSome, Ok}
 use Rattle.session_words.specs.declared.plan.PostPlan.{PostPlan}
 use Rattle.v2gtp_frames.specs.Frames.{Frames, IsRight}
@@ -15,8 +13,7 @@ use Rattle.post_spec.specs.Steps.{Event, Came, Bytes, Gone, Datagram, Plant, Clo
 use Rattle.conforming_runs.specs.Charger.{GoesWell}
 use Rattle.conforming_runs.specs.Requests.{IsConforming}
 
--- Sessions are given with their entries, the newest first, and `before` is what the post went by up to the step that is
--- spoken of.
+-- Sessions are given with their entries, the newest first, and `before` is what the post went by up to the step that is spoken of.
 
 -- the connection stays, and what the charger tells goes well
 abbrev pub StaysWell : PostPlan → ℕ → Event → List Step → Talked → Type 0
@@ -59,8 +56,7 @@ GoesOn plan (Hears at event) before =
 GoesOn plan (Does reading act taken) before = (taken
     ≡ true) × IsRead plan before (course plan before) (course plan before).session reading
 
--- the frames of a session's stream are right, and none is whole behind that of PowerDelivery Start while the reply to
--- it waits
+-- the frames of a session's stream are right, and none is whole behind that of PowerDelivery Start while the reply to it waits
 pub record IsFramed (es : List Seen) : Type 0 where
   pub right : (payloads : List (List ℕ)) (rest : List ℕ) → Frames (stream es) payloads rest → IsRight rest
   pub alone : waits es ≡ true → whole_at (behind_frames (length (replies es) + 1) (stream es)) ≡ Ok None

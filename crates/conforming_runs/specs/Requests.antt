@@ -1,5 +1,4 @@
--- ISO 15118-2:2014, section 8.4; DIN SPEC 70121:2014: the requests that a conforming car makes, one by one. They are
--- said by what they
+-- ISO 15118-2:2014, section 8.4; DIN SPEC 70121:2014: the requests that a conforming car makes, one by one. They are said by what they
 -- hold and by the row in which they come, and not by how they are judged.
 use Rattle.std.specs.Prelude.{◌≡◌, ◌≤◌, ◌<◌, ℤ, pos, Bool, true, false, Option, Some, None}
 use Rattle.std.specs.List.{AllByRecursion}
