@@ -1,1 +1,2 @@
 pub mod TwoPosts
+pub mod OneSession
