@@ -1,2 +1,2 @@
 pub mod TwoPosts
-pub mod OneSession
+pub mod OneCharge

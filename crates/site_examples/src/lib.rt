@@ -1,8 +1,8 @@
-//! Worked examples of a site of several posts, by the definition of its runs.
+//! Worked examples of whole pasts, by the definition of a site's runs.
 #![tactic(auto)]
 
 ghost use Rattle.post_spec.specs.Codecs.{codecs};
-ghost use Rattle.site_examples.specs.OneSession.{SessionConforms};
+ghost use Rattle.site_examples.specs.OneCharge.{SessionConforms};
 ghost use Rattle.site_examples.specs.TwoPosts.{DeadlineGoesFirst};
 
 use post_spec::Coded;
@@ -12,7 +12,8 @@ pub fn deadline_goes_before_reply<C: Coded>()
     ensures { DeadlineGoesFirst (codecs C.negotiates C.reads C.encodes) }
 {}
 
-/// A session in which a car sets itself up and stops is one that conforms, in a run of a site.
-pub fn sessions_conform<C: Coded>()
+/// A session in alternating current, from its connection over charging to SessionStop, is one that conforms, in a run of a site
+/// (ISO 15118-2:2014, section 8.8.4).
+pub fn charging_sessions_conform<C: Coded>()
     ensures { SessionConforms (codecs C.negotiates C.reads C.encodes) }
 {}
