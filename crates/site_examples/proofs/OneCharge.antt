@@ -25,7 +25,8 @@ use Rattle.station_spec.specs.Sharing.{Shows}
 use Rattle.station_spec.specs.Runs.{heard_from, IsRun}
 use Rattle.station_examples.specs.Fixtures.{ac_post, token}
 use Rattle.conforming_runs.specs.Conforming.{Conforming}
-use Rattle.site_examples.specs.OneCharge.{one_post, post_of, request, Spells, act_of, does, word_shown, negotiated, what_of, past_of, SessionConforms}
+use Rattle.site_examples.specs.OneCharge.{request, Spells, word_shown, negotiated, SessionConforms}
+use Rattle.site_examples.specs.Playing.{one_post, post_of, act_of, does, what_of, past_of}
 
 -- a stream that is whole frames has no fault
 no_fault : (payloads : List (List ℕ)) (bytes : List ℕ) → bytes ≡ flat_map frame payloads ++ [] → All IsPayload payloads → (ps : List (List ℕ)) (rest : List ℕ) → Frames bytes ps rest → IsRight rest

@@ -1,40 +1,23 @@
 -- ISO 15118-2:2014, section 8.8.4: an example of a session that conforms, in a run. A car charges with alternating current.
-use Rattle.std.specs.Prelude.{ℕ, true, false, List, [], ◌∷◌, length, get_or, Option, Some, None}
-use Rattle.charge_world.specs.declared.entry.Entry.{Entry}
-use Rattle.charge_world.specs.declared.entry.Entry.TheVariants as entry
+use Rattle.std.specs.Prelude.{ℕ, true, false, List, [], ◌∷◌, get_or, Option, Some, None}
 use Rattle.charge_world.specs.declared.heard.PilotState.TheVariants.{C}
 use Rattle.charge_world.specs.declared.heard.PlantEvent.{PlantEvent}
 use Rattle.charge_world.specs.declared.heard.PlantEvent.TheVariants as plant
-use Rattle.charge_world.specs.declared.heard.What.{What}
-use Rattle.charge_world.specs.declared.heard.What.TheVariants as what
 use Rattle.charge_world.specs.declared.offer.Dialect.TheVariants.{Iso}
 use Rattle.session_words.specs.declared.code.Progress.TheVariants.{Start, Stop}
-use Rattle.session_words.specs.declared.plan.SitePlan.{SitePlan}
 use Rattle.session_words.specs.declared.word.Ask.{Ask}
 use Rattle.session_words.specs.declared.word.Ask.TheVariants as ask
 use Rattle.session_words.specs.declared.word.Reply.{Reply}
 use Rattle.session_words.specs.declared.word.Request.{Request}
 use Rattle.session_words.specs.declared.word.Word.TheVariants as word
-use Rattle.session_words.specs.Causes.{number_of}
 use Rattle.v2gtp_frames.specs.Frames.{frame}
 use Rattle.post_spec.specs.Codecs.{Codecs, Negotiated, Asked}
-use Rattle.post_spec.specs.Sessions.{brought}
-use Rattle.post_spec.specs.Steps.{Event, Came, Bytes, Gone, Datagram, Plant, Clock, Over, Act, Give, Send, Answer, End, Reading, Step, Hears, Does}
-use Rattle.station_spec.specs.States.{Todo, Tell, Say, Finish, Response, Said, first}
-use Rattle.station_spec.specs.States as states
-use Rattle.station_spec.specs.Judging.{filled}
-use Rattle.station_spec.specs.Acting.{state}
-use Rattle.station_spec.specs.Sharing.{Post}
-use Rattle.station_spec.specs.Runs.{entry_of, IsRun}
+use Rattle.post_spec.specs.Steps.{Came, Bytes, Plant, Reading, Step, Hears}
+use Rattle.station_spec.specs.Runs.{IsRun}
 use Rattle.station_examples.specs.Fixtures.{ac_post, token, named, unnamed}
 use Rattle.station_examples.specs.Words.{setup, payment, delivery, ac_parameters}
 use Rattle.conforming_runs.specs.Conforming.{Conforming}
-
-abbrev pub one_post : SitePlan
-one_post = record { limit = 50000; turns = 100; sessions = 10; post = record { items = ac_post ∷ [] } }
-
-abbrev pub post_of : List Step → Post
-post_of steps = record { plan = ac_post; steps = steps }
+use Rattle.site_examples.specs.Playing.{one_post, post_of, does, past_of}
 
 -- the requests behind the negotiation, in order
 abbrev pub request_of : Ask → Request
@@ -57,19 +40,6 @@ pub record Spells (c : Codecs) (response : List ℕ) (encode : Reply → List �
   pub negotiates : c.Negotiates ac_post.dialects.items (9 ∷ []) (Negotiated (Some Iso) response)
   pub reads : (n : ℕ) → c.Reads Iso (n ∷ []) (Some (word.Request (request n)))
   pub encodes : (reply : Reply) → c.Encodes Iso reply (encode reply)
-
--- what the post does next, with its bytes
-abbrev pub act_of : (Reply → List ℕ) → Option Todo → Act
-act_of encode (Some (Tell datagram)) = Answer datagram
-act_of encode (Some (states.Give order)) = Give order
-act_of encode (Some (Say (Response payload))) = Send (frame payload)
-act_of encode (Some (Say (Said dialect reply))) = Send (frame (encode reply))
-act_of encode (Some (Finish cause)) = End (number_of cause)
-act_of encode None = Answer []
-
-abbrev pub does : (Reply → List ℕ) → Option Reading → List Step → List Step
-does encode reading steps =
-    Does reading (act_of encode (first (filled ac_post reading (state ac_post steps)).agenda)) true ∷ steps
 
 -- a payload comes, a word is read and shown watts, and the charger tells something
 abbrev pub comes : ℕ → ℕ → List Step → List Step
@@ -105,24 +75,6 @@ charged response encode =
     does encode None (tells 750 (plant.Feedback true) (
     does encode (word_shown 5 0) (comes 700 5 (
     prepared response encode)))))))))))))
-
--- the past of a site with this post alone
-abbrev pub what_of : Event → What
-what_of (Came token) = what.Came 1 token
-what_of (Bytes bytes) = what.Bytes 1 (length bytes)
-what_of Gone = what.Gone 1
-what_of (Datagram bytes) = what.Datagram 1 (length bytes)
-what_of (Plant event) = what.Plant 1 event
-what_of Clock = what.Tick
-what_of Over = what.Over
-
-abbrev pub entry_for : Step → Entry
-entry_for (Hears at event) = entry.Heard (record { at = at; what = what_of event }) (brought event)
-entry_for (Does reading act taken) = entry_of 1 act taken
-
-abbrev pub past_of : List Step → List Entry
-past_of [] = []
-past_of (step ∷ steps) = entry_for step ∷ past_of steps
 
 -- the past is a run, and its session conforms
 abbrev pub SessionConforms : Codecs → Type 0
