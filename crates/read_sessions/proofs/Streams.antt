@@ -44,11 +44,11 @@ use Rattle.read_sessions.specs.Sessions.{IsSession, IsSessionOf, SessionsAreRead
 use Rattle.read_sessions.proofs.Keeping.{Free, Waiting, Talk, Stands, Link, Tie, Tied, session_now, came_later}
 use Rattle.read_sessions.proofs.Starts.{starts, closes_waiting, set_up_before, row_goes, row_set_up, waiting_set_up, timeout_is, true_false}
 
-waits_in : (A B : Type 0) (b : Bool) → b ≡ true → MatchBool b A B → A
+pub waits_in : (A B : Type 0) (b : Bool) → b ≡ true → MatchBool b A B → A
 waits_in A B true e m = m
 waits_in A B false e m = cc
 
-free_in : (A B : Type 0) (b : Bool) → b ≡ false → MatchBool b A B → B
+pub free_in : (A B : Type 0) (b : Bool) → b ≡ false → MatchBool b A B → B
 free_in A B true e m = cc
 free_in A B false e m = m
 
@@ -93,7 +93,7 @@ silent_tie ending (Some es) (Some ss) r o e n t =
 abbrev TiedBy : Option (List Seen) → Option Session → Agenda → Type 0
 TiedBy es kept a = Tie a.ending es kept a.reply a.order
 
-empty_tie : (past : List Seen) (s : State) → is_done s.agenda ≡ true → Tied past s → Tie None (session past) s.session None None
+pub empty_tie : (past : List Seen) (s : State) → is_done s.agenda ≡ true → Tied past s → Tie None (session past) s.session None None
 empty_tie past s d t =
     let e = done_empty s.agenda d in
     subst (λ (x : Option EndCause). Tie x (session past) s.session None None) e.ending
@@ -475,7 +475,7 @@ heard_tie at clock e (Some token) (Some came) es kept a t =
       };
     })
 
-steps_tied : (c : Codecs) (plan : PostPlan) (steps : List Step) → IsPostRun c plan steps → Tied (map seen_of steps) (state plan steps)
+pub steps_tied : (c : Codecs) (plan : PostPlan) (steps : List Step) → IsPostRun c plan steps → Tied (map seen_of steps) (state plan steps)
 steps_tied c plan [] run = tt
 steps_tied c plan (Hears at e ∷ steps) (run, quiet) =
     let past = map seen_of steps in

@@ -1,0 +1,2 @@
+pub mod TwoPosts
+pub mod OneCharge

@@ -1,0 +1,3 @@
+pub mod TwoPosts
+pub mod Playing
+pub mod OneCharge
