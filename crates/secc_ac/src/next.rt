@@ -9,8 +9,8 @@ use contactor::CloseRight;
 use secc_setup::{Answer, Carried};
 use session_words::{EndCause, Reply};
 
-/// The row behind a request: one of this crate, or row 6 with what the session takes along. The row in which the contactor closes comes
-/// with the right to close it, which has to be spent.
+/// The row behind a request: one of this crate, or row 6 with what the session takes along. The row in which the
+/// contactor closes comes with the right to close it, which has to be spent.
 pub enum Next {
     AcReady(AcReady),
     AcClosing(AcClosing, CloseRight),
@@ -19,8 +19,9 @@ pub enum Next {
     Authorized(Carried),
 }
 
-/// What a request leads to: the row behind it (the same one where it isn't accepted or ends the session), the order that goes before
-/// its reply beside Close, the reply unless it waits, and the cause by which the session ends behind it.
+/// What a request leads to: the row behind it (the same one where it isn't accepted or ends the session), the order
+/// that goes before its reply beside Close, the reply unless it waits, and the cause by which the session ends behind
+/// it.
 pub struct Moved {
     pub next: Next,
     pub order: Option<Order>,
@@ -28,7 +29,8 @@ pub struct Moved {
     pub end: Option<EndCause>,
 }
 
-/// What is answered, with the row that it leads to: where the contactor closes, the right stands for the order, and the reply waits.
+/// What is answered, with the row that it leads to: where the contactor closes, the right stands for the order, and
+/// the reply waits.
 pub(crate) fn with_next(answer: Answer, next: Next) -> Moved
     ensures next { result.next ≡ next }
     ensures order { result.order ≡ (if closes next then None else answer.order) }

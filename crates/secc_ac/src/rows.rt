@@ -1,17 +1,17 @@
 //! The rows, each a type of its own. Contracts see the stage of the session.
 
-ghost use Rattle.std.specs.Prelude.{◌≡◌, true, false, Some, None, IfSome, if◌then◌else◌};
+ghost use Rattle.std.specs.Prelude.{◌≡◌, ◌≢◌, true, false, Some, None, IfSome, if◌then◌else◌};
 ghost use Rattle.charge_world.specs.declared.ports.Order.TheVariants as order;
 ghost use Rattle.session_words.specs.Plans.{IsPostPlan};
 ghost use Rattle.session_words.specs.declared.phase.Phase.TheVariants as row;
 ghost use Rattle.session_words.specs.declared.cause.EndCause.TheVariants as cause;
-ghost use Rattle.session_rules.specs.Causes.{found_by, word_cause};
 ghost use Rattle.session_rules.specs.Moves.{stage_behind};
 ghost use Rattle.session_rules.specs.Orders.{order_of};
-ghost use Rattle.session_rules.specs.Reply.{reply_to, waiting_reply};
+ghost use Rattle.session_rules.specs.Reply.{waiting_reply};
 ghost use Rattle.session_rules.specs.Stages.{is_waiting, confirmed};
 ghost use Rattle.session_rules.specs.Verdict.{verdict, is_accepted};
 ghost use Rattle.secc_setup.specs.Carrying.{carried_stage};
+ghost use Rattle.secc_setup.specs.Ends.{end_of, reply_at_once};
 ghost use Rattle.secc_ac.specs.Nexts.{next_stage, closes, right_in, order_in};
 
 use crate::next::{Moved, Next, with_next};
@@ -114,6 +114,7 @@ impl AcReady {
         ensures waits { is_waiting (next_stage result).row ≡ closes result }
         ensures right { IfSome (right_in result) (λ right. right ≡ record { pilot = facts.now.pilot; check = None }) }
         ensures order { closes result ≡ true → order_of self facts.now plan.now request.now shown ≡ Some order.Close }
+        ensures alone { closes result ≡ false → order_of self facts.now plan.now request.now shown ≢ Some order.Close }
     {
         if !accepted {
             return Next::AcReady(self);
@@ -137,10 +138,11 @@ impl AcReady {
         requires plan { IsPostPlan plan.now }
         ensures next { next_stage result.next ≡ stage_behind self facts.now plan.now request.now shown }
         ensures order { order_in result ≡ order_of self facts.now plan.now request.now shown }
-        ensures reply { result.reply ≡ (if is_waiting (stage_behind self facts.now plan.now request.now shown).row then None
-            else Some (reply_to self facts.now plan.now request.now shown)) }
+        // Close is ordered by a right alone.
+        ensures alone { result.order ≢ Some order.Close }
+        ensures reply { result.reply ≡ reply_at_once self facts.now plan.now request.now shown }
         ensures right { IfSome (right_in result.next) (λ right. right ≡ record { pilot = facts.now.pilot; check = None }) }
-        ensures end { result.end ≡ word_cause false (found_by (verdict self facts.now plan.now request.now) request.now.ask) }
+        ensures end { result.end ≡ end_of self facts.now plan.now request.now }
     {
         let answer = answer_to(&self.stage(), facts, plan, request, shown);
         let next = self.next(answer.accepted, request, facts, plan, shown);
@@ -212,6 +214,7 @@ impl AcCharging {
         ensures stage { next_stage result ≡ stage_behind self facts.now plan.now request.now shown }
         ensures waits { is_waiting (next_stage result).row ≡ closes result }
         ensures order { closes result ≡ true → order_of self facts.now plan.now request.now shown ≡ Some order.Close }
+        ensures alone { closes result ≡ false → order_of self facts.now plan.now request.now shown ≢ Some order.Close }
     {
         if !accepted {
             return Next::AcCharging(self);
@@ -236,15 +239,16 @@ impl AcCharging {
         }
     }
 
-    /// ChargingStatus stays, and tells watts; PowerDelivery Stop leads on, Renegotiate back to the charge parameters; SessionStop ends the
-    /// session.
+    /// ChargingStatus stays, and tells watts; PowerDelivery Stop leads on, Renegotiate back to the charge parameters;
+    /// SessionStop ends the session.
     pub fn step(self, request: &Request, facts: &Facts, plan: &PostPlan, shown: u32) -> Moved
         requires plan { IsPostPlan plan.now }
         ensures next { next_stage result.next ≡ stage_behind self facts.now plan.now request.now shown }
         ensures order { order_in result ≡ order_of self facts.now plan.now request.now shown }
-        ensures reply { result.reply ≡ (if is_waiting (stage_behind self facts.now plan.now request.now shown).row then None
-            else Some (reply_to self facts.now plan.now request.now shown)) }
-        ensures end { result.end ≡ word_cause false (found_by (verdict self facts.now plan.now request.now) request.now.ask) }
+        // Close is ordered by a right alone.
+        ensures alone { result.order ≢ Some order.Close }
+        ensures reply { result.reply ≡ reply_at_once self facts.now plan.now request.now shown }
+        ensures end { result.end ≡ end_of self facts.now plan.now request.now }
     {
         let answer = answer_to(&self.stage(), facts, plan, request, shown);
         let next = self.next(answer.accepted, request, facts, plan, shown);
@@ -273,6 +277,7 @@ impl AcStopped {
         ensures stage { next_stage result ≡ stage_behind self facts.now plan.now request.now shown }
         ensures waits { is_waiting (next_stage result).row ≡ closes result }
         ensures order { closes result ≡ true → order_of self facts.now plan.now request.now shown ≡ Some order.Close }
+        ensures alone { closes result ≡ false → order_of self facts.now plan.now request.now shown ≢ Some order.Close }
     {
         Next::AcStopped(self)
     }
@@ -282,9 +287,10 @@ impl AcStopped {
         requires plan { IsPostPlan plan.now }
         ensures next { next_stage result.next ≡ stage_behind self facts.now plan.now request.now shown }
         ensures order { order_in result ≡ order_of self facts.now plan.now request.now shown }
-        ensures reply { result.reply ≡ (if is_waiting (stage_behind self facts.now plan.now request.now shown).row then None
-            else Some (reply_to self facts.now plan.now request.now shown)) }
-        ensures end { result.end ≡ word_cause false (found_by (verdict self facts.now plan.now request.now) request.now.ask) }
+        // Close is ordered by a right alone.
+        ensures alone { result.order ≢ Some order.Close }
+        ensures reply { result.reply ≡ reply_at_once self facts.now plan.now request.now shown }
+        ensures end { result.end ≡ end_of self facts.now plan.now request.now }
     {
         let answer = answer_to(&self.stage(), facts, plan, request, shown);
         let next = self.next(answer.accepted, request, facts, plan, shown);

@@ -1,21 +1,21 @@
 //! The rows, each a type of its own. Contracts see the stage of the session.
 
-ghost use Rattle.std.specs.Prelude.{◌≡◌, true, false, Some, None, IfSome, if◌then◌else◌};
+ghost use Rattle.std.specs.Prelude.{◌≡◌, ◌≢◌, true, false, Some, None, IfSome, if◌then◌else◌};
 ghost use Rattle.charge_world.specs.declared.ports.Order.TheVariants as order;
 ghost use Rattle.session_words.specs.Plans.{IsPostPlan};
 ghost use Rattle.session_words.specs.declared.phase.Phase.TheVariants as row;
 ghost use Rattle.session_words.specs.declared.cause.EndCause.TheVariants as cause;
-ghost use Rattle.session_rules.specs.Causes.{found_by, word_cause};
 ghost use Rattle.charge_world.specs.declared.heard.IsolationLevel.TheVariants as isolation_level;
 ghost use Rattle.contactor.specs.Rights.{is_ready};
 ghost use Rattle.session_rules.specs.Finishing.{is_valid};
 ghost use Rattle.session_rules.specs.Laws.{IsNear};
 ghost use Rattle.session_rules.specs.Moves.{stage_behind};
 ghost use Rattle.session_rules.specs.Orders.{order_of};
-ghost use Rattle.session_rules.specs.Reply.{reply_to, waiting_reply};
+ghost use Rattle.session_rules.specs.Reply.{waiting_reply};
 ghost use Rattle.session_rules.specs.Stages.{is_waiting, confirmed};
 ghost use Rattle.session_rules.specs.Verdict.{verdict, is_accepted};
 ghost use Rattle.secc_setup.specs.Carrying.{carried_stage};
+ghost use Rattle.secc_setup.specs.Ends.{end_of, reply_at_once};
 ghost use Rattle.secc_dc.specs.Charging.{charged_stage};
 ghost use Rattle.secc_dc.specs.Closing.{right_of};
 ghost use Rattle.secc_dc.specs.Nexts.{next_stage, closes, right_in, order_in};
@@ -153,6 +153,7 @@ impl DcReady {
         ensures stage { next_stage result ≡ stage_behind self facts.now plan.now request.now shown }
         ensures waits { is_waiting (next_stage result).row ≡ closes result }
         ensures order { closes result ≡ true → order_of self facts.now plan.now request.now shown ≡ Some order.Close }
+        ensures alone { closes result ≡ false → order_of self facts.now plan.now request.now shown ≢ Some order.Close }
     {
         if !accepted {
             return Next::DcReady(self);
@@ -171,9 +172,10 @@ impl DcReady {
         requires plan { IsPostPlan plan.now }
         ensures next { next_stage result.next ≡ stage_behind self facts.now plan.now request.now shown }
         ensures order { order_in result ≡ order_of self facts.now plan.now request.now shown }
-        ensures reply { result.reply ≡ (if is_waiting (stage_behind self facts.now plan.now request.now shown).row then None
-            else Some (reply_to self facts.now plan.now request.now shown)) }
-        ensures end { result.end ≡ word_cause false (found_by (verdict self facts.now plan.now request.now) request.now.ask) }
+        // Close is ordered by a right alone.
+        ensures alone { result.order ≢ Some order.Close }
+        ensures reply { result.reply ≡ reply_at_once self facts.now plan.now request.now shown }
+        ensures end { result.end ≡ end_of self facts.now plan.now request.now }
     {
         let answer = answer_to(&self.stage(), facts, plan, request, shown);
         let next = self.next(answer.accepted, request, facts, plan, shown);
@@ -202,6 +204,7 @@ impl DcChecked {
         ensures stage { next_stage result ≡ stage_behind self facts.now plan.now request.now shown }
         ensures waits { is_waiting (next_stage result).row ≡ closes result }
         ensures order { closes result ≡ true → order_of self facts.now plan.now request.now shown ≡ Some order.Close }
+        ensures alone { closes result ≡ false → order_of self facts.now plan.now request.now shown ≢ Some order.Close }
     {
         if !accepted {
             return Next::DcChecked(self);
@@ -239,9 +242,10 @@ impl DcChecked {
         requires plan { IsPostPlan plan.now }
         ensures next { next_stage result.next ≡ stage_behind self facts.now plan.now request.now shown }
         ensures order { order_in result ≡ order_of self facts.now plan.now request.now shown }
-        ensures reply { result.reply ≡ (if is_waiting (stage_behind self facts.now plan.now request.now shown).row then None
-            else Some (reply_to self facts.now plan.now request.now shown)) }
-        ensures end { result.end ≡ word_cause false (found_by (verdict self facts.now plan.now request.now) request.now.ask) }
+        // Close is ordered by a right alone.
+        ensures alone { result.order ≢ Some order.Close }
+        ensures reply { result.reply ≡ reply_at_once self facts.now plan.now request.now shown }
+        ensures end { result.end ≡ end_of self facts.now plan.now request.now }
     {
         let answer = answer_to(&self.stage(), facts, plan, request, shown);
         let next = self.next(answer.accepted, request, facts, plan, shown);
@@ -292,6 +296,7 @@ impl DcPreCharging {
         ensures waits { is_waiting (next_stage result).row ≡ closes result }
         ensures right { IfSome (right_in result) (λ right. right ≡ right_of self facts.now) }
         ensures order { closes result ≡ true → order_of self facts.now plan.now request.now shown ≡ Some order.Close }
+        ensures alone { closes result ≡ false → order_of self facts.now plan.now request.now shown ≢ Some order.Close }
     {
         if !accepted {
             return Next::DcPreCharging(self);
@@ -313,17 +318,18 @@ impl DcPreCharging {
         }
     }
 
-    /// PreCharge stays; PowerDelivery Start leads on, with the right to close the contactor; SessionStop ends the session. The isolation has
-    /// to be valid.
+    /// PreCharge stays; PowerDelivery Start leads on, with the right to close the contactor; SessionStop ends the
+    /// session. The isolation has to be valid.
     pub fn step(self, request: &Request, facts: &Facts, plan: &PostPlan, shown: u32) -> Moved
         requires plan { IsPostPlan plan.now }
         requires isolation { is_valid facts.now.isolation ≡ true }
         ensures next { next_stage result.next ≡ stage_behind self facts.now plan.now request.now shown }
         ensures order { order_in result ≡ order_of self facts.now plan.now request.now shown }
-        ensures reply { result.reply ≡ (if is_waiting (stage_behind self facts.now plan.now request.now shown).row then None
-            else Some (reply_to self facts.now plan.now request.now shown)) }
+        // Close is ordered by a right alone.
+        ensures alone { result.order ≢ Some order.Close }
+        ensures reply { result.reply ≡ reply_at_once self facts.now plan.now request.now shown }
         ensures right { IfSome (right_in result.next) (λ right. right ≡ right_of self facts.now) }
-        ensures end { result.end ≡ word_cause false (found_by (verdict self facts.now plan.now request.now) request.now.ask) }
+        ensures end { result.end ≡ end_of self facts.now plan.now request.now }
     {
         let answer = answer_to(&self.stage(), facts, plan, request, shown);
         let next = self.next(answer.accepted, request, facts, plan, shown);
@@ -395,6 +401,7 @@ impl DcCharging {
         ensures stage { next_stage result ≡ stage_behind self facts.now plan.now request.now shown }
         ensures waits { is_waiting (next_stage result).row ≡ closes result }
         ensures order { closes result ≡ true → order_of self facts.now plan.now request.now shown ≡ Some order.Close }
+        ensures alone { closes result ≡ false → order_of self facts.now plan.now request.now shown ≢ Some order.Close }
     {
         if !accepted {
             return Next::DcCharging(self);
@@ -416,15 +423,16 @@ impl DcCharging {
         }
     }
 
-    /// CurrentDemand stays, and tells watts; PowerDelivery Stop leads on, Renegotiate back to the charge parameters; SessionStop ends the
-    /// session.
+    /// CurrentDemand stays, and tells watts; PowerDelivery Stop leads on, Renegotiate back to the charge parameters;
+    /// SessionStop ends the session.
     pub fn step(self, request: &Request, facts: &Facts, plan: &PostPlan, shown: u32) -> Moved
         requires plan { IsPostPlan plan.now }
         ensures next { next_stage result.next ≡ stage_behind self facts.now plan.now request.now shown }
         ensures order { order_in result ≡ order_of self facts.now plan.now request.now shown }
-        ensures reply { result.reply ≡ (if is_waiting (stage_behind self facts.now plan.now request.now shown).row then None
-            else Some (reply_to self facts.now plan.now request.now shown)) }
-        ensures end { result.end ≡ word_cause false (found_by (verdict self facts.now plan.now request.now) request.now.ask) }
+        // Close is ordered by a right alone.
+        ensures alone { result.order ≢ Some order.Close }
+        ensures reply { result.reply ≡ reply_at_once self facts.now plan.now request.now shown }
+        ensures end { result.end ≡ end_of self facts.now plan.now request.now }
     {
         let answer = answer_to(&self.stage(), facts, plan, request, shown);
         let next = self.next(answer.accepted, request, facts, plan, shown);
@@ -453,6 +461,7 @@ impl DcStopped {
         ensures stage { next_stage result ≡ stage_behind self facts.now plan.now request.now shown }
         ensures waits { is_waiting (next_stage result).row ≡ closes result }
         ensures order { closes result ≡ true → order_of self facts.now plan.now request.now shown ≡ Some order.Close }
+        ensures alone { closes result ≡ false → order_of self facts.now plan.now request.now shown ≢ Some order.Close }
     {
         Next::DcStopped(self)
     }
@@ -462,9 +471,10 @@ impl DcStopped {
         requires plan { IsPostPlan plan.now }
         ensures next { next_stage result.next ≡ stage_behind self facts.now plan.now request.now shown }
         ensures order { order_in result ≡ order_of self facts.now plan.now request.now shown }
-        ensures reply { result.reply ≡ (if is_waiting (stage_behind self facts.now plan.now request.now shown).row then None
-            else Some (reply_to self facts.now plan.now request.now shown)) }
-        ensures end { result.end ≡ word_cause false (found_by (verdict self facts.now plan.now request.now) request.now.ask) }
+        // Close is ordered by a right alone.
+        ensures alone { result.order ≢ Some order.Close }
+        ensures reply { result.reply ≡ reply_at_once self facts.now plan.now request.now shown }
+        ensures end { result.end ≡ end_of self facts.now plan.now request.now }
     {
         let answer = answer_to(&self.stage(), facts, plan, request, shown);
         let next = self.next(answer.accepted, request, facts, plan, shown);

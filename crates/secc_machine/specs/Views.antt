@@ -98,7 +98,8 @@ dialect_in (Some session) = speaks session.stage
 
 -- the watts for which the post asks behind a word, where that word is shown watts
 abbrev pub asks_in : PostPlan → states.State → Option states.Session → codecs.Judged → Option ℕ
-asks_in plan s (Some session) (codecs.Asked r) = if shows session.stage plan s r then Some (asked_behind session plan s r) else None
+asks_in plan s (Some session) (codecs.Asked r) =
+    if shows session.stage plan s r then Some (asked_behind session plan s r) else None
 asks_in plan s other word = None
 
 -- watts that may be shown where the post asks for these: none where it doesn't

@@ -108,7 +108,8 @@ fn kept_behind(
     stage: Option<Stage>,
     kept: Option<SessionId>,
 ) -> Option<SessionId>
-    ensures { (session : Option Session) → option_map (λ session. session.stage) session ≡ stage → result ≡ acting.kept_behind cause session kept }
+    ensures { (session : Option Session) → option_map (λ session. session.stage) session ≡ stage
+        → result ≡ acting.kept_behind cause session kept }
 {
     match (cause, stage) {
         (Some(EndCause::Paused), Some(stage)) => Some(stage.session),
@@ -119,15 +120,17 @@ fn kept_behind(
 impl Post {
     /// A connection that began opens its session behind the hearing in which it began.
     fn open_arrived(&mut self)
-        ensures { self.new ≡ record self.old { session = acting.session_opened self.old.arrived self.old.clock self.old.session } }
+        ensures { self.new ≡ record self.old {
+          session = acting.session_opened self.old.arrived self.old.clock self.old.session;
+        } }
     {
         if let Some(token) = self.arrived {
             self.slot.open(token, self.clock);
         }
     }
 
-    /// A hearing at this moment, with its bytes, of which there are at most 4,096. What came before has to be read out: a post that
-    /// has nothing left to do is (`law_of_rest`).
+    /// A hearing at this moment, with its bytes, of which there are at most 4,096. What came before has to be read
+    /// out: a post that has nothing left to do is (`law_of_rest`).
     pub fn hear(&mut self, now: u64, event: PostEvent, bytes: &[u8])
         requires short { length bytes.now ≤ 4096 }
         requires read { IsReadOut self.old.session }
@@ -205,7 +208,8 @@ impl Post {
         self.agenda = Agenda::nothing();
     }
 
-    /// What the post asked for was done, and was taken or failed. A datagram's answer and an end change the same either way.
+    /// What the post asked for was done, and was taken or failed. A datagram's answer and an end change the same
+    /// either way.
     pub fn did(&mut self, done: Done, taken: bool)
         ensures { (act : Act) → IsBy done act → self.new ≡ acting.acted act taken self.old }
     {

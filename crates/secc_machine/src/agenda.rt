@@ -31,7 +31,8 @@ pub enum Todo<'a> {
     Finish(EndCause),
 }
 
-/// What is decided and not done yet. It is done in this order: the datagram, the order, the reply, and then the session ends.
+/// What is decided and not done yet. It is done in this order: the datagram, the order, the reply, and then the
+/// session ends.
 #[derive(Debug, Drop)]
 pub(crate) struct Agenda {
     pub(crate) datagram: Option<[u8; 28]>,

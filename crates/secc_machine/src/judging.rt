@@ -106,7 +106,8 @@ impl Post {
     /// A request of the session, where one lives.
     fn ask(&mut self, plan: &PostPlan, request: &Request, shown: u32)
         requires { IsPostPlan plan.now }
-        ensures { self.new ≡ judging.taken_in plan.now self.old self.old.session (record { judged = Asked request.now; shown = shown }) }
+        ensures { self.new
+            ≡ judging.taken_in plan.now self.old self.old.session (record { judged = Asked request.now; shown = shown }) }
     {
         let Some(stage) = self.slot.stage() else {
             return;
@@ -152,11 +153,13 @@ impl Post {
         }
     }
 
-    /// The watts for which the post asks behind a word, where that word is shown watts: none exactly where it is shown none.
+    /// The watts for which the post asks behind a word, where that word is shown watts: none exactly where it is shown
+    /// none.
     pub fn asks_for(&self, plan: &PostPlan, judged: &Judged) -> Option<u32>
         ensures value { result ≡ asks_in plan.now self.now self.now.session (judged_of judged.now) }
         // So between other posts of its site what it is shown where it asks for that is what it may be shown.
-        ensures shown { (limit : ℕ) (before behind : List SitePost) (shown : ℕ) → IsShownFor (Shows limit before behind) result shown
+        ensures shown { (limit : ℕ) (before behind : List SitePost) (shown : ℕ)
+            → IsShownFor (Shows limit before behind) result shown
             → judging.IsShown (Shows limit before behind) plan.now self.now self.now.session (judged_of judged.now) shown }
     {
         self.asks_of(plan, judged)

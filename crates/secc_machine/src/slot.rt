@@ -359,7 +359,8 @@ fn replied(living: Living, now: u64) -> Living
 
 /// What is kept behind a negotiation.
 fn negotiated(living: Living, chosen: Option<Dialect>) -> Living
-    ensures { (unread : List ℕ) → with_unread (behind_front unread) result ≡ chosen_session chosen (with_unread unread living) }
+    ensures { (unread : List ℕ)
+        → with_unread (behind_front unread) result ≡ chosen_session chosen (with_unread unread living) }
 {
     let Living {
         stage,
@@ -424,7 +425,8 @@ fn answered(
     shown: u32,
 ) -> Living
     ensures { (unread : List ℕ) (s : State) → s.facts ≡ facts.now → s.clock ≡ now
-        → with_unread (behind_front unread) result ≡ judging.asked_session (with_unread unread living) plan.now s request.now shown }
+        → with_unread (behind_front unread) result
+        ≡ judging.asked_session (with_unread unread living) plan.now s request.now shown }
 {
     let Living {
         stage,

@@ -1,11 +1,11 @@
 //! What is answered to a request, whichever row it comes in.
 
-ghost use Rattle.std.specs.Prelude.{◌≡◌, false};
+ghost use Rattle.std.specs.Prelude.{◌≡◌};
 ghost use Rattle.session_words.specs.Plans.{IsPostPlan};
-ghost use Rattle.session_rules.specs.Causes.{found_by, word_cause};
 ghost use Rattle.session_rules.specs.Orders as orders;
 ghost use Rattle.session_rules.specs.Reply as replies;
 ghost use Rattle.session_rules.specs.Verdict.{verdict, is_accepted as accepts_code};
+ghost use Rattle.secc_setup.specs.Ends.{end_of};
 
 use charge_world::Order;
 use session_rules::{Stage, found_by, is_accepted, judge, order_of, reply_to, word_cause};
@@ -35,7 +35,7 @@ pub fn answer_to(
     ensures accepted { result.accepted ≡ accepts_code (verdict stage.now facts.now plan.now request.now) }
     ensures order { result.order ≡ orders.order_of stage.now facts.now plan.now request.now shown }
     ensures reply { result.reply ≡ replies.reply_to stage.now facts.now plan.now request.now shown }
-    ensures end { result.end ≡ word_cause false (found_by (verdict stage.now facts.now plan.now request.now) request.now.ask) }
+    ensures end { result.end ≡ end_of stage.now facts.now plan.now request.now }
 {
     let code = judge(stage, facts, plan, request);
     Answer {

@@ -3,7 +3,6 @@
 ghost use Rattle.std.specs.Prelude.{◌≡◌, ℕ, false, if◌then◌else◌};
 ghost use Rattle.session_words.specs.Plans.{IsPostPlan};
 ghost use Rattle.session_words.specs.declared.plan.PostPlan.{PostPlan as Plan};
-ghost use Rattle.session_rules.specs.Causes.{found_by, word_cause};
 ghost use Rattle.session_rules.specs.Moves.{stage_behind};
 ghost use Rattle.session_rules.specs.Orders.{order_of};
 ghost use Rattle.session_rules.specs.Reply.{reply_to};
@@ -11,6 +10,7 @@ ghost use Rattle.session_rules.specs.Verdict.{verdict, joins, is_accepted};
 ghost use Rattle.session_words.specs.declared.phase.Phase.TheVariants as row;
 ghost use Rattle.secc_setup.specs.Stages.{named_stage};
 ghost use Rattle.secc_setup.specs.Carrying.{carried_stage};
+ghost use Rattle.secc_setup.specs.Ends.{end_of};
 ghost use Rattle.secc_setup.specs.Nexts.{next_stage};
 
 use crate::answer::{Answer, answer_to};
@@ -116,8 +116,8 @@ pub enum Next {
     AcReady(Carried),
 }
 
-/// What a request leads to: the row behind it (the same one where it isn't accepted or ends the session), the order that goes before
-/// its reply, the reply, and the cause by which the session ends behind it.
+/// What a request leads to: the row behind it (the same one where it isn't accepted or ends the session), the order
+/// that goes before its reply, the reply, and the cause by which the session ends behind it.
 #[derive(Drop)]
 pub struct Moved {
     pub next: Next,
@@ -174,7 +174,10 @@ impl Negotiated {
     }
 
     fn set_up(self, facts: &Facts, named: &SessionId) -> SetUp
-        ensures { result ≡ record self { row = row.SetUp; session = if joins self.dialect facts.now named.now then named.now else self.session } }
+        ensures { result ≡ record self {
+          row = row.SetUp;
+          session = if joins self.dialect facts.now named.now then named.now else self.session;
+        } }
     {
         let Negotiated { dialect, session } = self;
         let session = if joins(dialect, facts, named) {
@@ -205,7 +208,7 @@ impl Negotiated {
         ensures next { next_stage result.next ≡ stage_behind self facts.now plan.now request.now shown }
         ensures order { result.order ≡ order_of self facts.now plan.now request.now shown }
         ensures reply { result.reply ≡ reply_to self facts.now plan.now request.now shown }
-        ensures end { result.end ≡ word_cause false (found_by (verdict self facts.now plan.now request.now) request.now.ask) }
+        ensures end { result.end ≡ end_of self facts.now plan.now request.now }
     {
         let answer = answer_to(&self.stage(), facts, plan, request, shown);
         let next = self.next(answer.accepted, request, facts);
@@ -248,7 +251,7 @@ impl SetUp {
         ensures next { next_stage result.next ≡ stage_behind self facts.now plan.now request.now shown }
         ensures order { result.order ≡ order_of self facts.now plan.now request.now shown }
         ensures reply { result.reply ≡ reply_to self facts.now plan.now request.now shown }
-        ensures end { result.end ≡ word_cause false (found_by (verdict self facts.now plan.now request.now) request.now.ask) }
+        ensures end { result.end ≡ end_of self facts.now plan.now request.now }
     {
         let answer = answer_to(&self.stage(), facts, plan, request, shown);
         let next = self.next(answer.accepted, request, facts);
@@ -291,7 +294,7 @@ impl Discovered {
         ensures next { next_stage result.next ≡ stage_behind self facts.now plan.now request.now shown }
         ensures order { result.order ≡ order_of self facts.now plan.now request.now shown }
         ensures reply { result.reply ≡ reply_to self facts.now plan.now request.now shown }
-        ensures end { result.end ≡ word_cause false (found_by (verdict self facts.now plan.now request.now) request.now.ask) }
+        ensures end { result.end ≡ end_of self facts.now plan.now request.now }
     {
         let answer = answer_to(&self.stage(), facts, plan, request, shown);
         let next = self.next(answer.accepted, request, facts);
@@ -345,13 +348,14 @@ impl Selected {
         }
     }
 
-    /// Authorization leads on once the post is free, somebody paid or a paused session is joined; SessionStop ends the session.
+    /// Authorization leads on once the post is free, somebody paid or a paused session is joined; SessionStop ends the
+    /// session.
     pub fn step(self, request: &Request, facts: &Facts, plan: &PostPlan, shown: u32) -> Moved
         requires { IsPostPlan plan.now }
         ensures next { next_stage result.next ≡ stage_behind self facts.now plan.now request.now shown }
         ensures order { result.order ≡ order_of self facts.now plan.now request.now shown }
         ensures reply { result.reply ≡ reply_to self facts.now plan.now request.now shown }
-        ensures end { result.end ≡ word_cause false (found_by (verdict self facts.now plan.now request.now) request.now.ask) }
+        ensures end { result.end ≡ end_of self facts.now plan.now request.now }
     {
         let answer = answer_to(&self.stage(), facts, plan, request, shown);
         let next = self.next(answer.accepted, request, facts, plan, shown);
@@ -405,13 +409,14 @@ impl Authorized {
         }
     }
 
-    /// ChargeParameterDiscovery leads on where watts are shown, to the rows of the post's current; SessionStop ends the session.
+    /// ChargeParameterDiscovery leads on where watts are shown, to the rows of the post's current; SessionStop ends
+    /// the session.
     pub fn step(self, request: &Request, facts: &Facts, plan: &PostPlan, shown: u32) -> Moved
         requires { IsPostPlan plan.now }
         ensures next { next_stage result.next ≡ stage_behind self facts.now plan.now request.now shown }
         ensures order { result.order ≡ order_of self facts.now plan.now request.now shown }
         ensures reply { result.reply ≡ reply_to self facts.now plan.now request.now shown }
-        ensures end { result.end ≡ word_cause false (found_by (verdict self facts.now plan.now request.now) request.now.ask) }
+        ensures end { result.end ≡ end_of self facts.now plan.now request.now }
     {
         let answer = answer_to(&self.stage(), facts, plan, request, shown);
         let next = self.next(answer.accepted, request, facts, plan, shown);
