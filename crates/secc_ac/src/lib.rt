@@ -1,0 +1,11 @@
+//! The rows of a session that charges with alternating current (ISO 15118-2:2014, 8.8.4; DIN SPEC 70121:2014; IEC
+//! 61851-1), each a type of its own that a request uses up. The contactor is ordered closed by spending a
+//! `CloseRight`, which is made where PowerDelivery starts. What is answered, ordered and kept are the rules of a
+//! session (`session_rules`).
+#![tactic(auto)]
+
+pub mod next;
+pub mod rows;
+
+pub use next::{Moved, Next};
+pub use rows::{AcCharging, AcClosing, AcReady, AcStopped};

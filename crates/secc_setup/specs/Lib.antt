@@ -1,0 +1,4 @@
+pub mod Stages
+pub mod Carrying
+pub mod Nexts
+pub mod Ends
