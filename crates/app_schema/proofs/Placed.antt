@@ -1,7 +1,9 @@
 -- The places of the negotiation's schema, kind by kind.
-use Rattle.std.proofs.Common.{◌≡◌, ℕ, zero, suc, ◌+◌, ◌^◌, ◌<◌, ◌≤◌, List, [], ◌∷◌, length, drop, Option, Some, None, slice_get, refl, sym, ap, ap₂, subst, ◌∙◌, arith}
+use Rattle.std.proofs.Common.{◌≡◌, ℕ, zero, suc, ◌+◌, ◌^◌, ◌<◌, ◌≤◌, List, [], ◌∷◌, length, drop, Option, Some, None, IfSome, slice_get, refl, sym, ap, ap₂, subst, ◌∙◌, arith}
 use Rattle.exi_schema.specs.Plain.{PlainKind, valued, containing}
-use Rattle.exi_schema.specs.Steps.{IsStep}
+use Rattle.exi_schema.specs.Steps.{IsStep, IsSought}
+use Rattle.exi_schema.specs.declared.places.Sought.{Sought}
+use Rattle.exi_schema.specs.declared.places.Offer.{Offer}
 use Rattle.exi_schema.proofs.Conditions.{complex_in}
 use Rattle.exi_schema.proofs.Fitting.{EachStep, each_get, each_complex, simple_fits}
 use Rattle.exi_schema.specs.declared.places.Place.{Place}
@@ -73,3 +75,22 @@ each_in place (Some (containing attributes particles)) is there =
 pub offer_fits : (place : Place) (code : ℕ) (step : Step) → IsPlace kinds place → Some step ≡ slice_get (offers kinds place) code → IsStep kinds (length negotiation_schema.names) place.kind step
 offer_fits place code step there is =
     each_get kinds (length negotiation_schema.names) place.kind (offers kinds place) code step (each_in place (slice_get kinds place.kind) refl there) is
+
+pub found_fits : (place : Place) (o : Option Offer) → IsPlace kinds place → IfSome o (λ offer. slice_get (offers kinds place) offer.code ≡ Some offer.step) →
+    IfSome o (λ offer. IsStep kinds (length negotiation_schema.names) place.kind offer.step)
+found_fits place None there found = tt
+found_fits place (Some offer) there found = offer_fits place offer.code offer.step there (sym found)
+
+pub found_few : (place : Place) (o : Option Offer) → length (offers kinds place) ≤ 2 → IfSome o (λ _. length (offers kinds place) < 2 ^ 16)
+found_few place None few = tt
+found_few place (Some offer) few = omega (arith, few)
+
+-- ---- a row of one step or two
+
+pub only_first : (first : Step) (sought : Sought) → (IsSought first sought → ⊥) → (code : ℕ) (step : Step) → slice_get (first ∷ []) code ≡ Some step → IsSought step sought → ⊥
+only_first first sought other zero step is meant = let same : Some first ≡ Some step = is in let e : step ≡ first = cc in other (subst (λ (s : Step). IsSought s sought) e meant)
+only_first first sought other (suc n) step is meant = absurd cc
+
+pub neither : (first second : Step) (sought : Sought) → (IsSought first sought → ⊥) → (IsSought second sought → ⊥) → (code : ℕ) (step : Step) → slice_get (first ∷ second ∷ []) code ≡ Some step → IsSought step sought → ⊥
+neither first second sought one two zero step is meant = only_first first sought one zero step is meant
+neither first second sought one two (suc code) step is meant = only_first second sought two code step is meant
