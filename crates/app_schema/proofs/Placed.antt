@@ -47,6 +47,21 @@ protocol_place place is there = ap (λ k. offers kinds (at k place.particle 0)) 
 pub response_place : (place : Place) → place.kind ≡ 7 → IsPlace kinds place → offers kinds (at 7 place.particle 0) ≡ offers kinds place
 response_place place is there = ap (λ k. offers kinds (at k place.particle 0)) (sym is) ∙ place_of 7 (λ p c a h. (response_copies p c h.1 h.2, omega (arith, h.0))) place is there
 
+-- behind the kinds of values, of a protocol and of a request is that of a response
+last_kind : (k p c a : ℕ) → 5 ≤ k → (k ≡ 5 → ⊥) → (k ≡ 6 → ⊥) → IsPlace kinds (here k p c a) → k ≡ 7
+last_kind (suc (suc (suc (suc (suc zero))))) p c a low one two there = absurd (one refl)
+last_kind (suc (suc (suc (suc (suc (suc zero)))))) p c a low one two there = absurd (two refl)
+last_kind (suc (suc (suc (suc (suc (suc (suc zero))))))) p c a low one two there = refl
+last_kind (suc (suc (suc (suc (suc (suc (suc (suc n)))))))) p c a low one two there = absurd there
+last_kind zero p c a low one two there = absurd (omega (arith, low))
+last_kind (suc zero) p c a low one two there = absurd (omega (arith, low))
+last_kind (suc (suc zero)) p c a low one two there = absurd (omega (arith, low))
+last_kind (suc (suc (suc zero))) p c a low one two there = absurd (omega (arith, low))
+last_kind (suc (suc (suc (suc zero)))) p c a low one two there = absurd (omega (arith, low))
+
+pub is_response : (place : Place) → 5 ≤ place.kind → (place.kind ≡ 5 → ⊥) → (place.kind ≡ 6 → ⊥) → IsPlace kinds place → place.kind ≡ 7
+is_response place low one two there = last_kind place.kind place.particle place.copies place.attributes low one two there
+
 -- ---- the width of a code
 
 least_of_one : (w : ℕ) → 1 + 1 ≤ 2 ^ w → 1 ≤ w

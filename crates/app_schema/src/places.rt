@@ -214,6 +214,9 @@ fn row_at(place: Place) -> Row
     requires { IsPlace kinds place }
     ensures { steps_of result ≡ offers kinds place }
 {
+    if place.kind < PROTOCOL {
+        return one(value_step(place.kind, place.particle));
+    }
     if place.kind == PROTOCOL {
         return one(protocol_step(place.particle));
     }
@@ -223,10 +226,7 @@ fn row_at(place: Place) -> Row
         }
         return one(Step::End);
     }
-    if place.kind == RESPONSE_KIND {
-        return response_row(place.particle);
-    }
-    one(value_step(place.kind, place.particle))
+    response_row(place.particle)
 }
 
 /// One step.
