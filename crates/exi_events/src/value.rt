@@ -44,6 +44,7 @@ pub(crate) fn is_value(datatype: Datatype, value: &Value) -> bool
 }
 
 /// Whether an integer is one of a datatype.
+#[inline(always)]
 fn is_number(datatype: Datatype, number: i128) -> bool
     ensures { IsTrue result ↔ IsValue datatype (Number number) }
 {
