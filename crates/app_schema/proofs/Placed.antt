@@ -1,7 +1,9 @@
 -- The places of the negotiation's schema, kind by kind.
-use Rattle.std.proofs.Common.{◌≡◌, ℕ, zero, suc, ◌+◌, ◌^◌, ◌<◌, ◌≤◌, List, [], ◌∷◌, length, drop, Option, Some, None, slice_get, refl, sym, ap, ap₂, subst, ◌∙◌, arith}
+use Rattle.std.proofs.Common.{◌≡◌, ℕ, zero, suc, ◌+◌, ◌^◌, ◌<◌, ◌≤◌, List, [], ◌∷◌, length, drop, Option, Some, None, IfSome, slice_get, refl, sym, ap, ap₂, subst, ◌∙◌, arith}
 use Rattle.exi_schema.specs.Plain.{PlainKind, valued, containing}
-use Rattle.exi_schema.specs.Steps.{IsStep}
+use Rattle.exi_schema.specs.Steps.{IsStep, IsSought}
+use Rattle.exi_schema.specs.declared.places.Sought.{Sought}
+use Rattle.exi_schema.specs.declared.places.Offer.{Offer}
 use Rattle.exi_schema.proofs.Conditions.{complex_in}
 use Rattle.exi_schema.proofs.Fitting.{EachStep, each_get, each_complex, simple_fits}
 use Rattle.exi_schema.specs.declared.places.Place.{Place}
@@ -45,6 +47,21 @@ protocol_place place is there = ap (λ k. offers kinds (at k place.particle 0)) 
 pub response_place : (place : Place) → place.kind ≡ 7 → IsPlace kinds place → offers kinds (at 7 place.particle 0) ≡ offers kinds place
 response_place place is there = ap (λ k. offers kinds (at k place.particle 0)) (sym is) ∙ place_of 7 (λ p c a h. (response_copies p c h.1 h.2, omega (arith, h.0))) place is there
 
+-- behind the kinds of values, of a protocol and of a request is that of a response
+last_kind : (k p c a : ℕ) → 5 ≤ k → (k ≡ 5 → ⊥) → (k ≡ 6 → ⊥) → IsPlace kinds (here k p c a) → k ≡ 7
+last_kind (suc (suc (suc (suc (suc zero))))) p c a low one two there = absurd (one refl)
+last_kind (suc (suc (suc (suc (suc (suc zero)))))) p c a low one two there = absurd (two refl)
+last_kind (suc (suc (suc (suc (suc (suc (suc zero))))))) p c a low one two there = refl
+last_kind (suc (suc (suc (suc (suc (suc (suc (suc n)))))))) p c a low one two there = absurd there
+last_kind zero p c a low one two there = absurd (omega (arith, low))
+last_kind (suc zero) p c a low one two there = absurd (omega (arith, low))
+last_kind (suc (suc zero)) p c a low one two there = absurd (omega (arith, low))
+last_kind (suc (suc (suc zero))) p c a low one two there = absurd (omega (arith, low))
+last_kind (suc (suc (suc (suc zero)))) p c a low one two there = absurd (omega (arith, low))
+
+pub is_response : (place : Place) → 5 ≤ place.kind → (place.kind ≡ 5 → ⊥) → (place.kind ≡ 6 → ⊥) → IsPlace kinds place → place.kind ≡ 7
+is_response place low one two there = last_kind place.kind place.particle place.copies place.attributes low one two there
+
 -- ---- the width of a code
 
 least_of_one : (w : ℕ) → 1 + 1 ≤ 2 ^ w → 1 ≤ w
@@ -73,3 +90,22 @@ each_in place (Some (containing attributes particles)) is there =
 pub offer_fits : (place : Place) (code : ℕ) (step : Step) → IsPlace kinds place → Some step ≡ slice_get (offers kinds place) code → IsStep kinds (length negotiation_schema.names) place.kind step
 offer_fits place code step there is =
     each_get kinds (length negotiation_schema.names) place.kind (offers kinds place) code step (each_in place (slice_get kinds place.kind) refl there) is
+
+pub found_fits : (place : Place) (o : Option Offer) → IsPlace kinds place → IfSome o (λ offer. slice_get (offers kinds place) offer.code ≡ Some offer.step) →
+    IfSome o (λ offer. IsStep kinds (length negotiation_schema.names) place.kind offer.step)
+found_fits place None there found = tt
+found_fits place (Some offer) there found = offer_fits place offer.code offer.step there (sym found)
+
+pub found_few : (place : Place) (o : Option Offer) → length (offers kinds place) ≤ 2 → IfSome o (λ _. length (offers kinds place) < 2 ^ 16)
+found_few place None few = tt
+found_few place (Some offer) few = omega (arith, few)
+
+-- ---- a row of one step or two
+
+pub only_first : (first : Step) (sought : Sought) → (IsSought first sought → ⊥) → (code : ℕ) (step : Step) → slice_get (first ∷ []) code ≡ Some step → IsSought step sought → ⊥
+only_first first sought other zero step is meant = let same : Some first ≡ Some step = is in let e : step ≡ first = cc in other (subst (λ (s : Step). IsSought s sought) e meant)
+only_first first sought other (suc n) step is meant = absurd cc
+
+pub neither : (first second : Step) (sought : Sought) → (IsSought first sought → ⊥) → (IsSought second sought → ⊥) → (code : ℕ) (step : Step) → slice_get (first ∷ second ∷ []) code ≡ Some step → IsSought step sought → ⊥
+neither first second sought one two zero step is meant = only_first first sought one zero step is meant
+neither first second sought one two (suc code) step is meant = only_first second sought two code step is meant

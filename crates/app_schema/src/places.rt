@@ -12,7 +12,9 @@ use crate::tables::{
     CODE_NAME, NAMESPACE_TEXT, PRIORITY_NUMBER, PROTOCOL, REQUEST_KIND, RESPONSE_KIND,
     UNSIGNED_BYTE, UNSIGNED_INT, negotiation,
 };
-use exi_schema::{Datatype, MemberStanding, Place, Places, Root, Step};
+use exi_schema::{
+    Codes, Datatype, MemberStanding, Offer, Place, Places, Root, Sought, Step, is_sought,
+};
 
 /// What is offered at a place: one step, or two.
 #[derive(Clone, Copy)]
@@ -22,8 +24,10 @@ struct Row {
 }
 
 impl Row {
-    ghost use Rattle.std.specs.Prelude.{length};
+    ghost use Rattle.std.specs.Prelude.{length, None, IfSome};
     ghost use Rattle.exi_schema.specs.Offers.{IsWidth};
+    ghost use Rattle.exi_schema.specs.Steps.{IsSought};
+    ghost use Rattle.exi_schema.specs.declared.places.Step.{Step as SchemaStep};
 
     /// How many steps it has.
     fn count(self) -> u16
@@ -43,6 +47,45 @@ impl Row {
         match self.second {
             Some(_) => 2,
             None => 1,
+        }
+    }
+
+    /// Its codes.
+    #[inline(always)]
+    fn codes(self) -> Codes
+        ensures offered { result.offered ≡ length (steps_of self) }
+        ensures width { IsWidth (length (steps_of self)) result.width }
+    {
+        Codes {
+            offered: self.count(),
+            width: self.width(),
+        }
+    }
+
+    /// The code of a step, `None` exactly where it has none such.
+    #[inline(always)]
+    fn find(self, sought: Sought) -> Option<Offer>
+        ensures offered { IfSome result (λ offer. slice_get (steps_of self) offer.code ≡ Some offer.step) }
+        ensures width { IfSome result (λ offer. IsWidth (length (steps_of self)) offer.width) }
+        ensures meant { IfSome result (λ offer. IsSought offer.step sought) }
+        ensures few { length (steps_of self) ≤ 2 }
+        ensures none { result ≡ None → (code : ℕ) (step : SchemaStep) → slice_get (steps_of self) code ≡ Some step → IsSought step sought → ⊥ }
+    {
+        let width = self.width();
+        if is_sought(&self.first, sought) {
+            return Some(Offer {
+                code: 0,
+                width,
+                step: self.first,
+            });
+        }
+        match self.second {
+            Some(step) if is_sought(&step, sought) => Some(Offer {
+                code: 1,
+                width,
+                step,
+            }),
+            _ => None,
         }
     }
 
@@ -166,10 +209,14 @@ fn response_row(particle: u16) -> Row
 }
 
 /// What is offered at a place of the schema.
+#[inline(always)]
 fn row_at(place: Place) -> Row
     requires { IsPlace kinds place }
     ensures { steps_of result ≡ offers kinds place }
 {
+    if place.kind < PROTOCOL {
+        return one(value_step(place.kind, place.particle));
+    }
     if place.kind == PROTOCOL {
         return one(protocol_step(place.particle));
     }
@@ -179,10 +226,7 @@ fn row_at(place: Place) -> Row
         }
         return one(Step::End);
     }
-    if place.kind == RESPONSE_KIND {
-        return response_row(place.particle);
-    }
-    one(value_step(place.kind, place.particle))
+    response_row(place.particle)
 }
 
 /// One step.
@@ -207,10 +251,21 @@ impl Places for NegotiationPlaces {
         row_at(place).count()
     }
 
+    #[inline(always)]
+    fn codes(&self, place: Place) -> Codes {
+        row_at(place).codes()
+    }
+
+    #[inline(always)]
+    fn find(&self, place: Place, sought: Sought) -> Option<Offer> {
+        row_at(place).find(sought)
+    }
+
     fn width(&self, place: Place) -> u32 {
         row_at(place).width()
     }
 
+    #[inline(always)]
     fn advance(&self, place: Place, code: u16) -> Step {
         row_at(place).step(code)
     }

@@ -32,6 +32,9 @@ shortest_high : (more v : ℕ) → 128 ≤ v → shortest_within (suc more) v �
 unfolding shortest_within
 shortest_high more v h = let high : ltb v 128 ≡ false = le-ltb _ _ h in rw high refl
 
+pub one_octet : (v : ℕ) → v < 128 → number_bits 8 v ≡ shortest_unsigned v
+one_octet v low = low_octet v low ∙ sym (shortest_low 9 v low)
+
 length-octet : (more : Bool) (group : ℕ) → length (octet more group) ≡ 8
 length-octet more group = ap suc (length-number_bits 7 group)
 

@@ -47,6 +47,7 @@ impl<'a> Contents<'a> {
     }
 
     /// The next code point or byte.
+    #[inline(always)]
     pub fn next(&mut self) -> Option<u32>
         ensures { MatchOption result ((self.old ≡ []) × (self.new ≡ [])) (λ item. self.old ≡ item ∷ self.new) }
     {

@@ -80,6 +80,7 @@ impl<'a> BitCursor<'a> {
     /// Takes an n-bit Unsigned Integer (7.1.9), of at most 32 bits.
     ///
     /// `ShortInput` where fewer bits are left.
+    #[inline(always)]
     pub fn take_bits(&mut self, n: u32) -> Result<u32, BitFault>
         requires { n ≤ 32 }
         ensures ok { IfOk result (λ value. Takes (SpellsNumber n value) self.old self.new) }
@@ -105,7 +106,7 @@ impl<'a> BitCursor<'a> {
         ensures at { IfErr result (λ fault. fault.bit ≡ self.old.place) }
         ensures stays { OnErr result (self.new ≡ self.old) }
     {
-        match octets::octets_at(self.payload, self.place, 10) {
+        match octets::unsigned_at(self.payload, self.place) {
             Ok((value, bits)) => {
                 self.place += bits;
                 Ok(value)
@@ -130,7 +131,7 @@ impl<'a> BitCursor<'a> {
             return Err(self.short());
         }
         let negative = octets::bit_at(self.payload, self.place);
-        match octets::octets_at(self.payload, self.place + 1, 10) {
+        match octets::unsigned_at(self.payload, self.place + 1) {
             Ok((magnitude, bits)) => {
                 self.place += 1 + bits;
                 Ok(signed(negative, magnitude))

@@ -37,8 +37,24 @@ fn part_at(payload: &[u8], bit: u32, n: u32) -> u32
     (byte >> (8 - bit % 8 - n)) & ((1 << n) - 1)
 }
 
-/// The number that n bits spell, byte by byte.
+/// The number that n bits spell.
+#[inline(always)]
 pub fn number_at(payload: &[u8], bit: u32, n: u32) -> u32
+    requires small { n ≤ 32 }
+    requires room { length payload.now ≤ 65536 }
+    requires within { bit + n ≤ 8 * length payload.now }
+    ensures range { result < 2 ^ n }
+    ensures there { drop bit (bits_of payload.now) ≡ number_bits n result ++ drop (bit + n) (bits_of payload.now) }
+{
+    if n > 0 && bit % 8 + n <= 8 {
+        part_at(payload, bit, n)
+    } else {
+        spread_number_at(payload, bit, n)
+    }
+}
+
+/// The number that n bits of several bytes spell, byte by byte.
+fn spread_number_at(payload: &[u8], bit: u32, n: u32) -> u32
     requires small { n ≤ 32 }
     requires room { length payload.now ≤ 65536 }
     requires within { bit + n ≤ 8 * length payload.now }
@@ -84,8 +100,24 @@ pub fn octet_at(payload: &[u8], bit: u32) -> Option<u32>
     Some(u32::from(whole_octet_at(payload, bit)))
 }
 
+/// The Unsigned Integer at a bit, in at most ten octets, and how many bits spell it.
+#[inline(always)]
+pub fn unsigned_at(payload: &[u8], bit: u32) -> Result<(u64, u32), BitCause>
+    requires room { length payload.now ≤ 65536 }
+    requires within { bit ≤ 8 * length payload.now }
+    ensures within { IfOk result (λ found. bit + found.1 ≤ 8 * length payload.now) }
+    ensures found { MatchResult result
+        (λ found. ItemAt (SpellsOctets 10 found.0) (bits_of payload.now) bit found.1)
+        (λ cause. RefusesOctets 10 (drop bit (bits_of payload.now)) cause) }
+{
+    match octet_at(payload, bit) {
+        Some(octet) if octet < 128 => Ok((u64::from(octet), 8)),
+        _ => octets_at(payload, bit, 10),
+    }
+}
+
 /// The Unsigned Integer at a bit, in at most so many octets, and how many bits spell it.
-pub fn octets_at(payload: &[u8], bit: u32, most: u32) -> Result<(u64, u32), BitCause>
+fn octets_at(payload: &[u8], bit: u32, most: u32) -> Result<(u64, u32), BitCause>
     requires some { 0 < most }
     requires few { most ≤ 10 }
     requires room { length payload.now ≤ 65536 }
@@ -148,7 +180,7 @@ fn any_char_at(payload: &[u8], bit: u32) -> Result<(char, u32), BitCause>
         (λ found. ItemAt (SpellsChar found.0) (bits_of payload.now) bit found.1)
         (λ cause. RefusesChar (drop bit (bits_of payload.now)) cause) }
 {
-    let (value, bits) = octets_at(payload, bit, 10)?;
+    let (value, bits) = unsigned_at(payload, bit)?;
     if value > 0x10_FFFF {
         return Err(BitCause::BadChar);
     }

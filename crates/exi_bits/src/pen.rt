@@ -70,6 +70,7 @@ impl<'b> BitPen<'b> {
     }
 
     /// Whether n bits more have room.
+    #[inline(always)]
     fn room_for(&self, n: u64) -> Result<(), Full>
         requires { n < 2 ^ 63 }
         ensures full { IsErr result ↔ Needs self.now n }
@@ -102,6 +103,7 @@ impl<'b> BitPen<'b> {
     /// Writes an n-bit Unsigned Integer (7.1.9), of at most 32 bits.
     ///
     /// `Full` exactly where the room is too small.
+    #[inline(always)]
     pub fn put_bits(&mut self, value: u32, n: u32) -> Result<(), Full>
         requires few { n ≤ 32 }
         requires range { value < 2 ^ n }
@@ -119,6 +121,7 @@ impl<'b> BitPen<'b> {
     /// Writes an Unsigned Integer (7.1.6), in its shortest spelling.
     ///
     /// `Full` exactly where the room is too small.
+    #[inline(always)]
     pub fn put_unsigned(&mut self, value: u64) -> Result<(), Full>
         ensures ok { OnOk result (Writes self.old self.new (shortest_unsigned value)) }
         ensures full { IsErr result ↔ Needs self.old (length (shortest_unsigned value)) }

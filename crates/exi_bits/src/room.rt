@@ -59,8 +59,26 @@ fn lowest_bits(number: u32, n: u32) -> u8
     (number & ((1 << n) - 1)) as u8
 }
 
-/// Writes a number in n bits, byte by byte.
+/// Writes a number in n bits.
+#[inline(always)]
 pub fn put_number(room: &mut [u8], at: u32, value: u32, n: u32)
+    requires small { n ≤ 32 }
+    requires room { length room.old ≤ 65536 }
+    requires within { at + n ≤ 8 * length room.old }
+    requires clean { PadsZero room.old at }
+    ensures { Extends room.old room.new at n (number_bits n value) }
+{
+    if n > 0 && at % 8 + n <= 8 {
+        put_part(room, at, lowest_bits(value, n), n);
+    } else if n == 8 {
+        put_octet(room, at, lowest_bits(value, 8));
+    } else {
+        put_spread_number(room, at, value, n);
+    }
+}
+
+/// Writes a number in n bits of several bytes, byte by byte.
+fn put_spread_number(room: &mut [u8], at: u32, value: u32, n: u32)
     requires small { n ≤ 32 }
     requires room { length room.old ≤ 65536 }
     requires within { at + n ≤ 8 * length room.old }
@@ -96,7 +114,20 @@ fn put_octet(room: &mut [u8], at: u32, octet: u8)
 }
 
 /// How many octets the shortest spelling of an Unsigned Integer has: 1 to 10.
+#[inline(always)]
 pub fn octet_count(value: u64) -> u32
+    ensures count { 8 * result ≡ length (shortest_unsigned value) }
+    ensures few { result ≤ 10 }
+{
+    if value < 128 {
+        1
+    } else {
+        long_octet_count(value)
+    }
+}
+
+/// How many octets it has, counted one by one.
+fn long_octet_count(value: u64) -> u32
     ensures count { 8 * result ≡ length (shortest_unsigned value) }
     ensures few { result ≤ 10 }
 {
@@ -110,7 +141,23 @@ pub fn octet_count(value: u64) -> u32
 }
 
 /// Writes the shortest spelling of an Unsigned Integer, and tells how many bits it has.
+#[inline(always)]
 pub fn put_octets(room: &mut [u8], at: u32, value: u64) -> u32
+    requires room { length room.old ≤ 65536 }
+    requires within { at + length (shortest_unsigned value) ≤ 8 * length room.old }
+    requires clean { PadsZero room.old at }
+    ensures { Extends room.old room.new at result (shortest_unsigned value) }
+{
+    if value < 128 {
+        put_octet(room, at, value as u8);
+        8
+    } else {
+        put_long_octets(room, at, value)
+    }
+}
+
+/// Writes it octet by octet.
+fn put_long_octets(room: &mut [u8], at: u32, value: u64) -> u32
     requires room { length room.old ≤ 65536 }
     requires within { at + length (shortest_unsigned value) ≤ 8 * length room.old }
     requires clean { PadsZero room.old at }

@@ -16,3 +16,4 @@ pub mod Coded
 pub mod Starting
 pub mod Drafts
 pub mod Measured
+pub mod Seeking

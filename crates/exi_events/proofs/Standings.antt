@@ -17,7 +17,7 @@ use Rattle.exi_values.specs.declared.Event.TheVariants as event
 use Rattle.exi_values.specs.Meaning.{texts_in}
 use Rattle.exi_events.specs.declared.offer.Found.{Found}
 use Rattle.exi_events.specs.declared.offer.Found.TheVariants as found
-use Rattle.exi_events.specs.declared.offer.Offer.{Offer}
+use Rattle.exi_schema.specs.declared.places.Offer.{Offer}
 use Rattle.exi_events.specs.declared.open.OpenElement.{OpenElement}
 use Rattle.exi_events.specs.declared.reader.Phase.{Phase}
 use Rattle.exi_events.specs.declared.reader.Phase.TheVariants as phase

@@ -24,7 +24,9 @@ use Rattle.exi_values.specs.declared.Value.{Value}
 use Rattle.exi_values.specs.Meaning.{IsShaped, event_of}
 use Rattle.exi_events.specs.declared.offer.Found.{Found}
 use Rattle.exi_events.specs.declared.offer.Found.TheVariants as found
-use Rattle.exi_events.specs.declared.offer.Offer.{Offer}
+use Rattle.exi_schema.specs.declared.places.Offer.{Offer}
+use Rattle.exi_schema.specs.declared.places.Sought.{Sought}
+use Rattle.exi_schema.specs.declared.places.Sought.TheVariants as sought
 use Rattle.exi_events.specs.declared.writer.EventWriter.{EventWriter}
 use Rattle.exi_events.specs.Reader.{state_of, IsReadyAt}
 
@@ -136,6 +138,15 @@ IsStepOf (step.Element name kind next standing past_limit) (event.Start n) = (n 
 IsStepOf step.End event.EndElement = Unit {0}
 IsStepOf (step.Characters next) (event.Value v) = Unit {0}
 IsStepOf _ _ = ⊥
+
+-- what an event is looked for as among the steps of a place
+abbrev pub sought_in : Event → Option Sought
+sought_in (event.Document number) = None
+sought_in (event.Start name) = Some (sought.Element name)
+sought_in (event.Attribute name v) = Some (sought.Attribute name)
+sought_in (event.Value v) = Some sought.Characters
+sought_in event.EndElement = Some sought.End
+sought_in event.Finished = None
 
 -- the code of an event at a place, its width, and what it means
 pub record IsFound (s : PlainSchema) (here : Place) (offer : Offer) (e : Event) : Type 0 where

@@ -17,6 +17,7 @@ use exi_schema::{Place, Places, Step};
 use exi_values::{Event, Table, Value};
 
 /// Takes a value of a simple kind of the schema.
+#[inline(never)]
 fn take_value<'a, P: Places>(
     reader: &mut PayloadReader<'a>,
     places: &P,
@@ -41,6 +42,7 @@ fn take_value<'a, P: Places>(
 }
 
 /// Takes the next event inside the innermost element, which is `top`.
+#[inline(always)]
 pub(crate) fn take_inside<'a, P: Places>(
     reader: &mut PayloadReader<'a>,
     places: &P,

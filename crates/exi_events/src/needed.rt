@@ -12,15 +12,16 @@ ghost use Rattle.exi_events.specs.Open.{opened_of};
 ghost use Rattle.exi_events.specs.Reader.{standing_of, state_of, IsReadyAt};
 ghost use Rattle.exi_events.specs.Writer.{IsFound, IsFoundAt, IsOffered, IsShapedEvent, HasBits, MayWrite, WritesValueOf, value_in};
 
-use crate::offer::{Found, Offer};
+use crate::offer::Found;
 use crate::open::{OpenElement, OpenElements};
 use crate::reader::Phase;
 use exi_bits::BitPen;
-use exi_schema::{Places, Step};
+use exi_schema::{Offer, Places, Step};
 use exi_values::{Event, Table};
 use exi_writing::value_bits;
 
 /// The bits of the value of an event, as one of a simple kind.
+#[inline(never)]
 fn value_bits_of<P: Places>(
     pen: &BitPen,
     places: &P,
@@ -50,6 +51,7 @@ fn value_bits_of<P: Places>(
 }
 
 /// The bits of an event with its code inside the innermost element, which is `top`.
+#[inline(always)]
 fn inside_bits<P: Places>(
     pen: &BitPen,
     places: &P,
@@ -80,6 +82,7 @@ fn inside_bits<P: Places>(
 }
 
 /// The bits of an event that is offered behind what a pen has written.
+#[inline(always)]
 pub(crate) fn event_bits<P: Places>(
     pen: &BitPen,
     places: &P,

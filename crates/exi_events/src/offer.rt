@@ -11,12 +11,11 @@ ghost use Rattle.exi_documents.specs.Values.{most_entries, IsValue};
 ghost use Rattle.exi_values.specs.Meaning.{AreTexts, IsShaped, texts_in, value_of};
 ghost use Rattle.exi_writing.specs.Entering.{HasEntryFor};
 ghost use Rattle.exi_events.specs.Open.{opened_of};
-ghost use Rattle.exi_events.specs.Writer.{IsOffered, IsShapedEvent, IsStepOf, IsFound, MayWrite, value_in};
+ghost use Rattle.exi_events.specs.Writer.{IsOffered, IsShapedEvent, IsStepOf, IsFound, MayWrite, sought_in, value_in};
 
 use crate::open::OpenElement;
-use crate::step::codes_at;
 use crate::value::{has_entry, is_value};
-use exi_schema::{MemberStanding, Place, Places, Root, Step};
+use exi_schema::{Offer, Place, Places, Root, Sought, Step};
 use exi_values::{Event, Table, Value};
 
 /// Whether a document number names a root.
@@ -29,60 +28,35 @@ pub(crate) fn names_root<P: Places>(places: &P, number: u32) -> bool
     }
 }
 
-/// An event code that is offered at a place, how many bits it has, and what it means.
-#[derive(Clone, Copy, Debug, PartialEq, Eq)]
-pub(crate) struct Offer {
-    pub(crate) code: u16,
-    pub(crate) width: u32,
-    pub(crate) step: Step,
+/// What an event is looked for as among the steps of a place; `None` for one that has no code.
+#[inline(always)]
+fn sought_by(event: &Event) -> Option<Sought>
+    ensures { result ≡ sought_in event.now }
+{
+    match event {
+        Event::Document(_) | Event::Finished => None,
+        Event::Start(name) => Some(Sought::Element(*name)),
+        Event::Attribute(name, _) => Some(Sought::Attribute(*name)),
+        Event::Value(_) => Some(Sought::Characters),
+        Event::EndElement => Some(Sought::End),
+    }
 }
 
 /// The code of an event at a place, an element's only where it may stand there; `None` where the event is not offered.
+#[inline(always)]
 pub(crate) fn offer_of<P: Places>(places: &P, here: Place, event: &Event) -> Option<Offer>
     requires { IsPlace (P.schema places.now).kinds here }
     ensures offered { IfSome result (λ offer. slice_get (offers (P.schema places.now).kinds here) offer.code ≡ Some offer.step) }
     ensures width { IfSome result (λ offer. IsWidth (length (offers (P.schema places.now).kinds here)) offer.width) }
     ensures meant { IfSome result (λ offer. IsStepOf offer.step event.now) }
     ensures of_schema { IfSome result (λ offer. IsStep (P.schema places.now).kinds (length (P.schema places.now).names) here.kind offer.step) }
-    ensures few { length (offers (P.schema places.now).kinds here) < 2 ^ 16 }
+    ensures few { IfSome result (λ _. length (offers (P.schema places.now).kinds here) < 2 ^ 16) }
     ensures none { result ≡ None → (code : ℕ) (step : SchemaStep) → slice_get (offers (P.schema places.now).kinds here) code ≡ Some step → IsStepOf step event.now → ⊥ }
 {
-    let codes = codes_at(places, here);
-    for code in 0..codes.offered {
-        let step = places.advance(here, code);
-        if is_step_of(&step, event) {
-            return Some(Offer {
-                code,
-                width: codes.width,
-                step,
-            });
-        }
-    }
-    None
-}
-
-/// Whether a step is that of an event, and may be taken.
-fn is_step_of(step: &Step, event: &Event) -> bool
-    ensures { IsTrue result ↔ IsStepOf step.now event.now }
-{
-    match step {
-        Step::Attribute { name, .. } => match event {
-            Event::Attribute(n, _) => *n == *name,
-            _ => false,
-        },
-        Step::Element {
-            name,
-            standing: MemberStanding::Taken,
-            past_limit: false,
-            ..
-        } => match event {
-            Event::Start(n) => *n == *name,
-            _ => false,
-        },
-        Step::Element { .. } => false,
-        Step::End => matches!(event, Event::EndElement),
-        Step::Characters { .. } => matches!(event, Event::Value(_)),
-    }
+    let Some(sought) = sought_by(event) else {
+        return None;
+    };
+    places.find(here, sought)
 }
 
 /// How an event is put.
@@ -114,6 +88,7 @@ pub(crate) fn inside(offer: Option<Offer>) -> Option<Found>
 }
 
 /// The code of an event inside the innermost element, which is `top`, if it may be put there behind the bytes that are written.
+#[inline(always)]
 pub(crate) fn offer_inside<P: Places>(
     written: &[u8],
     places: &P,
@@ -140,6 +115,7 @@ pub(crate) fn offer_inside<P: Places>(
 }
 
 /// Whether the value of an event, if it has one, may be put inside the innermost element, where the event means this step.
+#[inline(always)]
 fn takes_value<P: Places>(
     written: &[u8],
     places: &P,
@@ -170,6 +146,7 @@ fn takes_value<P: Places>(
 }
 
 /// Whether the value of an event may be put as one of a simple kind.
+#[inline(always)]
 fn offers_value<P: Places>(
     written: &[u8],
     places: &P,

@@ -14,12 +14,12 @@ ghost use Rattle.exi_events.specs.Reader.{standing_of, state_of, IsReadyAt};
 ghost use Rattle.exi_events.specs.Writer.{drafted, IsFound, IsFoundAt, IsOffered, IsShapedEvent, IsPut, HasNoRoom, IsNeeded, MayWrite, WritesValueOf, value_in};
 
 use crate::needed::event_bits;
-use crate::offer::{Found, Offer};
+use crate::offer::Found;
 use crate::open::{OpenElement, OpenElements};
 use crate::reader::Phase;
 use crate::step::RootNumber;
 use exi_bits::{BitPen, Full};
-use exi_schema::{Place, Places, Root, Step};
+use exi_schema::{Offer, Place, Places, Root, Step};
 use exi_values::{Event, Table};
 use exi_writing::put_value;
 
@@ -43,6 +43,7 @@ fn put_front<P: Places>(pen: &mut BitPen, places: &P, number: u32) -> Result<Roo
 }
 
 /// Writes the value of an event as one of a simple kind.
+#[inline(always)]
 fn put_value_of<P: Places>(
     pen: &mut BitPen,
     places: &P,
@@ -78,6 +79,7 @@ fn put_value_of<P: Places>(
 }
 
 /// Writes an event with its code inside the innermost element, which is `top`.
+#[inline(always)]
 fn put_inside<P: Places>(
     pen: &mut BitPen,
     places: &P,
@@ -131,6 +133,7 @@ fn put_inside<P: Places>(
 }
 
 /// Writes an event that is offered, part by part.
+#[inline(always)]
 fn put_parts<P: Places>(
     pen: &mut BitPen,
     places: &P,
@@ -187,6 +190,7 @@ fn put_parts<P: Places>(
 /// Writes an event that is offered.
 ///
 /// `Full` exactly where the room is too small for it, with the bits of all that was written and of the whole event.
+#[inline(always)]
 pub(crate) fn put_event<P: Places>(
     pen: &mut BitPen,
     places: &P,

@@ -83,6 +83,7 @@ impl<'a, 'p, P: Places> EventReader<'a, 'p, P> {
 
     #[tactic(auto, using(crate::proofs::Told::told_all, crate::proofs::Told::told_refused, crate::proofs::Told::fewer_left))]
     /// The next event: `Finished` behind the end of the root, where less than a byte is left, and from then on.
+    #[inline(always)]
     pub fn next(&mut self) -> Result<Event<'a>, Refusal>
         requires ready { IsReady P.schema self.old }
         ensures ready { IsReady P.schema self.new }
@@ -129,6 +130,7 @@ impl<'a, 'p, P: Places> EventReader<'a, 'p, P> {
     }
 
     /// The next event, where none was refused.
+    #[inline(always)]
     fn step(&mut self) -> Result<Event<'a>, Refusal>
         requires ready { IsReady P.schema self.old }
         ensures ready { IsReady P.schema self.new }

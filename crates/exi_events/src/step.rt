@@ -13,28 +13,11 @@ ghost use Rattle.exi_events.specs.Front.{SpellsHeader, SpellsFront};
 
 use exi_documents::{Refusal, RefusalCause};
 use exi_reading::PayloadReader;
-use exi_schema::{MemberStanding, Place, Places, Root, Step, width_for};
-
-/// The codes of a place: how many are offered, and how many bits each has.
-#[derive(Clone, Copy, Debug, PartialEq, Eq)]
-pub(crate) struct Codes {
-    pub(crate) offered: u16,
-    pub(crate) width: u32,
-}
-
-/// The codes of a place, of which the places are asked once.
-pub(crate) fn codes_at<P: Places>(places: &P, here: Place) -> Codes
-    requires { IsPlace (P.schema places.now).kinds here }
-    ensures offered { result.offered ≡ length (offers (P.schema places.now).kinds here) }
-    ensures width { IsWidth (length (offers (P.schema places.now).kinds here)) result.width }
-{
-    let offered = places.alternatives(here);
-    let width = width_for(u32::from(offered));
-    Codes { offered, width }
-}
+use exi_schema::{MemberStanding, Place, Places, Root, Step};
 
 /// Takes the event code at a place: what it means, where that may stand there.
 #[tactic(auto, using(crate::proofs::Codes::code_refused, crate::proofs::Codes::none_behind, crate::proofs::Limits::few_code_bits))]
+#[inline(always)]
 pub(crate) fn take_step<P: Places>(
     reader: &mut PayloadReader,
     places: &P,
@@ -49,7 +32,7 @@ pub(crate) fn take_step<P: Places>(
     ensures same { reader.new.bits ≡ reader.old.bits }
 {
     let bit = reader.place();
-    let codes = codes_at(places, here);
+    let codes = places.codes(here);
     let offered = u32::from(codes.offered);
     let code = reader.take_number(codes.width)?;
     if code >= offered {

@@ -16,6 +16,7 @@ use exi_schema::Datatype;
 use exi_values::{Table, Value};
 
 /// Whether a value is one of a datatype.
+#[inline(always)]
 pub(crate) fn is_value(datatype: Datatype, value: &Value) -> bool
     requires { IsShaped value.now }
     ensures { IsTrue result ↔ IsValue datatype (value_of value.now) }
@@ -43,6 +44,7 @@ pub(crate) fn is_value(datatype: Datatype, value: &Value) -> bool
 }
 
 /// Whether an integer is one of a datatype.
+#[inline(always)]
 fn is_number(datatype: Datatype, number: i128) -> bool
     ensures { IsTrue result ↔ IsValue datatype (Number number) }
 {
@@ -60,6 +62,7 @@ fn is_number(datatype: Datatype, number: i128) -> bool
 }
 
 /// Whether the table has room where the text of a value would enter it, as that of any name.
+#[inline(always)]
 pub(crate) fn has_entry(written: &[u8], table: &Table, value: &Value) -> bool
     requires few { length written.now ≤ 65536 }
     requires shaped { IsShaped value.now }
@@ -79,6 +82,7 @@ pub(crate) fn has_entry(written: &[u8], table: &Table, value: &Value) -> bool
 }
 
 /// Whether the text of a value stands in the global partition.
+#[inline(never)]
 fn is_entered(written: &[u8], table: &Table, value: &Value) -> bool
     requires few { length written.now ≤ 65536 }
     requires shaped { IsShaped value.now }

@@ -96,6 +96,7 @@ impl<'b, 'p, P: Places> EventWriter<'b, 'p, P> {
     }
 
     /// How an event is put, if it may be put next.
+    #[inline(always)]
     fn found(&self, event: &Event) -> Option<Found>
         requires ready { IsReadyToPut self.now }
         requires shaped { IsShapedEvent event.now }
@@ -129,6 +130,7 @@ impl<'b, 'p, P: Places> EventWriter<'b, 'p, P> {
     /// `NotOffered` exactly where it is not, and changes nothing. `Full` exactly where the event is offered and the room is too small for
     /// it, with the bits of all that was put and of this event: the document and the table stay as they were, and this `Full` is answered
     /// from then on.
+    #[inline(always)]
     pub fn try_put(&mut self, event: &Event) -> Result<(), NotPut>
         requires ready { IsReadyToPut self.old }
         requires shaped { IsShapedEvent event.now }
@@ -194,6 +196,7 @@ impl<'b, 'p, P: Places> EventWriter<'b, 'p, P> {
     }
 
     /// Puts an event that is offered as it is found, where nothing lacked room before.
+    #[inline(always)]
     fn put_found(&mut self, found: Found, event: &Event) -> Result<(), Full>
         requires ready { IsReadyToPut self.old }
         requires shaped { IsShapedEvent event.now }

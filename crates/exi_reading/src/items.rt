@@ -28,16 +28,11 @@ pub fn index_width(count: u32) -> u32
     ensures least { IsIndexWidth count result }
     ensures bound { result ≤ 32 }
 {
-    let mut width = 0;
-    let mut codes: u64 = 1;
-    while codes < u64::from(count) {
-        codes *= 2;
-        width += 1;
-    }
-    width
+    32 - count.saturating_sub(1).leading_zeros()
 }
 
 /// An n-bit Unsigned Integer (7.1.9).
+#[inline(always)]
 pub(crate) fn take_number(cursor: &mut BitCursor, n: u32) -> Result<u32, Refusal>
     requires { n ≤ 32 }
     ensures ok { IfOk result (λ v. Takes (SpellsNumber n v) cursor.old cursor.new) }
@@ -90,6 +85,7 @@ pub(crate) fn take_bounded(cursor: &mut BitCursor, least: i64, count: u32) -> Re
 }
 
 /// An Unsigned Integer (7.1.6), at most `most`; the refusal of a greater one has the cause `beyond`.
+#[inline(always)]
 pub(crate) fn take_at_most(
     cursor: &mut BitCursor,
     most: u64,

@@ -66,6 +66,7 @@ impl<'a> PayloadReader<'a> {
     /// Takes an n-bit Unsigned Integer (7.1.9), of at most 32 bits.
     ///
     /// `ShortInput` where fewer bits are left.
+    #[inline(always)]
     pub fn take_number(&mut self, n: u32) -> Result<u32, Refusal>
         requires { n ≤ 32 }
         ensures ok { IfOk result (λ v. Takes (SpellsNumber n v) self.old self.new) }

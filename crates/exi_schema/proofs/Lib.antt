@@ -1,4 +1,5 @@
 pub mod Walks
+pub mod Finding
 pub mod Widths
 pub mod Conditions
 pub mod Fitting

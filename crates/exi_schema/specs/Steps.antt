@@ -1,5 +1,5 @@
 -- Own: what a step and a root say is the schema's.
-use Rattle.std.specs.Prelude.{◌≡◌, ℕ, suc, true, IsSome, ◌<◌, List, [], length, slice_get, Option, Some, None}
+use Rattle.std.specs.Prelude.{◌≡◌, ℕ, suc, true, false, IsSome, ◌<◌, List, [], length, slice_get, Option, Some, None}
 use Rattle.exi_schema.specs.declared.tables.Datatype.{Datatype}
 use Rattle.exi_schema.specs.Plain.{PlainKind, valued, containing}
 use Rattle.exi_schema.specs.declared.tables.RootOf.{RootOf}
@@ -7,6 +7,9 @@ use Rattle.exi_schema.specs.declared.places.Root.{Root}
 use Rattle.exi_schema.specs.declared.places.Root.TheVariants.{Kind, Unknown, NoSuch}
 use Rattle.exi_schema.specs.declared.places.Step.{Step}
 use Rattle.exi_schema.specs.declared.places.Step.TheVariants.{Attribute, Element, End, Characters}
+use Rattle.exi_schema.specs.declared.places.Sought.{Sought}
+use Rattle.exi_schema.specs.declared.places.Sought.TheVariants as sought
+use Rattle.exi_schema.specs.declared.tables.MemberStanding.TheVariants.{Taken}
 use Rattle.exi_schema.specs.Offers.{IsPlace}
 use Rattle.exi_schema.specs.Schemas.{is_within}
 
@@ -29,6 +32,14 @@ IsStep kinds names here (Element name kind next standing past_limit) =
     × ((depth : ℕ) → is_within kinds (suc depth) here ≡ true → is_within kinds depth kind ≡ true)
 IsStep kinds names here End = Unit {0}
 IsStep kinds names here (Characters next) = IsSome (simple_at kinds here) × IsPlace kinds next
+
+-- a step is what is looked for, and may be taken
+abbrev pub IsSought : Step → Sought → Type 0
+IsSought (Attribute name kind next) (sought.Attribute n) = n ≡ name
+IsSought (Element name kind next standing past_limit) (sought.Element n) = (n ≡ name) × (standing ≡ Taken) × (past_limit ≡ false)
+IsSought End sought.End = Unit {0}
+IsSought (Characters next) sought.Characters = Unit {0}
+IsSought _ _ = ⊥
 
 -- a root is the schema's, and no element of its document stands deeper than 16
 abbrev pub IsRootOf : List PlainKind → ℕ → Root → Type 0

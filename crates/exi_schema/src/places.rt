@@ -60,6 +60,39 @@ pub enum Step {
     },
 }
 
+/// The event codes of a place.
+#[derive(Clone, Copy, Debug, PartialEq, Eq)]
+pub struct Codes {
+    /// How many are offered.
+    pub offered: u16,
+    /// How many bits each has.
+    pub width: u32,
+}
+
+/// What is looked for among the steps of a place.
+#[derive(Clone, Copy, Debug, PartialEq, Eq)]
+pub enum Sought {
+    /// The attribute with this name.
+    Attribute(u16),
+    /// The element with this name, where it may stand there and does not pass its particle's limit.
+    Element(u16),
+    /// The end of the element.
+    End,
+    /// The characters of a simple kind.
+    Characters,
+}
+
+/// An event code that is offered at a place.
+#[derive(Clone, Copy, Debug, PartialEq, Eq)]
+pub struct Offer {
+    /// The code.
+    pub code: u16,
+    /// How many bits it has.
+    pub width: u32,
+    /// What it means.
+    pub step: Step,
+}
+
 /// What a document number names.
 #[derive(Clone, Copy, Debug, PartialEq, Eq)]
 pub enum Root {
@@ -73,10 +106,11 @@ pub enum Root {
 
 /// What a reader or a writer asks of a schema, in whatever form the schema is kept.
 pub trait Places {
-    ghost use Rattle.std.specs.Prelude.{◌≡◌, ℕ, ◌<◌, ◌≤◌, ◌↔◌, Some, None, slice_get, length};
+    ghost use Rattle.std.specs.Prelude.{◌≡◌, ℕ, ◌<◌, ◌≤◌, ◌^◌, ◌↔◌, Some, None, IfSome, slice_get, length};
+    ghost use Rattle.exi_schema.specs.declared.places.Step.{Step as SchemaStep};
     ghost use Rattle.exi_schema.specs.Offers.{IsPlace, IsWidth, offers};
     ghost use Rattle.exi_schema.specs.Schemas.{PlainSchema};
-    ghost use Rattle.exi_schema.specs.Steps.{IsStep, IsRoot, IsRootOf, simple_at};
+    ghost use Rattle.exi_schema.specs.Steps.{IsStep, IsSought, IsRoot, IsRootOf, simple_at};
 
     /// The schema that the value tells.
     ghost schema: { Self → PlainSchema };
@@ -85,6 +119,22 @@ pub trait Places {
     fn alternatives(&self, place: Place) -> u16
         requires { IsPlace (schema self.now).kinds place }
         ensures { result ≡ length (offers (schema self.now).kinds place) };
+
+    /// The event codes of a place of the schema, in one look-up.
+    fn codes(&self, place: Place) -> Codes
+        requires { IsPlace (schema self.now).kinds place }
+        ensures offered { result.offered ≡ length (offers (schema self.now).kinds place) }
+        ensures width { IsWidth (length (offers (schema self.now).kinds place)) result.width };
+
+    /// The code of a step at a place of the schema, in one look-up; `None` exactly where it is not offered.
+    fn find(&self, place: Place, sought: Sought) -> Option<Offer>
+        requires { IsPlace (schema self.now).kinds place }
+        ensures offered { IfSome result (λ offer. slice_get (offers (schema self.now).kinds place) offer.code ≡ Some offer.step) }
+        ensures width { IfSome result (λ offer. IsWidth (length (offers (schema self.now).kinds place)) offer.width) }
+        ensures meant { IfSome result (λ offer. IsSought offer.step sought) }
+        ensures of_schema { IfSome result (λ offer. IsStep (schema self.now).kinds (length (schema self.now).names) place.kind offer.step) }
+        ensures few { IfSome result (λ _. length (offers (schema self.now).kinds place) < 2 ^ 16) }
+        ensures none { result ≡ None → (code : ℕ) (step : SchemaStep) → slice_get (offers (schema self.now).kinds place) code ≡ Some step → IsSought step sought → ⊥ };
 
     /// How many bits an event code has at a place of the schema.
     fn width(&self, place: Place) -> u32

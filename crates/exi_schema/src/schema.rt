@@ -4,9 +4,9 @@ ghost use Rattle.std.specs.Prelude.{◌≡◌, true, map};
 ghost use Rattle.exi_schema.specs.Plain.{plain_kinds};
 ghost use Rattle.exi_schema.specs.Schemas.{is_schema};
 
-use crate::places::{Place, Places, Root, Step};
+use crate::places::{Codes, Offer, Place, Places, Root, Sought, Step};
 use crate::tables::{Datatype, Declaration, RootOf};
-use crate::walk::{complex_count, complex_step, root_in, simple_step, width_for};
+use crate::walk::{complex_count, complex_step, is_sought, root_in, simple_step, width_for};
 
 /// A schema as plain tables: what its elements may contain, and which may be the root.
 ///
@@ -63,6 +63,27 @@ impl Places for Schema<'_> {
                 particles,
             } => complex_count(attributes, particles, place),
         }
+    }
+
+    fn codes(&self, place: Place) -> Codes {
+        let offered = self.alternatives(place);
+        let width = width_for(u32::from(offered));
+        Codes { offered, width }
+    }
+
+    fn find(&self, place: Place, sought: Sought) -> Option<Offer> {
+        let codes = self.codes(place);
+        for code in 0..codes.offered {
+            let step = self.advance(place, code);
+            if is_sought(&step, sought) {
+                return Some(Offer {
+                    code,
+                    width: codes.width,
+                    step,
+                });
+            }
+        }
+        None
     }
 
     fn width(&self, place: Place) -> u32 {

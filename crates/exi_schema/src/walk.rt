@@ -1,13 +1,14 @@
 //! Walks over the parts of a kind.
 
-ghost use Rattle.std.specs.Prelude.{◌≡◌, ◌<◌, ◌≤◌, ◌^◌, length, drop, Some, slice_get, All};
+ghost use Rattle.std.specs.Prelude.{◌↔◌, IsTrue, ◌≡◌, ◌<◌, ◌≤◌, ◌^◌, length, drop, Some, slice_get, All};
 ghost use Rattle.std.specs.List.{list_any};
 ghost use Rattle.exi_schema.specs.Counts.{element_total, root_numbered};
 ghost use Rattle.exi_schema.specs.Plain.{plain_particle, plain_particles};
+ghost use Rattle.exi_schema.specs.Steps.{IsSought};
 ghost use Rattle.exi_schema.specs.Offers.{through_required, element_steps, attribute_step as attribute_of, complex_steps, IsPlaceAmong, element_step as step_of, behind_copy as place_behind, simple_step as step_of_simple, IsWidth};
 
-use crate::places::{Place, Root, Step};
-use crate::tables::{AttributeOf, Member, Particle, RootOf};
+use crate::places::{Place, Root, Sought, Step};
+use crate::tables::{AttributeOf, Member, MemberStanding, Particle, RootOf};
 
 /// How many attributes there are up to the first that has to be there.
 fn attribute_count(attributes: &[AttributeOf]) -> usize
@@ -187,7 +188,8 @@ pub(crate) fn complex_step(
 }
 
 /// The one step at a place of a simple kind.
-pub(crate) fn simple_step(here: Place) -> Step
+#[inline(always)]
+pub fn simple_step(here: Place) -> Step
     ensures { result ≡ step_of_simple here }
 {
     if here.particle == 0 {
@@ -204,18 +206,37 @@ pub(crate) fn simple_step(here: Place) -> Step
     }
 }
 
+/// Whether a step is what is looked for, and may be taken.
+#[inline(always)]
+pub fn is_sought(step: &Step, sought: Sought) -> bool
+    ensures { IsTrue result ↔ IsSought step.now sought }
+{
+    match step {
+        Step::Attribute { name, .. } => match sought {
+            Sought::Attribute(n) => n == *name,
+            _ => false,
+        },
+        Step::Element {
+            name,
+            standing: MemberStanding::Taken,
+            past_limit: false,
+            ..
+        } => match sought {
+            Sought::Element(n) => n == *name,
+            _ => false,
+        },
+        Step::Element { .. } => false,
+        Step::End => matches!(sought, Sought::End),
+        Step::Characters { .. } => matches!(sought, Sought::Characters),
+    }
+}
+
 /// How many bits a code has where n codes are offered: the least number in which n + 1 codes differ (8.5.4.4).
 pub fn width_for(n: u32) -> u32
     requires { n ≤ 65535 }
     ensures { IsWidth n result }
 {
-    let mut width = 0;
-    let mut codes: u32 = 1;
-    while codes < n + 1 {
-        codes *= 2;
-        width += 1;
-    }
-    width
+    32 - n.leading_zeros()
 }
 
 /// The element that a document number names among some roots: the first that has it.

@@ -5,7 +5,9 @@ ghost use Rattle.exi_schema.specs.Told.{schema_of};
 
 use crate::filling::{KindTable, Row, table_of_kind};
 use charge_world::NoMemory;
-use exi_schema::{Datatype, Place, Places, Root, RootOf, Schema, Step, root_in};
+use exi_schema::{
+    Codes, Datatype, Offer, Place, Places, Root, RootOf, Schema, Sought, Step, is_sought, root_in,
+};
 use std::alloc::Global;
 use std::marker::{Model, PhantomData};
 
@@ -84,6 +86,29 @@ impl<D: Declared> Places for Rows<D> {
     fn alternatives(&self, place: Place) -> u16 {
         let row = self.row(place);
         row.steps.len() as u16
+    }
+
+    fn codes(&self, place: Place) -> Codes {
+        let row = self.row(place);
+        Codes {
+            offered: row.steps.len() as u16,
+            width: row.width,
+        }
+    }
+
+    fn find(&self, place: Place, sought: Sought) -> Option<Offer> {
+        let row = self.row(place);
+        for code in 0..row.steps.len() {
+            let step = row.steps[code];
+            if is_sought(&step, sought) {
+                return Some(Offer {
+                    code: code as u16,
+                    width: row.width,
+                    step,
+                });
+            }
+        }
+        None
     }
 
     fn width(&self, place: Place) -> u32 {

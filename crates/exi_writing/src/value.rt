@@ -21,6 +21,7 @@ use exi_values::{Table, Value};
 /// A text that is spelled out enters the table unless it is empty. `Full` exactly where the room is too small for the value, with
 /// the bits of all that was written and of the whole value; it leaves the table as it was, and behind what was written perhaps the
 /// front of the value.
+#[inline(always)]
 pub fn put_value(
     pen: &mut BitPen,
     datatype: Datatype,

@@ -17,6 +17,7 @@ use exi_documents::Refusal;
 use exi_schema::Places;
 
 /// The rest of an element that has started and has a value.
+#[inline(always)]
 fn simple_inside<'a, T: Simple<'a>, P: Places>(
     descent: &mut Descent<'a, '_, P>,
 ) -> Result<T, Refusal>
@@ -112,6 +113,7 @@ pub fn first_child<'a, P: Places>(descent: &mut Descent<'a, '_, P>) -> Result<()
 // ---- values
 
 /// A value that has to be there.
+#[inline(never)]
 pub fn value<'a, T: Simple<'a>, P: Places>(descent: &mut Descent<'a, '_, P>) -> Result<T, Refusal>
     requires open { IsOpen P.schema descent.old }
     ensures open { IsOpen P.schema descent.new }

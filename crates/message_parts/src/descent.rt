@@ -102,6 +102,7 @@ impl<'a, 'p, P: Places> Descent<'a, 'p, P> {
     }
 
     /// The document number, which names the root.
+    #[inline(never)]
     pub fn number(&mut self) -> Result<(), Refusal>
         requires open { IsOpen P.schema self.old }
         ensures open { IsOpen P.schema self.new }
@@ -116,6 +117,7 @@ impl<'a, 'p, P: Places> Descent<'a, 'p, P> {
     }
 
     /// The root, which starts.
+    #[inline(never)]
     pub fn root(&mut self) -> Result<(), Refusal>
         requires open { IsOpen P.schema self.old }
         ensures open { IsOpen P.schema self.new }
@@ -131,6 +133,7 @@ impl<'a, 'p, P: Places> Descent<'a, 'p, P> {
     }
 
     /// That the document ends behind its root.
+    #[inline(never)]
     pub fn finish(&mut self) -> Result<(), Refusal>
         requires open { IsOpen P.schema self.old }
         ensures open { IsOpen P.schema self.new }
@@ -154,6 +157,7 @@ impl<'a, 'p, P: Places> Descent<'a, 'p, P> {
     }
 
     /// The next child, or that there is none.
+    #[inline(never)]
     pub fn next_child(&mut self) -> Result<(), Refusal>
         requires open { IsOpen P.schema self.old }
         ensures open { IsOpen P.schema self.new }
@@ -189,6 +193,7 @@ impl<'a, 'p, P: Places> Descent<'a, 'p, P> {
     }
 
     /// The value of the element that has started.
+    #[inline(always)]
     pub fn content(&mut self) -> Result<Value<'a>, Refusal>
         requires open { IsOpen P.schema self.old }
         ensures open { IsOpen P.schema self.new }
@@ -206,6 +211,7 @@ impl<'a, 'p, P: Places> Descent<'a, 'p, P> {
     }
 
     /// An attribute of the element that has started, one that has to be there.
+    #[inline(never)]
     pub fn attribute(&mut self) -> Result<Value<'a>, Refusal>
         requires open { IsOpen P.schema self.old }
         ensures open { IsOpen P.schema self.new }
@@ -224,6 +230,7 @@ impl<'a, 'p, P: Places> Descent<'a, 'p, P> {
     }
 
     /// The last attribute of the element that has started, where it is there; else the first child is looked at.
+    #[inline(never)]
     pub fn last_attribute(&mut self) -> Result<Option<Value<'a>>, Refusal>
         requires open { IsOpen P.schema self.old }
         ensures open { IsOpen P.schema self.new }
@@ -244,6 +251,7 @@ impl<'a, 'p, P: Places> Descent<'a, 'p, P> {
     }
 
     /// The end of the element that had a value.
+    #[inline(always)]
     pub fn end_value(&mut self) -> Result<(), Refusal>
         requires open { IsOpen P.schema self.old }
         ensures open { IsOpen P.schema self.new }

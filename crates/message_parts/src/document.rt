@@ -44,6 +44,7 @@ pub fn read<'a, T: Choice<'a>, P: Places>(
 }
 
 /// Reads the root of a document, of which nothing is taken.
+#[inline(never)]
 fn root_in<'a, T: Choice<'a>, P: Places>(descent: &mut Descent<'a, '_, P>) -> Result<T, Refusal>
     requires open { IsOpen P.schema descent.old }
     ensures open { IsOpen P.schema descent.new }

@@ -1,7 +1,7 @@
 //! The elements of a message, put one after the other.
 
 ghost use Rattle.std.specs.Prelude.{◌≡◌, ℕ, ◌∷◌, [], ◌≤◌, List, None, Some, map, length, true, IfOk, MatchOption};
-ghost use Rattle.exi_documents.specs.Trees.{Event as TreeEvent, Attribute};
+ghost use Rattle.exi_documents.specs.Trees.{Event as TreeEvent, Attribute, Start, Content, EndElement};
 ghost use Rattle.exi_events.specs.Writer.{IsReadyToPut, KeepsLent, IsShapedEvent};
 ghost use Rattle.exi_values.specs.Meaning.{event_of};
 ghost use Rattle.message_parts.specs.Contents.{Of, holding_with, one_onto, perhaps_onto, each_onto, maybe_onto, choice_onto, mapped};
@@ -13,6 +13,7 @@ use exi_events::{Event, EventWriter};
 use exi_schema::Places;
 
 /// Puts an event where it is offered. The first lack of room is kept by the writer, and nothing is put from then on.
+#[inline(always)]
 pub fn put_event<P: Places>(writer: &mut EventWriter<'_, '_, P>, event: &Event<'_>)
     requires ready { IsReadyToPut writer.old }
     requires shaped { IsShapedEvent event.now }
@@ -22,6 +23,42 @@ pub fn put_event<P: Places>(writer: &mut EventWriter<'_, '_, P>, event: &Event<'
         → Writes F rest (put_of writer.new) }
 {
     let _put = writer.try_put(event);
+}
+
+/// Puts the start of an element.
+#[inline(never)]
+fn put_start<P: Places>(writer: &mut EventWriter<'_, '_, P>, name: u16)
+    requires ready { IsReadyToPut writer.old }
+    ensures ready { IsReadyToPut writer.new }
+    ensures lent { KeepsLent writer.old writer.new }
+    ensures write { (F : Target) (rest : List TreeEvent) → Writes F (Start name ∷ rest) (put_of writer.old)
+        → Writes F rest (put_of writer.new) }
+{
+    put_event(writer, &Event::Start(name));
+}
+
+/// Puts the value of an element.
+#[inline(never)]
+fn put_content<'a, T: Simple<'a>, P: Places>(writer: &mut EventWriter<'_, '_, P>, value: &T)
+    requires ready { IsReadyToPut writer.old }
+    ensures ready { IsReadyToPut writer.new }
+    ensures lent { KeepsLent writer.old writer.new }
+    ensures write { (F : Target) (rest : List TreeEvent) → Writes F (Content (T.value value.now) ∷ rest) (put_of writer.old)
+        → Writes F rest (put_of writer.new) }
+{
+    put_event(writer, &Event::Value(value.as_value()));
+}
+
+/// Puts the end of an element.
+#[inline(never)]
+fn put_end<P: Places>(writer: &mut EventWriter<'_, '_, P>)
+    requires ready { IsReadyToPut writer.old }
+    ensures ready { IsReadyToPut writer.new }
+    ensures lent { KeepsLent writer.old writer.new }
+    ensures write { (F : Target) (rest : List TreeEvent) → Writes F (EndElement ∷ rest) (put_of writer.old)
+        → Writes F rest (put_of writer.new) }
+{
+    put_event(writer, &Event::EndElement);
 }
 
 /// Puts an attribute.
@@ -69,9 +106,9 @@ pub fn put_value<'a, T: Simple<'a>, P: Places>(
     ensures write { (F : Target) (rest : List TreeEvent) → Writes F (one_onto name (Of (T.value value.now)) rest) (put_of writer.old)
         → Writes F rest (put_of writer.new) }
 {
-    put_event(writer, &Event::Start(name));
-    put_event(writer, &Event::Value(value.as_value()));
-    put_event(writer, &Event::EndElement);
+    put_start(writer, name);
+    put_content(writer, value);
+    put_end(writer);
 }
 
 /// Puts a value, where it is there.
@@ -121,9 +158,9 @@ pub fn put_record<T: PutRecord, P: Places>(
     ensures write { (F : Target) (rest : List TreeEvent) → Writes F (one_onto name (holding_with (T.given value.now) (T.parts value.now)) rest) (put_of writer.old)
         → Writes F rest (put_of writer.new) }
 {
-    put_event(writer, &Event::Start(name));
+    put_start(writer, name);
     value.write(writer);
-    put_event(writer, &Event::EndElement);
+    put_end(writer);
 }
 
 /// Puts one where it is there.

@@ -1,17 +1,16 @@
-use Rattle.std.proofs.Common.{ℕ, ◌+◌, ◌-◌, subst, arith}
+use Rattle.std.proofs.Common.{Bool, ℕ, List, subst, sym, ap, ◌∙◌, arith}
 use Rattle.exi_spec.specs.Bits.{number_bits}
 use Rattle.exi_bits.specs.Written.{Extends}
-use Rattle.exi_bits.proofs.Parts.{no_part, one_part_more, all_parts}
+use Rattle.exi_bits.proofs.Windows.{number_bits-mod}
 use Rattle.exi_bits.proofs.room.put_number.Goals as goal
 
-pub loop-left-init : goal.loop-left-init
-loop-left-init c = no_part c.args.room.now c.args.at c.args.n c.args.value c.requires.clean
+pub returns-then-at-n-le8 : goal.returns-then-at-n-le8
+returns-then-at-n-le8 c =
+    subst (λ (l : List Bool). Extends c.args.room.now c.put_part.new.room c.args.at c.args.n l)
+    (ap (λ (v : ℕ). number_bits c.args.n v) c.lowest_bits.ensures ∙ number_bits-mod c.args.n c.args.value) c.put_part.ensures
 
-pub loop-left-preserved : goal.loop-left-preserved
-loop-left-preserved c =
-    let rest = c.loop-left.left - c.min-part.result in
-    one_part_more c.args.room.now c.loop-left.room c.put_part.new.room c.args.at c.args.n c.args.value c.loop-left.left c.min-part.result rest (omega (arith, c.min-part.ensures)) c.loop-left.invariant
-    (subst (λ (v : ℕ). Extends c.loop-left.room c.put_part.new.room (c.args.at + (c.args.n - c.loop-left.left)) c.min-part.result (number_bits c.min-part.result v)) c.lowest_bits.ensures c.put_part.ensures)
-
-pub returns : goal.returns
-returns c = all_parts c.args.room.now c.loop-left.room c.args.at c.args.n c.args.value c.loop-left.left (omega arith) c.loop-left.invariant
+pub returns-then-n-eq8 : goal.returns-then-n-eq8
+returns-then-n-eq8 c =
+    subst (λ (n : ℕ). Extends c.args.room.now c.put_octet.new.room c.args.at n (number_bits n c.args.value)) (sym c.if-n-eq8.true)
+    (subst (λ (l : List Bool). Extends c.args.room.now c.put_octet.new.room c.args.at 8 l)
+    (ap (λ (v : ℕ). number_bits 8 v) c.lowest_bits-then-n-eq8.ensures ∙ number_bits-mod 8 c.args.value) c.put_octet.ensures)

@@ -1,5 +1,6 @@
-use Rattle.exi_schema.proofs.Widths.{width_next}
+use Rattle.std.proofs.Common.{arith}
+use Rattle.exi_schema.proofs.Widths.{told_width}
 use Rattle.exi_schema.proofs.walk.width_for.Goals as goal
 
-pub loop-codes-preserved : goal.loop-codes-preserved
-loop-codes-preserved c = width_next c.loop-codes.codes c.loop-codes.width c.args.n c.loop-codes.invariant.0 c.loop-codes-test.true c.requires
+pub returns : goal.returns
+returns c = told_width c.args.n (omega (arith, c.requires))

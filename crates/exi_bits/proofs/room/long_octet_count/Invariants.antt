@@ -1,6 +1,6 @@
 use Rattle.std.proofs.Common.{◌≤◌}
 use Rattle.exi_bits.proofs.Shortest.{CountsOctets}
-use Rattle.exi_bits.proofs.room.octet_count.Given as goal
+use Rattle.exi_bits.proofs.room.long_octet_count.Given as goal
 
 abbrev pub invariant-loop-rest : goal.invariant-loop-rest
 invariant-loop-rest l = record { counted : CountsOctets l.value l.rest l.count; few : l.count ≤ 10 }

@@ -1,7 +1,7 @@
 use Rattle.std.proofs.Common.{arith}
 use Rattle.exi_spec.specs.Bits.{bits_of}
 use Rattle.exi_bits.proofs.Windows.{nothing_read, part_fits, shifted_part}
-use Rattle.exi_bits.proofs.octets.number_at.Goals as goal
+use Rattle.exi_bits.proofs.octets.spread_number_at.Goals as goal
 
 pub loop-read-init : goal.loop-read-init
 loop-read-init c = record { within = omega arith; parts = nothing_read (bits_of c.args.payload.now) c.args.bit }

@@ -1,5 +1,5 @@
 use Rattle.exi_bits.proofs.Parts.{WroteParts}
-use Rattle.exi_bits.proofs.room.put_number.Given as goal
+use Rattle.exi_bits.proofs.room.put_spread_number.Given as goal
 
 abbrev pub invariant-loop-left : goal.invariant-loop-left
 invariant-loop-left l = WroteParts l.fn.room l.room l.at l.n l.value l.left
