@@ -64,12 +64,12 @@ class Types:
         self.places = {kind: (crate, file) for crate, file, kinds in self.files for kind in kinds}
         for kind, (_, particles) in self.s.content.items():
             for it in particles:
-                if len(self.taken(it)) > 1:
+                if len(it.members) > 1:
                     self.choices[self.choice_of(kind, it)] = None
                     self.optional_choices |= {self.choice_of(kind, it)} if it.least == 0 else set()
         for kind, (_, particles) in self.s.content.items():
             for it in particles:
-                if len(self.taken(it)) > 1:
+                if len(it.members) > 1:
                     self.choices[self.choice_of(kind, it)] = self.members(self.choice_of(kind, it), it)
         self.defaults = self.with_defaults()
 
@@ -118,7 +118,7 @@ class Types:
             taken, most = self.taken(it), it.profile if it.most != 1 else None
             if not taken:
                 made.append(Element(self, "out", it.members[0][1], "Empty", at))
-            elif len(taken) == 1:
+            elif len(it.members) == 1:
                 made.append(Element(self, "value", *taken[0], at, it.least == 0, most))
             else:
                 choice = self.choice_of(kind, it)
@@ -158,7 +158,7 @@ class Types:
     def lent(self, kind):
         """Whether a type borrows from the payload."""
         if kind in self.choices and self.choices[kind] is None:
-            particle = next(it for of, (_, its) in self.s.content.items() for it in its if len(self.taken(it)) > 1 and self.choice_of(of, it) == kind)
+            particle = next(it for of, (_, its) in self.s.content.items() for it in its if len(it.members) > 1 and self.choice_of(of, it) == kind)
             return any(self.lent(it) for _, it in self.taken(particle))
         return kind.startswith(("Text", "Binary")) if kind in self.s.values else any(self.lent(it.kind) for it in self.inner(kind))
 

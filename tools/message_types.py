@@ -148,7 +148,7 @@ impl<'a> Group<'a> for {name}{"<'a>" if lent else ""} {{
 }}
 """ if kind in t.optional_choices else ""
     default = f"""
-impl<'a> Default for {name}{"<'a>" if lent else ""} {{
+impl{"<'a>" if lent else ""} Default for {name}{"<'a>" if lent else ""} {{
     fn default() -> {name}{"<'a>" if lent else ""} {{
         {name}::{members[0].variant}({"false" if members[0].type == "bool" else members[0].type.split("<")[0] + "::default()"})
     }}

@@ -3,15 +3,15 @@
 ghost use Rattle.std.specs.Prelude.{[]};
 
 use crate::limits::{EvChargeParameter, EvseChargeParameter};
-use crate::schedules::SaScheduleList;
+use crate::schedules::SaSchedules;
 use exi_documents::Refusal;
 use exi_events::EventWriter;
 use exi_schema::Places;
 use iso_parts::{EnergyTransferMode, EvseProcessing, ResponseCode};
 use iso_schema::names;
 use message_parts::{
-    Descent, PutRecord, Record, choice, first_child, optional, optional_value, put_choice,
-    put_optional, put_optional_value, put_value, value,
+    Descent, PutRecord, Record, choice, first_child, optional_choice, optional_value, put_choice,
+    put_optional_choice, put_optional_value, put_value, value,
 };
 
 /// ChargeParameterDiscoveryReq.
@@ -77,7 +77,7 @@ impl<'a> Record<'a> for ChargeParameterDiscoveryReq {
 pub struct ChargeParameterDiscoveryRes {
     pub response_code: ResponseCode,
     pub evse_processing: EvseProcessing,
-    pub sa_schedule_list: Option<SaScheduleList>,
+    pub sa_schedules: Option<SaSchedules>,
     pub evse_charge_parameter: EvseChargeParameter,
 }
 
@@ -91,7 +91,7 @@ impl PutRecord for ChargeParameterDiscoveryRes {
     fn write<P: Places>(&self, writer: &mut EventWriter<'_, '_, P>) {
         put_value(writer, names::RESPONSE_CODE, &self.response_code);
         put_value(writer, names::EVSE_PROCESSING, &self.evse_processing);
-        put_optional(writer, names::SA_SCHEDULE_LIST, &self.sa_schedule_list);
+        put_optional_choice(writer, &self.sa_schedules);
         put_choice(writer, &self.evse_charge_parameter);
     }
 }
@@ -112,12 +112,12 @@ impl<'a> Record<'a> for ChargeParameterDiscoveryRes {
         first_child(descent)?;
         let response_code = value(descent)?;
         let evse_processing = value(descent)?;
-        let sa_schedule_list = optional(descent, names::SA_SCHEDULE_LIST)?;
+        let sa_schedules = optional_choice(descent)?;
         let evse_charge_parameter = choice(descent)?;
         Ok(ChargeParameterDiscoveryRes {
             response_code,
             evse_processing,
-            sa_schedule_list,
+            sa_schedules,
             evse_charge_parameter,
         })
     }

@@ -12,4 +12,5 @@ pub use limits::{
 };
 pub use schedules::{
     PMaxSchedule, PMaxScheduleEntry, RelativeTimeInterval, SaScheduleList, SaScheduleTuple,
+    SaSchedules, TimeInterval,
 };

@@ -9,8 +9,9 @@ use exi_schema::Places;
 use iso_parts::PhysicalValue;
 use iso_schema::names;
 use message_parts::{
-    Descent, PutRecord, Record, first_child, left_out, optional_value, put_optional_value,
-    put_record, put_records, put_value, records, required, value,
+    Choice, Descent, Group, PutChoice, PutRecord, Record, choice, first_child, left_out, member,
+    optional_value, put_choice, put_optional_value, put_record, put_records, put_value, records,
+    required, value,
 };
 
 /// RelativeTimeInterval.
@@ -53,10 +54,53 @@ impl<'a> Record<'a> for RelativeTimeInterval {
     }
 }
 
+/// One element of the substitution group TimeInterval.
+#[derive(Clone, Copy, Debug, PartialEq, Eq)]
+pub enum TimeInterval {
+    Relative(RelativeTimeInterval),
+}
+
+impl Default for TimeInterval {
+    fn default() -> TimeInterval {
+        TimeInterval::Relative(RelativeTimeInterval::default())
+    }
+}
+
+impl PutChoice for TimeInterval {
+    ghost use Rattle.iso_parameters.specs.Schedules.{time_interval_name, time_interval_inside};
+
+    ghost name = { time_interval_name };
+
+    ghost inside = { time_interval_inside };
+
+    fn write_member<P: Places>(&self, writer: &mut EventWriter<'_, '_, P>) {
+        match self {
+            TimeInterval::Relative(relative) => put_record(
+                writer,
+                names::RELATIVE_TIME_INTERVAL,
+                relative,
+            ),
+        }
+    }
+}
+
+impl<'a> Choice<'a> for TimeInterval {
+    ghost use Rattle.iso_schema.specs.Declarations.{kinds};
+    ghost use Rattle.iso_parameters.specs.Schedules.{time_interval_members};
+
+    ghost kinds = { kinds };
+
+    ghost members = { time_interval_members };
+
+    fn read_member<P: Places>(descent: &mut Descent<'a, '_, P>) -> Result<TimeInterval, Refusal> {
+        Ok(TimeInterval::Relative(member(descent)?))
+    }
+}
+
 /// PMaxScheduleEntry.
 #[derive(Clone, Copy, Debug, PartialEq, Eq, Default)]
 pub struct PMaxScheduleEntry {
-    pub relative_time_interval: RelativeTimeInterval,
+    pub time_interval: TimeInterval,
     pub p_max: PhysicalValue,
 }
 
@@ -68,11 +112,7 @@ impl PutRecord for PMaxScheduleEntry {
     ghost parts = { p_max_schedule_entry_parts };
 
     fn write<P: Places>(&self, writer: &mut EventWriter<'_, '_, P>) {
-        put_record(
-            writer,
-            names::RELATIVE_TIME_INTERVAL,
-            &self.relative_time_interval,
-        );
+        put_choice(writer, &self.time_interval);
         put_record(writer, names::P_MAX, &self.p_max);
     }
 }
@@ -89,10 +129,10 @@ impl<'a> Record<'a> for PMaxScheduleEntry {
 
     fn read<P: Places>(descent: &mut Descent<'a, '_, P>) -> Result<PMaxScheduleEntry, Refusal> {
         first_child(descent)?;
-        let relative_time_interval = required(descent)?;
+        let time_interval = choice(descent)?;
         let p_max = required(descent)?;
         Ok(PMaxScheduleEntry {
-            relative_time_interval,
+            time_interval,
             p_max,
         })
     }
@@ -220,5 +260,48 @@ impl<'a> Record<'a> for SaScheduleList {
         first_child(descent)?;
         let sa_schedule_tuple = records(descent, names::SA_SCHEDULE_TUPLE)?;
         Ok(SaScheduleList { sa_schedule_tuple })
+    }
+}
+
+/// One element of the substitution group SASchedules.
+#[derive(Drop)]
+pub enum SaSchedules {
+    SaScheduleList(SaScheduleList),
+}
+
+impl PutChoice for SaSchedules {
+    ghost use Rattle.iso_parameters.specs.Schedules.{sa_schedules_name, sa_schedules_inside};
+
+    ghost name = { sa_schedules_name };
+
+    ghost inside = { sa_schedules_inside };
+
+    fn write_member<P: Places>(&self, writer: &mut EventWriter<'_, '_, P>) {
+        match self {
+            SaSchedules::SaScheduleList(sa_schedule_list) => put_record(
+                writer,
+                names::SA_SCHEDULE_LIST,
+                sa_schedule_list,
+            ),
+        }
+    }
+}
+
+impl<'a> Choice<'a> for SaSchedules {
+    ghost use Rattle.iso_schema.specs.Declarations.{kinds};
+    ghost use Rattle.iso_parameters.specs.Schedules.{sa_schedules_members};
+
+    ghost kinds = { kinds };
+
+    ghost members = { sa_schedules_members };
+
+    fn read_member<P: Places>(descent: &mut Descent<'a, '_, P>) -> Result<SaSchedules, Refusal> {
+        Ok(SaSchedules::SaScheduleList(member(descent)?))
+    }
+}
+
+impl<'a> Group<'a> for SaSchedules {
+    fn names() -> &'static [u16] {
+        &[names::SA_SCHEDULE_LIST]
     }
 }

@@ -11,8 +11,9 @@ use iso_parts::{
 };
 use iso_schema::names;
 use message_parts::{
-    Descent, PutRecord, Record, Text, choice, first_child, optional, optional_value, put_choice,
-    put_optional, put_optional_value, put_record, put_records, put_value, records, required, value,
+    Choice, Descent, Group, PutChoice, PutRecord, Record, Text, choice, first_child, member,
+    optional, optional_choice, optional_value, put_choice, put_optional, put_optional_choice,
+    put_optional_value, put_record, put_records, put_value, records, required, value,
 };
 
 /// ProfileEntry.
@@ -163,6 +164,51 @@ impl<'a> Record<'a> for DcEvPowerDeliveryParameter {
     }
 }
 
+/// One element of the substitution group EVPowerDeliveryParameter.
+#[derive(Clone, Copy, Debug, PartialEq, Eq)]
+pub enum EvPowerDeliveryParameter {
+    Dc(DcEvPowerDeliveryParameter),
+}
+
+impl PutChoice for EvPowerDeliveryParameter {
+    ghost use Rattle.iso_power.specs.Delivery.{ev_power_delivery_parameter_name, ev_power_delivery_parameter_inside};
+
+    ghost name = { ev_power_delivery_parameter_name };
+
+    ghost inside = { ev_power_delivery_parameter_inside };
+
+    fn write_member<P: Places>(&self, writer: &mut EventWriter<'_, '_, P>) {
+        match self {
+            EvPowerDeliveryParameter::Dc(dc) => put_record(
+                writer,
+                names::DC_EV_POWER_DELIVERY_PARAMETER,
+                dc,
+            ),
+        }
+    }
+}
+
+impl<'a> Choice<'a> for EvPowerDeliveryParameter {
+    ghost use Rattle.iso_schema.specs.Declarations.{kinds};
+    ghost use Rattle.iso_power.specs.Delivery.{ev_power_delivery_parameter_members};
+
+    ghost kinds = { kinds };
+
+    ghost members = { ev_power_delivery_parameter_members };
+
+    fn read_member<P: Places>(
+        descent: &mut Descent<'a, '_, P>,
+    ) -> Result<EvPowerDeliveryParameter, Refusal> {
+        Ok(EvPowerDeliveryParameter::Dc(member(descent)?))
+    }
+}
+
+impl<'a> Group<'a> for EvPowerDeliveryParameter {
+    fn names() -> &'static [u16] {
+        &[names::DC_EV_POWER_DELIVERY_PARAMETER]
+    }
+}
+
 /// PowerDeliveryReq.
 #[derive(Drop)]
 pub struct PowerDeliveryReq {
@@ -170,7 +216,7 @@ pub struct PowerDeliveryReq {
     /// 1 to 255.
     pub sa_schedule_tuple_id: u8,
     pub charging_profile: Option<ChargingProfile>,
-    pub dc_ev_power_delivery_parameter: Option<DcEvPowerDeliveryParameter>,
+    pub ev_power_delivery_parameter: Option<EvPowerDeliveryParameter>,
 }
 
 impl PutRecord for PowerDeliveryReq {
@@ -188,11 +234,7 @@ impl PutRecord for PowerDeliveryReq {
             &self.sa_schedule_tuple_id,
         );
         put_optional(writer, names::CHARGING_PROFILE, &self.charging_profile);
-        put_optional(
-            writer,
-            names::DC_EV_POWER_DELIVERY_PARAMETER,
-            &self.dc_ev_power_delivery_parameter,
-        );
+        put_optional_choice(writer, &self.ev_power_delivery_parameter);
     }
 }
 
@@ -211,15 +253,12 @@ impl<'a> Record<'a> for PowerDeliveryReq {
         let charge_progress = value(descent)?;
         let sa_schedule_tuple_id = value(descent)?;
         let charging_profile = optional(descent, names::CHARGING_PROFILE)?;
-        let dc_ev_power_delivery_parameter = optional(
-            descent,
-            names::DC_EV_POWER_DELIVERY_PARAMETER,
-        )?;
+        let ev_power_delivery_parameter = optional_choice(descent)?;
         Ok(PowerDeliveryReq {
             charge_progress,
             sa_schedule_tuple_id,
             charging_profile,
-            dc_ev_power_delivery_parameter,
+            ev_power_delivery_parameter,
         })
     }
 }

@@ -10,5 +10,5 @@ pub use charging::{
 };
 pub use delivery::{
     ChargingProfile, ChargingStatusReq, ChargingStatusRes, DcEvPowerDeliveryParameter,
-    PowerDeliveryReq, PowerDeliveryRes, ProfileEntry,
+    EvPowerDeliveryParameter, PowerDeliveryReq, PowerDeliveryRes, ProfileEntry,
 };

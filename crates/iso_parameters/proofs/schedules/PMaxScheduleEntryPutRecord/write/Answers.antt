@@ -2,4 +2,4 @@ use Rattle.iso_parameters.proofs.schedules.PMaxScheduleEntryPutRecord.write.Goal
 
 pub returns-clause-write : goal.returns-clause-write
 returns-clause-write g c = λ F rest h.
-    c.put_record-2.ensures.write F _ (c.put_record.ensures.write F _ h)
+    c.put_record.ensures.write F _ (c.put_choice.ensures.write F _ h)
