@@ -1,8 +1,12 @@
 //! A session is set up (ISO 15118-2:2014, 8.4.3.2).
 
+ghost use Rattle.std.specs.Prelude.{◌≡◌, length};
+ghost use Rattle.exi_documents.specs.Values.{most_entries};
+ghost use Rattle.iso_codec.specs.Documents.{IsIso};
+
 use exi_documents::MOST_ENTRIES;
 use iso_codec::laws::messages_are_written;
-use iso_codec::{BodyElement, IsoTables, Table, read_iso, write_iso};
+use iso_codec::{BodyElement, IsoMessage, IsoTables, Table, read_iso, write_iso};
 use message_parts::Binary;
 use std::test::*;
 
@@ -23,6 +27,26 @@ fn is_bytes(binary: &Binary<'_>, bytes: &[u8]) -> bool {
     contents.next().is_none()
 }
 
+/// A message is what the session setup spells: it is written as its bytes, and into no room that is shorter.
+fn is_written_back(
+    tables: &IsoTables,
+    message: &IsoMessage<'_>,
+    payload: &[u8],
+    table: &mut Table,
+) -> bool
+    requires cap { table.old.cap ≡ most_entries }
+    requires count { length payload.now ≡ 21 }
+    requires read { IsIso message.now payload.now }
+{
+    messages_are_written();
+    let mut room = [0xff; 21];
+    let written = write_iso(tables, message, &mut room, table);
+    if written != Ok(21) || room.as_slice() != payload {
+        return false;
+    }
+    write_iso(tables, message, &mut room[..20], table).is_err()
+}
+
 #[test]
 fn a_session_setup_is_read_and_written(rt: HostRuntime) -> Result<(), Fail> {
     let tables = IsoTables::make(rt.alloc())?;
@@ -36,10 +60,6 @@ fn a_session_setup_is_read_and_written(rt: HostRuntime) -> Result<(), Fail> {
         return Err(Fail::from("another message"));
     };
     assert!(rt; is_bytes(&request.evccid, &[0, 1, 2, 3, 4, 5]));
-    messages_are_written();
-    let mut room = [0xff; 21];
-    assert_eq!(rt; write_iso(&tables, &message, &mut room, &mut table), Ok(21));
-    assert!(rt; room == SETUP);
-    assert!(rt; write_iso(&tables, &message, &mut room[..20], &mut table).is_err());
+    assert!(rt; is_written_back(&tables, &message, &SETUP, &mut table));
     Ok(())
 }
