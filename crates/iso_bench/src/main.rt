@@ -4,7 +4,7 @@
 //! file is `ok HEX TREE` or `no HEX CAUSE BIT`, where `-` is no bytes.
 #![tactic(auto)]
 
-ghost use Rattle.std.specs.Prelude.{◌≡◌, IfOk};
+ghost use Rattle.std.specs.Prelude.{◌≡◌, ◌≤◌, IfOk, IfSome, length};
 ghost use Rattle.std.specs.List.{AllByRecursion};
 ghost use Rattle.exi_documents.specs.Values.{most_entries};
 ghost use Rattle.iso_codec.specs.Documents.{IsIsoMessage};
@@ -99,6 +99,24 @@ fn read_all(tables: &IsoTables, payloads: &Vec<Vec<u8>>, table: &mut Table, coun
     count
 }
 
+/// The message that a payload spells.
+fn message_of<'a>(
+    tables: &IsoTables,
+    payload: &'a [u8],
+    table: &mut Table,
+) -> Option<IsoMessage<'a>>
+    requires payload { length payload.now ≤ 65536 }
+    requires cap { table.old.cap ≡ most_entries }
+    ensures cap { table.new.cap ≡ most_entries }
+    ensures message { IfSome result (λ m. IsIsoMessage m) }
+{
+    messages_are_written();
+    match read_iso(tables, payload, table) {
+        Ok(message) => Some(message),
+        Err(_) => None,
+    }
+}
+
 /// The messages that the payloads spell.
 fn messages_of<'a>(
     alloc: Global,
@@ -110,13 +128,12 @@ fn messages_of<'a>(
     ensures cap { table.new.cap ≡ most_entries }
     ensures messages { IfOk result (λ messages. AllByRecursion (λ m. IsIsoMessage m) messages.items) }
 {
-    messages_are_written();
     let mut messages = Vec::new(alloc);
     for payload in payloads {
         if payload.len() > 65536 {
             continue;
         }
-        if let Ok(message) = read_iso(tables, payload.as_slice(), table) {
+        if let Some(message) = message_of(tables, payload.as_slice(), table) {
             messages.push(message)?;
         }
     }

@@ -53,8 +53,8 @@ const CUTS: [u32; 21] = [
 #[test]
 fn a_cut_payload_is_short_at_the_first_item_that_is_not_whole(rt: HostRuntime) -> Result<(), Fail> {
     let tables = IsoTables::make(rt.alloc())?;
-    let mut room = Table::make(rt.alloc(), MOST_ENTRIES)?;
     for count in 0..21 {
+        let mut room = Table::make(rt.alloc(), MOST_ENTRIES)?;
         let refused = read_iso(&tables, &SETUP[..count], &mut room).err();
         let wanted = Refusal {
             cause: RefusalCause::ShortInput,
