@@ -1,0 +1,146 @@
+"""What is mechanical of the proofs of a dialect's types: which event a field tells and puts, field by field."""
+from message_specs import kind_name
+
+
+def numbered(words):
+    counts = {}
+    for word in words:
+        counts[word] = counts.get(word, 0) + 1
+        yield word if counts[word] == 1 else f"{word}-{counts[word]}"
+
+
+def answer(goal, given, lines):
+    return f"\npub returns-{goal} : goal.returns-{goal}\nreturns-{goal} g c = λ F {given} h.\n" + "\n".join(lines) + "\n"
+
+
+def put_record(t, kind):
+    calls = [f"put_{'optional_' if it.optional else ''}choice" if it.form == "choice" else it.put() for it in t.inner(kind)]
+    steps = [f"c.{it}.ensures.write F _" for it in numbered(calls)][::-1]
+    lines, line = [], "    "
+    for n, step in enumerate(steps):
+        piece = step + (" (" if n < len(steps) - 1 else " h" + ")" * (len(steps) - 1))
+        if len(line) + len(piece) > 118:
+            lines, line = [*lines, line.rstrip()], "    "
+        line += piece
+    return answer("clause-write", "rest", [*lines, line])
+
+
+def read_record(t, kind):
+    low, fields = t.declared(kind), t.fields(kind)
+    attributes = [it for it in fields if it.form == "attribute"]
+    given = f"{t.lower(kind)}_attributes" if attributes else "[]"
+    steps = [(it.field, f"c.in_ok-{it.field}.ensures.read kinds F {given} {low} {it.at} _ %s refl refl") for it in attributes]
+    if not any(it.optional for it in attributes):
+        steps.append(("first", f"c.in_ok-first_child.ensures.read kinds F {given} {low} _ %s"))
+    for it in fields:
+        if it.form == "out":
+            steps.append((it.field, f"c.left_out.ensures.read kinds F {given} {low} {it.at} _ %s refl"))
+        elif it.form != "attribute":
+            kinds = "kinds " if it.simple else ""
+            steps.append((it.field, f"c.in_ok-{it.field}.ensures.read {kinds}F {given} {low} {it.at} _ %s refl refl" + (" refl" if it.is_asked() else "")))
+    signed = any(t.is_signed(it.kind) for it in fields)
+    lines, last = [], "h"
+    for n, (word, step) in enumerate(steps):
+        if n < len(steps) - 1 or signed:
+            lines.append(f"    let at_{word} = {step % last} in")
+            last = f"at_{word}"
+        else:
+            lines.append(f"    {step % last}")
+    return answer("clause-read", "told", lines + ([f"    search (rules, {last})"] if signed else []))
+
+
+def put_only(t, kind):
+    """A group of one element: the value has the one shape."""
+    low, name, it = t.lower(kind), t.camel(kind), t.choices[kind][0]
+    inner = t.camel(it.kind)
+    text = f"\nonly : (o : {name}) → (x : {inner}) × (o ≡ {low}.{it.variant} x)\nonly ({low}.{it.variant} x) = (x, refl)\n"
+    lines = ["    let e = (only c.args.self.now).1 in", f"    c.{it.put()}.ensures.write F rest (rw e (rw e at h))"]
+    return text + answer("clause-write", "rest", lines)
+
+
+def put_choice(t, kind):
+    low, text, seen = t.lower(kind), "", set()
+    for it in t.choices[kind]:
+        call = it.put() if it.put() not in seen else f"{it.put()}-in-{it.variant}"
+        seen.add(it.put())
+        fact = f"(subst (λ o. Writes F (one_onto ({low}_name o) ({low}_inside o) rest) (put_of c.args.writer.now)) c.in-{it.variant}.is h)"
+        text += answer(f"in-{it.variant}-clause-write", "rest", [f"    c.{call}.ensures.write F rest {fact}"])
+    return text
+
+
+def read_choice(t, kind):
+    members, text = t.choices[kind], ""
+    pair = lambda it: f"({it.name}, {kind_name(t, it)})"
+    test = lambda n: "c.is_at" if n == 0 else "c.is_at-else-is_at" + (f"-{n}" if n > 1 else "")
+    branch = lambda n: "c.if-is_at" + (f"-{n + 1}" if n else "")
+    for n, (it, call) in enumerate(zip(members, numbered(it.read() for it in members))):
+        head = f"c.in_ok-{call}.ensures.read {'_ F _ _ _ _' if it.simple else 'F _ _ _'} told h"
+        if n < len(members) - 1:
+            fact = f"({test(n)}.ensures.here {branch(n)}.true)"
+        else:
+            others = " ∷ ".join([pair(other) for other in members[:-1]] + ["[]"])
+            absent = "tt"
+            for k in reversed(range(n)):
+                absent = f"({test(k)}.ensures.absent {branch(k)}.false, {absent})"
+            others = f"({others})" if n else "[]"
+            fact = f"(only_last {others} {pair(it)} _ F.name h.kind h.here h.among {absent})"
+        whole = f"{head} {fact} refl refl" + (" refl" if it.simple else "")
+        goal = f"in_ok-{call}-clause-read" if len(members) > 1 else "clause-read"
+        text += answer(goal, "told", [f"    search (rules, {whole})" if t.is_signed(it.kind) else f"    {whole}"])
+    return text
+
+
+def with_uses(t, crate, place, head, body):
+    return head + f"use Rattle.{crate}.proofs.{place.replace('/', '.')}.Goals as goal\n" + body
+
+
+def put_choice_head(t, crate, file, kind):
+    name, low, members = t.camel(kind), t.lower(kind), t.choices[kind]
+    if len(members) == 1:
+        inner = t.camel(members[0].kind)
+        of_inner, of_own = (f"Rattle.{it[0]}.specs.declared.{it[1]}" for it in (t.places[members[0].kind], (crate, file)))
+        head = f"use Rattle.std.proofs.Common.{{◌≡◌, refl}}\nuse {of_inner}.{inner}.{{{inner}}}\n"
+        return head + f"use {of_own}.{name}.{{{name}}}\nuse {of_own}.{name}.TheVariants as {low}\n"
+    head = "use Rattle.std.proofs.Common.{subst}\nuse Rattle.message_parts.specs.Contents.{one_onto}\n"
+    head += "use Rattle.message_parts.specs.Writing.{Writes, put_of}\n"
+    return head + f"use Rattle.{crate}.specs.{file.capitalize()}.{{{low}_name, {low}_inside}}\n"
+
+
+def read_choice_head(t, kind):
+    members = t.choices[kind]
+    rules = "rules, " if any(t.is_signed(it.kind) for it in members) else ""
+    head = f"use Rattle.std.proofs.Common.{{{rules}refl, []{', ◌∷◌' if len(members) > 1 else ''}}}\nuse Rattle.message_parts.proofs.Chosen.{{only_last}}\n"
+    head += f"use Rattle.{t.s.crate}.specs.declared.names.TheConstants.{{{', '.join(it.name for it in members)}}}\n"
+    kinds = dict.fromkeys(kind_name(t, it) for it in members)
+    return head + f"use Rattle.{t.s.crate}.specs.declared.kinds.TheConstants.{{{', '.join(kinds)}}}\n"
+
+
+def read_record_head(t, crate, file, kind):
+    low, fields = t.lower(kind), t.fields(kind)
+    attributes = any(it.form == "attribute" for it in fields)
+    words = ["rules"] if any(t.is_signed(it.kind) for it in fields) else []
+    words += ["refl"] + (["[]"] if words or not attributes else [])
+    head = f"use Rattle.std.proofs.Common.{{{', '.join(words)}}}\n"
+    head += f"use Rattle.{t.s.crate}.specs.Declarations.{{kinds}}\nuse Rattle.{t.s.crate}.specs.{t.section(kind)}.{{{t.declared(kind)}}}\n"
+    return head + (f"use Rattle.{crate}.specs.{file.capitalize()}.{{{low}_attributes}}\n" if attributes else "")
+
+
+def read_empty(t):
+    return answer("clause-read", "told", ["    c.in_ok-first_child.ensures.read kinds F [] [] _ h"])
+
+
+def proofs(t, crate, file, kind):
+    """The answers of each place, FILE/IMPL/FUNCTION."""
+    name, found = t.camel(kind), []
+    if kind in t.choices:
+        put = put_choice if len(t.choices[kind]) > 1 else put_only
+        found.append(("PutChoice/write_member", put_choice_head(t, crate, file, kind), put(t, kind)))
+        found.append(("Choice/read_member", read_choice_head(t, kind), read_choice(t, kind)))
+    elif kind in t.s.content:
+        found.append(("PutRecord/write", "", put_record(t, kind)))
+        found.append(("Record/read", read_record_head(t, crate, file, kind), read_record(t, kind)))
+    elif kind in t.s.empty:
+        head = f"use Rattle.std.proofs.Common.{{[]}}\nuse Rattle.{t.s.crate}.specs.Declarations.{{kinds}}\n"
+        found.append(("Record/read", head, read_empty(t)))
+    places = ((f"{file}/{name}{place}", head, body) for place, head, body in found)
+    return {place: with_uses(t, crate, place, head, body) for place, head, body in places}
