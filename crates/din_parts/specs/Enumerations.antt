@@ -1,4 +1,4 @@
--- DIN SPEC 70121:2014 8.5: the ordinals of the values of enumerations.
+-- DIN SPEC 70121:2014 9.5: the ordinals of the values of enumerations.
 use Rattle.std.specs.Prelude.{ℕ}
 use Rattle.din_parts.specs.declared.enumerations.FaultCode.{FaultCode}
 use Rattle.din_parts.specs.declared.enumerations.FaultCode.TheVariants as fault_code
