@@ -49,6 +49,15 @@ def read_record(t, kind):
     return answer("clause-read", "told", lines + ([f"    search (rules, {last})"] if signed else []))
 
 
+def put_only(t, kind):
+    """A group of one element: the value has the one shape."""
+    low, name, it = t.lower(kind), t.camel(kind), t.choices[kind][0]
+    inner = t.camel(it.kind)
+    text = f"\nonly : (o : {name}) → (x : {inner}) × (o ≡ {low}.{it.variant} x)\nonly ({low}.{it.variant} x) = (x, refl)\n"
+    lines = ["    let e = (only c.args.self.now).1 in", f"    c.{it.put()}.ensures.write F rest (rw e (rw e at h))"]
+    return text + answer("clause-write", "rest", lines)
+
+
 def put_choice(t, kind):
     low, text, seen = t.lower(kind), "", set()
     for it in t.choices[kind]:
@@ -73,9 +82,11 @@ def read_choice(t, kind):
             absent = "tt"
             for k in reversed(range(n)):
                 absent = f"({test(k)}.ensures.absent {branch(k)}.false, {absent})"
-            fact = f"(only_last ({others}) {pair(it)} _ F.name h.kind h.here h.among {absent})"
+            others = f"({others})" if n else "[]"
+            fact = f"(only_last {others} {pair(it)} _ F.name h.kind h.here h.among {absent})"
         whole = f"{head} {fact} refl refl" + (" refl" if it.simple else "")
-        text += answer(f"in_ok-{call}-clause-read", "told", [f"    search (rules, {whole})" if t.is_signed(it.kind) else f"    {whole}"])
+        goal = f"in_ok-{call}-clause-read" if len(members) > 1 else "clause-read"
+        text += answer(goal, "told", [f"    search (rules, {whole})" if t.is_signed(it.kind) else f"    {whole}"])
     return text
 
 
@@ -88,9 +99,16 @@ def proofs(t, crate, file, kind):
     if kind in t.choices:
         members, files = t.choices[kind], {}
         place = f"{file}/{name}PutChoice/write_member"
+        if len(members) == 1:
+            inner = t.camel(members[0].kind)
+            of_inner, of_own = (f"Rattle.{it[0]}.specs.declared.{it[1]}" for it in (t.places[members[0].kind], (crate, file)))
+            head = f"use Rattle.std.proofs.Common.{{◌≡◌, refl}}\nuse {of_inner}.{inner}.{{{inner}}}\n"
+            head += f"use {of_own}.{name}.{{{name}}}\nuse {of_own}.{name}.TheVariants as {low}\n"
+            files[place] = with_uses(t, crate, place, head, put_only(t, kind))
         head = "use Rattle.std.proofs.Common.{subst}\nuse Rattle.message_parts.specs.Contents.{one_onto}\n"
         head += f"use Rattle.message_parts.specs.Writing.{{Writes, put_of}}\nuse {specs}.{{{low}_name, {low}_inside}}\n"
-        files[place] = with_uses(t, crate, place, head, put_choice(t, kind))
+        if len(members) > 1:
+            files[place] = with_uses(t, crate, place, head, put_choice(t, kind))
         place = f"{file}/{name}Choice/read_member"
         rules = "rules, " if any(t.is_signed(it.kind) for it in members) else ""
         head = f"use Rattle.std.proofs.Common.{{{rules}refl, [], ◌∷◌}}\nuse Rattle.message_parts.proofs.Chosen.{{only_last}}\n"
@@ -98,9 +116,13 @@ def proofs(t, crate, file, kind):
         head += f"use Rattle.{t.s.crate}.specs.declared.kinds.TheConstants.{{{', '.join(dict.fromkeys(kind_name(t, it) for it in members))}}}\n"
         files[place] = with_uses(t, crate, place, head, read_choice(t, kind))
         return files
-    if kind not in t.s.content:
-        return {}
     files = {}
+    if kind in t.s.empty:
+        place = f"{file}/{name}Record/read"
+        head = f"use Rattle.std.proofs.Common.{{[]}}\nuse Rattle.{t.s.crate}.specs.Declarations.{{kinds}}\n"
+        files[place] = with_uses(t, crate, place, head, answer("clause-read", "told", ["    c.in_ok-first_child.ensures.read kinds F [] [] _ h"]))
+    if kind not in t.s.content:
+        return files
     place = f"{file}/{name}PutRecord/write"
     files[place] = with_uses(t, crate, place, "", put_record(t, kind))
     place = f"{file}/{name}Record/read"
