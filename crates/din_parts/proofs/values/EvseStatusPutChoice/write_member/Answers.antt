@@ -1,9 +1,13 @@
-use Rattle.std.proofs.Common.{subst}
-use Rattle.message_parts.specs.Contents.{one_onto}
-use Rattle.message_parts.specs.Writing.{Writes, put_of}
-use Rattle.din_parts.specs.Values.{evse_status_name, evse_status_inside}
+use Rattle.std.proofs.Common.{◌≡◌, refl}
+use Rattle.din_parts.specs.declared.values.DcEvseStatus.{DcEvseStatus}
+use Rattle.din_parts.specs.declared.values.EvseStatus.{EvseStatus}
+use Rattle.din_parts.specs.declared.values.EvseStatus.TheVariants as evse_status
 use Rattle.din_parts.proofs.values.EvseStatusPutChoice.write_member.Goals as goal
 
-pub returns-in-Dc-clause-write : goal.returns-in-Dc-clause-write
-returns-in-Dc-clause-write g c = λ F rest h.
-    c.put_record.ensures.write F rest (subst (λ o. Writes F (one_onto (evse_status_name o) (evse_status_inside o) rest) (put_of c.args.writer.now)) c.in-Dc.is h)
+only : (o : EvseStatus) → (x : DcEvseStatus) × (o ≡ evse_status.Dc x)
+only (evse_status.Dc x) = (x, refl)
+
+pub returns-clause-write : goal.returns-clause-write
+returns-clause-write g c = λ F rest h.
+    let e = (only c.args.self.now).1 in
+    c.put_record.ensures.write F rest (rw e (rw e at h))

@@ -1,9 +1,13 @@
-use Rattle.std.proofs.Common.{subst}
-use Rattle.message_parts.specs.Contents.{one_onto}
-use Rattle.message_parts.specs.Writing.{Writes, put_of}
-use Rattle.din_power.specs.Limits.{ev_charge_parameter_name, ev_charge_parameter_inside}
+use Rattle.std.proofs.Common.{◌≡◌, refl}
+use Rattle.din_power.specs.declared.limits.DcEvChargeParameter.{DcEvChargeParameter}
+use Rattle.din_power.specs.declared.limits.EvChargeParameter.{EvChargeParameter}
+use Rattle.din_power.specs.declared.limits.EvChargeParameter.TheVariants as ev_charge_parameter
 use Rattle.din_power.proofs.limits.EvChargeParameterPutChoice.write_member.Goals as goal
 
-pub returns-in-Dc-clause-write : goal.returns-in-Dc-clause-write
-returns-in-Dc-clause-write g c = λ F rest h.
-    c.put_record.ensures.write F rest (subst (λ o. Writes F (one_onto (ev_charge_parameter_name o) (ev_charge_parameter_inside o) rest) (put_of c.args.writer.now)) c.in-Dc.is h)
+only : (o : EvChargeParameter) → (x : DcEvChargeParameter) × (o ≡ ev_charge_parameter.Dc x)
+only (ev_charge_parameter.Dc x) = (x, refl)
+
+pub returns-clause-write : goal.returns-clause-write
+returns-clause-write g c = λ F rest h.
+    let e = (only c.args.self.now).1 in
+    c.put_record.ensures.write F rest (rw e (rw e at h))
