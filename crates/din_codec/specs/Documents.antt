@@ -6,7 +6,9 @@ use Rattle.exi_documents.specs.Refusals.{IsRefused}
 use Rattle.exi_documents.specs.Trees.{Tree}
 use Rattle.message_parts.specs.Contents.{Inside, holding, root_of}
 use Rattle.message_parts.specs.Documents.{IsWritable, PassesBytes as DocumentPasses}
-use Rattle.din_schema.specs.Declarations.{schema}
+use Rattle.fitting_parts.specs.Fitting.{FitsParts}
+use Rattle.din_schema.specs.Declarations.{kinds, schema}
+use Rattle.din_schema.specs.Frame.{v2g_message}
 use Rattle.din_schema.specs.declared.names.TheConstants.{V2G_MESSAGE}
 use Rattle.din_schema.specs.declared.kinds.TheConstants.{V2G_MESSAGE_KIND}
 use Rattle.din_codec.specs.declared.message.DinMessage.{DinMessage}
@@ -34,9 +36,13 @@ IsDin m payload = IsDocument schema (din_tree m) payload
 abbrev pub IsDinRefused : List ℕ → RefusalCause → ℕ → Type 0
 IsDinRefused payload why bit = IsRefused schema payload why bit
 
--- a message within its ranges, for which some bits are written
+-- a message that can be written: some bits are written for it
 abbrev pub IsDinMessage : DinMessage → Type 0
 IsDinMessage m = IsWritable schema din_number (din_tree m)
+
+-- its parts hold what is declared, each value within its range
+abbrev pub IsWithin : DinMessage → Type 0
+IsWithin m = FitsParts kinds v2g_message (din_message_parts m)
 
 -- the one payload that is written for a message
 abbrev pub IsDinEncoding : DinMessage → List ℕ → Type 0

@@ -3,10 +3,8 @@
 ghost use Rattle.std.specs.Prelude.{◌≡◌, ℕ, List};
 ghost use Rattle.exi_documents.specs.declared.refusal.RefusalCause.{RefusalCause};
 ghost use Rattle.document_laws.specs.Laws.{AreBytes};
-ghost use Rattle.kind_laws.specs.Laws.{IsOfSchema};
-ghost use Rattle.din_schema.specs.Declarations.{schema};
 ghost use Rattle.din_codec.specs.declared.message.DinMessage.{DinMessage};
-ghost use Rattle.din_codec.specs.Documents.{din_tree, IsDin, IsDinRefused, IsDinMessage, IsDinEncoding};
+ghost use Rattle.din_codec.specs.Documents.{din_tree, IsDin, IsDinRefused, IsDinMessage, IsDinEncoding, IsWithin};
 
 /// A payload that spells a message has no refusal, and another one has one at most.
 pub fn messages_and_refusals()
@@ -31,8 +29,8 @@ pub fn encodings_are_read()
     ensures { (m : DinMessage) (payload : List ℕ) → IsDinEncoding m payload → IsDin m payload }
 {}
 
-/// A message that was read can be written, and so can each whose tree holds what the schema says, of at most 8,192 different texts.
+/// A message that was read can be written, and so can each whose parts hold what is declared, as many texts as it may have.
 pub fn messages_are_written()
     ensures read { (m : DinMessage) (payload : List ℕ) → IsDin m payload → IsDinMessage m }
-    ensures fitting { (m : DinMessage) → IsOfSchema schema (din_tree m) → IsDinMessage m }
+    ensures within { (m : DinMessage) → IsWithin m → IsDinMessage m }
 {}

@@ -232,7 +232,13 @@ impl<'a> Choice<'a> for BodyElement<'a> {
 }
 
 impl<'a> Group<'a> for BodyElement<'a> {
-    fn names() -> &'static [u16] {
+    ghost use Rattle.std.specs.Prelude.{◌≡◌};
+    ghost use Rattle.message_parts.specs.Particles.{names_among};
+    ghost use Rattle.din_codec.specs.Message.{body_element_members};
+
+    fn names() -> &'static [u16]
+        ensures { result.now ≡ names_among body_element_members }
+    {
         &[
             names::CABLE_CHECK_REQ,
             names::CABLE_CHECK_RES,
@@ -317,13 +323,13 @@ impl PutRecord for DinMessage<'_> {
 
 impl<'a> Record<'a> for DinMessage<'a> {
     ghost use Rattle.din_schema.specs.Declarations.{kinds};
-    ghost use Rattle.din_schema.specs.Frame.{din_message};
+    ghost use Rattle.din_schema.specs.Frame.{v2g_message};
 
     ghost kinds = { kinds };
 
     ghost attributes = { [] };
 
-    ghost particles = { din_message };
+    ghost particles = { v2g_message };
 
     fn read<P: Places>(descent: &mut Descent<'a, '_, P>) -> Result<DinMessage<'a>, Refusal> {
         first_child(descent)?;
