@@ -1,4 +1,4 @@
-use Rattle.std.proofs.Common.{refl, [], ◌∷◌}
+use Rattle.std.proofs.Common.{refl, []}
 use Rattle.message_parts.proofs.Chosen.{only_last}
 use Rattle.din_schema.specs.declared.names.TheConstants.{DC_EV_CHARGE_PARAMETER}
 use Rattle.din_schema.specs.declared.kinds.TheConstants.{DC_EV_CHARGE_PARAMETER_KIND}
