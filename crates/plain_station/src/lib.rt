@@ -8,12 +8,14 @@ pub mod agenda;
 pub mod hearing;
 pub mod post;
 pub mod session;
+pub mod sharing;
 mod words;
 
 pub use agenda::{Agenda, Spoken, Todo};
 pub use hearing::{Act, Event, Judged, Reading, Step};
 pub use post::{Part, Post};
 pub use session::Session;
+pub use sharing::Payload;
 pub use std::alloc::AllocError as NoMemory;
 
 #[cfg(test)]

@@ -90,7 +90,7 @@ fn reply_unless(waits: bool, dialect: Dialect, reply: Reply) -> Option<Spoken>
 }
 
 /// The watts that a session asks for behind a request.
-fn asked_if(accepted: bool, plan: &PostPlan, ask: &Ask, asked: u32) -> u32
+pub(crate) fn asked_if(accepted: bool, plan: &PostPlan, ask: &Ask, asked: u32) -> u32
     ensures { result ≡ (if accepted then unwrap_or (asks plan.now ask.now) asked else asked) }
 {
     if accepted {
@@ -101,7 +101,7 @@ fn asked_if(accepted: bool, plan: &PostPlan, ask: &Ask, asked: u32) -> u32
 }
 
 /// Whether a request makes its reply show watts.
-fn shows_if(accepted: bool, ask: &Ask) -> bool
+pub(crate) fn shows_if(accepted: bool, ask: &Ask) -> bool
     ensures { result ≡ (accepted && shows_watts ask.now) }
 {
     accepted && shows_watts(ask)
@@ -266,7 +266,7 @@ impl Post {
     }
 
     /// A word is read, where there is one.
-    fn read(self, plan: &PostPlan, reading: Option<Reading>) -> Post
+    pub fn read(self, plan: &PostPlan, reading: Option<Reading>) -> Post
         requires { IsPostPlan plan.now }
         ensures { result ≡ judging.read plan.now self (option_map reading_of reading) }
     {

@@ -1,0 +1,13 @@
+pub mod Checks
+pub mod Closing
+pub mod Doings
+pub mod Firsts
+pub mod Following
+pub mod Going
+pub mod Hearings
+pub mod Lifting
+pub mod Lines
+pub mod Once
+pub mod Padding
+pub mod Readings
+pub mod Splits
