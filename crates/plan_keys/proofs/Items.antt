@@ -6,9 +6,9 @@ use Rattle.toml.specs.Data.{Members, as_table}
 use Rattle.toml.specs.View.{view, items_view}
 use Rattle.toml.specs.declared.value.Value.{Value}
 use Rattle.plan_keys.specs.declared.fault.PlanFault.{PlanFault}
-use Rattle.plan_keys.specs.Keys.{on_some, item_count, all_tables, OfTable, Each}
-use Rattle.plan_keys.specs.Asked.{first_of}
-use Rattle.plan_keys.specs.Faults.{each_fault}
+use Rattle.plan_keys.specs.Forms.{on_some, item_count, all_tables}
+use Rattle.plan_keys.specs.Keys.{first_of}
+use Rattle.plan_keys.specs.Faults.{each_fault, OfTable, Each}
 
 pub item_count_view : (vs : List Value) → item_count (items_view vs) ≡ length vs
 item_count_view [] = refl

@@ -2,4 +2,5 @@ pub mod Chains
 mod Hexadecimal
 mod Least
 pub mod Items
-pub mod Told
+pub mod Documents
+pub mod Words

@@ -1,4 +1,3 @@
+pub mod Forms
 pub mod Keys
-pub mod Asked
 pub mod Faults
-pub mod Texts

@@ -1,108 +1,129 @@
 //! Why a plan is refused.
 
-ghost use Rattle.std.specs.Prelude.{◌≡◌, string_bytes};
+ghost use Rattle.std.specs.Prelude.{◌≡◌, ◌++◌, OnOk, IfOk, map, string_bytes};
+ghost use Rattle.plan_keys.specs.Keys.{listed, wanted_text};
 
-use std::alloc::AllocError;
+use crate::places::{Place, key_text};
+use itoa::Buffer;
+use std::alloc::{AllocError, Global};
 use std::fmt;
 use std::marker::Model;
 
 /// What a key has to say.
 #[derive(Clone, Copy, Debug)]
 pub enum Wanted {
-    /// A whole number, with its least and its greatest value.
-    Number(u64, u64),
-    /// A truth value.
-    Truth,
+    /// A number from the least to the greatest, and its unit behind a space, or nothing.
+    Between(u64, u64, &'static str),
+    /// A number with a sign from the least to the greatest.
+    Signed(i64, i64),
     /// One of these words.
     Word(&'static [&'static str]),
-    /// A list of these words, each at most once.
+    /// A list of one or more of these words, each once.
     Words(&'static [&'static str]),
-    /// So many ASCII characters.
-    Characters(usize, usize),
-    /// So many bytes in hexadecimal.
-    Bytes(usize, usize),
-    /// So many tables.
-    Tables(usize, usize),
-    /// A text of at most so many bytes.
-    Length(usize),
-    /// Nothing: there is no such key.
-    NoKey,
+    /// What these words say.
+    Said(&'static str),
 }
 
 /// Writes words with commas between them.
-fn write_words<W: fmt::Write>(words: &[&str], f: &mut fmt::Formatter<W>) -> fmt::Result {
-    let mut first = true;
-    for word in words {
-        if !first {
-            f.write_str(", ")?;
-        }
-        first = false;
-        f.write_str(word)?;
+fn push_words(text: &mut String, words: &[&str]) -> Result<(), AllocError>
+    ensures { OnOk result (string_bytes text.new ≡ string_bytes text.old ++ listed (map (λ w. w.now) words.now)) }
+{
+    let Some((first, rest)) = words.split_first() else {
+        return Ok(());
+    };
+    text.push_str(first)?;
+    for word in rest {
+        text.push_str(", ")?;
+        text.push_str(word)?;
     }
     Ok(())
 }
 
-impl fmt::Display for Wanted {
-    fn fmt<W: fmt::Write>(&self, f: &mut fmt::Formatter<W>) -> fmt::Result {
-        match self {
-            Wanted::Number(least, most) => write!(f, "{least} to {most}"),
-            Wanted::Truth => f.write_str("true or false"),
-            Wanted::Word(words) => {
-                f.write_str("one of ")?;
-                write_words(words, f)
-            }
-            Wanted::Words(words) => {
-                f.write_str("a list of one or more of ")?;
-                write_words(words, f)?;
-                f.write_str(", each once")
-            }
-            Wanted::Characters(least, most) => write!(f, "{least} to {most} ASCII characters"),
-            Wanted::Bytes(least, most) => write!(f, "{least} to {most} bytes in hexadecimal"),
-            Wanted::Tables(least, most) => write!(f, "{least} to {most} tables"),
-            Wanted::Length(most) => write!(f, "at most {most}"),
-            Wanted::NoKey => f.write_str("left out, since there is no such key"),
+/// What is wanted, in words.
+fn text_of(alloc: Global, wanted: Wanted) -> Result<String, AllocError>
+    ensures { IfOk result (λ text. string_bytes text ≡ wanted_text wanted) }
+{
+    match wanted {
+        Wanted::Between(least, most, unit) => {
+            let mut text = String::from_str(alloc, Buffer::new().format(least))?;
+            text.push_str(" to ")?;
+            text.push_str(Buffer::new().format(most))?;
+            text.push_str(unit)?;
+            Ok(text)
         }
+        Wanted::Signed(least, most) => {
+            let mut text = String::from_str(alloc, Buffer::new().format(least))?;
+            text.push_str(" to ")?;
+            text.push_str(Buffer::new().format(most))?;
+            Ok(text)
+        }
+        Wanted::Word(words) => {
+            let mut text = String::from_str(alloc, "one of ")?;
+            push_words(&mut text, words)?;
+            Ok(text)
+        }
+        Wanted::Words(words) => {
+            let mut text = String::from_str(alloc, "a list of one or more of ")?;
+            push_words(&mut text, words)?;
+            text.push_str(", each once")?;
+            Ok(text)
+        }
+        Wanted::Said(text) => String::from_str(alloc, text),
     }
 }
 
 /// A key's place in a plan, as `post.2.max_watts` for the key `max_watts` of the second post, and what it has to say.
-/// Contracts see the text of the place.
+/// Contracts see both texts.
 #[derive(Debug, Drop)]
 pub struct Key {
-    text: String,
-    wanted: Wanted,
+    place: String,
+    wanted: String,
 }
 
 impl Model for Key {
     ghost use Rattle.std.specs.Prelude.{ℕ, List, string_bytes};
 
-    ghost Value = { List ℕ };
+    ghost Value = { List ℕ × List ℕ };
 
-    ghost view = { λ k. string_bytes k.text };
+    ghost view = { λ k. (string_bytes k.place, string_bytes k.wanted) };
 }
 
 impl Key {
-    /// The key of this text, which has to say that.
-    pub fn of(text: String, wanted: Wanted) -> Key
-        ensures { result ≡ string_bytes text }
+    /// The key of this name at a place, which has to say that.
+    pub fn at(
+        alloc: Global,
+        place: &Place<'_>,
+        name: &str,
+        wanted: Wanted,
+    ) -> Result<Key, AllocError>
+        ensures { IfOk result (λ key. key ≡ (place.now.prefix.now ++ name.now, wanted_text wanted)) }
     {
-        Key { text, wanted }
+        Ok(Key {
+            place: key_text(alloc, place, name)?,
+            wanted: text_of(alloc, wanted)?,
+        })
     }
 
-    /// Its text.
+    /// Its place.
     pub fn as_str(&self) -> &str
-        ensures { result.now ≡ self.now }
+        ensures { result.now ≡ self.now.0 }
     {
-        self.text.as_str()
+        self.place.as_str()
     }
 
-    /// What it has to say. Contracts leave that open, since it serves messages alone.
-    pub fn wanted(&self) -> Wanted {
-        self.wanted
+    /// What it has to say.
+    pub fn wanted(&self) -> &str
+        ensures { result.now ≡ self.now.1 }
+    {
+        self.wanted.as_str()
     }
 }
 
 impl fmt::Display for Key {
+    ghost use Rattle.std.specs.Prelude.{Some};
+
+    ghost output = { λ key. Some key.0 };
+
     fn fmt<W: fmt::Write>(&self, f: &mut fmt::Formatter<W>) -> fmt::Result {
         f.write_str(self.as_str())
     }
@@ -125,13 +146,19 @@ pub enum PlanFault {
 }
 
 impl fmt::Display for PlanFault {
+    ghost use Rattle.std.specs.Prelude.{Some};
+    ghost use Rattle.plan_keys.specs.Faults.{fault_text};
+
+    ghost output = { λ fault. Some (fault_text fault) };
+
     fn fmt<W: fmt::Write>(&self, f: &mut fmt::Formatter<W>) -> fmt::Result {
         match self {
             PlanFault::NotToml => f.write_str("not a TOML document"),
-            PlanFault::Missing(key) => write!(f, "{key} is missing, and must be {}", key.wanted()),
-            PlanFault::BadValue(key) | PlanFault::OverLimit(key) => {
-                write!(f, "{key} must be {}", key.wanted())
+            PlanFault::Missing(key) => {
+                write!(f, "{key} is missing, and must be {}", key.wanted())
             }
+            PlanFault::BadValue(key) => write!(f, "{key} must be {}", key.wanted()),
+            PlanFault::OverLimit(key) => write!(f, "{key} must be {}", key.wanted()),
             PlanFault::Memory => f.write_str("no memory"),
         }
     }

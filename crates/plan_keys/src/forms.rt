@@ -1,37 +1,53 @@
 //! What a value says by its form, or what is wrong with it.
 
-ghost use Rattle.std.specs.Prelude.{◌≡◌, ◌≤◌, ◌<◌, ◌*◌, true, All, IsTrue, IfOk, IfSome, map, position, nat_lt, length, option_copied, option_map, ◌==◌, ◌&&◌, ◌%◌, is_ok};
-ghost use Rattle.std.specs.List.{list_all};
+ghost use Rattle.std.specs.Prelude.{◌≡◌, ◌≤◌, ◌<◌, ◌*◌, ◌%◌, ◌==◌, ◌&&◌, true, ◌≤ℤ◌, nat_lt, nat_le, int_le, ℤ, List, [], All, IsTrue, IfOk, map, position, length};
+ghost use Rattle.std.specs.List.{list_all, list_any};
 ghost use Rattle.std.specs.Str.{bytes_eq};
-ghost use Rattle.hex.specs.Hex.{decode_of, is_hex_digit};
-ghost use Rattle.toml.specs.Data.{as_str};
+ghost use Rattle.hex.specs.Hex.{is_hex_digit};
 ghost use Rattle.toml.specs.View.{view, items_view};
-ghost use Rattle.plan_keys.specs.Keys.{seen, has_bounds, bounded, number_says, truth_says, word_says, IsAscii, ascii_says, is_digits, hex_value, hex_says, all_tables, item_count, tables_says};
+ghost use Rattle.plan_keys.specs.Forms.{seen, has_bounds, within as within_limits, IsAscii, number_says, signed_says, truth_says, place_of as place_said, word_says, new_word as fresh_word, places_of, words_behind, words_say, ascii_says, is_digits, hex_value, hex_says, all_tables, item_count, tables_says, data_of, scalar_says};
 
-use crate::keys::Wrong;
 use arrayvec::ArrayVec;
 use toml::Value;
+
+/// What is wrong with a key.
+#[derive(Clone, Copy, Debug, PartialEq, Eq)]
+pub enum Wrong {
+    /// It isn't there.
+    Missing,
+    /// Its value is of the wrong kind or form.
+    BadValue,
+    /// Its number or length is outside its bounds.
+    OverLimit,
+}
+
+/// A value of one of several kinds.
+#[derive(Clone, Copy, Debug)]
+pub enum Scalar<'a> {
+    Truth(bool),
+    Integer(i32),
+    Text(&'a str),
+}
 
 /// Up to 32 bytes.
 pub type Short = ArrayVec<u8, 32>;
 
-/// So many bytes, at most 32.
-pub(crate) fn short(bytes: &[u8]) -> Short
-    requires { length bytes.now ≤ 32 }
-    ensures { result.items ≡ bytes.now }
+/// A list of these.
+pub fn list_of<T: Copy + Default, const N: usize>(items: &[T]) -> ArrayVec<T, N>
+    requires { length items.now ≤ N }
+    ensures { result.items ≡ items.now }
 {
-    let mut list = Short::new();
-    list.try_extend_from_slice(bytes).unwrap();
+    let mut list = ArrayVec::new();
+    list.try_extend_from_slice(items).unwrap();
     list
 }
 
-/// Whether a number is from the least to the greatest.
-fn in_bounds(least: u64, most: u64, n: u64) -> Result<u64, Wrong>
-    ensures value { result ≡ bounded least most n }
-    ensures bounds { IfOk result (λ m. (least ≤ m) × (m ≤ most)) }
+/// What is said, where it is within its bounds.
+fn within<T: Drop>(fits: bool, said: T) -> Result<T, Wrong>
+    ensures { result ≡ within_limits fits said }
 {
-    if least <= n && n <= most {
-        Ok(n)
+    if fits {
+        Ok(said)
     } else {
         Err(Wrong::OverLimit)
     }
@@ -45,8 +61,20 @@ pub(crate) fn number_of(least: u64, most: u64, value: &Value) -> Result<u64, Wro
     match value.as_integer() {
         None => Err(Wrong::BadValue),
         Some(n) if n < 0 => Err(Wrong::OverLimit),
-        Some(n) => in_bounds(least, most, n as u64),
+        Some(n) => {
+            let n = n as u64;
+            within(least <= n && n <= most, n)
+        }
     }
+}
+
+/// A whole number with a sign from the least to the greatest.
+pub(crate) fn signed_of(least: i64, most: i64, value: &Value) -> Result<i64, Wrong>
+    ensures value { result ≡ signed_says least most (view value.now) }
+    ensures bounds { IfOk result (λ n. (least ≤ℤ n) × (n ≤ℤ most)) }
+{
+    let n = value.as_integer().ok_or(Wrong::BadValue)?;
+    within(least <= n && n <= most, n)
 }
 
 /// A truth value.
@@ -54,6 +82,104 @@ pub(crate) fn truth_of(value: &Value) -> Result<bool, Wrong>
     ensures { result ≡ truth_says (view value.now) }
 {
     value.as_bool().ok_or(Wrong::BadValue)
+}
+
+/// The place of the word that a value says.
+fn place_of(words: &[&str], value: &Value) -> Option<usize>
+    ensures { result ≡ place_said (map (λ w. w.now) words.now) (view value.now) }
+{
+    let text = value.as_str()?;
+    for (i, word) in words.iter().enumerate() {
+        if *word == text {
+            return Some(i);
+        }
+    }
+    None
+}
+
+/// The meaning of the word that a value says.
+pub(crate) fn word_of<T: Copy>(words: &[&str], meanings: &[T], value: &Value) -> Result<T, Wrong>
+    ensures { result ≡ word_says (map (λ w. w.now) words.now) meanings.now (view value.now) }
+{
+    let Some(place) = place_of(words, value) else {
+        return Err(Wrong::BadValue);
+    };
+    meanings.get(place).copied().ok_or(Wrong::BadValue)
+}
+
+/// Whether there are so many items.
+#[tactic(auto, using(crate::proofs::Items::item_count_view))]
+fn has_count(least: usize, most: usize, items: &[Value]) -> bool
+    ensures value { result ≡ has_bounds least most (item_count (items_view items.now)) }
+    ensures bounds { IsTrue result → (least ≤ length items.now) × (length items.now ≤ most) }
+{
+    least <= items.len() && items.len() <= most
+}
+
+/// Whether a place is one of these.
+fn is_among(before: &[usize], place: usize) -> bool
+    ensures { result ≡ list_any (λ q. q == place) before.now }
+{
+    before.iter().any(|other| *other == place)
+}
+
+/// The place and the meaning of a word that isn't at one of these places.
+fn new_word<T: Copy>(
+    words: &[&str],
+    meanings: &[T],
+    before: &[usize],
+    item: &Value,
+) -> Result<(usize, T), Wrong>
+    ensures { result ≡ fresh_word meanings.now before.now (place_said (map (λ w. w.now) words.now) (view item.now)) }
+{
+    let Some(place) = place_of(words, item) else {
+        return Err(Wrong::BadValue);
+    };
+    if is_among(before, place) {
+        return Err(Wrong::BadValue);
+    }
+    match meanings.get(place).copied() {
+        Some(meaning) => Ok((place, meaning)),
+        None => Err(Wrong::BadValue),
+    }
+}
+
+/// The meanings of so many words, each once.
+fn words_in<T: Copy + Default, const N: usize>(
+    words: &[&str],
+    meanings: &[T],
+    items: &[Value],
+) -> Result<ArrayVec<T, N>, Wrong>
+    requires room { length items.now ≤ N }
+    requires few { length items.now ≤ 32 }
+    ensures { seen (λ v. v.items) result ≡ words_behind meanings.now (places_of (map (λ w. w.now) words.now) (items_view items.now)) [] [] }
+{
+    let mut places: ArrayVec<usize, 32> = ArrayVec::new();
+    let mut said = ArrayVec::new();
+    for item in items {
+        let (place, meaning) = new_word(words, meanings, places.as_slice(), item)?;
+        places.push(place);
+        said.push(meaning);
+    }
+    Ok(said)
+}
+
+/// The meanings of the words of a list of one or more, each once.
+pub(crate) fn words_of<T: Copy + Default, const N: usize>(
+    words: &[&str],
+    meanings: &[T],
+    value: &Value,
+) -> Result<ArrayVec<T, N>, Wrong>
+    requires room { length words.now ≤ N }
+    requires few { length words.now ≤ 32 }
+    ensures { seen (λ v. v.items) result ≡ words_say (map (λ w. w.now) words.now) meanings.now (view value.now) }
+{
+    let items = value.as_array().ok_or(Wrong::BadValue)?.as_slice();
+    if has_count(1, words.len(), items) {
+        words_in(words, meanings, items)
+    } else {
+        Err(Wrong::BadValue)
+    }
 }
 
 /// Whether all bytes of a text are ASCII characters.
@@ -69,37 +195,25 @@ pub(crate) fn ascii_of(least: usize, most: usize, value: &Value) -> Result<&str,
     ensures value { seen (λ s. s.now) result ≡ ascii_says least most (view value.now) }
     ensures fits { IfOk result (λ s. IsAscii least most s.now) }
 {
-    let Some(text) = value.as_str() else {
-        return Err(Wrong::BadValue);
-    };
+    let text = value.as_str().ok_or(Wrong::BadValue)?;
     if !is_ascii(text) {
         return Err(Wrong::BadValue);
     }
-    if text.len() < least || most < text.len() {
-        return Err(Wrong::OverLimit);
-    }
-    Ok(text)
+    within(least <= text.len() && text.len() <= most, text)
 }
 
-/// Whether a byte is a hexadecimal digit of either case.
-fn is_digit(byte: u8) -> bool
-    ensures { result ≡ is_hex_digit byte }
+/// Whether a text is whole bytes in hexadecimal of either case.
+fn is_hex(text: &str) -> bool
+    ensures { result ≡ is_digits text.now }
 {
-    matches!(byte, b'A'..=b'F' | b'a'..=b'f' | b'0'..=b'9')
+    text.len() % 2 == 0 && all_digits(text)
 }
 
 /// Whether all characters of a text are hexadecimal digits.
 fn all_digits(text: &str) -> bool
     ensures { result ≡ list_all is_hex_digit text.now }
 {
-    text.as_bytes().iter().all(|byte| is_digit(*byte))
-}
-
-/// Whether a text is whole bytes in hexadecimal.
-fn is_hex(text: &str) -> bool
-    ensures { result ≡ is_digits text.now }
-{
-    text.len() % 2 == 0 && all_digits(text)
+    text.as_bytes().iter().all(|byte| matches!(*byte, b'A'..=b'F' | b'a'..=b'f' | b'0'..=b'9'))
 }
 
 /// The bytes of a text in hexadecimal.
@@ -115,7 +229,7 @@ fn decoded(text: &str, count: usize) -> Short
     let bytes = &mut room[..count];
     // Digits decode.
     let _ = hex::decode_to_slice(text.as_bytes(), bytes);
-    short(bytes)
+    list_of(bytes)
 }
 
 /// So many bytes in hexadecimal of either case.
@@ -124,9 +238,7 @@ pub(crate) fn hex_of(least: usize, most: usize, value: &Value) -> Result<Short, 
     ensures value { seen (λ v. v.items) result ≡ hex_says least most (view value.now) }
     ensures bounds { IfOk result (λ v. (least ≤ length v.items) × (length v.items ≤ most)) }
 {
-    let Some(text) = value.as_str() else {
-        return Err(Wrong::BadValue);
-    };
+    let text = value.as_str().ok_or(Wrong::BadValue)?;
     if !is_hex(text) {
         return Err(Wrong::BadValue);
     }
@@ -149,55 +261,30 @@ fn are_tables(items: &[Value]) -> bool
     true
 }
 
-/// Whether there are so many items.
-#[tactic(auto, using(crate::proofs::Items::item_count_view))]
-fn has_count(least: usize, most: usize, items: &[Value]) -> bool
-    ensures value { result ≡ has_bounds least most (item_count (items_view items.now)) }
-    ensures bounds { IsTrue result → (least ≤ length items.now) × (length items.now ≤ most) }
-{
-    least <= items.len() && items.len() <= most
-}
-
 /// A list of so many tables.
 pub(crate) fn tables_of(least: usize, most: usize, value: &Value) -> Result<&[Value], Wrong>
     ensures value { seen (λ v. items_view v.now) result ≡ tables_says least most (view value.now) }
     ensures bounds { IfOk result (λ v. (least ≤ length v.now) × (length v.now ≤ most)) }
     ensures tables { IfOk result (λ v. all_tables (items_view v.now) ≡ true) }
 {
-    let Some(array) = value.as_array() else {
-        return Err(Wrong::BadValue);
-    };
-    let items = array.as_slice();
+    let items = value.as_array().ok_or(Wrong::BadValue)?.as_slice();
     if !are_tables(items) {
         return Err(Wrong::BadValue);
     }
-    if !has_count(least, most, items) {
-        return Err(Wrong::OverLimit);
-    }
-    Ok(items)
+    within(has_count(least, most, items), items)
 }
 
-/// The place of a word in a list.
-fn place_of(words: &[&str], text: &str) -> Option<usize>
-    ensures { result ≡ position (λ w. bytes_eq w text.now) (map (λ w. w.now) words.now) }
+/// A truth value, a whole number of 32 bits with its sign, or a text.
+pub(crate) fn scalar_of(value: &Value) -> Result<Scalar<'_>, Wrong>
+    ensures { seen data_of result ≡ scalar_says (view value.now) }
 {
-    for (i, word) in words.iter().enumerate() {
-        if *word == text {
-            return Some(i);
-        }
+    match value {
+        Value::Boolean(truth) => Ok(Scalar::Truth(*truth)),
+        Value::Integer(n) => match i32::try_from(*n) {
+            Ok(n) => Ok(Scalar::Integer(n)),
+            Err(_) => Err(Wrong::OverLimit),
+        },
+        Value::String(text) => Ok(Scalar::Text(text.as_str())),
+        _ => Err(Wrong::BadValue),
     }
-    None
-}
-
-/// The meaning of the word that a value says.
-pub(crate) fn word_of<T: Copy>(words: &[&str], meanings: &[T], value: &Value) -> Result<T, Wrong>
-    ensures { result ≡ word_says (map (λ w. w.now) words.now) meanings.now (view value.now) }
-{
-    let Some(text) = value.as_str() else {
-        return Err(Wrong::BadValue);
-    };
-    let Some(place) = place_of(words, text) else {
-        return Err(Wrong::BadValue);
-    };
-    meanings.get(place).copied().ok_or(Wrong::BadValue)
 }

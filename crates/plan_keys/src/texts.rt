@@ -1,11 +1,12 @@
 //! Texts as tables.
 
-ghost use Rattle.std.specs.Prelude.{◌≡◌, IfOk, IfErr, ◌≤◌, length, ◌⊎◌};
+ghost use Rattle.std.specs.Prelude.{◌≡◌, ◌⊎◌, MatchResult, Ok, Err};
 ghost use Rattle.toml.specs.View.{table_view};
 ghost use Rattle.plan_keys.specs.declared.fault.PlanFault.TheVariants.{Memory};
-ghost use Rattle.plan_keys.specs.Texts.{IsDocument, IsNoDocument};
+ghost use Rattle.plan_keys.specs.Faults.{text_says};
 
 use crate::fault::{Key, PlanFault, Wanted};
+use crate::places::Place;
 use std::alloc::Global;
 use toml::Table;
 
@@ -14,12 +15,12 @@ pub const LONGEST: usize = 65536;
 
 /// The table of a text of at most 65,536 bytes.
 pub fn document(alloc: Global, text: &[u8]) -> Result<Table, PlanFault>
-    ensures table { IfOk result (λ table. (length text.now ≤ 65536) × IsDocument text.now (table_view table)) }
-    ensures fault { IfErr result (λ fault. (fault ≡ Memory) ⊎ IsNoDocument text.now fault) }
+    ensures { MatchResult result (λ table. text_says text.now ≡ Ok (table_view table)) (λ fault. (fault ≡ Memory) ⊎ (text_says text.now ≡ Err fault)) }
 {
     if text.len() > LONGEST {
-        let name = String::from_str(alloc, "bytes")?;
-        return Err(PlanFault::OverLimit(Key::of(name, Wanted::Length(LONGEST))));
+        let wanted = Wanted::Said("at most 65536");
+        let key = Key::at(alloc, &Place { prefix: "" }, "bytes", wanted)?;
+        return Err(PlanFault::OverLimit(key));
     }
     match toml::table_from_slice(alloc, text) {
         Ok(table) => Ok(table),

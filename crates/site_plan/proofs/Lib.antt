@@ -1,3 +1,3 @@
 mod Defaults
+pub mod Offers
 mod Ports
-mod Texts

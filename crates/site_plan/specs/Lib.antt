@@ -1,5 +1,2 @@
-pub mod Words
-pub mod PostKeys
-pub mod SiteKeys
-pub mod CarKeys
+pub mod Keys
 pub mod Plans

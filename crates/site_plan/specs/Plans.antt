@@ -1,23 +1,61 @@
--- Own: what a text says as the plan of a station or of a car, and the plans that are there without a file.
-use Rattle.std.specs.Prelude.{◌≡◌, ℕ, Bool, true, false, List, [], ◌∷◌, ◌++◌, codes, Some, None}
+-- Own: what a text says as the plan of a station or of a car, its first fault, and the plans without a file.
+use Rattle.std.specs.Prelude.{◌≡◌, ℕ, Bool, true, false, List, [], ◌∷◌, ◌++◌, codes, Option, Some, None}
 use Rattle.toml.specs.Data.{Members, no_members}
 use Rattle.session_words.specs.declared.mode.Mode.{Mode}
 use Rattle.session_words.specs.declared.mode.Mode.TheVariants.{AcThreePhaseCore, DcExtended}
 use Rattle.session_words.specs.declared.plan.PostPlan.{PostPlan}
 use Rattle.session_words.specs.declared.plan.SitePlan.{SitePlan}
 use Rattle.session_words.specs.declared.plan.CarPlan.{CarPlan}
-use Rattle.plan_keys.specs.Asked.{Holds}
-use Rattle.plan_keys.specs.Texts.{IsDocument, IsTold}
-use Rattle.site_plan.specs.SiteKeys.{limit_rules, IsSiteOf, site_fault}
-use Rattle.site_plan.specs.CarKeys.{car_rules, car_file, car_fault}
-use Rattle.site_plan.specs.PostKeys.{post_rules}
+use Rattle.plan_keys.specs.declared.fault.PlanFault.{PlanFault}
+use Rattle.plan_keys.specs.Keys.{value_at, Asked, fresh, ask, Rules, ask_all, Holds, first_of}
+use Rattle.plan_keys.specs.Faults.{told_at, unknown_at, prefix_in, first_fault, table_fault, table_unknown, each_fault, Each, text_says, told, IsPlanOf}
+use Rattle.site_plan.specs.Keys.{limit_rules, post_tables, post_rules, car_rules}
 
--- nothing is told of the text, and the plan has what its keys say
+-- the plan of a post in a file, the first fault of its keys, and that of its unknown keys
+abbrev pub post_file : Rules PostPlan
+post_file = post_rules None DcExtended
+
+abbrev pub post_fault : ℕ → Members → Option PlanFault
+post_fault number table = table_fault post_file (prefix_in [] (codes "post") number) table
+
+abbrev pub post_unknown : ℕ → Members → Option PlanFault
+post_unknown number table = table_unknown post_file (prefix_in [] (codes "post") number) table
+
+-- the plan of a station has what the keys of its table say, and a post for each table of its list
+pub record IsSiteOf (table : Members) (site : SitePlan) : Type 0 where
+  pub keys : Holds limit_rules table site
+  pub posts : Each (Holds post_file) (value_at post_tables table) site.post.items
+
+-- its first fault: that of its keys, of its posts one after another, of its unknown keys, and of those of its posts
+abbrev pub site_asked : Members → Asked
+site_asked table = ask post_tables (ask_all limit_rules (fresh table))
+
+abbrev pub site_fault : Members → Option PlanFault
+site_fault table =
+    first_of (told_at [] (site_asked table).found)
+    (first_of (each_fault post_fault 1 (value_at post_tables table))
+    (first_of (unknown_at [] (site_asked table))
+    (each_fault post_unknown 1 (value_at post_tables table))))
+
+-- the plan of a car in a file, and its first fault
+abbrev pub car_file : Rules CarPlan
+car_file = car_rules None DcExtended
+
+abbrev pub car_fault : Members → Option PlanFault
+car_fault table = first_fault [] (ask_all car_file (fresh table))
+
+-- of texts
 abbrev pub IsSitePlanOf : List ℕ → SitePlan → Type 0
-IsSitePlanOf text site = IsTold site_fault text None × (table : Members) × IsDocument text table × IsSiteOf table site
+IsSitePlanOf text site = IsPlanOf site_fault IsSiteOf text site
 
 abbrev pub IsCarPlanOf : List ℕ → CarPlan → Type 0
-IsCarPlanOf text car = IsTold car_fault text None × (table : Members) × IsDocument text table × Holds (car_file table) table car
+IsCarPlanOf text car = IsPlanOf car_fault (Holds car_file) text car
+
+abbrev pub site_told : List ℕ → Option PlanFault
+site_told text = told site_fault (text_says text)
+
+abbrev pub car_told : List ℕ → Option PlanFault
+car_told text = told car_fault (text_says text)
 
 -- ---- without a file
 
@@ -31,10 +69,10 @@ pub record IsFixedSite (ac : Bool) (site : SitePlan) : Type 0 where
   pub limits : Holds limit_rules no_members site
   pub post : PostPlan
   pub alone : site.post.items ≡ post ∷ []
-  pub keys : Holds (post_rules (Some 15120) (fixed_mode ac) no_members) no_members post
+  pub keys : Holds (post_rules (Some 15120) (fixed_mode ac)) no_members post
 
 abbrev pub IsFixedCar : Bool → CarPlan → Type 0
-IsFixedCar ac car = Holds (car_rules (Some 15120) (fixed_mode ac) no_members) no_members car
+IsFixedCar ac car = Holds (car_rules (Some 15120) (fixed_mode ac)) no_members car
 
 -- the same plans as texts
 abbrev pub mode_text : Bool → List ℕ

@@ -3,15 +3,13 @@
 ghost use Rattle.std.specs.Prelude.{◌≡◌, ◌≤◌, ◌||◌, ◌==◌, not, is_some, IfOk, IfErr, IfSome, IsSome, OnOk, None, length};
 ghost use Rattle.session_words.specs.Plans.{IsCarPlan, IsWithin};
 ghost use Rattle.toml.specs.View.{table_view};
-ghost use Rattle.plan_keys.specs.Keys.{members_of};
-ghost use Rattle.plan_keys.specs.Asked.{Holds, Reads};
+ghost use Rattle.plan_keys.specs.Keys.{missing_unless, Holds, Reads};
 ghost use Rattle.plan_keys.specs.Faults.{Tells};
-ghost use Rattle.site_plan.specs.CarKeys.{car_rules, car_file, car_fault};
+ghost use Rattle.site_plan.specs.Keys.{car_rules};
+ghost use Rattle.site_plan.specs.Plans.{car_file, car_fault};
 
-use crate::dialects::dialects;
-use crate::words::{mode, stop, tenths};
-use arrayvec::ArrayVec;
-use plan_keys::{Keys, Place, PlanFault, Short, Wanted};
+use crate::words::{dialects, mode, stop, tenths};
+use plan_keys::{Keys, Place, PlanFault, Short, Wanted, Wrong, list_of};
 use session_words::{CarPlan, Mode, SessionId};
 use std::alloc::Global;
 use toml::Table;
@@ -26,16 +24,6 @@ fn six(bytes: Short) -> [u8; 6]
     list
 }
 
-/// Up to 8 bytes.
-fn session_id(bytes: Short) -> SessionId
-    requires { length bytes.items ≤ 8 }
-    ensures { result.bytes.items ≡ bytes.items }
-{
-    let mut list = ArrayVec::new();
-    list.try_extend_from_slice(bytes.as_slice()).unwrap();
-    SessionId { bytes: list }
-}
-
 /// The port that a car dials at once, if there is one.
 fn dialed(tcp: Option<u64>) -> Option<u16>
     requires { IfSome tcp (IsWithin 1 65535) }
@@ -45,22 +33,26 @@ fn dialed(tcp: Option<u64>) -> Option<u16>
     tcp.map(|port| port as u16)
 }
 
-/// Whether a car has somewhere to call: a port or discovery.
-fn calls(tcp: Option<u64>, sdp: u16) -> bool
-    ensures { result ≡ (is_some tcp || not (sdp == 0)) }
+/// What is wrong where a car has nowhere to call: neither a port nor discovery.
+fn nowhere(tcp: Option<u64>, sdp: u16) -> Option<Wrong>
+    ensures { result ≡ missing_unless (is_some tcp || not (sdp == 0)) }
 {
-    tcp.is_some() || sdp != 0
+    if tcp.is_some() || sdp != 0 {
+        None
+    } else {
+        Some(Wrong::Missing)
+    }
 }
 
 /// Reads the plan of a car, whose port and mode have these defaults.
 pub(crate) fn car_keys(keys: &mut Keys<'_>, port: Option<u64>, usual: Mode) -> CarPlan
     requires { IfSome port (IsWithin 1 65535) }
-    ensures read { Reads (car_rules port usual (members_of keys.old.table)) keys.old keys.new result }
+    ensures read { Reads (car_rules port usual) keys.old keys.new result }
     ensures within { (result.sdp ≡ 0 → IsSome result.tcp) → IsCarPlan result }
 {
     let tcp = keys.perhaps("tcp", 1, 65535, port);
     let sdp = keys.number("sdp", 0, 65535, Some(0)) as u16;
-    keys.needed("tcp", Wanted::Number(1, 65535), calls(tcp, sdp));
+    keys.note("tcp", Wanted::Between(1, 65535, ""), nowhere(tcp, sdp));
     let turns = keys.number("turns", 1, 4_294_967_296, Some(1_000_000));
     let mode = mode(keys, usual);
     CarPlan {
@@ -81,13 +73,15 @@ pub(crate) fn car_keys(keys: &mut Keys<'_>, port: Option<u64>, usual: Mode) -> C
         welding: keys.number("welding", 0, 10, Some(1)) as u8,
         pace: keys.number("pace", 100, 1000, Some(100)) as u16,
         stop: stop(keys),
-        session: session_id(keys.bytes("session", 0, 8, &[])),
+        session: SessionId {
+            bytes: list_of(keys.bytes("session", 0, 8, &[]).as_slice()),
+        },
     }
 }
 
 /// Reads the plan of a car.
 pub(crate) fn car_plan(alloc: Global, table: &Table) -> Result<CarPlan, PlanFault>
-    ensures plan { IfOk result (Holds (car_file (table_view table.now)) (table_view table.now)) }
+    ensures plan { IfOk result (Holds car_file (table_view table.now)) }
     ensures none { OnOk result (car_fault (table_view table.now) ≡ None) }
     ensures fault { IfErr result (λ fault. Tells fault (car_fault (table_view table.now))) }
     ensures within { IfOk result IsCarPlan }
@@ -95,9 +89,8 @@ pub(crate) fn car_plan(alloc: Global, table: &Table) -> Result<CarPlan, PlanFaul
     let whole = Place { prefix: "" };
     let mut keys = Keys::of(Some(table));
     let car = car_keys(&mut keys, None, Mode::DcExtended);
-    keys.judged(alloc, &whole)?;
-    match keys.unknown(alloc, &whole)? {
-        Some(fault) => Err(fault),
-        None => Ok(car),
+    match keys.finish(alloc, &whole) {
+        Ok(()) => Ok(car),
+        Err(fault) => Err(fault),
     }
 }

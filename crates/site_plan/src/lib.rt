@@ -1,10 +1,9 @@
 //! The plans of a charging site and of a car, read from TOML (own).
 //!
-//! `specs/SiteKeys.antt`, `PostKeys.antt` and `CarKeys.antt` are the tables of their keys, one line a key.
+//! `specs/Keys.antt` has the tables of their keys, one line a key.
 #![tactic(auto)]
 
 mod car;
-mod dialects;
 mod post;
 mod reading;
 mod site;

@@ -2,19 +2,17 @@
 
 ghost use Rattle.std.specs.Prelude.{IfSome};
 ghost use Rattle.session_words.specs.Plans.{IsPostPlan, IsWithin};
-ghost use Rattle.plan_keys.specs.Keys.{members_of};
-ghost use Rattle.plan_keys.specs.Asked.{Reads};
-ghost use Rattle.site_plan.specs.PostKeys.{post_rules};
+ghost use Rattle.plan_keys.specs.Keys.{Reads};
+ghost use Rattle.site_plan.specs.Keys.{post_rules};
 
-use crate::dialects::dialects;
-use crate::words::{evse_id, mode, tenths};
+use crate::words::{dialects, evse_id, mode, tenths};
 use plan_keys::Keys;
 use session_words::{Mode, PostPlan};
 
 /// Reads the plan of a post, whose port and mode have these defaults.
 pub(crate) fn post_plan(keys: &mut Keys<'_>, port: Option<u64>, usual: Mode) -> PostPlan
     requires { IfSome port (IsWithin 1 65535) }
-    ensures read { Reads (post_rules port usual (members_of keys.old.table)) keys.old keys.new result }
+    ensures read { Reads (post_rules port usual) keys.old keys.new result }
     ensures within { IsPostPlan result }
 {
     let tcp = keys.number("tcp", 1, 65535, port) as u16;

@@ -5,10 +5,11 @@ ghost use Rattle.arrayvec.specs.ArrayVec.{array_vec_len};
 ghost use Rattle.session_words.specs.Plans.{IsPostPlan, IsSitePlan, IsWithin};
 ghost use Rattle.toml.specs.Data.{as_table};
 ghost use Rattle.toml.specs.View.{view, table_view, items_view};
-ghost use Rattle.plan_keys.specs.Keys.{all_tables, Each};
-ghost use Rattle.plan_keys.specs.Asked.{Reads};
-ghost use Rattle.plan_keys.specs.Faults.{Tells, each_fault};
-ghost use Rattle.site_plan.specs.SiteKeys.{limit_rules, IsPostOf, IsSiteOf, post_fault, post_unknown, site_fault};
+ghost use Rattle.plan_keys.specs.Forms.{all_tables};
+ghost use Rattle.plan_keys.specs.Keys.{Holds, Reads};
+ghost use Rattle.plan_keys.specs.Faults.{Tells, Each, each_fault};
+ghost use Rattle.site_plan.specs.Keys.{limit_rules};
+ghost use Rattle.site_plan.specs.Plans.{post_file, IsSiteOf, post_fault, post_unknown, site_fault};
 
 use crate::post::post_plan;
 use arrayvec::ArrayVec;
@@ -26,7 +27,7 @@ struct ReadPost {
 
 /// Reads the plan of the post with this number.
 fn read_post(alloc: Global, number: u16, table: &Table) -> Result<ReadPost, PlanFault>
-    ensures plan { IfOk result (λ post. IsPostOf (table_view table.now) post.plan) }
+    ensures plan { IfOk result (λ post. Holds post_file (table_view table.now) post.plan) }
     ensures unknown { IfOk result (λ post. post.unknown ≡ post_unknown number (table_view table.now)) }
     ensures none { OnOk result (post_fault number (table_view table.now) ≡ None) }
     ensures fault { IfErr result (λ fault. Tells fault (post_fault number (table_view table.now))) }
@@ -65,7 +66,7 @@ struct ReadPosts {
 fn read_posts(alloc: Global, items: &[Value]) -> Result<ReadPosts, PlanFault>
     requires few { length items.now ≤ 8 }
     requires tables { all_tables (items_view items.now) ≡ true }
-    ensures plans { IfOk result (λ v. Each IsPostOf (items_view items.now) v.plans.items) }
+    ensures plans { IfOk result (λ v. Each (Holds post_file) (items_view items.now) v.plans.items) }
     ensures unknown { IfOk result (λ v. v.unknown ≡ each_fault post_unknown 1 (items_view items.now)) }
     ensures none { OnOk result (each_fault post_fault 1 (items_view items.now) ≡ None) }
     ensures fault { IfErr result (λ fault. Tells fault (each_fault post_fault 1 (items_view items.now))) }
@@ -108,7 +109,7 @@ pub(crate) fn site_plan(alloc: Global, table: &Table) -> Result<SitePlan, PlanFa
     let whole = Place { prefix: "" };
     let mut keys = Keys::of(Some(table));
     let mut site = site_limits(&mut keys);
-    let items = keys.tables("post", 1, 8);
+    let items = keys.tables("post", 1, 8, true);
     keys.judged(alloc, &whole)?;
     let posts = read_posts(alloc, items)?;
     if let Some(fault) = keys.unknown(alloc, &whole)?.or(posts.unknown) {

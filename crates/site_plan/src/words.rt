@@ -1,12 +1,15 @@
 //! The words of plans.
 
-ghost use Rattle.std.specs.Prelude.{◌≡◌, ◌≤◌, map, Some};
-ghost use Rattle.plan_keys.specs.Keys.{IsAscii, named};
-ghost use Rattle.plan_keys.specs.Asked.{Says};
-ghost use Rattle.site_plan.specs.Words as spec;
-ghost use Rattle.site_plan.specs.Words.{mode_rule, stop_rule, evse_id_rule, tenths_rule};
+ghost use Rattle.std.specs.Prelude.{◌≡◌, ◌≤◌, map, Ok, Some, codes};
+ghost use Rattle.session_words.specs.Plans.{IsOffer};
+ghost use Rattle.toml.specs.Data.{string};
+ghost use Rattle.plan_keys.specs.Forms.{IsAscii, word_says};
+ghost use Rattle.plan_keys.specs.Keys.{ascii, Says};
+ghost use Rattle.site_plan.specs.Keys as spec;
+ghost use Rattle.site_plan.specs.Keys.{mode_rule, stop_rule, dialects_rule};
 
-use charge_world::Tenths;
+use arrayvec::ArrayVec;
+use charge_world::{Dialect, Tenths};
 use plan_keys::Keys;
 use session_words::{EvseText, Mode, Stop};
 
@@ -26,7 +29,7 @@ fn mode_names() -> &'static [&'static str]
 
 /// The name of a mode in plans.
 pub fn mode_name(mode: Mode) -> &'static str
-    ensures { named spec.mode_names spec.modes result.now ≡ Some mode }
+    ensures { word_says spec.mode_names spec.modes (string result.now) ≡ Ok mode }
 {
     match mode {
         Mode::AcSinglePhaseCore => "AC_single_phase_core",
@@ -55,28 +58,32 @@ pub(crate) fn mode(keys: &mut Keys<'_>, default: Mode) -> Mode
     keys.word("mode", mode_names(), &MODES, Some(default), default)
 }
 
-/// The names of the ways to stop.
-fn stop_names() -> &'static [&'static str]
-    ensures { map (λ w. w.now) result.now ≡ spec.stop_names }
-{
-    &["terminate", "pause"]
-}
-
-/// The ways to stop in the same order.
-const STOPS: [Stop; 2] = [Stop::Terminate, Stop::Pause];
-
 /// The way to stop of a plan.
 pub(crate) fn stop(keys: &mut Keys<'_>) -> Stop
     ensures { Says stop_rule keys.old keys.new result }
 {
+    let ways = [Stop::Terminate, Stop::Pause];
     let usual = Stop::Terminate;
-    keys.word("stop", stop_names(), &STOPS, Some(usual), usual)
+    keys.word("stop", &["terminate", "pause"], &ways, Some(usual), usual)
+}
+
+/// The dialects, or all that go with the mode.
+pub(crate) fn dialects(keys: &mut Keys<'_>, mode: Mode) -> ArrayVec<Dialect, 2>
+    ensures said { Says (dialects_rule mode) keys.old keys.new result.items }
+    ensures fits { IsOffer mode result.items }
+{
+    let both = [Dialect::Iso, Dialect::Din];
+    if mode.can_speak_din() {
+        keys.words("dialects", &["iso", "din"], &both, &both)
+    } else {
+        keys.words("dialects", &["iso"], &both[..1], &both[..1])
+    }
 }
 
 /// An EVSEID in ISO, or that of no operator.
-#[tactic(auto, using(crate::proofs::Texts::code_points_fit))]
+#[tactic(auto, using(crate::proofs::Offers::code_points_fit))]
 pub(crate) fn evse_id(keys: &mut Keys<'_>) -> EvseText
-    ensures said { Says evse_id_rule keys.old keys.new result }
+    ensures said { Says (ascii (codes "evse_id") 7 37 (codes "ZZ00000")) keys.old keys.new result }
     ensures fits { IsAscii 7 37 result }
 {
     let text = keys.ascii("evse_id", 7, 37, "ZZ00000");
@@ -86,7 +93,7 @@ pub(crate) fn evse_id(keys: &mut Keys<'_>) -> EvseText
 /// So many tenths, or the default.
 pub(crate) fn tenths(keys: &mut Keys<'_>, name: &'static str, default: u64) -> Tenths
     requires { default ≤ 30000 }
-    ensures { Says (tenths_rule name.now default) keys.old keys.new result }
+    ensures { Says (spec.tenths name.now default) keys.old keys.new result }
 {
     Tenths::exactly(keys.number(name, 0, 30000, Some(default)) as u16)
 }

@@ -5,9 +5,9 @@ use Rattle.session_words.specs.Plans.{IsPostPlan}
 use Rattle.plan_keys.proofs.Items.{table_here, Each-more, each_fault_more, kept_more, or_first}
 use Rattle.toml.specs.View.{items_view}
 use Rattle.plan_keys.specs.declared.fault.PlanFault.{PlanFault}
-use Rattle.plan_keys.specs.Asked.{first_of}
+use Rattle.plan_keys.specs.Keys.{first_of, Holds}
 use Rattle.plan_keys.specs.Faults.{each_fault}
-use Rattle.site_plan.specs.SiteKeys.{IsPostOf, post_fault, post_unknown}
+use Rattle.site_plan.specs.Plans.{post_file, post_fault, post_unknown}
 use Rattle.site_plan.proofs.site.read_posts.Goals as goal
 
 pub table_of-requires : goal.table_of-requires
@@ -21,7 +21,7 @@ loop-item-preserved c = record {
       rw c.push.ensures.items e;
   count = grind (arith, common_steps);
   plans =
-      let more = Each-more IsPostOf c.args.items.now c.loop-item.plans.items c.loop-item.item-index c.item-item.result c.in_ok-post.post.plan c.loop-item-test.true (sym c.item-item.is) c.loop-item.invariant.plans (rw c.table_of.ensures c.in_ok-post.ensures.plan) in
+      let more = Each-more (Holds post_file) c.args.items.now c.loop-item.plans.items c.loop-item.item-index c.item-item.result c.in_ok-post.post.plan c.loop-item-test.true (sym c.item-item.is) c.loop-item.invariant.plans (rw c.table_of.ensures c.in_ok-post.ensures.plan) in
       rw c.push.ensures.items more;
   unknown =
       let items = c.args.items.now in

@@ -33,10 +33,9 @@ pub fn place_in(
 ) -> Result<String, AllocError>
     ensures { IfOk result (λ text. string_bytes text ≡ prefix_in place.now.prefix.now list.now number) }
 {
-    let mut buffer = Buffer::new();
     let mut text = key_text(alloc, place, list)?;
     text.push_str(".")?;
-    text.push_str(buffer.format(number))?;
+    text.push_str(Buffer::new().format(number))?;
     text.push_str(".")?;
     Ok(text)
 }
