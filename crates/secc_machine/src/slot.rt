@@ -1,0 +1,445 @@
+//! The session of a post, in memory of its own.
+
+ghost use Rattle.std.specs.Prelude.{◌≡◌, ◌≤◌, ◌&&◌, List, ℕ, Option, Some, None, [], length, is_some, IfOk, IfSome, min, unwrap_or, if◌then◌else◌};
+ghost use Rattle.std.specs.Option.{option_map};
+ghost use Rattle.session_timers.specs.Due.{never};
+ghost use Rattle.session_timers.specs.Law.{span_of as span};
+ghost use Rattle.v2gtp_frames.specs.Reading.{behind_front};
+ghost use Rattle.session_rules.specs.Allowed.{lowered_by};
+ghost use Rattle.session_rules.specs.Asks.{asks, shows_watts};
+ghost use Rattle.station_spec.specs.States.{State, first_session};
+ghost use Rattle.station_spec.specs.Deciding as deciding;
+ghost use Rattle.station_spec.specs.Judging as judging;
+ghost use Rattle.station_spec.specs.Acting as acting;
+ghost use Rattle.station_spec.specs.Sharing.{asked_in, told_in};
+ghost use Rattle.station_spec.specs.Until.{due_in};
+ghost use Rattle.secc_machine.specs.Resting.{IsReadOut};
+ghost use Rattle.secc_machine.specs.Views.{wanted_of, with_unread, chosen_session, dialect_in, unread_in};
+
+use crate::NoMemory;
+use crate::agenda::Agenda;
+use crate::unread::Unread;
+use charge_world::{Dialect, Order};
+use session_rules::{
+    Lowered, Stage, asks, is_accepted, is_set_up, is_waiting, judge, lowered_by, shows_watts,
+    stage_behind, timeout_of,
+};
+use session_words::{Ask, EndCause, Facts, Phase, PostPlan, Request, Timeout};
+use std::alloc::Global;
+use std::marker::Model;
+use v2gtp_frames::whole_frame;
+
+/// A payload that has to be read now.
+#[derive(Clone, Copy, Debug)]
+pub struct Wanted<'a> {
+    /// The dialect in which it is read; none where it is the negotiation's.
+    pub dialect: Option<Dialect>,
+    /// Its bytes, at most 65,536.
+    pub payload: &'a [u8],
+}
+
+/// What is kept of a session that lives, beside its stream.
+#[derive(Drop)]
+pub(crate) struct Living {
+    pub(crate) stage: Stage,
+    /// The moment from which its deadline counts.
+    pub(crate) since: u64,
+    /// The watts that it asks for; 0 where it doesn't.
+    pub(crate) asked: u32,
+    pub(crate) lowered: Option<Lowered>,
+}
+
+/// The session of a post, if one lives. Contracts see it with what of its stream was not read yet.
+#[derive(Drop)]
+pub(crate) struct SessionSlot {
+    living: Option<Living>,
+    unread: Unread,
+}
+
+impl Model for SessionSlot {
+    ghost use Rattle.std.specs.Prelude.{Option};
+    ghost use Rattle.std.specs.Option.{option_map};
+    ghost use Rattle.station_spec.specs.States.{Session};
+    ghost use Rattle.secc_machine.specs.Views.{with_unread};
+
+    ghost Value = { Option Session };
+
+    ghost view = { λ s. option_map (with_unread s.unread) s.living };
+}
+
+/// How long a deadline is, in milliseconds.
+fn span_of(timeout: Timeout) -> u64
+    ensures { result ≡ span timeout }
+{
+    match timeout {
+        Timeout::Setup => 18_000,
+        Timeout::Sequence => 60_000,
+        Timeout::Feedback => 3_000,
+    }
+}
+
+/// The dialect in which the words of a session are read.
+fn speaks(stage: &Stage) -> Option<Dialect>
+    ensures { result ≡ judging.speaks stage.now }
+{
+    match stage.row {
+        Phase::Connected => None,
+        _ => Some(stage.dialect),
+    }
+}
+
+/// The same stage.
+fn copied(stage: &Stage) -> Stage
+    ensures { result ≡ stage.now }
+{
+    Stage {
+        row: stage.row,
+        dialect: stage.dialect,
+        session: stage.session.copied(),
+        told: stage.told,
+        schedule: stage.schedule,
+        pre_charge: stage.pre_charge,
+    }
+}
+
+impl Living {
+    /// When it is due, in milliseconds; 2^64 - 1 is never.
+    fn due(&self) -> u64
+        ensures { result ≡ min never (deciding.due (with_unread [] self.now)) }
+    {
+        self.since
+            .saturating_add(span_of(timeout_of(self.stage.row)))
+    }
+
+    /// Whether its deadline was reached.
+    fn is_due(&self, now: u64) -> bool
+        ensures { result ≡ deciding.is_reached (deciding.due (with_unread [] self.now)) now }
+    {
+        match self.since.checked_add(span_of(timeout_of(self.stage.row))) {
+            Some(moment) => moment <= now && moment < u64::MAX,
+            None => false,
+        }
+    }
+}
+
+impl SessionSlot {
+    /// No session. It takes the memory of a stream.
+    pub(crate) fn make(alloc: Global) -> Result<SessionSlot, NoMemory>
+        ensures { IfOk result (λ slot. slot ≡ None) }
+    {
+        Ok(SessionSlot {
+            living: None,
+            unread: Unread::make(alloc)?,
+        })
+    }
+
+    /// What is kept of the session, if one lives.
+    pub(crate) fn living(&self) -> Option<&Living>
+        ensures { option_map (λ living. with_unread (unread_in self.now) living.now) result ≡ self.now }
+    {
+        self.living.as_ref()
+    }
+
+    /// The session's stage once more, if one lives.
+    pub(crate) fn stage(&self) -> Option<Stage>
+        ensures { result ≡ option_map (λ session. session.stage) self.now }
+    {
+        match &self.living {
+            Some(living) => Some(copied(&living.stage)),
+            None => None,
+        }
+    }
+
+    /// The dialect of the session, once one was chosen.
+    pub(crate) fn dialect(&self) -> Option<Dialect>
+        ensures { result ≡ dialect_in self.now }
+    {
+        match &self.living {
+            Some(living) => speaks(&living.stage),
+            None => None,
+        }
+    }
+
+    /// Whether a session lives.
+    pub(crate) fn lives(&self) -> bool
+        ensures { result ≡ is_some self.now }
+    {
+        self.living.is_some()
+    }
+
+    /// The watts that the session asks for: none without one.
+    pub(crate) fn asked(&self) -> u32
+        ensures { result ≡ asked_in self.now }
+    {
+        match &self.living {
+            Some(living) => living.asked,
+            None => 0,
+        }
+    }
+
+    /// The watts that its replies told last: none without one.
+    pub(crate) fn told(&self) -> u32
+        ensures { result ≡ told_in self.now }
+    {
+        match &self.living {
+            Some(living) => living.stage.told,
+            None => 0,
+        }
+    }
+
+    /// When the session is due: never without one.
+    pub(crate) fn due(&self) -> u64
+        ensures { result ≡ min never (due_in self.now) }
+    {
+        match &self.living {
+            Some(living) => living.due(),
+            None => u64::MAX,
+        }
+    }
+
+    /// What the clock asks for.
+    pub(crate) fn timing(&self, now: u64, live: bool) -> Agenda
+        ensures { result ≡ deciding.timing self.now now live }
+    {
+        match &self.living {
+            Some(living) if living.is_due(now) => {
+                Agenda::ending_by(EndCause::from(timeout_of(living.stage.row)), live)
+            }
+            _ => Agenda::nothing(),
+        }
+    }
+
+    /// The end of the session, where one lives.
+    pub(crate) fn ending(&self, cause: EndCause, live: bool) -> Agenda
+        ensures { result ≡ deciding.ending_in self.now cause live }
+    {
+        match &self.living {
+            Some(_) => Agenda::ending_by(cause, live),
+            None => Agenda::nothing(),
+        }
+    }
+
+    /// A fault of the frame at the front ends the session, and so does a whole frame while a reply waits.
+    pub(crate) fn fronting(&self, live: bool) -> Agenda
+        ensures { result ≡ deciding.fronting self.now live }
+    {
+        let Some(living) = &self.living else {
+            return Agenda::nothing();
+        };
+        match whole_frame(self.unread.bytes()) {
+            Err(_) => Agenda::ending_by(EndCause::BadFrame, live),
+            Ok(Some(_)) if is_waiting(living.stage.row) => {
+                Agenda::ending_by(EndCause::Impatient, live)
+            }
+            Ok(_) => Agenda::nothing(),
+        }
+    }
+
+    /// The payload of the frame at the front, where no reply waits.
+    pub(crate) fn payload(&self) -> Option<Wanted<'_>>
+        ensures value { option_map wanted_of result ≡ judging.payload_in self.now }
+        ensures short { IfSome result (λ wanted. length wanted.payload.now ≤ 65536) }
+    {
+        let living = self.living.as_ref()?;
+        if is_waiting(living.stage.row) {
+            return None;
+        }
+        match whole_frame(self.unread.bytes()) {
+            Ok(Some(len)) => Some(Wanted {
+                dialect: speaks(&living.stage),
+                payload: &self.unread.bytes()[8..8 + len],
+            }),
+            _ => None,
+        }
+    }
+
+    /// A connection with this token began at this moment.
+    pub(crate) fn open(&mut self, token: u64, at: u64)
+        ensures { self.new ≡ Some (first_session token at) }
+    {
+        self.unread.clear();
+        self.living = Some(Living {
+            stage: Stage::new(token),
+            since: at,
+            asked: 0,
+            lowered: None,
+        });
+    }
+
+    /// The session is over.
+    pub(crate) fn close(&mut self)
+        ensures { self.new ≡ None }
+    {
+        self.living = None;
+    }
+
+    /// Bytes came for the session, if one lives.
+    pub(crate) fn feed(&mut self, bytes: &[u8])
+        requires short { length bytes.now ≤ 4096 }
+        requires read { IsReadOut self.old }
+        ensures { self.new ≡ option_map (acting.with_bytes bytes.now) self.old }
+    {
+        if self.living.is_some() {
+            self.unread.feed(bytes);
+        }
+    }
+
+    /// The frame at the front was read.
+    pub(crate) fn pass(&mut self)
+        ensures { self.new ≡ option_map judging.passed self.old }
+    {
+        self.unread.pass();
+    }
+
+    /// From a Close on its feedback is awaited.
+    pub(crate) fn ordered(&mut self, now: u64, order: &Order)
+        ensures { self.new ≡ option_map (acting.since_order now order.now) self.old }
+    {
+        if let (Some(living), Order::Close) = (&mut self.living, order) {
+            living.since = now;
+        }
+    }
+
+    /// A reply was sent at this moment.
+    pub(crate) fn replied(&mut self, now: u64)
+        ensures { self.new ≡ option_map (acting.replied now) self.old }
+    {
+        if let Some(living) = self.living.take() {
+            self.living = Some(replied(living, now));
+        }
+    }
+
+    /// A negotiation was read, and leads to the dialect that was chosen; where none was, to nothing.
+    pub(crate) fn choose(&mut self, chosen: Option<Dialect>)
+        ensures { self.new ≡ option_map (chosen_session chosen) self.old }
+    {
+        self.unread.pass();
+        if let Some(living) = self.living.take() {
+            self.living = Some(negotiated(living, chosen));
+        }
+    }
+
+    /// A request of the session was read, where these watts are shown.
+    pub(crate) fn answer(
+        &mut self,
+        facts: &Facts,
+        now: u64,
+        plan: &PostPlan,
+        request: &Request,
+        shown: u32,
+    )
+        ensures { (s : State) → s.facts ≡ facts.now → s.clock ≡ now
+            → self.new ≡ option_map (λ session. judging.asked_session session plan.now s request.now shown) self.old }
+    {
+        self.unread.pass();
+        if let Some(living) = self.living.take() {
+            self.living = Some(answered(living, facts, now, plan, request, shown));
+        }
+    }
+}
+
+/// What is kept behind a reply that was sent at this moment.
+fn replied(living: Living, now: u64) -> Living
+    ensures { (unread : List ℕ) → with_unread unread result ≡ acting.replied now (with_unread unread living) }
+{
+    let Living {
+        stage,
+        since,
+        asked,
+        lowered,
+    } = living;
+    let since = if is_set_up(stage.row) { now } else { since };
+    Living {
+        stage: stage.confirmed(),
+        since,
+        asked,
+        lowered,
+    }
+}
+
+/// What is kept behind a negotiation.
+fn negotiated(living: Living, chosen: Option<Dialect>) -> Living
+    ensures { (unread : List ℕ) → with_unread (behind_front unread) result ≡ chosen_session chosen (with_unread unread living) }
+{
+    let Living {
+        stage,
+        since,
+        asked,
+        lowered,
+    } = living;
+    let stage = match chosen {
+        Some(dialect) => stage.negotiated(dialect),
+        None => stage,
+    };
+    Living {
+        stage,
+        since,
+        asked,
+        lowered,
+    }
+}
+
+/// The watts that a session asks for behind a request.
+pub(crate) fn asked_if(accepted: bool, plan: &PostPlan, ask: &Ask, asked: u32) -> u32
+    ensures { result ≡ (if accepted then unwrap_or (asks plan.now ask.now) asked else asked) }
+{
+    if accepted {
+        asks(plan, ask).unwrap_or(asked)
+    } else {
+        asked
+    }
+}
+
+/// The watts that stay allowed behind a request.
+fn lowered_if(
+    shows: bool,
+    told: u32,
+    lowered: Option<Lowered>,
+    now: u64,
+    shown: u32,
+) -> Option<Lowered>
+    ensures { result ≡ (if shows then lowered_by told lowered now shown else lowered) }
+{
+    if shows {
+        lowered_by(told, lowered, now, shown)
+    } else {
+        lowered
+    }
+}
+
+/// Whether a request makes its reply show watts.
+pub(crate) fn shows_if(accepted: bool, ask: &Ask) -> bool
+    ensures { result ≡ (accepted && shows_watts ask.now) }
+{
+    accepted && shows_watts(ask)
+}
+
+/// What is kept behind a request of the session, where these watts are shown.
+fn answered(
+    living: Living,
+    facts: &Facts,
+    now: u64,
+    plan: &PostPlan,
+    request: &Request,
+    shown: u32,
+) -> Living
+    ensures { (unread : List ℕ) (s : State) → s.facts ≡ facts.now → s.clock ≡ now
+        → with_unread (behind_front unread) result ≡ judging.asked_session (with_unread unread living) plan.now s request.now shown }
+{
+    let Living {
+        stage,
+        since,
+        asked,
+        lowered,
+    } = living;
+    let accepted = is_accepted(judge(&stage, facts, plan, request));
+    let shows = shows_if(accepted, &request.ask);
+    let asked = asked_if(accepted, plan, &request.ask, asked);
+    let lowered = lowered_if(shows, stage.told, lowered, now, shown);
+    Living {
+        stage: stage_behind(stage, facts, plan, request, shown),
+        since,
+        asked,
+        lowered,
+    }
+}
