@@ -2,4 +2,5 @@ pub mod Quiet
 pub mod Work
 pub mod Sound
 pub mod Reports
-pub mod Sharing
+pub mod Levels
+pub mod Words

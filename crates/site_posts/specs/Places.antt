@@ -44,7 +44,7 @@ HeardAll at what bytes old new = (j : ℕ) (d : Place) → j < length old → sl
 
 -- an act, taken or failed
 abbrev pub acted_report : Act → Bool → PostReport → PostReport
-acted_report (Give order) taken r = if is_close order && taken then record r { closed = capped (r.closed + 1) } else r
+acted_report (Give order) taken r = record r { closed = if is_close order && taken then capped (r.closed + 1) else r.closed }
 acted_report (Send bytes) taken r = r
 acted_report (Answer bytes) taken r = r
 acted_report (End cause) taken r = record r { causes = bit_or r.causes (2 ^ cause) }

@@ -88,8 +88,11 @@ fn read_word<C: Codec>(codec: &mut C, places: &mut [Place], i: usize, limit: u32
     requires sound { IsSound C.reads (at places.old i).plan (at places.old i).post }
     ensures { Reads (codecs C.negotiates C.reads C.encodes) limit places.old i places.new }
 {
-    if let Some(judged) = judge(codec, &places[i]) {
-        let watts = shown(places, i, &judged, limit);
-        places[i].read(judged, watts);
+    match judge(codec, &places[i]) {
+        None => {}
+        Some(judged) => {
+            let watts = shown(places, i, &judged, limit);
+            places[i].read(judged, watts);
+        }
     }
 }

@@ -1,9 +1,10 @@
 //! A post of a site, with its plan and what it counted.
 
-ghost use Rattle.std.specs.Prelude.{◌≡◌, ◌<◌, ℕ, List, true};
+ghost use Rattle.std.specs.Prelude.{◌≡◌, ◌<◌, ◌+◌, ◌&&◌, if◌then◌else◌, ℕ, List, true};
+ghost use Rattle.station_spec.specs.Report.{is_close};
 ghost use Rattle.post_spec.specs.Steps.{Give, Send, Answer, End};
 ghost use Rattle.session_words.specs.Causes.{number_of};
-ghost use Rattle.site_posts.specs.Places.{done_place};
+ghost use Rattle.site_posts.specs.Places.{capped, done_place};
 
 use crate::report::PostReport;
 use charge_world::Order;
@@ -23,11 +24,8 @@ impl Place {
     pub fn gave(&mut self, order: Order, taken: bool)
         ensures { self.new ≡ done_place (Give order) taken self.old }
     {
-        let closed = matches!(&order, Order::Close) && taken;
+        self.report.closed = closed_with(self.report.closed, &order, taken);
         self.post.did(Done::Gave(order), taken);
-        if closed {
-            self.report.closed = self.report.closed.saturating_add(1);
-        }
     }
 
     /// A reply was sent, and taken or not.
@@ -50,6 +48,16 @@ impl Place {
     {
         self.post.did(Done::Ended, true);
         self.report.causes = self.report.causes.with(small_number(cause));
+    }
+}
+
+/// The orders to close that were taken, with this order.
+fn closed_with(closed: u64, order: &Order, taken: bool) -> u64
+    ensures { result ≡ (if is_close order.now && taken then capped (closed + 1) else closed) }
+{
+    match order {
+        Order::Close if taken => closed.saturating_add(1),
+        _ => closed,
     }
 }
 

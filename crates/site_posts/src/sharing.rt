@@ -12,6 +12,7 @@ use power_share::Shares;
 fn told_to(places: &[Place]) -> u64
     requires { length places.now ≤ 8 }
     ensures value { result ≡ sum_by told_at places.now }
+    ensures small { result ≤ 8 * 4294967296 }
 {
     let mut sum: u64 = 0;
     for i in 0..places.len() {

@@ -2,12 +2,13 @@
 use Rattle.std.proofs.Common.{◌≡◌, ◌<◌, ◌≤◌, ℕ, zero, suc, ◌+◌, ◌-◌, List, [], ◌∷◌, ◌++◌, length, map, take, drop, get_or, set, replicate, min, max, refl, sym, ap, subst, ◌∙◌, arith, append_assoc}
 use Rattle.std.specs.Prelude.{sum, sum_by, fold, slice_index}
 use Rattle.std.proofs.Math.Seq.{split_at}
-use Rattle.std.proofs.lemmas.List.{length-append, length-map, length-take, length-drop, map-append, take_more}
-use Rattle.std.proofs.lemmas.List.Sums.{sum_by-append, fold-append}
+use Rattle.std.proofs.lemmas.List.{length-append, length-map, length-take-le, length-drop, map-append, take_more}
+use Rattle.std.proofs.lemmas.List.Sums.{sum_by-append, sum_by-cons, fold-append}
 use Rattle.power_share.specs.Sharing.{Sharing, greatest_ask, taken_up_to, IsBearable, IsLevel, IsShare, IsShown, told_to_others, at_post, with_post}
 use Rattle.power_share.specs.Sharing as sharing
 use Rattle.site_posts.specs.declared.place.Place.{Place}
-use Rattle.site_posts.specs.Places.{asked_at, told_at, Shares, asks_so_far, AsksOf}
+use Rattle.session_timers.specs.Due.{never}
+use Rattle.site_posts.specs.Places.{asked_at, told_at, due_at, Shares, asks_so_far, AsksOf}
 
 pub set_behind : {A : Type 0} (xs : List A) (a b : A) (r : List A) → set (xs ++ a ∷ r) (length xs) b ≡ xs ++ b ∷ r
 set_behind [] a b r = refl
@@ -18,7 +19,7 @@ get_behind [] a d r = refl
 get_behind (x ∷ xs) a d r = get_behind xs a d r
 
 so_far_length : (places : List Place) (i : ℕ) → i ≤ length places → length (map asked_at (take i places)) ≡ i
-so_far_length places i h = length-map (take i places) asked_at ∙ length-take i places h
+so_far_length places i h = length-map (take i places) asked_at ∙ length-take-le i places h
 
 pub set_asks : (places : List Place) (i n : ℕ) (d : Place) → i < length places → length places ≤ 8 → n ≡ asked_at (get_or places i d) → set (asks_so_far places i) i n ≡ asks_so_far places (i + 1)
 set_asks places i n d less few is =
@@ -40,7 +41,7 @@ same_most xs k = fold-append max 0 xs (replicate k 0) ∙ most_zeros k (fold max
 
 taken_zeros : (n k : ℕ) → taken_up_to n (replicate k 0) ≡ 0
 taken_zeros n zero = refl
-taken_zeros n (suc k) = omega (arith, taken_zeros n k)
+taken_zeros n (suc k) = omega (arith, sum_by-cons (λ ask. min ask n) 0 (replicate k 0), taken_zeros n k)
 
 same_taken : (n : ℕ) (xs : List ℕ) (k : ℕ) → taken_up_to n (xs ++ replicate k 0) ≡ taken_up_to n xs
 same_taken n xs k = omega (arith, sum_by-append (λ ask. min ask n) xs (replicate k 0), taken_zeros n k)
@@ -117,3 +118,22 @@ shared limit places i asked most result d s less few asks shown is =
       is_level = level_front limit front (8 - length places) level is_level;
       least = omega (arith, is, least, here, others, limit_is);
     }
+
+-- the least moment so far
+least_le : (n : ℕ) (xs : List ℕ) → fold min n xs ≤ n
+least_le n [] = omega arith
+least_le n (x ∷ xs) = omega (arith, least_le (min n x) xs)
+
+pub until_more : (places : List Place) (i : ℕ) (p : Place) (least due result : ℕ) → i < length places → p ≡ get_or places i p → least ≡ fold min never (map due_at (take i places)) → due ≡ min never (due_at p) → result ≡ min least due
+    → result ≡ fold min never (map due_at (take (i + 1) places))
+until_more places i p least due result less is so_far due_is result_is =
+    let xs = map due_at (take i places) in
+    let more : map due_at (take (i + 1) places) ≡ xs ++ due_at p ∷ [] =
+        ap (map due_at) (take_more places i p less) ∙ map-append due_at (take i places) (get_or places i p ∷ []) ∙ ap (λ (q : Place). xs ++ due_at q ∷ []) (sym is) in
+    let folded : fold min never (xs ++ due_at p ∷ []) ≡ min (fold min never xs) (due_at p) = fold-append min never xs (due_at p ∷ []) in
+    let e : result ≡ min (fold min never xs) (due_at p) = omega (arith, result_is, due_is, so_far, least_le never xs) in
+    e ∙ sym folded ∙ sym (ap (fold min never) more)
+
+-- what stands behind a place
+pub rest_of : (places : List Place) (k : ℕ) → take (length places - k) (drop k places) ≡ drop k places
+rest_of places k = ap (λ (n : ℕ). take n (drop k places)) (sym (length-drop k places)) ∙ take_all (drop k places)

@@ -1,0 +1,3 @@
+pub mod Carry
+pub mod Frame
+pub mod Next
