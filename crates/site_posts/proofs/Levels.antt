@@ -28,7 +28,7 @@ set_asks places i n d less few is =
     let zeros : replicate (8 - i) 0 ≡ 0 ∷ r = ap (λ (k : ℕ). replicate k 0) (let e : 8 - i ≡ suc (8 - (i + 1)) = omega arith in e) in
     let here : set (xs ++ 0 ∷ r) i n ≡ xs ++ n ∷ r = subst (λ (k : ℕ). set (xs ++ 0 ∷ r) k n ≡ xs ++ n ∷ r) (so_far_length places i (omega arith)) (set_behind xs 0 n r) in
     let more : map asked_at (take (i + 1) places) ≡ xs ++ n ∷ [] =
-        ap (map asked_at) (take_more places i d less) ∙ map-append asked_at (take i places) (get_or places i d ∷ []) ∙ ap (λ (m : ℕ). xs ++ m ∷ []) (sym is) in
+    ap (map asked_at) (take_more places i d less) ∙ map-append asked_at (take i places) (get_or places i d ∷ []) ∙ ap (λ (m : ℕ). xs ++ m ∷ []) (sym is) in
     ap (λ (z : List ℕ). set (xs ++ z) i n) zeros ∙ here ∙ sym (ap (λ (t : List ℕ). t ++ r) more ∙ append_assoc xs (n ∷ []) r)
 
 -- posts that don't ask change no level
@@ -82,12 +82,12 @@ asks_with places i asked d less =
     let ys = map asked_at (drop (suc i) places) in
     let z = replicate (8 - length places) 0 in
     let whole : map asked_at places ≡ xs ++ asked_at (get_or places i d) ∷ ys =
-        ap (map asked_at) (split_at places i d less) ∙ map-append asked_at (take i places) (get_or places i d ∷ drop (suc i) places) in
+    ap (map asked_at) (split_at places i d less) ∙ map-append asked_at (take i places) (get_or places i d ∷ drop (suc i) places) in
     let all : map asked_at (take (length places) places) ≡ xs ++ asked_at (get_or places i d) ∷ ys = ap (map asked_at) (take_all places) ∙ whole in
     let cut : asks_so_far places (length places) ≡ xs ++ asked_at (get_or places i d) ∷ (ys ++ z) =
-        ap (λ (t : List ℕ). t ++ z) all ∙ append_assoc xs (asked_at (get_or places i d) ∷ ys) z in
+    ap (λ (t : List ℕ). t ++ z) all ∙ append_assoc xs (asked_at (get_or places i d) ∷ ys) z in
     let here : set (xs ++ asked_at (get_or places i d) ∷ (ys ++ z)) i asked ≡ xs ++ asked ∷ (ys ++ z) =
-        subst (λ (k : ℕ). set (xs ++ asked_at (get_or places i d) ∷ (ys ++ z)) k asked ≡ xs ++ asked ∷ (ys ++ z)) (so_far_length places i (omega arith)) (set_behind xs _ asked (ys ++ z)) in
+    subst (λ (k : ℕ). set (xs ++ asked_at (get_or places i d) ∷ (ys ++ z)) k asked ≡ xs ++ asked ∷ (ys ++ z)) (so_far_length places i (omega arith)) (set_behind xs _ asked (ys ++ z)) in
     let next : drop (suc i) places ≡ drop (i + 1) places = ap (λ (k : ℕ). drop k places) (let e : suc i ≡ i + 1 = omega arith in e) in
     ap (λ (t : List ℕ). set t i asked) cut ∙ here ∙ sym (append_assoc xs (asked ∷ ys) z) ∙ ap (λ (ps : List Place). (xs ++ asked ∷ map asked_at ps) ++ z) next
 
@@ -101,17 +101,17 @@ shared limit places i asked most result d s less few asks shown is =
     let z = replicate (8 - length places) 0 in
     let place : (i + 1) - 1 ≡ i = omega arith in
     let made : (sharing.asked s (i + 1) asked).asks ≡ front ++ z =
-        ap (λ (t : Sharing). set t.asks ((i + 1) - 1) asked) asks ∙ ap (λ (k : ℕ). set (asks_so_far places (length places)) k asked) place ∙ asks_with places i asked d less in
+    ap (λ (t : Sharing). set t.asks ((i + 1) - 1) asked) asks ∙ ap (λ (k : ℕ). set (asks_so_far places (length places)) k asked) place ∙ asks_with places i asked d less in
     let limit_is : (sharing.asked s (i + 1) asked).limit ≡ limit = ap (λ (t : Sharing). t.limit) asks in
     let told_is : (sharing.asked s (i + 1) asked).told ≡ replicate 8 0 = ap (λ (t : Sharing). t.told) asks in
     let level = shown.level in
     let is_level : IsLevel limit (front ++ z) level = subst (λ (l : ℕ). IsLevel l (front ++ z) level) limit_is (subst (λ (t : List ℕ). IsLevel (sharing.asked s (i + 1) asked).limit t level) made shown.is_level) in
     let here : at_post (sharing.asked s (i + 1) asked).asks (i + 1) ≡ asked =
-        ap (λ (t : List ℕ). slice_index t ((i + 1) - 1)) made ∙ ap (λ (k : ℕ). slice_index (front ++ z) k) place
-        ∙ ap (λ (t : List ℕ). slice_index t i) (append_assoc (map asked_at (take i places)) (asked ∷ map asked_at (drop (i + 1) places)) z)
-        ∙ at_asked (map asked_at (take i places)) i asked (map asked_at (drop (i + 1) places) ++ z) (so_far_length places i (omega arith)) in
+    ap (λ (t : List ℕ). slice_index t ((i + 1) - 1)) made ∙ ap (λ (k : ℕ). slice_index (front ++ z) k) place
+    ∙ ap (λ (t : List ℕ). slice_index t i) (append_assoc (map asked_at (take i places)) (asked ∷ map asked_at (drop (i + 1) places)) z)
+    ∙ at_asked (map asked_at (take i places)) i asked (map asked_at (drop (i + 1) places) ++ z) (so_far_length places i (omega arith)) in
     let others : told_to_others (sharing.asked s (i + 1) asked).told (i + 1) ≡ 0 =
-        ap (λ (t : List ℕ). sum (set t ((i + 1) - 1) 0)) told_is ∙ ap (λ (k : ℕ). sum (set (replicate 8 0) k 0)) place ∙ told_none i in
+    ap (λ (t : List ℕ). sum (set t ((i + 1) - 1) 0)) told_is ∙ ap (λ (k : ℕ). sum (set (replicate 8 0) k 0)) place ∙ told_none i in
     let least = shown.least in
     record {
       level = level;
@@ -129,7 +129,7 @@ pub until_more : (places : List Place) (i : ℕ) (p : Place) (least due result :
 until_more places i p least due result less is so_far due_is result_is =
     let xs = map due_at (take i places) in
     let more : map due_at (take (i + 1) places) ≡ xs ++ due_at p ∷ [] =
-        ap (map due_at) (take_more places i p less) ∙ map-append due_at (take i places) (get_or places i p ∷ []) ∙ ap (λ (q : Place). xs ++ due_at q ∷ []) (sym is) in
+    ap (map due_at) (take_more places i p less) ∙ map-append due_at (take i places) (get_or places i p ∷ []) ∙ ap (λ (q : Place). xs ++ due_at q ∷ []) (sym is) in
     let folded : fold min never (xs ++ due_at p ∷ []) ≡ min (fold min never xs) (due_at p) = fold-append min never xs (due_at p ∷ []) in
     let e : result ≡ min (fold min never xs) (due_at p) = omega (arith, result_is, due_is, so_far, least_le never xs) in
     e ∙ sym folded ∙ sym (ap (fold min never) more)

@@ -100,7 +100,7 @@ read_more c S T plan s (Some p) None f h = absurd h
 read_more c S T plan s (Some p) (Some reading) f h = (h.0, show_more S T plan s s.session reading.judged reading.shown f h.1)
 
 -- the others stand as before
-set_twice : {A : Type 0} (xs : List A) (i : ℕ) (x y : A) → set (set xs i x) i y ≡ set xs i y
+pub set_twice : {A : Type 0} (xs : List A) (i : ℕ) (x y : A) → set (set xs i x) i y ≡ set xs i y
 set_twice [] i x y = refl
 set_twice (z ∷ xs) zero x y = refl
 set_twice (z ∷ xs) (suc i) x y = ap (λ (t : List _). z ∷ t) (set_twice xs i x y)

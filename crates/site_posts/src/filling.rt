@@ -37,7 +37,11 @@ impl Place {
 fn is_short(judged: &Judged)
     ensures { IsShort (judged_of judged.now) }
 {
-    if let Judged::Negotiated { chosen: _, response } = judged {
+    if let Judged::Negotiated {
+        chosen: _,
+        response,
+    } = judged
+    {
         let _bytes = response.as_slice();
     }
 }

@@ -1,57 +1,20 @@
--- Own: what holds of a past that is told, and of the posts at that moment.
+-- Own: what holds of a past that is told as a site serves, and when it has served.
 use Rattle.std.specs.Prelude.{◌≡◌, ◌≤◌, ℕ, ◌+◌, Bool, true, false, List, [], ◌∷◌, length, map, drop, Option, Some, None, Result, Ok, Err, ◌⊎◌}
 use Rattle.charge_world.specs.declared.entry.Entry.{Entry}
 use Rattle.charge_world.specs.declared.entry.Entry.TheVariants as entry
 use Rattle.charge_world.specs.declared.heard.Heard.{Heard}
-use Rattle.charge_world.specs.declared.offer.Dialect.{Dialect}
+use Rattle.session_words.specs.declared.plan.PostPlan.{PostPlan}
 use Rattle.session_words.specs.declared.plan.SitePlan.{SitePlan}
-use Rattle.session_words.specs.declared.word.Word.{Word}
 use Rattle.post_spec.specs.Codecs.{Codecs}
-use Rattle.post_spec.specs.Steps.{moment}
 use Rattle.station_spec.specs.Sharing.{Post}
 use Rattle.station_spec.specs.Blocks.{is_over, is_last, hearings}
-use Rattle.station_spec.specs.Runs.{unheard, IsRun, IsEnded, Closes}
+use Rattle.station_spec.specs.Runs.{AreQuiet, unheard, IsRun, IsEnded, Closes}
 use Rattle.station_spec.specs.Until.{AreUntils}
-use Rattle.word_codec.specs.Replies.{IsPlan}
 use Rattle.site_posts.specs.declared.place.Place.{Place}
 use Rattle.site_posts.specs.Places.{place_of}
-use Rattle.site_posts.specs.Sound.{IsSound}
+use Rattle.site_acts.specs.Serving.{newest, InBlock}
 use Rattle.site_serving.specs.declared.ended.Ended.{Ended}
 use Rattle.site_serving.specs.declared.ended.Ended.TheVariants as ended
-
--- a post whose codecs can spell what it says
-pub record IsReady (Reads : Dialect → List ℕ → Option Word → Type 0) (p : Place) : Type 0 where
-  pub plan : IsPlan p.plan
-  pub sound : IsSound Reads p.plan p.post
-
--- what the site knows of a run: the moment of the newest hearing, how many there were, whether the newest was the last one, and until when
--- each of them waited
-pub record Known : Type 0 where
-  pub clock : ℕ
-  pub heard : ℕ
-  pub last : Bool
-  pub untils : List ℕ
-
--- the posts keep what their steps in a run tell
-pub record InBlock (c : Codecs) (site : SitePlan) (k : Known) (places : List Place) (past : List Entry) : Type 0 where
-  pub posts : List Post
-  pub run : IsRun c site past posts
-  pub are : places ≡ map place_of posts
-  pub clock_is : moment past ≡ k.clock
-  pub heard_is : hearings past ≡ k.heard
-  pub last_is : is_last past ≡ k.last
-  pub untils_are : AreUntils c site past k.untils
-
--- the newest hearing
-abbrev pub newest : List Entry → Option Entry
-newest [] = None
-newest (entry.Heard heard bytes ∷ past) = Some (entry.Heard heard bytes)
-newest (entry.Lost ∷ past) = Some entry.Lost
-newest (entry.Sent post bytes taken ∷ past) = newest past
-newest (entry.Answered post bytes taken ∷ past) = newest past
-newest (entry.Drove post order taken ∷ past) = newest past
-newest (entry.Dialed port taken ∷ past) = newest past
-newest (entry.Ended post cause ∷ past) = newest past
 
 -- Over was heard last
 pub record IsOverLast (past : List Entry) : Type 0 where
@@ -76,7 +39,8 @@ IsTurnedSo turns (Err fault) last past = Unit {0}
 
 pub record Turned {E : Type 0} (c : Codecs) (site : SitePlan) (clock heard : ℕ) (untils : List ℕ) (result : Result (Option Ended) E) (places : List Place) (past : List Entry) : Type 0 where
   pub last : Bool
-  pub block : InBlock c site (record { clock = clock; heard = heard; last = last; untils = untils }) places past
+  pub hearing : Option Entry
+  pub block : InBlock c site (record { newest_hearing = hearing; clock = clock; heard = heard; last = last; untils = untils }) places past
   pub ended : IsTurnedSo site.turns result last past
 
 -- behind all turns
@@ -96,9 +60,39 @@ abbrev pub ClosesTo : List Post → ℕ → List Entry → List Entry → Type 0
 ClosesTo posts i blocks past = (final : List Entry) → Closes (i + 1) (drop i posts) past final → Closes 1 posts blocks final
 
 -- behind so many hearings, of which none was the last
-abbrev pub at_rest : ℕ → ℕ → List ℕ → Known
-at_rest clock heard untils = record { clock = clock; heard = heard; last = false; untils = untils }
+pub record IsAtRest (c : Codecs) (site : SitePlan) (clock heard : ℕ) (untils : List ℕ) (places : List Place) (past : List Entry) : Type 0 where
+  pub hearing : Option Entry
+  pub block : InBlock c site (record { newest_hearing = hearing; clock = clock; heard = heard; last = false; untils = untils }) places past
 
 -- the posts of a plan that heard nothing yet
 abbrev pub IsMade : SitePlan → List Place → Type 0
 IsMade site places = places ≡ map place_of (map unheard site.post.items)
+
+-- a post that heard nothing yet
+abbrev pub new_place : PostPlan → Place
+new_place plan = place_of (unheard plan)
+
+-- a site of this plan that heard nothing yet
+pub record IsOf (plan : SitePlan) (limit turns : ℕ) (places : List Place) : Type 0 where
+  pub limit_is : plan.limit ≡ limit
+  pub turns_is : plan.turns ≡ turns
+  pub made : IsMade plan places
+
+-- the run is whole but where a write of the trace failed
+abbrev pub IsWholeBut : ℕ → Ended → List Post → List Entry → Type 0
+IsWholeBut turns ended.Over posts blocks = AreQuiet posts × IsEnded turns blocks
+IsWholeBut turns ended.Lost posts blocks = AreQuiet posts × IsEnded turns blocks
+IsWholeBut turns ended.Turns posts blocks = AreQuiet posts × IsEnded turns blocks
+IsWholeBut turns ended.TraceFault posts blocks = Unit {0}
+
+-- serving is over: the past is a run of the site, whole or cut, with the orders that close it. The posts keep what their steps tell, each
+-- hearing waited until what was due, and serving ended so
+pub record Served (c : Codecs) (site : SitePlan) (how : Ended) (untils : List ℕ) (places : List Place) (past : List Entry) : Type 0 where
+  pub blocks : List Entry
+  pub posts : List Post
+  pub run : IsRun c site blocks posts
+  pub closes : Closes 1 posts blocks past
+  pub whole : IsWholeBut site.turns how posts blocks
+  pub are : places ≡ map place_of posts
+  pub untils_are : AreUntils c site blocks untils
+  pub ended : HasEnded site.turns how blocks

@@ -1,6 +1,6 @@
 //! The orders by which serving ends: each live contactor is ordered open.
 
-ghost use Rattle.std.specs.Prelude.{◌≡◌, ◌≤◌, ◌×◌, ◌++◌, ℕ, List, length, map, OnOk, OnErr, IsSome};
+ghost use Rattle.std.specs.Prelude.{◌≡◌, ◌≤◌, ℕ, List, length, map, OnOk, OnErr, IsSome};
 ghost use Rattle.std.specs.List.{AllByRecursion};
 ghost use Rattle.charge_world.specs.declared.entry.Entry.{Entry};
 ghost use Rattle.charge_world.specs.Outside.{IsFault};
@@ -8,7 +8,7 @@ ghost use Rattle.station_spec.specs.Sharing.{Post};
 ghost use Rattle.station_spec.specs.Runs.{Closes};
 ghost use Rattle.site_posts.specs.Places.{place_of};
 ghost use Rattle.site_serving.specs.Serving.{ClosesTo};
-ghost use Rattle.site_serving.specs.Telling.{Carries, CarriesText, IsTraced, IsClosing, IsClosedSo, HasClosing};
+ghost use Rattle.site_acts.specs.Telling.{Carries, CarriesText, IsTraced, IsClosing, IsClosedSo, HasClosing};
 
 use charge_world::{Order, Sink, Wire};
 use site_posts::Place;

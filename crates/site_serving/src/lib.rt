@@ -2,10 +2,7 @@
 //! kind. Serving takes no memory and no thread.
 #![tactic(auto)]
 
-mod acting;
 mod closing;
-mod deeds;
-mod desk;
 mod ended;
 mod turning;
 

@@ -8,13 +8,13 @@ ghost use Rattle.session_timers.specs.Due.{never};
 ghost use Rattle.post_spec.specs.Codecs.{codecs};
 ghost use Rattle.station_spec.specs.Blocks.{is_over, IsHearing, IsPlantEvent};
 ghost use Rattle.site_posts.specs.Places.{RestsAt, due_at};
-ghost use Rattle.site_serving.specs.Serving.{IsReady, InBlock, Known, Turned, Ran, at_rest, IsMade};
-ghost use Rattle.site_serving.specs.Telling.{Carries, CarriesText, IsTraced, IsWrittenSo};
+ghost use Rattle.site_acts.specs.Serving.{IsReady, InBlock, Known};
+ghost use Rattle.site_serving.specs.Serving.{Turned, Ran, IsAtRest, IsMade};
+ghost use Rattle.site_acts.specs.Telling.{Carries, CarriesText, IsTraced, IsWrittenSo};
 
-use crate::acting::act;
-use crate::desk::Desk;
 use crate::ended::Ended;
 use charge_world::{Heard, PlantEvent, Sink, What, Wire};
+use site_acts::{Desk, act};
 use site_posts::{Place, hear_all, until};
 use trace_lines::TraceFailed;
 use trace_text::Noted;
@@ -63,6 +63,7 @@ fn answer_all<C: Codec, W: Wire, J: Sink>(desk: &mut Desk<C>, places: &mut [Plac
 }
 
 /// The moment of the newest hearing (milliseconds), and how many there were.
+#[derive(Drop)]
 pub(crate) struct Clock {
     pub(crate) now: u64,
     pub(crate) heard: u64,
@@ -123,7 +124,7 @@ pub(crate) fn turn<C: Codec, W: Wire, J: Sink>(desk: &mut Desk<C>, places: &mut 
     requires posts { W.posts wire.old ≡ length places.old }
     requires clock { clock.old.heard < 2 ^ 63 }
     ensures carried { (site : SitePlan) (us : List ℕ) → site.limit ≡ limit → clock.old.heard < site.turns → Carries (W.past wire.old) (W.past wire.new)
-        (InBlock (codecs C.negotiates C.reads C.encodes) site (at_rest clock.old.now clock.old.heard us) places.old)
+        (IsAtRest (codecs C.negotiates C.reads C.encodes) site clock.old.now clock.old.heard us places.old)
         (Turned (codecs C.negotiates C.reads C.encodes) site clock.new.now clock.new.heard (fold min never (map due_at places.old) ∷ us) result places.new) }
     ensures traced { CarriesText (W.past wire.old) (W.past wire.new) (J.taken trace.old) (J.taken trace.new) (IsTraced clock.old.heard) (IsWrittenSo clock.new.heard result) }
     ensures heard { clock.new.heard ≡ clock.old.heard + 1 }

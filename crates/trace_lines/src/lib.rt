@@ -56,7 +56,12 @@ impl TraceLines {
 
     /// Writes the line of an entry of the hearing with this number, by one call of the trace. A piece that came or is sent has at most
     /// 4,096 bytes.
-    pub fn write<J: Sink>(&mut self, hearing: u64, noted: &Noted<'_>, trace: &mut J) -> Result<(), TraceFailed>
+    pub fn write<J: Sink>(
+        &mut self,
+        hearing: u64,
+        noted: &Noted<'_>,
+        trace: &mut J,
+    ) -> Result<(), TraceFailed>
         requires { IsShort (entry_of noted.now) }
         ensures ok { OnOk result (Appends (J.taken trace.old) (J.taken trace.new) (numbered_line_of hearing (entry_of noted.now))) }
         ensures failed { OnErr result (AppendsSome (J.taken trace.old) (J.taken trace.new) (numbered_line_of hearing (entry_of noted.now))) }
@@ -68,7 +73,12 @@ impl TraceLines {
 }
 
 /// Writes the line of an entry by way of a room.
-fn write_line<J: Sink>(hearing: u64, noted: &Noted<'_>, room: &mut [u8], trace: &mut J) -> Result<(), TraceFailed>
+fn write_line<J: Sink>(
+    hearing: u64,
+    noted: &Noted<'_>,
+    room: &mut [u8],
+    trace: &mut J,
+) -> Result<(), TraceFailed>
     requires room { 8448 ≤ length room.old }
     requires short { IsShort (entry_of noted.now) }
     requires numbers { HasNumbers (entry_of noted.now) }
@@ -101,7 +111,11 @@ fn bound_numbers(noted: &Noted<'_>)
             let _at = heard.at;
             bound_what(&heard.what);
         }
-        Noted::Drove { post: _, order, taken: _ } => bound_order(order),
+        Noted::Drove {
+            post: _,
+            order,
+            taken: _,
+        } => bound_order(order),
         Noted::Ended { post: _, cause } => {
             let _cause = *cause;
         }
@@ -135,7 +149,12 @@ fn bound_event(event: &PlantEvent)
 fn bound_order(order: &Order)
     ensures { IsOrderShort order.now }
 {
-    if let Order::Limits { voltage, current, watts } = order {
+    if let Order::Limits {
+        voltage,
+        current,
+        watts,
+    } = order
+    {
         let _voltage = voltage.get();
         let _current = current.get();
         let _watts = *watts;

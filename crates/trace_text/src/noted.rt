@@ -10,19 +10,40 @@ use charge_world::{Entry, Heard, Order};
 #[derive(Clone, Copy, Debug)]
 pub enum Noted<'a> {
     /// What was heard, with the bytes that came with it.
-    Heard { heard: Heard, bytes: &'a [u8] },
+    Heard {
+        heard: Heard,
+        bytes: &'a [u8],
+    },
     /// There was nothing more to hear.
     Lost,
     /// Bytes for the connection of a post.
-    Sent { post: u8, bytes: &'a [u8], taken: bool },
+    Sent {
+        post: u8,
+        bytes: &'a [u8],
+        taken: bool,
+    },
     /// A datagram.
-    Answered { post: u8, bytes: &'a [u8], taken: bool },
+    Answered {
+        post: u8,
+        bytes: &'a [u8],
+        taken: bool,
+    },
     /// An order to a charger or contactor.
-    Drove { post: u8, order: Order, taken: bool },
+    Drove {
+        post: u8,
+        order: Order,
+        taken: bool,
+    },
     /// A connection that the car asked for.
-    Dialed { port: u16, taken: bool },
+    Dialed {
+        port: u16,
+        taken: bool,
+    },
     /// The session of a post ended, with the number of its cause.
-    Ended { post: u8, cause: u8 },
+    Ended {
+        post: u8,
+        cause: u8,
+    },
 }
 
 impl<'a> Noted<'a> {

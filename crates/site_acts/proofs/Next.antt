@@ -1,8 +1,8 @@
 -- What a post does next.
-use Rattle.std.proofs.Common.{◌≡◌, ◌<◌, ◌≤◌, ℕ, ◌+◌, Bool, true, false, List, length, get_or, set, Option, Some, None, refl, sym, ap, subst, ◌∙◌, arith}
+use Rattle.std.proofs.Common.{◌≡◌, ◌<◌, ◌≤◌, ℕ, ◌+◌, Bool, true, false, List, length, get_or, set, ◌∷◌, Option, Some, None, refl, sym, ap, subst, ◌∙◌, arith}
 use Rattle.std.specs.List.{All, AllWithin}
-use Rattle.std.proofs.lemmas.List.{get_or-set_same, set-get_or}
-use Rattle.std.proofs.lemmas.List.Elements.{All-set}
+use Rattle.std.proofs.lemmas.List.{get_or-set_same, set-get_or, get_or_default}
+use Rattle.std.proofs.lemmas.List.Elements.{All-set, AllWithin-more, AllWithin-kept, at_read}
 use Rattle.post_spec.specs.Codecs.{Codecs}
 use Rattle.post_spec.specs.Steps.{Act, Reading}
 use Rattle.post_spec.specs.Steps as steps
@@ -22,12 +22,17 @@ use Rattle.site_posts.specs.Filling.{no_place, at, Fills}
 use Rattle.site_posts.specs.Places.{Shares, filled_place, done_place, RestsAt}
 use Rattle.site_posts.specs.Sound.{IsSound}
 use Rattle.site_posts.specs.Work.{work}
+use Rattle.site_posts.proofs.Words.{set_twice}
 use Rattle.site_posts.proofs.Work.{acted_work}
 use Rattle.site_posts.proofs.Sound.{acted_sound}
-use Rattle.site_serving.specs.declared.deeds.Deed.{Deed}
-use Rattle.site_serving.specs.declared.deeds.Deed.TheVariants.{Answer, Give, Send, Finish}
-use Rattle.site_serving.specs.Deeds.{act_of, IsFramed, MayTake, IsDeed, NextDeed, Nexts, Prepares, Done}
-use Rattle.site_serving.specs.Serving.{IsReady}
+use Rattle.site_acts.specs.declared.deeds.Deed.{Deed}
+use Rattle.site_acts.specs.declared.deeds.Deed.TheVariants.{Answer, Give, Send, Finish}
+use Rattle.site_acts.specs.Deeds.{act_of, IsFramed, MayTake, IsDeed, NextDeed, Nexts, Prepares, Done}
+use Rattle.site_acts.specs.Serving.{IsReady, Known, InBlock}
+use Rattle.site_acts.proofs.Frame.{acted_one}
+use Rattle.charge_world.specs.declared.entry.Entry.{Entry}
+use Rattle.session_words.specs.declared.plan.SitePlan.{SitePlan}
+use Rattle.station_spec.specs.Runs.{entry_of}
 
 prepared_none : (c : Codecs) (t : Option states.Todo) (room : List ℕ) → Prepares c t room None → t ≡ None
 prepared_none c None room h = refl
@@ -119,3 +124,29 @@ ready_set Reads places i reading a taken all within s =
 pub nexts_by : (c : Codecs) (limit : ℕ) (places new : List Place) (i : ℕ) (room : List ℕ) (r : Option Deed) → ActsOnWords → StaysQuiet → i < length places → Fills c limit places i new → Prepares c (first (at new i).post.agenda) room r → Nexts c limit places i room r new
 nexts_by c limit places new i room None words stays within f h = nexts_none c limit places new i room words stays within f h
 nexts_by c limit places new i room (Some deed) words stays within f h = nexts_some c limit places new i room deed within f h
+
+-- what a deed leaves of the places
+pub done_set : (c : Codecs) (limit : ℕ) (places mid : List Place) (i : ℕ) (room : List ℕ) (deed : Deed) (taken : Bool) (x : Place) → i < length places → (d : NextDeed c limit places i room deed mid) → x ≡ done_place (act_of room deed) taken (at mid i)
+    → set mid i x ≡ set places i (done_place (act_of room deed) taken (filled_place d.reading (at places i)))
+done_set c limit places mid i room deed taken x within d e =
+    let f = filled_place d.reading (at places i) in
+    let here : at mid i ≡ f = ap (λ (ps : List Place). at ps i) d.new_is ∙ get_or-set_same places i f no_place within in
+    let y = done_place (act_of room deed) taken f in
+    ap (λ (ps : List Place). set ps i x) d.new_is ∙ set_twice places i f x ∙ ap (λ (q : Place). set places i q) (e ∙ ap (done_place (act_of room deed) taken) here)
+
+pub deed_block : (c : Codecs) (site : SitePlan) (k : Known) (limit : ℕ) (places mid : List Place) (past : List Entry) (i : ℕ) (room : List ℕ) (deed : Deed) (taken : Bool) → site.limit ≡ limit → i < length places → AllWithin RestsAt places 0 i
+    → (d : NextDeed c limit places i room deed mid) → MayTake deed taken → InBlock c site k places past → InBlock c site k (set places i (done_place (act_of room deed) taken (filled_place d.reading (at places i)))) (entry_of (i + 1) (act_of room deed) taken ∷ past)
+deed_block c site k limit places mid past i room deed taken e within quiet d m b =
+    let p = at places i in
+    acted_one c site k places past i d.reading d.todo (act_of room deed) taken within quiet
+    (subst (λ (l : ℕ). IsRead c p.plan (Shares l places i) (decided p.plan p.post) (wanted (decided p.plan p.post)) d.reading) (sym e) d.is_read) d.first_is (deed_done c room d.todo deed taken d.done m) b
+
+at_same : (places : List Place) (i : ℕ) → i < length places → at places i ≡ get_or places i (at places i)
+at_same places i within = get_or_default places i no_place (at places i) within
+
+pub rests_more : (places new : List Place) (i : ℕ) → i < length places → new ≡ places → RestsAt (at places i) → AllWithin RestsAt places 0 i → AllWithin RestsAt new 0 (i + 1)
+rests_more places new i within e rests quiet =
+    subst (λ (ps : List Place). AllWithin RestsAt ps 0 (i + 1)) (sym e) (AllWithin-more RestsAt places 0 i quiet (at_read places RestsAt i (at places i) within (at_same places i within) rests))
+
+pub rests_kept : (places : List Place) (i : ℕ) (x : Place) → i < length places → AllWithin RestsAt places 0 i → AllWithin RestsAt (set places i x) 0 i
+rests_kept places i x within quiet = AllWithin-kept places i x within RestsAt quiet

@@ -2,7 +2,7 @@
 
 ghost use Rattle.std.specs.Prelude.{◌≡◌, ℕ, List};
 ghost use Rattle.site_posts.specs.Places.{done_place};
-ghost use Rattle.site_serving.specs.Deeds.{act_of, MayTake};
+ghost use Rattle.site_acts.specs.Deeds.{act_of, MayTake};
 
 use charge_world::Order;
 use session_words::EndCause;

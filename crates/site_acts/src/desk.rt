@@ -8,7 +8,7 @@ ghost use Rattle.station_spec.specs.Acting.{IsSpoken};
 ghost use Rattle.secc_machine.specs.Views.{spoken_of};
 ghost use Rattle.word_codec.specs.Replies.{IsGiven};
 ghost use Rattle.site_posts.specs.Sound.{CanSay};
-ghost use Rattle.site_serving.specs.Deeds.{Prepares};
+ghost use Rattle.site_acts.specs.Deeds.{Prepares};
 
 use crate::deeds::Deed;
 use charge_world::Dialect;
@@ -19,14 +19,14 @@ use v2gtp_frames::put_frame;
 use word_codec::Codec;
 
 /// The bytes of the longest frame that a site sends.
-pub(crate) const FRAME: usize = 1032;
+pub const FRAME: usize = 1032;
 
 /// The codecs of a site, the room in which a frame is made, and that in which lines of the trace are.
 #[derive(Drop)]
-pub(crate) struct Desk<C> {
-    pub(crate) codec: C,
-    pub(crate) room: Vec<u8>,
-    pub(crate) lines: TraceLines,
+pub struct Desk<C> {
+    pub codec: C,
+    pub room: Vec<u8>,
+    pub lines: TraceLines,
     ghost wide: { vec_len room ≡ 1032 },
 }
 
@@ -86,10 +86,11 @@ pub(crate) fn prepare<C: Codec>(codec: &mut C, post: &Post, room: &mut [u8]) -> 
     requires can { CanSay C.reads post.now.agenda.reply }
     ensures { Prepares (codecs C.negotiates C.reads C.encodes) (first post.now.agenda) room.new result }
 {
-    match post.first()? {
-        Todo::Tell(datagram) => Some(Deed::Answer(datagram)),
-        Todo::Give(order) => Some(Deed::Give(order)),
-        Todo::Say(spoken) => Some(Deed::Send(speak(codec, spoken, room))),
-        Todo::Finish(cause) => Some(Deed::Finish(cause)),
+    match post.first() {
+        None => None,
+        Some(Todo::Tell(datagram)) => Some(Deed::Answer(datagram)),
+        Some(Todo::Give(order)) => Some(Deed::Give(order)),
+        Some(Todo::Say(spoken)) => Some(Deed::Send(speak(codec, spoken, room))),
+        Some(Todo::Finish(cause)) => Some(Deed::Finish(cause)),
     }
 }

@@ -1,6 +1,6 @@
 //! What a post does next, on the wire and in the trace.
 
-ghost use Rattle.std.specs.Prelude.{◌≡◌, ◌≤◌, ◌<◌, ◌+◌, ℕ, List, Bool, length, true, false, Ok, OnOk, OnErr, IsSome, All};
+ghost use Rattle.std.specs.Prelude.{◌≡◌, ◌≤◌, ◌<◌, ◌+◌, ℕ, List, Bool, length, true, false, Ok, OnOk, OnErr, IsErr, IsSome, All};
 ghost use Rattle.std.specs.List.{AllWithin};
 ghost use Rattle.charge_world.specs.Outside.{GrowsByOne, IsFault, Appends, AppendsSome};
 ghost use Rattle.session_words.specs.declared.plan.SitePlan.{SitePlan};
@@ -10,9 +10,9 @@ ghost use Rattle.station_spec.specs.Runs.{entry_of};
 ghost use Rattle.site_posts.specs.Places.{RestsAt, done_place};
 ghost use Rattle.site_posts.specs.Filling.{at};
 ghost use Rattle.site_posts.specs.Work.{work};
-ghost use Rattle.site_serving.specs.Deeds.{act_of, IsFramed, MayTake, Nexts, Done};
-ghost use Rattle.site_serving.specs.Serving.{IsReady, InBlock, Known};
-ghost use Rattle.site_serving.specs.Telling.{Carries, CarriesText, IsTraced, IsWrittenSo};
+ghost use Rattle.site_acts.specs.Deeds.{act_of, IsFramed, MayTake, Nexts, Done};
+ghost use Rattle.site_acts.specs.Serving.{IsReady, InBlock, Known};
+ghost use Rattle.site_acts.specs.Telling.{Carries, CarriesText, IsTraced, IsWrittenSo};
 
 use crate::deeds::{Deed, keep};
 use crate::desk::{Desk, prepare};
@@ -24,6 +24,7 @@ use trace_text::Noted;
 use word_codec::Codec;
 
 /// How a call on the wire went, and the write of its line.
+#[derive(Drop)]
 pub(crate) struct Outcome {
     pub(crate) taken: bool,
     pub(crate) written: Result<(), TraceFailed>,
@@ -87,7 +88,7 @@ fn next_deed<C: Codec>(codec: &mut C, places: &mut [Place], i: usize, limit: u32
 /// Whether something was done, where its line was written.
 fn done(written: Result<(), TraceFailed>) -> Result<bool, TraceFailed>
     ensures ok { OnOk written (result ≡ Ok true) }
-    ensures failed { OnErr written (result ≡ Err TraceFailed) }
+    ensures failed { OnErr written (IsErr result) }
 {
     match written {
         Ok(()) => Ok(true),
@@ -96,7 +97,7 @@ fn done(written: Result<(), TraceFailed>) -> Result<bool, TraceFailed>
 }
 
 /// Does what post i does next; `false` where it has nothing to do.
-pub(crate) fn act<C: Codec, W: Wire, J: Sink>(desk: &mut Desk<C>, places: &mut [Place], i: usize, limit: u32, hearing: u64, wire: &mut W, trace: &mut J) -> Result<bool, TraceFailed>
+pub fn act<C: Codec, W: Wire, J: Sink>(desk: &mut Desk<C>, places: &mut [Place], i: usize, limit: u32, hearing: u64, wire: &mut W, trace: &mut J) -> Result<bool, TraceFailed>
     requires within { i < length places.old }
     requires few { length places.old ≤ 8 }
     requires ready { All (IsReady C.reads) places.old }

@@ -5,7 +5,7 @@ use Rattle.charge_world.specs.declared.entry.Entry.{Entry}
 use Rattle.charge_world.specs.Outside.{GrowsByOne, Appends, AppendsSome}
 use Rattle.trace_text.specs.TraceText.{numbered_line_of}
 use Rattle.trace_text.specs.Pasts.{is_hearing, hearing_number, numbered_after, trace_text, lines_by, first_line_2}
-use Rattle.site_serving.specs.Telling.{Carries, CarriesText, IsTraced, IsCutHere, IsWrittenSo}
+use Rattle.site_acts.specs.Telling.{Carries, CarriesText, IsTraced, IsCutHere, IsWrittenSo}
 
 -- one entry more
 pub carries_one : (before after : Option (List Entry)) (e : Entry) (P Q : List Entry → Type 0) → GrowsByOne before after e → ((past : List Entry) → P past → Q (e ∷ past)) → Carries before after P Q

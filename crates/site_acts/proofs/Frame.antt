@@ -35,7 +35,7 @@ use Rattle.site_posts.specs.Filling.{no_place, at}
 use Rattle.site_posts.specs.Places.{capped, report_of, place_of, heard_report, heard_place, HeardAll, acted_report, done_place, filled_place, asked_at, told_at, Shares, due_at, RestsAt}
 use Rattle.site_posts.proofs.Levels.{set_behind, get_behind}
 use Rattle.site_posts.proofs.Words.{read_more}
-use Rattle.site_serving.specs.Serving.{Known, InBlock}
+use Rattle.site_acts.specs.Serving.{newest, Known, InBlock}
 
 -- ---- a post among the others
 
@@ -156,6 +156,12 @@ hearings_acted k (Send bytes) taken past = refl
 hearings_acted k (Answer bytes) taken past = refl
 hearings_acted k (End cause) taken past = refl
 
+newest_acted : (k : ℕ) (a : Act) (taken : Bool) (past : List Entry) → newest (entry_of k a taken ∷ past) ≡ newest past
+newest_acted k (Give order) taken past = refl
+newest_acted k (Send bytes) taken past = refl
+newest_acted k (Answer bytes) taken past = refl
+newest_acted k (End cause) taken past = refl
+
 moment_acted : (k : ℕ) (a : Act) (taken : Bool) (past : List Entry) → moment (entry_of k a taken ∷ past) ≡ moment past
 moment_acted k (Give order) taken past = refl
 moment_acted k (Send bytes) taken past = refl
@@ -206,6 +212,7 @@ acted_one c site k places past i reading todo a taken within quiet read first_is
       are = set_cut places i w.before w.post w.behind _ cut w.count
           ∙ ap (λ (p : Place). map place_of w.before ++ p ∷ map place_of w.behind) (ap (λ (p : Place). done_place a taken (filled_place reading p)) here ∙ sym (place_acted reading a taken w.post))
           ∙ sym (map-append place_of w.before (with_step (Does reading a taken) w.post ∷ w.behind));
+      newest_is = newest_acted (i + 1) a taken past ∙ b.newest_is;
       clock_is = moment_acted (i + 1) a taken past ∙ b.clock_is;
       heard_is = hearings_acted (i + 1) a taken past ∙ b.heard_is;
       last_is = last_acted (i + 1) a taken past ∙ b.last_is;
@@ -241,7 +248,7 @@ due_map (p ∷ posts) = ap (λ (t : List ℕ). due_of p ∷ t) (due_map posts)
 
 pub heard_one : (c : Codecs) (site : SitePlan) (k : Known) (places new : List Place) (past : List Entry) (h : Heard) (bytes : List ℕ) (wait : ℕ) → k.last ≡ false → k.heard < site.turns → All RestsAt places → IsOfPosts (length places) h.what → IsHearing h bytes
     → length new ≡ length places → HeardAll (max k.clock h.at) h.what bytes places new → wait ≡ fold min never (map due_at places) → InBlock c site k places past
-    → InBlock c site (record { clock = max k.clock h.at; heard = k.heard + 1; last = is_over h.what; untils = wait ∷ k.untils }) new (entry.Heard h bytes ∷ past)
+    → InBlock c site (record { newest_hearing = Some (entry.Heard h bytes); clock = max k.clock h.at; heard = k.heard + 1; last = is_over h.what; untils = wait ∷ k.untils }) new (entry.Heard h bytes ∷ past)
 heard_one c site k places new past h bytes wait goes_on turn rest of is same all waits b =
     let at = max k.clock h.at in
     let later = heard_from 1 (max (moment past) h.at) h bytes b.posts in
@@ -257,6 +264,7 @@ heard_one c site k places new past h bytes wait goes_on turn rest of is same all
         heard = (subst (λ (n : ℕ). IsOfPosts n h.what) count of, is, refl);
       }));
       are = hears_from 1 at h bytes places new b.posts b.are same all ∙ ap (λ (m : ℕ). map place_of (heard_from 1 m h bytes b.posts)) (sym clock);
+      newest_is = refl;
       clock_is = clock;
       heard_is = ap (λ (n : ℕ). n + 1) b.heard_is;
       last_is = refl;
@@ -264,7 +272,7 @@ heard_one c site k places new past h bytes wait goes_on turn rest of is same all
     }
 
 pub lost_one : (c : Codecs) (site : SitePlan) (k : Known) (places : List Place) (past : List Entry) (wait : ℕ) → k.last ≡ false → k.heard < site.turns → All RestsAt places → wait ≡ fold min never (map due_at places) → InBlock c site k places past
-    → InBlock c site (record { clock = k.clock; heard = k.heard + 1; last = true; untils = wait ∷ k.untils }) places (entry.Lost ∷ past)
+    → InBlock c site (record { newest_hearing = Some entry.Lost; clock = k.clock; heard = k.heard + 1; last = true; untils = wait ∷ k.untils }) places (entry.Lost ∷ past)
 lost_one c site k places past wait goes_on turn rest waits b =
     let due : until b.posts ≡ wait = ap (fold min never) (sym (due_map b.posts)) ∙ ap (λ (ps : List Place). fold min never (map due_at ps)) (sym b.are) ∙ sym waits in
     record {
@@ -276,13 +284,14 @@ lost_one c site k places past wait goes_on turn rest waits b =
         heard = refl;
       }));
       are = b.are;
+      newest_is = refl;
       clock_is = b.clock_is;
       heard_is = ap (λ (n : ℕ). n + 1) b.heard_is;
       last_is = refl;
       untils_are = (b.posts, k.untils, b.run, b.untils_are, ap (λ (n : ℕ). n ∷ k.untils) (sym due));
     }
 
-pub begins : (c : Codecs) (site : SitePlan) (places : List Place) (past : List Entry) → places ≡ map place_of (map unheard site.post.items) → past ≡ [] → InBlock c site (record { clock = 0; heard = 0; last = false; untils = [] }) places past
+pub begins : (c : Codecs) (site : SitePlan) (places : List Place) (past : List Entry) → places ≡ map place_of (map unheard site.post.items) → past ≡ [] → InBlock c site (record { newest_hearing = None; clock = 0; heard = 0; last = false; untils = [] }) places past
 begins c site places past made e =
-    subst (InBlock c site (record { clock = 0; heard = 0; last = false; untils = [] }) places) (sym e)
-    (record { posts = map unheard site.post.items; run = refl; are = made; clock_is = refl; heard_is = refl; last_is = refl; untils_are = refl })
+    subst (InBlock c site (record { newest_hearing = None; clock = 0; heard = 0; last = false; untils = [] }) places) (sym e)
+    (record { posts = map unheard site.post.items; run = refl; are = made; newest_is = refl; clock_is = refl; heard_is = refl; last_is = refl; untils_are = refl })

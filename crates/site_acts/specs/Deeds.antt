@@ -13,8 +13,8 @@ use Rattle.site_posts.specs.declared.place.Place.{Place}
 use Rattle.site_posts.specs.Filling.{at}
 use Rattle.site_posts.specs.Places.{Shares, filled_place, done_place, RestsAt}
 use Rattle.site_posts.specs.Sound.{IsSound}
-use Rattle.site_serving.specs.declared.deeds.Deed.{Deed}
-use Rattle.site_serving.specs.declared.deeds.Deed.TheVariants.{Answer, Give, Send, Finish}
+use Rattle.site_acts.specs.declared.deeds.Deed.{Deed}
+use Rattle.site_acts.specs.declared.deeds.Deed.TheVariants.{Answer, Give, Send, Finish}
 
 abbrev pub act_of : List ℕ → Deed → Act
 act_of room (Answer datagram) = steps.Answer datagram
