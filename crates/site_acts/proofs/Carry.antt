@@ -1,6 +1,6 @@
 -- What holds of a past that is told, over one call and over several; and of the trace beside it.
 use Rattle.std.proofs.Common.{◌≡◌, ℕ, ◌+◌, Bool, true, false, if◌then◌else◌, List, ◌∷◌, ◌++◌, Option, Some, None, Result, Ok, Err, refl, sym, ap, subst, ◌∙◌, arith, append_assoc}
-use Rattle.std.specs.Prelude.{IsSome, OnOk, OnErr}
+use Rattle.std.specs.Prelude.{IsSome, OnOk, OnErr, IsErr}
 use Rattle.charge_world.specs.declared.entry.Entry.{Entry}
 use Rattle.charge_world.specs.Outside.{GrowsByOne, Appends, AppendsSome}
 use Rattle.trace_text.specs.TraceText.{numbered_line_of}
@@ -109,3 +109,10 @@ text_one (Some old) (Some new) (Some start) (Some now) e n m (Ok done) number gr
     λ p. subst (λ (past : List Entry). IsTraced m past now) (sym grows) (subst (IsTraced m (e ∷ old)) (sym ok) (traced_one n m e old start number p))
 text_one (Some old) (Some new) (Some start) (Some now) e n m (Err fault) number grows ok err =
     λ p. subst (λ (past : List Entry). IsCutHere past now) (sym grows) (subst (IsCutHere (e ∷ old)) (sym err.3) (cut_one n m e old start err.0 err.1 number err.2 p))
+
+-- what is answered behind a write
+pub done_so : {E : Type 0} (hearing : ℕ) (w : Result (Unit {0}) E) (r : Result Bool E) (past : List Entry) (text : List ℕ) → OnOk w (r ≡ Ok true) → OnErr w (IsErr r) → IsWrittenSo hearing w past text → IsWrittenSo hearing r past text
+done_so hearing (Ok done) (Ok b) past text ok err h = h
+done_so hearing (Ok done) (Err fault) past text ok err h = cc
+done_so hearing (Err fault) (Ok b) past text ok err h = cc
+done_so hearing (Err fault) (Err other) past text ok err h = h

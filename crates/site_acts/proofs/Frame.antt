@@ -29,6 +29,7 @@ use Rattle.station_spec.specs.Blocks.{is_last, is_over, hearings, IsHearing}
 use Rattle.station_spec.specs.Runs.{entry_of, with_step, unheard, heard_from, Rests, AreQuiet, HeardBy, MayHear, MayAct, IsRun}
 use Rattle.station_spec.specs.Report.{sessions, closed, causes, is_close}
 use Rattle.station_spec.specs.Until.{due_of, until, AreUntils}
+use Rattle.trace_text.specs.Pasts.{is_hearing}
 use Rattle.site_posts.specs.declared.place.Place.{Place}
 use Rattle.site_posts.specs.declared.report.PostReport.{PostReport}
 use Rattle.site_posts.specs.Filling.{no_place, at}
@@ -72,9 +73,12 @@ take_cut : {A : Type 0} (xs ys : List A) → take (length xs) (xs ++ ys) ≡ xs
 take_cut [] ys = refl
 take_cut (x ∷ xs) ys = ap (λ (t : List _). x ∷ t) (take_cut xs ys)
 
-drop_cut : {A : Type 0} (xs : List A) (x : A) (ys : List A) → drop (length xs + 1) (xs ++ x ∷ ys) ≡ ys
-drop_cut [] x ys = refl
-drop_cut (y ∷ xs) x ys = drop_cut xs x ys
+drop_behind : {A : Type 0} (xs : List A) (x : A) (ys : List A) → drop (suc (length xs)) (xs ++ x ∷ ys) ≡ ys
+drop_behind [] x ys = refl
+drop_behind (y ∷ xs) x ys = drop_behind xs x ys
+
+pub drop_cut : {A : Type 0} (xs : List A) (x : A) (ys : List A) → drop (length xs + 1) (xs ++ x ∷ ys) ≡ ys
+drop_cut xs x ys = ap (λ (k : ℕ). drop k (xs ++ x ∷ ys)) (let e : length xs + 1 ≡ suc (length xs) = omega arith in e) ∙ drop_behind xs x ys
 
 asked_map : (posts : List Post) → map asked_at (map place_of posts) ≡ map asked_of posts
 asked_map [] = refl
@@ -92,11 +96,11 @@ shares_show limit places i before post behind asked shown e n s =
     let front : take i places ≡ map place_of before = ap (λ (ps : List Place). take i ps) e ∙ subst (λ (m : ℕ). take m (map place_of before ++ place_of post ∷ map place_of behind) ≡ map place_of before) k (take_cut (map place_of before) _) in
     let back : drop (i + 1) places ≡ map place_of behind = ap (λ (ps : List Place). drop (i + 1) ps) e ∙ subst (λ (m : ℕ). drop (m + 1) (map place_of before ++ place_of post ∷ map place_of behind) ≡ map place_of behind) k (drop_cut (map place_of before) (place_of post) (map place_of behind)) in
     let asks : map asked_at (take i places) ++ asked ∷ map asked_at (drop (i + 1) places) ≡ map asked_of before ++ asked ∷ map asked_of behind =
-        ap (λ (t : List Place). map asked_at t ++ asked ∷ map asked_at (drop (i + 1) places)) front ∙ ap (λ (t : List Place). map asked_at (map place_of before) ++ asked ∷ map asked_at t) back
-        ∙ ap (λ (t : List ℕ). t ++ asked ∷ map asked_at (map place_of behind)) (asked_map before) ∙ ap (λ (t : List ℕ). map asked_of before ++ asked ∷ t) (asked_map behind) in
+    ap (λ (t : List Place). map asked_at t ++ asked ∷ map asked_at (drop (i + 1) places)) front ∙ ap (λ (t : List Place). map asked_at (map place_of before) ++ asked ∷ map asked_at t) back
+    ∙ ap (λ (t : List ℕ). t ++ asked ∷ map asked_at (map place_of behind)) (asked_map before) ∙ ap (λ (t : List ℕ). map asked_of before ++ asked ∷ t) (asked_map behind) in
     let told : sum_by told_at (take i places) + sum_by told_at (drop (i + 1) places) ≡ told_total before + told_total behind =
-        ap (λ (t : List Place). sum_by told_at t + sum_by told_at (drop (i + 1) places)) front ∙ ap (λ (t : List Place). sum_by told_at (map place_of before) + sum_by told_at t) back
-        ∙ ap (λ (m : ℕ). m + sum_by told_at (map place_of behind)) (told_map before) ∙ ap (λ (m : ℕ). told_total before + m) (told_map behind) in
+    ap (λ (t : List Place). sum_by told_at t + sum_by told_at (drop (i + 1) places)) front ∙ ap (λ (t : List Place). sum_by told_at (map place_of before) + sum_by told_at t) back
+    ∙ ap (λ (m : ℕ). m + sum_by told_at (map place_of behind)) (told_map before) ∙ ap (λ (m : ℕ). told_total before + m) (told_map behind) in
     record {
       level = s.level;
       is_level = subst (λ (t : List ℕ). IsLevel limit t s.level) asks s.is_level;
@@ -198,7 +202,7 @@ acted_one c site k places past i reading todo a taken within quiet read first_is
       act = a;
       taken = taken;
       acts = record {
-        read = read_more c (Shares site.limit places i) (Shows site.limit w.before w.behind) w.post.plan _ _ reading (λ asked n s. shares_show site.limit places i w.before w.post w.behind asked n cut w.count s) read_here;
+        read = read_more c (Shares site.limit places i) (Shows site.limit w.before w.behind) w.post.plan (decided w.post.plan (state_of w.post)) (wanted (decided w.post.plan (state_of w.post))) reading (λ asked n s. shares_show site.limit places i w.before w.post w.behind asked n cut w.count s) read_here;
         todo = todo;
         acts = subst (λ (p : Place). first (filled_place reading p).post.agenda ≡ Some todo) here first_is;
         done = done;
@@ -233,9 +237,9 @@ hears_from k at h bytes (q ∷ places) (n ∷ new) (p ∷ posts) are same all =
     let rest_are : places ≡ map place_of posts = cc in
     let zeroth : 0 + k ≡ k = omega arith in
     let here : n ≡ place_of (with_step (Hears at (event_at k h.what bytes)) p) =
-        all 0 q (omega arith) ∙ ap (λ (m : ℕ). heard_place m at h.what bytes q) zeroth ∙ ap (heard_place k at h.what bytes) q_is ∙ sym (place_heard at k h.what bytes p) in
+    all 0 q (omega arith) ∙ ap (λ (m : ℕ). heard_place m at h.what bytes q) zeroth ∙ ap (heard_place k at h.what bytes) q_is ∙ sym (place_heard at k h.what bytes p) in
     let rest = hears_from (suc k) at h bytes places new posts rest_are (omega (arith, same))
-        (λ j d less. all (suc j) d (omega (arith, less)) ∙ ap (λ (m : ℕ). heard_place m at h.what bytes (get_or places j d)) (let e : suc j + k ≡ j + suc k = omega arith in e)) in
+    (λ j d less. all (suc j) d (omega (arith, less)) ∙ ap (λ (m : ℕ). heard_place m at h.what bytes (get_or places j d)) (let e : suc j + k ≡ j + suc k = omega arith in e)) in
     ap (λ (x : Place). x ∷ new) here ∙ ap (λ (xs : List Place). place_of (with_step (Hears at (event_at k h.what bytes)) p) ∷ xs) rest
 
 all_rest : (posts : List Post) → All RestsAt (map place_of posts) → AreQuiet posts
@@ -257,12 +261,16 @@ heard_one c site k places new past h bytes wait goes_on turn rest of is same all
     let due : until b.posts ≡ wait = ap (fold min never) (sym (due_map b.posts)) ∙ ap (λ (ps : List Place). fold min never (map due_at ps)) (sym b.are) ∙ sym waits in
     record {
       posts = later;
-      run = (b.posts, b.run, inl (record {
-        whole = all_rest b.posts (subst (All RestsAt) b.are rest);
-        goes_on = b.last_is ∙ goes_on;
-        turns_left = subst (λ (n : ℕ). n < site.turns) (sym b.heard_is) turn;
-        heard = (subst (λ (n : ℕ). IsOfPosts n h.what) count of, is, refl);
-      }));
+      run = (
+        b.posts,
+        b.run,
+        inl (record {
+          whole = all_rest b.posts (subst (All RestsAt) b.are rest);
+          goes_on = b.last_is ∙ goes_on;
+          turns_left = subst (λ (n : ℕ). n < site.turns) (sym b.heard_is) turn;
+          heard = (subst (λ (n : ℕ). IsOfPosts n h.what) count of, is, refl);
+        }),
+      );
       are = hears_from 1 at h bytes places new b.posts b.are same all ∙ ap (λ (m : ℕ). map place_of (heard_from 1 m h bytes b.posts)) (sym clock);
       newest_is = refl;
       clock_is = clock;
@@ -277,12 +285,16 @@ lost_one c site k places past wait goes_on turn rest waits b =
     let due : until b.posts ≡ wait = ap (fold min never) (sym (due_map b.posts)) ∙ ap (λ (ps : List Place). fold min never (map due_at ps)) (sym b.are) ∙ sym waits in
     record {
       posts = b.posts;
-      run = (b.posts, b.run, inl (record {
-        whole = all_rest b.posts (subst (All RestsAt) b.are rest);
-        goes_on = b.last_is ∙ goes_on;
-        turns_left = subst (λ (n : ℕ). n < site.turns) (sym b.heard_is) turn;
-        heard = refl;
-      }));
+      run = (
+        b.posts,
+        b.run,
+        inl (record {
+          whole = all_rest b.posts (subst (All RestsAt) b.are rest);
+          goes_on = b.last_is ∙ goes_on;
+          turns_left = subst (λ (n : ℕ). n < site.turns) (sym b.heard_is) turn;
+          heard = refl;
+        }),
+      );
       are = b.are;
       newest_is = refl;
       clock_is = b.clock_is;
@@ -295,3 +307,10 @@ pub begins : (c : Codecs) (site : SitePlan) (places : List Place) (past : List E
 begins c site places past made e =
     subst (InBlock c site (record { newest_hearing = None; clock = 0; heard = 0; last = false; untils = [] }) places) (sym e)
     (record { posts = map unheard site.post.items; run = refl; are = made; newest_is = refl; clock_is = refl; heard_is = refl; last_is = refl; untils_are = refl })
+
+-- an act is no hearing
+pub outgoing : (k n : ℕ) (a : Act) (taken : Bool) → (if is_hearing (entry_of k a taken) then 1 else 0) + n ≡ n
+outgoing k n (Give order) taken = omega arith
+outgoing k n (Send bytes) taken = omega arith
+outgoing k n (Answer bytes) taken = omega arith
+outgoing k n (End cause) taken = omega arith

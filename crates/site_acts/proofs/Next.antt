@@ -1,5 +1,6 @@
 -- What a post does next.
-use Rattle.std.proofs.Common.{◌≡◌, ◌<◌, ◌≤◌, ℕ, ◌+◌, Bool, true, false, List, length, get_or, set, ◌∷◌, Option, Some, None, refl, sym, ap, subst, ◌∙◌, arith}
+use Rattle.std.proofs.Common.{◌≡◌, ◌<◌, ◌≤◌, ℕ, ◌+◌, Bool, true, false, List, length, get_or, set, take, ◌∷◌, ◌++◌, Option, Some, None, refl, sym, ap, subst, ◌∙◌, arith}
+use Rattle.std.proofs.Math.Seq.{take-append_seam}
 use Rattle.std.specs.List.{All, AllWithin}
 use Rattle.std.proofs.lemmas.List.{get_or-set_same, set-get_or, get_or_default}
 use Rattle.std.proofs.lemmas.List.Elements.{All-set, AllWithin-more, AllWithin-kept, at_read}
@@ -67,7 +68,7 @@ nexts_none c limit places new i room words stays within f h =
     let p = at places i in
     let t = decided p.plan p.post in
     let idle : first (read p.plan t f.reading).agenda ≡ None =
-        sym (ap (λ (q : Place). first q.post.agenda) (filled_at c limit places new i f within)) ∙ prepared_none c (first (at new i).post.agenda) room h in
+    sym (ap (λ (q : Place). first q.post.agenda) (filled_at c limit places new i f within)) ∙ prepared_none c (first (at new i).post.agenda) room h in
     let n = nothing_read c p.plan (Shares limit places i) t (wanted t) f.reading words refl f.is_read idle in
     let none : first t.agenda ≡ None = subst (λ (r : Option Reading). first (read p.plan t r).agenda ≡ None) n.0 idle in
     let quiet : IsQuiet p.plan p.post = record { none = none; no_word = n.1 } in
@@ -150,3 +151,14 @@ rests_more places new i within e rests quiet =
 
 pub rests_kept : (places : List Place) (i : ℕ) (x : Place) → i < length places → AllWithin RestsAt places 0 i → AllWithin RestsAt (set places i x) 0 i
 rests_kept places i x within quiet = AllWithin-kept places i x within RestsAt quiet
+
+-- a post keeps what a deed did
+pub kept_answer : (room : List ℕ) (deed : Deed) (x : List ℕ) (new old : Place) (taken : Bool) → deed ≡ Answer x → ((bytes : List ℕ) → new ≡ done_place (steps.Answer bytes) taken old) → new ≡ done_place (act_of room deed) taken old
+kept_answer room deed x new old taken e h = h x ∙ ap (λ (a : Act). done_place a taken old) (sym (ap (act_of room) e))
+
+pub kept_send : (room : List ℕ) (deed : Deed) (n : ℕ) (new old : Place) (taken : Bool) → deed ≡ Send n → ((bytes : List ℕ) → new ≡ done_place (steps.Send bytes) taken old) → new ≡ done_place (act_of room deed) taken old
+kept_send room deed n new old taken e h = h (take n room) ∙ ap (λ (a : Act). done_place a taken old) (sym (ap (act_of room) e))
+
+-- the room of a Vec that was lent whole
+pub room_is : (r rest : List ℕ) (len : ℕ) → length r ≡ len → take len (r ++ rest) ≡ r
+room_is r rest len e = subst (λ (k : ℕ). take k (r ++ rest) ≡ r) e (take-append_seam r rest)

@@ -31,7 +31,15 @@ pub(crate) struct Outcome {
 }
 
 /// Does a deed of post k on the wire, and writes its line.
-fn perform<W: Wire, J: Sink>(deed: &Deed, room: &[u8], k: u8, hearing: u64, lines: &mut TraceLines, wire: &mut W, trace: &mut J) -> Outcome
+fn perform<W: Wire, J: Sink>(
+    deed: &Deed,
+    room: &[u8],
+    k: u8,
+    hearing: u64,
+    lines: &mut TraceLines,
+    wire: &mut W,
+    trace: &mut J,
+) -> Outcome
     requires post { IsPost k }
     requires room { length room.now ≡ 1032 }
     requires framed { IsFramed deed.now }
@@ -48,31 +56,64 @@ fn perform<W: Wire, J: Sink>(deed: &Deed, room: &[u8], k: u8, hearing: u64, line
     match deed {
         Deed::Answer(datagram) => {
             let taken = wire.answer(k, datagram).is_ok();
-            let noted = Noted::Answered { post: k, bytes: datagram, taken };
-            Outcome { taken, written: lines.write(hearing, &noted, trace) }
+            let noted = Noted::Answered {
+                post: k,
+                bytes: datagram,
+                taken,
+            };
+            Outcome {
+                taken,
+                written: lines.write(hearing, &noted, trace),
+            }
         }
         Deed::Give(order) => {
             let taken = wire.drive(k, *order).is_ok();
-            let noted = Noted::Drove { post: k, order: *order, taken };
-            Outcome { taken, written: lines.write(hearing, &noted, trace) }
+            let noted = Noted::Drove {
+                post: k,
+                order: *order,
+                taken,
+            };
+            Outcome {
+                taken,
+                written: lines.write(hearing, &noted, trace),
+            }
         }
         Deed::Send(n) => {
             let bytes = &room[..*n];
             let taken = wire.send(k, bytes).is_ok();
-            let noted = Noted::Sent { post: k, bytes, taken };
-            Outcome { taken, written: lines.write(hearing, &noted, trace) }
+            let noted = Noted::Sent {
+                post: k,
+                bytes,
+                taken,
+            };
+            Outcome {
+                taken,
+                written: lines.write(hearing, &noted, trace),
+            }
         }
         Deed::Finish(cause) => {
             let number = cause.number();
             wire.end(k, number);
-            let noted = Noted::Ended { post: k, cause: number };
-            Outcome { taken: true, written: lines.write(hearing, &noted, trace) }
+            let noted = Noted::Ended {
+                post: k,
+                cause: number,
+            };
+            Outcome {
+                taken: true,
+                written: lines.write(hearing, &noted, trace),
+            }
         }
     }
 }
 
 /// What post i does next, and how it is done; the post has decided it and read the word that it wanted.
-fn next_deed<C: Codec>(codec: &mut C, places: &mut [Place], i: usize, limit: u32, room: &mut [u8]) -> Option<Deed>
+fn next_deed<C: Codec>(
+    codec: &mut C,
+    places: &mut [Place],
+    i: usize,
+    limit: u32,
+    room: &mut [u8],
+) -> Option<Deed>
     requires within { i < length places.old }
     requires few { length places.old ≤ 8 }
     requires room { length room.old ≡ 1032 }
@@ -97,7 +138,15 @@ fn done(written: Result<(), TraceFailed>) -> Result<bool, TraceFailed>
 }
 
 /// Does what post i does next; `false` where it has nothing to do.
-pub fn act<C: Codec, W: Wire, J: Sink>(desk: &mut Desk<C>, places: &mut [Place], i: usize, limit: u32, hearing: u64, wire: &mut W, trace: &mut J) -> Result<bool, TraceFailed>
+pub fn act<C: Codec, W: Wire, J: Sink>(
+    desk: &mut Desk<C>,
+    places: &mut [Place],
+    i: usize,
+    limit: u32,
+    hearing: u64,
+    wire: &mut W,
+    trace: &mut J,
+) -> Result<bool, TraceFailed>
     requires within { i < length places.old }
     requires few { length places.old ≤ 8 }
     requires ready { All (IsReady C.reads) places.old }
@@ -118,7 +167,15 @@ pub fn act<C: Codec, W: Wire, J: Sink>(desk: &mut Desk<C>, places: &mut [Place],
     match next_deed(&mut desk.codec, places, i, limit, desk.room.as_mut_slice()) {
         None => Ok(false),
         Some(deed) => {
-            let outcome = perform(&deed, desk.room.as_slice(), i as u8 + 1, hearing, &mut desk.lines, wire, trace);
+            let outcome = perform(
+                &deed,
+                desk.room.as_slice(),
+                i as u8 + 1,
+                hearing,
+                &mut desk.lines,
+                wire,
+                trace,
+            );
             keep(&mut places[i], &deed, outcome.taken);
             done(outcome.written)
         }

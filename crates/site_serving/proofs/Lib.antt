@@ -1,2 +1,3 @@
 pub mod Shutting
 pub mod Turns
+pub mod Counts

@@ -13,15 +13,11 @@ use Rattle.site_posts.specs.Filling.{no_place, at}
 use Rattle.site_posts.specs.Places.{place_of}
 use Rattle.site_serving.specs.Serving.{ClosesTo}
 use Rattle.site_acts.specs.Telling.{Carries, CarriesText, IsCutHere, IsCutText, HasClosing, IsClosing}
-use Rattle.site_acts.proofs.Frame.{Among, among, places_cut, at_cut}
+use Rattle.site_acts.proofs.Frame.{Among, among, places_cut, at_cut, drop_cut}
 
 drop_zero : {A : Type 0} (before : List A) (x : A) (behind : List A) → drop (length before) (before ++ x ∷ behind) ≡ x ∷ behind
 drop_zero [] x behind = refl
 drop_zero (y ∷ before) x behind = drop_zero before x behind
-
-drop_one : {A : Type 0} (before : List A) (x : A) (behind : List A) → drop (length before + 1) (before ++ x ∷ behind) ≡ behind
-drop_one [] x behind = refl
-drop_one (y ∷ before) x behind = drop_one before x behind
 
 drop_all : {A : Type 0} (xs : List A) → drop (length xs) xs ≡ []
 drop_all [] = refl
@@ -30,7 +26,7 @@ drop_all (x ∷ xs) = drop_all xs
 cut_at : (posts : List Post) (i : ℕ) (w : Among posts i) → drop i posts ≡ w.post ∷ drop (i + 1) posts
 cut_at posts i w =
     let here : drop i posts ≡ w.post ∷ w.behind = ap (λ (ps : List Post). drop i ps) w.are ∙ subst (λ (n : ℕ). drop n (w.before ++ w.post ∷ w.behind) ≡ w.post ∷ w.behind) w.count (drop_zero w.before w.post w.behind) in
-    let next : drop (i + 1) posts ≡ w.behind = ap (λ (ps : List Post). drop (i + 1) ps) w.are ∙ subst (λ (n : ℕ). drop (n + 1) (w.before ++ w.post ∷ w.behind) ≡ w.behind) w.count (drop_one w.before w.post w.behind) in
+    let next : drop (i + 1) posts ≡ w.behind = ap (λ (ps : List Post). drop (i + 1) ps) w.are ∙ subst (λ (n : ℕ). drop (n + 1) (w.before ++ w.post ∷ w.behind) ≡ w.behind) w.count (drop_cut w.before w.post w.behind) in
     here ∙ sym (ap (λ (ps : List Post). w.post ∷ ps) next)
 
 -- how the post at a place stands
