@@ -1,3 +1,2 @@
 pub mod Shutting
-pub mod Turns
 pub mod Counts

@@ -1,10 +1,9 @@
-//! A site of up to eight posts serves a wire: one hearing after another becomes orders, replies and lines of a trace, with codecs of any
-//! kind. Serving takes no memory and no thread.
+//! How a site of posts answers a hearing: all that its posts have to do, on its wire and in its trace; and the orders that close a run.
 #![tactic(auto)]
 
 mod closing;
-mod ended;
 mod turning;
 
-pub use ended::Ended;
-pub use trace_lines::TraceFailed;
+pub use closing::close_unwritten;
+pub use site_acts::TraceFailed;
+pub use turning::{answer_all, bound_heard, bytes_heard, ends};

@@ -29,7 +29,7 @@ loop-i-preserved g c =
     let i = c.loop-i.i in
     let less : i < length places = c.loop-i-test.true in
     elim c.if-live.branch [
-      then-live w ↦ record {
+      | then-live w ↦ record {
         closed = λ posts blocks are.
             let a = among_places places posts i are less in
             carries_then _ _ _ (ClosesTo posts c.args.from blocks) (ClosesTo posts i blocks) (ClosesTo posts (i + 1) blocks) (c.loop-i.invariant.closed posts blocks are)
