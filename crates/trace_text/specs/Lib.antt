@@ -1,3 +1,4 @@
 pub mod TraceText
 pub mod Reading
 pub mod Pasts
+pub mod Noted

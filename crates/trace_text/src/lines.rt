@@ -2,7 +2,9 @@
 
 ghost use Rattle.std.specs.Prelude.{◌≡◌, ◌++◌, [], ◌∷◌, false, ◌<◌, ◌≤◌, length};
 ghost use Rattle.trace_text.specs.TraceText.{pilot_word, isolation_word, feedback_word, event_words, order_words, datagram_word, what_words, plain_words, taken_of, words_of};
+ghost use Rattle.trace_text.specs.Noted.{entry_of};
 
+use crate::noted::Noted;
 use charge_world::{Entry, IsolationLevel, Order, PilotState, PlantEvent, What};
 use text_tokens::Line;
 
@@ -123,34 +125,38 @@ fn what_line<'a>(what: What, bytes: &'a [u8]) -> Line<'a>
 }
 
 /// An entry, whether it was taken or not.
-fn plain_line<'a>(entry: &'a Entry) -> Line<'a>
-    ensures words { result ≡ plain_words entry.now }
+fn plain_line<'a>(noted: &Noted<'a>) -> Line<'a>
+    ensures words { result ≡ plain_words (entry_of noted.now) }
     ensures some { 0 < length result }
     ensures short { length result ≤ 7 }
-    ensures call { taken_of entry.now ≡ false → length result ≤ 6 }
+    ensures call { taken_of (entry_of noted.now) ≡ false → length result ≤ 6 }
 {
-    match entry {
-        Entry::Heard { heard, bytes } => Line::new()
+    match noted {
+        Noted::Heard { heard, bytes } => Line::new()
             .plain(b"heard")
             .number(heard.at)
-            .then(what_line(heard.what, bytes.bytes())),
-        Entry::Lost => Line::new().plain(b"lost"),
-        Entry::Sent { post, bytes, .. } => Line::new()
-            .plain(b"sent")
-            .number(*post as u64)
-            .bytes(bytes.bytes()),
-        Entry::Answered { post, bytes, .. } => Line::new()
-            .plain(b"answered")
-            .number(*post as u64)
-            .bytes(bytes.bytes()),
-        Entry::Drove { post, order, .. } => {
+            .then(what_line(heard.what, *bytes)),
+        Noted::Lost => Line::new().plain(b"lost"),
+        Noted::Sent { post, bytes, .. } => {
+            Line::new()
+                .plain(b"sent")
+                .number(*post as u64)
+                .bytes(*bytes)
+        }
+        Noted::Answered { post, bytes, .. } => {
+            Line::new()
+                .plain(b"answered")
+                .number(*post as u64)
+                .bytes(*bytes)
+        }
+        Noted::Drove { post, order, .. } => {
             Line::new()
                 .plain(b"drove")
                 .number(*post as u64)
                 .then(order_line(*order))
         }
-        Entry::Dialed { port, .. } => { Line::new().plain(b"dialed").number(*port as u64) }
-        Entry::Ended { post, cause } => Line::new()
+        Noted::Dialed { port, .. } => { Line::new().plain(b"dialed").number(*port as u64) }
+        Noted::Ended { post, cause } => Line::new()
             .plain(b"ended")
             .number(*post as u64)
             .number(*cause as u64),
@@ -158,27 +164,36 @@ fn plain_line<'a>(entry: &'a Entry) -> Line<'a>
 }
 
 /// Whether an entry is anything but a call that failed.
-fn is_taken(entry: &Entry) -> bool
-    ensures { result ≡ taken_of entry.now }
+fn is_taken(noted: &Noted<'_>) -> bool
+    ensures { result ≡ taken_of (entry_of noted.now) }
 {
-    match entry {
-        Entry::Sent { taken, .. }
-        | Entry::Answered { taken, .. }
-        | Entry::Drove { taken, .. }
-        | Entry::Dialed { taken, .. } => *taken,
-        _ => true,
+    match noted {
+        Noted::Sent { taken, .. }
+        | Noted::Answered { taken, .. }
+        | Noted::Drove { taken, .. }
+        | Noted::Dialed { taken, .. } => *taken,
+        Noted::Heard { .. } | Noted::Lost | Noted::Ended { .. } => true,
     }
 }
 
 /// An entry.
+pub(crate) fn noted_line<'a>(noted: &Noted<'a>) -> Line<'a>
+    ensures words { result ≡ words_of (entry_of noted.now) }
+    ensures some { 0 < length result }
+    ensures short { length result ≤ 7 }
+{
+    let line = plain_line(noted);
+    if is_taken(noted) {
+        return line;
+    }
+    Line::new().plain(b"failed").then(line)
+}
+
+/// An entry that owns its bytes.
 pub(crate) fn entry_line<'a>(entry: &'a Entry) -> Line<'a>
     ensures words { result ≡ words_of entry.now }
     ensures some { 0 < length result }
     ensures short { length result ≤ 7 }
 {
-    let line = plain_line(entry);
-    if is_taken(entry) {
-        return line;
-    }
-    Line::new().plain(b"failed").then(line)
+    noted_line(&Noted::of(entry))
 }

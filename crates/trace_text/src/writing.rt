@@ -2,8 +2,10 @@
 
 ghost use Rattle.std.specs.Prelude.{◌≡◌, ◌≤◌, ◌↔◌, ◌++◌, length, drop, IsOk, IfOk, IfErr, OnErr};
 ghost use Rattle.trace_text.specs.TraceText.{line_of, numbered_line_of, IsWritable, IsOfFormat1};
+ghost use Rattle.trace_text.specs.Noted.{entry_of};
 
-use crate::lines::entry_line;
+use crate::lines::{entry_line, noted_line};
+use crate::noted::Noted;
 use charge_world::Entry;
 use text_tokens::{Full, Line};
 
@@ -37,5 +39,20 @@ pub fn write_numbered(hearing: u64, entry: &Entry, room: &mut [u8]) -> Result<u3
     Line::new()
         .number(hearing)
         .then(entry_line(entry))
+        .write(room)
+}
+
+/// Writes what `write_numbered` writes of an entry whose bytes are lent.
+pub fn write_noted(hearing: u64, noted: &Noted<'_>, room: &mut [u8]) -> Result<u32, Full>
+    requires { IsWritable (entry_of noted.now) }
+    ensures fits { IsOk result ↔ (length (numbered_line_of hearing (entry_of noted.now)) ≤ length room.old) }
+    ensures count { IfOk result (λ n. n ≡ length (numbered_line_of hearing (entry_of noted.now))) }
+    ensures written { IfOk result (λ n. room.new ≡ numbered_line_of hearing (entry_of noted.now) ++ drop n room.old) }
+    ensures needed { IfErr result (λ full. full.bytes ≡ length (numbered_line_of hearing (entry_of noted.now))) }
+    ensures unchanged { OnErr result (room.new ≡ room.old) }
+{
+    Line::new()
+        .number(hearing)
+        .then(noted_line(noted))
         .write(room)
 }

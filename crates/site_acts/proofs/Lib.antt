@@ -1,0 +1,4 @@
+pub mod Carry
+pub mod Frame
+pub mod Next
+pub mod Frames

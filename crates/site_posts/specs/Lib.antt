@@ -1,0 +1,4 @@
+pub mod Work
+pub mod Sound
+pub mod Places
+pub mod Filling

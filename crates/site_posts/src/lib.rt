@@ -1,0 +1,15 @@
+//! The posts of a site in memory: what each of them hears, how they share the site's watts, and what each of them does next, with codecs of
+//! any kind (ISO 15118-2:2014, sections 8.7 and 8.8).
+#![tactic(auto)]
+
+mod filling;
+mod hearing;
+mod place;
+mod report;
+mod sharing;
+
+pub use filling::fill;
+pub use hearing::{hear_all, until};
+pub use place::Place;
+pub use report::{CauseSet, PostReport};
+pub use sharing::share;

@@ -1,0 +1,18 @@
+use Rattle.std.proofs.Common.{◌≡◌, ◌≤◌, ℕ, List, map}
+use Rattle.std.specs.Prelude.{IsSome}
+use Rattle.charge_world.specs.declared.entry.Entry.{Entry}
+use Rattle.station_spec.specs.Sharing.{Post}
+use Rattle.site_posts.specs.Places.{place_of}
+use Rattle.site_serving.specs.Serving.{ClosesTo}
+use Rattle.site_acts.specs.Telling.{Carries, HasClosing}
+use Rattle.site_serving.proofs.closing.close_unwritten.Given as goal
+
+abbrev pub invariant-loop-i : goal.invariant-loop-i
+invariant-loop-i g l = record {
+  closed : (posts : List Post) (blocks : List Entry) → l.places ≡ map place_of posts → Carries (g.W.Wire.past l.initial.wire) (g.W.Wire.past l.wire) (ClosesTo posts l.from blocks) (ClosesTo posts l.i blocks);
+  orders : (blocks : List Entry) → Carries (g.W.Wire.past l.initial.wire) (g.W.Wire.past l.wire) (λ past. past ≡ blocks) (HasClosing blocks);
+  untils : IsSome (g.W.Wire.past l.wire) → g.W.Wire.untils l.wire ≡ g.W.Wire.untils l.initial.wire;
+  started : g.W.Wire.started l.wire ≡ g.W.Wire.started l.initial.wire;
+  posts : g.W.Wire.posts l.wire ≡ g.W.Wire.posts l.initial.wire;
+  faults : g.W.Wire.faults l.initial.wire ≤ g.W.Wire.faults l.wire;
+}

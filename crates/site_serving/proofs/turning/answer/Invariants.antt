@@ -1,0 +1,28 @@
+use Rattle.std.proofs.Common.{◌≡◌, ◌≤◌, ℕ, length}
+use Rattle.std.specs.Prelude.{IsSome}
+use Rattle.std.specs.List.{All, AllWithin}
+use Rattle.session_words.specs.declared.plan.SitePlan.{SitePlan}
+use Rattle.post_spec.specs.Codecs.{codecs}
+use Rattle.site_posts.specs.Filling.{at}
+use Rattle.site_posts.specs.Places.{RestsAt}
+use Rattle.site_posts.specs.Work.{work}
+use Rattle.site_acts.specs.Serving.{IsReady, InBlock, Known}
+use Rattle.site_acts.specs.Telling.{Carries, CarriesText, IsTraced}
+use Rattle.site_serving.proofs.turning.answer.Given as goal
+
+abbrev pub invariant-loop : goal.invariant-loop
+invariant-loop g l = record {
+  carried : (site : SitePlan) (k : Known) → site.limit ≡ l.limit → Carries (g.W.Wire.past l.initial.wire) (g.W.Wire.past l.wire)
+      (InBlock (codecs g.C.Coded.negotiates g.C.Coded.reads g.C.Coded.encodes) site k l.initial.places) (InBlock (codecs g.C.Coded.negotiates g.C.Coded.reads g.C.Coded.encodes) site k l.places);
+  traced : CarriesText (g.W.Wire.past l.initial.wire) (g.W.Wire.past l.wire) (g.J.Sink.taken l.initial.trace) (g.J.Sink.taken l.trace) (IsTraced l.hearing) (IsTraced l.hearing);
+  ready : All (IsReady g.C.Coded.reads) l.places;
+  quiet : AllWithin RestsAt l.places 0 l.i;
+  writes : g.J.Sink.faults l.trace ≡ g.J.Sink.faults l.initial.trace;
+  untils : IsSome (g.W.Wire.past l.wire) → g.W.Wire.untils l.wire ≡ g.W.Wire.untils l.initial.wire;
+  started : g.W.Wire.started l.wire ≡ g.W.Wire.started l.initial.wire;
+  posts : g.W.Wire.posts l.wire ≡ g.W.Wire.posts l.initial.wire;
+  faults : g.W.Wire.faults l.initial.wire ≤ g.W.Wire.faults l.wire;
+}
+
+abbrev pub decreases-loop : goal.decreases-loop
+decreases-loop g l = work (at l.places l.i).post
