@@ -4,7 +4,7 @@ use Rattle.exi_bits.specs.Lent.{items_of}
 use Rattle.exi_documents.specs.Trees.{Ordinal, Bytes}
 use Rattle.message_parts.specs.Contents.{Part, Of, one, perhaps, mapped, holding}
 use Rattle.message_parts.specs.Texts.{text_value}
-use Rattle.iso_schema.specs.declared.names.TheConstants.{FAULT_CODE, FAULT_MSG, SESSION_ID, NOTIFICATION}
+use Rattle.iso_schema.specs.declared.names.TheConstants.{SESSION_ID, NOTIFICATION, FAULT_CODE, FAULT_MSG}
 use Rattle.iso_parts.specs.Enumerations.{fault_code_ordinal}
 use Rattle.iso_parts.specs.declared.frame.Notification.{Notification}
 use Rattle.iso_parts.specs.declared.frame.Header.{Header}

@@ -128,16 +128,16 @@ impl<'a> Simple<'a> for ResponseCode {
             Value::Ordinal(22) => ResponseCode::FailedWrongEnergyTransferMode,
             Value::Ordinal(23) => ResponseCode::FailedContactorError,
             Value::Ordinal(24) => ResponseCode::FailedCertificateNotAllowedAtThisEvse,
-
             _ => ResponseCode::FailedCertificateRevoked,
         }
     }
 }
 
 /// ServiceCategory, its values in order from 0.
-#[derive(Clone, Copy, Debug, PartialEq, Eq)]
+#[derive(Clone, Copy, Debug, Default, PartialEq, Eq)]
 pub enum ServiceCategory {
     /// EVCharging.
+    #[default]
     EvCharging,
     /// Internet.
     Internet,
@@ -168,16 +168,16 @@ impl<'a> Simple<'a> for ServiceCategory {
             Value::Ordinal(0) => ServiceCategory::EvCharging,
             Value::Ordinal(1) => ServiceCategory::Internet,
             Value::Ordinal(2) => ServiceCategory::ContractCertificate,
-
             _ => ServiceCategory::OtherCustom,
         }
     }
 }
 
 /// PaymentOption, its values in order from 0.
-#[derive(Clone, Copy, Debug, PartialEq, Eq)]
+#[derive(Clone, Copy, Debug, Default, PartialEq, Eq)]
 pub enum PaymentOption {
     /// Contract.
+    #[default]
     Contract,
     /// ExternalPayment.
     ExternalPayment,
@@ -200,16 +200,16 @@ impl<'a> Simple<'a> for PaymentOption {
     fn of(read: Value<'a>) -> PaymentOption {
         match read {
             Value::Ordinal(0) => PaymentOption::Contract,
-
             _ => PaymentOption::ExternalPayment,
         }
     }
 }
 
 /// EnergyTransferMode, its values in order from 0.
-#[derive(Clone, Copy, Debug, PartialEq, Eq)]
+#[derive(Clone, Copy, Debug, Default, PartialEq, Eq)]
 pub enum EnergyTransferMode {
     /// AC_single_phase_core.
+    #[default]
     AcSinglePhaseCore,
     /// AC_three_phase_core.
     AcThreePhaseCore,
@@ -248,7 +248,6 @@ impl<'a> Simple<'a> for EnergyTransferMode {
             Value::Ordinal(2) => EnergyTransferMode::DcCore,
             Value::Ordinal(3) => EnergyTransferMode::DcExtended,
             Value::Ordinal(4) => EnergyTransferMode::DcComboCore,
-
             _ => EnergyTransferMode::DcUnique,
         }
     }
@@ -284,7 +283,6 @@ impl<'a> Simple<'a> for EvseProcessing {
         match read {
             Value::Ordinal(0) => EvseProcessing::Finished,
             Value::Ordinal(1) => EvseProcessing::Ongoing,
-
             _ => EvseProcessing::OngoingWaitingForCustomerInteraction,
         }
     }
@@ -316,7 +314,6 @@ impl<'a> Simple<'a> for ChargingSession {
     fn of(read: Value<'a>) -> ChargingSession {
         match read {
             Value::Ordinal(0) => ChargingSession::Terminate,
-
             _ => ChargingSession::Pause,
         }
     }
@@ -352,7 +349,6 @@ impl<'a> Simple<'a> for ChargeProgress {
         match read {
             Value::Ordinal(0) => ChargeProgress::Start,
             Value::Ordinal(1) => ChargeProgress::Stop,
-
             _ => ChargeProgress::Renegotiate,
         }
     }

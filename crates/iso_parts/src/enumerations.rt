@@ -36,16 +36,16 @@ impl<'a> Simple<'a> for FaultCode {
         match read {
             Value::Ordinal(0) => FaultCode::ParsingError,
             Value::Ordinal(1) => FaultCode::NoTlsRootCertificatAvailable,
-
             _ => FaultCode::UnknownError,
         }
     }
 }
 
 /// UnitSymbol, its values in order from 0.
-#[derive(Clone, Copy, Debug, PartialEq, Eq)]
+#[derive(Clone, Copy, Debug, Default, PartialEq, Eq)]
 pub enum UnitSymbol {
     /// h.
+    #[default]
     H,
     /// m.
     M,
@@ -88,7 +88,6 @@ impl<'a> Simple<'a> for UnitSymbol {
             Value::Ordinal(3) => UnitSymbol::A,
             Value::Ordinal(4) => UnitSymbol::V,
             Value::Ordinal(5) => UnitSymbol::W,
-
             _ => UnitSymbol::Wh,
         }
     }
@@ -160,7 +159,6 @@ impl<'a> Simple<'a> for EvErrorCode {
             Value::Ordinal(8) => EvErrorCode::ReservedB,
             Value::Ordinal(9) => EvErrorCode::ReservedC,
             Value::Ordinal(10) => EvErrorCode::FailedChargingSystemIncompatibility,
-
             _ => EvErrorCode::NoData,
         }
     }
@@ -196,7 +194,6 @@ impl<'a> Simple<'a> for EvseNotification {
         match read {
             Value::Ordinal(0) => EvseNotification::None,
             Value::Ordinal(1) => EvseNotification::StopCharging,
-
             _ => EvseNotification::ReNegotiation,
         }
     }
@@ -240,7 +237,6 @@ impl<'a> Simple<'a> for IsolationLevel {
             Value::Ordinal(1) => IsolationLevel::Valid,
             Value::Ordinal(2) => IsolationLevel::Warning,
             Value::Ordinal(3) => IsolationLevel::Fault,
-
             _ => IsolationLevel::NoImd,
         }
     }
@@ -312,7 +308,6 @@ impl<'a> Simple<'a> for EvseStatusCode {
             Value::Ordinal(8) => EvseStatusCode::Reserved9,
             Value::Ordinal(9) => EvseStatusCode::ReservedA,
             Value::Ordinal(10) => EvseStatusCode::ReservedB,
-
             _ => EvseStatusCode::ReservedC,
         }
     }

@@ -16,6 +16,7 @@ use message_parts::{
 #[derive(Drop)]
 pub struct Notification<'a> {
     pub fault_code: FaultCode,
+    /// At most 64 code points.
     pub fault_msg: Option<Text<'a>>,
 }
 
@@ -56,6 +57,7 @@ impl<'a> Record<'a> for Notification<'a> {
 /// Header.
 #[derive(Drop)]
 pub struct Header<'a> {
+    /// At most 8 bytes.
     pub session_id: Binary<'a>,
     pub notification: Option<Notification<'a>>,
 }

@@ -14,7 +14,7 @@ pub use enumerations::{
     EvErrorCode, EvseNotification, EvseStatusCode, FaultCode, IsolationLevel, UnitSymbol,
 };
 pub use frame::{Header, Notification};
-pub use values::{AcEvseStatus, DcEvStatus, DcEvseStatus, PhysicalValue};
+pub use values::{AcEvseStatus, DcEvStatus, DcEvseStatus, EvseStatus, MeterInfo, PhysicalValue};
 
 #[cfg(test)]
 mod tests;

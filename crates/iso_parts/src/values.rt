@@ -10,12 +10,14 @@ use exi_events::EventWriter;
 use exi_schema::Places;
 use iso_schema::names;
 use message_parts::{
-    Descent, PutRecord, Record, first_child, optional_value, put_optional_value, put_value, value,
+    Binary, Choice, Descent, PutChoice, PutRecord, Record, Text, first_child, member,
+    optional_value, put_optional_value, put_record, put_value, value,
 };
 
 /// PhysicalValue.
-#[derive(Clone, Copy, Debug, PartialEq, Eq)]
+#[derive(Clone, Copy, Debug, PartialEq, Eq, Default)]
 pub struct PhysicalValue {
+    /// -3 to 3.
     pub multiplier: i8,
     pub unit: UnitSymbol,
     pub value: i16,
@@ -63,6 +65,7 @@ impl<'a> Record<'a> for PhysicalValue {
 pub struct DcEvStatus {
     pub ev_ready: bool,
     pub ev_error_code: EvErrorCode,
+    /// 0 to 100.
     pub evress_soc: u8,
 }
 
@@ -205,6 +208,100 @@ impl<'a> Record<'a> for DcEvseStatus {
             evse_notification,
             evse_isolation_status,
             evse_status_code,
+        })
+    }
+}
+
+/// One element of the substitution group EVSEStatus.
+#[derive(Clone, Copy, Debug, PartialEq, Eq)]
+pub enum EvseStatus {
+    Ac(AcEvseStatus),
+    Dc(DcEvseStatus),
+}
+
+impl PutChoice for EvseStatus {
+    ghost use Rattle.iso_parts.specs.Values.{evse_status_name, evse_status_inside};
+
+    ghost name = { evse_status_name };
+
+    ghost inside = { evse_status_inside };
+
+    fn write_member<P: Places>(&self, writer: &mut EventWriter<'_, '_, P>) {
+        match self {
+            EvseStatus::Ac(ac) => put_record(writer, names::AC_EVSE_STATUS, ac),
+            EvseStatus::Dc(dc) => put_record(writer, names::DC_EVSE_STATUS, dc),
+        }
+    }
+}
+
+impl<'a> Choice<'a> for EvseStatus {
+    ghost use Rattle.iso_schema.specs.Declarations.{kinds};
+    ghost use Rattle.iso_parts.specs.Values.{evse_status_members};
+
+    ghost kinds = { kinds };
+
+    ghost members = { evse_status_members };
+
+    fn read_member<P: Places>(descent: &mut Descent<'a, '_, P>) -> Result<EvseStatus, Refusal> {
+        if descent.is_at(names::AC_EVSE_STATUS) {
+            Ok(EvseStatus::Ac(member(descent)?))
+        } else {
+            Ok(EvseStatus::Dc(member(descent)?))
+        }
+    }
+}
+
+/// MeterInfo.
+#[derive(Drop)]
+pub struct MeterInfo<'a> {
+    /// At most 32 code points.
+    pub meter_id: Text<'a>,
+    pub meter_reading: Option<u64>,
+    /// At most 64 bytes.
+    pub sig_meter_reading: Option<Binary<'a>>,
+    pub meter_status: Option<i16>,
+    pub t_meter: Option<i64>,
+}
+
+impl PutRecord for MeterInfo<'_> {
+    ghost use Rattle.iso_parts.specs.Values.{meter_info_parts};
+
+    ghost given = { λ v. [] };
+
+    ghost parts = { meter_info_parts };
+
+    fn write<P: Places>(&self, writer: &mut EventWriter<'_, '_, P>) {
+        put_value(writer, names::METER_ID, &self.meter_id);
+        put_optional_value(writer, names::METER_READING, &self.meter_reading);
+        put_optional_value(writer, names::SIG_METER_READING, &self.sig_meter_reading);
+        put_optional_value(writer, names::METER_STATUS, &self.meter_status);
+        put_optional_value(writer, names::T_METER, &self.t_meter);
+    }
+}
+
+impl<'a> Record<'a> for MeterInfo<'a> {
+    ghost use Rattle.iso_schema.specs.Declarations.{kinds};
+    ghost use Rattle.iso_schema.specs.Frame.{meter_info};
+
+    ghost kinds = { kinds };
+
+    ghost attributes = { [] };
+
+    ghost particles = { meter_info };
+
+    fn read<P: Places>(descent: &mut Descent<'a, '_, P>) -> Result<MeterInfo<'a>, Refusal> {
+        first_child(descent)?;
+        let meter_id = value(descent)?;
+        let meter_reading = optional_value(descent, names::METER_READING)?;
+        let sig_meter_reading = optional_value(descent, names::SIG_METER_READING)?;
+        let meter_status = optional_value(descent, names::METER_STATUS)?;
+        let t_meter = optional_value(descent, names::T_METER)?;
+        Ok(MeterInfo {
+            meter_id,
+            meter_reading,
+            sig_meter_reading,
+            meter_status,
+            t_meter,
         })
     }
 }

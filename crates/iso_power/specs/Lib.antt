@@ -1,2 +1,2 @@
 pub mod Charging
-pub mod Limits
+pub mod Delivery

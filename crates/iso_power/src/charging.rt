@@ -5,10 +5,10 @@ ghost use Rattle.std.specs.Prelude.{[]};
 use exi_documents::Refusal;
 use exi_events::EventWriter;
 use exi_schema::Places;
-use iso_parts::{DcEvStatus, DcEvseStatus, EvseProcessing, PhysicalValue, ResponseCode};
+use iso_parts::{DcEvStatus, DcEvseStatus, EvseProcessing, MeterInfo, PhysicalValue, ResponseCode};
 use iso_schema::names;
 use message_parts::{
-    Descent, PutRecord, Record, first_child, optional, optional_value, put_optional,
+    Descent, PutRecord, Record, Text, first_child, optional, optional_value, put_optional,
     put_optional_value, put_record, put_value, required, value,
 };
 
@@ -279,6 +279,133 @@ impl<'a> Record<'a> for CurrentDemandReq {
             remaining_time_to_full_so_c,
             remaining_time_to_bulk_so_c,
             ev_target_voltage,
+        })
+    }
+}
+
+/// CurrentDemandRes.
+#[derive(Drop)]
+pub struct CurrentDemandRes<'a> {
+    pub response_code: ResponseCode,
+    pub dc_evse_status: DcEvseStatus,
+    pub evse_present_voltage: PhysicalValue,
+    pub evse_present_current: PhysicalValue,
+    pub evse_current_limit_achieved: bool,
+    pub evse_voltage_limit_achieved: bool,
+    pub evse_power_limit_achieved: bool,
+    pub evse_maximum_voltage_limit: Option<PhysicalValue>,
+    pub evse_maximum_current_limit: Option<PhysicalValue>,
+    pub evse_maximum_power_limit: Option<PhysicalValue>,
+    /// At most 37 code points.
+    pub evseid: Text<'a>,
+    /// 1 to 255.
+    pub sa_schedule_tuple_id: u8,
+    pub meter_info: Option<MeterInfo<'a>>,
+    pub receipt_required: Option<bool>,
+}
+
+impl PutRecord for CurrentDemandRes<'_> {
+    ghost use Rattle.iso_power.specs.Charging.{current_demand_res_parts};
+
+    ghost given = { λ v. [] };
+
+    ghost parts = { current_demand_res_parts };
+
+    fn write<P: Places>(&self, writer: &mut EventWriter<'_, '_, P>) {
+        put_value(writer, names::RESPONSE_CODE, &self.response_code);
+        put_record(writer, names::DC_EVSE_STATUS, &self.dc_evse_status);
+        put_record(
+            writer,
+            names::EVSE_PRESENT_VOLTAGE,
+            &self.evse_present_voltage,
+        );
+        put_record(
+            writer,
+            names::EVSE_PRESENT_CURRENT,
+            &self.evse_present_current,
+        );
+        put_value(
+            writer,
+            names::EVSE_CURRENT_LIMIT_ACHIEVED,
+            &self.evse_current_limit_achieved,
+        );
+        put_value(
+            writer,
+            names::EVSE_VOLTAGE_LIMIT_ACHIEVED,
+            &self.evse_voltage_limit_achieved,
+        );
+        put_value(
+            writer,
+            names::EVSE_POWER_LIMIT_ACHIEVED,
+            &self.evse_power_limit_achieved,
+        );
+        put_optional(
+            writer,
+            names::EVSE_MAXIMUM_VOLTAGE_LIMIT,
+            &self.evse_maximum_voltage_limit,
+        );
+        put_optional(
+            writer,
+            names::EVSE_MAXIMUM_CURRENT_LIMIT,
+            &self.evse_maximum_current_limit,
+        );
+        put_optional(
+            writer,
+            names::EVSE_MAXIMUM_POWER_LIMIT,
+            &self.evse_maximum_power_limit,
+        );
+        put_value(writer, names::EVSEID, &self.evseid);
+        put_value(
+            writer,
+            names::SA_SCHEDULE_TUPLE_ID,
+            &self.sa_schedule_tuple_id,
+        );
+        put_optional(writer, names::METER_INFO, &self.meter_info);
+        put_optional_value(writer, names::RECEIPT_REQUIRED, &self.receipt_required);
+    }
+}
+
+impl<'a> Record<'a> for CurrentDemandRes<'a> {
+    ghost use Rattle.iso_schema.specs.Declarations.{kinds};
+    ghost use Rattle.iso_schema.specs.Charging.{current_demand_res};
+
+    ghost kinds = { kinds };
+
+    ghost attributes = { [] };
+
+    ghost particles = { current_demand_res };
+
+    fn read<P: Places>(descent: &mut Descent<'a, '_, P>) -> Result<CurrentDemandRes<'a>, Refusal> {
+        first_child(descent)?;
+        let response_code = value(descent)?;
+        let dc_evse_status = required(descent)?;
+        let evse_present_voltage = required(descent)?;
+        let evse_present_current = required(descent)?;
+        let evse_current_limit_achieved = value(descent)?;
+        let evse_voltage_limit_achieved = value(descent)?;
+        let evse_power_limit_achieved = value(descent)?;
+        let evse_maximum_voltage_limit = optional(descent, names::EVSE_MAXIMUM_VOLTAGE_LIMIT)?;
+        let evse_maximum_current_limit = optional(descent, names::EVSE_MAXIMUM_CURRENT_LIMIT)?;
+        let evse_maximum_power_limit = optional(descent, names::EVSE_MAXIMUM_POWER_LIMIT)?;
+        let evseid = value(descent)?;
+        let sa_schedule_tuple_id = value(descent)?;
+        let meter_info = optional(descent, names::METER_INFO)?;
+        let receipt_required = optional_value(descent, names::RECEIPT_REQUIRED)?;
+        Ok(CurrentDemandRes {
+            response_code,
+            dc_evse_status,
+            evse_present_voltage,
+            evse_present_current,
+            evse_current_limit_achieved,
+            evse_voltage_limit_achieved,
+            evse_power_limit_achieved,
+            evse_maximum_voltage_limit,
+            evse_maximum_current_limit,
+            evse_maximum_power_limit,
+            evseid,
+            sa_schedule_tuple_id,
+            meter_info,
+            receipt_required,
         })
     }
 }

@@ -1,14 +1,14 @@
-//! Messages of charging of ISO 15118-2:2014: limits, cable check, pre-charge, current demand, welding detection.
+//! Messages of charging of ISO 15118-2:2014: power delivery and charging status, cable check, pre-charge, current demand, welding detection.
 #![tactic(auto)]
 
 mod charging;
-mod limits;
+mod delivery;
 
 pub use charging::{
-    CableCheckReq, CableCheckRes, CurrentDemandReq, PreChargeReq, PreChargeRes,
+    CableCheckReq, CableCheckRes, CurrentDemandReq, CurrentDemandRes, PreChargeReq, PreChargeRes,
     WeldingDetectionReq, WeldingDetectionRes,
 };
-pub use limits::{
-    AcEvChargeParameter, AcEvseChargeParameter, DcEvChargeParameter, DcEvPowerDeliveryParameter,
-    DcEvseChargeParameter, ProfileEntry, RelativeTimeInterval,
+pub use delivery::{
+    ChargingProfile, ChargingStatusReq, ChargingStatusRes, DcEvPowerDeliveryParameter,
+    EvPowerDeliveryParameter, PowerDeliveryReq, PowerDeliveryRes, ProfileEntry,
 };

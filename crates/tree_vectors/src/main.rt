@@ -1,9 +1,13 @@
 //! Reads files of vectors, payloads of ISO 15118-2 and of DIN SPEC 70121, and counts those that are answered as their line says.
 //!
 //! The words are pairs of a dialect and a file. A line `ok HEX TREE` is a payload and the text of its tree, for which the payload is
-//! written; a line `no HEX CAUSE BIT` a payload with its refusal. `-` stands for no bytes.
+//! written; a line `no HEX CAUSE BIT` a payload with its refusal. `-` stands for no bytes. Each payload of ISO 15118-2 is also read as a
+//! message, which is written again, or refused alike.
 #![tactic(auto)]
 
+mod typed;
+
+use crate::typed::Codecs;
 use anyhow::{Context, Result, bail};
 use message_trees::{
     MessageDialect, PrintFault, Refusal, RefusalCause, ScanFault, print_payload, scan_text,
@@ -25,11 +29,18 @@ struct Counts {
 
 fn main(rt: HostRuntime) -> Result<ExitCode> {
     let mut words = env::args(&rt)?.skip(1);
+    let codecs = Codecs::make(rt.alloc())?;
     let mut wrong = false;
     while let (Some(dialect), Some(file)) = (words.next(), words.next()) {
         let dialect = dialect_named(dialect.as_str()).context("no dialect")?;
         let text = fs::read(&rt, file.as_str())?;
-        let counts = count(&rt, rt.alloc(), dialect, str::from_utf8(text.as_slice())?)?;
+        let counts = count(
+            &rt,
+            rt.alloc(),
+            &codecs,
+            dialect,
+            str::from_utf8(text.as_slice())?,
+        )?;
         println!(rt;
             "{} printed {} refused {} wrong {}",
             file.as_str(),
@@ -56,12 +67,18 @@ fn dialect_named(name: &str) -> Option<MessageDialect> {
 }
 
 /// The counts of a text of vectors. The first one that is answered otherwise is printed with its answer.
-fn count(rt: &impl Print, alloc: Global, dialect: MessageDialect, text: &str) -> Result<Counts> {
+fn count(
+    rt: &impl Print,
+    alloc: Global,
+    codecs: &Codecs,
+    dialect: MessageDialect,
+    text: &str,
+) -> Result<Counts> {
     let mut counts = Counts::default();
     for line in text.lines() {
         let (mark, rest) = line.split_once(' ').context("a line without a payload")?;
         let (hex, _) = rest.split_once(' ').context("a line without an answer")?;
-        let answer = answer(alloc, dialect, hex)?;
+        let answer = answer(alloc, codecs, dialect, hex)?;
         if answer.as_str() != line {
             if counts.wrong == 0 {
                 println!(rt; "{line}")?;
@@ -78,17 +95,24 @@ fn count(rt: &impl Print, alloc: Global, dialect: MessageDialect, text: &str) ->
 }
 
 /// The line of a payload: its text behind the payload that is written for the text, or its refusal.
-fn answer(alloc: Global, dialect: MessageDialect, hex: &str) -> Result<String> {
+fn answer(alloc: Global, codecs: &Codecs, dialect: MessageDialect, hex: &str) -> Result<String> {
     let payload = hex::decode(alloc, if hex == "-" { "" } else { hex })?;
     if payload.len() > MOST_BYTES {
         bail!("a long payload");
     }
     match print_payload(alloc, dialect, payload.as_slice()) {
         Ok(text) => {
+            if !codecs.agree(alloc, dialect, payload.as_slice(), None)? {
+                bail!("another message than its tree");
+            }
             let written = written(alloc, dialect, text.as_str())?;
             Ok(format!(in alloc; "ok {written} {text}")?)
         }
-        Err(PrintFault::Refused(Refusal { cause, bit })) => {
+        Err(PrintFault::Refused(refusal)) => {
+            if !codecs.agree(alloc, dialect, payload.as_slice(), Some(refusal))? {
+                bail!("another refusal of its message");
+            }
+            let Refusal { cause, bit } = refusal;
             let cause = cause_name(alloc, cause)?;
             Ok(format!(in alloc; "no {hex} {cause} {bit}")?)
         }

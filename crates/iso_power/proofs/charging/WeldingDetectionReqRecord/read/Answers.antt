@@ -5,5 +5,5 @@ use Rattle.iso_power.proofs.charging.WeldingDetectionReqRecord.read.Goals as goa
 
 pub returns-clause-read : goal.returns-clause-read
 returns-clause-read g c = λ F told h.
-    let first = c.in_ok-first_child.ensures.read kinds F [] welding_detection_req _ h in
-    c.in_ok-dc_ev_status.ensures.read F [] welding_detection_req 0 _ first refl refl
+    let at_first = c.in_ok-first_child.ensures.read kinds F [] welding_detection_req _ h in
+    c.in_ok-dc_ev_status.ensures.read F [] welding_detection_req 0 _ at_first refl refl

@@ -1,0 +1,7 @@
+use Rattle.document_laws.proofs.Encodings.{encoding_spelled}
+use Rattle.iso_schema.specs.Declarations.{schema}
+use Rattle.iso_codec.specs.Documents.{iso_tree}
+use Rattle.iso_codec.proofs.laws.encodings_are_read.Goals as goal
+
+pub returns : goal.returns
+returns c m payload encoding = encoding_spelled schema (iso_tree m) payload encoding

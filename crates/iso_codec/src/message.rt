@@ -1,0 +1,371 @@
+//! Types of elements of the messages of ISO 15118-2.
+
+ghost use Rattle.std.specs.Prelude.{[]};
+
+use exi_documents::Refusal;
+use exi_events::EventWriter;
+use exi_schema::Places;
+use iso_parameters::{ChargeParameterDiscoveryReq, ChargeParameterDiscoveryRes};
+use iso_parts::Header;
+use iso_power::{
+    CableCheckReq, CableCheckRes, ChargingStatusReq, ChargingStatusRes, CurrentDemandReq,
+    CurrentDemandRes, PowerDeliveryReq, PowerDeliveryRes, PreChargeReq, PreChargeRes,
+    WeldingDetectionReq, WeldingDetectionRes,
+};
+use iso_schema::names;
+use iso_setup::{
+    AuthorizationReq, AuthorizationRes, PaymentServiceSelectionReq, PaymentServiceSelectionRes,
+    ServiceDetailReq, ServiceDetailRes, ServiceDiscoveryReq, ServiceDiscoveryRes, SessionSetupReq,
+    SessionSetupRes, SessionStopReq, SessionStopRes,
+};
+use message_parts::{
+    Choice, Descent, Group, PutChoice, PutRecord, Record, first_child, member, optional_choice,
+    put_optional_choice, put_record, required,
+};
+
+/// One element of the substitution group BodyElement.
+#[derive(Drop)]
+pub enum BodyElement<'a> {
+    AuthorizationReq(AuthorizationReq<'a>),
+    AuthorizationRes(AuthorizationRes),
+    CableCheckReq(CableCheckReq),
+    CableCheckRes(CableCheckRes),
+    ChargeParameterDiscoveryReq(ChargeParameterDiscoveryReq),
+    ChargeParameterDiscoveryRes(ChargeParameterDiscoveryRes),
+    ChargingStatusReq(ChargingStatusReq),
+    ChargingStatusRes(ChargingStatusRes<'a>),
+    CurrentDemandReq(CurrentDemandReq),
+    CurrentDemandRes(CurrentDemandRes<'a>),
+    PaymentServiceSelectionReq(PaymentServiceSelectionReq),
+    PaymentServiceSelectionRes(PaymentServiceSelectionRes),
+    PowerDeliveryReq(PowerDeliveryReq),
+    PowerDeliveryRes(PowerDeliveryRes),
+    PreChargeReq(PreChargeReq),
+    PreChargeRes(PreChargeRes),
+    ServiceDetailReq(ServiceDetailReq),
+    ServiceDetailRes(ServiceDetailRes<'a>),
+    ServiceDiscoveryReq(ServiceDiscoveryReq<'a>),
+    ServiceDiscoveryRes(ServiceDiscoveryRes<'a>),
+    SessionSetupReq(SessionSetupReq<'a>),
+    SessionSetupRes(SessionSetupRes<'a>),
+    SessionStopReq(SessionStopReq),
+    SessionStopRes(SessionStopRes),
+    WeldingDetectionReq(WeldingDetectionReq),
+    WeldingDetectionRes(WeldingDetectionRes),
+}
+
+impl PutChoice for BodyElement<'_> {
+    ghost use Rattle.iso_codec.specs.Message.{body_element_name, body_element_inside};
+
+    ghost name = { body_element_name };
+
+    ghost inside = { body_element_inside };
+
+    fn write_member<P: Places>(&self, writer: &mut EventWriter<'_, '_, P>) {
+        match self {
+            BodyElement::AuthorizationReq(authorization_req) => put_record(
+                writer,
+                names::AUTHORIZATION_REQ,
+                authorization_req,
+            ),
+            BodyElement::AuthorizationRes(authorization_res) => put_record(
+                writer,
+                names::AUTHORIZATION_RES,
+                authorization_res,
+            ),
+            BodyElement::CableCheckReq(cable_check_req) => put_record(
+                writer,
+                names::CABLE_CHECK_REQ,
+                cable_check_req,
+            ),
+            BodyElement::CableCheckRes(cable_check_res) => put_record(
+                writer,
+                names::CABLE_CHECK_RES,
+                cable_check_res,
+            ),
+            BodyElement::ChargeParameterDiscoveryReq(charge_parameter_discovery_req) => put_record(
+                writer,
+                names::CHARGE_PARAMETER_DISCOVERY_REQ,
+                charge_parameter_discovery_req,
+            ),
+            BodyElement::ChargeParameterDiscoveryRes(charge_parameter_discovery_res) => put_record(
+                writer,
+                names::CHARGE_PARAMETER_DISCOVERY_RES,
+                charge_parameter_discovery_res,
+            ),
+            BodyElement::ChargingStatusReq(charging_status_req) => put_record(
+                writer,
+                names::CHARGING_STATUS_REQ,
+                charging_status_req,
+            ),
+            BodyElement::ChargingStatusRes(charging_status_res) => put_record(
+                writer,
+                names::CHARGING_STATUS_RES,
+                charging_status_res,
+            ),
+            BodyElement::CurrentDemandReq(current_demand_req) => put_record(
+                writer,
+                names::CURRENT_DEMAND_REQ,
+                current_demand_req,
+            ),
+            BodyElement::CurrentDemandRes(current_demand_res) => put_record(
+                writer,
+                names::CURRENT_DEMAND_RES,
+                current_demand_res,
+            ),
+            BodyElement::PaymentServiceSelectionReq(payment_service_selection_req) => put_record(
+                writer,
+                names::PAYMENT_SERVICE_SELECTION_REQ,
+                payment_service_selection_req,
+            ),
+            BodyElement::PaymentServiceSelectionRes(payment_service_selection_res) => put_record(
+                writer,
+                names::PAYMENT_SERVICE_SELECTION_RES,
+                payment_service_selection_res,
+            ),
+            BodyElement::PowerDeliveryReq(power_delivery_req) => put_record(
+                writer,
+                names::POWER_DELIVERY_REQ,
+                power_delivery_req,
+            ),
+            BodyElement::PowerDeliveryRes(power_delivery_res) => put_record(
+                writer,
+                names::POWER_DELIVERY_RES,
+                power_delivery_res,
+            ),
+            BodyElement::PreChargeReq(pre_charge_req) => put_record(
+                writer,
+                names::PRE_CHARGE_REQ,
+                pre_charge_req,
+            ),
+            BodyElement::PreChargeRes(pre_charge_res) => put_record(
+                writer,
+                names::PRE_CHARGE_RES,
+                pre_charge_res,
+            ),
+            BodyElement::ServiceDetailReq(service_detail_req) => put_record(
+                writer,
+                names::SERVICE_DETAIL_REQ,
+                service_detail_req,
+            ),
+            BodyElement::ServiceDetailRes(service_detail_res) => put_record(
+                writer,
+                names::SERVICE_DETAIL_RES,
+                service_detail_res,
+            ),
+            BodyElement::ServiceDiscoveryReq(service_discovery_req) => put_record(
+                writer,
+                names::SERVICE_DISCOVERY_REQ,
+                service_discovery_req,
+            ),
+            BodyElement::ServiceDiscoveryRes(service_discovery_res) => put_record(
+                writer,
+                names::SERVICE_DISCOVERY_RES,
+                service_discovery_res,
+            ),
+            BodyElement::SessionSetupReq(session_setup_req) => put_record(
+                writer,
+                names::SESSION_SETUP_REQ,
+                session_setup_req,
+            ),
+            BodyElement::SessionSetupRes(session_setup_res) => put_record(
+                writer,
+                names::SESSION_SETUP_RES,
+                session_setup_res,
+            ),
+            BodyElement::SessionStopReq(session_stop_req) => put_record(
+                writer,
+                names::SESSION_STOP_REQ,
+                session_stop_req,
+            ),
+            BodyElement::SessionStopRes(session_stop_res) => put_record(
+                writer,
+                names::SESSION_STOP_RES,
+                session_stop_res,
+            ),
+            BodyElement::WeldingDetectionReq(welding_detection_req) => put_record(
+                writer,
+                names::WELDING_DETECTION_REQ,
+                welding_detection_req,
+            ),
+            BodyElement::WeldingDetectionRes(welding_detection_res) => put_record(
+                writer,
+                names::WELDING_DETECTION_RES,
+                welding_detection_res,
+            ),
+        }
+    }
+}
+
+impl<'a> Choice<'a> for BodyElement<'a> {
+    ghost use Rattle.iso_schema.specs.Declarations.{kinds};
+    ghost use Rattle.iso_codec.specs.Message.{body_element_members};
+
+    ghost kinds = { kinds };
+
+    ghost members = { body_element_members };
+
+    fn read_member<P: Places>(
+        descent: &mut Descent<'a, '_, P>,
+    ) -> Result<BodyElement<'a>, Refusal> {
+        if descent.is_at(names::AUTHORIZATION_REQ) {
+            Ok(BodyElement::AuthorizationReq(member(descent)?))
+        } else if descent.is_at(names::AUTHORIZATION_RES) {
+            Ok(BodyElement::AuthorizationRes(member(descent)?))
+        } else if descent.is_at(names::CABLE_CHECK_REQ) {
+            Ok(BodyElement::CableCheckReq(member(descent)?))
+        } else if descent.is_at(names::CABLE_CHECK_RES) {
+            Ok(BodyElement::CableCheckRes(member(descent)?))
+        } else if descent.is_at(names::CHARGE_PARAMETER_DISCOVERY_REQ) {
+            Ok(BodyElement::ChargeParameterDiscoveryReq(member(descent)?))
+        } else if descent.is_at(names::CHARGE_PARAMETER_DISCOVERY_RES) {
+            Ok(BodyElement::ChargeParameterDiscoveryRes(member(descent)?))
+        } else if descent.is_at(names::CHARGING_STATUS_REQ) {
+            Ok(BodyElement::ChargingStatusReq(member(descent)?))
+        } else if descent.is_at(names::CHARGING_STATUS_RES) {
+            Ok(BodyElement::ChargingStatusRes(member(descent)?))
+        } else if descent.is_at(names::CURRENT_DEMAND_REQ) {
+            Ok(BodyElement::CurrentDemandReq(member(descent)?))
+        } else if descent.is_at(names::CURRENT_DEMAND_RES) {
+            Ok(BodyElement::CurrentDemandRes(member(descent)?))
+        } else if descent.is_at(names::PAYMENT_SERVICE_SELECTION_REQ) {
+            Ok(BodyElement::PaymentServiceSelectionReq(member(descent)?))
+        } else if descent.is_at(names::PAYMENT_SERVICE_SELECTION_RES) {
+            Ok(BodyElement::PaymentServiceSelectionRes(member(descent)?))
+        } else if descent.is_at(names::POWER_DELIVERY_REQ) {
+            Ok(BodyElement::PowerDeliveryReq(member(descent)?))
+        } else if descent.is_at(names::POWER_DELIVERY_RES) {
+            Ok(BodyElement::PowerDeliveryRes(member(descent)?))
+        } else if descent.is_at(names::PRE_CHARGE_REQ) {
+            Ok(BodyElement::PreChargeReq(member(descent)?))
+        } else if descent.is_at(names::PRE_CHARGE_RES) {
+            Ok(BodyElement::PreChargeRes(member(descent)?))
+        } else if descent.is_at(names::SERVICE_DETAIL_REQ) {
+            Ok(BodyElement::ServiceDetailReq(member(descent)?))
+        } else if descent.is_at(names::SERVICE_DETAIL_RES) {
+            Ok(BodyElement::ServiceDetailRes(member(descent)?))
+        } else if descent.is_at(names::SERVICE_DISCOVERY_REQ) {
+            Ok(BodyElement::ServiceDiscoveryReq(member(descent)?))
+        } else if descent.is_at(names::SERVICE_DISCOVERY_RES) {
+            Ok(BodyElement::ServiceDiscoveryRes(member(descent)?))
+        } else if descent.is_at(names::SESSION_SETUP_REQ) {
+            Ok(BodyElement::SessionSetupReq(member(descent)?))
+        } else if descent.is_at(names::SESSION_SETUP_RES) {
+            Ok(BodyElement::SessionSetupRes(member(descent)?))
+        } else if descent.is_at(names::SESSION_STOP_REQ) {
+            Ok(BodyElement::SessionStopReq(member(descent)?))
+        } else if descent.is_at(names::SESSION_STOP_RES) {
+            Ok(BodyElement::SessionStopRes(member(descent)?))
+        } else if descent.is_at(names::WELDING_DETECTION_REQ) {
+            Ok(BodyElement::WeldingDetectionReq(member(descent)?))
+        } else {
+            Ok(BodyElement::WeldingDetectionRes(member(descent)?))
+        }
+    }
+}
+
+impl<'a> Group<'a> for BodyElement<'a> {
+    fn names() -> &'static [u16] {
+        &[
+            names::AUTHORIZATION_REQ,
+            names::AUTHORIZATION_RES,
+            names::CABLE_CHECK_REQ,
+            names::CABLE_CHECK_RES,
+            names::CHARGE_PARAMETER_DISCOVERY_REQ,
+            names::CHARGE_PARAMETER_DISCOVERY_RES,
+            names::CHARGING_STATUS_REQ,
+            names::CHARGING_STATUS_RES,
+            names::CURRENT_DEMAND_REQ,
+            names::CURRENT_DEMAND_RES,
+            names::PAYMENT_SERVICE_SELECTION_REQ,
+            names::PAYMENT_SERVICE_SELECTION_RES,
+            names::POWER_DELIVERY_REQ,
+            names::POWER_DELIVERY_RES,
+            names::PRE_CHARGE_REQ,
+            names::PRE_CHARGE_RES,
+            names::SERVICE_DETAIL_REQ,
+            names::SERVICE_DETAIL_RES,
+            names::SERVICE_DISCOVERY_REQ,
+            names::SERVICE_DISCOVERY_RES,
+            names::SESSION_SETUP_REQ,
+            names::SESSION_SETUP_RES,
+            names::SESSION_STOP_REQ,
+            names::SESSION_STOP_RES,
+            names::WELDING_DETECTION_REQ,
+            names::WELDING_DETECTION_RES,
+        ]
+    }
+}
+
+/// Body.
+#[derive(Drop)]
+pub struct Body<'a> {
+    pub element: Option<BodyElement<'a>>,
+}
+
+impl PutRecord for Body<'_> {
+    ghost use Rattle.iso_codec.specs.Message.{body_parts};
+
+    ghost given = { λ v. [] };
+
+    ghost parts = { body_parts };
+
+    fn write<P: Places>(&self, writer: &mut EventWriter<'_, '_, P>) {
+        put_optional_choice(writer, &self.element);
+    }
+}
+
+impl<'a> Record<'a> for Body<'a> {
+    ghost use Rattle.iso_schema.specs.Declarations.{kinds};
+    ghost use Rattle.iso_schema.specs.Frame.{body};
+
+    ghost kinds = { kinds };
+
+    ghost attributes = { [] };
+
+    ghost particles = { body };
+
+    fn read<P: Places>(descent: &mut Descent<'a, '_, P>) -> Result<Body<'a>, Refusal> {
+        first_child(descent)?;
+        let element = optional_choice(descent)?;
+        Ok(Body { element })
+    }
+}
+
+/// V2G_Message.
+#[derive(Drop)]
+pub struct IsoMessage<'a> {
+    pub header: Header<'a>,
+    pub body: Body<'a>,
+}
+
+impl PutRecord for IsoMessage<'_> {
+    ghost use Rattle.iso_codec.specs.Message.{iso_message_parts};
+
+    ghost given = { λ v. [] };
+
+    ghost parts = { iso_message_parts };
+
+    fn write<P: Places>(&self, writer: &mut EventWriter<'_, '_, P>) {
+        put_record(writer, names::HEADER, &self.header);
+        put_record(writer, names::BODY, &self.body);
+    }
+}
+
+impl<'a> Record<'a> for IsoMessage<'a> {
+    ghost use Rattle.iso_schema.specs.Declarations.{kinds};
+    ghost use Rattle.iso_schema.specs.Frame.{iso_message};
+
+    ghost kinds = { kinds };
+
+    ghost attributes = { [] };
+
+    ghost particles = { iso_message };
+
+    fn read<P: Places>(descent: &mut Descent<'a, '_, P>) -> Result<IsoMessage<'a>, Refusal> {
+        first_child(descent)?;
+        let header = required(descent)?;
+        let body = required(descent)?;
+        Ok(IsoMessage { header, body })
+    }
+}

@@ -1,0 +1,399 @@
+//! Types of elements of the messages of ISO 15118-2.
+
+ghost use Rattle.std.specs.Prelude.{[]};
+
+use arrayvec::ArrayVec;
+use exi_documents::Refusal;
+use exi_events::EventWriter;
+use exi_schema::Places;
+use iso_parts::{
+    AcEvseStatus, ChargeProgress, DcEvStatus, EvseStatus, MeterInfo, PhysicalValue, ResponseCode,
+};
+use iso_schema::names;
+use message_parts::{
+    Choice, Descent, Group, PutChoice, PutRecord, Record, Text, choice, first_child, member,
+    optional, optional_choice, optional_value, put_choice, put_optional, put_optional_choice,
+    put_optional_value, put_record, put_records, put_value, records, required, value,
+};
+
+/// ProfileEntry.
+#[derive(Clone, Copy, Debug, PartialEq, Eq, Default)]
+pub struct ProfileEntry {
+    pub charging_profile_entry_start: u32,
+    pub charging_profile_entry_max_power: PhysicalValue,
+    /// 1 to 3.
+    pub charging_profile_entry_max_number_of_phases_in_use: Option<u8>,
+}
+
+impl PutRecord for ProfileEntry {
+    ghost use Rattle.iso_power.specs.Delivery.{profile_entry_parts};
+
+    ghost given = { λ v. [] };
+
+    ghost parts = { profile_entry_parts };
+
+    fn write<P: Places>(&self, writer: &mut EventWriter<'_, '_, P>) {
+        put_value(
+            writer,
+            names::CHARGING_PROFILE_ENTRY_START,
+            &self.charging_profile_entry_start,
+        );
+        put_record(
+            writer,
+            names::CHARGING_PROFILE_ENTRY_MAX_POWER,
+            &self.charging_profile_entry_max_power,
+        );
+        put_optional_value(
+            writer,
+            names::CHARGING_PROFILE_ENTRY_MAX_NUMBER_OF_PHASES_IN_USE,
+            &self.charging_profile_entry_max_number_of_phases_in_use,
+        );
+    }
+}
+
+impl<'a> Record<'a> for ProfileEntry {
+    ghost use Rattle.iso_schema.specs.Declarations.{kinds};
+    ghost use Rattle.iso_schema.specs.Parameters.{profile_entry};
+
+    ghost kinds = { kinds };
+
+    ghost attributes = { [] };
+
+    ghost particles = { profile_entry };
+
+    fn read<P: Places>(descent: &mut Descent<'a, '_, P>) -> Result<ProfileEntry, Refusal> {
+        first_child(descent)?;
+        let charging_profile_entry_start = value(descent)?;
+        let charging_profile_entry_max_power = required(descent)?;
+        let charging_profile_entry_max_number_of_phases_in_use = optional_value(
+            descent,
+            names::CHARGING_PROFILE_ENTRY_MAX_NUMBER_OF_PHASES_IN_USE,
+        )?;
+        Ok(ProfileEntry {
+            charging_profile_entry_start,
+            charging_profile_entry_max_power,
+            charging_profile_entry_max_number_of_phases_in_use,
+        })
+    }
+}
+
+/// ChargingProfile.
+#[derive(Drop)]
+pub struct ChargingProfile {
+    /// 1 to 24.
+    pub profile_entry: ArrayVec<ProfileEntry, 24>,
+}
+
+impl PutRecord for ChargingProfile {
+    ghost use Rattle.iso_power.specs.Delivery.{charging_profile_parts};
+
+    ghost given = { λ v. [] };
+
+    ghost parts = { charging_profile_parts };
+
+    fn write<P: Places>(&self, writer: &mut EventWriter<'_, '_, P>) {
+        put_records(writer, names::PROFILE_ENTRY, &self.profile_entry);
+    }
+}
+
+impl<'a> Record<'a> for ChargingProfile {
+    ghost use Rattle.iso_schema.specs.Declarations.{kinds};
+    ghost use Rattle.iso_schema.specs.Parameters.{charging_profile};
+
+    ghost kinds = { kinds };
+
+    ghost attributes = { [] };
+
+    ghost particles = { charging_profile };
+
+    fn read<P: Places>(descent: &mut Descent<'a, '_, P>) -> Result<ChargingProfile, Refusal> {
+        first_child(descent)?;
+        let profile_entry = records(descent, names::PROFILE_ENTRY)?;
+        Ok(ChargingProfile { profile_entry })
+    }
+}
+
+/// DC_EVPowerDeliveryParameter.
+#[derive(Clone, Copy, Debug, PartialEq, Eq)]
+pub struct DcEvPowerDeliveryParameter {
+    pub dc_ev_status: DcEvStatus,
+    pub bulk_charging_complete: Option<bool>,
+    pub charging_complete: bool,
+}
+
+impl PutRecord for DcEvPowerDeliveryParameter {
+    ghost use Rattle.iso_power.specs.Delivery.{dc_ev_power_delivery_parameter_parts};
+
+    ghost given = { λ v. [] };
+
+    ghost parts = { dc_ev_power_delivery_parameter_parts };
+
+    fn write<P: Places>(&self, writer: &mut EventWriter<'_, '_, P>) {
+        put_record(writer, names::DC_EV_STATUS, &self.dc_ev_status);
+        put_optional_value(
+            writer,
+            names::BULK_CHARGING_COMPLETE,
+            &self.bulk_charging_complete,
+        );
+        put_value(writer, names::CHARGING_COMPLETE, &self.charging_complete);
+    }
+}
+
+impl<'a> Record<'a> for DcEvPowerDeliveryParameter {
+    ghost use Rattle.iso_schema.specs.Declarations.{kinds};
+    ghost use Rattle.iso_schema.specs.Parameters.{dc_ev_power_delivery_parameter};
+
+    ghost kinds = { kinds };
+
+    ghost attributes = { [] };
+
+    ghost particles = { dc_ev_power_delivery_parameter };
+
+    fn read<P: Places>(
+        descent: &mut Descent<'a, '_, P>,
+    ) -> Result<DcEvPowerDeliveryParameter, Refusal> {
+        first_child(descent)?;
+        let dc_ev_status = required(descent)?;
+        let bulk_charging_complete = optional_value(descent, names::BULK_CHARGING_COMPLETE)?;
+        let charging_complete = value(descent)?;
+        Ok(DcEvPowerDeliveryParameter {
+            dc_ev_status,
+            bulk_charging_complete,
+            charging_complete,
+        })
+    }
+}
+
+/// One element of the substitution group EVPowerDeliveryParameter.
+#[derive(Clone, Copy, Debug, PartialEq, Eq)]
+pub enum EvPowerDeliveryParameter {
+    Dc(DcEvPowerDeliveryParameter),
+}
+
+impl PutChoice for EvPowerDeliveryParameter {
+    ghost use Rattle.iso_power.specs.Delivery.{ev_power_delivery_parameter_name, ev_power_delivery_parameter_inside};
+
+    ghost name = { ev_power_delivery_parameter_name };
+
+    ghost inside = { ev_power_delivery_parameter_inside };
+
+    fn write_member<P: Places>(&self, writer: &mut EventWriter<'_, '_, P>) {
+        match self {
+            EvPowerDeliveryParameter::Dc(dc) => put_record(
+                writer,
+                names::DC_EV_POWER_DELIVERY_PARAMETER,
+                dc,
+            ),
+        }
+    }
+}
+
+impl<'a> Choice<'a> for EvPowerDeliveryParameter {
+    ghost use Rattle.iso_schema.specs.Declarations.{kinds};
+    ghost use Rattle.iso_power.specs.Delivery.{ev_power_delivery_parameter_members};
+
+    ghost kinds = { kinds };
+
+    ghost members = { ev_power_delivery_parameter_members };
+
+    fn read_member<P: Places>(
+        descent: &mut Descent<'a, '_, P>,
+    ) -> Result<EvPowerDeliveryParameter, Refusal> {
+        Ok(EvPowerDeliveryParameter::Dc(member(descent)?))
+    }
+}
+
+impl<'a> Group<'a> for EvPowerDeliveryParameter {
+    fn names() -> &'static [u16] {
+        &[names::DC_EV_POWER_DELIVERY_PARAMETER]
+    }
+}
+
+/// PowerDeliveryReq.
+#[derive(Drop)]
+pub struct PowerDeliveryReq {
+    pub charge_progress: ChargeProgress,
+    /// 1 to 255.
+    pub sa_schedule_tuple_id: u8,
+    pub charging_profile: Option<ChargingProfile>,
+    pub ev_power_delivery_parameter: Option<EvPowerDeliveryParameter>,
+}
+
+impl PutRecord for PowerDeliveryReq {
+    ghost use Rattle.iso_power.specs.Delivery.{power_delivery_req_parts};
+
+    ghost given = { λ v. [] };
+
+    ghost parts = { power_delivery_req_parts };
+
+    fn write<P: Places>(&self, writer: &mut EventWriter<'_, '_, P>) {
+        put_value(writer, names::CHARGE_PROGRESS, &self.charge_progress);
+        put_value(
+            writer,
+            names::SA_SCHEDULE_TUPLE_ID,
+            &self.sa_schedule_tuple_id,
+        );
+        put_optional(writer, names::CHARGING_PROFILE, &self.charging_profile);
+        put_optional_choice(writer, &self.ev_power_delivery_parameter);
+    }
+}
+
+impl<'a> Record<'a> for PowerDeliveryReq {
+    ghost use Rattle.iso_schema.specs.Declarations.{kinds};
+    ghost use Rattle.iso_schema.specs.Parameters.{power_delivery_req};
+
+    ghost kinds = { kinds };
+
+    ghost attributes = { [] };
+
+    ghost particles = { power_delivery_req };
+
+    fn read<P: Places>(descent: &mut Descent<'a, '_, P>) -> Result<PowerDeliveryReq, Refusal> {
+        first_child(descent)?;
+        let charge_progress = value(descent)?;
+        let sa_schedule_tuple_id = value(descent)?;
+        let charging_profile = optional(descent, names::CHARGING_PROFILE)?;
+        let ev_power_delivery_parameter = optional_choice(descent)?;
+        Ok(PowerDeliveryReq {
+            charge_progress,
+            sa_schedule_tuple_id,
+            charging_profile,
+            ev_power_delivery_parameter,
+        })
+    }
+}
+
+/// PowerDeliveryRes.
+#[derive(Clone, Copy, Debug, PartialEq, Eq)]
+pub struct PowerDeliveryRes {
+    pub response_code: ResponseCode,
+    pub evse_status: EvseStatus,
+}
+
+impl PutRecord for PowerDeliveryRes {
+    ghost use Rattle.iso_power.specs.Delivery.{power_delivery_res_parts};
+
+    ghost given = { λ v. [] };
+
+    ghost parts = { power_delivery_res_parts };
+
+    fn write<P: Places>(&self, writer: &mut EventWriter<'_, '_, P>) {
+        put_value(writer, names::RESPONSE_CODE, &self.response_code);
+        put_choice(writer, &self.evse_status);
+    }
+}
+
+impl<'a> Record<'a> for PowerDeliveryRes {
+    ghost use Rattle.iso_schema.specs.Declarations.{kinds};
+    ghost use Rattle.iso_schema.specs.Parameters.{power_delivery_res};
+
+    ghost kinds = { kinds };
+
+    ghost attributes = { [] };
+
+    ghost particles = { power_delivery_res };
+
+    fn read<P: Places>(descent: &mut Descent<'a, '_, P>) -> Result<PowerDeliveryRes, Refusal> {
+        first_child(descent)?;
+        let response_code = value(descent)?;
+        let evse_status = choice(descent)?;
+        Ok(PowerDeliveryRes {
+            response_code,
+            evse_status,
+        })
+    }
+}
+
+/// ChargingStatusReq.
+#[derive(Clone, Copy, Debug, PartialEq, Eq)]
+pub struct ChargingStatusReq;
+
+impl PutRecord for ChargingStatusReq {
+    ghost given = { λ v. [] };
+
+    ghost parts = { λ v. [] };
+
+    fn write<P: Places>(&self, _writer: &mut EventWriter<'_, '_, P>) {}
+}
+
+impl<'a> Record<'a> for ChargingStatusReq {
+    ghost use Rattle.iso_schema.specs.Declarations.{kinds};
+
+    ghost kinds = { kinds };
+
+    ghost attributes = { [] };
+
+    ghost particles = { [] };
+
+    fn read<P: Places>(descent: &mut Descent<'a, '_, P>) -> Result<ChargingStatusReq, Refusal> {
+        first_child(descent)?;
+        Ok(ChargingStatusReq)
+    }
+}
+
+/// ChargingStatusRes.
+#[derive(Drop)]
+pub struct ChargingStatusRes<'a> {
+    pub response_code: ResponseCode,
+    /// At most 37 code points.
+    pub evseid: Text<'a>,
+    /// 1 to 255.
+    pub sa_schedule_tuple_id: u8,
+    pub evse_max_current: Option<PhysicalValue>,
+    pub meter_info: Option<MeterInfo<'a>>,
+    pub receipt_required: Option<bool>,
+    pub ac_evse_status: AcEvseStatus,
+}
+
+impl PutRecord for ChargingStatusRes<'_> {
+    ghost use Rattle.iso_power.specs.Delivery.{charging_status_res_parts};
+
+    ghost given = { λ v. [] };
+
+    ghost parts = { charging_status_res_parts };
+
+    fn write<P: Places>(&self, writer: &mut EventWriter<'_, '_, P>) {
+        put_value(writer, names::RESPONSE_CODE, &self.response_code);
+        put_value(writer, names::EVSEID, &self.evseid);
+        put_value(
+            writer,
+            names::SA_SCHEDULE_TUPLE_ID,
+            &self.sa_schedule_tuple_id,
+        );
+        put_optional(writer, names::EVSE_MAX_CURRENT, &self.evse_max_current);
+        put_optional(writer, names::METER_INFO, &self.meter_info);
+        put_optional_value(writer, names::RECEIPT_REQUIRED, &self.receipt_required);
+        put_record(writer, names::AC_EVSE_STATUS, &self.ac_evse_status);
+    }
+}
+
+impl<'a> Record<'a> for ChargingStatusRes<'a> {
+    ghost use Rattle.iso_schema.specs.Declarations.{kinds};
+    ghost use Rattle.iso_schema.specs.Parameters.{charging_status_res};
+
+    ghost kinds = { kinds };
+
+    ghost attributes = { [] };
+
+    ghost particles = { charging_status_res };
+
+    fn read<P: Places>(descent: &mut Descent<'a, '_, P>) -> Result<ChargingStatusRes<'a>, Refusal> {
+        first_child(descent)?;
+        let response_code = value(descent)?;
+        let evseid = value(descent)?;
+        let sa_schedule_tuple_id = value(descent)?;
+        let evse_max_current = optional(descent, names::EVSE_MAX_CURRENT)?;
+        let meter_info = optional(descent, names::METER_INFO)?;
+        let receipt_required = optional_value(descent, names::RECEIPT_REQUIRED)?;
+        let ac_evse_status = required(descent)?;
+        Ok(ChargingStatusRes {
+            response_code,
+            evseid,
+            sa_schedule_tuple_id,
+            evse_max_current,
+            meter_info,
+            receipt_required,
+            ac_evse_status,
+        })
+    }
+}

@@ -1,0 +1,4 @@
+pub mod Session
+pub mod Services
+pub mod Details
+pub mod Selection

@@ -1,0 +1,24 @@
+//! Messages of a session's setup and stop of ISO 15118-2:2014: session setup, service discovery and detail, payment selection,
+//! authorization, session stop.
+#![tactic(auto)]
+
+mod details;
+mod selection;
+mod services;
+mod session;
+
+pub use details::{
+    Parameter, ParameterSet, ParameterValue, ServiceDetailReq, ServiceDetailRes,
+    ServiceParameterList,
+};
+pub use selection::{
+    PaymentServiceSelectionReq, PaymentServiceSelectionRes, SelectedService, SelectedServiceList,
+};
+pub use services::{
+    ChargeService, PaymentOptionList, Service, ServiceDiscoveryReq, ServiceDiscoveryRes,
+    ServiceList, SupportedEnergyTransferMode,
+};
+pub use session::{
+    AuthorizationReq, AuthorizationRes, SessionSetupReq, SessionSetupRes, SessionStopReq,
+    SessionStopRes,
+};

@@ -1,0 +1,348 @@
+//! Types of elements of the messages of ISO 15118-2.
+
+ghost use Rattle.std.specs.Prelude.{[]};
+
+use arrayvec::ArrayVec;
+use exi_documents::Refusal;
+use exi_events::EventWriter;
+use exi_schema::Places;
+use iso_parts::{EnergyTransferMode, PaymentOption, ResponseCode, ServiceCategory};
+use iso_schema::names;
+use message_parts::{
+    Descent, PutRecord, Record, Text, first_child, optional, optional_value, put_optional,
+    put_optional_value, put_record, put_records, put_value, put_values, records, required, value,
+    values,
+};
+
+/// Service.
+#[derive(Drop, Default)]
+pub struct Service<'a> {
+    pub service_id: u16,
+    /// At most 32 code points.
+    pub service_name: Option<Text<'a>>,
+    pub service_category: ServiceCategory,
+    /// At most 64 code points.
+    pub service_scope: Option<Text<'a>>,
+    pub free_service: bool,
+}
+
+impl PutRecord for Service<'_> {
+    ghost use Rattle.iso_setup.specs.Services.{service_parts};
+
+    ghost given = { λ v. [] };
+
+    ghost parts = { service_parts };
+
+    fn write<P: Places>(&self, writer: &mut EventWriter<'_, '_, P>) {
+        put_value(writer, names::SERVICE_ID, &self.service_id);
+        put_optional_value(writer, names::SERVICE_NAME, &self.service_name);
+        put_value(writer, names::SERVICE_CATEGORY, &self.service_category);
+        put_optional_value(writer, names::SERVICE_SCOPE, &self.service_scope);
+        put_value(writer, names::FREE_SERVICE, &self.free_service);
+    }
+}
+
+impl<'a> Record<'a> for Service<'a> {
+    ghost use Rattle.iso_schema.specs.Declarations.{kinds};
+    ghost use Rattle.iso_schema.specs.Setup.{service};
+
+    ghost kinds = { kinds };
+
+    ghost attributes = { [] };
+
+    ghost particles = { service };
+
+    fn read<P: Places>(descent: &mut Descent<'a, '_, P>) -> Result<Service<'a>, Refusal> {
+        first_child(descent)?;
+        let service_id = value(descent)?;
+        let service_name = optional_value(descent, names::SERVICE_NAME)?;
+        let service_category = value(descent)?;
+        let service_scope = optional_value(descent, names::SERVICE_SCOPE)?;
+        let free_service = value(descent)?;
+        Ok(Service {
+            service_id,
+            service_name,
+            service_category,
+            service_scope,
+            free_service,
+        })
+    }
+}
+
+/// ServiceList.
+#[derive(Drop)]
+pub struct ServiceList<'a> {
+    /// 1 to 8.
+    pub service: ArrayVec<Service<'a>, 8>,
+}
+
+impl PutRecord for ServiceList<'_> {
+    ghost use Rattle.iso_setup.specs.Services.{service_list_parts};
+
+    ghost given = { λ v. [] };
+
+    ghost parts = { service_list_parts };
+
+    fn write<P: Places>(&self, writer: &mut EventWriter<'_, '_, P>) {
+        put_records(writer, names::SERVICE, &self.service);
+    }
+}
+
+impl<'a> Record<'a> for ServiceList<'a> {
+    ghost use Rattle.iso_schema.specs.Declarations.{kinds};
+    ghost use Rattle.iso_schema.specs.Setup.{service_list};
+
+    ghost kinds = { kinds };
+
+    ghost attributes = { [] };
+
+    ghost particles = { service_list };
+
+    fn read<P: Places>(descent: &mut Descent<'a, '_, P>) -> Result<ServiceList<'a>, Refusal> {
+        first_child(descent)?;
+        let service = records(descent, names::SERVICE)?;
+        Ok(ServiceList { service })
+    }
+}
+
+/// SupportedEnergyTransferMode.
+#[derive(Drop)]
+pub struct SupportedEnergyTransferMode {
+    /// 1 to 6.
+    pub energy_transfer_mode: ArrayVec<EnergyTransferMode, 6>,
+}
+
+impl PutRecord for SupportedEnergyTransferMode {
+    ghost use Rattle.iso_setup.specs.Services.{supported_energy_transfer_mode_parts};
+
+    ghost given = { λ v. [] };
+
+    ghost parts = { supported_energy_transfer_mode_parts };
+
+    fn write<P: Places>(&self, writer: &mut EventWriter<'_, '_, P>) {
+        put_values(
+            writer,
+            names::ENERGY_TRANSFER_MODE,
+            &self.energy_transfer_mode,
+        );
+    }
+}
+
+impl<'a> Record<'a> for SupportedEnergyTransferMode {
+    ghost use Rattle.iso_schema.specs.Declarations.{kinds};
+    ghost use Rattle.iso_schema.specs.Setup.{supported_energy_transfer_mode};
+
+    ghost kinds = { kinds };
+
+    ghost attributes = { [] };
+
+    ghost particles = { supported_energy_transfer_mode };
+
+    fn read<P: Places>(
+        descent: &mut Descent<'a, '_, P>,
+    ) -> Result<SupportedEnergyTransferMode, Refusal> {
+        first_child(descent)?;
+        let energy_transfer_mode = values(descent, names::ENERGY_TRANSFER_MODE)?;
+        Ok(SupportedEnergyTransferMode {
+            energy_transfer_mode,
+        })
+    }
+}
+
+/// ChargeService.
+#[derive(Drop)]
+pub struct ChargeService<'a> {
+    pub service_id: u16,
+    /// At most 32 code points.
+    pub service_name: Option<Text<'a>>,
+    pub service_category: ServiceCategory,
+    /// At most 64 code points.
+    pub service_scope: Option<Text<'a>>,
+    pub free_service: bool,
+    pub supported_energy_transfer_mode: SupportedEnergyTransferMode,
+}
+
+impl PutRecord for ChargeService<'_> {
+    ghost use Rattle.iso_setup.specs.Services.{charge_service_parts};
+
+    ghost given = { λ v. [] };
+
+    ghost parts = { charge_service_parts };
+
+    fn write<P: Places>(&self, writer: &mut EventWriter<'_, '_, P>) {
+        put_value(writer, names::SERVICE_ID, &self.service_id);
+        put_optional_value(writer, names::SERVICE_NAME, &self.service_name);
+        put_value(writer, names::SERVICE_CATEGORY, &self.service_category);
+        put_optional_value(writer, names::SERVICE_SCOPE, &self.service_scope);
+        put_value(writer, names::FREE_SERVICE, &self.free_service);
+        put_record(
+            writer,
+            names::SUPPORTED_ENERGY_TRANSFER_MODE,
+            &self.supported_energy_transfer_mode,
+        );
+    }
+}
+
+impl<'a> Record<'a> for ChargeService<'a> {
+    ghost use Rattle.iso_schema.specs.Declarations.{kinds};
+    ghost use Rattle.iso_schema.specs.Setup.{charge_service};
+
+    ghost kinds = { kinds };
+
+    ghost attributes = { [] };
+
+    ghost particles = { charge_service };
+
+    fn read<P: Places>(descent: &mut Descent<'a, '_, P>) -> Result<ChargeService<'a>, Refusal> {
+        first_child(descent)?;
+        let service_id = value(descent)?;
+        let service_name = optional_value(descent, names::SERVICE_NAME)?;
+        let service_category = value(descent)?;
+        let service_scope = optional_value(descent, names::SERVICE_SCOPE)?;
+        let free_service = value(descent)?;
+        let supported_energy_transfer_mode = required(descent)?;
+        Ok(ChargeService {
+            service_id,
+            service_name,
+            service_category,
+            service_scope,
+            free_service,
+            supported_energy_transfer_mode,
+        })
+    }
+}
+
+/// PaymentOptionList.
+#[derive(Drop)]
+pub struct PaymentOptionList {
+    /// 1 to 2.
+    pub payment_option: ArrayVec<PaymentOption, 2>,
+}
+
+impl PutRecord for PaymentOptionList {
+    ghost use Rattle.iso_setup.specs.Services.{payment_option_list_parts};
+
+    ghost given = { λ v. [] };
+
+    ghost parts = { payment_option_list_parts };
+
+    fn write<P: Places>(&self, writer: &mut EventWriter<'_, '_, P>) {
+        put_values(writer, names::PAYMENT_OPTION, &self.payment_option);
+    }
+}
+
+impl<'a> Record<'a> for PaymentOptionList {
+    ghost use Rattle.iso_schema.specs.Declarations.{kinds};
+    ghost use Rattle.iso_schema.specs.Setup.{payment_option_list};
+
+    ghost kinds = { kinds };
+
+    ghost attributes = { [] };
+
+    ghost particles = { payment_option_list };
+
+    fn read<P: Places>(descent: &mut Descent<'a, '_, P>) -> Result<PaymentOptionList, Refusal> {
+        first_child(descent)?;
+        let payment_option = values(descent, names::PAYMENT_OPTION)?;
+        Ok(PaymentOptionList { payment_option })
+    }
+}
+
+/// ServiceDiscoveryReq.
+#[derive(Drop)]
+pub struct ServiceDiscoveryReq<'a> {
+    /// At most 64 code points.
+    pub service_scope: Option<Text<'a>>,
+    pub service_category: Option<ServiceCategory>,
+}
+
+impl PutRecord for ServiceDiscoveryReq<'_> {
+    ghost use Rattle.iso_setup.specs.Services.{service_discovery_req_parts};
+
+    ghost given = { λ v. [] };
+
+    ghost parts = { service_discovery_req_parts };
+
+    fn write<P: Places>(&self, writer: &mut EventWriter<'_, '_, P>) {
+        put_optional_value(writer, names::SERVICE_SCOPE, &self.service_scope);
+        put_optional_value(writer, names::SERVICE_CATEGORY, &self.service_category);
+    }
+}
+
+impl<'a> Record<'a> for ServiceDiscoveryReq<'a> {
+    ghost use Rattle.iso_schema.specs.Declarations.{kinds};
+    ghost use Rattle.iso_schema.specs.Setup.{service_discovery_req};
+
+    ghost kinds = { kinds };
+
+    ghost attributes = { [] };
+
+    ghost particles = { service_discovery_req };
+
+    fn read<P: Places>(
+        descent: &mut Descent<'a, '_, P>,
+    ) -> Result<ServiceDiscoveryReq<'a>, Refusal> {
+        first_child(descent)?;
+        let service_scope = optional_value(descent, names::SERVICE_SCOPE)?;
+        let service_category = optional_value(descent, names::SERVICE_CATEGORY)?;
+        Ok(ServiceDiscoveryReq {
+            service_scope,
+            service_category,
+        })
+    }
+}
+
+/// ServiceDiscoveryRes.
+#[derive(Drop)]
+pub struct ServiceDiscoveryRes<'a> {
+    pub response_code: ResponseCode,
+    pub payment_option_list: PaymentOptionList,
+    pub charge_service: ChargeService<'a>,
+    pub service_list: Option<ServiceList<'a>>,
+}
+
+impl PutRecord for ServiceDiscoveryRes<'_> {
+    ghost use Rattle.iso_setup.specs.Services.{service_discovery_res_parts};
+
+    ghost given = { λ v. [] };
+
+    ghost parts = { service_discovery_res_parts };
+
+    fn write<P: Places>(&self, writer: &mut EventWriter<'_, '_, P>) {
+        put_value(writer, names::RESPONSE_CODE, &self.response_code);
+        put_record(
+            writer,
+            names::PAYMENT_OPTION_LIST,
+            &self.payment_option_list,
+        );
+        put_record(writer, names::CHARGE_SERVICE, &self.charge_service);
+        put_optional(writer, names::SERVICE_LIST, &self.service_list);
+    }
+}
+
+impl<'a> Record<'a> for ServiceDiscoveryRes<'a> {
+    ghost use Rattle.iso_schema.specs.Declarations.{kinds};
+    ghost use Rattle.iso_schema.specs.Setup.{service_discovery_res};
+
+    ghost kinds = { kinds };
+
+    ghost attributes = { [] };
+
+    ghost particles = { service_discovery_res };
+
+    fn read<P: Places>(
+        descent: &mut Descent<'a, '_, P>,
+    ) -> Result<ServiceDiscoveryRes<'a>, Refusal> {
+        first_child(descent)?;
+        let response_code = value(descent)?;
+        let payment_option_list = required(descent)?;
+        let charge_service = required(descent)?;
+        let service_list = optional(descent, names::SERVICE_LIST)?;
+        Ok(ServiceDiscoveryRes {
+            response_code,
+            payment_option_list,
+            charge_service,
+            service_list,
+        })
+    }
+}

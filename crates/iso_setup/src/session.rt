@@ -1,0 +1,246 @@
+//! Types of elements of the messages of ISO 15118-2.
+
+ghost use Rattle.std.specs.Prelude.{[]};
+
+use exi_documents::Refusal;
+use exi_events::EventWriter;
+use exi_schema::Places;
+use iso_parts::{ChargingSession, EvseProcessing, ResponseCode};
+use iso_schema::names;
+use message_parts::{
+    Binary, Descent, PutRecord, Record, Text, first_child, last_attribute, optional_value,
+    put_optional_attribute, put_optional_value, put_value, value,
+};
+
+/// SessionSetupReq.
+#[derive(Drop)]
+pub struct SessionSetupReq<'a> {
+    /// At most 6 bytes.
+    pub evccid: Binary<'a>,
+}
+
+impl PutRecord for SessionSetupReq<'_> {
+    ghost use Rattle.iso_setup.specs.Session.{session_setup_req_parts};
+
+    ghost given = { λ v. [] };
+
+    ghost parts = { session_setup_req_parts };
+
+    fn write<P: Places>(&self, writer: &mut EventWriter<'_, '_, P>) {
+        put_value(writer, names::EVCCID, &self.evccid);
+    }
+}
+
+impl<'a> Record<'a> for SessionSetupReq<'a> {
+    ghost use Rattle.iso_schema.specs.Declarations.{kinds};
+    ghost use Rattle.iso_schema.specs.Setup.{session_setup_req};
+
+    ghost kinds = { kinds };
+
+    ghost attributes = { [] };
+
+    ghost particles = { session_setup_req };
+
+    fn read<P: Places>(descent: &mut Descent<'a, '_, P>) -> Result<SessionSetupReq<'a>, Refusal> {
+        first_child(descent)?;
+        let evccid = value(descent)?;
+        Ok(SessionSetupReq { evccid })
+    }
+}
+
+/// SessionSetupRes.
+#[derive(Drop)]
+pub struct SessionSetupRes<'a> {
+    pub response_code: ResponseCode,
+    /// At most 37 code points.
+    pub evseid: Text<'a>,
+    pub evse_time_stamp: Option<i64>,
+}
+
+impl PutRecord for SessionSetupRes<'_> {
+    ghost use Rattle.iso_setup.specs.Session.{session_setup_res_parts};
+
+    ghost given = { λ v. [] };
+
+    ghost parts = { session_setup_res_parts };
+
+    fn write<P: Places>(&self, writer: &mut EventWriter<'_, '_, P>) {
+        put_value(writer, names::RESPONSE_CODE, &self.response_code);
+        put_value(writer, names::EVSEID, &self.evseid);
+        put_optional_value(writer, names::EVSE_TIME_STAMP, &self.evse_time_stamp);
+    }
+}
+
+impl<'a> Record<'a> for SessionSetupRes<'a> {
+    ghost use Rattle.iso_schema.specs.Declarations.{kinds};
+    ghost use Rattle.iso_schema.specs.Setup.{session_setup_res};
+
+    ghost kinds = { kinds };
+
+    ghost attributes = { [] };
+
+    ghost particles = { session_setup_res };
+
+    fn read<P: Places>(descent: &mut Descent<'a, '_, P>) -> Result<SessionSetupRes<'a>, Refusal> {
+        first_child(descent)?;
+        let response_code = value(descent)?;
+        let evseid = value(descent)?;
+        let evse_time_stamp = optional_value(descent, names::EVSE_TIME_STAMP)?;
+        Ok(SessionSetupRes {
+            response_code,
+            evseid,
+            evse_time_stamp,
+        })
+    }
+}
+
+/// AuthorizationReq.
+#[derive(Drop)]
+pub struct AuthorizationReq<'a> {
+    /// At most 64 code points.
+    pub id: Option<Text<'a>>,
+    /// At most 16 bytes.
+    pub gen_challenge: Option<Binary<'a>>,
+}
+
+impl PutRecord for AuthorizationReq<'_> {
+    ghost use Rattle.iso_setup.specs.Session.{authorization_req_given, authorization_req_parts};
+
+    ghost given = { authorization_req_given };
+
+    ghost parts = { authorization_req_parts };
+
+    fn write<P: Places>(&self, writer: &mut EventWriter<'_, '_, P>) {
+        put_optional_attribute(writer, names::ID, &self.id);
+        put_optional_value(writer, names::GEN_CHALLENGE, &self.gen_challenge);
+    }
+}
+
+impl<'a> Record<'a> for AuthorizationReq<'a> {
+    ghost use Rattle.iso_schema.specs.Declarations.{kinds};
+    ghost use Rattle.iso_schema.specs.Setup.{authorization_req};
+    ghost use Rattle.iso_setup.specs.Session.{authorization_req_attributes};
+
+    ghost kinds = { kinds };
+
+    ghost attributes = { authorization_req_attributes };
+
+    ghost particles = { authorization_req };
+
+    fn read<P: Places>(descent: &mut Descent<'a, '_, P>) -> Result<AuthorizationReq<'a>, Refusal> {
+        let id = last_attribute(descent)?;
+        let gen_challenge = optional_value(descent, names::GEN_CHALLENGE)?;
+        Ok(AuthorizationReq { id, gen_challenge })
+    }
+}
+
+/// AuthorizationRes.
+#[derive(Clone, Copy, Debug, PartialEq, Eq)]
+pub struct AuthorizationRes {
+    pub response_code: ResponseCode,
+    pub evse_processing: EvseProcessing,
+}
+
+impl PutRecord for AuthorizationRes {
+    ghost use Rattle.iso_setup.specs.Session.{authorization_res_parts};
+
+    ghost given = { λ v. [] };
+
+    ghost parts = { authorization_res_parts };
+
+    fn write<P: Places>(&self, writer: &mut EventWriter<'_, '_, P>) {
+        put_value(writer, names::RESPONSE_CODE, &self.response_code);
+        put_value(writer, names::EVSE_PROCESSING, &self.evse_processing);
+    }
+}
+
+impl<'a> Record<'a> for AuthorizationRes {
+    ghost use Rattle.iso_schema.specs.Declarations.{kinds};
+    ghost use Rattle.iso_schema.specs.Setup.{authorization_res};
+
+    ghost kinds = { kinds };
+
+    ghost attributes = { [] };
+
+    ghost particles = { authorization_res };
+
+    fn read<P: Places>(descent: &mut Descent<'a, '_, P>) -> Result<AuthorizationRes, Refusal> {
+        first_child(descent)?;
+        let response_code = value(descent)?;
+        let evse_processing = value(descent)?;
+        Ok(AuthorizationRes {
+            response_code,
+            evse_processing,
+        })
+    }
+}
+
+/// SessionStopReq.
+#[derive(Clone, Copy, Debug, PartialEq, Eq)]
+pub struct SessionStopReq {
+    pub charging_session: ChargingSession,
+}
+
+impl PutRecord for SessionStopReq {
+    ghost use Rattle.iso_setup.specs.Session.{session_stop_req_parts};
+
+    ghost given = { λ v. [] };
+
+    ghost parts = { session_stop_req_parts };
+
+    fn write<P: Places>(&self, writer: &mut EventWriter<'_, '_, P>) {
+        put_value(writer, names::CHARGING_SESSION, &self.charging_session);
+    }
+}
+
+impl<'a> Record<'a> for SessionStopReq {
+    ghost use Rattle.iso_schema.specs.Declarations.{kinds};
+    ghost use Rattle.iso_schema.specs.Setup.{session_stop_req};
+
+    ghost kinds = { kinds };
+
+    ghost attributes = { [] };
+
+    ghost particles = { session_stop_req };
+
+    fn read<P: Places>(descent: &mut Descent<'a, '_, P>) -> Result<SessionStopReq, Refusal> {
+        first_child(descent)?;
+        let charging_session = value(descent)?;
+        Ok(SessionStopReq { charging_session })
+    }
+}
+
+/// SessionStopRes.
+#[derive(Clone, Copy, Debug, PartialEq, Eq)]
+pub struct SessionStopRes {
+    pub response_code: ResponseCode,
+}
+
+impl PutRecord for SessionStopRes {
+    ghost use Rattle.iso_setup.specs.Session.{session_stop_res_parts};
+
+    ghost given = { λ v. [] };
+
+    ghost parts = { session_stop_res_parts };
+
+    fn write<P: Places>(&self, writer: &mut EventWriter<'_, '_, P>) {
+        put_value(writer, names::RESPONSE_CODE, &self.response_code);
+    }
+}
+
+impl<'a> Record<'a> for SessionStopRes {
+    ghost use Rattle.iso_schema.specs.Declarations.{kinds};
+    ghost use Rattle.iso_schema.specs.Setup.{session_stop_res};
+
+    ghost kinds = { kinds };
+
+    ghost attributes = { [] };
+
+    ghost particles = { session_stop_res };
+
+    fn read<P: Places>(descent: &mut Descent<'a, '_, P>) -> Result<SessionStopRes, Refusal> {
+        first_child(descent)?;
+        let response_code = value(descent)?;
+        Ok(SessionStopRes { response_code })
+    }
+}

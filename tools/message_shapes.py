@@ -1,0 +1,180 @@
+"""The shapes of a dialect's types, read from the list of its declarations and from the list of its types."""
+from schema_tables import Schema
+
+NUMBERS = {
+    "Boolean": "bool", "Byte": "i8", "Short": "i16", "Int": "i32", "Long": "i64", "UnsignedShort": "u16", "UnsignedInt": "u32",
+    "UnsignedLong": "u64", "Multiplier": "i8", "Percent": "u8", "TupleID": "u8", "Phases": "u8", "IntervalStart": "u32", "IntervalDuration": "u32",
+}
+
+
+def listed_types(path):
+    """(CRATE, FILE, KINDS) of each line of the list of types."""
+    lines = [it for it in open(path, encoding="utf-8") if it.strip() and not it.startswith("#")]
+    for place, _, kinds in (it.partition(":") for it in lines):
+        yield (*place.split("/"), kinds.split())
+
+
+class Element:
+    """An element or attribute of a type. `form` is value, record, choice, attribute or out; `most` how many of a list are accepted."""
+
+    def __init__(self, t, form, name, kind, at=0, optional=False, most=None):
+        self.form, self.name, self.kind, self.at, self.optional, self.most = form, name, kind, at, optional, most
+        self.field, self.simple = name.lower(), t.is_simple(kind)
+        self.bound = t.bound(kind) if self.simple else ""
+        one = t.type_of(kind) if form != "out" else ""
+        self.type = f"Option<{one}>" if optional else f"ArrayVec<{one}, {most}>" if most else one
+        if most:
+            self.bound = f"1 to {most}" + (f", each {self.bound[0].lower()}{self.bound[1:]}" if self.bound else "")
+
+    def put(self):
+        if self.form == "attribute":
+            return "put_optional_attribute" if self.optional else "put_attribute"
+        what = "value" if self.simple else "record"
+        if self.optional:
+            return "put_optional_value" if self.simple else "put_optional"
+        return f"put_{what}s" if self.most else f"put_{what}"
+
+    def read(self):
+        if self.form == "attribute":
+            return "last_attribute" if self.optional else "attribute"
+        if self.form == "choice":
+            return "optional_choice" if self.optional else "choice"
+        if self.form == "member":
+            return "member_value" if self.simple else "member"
+        if self.most:
+            return "values" if self.simple else "records"
+        return ("optional_value" if self.optional else "value") if self.simple else "optional" if self.optional else "required"
+
+    def is_asked(self):
+        """Whether reading it names it."""
+        return self.form == "value" and bool(self.optional or self.most)
+
+
+class Types:
+    def __init__(self, path, schema, types):
+        self.s = Schema(path)
+        self.s.crate = schema
+        self.renamed, self.files = {}, []
+        for crate, file, kinds in listed_types(types):
+            self.renamed.update(it.split("=") for it in kinds if "=" in it)
+            self.files.append((crate, file, [it.split("=")[0] for it in kinds]))
+        self.kinds = {self.s.kind(it): it for it in self.s.kinds}
+        self.empty = {self.s.upper(it): it for it in self.s.empty}
+        self.choices, self.optional_choices = {}, set()
+        self.places = {kind: (crate, file) for crate, file, kinds in self.files for kind in kinds}
+        for kind, (_, particles) in self.s.content.items():
+            for it in particles:
+                if len(it.members) > 1:
+                    self.choices[self.choice_of(kind, it)] = None
+                    self.optional_choices |= {self.choice_of(kind, it)} if it.least == 0 else set()
+        for kind, (_, particles) in self.s.content.items():
+            for it in particles:
+                if len(it.members) > 1:
+                    self.choices[self.choice_of(kind, it)] = self.members(self.choice_of(kind, it), it)
+        self.defaults = self.with_defaults()
+
+    # ---- names
+
+    def lower(self, kind):
+        return self.upper(kind).lower()
+
+    def upper(self, kind):
+        return self.s.upper(self.renamed.get(kind, kind))
+
+    def camel(self, kind):
+        """A name as Rust writes a type or a variant."""
+        return "".join(word.capitalize() for word in self.upper(kind).split("_"))
+
+    def section(self, kind):
+        """The file of the schema's definitions that has a kind's particles."""
+        return next(part.capitalize() for part, kinds in self.s.parts.items() if kind in kinds)
+
+    # ---- particles
+
+    def taken(self, particle):
+        return [(name, self.empty.get(name, "Empty") if kind == "EMPTY_KIND" else self.kinds[kind]) for standing, name, kind in particle.members if standing == "Taken"]
+
+    def choice_of(self, kind, particle):
+        """The group of a particle of several elements; a choice is named after the type in which it stands."""
+        return next((it for it, listed in self.s.groups.items() if [self.s.member(m) for m in listed] == particle.members), kind + "Value")
+
+    def members(self, choice, particle):
+        """The members of a group or choice in the profile; what all their names end with is left out of their variants."""
+        taken, words = self.taken(particle), self.s.upper(choice).split("_")
+        while words and not all(name.endswith("_" + "_".join(words)) for name, _ in taken):
+            words = words[1:]
+        made = []
+        for name, kind in taken:
+            it = Element(self, "member", name, kind)
+            short = name.removesuffix("_" + "_".join(words)) if words else name
+            it.variant, it.word = "".join(word.capitalize() for word in short.split("_")), short.lower()
+            made.append(it)
+        return made
+
+    def fields(self, kind):
+        attributes, particles = self.s.content.get(kind, ([], []))
+        made = [Element(self, "attribute", name, self.kinds[of], at, not required) for at, (name, of, required) in enumerate(attributes)]
+        for at, it in enumerate(particles):
+            taken, most = self.taken(it), it.profile if it.most != 1 else None
+            if not taken:
+                made.append(Element(self, "out", it.members[0][1], "Empty", at))
+            elif len(it.members) == 1:
+                made.append(Element(self, "value", *taken[0], at, it.least == 0, most))
+            else:
+                choice = self.choice_of(kind, it)
+                made.append(Element(self, "choice", self.s.upper(choice).removeprefix(self.s.upper(kind) + "_"), choice, at, it.least == 0))
+        return made
+
+    # ---- types
+
+    def is_simple(self, kind):
+        return kind in self.s.values or kind in self.s.enumerations
+
+    def is_signed(self, kind):
+        return NUMBERS.get(kind, "u").startswith("i")
+
+    def type_of(self, kind):
+        if kind in NUMBERS:
+            return NUMBERS[kind]
+        word = kind.rstrip("0123456789")
+        return f"{word}<'a>" if kind in self.s.values else self.camel(kind) + ("<'a>" if self.lent(kind) else "")
+
+    def bound(self, kind):
+        """What values there are of a number or text that takes fewer than its type."""
+        word, *numbers = self.s.values.get(kind, "bool").split()
+        numbers = [int(it) for it in numbers]
+        if word == "bounded":
+            return f"{numbers[0]} to {numbers[0] + numbers[1] - 1}" if kind != "Byte" else ""
+        if word == "unsigned":
+            return f"At most {numbers[0]:,}" if numbers[0] not in (2**16 - 1, 2**32 - 1, 2**64 - 1) else ""
+        return f"At most {numbers[0]} code points" if word == "text" else f"At most {numbers[0]} bytes" if word == "binary" else ""
+
+    def inner(self, kind):
+        """What a type holds."""
+        if kind in self.choices:
+            return self.choices[kind]
+        return [it for it in self.fields(kind) if it.form != "out"] if kind in self.s.content else []
+
+    def lent(self, kind):
+        """Whether a type borrows from the payload."""
+        if kind in self.choices and self.choices[kind] is None:
+            particle = next(it for of, (_, its) in self.s.content.items() for it in its if len(it.members) > 1 and self.choice_of(of, it) == kind)
+            return any(self.lent(it) for _, it in self.taken(particle))
+        return kind.startswith(("Text", "Binary")) if kind in self.s.values else any(self.lent(it.kind) for it in self.inner(kind))
+
+    def is_plain(self, kind):
+        """Whether it is copied as its bits are."""
+        if self.lent(kind):
+            return False
+        return self.is_simple(kind) or all(not it.most and self.is_plain(it.kind) for it in self.inner(kind))
+
+    def with_defaults(self):
+        """The types that stand in lists, with what they hold: room for them has to be filled with some value."""
+        found, left = set(), [it.kind for kind in self.places for it in (self.inner(kind) if kind not in self.choices else []) if it.most]
+        while left:
+            kind = left.pop()
+            if kind not in found:
+                found.add(kind)
+                inner = self.inner(kind)[:1] if kind in self.choices else self.inner(kind)
+                left += [it.kind for it in inner if not it.optional]
+        return found
