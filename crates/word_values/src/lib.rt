@@ -6,4 +6,4 @@ pub mod amounts;
 pub mod items;
 
 pub use amounts::{Written, in_tenths, in_watts, written_tenths, written_volts, written_watts};
-pub use items::bytes_of;
+pub use items::{bytes_of, evse_text_of};
