@@ -8,10 +8,11 @@ NUMBERS = {
 
 
 def listed_types(path):
-    """(CRATE, FILE, KINDS) of each line of the list of types."""
+    """(CRATE, FILE, SECTION, KINDS) of each line of the list of types."""
     lines = [it for it in open(path, encoding="utf-8") if it.strip() and not it.startswith("#")]
     for place, _, kinds in (it.partition(":") for it in lines):
-        yield (*place.split("/"), kinds.split())
+        place, _, section = place.partition(" ")
+        yield (*place.split("/"), section, kinds.split())
 
 
 class Element:
@@ -54,8 +55,9 @@ class Types:
     def __init__(self, path, schema, types):
         self.s = Schema(path)
         self.s.crate = schema
-        self.renamed, self.files = {}, []
-        for crate, file, kinds in listed_types(types):
+        self.renamed, self.files, self.file_sections = {}, [], {}
+        for crate, file, section, kinds in listed_types(types):
+            self.file_sections[crate, file] = section
             self.renamed.update(it.split("=") for it in kinds if "=" in it)
             self.files.append((crate, file, [it.split("=")[0] for it in kinds]))
         self.kinds = {self.s.kind(it): it for it in self.s.kinds}

@@ -68,7 +68,7 @@ def choice(t, kind):
 
 
 def ordinals(t, crate, file, kinds):
-    lines = [f"-- {t.s.standard} 8.5: the ordinals of the values of enumerations.", "use Rattle.std.specs.Prelude.{ℕ}"]
+    lines = [f"-- {t.s.standard} {t.file_sections[crate, file]}: the ordinals of the values of enumerations.", "use Rattle.std.specs.Prelude.{ℕ}"]
     for kind in kinds:
         name = t.camel(kind)
         lines += [f"use Rattle.{crate}.specs.declared.{file}.{name}.{{{name}}}", f"use Rattle.{crate}.specs.declared.{file}.{name}.TheVariants as {t.lower(kind)}"]

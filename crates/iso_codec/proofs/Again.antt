@@ -1,5 +1,5 @@
--- What was read can be written, and so can each message of a tree of the schema.
-use Rattle.std.proofs.Common.{◌≡◌, ℕ, zero, suc, List, [], ◌∷◌, Option, Some, None, ap, sym, subst}
+-- What was read can be written, and so can each message whose parts hold what is declared.
+use Rattle.std.proofs.Common.{◌≡◌, ℕ, zero, suc, List, [], ◌∷◌, Option, Some, None, refl, ap, sym, subst}
 use Rattle.std.specs.Prelude.{slice_get}
 use Rattle.exi_schema.specs.declared.tables.RootOf.{RootOf}
 use Rattle.exi_documents.specs.Documents.{SpellsDocument}
@@ -8,9 +8,15 @@ use Rattle.exi_documents.specs.Values.{WritesValue}
 use Rattle.kind_laws.specs.Laws.{IsOfSchema}
 use Rattle.kind_laws.proofs.Documents.{encoded_exactly, spelled_exactly}
 use Rattle.message_parts.specs.Documents.{IsWritable}
-use Rattle.iso_schema.specs.Declarations.{schema}
+use Rattle.fitting_parts.proofs.Few.{few_texts}
+use Rattle.fitting_parts.proofs.Fitted.{holding_held, root_fits}
+use Rattle.iso_schema.specs.declared.kinds.TheConstants.{V2G_MESSAGE_KIND}
+use Rattle.iso_schema.specs.declared.names.TheConstants.{V2G_MESSAGE}
+use Rattle.iso_schema.specs.Declarations.{kinds, schema}
+use Rattle.iso_schema.specs.Frame.{v2g_message}
+use Rattle.iso_codec.specs.Message.{iso_message_parts}
 use Rattle.iso_codec.specs.declared.message.IsoMessage.{IsoMessage}
-use Rattle.iso_codec.specs.Documents.{iso_tree, IsIso, IsIsoMessage}
+use Rattle.iso_codec.specs.Documents.{iso_inside, iso_tree, IsIso, IsIsoMessage, IsWithin}
 
 abbrev number_of : Option RootOf → ℕ
 number_of None = 0
@@ -28,8 +34,11 @@ written tree fits =
     let number = sole_number _ named.0 _ named.1 in
     (encoding.bits, subst (λ (n : ℕ). SpellsDocument WritesValue schema n tree encoding.bits) number encoding.spelled)
 
-pub of_schema : (m : IsoMessage) → IsOfSchema schema (iso_tree m) → IsIsoMessage m
-of_schema m fits = written (iso_tree m) fits
+pub of_parts : (m : IsoMessage) → IsWithin m → IsIsoMessage m
+of_parts m is =
+    let held = holding_held kinds V2G_MESSAGE_KIND [] v2g_message [] (iso_message_parts m) refl tt is in
+    let fits = root_fits schema 0 (record { number = 76; name = V2G_MESSAGE; kind = V2G_MESSAGE_KIND }) (iso_inside m) refl held in
+    written (iso_tree m) (fits, few_texts schema (iso_tree m) refl fits)
 
 pub of_payload : (m : IsoMessage) (payload : List ℕ) → IsIso m payload → IsIsoMessage m
 of_payload m payload document =

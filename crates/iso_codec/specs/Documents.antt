@@ -6,7 +6,9 @@ use Rattle.exi_documents.specs.Refusals.{IsRefused}
 use Rattle.exi_documents.specs.Trees.{Tree}
 use Rattle.message_parts.specs.Contents.{Inside, holding, root_of}
 use Rattle.message_parts.specs.Documents.{IsWritable, PassesBytes as DocumentPasses}
-use Rattle.iso_schema.specs.Declarations.{schema}
+use Rattle.fitting_parts.specs.Fitting.{FitsParts}
+use Rattle.iso_schema.specs.Declarations.{kinds, schema}
+use Rattle.iso_schema.specs.Frame.{v2g_message}
 use Rattle.iso_schema.specs.declared.names.TheConstants.{V2G_MESSAGE}
 use Rattle.iso_schema.specs.declared.kinds.TheConstants.{V2G_MESSAGE_KIND}
 use Rattle.iso_codec.specs.declared.message.IsoMessage.{IsoMessage}
@@ -34,9 +36,13 @@ IsIso m payload = IsDocument schema (iso_tree m) payload
 abbrev pub IsIsoRefused : List ℕ → RefusalCause → ℕ → Type 0
 IsIsoRefused payload why bit = IsRefused schema payload why bit
 
--- a message within its ranges, for which some bits are written
+-- a message that can be written: some bits are written for it
 abbrev pub IsIsoMessage : IsoMessage → Type 0
 IsIsoMessage m = IsWritable schema iso_number (iso_tree m)
+
+-- its parts hold what is declared, each value within its range
+abbrev pub IsWithin : IsoMessage → Type 0
+IsWithin m = FitsParts kinds v2g_message (iso_message_parts m)
 
 -- the one payload that is written for a message
 abbrev pub IsIsoEncoding : IsoMessage → List ℕ → Type 0

@@ -3,10 +3,8 @@
 ghost use Rattle.std.specs.Prelude.{◌≡◌, ℕ, List};
 ghost use Rattle.exi_documents.specs.declared.refusal.RefusalCause.{RefusalCause};
 ghost use Rattle.document_laws.specs.Laws.{AreBytes};
-ghost use Rattle.kind_laws.specs.Laws.{IsOfSchema};
-ghost use Rattle.iso_schema.specs.Declarations.{schema};
 ghost use Rattle.iso_codec.specs.declared.message.IsoMessage.{IsoMessage};
-ghost use Rattle.iso_codec.specs.Documents.{iso_tree, IsIso, IsIsoRefused, IsIsoMessage, IsIsoEncoding};
+ghost use Rattle.iso_codec.specs.Documents.{iso_tree, IsIso, IsIsoRefused, IsIsoMessage, IsIsoEncoding, IsWithin};
 
 /// A payload that spells a message has no refusal, and another one has one at most.
 pub fn messages_and_refusals()
@@ -31,8 +29,8 @@ pub fn encodings_are_read()
     ensures { (m : IsoMessage) (payload : List ℕ) → IsIsoEncoding m payload → IsIso m payload }
 {}
 
-/// A message that was read can be written, and so can each whose tree holds what the schema says, of at most 8,192 different texts.
+/// A message that was read can be written, and so can each whose parts hold what is declared, as many texts as it may have.
 pub fn messages_are_written()
     ensures read { (m : IsoMessage) (payload : List ℕ) → IsIso m payload → IsIsoMessage m }
-    ensures fitting { (m : IsoMessage) → IsOfSchema schema (iso_tree m) → IsIsoMessage m }
+    ensures within { (m : IsoMessage) → IsWithin m → IsIsoMessage m }
 {}

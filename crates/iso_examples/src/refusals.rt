@@ -1,0 +1,103 @@
+//! Payloads that spell no message, each with the first item that can't be taken.
+
+use crate::setup::SETUP;
+use exi_documents::MOST_ENTRIES;
+use iso_codec::{IsoTables, Refusal, RefusalCause, Table, read_iso};
+use iso_schema::names;
+use std::test::*;
+
+#[test]
+fn payloads_are_refused_exactly(rt: HostRuntime) -> Result<(), Fail> {
+    let tables = IsoTables::make(rt.alloc())?;
+    let table = [
+        // a session setup without its last byte, one up to the length of SessionID, and one without it
+        (
+            "809802000000000000000011d0180004080c1014",
+            RefusalCause::ShortInput,
+            160,
+        ),
+        ("809802", RefusalCause::ShortInput, 18),
+        ("809802004080c1014181c2", RefusalCause::ShortInput, 26),
+        // a SessionID of 9 bytes, and the document number of no element
+        ("80980240", RefusalCause::TooLong, 18),
+        ("809602", RefusalCause::UnknownElement, 8),
+        // MeteringReceiptReq, BodyElement, and no element of the schema
+        (
+            "809802000000000000000010f0",
+            RefusalCause::OutOfProfile {
+                name: names::METERING_RECEIPT_REQ,
+            },
+            94,
+        ),
+        ("80980200000000000000001020", RefusalCause::Abstract, 94),
+        ("80980200000000000000001240", RefusalCause::Deviation, 94),
+    ];
+    for (hex, cause, bit) in table {
+        let payload = hex::decode(rt.alloc(), hex)?;
+        assert!(rt; payload.len() <= 65536);
+        let mut room = Table::make(rt.alloc(), MOST_ENTRIES)?;
+        assert_eq!(rt;
+            read_iso(&tables, payload.as_slice(), &mut room).err(),
+            Some(Refusal { cause, bit })
+        );
+    }
+    Ok(())
+}
+
+/// How a session setup is refused that is cut behind so many bytes: at the first bit of the first item that isn't whole. Its items begin
+/// at the bits 0, 8, 15 to 18, 26, 90, 91, 93, 94, 100 to 102, 110 and 158 to 161.
+const CUTS: [u32; 21] = [
+    0, 8, 16, 18, 26, 26, 26, 26, 26, 26, 26, 26, 94, 102, 110, 110, 110, 110, 110, 110, 160,
+];
+
+#[test]
+fn a_cut_payload_is_short_at_the_first_item_that_is_not_whole(rt: HostRuntime) -> Result<(), Fail> {
+    let tables = IsoTables::make(rt.alloc())?;
+    let mut room = Table::make(rt.alloc(), MOST_ENTRIES)?;
+    for count in 0..21 {
+        let refused = read_iso(&tables, &SETUP[..count], &mut room).err();
+        let wanted = Refusal {
+            cause: RefusalCause::ShortInput,
+            bit: CUTS[count],
+        };
+        assert_eq!(rt; refused, Some(wanted));
+    }
+    Ok(())
+}
+
+/// The event codes of a session setup: the byte, its value with the escape in the code's place, and the bit at which the code begins.
+const ESCAPES: [(usize, u8, u32); 13] = [
+    (1, 0x99, 15),
+    (2, 0x82, 16),
+    (2, 0x42, 17),
+    (11, 0x31, 90),
+    (11, 0x19, 91),
+    (11, 0x15, 93),
+    (12, 0x40, 94),
+    (12, 0xd8, 100),
+    (12, 0xd4, 101),
+    (19, 0x16, 158),
+    (19, 0x15, 159),
+    (20, 0x80, 160),
+    (20, 0x40, 161),
+];
+
+#[test]
+fn an_escape_in_place_of_an_event_is_a_deviation(rt: HostRuntime) -> Result<(), Fail> {
+    let tables = IsoTables::make(rt.alloc())?;
+    let mut room = Table::make(rt.alloc(), MOST_ENTRIES)?;
+    for (byte, value, bit) in ESCAPES {
+        let mut payload = SETUP;
+        payload[byte] = value;
+        if bit == 94 {
+            payload[11] = 0x12;
+        }
+        let refused = read_iso(&tables, &payload, &mut room).err();
+        let wanted = Refusal {
+            cause: RefusalCause::Deviation,
+            bit,
+        };
+        assert_eq!(rt; refused, Some(wanted));
+    }
+    Ok(())
+}

@@ -1,0 +1,106 @@
+//! Schedules of as many entries as are accepted, and of one more.
+
+ghost use Rattle.std.specs.Prelude.{◌≡◌, ◌≤◌, length};
+ghost use Rattle.exi_documents.specs.Values.{most_entries};
+
+use arrayvec::ArrayVec;
+use exi_documents::MOST_ENTRIES;
+use iso_codec::{BodyElement, IsoTables, Refusal, RefusalCause, Table, read_iso};
+use iso_parameters::{SaSchedules, TimeInterval};
+use message_trees::{MessageDialect, scan_text};
+use std::alloc::Global;
+use std::test::*;
+
+/// A response with three schedules of so many entries, whose starts and powers count from 1.
+fn response(alloc: Global, entries: u32) -> Result<String, Fail> {
+    let mut text = String::from_str(
+        alloc,
+        "V2G_Message{Header{SessionID=00} Body{ChargeParameterDiscoveryRes{ResponseCode=OK EVSEProcessing=Finished SAScheduleList{",
+    )?;
+    for tuple in 1..4 {
+        write!(
+            text,
+            "{}SAScheduleTuple{{SAScheduleTupleID={tuple} PMaxSchedule{{",
+            if tuple > 1 { " " } else { "" }
+        )?;
+        for entry in 0..entries {
+            write!(
+                text,
+                "{}PMaxScheduleEntry{{RelativeTimeInterval{{start={entry}}} ",
+                if entry > 0 { " " } else { "" }
+            )?;
+            write!(text, "PMax{{Multiplier=0 Unit=W Value={entry}}}}}")?;
+        }
+        text.push_str("}}")?;
+    }
+    text.push_str(
+        "} AC_EVSEChargeParameter{AC_EVSEStatus{NotificationMaxDelay=0 EVSENotification=None RCD=false} ",
+    )?;
+    text.push_str(
+        "EVSENominalVoltage{Multiplier=0 Unit=V Value=230} EVSEMaxCurrent{Multiplier=0 Unit=A Value=16}}}}}",
+    )?;
+    Ok(text)
+}
+
+/// The schedules of a message, each with how many entries it has and the start and power of the last.
+fn lasts(
+    payload: &[u8],
+    tables: &IsoTables,
+    table: &mut Table,
+) -> ArrayVec<(u8, usize, u32, i16), 3>
+    requires payload { length payload.now ≤ 65536 }
+    requires cap { table.old.cap ≡ most_entries }
+    ensures { table.new.cap ≡ most_entries }
+{
+    let mut found = ArrayVec::new();
+    let Ok(message) = read_iso(tables, payload, table) else {
+        return found;
+    };
+    let Some(BodyElement::ChargeParameterDiscoveryRes(response)) = &message.body.element else {
+        return found;
+    };
+    let Some(SaSchedules::SaScheduleList(schedules)) = &response.sa_schedules else {
+        return found;
+    };
+    for tuple in schedules.sa_schedule_tuple.as_slice() {
+        let entries = tuple.p_max_schedule.p_max_schedule_entry.as_slice();
+        let Some(last) = entries.last() else {
+            break;
+        };
+        let TimeInterval::Relative(interval) = last.time_interval;
+        let _full = found.try_push((
+            tuple.sa_schedule_tuple_id,
+            entries.len(),
+            interval.start,
+            last.p_max.value,
+        ));
+    }
+    found
+}
+
+#[test]
+fn a_schedule_has_128_entries_at_most(rt: HostRuntime) -> Result<(), Fail> {
+    let tables = IsoTables::make(rt.alloc())?;
+    let mut table = Table::make(rt.alloc(), MOST_ENTRIES)?;
+    let text = response(rt.alloc(), 128)?;
+    let Ok(payload) = scan_text(rt.alloc(), MessageDialect::Iso, text.as_str()) else {
+        return Err(Fail::from("no payload"));
+    };
+    let found = lasts(payload.bytes(), &tables, &mut table);
+    for (n, last) in found.as_slice().iter().enumerate() {
+        assert_eq!(rt; *last, (n as u8 + 1, 128, 127, 127));
+    }
+    assert_eq!(rt; found.len(), 3);
+    // an entry starts where the first schedule ends: its event code is 0 in two bits, and the end's is 1
+    let mut longer = [0; 2137];
+    assert!(rt; payload.bytes().len() == 2137);
+    longer.copy_from_slice(payload.bytes());
+    assert_eq!(rt; longer[713], 0x50);
+    longer[713] = 0x10;
+    let wanted = Refusal {
+        cause: RefusalCause::TooLong,
+        bit: 5704,
+    };
+    assert_eq!(rt; read_iso(&tables, &longer, &mut table).err(), Some(wanted));
+    Ok(())
+}

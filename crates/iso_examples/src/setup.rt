@@ -1,0 +1,45 @@
+//! A session is set up (ISO 15118-2:2014, 8.4.3.2).
+
+use exi_documents::MOST_ENTRIES;
+use iso_codec::laws::messages_are_written;
+use iso_codec::{BodyElement, IsoTables, Table, read_iso, write_iso};
+use message_parts::Binary;
+use std::test::*;
+
+/// The request of a car whose identifier is 000102030405, in a session of zeros.
+pub(crate) const SETUP: [u8; 21] = [
+    0x80, 0x98, 0x02, 0, 0, 0, 0, 0, 0, 0, 0, 0x11, 0xd0, 0x18, 0x00, 0x04, 0x08, 0x0c, 0x10, 0x14,
+    0x00,
+];
+
+/// Whether a Binary is these bytes.
+fn is_bytes(binary: &Binary<'_>, bytes: &[u8]) -> bool {
+    let mut contents = binary.span().contents();
+    for byte in bytes {
+        if contents.next() != Some(u32::from(*byte)) {
+            return false;
+        }
+    }
+    contents.next().is_none()
+}
+
+#[test]
+fn a_session_setup_is_read_and_written(rt: HostRuntime) -> Result<(), Fail> {
+    let tables = IsoTables::make(rt.alloc())?;
+    let mut table = Table::make(rt.alloc(), MOST_ENTRIES)?;
+    let Ok(message) = read_iso(&tables, &SETUP, &mut table) else {
+        return Err(Fail::from("refused"));
+    };
+    assert!(rt; is_bytes(&message.header.session_id, &[0; 8]));
+    assert!(rt; message.header.notification.is_none());
+    let Some(BodyElement::SessionSetupReq(request)) = &message.body.element else {
+        return Err(Fail::from("another message"));
+    };
+    assert!(rt; is_bytes(&request.evccid, &[0, 1, 2, 3, 4, 5]));
+    messages_are_written();
+    let mut room = [0xff; 21];
+    assert_eq!(rt; write_iso(&tables, &message, &mut room, &mut table), Ok(21));
+    assert!(rt; room == SETUP);
+    assert!(rt; write_iso(&tables, &message, &mut room[..20], &mut table).is_err());
+    Ok(())
+}
