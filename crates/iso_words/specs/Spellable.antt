@@ -9,6 +9,7 @@ use Rattle.session_words.specs.declared.limits.EvseId.TheVariants as evse
 use Rattle.session_words.specs.declared.limits.PostLimits.{PostLimits}
 use Rattle.session_words.specs.declared.limits.PostLimits.TheVariants as post
 use Rattle.session_words.specs.declared.limits.Tuple.{Tuple}
+use Rattle.session_words.specs.declared.session.SessionId.{SessionId}
 use Rattle.session_words.specs.declared.word.Ask.{Ask}
 use Rattle.session_words.specs.declared.word.Ask.TheVariants as ask
 use Rattle.session_words.specs.declared.word.Tell.{Tell}
@@ -27,6 +28,9 @@ AreTenths amount = IsTrue (can_write_tenths amount.size)
 -- watts that a Value and a Multiplier up to 3 write, but for what is dropped
 abbrev pub AreWatts : Amount → Type 0
 AreWatts amount = amount.size < 32768000
+
+abbrev pub IsService : ℕ → Type 0
+IsService number = number ≤ 65535
 
 abbrev pub IsCharge : ℕ → Type 0
 IsCharge soc = soc ≤ 100
@@ -50,7 +54,8 @@ IsSomeTuple (Some id) = IsTupleNumber id
 
 abbrev pub CanAsk : Ask → Type 0
 CanAsk (ask.SessionSetup car) = length car.items ≤ 6
-CanAsk (ask.PaymentSelection external services) = IsFromTo 1 16 (length services.items)
+CanAsk (ask.ServiceDetail service) = IsService service
+CanAsk (ask.PaymentSelection external services) = IsFromTo 1 16 (length services.items) × All IsService services.items
 CanAsk (ask.ChargeParameters mode limits) = CanCarLimits limits
 CanAsk (ask.CableCheck ready soc) = IsCharge soc
 CanAsk (ask.PreCharge ready soc voltage current) = IsCharge soc × AreTenths voltage × AreTenths current
@@ -90,6 +95,7 @@ CanPostLimits (post.Dc status current watts voltage least_current least_voltage 
 abbrev pub CanTell : Tell → Type 0
 CanTell (tell.SessionSetup id) = CanEvse id
 CanTell (tell.ServiceDiscovery free modes) = IsFromTo 1 6 (length modes.items) × All (λ m. IsTrue (is_iso_mode m)) modes.items
+CanTell (tell.ServiceDetail service) = IsService service
 CanTell (tell.ChargeParameters processing schedule limits) = IfSome schedule CanTuples × CanPostLimits limits
 CanTell (tell.PreCharge status voltage) = AreTenths voltage
 CanTell (tell.CurrentDemand status voltage current current_cut voltage_cut watts_cut most_voltage most_current most_watts id) =
@@ -101,7 +107,10 @@ CanTell other = Unit {0}
 
 -- ---- words
 
+abbrev pub CanSession : SessionId → Type 0
+CanSession session = length session.bytes.items ≤ 8
+
 abbrev pub CanSpell : Word → Type 0
-CanSpell (word.Request r) = CanAsk r.ask
-CanSpell (word.Reply r) = IsTrue (is_iso_code r.code) × CanTell r.tell
+CanSpell (word.Request r) = CanSession r.session × CanAsk r.ask
+CanSpell (word.Reply r) = CanSession r.session × IsTrue (is_iso_code r.code) × CanTell r.tell
 CanSpell word.Nothing = Unit {0}

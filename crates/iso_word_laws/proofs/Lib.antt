@@ -1,0 +1,7 @@
+pub mod Numbers
+pub mod Values
+pub mod Lists
+pub mod Requests
+pub mod Replies
+pub mod Words
+pub mod Posts
