@@ -66,7 +66,7 @@ request_element l (ask.CableCheck ready soc) = element.CableCheckReq (cable_chec
 request_element l (ask.PreCharge ready soc voltage current) = element.PreChargeReq (pre_charge_req ready soc voltage current)
 request_element l (ask.PowerDelivery progress tuple profile) = element.PowerDeliveryReq (delivery_req progress tuple profile)
 request_element l (ask.CurrentDemand ready soc voltage current) = element.CurrentDemandReq (demand_req ready soc voltage current)
-request_element l ask.ChargingStatus = element.ChargingStatusReq ChargingStatusReq
+request_element l ask.ChargingStatus = element.ChargingStatusReq (record {})
 request_element l (ask.WeldingDetection ready soc) = element.WeldingDetectionReq (welding_req ready soc)
 request_element l (ask.SessionStop pause) = element.SessionStopReq (stop_req pause)
 

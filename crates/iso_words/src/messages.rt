@@ -163,7 +163,7 @@ fn reply_element<'a>(code: Code, tell: &'a Tell) -> BodyElement<'a>
 /// A message under this identifier, without a notification.
 fn message_with<'a>(session: &'a SessionId, element: BodyElement<'a>) -> IsoMessage<'a>
     ensures session { LendsSession session.now result.header.session_id }
-    ensures element { result ≡ message_as result.header.session_id (Some element) }
+    ensures element { result ≡ message_as result.header.session_id (Some element.entry) }
 {
     IsoMessage {
         header: Header {

@@ -182,8 +182,9 @@ fn schedules_of(tuples: &ArrayVec<Tuple, 3>) -> SaSchedules
     requires { CanTuples tuples.now }
     ensures { result ≡ rule.schedules_of tuples.now }
 {
+    let all = tuples.as_slice();
     let mut list = ArrayVec::new();
-    for tuple in tuples.as_slice() {
+    for tuple in all {
         list.push(schedule_tuple(tuple));
     }
     SaSchedules::SaScheduleList(SaScheduleList {

@@ -1,6 +1,6 @@
 //! ChargeParameterDiscovery, as words have it (ISO 15118-2:2014, 8.4.3.8).
 
-ghost use Rattle.std.specs.Prelude.{◌≡◌, map};
+ghost use Rattle.std.specs.Prelude.{◌≡◌, fold, map, min};
 ghost use Rattle.iso_words.specs.ParameterWords as rule;
 
 use arrayvec::ArrayVec;
@@ -73,18 +73,25 @@ fn entry_power(entry: &PMaxScheduleEntry) -> Amount
     power_in(entry.p_max)
 }
 
+/// The least of this power and those of entries.
+fn least_with(first: u32, entries: &[PMaxScheduleEntry]) -> u32
+    ensures { result ≡ fold min first (map (λ e. (rule.entry_power e).size) entries.now) }
+{
+    let mut least = first;
+    for entry in entries {
+        least = least.min(entry_power(entry).size);
+    }
+    least
+}
+
 /// The least power of a schedule, 0 of none.
 fn least_watts(entries: &[PMaxScheduleEntry]) -> u32
     ensures { result ≡ rule.least_of (map (λ e. (rule.entry_power e).size) entries.now) }
 {
-    let Some(first) = entries.first() else {
-        return 0;
-    };
-    let mut least = entry_power(first).size;
-    for entry in &entries[1..] {
-        least = least.min(entry_power(entry).size);
+    match entries {
+        [] => 0,
+        [first, others @ ..] => least_with(entry_power(first).size, others),
     }
-    least
 }
 
 /// The least power of a schedule, right where all its units are.
@@ -114,8 +121,9 @@ fn schedules_in(schedules: &SaSchedules) -> ArrayVec<Tuple, 3>
     ensures { result ≡ rule.schedules_in schedules.now }
 {
     let SaSchedules::SaScheduleList(list) = schedules;
+    let all = list.sa_schedule_tuple.as_slice();
     let mut tuples = ArrayVec::new();
-    for tuple in list.sa_schedule_tuple.as_slice() {
+    for tuple in all {
         tuples.push(tuple_in(tuple));
     }
     tuples

@@ -1,6 +1,6 @@
 //! Messages of charging, as they are written of words (ISO 15118-2:2014, 8.4.3.9, 8.4.4 and 8.4.5).
 
-ghost use Rattle.std.specs.Prelude.{◌≡◌, IfSome, IsTrue};
+ghost use Rattle.std.specs.Prelude.{◌≡◌, IfSome};
 ghost use Rattle.iso_words.specs.PowerMessages as rule;
 ghost use Rattle.iso_words.specs.Spellable.{AreTenths, AreWatts, IsSomeTuple};
 
@@ -179,7 +179,7 @@ pub(crate) fn demand_res<'a>(
     requires most_voltage { IfSome most_voltage AreTenths }
     requires most_current { IfSome most_current AreTenths }
     requires most_watts { IfSome most_watts AreWatts }
-    ensures { result ≡ rule.demand_res code status voltage current current_cut voltage_cut watts_cut most_voltage most_current most_watts evse }
+    ensures { result ≡ rule.demand_res code status voltage current current_cut voltage_cut watts_cut most_voltage most_current most_watts evse.entry }
 {
     CurrentDemandRes {
         response_code: code,
@@ -207,7 +207,7 @@ pub(crate) fn charging_res<'a>(
     current: Option<Amount>,
 ) -> ChargingStatusRes<'a>
     requires { IfSome current AreTenths }
-    ensures { result ≡ rule.charging_res code notify evse current }
+    ensures { result ≡ rule.charging_res code notify evse.entry current }
 {
     ChargingStatusRes {
         response_code: code,

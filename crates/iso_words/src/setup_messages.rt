@@ -19,14 +19,14 @@ use session_words::{OfferedMode, Processing};
 
 /// SessionSetupReq.
 pub(crate) fn setup_req(car: Binary<'_>) -> SessionSetupReq<'_>
-    ensures { result ≡ rule.setup_req car }
+    ensures { result ≡ rule.setup_req car.entry }
 {
     SessionSetupReq { evccid: car }
 }
 
 /// SessionSetupRes.
 pub(crate) fn setup_res(code: ResponseCode, evse: Text<'_>) -> SessionSetupRes<'_>
-    ensures { result ≡ rule.setup_res code evse }
+    ensures { result ≡ rule.setup_res code evse.entry }
 {
     SessionSetupRes {
         response_code: code,
@@ -49,8 +49,9 @@ pub(crate) fn discovery_req<'a>() -> ServiceDiscoveryReq<'a>
 fn offered_modes(modes: &ArrayVec<OfferedMode, 6>) -> ArrayVec<EnergyTransferMode, 6>
     ensures { result.items ≡ map offered_as modes.now.items }
 {
+    let all = modes.as_slice();
     let mut offered = ArrayVec::new();
-    for mode in modes.as_slice() {
+    for mode in all {
         offered.push(offered_mode(*mode));
     }
     offered
@@ -133,8 +134,9 @@ fn selected_service(service: u16) -> SelectedService
 fn selected_services(services: &ArrayVec<u16, 16>) -> ArrayVec<SelectedService, 16>
     ensures { result.items ≡ map rule.selected_service services.now.items }
 {
+    let all = services.as_slice();
     let mut selected = ArrayVec::new();
-    for service in services.as_slice() {
+    for service in all {
         selected.push(selected_service(*service));
     }
     selected

@@ -37,8 +37,9 @@ pub(crate) fn setup_tell(reply: &SessionSetupRes<'_>) -> Tell
 fn offered_in(modes: &ArrayVec<EnergyTransferMode, 6>) -> ArrayVec<OfferedMode, 6>
     ensures { result.items ≡ map offered_as modes.now.items }
 {
+    let all = modes.as_slice();
     let mut offered = ArrayVec::new();
-    for mode in modes.as_slice() {
+    for mode in all {
         offered.push(offered_of(*mode));
     }
     offered
@@ -77,8 +78,9 @@ pub(crate) fn detail_tell(reply: &ServiceDetailRes<'_>) -> Tell
 fn numbers_of(services: &ArrayVec<SelectedService, 16>) -> ArrayVec<u16, 16>
     ensures { result.items ≡ map (λ s. s.service_id) services.now.items }
 {
+    let all = services.as_slice();
     let mut numbers = ArrayVec::new();
-    for service in services.as_slice() {
+    for service in all {
         numbers.push(service.service_id);
     }
     numbers
