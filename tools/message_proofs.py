@@ -26,9 +26,9 @@ def put_record(t, kind):
 
 
 def read_record(t, kind):
-    low, fields = t.lower(kind), t.fields(kind)
+    low, fields = t.declared(kind), t.fields(kind)
     attributes = [it for it in fields if it.form == "attribute"]
-    given = f"{low}_attributes" if attributes else "[]"
+    given = f"{t.lower(kind)}_attributes" if attributes else "[]"
     steps = [(it.field, f"c.in_ok-{it.field}.ensures.read kinds F {given} {low} {it.at} _ %s refl refl") for it in attributes]
     if not any(it.optional for it in attributes):
         steps.append(("first", f"c.in_ok-first_child.ensures.read kinds F {given} {low} _ %s"))
@@ -47,6 +47,15 @@ def read_record(t, kind):
         else:
             lines.append(f"    {step % last}")
     return answer("clause-read", "told", lines + ([f"    search (rules, {last})"] if signed else []))
+
+
+def put_only(t, kind):
+    """A group of one element: the value has the one shape."""
+    low, name, it = t.lower(kind), t.camel(kind), t.choices[kind][0]
+    inner = t.camel(it.kind)
+    text = f"\nonly : (o : {name}) → (x : {inner}) × (o ≡ {low}.{it.variant} x)\nonly ({low}.{it.variant} x) = (x, refl)\n"
+    lines = ["    let e = (only c.args.self.now).1 in", f"    c.{it.put()}.ensures.write F rest (rw e (rw e at h))"]
+    return text + answer("clause-write", "rest", lines)
 
 
 def put_choice(t, kind):
@@ -73,9 +82,11 @@ def read_choice(t, kind):
             absent = "tt"
             for k in reversed(range(n)):
                 absent = f"({test(k)}.ensures.absent {branch(k)}.false, {absent})"
-            fact = f"(only_last ({others}) {pair(it)} _ F.name h.kind h.here h.among {absent})"
+            others = f"({others})" if n else "[]"
+            fact = f"(only_last {others} {pair(it)} _ F.name h.kind h.here h.among {absent})"
         whole = f"{head} {fact} refl refl" + (" refl" if it.simple else "")
-        text += answer(f"in_ok-{call}-clause-read", "told", [f"    search (rules, {whole})" if t.is_signed(it.kind) else f"    {whole}"])
+        goal = f"in_ok-{call}-clause-read" if len(members) > 1 else "clause-read"
+        text += answer(goal, "told", [f"    search (rules, {whole})" if t.is_signed(it.kind) else f"    {whole}"])
     return text
 
 
@@ -83,33 +94,53 @@ def with_uses(t, crate, place, head, body):
     return head + f"use Rattle.{crate}.proofs.{place.replace('/', '.')}.Goals as goal\n" + body
 
 
-def proofs(t, crate, file, kind):
-    name, low, specs = t.camel(kind), t.lower(kind), f"Rattle.{crate}.specs.{file.capitalize()}"
-    if kind in t.choices:
-        members, files = t.choices[kind], {}
-        place = f"{file}/{name}PutChoice/write_member"
-        head = "use Rattle.std.proofs.Common.{subst}\nuse Rattle.message_parts.specs.Contents.{one_onto}\n"
-        head += f"use Rattle.message_parts.specs.Writing.{{Writes, put_of}}\nuse {specs}.{{{low}_name, {low}_inside}}\n"
-        files[place] = with_uses(t, crate, place, head, put_choice(t, kind))
-        place = f"{file}/{name}Choice/read_member"
-        rules = "rules, " if any(t.is_signed(it.kind) for it in members) else ""
-        head = f"use Rattle.std.proofs.Common.{{{rules}refl, [], ◌∷◌}}\nuse Rattle.message_parts.proofs.Chosen.{{only_last}}\n"
-        head += f"use Rattle.{t.s.crate}.specs.declared.names.TheConstants.{{{', '.join(it.name for it in members)}}}\n"
-        head += f"use Rattle.{t.s.crate}.specs.declared.kinds.TheConstants.{{{', '.join(dict.fromkeys(kind_name(t, it) for it in members))}}}\n"
-        files[place] = with_uses(t, crate, place, head, read_choice(t, kind))
-        return files
-    if kind not in t.s.content:
-        return {}
-    files = {}
-    place = f"{file}/{name}PutRecord/write"
-    files[place] = with_uses(t, crate, place, "", put_record(t, kind))
-    place = f"{file}/{name}Record/read"
-    fields = t.fields(kind)
+def put_choice_head(t, crate, file, kind):
+    name, low, members = t.camel(kind), t.lower(kind), t.choices[kind]
+    if len(members) == 1:
+        inner = t.camel(members[0].kind)
+        of_inner, of_own = (f"Rattle.{it[0]}.specs.declared.{it[1]}" for it in (t.places[members[0].kind], (crate, file)))
+        head = f"use Rattle.std.proofs.Common.{{◌≡◌, refl}}\nuse {of_inner}.{inner}.{{{inner}}}\n"
+        return head + f"use {of_own}.{name}.{{{name}}}\nuse {of_own}.{name}.TheVariants as {low}\n"
+    head = "use Rattle.std.proofs.Common.{subst}\nuse Rattle.message_parts.specs.Contents.{one_onto}\n"
+    head += "use Rattle.message_parts.specs.Writing.{Writes, put_of}\n"
+    return head + f"use Rattle.{crate}.specs.{file.capitalize()}.{{{low}_name, {low}_inside}}\n"
+
+
+def read_choice_head(t, kind):
+    members = t.choices[kind]
+    rules = "rules, " if any(t.is_signed(it.kind) for it in members) else ""
+    head = f"use Rattle.std.proofs.Common.{{{rules}refl, [], ◌∷◌}}\nuse Rattle.message_parts.proofs.Chosen.{{only_last}}\n"
+    head += f"use Rattle.{t.s.crate}.specs.declared.names.TheConstants.{{{', '.join(it.name for it in members)}}}\n"
+    kinds = dict.fromkeys(kind_name(t, it) for it in members)
+    return head + f"use Rattle.{t.s.crate}.specs.declared.kinds.TheConstants.{{{', '.join(kinds)}}}\n"
+
+
+def read_record_head(t, crate, file, kind):
+    low, fields = t.lower(kind), t.fields(kind)
     attributes = any(it.form == "attribute" for it in fields)
-    words = (["rules"] if any(t.is_signed(it.kind) for it in fields) else []) + ["refl"]
-    words += ["[]"] if not attributes or words[0] == "rules" else []
+    words = ["rules"] if any(t.is_signed(it.kind) for it in fields) else []
+    words += ["refl"] + (["[]"] if words or not attributes else [])
     head = f"use Rattle.std.proofs.Common.{{{', '.join(words)}}}\n"
-    head += f"use Rattle.{t.s.crate}.specs.Declarations.{{kinds}}\nuse Rattle.{t.s.crate}.specs.{t.section(kind)}.{{{low}}}\n"
-    head += f"use {specs}.{{{low}_attributes}}\n" if attributes else ""
-    files[place] = with_uses(t, crate, place, head, read_record(t, kind))
-    return files
+    head += f"use Rattle.{t.s.crate}.specs.Declarations.{{kinds}}\nuse Rattle.{t.s.crate}.specs.{t.section(kind)}.{{{t.declared(kind)}}}\n"
+    return head + (f"use Rattle.{crate}.specs.{file.capitalize()}.{{{low}_attributes}}\n" if attributes else "")
+
+
+def read_empty(t):
+    return answer("clause-read", "told", ["    c.in_ok-first_child.ensures.read kinds F [] [] _ h"])
+
+
+def proofs(t, crate, file, kind):
+    """The answers of each place, FILE/IMPL/FUNCTION."""
+    name, found = t.camel(kind), []
+    if kind in t.choices:
+        put = put_choice if len(t.choices[kind]) > 1 else put_only
+        found.append(("PutChoice/write_member", put_choice_head(t, crate, file, kind), put(t, kind)))
+        found.append(("Choice/read_member", read_choice_head(t, kind), read_choice(t, kind)))
+    elif kind in t.s.content:
+        found.append(("PutRecord/write", "", put_record(t, kind)))
+        found.append(("Record/read", read_record_head(t, crate, file, kind), read_record(t, kind)))
+    elif kind in t.s.empty:
+        head = f"use Rattle.std.proofs.Common.{{[]}}\nuse Rattle.{t.s.crate}.specs.Declarations.{{kinds}}\n"
+        found.append(("Record/read", head, read_empty(t)))
+    places = ((f"{file}/{name}{place}", head, body) for place, head, body in found)
+    return {place: with_uses(t, crate, place, head, body) for place, head, body in places}

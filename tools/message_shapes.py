@@ -87,6 +87,10 @@ class Types:
         """A name as Rust writes a type or a variant."""
         return "".join(word.capitalize() for word in self.upper(kind).split("_"))
 
+    def declared(self, kind):
+        """The name of a kind's particles in the schema's definitions."""
+        return self.s.lower(kind)
+
     def section(self, kind):
         """The file of the schema's definitions that has a kind's particles."""
         return next(part.capitalize() for part, kinds in self.s.parts.items() if kind in kinds)

@@ -91,7 +91,7 @@ def struct(t, crate, file, kind):
     words = ([f"{low}_given"] if attributes else []) + ([f"{low}_parts"] if kept else [])
     uses = f"    ghost use Rattle.{crate}.specs.{file.capitalize()}.{{{', '.join(words)}}};\n\n" if words else ""
     declared = f"    ghost use Rattle.{crate}.specs.{file.capitalize()}.{{{low}_attributes}};\n" if attributes else ""
-    particles = f"    ghost use Rattle.{t.s.crate}.specs.{t.section(kind)}.{{{low}}};\n" if kept else ""
+    particles = f"    ghost use Rattle.{t.s.crate}.specs.{t.section(kind)}.{{{t.declared(kind)}}};\n" if kept else ""
     writer = "writer" if puts else "_writer"
     return f"""
 /// {kind}.
@@ -114,7 +114,7 @@ impl<'a> Record<'a> for {name}{"<'a>" if lent else ""} {{
 
     ghost attributes = {{ {f"{low}_attributes" if attributes else "[]"} }};
 
-    ghost particles = {{ {low if kept else "[]"} }};
+    ghost particles = {{ {t.declared(kind) if kept else "[]"} }};
 
     fn read<P: Places>(descent: &mut Descent<'a, '_, P>) -> Result<{name}{"<'a>" if lent else ""}, Refusal> {{
 {reads}        Ok({written_struct(name, kept)})
@@ -140,9 +140,12 @@ def choice(t, crate, file, kind):
     variants = "".join(f"    /// {it.bound}.\n    {it.variant}({it.type}),\n" if it.bound else f"    {it.variant}({it.type}),\n" for it in members)
     puts = "".join(f"            {name}::{it.variant}({it.word}) => {it.put()}(writer, names::{it.name}, {it.word}),\n" for it in members)
     listed = ", ".join(f"names::{it.name}" for it in members)
+    # what the trait says of names has to be said again where the type borrows
+    clause = f"\n        ensures {{ result.now ≡ names_among {low}_members }}\n   " if lent else ""
+    uses = f"    ghost use Rattle.std.specs.Prelude.{{◌≡◌}};\n    ghost use Rattle.message_parts.specs.Particles.{{names_among}};\n    ghost use Rattle.{crate}.specs.{file.capitalize()}.{{{low}_members}};\n\n" if lent else ""
     group = f"""
 impl<'a> Group<'a> for {name}{"<'a>" if lent else ""} {{
-    fn names() -> &'static [u16] {{
+{uses}    fn names() -> &'static [u16]{clause} {{
         &[{listed}]
     }}
 }}

@@ -72,7 +72,7 @@ summed f [] = 0
 summed f (m ∷ members) = f m.kind + summed f members
 
 summed_both : (f : ℕ → ℕ) (xs ys : List Member) → summed f (xs ++ ys) ≡ summed f xs + summed f ys
-summed_both f [] ys = refl
+summed_both f [] ys = omega arith
 summed_both f (x ∷ xs) ys = omega (arith, summed_both f xs ys)
 
 member_most : (f : ℕ → ℕ) (members : List Member) (i : ℕ) (m : Member) → slice_get members i ≡ Some m → f m.kind ≤ most_of_members f members

@@ -265,7 +265,13 @@ impl<'a> Choice<'a> for BodyElement<'a> {
 }
 
 impl<'a> Group<'a> for BodyElement<'a> {
-    fn names() -> &'static [u16] {
+    ghost use Rattle.std.specs.Prelude.{◌≡◌};
+    ghost use Rattle.message_parts.specs.Particles.{names_among};
+    ghost use Rattle.iso_codec.specs.Message.{body_element_members};
+
+    fn names() -> &'static [u16]
+        ensures { result.now ≡ names_among body_element_members }
+    {
         &[
             names::AUTHORIZATION_REQ,
             names::AUTHORIZATION_RES,
@@ -354,13 +360,13 @@ impl PutRecord for IsoMessage<'_> {
 
 impl<'a> Record<'a> for IsoMessage<'a> {
     ghost use Rattle.iso_schema.specs.Declarations.{kinds};
-    ghost use Rattle.iso_schema.specs.Frame.{iso_message};
+    ghost use Rattle.iso_schema.specs.Frame.{v2g_message};
 
     ghost kinds = { kinds };
 
     ghost attributes = { [] };
 
-    ghost particles = { iso_message };
+    ghost particles = { v2g_message };
 
     fn read<P: Places>(descent: &mut Descent<'a, '_, P>) -> Result<IsoMessage<'a>, Refusal> {
         first_child(descent)?;

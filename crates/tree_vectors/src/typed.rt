@@ -2,11 +2,12 @@
 
 ghost use Rattle.std.specs.Prelude.{◌≡◌, ◌≤◌, length};
 ghost use Rattle.exi_documents.specs.Values.{most_entries};
+ghost use Rattle.din_codec.specs.Documents.{IsDin};
 ghost use Rattle.iso_codec.specs.Documents.{IsIso};
 
 use anyhow::Result;
+use din_codec::{DinMessage, DinTables, read_din, write_din};
 use exi_documents::MOST_ENTRIES;
-use iso_codec::laws::messages_are_written;
 use iso_codec::{IsoMessage, IsoTables, Refusal, Table, read_iso, write_iso};
 use message_trees::MessageDialect;
 use std::alloc::Global;
@@ -18,16 +19,18 @@ const ROOM: usize = 4096;
 #[derive(Drop)]
 pub(crate) struct Codecs {
     iso: IsoTables,
+    din: DinTables,
 }
 
 impl Codecs {
     pub(crate) fn make(alloc: Global) -> Result<Codecs> {
         Ok(Codecs {
             iso: IsoTables::make(alloc)?,
+            din: DinTables::make(alloc)?,
         })
     }
 
-    /// Whether a payload is read as a message and written again as it was, or has this refusal. A dialect without types agrees.
+    /// Whether a payload is read as a message and written again as it was, or has this refusal.
     pub(crate) fn agree(
         &self,
         alloc: Global,
@@ -37,20 +40,37 @@ impl Codecs {
     ) -> Result<bool>
         requires { length payload.now ≤ 65536 }
     {
-        if dialect != MessageDialect::Iso {
-            return Ok(true);
-        }
         let mut table = Table::make(alloc, MOST_ENTRIES)?;
-        Ok(match read_iso(&self.iso, payload, &mut table) {
-            Ok(message) => refusal.is_none()
-                && is_written_back(&self.iso, &message, payload, &mut table),
-            Err(other) => refusal == Some(other),
+        Ok(match dialect {
+            MessageDialect::App => true,
+            MessageDialect::Iso => self.agrees_in_iso(payload, refusal, &mut table),
+            MessageDialect::Din => self.agrees_in_din(payload, refusal, &mut table),
         })
+    }
+
+    fn agrees_in_iso(&self, payload: &[u8], refusal: Option<Refusal>, table: &mut Table) -> bool
+        requires payload { length payload.now ≤ 65536 }
+        requires cap { table.old.cap ≡ most_entries }
+    {
+        match read_iso(&self.iso, payload, table) {
+            Ok(message) => refusal.is_none() && is_iso_again(&self.iso, &message, payload, table),
+            Err(other) => refusal == Some(other),
+        }
+    }
+
+    fn agrees_in_din(&self, payload: &[u8], refusal: Option<Refusal>, table: &mut Table) -> bool
+        requires payload { length payload.now ≤ 65536 }
+        requires cap { table.old.cap ≡ most_entries }
+    {
+        match read_din(&self.din, payload, table) {
+            Ok(message) => refusal.is_none() && is_din_again(&self.din, &message, payload, table),
+            Err(other) => refusal == Some(other),
+        }
     }
 }
 
 /// Whether the payload is what is written for its message, in a room of its length and in no shorter one.
-fn is_written_back(
+fn is_iso_again(
     tables: &IsoTables,
     message: &IsoMessage<'_>,
     payload: &[u8],
@@ -59,7 +79,7 @@ fn is_written_back(
     requires cap { table.old.cap ≡ most_entries }
     requires read { IsIso message.now payload.now }
 {
-    messages_are_written();
+    iso_codec::laws::messages_are_written();
     let mut room = [0xff; ROOM];
     let count = payload.len();
     if count < 1 || count > ROOM {
@@ -70,4 +90,27 @@ fn is_written_back(
         return false;
     }
     write_iso(tables, message, &mut room[..count - 1], table).is_err()
+}
+
+/// The same of DIN SPEC 70121.
+fn is_din_again(
+    tables: &DinTables,
+    message: &DinMessage<'_>,
+    payload: &[u8],
+    table: &mut Table,
+) -> bool
+    requires cap { table.old.cap ≡ most_entries }
+    requires read { IsDin message.now payload.now }
+{
+    din_codec::laws::messages_are_written();
+    let mut room = [0xff; ROOM];
+    let count = payload.len();
+    if count < 1 || count > ROOM {
+        return false;
+    }
+    let written = write_din(tables, message, &mut room[..count], table);
+    if written != Ok(count as u32) || &room[..count] != payload {
+        return false;
+    }
+    write_din(tables, message, &mut room[..count - 1], table).is_err()
 }

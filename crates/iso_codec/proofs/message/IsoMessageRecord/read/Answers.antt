@@ -1,10 +1,10 @@
 use Rattle.std.proofs.Common.{refl, []}
 use Rattle.iso_schema.specs.Declarations.{kinds}
-use Rattle.iso_schema.specs.Frame.{iso_message}
+use Rattle.iso_schema.specs.Frame.{v2g_message}
 use Rattle.iso_codec.proofs.message.IsoMessageRecord.read.Goals as goal
 
 pub returns-clause-read : goal.returns-clause-read
 returns-clause-read g c = λ F told h.
-    let at_first = c.in_ok-first_child.ensures.read kinds F [] iso_message _ h in
-    let at_header = c.in_ok-header.ensures.read F [] iso_message 0 _ at_first refl refl in
-    c.in_ok-body.ensures.read F [] iso_message 1 _ at_header refl refl
+    let at_first = c.in_ok-first_child.ensures.read kinds F [] v2g_message _ h in
+    let at_header = c.in_ok-header.ensures.read F [] v2g_message 0 _ at_first refl refl in
+    c.in_ok-body.ensures.read F [] v2g_message 1 _ at_header refl refl

@@ -1,9 +1,13 @@
-use Rattle.std.proofs.Common.{subst}
-use Rattle.message_parts.specs.Contents.{one_onto}
-use Rattle.message_parts.specs.Writing.{Writes, put_of}
-use Rattle.iso_power.specs.Delivery.{ev_power_delivery_parameter_name, ev_power_delivery_parameter_inside}
+use Rattle.std.proofs.Common.{◌≡◌, refl}
+use Rattle.iso_power.specs.declared.delivery.DcEvPowerDeliveryParameter.{DcEvPowerDeliveryParameter}
+use Rattle.iso_power.specs.declared.delivery.EvPowerDeliveryParameter.{EvPowerDeliveryParameter}
+use Rattle.iso_power.specs.declared.delivery.EvPowerDeliveryParameter.TheVariants as ev_power_delivery_parameter
 use Rattle.iso_power.proofs.delivery.EvPowerDeliveryParameterPutChoice.write_member.Goals as goal
 
-pub returns-in-Dc-clause-write : goal.returns-in-Dc-clause-write
-returns-in-Dc-clause-write g c = λ F rest h.
-    c.put_record.ensures.write F rest (subst (λ o. Writes F (one_onto (ev_power_delivery_parameter_name o) (ev_power_delivery_parameter_inside o) rest) (put_of c.args.writer.now)) c.in-Dc.is h)
+only : (o : EvPowerDeliveryParameter) → (x : DcEvPowerDeliveryParameter) × (o ≡ ev_power_delivery_parameter.Dc x)
+only (ev_power_delivery_parameter.Dc x) = (x, refl)
+
+pub returns-clause-write : goal.returns-clause-write
+returns-clause-write g c = λ F rest h.
+    let e = (only c.args.self.now).1 in
+    c.put_record.ensures.write F rest (rw e (rw e at h))

@@ -1,0 +1,15 @@
+//! The messages of DIN SPEC 70121:2014 in the profile, read from payloads and written as their encodings.
+#![tactic(auto)]
+
+mod codec;
+pub mod laws;
+mod message;
+mod root;
+mod tables;
+
+pub use charge_world::NoMemory;
+pub use codec::{read_din, write_din};
+pub use exi_documents::{Refusal, RefusalCause};
+pub use exi_events::{Full, Table};
+pub use message::{Body, BodyElement, DinMessage};
+pub use tables::DinTables;

@@ -1,0 +1,340 @@
+//! Types of elements of the messages of DIN SPEC 70121.
+
+ghost use Rattle.std.specs.Prelude.{[]};
+
+use din_parts::Header;
+use din_power::{
+    CableCheckReq, CableCheckRes, ChargeParameterDiscoveryReq, ChargeParameterDiscoveryRes,
+    CurrentDemandReq, CurrentDemandRes, PowerDeliveryReq, PowerDeliveryRes, PreChargeReq,
+    PreChargeRes, WeldingDetectionReq, WeldingDetectionRes,
+};
+use din_schema::names;
+use din_setup::{
+    ContractAuthenticationReq, ContractAuthenticationRes, ServiceDiscoveryReq, ServiceDiscoveryRes,
+    ServicePaymentSelectionReq, ServicePaymentSelectionRes, SessionSetupReq, SessionSetupRes,
+    SessionStopReq, SessionStopRes,
+};
+use exi_documents::Refusal;
+use exi_events::EventWriter;
+use exi_schema::Places;
+use message_parts::{
+    Choice, Descent, Group, PutChoice, PutRecord, Record, first_child, member, optional_choice,
+    put_optional_choice, put_record, required,
+};
+
+/// One element of the substitution group BodyElement.
+#[derive(Drop)]
+pub enum BodyElement<'a> {
+    CableCheckReq(CableCheckReq),
+    CableCheckRes(CableCheckRes),
+    ChargeParameterDiscoveryReq(ChargeParameterDiscoveryReq),
+    ChargeParameterDiscoveryRes(ChargeParameterDiscoveryRes),
+    ContractAuthenticationReq(ContractAuthenticationReq<'a>),
+    ContractAuthenticationRes(ContractAuthenticationRes),
+    CurrentDemandReq(CurrentDemandReq),
+    CurrentDemandRes(CurrentDemandRes),
+    PowerDeliveryReq(PowerDeliveryReq),
+    PowerDeliveryRes(PowerDeliveryRes),
+    PreChargeReq(PreChargeReq),
+    PreChargeRes(PreChargeRes),
+    ServiceDiscoveryReq(ServiceDiscoveryReq<'a>),
+    ServiceDiscoveryRes(ServiceDiscoveryRes<'a>),
+    ServicePaymentSelectionReq(ServicePaymentSelectionReq),
+    ServicePaymentSelectionRes(ServicePaymentSelectionRes),
+    SessionSetupReq(SessionSetupReq<'a>),
+    SessionSetupRes(SessionSetupRes<'a>),
+    SessionStopReq(SessionStopReq),
+    SessionStopRes(SessionStopRes),
+    WeldingDetectionReq(WeldingDetectionReq),
+    WeldingDetectionRes(WeldingDetectionRes),
+}
+
+impl PutChoice for BodyElement<'_> {
+    ghost use Rattle.din_codec.specs.Message.{body_element_name, body_element_inside};
+
+    ghost name = { body_element_name };
+
+    ghost inside = { body_element_inside };
+
+    fn write_member<P: Places>(&self, writer: &mut EventWriter<'_, '_, P>) {
+        match self {
+            BodyElement::CableCheckReq(cable_check_req) => put_record(
+                writer,
+                names::CABLE_CHECK_REQ,
+                cable_check_req,
+            ),
+            BodyElement::CableCheckRes(cable_check_res) => put_record(
+                writer,
+                names::CABLE_CHECK_RES,
+                cable_check_res,
+            ),
+            BodyElement::ChargeParameterDiscoveryReq(charge_parameter_discovery_req) => put_record(
+                writer,
+                names::CHARGE_PARAMETER_DISCOVERY_REQ,
+                charge_parameter_discovery_req,
+            ),
+            BodyElement::ChargeParameterDiscoveryRes(charge_parameter_discovery_res) => put_record(
+                writer,
+                names::CHARGE_PARAMETER_DISCOVERY_RES,
+                charge_parameter_discovery_res,
+            ),
+            BodyElement::ContractAuthenticationReq(contract_authentication_req) => put_record(
+                writer,
+                names::CONTRACT_AUTHENTICATION_REQ,
+                contract_authentication_req,
+            ),
+            BodyElement::ContractAuthenticationRes(contract_authentication_res) => put_record(
+                writer,
+                names::CONTRACT_AUTHENTICATION_RES,
+                contract_authentication_res,
+            ),
+            BodyElement::CurrentDemandReq(current_demand_req) => put_record(
+                writer,
+                names::CURRENT_DEMAND_REQ,
+                current_demand_req,
+            ),
+            BodyElement::CurrentDemandRes(current_demand_res) => put_record(
+                writer,
+                names::CURRENT_DEMAND_RES,
+                current_demand_res,
+            ),
+            BodyElement::PowerDeliveryReq(power_delivery_req) => put_record(
+                writer,
+                names::POWER_DELIVERY_REQ,
+                power_delivery_req,
+            ),
+            BodyElement::PowerDeliveryRes(power_delivery_res) => put_record(
+                writer,
+                names::POWER_DELIVERY_RES,
+                power_delivery_res,
+            ),
+            BodyElement::PreChargeReq(pre_charge_req) => put_record(
+                writer,
+                names::PRE_CHARGE_REQ,
+                pre_charge_req,
+            ),
+            BodyElement::PreChargeRes(pre_charge_res) => put_record(
+                writer,
+                names::PRE_CHARGE_RES,
+                pre_charge_res,
+            ),
+            BodyElement::ServiceDiscoveryReq(service_discovery_req) => put_record(
+                writer,
+                names::SERVICE_DISCOVERY_REQ,
+                service_discovery_req,
+            ),
+            BodyElement::ServiceDiscoveryRes(service_discovery_res) => put_record(
+                writer,
+                names::SERVICE_DISCOVERY_RES,
+                service_discovery_res,
+            ),
+            BodyElement::ServicePaymentSelectionReq(service_payment_selection_req) => put_record(
+                writer,
+                names::SERVICE_PAYMENT_SELECTION_REQ,
+                service_payment_selection_req,
+            ),
+            BodyElement::ServicePaymentSelectionRes(service_payment_selection_res) => put_record(
+                writer,
+                names::SERVICE_PAYMENT_SELECTION_RES,
+                service_payment_selection_res,
+            ),
+            BodyElement::SessionSetupReq(session_setup_req) => put_record(
+                writer,
+                names::SESSION_SETUP_REQ,
+                session_setup_req,
+            ),
+            BodyElement::SessionSetupRes(session_setup_res) => put_record(
+                writer,
+                names::SESSION_SETUP_RES,
+                session_setup_res,
+            ),
+            BodyElement::SessionStopReq(session_stop_req) => put_record(
+                writer,
+                names::SESSION_STOP_REQ,
+                session_stop_req,
+            ),
+            BodyElement::SessionStopRes(session_stop_res) => put_record(
+                writer,
+                names::SESSION_STOP_RES,
+                session_stop_res,
+            ),
+            BodyElement::WeldingDetectionReq(welding_detection_req) => put_record(
+                writer,
+                names::WELDING_DETECTION_REQ,
+                welding_detection_req,
+            ),
+            BodyElement::WeldingDetectionRes(welding_detection_res) => put_record(
+                writer,
+                names::WELDING_DETECTION_RES,
+                welding_detection_res,
+            ),
+        }
+    }
+}
+
+impl<'a> Choice<'a> for BodyElement<'a> {
+    ghost use Rattle.din_schema.specs.Declarations.{kinds};
+    ghost use Rattle.din_codec.specs.Message.{body_element_members};
+
+    ghost kinds = { kinds };
+
+    ghost members = { body_element_members };
+
+    fn read_member<P: Places>(
+        descent: &mut Descent<'a, '_, P>,
+    ) -> Result<BodyElement<'a>, Refusal> {
+        if descent.is_at(names::CABLE_CHECK_REQ) {
+            Ok(BodyElement::CableCheckReq(member(descent)?))
+        } else if descent.is_at(names::CABLE_CHECK_RES) {
+            Ok(BodyElement::CableCheckRes(member(descent)?))
+        } else if descent.is_at(names::CHARGE_PARAMETER_DISCOVERY_REQ) {
+            Ok(BodyElement::ChargeParameterDiscoveryReq(member(descent)?))
+        } else if descent.is_at(names::CHARGE_PARAMETER_DISCOVERY_RES) {
+            Ok(BodyElement::ChargeParameterDiscoveryRes(member(descent)?))
+        } else if descent.is_at(names::CONTRACT_AUTHENTICATION_REQ) {
+            Ok(BodyElement::ContractAuthenticationReq(member(descent)?))
+        } else if descent.is_at(names::CONTRACT_AUTHENTICATION_RES) {
+            Ok(BodyElement::ContractAuthenticationRes(member(descent)?))
+        } else if descent.is_at(names::CURRENT_DEMAND_REQ) {
+            Ok(BodyElement::CurrentDemandReq(member(descent)?))
+        } else if descent.is_at(names::CURRENT_DEMAND_RES) {
+            Ok(BodyElement::CurrentDemandRes(member(descent)?))
+        } else if descent.is_at(names::POWER_DELIVERY_REQ) {
+            Ok(BodyElement::PowerDeliveryReq(member(descent)?))
+        } else if descent.is_at(names::POWER_DELIVERY_RES) {
+            Ok(BodyElement::PowerDeliveryRes(member(descent)?))
+        } else if descent.is_at(names::PRE_CHARGE_REQ) {
+            Ok(BodyElement::PreChargeReq(member(descent)?))
+        } else if descent.is_at(names::PRE_CHARGE_RES) {
+            Ok(BodyElement::PreChargeRes(member(descent)?))
+        } else if descent.is_at(names::SERVICE_DISCOVERY_REQ) {
+            Ok(BodyElement::ServiceDiscoveryReq(member(descent)?))
+        } else if descent.is_at(names::SERVICE_DISCOVERY_RES) {
+            Ok(BodyElement::ServiceDiscoveryRes(member(descent)?))
+        } else if descent.is_at(names::SERVICE_PAYMENT_SELECTION_REQ) {
+            Ok(BodyElement::ServicePaymentSelectionReq(member(descent)?))
+        } else if descent.is_at(names::SERVICE_PAYMENT_SELECTION_RES) {
+            Ok(BodyElement::ServicePaymentSelectionRes(member(descent)?))
+        } else if descent.is_at(names::SESSION_SETUP_REQ) {
+            Ok(BodyElement::SessionSetupReq(member(descent)?))
+        } else if descent.is_at(names::SESSION_SETUP_RES) {
+            Ok(BodyElement::SessionSetupRes(member(descent)?))
+        } else if descent.is_at(names::SESSION_STOP_REQ) {
+            Ok(BodyElement::SessionStopReq(member(descent)?))
+        } else if descent.is_at(names::SESSION_STOP_RES) {
+            Ok(BodyElement::SessionStopRes(member(descent)?))
+        } else if descent.is_at(names::WELDING_DETECTION_REQ) {
+            Ok(BodyElement::WeldingDetectionReq(member(descent)?))
+        } else {
+            Ok(BodyElement::WeldingDetectionRes(member(descent)?))
+        }
+    }
+}
+
+impl<'a> Group<'a> for BodyElement<'a> {
+    ghost use Rattle.std.specs.Prelude.{◌≡◌};
+    ghost use Rattle.message_parts.specs.Particles.{names_among};
+    ghost use Rattle.din_codec.specs.Message.{body_element_members};
+
+    fn names() -> &'static [u16]
+        ensures { result.now ≡ names_among body_element_members }
+    {
+        &[
+            names::CABLE_CHECK_REQ,
+            names::CABLE_CHECK_RES,
+            names::CHARGE_PARAMETER_DISCOVERY_REQ,
+            names::CHARGE_PARAMETER_DISCOVERY_RES,
+            names::CONTRACT_AUTHENTICATION_REQ,
+            names::CONTRACT_AUTHENTICATION_RES,
+            names::CURRENT_DEMAND_REQ,
+            names::CURRENT_DEMAND_RES,
+            names::POWER_DELIVERY_REQ,
+            names::POWER_DELIVERY_RES,
+            names::PRE_CHARGE_REQ,
+            names::PRE_CHARGE_RES,
+            names::SERVICE_DISCOVERY_REQ,
+            names::SERVICE_DISCOVERY_RES,
+            names::SERVICE_PAYMENT_SELECTION_REQ,
+            names::SERVICE_PAYMENT_SELECTION_RES,
+            names::SESSION_SETUP_REQ,
+            names::SESSION_SETUP_RES,
+            names::SESSION_STOP_REQ,
+            names::SESSION_STOP_RES,
+            names::WELDING_DETECTION_REQ,
+            names::WELDING_DETECTION_RES,
+        ]
+    }
+}
+
+/// Body.
+#[derive(Drop)]
+pub struct Body<'a> {
+    pub element: Option<BodyElement<'a>>,
+}
+
+impl PutRecord for Body<'_> {
+    ghost use Rattle.din_codec.specs.Message.{body_parts};
+
+    ghost given = { λ v. [] };
+
+    ghost parts = { body_parts };
+
+    fn write<P: Places>(&self, writer: &mut EventWriter<'_, '_, P>) {
+        put_optional_choice(writer, &self.element);
+    }
+}
+
+impl<'a> Record<'a> for Body<'a> {
+    ghost use Rattle.din_schema.specs.Declarations.{kinds};
+    ghost use Rattle.din_schema.specs.Frame.{body};
+
+    ghost kinds = { kinds };
+
+    ghost attributes = { [] };
+
+    ghost particles = { body };
+
+    fn read<P: Places>(descent: &mut Descent<'a, '_, P>) -> Result<Body<'a>, Refusal> {
+        first_child(descent)?;
+        let element = optional_choice(descent)?;
+        Ok(Body { element })
+    }
+}
+
+/// V2G_Message.
+#[derive(Drop)]
+pub struct DinMessage<'a> {
+    pub header: Header<'a>,
+    pub body: Body<'a>,
+}
+
+impl PutRecord for DinMessage<'_> {
+    ghost use Rattle.din_codec.specs.Message.{din_message_parts};
+
+    ghost given = { λ v. [] };
+
+    ghost parts = { din_message_parts };
+
+    fn write<P: Places>(&self, writer: &mut EventWriter<'_, '_, P>) {
+        put_record(writer, names::HEADER, &self.header);
+        put_record(writer, names::BODY, &self.body);
+    }
+}
+
+impl<'a> Record<'a> for DinMessage<'a> {
+    ghost use Rattle.din_schema.specs.Declarations.{kinds};
+    ghost use Rattle.din_schema.specs.Frame.{v2g_message};
+
+    ghost kinds = { kinds };
+
+    ghost attributes = { [] };
+
+    ghost particles = { v2g_message };
+
+    fn read<P: Places>(descent: &mut Descent<'a, '_, P>) -> Result<DinMessage<'a>, Refusal> {
+        first_child(descent)?;
+        let header = required(descent)?;
+        let body = required(descent)?;
+        Ok(DinMessage { header, body })
+    }
+}

@@ -1,0 +1,4 @@
+pub mod Codes
+pub mod Enumerations
+pub mod Values
+pub mod Frame

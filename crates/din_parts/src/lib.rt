@@ -1,0 +1,17 @@
+//! What the messages of DIN SPEC 70121:2014 share: enumerations, physical values, the states of both ends, and the header of a message.
+#![tactic(auto)]
+
+mod codes;
+mod enumerations;
+mod frame;
+mod values;
+
+pub use codes::{
+    EnergyTransferMode, EvseProcessing, PaymentOption, ResponseCode, ServiceCategory,
+    SupportedEnergyTransferType,
+};
+pub use enumerations::{
+    EvErrorCode, EvseNotification, EvseStatusCode, FaultCode, IsolationLevel, UnitSymbol,
+};
+pub use frame::{Header, Notification};
+pub use values::{DcEvStatus, DcEvseStatus, EvseStatus, PhysicalValue};

@@ -1,0 +1,213 @@
+//! Types of elements of the messages of DIN SPEC 70121.
+
+ghost use Rattle.std.specs.Prelude.{[]};
+
+use crate::enumerations::{
+    EvErrorCode, EvseNotification, EvseStatusCode, IsolationLevel, UnitSymbol,
+};
+use din_schema::names;
+use exi_documents::Refusal;
+use exi_events::EventWriter;
+use exi_schema::Places;
+use message_parts::{
+    Choice, Descent, PutChoice, PutRecord, Record, first_child, member, optional_value,
+    put_optional_value, put_record, put_value, value,
+};
+
+/// PhysicalValue.
+#[derive(Clone, Copy, Debug, PartialEq, Eq)]
+pub struct PhysicalValue {
+    /// -3 to 3.
+    pub multiplier: i8,
+    pub unit: Option<UnitSymbol>,
+    pub value: i16,
+}
+
+impl PutRecord for PhysicalValue {
+    ghost use Rattle.din_parts.specs.Values.{physical_value_parts};
+
+    ghost given = { λ v. [] };
+
+    ghost parts = { physical_value_parts };
+
+    fn write<P: Places>(&self, writer: &mut EventWriter<'_, '_, P>) {
+        put_value(writer, names::MULTIPLIER, &self.multiplier);
+        put_optional_value(writer, names::UNIT, &self.unit);
+        put_value(writer, names::VALUE, &self.value);
+    }
+}
+
+impl<'a> Record<'a> for PhysicalValue {
+    ghost use Rattle.din_schema.specs.Declarations.{kinds};
+    ghost use Rattle.din_schema.specs.Frame.{physical_value};
+
+    ghost kinds = { kinds };
+
+    ghost attributes = { [] };
+
+    ghost particles = { physical_value };
+
+    fn read<P: Places>(descent: &mut Descent<'a, '_, P>) -> Result<PhysicalValue, Refusal> {
+        first_child(descent)?;
+        let multiplier = value(descent)?;
+        let unit = optional_value(descent, names::UNIT)?;
+        let value = value(descent)?;
+        Ok(PhysicalValue {
+            multiplier,
+            unit,
+            value,
+        })
+    }
+}
+
+/// DC_EVStatus.
+#[derive(Clone, Copy, Debug, PartialEq, Eq)]
+pub struct DcEvStatus {
+    pub ev_ready: bool,
+    pub ev_cabin_conditioning: Option<bool>,
+    pub evress_conditioning: Option<bool>,
+    pub ev_error_code: EvErrorCode,
+    /// 0 to 100.
+    pub evress_soc: u8,
+}
+
+impl PutRecord for DcEvStatus {
+    ghost use Rattle.din_parts.specs.Values.{dc_ev_status_parts};
+
+    ghost given = { λ v. [] };
+
+    ghost parts = { dc_ev_status_parts };
+
+    fn write<P: Places>(&self, writer: &mut EventWriter<'_, '_, P>) {
+        put_value(writer, names::EV_READY, &self.ev_ready);
+        put_optional_value(
+            writer,
+            names::EV_CABIN_CONDITIONING,
+            &self.ev_cabin_conditioning,
+        );
+        put_optional_value(
+            writer,
+            names::EVRESS_CONDITIONING,
+            &self.evress_conditioning,
+        );
+        put_value(writer, names::EV_ERROR_CODE, &self.ev_error_code);
+        put_value(writer, names::EVRESS_SOC, &self.evress_soc);
+    }
+}
+
+impl<'a> Record<'a> for DcEvStatus {
+    ghost use Rattle.din_schema.specs.Declarations.{kinds};
+    ghost use Rattle.din_schema.specs.Frame.{dc_ev_status};
+
+    ghost kinds = { kinds };
+
+    ghost attributes = { [] };
+
+    ghost particles = { dc_ev_status };
+
+    fn read<P: Places>(descent: &mut Descent<'a, '_, P>) -> Result<DcEvStatus, Refusal> {
+        first_child(descent)?;
+        let ev_ready = value(descent)?;
+        let ev_cabin_conditioning = optional_value(descent, names::EV_CABIN_CONDITIONING)?;
+        let evress_conditioning = optional_value(descent, names::EVRESS_CONDITIONING)?;
+        let ev_error_code = value(descent)?;
+        let evress_soc = value(descent)?;
+        Ok(DcEvStatus {
+            ev_ready,
+            ev_cabin_conditioning,
+            evress_conditioning,
+            ev_error_code,
+            evress_soc,
+        })
+    }
+}
+
+/// DC_EVSEStatus.
+#[derive(Clone, Copy, Debug, PartialEq, Eq)]
+pub struct DcEvseStatus {
+    pub evse_isolation_status: Option<IsolationLevel>,
+    pub evse_status_code: EvseStatusCode,
+    pub notification_max_delay: u32,
+    pub evse_notification: EvseNotification,
+}
+
+impl PutRecord for DcEvseStatus {
+    ghost use Rattle.din_parts.specs.Values.{dc_evse_status_parts};
+
+    ghost given = { λ v. [] };
+
+    ghost parts = { dc_evse_status_parts };
+
+    fn write<P: Places>(&self, writer: &mut EventWriter<'_, '_, P>) {
+        put_optional_value(
+            writer,
+            names::EVSE_ISOLATION_STATUS,
+            &self.evse_isolation_status,
+        );
+        put_value(writer, names::EVSE_STATUS_CODE, &self.evse_status_code);
+        put_value(
+            writer,
+            names::NOTIFICATION_MAX_DELAY,
+            &self.notification_max_delay,
+        );
+        put_value(writer, names::EVSE_NOTIFICATION, &self.evse_notification);
+    }
+}
+
+impl<'a> Record<'a> for DcEvseStatus {
+    ghost use Rattle.din_schema.specs.Declarations.{kinds};
+    ghost use Rattle.din_schema.specs.Frame.{dc_evse_status};
+
+    ghost kinds = { kinds };
+
+    ghost attributes = { [] };
+
+    ghost particles = { dc_evse_status };
+
+    fn read<P: Places>(descent: &mut Descent<'a, '_, P>) -> Result<DcEvseStatus, Refusal> {
+        first_child(descent)?;
+        let evse_isolation_status = optional_value(descent, names::EVSE_ISOLATION_STATUS)?;
+        let evse_status_code = value(descent)?;
+        let notification_max_delay = value(descent)?;
+        let evse_notification = value(descent)?;
+        Ok(DcEvseStatus {
+            evse_isolation_status,
+            evse_status_code,
+            notification_max_delay,
+            evse_notification,
+        })
+    }
+}
+
+/// One element of the substitution group EVSEStatus.
+#[derive(Clone, Copy, Debug, PartialEq, Eq)]
+pub enum EvseStatus {
+    Dc(DcEvseStatus),
+}
+
+impl PutChoice for EvseStatus {
+    ghost use Rattle.din_parts.specs.Values.{evse_status_name, evse_status_inside};
+
+    ghost name = { evse_status_name };
+
+    ghost inside = { evse_status_inside };
+
+    fn write_member<P: Places>(&self, writer: &mut EventWriter<'_, '_, P>) {
+        match self {
+            EvseStatus::Dc(dc) => put_record(writer, names::DC_EVSE_STATUS, dc),
+        }
+    }
+}
+
+impl<'a> Choice<'a> for EvseStatus {
+    ghost use Rattle.din_schema.specs.Declarations.{kinds};
+    ghost use Rattle.din_parts.specs.Values.{evse_status_members};
+
+    ghost kinds = { kinds };
+
+    ghost members = { evse_status_members };
+
+    fn read_member<P: Places>(descent: &mut Descent<'a, '_, P>) -> Result<EvseStatus, Refusal> {
+        Ok(EvseStatus::Dc(member(descent)?))
+    }
+}

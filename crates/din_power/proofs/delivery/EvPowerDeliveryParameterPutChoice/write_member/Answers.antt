@@ -1,0 +1,13 @@
+use Rattle.std.proofs.Common.{◌≡◌, refl}
+use Rattle.din_power.specs.declared.delivery.DcEvPowerDeliveryParameter.{DcEvPowerDeliveryParameter}
+use Rattle.din_power.specs.declared.delivery.EvPowerDeliveryParameter.{EvPowerDeliveryParameter}
+use Rattle.din_power.specs.declared.delivery.EvPowerDeliveryParameter.TheVariants as ev_power_delivery_parameter
+use Rattle.din_power.proofs.delivery.EvPowerDeliveryParameterPutChoice.write_member.Goals as goal
+
+only : (o : EvPowerDeliveryParameter) → (x : DcEvPowerDeliveryParameter) × (o ≡ ev_power_delivery_parameter.Dc x)
+only (ev_power_delivery_parameter.Dc x) = (x, refl)
+
+pub returns-clause-write : goal.returns-clause-write
+returns-clause-write g c = λ F rest h.
+    let e = (only c.args.self.now).1 in
+    c.put_record.ensures.write F rest (rw e (rw e at h))

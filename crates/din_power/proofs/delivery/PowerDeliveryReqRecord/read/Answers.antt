@@ -1,0 +1,11 @@
+use Rattle.std.proofs.Common.{refl, []}
+use Rattle.din_schema.specs.Declarations.{kinds}
+use Rattle.din_schema.specs.Parameters.{power_delivery_req}
+use Rattle.din_power.proofs.delivery.PowerDeliveryReqRecord.read.Goals as goal
+
+pub returns-clause-read : goal.returns-clause-read
+returns-clause-read g c = λ F told h.
+    let at_first = c.in_ok-first_child.ensures.read kinds F [] power_delivery_req _ h in
+    let at_ready_to_charge_state = c.in_ok-ready_to_charge_state.ensures.read kinds F [] power_delivery_req 0 _ at_first refl refl in
+    let at_charging_profile = c.in_ok-charging_profile.ensures.read F [] power_delivery_req 1 _ at_ready_to_charge_state refl refl refl in
+    c.in_ok-ev_power_delivery_parameter.ensures.read F [] power_delivery_req 2 _ at_charging_profile refl refl

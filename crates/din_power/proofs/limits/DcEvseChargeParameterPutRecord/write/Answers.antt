@@ -1,0 +1,7 @@
+use Rattle.din_power.proofs.limits.DcEvseChargeParameterPutRecord.write.Goals as goal
+
+pub returns-clause-write : goal.returns-clause-write
+returns-clause-write g c = λ F rest h.
+    c.put_optional-3.ensures.write F _ (c.put_record-6.ensures.write F _ (c.put_optional-2.ensures.write F _ (
+    c.put_record-5.ensures.write F _ (c.put_record-4.ensures.write F _ (c.put_record-3.ensures.write F _ (
+    c.put_optional.ensures.write F _ (c.put_record-2.ensures.write F _ (c.put_record.ensures.write F _ h))))))))

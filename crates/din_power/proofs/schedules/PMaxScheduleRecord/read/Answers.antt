@@ -1,0 +1,11 @@
+use Rattle.std.proofs.Common.{rules, refl, []}
+use Rattle.din_schema.specs.Declarations.{kinds}
+use Rattle.din_schema.specs.Parameters.{p_max_schedule}
+use Rattle.din_power.proofs.schedules.PMaxScheduleRecord.read.Goals as goal
+
+pub returns-clause-read : goal.returns-clause-read
+returns-clause-read g c = λ F told h.
+    let at_first = c.in_ok-first_child.ensures.read kinds F [] p_max_schedule _ h in
+    let at_p_max_schedule_id = c.in_ok-p_max_schedule_id.ensures.read kinds F [] p_max_schedule 0 _ at_first refl refl in
+    let at_p_max_schedule_entry = c.in_ok-p_max_schedule_entry.ensures.read F [] p_max_schedule 1 _ at_p_max_schedule_id refl refl refl in
+    search (rules, at_p_max_schedule_entry)

@@ -1,0 +1,296 @@
+//! Types of elements of the messages of DIN SPEC 70121.
+
+ghost use Rattle.std.specs.Prelude.{[]};
+
+use arrayvec::ArrayVec;
+use din_parts::{DcEvStatus, EvseStatus, ResponseCode};
+use din_schema::names;
+use exi_documents::Refusal;
+use exi_events::EventWriter;
+use exi_schema::Places;
+use message_parts::{
+    Choice, Descent, Group, PutChoice, PutRecord, Record, choice, first_child, member, optional,
+    optional_choice, optional_value, put_choice, put_optional, put_optional_choice,
+    put_optional_value, put_record, put_records, put_value, records, required, value,
+};
+
+/// ProfileEntry.
+#[derive(Clone, Copy, Debug, PartialEq, Eq, Default)]
+pub struct ProfileEntry {
+    pub charging_profile_entry_start: u32,
+    pub charging_profile_entry_max_power: i16,
+}
+
+impl PutRecord for ProfileEntry {
+    ghost use Rattle.din_power.specs.Delivery.{profile_entry_parts};
+
+    ghost given = { λ v. [] };
+
+    ghost parts = { profile_entry_parts };
+
+    fn write<P: Places>(&self, writer: &mut EventWriter<'_, '_, P>) {
+        put_value(
+            writer,
+            names::CHARGING_PROFILE_ENTRY_START,
+            &self.charging_profile_entry_start,
+        );
+        put_value(
+            writer,
+            names::CHARGING_PROFILE_ENTRY_MAX_POWER,
+            &self.charging_profile_entry_max_power,
+        );
+    }
+}
+
+impl<'a> Record<'a> for ProfileEntry {
+    ghost use Rattle.din_schema.specs.Declarations.{kinds};
+    ghost use Rattle.din_schema.specs.Parameters.{profile_entry};
+
+    ghost kinds = { kinds };
+
+    ghost attributes = { [] };
+
+    ghost particles = { profile_entry };
+
+    fn read<P: Places>(descent: &mut Descent<'a, '_, P>) -> Result<ProfileEntry, Refusal> {
+        first_child(descent)?;
+        let charging_profile_entry_start = value(descent)?;
+        let charging_profile_entry_max_power = value(descent)?;
+        Ok(ProfileEntry {
+            charging_profile_entry_start,
+            charging_profile_entry_max_power,
+        })
+    }
+}
+
+/// ChargingProfile.
+#[derive(Drop)]
+pub struct ChargingProfile {
+    pub sa_schedule_tuple_id: i16,
+    /// 1 to 24.
+    pub profile_entry: ArrayVec<ProfileEntry, 24>,
+}
+
+impl PutRecord for ChargingProfile {
+    ghost use Rattle.din_power.specs.Delivery.{charging_profile_parts};
+
+    ghost given = { λ v. [] };
+
+    ghost parts = { charging_profile_parts };
+
+    fn write<P: Places>(&self, writer: &mut EventWriter<'_, '_, P>) {
+        put_value(
+            writer,
+            names::SA_SCHEDULE_TUPLE_ID,
+            &self.sa_schedule_tuple_id,
+        );
+        put_records(writer, names::PROFILE_ENTRY, &self.profile_entry);
+    }
+}
+
+impl<'a> Record<'a> for ChargingProfile {
+    ghost use Rattle.din_schema.specs.Declarations.{kinds};
+    ghost use Rattle.din_schema.specs.Parameters.{charging_profile};
+
+    ghost kinds = { kinds };
+
+    ghost attributes = { [] };
+
+    ghost particles = { charging_profile };
+
+    fn read<P: Places>(descent: &mut Descent<'a, '_, P>) -> Result<ChargingProfile, Refusal> {
+        first_child(descent)?;
+        let sa_schedule_tuple_id = value(descent)?;
+        let profile_entry = records(descent, names::PROFILE_ENTRY)?;
+        Ok(ChargingProfile {
+            sa_schedule_tuple_id,
+            profile_entry,
+        })
+    }
+}
+
+/// DC_EVPowerDeliveryParameter.
+#[derive(Clone, Copy, Debug, PartialEq, Eq)]
+pub struct DcEvPowerDeliveryParameter {
+    pub dc_ev_status: DcEvStatus,
+    pub bulk_charging_complete: Option<bool>,
+    pub charging_complete: bool,
+}
+
+impl PutRecord for DcEvPowerDeliveryParameter {
+    ghost use Rattle.din_power.specs.Delivery.{dc_ev_power_delivery_parameter_parts};
+
+    ghost given = { λ v. [] };
+
+    ghost parts = { dc_ev_power_delivery_parameter_parts };
+
+    fn write<P: Places>(&self, writer: &mut EventWriter<'_, '_, P>) {
+        put_record(writer, names::DC_EV_STATUS, &self.dc_ev_status);
+        put_optional_value(
+            writer,
+            names::BULK_CHARGING_COMPLETE,
+            &self.bulk_charging_complete,
+        );
+        put_value(writer, names::CHARGING_COMPLETE, &self.charging_complete);
+    }
+}
+
+impl<'a> Record<'a> for DcEvPowerDeliveryParameter {
+    ghost use Rattle.din_schema.specs.Declarations.{kinds};
+    ghost use Rattle.din_schema.specs.Parameters.{dc_ev_power_delivery_parameter};
+
+    ghost kinds = { kinds };
+
+    ghost attributes = { [] };
+
+    ghost particles = { dc_ev_power_delivery_parameter };
+
+    fn read<P: Places>(
+        descent: &mut Descent<'a, '_, P>,
+    ) -> Result<DcEvPowerDeliveryParameter, Refusal> {
+        first_child(descent)?;
+        let dc_ev_status = required(descent)?;
+        let bulk_charging_complete = optional_value(descent, names::BULK_CHARGING_COMPLETE)?;
+        let charging_complete = value(descent)?;
+        Ok(DcEvPowerDeliveryParameter {
+            dc_ev_status,
+            bulk_charging_complete,
+            charging_complete,
+        })
+    }
+}
+
+/// One element of the substitution group EVPowerDeliveryParameter.
+#[derive(Clone, Copy, Debug, PartialEq, Eq)]
+pub enum EvPowerDeliveryParameter {
+    Dc(DcEvPowerDeliveryParameter),
+}
+
+impl PutChoice for EvPowerDeliveryParameter {
+    ghost use Rattle.din_power.specs.Delivery.{ev_power_delivery_parameter_name, ev_power_delivery_parameter_inside};
+
+    ghost name = { ev_power_delivery_parameter_name };
+
+    ghost inside = { ev_power_delivery_parameter_inside };
+
+    fn write_member<P: Places>(&self, writer: &mut EventWriter<'_, '_, P>) {
+        match self {
+            EvPowerDeliveryParameter::Dc(dc) => put_record(
+                writer,
+                names::DC_EV_POWER_DELIVERY_PARAMETER,
+                dc,
+            ),
+        }
+    }
+}
+
+impl<'a> Choice<'a> for EvPowerDeliveryParameter {
+    ghost use Rattle.din_schema.specs.Declarations.{kinds};
+    ghost use Rattle.din_power.specs.Delivery.{ev_power_delivery_parameter_members};
+
+    ghost kinds = { kinds };
+
+    ghost members = { ev_power_delivery_parameter_members };
+
+    fn read_member<P: Places>(
+        descent: &mut Descent<'a, '_, P>,
+    ) -> Result<EvPowerDeliveryParameter, Refusal> {
+        Ok(EvPowerDeliveryParameter::Dc(member(descent)?))
+    }
+}
+
+impl<'a> Group<'a> for EvPowerDeliveryParameter {
+    fn names() -> &'static [u16] {
+        &[names::DC_EV_POWER_DELIVERY_PARAMETER]
+    }
+}
+
+/// PowerDeliveryReq.
+#[derive(Drop)]
+pub struct PowerDeliveryReq {
+    pub ready_to_charge_state: bool,
+    pub charging_profile: Option<ChargingProfile>,
+    pub ev_power_delivery_parameter: Option<EvPowerDeliveryParameter>,
+}
+
+impl PutRecord for PowerDeliveryReq {
+    ghost use Rattle.din_power.specs.Delivery.{power_delivery_req_parts};
+
+    ghost given = { λ v. [] };
+
+    ghost parts = { power_delivery_req_parts };
+
+    fn write<P: Places>(&self, writer: &mut EventWriter<'_, '_, P>) {
+        put_value(
+            writer,
+            names::READY_TO_CHARGE_STATE,
+            &self.ready_to_charge_state,
+        );
+        put_optional(writer, names::CHARGING_PROFILE, &self.charging_profile);
+        put_optional_choice(writer, &self.ev_power_delivery_parameter);
+    }
+}
+
+impl<'a> Record<'a> for PowerDeliveryReq {
+    ghost use Rattle.din_schema.specs.Declarations.{kinds};
+    ghost use Rattle.din_schema.specs.Parameters.{power_delivery_req};
+
+    ghost kinds = { kinds };
+
+    ghost attributes = { [] };
+
+    ghost particles = { power_delivery_req };
+
+    fn read<P: Places>(descent: &mut Descent<'a, '_, P>) -> Result<PowerDeliveryReq, Refusal> {
+        first_child(descent)?;
+        let ready_to_charge_state = value(descent)?;
+        let charging_profile = optional(descent, names::CHARGING_PROFILE)?;
+        let ev_power_delivery_parameter = optional_choice(descent)?;
+        Ok(PowerDeliveryReq {
+            ready_to_charge_state,
+            charging_profile,
+            ev_power_delivery_parameter,
+        })
+    }
+}
+
+/// PowerDeliveryRes.
+#[derive(Clone, Copy, Debug, PartialEq, Eq)]
+pub struct PowerDeliveryRes {
+    pub response_code: ResponseCode,
+    pub evse_status: EvseStatus,
+}
+
+impl PutRecord for PowerDeliveryRes {
+    ghost use Rattle.din_power.specs.Delivery.{power_delivery_res_parts};
+
+    ghost given = { λ v. [] };
+
+    ghost parts = { power_delivery_res_parts };
+
+    fn write<P: Places>(&self, writer: &mut EventWriter<'_, '_, P>) {
+        put_value(writer, names::RESPONSE_CODE, &self.response_code);
+        put_choice(writer, &self.evse_status);
+    }
+}
+
+impl<'a> Record<'a> for PowerDeliveryRes {
+    ghost use Rattle.din_schema.specs.Declarations.{kinds};
+    ghost use Rattle.din_schema.specs.Parameters.{power_delivery_res};
+
+    ghost kinds = { kinds };
+
+    ghost attributes = { [] };
+
+    ghost particles = { power_delivery_res };
+
+    fn read<P: Places>(descent: &mut Descent<'a, '_, P>) -> Result<PowerDeliveryRes, Refusal> {
+        first_child(descent)?;
+        let response_code = value(descent)?;
+        let evse_status = choice(descent)?;
+        Ok(PowerDeliveryRes {
+            response_code,
+            evse_status,
+        })
+    }
+}

@@ -1,0 +1,113 @@
+//! Types of elements of the messages of DIN SPEC 70121.
+
+ghost use Rattle.std.specs.Prelude.{[]};
+
+use crate::limits::{EvChargeParameter, EvseChargeParameter};
+use crate::schedules::SaSchedules;
+use din_parts::{EnergyTransferMode, EvseProcessing, ResponseCode};
+use din_schema::names;
+use exi_documents::Refusal;
+use exi_events::EventWriter;
+use exi_schema::Places;
+use message_parts::{
+    Descent, PutRecord, Record, choice, first_child, optional_choice, put_choice,
+    put_optional_choice, put_value, value,
+};
+
+/// ChargeParameterDiscoveryReq.
+#[derive(Clone, Copy, Debug, PartialEq, Eq)]
+pub struct ChargeParameterDiscoveryReq {
+    pub ev_requested_energy_transfer_type: EnergyTransferMode,
+    pub ev_charge_parameter: EvChargeParameter,
+}
+
+impl PutRecord for ChargeParameterDiscoveryReq {
+    ghost use Rattle.din_power.specs.Discovery.{charge_parameter_discovery_req_parts};
+
+    ghost given = { λ v. [] };
+
+    ghost parts = { charge_parameter_discovery_req_parts };
+
+    fn write<P: Places>(&self, writer: &mut EventWriter<'_, '_, P>) {
+        put_value(
+            writer,
+            names::EV_REQUESTED_ENERGY_TRANSFER_TYPE,
+            &self.ev_requested_energy_transfer_type,
+        );
+        put_choice(writer, &self.ev_charge_parameter);
+    }
+}
+
+impl<'a> Record<'a> for ChargeParameterDiscoveryReq {
+    ghost use Rattle.din_schema.specs.Declarations.{kinds};
+    ghost use Rattle.din_schema.specs.Parameters.{charge_parameter_discovery_req};
+
+    ghost kinds = { kinds };
+
+    ghost attributes = { [] };
+
+    ghost particles = { charge_parameter_discovery_req };
+
+    fn read<P: Places>(
+        descent: &mut Descent<'a, '_, P>,
+    ) -> Result<ChargeParameterDiscoveryReq, Refusal> {
+        first_child(descent)?;
+        let ev_requested_energy_transfer_type = value(descent)?;
+        let ev_charge_parameter = choice(descent)?;
+        Ok(ChargeParameterDiscoveryReq {
+            ev_requested_energy_transfer_type,
+            ev_charge_parameter,
+        })
+    }
+}
+
+/// ChargeParameterDiscoveryRes.
+#[derive(Drop)]
+pub struct ChargeParameterDiscoveryRes {
+    pub response_code: ResponseCode,
+    pub evse_processing: EvseProcessing,
+    pub sa_schedules: Option<SaSchedules>,
+    pub evse_charge_parameter: EvseChargeParameter,
+}
+
+impl PutRecord for ChargeParameterDiscoveryRes {
+    ghost use Rattle.din_power.specs.Discovery.{charge_parameter_discovery_res_parts};
+
+    ghost given = { λ v. [] };
+
+    ghost parts = { charge_parameter_discovery_res_parts };
+
+    fn write<P: Places>(&self, writer: &mut EventWriter<'_, '_, P>) {
+        put_value(writer, names::RESPONSE_CODE, &self.response_code);
+        put_value(writer, names::EVSE_PROCESSING, &self.evse_processing);
+        put_optional_choice(writer, &self.sa_schedules);
+        put_choice(writer, &self.evse_charge_parameter);
+    }
+}
+
+impl<'a> Record<'a> for ChargeParameterDiscoveryRes {
+    ghost use Rattle.din_schema.specs.Declarations.{kinds};
+    ghost use Rattle.din_schema.specs.Parameters.{charge_parameter_discovery_res};
+
+    ghost kinds = { kinds };
+
+    ghost attributes = { [] };
+
+    ghost particles = { charge_parameter_discovery_res };
+
+    fn read<P: Places>(
+        descent: &mut Descent<'a, '_, P>,
+    ) -> Result<ChargeParameterDiscoveryRes, Refusal> {
+        first_child(descent)?;
+        let response_code = value(descent)?;
+        let evse_processing = value(descent)?;
+        let sa_schedules = optional_choice(descent)?;
+        let evse_charge_parameter = choice(descent)?;
+        Ok(ChargeParameterDiscoveryRes {
+            response_code,
+            evse_processing,
+            sa_schedules,
+            evse_charge_parameter,
+        })
+    }
+}

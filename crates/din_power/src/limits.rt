@@ -1,0 +1,266 @@
+//! Types of elements of the messages of DIN SPEC 70121.
+
+ghost use Rattle.std.specs.Prelude.{[]};
+
+use din_parts::{DcEvStatus, DcEvseStatus, PhysicalValue};
+use din_schema::names;
+use exi_documents::Refusal;
+use exi_events::EventWriter;
+use exi_schema::Places;
+use message_parts::{
+    Choice, Descent, PutChoice, PutRecord, Record, first_child, member, optional, optional_value,
+    put_optional, put_optional_value, put_record, required,
+};
+
+/// DC_EVChargeParameter.
+#[derive(Clone, Copy, Debug, PartialEq, Eq)]
+pub struct DcEvChargeParameter {
+    pub dc_ev_status: DcEvStatus,
+    pub ev_maximum_current_limit: PhysicalValue,
+    pub ev_maximum_power_limit: Option<PhysicalValue>,
+    pub ev_maximum_voltage_limit: PhysicalValue,
+    pub ev_energy_capacity: Option<PhysicalValue>,
+    pub ev_energy_request: Option<PhysicalValue>,
+    /// 0 to 100.
+    pub full_soc: Option<u8>,
+    /// 0 to 100.
+    pub bulk_soc: Option<u8>,
+}
+
+impl PutRecord for DcEvChargeParameter {
+    ghost use Rattle.din_power.specs.Limits.{dc_ev_charge_parameter_parts};
+
+    ghost given = { λ v. [] };
+
+    ghost parts = { dc_ev_charge_parameter_parts };
+
+    fn write<P: Places>(&self, writer: &mut EventWriter<'_, '_, P>) {
+        put_record(writer, names::DC_EV_STATUS, &self.dc_ev_status);
+        put_record(
+            writer,
+            names::EV_MAXIMUM_CURRENT_LIMIT,
+            &self.ev_maximum_current_limit,
+        );
+        put_optional(
+            writer,
+            names::EV_MAXIMUM_POWER_LIMIT,
+            &self.ev_maximum_power_limit,
+        );
+        put_record(
+            writer,
+            names::EV_MAXIMUM_VOLTAGE_LIMIT,
+            &self.ev_maximum_voltage_limit,
+        );
+        put_optional(writer, names::EV_ENERGY_CAPACITY, &self.ev_energy_capacity);
+        put_optional(writer, names::EV_ENERGY_REQUEST, &self.ev_energy_request);
+        put_optional_value(writer, names::FULL_SOC, &self.full_soc);
+        put_optional_value(writer, names::BULK_SOC, &self.bulk_soc);
+    }
+}
+
+impl<'a> Record<'a> for DcEvChargeParameter {
+    ghost use Rattle.din_schema.specs.Declarations.{kinds};
+    ghost use Rattle.din_schema.specs.Parameters.{dc_ev_charge_parameter};
+
+    ghost kinds = { kinds };
+
+    ghost attributes = { [] };
+
+    ghost particles = { dc_ev_charge_parameter };
+
+    fn read<P: Places>(descent: &mut Descent<'a, '_, P>) -> Result<DcEvChargeParameter, Refusal> {
+        first_child(descent)?;
+        let dc_ev_status = required(descent)?;
+        let ev_maximum_current_limit = required(descent)?;
+        let ev_maximum_power_limit = optional(descent, names::EV_MAXIMUM_POWER_LIMIT)?;
+        let ev_maximum_voltage_limit = required(descent)?;
+        let ev_energy_capacity = optional(descent, names::EV_ENERGY_CAPACITY)?;
+        let ev_energy_request = optional(descent, names::EV_ENERGY_REQUEST)?;
+        let full_soc = optional_value(descent, names::FULL_SOC)?;
+        let bulk_soc = optional_value(descent, names::BULK_SOC)?;
+        Ok(DcEvChargeParameter {
+            dc_ev_status,
+            ev_maximum_current_limit,
+            ev_maximum_power_limit,
+            ev_maximum_voltage_limit,
+            ev_energy_capacity,
+            ev_energy_request,
+            full_soc,
+            bulk_soc,
+        })
+    }
+}
+
+/// One element of the substitution group EVChargeParameter.
+#[derive(Clone, Copy, Debug, PartialEq, Eq)]
+pub enum EvChargeParameter {
+    Dc(DcEvChargeParameter),
+}
+
+impl PutChoice for EvChargeParameter {
+    ghost use Rattle.din_power.specs.Limits.{ev_charge_parameter_name, ev_charge_parameter_inside};
+
+    ghost name = { ev_charge_parameter_name };
+
+    ghost inside = { ev_charge_parameter_inside };
+
+    fn write_member<P: Places>(&self, writer: &mut EventWriter<'_, '_, P>) {
+        match self {
+            EvChargeParameter::Dc(dc) => put_record(writer, names::DC_EV_CHARGE_PARAMETER, dc),
+        }
+    }
+}
+
+impl<'a> Choice<'a> for EvChargeParameter {
+    ghost use Rattle.din_schema.specs.Declarations.{kinds};
+    ghost use Rattle.din_power.specs.Limits.{ev_charge_parameter_members};
+
+    ghost kinds = { kinds };
+
+    ghost members = { ev_charge_parameter_members };
+
+    fn read_member<P: Places>(
+        descent: &mut Descent<'a, '_, P>,
+    ) -> Result<EvChargeParameter, Refusal> {
+        Ok(EvChargeParameter::Dc(member(descent)?))
+    }
+}
+
+/// DC_EVSEChargeParameter.
+#[derive(Clone, Copy, Debug, PartialEq, Eq)]
+pub struct DcEvseChargeParameter {
+    pub dc_evse_status: DcEvseStatus,
+    pub evse_maximum_current_limit: PhysicalValue,
+    pub evse_maximum_power_limit: Option<PhysicalValue>,
+    pub evse_maximum_voltage_limit: PhysicalValue,
+    pub evse_minimum_current_limit: PhysicalValue,
+    pub evse_minimum_voltage_limit: PhysicalValue,
+    pub evse_current_regulation_tolerance: Option<PhysicalValue>,
+    pub evse_peak_current_ripple: PhysicalValue,
+    pub evse_energy_to_be_delivered: Option<PhysicalValue>,
+}
+
+impl PutRecord for DcEvseChargeParameter {
+    ghost use Rattle.din_power.specs.Limits.{dc_evse_charge_parameter_parts};
+
+    ghost given = { λ v. [] };
+
+    ghost parts = { dc_evse_charge_parameter_parts };
+
+    fn write<P: Places>(&self, writer: &mut EventWriter<'_, '_, P>) {
+        put_record(writer, names::DC_EVSE_STATUS, &self.dc_evse_status);
+        put_record(
+            writer,
+            names::EVSE_MAXIMUM_CURRENT_LIMIT,
+            &self.evse_maximum_current_limit,
+        );
+        put_optional(
+            writer,
+            names::EVSE_MAXIMUM_POWER_LIMIT,
+            &self.evse_maximum_power_limit,
+        );
+        put_record(
+            writer,
+            names::EVSE_MAXIMUM_VOLTAGE_LIMIT,
+            &self.evse_maximum_voltage_limit,
+        );
+        put_record(
+            writer,
+            names::EVSE_MINIMUM_CURRENT_LIMIT,
+            &self.evse_minimum_current_limit,
+        );
+        put_record(
+            writer,
+            names::EVSE_MINIMUM_VOLTAGE_LIMIT,
+            &self.evse_minimum_voltage_limit,
+        );
+        put_optional(
+            writer,
+            names::EVSE_CURRENT_REGULATION_TOLERANCE,
+            &self.evse_current_regulation_tolerance,
+        );
+        put_record(
+            writer,
+            names::EVSE_PEAK_CURRENT_RIPPLE,
+            &self.evse_peak_current_ripple,
+        );
+        put_optional(
+            writer,
+            names::EVSE_ENERGY_TO_BE_DELIVERED,
+            &self.evse_energy_to_be_delivered,
+        );
+    }
+}
+
+impl<'a> Record<'a> for DcEvseChargeParameter {
+    ghost use Rattle.din_schema.specs.Declarations.{kinds};
+    ghost use Rattle.din_schema.specs.Parameters.{dc_evse_charge_parameter};
+
+    ghost kinds = { kinds };
+
+    ghost attributes = { [] };
+
+    ghost particles = { dc_evse_charge_parameter };
+
+    fn read<P: Places>(descent: &mut Descent<'a, '_, P>) -> Result<DcEvseChargeParameter, Refusal> {
+        first_child(descent)?;
+        let dc_evse_status = required(descent)?;
+        let evse_maximum_current_limit = required(descent)?;
+        let evse_maximum_power_limit = optional(descent, names::EVSE_MAXIMUM_POWER_LIMIT)?;
+        let evse_maximum_voltage_limit = required(descent)?;
+        let evse_minimum_current_limit = required(descent)?;
+        let evse_minimum_voltage_limit = required(descent)?;
+        let evse_current_regulation_tolerance = optional(
+            descent,
+            names::EVSE_CURRENT_REGULATION_TOLERANCE,
+        )?;
+        let evse_peak_current_ripple = required(descent)?;
+        let evse_energy_to_be_delivered = optional(descent, names::EVSE_ENERGY_TO_BE_DELIVERED)?;
+        Ok(DcEvseChargeParameter {
+            dc_evse_status,
+            evse_maximum_current_limit,
+            evse_maximum_power_limit,
+            evse_maximum_voltage_limit,
+            evse_minimum_current_limit,
+            evse_minimum_voltage_limit,
+            evse_current_regulation_tolerance,
+            evse_peak_current_ripple,
+            evse_energy_to_be_delivered,
+        })
+    }
+}
+
+/// One element of the substitution group EVSEChargeParameter.
+#[derive(Clone, Copy, Debug, PartialEq, Eq)]
+pub enum EvseChargeParameter {
+    Dc(DcEvseChargeParameter),
+}
+
+impl PutChoice for EvseChargeParameter {
+    ghost use Rattle.din_power.specs.Limits.{evse_charge_parameter_name, evse_charge_parameter_inside};
+
+    ghost name = { evse_charge_parameter_name };
+
+    ghost inside = { evse_charge_parameter_inside };
+
+    fn write_member<P: Places>(&self, writer: &mut EventWriter<'_, '_, P>) {
+        match self {
+            EvseChargeParameter::Dc(dc) => put_record(writer, names::DC_EVSE_CHARGE_PARAMETER, dc),
+        }
+    }
+}
+
+impl<'a> Choice<'a> for EvseChargeParameter {
+    ghost use Rattle.din_schema.specs.Declarations.{kinds};
+    ghost use Rattle.din_power.specs.Limits.{evse_charge_parameter_members};
+
+    ghost kinds = { kinds };
+
+    ghost members = { evse_charge_parameter_members };
+
+    fn read_member<P: Places>(
+        descent: &mut Descent<'a, '_, P>,
+    ) -> Result<EvseChargeParameter, Refusal> {
+        Ok(EvseChargeParameter::Dc(member(descent)?))
+    }
+}

@@ -1,0 +1,307 @@
+//! Types of elements of the messages of DIN SPEC 70121.
+
+ghost use Rattle.std.specs.Prelude.{[]};
+
+use arrayvec::ArrayVec;
+use din_schema::names;
+use exi_documents::Refusal;
+use exi_events::EventWriter;
+use exi_schema::Places;
+use message_parts::{
+    Choice, Descent, Group, PutChoice, PutRecord, Record, choice, first_child, left_out, member,
+    optional_value, put_choice, put_optional_value, put_record, put_records, put_value, records,
+    required, value,
+};
+
+/// RelativeTimeInterval.
+#[derive(Clone, Copy, Debug, PartialEq, Eq, Default)]
+pub struct RelativeTimeInterval {
+    pub start: u32,
+    pub duration: Option<u32>,
+}
+
+impl PutRecord for RelativeTimeInterval {
+    ghost use Rattle.din_power.specs.Schedules.{relative_time_interval_parts};
+
+    ghost given = { λ v. [] };
+
+    ghost parts = { relative_time_interval_parts };
+
+    fn write<P: Places>(&self, writer: &mut EventWriter<'_, '_, P>) {
+        put_value(writer, names::START, &self.start);
+        put_optional_value(writer, names::DURATION, &self.duration);
+    }
+}
+
+impl<'a> Record<'a> for RelativeTimeInterval {
+    ghost use Rattle.din_schema.specs.Declarations.{kinds};
+    ghost use Rattle.din_schema.specs.Parameters.{relative_time_interval};
+
+    ghost kinds = { kinds };
+
+    ghost attributes = { [] };
+
+    ghost particles = { relative_time_interval };
+
+    fn read<P: Places>(descent: &mut Descent<'a, '_, P>) -> Result<RelativeTimeInterval, Refusal> {
+        first_child(descent)?;
+        let start = value(descent)?;
+        let duration = optional_value(descent, names::DURATION)?;
+        Ok(RelativeTimeInterval { start, duration })
+    }
+}
+
+/// One element of the substitution group TimeInterval.
+#[derive(Clone, Copy, Debug, PartialEq, Eq)]
+pub enum TimeInterval {
+    Relative(RelativeTimeInterval),
+}
+
+impl Default for TimeInterval {
+    fn default() -> TimeInterval {
+        TimeInterval::Relative(RelativeTimeInterval::default())
+    }
+}
+
+impl PutChoice for TimeInterval {
+    ghost use Rattle.din_power.specs.Schedules.{time_interval_name, time_interval_inside};
+
+    ghost name = { time_interval_name };
+
+    ghost inside = { time_interval_inside };
+
+    fn write_member<P: Places>(&self, writer: &mut EventWriter<'_, '_, P>) {
+        match self {
+            TimeInterval::Relative(relative) => put_record(
+                writer,
+                names::RELATIVE_TIME_INTERVAL,
+                relative,
+            ),
+        }
+    }
+}
+
+impl<'a> Choice<'a> for TimeInterval {
+    ghost use Rattle.din_schema.specs.Declarations.{kinds};
+    ghost use Rattle.din_power.specs.Schedules.{time_interval_members};
+
+    ghost kinds = { kinds };
+
+    ghost members = { time_interval_members };
+
+    fn read_member<P: Places>(descent: &mut Descent<'a, '_, P>) -> Result<TimeInterval, Refusal> {
+        Ok(TimeInterval::Relative(member(descent)?))
+    }
+}
+
+/// PMaxScheduleEntry.
+#[derive(Clone, Copy, Debug, PartialEq, Eq, Default)]
+pub struct PMaxScheduleEntry {
+    pub time_interval: TimeInterval,
+    pub p_max: i16,
+}
+
+impl PutRecord for PMaxScheduleEntry {
+    ghost use Rattle.din_power.specs.Schedules.{p_max_schedule_entry_parts};
+
+    ghost given = { λ v. [] };
+
+    ghost parts = { p_max_schedule_entry_parts };
+
+    fn write<P: Places>(&self, writer: &mut EventWriter<'_, '_, P>) {
+        put_choice(writer, &self.time_interval);
+        put_value(writer, names::P_MAX, &self.p_max);
+    }
+}
+
+impl<'a> Record<'a> for PMaxScheduleEntry {
+    ghost use Rattle.din_schema.specs.Declarations.{kinds};
+    ghost use Rattle.din_schema.specs.Parameters.{p_max_schedule_entry};
+
+    ghost kinds = { kinds };
+
+    ghost attributes = { [] };
+
+    ghost particles = { p_max_schedule_entry };
+
+    fn read<P: Places>(descent: &mut Descent<'a, '_, P>) -> Result<PMaxScheduleEntry, Refusal> {
+        first_child(descent)?;
+        let time_interval = choice(descent)?;
+        let p_max = value(descent)?;
+        Ok(PMaxScheduleEntry {
+            time_interval,
+            p_max,
+        })
+    }
+}
+
+/// PMaxSchedule.
+#[derive(Drop, Default)]
+pub struct PMaxSchedule {
+    pub p_max_schedule_id: i16,
+    /// 1 to 128.
+    pub p_max_schedule_entry: ArrayVec<PMaxScheduleEntry, 128>,
+}
+
+impl PutRecord for PMaxSchedule {
+    ghost use Rattle.din_power.specs.Schedules.{p_max_schedule_parts};
+
+    ghost given = { λ v. [] };
+
+    ghost parts = { p_max_schedule_parts };
+
+    fn write<P: Places>(&self, writer: &mut EventWriter<'_, '_, P>) {
+        put_value(writer, names::P_MAX_SCHEDULE_ID, &self.p_max_schedule_id);
+        put_records(
+            writer,
+            names::P_MAX_SCHEDULE_ENTRY,
+            &self.p_max_schedule_entry,
+        );
+    }
+}
+
+impl<'a> Record<'a> for PMaxSchedule {
+    ghost use Rattle.din_schema.specs.Declarations.{kinds};
+    ghost use Rattle.din_schema.specs.Parameters.{p_max_schedule};
+
+    ghost kinds = { kinds };
+
+    ghost attributes = { [] };
+
+    ghost particles = { p_max_schedule };
+
+    fn read<P: Places>(descent: &mut Descent<'a, '_, P>) -> Result<PMaxSchedule, Refusal> {
+        first_child(descent)?;
+        let p_max_schedule_id = value(descent)?;
+        let p_max_schedule_entry = records(descent, names::P_MAX_SCHEDULE_ENTRY)?;
+        Ok(PMaxSchedule {
+            p_max_schedule_id,
+            p_max_schedule_entry,
+        })
+    }
+}
+
+/// SAScheduleTuple.
+#[derive(Drop, Default)]
+pub struct SaScheduleTuple {
+    pub sa_schedule_tuple_id: i16,
+    pub p_max_schedule: PMaxSchedule,
+}
+
+impl PutRecord for SaScheduleTuple {
+    ghost use Rattle.din_power.specs.Schedules.{sa_schedule_tuple_parts};
+
+    ghost given = { λ v. [] };
+
+    ghost parts = { sa_schedule_tuple_parts };
+
+    fn write<P: Places>(&self, writer: &mut EventWriter<'_, '_, P>) {
+        put_value(
+            writer,
+            names::SA_SCHEDULE_TUPLE_ID,
+            &self.sa_schedule_tuple_id,
+        );
+        put_record(writer, names::P_MAX_SCHEDULE, &self.p_max_schedule);
+    }
+}
+
+impl<'a> Record<'a> for SaScheduleTuple {
+    ghost use Rattle.din_schema.specs.Declarations.{kinds};
+    ghost use Rattle.din_schema.specs.Parameters.{sa_schedule_tuple};
+
+    ghost kinds = { kinds };
+
+    ghost attributes = { [] };
+
+    ghost particles = { sa_schedule_tuple };
+
+    fn read<P: Places>(descent: &mut Descent<'a, '_, P>) -> Result<SaScheduleTuple, Refusal> {
+        first_child(descent)?;
+        let sa_schedule_tuple_id = value(descent)?;
+        let p_max_schedule = required(descent)?;
+        left_out(descent);
+        Ok(SaScheduleTuple {
+            sa_schedule_tuple_id,
+            p_max_schedule,
+        })
+    }
+}
+
+/// SAScheduleList.
+#[derive(Drop)]
+pub struct SaScheduleList {
+    /// 1 to 3.
+    pub sa_schedule_tuple: ArrayVec<SaScheduleTuple, 3>,
+}
+
+impl PutRecord for SaScheduleList {
+    ghost use Rattle.din_power.specs.Schedules.{sa_schedule_list_parts};
+
+    ghost given = { λ v. [] };
+
+    ghost parts = { sa_schedule_list_parts };
+
+    fn write<P: Places>(&self, writer: &mut EventWriter<'_, '_, P>) {
+        put_records(writer, names::SA_SCHEDULE_TUPLE, &self.sa_schedule_tuple);
+    }
+}
+
+impl<'a> Record<'a> for SaScheduleList {
+    ghost use Rattle.din_schema.specs.Declarations.{kinds};
+    ghost use Rattle.din_schema.specs.Parameters.{sa_schedule_list};
+
+    ghost kinds = { kinds };
+
+    ghost attributes = { [] };
+
+    ghost particles = { sa_schedule_list };
+
+    fn read<P: Places>(descent: &mut Descent<'a, '_, P>) -> Result<SaScheduleList, Refusal> {
+        first_child(descent)?;
+        let sa_schedule_tuple = records(descent, names::SA_SCHEDULE_TUPLE)?;
+        Ok(SaScheduleList { sa_schedule_tuple })
+    }
+}
+
+/// One element of the substitution group SASchedules.
+#[derive(Drop)]
+pub enum SaSchedules {
+    SaScheduleList(SaScheduleList),
+}
+
+impl PutChoice for SaSchedules {
+    ghost use Rattle.din_power.specs.Schedules.{sa_schedules_name, sa_schedules_inside};
+
+    ghost name = { sa_schedules_name };
+
+    ghost inside = { sa_schedules_inside };
+
+    fn write_member<P: Places>(&self, writer: &mut EventWriter<'_, '_, P>) {
+        match self {
+            SaSchedules::SaScheduleList(sa_schedule_list) => put_record(
+                writer,
+                names::SA_SCHEDULE_LIST,
+                sa_schedule_list,
+            ),
+        }
+    }
+}
+
+impl<'a> Choice<'a> for SaSchedules {
+    ghost use Rattle.din_schema.specs.Declarations.{kinds};
+    ghost use Rattle.din_power.specs.Schedules.{sa_schedules_members};
+
+    ghost kinds = { kinds };
+
+    ghost members = { sa_schedules_members };
+
+    fn read_member<P: Places>(descent: &mut Descent<'a, '_, P>) -> Result<SaSchedules, Refusal> {
+        Ok(SaSchedules::SaScheduleList(member(descent)?))
+    }
+}
+
+impl<'a> Group<'a> for SaSchedules {
+    fn names() -> &'static [u16] {
+        &[names::SA_SCHEDULE_LIST]
+    }
+}

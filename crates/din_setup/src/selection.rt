@@ -1,0 +1,179 @@
+//! Types of elements of the messages of DIN SPEC 70121.
+
+ghost use Rattle.std.specs.Prelude.{[]};
+
+use arrayvec::ArrayVec;
+use din_parts::{PaymentOption, ResponseCode};
+use din_schema::names;
+use exi_documents::Refusal;
+use exi_events::EventWriter;
+use exi_schema::Places;
+use message_parts::{
+    Descent, PutRecord, Record, first_child, optional_value, put_optional_value, put_record,
+    put_records, put_value, records, required, value,
+};
+
+/// SelectedService.
+#[derive(Clone, Copy, Debug, PartialEq, Eq, Default)]
+pub struct SelectedService {
+    pub service_id: u16,
+    pub parameter_set_id: Option<i16>,
+}
+
+impl PutRecord for SelectedService {
+    ghost use Rattle.din_setup.specs.Selection.{selected_service_parts};
+
+    ghost given = { λ v. [] };
+
+    ghost parts = { selected_service_parts };
+
+    fn write<P: Places>(&self, writer: &mut EventWriter<'_, '_, P>) {
+        put_value(writer, names::SERVICE_ID, &self.service_id);
+        put_optional_value(writer, names::PARAMETER_SET_ID, &self.parameter_set_id);
+    }
+}
+
+impl<'a> Record<'a> for SelectedService {
+    ghost use Rattle.din_schema.specs.Declarations.{kinds};
+    ghost use Rattle.din_schema.specs.Setup.{selected_service};
+
+    ghost kinds = { kinds };
+
+    ghost attributes = { [] };
+
+    ghost particles = { selected_service };
+
+    fn read<P: Places>(descent: &mut Descent<'a, '_, P>) -> Result<SelectedService, Refusal> {
+        first_child(descent)?;
+        let service_id = value(descent)?;
+        let parameter_set_id = optional_value(descent, names::PARAMETER_SET_ID)?;
+        Ok(SelectedService {
+            service_id,
+            parameter_set_id,
+        })
+    }
+}
+
+/// SelectedServiceList.
+#[derive(Drop)]
+pub struct SelectedServiceList {
+    /// 1 to 16.
+    pub selected_service: ArrayVec<SelectedService, 16>,
+}
+
+impl PutRecord for SelectedServiceList {
+    ghost use Rattle.din_setup.specs.Selection.{selected_service_list_parts};
+
+    ghost given = { λ v. [] };
+
+    ghost parts = { selected_service_list_parts };
+
+    fn write<P: Places>(&self, writer: &mut EventWriter<'_, '_, P>) {
+        put_records(writer, names::SELECTED_SERVICE, &self.selected_service);
+    }
+}
+
+impl<'a> Record<'a> for SelectedServiceList {
+    ghost use Rattle.din_schema.specs.Declarations.{kinds};
+    ghost use Rattle.din_schema.specs.Setup.{selected_service_list};
+
+    ghost kinds = { kinds };
+
+    ghost attributes = { [] };
+
+    ghost particles = { selected_service_list };
+
+    fn read<P: Places>(descent: &mut Descent<'a, '_, P>) -> Result<SelectedServiceList, Refusal> {
+        first_child(descent)?;
+        let selected_service = records(descent, names::SELECTED_SERVICE)?;
+        Ok(SelectedServiceList { selected_service })
+    }
+}
+
+/// ServicePaymentSelectionReq.
+#[derive(Drop)]
+pub struct ServicePaymentSelectionReq {
+    pub selected_payment_option: PaymentOption,
+    pub selected_service_list: SelectedServiceList,
+}
+
+impl PutRecord for ServicePaymentSelectionReq {
+    ghost use Rattle.din_setup.specs.Selection.{service_payment_selection_req_parts};
+
+    ghost given = { λ v. [] };
+
+    ghost parts = { service_payment_selection_req_parts };
+
+    fn write<P: Places>(&self, writer: &mut EventWriter<'_, '_, P>) {
+        put_value(
+            writer,
+            names::SELECTED_PAYMENT_OPTION,
+            &self.selected_payment_option,
+        );
+        put_record(
+            writer,
+            names::SELECTED_SERVICE_LIST,
+            &self.selected_service_list,
+        );
+    }
+}
+
+impl<'a> Record<'a> for ServicePaymentSelectionReq {
+    ghost use Rattle.din_schema.specs.Declarations.{kinds};
+    ghost use Rattle.din_schema.specs.Setup.{service_payment_selection_req};
+
+    ghost kinds = { kinds };
+
+    ghost attributes = { [] };
+
+    ghost particles = { service_payment_selection_req };
+
+    fn read<P: Places>(
+        descent: &mut Descent<'a, '_, P>,
+    ) -> Result<ServicePaymentSelectionReq, Refusal> {
+        first_child(descent)?;
+        let selected_payment_option = value(descent)?;
+        let selected_service_list = required(descent)?;
+        Ok(ServicePaymentSelectionReq {
+            selected_payment_option,
+            selected_service_list,
+        })
+    }
+}
+
+/// ServicePaymentSelectionRes.
+#[derive(Clone, Copy, Debug, PartialEq, Eq)]
+pub struct ServicePaymentSelectionRes {
+    pub response_code: ResponseCode,
+}
+
+impl PutRecord for ServicePaymentSelectionRes {
+    ghost use Rattle.din_setup.specs.Selection.{service_payment_selection_res_parts};
+
+    ghost given = { λ v. [] };
+
+    ghost parts = { service_payment_selection_res_parts };
+
+    fn write<P: Places>(&self, writer: &mut EventWriter<'_, '_, P>) {
+        put_value(writer, names::RESPONSE_CODE, &self.response_code);
+    }
+}
+
+impl<'a> Record<'a> for ServicePaymentSelectionRes {
+    ghost use Rattle.din_schema.specs.Declarations.{kinds};
+    ghost use Rattle.din_schema.specs.Setup.{service_payment_selection_res};
+
+    ghost kinds = { kinds };
+
+    ghost attributes = { [] };
+
+    ghost particles = { service_payment_selection_res };
+
+    fn read<P: Places>(
+        descent: &mut Descent<'a, '_, P>,
+    ) -> Result<ServicePaymentSelectionRes, Refusal> {
+        first_child(descent)?;
+        let response_code = value(descent)?;
+        Ok(ServicePaymentSelectionRes { response_code })
+    }
+}
