@@ -41,6 +41,9 @@ pub record AreFewWatts (amount : Amount) : Type 0 where
   pub few : amount.size ≤ 32767
   pub right : amount.right ≡ true
 
+abbrev pub IsByte : ℕ → Type 0
+IsByte byte = byte < 256
+
 abbrev pub IsService : ℕ → Type 0
 IsService number = number ≤ 65535
 
@@ -73,7 +76,7 @@ CanProfile (Some tuple) None = ⊥
 CanProfile None (Some power) = ⊥
 
 abbrev pub CanAsk : Ask → Type 0
-CanAsk (ask.SessionSetup car) = length car.items ≤ 8
+CanAsk (ask.SessionSetup car) = (length car.items ≤ 8) × All IsByte car.items
 CanAsk ask.ServiceDiscovery = Unit {0}
 CanAsk (ask.ServiceDetail service) = ⊥
 CanAsk (ask.PaymentSelection external services) = IsFromTo 1 16 (length services.items) × All IsService services.items
@@ -92,7 +95,7 @@ CanAsk (ask.SessionStop pause) = IsTrue (not pause)
 -- an EVSEID of DIN: at most 32 bytes
 abbrev pub CanEvse : EvseId → Type 0
 CanEvse (evse.Text id) = ⊥
-CanEvse (evse.Bytes id) = length id.items ≤ 32
+CanEvse (evse.Bytes id) = (length id.items ≤ 32) × All IsByte id.items
 
 abbrev pub CanStatus : DcStatus → Type 0
 CanStatus status = IfSome status.isolation (λ level. IsTrue (is_din_level level))
@@ -140,7 +143,7 @@ CanTell tell.SessionStop = Unit {0}
 -- ---- words
 
 abbrev pub CanSession : SessionId → Type 0
-CanSession session = length session.bytes.items ≤ 8
+CanSession session = (length session.bytes.items ≤ 8) × All IsByte session.bytes.items
 
 abbrev pub CanSpell : Word → Type 0
 CanSpell (word.Request r) = CanSession r.session × CanAsk r.ask

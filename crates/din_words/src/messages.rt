@@ -230,7 +230,7 @@ pub fn of_word(word: &Word) -> DinMessage<'_>
         Word::Reply(reply) => message_with(&reply.session, reply_element(reply.code, &reply.tell)),
         Word::Nothing => DinMessage {
             header: Header {
-                session_id: Binary::default(),
+                session_id: Binary::of_bytes(&[]),
                 notification: None,
             },
             body: Body { element: None },

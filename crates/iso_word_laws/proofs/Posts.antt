@@ -39,8 +39,13 @@ choose : (b : Bool) (x y : SessionId) → CanSession x → CanSession y → CanS
 choose true x y hx hy = hx
 choose false x y hx hy = hy
 
+all_zero : (n : ℕ) → All (λ b. b < 256) (replicate n 0)
+all_zero zero k d h = absurd (omega arith)
+all_zero (suc n) zero d h = lit< tt
+all_zero (suc n) (suc k) d h = all_zero n k d (omega arith)
+
 zeros : CanSession (id_of (replicate 8 0))
-zeros = lit≤ tt
+zeros = (lit≤ tt, all_zero 8)
 
 identifier_fits : (s : Stage) → CanSession s.session → CanSession (identifier s)
 identifier_fits s h = choose (is_set_up s.row) s.session (id_of (replicate 8 0)) h zeros

@@ -52,7 +52,8 @@ selection external services = ask.PaymentSelection external (record { items = se
 
 pub ask_back : (a : Ask) (lent : Binary) (s : SessionId) → CanAsk a → LendsAsk a lent → element_word s (request_element lent a) ≡ asked s (dropped_ask a)
 ask_back (ask.SessionSetup car) lent s h l =
-    let few : length car.items ≤ 8 = omega (arith, h) in
+    let own : length car.items ≤ 6 = h.0 in
+    let few : length car.items ≤ 8 = omega arith in
     ap (λ (xs : List ℕ). asked s (setup xs)) (ap (fitting 8) l ∙ fitting_all 8 car.items few)
 ask_back ask.ServiceDiscovery lent s h l = refl
 ask_back (ask.ServiceDetail service) lent s h l = refl

@@ -22,7 +22,7 @@ session_of bytes = record { bytes = record { items = bytes } }
 -- a message under an identifier that fits
 under : (s : SessionId) (lent : Binary) (e : BodyElement) → CanSession s → LendsSession s lent → word_of (message_with lent (Some e)) ≡ element_word s e
 under s lent e few l =
-    ap (λ (xs : List ℕ). element_word (session_of xs) e) (ap (fitting 8) l ∙ fitting_all 8 s.bytes.items few)
+    ap (λ (xs : List ℕ). element_word (session_of xs) e) (ap (fitting 8) l ∙ fitting_all 8 s.bytes.items few.0)
 
 pub reads_as_written : ReadsAsWritten
 reads_as_written (word.Request r) m can is =

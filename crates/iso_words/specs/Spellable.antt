@@ -29,6 +29,9 @@ AreTenths amount = IsTrue (can_write_tenths amount.size)
 abbrev pub AreWatts : Amount → Type 0
 AreWatts amount = amount.size < 32768000
 
+abbrev pub IsByte : ℕ → Type 0
+IsByte byte = byte < 256
+
 abbrev pub IsService : ℕ → Type 0
 IsService number = number ≤ 65535
 
@@ -53,7 +56,7 @@ IsSomeTuple None = ⊥
 IsSomeTuple (Some id) = IsTupleNumber id
 
 abbrev pub CanAsk : Ask → Type 0
-CanAsk (ask.SessionSetup car) = length car.items ≤ 6
+CanAsk (ask.SessionSetup car) = (length car.items ≤ 6) × All IsByte car.items
 CanAsk (ask.ServiceDetail service) = IsService service
 CanAsk (ask.PaymentSelection external services) = IsFromTo 1 16 (length services.items) × All IsService services.items
 CanAsk (ask.ChargeParameters mode limits) = CanCarLimits limits
@@ -108,7 +111,7 @@ CanTell other = Unit {0}
 -- ---- words
 
 abbrev pub CanSession : SessionId → Type 0
-CanSession session = length session.bytes.items ≤ 8
+CanSession session = (length session.bytes.items ≤ 8) × All IsByte session.bytes.items
 
 abbrev pub CanSpell : Word → Type 0
 CanSpell (word.Request r) = CanSession r.session × CanAsk r.ask

@@ -92,11 +92,16 @@ fn reply_element<'a>(code: Code, tell: &'a Tell) -> BodyElement<'a>
 {
     let code = response_code(code);
     match tell {
-        Tell::SessionSetup { evse } => BodyElement::SessionSetupRes(setup_res(code, evse_text(evse))),
+        Tell::SessionSetup { evse } => BodyElement::SessionSetupRes(setup_res(
+            code,
+            evse_text(evse),
+        )),
         Tell::ServiceDiscovery { free, modes } => {
             BodyElement::ServiceDiscoveryRes(discovery_res(code, *free, modes))
         }
-        Tell::ServiceDetail { service } => BodyElement::ServiceDetailRes(detail_res(code, *service)),
+        Tell::ServiceDetail { service } => BodyElement::ServiceDetailRes(detail_res(
+            code, *service,
+        )),
         Tell::PaymentSelection => {
             BodyElement::PaymentServiceSelectionRes(PaymentServiceSelectionRes {
                 response_code: code,
@@ -121,7 +126,9 @@ fn reply_element<'a>(code: Code, tell: &'a Tell) -> BodyElement<'a>
         Tell::PreCharge { status, voltage } => {
             BodyElement::PreChargeRes(pre_charge_res(code, *status, *voltage))
         }
-        Tell::PowerDelivery { status } => BodyElement::PowerDeliveryRes(delivery_res(code, *status)),
+        Tell::PowerDelivery { status } => BodyElement::PowerDeliveryRes(delivery_res(
+            code, *status,
+        )),
         Tell::CurrentDemand {
             status,
             voltage,
@@ -187,7 +194,7 @@ pub fn of_word(word: &Word) -> IsoMessage<'_>
         Word::Reply(reply) => message_with(&reply.session, reply_element(reply.code, &reply.tell)),
         Word::Nothing => IsoMessage {
             header: Header {
-                session_id: Binary::default(),
+                session_id: Binary::of_bytes(&[]),
                 notification: None,
             },
             body: Body { element: None },

@@ -1,6 +1,7 @@
 //! ChargeParameterDiscovery, as words have it (ISO 15118-2:2014, 8.4.3.8).
 
 ghost use Rattle.std.specs.Prelude.{◌≡◌, fold, map, min};
+ghost use Rattle.std.specs.List.{list_all};
 ghost use Rattle.iso_words.specs.ParameterWords as rule;
 
 use arrayvec::ArrayVec;
@@ -94,13 +95,25 @@ fn least_watts(entries: &[PMaxScheduleEntry]) -> u32
     }
 }
 
+/// Whether the units of all entries are right.
+fn are_right(entries: &[PMaxScheduleEntry]) -> bool
+    ensures { result ≡ list_all (λ e. (rule.entry_power e).right) entries.now }
+{
+    for entry in entries {
+        if !entry_power(entry).right {
+            return false;
+        }
+    }
+    true
+}
+
 /// The least power of a schedule, right where all its units are.
 fn least_power(entries: &[PMaxScheduleEntry]) -> Amount
     ensures { result ≡ rule.least_power entries.now }
 {
     Amount {
         size: least_watts(entries),
-        right: entries.iter().all(|entry| entry_power(entry).right),
+        right: are_right(entries),
     }
 }
 

@@ -1,6 +1,7 @@
 //! Messages of charging, as words have them (ISO 15118-2:2014, 8.4.3.9, 8.4.4 and 8.4.5).
 
 ghost use Rattle.std.specs.Prelude.{◌≡◌, fold, max, map};
+ghost use Rattle.std.specs.List.{list_all};
 ghost use Rattle.iso_words.specs.PowerWords as rule;
 
 use iso_power::{
@@ -74,13 +75,25 @@ fn most_watts(entries: &[ProfileEntry]) -> u32
     most
 }
 
+/// Whether the units of all entries are right.
+fn are_right(entries: &[ProfileEntry]) -> bool
+    ensures { result ≡ list_all (λ e. (rule.profile_power e).right) entries.now }
+{
+    for entry in entries {
+        if !profile_power(entry).right {
+            return false;
+        }
+    }
+    true
+}
+
 /// The greatest power of a profile, right where all its units are.
 fn most_power(entries: &[ProfileEntry]) -> Amount
     ensures { result ≡ rule.most_power entries.now }
 {
     Amount {
         size: most_watts(entries),
-        right: entries.iter().all(|entry| profile_power(entry).right),
+        right: are_right(entries),
     }
 }
 
