@@ -33,8 +33,7 @@ ten_thousands : (size : ℕ) → is_whole size 10000 ≡ true → size / 10000 *
 ten_thousands size h = let rest : size % 10000 ≡ 0 = whole size 10000 h in omega arith
 
 last_of : (e : Bool) → IsTrue (false || false || false || false || e) → e ≡ true
-last_of true h = refl
-last_of false h = absurd h
+last_of e h = h
 
 chosen_back : (size : ℕ) (a b c d : Bool) → is_whole size 10 ≡ b → is_whole size 100 ≡ c → is_whole size 1000 ≡ d
     → IsTrue (a || b || c || d || is_whole size 10000) → counted (chosen a b c d size) ≡ size

@@ -99,8 +99,7 @@ code_fits : (d : Dialect) (c : Code) → d ≡ dialect.Iso → is_code_of d c �
 code_fits d c is h =
     let Is : Dialect → Type 0 = λ x. is_code_of x c ≡ true in
     let here : is_code_of dialect.Iso c ≡ true = subst Is is h in
-    let there : is_iso_code c ≡ true = sym (iso_codes c) ∙ here in
-    subst (λ (b : Bool). IsTrue b) (sym there) tt
+    sym (iso_codes c) ∙ here
 
 -- ---- what is told
 
@@ -117,12 +116,12 @@ evse_if_fits dialect.Iso plan is p = (p.evse_id_ascii, p.evse_id.1)
 evse_if_fits dialect.Din plan is p = absurd (cc)
 
 mode_fits : (m : Mode) → IsTrue (is_iso_mode (offered m))
-mode_fits mode.AcSinglePhaseCore = tt
-mode_fits mode.AcThreePhaseCore = tt
-mode_fits mode.DcCore = tt
-mode_fits mode.DcExtended = tt
-mode_fits mode.DcComboCore = tt
-mode_fits mode.DcUnique = tt
+mode_fits mode.AcSinglePhaseCore = refl
+mode_fits mode.AcThreePhaseCore = refl
+mode_fits mode.DcCore = refl
+mode_fits mode.DcExtended = refl
+mode_fits mode.DcComboCore = refl
+mode_fits mode.DcUnique = refl
 
 tenths_fit : (n : ℕ) → n ≤ 30000 → IsTrue (can_write_tenths n)
 tenths_fit n h = few_tenths n (omega arith)
@@ -163,15 +162,15 @@ told_fits s facts plan r c shown (ask.ServiceDetail service) is p h few = few
 told_fits s facts plan r c shown (ask.PaymentSelection external services) is p h service = tt
 told_fits s facts plan r c shown ask.Authorization is p h service = tt
 told_fits s facts plan r c shown (ask.ChargeParameters mode limits) is p h service =
-    (schedule_fits (is_accepted c && nat_lt 0 shown) s.dialect shown h.shown,
+    (schedule_fits (is_accepted c && nat_lt 0 shown) s.dialect shown h.most,
     limits_fit (is_ac plan.mode) s.dialect s facts plan r shown c (ask.ChargeParameters mode limits) (if is_accepted c then shown else 0) p h
-    (told_few (is_accepted c) shown 0 h.shown (lit≤ tt)))
+    (told_few (is_accepted c) shown 0 h.most (lit≤ tt)))
 told_fits s facts plan r c shown (ask.CableCheck ready soc) is p h service = tt
 told_fits s facts plan r c shown (ask.PreCharge ready soc voltage current) is p h service = tenths_fit facts.voltage h.voltage
 told_fits s facts plan r c shown (ask.PowerDelivery progress tuple profile) is p h service = tt
 told_fits s facts plan r c shown (ask.CurrentDemand ready soc voltage current) is p h service =
     (tenths_fit facts.voltage h.voltage, tenths_fit facts.current h.current, tenths_fit plan.max_voltage h.max_voltage,
-    tenths_fit plan.max_current h.max_current, told_few (is_accepted c) shown s.told h.shown h.told, evse_if_fits s.dialect plan is p)
+    tenths_fit plan.max_current h.max_current, told_few (is_accepted c) shown s.told h.most h.told, evse_if_fits s.dialect plan is p)
 told_fits s facts plan r c shown ask.ChargingStatus is p h service =
     (evse_fits s.dialect plan is p, current_fits plan (if is_accepted c then shown else s.told))
 told_fits s facts plan r c shown (ask.WeldingDetection ready soc) is p h service = tenths_fit facts.voltage h.voltage
@@ -186,4 +185,4 @@ spells_replies s facts plan r shown is p h =
     told_fits s facts plan r (verdict s facts plan r) shown r.ask is p h h.service)
 
 pub spells_waiting : SpellsWaiting
-spells_waiting s facts plan h = (identifier_fits s h, tt, tt)
+spells_waiting s facts plan h = (identifier_fits s h, refl, tt)

@@ -103,8 +103,8 @@ code_back code.FailedWrongEnergyTransferMode h = refl
 code_back code.FailedContactorError h = refl
 code_back code.FailedCertificateNotAllowedAtThisEvse h = refl
 code_back code.FailedCertificateRevoked h = refl
-code_back code.FailedEvsePresentVoltageToLow h = absurd h
-code_back code.FailedWrongEnergyTransferType h = absurd h
+code_back code.FailedEvsePresentVoltageToLow h = absurd (cc)
+code_back code.FailedWrongEnergyTransferType h = absurd (cc)
 
 pub mode_back : (x : Mode) → mode_of (energy_transfer_mode x) ≡ x
 mode_back mode.AcSinglePhaseCore = refl
@@ -121,11 +121,11 @@ offered_back offered.DcCore h = refl
 offered_back offered.DcExtended h = refl
 offered_back offered.DcComboCore h = refl
 offered_back offered.DcUnique h = refl
-offered_back offered.DcDual h = absurd h
-offered_back offered.AcCore1pDcExtended h = absurd h
-offered_back offered.AcSingleDcCore h = absurd h
-offered_back offered.AcSinglePhaseThreePhaseCoreDcExtended h = absurd h
-offered_back offered.AcCore3pDcExtended h = absurd h
+offered_back offered.DcDual h = absurd (cc)
+offered_back offered.AcCore1pDcExtended h = absurd (cc)
+offered_back offered.AcSingleDcCore h = absurd (cc)
+offered_back offered.AcSinglePhaseThreePhaseCoreDcExtended h = absurd (cc)
+offered_back offered.AcCore3pDcExtended h = absurd (cc)
 
 pub level_back : (x : IsolationLevel) → isolation_of (isolation_level x) ≡ x
 level_back level.Invalid = refl

@@ -33,7 +33,7 @@ pub record IsBounded (s : Stage) (facts : Facts) (plan : PostPlan) (r : Request)
   pub min_current : IsTenths plan.min_current
   pub ripple : IsTenths plan.ripple
   pub told : s.told ≤ 1000000
-  pub shown : shown ≤ 1000000
+  pub most : shown ≤ 1000000
 
 abbrev pub SpellsReplies : Type 0
 SpellsReplies = (s : Stage) (facts : Facts) (plan : PostPlan) (r : Request) (shown : ℕ)
