@@ -48,7 +48,8 @@ pub fn offered_of(value: SupportedEnergyTransferType) -> OfferedMode
         SupportedEnergyTransferType::DcDual => OfferedMode::DcDual,
         SupportedEnergyTransferType::AcCore1pDcExtended => OfferedMode::AcCore1pDcExtended,
         SupportedEnergyTransferType::AcSingleDcCore => OfferedMode::AcSingleDcCore,
-        SupportedEnergyTransferType::AcSinglePhaseThreePhaseCoreDcExtended => OfferedMode::AcSinglePhaseThreePhaseCoreDcExtended,
+        SupportedEnergyTransferType::AcSinglePhaseThreePhaseCoreDcExtended =>
+            OfferedMode::AcSinglePhaseThreePhaseCoreDcExtended,
         SupportedEnergyTransferType::AcCore3pDcExtended => OfferedMode::AcCore3pDcExtended,
     }
 }
@@ -66,7 +67,8 @@ pub fn offered_mode(value: OfferedMode) -> SupportedEnergyTransferType
         OfferedMode::DcDual => SupportedEnergyTransferType::DcDual,
         OfferedMode::AcCore1pDcExtended => SupportedEnergyTransferType::AcCore1pDcExtended,
         OfferedMode::AcSingleDcCore => SupportedEnergyTransferType::AcSingleDcCore,
-        OfferedMode::AcSinglePhaseThreePhaseCoreDcExtended => SupportedEnergyTransferType::AcSinglePhaseThreePhaseCoreDcExtended,
+        OfferedMode::AcSinglePhaseThreePhaseCoreDcExtended =>
+            SupportedEnergyTransferType::AcSinglePhaseThreePhaseCoreDcExtended,
         OfferedMode::AcCore3pDcExtended => SupportedEnergyTransferType::AcCore3pDcExtended,
         OfferedMode::DcUnique => SupportedEnergyTransferType::DcExtended,
     }

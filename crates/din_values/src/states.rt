@@ -4,7 +4,9 @@ ghost use Rattle.std.specs.Prelude.{◌≡◌};
 ghost use Rattle.din_values.specs.States as rule;
 
 use charge_world::IsolationLevel;
-use din_parts::{EvseNotification, EvseProcessing, EvseStatusCode, IsolationLevel as DinLevel, PaymentOption};
+use din_parts::{
+    EvseNotification, EvseProcessing, EvseStatusCode, IsolationLevel as DinLevel, PaymentOption,
+};
 use session_words::{Notify, Processing, StatusCode};
 
 /// A state of the isolation.

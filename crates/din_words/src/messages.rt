@@ -19,7 +19,9 @@ use din_power::EvseChargeParameter;
 use din_setup::{ServicePaymentSelectionRes, SessionStopReq, SessionStopRes};
 use din_values::codes::response_code;
 use message_parts::Binary;
-use session_words::{Ask, CarLimits, Code, EvseId, Mode, PostLimits, PostStatus, SessionId, Tell, Word};
+use session_words::{
+    Ask, CarLimits, Code, EvseId, Mode, PostLimits, PostStatus, SessionId, Tell, Word,
+};
 
 /// The bytes of an EVSEID; none of that of ISO.
 fn evse_bytes(id: &EvseId) -> Binary<'_>

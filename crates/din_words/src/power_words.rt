@@ -5,8 +5,8 @@ ghost use Rattle.din_words.specs.PowerWords as rule;
 
 use din_parts::EvseStatus;
 use din_power::{
-    CableCheckReq, CableCheckRes, ChargingProfile, CurrentDemandReq,
-    CurrentDemandRes, PowerDeliveryReq, PowerDeliveryRes, PreChargeReq, PreChargeRes, ProfileEntry,
+    CableCheckReq, CableCheckRes, ChargingProfile, CurrentDemandReq, CurrentDemandRes,
+    PowerDeliveryReq, PowerDeliveryRes, PreChargeReq, PreChargeRes, ProfileEntry,
     WeldingDetectionReq, WeldingDetectionRes,
 };
 use din_values::physical::{current_in, power_in, voltage_in, watts_in};

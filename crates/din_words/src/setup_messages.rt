@@ -144,7 +144,10 @@ pub(crate) fn authorization_req<'a>() -> ContractAuthenticationReq<'a>
 }
 
 /// ContractAuthenticationRes.
-pub(crate) fn authorization_res(code: ResponseCode, processing: Processing) -> ContractAuthenticationRes
+pub(crate) fn authorization_res(
+    code: ResponseCode,
+    processing: Processing,
+) -> ContractAuthenticationRes
     ensures { result ≡ rule.authorization_res code processing }
 {
     ContractAuthenticationRes {

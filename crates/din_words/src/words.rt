@@ -5,8 +5,8 @@ ghost use Rattle.din_words.specs.Words as rule;
 
 use crate::parameter_words::{parameters_ask, parameters_tell};
 use crate::power_words::{
-    cable_check_ask, cable_check_tell, delivery_ask, delivery_tell, demand_ask,
-    demand_tell, pre_charge_ask, pre_charge_tell, welding_ask, welding_tell,
+    cable_check_ask, cable_check_tell, delivery_ask, delivery_tell, demand_ask, demand_tell,
+    pre_charge_ask, pre_charge_tell, welding_ask, welding_tell,
 };
 use crate::setup_words::{
     authorization_tell, discovery_tell, selection_ask, setup_ask, setup_tell,
@@ -58,7 +58,11 @@ fn element_word(s: SessionId, element: &BodyElement<'_>) -> Word
             told(s, x.response_code, Tell::PaymentSelection)
         }
         BodyElement::ContractAuthenticationReq(_) => asked(s, Ask::Authorization),
-        BodyElement::ContractAuthenticationRes(x) => told(s, x.response_code, authorization_tell(x)),
+        BodyElement::ContractAuthenticationRes(x) => told(
+            s,
+            x.response_code,
+            authorization_tell(x),
+        ),
         BodyElement::ChargeParameterDiscoveryReq(x) => asked(s, parameters_ask(x)),
         BodyElement::ChargeParameterDiscoveryRes(x) => told(s, x.response_code, parameters_tell(x)),
         BodyElement::CableCheckReq(x) => asked(s, cable_check_ask(x)),
