@@ -109,7 +109,7 @@ def put_choice_head(t, crate, file, kind):
 def read_choice_head(t, kind):
     members = t.choices[kind]
     rules = "rules, " if any(t.is_signed(it.kind) for it in members) else ""
-    head = f"use Rattle.std.proofs.Common.{{{rules}refl, [], ◌∷◌}}\nuse Rattle.message_parts.proofs.Chosen.{{only_last}}\n"
+    head = f"use Rattle.std.proofs.Common.{{{rules}refl, []{', ◌∷◌' if len(members) > 1 else ''}}}\nuse Rattle.message_parts.proofs.Chosen.{{only_last}}\n"
     head += f"use Rattle.{t.s.crate}.specs.declared.names.TheConstants.{{{', '.join(it.name for it in members)}}}\n"
     kinds = dict.fromkeys(kind_name(t, it) for it in members)
     return head + f"use Rattle.{t.s.crate}.specs.declared.kinds.TheConstants.{{{', '.join(kinds)}}}\n"

@@ -1,5 +1,5 @@
 -- The texts of an element are no more than its kind allows.
-use Rattle.std.proofs.Common.{◌≡◌, ℕ, zero, suc, ◌+◌, ◌*◌, ◌≤◌, ◌⊎◌, ◌&&◌, nat_le, max, Bool, true, false, List, [], ◌∷◌, ◌++◌, length, length-append, Option, Some, None, refl, sym, ap, subst, ◌∙◌, arith, slice_get, inl, inr}
+use Rattle.std.proofs.Common.{◌≡◌, ℕ, zero, suc, ◌+◌, ◌*◌, ◌≤◌, ◌&&◌, nat_le, max, Bool, true, false, List, [], ◌∷◌, ◌++◌, length, length-append, Option, Some, None, refl, sym, ap, subst, arith, slice_get, inl, inr}
 use Rattle.std.proofs.lemmas.Bool.{leb-true}
 use Rattle.std.proofs.lemmas.List.{append_assoc}
 use Rattle.std.specs.List.{AllByRecursion, list_all}
@@ -7,14 +7,13 @@ use Rattle.exi_schema.specs.declared.tables.AttributeOf.{AttributeOf}
 use Rattle.exi_schema.specs.declared.tables.Datatype.{Datatype}
 use Rattle.exi_schema.specs.declared.tables.Datatype.TheVariants.{Bool as BoolType, Named, Bounded, Unsigned, Signed, Binary, Text as TextType}
 use Rattle.exi_schema.specs.declared.tables.Member.{Member}
-use Rattle.exi_schema.specs.declared.tables.RootOf.{RootOf}
 use Rattle.exi_schema.specs.Plain.{PlainKind, valued, containing, PlainParticle}
 use Rattle.exi_schema.specs.Schemas.{PlainSchema, is_within, particles_of}
-use Rattle.exi_schema.specs.Steps.{simple_at, datatype_of}
+use Rattle.exi_schema.specs.Steps.{datatype_of}
 use Rattle.exi_schema.proofs.Conditions.{and-l, and-r, all_get}
-use Rattle.exi_documents.specs.Trees.{Value, Truth, Ordinal, Number, Bytes, Text, Trees, none, simple, complex, Tree, Simple, Complex, alone}
+use Rattle.exi_documents.specs.Trees.{Value, Truth, Ordinal, Number, Bytes, Text, Trees, none, simple, complex, Tree, alone}
 use Rattle.exi_documents.specs.Values.{most_entries, IsValue}
-use Rattle.kind_laws.specs.Kinds.{IsMemberOf, StandsFor, HasValue, HaveValues, AreChosen, HoldsAttributes, AreDivided, AreElements, FitsSchema, member_of}
+use Rattle.kind_laws.specs.Kinds.{IsMemberOf, HaveValues, AreChosen, AreDivided, AreElements, FitsSchema, member_of}
 use Rattle.kind_laws.proofs.Lists.{get_back}
 use Rattle.kind_laws.specs.Texts.{text_in, attribute_texts, texts_of, IsAmong, HasFewTexts}
 use Rattle.fitting_parts.specs.Counted.{texts_of_datatype, most_of_members, most_of_particles, attribute_count, most_of_kind, most_texts, has_few_texts}

@@ -1,5 +1,5 @@
 -- What fits part by part holds what its kind says.
-use Rattle.std.proofs.Common.{◌≡◌, ℕ, zero, suc, ◌≤◌, ◌==◌, ◌&&◌, nat_le, if◌then◌else◌, Bool, true, false, List, [], ◌∷◌, ◌++◌, length, Option, Some, None, refl, sym, ap, ◌∙◌, slice_get, inl, inr}
+use Rattle.std.proofs.Common.{◌≡◌, ℕ, suc, ◌==◌, nat_le, if◌then◌else◌, Bool, true, false, List, [], ◌∷◌, ◌++◌, length, Option, Some, None, refl, sym, ap, ◌∙◌, slice_get, inl, inr}
 use Rattle.std.proofs.lemmas.Bool.{leb-true}
 use Rattle.std.specs.List.{AllByRecursion}
 use Rattle.exi_schema.specs.declared.tables.AttributeOf.{AttributeOf}
@@ -11,13 +11,13 @@ use Rattle.exi_schema.specs.Plain.{PlainKind, containing, PlainParticle}
 use Rattle.exi_schema.specs.Schemas.{PlainSchema, is_taken}
 use Rattle.exi_schema.specs.Steps.{simple_at}
 use Rattle.exi_schema.proofs.Conditions.{and-l, and-r}
-use Rattle.exi_documents.specs.Trees.{Value, Trees, none, simple, complex}
+use Rattle.exi_documents.specs.Trees.{Trees, none}
 use Rattle.exi_documents.specs.Values.{IsValue}
-use Rattle.kind_laws.specs.Kinds.{IsMemberOf, IsAtMost, StandsFor, HasValue, HaveValues, AreChosen, HoldsAttributes, AreDivided, AreElements, FitsSchema}
+use Rattle.kind_laws.specs.Kinds.{IsMemberOf, IsAtMost, StandsFor, HoldsAttributes, AreDivided, AreElements, FitsSchema}
 use Rattle.message_parts.specs.Contents.{Inside, Of, Holding, Given, given, perhaps_given, Part, one, perhaps, each, perhaps_one, element, each_trees, trees_of, attributes_of, holding_with, root_of}
 use Rattle.message_parts.specs.Particles.{alternatives, kind_among, has_room_for}
 use Rattle.message_parts.proofs.Distinct.{number_is}
-use Rattle.fitting_parts.specs.Fitting.{HoldsTrees, FitsGiven, takes_copies, FitsElement, FitsPart, FitsParts}
+use Rattle.fitting_parts.specs.Fitting.{HoldsTrees, FitsGiven, takes_copies, FitsElement, FitsParts}
 
 -- ---- the member of a name
 

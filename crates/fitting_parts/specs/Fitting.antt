@@ -1,10 +1,9 @@
 -- Own: parts that hold what is declared. W3C XML Schema Part 1 (Second Edition) 3.4.4 and 3.9.4, part by part.
-use Rattle.std.specs.Prelude.{◌≡◌, ℕ, nat_le, ◌&&◌, Bool, true, false, List, [], ◌∷◌, length, Option, Some, None, slice_get}
+use Rattle.std.specs.Prelude.{◌≡◌, ℕ, nat_le, ◌&&◌, Bool, true, false, List, [], ◌∷◌, length, Some, None, slice_get}
 use Rattle.std.specs.List.{AllByRecursion}
 use Rattle.exi_schema.specs.declared.tables.AttributeOf.{AttributeOf}
 use Rattle.exi_schema.specs.declared.tables.Member.{Member}
 use Rattle.exi_schema.specs.Plain.{PlainKind, containing, PlainParticle}
-use Rattle.exi_documents.specs.Trees.{Value}
 use Rattle.exi_documents.specs.Values.{IsValue}
 use Rattle.kind_laws.specs.Kinds.{HasValue, HoldsAttributes, AreDivided, AreElements}
 use Rattle.message_parts.specs.Contents.{Inside, Of, Holding, Given, given, perhaps_given, Part, one, perhaps, each, perhaps_one}

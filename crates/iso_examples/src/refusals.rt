@@ -65,39 +65,38 @@ fn a_cut_payload_is_short_at_the_first_item_that_is_not_whole(rt: HostRuntime) -
     Ok(())
 }
 
-/// The event codes of a session setup: the byte, its value with the escape in the code's place, and the bit at which the code begins.
-const ESCAPES: [(usize, u8, u32); 13] = [
-    (1, 0x99, 15),
-    (2, 0x82, 16),
-    (2, 0x42, 17),
-    (11, 0x31, 90),
-    (11, 0x19, 91),
-    (11, 0x15, 93),
-    (12, 0x40, 94),
-    (12, 0xd8, 100),
-    (12, 0xd4, 101),
-    (19, 0x16, 158),
-    (19, 0x15, 159),
-    (20, 0x80, 160),
-    (20, 0x40, 161),
+/// A session setup with the escape in place of one of its event codes, and the bit at which that code begins.
+const ESCAPES: [(&'static str, u32); 13] = [
+    ("809902000000000000000011d0180004080c101400", 15),
+    ("809882000000000000000011d0180004080c101400", 16),
+    ("809842000000000000000011d0180004080c101400", 17),
+    ("809802000000000000000031d0180004080c101400", 90),
+    ("809802000000000000000019d0180004080c101400", 91),
+    ("809802000000000000000015d0180004080c101400", 93),
+    ("80980200000000000000001240180004080c101400", 94),
+    ("809802000000000000000011d8180004080c101400", 100),
+    ("809802000000000000000011d4180004080c101400", 101),
+    ("809802000000000000000011d0180004080c101600", 158),
+    ("809802000000000000000011d0180004080c101500", 159),
+    ("809802000000000000000011d0180004080c101480", 160),
+    ("809802000000000000000011d0180004080c101440", 161),
 ];
 
 #[test]
 fn an_escape_in_place_of_an_event_is_a_deviation(rt: HostRuntime) -> Result<(), Fail> {
     let tables = IsoTables::make(rt.alloc())?;
-    let mut room = Table::make(rt.alloc(), MOST_ENTRIES)?;
-    for (byte, value, bit) in ESCAPES {
-        let mut payload = SETUP;
-        payload[byte] = value;
-        if bit == 94 {
-            payload[11] = 0x12;
-        }
-        let refused = read_iso(&tables, &payload, &mut room).err();
+    for (hex, bit) in ESCAPES {
+        let payload = hex::decode(rt.alloc(), hex)?;
+        assert!(rt; payload.len() <= 65536);
+        let mut room = Table::make(rt.alloc(), MOST_ENTRIES)?;
         let wanted = Refusal {
             cause: RefusalCause::Deviation,
             bit,
         };
-        assert_eq!(rt; refused, Some(wanted));
+        assert_eq!(rt;
+            read_iso(&tables, payload.as_slice(), &mut room).err(),
+            Some(wanted)
+        );
     }
     Ok(())
 }

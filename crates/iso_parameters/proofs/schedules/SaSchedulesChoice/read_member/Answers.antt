@@ -1,4 +1,4 @@
-use Rattle.std.proofs.Common.{refl, [], ◌∷◌}
+use Rattle.std.proofs.Common.{refl, []}
 use Rattle.message_parts.proofs.Chosen.{only_last}
 use Rattle.iso_schema.specs.declared.names.TheConstants.{SA_SCHEDULE_LIST}
 use Rattle.iso_schema.specs.declared.kinds.TheConstants.{SA_SCHEDULE_LIST_KIND}

@@ -1,4 +1,4 @@
-use Rattle.std.proofs.Common.{refl, [], ◌∷◌}
+use Rattle.std.proofs.Common.{refl, []}
 use Rattle.message_parts.proofs.Chosen.{only_last}
 use Rattle.iso_schema.specs.declared.names.TheConstants.{RELATIVE_TIME_INTERVAL}
 use Rattle.iso_schema.specs.declared.kinds.TheConstants.{RELATIVE_TIME_INTERVAL_KIND}

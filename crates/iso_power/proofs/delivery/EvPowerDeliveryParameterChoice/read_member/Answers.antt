@@ -1,4 +1,4 @@
-use Rattle.std.proofs.Common.{refl, [], ◌∷◌}
+use Rattle.std.proofs.Common.{refl, []}
 use Rattle.message_parts.proofs.Chosen.{only_last}
 use Rattle.iso_schema.specs.declared.names.TheConstants.{DC_EV_POWER_DELIVERY_PARAMETER}
 use Rattle.iso_schema.specs.declared.kinds.TheConstants.{DC_EV_POWER_DELIVERY_PARAMETER_KIND}
