@@ -31,7 +31,7 @@ use Rattle.iso_values.specs.Modes.{is_iso_mode}
 use Rattle.word_values.specs.Amounts.{can_write_tenths}
 use Rattle.iso_words.specs.Spellable.{CanSession, CanEvse, IsSomeEvse, CanTuple, CanTuples, CanPostLimits, CanTell}
 use Rattle.iso_word_laws.specs.Posts.{IsBounded, IsServiceOf, SpellsReplies, SpellsWaiting}
-use Rattle.iso_word_laws.proofs.Numbers.{few_tenths}
+use Rattle.written_words.proofs.Numbers.{few_tenths}
 
 -- ---- identifiers
 

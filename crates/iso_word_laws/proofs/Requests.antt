@@ -25,7 +25,7 @@ use Rattle.iso_words.specs.Spellable.{CanAsk, CanCarLimits, IsSomeTuple}
 use Rattle.iso_words.specs.Words.{element_word, asked}
 use Rattle.word_values.proofs.TextLemmas.{fitting_all}
 use Rattle.word_values.specs.Items.{fitting}
-use Rattle.iso_word_laws.specs.Reading.{dropped_car, dropped_ask}
+use Rattle.written_words.specs.Back.{dropped_car, dropped_ask}
 use Rattle.iso_word_laws.proofs.Lists.{services_back, number_back, profile_back}
 use Rattle.iso_word_laws.proofs.Values.{voltage_back, current_back, powers_back, mode_back, progress_back, external_back, pause_back}
 

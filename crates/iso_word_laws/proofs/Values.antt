@@ -31,7 +31,7 @@ use Rattle.iso_values.specs.States.{isolation_of, isolation_level, status_code_o
 use Rattle.iso_values.specs.Physical.{is_volt, is_ampere, is_watt, unit_if, voltage_in, current_in, power_in, voltage_of, nominal_of, current_of, power_of}
 use Rattle.iso_values.specs.Statuses.{dc_status_of, dc_evse_status, post_status_of, evse_status}
 use Rattle.iso_words.specs.Spellable.{AreTenths, AreWatts}
-use Rattle.iso_word_laws.proofs.Numbers.{tenths_back, volts_back, watts_back}
+use Rattle.written_words.proofs.Numbers.{tenths_back, volts_back, watts_back}
 
 -- ---- physical values
 

@@ -1,32 +1,11 @@
--- Own: what a message that is written of a word reads as: the word, but for the watts that a Value and its Multiplier drop.
+-- Own: what a message of ISO 15118-2:2014 that is written of a word reads as.
 use Rattle.std.specs.Prelude.{◌≡◌}
-use Rattle.std.specs.Option.{option_map}
-use Rattle.session_words.specs.declared.limits.CarLimits.{CarLimits}
-use Rattle.session_words.specs.declared.limits.CarLimits.TheVariants as car
-use Rattle.session_words.specs.declared.word.Ask.{Ask}
-use Rattle.session_words.specs.declared.word.Ask.TheVariants as ask
 use Rattle.session_words.specs.declared.word.Word.{Word}
-use Rattle.session_words.specs.declared.word.Word.TheVariants as word
-use Rattle.post_spec.specs.Spelled.{dropped, read_back}
+use Rattle.written_words.specs.Back.{word_back}
 use Rattle.iso_codec.specs.declared.message.IsoMessage.{IsoMessage}
 use Rattle.iso_words.specs.Messages.{IsMessageOf}
 use Rattle.iso_words.specs.Spellable.{CanSpell}
 use Rattle.iso_words.specs.Words.{word_of}
-
-abbrev pub dropped_car : CarLimits → CarLimits
-dropped_car (car.Ac most_current least_current most_voltage) = car.Ac most_current least_current most_voltage
-dropped_car (car.Dc ready soc current watts voltage) = car.Dc ready soc current (option_map dropped watts) voltage
-
-abbrev pub dropped_ask : Ask → Ask
-dropped_ask (ask.ChargeParameters mode limits) = ask.ChargeParameters mode (dropped_car limits)
-dropped_ask (ask.PowerDelivery progress tuple profile) = ask.PowerDelivery progress tuple (option_map dropped profile)
-dropped_ask other = other
-
--- the word that a written one reads as
-abbrev pub word_back : Word → Word
-word_back (word.Request request) = word.Request (record request { ask = dropped_ask request.ask })
-word_back (word.Reply reply) = word.Reply (read_back reply)
-word_back word.Nothing = word.Nothing
 
 abbrev pub ReadsAsWritten : Type 0
 ReadsAsWritten = (w : Word) (m : IsoMessage) → CanSpell w → IsMessageOf w m → word_of m ≡ word_back w
