@@ -1,18 +1,13 @@
-use Rattle.std.proofs.Common.{◌≡◌, ◌+◌, ◌++◌, [], ◌∷◌, map, length, arith, rules, to_z, of_z, ap, sym, ◌∙◌}
+use Rattle.std.proofs.Common.{ℤ, ◌+◌, ◌++◌, [], ◌∷◌, length, arith, to_z, of_z, ap, sym, ◌∙◌}
 use Rattle.std.proofs.lemmas.List.FromFn.{map-range_with_len_more, length-map-range_with_len}
-use Rattle.std.proofs.lemmas.Int.{to_z-of_z}
 use mir.Syntax.{w16}
-use Rattle.std.specs.List.{range_with_len}
 use Rattle.din_words.specs.ParameterMessages.{entry_at}
 use Rattle.din_words.proofs.parameter_messages.entries_of.Goals as goal
 
 pub loop-start-preserved : goal.loop-start-preserved
 loop-start-preserved c =
-    let more : map (entry_at c.args.power) (range_with_len 0 (c.loop-start.start + 1))
-    ≡ map (entry_at c.args.power) (range_with_len 0 c.loop-start.start) ++ entry_at c.args.power c.loop-start.start ∷ []
-    = map-range_with_len_more (entry_at c.args.power) 0 c.loop-start.start c.loop-start.start (omega arith) in
-    let same : to_z w16 (of_z w16 c.args.power) ≡ c.args.power = to_z-of_z w16 c.args.power (search rules) in
-    let items : c.push.new.self.items ≡ map (entry_at c.args.power) (range_with_len 0 (c.loop-start.start + 1)) =
-    c.push.ensures.items ∙ ap (λ e. c.loop-start.entries.items ++ e ∷ []) (c.entry_at.ensures ∙ ap (λ p. entry_at p c.loop-start.start) same)
-    ∙ ap (λ xs. xs ++ entry_at c.args.power c.loop-start.start ∷ []) c.loop-start.invariant.0 ∙ sym more in
-    (items, ap length items ∙ length-map-range_with_len (entry_at c.args.power) 0 (c.loop-start.start + 1))
+    let power : ℤ = to_z w16 (of_z w16 c.args.power) in
+    let more = map-range_with_len_more (entry_at power) 0 c.loop-start.start c.loop-start.start (omega arith) in
+    let items = c.push.ensures.items ∙ ap (λ e. c.loop-start.entries.items ++ e ∷ []) c.entry_at.ensures
+      ∙ ap (λ xs. xs ++ entry_at power c.loop-start.start ∷ []) c.loop-start.invariant.0 ∙ sym more in
+    (items, ap length items ∙ length-map-range_with_len (entry_at power) 0 (c.loop-start.start + 1))
