@@ -6,7 +6,7 @@ use Rattle.std.specs.Option.{option_map}
 use Rattle.std.proofs.lemmas.Grind.{common_steps}
 use Rattle.std.proofs.lemmas.Int.{ints}
 use Rattle.exi_documents.specs.Trees.{Ordinal}
-use Rattle.exi_schema.specs.Plain.{PlainParticle}
+use Rattle.exi_schema.specs.Plain.{PlainParticle, perhaps as may}
 use Rattle.exi_schema.specs.declared.tables.Datatype.TheVariants.{Bounded, Signed}
 use Rattle.fitting_parts.specs.Fitting.{HoldsTrees, FitsPart, FitsElement, takes_copies}
 use Rattle.fitting_parts.proofs.Fitted.{holding_held}
@@ -14,6 +14,7 @@ use Rattle.message_parts.specs.Contents.{Inside, Of, Part, perhaps, mapped, hold
 use Rattle.message_parts.specs.Particles.{alternatives, kind_among}
 use Rattle.iso_schema.specs.Declarations.{kinds}
 use Rattle.iso_schema.specs.Frame.{physical_value, dc_ev_status as ev_status, ac_evse_status as ac_status, dc_evse_status as dc_status}
+use Rattle.iso_schema.specs.declared.names.TheConstants.{EVSE_ISOLATION_STATUS}
 use Rattle.iso_schema.specs.declared.kinds.TheConstants.{BOOLEAN_KIND, SHORT_KIND, UNSIGNED_SHORT_KIND, PERCENT_KIND, MULTIPLIER_KIND, UNIT_SYMBOL_KIND, EV_ERROR_CODE_KIND, EVSE_NOTIFICATION_KIND, ISOLATION_LEVEL_KIND, EVSE_STATUS_CODE_KIND, PHYSICAL_VALUE_KIND, DC_EV_STATUS_KIND, AC_EVSE_STATUS_KIND, DC_EVSE_STATUS_KIND}
 use Rattle.iso_parts.specs.Enumerations.{isolation_level_ordinal}
 use Rattle.iso_parts.specs.Values.{physical_value_parts, dc_ev_status_parts, ac_evse_status_parts, dc_evse_status_parts}
@@ -171,6 +172,6 @@ pub dc_status_has : (s : DcStatus) → Has DC_EVSE_STATUS_KIND (holding (dc_evse
 dc_status_has s = holding_held kinds DC_EVSE_STATUS_KIND [] dc_status [] (dc_evse_status_parts (dc_evse_status s)) refl tt
     (((UNSIGNED_SHORT_KIND, refl, short_has 0 (omega arith)), refl),
     (((EVSE_NOTIFICATION_KIND, refl, evse_notification_has (evse_notification s.notify)), refl),
-    (perhaps_level _ _ refl refl refl (option_map isolation_level s.isolation),
+    (perhaps_level (may EVSE_ISOLATION_STATUS ISOLATION_LEVEL_KIND) EVSE_ISOLATION_STATUS refl refl refl (option_map isolation_level s.isolation),
     (((EVSE_STATUS_CODE_KIND, refl, evse_status_code_has (evse_status_code s.code)), refl),
     tt))))

@@ -6,7 +6,8 @@ use Rattle.std.specs.Option.{option_map}
 use Rattle.std.proofs.lemmas.Int.{ints}
 use Rattle.std.proofs.lemmas.List.FromFn.{length-range_with_len}
 use Rattle.arrayvec.specs.ArrayVec.{ArrayVec}
-use Rattle.exi_schema.specs.Plain.{PlainParticle, up_to, at_least_one}
+use Rattle.exi_schema.specs.declared.tables.MemberStanding.TheVariants.{Abstract}
+use Rattle.exi_schema.specs.Plain.{PlainParticle, up_to, at_least_one, perhaps as may, perhaps_choice, one_of, standing}
 use Rattle.fitting_parts.specs.Fitting.{FitsElement, FitsPart, takes_copies}
 use Rattle.fitting_parts.proofs.Fitted.{holding_held}
 use Rattle.message_parts.specs.Contents.{Inside, Of, perhaps, perhaps_one, mapped, holding}
@@ -17,8 +18,8 @@ use Rattle.iso_schema.specs.Declarations.{kinds}
 use Rattle.iso_schema.specs.Parameters.{charge_parameter_discovery_req, ac_ev_charge_parameter, dc_ev_charge_parameter, charge_parameter_discovery_res, sa_schedule_list, sa_schedule_tuple, p_max_schedule, p_max_schedule_entry, relative_time_interval, ac_evse_charge_parameter, dc_evse_charge_parameter}
 use Rattle.iso_schema.specs.Parameters.{power_delivery_req as power_delivery_particles, charging_profile, profile_entry as profile_entry_particles, power_delivery_res, charging_status_res}
 use Rattle.iso_schema.specs.Charging.{cable_check_req as cable_check_req_particles, cable_check_res as cable_check_res_particles, pre_charge_req as pre_charge_req_particles, pre_charge_res as pre_charge_res_particles, current_demand_req, current_demand_res, welding_detection_req, welding_detection_res}
-use Rattle.iso_schema.specs.declared.names.TheConstants.{SA_SCHEDULE_LIST, SA_SCHEDULE_TUPLE, P_MAX_SCHEDULE_ENTRY}
-use Rattle.iso_schema.specs.declared.kinds.TheConstants.{BOOLEAN_KIND, TUPLE_ID_KIND, UNSIGNED_INT_KIND, INTERVAL_START_KIND, INTERVAL_DURATION_KIND, TEXT37_KIND, RESPONSE_CODE_KIND, ENERGY_TRANSFER_MODE_KIND, EVSE_PROCESSING_KIND, CHARGE_PROGRESS_KIND, PHYSICAL_VALUE_KIND, DC_EV_STATUS_KIND, AC_EVSE_STATUS_KIND, DC_EVSE_STATUS_KIND, CHARGE_PARAMETER_DISCOVERY_REQ_KIND, AC_EV_CHARGE_PARAMETER_KIND, DC_EV_CHARGE_PARAMETER_KIND, CHARGE_PARAMETER_DISCOVERY_RES_KIND, SA_SCHEDULE_LIST_KIND, SA_SCHEDULE_TUPLE_KIND, P_MAX_SCHEDULE_KIND, P_MAX_SCHEDULE_ENTRY_KIND, RELATIVE_TIME_INTERVAL_KIND, AC_EVSE_CHARGE_PARAMETER_KIND, DC_EVSE_CHARGE_PARAMETER_KIND, POWER_DELIVERY_REQ_KIND, CHARGING_PROFILE_KIND, PROFILE_ENTRY_KIND, POWER_DELIVERY_RES_KIND, CHARGING_STATUS_RES_KIND, CABLE_CHECK_REQ_KIND, CABLE_CHECK_RES_KIND, PRE_CHARGE_REQ_KIND, PRE_CHARGE_RES_KIND, CURRENT_DEMAND_REQ_KIND, CURRENT_DEMAND_RES_KIND, WELDING_DETECTION_REQ_KIND, WELDING_DETECTION_RES_KIND}
+use Rattle.iso_schema.specs.declared.names.TheConstants.{EV_MAXIMUM_POWER_LIMIT, EVSE_MAX_CURRENT, EVSE_MAXIMUM_VOLTAGE_LIMIT, EVSE_MAXIMUM_CURRENT_LIMIT, EVSE_MAXIMUM_POWER_LIMIT, CHARGING_PROFILE, SA_SCHEDULES, SA_SCHEDULE_LIST, SA_SCHEDULE_TUPLE, P_MAX_SCHEDULE_ENTRY}
+use Rattle.iso_schema.specs.declared.kinds.TheConstants.{EMPTY_KIND, BOOLEAN_KIND, TUPLE_ID_KIND, UNSIGNED_INT_KIND, INTERVAL_START_KIND, INTERVAL_DURATION_KIND, TEXT37_KIND, RESPONSE_CODE_KIND, ENERGY_TRANSFER_MODE_KIND, EVSE_PROCESSING_KIND, CHARGE_PROGRESS_KIND, PHYSICAL_VALUE_KIND, DC_EV_STATUS_KIND, AC_EVSE_STATUS_KIND, DC_EVSE_STATUS_KIND, CHARGE_PARAMETER_DISCOVERY_REQ_KIND, AC_EV_CHARGE_PARAMETER_KIND, DC_EV_CHARGE_PARAMETER_KIND, CHARGE_PARAMETER_DISCOVERY_RES_KIND, SA_SCHEDULE_LIST_KIND, SA_SCHEDULE_TUPLE_KIND, P_MAX_SCHEDULE_KIND, P_MAX_SCHEDULE_ENTRY_KIND, RELATIVE_TIME_INTERVAL_KIND, AC_EVSE_CHARGE_PARAMETER_KIND, DC_EVSE_CHARGE_PARAMETER_KIND, POWER_DELIVERY_REQ_KIND, CHARGING_PROFILE_KIND, PROFILE_ENTRY_KIND, POWER_DELIVERY_RES_KIND, CHARGING_STATUS_RES_KIND, CABLE_CHECK_REQ_KIND, CABLE_CHECK_RES_KIND, PRE_CHARGE_REQ_KIND, PRE_CHARGE_RES_KIND, CURRENT_DEMAND_REQ_KIND, CURRENT_DEMAND_RES_KIND, WELDING_DETECTION_REQ_KIND, WELDING_DETECTION_RES_KIND}
 use Rattle.iso_parts.specs.declared.codes.ResponseCode.{ResponseCode}
 use Rattle.iso_parts.specs.declared.enumerations.UnitSymbol.TheVariants as unit
 use Rattle.iso_parts.specs.declared.values.PhysicalValue.{PhysicalValue}
@@ -120,9 +121,9 @@ demand_res_has code s v c cc vc wc mv mc mw evse hv hc hmv hmc hmw he = holding_
     (((BOOLEAN_KIND, refl, truth_has cc), refl),
     (((BOOLEAN_KIND, refl, truth_has vc), refl),
     (((BOOLEAN_KIND, refl, truth_has wc), refl),
-    (perhaps_physical _ _ voltage_of AreTenths voltage_has refl refl refl mv hmv,
-    (perhaps_physical _ _ current_of AreTenths current_has refl refl refl mc hmc,
-    (perhaps_physical _ _ power_of AreWatts power_has refl refl refl mw hmw,
+    (perhaps_physical (may EVSE_MAXIMUM_VOLTAGE_LIMIT PHYSICAL_VALUE_KIND) EVSE_MAXIMUM_VOLTAGE_LIMIT voltage_of AreTenths voltage_has refl refl refl mv hmv,
+    (perhaps_physical (may EVSE_MAXIMUM_CURRENT_LIMIT PHYSICAL_VALUE_KIND) EVSE_MAXIMUM_CURRENT_LIMIT current_of AreTenths current_has refl refl refl mc hmc,
+    (perhaps_physical (may EVSE_MAXIMUM_POWER_LIMIT PHYSICAL_VALUE_KIND) EVSE_MAXIMUM_POWER_LIMIT power_of AreWatts power_has refl refl refl mw hmw,
     (((TEXT37_KIND, refl, he), refl),
     (((TUPLE_ID_KIND, refl, tuple_id_has 1 (omega arith) (omega arith)), refl),
     (refl,
@@ -135,7 +136,7 @@ charging_res_has code n evse c he hc = holding_held kinds CHARGING_STATUS_RES_KI
     (((RESPONSE_CODE_KIND, refl, response_code_has code), refl),
     (((TEXT37_KIND, refl, he), refl),
     (((TUPLE_ID_KIND, refl, tuple_id_has 1 (omega arith) (omega arith)), refl),
-    (perhaps_physical _ _ current_of AreTenths current_has refl refl refl c hc,
+    (perhaps_physical (may EVSE_MAX_CURRENT PHYSICAL_VALUE_KIND) EVSE_MAX_CURRENT current_of AreTenths current_has refl refl refl c hc,
     (refl,
     (refl,
     (((AC_EVSE_STATUS_KIND, refl, ac_status_has n), refl),
@@ -173,7 +174,7 @@ delivery_req_has p None profile ht hp = absurd ht
 delivery_req_has p (Some id) profile ht hp = holding_held kinds POWER_DELIVERY_REQ_KIND [] power_delivery_particles [] (power_delivery_req_parts (delivery_req p (Some id) profile)) refl tt
     (((CHARGE_PROGRESS_KIND, refl, charge_progress_has (charge_progress p)), refl),
     (((TUPLE_ID_KIND, refl, tuple_id_has (above_zero id) (number_least id ht) (number_most id ht)), refl),
-    (perhaps_profile _ _ refl refl refl profile hp,
+    (perhaps_profile (may CHARGING_PROFILE CHARGING_PROFILE_KIND) CHARGING_PROFILE refl refl refl profile hp,
     (refl,
     tt))))
 
@@ -210,7 +211,7 @@ parameters_req_has m (car.Dc ready soc current watts voltage) h =
     (refl,
     (((DC_EV_STATUS_KIND, refl, ev_status_has ready soc h.0), refl),
     (((PHYSICAL_VALUE_KIND, refl, current_has current h.1), refl),
-    (perhaps_physical _ _ power_of AreWatts power_has refl refl refl watts h.2,
+    (perhaps_physical (may EV_MAXIMUM_POWER_LIMIT PHYSICAL_VALUE_KIND) EV_MAXIMUM_POWER_LIMIT power_of AreWatts power_has refl refl refl watts h.2,
     (((PHYSICAL_VALUE_KIND, refl, voltage_has voltage h.3), refl),
     (refl,
     (refl,
@@ -289,7 +290,7 @@ parameters_res_has code p s (limits.Ac n nominal current) hs h =
     holding_held kinds CHARGE_PARAMETER_DISCOVERY_RES_KIND [] charge_parameter_discovery_res [] (charge_parameter_discovery_res_parts (parameters_res code p s (limits.Ac n nominal current))) refl tt
     (((RESPONSE_CODE_KIND, refl, response_code_has code), refl),
     (((EVSE_PROCESSING_KIND, refl, evse_processing_has (evse_processing p)), refl),
-    (perhaps_schedules _ refl refl refl s hs,
+    (perhaps_schedules (perhaps_choice (one_of SA_SCHEDULE_LIST SA_SCHEDULE_LIST_KIND ∷ standing Abstract SA_SCHEDULES EMPTY_KIND ∷ [])) refl refl refl s hs,
     (((AC_EVSE_CHARGE_PARAMETER_KIND, refl, own), refl),
     tt))))
 parameters_res_has code p s (limits.Dc status current None voltage least_current least_voltage ripple) hs h = absurd h.1
@@ -309,6 +310,6 @@ parameters_res_has code p s (limits.Dc status current (Some watts) voltage least
     holding_held kinds CHARGE_PARAMETER_DISCOVERY_RES_KIND [] charge_parameter_discovery_res [] (charge_parameter_discovery_res_parts (parameters_res code p s (limits.Dc status current (Some watts) voltage least_current least_voltage ripple))) refl tt
     (((RESPONSE_CODE_KIND, refl, response_code_has code), refl),
     (((EVSE_PROCESSING_KIND, refl, evse_processing_has (evse_processing p)), refl),
-    (perhaps_schedules _ refl refl refl s hs,
+    (perhaps_schedules (perhaps_choice (one_of SA_SCHEDULE_LIST SA_SCHEDULE_LIST_KIND ∷ standing Abstract SA_SCHEDULES EMPTY_KIND ∷ [])) refl refl refl s hs,
     (((DC_EVSE_CHARGE_PARAMETER_KIND, refl, own), refl),
     tt))))

@@ -4,7 +4,7 @@ use Rattle.exi_bits.specs.Lent.{items_of}
 use Rattle.exi_documents.specs.Trees.{Bytes}
 use Rattle.fitting_parts.specs.Fitting.{FitsParts}
 use Rattle.fitting_parts.proofs.Fitted.{holding_held}
-use Rattle.message_parts.specs.Contents.{Of}
+use Rattle.message_parts.specs.Contents.{Of, holding}
 use Rattle.message_parts.specs.declared.texts.Binary.{Binary}
 use Rattle.message_parts.specs.declared.texts.Text.{Text}
 use Rattle.iso_schema.specs.Declarations.{kinds}
@@ -70,9 +70,9 @@ tell_formed code tell.SessionStop lent h l = (((SESSION_STOP_RES_KIND, refl, sto
 -- a message with such a body
 message_formed : (lent : Binary) (e : Option BodyElement) → Has BINARY8_KIND (Of (Bytes (items_of lent.span))) → Formed e → IsWithin (message_with lent e)
 message_formed lent e h f =
-    let front : Has HEADER_KIND _ = holding_held kinds HEADER_KIND [] header [] (header_parts (record { session_id = lent; notification = None })) refl tt
+    let front : Has HEADER_KIND (holding (header_parts (record { session_id = lent; notification = None }))) = holding_held kinds HEADER_KIND [] header [] (header_parts (record { session_id = lent; notification = None })) refl tt
       (((BINARY8_KIND, refl, h), refl), (refl, (refl, tt))) in
-    let rest : Has BODY_KIND _ = holding_held kinds BODY_KIND [] body [] (body_parts (record { element = e })) refl tt f in
+    let rest : Has BODY_KIND (holding (body_parts (record { element = e }))) = holding_held kinds BODY_KIND [] body [] (body_parts (record { element = e })) refl tt f in
     (((HEADER_KIND, refl, front), refl), (((BODY_KIND, refl, rest), refl), tt))
 
 pub writes_within : WritesWithin
