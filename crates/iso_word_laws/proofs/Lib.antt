@@ -4,8 +4,3 @@ pub mod Requests
 pub mod Replies
 pub mod Words
 pub mod Posts
-pub mod FormValues
-pub mod FormParts
-pub mod FormSetup
-pub mod FormPower
-pub mod Forms

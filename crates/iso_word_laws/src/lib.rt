@@ -3,7 +3,6 @@
 
 ghost use Rattle.iso_word_laws.specs.Posts.{SpellsReplies, SpellsWaiting};
 ghost use Rattle.iso_word_laws.specs.Reading.{ReadsAsWritten};
-ghost use Rattle.iso_word_laws.specs.Writing.{WritesWithin};
 
 /// The message of a word reads as that word, but for the watts that a Value and its Multiplier drop.
 pub fn reads_as_written()
@@ -15,9 +14,4 @@ pub fn reads_as_written()
 pub fn spells_replies()
     ensures replies { SpellsReplies }
     ensures waiting { SpellsWaiting }
-{}
-
-/// The message of a word holds what is declared, each value within its range. So it has an encoding.
-pub fn writes_within()
-    ensures { WritesWithin }
 {}
