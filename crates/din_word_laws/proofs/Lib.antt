@@ -1,0 +1,6 @@
+pub mod Values
+pub mod Lists
+pub mod Requests
+pub mod Replies
+pub mod Words
+pub mod Posts

@@ -1,0 +1,5 @@
+pub mod Codes
+pub mod Modes
+pub mod States
+pub mod Physical
+pub mod Statuses

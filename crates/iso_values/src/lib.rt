@@ -1,0 +1,9 @@
+//! Parts of the messages of ISO 15118-2:2014 that have no text or list, as words have them and as they are written: enumerations,
+//! physical values and statuses.
+#![tactic(auto)]
+
+pub mod codes;
+pub mod modes;
+pub mod physical;
+pub mod states;
+pub mod statuses;

@@ -1,0 +1,17 @@
+//! Laws of the messages of words (ISO 15118-2:2014). Each of these functions does nothing: its contract is the law.
+#![tactic(auto)]
+
+ghost use Rattle.iso_word_laws.specs.Posts.{SpellsReplies, SpellsWaiting};
+ghost use Rattle.iso_word_laws.specs.Reading.{ReadsAsWritten};
+
+/// The message of a word reads as that word, but for the watts that a Value and its Multiplier drop.
+pub fn reads_as_written()
+    ensures { ReadsAsWritten }
+{}
+
+/// Each reply that a post gives under a plan within its rules can be spelled: that to a request, and that to PowerDelivery Start which
+/// waited for the contactor.
+pub fn spells_replies()
+    ensures replies { SpellsReplies }
+    ensures waiting { SpellsWaiting }
+{}

@@ -1,0 +1,3 @@
+//! What a word reads as once it is written, in either dialect: that word, but for the watts that a Value and its Multiplier drop.
+//! Definitions and lemmas alone.
+#![tactic(auto)]
