@@ -170,18 +170,25 @@ scheduled_few dialect.Din watts is = omega arith
 scheduled_few dialect.Iso watts is = absurd (cc)
 
 schedule_fits : (b : Bool) (d : Dialect) (watts : ℕ) → d ≡ dialect.Din → IfSome (schedule_if b d watts) CanTuples
-schedule_fits true d watts is =
-    ((lit≤ tt, lit≤ tt),
-    all_one CanTuple (record { id = pos 1; entries = 1; least = amount (scheduled_watts d watts) })
-    (record { id = (omega (arith, ints), omega (arith, ints)); entries = (lit≤ tt, lit≤ tt); least = record { few = scheduled_few d watts is; right = refl } }))
+schedule_fits true d watts is = (
+  (lit≤ tt, lit≤ tt),
+  all_one CanTuple (record { id = pos 1; entries = 1; least = amount (scheduled_watts d watts) })
+      (record { id = (omega (arith, ints), omega (arith, ints)); entries = (lit≤ tt, lit≤ tt); least = record { few = scheduled_few d watts is; right = refl } }),
+)
 schedule_fits false d watts is = tt
 
 limits_fit : (b : Bool) (d : Dialect) (s : Stage) (facts : Facts) (plan : PostPlan) (r : Request) (shown : ℕ) (c : Code) (a : Ask) (watts : ℕ)
     → b ≡ false → d ≡ dialect.Din → IsBounded s facts plan r shown → watts < 32768000 → CanPostLimits (limits_of b d facts plan c a watts)
 limits_fit true d s facts plan r shown c a watts direct_is is h few = absurd (cc)
-limits_fit false d s facts plan r shown c a watts direct_is is h few =
-    (level_fits d facts.isolation is, tenths_fit plan.max_current h.max_current, few, tenths_fit plan.max_voltage h.max_voltage,
-    tenths_fit plan.min_current h.min_current, tenths_fit plan.min_voltage h.min_voltage, tenths_fit plan.ripple h.ripple)
+limits_fit false d s facts plan r shown c a watts direct_is is h few = (
+  level_fits d facts.isolation is,
+  tenths_fit plan.max_current h.max_current,
+  few,
+  tenths_fit plan.max_voltage h.max_voltage,
+  tenths_fit plan.min_current h.min_current,
+  tenths_fit plan.min_voltage h.min_voltage,
+  tenths_fit plan.ripple h.ripple,
+)
 
 told_fits : (s : Stage) (facts : Facts) (plan : PostPlan) (r : Request) (c : Code) (shown : ℕ) (a : Ask) → s.dialect ≡ dialect.Din → IsPostPlan plan
     → IsBounded s facts plan r shown → IsSpoken a → CanTell (tell_of s facts plan c shown a)
@@ -191,20 +198,27 @@ told_fits s facts plan r c shown ask.ServiceDiscovery is p h spoken =
 told_fits s facts plan r c shown (ask.ServiceDetail service) is p h spoken = absurd spoken
 told_fits s facts plan r c shown (ask.PaymentSelection external services) is p h spoken = tt
 told_fits s facts plan r c shown ask.Authorization is p h spoken = awaiting_fits s.dialect (is_accepted c) (is_finished facts plan ask.Authorization shown) is
-told_fits s facts plan r c shown (ask.ChargeParameters mode limits) is p h spoken =
-    (finished_fits (is_accepted c) (nat_lt 0 shown), schedule_fits (is_accepted c && nat_lt 0 shown) s.dialect shown is,
-    limits_fit (is_ac plan.mode) s.dialect s facts plan r shown c (ask.ChargeParameters mode limits) (if is_accepted c then shown else 0)
-    (direct plan.mode (p.dialects.din h.offered)) is h (told_few (is_accepted c) shown 0 h.most (lit≤ tt)))
+told_fits s facts plan r c shown (ask.ChargeParameters mode limits) is p h spoken = (
+  finished_fits (is_accepted c) (nat_lt 0 shown),
+  schedule_fits (is_accepted c && nat_lt 0 shown) s.dialect shown is,
+  limits_fit (is_ac plan.mode) s.dialect s facts plan r shown c (ask.ChargeParameters mode limits) (if is_accepted c then shown else 0)
+      (direct plan.mode (p.dialects.din h.offered)) is h (told_few (is_accepted c) shown 0 h.most (lit≤ tt)),
+)
 told_fits s facts plan r c shown (ask.CableCheck ready soc) is p h spoken =
     (level_fits s.dialect facts.isolation is, finished_fits (is_accepted c) (is_finished facts plan (ask.CableCheck ready soc) shown))
 told_fits s facts plan r c shown (ask.PreCharge ready soc voltage current) is p h spoken =
     (level_fits s.dialect facts.isolation is, tenths_fit facts.voltage h.voltage)
 told_fits s facts plan r c shown (ask.PowerDelivery progress tuple profile) is p h spoken =
     status_fits (is_ac plan.mode) s.dialect facts c (ask.PowerDelivery progress tuple profile) (direct plan.mode (p.dialects.din h.offered)) is
-told_fits s facts plan r c shown (ask.CurrentDemand ready soc voltage current) is p h spoken =
-    (level_fits s.dialect facts.isolation is, tenths_fit facts.voltage h.voltage, tenths_fit facts.current h.current,
-    tenths_fit plan.max_voltage h.max_voltage, tenths_fit plan.max_current h.max_current,
-    told_few (is_accepted c) shown s.told h.most h.told, no_evse s.dialect plan is)
+told_fits s facts plan r c shown (ask.CurrentDemand ready soc voltage current) is p h spoken = (
+  level_fits s.dialect facts.isolation is,
+  tenths_fit facts.voltage h.voltage,
+  tenths_fit facts.current h.current,
+  tenths_fit plan.max_voltage h.max_voltage,
+  tenths_fit plan.max_current h.max_current,
+  told_few (is_accepted c) shown s.told h.most h.told,
+  no_evse s.dialect plan is,
+)
 told_fits s facts plan r c shown ask.ChargingStatus is p h spoken = absurd spoken
 told_fits s facts plan r c shown (ask.WeldingDetection ready soc) is p h spoken =
     (level_fits s.dialect facts.isolation is, tenths_fit facts.voltage h.voltage)
@@ -213,12 +227,15 @@ told_fits s facts plan r c shown (ask.SessionStop pause) is p h spoken = tt
 -- ---- replies
 
 pub spells_replies : SpellsReplies
-spells_replies s facts plan r shown is p h =
-    (identifier_fits (stage_behind s facts plan r shown) (behind_fits s facts plan r shown h.session h.named),
-    code_fits s.dialect (verdict s facts plan r) is (answers_in_dialect s facts plan r),
-    told_fits s facts plan r (verdict s facts plan r) shown r.ask is p h h.spoken)
+spells_replies s facts plan r shown is p h = (
+  identifier_fits (stage_behind s facts plan r shown) (behind_fits s facts plan r shown h.session h.named),
+  code_fits s.dialect (verdict s facts plan r) is (answers_in_dialect s facts plan r),
+  told_fits s facts plan r (verdict s facts plan r) shown r.ask is p h h.spoken,
+)
 
 pub spells_waiting : SpellsWaiting
-spells_waiting s facts plan is p offers h =
-    (identifier_fits s h, refl,
-    status_fits (is_ac plan.mode) s.dialect facts code.Ok (ask.PowerDelivery progress.Start None None) (direct plan.mode (p.dialects.din offers)) is)
+spells_waiting s facts plan is p offers h = (
+  identifier_fits s h,
+  refl,
+  status_fits (is_ac plan.mode) s.dialect facts code.Ok (ask.PowerDelivery progress.Start None None) (direct plan.mode (p.dialects.din offers)) is,
+)

@@ -138,10 +138,11 @@ scheduled_few dialect.Iso watts h = omega arith
 scheduled_few dialect.Din watts h = omega arith
 
 schedule_fits : (b : Bool) (d : Dialect) (watts : ℕ) → watts ≤ 1000000 → IfSome (schedule_if b d watts) CanTuples
-schedule_fits true d watts h =
-    ((lit≤ tt, lit≤ tt),
-    all_one CanTuple (record { id = pos 1; entries = 1; least = amount (scheduled_watts d watts) })
-    (record { id = (omega (arith, ints), omega (arith, ints)); entries = (lit≤ tt, lit≤ tt); least = scheduled_few d watts h }))
+schedule_fits true d watts h = (
+  (lit≤ tt, lit≤ tt),
+  all_one CanTuple (record { id = pos 1; entries = 1; least = amount (scheduled_watts d watts) })
+      (record { id = (omega (arith, ints), omega (arith, ints)); entries = (lit≤ tt, lit≤ tt); least = scheduled_few d watts h }),
+)
 schedule_fits false d watts h = tt
 
 limits_fit : (b : Bool) (d : Dialect) (s : Stage) (facts : Facts) (plan : PostPlan) (r : Request) (shown : ℕ) (c : Code) (a : Ask) (watts : ℕ)
@@ -149,9 +150,14 @@ limits_fit : (b : Bool) (d : Dialect) (s : Stage) (facts : Facts) (plan : PostPl
 limits_fit true d s facts plan r shown c a watts p h few =
     let nominal : plan.nominal ≤ 1000 = p.nominal.1 in
     (few_tenths (10 * plan.nominal) (omega arith), current_fits plan watts)
-limits_fit false d s facts plan r shown c a watts p h few =
-    (tenths_fit plan.max_current h.max_current, few, tenths_fit plan.max_voltage h.max_voltage, tenths_fit plan.min_current h.min_current,
-    tenths_fit plan.min_voltage h.min_voltage, tenths_fit plan.ripple h.ripple)
+limits_fit false d s facts plan r shown c a watts p h few = (
+  tenths_fit plan.max_current h.max_current,
+  few,
+  tenths_fit plan.max_voltage h.max_voltage,
+  tenths_fit plan.min_current h.min_current,
+  tenths_fit plan.min_voltage h.min_voltage,
+  tenths_fit plan.ripple h.ripple,
+)
 
 told_fits : (s : Stage) (facts : Facts) (plan : PostPlan) (r : Request) (c : Code) (shown : ℕ) (a : Ask) → s.dialect ≡ dialect.Iso → IsPostPlan plan
     → IsBounded s facts plan r shown → IsServiceOf a → CanTell (tell_of s facts plan c shown a)
@@ -161,16 +167,22 @@ told_fits s facts plan r c shown ask.ServiceDiscovery is p h service =
 told_fits s facts plan r c shown (ask.ServiceDetail service) is p h few = few
 told_fits s facts plan r c shown (ask.PaymentSelection external services) is p h service = tt
 told_fits s facts plan r c shown ask.Authorization is p h service = tt
-told_fits s facts plan r c shown (ask.ChargeParameters mode limits) is p h service =
-    (schedule_fits (is_accepted c && nat_lt 0 shown) s.dialect shown h.most,
-    limits_fit (is_ac plan.mode) s.dialect s facts plan r shown c (ask.ChargeParameters mode limits) (if is_accepted c then shown else 0) p h
-    (told_few (is_accepted c) shown 0 h.most (lit≤ tt)))
+told_fits s facts plan r c shown (ask.ChargeParameters mode limits) is p h service = (
+  schedule_fits (is_accepted c && nat_lt 0 shown) s.dialect shown h.most,
+  limits_fit (is_ac plan.mode) s.dialect s facts plan r shown c (ask.ChargeParameters mode limits) (if is_accepted c then shown else 0) p h
+      (told_few (is_accepted c) shown 0 h.most (lit≤ tt)),
+)
 told_fits s facts plan r c shown (ask.CableCheck ready soc) is p h service = tt
 told_fits s facts plan r c shown (ask.PreCharge ready soc voltage current) is p h service = tenths_fit facts.voltage h.voltage
 told_fits s facts plan r c shown (ask.PowerDelivery progress tuple profile) is p h service = tt
-told_fits s facts plan r c shown (ask.CurrentDemand ready soc voltage current) is p h service =
-    (tenths_fit facts.voltage h.voltage, tenths_fit facts.current h.current, tenths_fit plan.max_voltage h.max_voltage,
-    tenths_fit plan.max_current h.max_current, told_few (is_accepted c) shown s.told h.most h.told, evse_if_fits s.dialect plan is p)
+told_fits s facts plan r c shown (ask.CurrentDemand ready soc voltage current) is p h service = (
+  tenths_fit facts.voltage h.voltage,
+  tenths_fit facts.current h.current,
+  tenths_fit plan.max_voltage h.max_voltage,
+  tenths_fit plan.max_current h.max_current,
+  told_few (is_accepted c) shown s.told h.most h.told,
+  evse_if_fits s.dialect plan is p,
+)
 told_fits s facts plan r c shown ask.ChargingStatus is p h service =
     (evse_fits s.dialect plan is p, current_fits plan (if is_accepted c then shown else s.told))
 told_fits s facts plan r c shown (ask.WeldingDetection ready soc) is p h service = tenths_fit facts.voltage h.voltage
@@ -179,10 +191,11 @@ told_fits s facts plan r c shown (ask.SessionStop pause) is p h service = tt
 -- ---- replies
 
 pub spells_replies : SpellsReplies
-spells_replies s facts plan r shown is p h =
-    (identifier_fits (stage_behind s facts plan r shown) (behind_fits s facts plan r shown h.session h.named),
-    code_fits s.dialect (verdict s facts plan r) is (answers_in_dialect s facts plan r),
-    told_fits s facts plan r (verdict s facts plan r) shown r.ask is p h h.service)
+spells_replies s facts plan r shown is p h = (
+  identifier_fits (stage_behind s facts plan r shown) (behind_fits s facts plan r shown h.session h.named),
+  code_fits s.dialect (verdict s facts plan r) is (answers_in_dialect s facts plan r),
+  told_fits s facts plan r (verdict s facts plan r) shown r.ask is p h h.service,
+)
 
 pub spells_waiting : SpellsWaiting
 spells_waiting s facts plan h = (identifier_fits s h, refl, tt)

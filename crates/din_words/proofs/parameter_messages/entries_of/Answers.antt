@@ -9,5 +9,5 @@ loop-start-preserved c =
     let power : ℤ = to_z w16 (of_z w16 c.args.power) in
     let more = map-range_with_len_more (entry_at power) 0 c.loop-start.start c.loop-start.start (omega arith) in
     let items = c.push.ensures.items ∙ ap (λ e. c.loop-start.entries.items ++ e ∷ []) c.entry_at.ensures
-      ∙ ap (λ xs. xs ++ entry_at power c.loop-start.start ∷ []) c.loop-start.invariant.0 ∙ sym more in
+    ∙ ap (λ xs. xs ++ entry_at power c.loop-start.start ∷ []) c.loop-start.invariant.0 ∙ sym more in
     (items, ap length items ∙ length-map-range_with_len (entry_at power) 0 (c.loop-start.start + 1))
