@@ -1,4 +1,4 @@
-use Rattle.tree_vectors.proofs.typed.is_written_back.Goals as goal
+use Rattle.tree_vectors.proofs.typed.is_iso_again.Goals as goal
 
 pub write_iso-written-requires-clause-message : goal.write_iso-written-requires-clause-message
 write_iso-written-requires-clause-message c = c.messages_are_written.ensures.read c.args.message.now c.args.payload.now c.requires.read
