@@ -6,7 +6,8 @@ use Rattle.post_spec.specs.Steps.{Act, Give, Send, Answer, End, Step, Does, Read
 use Rattle.station_spec.specs.States.{Agenda, Part, State, Todo, is_done, is_none, first}
 use Rattle.station_spec.specs.Deciding.{decide, from_part, decided}
 use Rattle.station_spec.specs.Judging.{Payload, payload_in, wanted, filled, IsRead}
-use Rattle.station_spec.specs.Acting.{acted, state, IsQuiet, IsDone, Acts}
+use Rattle.station_spec.specs.Acting.{acted, state}
+use Rattle.station_spec.specs.Next.{IsQuiet, IsDone, Acts}
 use Rattle.blocks_of_runs.specs.Answers.{Move, behind, AreDone}
 
 abbrev pub Acting : Codecs → PostPlan → (ℕ → ℕ → Type 0) → List Step → List Move → Type 0

@@ -6,7 +6,8 @@ use Rattle.session_words.specs.declared.plan.PostPlan.{PostPlan}
 use Rattle.session_words.specs.declared.plan.SitePlan.{SitePlan}
 use Rattle.post_spec.specs.Codecs.{Codecs}
 use Rattle.post_spec.specs.Steps.{Act, Step, Does, Reading}
-use Rattle.station_spec.specs.Acting.{state, IsQuiet, Acts}
+use Rattle.station_spec.specs.Acting.{state}
+use Rattle.station_spec.specs.Next.{IsQuiet, Acts}
 use Rattle.station_spec.specs.Blocks.{is_last, hearings}
 use Rattle.station_spec.specs.Sharing.{Post, state_of, Shows}
 use Rattle.station_spec.specs.Runs.{entry_of, with_step, Rests, AreQuiet, HeardBy, MayAct, IsRun}

@@ -7,7 +7,8 @@ use Rattle.post_spec.specs.Steps.{Event, Step, Hears, Does, Reading}
 use Rattle.station_spec.specs.States.{Agenda, Part, Repeating, Timing, Eventing, Wording, Session, State, Todo, is_done, first}
 use Rattle.station_spec.specs.Deciding.{decide, from_part, from_wording, from_timing, from_eventing, decided}
 use Rattle.station_spec.specs.Judging.{Payload, payload_in, wanted, judged, taken_in, read, filled, IsRead}
-use Rattle.station_spec.specs.Acting.{acted, state, IsQuiet, IsDone, Acts}
+use Rattle.station_spec.specs.Acting.{acted, state}
+use Rattle.station_spec.specs.Next.{IsQuiet, IsDone, Acts}
 use Rattle.blocks_of_runs.specs.Answers.{Move, behind, AreDone, IsPart, repeats, times, asks, fronts, IsWord, IsWordBy, AreWords, joined, Answers}
 use Rattle.blocks_of_runs.proofs.Chains.{Acting, done_first, first_done, some_undone, both, decide_done, decide_not, decided_done, wanted_done, acted_part, moves_on, moves_back, state_back, carry, uncarry, done_ends}
 

@@ -10,7 +10,8 @@ use Rattle.post_spec.specs.Steps.{Act, Step, Hears, Does, Reading, moment}
 use Rattle.station_spec.specs.States.{State, Todo, first}
 use Rattle.station_spec.specs.Deciding.{decided}
 use Rattle.station_spec.specs.Judging.{Payload, wanted, filled, IsRead}
-use Rattle.station_spec.specs.Acting.{state, IsQuiet, Acts}
+use Rattle.station_spec.specs.Acting.{state}
+use Rattle.station_spec.specs.Next.{IsQuiet, Acts}
 use Rattle.station_spec.specs.Blocks.{is_last, hearings}
 use Rattle.station_spec.specs.Sharing.{Post, state_of, Shows}
 use Rattle.station_spec.specs.Runs.{entry_of, with_step, unheard, heard_from, Rests, AreQuiet, HeardBy, MayAct, IsRun}

@@ -7,7 +7,8 @@ use Rattle.post_spec.specs.Steps.{Act, Step, Does, Reading}
 use Rattle.station_spec.specs.States.{Agenda, Part, Timing, Eventing, Wording, State, Todo, first}
 use Rattle.station_spec.specs.Deciding.{repeating, timing, eventing, fronting}
 use Rattle.station_spec.specs.Judging.{payload_in, read, IsRead}
-use Rattle.station_spec.specs.Acting.{acted, state, IsDone}
+use Rattle.station_spec.specs.Acting.{acted, state}
+use Rattle.station_spec.specs.Next.{IsDone}
 
 -- one thing that a post did: what was read for it, where a word was, the act, and whether it was taken
 pub record Move : Type 0 where

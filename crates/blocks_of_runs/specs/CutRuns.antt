@@ -7,7 +7,8 @@ use Rattle.session_words.specs.declared.plan.PostPlan.{PostPlan}
 use Rattle.session_words.specs.declared.plan.SitePlan.{SitePlan}
 use Rattle.post_spec.specs.Codecs.{Codecs}
 use Rattle.post_spec.specs.Steps.{Step, Does}
-use Rattle.station_spec.specs.Acting.{state, Acts}
+use Rattle.station_spec.specs.Acting.{state}
+use Rattle.station_spec.specs.Next.{Acts}
 use Rattle.station_spec.specs.Blocks.{is_last, hearings}
 use Rattle.station_spec.specs.Sharing.{Post, Shows}
 use Rattle.station_spec.specs.Runs.{HeardBy, IsRun, Closes, IsSiteRun, IsCutRun}

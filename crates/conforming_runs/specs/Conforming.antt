@@ -7,7 +7,7 @@ use Rattle.v2gtp_frames.specs.Reading.{whole_at, behind_frames}
 use Rattle.post_spec.specs.Causes.{due, watch}
 use Rattle.post_spec.specs.Codecs.{Judged, Negotiated, Asked, WrongSide, Refused}
 use Rattle.post_spec.specs.Course.{Talked, Course, course, facts_of}
-use Rattle.post_spec.specs.Facts.{live}
+use Rattle.post_spec.specs.Contactors.{live}
 use Rattle.post_spec.specs.Sessions.{session, next_session, stream, replies, waits}
 use Rattle.post_spec.specs.Steps.{Event, Came, Bytes, Gone, Datagram, Plant, Clock, Over, Seen, Reading, Step, Hears, Does, seen_of}
 use Rattle.conforming_runs.specs.Charger.{GoesWell}

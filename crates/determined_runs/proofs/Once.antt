@@ -16,7 +16,7 @@ use Rattle.station_spec.specs.States.{Spoken, Response, Said, Session, State, fi
 use Rattle.station_spec.specs.States as states
 use Rattle.station_spec.specs.Deciding.{decided}
 use Rattle.station_spec.specs.Judging.{Payload, wanted, filled, asked_behind, IsShown, IsRead}
-use Rattle.station_spec.specs.Acting.{IsQuiet, IsSpoken, IsDone, Acts}
+use Rattle.station_spec.specs.Next.{IsQuiet, IsSpoken, IsDone, Acts}
 use Rattle.station_spec.specs.Sharing.{Post, state_of, asked_of, told_total, Shows}
 use Rattle.station_spec.specs.Runs.{entry_of, with_step, Rests, AreQuiet, HeardBy, MayAct, Follows}
 use Rattle.determined_runs.specs.Determined.{outcome, heard_in, RunsAreDetermined, InputsDetermine}

@@ -22,14 +22,15 @@ use Rattle.session_rules.specs.Reply.{reply_to}
 use Rattle.session_rules.specs.Stages.{is_waiting}
 use Rattle.session_rules.specs.Verdict.{verdict, is_accepted}
 use Rattle.post_spec.specs.Codecs.{Judged, Negotiated, Asked, WrongSide, Refused, Codecs, Judges, judged_word}
-use Rattle.post_spec.specs.Facts.{live}
+use Rattle.post_spec.specs.Contactors.{live}
 use Rattle.post_spec.specs.Spelled.{read_back, ReadsBack}
 use Rattle.post_spec.specs.Steps.{Event, Came, Bytes, Gone, Datagram, Plant, Clock, Over, Act, Seen, Reading, Step, Hears, Does, seen_of}
 use Rattle.station_spec.specs.States.{Spoken, Response, Said, Agenda, Session, State, nothing, first, first_of}
 use Rattle.station_spec.specs.States as states
 use Rattle.station_spec.specs.Deciding.{opening_if, ending_in, repeating, timing, watch, confirms, confirming, charging_by, charging, eventing, fronting_by, fronting, decided, due, is_reached}
 use Rattle.station_spec.specs.Judging.{Payload, wanted, order_by, cause_by, judged, taken_in, read, filled, IsRead}
-use Rattle.station_spec.specs.Acting.{failing, agenda_said, giving, saying, acted, live_ordered, state, IsSpoken, IsDone}
+use Rattle.station_spec.specs.Acting.{failing, agenda_said, giving, saying, acted, live_ordered, state}
+use Rattle.station_spec.specs.Next.{IsSpoken, IsDone}
 use Rattle.station_spec.specs.Sharing.{Shows}
 use Rattle.station_laws.specs.PostRuns.{IsPostRun, ArePostsOf}
 use Rattle.station_laws.proofs.Contactors.{contactors_are_read, filled_live}

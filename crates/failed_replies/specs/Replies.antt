@@ -9,7 +9,7 @@ use Rattle.session_words.specs.declared.word.Word.TheVariants as word
 use Rattle.session_words.specs.Codes.{IsOkClass}
 use Rattle.v2gtp_frames.specs.Frames.{frame}
 use Rattle.post_spec.specs.Codecs.{Negotiated, Codecs}
-use Rattle.post_spec.specs.Facts.{live}
+use Rattle.post_spec.specs.Contactors.{live}
 use Rattle.post_spec.specs.Spelled.{ReadsBack}
 use Rattle.post_spec.specs.Steps.{Act, Give, Send, Answer, End, Seen, Heard, Did, seen}
 use Rattle.station_spec.specs.Sharing.{Post}

@@ -34,7 +34,8 @@ use Rattle.station_spec.specs.States.{Spoken, Agenda, Session, State, Todo, firs
 use Rattle.station_spec.specs.States as states
 use Rattle.station_spec.specs.Deciding.{decided}
 use Rattle.station_spec.specs.Judging.{Payload, order_by, cause_by, asked_agenda, wanted, judged, taken_in, read, filled, IsRead}
-use Rattle.station_spec.specs.Acting.{since_order, replied, acted, state, IsDone}
+use Rattle.station_spec.specs.Acting.{since_order, replied, acted, state}
+use Rattle.station_spec.specs.Next.{IsDone}
 use Rattle.station_spec.specs.Sharing.{Shows}
 use Rattle.station_laws.specs.PostRuns.{IsPostRun, ArePostsOf}
 use Rattle.station_laws.proofs.Decided.{same_session}

@@ -20,7 +20,8 @@ use Rattle.post_spec.specs.Words.{HeardWord, Payload, Fault, AreJudged, EndsSo, 
 use Rattle.station_spec.specs.States.{Agenda, Part, Repeating, Timing, Eventing, Wording, Session, State, is_none, is_done}
 use Rattle.station_spec.specs.Deciding.{repeating, timing, eventing, fronting_by, fronting, decide, from_wording, from_eventing, from_timing, from_part, decided}
 use Rattle.station_spec.specs.Judging.{payload_by, payload_in, wanted}
-use Rattle.station_spec.specs.Acting.{state, IsQuiet}
+use Rattle.station_spec.specs.Acting.{state}
+use Rattle.station_spec.specs.Next.{IsQuiet}
 use Rattle.station_laws.specs.PostRuns.{IsPostRun, ArePostsOf}
 use Rattle.station_laws.proofs.PostRuns.{run_posts, post_at}
 use Rattle.safe_runs.proofs.Growth.{AreWhole}

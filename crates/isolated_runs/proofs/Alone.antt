@@ -7,14 +7,16 @@ use Rattle.session_words.specs.declared.plan.PostPlan.{PostPlan}
 use Rattle.session_words.specs.declared.plan.SitePlan.{SitePlan}
 use Rattle.v2gtp_frames.specs.Frames.{frame}
 use Rattle.post_spec.specs.Codecs.{Judged, Codecs, Judges, judged_word}
-use Rattle.post_spec.specs.Facts.{live}
+use Rattle.post_spec.specs.Contactors.{live}
 use Rattle.post_spec.specs.Spelled.{AreDetermined}
 use Rattle.post_spec.specs.Steps.{Act, Give, Send, Seen, Did, Reading, Step, Hears, Does, seen, seen_of}
 use Rattle.station_spec.specs.States.{Spoken, Response, Said, State, fresh, first}
 use Rattle.station_spec.specs.States as states
 use Rattle.station_spec.specs.Deciding.{decided}
 use Rattle.station_spec.specs.Judging.{Payload, wanted, filled, IsRead}
-use Rattle.station_spec.specs.Acting.{state, hearing, acted, IsQuiet, IsSpoken, IsDone, Acts}
+use Rattle.station_spec.specs.Acting.{state, acted}
+use Rattle.station_spec.specs.Hearing.{hearing}
+use Rattle.station_spec.specs.Next.{IsQuiet, IsSpoken, IsDone, Acts}
 use Rattle.station_spec.specs.Sharing.{Post, Shows}
 use Rattle.station_spec.specs.Runs.{IsSiteRun, AreQuiet}
 use Rattle.station_laws.specs.PostRuns.{IsPostRun, ArePostsOf}

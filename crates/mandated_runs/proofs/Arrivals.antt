@@ -9,7 +9,9 @@ use Rattle.post_spec.specs.Steps.{Event, Came, Bytes, Gone, Datagram, Plant, Clo
 use Rattle.station_spec.specs.States.{Spoken, Agenda, Part, Repeating, Timing, Eventing, Wording, Session, State, first_of, is_none, is_done}
 use Rattle.station_spec.specs.Deciding.{ending_in, repeating, timing, eventing, fronting, decide, from_wording, from_eventing, from_timing, from_part, decided}
 use Rattle.station_spec.specs.Judging.{Payload, wanted, judged, taken_in, read, filled, IsRead}
-use Rattle.station_spec.specs.Acting.{arrival, failing, agenda_said, acted, state, IsQuiet}
+use Rattle.station_spec.specs.Hearing.{arrival}
+use Rattle.station_spec.specs.Acting.{failing, agenda_said, acted, state}
+use Rattle.station_spec.specs.Next.{IsQuiet}
 use Rattle.station_spec.specs.Sharing.{Shows}
 use Rattle.station_laws.specs.PostRuns.{IsPostRun}
 use Rattle.station_laws.proofs.Decided.{planned}

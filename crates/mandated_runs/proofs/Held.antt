@@ -35,14 +35,16 @@ use Rattle.session_rules.specs.Rows.{leads}
 use Rattle.session_rules.specs.Stages.{is_waiting, confirmed_row}
 use Rattle.session_rules.specs.Verdict.{verdict, is_accepted}
 use Rattle.post_spec.specs.Codecs.{Judged, Negotiated, Asked, WrongSide, Refused, Codecs, Judges, judged_word}
-use Rattle.post_spec.specs.Facts.{contactor_acts, live, closes, closed}
+use Rattle.post_spec.specs.Contactors.{contactor_acts, live, closes, closed}
 use Rattle.post_spec.specs.Sessions.{brought}
 use Rattle.post_spec.specs.Steps.{Event, Came, Bytes, Gone, Datagram, Plant, Clock, Over, Act, Give, Send, Answer, End, Seen, Heard, Did, Reading, Step, Hears, Does, seen_of}
 use Rattle.station_spec.specs.States.{Agenda, Spoken, Session, State, nothing, first, first_of, is_none, is_done}
 use Rattle.station_spec.specs.States as states
 use Rattle.station_spec.specs.Deciding.{opening_if, ending_by, ending_in, repeating, timing, watch, confirms, confirming, charging_by, charging, eventing, fronting_by, fronting, decided, due, is_reached}
 use Rattle.station_spec.specs.Judging.{Payload, payload_by, payload_in, wanted, speaks, speaks_in, order_by, cause_by, judged, taken_in, read, filled, IsRead}
-use Rattle.station_spec.specs.Acting.{with_bytes, session_opened, since_order, failing, agenda_said, replied, giving, saying, acted, state, IsQuiet, IsDone}
+use Rattle.station_spec.specs.Hearing.{with_bytes, session_opened}
+use Rattle.station_spec.specs.Acting.{since_order, failing, agenda_said, replied, giving, saying, acted, state}
+use Rattle.station_spec.specs.Next.{IsQuiet, IsDone}
 use Rattle.station_spec.specs.Sharing.{Shows}
 use Rattle.station_laws.specs.PostRuns.{IsPostRun}
 use Rattle.station_laws.proofs.Contactors.{contactors_are_read, filled_live}

@@ -9,13 +9,15 @@ use Rattle.session_rules.specs.Causes.{needs_isolation}
 use Rattle.session_rules.specs.Finishing.{is_ac}
 use Rattle.session_rules.specs.Stages.{is_waiting}
 use Rattle.post_spec.specs.Codecs.{Codecs}
-use Rattle.post_spec.specs.Facts.{live}
-use Rattle.post_spec.specs.Mandated.{before_close, IsChecked, Mandated}
+use Rattle.post_spec.specs.Contactors.{live}
+use Rattle.post_spec.specs.Mandated.{before_close, Mandated}
+use Rattle.post_spec.specs.Checked.{IsChecked}
 use Rattle.post_spec.specs.Sessions.{session, waits}
 use Rattle.post_spec.specs.Spelled.{ReadsBack}
 use Rattle.post_spec.specs.Steps.{Give, Seen, Did, Step, Hears, Does, seen, seen_of}
 use Rattle.station_spec.specs.States.{Session}
-use Rattle.station_spec.specs.Acting.{state, IsQuiet}
+use Rattle.station_spec.specs.Acting.{state}
+use Rattle.station_spec.specs.Next.{IsQuiet}
 use Rattle.station_spec.specs.Runs.{AreQuiet}
 use Rattle.station_laws.specs.PostRuns.{IsPostRun, ArePostsOf}
 use Rattle.station_laws.proofs.PostRuns.{run_posts, post_at, quiet_at}

@@ -28,7 +28,8 @@ use Rattle.charge_world.specs.declared.offer.Dialect.{Dialect}
 use Rattle.session_rules.specs.Stages.{is_waiting}
 use Rattle.opened_causes.proofs.Spoken.{same_payload, counted}
 use Rattle.post_spec.specs.Course.{Talked, course, facts_of}
-use Rattle.post_spec.specs.Facts.{now, standing, live}
+use Rattle.post_spec.specs.Facts.{now}
+use Rattle.post_spec.specs.Contactors.{standing, live}
 use Rattle.post_spec.specs.Kinds.{asks_opening}
 use Rattle.post_spec.specs.Sessions.{session, with_seen, stream, waits}
 use Rattle.post_spec.specs.Steps.{Event, Came, Bytes, Gone, Plant, Over, Act, Give, Send, Seen, Did, Reading, Step, Hears, Does, seen, seen_of}
@@ -37,7 +38,9 @@ use Rattle.station_spec.specs.States.{Agenda}
 use Rattle.station_spec.specs.States as states
 use Rattle.station_spec.specs.Deciding.{repeating, timing, watch, charging, from_wording, from_part, decided, due, is_reached}
 use Rattle.station_spec.specs.Judging.{cause_by, judged, taken_in, filled, wanted, IsRead}
-use Rattle.station_spec.specs.Acting.{failing, agenda_said, hearing, live_ordered, state, IsDone, Acts}
+use Rattle.station_spec.specs.Acting.{failing, agenda_said, live_ordered, state}
+use Rattle.station_spec.specs.Hearing.{hearing}
+use Rattle.station_spec.specs.Next.{IsDone, Acts}
 use Rattle.station_spec.specs.Sharing.{Post, Shows}
 use Rattle.station_spec.specs.Runs.{IsRun}
 use Rattle.station_laws.specs.PostRuns.{IsPostRun, IsPostOf, ArePostsOf}

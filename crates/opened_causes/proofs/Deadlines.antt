@@ -36,7 +36,9 @@ use Rattle.station_spec.specs.States.{Agenda, Spoken, Session, State, nothing, f
 use Rattle.station_spec.specs.States as states
 use Rattle.station_spec.specs.Deciding.{ending_in, decided, due, is_reached}
 use Rattle.station_spec.specs.Judging.{Payload, payload_in, wanted, speaks, speaks_in, chosen_stage, judged, taken_in, read, filled, IsRead}
-use Rattle.station_spec.specs.Acting.{with_bytes, session_opened, since_order, failing, agenda_said, replied, giving, saying, acted, state, IsDone}
+use Rattle.station_spec.specs.Hearing.{with_bytes, session_opened}
+use Rattle.station_spec.specs.Acting.{since_order, failing, agenda_said, replied, giving, saying, acted, state}
+use Rattle.station_spec.specs.Next.{IsDone}
 use Rattle.station_spec.specs.Sharing.{Shows}
 use Rattle.station_laws.specs.PostRuns.{IsPostRun}
 use Rattle.station_laws.proofs.Decided.{decided_by, same_session}

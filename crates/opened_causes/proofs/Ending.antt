@@ -18,7 +18,8 @@ use Rattle.station_spec.specs.States.{Spoken, Agenda, Session, State, nothing, f
 use Rattle.station_spec.specs.States as states
 use Rattle.station_spec.specs.Deciding.{opening_if, ending_by, ending_in, repeating, timing, watch, confirms, confirming, charging_by, charging, eventing, fronting_by, fronting, decided, due, is_reached}
 use Rattle.station_spec.specs.Judging.{order_by, cause_by, judged, taken_in, read, filled}
-use Rattle.station_spec.specs.Acting.{failing, agenda_said, giving, acted, live_ordered, state, IsDone}
+use Rattle.station_spec.specs.Acting.{failing, agenda_said, giving, acted, live_ordered, state}
+use Rattle.station_spec.specs.Next.{IsDone}
 use Rattle.station_laws.specs.PostRuns.{IsPostRun}
 use Rattle.station_laws.proofs.Decided.{decided_by}
 

@@ -11,7 +11,8 @@ use Rattle.station_spec.specs.States.{Agenda, Part, Timing, Eventing, Wording, S
 use Rattle.station_spec.specs.States as states
 use Rattle.station_spec.specs.Deciding.{ending_by, ending_in, repeating, timing, eventing, decide, from_wording, from_eventing, from_timing, decided, due, is_reached}
 use Rattle.station_spec.specs.Judging.{wanted, read, IsRead}
-use Rattle.station_spec.specs.Acting.{hearing, IsQuiet, Acts}
+use Rattle.station_spec.specs.Hearing.{hearing}
+use Rattle.station_spec.specs.Next.{IsQuiet, Acts}
 use Rattle.safe_runs.proofs.Openings.{open_todo}
 
 -- Open is the first thing of an agenda, and of what is decided

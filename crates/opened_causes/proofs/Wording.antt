@@ -26,7 +26,7 @@ use Rattle.station_spec.specs.States.{Agenda, Session, State, Wording, nothing, 
 use Rattle.station_spec.specs.States as states
 use Rattle.station_spec.specs.Deciding.{fronting, from_wording, decided}
 use Rattle.station_spec.specs.Judging.{Payload as Wanted, wanted, speaks, speaks_in, order_by, cause_by, judged, taken_in, read, IsRead}
-use Rattle.station_spec.specs.Acting.{IsQuiet, Acts}
+use Rattle.station_spec.specs.Next.{IsQuiet, Acts}
 use Rattle.read_runs.specs.Courses.{talked_of}
 use Rattle.safe_runs.proofs.Links.{Rowed, Pending, Waits, Link, Tie, Clear}
 use Rattle.safe_runs.proofs.Openings.{open_todo}

@@ -11,7 +11,7 @@ use Rattle.session_rules.specs.Verdict.{verdict, is_accepted}
 use Rattle.post_spec.specs.Causes.{IsCause, IsDue, IsTold, HasLeft, HasCome, IsOver, HasNotSent, HasNotDriven, HasNoMatch, IsWord}
 use Rattle.post_spec.specs.Codecs.{Asked, Codecs}
 use Rattle.post_spec.specs.Course.{Talked, course, facts_of}
-use Rattle.post_spec.specs.Facts.{live}
+use Rattle.post_spec.specs.Contactors.{live}
 use Rattle.post_spec.specs.Kinds.{asks_opening}
 use Rattle.post_spec.specs.Spelled.{ReadsBack, AreDetermined}
 use Rattle.post_spec.specs.Steps.{Bytes, Act, Give, Send, Did, Reading, Step, Hears, Does, seen, seen_of}

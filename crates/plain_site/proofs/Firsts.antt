@@ -7,7 +7,7 @@ use Rattle.post_spec.specs.Codecs.{Codecs}
 use Rattle.post_spec.specs.Steps.{Answer, Give, Send, End}
 use Rattle.station_spec.specs.States.{Spoken, Agenda, first, first_of, then_order, then_say, then_finish}
 use Rattle.station_spec.specs.States as states
-use Rattle.station_spec.specs.Acting.{IsSpoken}
+use Rattle.station_spec.specs.Next.{IsSpoken}
 use Rattle.plain_site.specs.Doing.{IsFirst}
 
 pub first_tell : (c : Codecs) (a : Agenda) (d bytes : List ℕ) → a.datagram ≡ Some d → bytes ≡ d → IsFirst c a (Answer bytes)

@@ -17,7 +17,8 @@ use Rattle.post_spec.specs.Steps as steps
 use Rattle.station_spec.specs.States.{Session, State}
 use Rattle.station_spec.specs.Deciding.{decided}
 use Rattle.station_spec.specs.Judging.{Payload, wanted, shows, asked_behind, IsShown, IsRead}
-use Rattle.station_spec.specs.Acting.{hearing, Acts}
+use Rattle.station_spec.specs.Hearing.{hearing}
+use Rattle.station_spec.specs.Next.{Acts}
 use Rattle.station_spec.specs.Sharing.{Post, state_of, asked_in, told_in, asked_of, told_of, told_total, Shows}
 use Rattle.station_spec.specs.Blocks.{is_last, hearings, IsHearing}
 use Rattle.station_spec.specs.Runs.{entry_of, with_step, unheard, heard_from, Rests, AreQuiet, HeardBy, MayHear, MayAct, Follows, IsRun}

@@ -10,7 +10,7 @@ use Rattle.post_spec.specs.Steps.{Act, Give, Send, Answer, End, Reading}
 use Rattle.station_spec.specs.States.{Spoken, Response, Said, Session, State, first}
 use Rattle.station_spec.specs.States as states
 use Rattle.station_spec.specs.Judging.{Payload, wanted, read, shows, asked_behind, IsShown, IsRead}
-use Rattle.station_spec.specs.Acting.{IsSpoken, IsDone}
+use Rattle.station_spec.specs.Next.{IsSpoken, IsDone}
 use Rattle.plain_site.specs.declared.seats.Seat.{Seat}
 use Rattle.plain_site.specs.Seats.{IsIdle}
 use Rattle.plain_site.specs.Doing.{IsShare, IsShared, MayBe, Does}

@@ -9,7 +9,7 @@ use Rattle.post_spec.specs.Steps.{Act, Give, Send, Answer, End, Reading}
 use Rattle.station_spec.specs.States.{Agenda, State, first}
 use Rattle.station_spec.specs.States as states
 use Rattle.station_spec.specs.Judging.{wanted, read, IsRead}
-use Rattle.station_spec.specs.Acting.{IsDone}
+use Rattle.station_spec.specs.Next.{IsDone}
 use Rattle.station_spec.specs.Runs.{entry_of}
 use Rattle.plain_site.specs.declared.fault.Stop.{Stop}
 use Rattle.plain_site.specs.declared.fault.Stop.TheVariants as stop

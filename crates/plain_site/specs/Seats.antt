@@ -8,7 +8,8 @@ use Rattle.post_spec.specs.Steps.{Event, Act, Reading, event_at}
 use Rattle.station_spec.specs.States.{fresh, first}
 use Rattle.station_spec.specs.Deciding.{decided}
 use Rattle.station_spec.specs.Judging.{wanted, read}
-use Rattle.station_spec.specs.Acting.{hearing, acted}
+use Rattle.station_spec.specs.Hearing.{hearing}
+use Rattle.station_spec.specs.Acting.{acted}
 use Rattle.station_spec.specs.Sharing.{Post, state_of, asked_in, told_in}
 use Rattle.plain_site.specs.declared.seats.Seat.{Seat}
 

@@ -8,7 +8,7 @@ ghost use Rattle.post_spec.specs.Codecs.{codecs};
 ghost use Rattle.post_spec.specs.Spelled.{AreDetermined};
 ghost use Rattle.post_spec.specs.Steps as steps;
 ghost use Rattle.station_spec.specs.Judging as judging;
-ghost use Rattle.station_spec.specs.Acting.{IsSpoken};
+ghost use Rattle.station_spec.specs.Next.{IsSpoken};
 ghost use Rattle.plain_station.specs.Views.{spoken_of, reading_of, act_of};
 ghost use Rattle.plain_site.specs.Seats.{IsPlanned};
 ghost use Rattle.plain_site.specs.Doing as doing;

@@ -5,6 +5,7 @@ ghost use Rattle.std.specs.Option.{option_map};
 ghost use Rattle.contactor.specs.Calls.{standing_heard};
 ghost use Rattle.post_spec.specs.Sessions.{brought};
 ghost use Rattle.station_spec.specs.Acting as acting;
+ghost use Rattle.station_spec.specs.Hearing as hearings;
 ghost use Rattle.plain_station.specs.Views.{event_of, act_of};
 
 use crate::NoMemory;
@@ -30,7 +31,7 @@ fn standing_heard(standing: Standing, closed: bool) -> Standing
 
 /// The newest word of the charger is its fact.
 fn charger_facts(event: &PlantEvent, facts: Facts) -> Facts
-    ensures { result ≡ acting.charger_facts event.now facts }
+    ensures { result ≡ hearings.charger_facts event.now facts }
 {
     match event {
         PlantEvent::Pilot(pilot) => Facts {
@@ -68,7 +69,7 @@ fn charger_facts(event: &PlantEvent, facts: Facts) -> Facts
 
 /// What a hearing changes in the facts: a connection clears the isolation and the wishes.
 fn heard_facts(event: &Event, facts: Facts) -> Facts
-    ensures { result ≡ acting.heard_facts (event_of event.now) facts }
+    ensures { result ≡ hearings.heard_facts (event_of event.now) facts }
 {
     match event {
         Event::Came { .. } => Facts {
@@ -84,7 +85,7 @@ fn heard_facts(event: &Event, facts: Facts) -> Facts
 
 /// The token of a connection that begins.
 fn arrival(event: &Event) -> Option<u64>
-    ensures { result ≡ acting.arrival (event_of event.now) }
+    ensures { result ≡ hearings.arrival (event_of event.now) }
 {
     match event {
         Event::Came { token } => Some(*token),
@@ -94,7 +95,7 @@ fn arrival(event: &Event) -> Option<u64>
 
 /// A connection opens its session behind the hearing in which it began.
 fn opened(alloc: Global, arrived: Option<u64>, at: u64, session: Option<Session>) -> Option<Session>
-    ensures { result ≡ acting.session_opened arrived at session }
+    ensures { result ≡ hearings.session_opened arrived at session }
 {
     match arrived {
         Some(token) => Some(Session::open(alloc, token, at)),
@@ -104,7 +105,7 @@ fn opened(alloc: Global, arrived: Option<u64>, at: u64, session: Option<Session>
 
 /// Bytes come for the session, if one lives.
 fn fed(session: Option<Session>, event: &Event) -> Result<Option<Session>, NoMemory>
-    ensures { IfOk result (λ fed. fed ≡ option_map (acting.with_bytes (brought (event_of event.now))) session) }
+    ensures { IfOk result (λ fed. fed ≡ option_map (hearings.with_bytes (brought (event_of event.now))) session) }
 {
     let Some(mut session) = session else {
         return Ok(None);
@@ -190,7 +191,7 @@ fn kept_behind(
 impl Post {
     /// A hearing. It can end for want of memory.
     pub fn hear(self, alloc: Global, at: u64, event: Event) -> Result<Post, NoMemory>
-        ensures { IfOk result (λ post. post ≡ acting.hearing at (event_of event) self) }
+        ensures { IfOk result (λ post. post ≡ hearings.hearing at (event_of event) self) }
     {
         let Post {
             clock,

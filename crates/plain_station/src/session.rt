@@ -6,7 +6,8 @@ ghost use Rattle.session_timers.specs.Law.{span_of as span};
 ghost use Rattle.session_rules.specs.Stages.{is_waiting};
 ghost use Rattle.station_spec.specs.States.{first_session};
 ghost use Rattle.station_spec.specs.Deciding.{due, is_reached, fronting_by};
-ghost use Rattle.station_spec.specs.Acting.{with_bytes, replied};
+ghost use Rattle.station_spec.specs.Hearing.{with_bytes};
+ghost use Rattle.station_spec.specs.Acting.{replied};
 
 use crate::NoMemory;
 use crate::agenda::Agenda;

@@ -20,7 +20,8 @@ use Rattle.session_rules.specs.Stages.{is_set_up}
 use Rattle.session_rules.specs.Verdict.{verdict}
 use Rattle.post_spec.specs.Codecs.{Judged, Negotiated, Asked, WrongSide, Refused, Codecs}
 use Rattle.post_spec.specs.Course.{Talked, Course, course, facts_of, allowed_in}
-use Rattle.post_spec.specs.Facts.{now, standing, live}
+use Rattle.post_spec.specs.Facts.{now}
+use Rattle.post_spec.specs.Contactors.{standing, live}
 use Rattle.post_spec.specs.Sessions.{session, stream, waits, came_at, replied_at, closed_at}
 use Rattle.post_spec.specs.Steps.{Came, Gone, Plant, Over, Give, Send, Seen, Reading, Step, Hears, Does, seen_of}
 use Rattle.post_spec.specs.Talk.{Negotiation, Talks}

@@ -15,7 +15,8 @@ use Rattle.session_rules.specs.Moves.{stage_behind, facts_behind}
 use Rattle.session_rules.specs.Stages.{first_stage, negotiated, confirmed}
 use Rattle.session_rules.specs.Verdict.{verdict, is_accepted}
 use Rattle.post_spec.specs.Codecs.{Judged, Negotiated, Asked, WrongSide, Refused}
-use Rattle.post_spec.specs.Facts.{now, pilot, isolation, measured, paid, stop, standing}
+use Rattle.post_spec.specs.Facts.{now, pilot, isolation, measured, paid, stop}
+use Rattle.post_spec.specs.Contactors.{standing}
 use Rattle.post_spec.specs.Sessions.{arriving, token_of}
 use Rattle.post_spec.specs.Steps.{Event, Came, Plant, Act, Give, Send, Answer, End, Seen, Heard, Did, Reading, Step, Hears, Does, seen_of}
 

@@ -2,10 +2,13 @@ pub mod Codecs
 pub mod Discovery
 pub mod Steps
 pub mod Facts
+pub mod Contactors
 pub mod Sessions
 pub mod Words
 pub mod Talk
 pub mod Kinds
+pub mod Prepared
+pub mod Checked
 pub mod Mandated
 pub mod Spelled
 pub mod Course

@@ -1,103 +1,25 @@
 -- ISO 15118-2:2014, section 8.8.4, and IEC 61851-23: when a contactor may be closed. It is said by the words of the session and what the
--- charger told, without rows. The bound of 20 V and that feedback confirms a Close are own.
-use Rattle.std.specs.Prelude.{◌≡◌, ◌≤◌, ℕ, ◌+◌, ◌-◌, Bool, true, false, if◌then◌else◌, List, [], ◌∷◌, ◌++◌, length, Option, Some, None, ◌⊎◌, MatchBool}
+-- charger told, without rows. That feedback confirms a Close is own.
+use Rattle.std.specs.Prelude.{◌≡◌, ℕ, true, if◌then◌else◌, List, [], ◌∷◌, ◌++◌, length, Some, ◌⊎◌, MatchBool}
 use Rattle.std.specs.List.{AllByRecursion}
-use Rattle.charge_world.specs.declared.heard.IsolationLevel.{IsolationLevel}
-use Rattle.charge_world.specs.declared.heard.IsolationLevel.TheVariants.{Valid}
 use Rattle.charge_world.specs.declared.offer.Dialect.{Dialect}
 use Rattle.charge_world.specs.declared.ports.Order.{Order}
 use Rattle.charge_world.specs.declared.ports.Order.TheVariants as order
 use Rattle.session_words.specs.declared.plan.PostPlan.{PostPlan}
-use Rattle.session_words.specs.declared.word.Ask.{Ask}
-use Rattle.session_words.specs.declared.word.Ask.TheVariants as ask
 use Rattle.session_words.specs.declared.word.Reply.{Reply}
 use Rattle.session_words.specs.declared.word.Request.{Request}
-use Rattle.session_words.specs.declared.word.Tell.{Tell}
-use Rattle.session_words.specs.declared.word.Tell.TheVariants as tell
 use Rattle.session_words.specs.declared.word.Word.TheVariants as word
 use Rattle.contactor.specs.Rights.{is_ready}
 use Rattle.session_rules.specs.Finishing.{is_ac}
 use Rattle.post_spec.specs.Codecs.{Codecs}
-use Rattle.post_spec.specs.Facts.{newer, told_by, isolation_in, pilot, isolation}
-use Rattle.post_spec.specs.Kinds.{is_negotiation, is_of, any, says_finished, asks_setup, asks_services, asks_payment, asks_authorization, asks_parameters, asks_cable_check, asks_pre_charge, asks_start, asks_renegotiation, asks_opening}
+use Rattle.post_spec.specs.Facts.{pilot}
+use Rattle.post_spec.specs.Kinds.{is_of, any, asks_start, asks_opening}
 use Rattle.post_spec.specs.Sessions.{session, stream, waits}
 use Rattle.post_spec.specs.Steps.{Act, Give, Send, Answer, End, Seen, Heard, Did}
-use Rattle.post_spec.specs.Talk.{Exchange, Negotiation, Answered, dialect_of, Talks, IsOk}
+use Rattle.post_spec.specs.Talk.{Exchange, Answered, dialect_of, Talks, IsOk}
 use Rattle.post_spec.specs.Words.{IsPayloadAt}
-
--- exchanges of these kinds are there in this order, the newest first
-abbrev pub Has : List (Exchange → Bool) → List Exchange → Type 0
-Has [] xs = Unit {0}
-Has (kind ∷ kinds) [] = ⊥
-Has (kind ∷ kinds) (x ∷ xs) = ((kind x ≡ true) × Has kinds xs) ⊎ Has (kind ∷ kinds) xs
-
-abbrev pub HasNo : (Exchange → Bool) → List Exchange → Type 0
-HasNo kind = AllByRecursion (λ x. kind x ≡ false)
-
--- a negotiation, SessionSetup, ServiceDiscovery, the payment selection, an authorization answered Finished
-abbrev pub set_up : List (Exchange → Bool)
-set_up = is_of asks_authorization says_finished ∷ is_of asks_payment any ∷ is_of asks_services any ∷ is_of asks_setup any ∷ is_negotiation ∷ []
-
--- ChargeParameterDiscovery answered Finished; in DC then a CableCheck answered Finished, and a PreCharge
-abbrev pub powered : Bool → List (Exchange → Bool) → List (Exchange → Bool)
-powered true kinds = is_of asks_parameters says_finished ∷ kinds
-powered false kinds =
-    is_of asks_pre_charge any ∷ is_of asks_cable_check says_finished ∷ is_of asks_parameters says_finished ∷ kinds
-
-abbrev pub renegotiates : Exchange → Bool
-renegotiates = is_of asks_renegotiation any
-
--- all this behind the last renegotiation, if there was one, but for the setup, which stands before it
-pub record IsRound (ac : Bool) (xs : List Exchange) : Type 0 where
-  pub round : List Exchange
-  pub renegotiation : Exchange
-  pub earlier : List Exchange
-  pub xs_are : xs ≡ round ++ renegotiation ∷ earlier
-  pub renegotiates_is : renegotiates renegotiation ≡ true
-  pub last : HasNo renegotiates round
-  pub power : Has (powered ac []) round
-  pub setup : Has set_up earlier
-
-abbrev pub IsPrepared : Bool → List Exchange → Type 0
-IsPrepared ac xs = (HasNo renegotiates xs × Has (powered ac set_up) xs) ⊎ IsRound ac xs
-
--- how far the voltage of the last reply to PreCharge was from that request's target, in tenths of a volt
-abbrev pub off_in : Ask → Tell → Option ℕ
-off_in (ask.PreCharge ready soc voltage current) (tell.PreCharge status told) =
-    Some ((voltage.size - told.size) + (told.size - voltage.size))
-off_in asked told = None
-
-abbrev pub pre_charge_off : List Exchange → Option ℕ
-pre_charge_off [] = None
-pre_charge_off (Negotiation chosen ∷ xs) = pre_charge_off xs
-pre_charge_off (Answered request reply before ∷ xs) = newer (off_in request.ask reply.tell) (pre_charge_off xs)
-
--- an isolation that is told is valid
-abbrev pub IsValidIfTold : Option IsolationLevel → Type 0
-IsValidIfTold None = Unit {0}
-IsValidIfTold (Some level) = level ≡ Valid
-
-abbrev pub StaysValid : Seen → Type 0
-StaysValid (Heard at event) = IsValidIfTold (told_by isolation_in event)
-StaysValid (Did act taken) = Unit {0}
-
--- the isolation was valid as the newest finished CableCheck was answered and has been so since, and the pre-charge is within 20.0 V
-pub record IsChecked (past : List Seen) (xs : List Exchange) : Type 0 where
-  pub behind : List Exchange
-  pub request : Request
-  pub reply : Reply
-  pub before : List Seen
-  pub earlier : List Exchange
-  pub xs_are : xs ≡ behind ++ Answered request reply before ∷ earlier
-  pub cable_check : is_of asks_cable_check says_finished (Answered request reply before) ≡ true
-  pub newest : HasNo (is_of asks_cable_check says_finished) behind
-  pub since : List Seen
-  pub past_is : past ≡ since ++ before
-  pub valid : isolation before ≡ Some Valid
-  pub stays : AllByRecursion StaysValid since
-  pub off : ℕ
-  pub off_is : pre_charge_off xs ≡ Some off
-  pub within : off ≤ 200
+use Rattle.post_spec.specs.Prepared.{HasNo, IsPrepared}
+use Rattle.post_spec.specs.Checked.{IsChecked}
 
 -- the past before the newest order to close
 abbrev pub before_order : Order → List Seen → List Seen → List Seen

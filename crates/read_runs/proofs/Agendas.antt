@@ -19,7 +19,7 @@ use Rattle.station_spec.specs.States as states
 use Rattle.station_spec.specs.States.{Spoken, Agenda, Session, State, nothing, is_done, is_none, first, first_of}
 use Rattle.station_spec.specs.Deciding.{from_part, decided, ending_by, ending_in, repeating, is_reached, due, timing, fronting_by, fronting}
 use Rattle.session_words.specs.declared.plan.PostPlan.{PostPlan}
-use Rattle.station_spec.specs.Acting.{IsQuiet}
+use Rattle.station_spec.specs.Next.{IsQuiet}
 use Rattle.station_spec.specs.Judging.{Payload, speaks, speaks_in, payload_by, payload_in, wanted}
 
 -- nothing is on an agenda that is done

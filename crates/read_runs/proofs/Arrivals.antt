@@ -17,7 +17,9 @@ use Rattle.post_spec.specs.Steps.{Event, Came, Bytes, Gone, Datagram, Plant, Clo
 use Rattle.station_spec.specs.States.{Spoken, Agenda, Part, Repeating, Timing, Eventing, Wording, Session, State, Todo, is_done, is_none, first, first_of}
 use Rattle.station_spec.specs.Deciding.{decide, ending_in, repeating, timing, eventing, fronting, fronting_by, from_wording, from_eventing, from_timing, from_part, decided}
 use Rattle.station_spec.specs.Judging.{Payload, payload_in, judged, taken_in, read, filled, IsRead}
-use Rattle.station_spec.specs.Acting.{heard_facts, arrival, session_opened, with_bytes, since_order, replied, failing, agenda_said, acted, state, IsQuiet, Acts}
+use Rattle.station_spec.specs.Hearing.{heard_facts, arrival, session_opened, with_bytes}
+use Rattle.station_spec.specs.Acting.{since_order, replied, failing, agenda_said, acted, state}
+use Rattle.station_spec.specs.Next.{IsQuiet, Acts}
 use Rattle.station_laws.specs.PostRuns.{IsPostRun}
 use Rattle.station_laws.proofs.Decided.{decided_by, same_session, same_facts}
 use Rattle.read_runs.proofs.Agendas.{decided_done, decided_not, none_done}

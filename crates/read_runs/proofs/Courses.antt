@@ -17,14 +17,17 @@ use Rattle.session_rules.specs.Moves.{facts_behind}
 use Rattle.post_spec.specs.Codecs.{Judged, Negotiated, Asked, WrongSide, Refused, Codecs}
 use Rattle.post_spec.specs.Course.{Talked, Course, unmoved, opened, renew_heard, facts_of, asked_talk, read_in, read_by, confirmed_in, kept_by, course}
 use Rattle.post_spec.specs.Course as course
-use Rattle.post_spec.specs.Facts.{now, standing}
+use Rattle.post_spec.specs.Facts.{now}
+use Rattle.post_spec.specs.Contactors.{standing}
 use Rattle.post_spec.specs.Sessions.{arriving, brought}
 use Rattle.post_spec.specs.Steps.{Event, Came, Plant, Act, End, Seen, Heard, Did, Reading, Step, Hears, Does, seen_of}
 use Rattle.station_spec.specs.States.{Spoken, Session, State, Todo, first, first_of}
 use Rattle.station_spec.specs.States as states
 use Rattle.station_spec.specs.Deciding.{decided}
 use Rattle.station_spec.specs.Judging.{judged, taken_in, read, filled}
-use Rattle.station_spec.specs.Acting.{heard_facts, session_opened, with_bytes, since_order, replied, kept_behind, acted, state, IsDone}
+use Rattle.station_spec.specs.Hearing.{heard_facts, session_opened, with_bytes}
+use Rattle.station_spec.specs.Acting.{since_order, replied, kept_behind, acted, state}
+use Rattle.station_spec.specs.Next.{IsDone}
 use Rattle.station_spec.specs.Sharing.{asked_in, told_in}
 use Rattle.station_laws.specs.PostRuns.{IsPostRun}
 use Rattle.station_laws.proofs.Contactors.{contactors_are_read}

@@ -15,12 +15,14 @@ use Rattle.session_rules.specs.declared.stage.Stage.{Stage}
 use Rattle.session_rules.specs.Moves.{facts_by, facts_behind}
 use Rattle.session_rules.specs.Verdict.{verdict, is_accepted}
 use Rattle.post_spec.specs.Codecs.{Judged, Negotiated, Asked, WrongSide, Refused}
-use Rattle.post_spec.specs.Facts.{standing, now, pilot, measured, isolation, paid, stop}
+use Rattle.post_spec.specs.Contactors.{standing}
+use Rattle.post_spec.specs.Facts.{now, pilot, measured, isolation, paid, stop}
 use Rattle.post_spec.specs.Steps.{Event, Came, Plant, Act, Give, Send, Answer, End, Seen, Heard, Did, Reading, Step, Hears, Does, seen_of}
 use Rattle.station_spec.specs.States.{Session, State}
 use Rattle.station_spec.specs.Deciding.{decided}
 use Rattle.station_spec.specs.Judging.{judged, taken_in, read, filled}
-use Rattle.station_spec.specs.Acting.{heard_facts, arrival, acted, state}
+use Rattle.station_spec.specs.Hearing.{heard_facts, arrival}
+use Rattle.station_spec.specs.Acting.{acted, state}
 use Rattle.station_laws.proofs.Contactors.{contactors_are_read}
 use Rattle.station_laws.proofs.Decided.{planned, same_facts}
 use Rattle.silent_runs.proofs.Silence.{steps_live}

@@ -1,11 +1,13 @@
 -- Own: what a post keeps of its clock and its charger is what its past tells of them.
 use Rattle.std.specs.Prelude.{◌≡◌, List, [], ◌∷◌, map, is_some}
 use Rattle.session_words.specs.declared.plan.PostPlan.{PostPlan}
-use Rattle.post_spec.specs.Facts.{now, pilot, measured, isolation, paid, stop, standing, live}
+use Rattle.post_spec.specs.Facts.{now, pilot, measured, isolation, paid, stop}
+use Rattle.post_spec.specs.Contactors.{standing, live}
 use Rattle.post_spec.specs.Sessions.{session}
 use Rattle.post_spec.specs.Steps.{Event, Clock, Seen, Heard, Did, Step, seen_of}
 use Rattle.station_spec.specs.States.{State}
-use Rattle.station_spec.specs.Acting.{arrival, state}
+use Rattle.station_spec.specs.Hearing.{arrival}
+use Rattle.station_spec.specs.Acting.{state}
 
 -- the newest hearing: its event, and the past before it
 abbrev pub newest_event : List Seen → Event

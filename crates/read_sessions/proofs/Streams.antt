@@ -32,7 +32,9 @@ use Rattle.station_spec.specs.States.{Spoken, Response, Said, Agenda, Session, S
 use Rattle.station_spec.specs.States as states
 use Rattle.station_spec.specs.Deciding.{opening_if, ending_by, ending_in, repeating, is_reached, due, timing, watch, confirms, confirming, charging_by, charging, eventing, fronting_by, fronting, decided}
 use Rattle.station_spec.specs.Judging.{Payload, wanted, order_by, cause_by, judged, taken_in, read, filled, IsRead}
-use Rattle.station_spec.specs.Acting.{session_opened, with_bytes, since_order, replied, failing, agenda_said, acted, state, IsDone}
+use Rattle.station_spec.specs.Hearing.{session_opened, with_bytes}
+use Rattle.station_spec.specs.Acting.{since_order, replied, failing, agenda_said, acted, state}
+use Rattle.station_spec.specs.Next.{IsDone}
 use Rattle.station_spec.specs.Sharing.{Shows}
 use Rattle.station_laws.specs.PostRuns.{IsPostRun}
 use Rattle.station_laws.proofs.Decided.{decided_by}

@@ -10,7 +10,8 @@ use Rattle.post_spec.specs.Sessions.{session, stream, replies, waits}
 use Rattle.post_spec.specs.Steps.{Seen, Step, seen_of}
 use Rattle.station_spec.specs.States.{Session}
 use Rattle.station_spec.specs.Deciding.{due}
-use Rattle.station_spec.specs.Acting.{state, IsQuiet}
+use Rattle.station_spec.specs.Acting.{state}
+use Rattle.station_spec.specs.Next.{IsQuiet}
 use Rattle.station_laws.specs.PostRuns.{IsPostRun}
 use Rattle.read_runs.specs.Courses.{talked_of}
 

@@ -24,7 +24,9 @@ use Rattle.post_spec.specs.Facts.{newer, pilot, isolation}
 use Rattle.post_spec.specs.Kinds.{any, says_finished, asks_cable_check, asks_start, asks_renegotiation}
 use Rattle.contactor.specs.Rights.{is_ready}
 use Rattle.session_words.specs.Causes.{number_of}
-use Rattle.post_spec.specs.Mandated.{renegotiates, IsChecked, StaysValid, before_close, off_in, pre_charge_off}
+use Rattle.post_spec.specs.Prepared.{renegotiates}
+use Rattle.post_spec.specs.Checked.{IsChecked, StaysValid, off_in, pre_charge_off}
+use Rattle.post_spec.specs.Mandated.{before_close}
 use Rattle.post_spec.specs.Sessions.{session, with_seen, stream, waits}
 use Rattle.post_spec.specs.Spelled.{read_back, ReadsBack}
 use Rattle.post_spec.specs.Steps.{Act, Give, Send, Answer, End, Seen, Did}
@@ -33,7 +35,8 @@ use Rattle.station_spec.specs.States.{Spoken, Response, Said, Agenda, Session, S
 use Rattle.station_spec.specs.States as states
 use Rattle.station_spec.specs.Deciding.{opening_if}
 use Rattle.station_spec.specs.Judging.{speaks_in}
-use Rattle.station_spec.specs.Acting.{live_ordered, since_order, failing, giving, agenda_said, replied, saying, telling, ended, acted, IsSpoken, IsDone}
+use Rattle.station_spec.specs.Acting.{live_ordered, since_order, failing, giving, agenda_said, replied, saying, telling, ended, acted}
+use Rattle.station_spec.specs.Next.{IsSpoken, IsDone}
 use Rattle.safe_runs.proofs.Links.{is_cable, Premise, Cabled, Delivers, Rowed, CabledThen, DeliversThen, Chosen, Asks, Owes, Pending, Waits, Link, Tie, IsWaitingIn, Linked}
 use Rattle.safe_runs.proofs.Rows.{RowHas, PowerOf, is_charging}
 use Rattle.safe_runs.proofs.Orders.{round_more}

@@ -31,7 +31,7 @@ use Rattle.session_rules.specs.Verdict.{verdict, is_accepted, is_misnamed, conte
 use Rattle.session_rules.specs.Lines.{first_line}
 use Rattle.post_spec.specs.Facts.{newer}
 use Rattle.post_spec.specs.Kinds as kinds
-use Rattle.post_spec.specs.Mandated.{off_in, pre_charge_off}
+use Rattle.post_spec.specs.Checked.{off_in, pre_charge_off}
 use Rattle.post_spec.specs.Spelled.{dropped_tell}
 use Rattle.post_spec.specs.Talk.{Exchange}
 use Rattle.safe_runs.proofs.Rows.{Says, IsPlain, is_cable_check}

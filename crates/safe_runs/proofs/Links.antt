@@ -22,7 +22,9 @@ use Rattle.contactor.specs.Rights.{is_ready}
 use Rattle.post_spec.specs.Codecs.{Codecs, Negotiated}
 use Rattle.post_spec.specs.Facts.{told_by, isolation_in, pilot, isolation}
 use Rattle.post_spec.specs.Kinds.{is_of, any, says_finished, asks_cable_check, asks_start, asks_opening}
-use Rattle.post_spec.specs.Mandated.{HasNo, IsPrepared, IsChecked, IsStarted, IsValidIfTold, StaysValid, before_close, pre_charge_off, Mandated}
+use Rattle.post_spec.specs.Prepared.{HasNo, IsPrepared}
+use Rattle.post_spec.specs.Checked.{IsChecked, IsValidIfTold, StaysValid, pre_charge_off}
+use Rattle.post_spec.specs.Mandated.{IsStarted, before_close, Mandated}
 use Rattle.post_spec.specs.Sessions.{arriving, session, stream, waits}
 use Rattle.post_spec.specs.Spelled.{read_back}
 use Rattle.post_spec.specs.Steps.{Event, Seen}

@@ -11,13 +11,15 @@ use Rattle.session_words.specs.declared.plan.PostPlan.{PostPlan}
 use Rattle.contactor.specs.Standing.{Kind, last_order, feedback_since, standing_by}
 use Rattle.contactor.specs.Standing as contactor
 use Rattle.post_spec.specs.Codecs.{Codecs}
-use Rattle.post_spec.specs.Facts.{contactor_acts, live}
+use Rattle.post_spec.specs.Contactors.{contactor_acts, live}
 use Rattle.post_spec.specs.Steps.{Event, Came, Bytes, Gone, Datagram, Plant, Clock, Over, Act, Give, Seen, Heard, Did, Reading, Step, Hears, Does, seen, seen_of}
 use Rattle.station_spec.specs.States.{Agenda, Timing, State, nothing, first}
 use Rattle.station_spec.specs.States as states
 use Rattle.station_spec.specs.Deciding.{decided}
 use Rattle.station_spec.specs.Judging.{wanted, read, IsRead}
-use Rattle.station_spec.specs.Acting.{heard_facts, hearing, state, IsQuiet, IsDone, Acts}
+use Rattle.station_spec.specs.Hearing.{heard_facts, hearing}
+use Rattle.station_spec.specs.Acting.{state}
+use Rattle.station_spec.specs.Next.{IsQuiet, IsDone, Acts}
 use Rattle.station_spec.specs.Sharing.{Post, state_of, Shows}
 use Rattle.station_spec.specs.Runs.{AreQuiet, Closes}
 use Rattle.station_laws.specs.PostRuns.{IsPostRun, ArePostsOf}

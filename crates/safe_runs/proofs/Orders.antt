@@ -1,7 +1,7 @@
 -- Exchanges that are there in order.
 use Rattle.std.proofs.Common.{◌≡◌, Bool, true, false, List, [], ◌∷◌, ◌++◌, refl, ap, inl, inr, ◌⊎◌}
 use Rattle.post_spec.specs.Talk.{Exchange}
-use Rattle.post_spec.specs.Mandated.{Has, HasNo, set_up, renegotiates}
+use Rattle.post_spec.specs.Prepared.{Has, HasNo, set_up, renegotiates}
 
 pub has_more : (kinds : List (Exchange → Bool)) (x : Exchange) (xs : List Exchange) → Has kinds xs → Has kinds (x ∷ xs)
 has_more [] x xs h = tt

@@ -19,7 +19,7 @@ use Rattle.session_rules.specs.Reply.{waiting_reply}
 use Rattle.session_rules.specs.Stages.{is_waiting}
 use Rattle.post_spec.specs.Codecs.{Codecs}
 use Rattle.post_spec.specs.Facts.{told_by, isolation_in}
-use Rattle.post_spec.specs.Mandated.{IsChecked, IsValidIfTold}
+use Rattle.post_spec.specs.Checked.{IsChecked, IsValidIfTold}
 use Rattle.post_spec.specs.Sessions.{session}
 use Rattle.post_spec.specs.Steps.{Event, Came, Bytes, Gone, Datagram, Plant, Clock, Over, Seen}
 use Rattle.post_spec.specs.Talk.{Exchange}

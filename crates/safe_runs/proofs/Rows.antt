@@ -14,7 +14,7 @@ use Rattle.session_rules.specs.Rows.{leads}
 use Rattle.session_rules.specs.Stages.{is_waiting}
 use Rattle.station_spec.specs.Judging.{speaks_in}
 use Rattle.post_spec.specs.Kinds.{is_negotiation, is_of, any, says_finished, asks_setup, asks_services, asks_payment, asks_authorization, asks_parameters, asks_cable_check, asks_pre_charge, asks_opening}
-use Rattle.post_spec.specs.Mandated.{Has, HasNo, set_up, powered, renegotiates, IsPrepared}
+use Rattle.post_spec.specs.Prepared.{Has, HasNo, set_up, powered, renegotiates, IsPrepared}
 use Rattle.session_words.specs.declared.amount.Amount.{Amount}
 use Rattle.std.specs.Prelude.{ℤ}
 use Rattle.post_spec.specs.Steps.{Seen}

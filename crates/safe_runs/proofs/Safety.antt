@@ -12,7 +12,7 @@ use Rattle.session_rules.specs.Causes.{needs_isolation}
 use Rattle.session_rules.specs.Stages.{is_waiting}
 use Rattle.post_spec.specs.Codecs.{Codecs}
 use Rattle.post_spec.specs.Facts.{told_by, isolation_in, pilot, isolation}
-use Rattle.post_spec.specs.Mandated.{IsValidIfTold}
+use Rattle.post_spec.specs.Checked.{IsValidIfTold}
 use Rattle.post_spec.specs.Sessions.{arriving, session_behind, session, with_seen, stream, waits, brought}
 use Rattle.post_spec.specs.Spelled.{ReadsBack}
 use Rattle.post_spec.specs.Steps.{Event, Came, Bytes, Gone, Datagram, Plant, Clock, Over, Act, Give, Send, Answer, End, Seen, Heard, Did, Step, Hears, Does, seen_of}
@@ -21,7 +21,9 @@ use Rattle.station_spec.specs.States.{Spoken, Agenda, Session, State, nothing, f
 use Rattle.station_spec.specs.States as states
 use Rattle.station_spec.specs.Deciding.{decided}
 use Rattle.station_spec.specs.Judging.{filled}
-use Rattle.station_spec.specs.Acting.{heard_facts, arrival, session_opened, with_bytes, hearing, state, IsQuiet, IsDone}
+use Rattle.station_spec.specs.Hearing.{heard_facts, arrival, session_opened, with_bytes, hearing}
+use Rattle.station_spec.specs.Acting.{state}
+use Rattle.station_spec.specs.Next.{IsQuiet, IsDone}
 use Rattle.station_spec.specs.Sharing.{Shows}
 use Rattle.station_laws.specs.PostRuns.{IsPostRun, ArePostsOf}
 use Rattle.station_laws.proofs.Decided.{planned, same_session}

@@ -27,7 +27,9 @@ use Rattle.station_spec.specs.States.{Agenda, Session, State, nothing, first_ses
 use Rattle.station_spec.specs.States as states
 use Rattle.station_spec.specs.Deciding.{decided}
 use Rattle.station_spec.specs.Judging.{Payload, payload_in, wanted, order_by, cause_by, chosen_stage, judged, taken_in, read, filled, IsRead}
-use Rattle.station_spec.specs.Acting.{with_bytes, since_order, failing, replied, acted, giving, saying, IsDone}
+use Rattle.station_spec.specs.Hearing.{with_bytes}
+use Rattle.station_spec.specs.Acting.{since_order, failing, replied, acted, giving, saying}
+use Rattle.station_spec.specs.Next.{IsDone}
 use Rattle.station_laws.proofs.Decided.{decided_by}
 
 abbrev pub Still : Option (List Seen) → Option Session → Type 0

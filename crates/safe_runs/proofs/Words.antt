@@ -28,7 +28,8 @@ use Rattle.session_rules.specs.Stages.{is_waiting}
 use Rattle.session_rules.specs.Verdict.{verdict, is_accepted, is_misnamed, accepting_code}
 use Rattle.post_spec.specs.Codecs.{Negotiated, Codecs}
 use Rattle.post_spec.specs.Facts.{pilot, isolation}
-use Rattle.post_spec.specs.Mandated.{before_close, pre_charge_off, IsStarting, IsChecked, Mandated}
+use Rattle.post_spec.specs.Mandated.{before_close, IsStarting, Mandated}
+use Rattle.post_spec.specs.Checked.{pre_charge_off, IsChecked}
 use Rattle.post_spec.specs.Sessions.{session, stream, waits}
 use Rattle.post_spec.specs.Spelled.{read_back}
 use Rattle.post_spec.specs.Steps.{Seen}

@@ -5,7 +5,7 @@ use Rattle.charge_world.specs.declared.ports.Order.TheVariants as order
 use Rattle.session_words.specs.declared.plan.SitePlan.{SitePlan}
 use Rattle.contactor.specs.Standing.{Kind, last_order}
 use Rattle.post_spec.specs.Codecs.{Codecs}
-use Rattle.post_spec.specs.Facts.{contactor_acts, live}
+use Rattle.post_spec.specs.Contactors.{contactor_acts, live}
 use Rattle.post_spec.specs.Steps.{Give, Seen, Heard, Did, seen}
 use Rattle.station_spec.specs.Sharing.{Post}
 use Rattle.station_spec.specs.Runs.{IsRun, AreQuiet, Closes}

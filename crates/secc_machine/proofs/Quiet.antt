@@ -7,7 +7,8 @@ use Rattle.session_rules.specs.Stages.{is_waiting}
 use Rattle.station_spec.specs.States.{Agenda, Part, Repeating, Timing, Eventing, Wording, Session, State, first, is_none, is_done}
 use Rattle.station_spec.specs.Deciding.{repeating, timing, eventing, fronting_by, fronting, decide, from_wording, from_eventing, from_timing, from_repeating, from_part, decided}
 use Rattle.station_spec.specs.Judging.{payload_by, payload_in, wanted}
-use Rattle.station_spec.specs.Acting.{IsQuiet, session_opened}
+use Rattle.station_spec.specs.Next.{IsQuiet}
+use Rattle.station_spec.specs.Hearing.{session_opened}
 use Rattle.secc_machine.specs.Resting.{IsReadOut}
 
 -- where nothing is decided, a part's agenda is done

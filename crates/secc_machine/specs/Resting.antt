@@ -6,7 +6,7 @@ use Rattle.post_spec.specs.Steps.{Reading}
 use Rattle.station_spec.specs.States.{Session, State, is_done}
 use Rattle.station_spec.specs.Deciding.{decided}
 use Rattle.station_spec.specs.Judging.{Payload, wanted, read}
-use Rattle.station_spec.specs.Acting.{IsQuiet}
+use Rattle.station_spec.specs.Next.{IsQuiet}
 
 -- neither a whole frame nor a wrong field stands at the front of what a session didn't read yet
 abbrev pub IsReadOut : Option Session → Type 0

@@ -7,6 +7,7 @@ ghost use Rattle.post_spec.specs.Sessions.{brought};
 ghost use Rattle.post_spec.specs.Steps.{Act};
 ghost use Rattle.station_spec.specs.States.{Session};
 ghost use Rattle.station_spec.specs.Acting as acting;
+ghost use Rattle.station_spec.specs.Hearing as hearings;
 ghost use Rattle.secc_machine.specs.Resting.{IsReadOut};
 ghost use Rattle.secc_machine.specs.Views.{event_of, IsBy};
 
@@ -31,7 +32,7 @@ fn standing_heard(standing: Standing, closed: bool) -> Standing
 
 /// The newest word of the charger is its fact.
 fn hear_charger(facts: &mut Facts, event: &PlantEvent)
-    ensures { facts.new ≡ acting.charger_facts event.now facts.old }
+    ensures { facts.new ≡ hearings.charger_facts event.now facts.old }
 {
     match event {
         PlantEvent::Pilot(pilot) => facts.pilot = *pilot,
@@ -52,7 +53,7 @@ fn hear_charger(facts: &mut Facts, event: &PlantEvent)
 
 /// What a hearing changes in the facts: a connection clears the isolation and the wishes.
 fn hear_facts(facts: &mut Facts, event: &PostEvent)
-    ensures { (bytes : List ℕ) → facts.new ≡ acting.heard_facts (event_of event.now bytes) facts.old }
+    ensures { (bytes : List ℕ) → facts.new ≡ hearings.heard_facts (event_of event.now bytes) facts.old }
 {
     match event {
         PostEvent::Came { .. } => {
@@ -71,7 +72,7 @@ fn hear_facts(facts: &mut Facts, event: &PostEvent)
 
 /// The token of a connection that begins.
 fn arrival(event: &PostEvent) -> Option<u64>
-    ensures { (bytes : List ℕ) → result ≡ acting.arrival (event_of event.now bytes) }
+    ensures { (bytes : List ℕ) → result ≡ hearings.arrival (event_of event.now bytes) }
 {
     match event {
         PostEvent::Came { token } => Some(*token),
@@ -121,7 +122,7 @@ impl Post {
     /// A connection that began opens its session behind the hearing in which it began.
     fn open_arrived(&mut self)
         ensures { self.new ≡ record self.old {
-          session = acting.session_opened self.old.arrived self.old.clock self.old.session;
+          session = hearings.session_opened self.old.arrived self.old.clock self.old.session;
         } }
     {
         if let Some(token) = self.arrived {
@@ -134,7 +135,7 @@ impl Post {
     pub fn hear(&mut self, now: u64, event: PostEvent, bytes: &[u8])
         requires short { length bytes.now ≤ 4096 }
         requires read { IsReadOut self.old.session }
-        ensures { self.new ≡ acting.hearing now (event_of event bytes.now) self.old }
+        ensures { self.new ≡ hearings.hearing now (event_of event bytes.now) self.old }
     {
         self.open_arrived();
         if let PostEvent::Bytes = event {

@@ -11,6 +11,7 @@ ghost use Rattle.station_spec.specs.States.{State, first_session};
 ghost use Rattle.station_spec.specs.Deciding as deciding;
 ghost use Rattle.station_spec.specs.Judging as judging;
 ghost use Rattle.station_spec.specs.Acting as acting;
+ghost use Rattle.station_spec.specs.Hearing as hearings;
 ghost use Rattle.station_spec.specs.Sharing.{asked_in, told_in};
 ghost use Rattle.station_spec.specs.Until.{due_in};
 ghost use Rattle.secc_machine.specs.Resting.{IsReadOut};
@@ -277,7 +278,7 @@ impl SessionSlot {
     pub(crate) fn feed(&mut self, bytes: &[u8])
         requires short { length bytes.now ≤ 4096 }
         requires read { IsReadOut self.old }
-        ensures { self.new ≡ option_map (acting.with_bytes bytes.now) self.old }
+        ensures { self.new ≡ option_map (hearings.with_bytes bytes.now) self.old }
     {
         if self.living.is_some() {
             self.unread.feed(bytes);

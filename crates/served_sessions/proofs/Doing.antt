@@ -18,7 +18,8 @@ use Rattle.post_spec.specs.Steps.{Act, Give, Send, Answer, End, Seen, Did}
 use Rattle.post_spec.specs.Talk.{Exchange, Answered, IsExchange, OneMore, InSession, Talks}
 use Rattle.station_spec.specs.States.{Spoken, Response, Said, Agenda, Wording, Session, State, nothing, first, first_of, is_none, is_done}
 use Rattle.station_spec.specs.States as states
-use Rattle.station_spec.specs.Acting.{since_order, replied, agenda_said, acted, IsSpoken, IsDone}
+use Rattle.station_spec.specs.Acting.{since_order, replied, agenda_said, acted}
+use Rattle.station_spec.specs.Next.{IsSpoken, IsDone}
 use Rattle.safe_runs.proofs.Links.{Asks}
 use Rattle.read_runs.proofs.Agendas.{say_is, give_is}
 use Rattle.served_sessions.proofs.Ready.{Owes, Ends, Stops, words_before, Early, EarlyIn, Unsaid, Ready}

@@ -23,12 +23,14 @@ use Rattle.session_rules.specs.Stages.{is_waiting}
 use Rattle.post_spec.specs.Causes as causes
 use Rattle.post_spec.specs.Codecs.{Codecs}
 use Rattle.post_spec.specs.Course.{Talked, course}
-use Rattle.post_spec.specs.Facts.{standing, live}
+use Rattle.post_spec.specs.Contactors.{standing, live}
 use Rattle.post_spec.specs.Sessions.{arriving, session_behind, session, next_session, with_seen, stream, brought, replies, waits}
 use Rattle.post_spec.specs.Steps.{Event, Came, Bytes, Gone, Datagram, Plant, Clock, Over, Seen, Heard, Step, Hears, Does, seen_of}
 use Rattle.station_spec.specs.States.{Spoken, Said, Agenda, Part, Repeating, Timing, Eventing, Wording, Session, State, nothing, first_session, first_of, is_none, is_done}
 use Rattle.station_spec.specs.Deciding.{ending_by, repeating, due, is_reached, timing, watch, confirms, confirming, charging_by, charging, eventing, fronting_by, fronting, decide, from_wording, from_eventing, from_timing, from_part, decided}
-use Rattle.station_spec.specs.Acting.{session_opened, with_bytes, hearing, state, IsQuiet}
+use Rattle.station_spec.specs.Hearing.{session_opened, with_bytes, hearing}
+use Rattle.station_spec.specs.Acting.{state}
+use Rattle.station_spec.specs.Next.{IsQuiet}
 use Rattle.station_laws.specs.PostRuns.{IsPostRun}
 use Rattle.station_laws.proofs.Contactors.{contactors_are_read}
 use Rattle.read_runs.specs.Courses.{talked_of, talked_in}

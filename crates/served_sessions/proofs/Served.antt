@@ -14,7 +14,7 @@ use Rattle.v2gtp_frames.proofs.Pieces.{starts_read}
 use Rattle.session_rules.specs.declared.stage.Stage.{Stage}
 use Rattle.session_rules.specs.Stages.{is_waiting}
 use Rattle.post_spec.specs.Codecs.{Codecs}
-use Rattle.post_spec.specs.Facts.{live}
+use Rattle.post_spec.specs.Contactors.{live}
 use Rattle.post_spec.specs.Sessions.{arriving, session_behind, session, with_seen, stream, replies, waits}
 use Rattle.post_spec.specs.Spelled.{ReadsBack}
 use Rattle.post_spec.specs.Steps.{Came, Bytes, Gone, Datagram, Plant, Clock, Over, Act, Give, Send, Answer, End, Seen, Heard, Did, Reading, Step, Hears, Does, seen, seen_of}
@@ -23,7 +23,8 @@ use Rattle.station_spec.specs.States.{Spoken, Response, Said, Agenda, Session, S
 use Rattle.station_spec.specs.States as states
 use Rattle.station_spec.specs.Deciding.{fronting_by, fronting, decided}
 use Rattle.station_spec.specs.Judging.{Payload, payload_by, payload_in, wanted, filled, IsRead}
-use Rattle.station_spec.specs.Acting.{state, IsQuiet, IsDone}
+use Rattle.station_spec.specs.Acting.{state}
+use Rattle.station_spec.specs.Next.{IsQuiet, IsDone}
 use Rattle.station_spec.specs.Sharing.{Post, Shows}
 use Rattle.station_spec.specs.Runs.{Rests, AreQuiet}
 use Rattle.station_laws.specs.PostRuns.{IsPostRun, ArePostsOf}

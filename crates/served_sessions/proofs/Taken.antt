@@ -5,7 +5,8 @@ use Rattle.session_words.specs.declared.phase.Standing.TheVariants as stood
 use Rattle.session_words.specs.declared.plan.PostPlan.{PostPlan}
 use Rattle.contactor.specs.Standing as contactor
 use Rattle.contactor.specs.Standing.{Kind, last_order, feedback_since, opened_by, unordered_by, confirms, standing_by}
-use Rattle.post_spec.specs.Facts.{told_by, feedback_in, with_feedback, contactor_acts, standing}
+use Rattle.post_spec.specs.Facts.{told_by}
+use Rattle.post_spec.specs.Contactors.{feedback_in, with_feedback, contactor_acts, standing}
 use Rattle.post_spec.specs.Steps.{Give, Send, Answer, End, Seen, Heard, Did, Step, Hears, Does, seen_of}
 use Rattle.conforming_runs.specs.Conforming.{Conforming}
 

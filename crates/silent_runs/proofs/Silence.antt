@@ -14,7 +14,9 @@ use Rattle.station_spec.specs.States.{Spoken, Agenda, Session, State, nothing, f
 use Rattle.station_spec.specs.States as states
 use Rattle.station_spec.specs.Deciding.{ending_in, repeating, timing, eventing, charging, fronting, decided}
 use Rattle.station_spec.specs.Judging.{judged, taken_in, read, filled}
-use Rattle.station_spec.specs.Acting.{arrival, session_opened, with_bytes, since_order, replied, failing, agenda_said, acted, state, IsDone}
+use Rattle.station_spec.specs.Hearing.{arrival, session_opened, with_bytes}
+use Rattle.station_spec.specs.Acting.{since_order, replied, failing, agenda_said, acted, state}
+use Rattle.station_spec.specs.Next.{IsDone}
 use Rattle.station_laws.specs.PostRuns.{IsPostRun, ArePostsOf}
 use Rattle.station_laws.proofs.Decided.{decided_by, same_session}
 use Rattle.station_laws.proofs.PostRuns.{run_posts, post_at}

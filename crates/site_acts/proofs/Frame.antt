@@ -23,7 +23,7 @@ use Rattle.station_spec.specs.States.{Session, State, first}
 use Rattle.station_spec.specs.States as states
 use Rattle.station_spec.specs.Deciding.{decided}
 use Rattle.station_spec.specs.Judging.{Payload, wanted, shows, asked_behind, filled, IsShown, IsRead}
-use Rattle.station_spec.specs.Acting.{IsQuiet, Acts, IsDone}
+use Rattle.station_spec.specs.Next.{IsQuiet, Acts, IsDone}
 use Rattle.station_spec.specs.Sharing.{Post, state_of, asked_of, told_of, told_total, Shows}
 use Rattle.station_spec.specs.Blocks.{is_last, is_over, hearings, IsHearing}
 use Rattle.station_spec.specs.Runs.{entry_of, with_step, unheard, heard_from, Rests, AreQuiet, HeardBy, MayHear, MayAct, IsRun}

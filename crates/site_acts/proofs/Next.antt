@@ -16,7 +16,8 @@ use Rattle.station_spec.specs.States.{State, first, is_done, is_none}
 use Rattle.station_spec.specs.States as states
 use Rattle.station_spec.specs.Deciding.{decided}
 use Rattle.station_spec.specs.Judging.{Payload, wanted, read, filled, IsRead}
-use Rattle.station_spec.specs.Acting.{IsQuiet, IsDone, Acts, acted}
+use Rattle.station_spec.specs.Next.{IsQuiet, IsDone, Acts}
+use Rattle.station_spec.specs.Acting.{acted}
 use Rattle.secc_machine.specs.Resting.{StaysQuiet, ActsOnWords}
 use Rattle.site_posts.specs.declared.place.Place.{Place}
 use Rattle.site_posts.specs.Filling.{no_place, at, Fills}

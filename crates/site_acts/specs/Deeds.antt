@@ -8,7 +8,7 @@ use Rattle.station_spec.specs.States.{first}
 use Rattle.station_spec.specs.States as states
 use Rattle.station_spec.specs.Deciding.{decided}
 use Rattle.station_spec.specs.Judging.{wanted, IsRead}
-use Rattle.station_spec.specs.Acting.{IsSpoken}
+use Rattle.station_spec.specs.Next.{IsSpoken}
 use Rattle.site_posts.specs.declared.place.Place.{Place}
 use Rattle.site_posts.specs.Filling.{at}
 use Rattle.site_posts.specs.Places.{Shares, filled_place, done_place, RestsAt}

@@ -4,7 +4,7 @@ ghost use Rattle.std.specs.Prelude.{◌≡◌, ◌≤◌, ◌+◌, ℕ, List, le
 ghost use Rattle.v2gtp_frames.specs.Frames.{frame};
 ghost use Rattle.post_spec.specs.Codecs.{codecs};
 ghost use Rattle.station_spec.specs.States.{first};
-ghost use Rattle.station_spec.specs.Acting.{IsSpoken};
+ghost use Rattle.station_spec.specs.Next.{IsSpoken};
 ghost use Rattle.secc_machine.specs.Views.{spoken_of};
 ghost use Rattle.word_codec.specs.Replies.{IsGiven};
 ghost use Rattle.site_posts.specs.Sound.{CanSay};

@@ -20,7 +20,8 @@ use Rattle.station_spec.specs.States.{Todo, first}
 use Rattle.station_spec.specs.Blocks.{is_last, hearings, IsHearing}
 use Rattle.station_spec.specs.Deciding.{decided}
 use Rattle.station_spec.specs.Judging.{wanted, filled, IsRead}
-use Rattle.station_spec.specs.Acting.{state, IsQuiet, IsDone}
+use Rattle.station_spec.specs.Acting.{state}
+use Rattle.station_spec.specs.Next.{IsQuiet, IsDone}
 use Rattle.station_spec.specs.Sharing.{Shows}
 use Rattle.station_spec.specs.Runs.{heard_from, IsRun}
 use Rattle.station_examples.specs.Fixtures.{ac_post, token}

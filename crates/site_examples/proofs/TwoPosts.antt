@@ -12,7 +12,8 @@ use Rattle.post_spec.specs.Spelled.{AreDetermined}
 use Rattle.post_spec.specs.Steps.{Came, Clock, Act, Send, End, Reading, Step, Hears, Does}
 use Rattle.station_spec.specs.Judging as judging
 use Rattle.station_spec.specs.States as states
-use Rattle.station_spec.specs.Acting.{state, IsQuiet, IsDone, Acts}
+use Rattle.station_spec.specs.Acting.{state}
+use Rattle.station_spec.specs.Next.{IsQuiet, IsDone, Acts}
 use Rattle.station_spec.specs.Sharing.{Post, state_of, Shows}
 use Rattle.station_spec.specs.Runs.{with_step, entry_of, AreQuiet, Follows, IsRun}
 use Rattle.station_examples.specs.Fixtures.{dc_post}

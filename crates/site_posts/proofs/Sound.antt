@@ -36,7 +36,8 @@ use Rattle.station_spec.specs.States.{Spoken, Response, Said, Agenda, Session, S
 use Rattle.station_spec.specs.Blocks.{IsPlantEvent}
 use Rattle.station_spec.specs.Deciding.{ending_in, ending_by, repeating, timing, eventing, charging, charging_by, confirming, confirms, watch, fronting, fronting_by, decided}
 use Rattle.station_spec.specs.Judging.{Payload, speaks, speaks_in, payload_by, payload_in, wanted, shows, asked_behind, asked_session, chosen_stage, judged, taken_in, read, filled, IsShown, IsRead}
-use Rattle.station_spec.specs.Acting.{heard_facts, charger_facts, session_opened, with_bytes, hearing, since_order, failing, live_ordered, giving, replied, agenda_said, saying, acted}
+use Rattle.station_spec.specs.Hearing.{heard_facts, charger_facts, session_opened, with_bytes, hearing}
+use Rattle.station_spec.specs.Acting.{since_order, failing, live_ordered, giving, replied, agenda_said, saying, acted}
 use Rattle.station_laws.proofs.Decided.{Parts, decided_by}
 use Rattle.word_codec.specs.Judging.{ChoosesOffered, NegotiatesFirst}
 use Rattle.word_codec.specs.Replies.{IsPlan, AreFacts, IsAnswer, IsGiven}

@@ -17,7 +17,8 @@ use Rattle.station_spec.specs.States.{Spoken, Agenda, Part, Repeating, Timing, E
 use Rattle.station_spec.specs.States as states
 use Rattle.station_spec.specs.Deciding.{opening_if, ending_by, ending_in, decide, repeating, timing, eventing, fronting, fronting_by, from_wording, from_eventing, from_timing, from_repeating, from_part, decided}
 use Rattle.station_spec.specs.Judging.{Payload, payload_by, payload_in, wanted, unmatched, judged, taken_in, read, filled, IsRead}
-use Rattle.station_spec.specs.Acting.{since_order, live_ordered, failing, giving, replied, agenda_said, saying, telling, ended, acted, IsDone, Acts}
+use Rattle.station_spec.specs.Acting.{since_order, live_ordered, failing, giving, replied, agenda_said, saying, telling, ended, acted}
+use Rattle.station_spec.specs.Next.{IsDone, Acts}
 use Rattle.site_posts.specs.Work.{parts_left, one_if, load, spare, work_in, work}
 
 one_le : {A : Type 0} (o : Option A) → one_if o ≤ 1

@@ -6,7 +6,9 @@ use Rattle.power_share.specs.Sharing.{Sharing, IsLevel}
 use Rattle.post_spec.specs.Steps.{Event, Came, Bytes, Gone, Datagram, Plant, Clock, Over, Act, Give, Send, Answer, End, Reading, Step, event_at, seen_of}
 use Rattle.station_spec.specs.Sharing.{Post, state_of, asked_in, told_in}
 use Rattle.station_spec.specs.Judging.{filled}
-use Rattle.station_spec.specs.Acting.{hearing, acted, IsQuiet}
+use Rattle.station_spec.specs.Hearing.{hearing}
+use Rattle.station_spec.specs.Acting.{acted}
+use Rattle.station_spec.specs.Next.{IsQuiet}
 use Rattle.station_spec.specs.Until.{due_behind}
 use Rattle.station_spec.specs.Report.{sessions, is_close, closed, causes}
 use Rattle.site_posts.specs.declared.place.Place.{Place}

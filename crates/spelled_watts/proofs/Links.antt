@@ -17,7 +17,7 @@ use Rattle.post_spec.specs.Talk.{Exchange, dialect_of, IsExchange, Talks}
 use Rattle.post_spec.specs.Words.{IsPayloadAt}
 use Rattle.station_spec.specs.States.{Spoken, Session, State}
 use Rattle.station_spec.specs.Judging.{speaks}
-use Rattle.station_spec.specs.Acting.{IsSpoken}
+use Rattle.station_spec.specs.Next.{IsSpoken}
 use Rattle.safe_runs.proofs.Growth.{AreWhole}
 
 -- a request that is the next word

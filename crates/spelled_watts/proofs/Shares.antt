@@ -25,7 +25,9 @@ use Rattle.post_spec.specs.Steps.{Event, Act, Give, Send, Answer, End, Reading, 
 use Rattle.station_spec.specs.States.{Spoken, Said, Session, State, Todo, is_done, is_none, first, first_of}
 use Rattle.station_spec.specs.Deciding.{decided}
 use Rattle.station_spec.specs.Judging.{Payload, payload_in, wanted, judged, taken_in, read, filled, IsRead}
-use Rattle.station_spec.specs.Acting.{session_opened, with_bytes, since_order, replied, failing, acted, state, IsQuiet}
+use Rattle.station_spec.specs.Hearing.{session_opened, with_bytes}
+use Rattle.station_spec.specs.Acting.{since_order, replied, failing, acted, state}
+use Rattle.station_spec.specs.Next.{IsQuiet}
 use Rattle.station_spec.specs.Sharing.{Post, state_of, told_in, told_of, told_total, Shows}
 use Rattle.station_spec.specs.Runs.{with_step, unheard, heard_from, Rests, AreQuiet, HeardBy, MayAct, IsRun}
 use Rattle.station_laws.specs.PostRuns.{IsPostRun, ArePostsOf}

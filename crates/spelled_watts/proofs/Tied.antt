@@ -34,7 +34,9 @@ use Rattle.station_spec.specs.States.{Spoken, Response, Said, Agenda, Session, S
 use Rattle.station_spec.specs.States as states
 use Rattle.station_spec.specs.Deciding.{ending_in, repeating, timing, watch, confirms, confirming, charging_by, charging, eventing, fronting, decided}
 use Rattle.station_spec.specs.Judging.{Payload, speaks, speaks_in, wanted, cause_by, chosen_stage, unmatched, judged, taken_in, read, filled, IsRead}
-use Rattle.station_spec.specs.Acting.{session_opened, with_bytes, since_order, replied, failing, agenda_said, acted, state, IsSpoken, IsDone}
+use Rattle.station_spec.specs.Hearing.{session_opened, with_bytes}
+use Rattle.station_spec.specs.Acting.{since_order, replied, failing, agenda_said, acted, state}
+use Rattle.station_spec.specs.Next.{IsSpoken, IsDone}
 use Rattle.station_spec.specs.Sharing.{told_in, Shows}
 use Rattle.station_laws.specs.PostRuns.{IsPostRun}
 use Rattle.station_laws.proofs.Decided.{decided_by}

@@ -7,7 +7,8 @@ use Rattle.post_spec.specs.Steps as steps
 use Rattle.station_spec.specs.States.{Todo, Tell, Give, Say, Finish, State, fresh, first}
 use Rattle.station_spec.specs.Deciding.{decided}
 use Rattle.station_spec.specs.Judging.{Payload, wanted, filled}
-use Rattle.station_spec.specs.Acting.{hearing, acted}
+use Rattle.station_spec.specs.Hearing.{hearing}
+use Rattle.station_spec.specs.Acting.{acted}
 
 -- A post so far: its steps, the newest first, what it keeps of them, and what it did in its last hearing, in order.
 pub record Play : Type 0 where

@@ -17,12 +17,13 @@ use Rattle.session_rules.specs.declared.stage.Stage.{Stage}
 use Rattle.session_rules.specs.Moves.{facts_by, facts_behind}
 use Rattle.session_rules.specs.Verdict.{verdict, is_accepted}
 use Rattle.post_spec.specs.Codecs.{Judged, Negotiated, Asked, WrongSide, Refused}
-use Rattle.post_spec.specs.Facts.{contactor_acts, standing, live}
+use Rattle.post_spec.specs.Contactors.{contactor_acts, standing, live}
 use Rattle.post_spec.specs.Steps.{Event, Came, Bytes, Gone, Datagram, Plant, Clock, Over, Act, Give, Send, Answer, End, Seen, Heard, Did, Reading, Hears, Does, seen_of}
 use Rattle.station_spec.specs.States.{Session, State}
 use Rattle.station_spec.specs.Deciding.{decided}
 use Rattle.station_spec.specs.Judging.{judged, taken_in, read, filled}
-use Rattle.station_spec.specs.Acting.{heard_facts, ordered, acted, state}
+use Rattle.station_spec.specs.Hearing.{heard_facts}
+use Rattle.station_spec.specs.Acting.{ordered, acted, state}
 use Rattle.station_laws.specs.Contactors.{IsContactor, ContactorsAreRead}
 use Rattle.station_laws.proofs.Decided.{same_live, same_facts}
 

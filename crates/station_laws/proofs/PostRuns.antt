@@ -10,7 +10,7 @@ use Rattle.post_spec.specs.Codecs.{Codecs}
 use Rattle.post_spec.specs.Steps.{Act, Give, Send, Answer, End, Seen, Did, Step, Hears, Does, Reading, moment, event_at, seen, seen_of}
 use Rattle.post_spec.specs.Steps as steps
 use Rattle.station_spec.specs.States as states
-use Rattle.station_spec.specs.Acting.{IsDone}
+use Rattle.station_spec.specs.Next.{IsDone}
 use Rattle.station_spec.specs.Sharing.{Post}
 use Rattle.station_spec.specs.Runs.{entry_of, with_step, unheard, heard_from, Rests, AreQuiet, HeardBy, MayAct, IsRun}
 use Rattle.station_laws.specs.PostRuns.{IsPostRun, IsPostOf, ArePostsOf}

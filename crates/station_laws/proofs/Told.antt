@@ -19,7 +19,8 @@ use Rattle.post_spec.specs.Steps.{Event, Act, Give, Send, Answer, End, Hears, Do
 use Rattle.station_spec.specs.States.{Session, State}
 use Rattle.station_spec.specs.Deciding.{decided}
 use Rattle.station_spec.specs.Judging.{Payload, wanted, judged, taken_in, read, filled, IsShown, IsRead, asked_behind}
-use Rattle.station_spec.specs.Acting.{acted, session_opened, with_bytes, since_order, replied, hearing}
+use Rattle.station_spec.specs.Acting.{acted, since_order, replied}
+use Rattle.station_spec.specs.Hearing.{session_opened, with_bytes, hearing}
 use Rattle.station_spec.specs.Sharing.{Post, state_of, told_in, told_of, told_total, Shows}
 use Rattle.station_spec.specs.Runs.{with_step, unheard, heard_from, HeardBy, MayAct, IsRun}
 use Rattle.station_laws.proofs.Decided.{same_session}

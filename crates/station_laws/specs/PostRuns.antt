@@ -5,7 +5,8 @@ use Rattle.session_words.specs.declared.plan.PostPlan.{PostPlan}
 use Rattle.session_words.specs.declared.plan.SitePlan.{SitePlan}
 use Rattle.post_spec.specs.Codecs.{Codecs}
 use Rattle.post_spec.specs.Steps.{Step, Hears, Does, seen, seen_of}
-use Rattle.station_spec.specs.Acting.{state, IsQuiet, Acts}
+use Rattle.station_spec.specs.Acting.{state}
+use Rattle.station_spec.specs.Next.{IsQuiet, Acts}
 use Rattle.station_spec.specs.Sharing.{Post, Shows}
 use Rattle.station_spec.specs.Runs.{IsRun}
 

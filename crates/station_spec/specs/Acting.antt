@@ -1,79 +1,20 @@
--- Own: what a post keeps behind one step more, and what it does next.
-use Rattle.std.specs.Prelude.{◌≡◌, ℕ, Bool, true, false, if◌then◌else◌, List, [], ◌∷◌, ◌++◌, Option, Some, None}
+-- Own: what a post keeps behind one act more, and behind all its steps.
+use Rattle.std.specs.Prelude.{ℕ, Bool, true, false, if◌then◌else◌, List, [], ◌∷◌, Option, Some, None}
 use Rattle.std.specs.Option.{option_map}
-use Rattle.charge_world.specs.declared.heard.PlantEvent.{PlantEvent}
-use Rattle.charge_world.specs.declared.heard.PlantEvent.TheVariants as plant
 use Rattle.charge_world.specs.declared.ports.Order.{Order}
 use Rattle.charge_world.specs.declared.ports.Order.TheVariants as order
 use Rattle.session_words.specs.declared.cause.EndCause.{EndCause}
 use Rattle.session_words.specs.declared.cause.EndCause.TheVariants.{SendFailed, OrderFailed, Paused}
-use Rattle.session_words.specs.declared.facts.Facts.{Facts}
 use Rattle.session_words.specs.declared.phase.Standing.{Standing}
 use Rattle.session_words.specs.declared.phase.Standing.TheVariants as standing
 use Rattle.session_words.specs.declared.plan.PostPlan.{PostPlan}
 use Rattle.session_words.specs.declared.session.SessionId.{SessionId}
-use Rattle.session_words.specs.Causes.{number_of}
-use Rattle.contactor.specs.Calls.{standing_heard}
-use Rattle.v2gtp_frames.specs.Frames.{frame}
 use Rattle.session_rules.specs.Stages.{confirmed, is_set_up}
-use Rattle.post_spec.specs.Codecs.{Codecs}
-use Rattle.post_spec.specs.Sessions.{brought}
-use Rattle.post_spec.specs.Steps.{Event, Came, Bytes, Gone, Datagram, Plant, Clock, Over, Act, Give, Send, Answer, End, Step, Hears, Does, Reading}
-use Rattle.station_spec.specs.States.{Spoken, Response, Said, Agenda, Repeating, Session, State, nothing, fresh, first_session, first}
-use Rattle.station_spec.specs.States as states
-use Rattle.station_spec.specs.Deciding.{ending_in, decided}
-use Rattle.station_spec.specs.Judging.{wanted, filled, IsRead}
-
--- the newest word of the charger is its fact; a connection clears the isolation and what was asked for
-abbrev pub charger_facts : PlantEvent → Facts → Facts
-charger_facts (plant.Pilot state) f = record f { pilot = state }
-charger_facts (plant.Isolation level) f = record f { isolation = Some level }
-charger_facts (plant.Measured voltage current) f = record f { voltage = voltage; current = current }
-charger_facts (plant.Feedback closed) f = record f { contactor = standing_heard f.contactor closed }
-charger_facts plant.Paid f = record f { paid = true }
-charger_facts plant.Emergency f = f
-charger_facts plant.StopAsked f = record f { stop = true }
-charger_facts plant.RenewAsked f = record f { renew = true }
-
-abbrev pub heard_facts : Event → Facts → Facts
-heard_facts (Came token) f = record f { isolation = None; stop = false; renew = false }
-heard_facts (Plant event) f = charger_facts event f
-heard_facts (Bytes bytes) f = f
-heard_facts Gone f = f
-heard_facts (Datagram bytes) f = f
-heard_facts Clock f = f
-heard_facts Over f = f
-
-abbrev pub arrival : Event → Option ℕ
-arrival (Came token) = Some token
-arrival (Bytes bytes) = None
-arrival Gone = None
-arrival (Datagram bytes) = None
-arrival (Plant event) = None
-arrival Clock = None
-arrival Over = None
-
--- a connection opens its session behind the hearing in which it began
-abbrev pub session_opened : Option ℕ → ℕ → Option Session → Option Session
-session_opened None at session = session
-session_opened (Some token) at session = Some (first_session token at)
-
-abbrev pub with_bytes : List ℕ → Session → Session
-with_bytes bytes session = record session { unread = session.unread ++ bytes }
-
--- a hearing
-abbrev pub hearing : ℕ → Event → State → State
-hearing at event s = record {
-  clock = at;
-  facts = heard_facts event s.facts;
-  live = s.live;
-  session = option_map (with_bytes (brought event)) (session_opened s.arrived s.clock s.session);
-  arrived = arrival event;
-  event = event;
-  stood = s.facts.contactor;
-  part = Repeating;
-  agenda = nothing;
-}
+use Rattle.post_spec.specs.Steps.{Act, Give, Send, Answer, End, Step, Hears, Does}
+use Rattle.station_spec.specs.States.{Agenda, Session, State, nothing, fresh}
+use Rattle.station_spec.specs.Deciding.{ending_in}
+use Rattle.station_spec.specs.Judging.{filled}
+use Rattle.station_spec.specs.Hearing.{hearing}
 
 -- an order, taken or failed
 abbrev pub standing_ordered : Order → Bool → Standing → Standing
@@ -162,27 +103,3 @@ after plan s (Does reading act taken) = acted act taken (filled plan reading s)
 abbrev pub state : PostPlan → List Step → State
 state plan [] = fresh
 state plan (step ∷ steps) = after plan (state plan steps) step
-
--- a post has nothing to do: nothing is decided, and no word is to be read
-pub record IsQuiet (plan : PostPlan) (s : State) : Type 0 where
-  pub none : first (decided plan s).agenda ≡ None
-  pub no_word : wanted (decided plan s) ≡ None
-
--- the bytes of what is sent: the frame of the response, or of the reply's encoding
-abbrev pub IsSpoken : Codecs → Spoken → List ℕ → Type 0
-IsSpoken c (Response payload) bytes = bytes ≡ frame payload
-IsSpoken c (Said dialect reply) bytes = (payload : List ℕ) × c.Encodes dialect reply payload × (bytes ≡ frame payload)
-
--- the act by which a thing is done. The end of a session can't fail
-abbrev pub IsDone : Codecs → states.Todo → Act → Bool → Type 0
-IsDone c (states.Tell datagram) act taken = act ≡ Answer datagram
-IsDone c (states.Give o) act taken = act ≡ Give o
-IsDone c (states.Say spoken) act taken = (bytes : List ℕ) × IsSpoken c spoken bytes × (act ≡ Send bytes)
-IsDone c (states.Finish cause) act taken = (act ≡ End (number_of cause)) × (taken ≡ true)
-
--- what a post does next, reading so
-pub record Acts (c : Codecs) (plan : PostPlan) (Shows : ℕ → ℕ → Type 0) (s : State) (reading : Option Reading) (act : Act) (taken : Bool) : Type 0 where
-  pub read : IsRead c plan Shows (decided plan s) (wanted (decided plan s)) reading
-  pub todo : states.Todo
-  pub acts : first (filled plan reading s).agenda ≡ Some todo
-  pub done : IsDone c todo act taken

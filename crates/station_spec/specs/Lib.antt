@@ -1,7 +1,9 @@
 pub mod States
 pub mod Deciding
 pub mod Judging
+pub mod Hearing
 pub mod Acting
+pub mod Next
 pub mod Sharing
 pub mod Blocks
 pub mod Runs

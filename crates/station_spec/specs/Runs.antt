@@ -11,7 +11,7 @@ use Rattle.session_words.specs.declared.plan.PostPlan.{PostPlan}
 use Rattle.session_words.specs.declared.plan.SitePlan.{SitePlan}
 use Rattle.post_spec.specs.Codecs.{Codecs}
 use Rattle.post_spec.specs.Steps.{Act, Give, Send, Answer, End, Step, Hears, Does, Reading, moment, event_at}
-use Rattle.station_spec.specs.Acting.{IsQuiet, Acts}
+use Rattle.station_spec.specs.Next.{IsQuiet, Acts}
 use Rattle.station_spec.specs.Sharing.{Post, state_of, Shows}
 use Rattle.station_spec.specs.Blocks.{is_last, hearings, IsHearing}
 

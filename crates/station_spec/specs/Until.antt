@@ -7,7 +7,7 @@ use Rattle.session_timers.specs.Due.{never}
 use Rattle.post_spec.specs.Codecs.{Codecs}
 use Rattle.station_spec.specs.States.{Session, State}
 use Rattle.station_spec.specs.Deciding.{due}
-use Rattle.station_spec.specs.Acting.{session_opened}
+use Rattle.station_spec.specs.Hearing.{session_opened}
 use Rattle.station_spec.specs.Sharing.{Post, state_of}
 use Rattle.station_spec.specs.Runs.{IsRun}
 
