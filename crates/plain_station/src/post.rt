@@ -8,7 +8,6 @@ ghost use Rattle.post_spec.specs.Discovery.{answer_of, is_request_of};
 ghost use Rattle.station_spec.specs.States.{State, first_facts, fresh, first};
 ghost use Rattle.station_spec.specs.Deciding as deciding;
 ghost use Rattle.station_spec.specs.Judging as judging;
-
 ghost use Rattle.plain_station.specs.Views.{event_of, act_of, judged_of, reading_of, todo_of};
 
 use crate::NoMemory;
