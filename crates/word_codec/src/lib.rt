@@ -40,15 +40,18 @@ pub trait Codec: Coded {
         ensures within { result ≤ 1024 }
         ensures encoded { Self.encodes dialect reply.now (take result room.new) };
 
-    /// The encoding of a reply reads as that reply, but for the watts that its numbers drop.
-    ghost reads_back: { ReadsBack (codecs Self.negotiates Self.reads Self.encodes) };
-
-    /// A payload is judged one way, and a reply has one encoding.
-    ghost determined: { AreDetermined (codecs Self.negotiates Self.reads Self.encodes) };
-
     /// The first payload of a session is never judged a request of a dialect.
     ghost negotiates_first: { NegotiatesFirst Self.negotiates };
 
     /// A dialect that is chosen is one of those on offer.
     ghost chooses_offered: { ChoosesOffered Self.negotiates };
+}
+
+/// Codecs by whose payloads a run can be told apart: what the laws of every run ask of them.
+pub trait LawfulCodec: Codec {
+    /// The encoding of a reply reads as that reply, but for the watts that its numbers drop.
+    ghost reads_back: { ReadsBack (codecs Self.negotiates Self.reads Self.encodes) };
+
+    /// A payload is judged one way, and a reply has one encoding.
+    ghost determined: { AreDetermined (codecs Self.negotiates Self.reads Self.encodes) };
 }
