@@ -1,0 +1,4 @@
+pub mod Negotiating
+pub mod Iso
+pub mod Din
+pub mod Codecs
