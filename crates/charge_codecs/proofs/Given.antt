@@ -16,6 +16,8 @@ use Rattle.iso_word_laws.proofs.Posts as iso_replies
 use Rattle.din_words.specs.Spellable as din_words
 use Rattle.din_word_laws.specs.Posts as din_posts
 use Rattle.din_word_laws.proofs.Posts as din_replies
+use Rattle.written_sizes.specs.Entries.{HasEntries}
+use Rattle.written_sizes.proofs.Entries.{replies_are_brief, waiting_is_brief}
 use Rattle.word_codec.specs.Replies.{IsPlan, AreFacts, IsAnswer, IsGiven}
 use Rattle.charge_codecs.specs.Codecs.{Reads, CanSpell}
 use Rattle.charge_codecs.specs.Din as din
@@ -87,3 +89,15 @@ din_reply reply g typed (inr is) =
 pub given_spelled : (d : Dialect) (reply : Reply) → IsGiven Reads d reply → IsTyped reply → CanSpell d reply
 given_spelled dialect.Iso reply g typed = iso_reply reply g typed g.given
 given_spelled dialect.Din reply g typed = din_reply reply g typed g.given
+
+-- ---- their schedules
+
+brief_by : (d : Dialect) (reply : Reply) (g : IsGiven Reads d reply)
+    → IsAnswer Reads g.stage g.facts g.plan reply ⊎ (reply ≡ waiting_reply g.stage g.facts g.plan) → HasEntries 1 reply.tell
+brief_by d reply g (inl a) =
+    subst (λ (r : Reply). HasEntries 1 r.tell) (sym a.reply_is) (replies_are_brief g.stage g.facts g.plan a.request a.shown)
+brief_by d reply g (inr is) =
+    subst (λ (r : Reply). HasEntries 1 r.tell) (sym is) (waiting_is_brief g.stage g.facts g.plan)
+
+pub given_brief : (d : Dialect) (reply : Reply) → IsGiven Reads d reply → HasEntries 1 reply.tell
+given_brief d reply g = brief_by d reply g g.given

@@ -3,6 +3,7 @@
 ghost use Rattle.std.specs.Prelude.{◌≡◌, ◌≤◌, length, take};
 ghost use Rattle.post_spec.specs.Codecs.{judged_word};
 ghost use Rattle.secc_machine.specs.Views.{judged_of};
+ghost use Rattle.written_sizes.specs.Entries.{HasEntries};
 ghost use Rattle.charge_codecs.specs.Codecs.{Reads, Encodes, CanSpell};
 
 use crate::negotiating::first_payload;
@@ -18,7 +19,7 @@ use secc_machine::Judged;
 use session_words::{Reply, Word};
 use std::alloc::Global;
 use std::marker::Model;
-use word_codec::{Codec, REPLY_ROOM};
+use word_codec::{Codec, LawfulCodec, REPLY_ROOM};
 
 /// The codecs of the negotiation, of ISO 15118-2 and of DIN SPEC 70121, with one string table for all.
 #[derive(Drop)]
@@ -63,6 +64,7 @@ impl ChargeCodecs {
     fn write(&mut self, dialect: Dialect, reply: &Reply, room: &mut [u8]) -> u32
         requires room { length room.old ≡ 1024 }
         requires reply { CanSpell dialect reply.now }
+        requires brief { HasEntries 1 reply.now.tell }
         ensures within { result ≤ 1024 }
         ensures encoded { Encodes dialect reply.now (take result room.new) }
     {
@@ -112,4 +114,12 @@ impl Codec for ChargeCodecs {
         law_of_types(reply);
         self.write(dialect, reply, &mut room[..REPLY_ROOM])
     }
+}
+
+impl LawfulCodec for ChargeCodecs {
+    ghost use Rattle.charge_codecs.proofs.Lawful as laws;
+
+    ghost reads_back = { laws.reads_back };
+
+    ghost determined = { laws.are_determined };
 }

@@ -4,6 +4,7 @@ ghost use Rattle.std.specs.Prelude.{◌≡◌, ◌≤◌, length, take};
 ghost use Rattle.exi_documents.specs.Values.{most_entries};
 ghost use Rattle.session_words.specs.declared.word.Word.TheVariants as words;
 ghost use Rattle.iso_words.specs.Spellable.{CanSpell};
+ghost use Rattle.written_sizes.specs.Entries.{HasEntries};
 ghost use Rattle.charge_codecs.specs.Iso.{Reads, Encodes};
 
 use exi_events::Table;
@@ -33,6 +34,7 @@ pub(crate) fn write(
 ) -> u32
     requires room { length room.old ≡ 1024 }
     requires reply { CanSpell (words.Reply reply.now) }
+    requires brief { HasEntries 1 reply.now.tell }
     requires cap { table.old.cap ≡ most_entries }
     ensures cap { table.new.cap ≡ most_entries }
     ensures within { result ≤ 1024 }
@@ -40,6 +42,6 @@ pub(crate) fn write(
 {
     iso_codec::laws::messages_are_written();
     iso_replies::replies_are_within();
-    iso_replies::replies_are_small();
+    iso_reply_sizes::replies_are_small();
     write_iso(tables, &of_reply(reply), room, table).unwrap()
 }

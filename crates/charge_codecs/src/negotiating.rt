@@ -10,6 +10,7 @@ ghost use Rattle.app_protocol.specs.Messages.{message_of, protocols_of};
 ghost use Rattle.secc_machine.specs.Views.{judged_of};
 ghost use Rattle.charge_codecs.specs.Negotiating.{Negotiates};
 
+use crate::typed::law_of_bytes;
 use app_protocol::{AppMessage, AppReq, AppRes, negotiate_among, read_app, write_app};
 use arrayvec::ArrayVec;
 use charge_world::Dialect;
@@ -34,7 +35,8 @@ pub(crate) fn first_payload(offers: &[Dialect], payload: &[u8], table: &mut Tabl
 fn answered(offers: &[Dialect], request: &AppReq<'_>, table: &mut Table) -> Judged
     requires cap { table.old.cap ≡ most_entries }
     ensures cap { table.new.cap ≡ most_entries }
-    ensures judged { (payload : List ℕ) → IsApp (Request (protocols_of request.now)) payload → Negotiates offers.now payload (judged_of result) }
+    ensures judged { (payload : List ℕ) → IsApp (Request (protocols_of request.now)) payload
+        → Negotiates offers.now payload (judged_of result) }
 {
     let (answer, chosen) = negotiate_among(request, offers);
     let response = encoded(answer, table);
@@ -52,5 +54,6 @@ fn encoded(answer: AppRes, table: &mut Table) -> ArrayVec<u8, 4>
     let n = write_app(&AppMessage::Res(answer), &mut room, table).unwrap();
     let mut response = ArrayVec::new();
     response.try_extend_from_slice(&room[..n as usize]).unwrap();
+    law_of_bytes(response.as_slice());
     response
 }

@@ -1,21 +1,29 @@
 //! What the types of a reply bound. These functions do nothing but read it: their contracts are what is known then.
 
+ghost use Rattle.std.specs.Prelude.{◌≤◌, ◌<◌, length, All};
+ghost use Rattle.document_laws.specs.Laws.{AreBytes};
 ghost use Rattle.written_words.specs.Typed.{IsTyped, IsTypedEvse, IsTypedTell};
-ghost use Rattle.iso_words.specs.Spellable.{CanSession};
 
 use session_words::{EvseId, Reply, SessionId, Tell};
 
+/// A byte is below 256.
+pub(crate) fn law_of_bytes(bytes: &[u8])
+    ensures each { All (λ byte. byte < 256) bytes.now }
+    ensures all { AreBytes bytes.now }
+{}
+
 fn law_of_sessions(session: &SessionId)
-    ensures { CanSession session.now }
+    ensures few { length session.now.bytes.items ≤ 8 }
+    ensures bytes { All (λ byte. byte < 256) session.now.bytes.items }
 {
-    let _ = session.bytes.as_slice();
+    law_of_bytes(session.bytes.as_slice());
 }
 
 fn law_of_identifiers(id: &EvseId)
     ensures { IsTypedEvse id.now }
 {
     if let EvseId::Bytes(bytes) = id {
-        let _ = bytes.as_slice();
+        law_of_bytes(bytes.as_slice());
     }
 }
 
@@ -24,7 +32,7 @@ fn law_of_tells(tell: &Tell)
 {
     match tell {
         Tell::ServiceDetail { service } => {
-            let _ = *service;
+            let _service = *service;
         }
         Tell::SessionSetup { evse } => law_of_identifiers(evse),
         _ => {}
