@@ -1,6 +1,6 @@
 -- Own: how many bits are written for a tree at most, by adding up, where no code of its schema has more than `w` of them. After W3C
 -- EXI 1.0 (Second Edition) 6.2, Event Codes, and 7.1, Built-in EXI Datatype Representations.
-use Rattle.std.specs.Prelude.{ℕ, ℤ, ◌+◌, ◌*◌, ◌^◌, ◌&&◌, max, nat_lt, nat_le, Bool, true, List, [], ◌∷◌, length, Option, Some, None}
+use Rattle.std.specs.Prelude.{ℕ, ◌+◌, ◌*◌, ◌^◌, ◌&&◌, max, nat_lt, nat_le, Bool, true, List, [], ◌∷◌, length, Option, Some, None}
 use Rattle.std.specs.List.{list_all}
 use Rattle.exi_schema.specs.Counts.{element_total}
 use Rattle.exi_schema.specs.declared.tables.Datatype.{Datatype}
