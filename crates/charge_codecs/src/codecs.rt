@@ -4,12 +4,13 @@ ghost use Rattle.std.specs.Prelude.{◌≡◌, ◌≤◌, length, take};
 ghost use Rattle.post_spec.specs.Codecs.{judged_word};
 ghost use Rattle.secc_machine.specs.Views.{judged_of};
 ghost use Rattle.written_sizes.specs.Entries.{HasEntries};
-ghost use Rattle.charge_codecs.specs.Codecs.{Reads, Encodes, CanSpell};
+ghost use Rattle.codec_rules.specs.Codecs.{Reads, Encodes, CanSpell};
 
 use crate::negotiating::first_payload;
 use crate::typed::law_of_types;
 use crate::{din, iso};
 use charge_world::{Dialect, NoMemory};
+use codec_rules::given_replies;
 use din_codec::DinTables;
 use exi_documents::MOST_ENTRIES;
 use exi_events::Table;
@@ -87,8 +88,8 @@ fn judged_as(word: Option<Word>) -> Judged
 }
 
 impl Coded for ChargeCodecs {
-    ghost use Rattle.charge_codecs.specs.Codecs.{Reads, Encodes};
-    ghost use Rattle.charge_codecs.specs.Negotiating.{Negotiates};
+    ghost use Rattle.codec_rules.specs.Codecs.{Reads, Encodes};
+    ghost use Rattle.codec_rules.specs.Negotiating.{Negotiates};
 
     ghost negotiates = { Negotiates };
 
@@ -112,12 +113,13 @@ impl Codec for ChargeCodecs {
 
     fn encode(&mut self, dialect: Dialect, reply: &Reply, room: &mut [u8]) -> u32 {
         law_of_types(reply);
+        given_replies();
         self.write(dialect, reply, &mut room[..REPLY_ROOM])
     }
 }
 
 impl LawfulCodec for ChargeCodecs {
-    ghost use Rattle.charge_codecs.proofs.Lawful as laws;
+    ghost use Rattle.codec_laws.proofs.Lawful as laws;
 
     ghost reads_back = { laws.reads_back };
 

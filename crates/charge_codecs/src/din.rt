@@ -5,7 +5,7 @@ ghost use Rattle.exi_documents.specs.Values.{most_entries};
 ghost use Rattle.session_words.specs.declared.word.Word.TheVariants as words;
 ghost use Rattle.din_words.specs.Spellable.{CanSpell};
 ghost use Rattle.written_sizes.specs.Entries.{HasEntries};
-ghost use Rattle.charge_codecs.specs.Din.{Reads, Encodes};
+ghost use Rattle.codec_rules.specs.Din.{Reads, Encodes};
 
 use exi_events::Table;
 use din_codec::{DinTables, read_din, write_din};

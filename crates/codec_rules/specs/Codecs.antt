@@ -7,8 +7,8 @@ use Rattle.session_words.specs.declared.word.Word.{Word}
 use Rattle.session_words.specs.declared.word.Word.TheVariants as word
 use Rattle.iso_words.specs.Spellable as iso_words
 use Rattle.din_words.specs.Spellable as din_words
-use Rattle.charge_codecs.specs.Iso as iso
-use Rattle.charge_codecs.specs.Din as din
+use Rattle.codec_rules.specs.Iso as iso
+use Rattle.codec_rules.specs.Din as din
 
 -- what a payload spells in its dialect
 abbrev pub Reads : Dialect → List ℕ → Option Word → Type 0

@@ -2,3 +2,4 @@ pub mod Negotiating
 pub mod Iso
 pub mod Din
 pub mod Codecs
+pub mod Given

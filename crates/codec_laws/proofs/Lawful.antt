@@ -6,11 +6,11 @@ use Rattle.session_words.specs.declared.word.Reply.{Reply}
 use Rattle.session_words.specs.declared.word.Word.{Word}
 use Rattle.post_spec.specs.Codecs.{codecs}
 use Rattle.post_spec.specs.Spelled.{ReadsBack, AreDetermined}
-use Rattle.charge_codecs.specs.Codecs.{Reads, Encodes}
-use Rattle.charge_codecs.specs.Negotiating.{Negotiates}
-use Rattle.charge_codecs.proofs.Iso as iso
-use Rattle.charge_codecs.proofs.Din as din
-use Rattle.charge_codecs.proofs.OneJudged.{one_judged}
+use Rattle.codec_rules.specs.Codecs.{Reads, Encodes}
+use Rattle.codec_rules.specs.Negotiating.{Negotiates}
+use Rattle.codec_laws.proofs.IsoPayloads as iso
+use Rattle.codec_laws.proofs.DinPayloads as din
+use Rattle.codec_laws.proofs.OneJudged.{one_judged}
 
 one_read : (d : Dialect) (payload : List ℕ) (a b : Option Word) → Reads d payload a → Reads d payload b → a ≡ b
 one_read dialect.Iso payload a b r s = iso.one_read payload a b r s
