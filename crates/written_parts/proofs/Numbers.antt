@@ -23,7 +23,7 @@ pub record IsPhysical (multiplier value : ℤ) : Type 0 where
 abbrev Fits : Written → Type 0
 Fits w = IsPhysical w.multiplier w.value
 
-value_few : (n : ℕ) → n ≤ 32767 → IsValue value_type (Number (pos n))
+pub value_few : (n : ℕ) → n ≤ 32767 → IsValue value_type (Number (pos n))
 value_few n few = (omega (arith, ints), omega (arith, ints))
 
 tenth : (n : ℕ) → n ≤ 32767 → Fits (written (negsuc 0) n)
