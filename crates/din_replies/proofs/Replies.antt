@@ -34,7 +34,7 @@ use Rattle.din_replies.proofs.Setup.{setup_held, discovery_held, selection_held,
 use Rattle.din_replies.proofs.Parameters.{FitLimits, limits_fit, parameters_held}
 use Rattle.din_replies.proofs.Power.{delivery_held, cable_check_held, pre_charge_held, demand_held, welding_held}
 
-abbrev FitsBody : BodyElement → Type 0
+abbrev pub FitsBody : BodyElement → Type 0
 FitsBody element = FitsParts kinds body (body_parts (record { element = Some element }))
 
 -- where DIN has a message for it
@@ -92,7 +92,7 @@ header_held session lent can lends =
 body_held : (element : BodyElement) → FitsBody element → HoldsTrees kinds BODY_KIND (holding (body_parts (record { element = Some element })))
 body_held element fits = holding_held kinds BODY_KIND [] body [] (body_parts (record { element = Some element })) refl tt fits
 
-message_fits : (session : SessionId) (lent : Binary) (element : BodyElement) → CanSession session → LendsSession session lent → FitsBody element
+pub message_fits : (session : SessionId) (lent : Binary) (element : BodyElement) → CanSession session → LendsSession session lent → FitsBody element
     → IsWithin (message_with lent (Some element))
 message_fits session lent element can lends fits =
     (((HEADER_KIND, refl, header_held session lent can lends), refl), (((BODY_KIND, refl, body_held element fits), refl), tt))

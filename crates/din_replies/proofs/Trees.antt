@@ -24,7 +24,7 @@ same_evse (evse.Bytes id) here there a b = a ∙ sym b
 
 -- ---- elements
 
-abbrev inside : BodyElement → Inside
+abbrev pub inside : BodyElement → Inside
 inside element = holding (body_parts (record { element = Some element }))
 
 -- where DIN has none, no parts
@@ -51,7 +51,7 @@ same_inside code tell.SessionStop here there a b = refl
 -- ---- messages
 
 -- the tree under an identifier of these bytes
-abbrev tree_of : List ℕ → Inside → Tree
+abbrev pub tree_of : List ℕ → Inside → Tree
 tree_of bytes inside =
     root_of V2G_MESSAGE (holding (one HEADER (holding (one SESSION_ID (Of (Bytes bytes)) ∷ [])) ∷ one BODY inside ∷ []))
 

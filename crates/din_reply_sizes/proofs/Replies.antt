@@ -42,7 +42,7 @@ tuples_few : (most : ℕ) (schedule : Option (ArrayVec Tuple)) → IfSome schedu
 tuples_few most None can few = tt
 tuples_few most (Some tuples) can few = (can.0.1, few)
 
-abbrev IsLight : ℕ → BodyElement → Type 0
+abbrev pub IsLight : ℕ → BodyElement → Type 0
 IsLight most element = inside_weight 6 (body_element_inside element) ≤ 2100 + 873 * most
 
 -- where DIN has a message for it
@@ -81,10 +81,10 @@ element_light most code tell.SessionStop lent can few lends = omega (arith, stop
 
 -- ---- messages
 
-abbrev weight_of : DinMessage → ℕ
+abbrev pub weight_of : DinMessage → ℕ
 weight_of m = document_weight 6 schema (din_tree m)
 
-message_light : (most : ℕ) (session : SessionId) (lent : Binary) (element : BodyElement) → CanSession session → LendsSession session lent
+pub message_light : (most : ℕ) (session : SessionId) (lent : Binary) (element : BodyElement) → CanSession session → LendsSession session lent
     → IsLight most element → weight_of (message_with lent (Some element)) ≤ 2300 + 873 * most
 message_light most session lent element can lends light =
     let m = message_with lent (Some element) in

@@ -1,10 +1,10 @@
 -- ISO 15118-2:2014, 8.4.3.8: the charge parameters of a post, with its schedules, hold what is declared.
-use Rattle.std.proofs.Common.{◌≡◌, ℕ, ◌+◌, ◌<◌, ◌≤◌, Bool, List, [], ◌∷◌, length, map, All, Option, Some, None, pos, arith, refl, lit≤}
+use Rattle.std.proofs.Common.{ℕ, ◌≤◌, List, [], ◌∷◌, length, map, Option, Some, None, arith, refl, lit≤}
 use Rattle.std.specs.Prelude.{IfSome}
 use Rattle.arrayvec.specs.ArrayVec.{ArrayVec}
 use Rattle.exi_schema.specs.declared.tables.MemberStanding.TheVariants.{Abstract}
 use Rattle.exi_schema.specs.Plain.{PlainParticle, one_of, standing, up_to, at_least_one, choice, perhaps_choice}
-use Rattle.message_parts.specs.Contents.{Inside, Part, one, perhaps_one, mapped, holding}
+use Rattle.message_parts.specs.Contents.{one, perhaps_one, mapped, holding}
 use Rattle.fitting_parts.specs.Fitting.{HoldsTrees, FitsPart}
 use Rattle.fitting_parts.proofs.Fitted.{holding_held}
 use Rattle.session_words.specs.declared.amount.Amount.{Amount}
@@ -64,8 +64,8 @@ schedule_held t can =
     let power = power_of t.least in
     holding_held kinds P_MAX_SCHEDULE_KIND [] p_max_schedule [] (p_max_schedule_parts ((schedule_tuple t).p_max_schedule)) refl tt (
       range_held kinds particle P_MAX_SCHEDULE_ENTRY (λ x. holding (p_max_schedule_entry_parts x)) (entry_at power) 128
-      (λ from few. (P_MAX_SCHEDULE_ENTRY_KIND, refl, entry_held power (power_held t.least can.least) from few)) t.entries can.entries.1
-      (at_least_one_takes 128 P_MAX_SCHEDULE_ENTRY P_MAX_SCHEDULE_ENTRY_KIND t.entries can.entries.0 can.entries.1),
+          (λ from few. (P_MAX_SCHEDULE_ENTRY_KIND, refl, entry_held power (power_held t.least can.least) from few)) t.entries can.entries.1
+          (at_least_one_takes 128 P_MAX_SCHEDULE_ENTRY P_MAX_SCHEDULE_ENTRY_KIND t.entries can.entries.0 can.entries.1),
       tt,
     )
 
@@ -73,8 +73,10 @@ tuple_held : (t : Tuple) → CanTuple t → HoldsTrees kinds SA_SCHEDULE_TUPLE_K
 tuple_held t can =
     holding_held kinds SA_SCHEDULE_TUPLE_KIND [] sa_schedule_tuple [] (sa_schedule_tuple_parts (schedule_tuple t)) refl tt (
       ((TUPLE_ID_KIND, refl, tuple_number t.id can.id), refl),
-      (((P_MAX_SCHEDULE_KIND, refl, schedule_held t can), refl),
-      (refl, tt)),
+      (
+        ((P_MAX_SCHEDULE_KIND, refl, schedule_held t can), refl),
+        (refl, tt),
+      ),
     )
 
 abbrev list_of : List Tuple → SaScheduleList
@@ -85,8 +87,8 @@ list_held tuples can =
     let particle = up_to 3 SA_SCHEDULE_TUPLE SA_SCHEDULE_TUPLE_KIND in
     holding_held kinds SA_SCHEDULE_LIST_KIND [] sa_schedule_list [] (sa_schedule_list_parts (list_of tuples.items)) refl tt (
       each_held kinds particle SA_SCHEDULE_TUPLE (λ x. holding (sa_schedule_tuple_parts x)) schedule_tuple CanTuple
-      (λ t h. (SA_SCHEDULE_TUPLE_KIND, refl, tuple_held t h)) tuples.items can.1
-      (up_to_takes 3 SA_SCHEDULE_TUPLE SA_SCHEDULE_TUPLE_KIND (length tuples.items) can.0.0 can.0.1),
+          (λ t h. (SA_SCHEDULE_TUPLE_KIND, refl, tuple_held t h)) tuples.items can.1
+          (up_to_takes 3 SA_SCHEDULE_TUPLE SA_SCHEDULE_TUPLE_KIND (length tuples.items) can.0.0 can.0.1),
       tt,
     )
 
@@ -130,29 +132,51 @@ dc_limits status current watts voltage least_current least_voltage ripple = reco
 
 limits_fit : (limits : PostLimits) → CanPostLimits limits → FitsLimits (evse_parameter limits)
 limits_fit (post.Ac notify nominal current) can = (
-  (AC_EVSE_CHARGE_PARAMETER_KIND, refl,
-  holding_held kinds AC_EVSE_CHARGE_PARAMETER_KIND [] ac_evse_charge_parameter []
-  (ac_evse_charge_parameter_parts (ac_limits notify nominal current)) refl tt (
-    ((AC_EVSE_STATUS_KIND, refl, ac_status_held notify), refl),
-    (((PHYSICAL_VALUE_KIND, refl, nominal_held nominal can.0), refl),
-    (((PHYSICAL_VALUE_KIND, refl, current_held current can.1), refl), tt)),
-  )),
+  (
+    AC_EVSE_CHARGE_PARAMETER_KIND,
+    refl,
+    holding_held kinds AC_EVSE_CHARGE_PARAMETER_KIND [] ac_evse_charge_parameter []
+        (ac_evse_charge_parameter_parts (ac_limits notify nominal current)) refl tt (
+          ((AC_EVSE_STATUS_KIND, refl, ac_status_held notify), refl),
+          (
+            ((PHYSICAL_VALUE_KIND, refl, nominal_held nominal can.0), refl),
+            (((PHYSICAL_VALUE_KIND, refl, current_held current can.1), refl), tt),
+          ),
+        ),
+  ),
   refl,
 )
 limits_fit (post.Dc status current watts voltage least_current least_voltage ripple) can = (
-  (DC_EVSE_CHARGE_PARAMETER_KIND, refl,
-  holding_held kinds DC_EVSE_CHARGE_PARAMETER_KIND [] dc_evse_charge_parameter []
-  (dc_evse_charge_parameter_parts (dc_limits status current watts voltage least_current least_voltage ripple)) refl tt (
-    ((DC_EVSE_STATUS_KIND, refl, dc_status_held status), refl),
-    (((PHYSICAL_VALUE_KIND, refl, current_held current can.0), refl),
-    (((PHYSICAL_VALUE_KIND, refl, some_power_held watts can.1), refl),
-    (((PHYSICAL_VALUE_KIND, refl, voltage_held voltage can.2), refl),
-    (((PHYSICAL_VALUE_KIND, refl, current_held least_current can.3), refl),
-    (((PHYSICAL_VALUE_KIND, refl, voltage_held least_voltage can.4), refl),
-    (refl,
-    (((PHYSICAL_VALUE_KIND, refl, current_held ripple can.5), refl),
-    (refl, tt)))))))),
-  )),
+  (
+    DC_EVSE_CHARGE_PARAMETER_KIND,
+    refl,
+    holding_held kinds DC_EVSE_CHARGE_PARAMETER_KIND [] dc_evse_charge_parameter []
+        (dc_evse_charge_parameter_parts (dc_limits status current watts voltage least_current least_voltage ripple)) refl tt (
+          ((DC_EVSE_STATUS_KIND, refl, dc_status_held status), refl),
+          (
+            ((PHYSICAL_VALUE_KIND, refl, current_held current can.0), refl),
+            (
+              ((PHYSICAL_VALUE_KIND, refl, some_power_held watts can.1), refl),
+              (
+                ((PHYSICAL_VALUE_KIND, refl, voltage_held voltage can.2), refl),
+                (
+                  ((PHYSICAL_VALUE_KIND, refl, current_held least_current can.3), refl),
+                  (
+                    ((PHYSICAL_VALUE_KIND, refl, voltage_held least_voltage can.4), refl),
+                    (
+                      refl,
+                      (
+                        ((PHYSICAL_VALUE_KIND, refl, current_held ripple can.5), refl),
+                        (refl, tt),
+                      ),
+                    ),
+                  ),
+                ),
+              ),
+            ),
+          ),
+        ),
+  ),
   refl,
 )
 
@@ -163,6 +187,8 @@ parameters_held code processing schedule limits tuples can =
     holding_held kinds CHARGE_PARAMETER_DISCOVERY_RES_KIND [] charge_parameter_discovery_res []
     (charge_parameter_discovery_res_parts (parameters_res code processing schedule limits)) refl tt (
       ((RESPONSE_CODE_KIND, refl, response code), refl),
-      (((EVSE_PROCESSING_KIND, refl, progress (evse_processing processing)), refl),
-      (schedules_fit schedule tuples, (limits_fit limits can, tt))),
+      (
+        ((EVSE_PROCESSING_KIND, refl, progress (evse_processing processing)), refl),
+        (schedules_fit schedule tuples, (limits_fit limits can, tt)),
+      ),
     )

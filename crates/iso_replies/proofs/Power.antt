@@ -1,11 +1,11 @@
 -- ISO 15118-2:2014, 8.4.3.9, 8.4.4 and 8.4.5: replies of charging hold what is declared.
-use Rattle.std.proofs.Common.{◌≡◌, ℕ, ◌<◌, ◌≤◌, Bool, List, [], ◌∷◌, Option, Some, None, pos, ◌≤ℤ◌, arith, refl, lit≤}
+use Rattle.std.proofs.Common.{Bool, [], ◌∷◌, Option, pos, arith, refl}
 use Rattle.std.specs.Prelude.{IfSome}
 use Rattle.std.proofs.lemmas.Int.{ints}
 use Rattle.exi_schema.specs.declared.tables.MemberStanding.TheVariants.{Abstract}
 use Rattle.exi_schema.specs.Plain.{PlainParticle, one_of, standing, choice}
 use Rattle.exi_documents.specs.Trees.{Number}
-use Rattle.message_parts.specs.Contents.{Inside, Part, one, holding}
+use Rattle.message_parts.specs.Contents.{one, holding}
 use Rattle.message_parts.specs.declared.texts.Text.{Text}
 use Rattle.fitting_parts.specs.Fitting.{HoldsTrees, FitsPart}
 use Rattle.fitting_parts.proofs.Fitted.{holding_held}
@@ -61,12 +61,22 @@ pub charging_held : (code : ResponseCode) (notify : Notify) (id : EvseId) (lent 
 charging_held code notify id lent current can lends amount =
     holding_held kinds CHARGING_STATUS_RES_KIND [] charging_status_res [] (charging_status_res_parts (charging_res code notify lent current)) refl tt (
       ((RESPONSE_CODE_KIND, refl, response code), refl),
-      (((TEXT37_KIND, refl, evse_id id lent can lends), refl),
-      (((TUPLE_ID_KIND, refl, first_tuple), refl),
-      (currents_fit EVSE_MAX_CURRENT current amount,
-      (refl,
-      (refl,
-      (((AC_EVSE_STATUS_KIND, refl, ac_status_held notify), refl), tt)))))),
+      (
+        ((TEXT37_KIND, refl, evse_id id lent can lends), refl),
+        (
+          ((TUPLE_ID_KIND, refl, first_tuple), refl),
+          (
+            currents_fit EVSE_MAX_CURRENT current amount,
+            (
+              refl,
+              (
+                refl,
+                (((AC_EVSE_STATUS_KIND, refl, ac_status_held notify), refl), tt),
+              ),
+            ),
+          ),
+        ),
+      ),
     )
 
 -- ---- charging
@@ -76,8 +86,10 @@ pub cable_check_held : (code : ResponseCode) (s : DcStatus) (processing : Proces
 cable_check_held code s processing =
     holding_held kinds CABLE_CHECK_RES_KIND [] cable_check_particles [] (cable_check_res_parts (cable_check_res code s processing)) refl tt (
       ((RESPONSE_CODE_KIND, refl, response code), refl),
-      (((DC_EVSE_STATUS_KIND, refl, dc_status_held s), refl),
-      (((EVSE_PROCESSING_KIND, refl, progress (evse_processing processing)), refl), tt)),
+      (
+        ((DC_EVSE_STATUS_KIND, refl, dc_status_held s), refl),
+        (((EVSE_PROCESSING_KIND, refl, progress (evse_processing processing)), refl), tt),
+      ),
     )
 
 pub pre_charge_held : (code : ResponseCode) (s : DcStatus) (voltage : Amount) → AreTenths voltage
@@ -85,8 +97,10 @@ pub pre_charge_held : (code : ResponseCode) (s : DcStatus) (voltage : Amount) �
 pre_charge_held code s voltage can =
     holding_held kinds PRE_CHARGE_RES_KIND [] pre_charge_particles [] (pre_charge_res_parts (pre_charge_res code s voltage)) refl tt (
       ((RESPONSE_CODE_KIND, refl, response code), refl),
-      (((DC_EVSE_STATUS_KIND, refl, dc_status_held s), refl),
-      (((PHYSICAL_VALUE_KIND, refl, voltage_held voltage can), refl), tt)),
+      (
+        ((DC_EVSE_STATUS_KIND, refl, dc_status_held s), refl),
+        (((PHYSICAL_VALUE_KIND, refl, voltage_held voltage can), refl), tt),
+      ),
     )
 
 pub welding_held : (code : ResponseCode) (s : DcStatus) (voltage : Amount) → AreTenths voltage
@@ -94,8 +108,10 @@ pub welding_held : (code : ResponseCode) (s : DcStatus) (voltage : Amount) → A
 welding_held code s voltage can =
     holding_held kinds WELDING_DETECTION_RES_KIND [] welding_detection_res [] (welding_detection_res_parts (welding_res code s voltage)) refl tt (
       ((RESPONSE_CODE_KIND, refl, response code), refl),
-      (((DC_EVSE_STATUS_KIND, refl, dc_status_held s), refl),
-      (((PHYSICAL_VALUE_KIND, refl, voltage_held voltage can), refl), tt)),
+      (
+        ((DC_EVSE_STATUS_KIND, refl, dc_status_held s), refl),
+        (((PHYSICAL_VALUE_KIND, refl, voltage_held voltage can), refl), tt),
+      ),
     )
 
 pub demand_held : (code : ResponseCode) (s : DcStatus) (voltage current : Amount) (current_cut voltage_cut watts_cut : Bool)
@@ -108,17 +124,41 @@ demand_held code s voltage current current_cut voltage_cut watts_cut most_voltag
     holding_held kinds CURRENT_DEMAND_RES_KIND [] current_demand_res []
     (current_demand_res_parts (demand_res code s voltage current current_cut voltage_cut watts_cut most_voltage most_current most_watts lent)) refl tt (
       ((RESPONSE_CODE_KIND, refl, response code), refl),
-      (((DC_EVSE_STATUS_KIND, refl, dc_status_held s), refl),
-      (((PHYSICAL_VALUE_KIND, refl, voltage_held voltage v), refl),
-      (((PHYSICAL_VALUE_KIND, refl, current_held current c), refl),
-      (((BOOLEAN_KIND, refl, truth current_cut), refl),
-      (((BOOLEAN_KIND, refl, truth voltage_cut), refl),
-      (((BOOLEAN_KIND, refl, truth watts_cut), refl),
-      (voltages_fit EVSE_MAXIMUM_VOLTAGE_LIMIT most_voltage mv,
-      (currents_fit EVSE_MAXIMUM_CURRENT_LIMIT most_current mc,
-      (powers_fit EVSE_MAXIMUM_POWER_LIMIT most_watts mw,
-      (((TEXT37_KIND, refl, evse_id id lent can lends), refl),
-      (((TUPLE_ID_KIND, refl, first_tuple), refl),
-      (refl,
-      (refl, tt))))))))))))),
+      (
+        ((DC_EVSE_STATUS_KIND, refl, dc_status_held s), refl),
+        (
+          ((PHYSICAL_VALUE_KIND, refl, voltage_held voltage v), refl),
+          (
+            ((PHYSICAL_VALUE_KIND, refl, current_held current c), refl),
+            (
+              ((BOOLEAN_KIND, refl, truth current_cut), refl),
+              (
+                ((BOOLEAN_KIND, refl, truth voltage_cut), refl),
+                (
+                  ((BOOLEAN_KIND, refl, truth watts_cut), refl),
+                  (
+                    voltages_fit EVSE_MAXIMUM_VOLTAGE_LIMIT most_voltage mv,
+                    (
+                      currents_fit EVSE_MAXIMUM_CURRENT_LIMIT most_current mc,
+                      (
+                        powers_fit EVSE_MAXIMUM_POWER_LIMIT most_watts mw,
+                        (
+                          ((TEXT37_KIND, refl, evse_id id lent can lends), refl),
+                          (
+                            ((TUPLE_ID_KIND, refl, first_tuple), refl),
+                            (
+                              refl,
+                              (refl, tt),
+                            ),
+                          ),
+                        ),
+                      ),
+                    ),
+                  ),
+                ),
+              ),
+            ),
+          ),
+        ),
+      ),
     )

@@ -1,10 +1,9 @@
 -- The message of each reply holds what is declared.
-use Rattle.std.proofs.Common.{◌≡◌, ℕ, List, [], ◌∷◌, Option, Some, None, refl, sym, subst, ◌∙◌, ap}
-use Rattle.exi_schema.specs.Plain.{PlainParticle}
-use Rattle.message_parts.specs.Contents.{Part, perhaps_one, holding}
+use Rattle.std.proofs.Common.{[], Some, None, refl, sym, subst}
+use Rattle.message_parts.specs.Contents.{holding}
 use Rattle.message_parts.specs.declared.texts.Binary.{Binary}
 use Rattle.message_parts.specs.declared.texts.Text.{Text}
-use Rattle.fitting_parts.specs.Fitting.{HoldsTrees, FitsPart, FitsParts}
+use Rattle.fitting_parts.specs.Fitting.{HoldsTrees, FitsParts}
 use Rattle.fitting_parts.proofs.Fitted.{holding_held}
 use Rattle.session_words.specs.declared.code.Code.{Code}
 use Rattle.session_words.specs.declared.session.SessionId.{SessionId}
@@ -15,10 +14,8 @@ use Rattle.iso_schema.specs.Frame.{header, body}
 use Rattle.iso_schema.specs.declared.kinds.TheConstants.{BINARY8_KIND, HEADER_KIND, BODY_KIND, SESSION_SETUP_RES_KIND, SERVICE_DISCOVERY_RES_KIND, SERVICE_DETAIL_RES_KIND, PAYMENT_SERVICE_SELECTION_RES_KIND, AUTHORIZATION_RES_KIND, SESSION_STOP_RES_KIND, CHARGE_PARAMETER_DISCOVERY_RES_KIND, POWER_DELIVERY_RES_KIND, CHARGING_STATUS_RES_KIND, CABLE_CHECK_RES_KIND, PRE_CHARGE_RES_KIND, CURRENT_DEMAND_RES_KIND, WELDING_DETECTION_RES_KIND}
 use Rattle.iso_parts.specs.Frame.{header_parts}
 use Rattle.iso_codec.specs.Documents.{IsWithin}
-use Rattle.iso_codec.specs.Message.{body_element_name, body_element_inside, body_parts}
-use Rattle.iso_codec.specs.declared.message.Body.{Body}
+use Rattle.iso_codec.specs.Message.{body_parts}
 use Rattle.iso_codec.specs.declared.message.BodyElement.{BodyElement}
-use Rattle.iso_codec.specs.declared.message.IsoMessage.{IsoMessage}
 use Rattle.iso_values.specs.Codes.{response_code}
 use Rattle.iso_words.specs.Messages.{LendsTell, LendsSession, reply_element, message_with}
 use Rattle.iso_words.specs.Spellable.{CanSession, CanTell}
@@ -28,7 +25,7 @@ use Rattle.iso_replies.proofs.Setup.{setup_held, discovery_held, detail_held, se
 use Rattle.iso_replies.proofs.Parameters.{parameters_held}
 use Rattle.iso_replies.proofs.Power.{delivery_held, charging_held, cable_check_held, pre_charge_held, demand_held, welding_held}
 
-abbrev FitsBody : BodyElement → Type 0
+abbrev pub FitsBody : BodyElement → Type 0
 FitsBody element = FitsParts kinds body (body_parts (record { element = Some element }))
 
 element_fits : (code : Code) (t : Tell) (lent : Text) → CanTell t → LendsTell t lent → FitsBody (reply_element lent code t)
@@ -52,9 +49,18 @@ element_fits code (tell.PowerDelivery s) lent can lends =
     (((POWER_DELIVERY_RES_KIND, refl, delivery_held (response_code code) s), refl), tt)
 element_fits code (tell.CurrentDemand s voltage current current_cut voltage_cut watts_cut most_voltage most_current most_watts None) lent can lends =
     absurd can.5
-element_fits code (tell.CurrentDemand s voltage current current_cut voltage_cut watts_cut most_voltage most_current most_watts (Some id)) lent can lends =
-    (((CURRENT_DEMAND_RES_KIND, refl, demand_held (response_code code) s voltage current current_cut voltage_cut watts_cut most_voltage most_current
-    most_watts id lent can.0 can.1 can.2 can.3 can.4 can.5 lends), refl), tt)
+element_fits code (tell.CurrentDemand s voltage current current_cut voltage_cut watts_cut most_voltage most_current most_watts (Some id)) lent can lends = (
+  (
+    (
+      CURRENT_DEMAND_RES_KIND,
+      refl,
+      demand_held (response_code code) s voltage current current_cut voltage_cut watts_cut most_voltage most_current
+          most_watts id lent can.0 can.1 can.2 can.3 can.4 can.5 lends,
+    ),
+    refl,
+  ),
+  tt,
+)
 element_fits code (tell.ChargingStatus notify id current) lent can lends =
     (((CHARGING_STATUS_RES_KIND, refl, charging_held (response_code code) notify id lent current can.0 lends can.1), refl), tt)
 element_fits code (tell.WeldingDetection s voltage) lent can lends =
@@ -69,14 +75,16 @@ header_held : (session : SessionId) (lent : Binary) → CanSession session → L
 header_held session lent can lends =
     holding_held kinds HEADER_KIND [] header [] (header_parts (record { session_id = lent; notification = None })) refl tt (
       ((BINARY8_KIND, refl, identifier session lent can lends), refl),
-      (refl,
-      (refl, tt)),
+      (
+        refl,
+        (refl, tt),
+      ),
     )
 
 body_held : (element : BodyElement) → FitsBody element → HoldsTrees kinds BODY_KIND (holding (body_parts (record { element = Some element })))
 body_held element fits = holding_held kinds BODY_KIND [] body [] (body_parts (record { element = Some element })) refl tt fits
 
-message_fits : (session : SessionId) (lent : Binary) (element : BodyElement) → CanSession session → LendsSession session lent → FitsBody element
+pub message_fits : (session : SessionId) (lent : Binary) (element : BodyElement) → CanSession session → LendsSession session lent → FitsBody element
     → IsWithin (message_with lent (Some element))
 message_fits session lent element can lends fits =
     (((HEADER_KIND, refl, header_held session lent can lends), refl), (((BODY_KIND, refl, body_held element fits), refl), tt))

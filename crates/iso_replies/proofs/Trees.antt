@@ -1,13 +1,11 @@
 -- The messages of a reply are of one tree.
-use Rattle.std.proofs.Common.{◌≡◌, ℕ, Bool, List, [], ◌∷◌, Option, Some, None, pos, refl, sym, ap, ap₂, ◌∙◌}
-use Rattle.std.specs.Str.{chars}
+use Rattle.std.proofs.Common.{◌≡◌, ℕ, List, [], ◌∷◌, Option, Some, None, refl, sym, ap, ap₂, ◌∙◌}
 use Rattle.exi_bits.specs.Lent.{items_of}
-use Rattle.exi_documents.specs.Trees.{Tree, Ordinal, Bytes, Number, Truth, Text as TreeText}
-use Rattle.message_parts.specs.Contents.{Inside, Of, Part, one, perhaps, perhaps_one, mapped, holding, root_of}
+use Rattle.exi_documents.specs.Trees.{Tree, Bytes}
+use Rattle.message_parts.specs.Contents.{Inside, Of, one, holding, root_of}
 use Rattle.message_parts.specs.declared.texts.Binary.{Binary}
 use Rattle.message_parts.specs.declared.texts.Text.{Text}
 use Rattle.message_parts.specs.Texts.{chars_of}
-use Rattle.session_words.specs.declared.amount.Amount.{Amount}
 use Rattle.session_words.specs.declared.code.Code.{Code}
 use Rattle.session_words.specs.declared.limits.EvseId.{EvseId}
 use Rattle.session_words.specs.declared.limits.EvseId.TheVariants as evse
@@ -15,11 +13,8 @@ use Rattle.session_words.specs.declared.word.Tell.{Tell}
 use Rattle.session_words.specs.declared.word.Tell.TheVariants as tell
 use Rattle.iso_schema.specs.declared.names.TheConstants.{V2G_MESSAGE, HEADER, BODY, SESSION_ID}
 use Rattle.iso_codec.specs.Documents.{iso_tree}
-use Rattle.iso_codec.specs.Message.{body_element_name, body_element_inside, body_parts}
+use Rattle.iso_codec.specs.Message.{body_parts}
 use Rattle.iso_codec.specs.declared.message.BodyElement.{BodyElement}
-use Rattle.iso_codec.specs.declared.message.BodyElement.TheVariants as element
-use Rattle.iso_codec.specs.declared.message.IsoMessage.{IsoMessage}
-use Rattle.iso_values.specs.Codes.{response_code}
 use Rattle.iso_words.specs.Messages.{LendsEvse, LendsIf, LendsTell, reply_element, message_with}
 use Rattle.iso_replies.specs.Replies.{RepliesHaveOneTree}
 
@@ -35,7 +30,7 @@ same_if (Some id) here there a b = same_evse id here there a b
 
 -- ---- elements
 
-abbrev inside : BodyElement → Inside
+abbrev pub inside : BodyElement → Inside
 inside element = holding (body_parts (record { element = Some element }))
 
 same_inside : (code : Code) (t : Tell) (here there : Text) → LendsTell t here → LendsTell t there
@@ -58,7 +53,7 @@ same_inside code tell.SessionStop here there a b = refl
 -- ---- messages
 
 -- the tree under an identifier of these bytes
-abbrev tree_of : List ℕ → Inside → Tree
+abbrev pub tree_of : List ℕ → Inside → Tree
 tree_of bytes inside =
     root_of V2G_MESSAGE (holding (one HEADER (holding (one SESSION_ID (Of (Bytes bytes)) ∷ [])) ∷ one BODY inside ∷ []))
 

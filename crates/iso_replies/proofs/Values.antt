@@ -1,12 +1,12 @@
 -- Physical values and statuses that replies contain hold what is declared.
-use Rattle.std.proofs.Common.{◌≡◌, ℕ, ◌<◌, ◌≤◌, Bool, List, [], ◌∷◌, Option, Some, None, ℤ, pos, refl, lit≤}
+use Rattle.std.proofs.Common.{ℕ, [], Option, Some, None, refl, lit≤}
 use Rattle.std.specs.Prelude.{IfSome}
 use Rattle.std.specs.Option.{option_map}
 use Rattle.charge_world.specs.declared.heard.IsolationLevel.{IsolationLevel as Isolation}
-use Rattle.exi_schema.specs.Plain.{PlainParticle, perhaps as optional}
+use Rattle.exi_schema.specs.Plain.{perhaps as optional}
 use Rattle.exi_documents.specs.Trees.{Ordinal}
-use Rattle.message_parts.specs.Contents.{Inside, Part, Of, perhaps, mapped, holding}
-use Rattle.fitting_parts.specs.Fitting.{HoldsTrees, FitsParts, FitsPart}
+use Rattle.message_parts.specs.Contents.{Of, perhaps, mapped, holding}
+use Rattle.fitting_parts.specs.Fitting.{HoldsTrees, FitsPart}
 use Rattle.fitting_parts.proofs.Fitted.{holding_held}
 use Rattle.session_words.specs.declared.amount.Amount.{Amount}
 use Rattle.session_words.specs.declared.code.Notify.{Notify}
@@ -23,7 +23,7 @@ use Rattle.iso_values.specs.States.{isolation_level}
 use Rattle.iso_values.specs.Statuses.{ac_evse_status, dc_evse_status}
 use Rattle.iso_words.specs.ParameterMessages.{power_or_none}
 use Rattle.iso_words.specs.Spellable.{AreTenths, AreWatts, IsSomeWatts}
-use Rattle.written_parts.proofs.Numbers.{IsPhysical, tenths_fit, volts_fit, watts_fit, none_fits}
+use Rattle.written_parts.proofs.Numbers.{IsPhysical, tenths_fit, volts_fit, watts_fit}
 use Rattle.written_parts.proofs.Parts.{perhaps_held}
 use Rattle.iso_replies.proofs.Simple.{truth, multiplier, short, unsigned_short, unit_symbol, notified, isolation, status_code}
 
@@ -36,8 +36,10 @@ pub physical_held : (v : PhysicalValue) → IsPhysical v.multiplier v.value → 
 physical_held v fits =
     holding_held kinds PHYSICAL_VALUE_KIND [] physical_value [] (physical_value_parts v) refl tt (
       ((MULTIPLIER_KIND, refl, multiplier v.multiplier fits.multiplier_fits), refl),
-      (((UNIT_SYMBOL_KIND, refl, unit_symbol v.unit), refl),
-      (((SHORT_KIND, refl, short v.value fits.value_fits), refl), tt)),
+      (
+        ((UNIT_SYMBOL_KIND, refl, unit_symbol v.unit), refl),
+        (((SHORT_KIND, refl, short v.value fits.value_fits), refl), tt),
+      ),
     )
 
 pub voltage_held : (a : Amount) → AreTenths a → HoldsPhysical (voltage_of a)
@@ -79,8 +81,10 @@ ac_status_held notify =
     let s = ac_evse_status notify in
     holding_held kinds AC_EVSE_STATUS_KIND [] ac_status_particles [] (ac_evse_status_parts s) refl tt (
       ((UNSIGNED_SHORT_KIND, refl, unsigned_short 0 (lit≤ tt)), refl),
-      (((EVSE_NOTIFICATION_KIND, refl, notified s.evse_notification), refl),
-      (((BOOLEAN_KIND, refl, truth s.rcd), refl), tt)),
+      (
+        ((EVSE_NOTIFICATION_KIND, refl, notified s.evse_notification), refl),
+        (((BOOLEAN_KIND, refl, truth s.rcd), refl), tt),
+      ),
     )
 
 levels_fit : (l : Option Isolation) → FitsPart kinds (optional EVSE_ISOLATION_STATUS ISOLATION_LEVEL_KIND)
@@ -93,6 +97,8 @@ dc_status_held status =
     let s = dc_evse_status status in
     holding_held kinds DC_EVSE_STATUS_KIND [] dc_status_particles [] (dc_evse_status_parts s) refl tt (
       ((UNSIGNED_SHORT_KIND, refl, unsigned_short 0 (lit≤ tt)), refl),
-      (((EVSE_NOTIFICATION_KIND, refl, notified s.evse_notification), refl),
-      (levels_fit status.isolation, (((EVSE_STATUS_CODE_KIND, refl, status_code s.evse_status_code), refl), tt))),
+      (
+        ((EVSE_NOTIFICATION_KIND, refl, notified s.evse_notification), refl),
+        (levels_fit status.isolation, (((EVSE_STATUS_CODE_KIND, refl, status_code s.evse_status_code), refl), tt)),
+      ),
     )

@@ -1,12 +1,11 @@
 -- ISO 15118-2:2014, 8.4.3.8: what the charge parameters of a post weigh, with schedule tuples of so many entries.
-use Rattle.std.proofs.Common.{◌≡◌, ℕ, zero, suc, ◌+◌, ◌*◌, ◌≤◌, List, [], ◌∷◌, length, map, All, Option, Some, None, arith, refl}
+use Rattle.std.proofs.Common.{◌≡◌, ℕ, zero, suc, ◌+◌, ◌*◌, ◌≤◌, List, length, map, All, Option, Some, None, arith, refl}
 use Rattle.std.specs.Prelude.{IfSome}
 use Rattle.std.specs.List.{range_with_len}
 use Rattle.arrayvec.specs.ArrayVec.{ArrayVec}
-use Rattle.message_parts.specs.Contents.{Inside, mapped, holding}
+use Rattle.message_parts.specs.Contents.{mapped, holding}
 use Rattle.document_sizes.specs.Sizes.{inside_weight, each_weight, choice_weight}
 use Rattle.document_sizes.proofs.Parts.{plain_sum}
-use Rattle.session_words.specs.declared.amount.Amount.{Amount}
 use Rattle.session_words.specs.declared.code.Processing.{Processing}
 use Rattle.session_words.specs.declared.limits.PostLimits.{PostLimits}
 use Rattle.session_words.specs.declared.limits.PostLimits.TheVariants as post
@@ -19,9 +18,8 @@ use Rattle.iso_parameters.specs.Schedules.{p_max_schedule_entry_parts, p_max_sch
 use Rattle.iso_parameters.specs.declared.schedules.SaScheduleList.{SaScheduleList}
 use Rattle.iso_values.specs.Physical.{power_of}
 use Rattle.iso_words.specs.ParameterMessages.{evse_parameter, entry_at, schedule_tuple, schedules_if, parameters_res}
-use Rattle.iso_words.specs.Spellable.{CanPostLimits}
 use Rattle.written_sizes.proofs.Parts.{three_light}
-use Rattle.iso_reply_sizes.proofs.Values.{physical_weight, ac_status_weight, dc_status_light}
+use Rattle.iso_reply_sizes.proofs.Values.{ac_status_weight, dc_status_light}
 
 -- ---- schedules
 

@@ -1,6 +1,6 @@
 -- ISO 15118-2:2014, 8.4.3.9, 8.4.4 and 8.4.5: what replies of charging weigh.
-use Rattle.std.proofs.Common.{◌≡◌, ℕ, ◌+◌, ◌≤◌, Bool, List, [], ◌∷◌, Option, Some, None, arith, refl}
-use Rattle.message_parts.specs.Contents.{Inside, holding}
+use Rattle.std.proofs.Common.{◌≤◌, Bool, Option, arith}
+use Rattle.message_parts.specs.Contents.{holding}
 use Rattle.message_parts.specs.declared.texts.Text.{Text}
 use Rattle.document_sizes.specs.Sizes.{inside_weight}
 use Rattle.document_sizes.proofs.Parts.{plain_sum}

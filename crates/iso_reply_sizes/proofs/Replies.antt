@@ -1,8 +1,7 @@
 -- The encoding of each reply is small.
-use Rattle.std.proofs.Common.{◌≡◌, ℕ, ◌+◌, ◌*◌, ◌≤◌, List, [], ◌∷◌, length, All, Option, Some, None, arith, refl, sym, subst}
+use Rattle.std.proofs.Common.{ℕ, ◌+◌, ◌*◌, ◌≤◌, List, All, Option, Some, None, arith, sym, subst}
 use Rattle.std.specs.Prelude.{IfSome}
 use Rattle.arrayvec.specs.ArrayVec.{ArrayVec}
-use Rattle.message_parts.specs.Contents.{Inside, holding}
 use Rattle.message_parts.specs.declared.texts.Binary.{Binary}
 use Rattle.message_parts.specs.declared.texts.Text.{Text}
 use Rattle.document_sizes.specs.Sizes.{inside_weight, document_weight}
@@ -18,7 +17,7 @@ use Rattle.session_words.specs.declared.word.Tell.TheVariants as tell
 use Rattle.session_words.specs.declared.word.Word.TheVariants as word
 use Rattle.iso_schema.specs.Declarations.{schema}
 use Rattle.iso_schema.specs.declared.names.TheConstants.{V2G_MESSAGE}
-use Rattle.iso_codec.specs.Documents.{iso_inside, iso_tree, iso_number, PassesBytes}
+use Rattle.iso_codec.specs.Documents.{iso_inside, iso_tree, iso_number}
 use Rattle.iso_codec.specs.Message.{body_element_inside, body_parts, iso_message_parts}
 use Rattle.iso_codec.specs.declared.message.BodyElement.{BodyElement}
 use Rattle.iso_codec.specs.declared.message.IsoMessage.{IsoMessage}
@@ -39,7 +38,7 @@ tuples_few : (most : ℕ) (schedule : Option (ArrayVec Tuple)) → IfSome schedu
 tuples_few most None can few = tt
 tuples_few most (Some tuples) can few = (can.0.1, few)
 
-abbrev IsLight : ℕ → BodyElement → Type 0
+abbrev pub IsLight : ℕ → BodyElement → Type 0
 IsLight most element = inside_weight 6 (body_element_inside element) ≤ 2300 + 1218 * most
 
 element_light : (most : ℕ) (code : Code) (t : Tell) (lent : Text) → CanTell t → HasEntries most t → LendsTell t lent
@@ -58,8 +57,11 @@ element_light most code (tell.PowerDelivery s) lent can few lends = omega (arith
 element_light most code (tell.CurrentDemand s voltage current current_cut voltage_cut watts_cut most_voltage most_current most_watts None) lent can few lends =
     absurd can.5
 element_light most code (tell.CurrentDemand s voltage current current_cut voltage_cut watts_cut most_voltage most_current most_watts (Some id)) lent can few lends =
-    omega (arith, demand_light (response_code code) s voltage current current_cut voltage_cut watts_cut most_voltage most_current most_watts id lent
-    can.5 lends)
+    omega (
+      arith,
+      demand_light (response_code code) s voltage current current_cut voltage_cut watts_cut most_voltage most_current most_watts id lent
+          can.5 lends,
+    )
 element_light most code (tell.ChargingStatus notify id current) lent can few lends =
     omega (arith, charging_light (response_code code) notify id lent current can.0 lends)
 element_light most code (tell.WeldingDetection s voltage) lent can few lends = omega (arith, welding_light (response_code code) s voltage)
@@ -67,10 +69,10 @@ element_light most code tell.SessionStop lent can few lends = omega (arith, stop
 
 -- ---- messages
 
-abbrev weight_of : IsoMessage → ℕ
+abbrev pub weight_of : IsoMessage → ℕ
 weight_of m = document_weight 6 schema (iso_tree m)
 
-message_light : (most : ℕ) (session : SessionId) (lent : Binary) (element : BodyElement) → CanSession session → LendsSession session lent
+pub message_light : (most : ℕ) (session : SessionId) (lent : Binary) (element : BodyElement) → CanSession session → LendsSession session lent
     → IsLight most element → weight_of (message_with lent (Some element)) ≤ 2500 + 1218 * most
 message_light most session lent element can lends light =
     let m = message_with lent (Some element) in

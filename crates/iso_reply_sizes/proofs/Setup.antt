@@ -1,7 +1,7 @@
 -- ISO 15118-2:2014, 8.4.3: what replies that set up a session weigh.
-use Rattle.std.proofs.Common.{◌≡◌, ℕ, ◌+◌, ◌*◌, ◌≤◌, Bool, List, [], ◌∷◌, length, arith, refl}
+use Rattle.std.proofs.Common.{ℕ, ◌≤◌, Bool, List, length, arith, refl}
 use Rattle.exi_documents.specs.Trees.{Ordinal}
-use Rattle.message_parts.specs.Contents.{Inside, Of, holding}
+use Rattle.message_parts.specs.Contents.{Of, holding}
 use Rattle.message_parts.specs.declared.texts.Text.{Text}
 use Rattle.document_sizes.specs.Sizes.{inside_weight}
 use Rattle.document_sizes.proofs.Parts.{plain_sum}
@@ -12,11 +12,11 @@ use Rattle.iso_parts.specs.Codes.{energy_transfer_mode_ordinal}
 use Rattle.iso_parts.specs.declared.codes.ResponseCode.{ResponseCode}
 use Rattle.iso_setup.specs.Details.{service_detail_res_parts}
 use Rattle.iso_setup.specs.Selection.{payment_service_selection_res_parts}
-use Rattle.iso_setup.specs.Services.{supported_energy_transfer_mode_parts, charge_service_parts, payment_option_list_parts, service_discovery_res_parts}
+use Rattle.iso_setup.specs.Services.{supported_energy_transfer_mode_parts, charge_service_parts, service_discovery_res_parts}
 use Rattle.iso_setup.specs.Session.{session_setup_res_parts, authorization_res_parts, session_stop_res_parts}
 use Rattle.iso_values.specs.Modes.{offered_mode}
 use Rattle.iso_words.specs.Messages.{LendsEvse}
-use Rattle.iso_words.specs.SetupMessages.{setup_res, charge_service, external_payment, discovery_res, detail_res, authorization_res}
+use Rattle.iso_words.specs.SetupMessages.{setup_res, charge_service, discovery_res, detail_res, authorization_res}
 use Rattle.iso_words.specs.Spellable.{CanEvse}
 use Rattle.written_sizes.proofs.Parts.{names_light}
 use Rattle.iso_reply_sizes.proofs.Values.{evse_few}
