@@ -1,10 +1,10 @@
 -- DIN SPEC 70121:2014: the charge parameters of a post, with its schedules, hold what is declared.
-use Rattle.std.proofs.Common.{◌≡◌, ℕ, ◌+◌, ◌<◌, ◌≤◌, Bool, List, [], ◌∷◌, length, map, All, Option, Some, None, pos, arith, refl, lit≤}
+use Rattle.std.proofs.Common.{ℕ, ◌≤◌, List, [], ◌∷◌, length, map, Option, Some, None, pos, arith, refl, lit≤}
 use Rattle.std.specs.Prelude.{IfSome}
 use Rattle.arrayvec.specs.ArrayVec.{ArrayVec}
 use Rattle.exi_schema.specs.declared.tables.MemberStanding.TheVariants.{Abstract, OutOfProfile}
-use Rattle.exi_schema.specs.Plain.{PlainParticle, one_of, standing, up_to, at_least_one, choice, perhaps_choice}
-use Rattle.message_parts.specs.Contents.{Inside, Part, one, perhaps_one, mapped, holding}
+use Rattle.exi_schema.specs.Plain.{PlainParticle, one_of, standing, at_least_one, choice, perhaps_choice}
+use Rattle.message_parts.specs.Contents.{one, perhaps_one, mapped, holding}
 use Rattle.fitting_parts.specs.Fitting.{HoldsTrees, FitsPart}
 use Rattle.fitting_parts.proofs.Fitted.{holding_held}
 use Rattle.session_words.specs.declared.amount.Amount.{Amount}
@@ -18,7 +18,6 @@ use Rattle.din_schema.specs.Parameters.{charge_parameter_discovery_res, sa_sched
 use Rattle.din_schema.specs.declared.names.TheConstants.{SA_SCHEDULE_LIST, SA_SCHEDULES, SA_SCHEDULE_TUPLE, P_MAX_SCHEDULE_ENTRY, AC_EVSE_CHARGE_PARAMETER, DC_EVSE_CHARGE_PARAMETER, EVSE_CHARGE_PARAMETER, EVSE_MAXIMUM_POWER_LIMIT}
 use Rattle.din_schema.specs.declared.kinds.TheConstants.{EMPTY_KIND, SHORT_KIND, UNSIGNED_INT_KIND, RESPONSE_CODE_KIND, EVSE_PROCESSING_KIND, PHYSICAL_VALUE_KIND, DC_EVSE_STATUS_KIND, CHARGE_PARAMETER_DISCOVERY_RES_KIND, SA_SCHEDULE_LIST_KIND, SA_SCHEDULE_TUPLE_KIND, P_MAX_SCHEDULE_KIND, P_MAX_SCHEDULE_ENTRY_KIND, RELATIVE_TIME_INTERVAL_KIND, DC_EVSE_CHARGE_PARAMETER_KIND}
 use Rattle.din_parts.specs.declared.codes.ResponseCode.{ResponseCode}
-use Rattle.din_parts.specs.declared.values.PhysicalValue.{PhysicalValue}
 use Rattle.din_power.specs.Discovery.{charge_parameter_discovery_res_parts}
 use Rattle.din_power.specs.Limits.{dc_evse_charge_parameter_parts, evse_charge_parameter_name, evse_charge_parameter_inside}
 use Rattle.din_power.specs.Schedules.{relative_time_interval_parts, p_max_schedule_entry_parts, p_max_schedule_parts, sa_schedule_tuple_parts, sa_schedule_list_parts, sa_schedules_name, sa_schedules_inside}
@@ -63,17 +62,22 @@ schedule_held t can =
     let particle = at_least_one 128 P_MAX_SCHEDULE_ENTRY P_MAX_SCHEDULE_ENTRY_KIND in
     holding_held kinds P_MAX_SCHEDULE_KIND [] p_max_schedule [] (p_max_schedule_parts ((schedule_tuple t).p_max_schedule)) refl tt (
       ((SHORT_KIND, refl, short (pos 1) (value_few 1 (lit≤ tt))), refl),
-      (range_held kinds particle P_MAX_SCHEDULE_ENTRY (λ x. holding (p_max_schedule_entry_parts x)) (entry_at (watts_of t.least)) 128
-      (λ from few. (P_MAX_SCHEDULE_ENTRY_KIND, refl, entry_held t.least.size can.least.few from few)) t.entries can.entries.1
-      (at_least_one_takes 128 P_MAX_SCHEDULE_ENTRY P_MAX_SCHEDULE_ENTRY_KIND t.entries can.entries.0 can.entries.1), tt),
+      (
+        range_held kinds particle P_MAX_SCHEDULE_ENTRY (λ x. holding (p_max_schedule_entry_parts x)) (entry_at (watts_of t.least)) 128
+            (λ from few. (P_MAX_SCHEDULE_ENTRY_KIND, refl, entry_held t.least.size can.least.few from few)) t.entries can.entries.1
+            (at_least_one_takes 128 P_MAX_SCHEDULE_ENTRY P_MAX_SCHEDULE_ENTRY_KIND t.entries can.entries.0 can.entries.1),
+        tt,
+      ),
     )
 
 tuple_held : (t : Tuple) → CanTuple t → HoldsTrees kinds SA_SCHEDULE_TUPLE_KIND (holding (sa_schedule_tuple_parts (schedule_tuple t)))
 tuple_held t can =
     holding_held kinds SA_SCHEDULE_TUPLE_KIND [] sa_schedule_tuple [] (sa_schedule_tuple_parts (schedule_tuple t)) refl tt (
       ((SHORT_KIND, refl, short t.id can.id), refl),
-      (((P_MAX_SCHEDULE_KIND, refl, schedule_held t can), refl),
-      (refl, tt)),
+      (
+        ((P_MAX_SCHEDULE_KIND, refl, schedule_held t can), refl),
+        (refl, tt),
+      ),
     )
 
 abbrev list_of : List Tuple → SaScheduleList
@@ -84,8 +88,8 @@ list_held tuples can =
     let particle = at_least_one 3 SA_SCHEDULE_TUPLE SA_SCHEDULE_TUPLE_KIND in
     holding_held kinds SA_SCHEDULE_LIST_KIND [] sa_schedule_list [] (sa_schedule_list_parts (list_of tuples.items)) refl tt (
       each_held kinds particle SA_SCHEDULE_TUPLE (λ x. holding (sa_schedule_tuple_parts x)) schedule_tuple CanTuple
-      (λ t h. (SA_SCHEDULE_TUPLE_KIND, refl, tuple_held t h)) tuples.items can.1
-      (at_least_one_takes 3 SA_SCHEDULE_TUPLE SA_SCHEDULE_TUPLE_KIND (length tuples.items) can.0.0 can.0.1),
+          (λ t h. (SA_SCHEDULE_TUPLE_KIND, refl, tuple_held t h)) tuples.items can.1
+          (at_least_one_takes 3 SA_SCHEDULE_TUPLE SA_SCHEDULE_TUPLE_KIND (length tuples.items) can.0.0 can.0.1),
       tt,
     )
 
@@ -128,19 +132,36 @@ dc_limits status current watts voltage least_current least_voltage ripple = reco
 pub limits_fit : (l : PostLimits) → CanPostLimits l → FitLimits (parameter_if l)
 limits_fit (limits.Ac notify nominal current) can = tt
 limits_fit (limits.Dc status current watts voltage least_current least_voltage ripple) can = (
-  (DC_EVSE_CHARGE_PARAMETER_KIND, refl,
-  holding_held kinds DC_EVSE_CHARGE_PARAMETER_KIND [] dc_evse_charge_parameter []
-  (dc_evse_charge_parameter_parts (dc_limits status current watts voltage least_current least_voltage ripple)) refl tt (
-    ((DC_EVSE_STATUS_KIND, refl, dc_status_held status), refl),
-    (((PHYSICAL_VALUE_KIND, refl, tenths_held current can.1), refl),
-    (powers_fit EVSE_MAXIMUM_POWER_LIMIT watts can.2,
-    (((PHYSICAL_VALUE_KIND, refl, tenths_held voltage can.3), refl),
-    (((PHYSICAL_VALUE_KIND, refl, tenths_held least_current can.4), refl),
-    (((PHYSICAL_VALUE_KIND, refl, tenths_held least_voltage can.5), refl),
-    (refl,
-    (((PHYSICAL_VALUE_KIND, refl, tenths_held ripple can.6), refl),
-    (refl, tt)))))))),
-  )),
+  (
+    DC_EVSE_CHARGE_PARAMETER_KIND,
+    refl,
+    holding_held kinds DC_EVSE_CHARGE_PARAMETER_KIND [] dc_evse_charge_parameter []
+        (dc_evse_charge_parameter_parts (dc_limits status current watts voltage least_current least_voltage ripple)) refl tt (
+          ((DC_EVSE_STATUS_KIND, refl, dc_status_held status), refl),
+          (
+            ((PHYSICAL_VALUE_KIND, refl, tenths_held current can.1), refl),
+            (
+              powers_fit EVSE_MAXIMUM_POWER_LIMIT watts can.2,
+              (
+                ((PHYSICAL_VALUE_KIND, refl, tenths_held voltage can.3), refl),
+                (
+                  ((PHYSICAL_VALUE_KIND, refl, tenths_held least_current can.4), refl),
+                  (
+                    ((PHYSICAL_VALUE_KIND, refl, tenths_held least_voltage can.5), refl),
+                    (
+                      refl,
+                      (
+                        ((PHYSICAL_VALUE_KIND, refl, tenths_held ripple can.6), refl),
+                        (refl, tt),
+                      ),
+                    ),
+                  ),
+                ),
+              ),
+            ),
+          ),
+        ),
+  ),
   refl,
 )
 
@@ -151,6 +172,8 @@ parameters_held code processing schedule parameter tuples fits =
     holding_held kinds CHARGE_PARAMETER_DISCOVERY_RES_KIND [] charge_parameter_discovery_res []
     (charge_parameter_discovery_res_parts (parameters_res code processing schedule parameter)) refl tt (
       ((RESPONSE_CODE_KIND, refl, response code), refl),
-      (((EVSE_PROCESSING_KIND, refl, progress (evse_processing processing)), refl),
-      (schedules_fit schedule tuples, (fits, tt))),
+      (
+        ((EVSE_PROCESSING_KIND, refl, progress (evse_processing processing)), refl),
+        (schedules_fit schedule tuples, (fits, tt)),
+      ),
     )

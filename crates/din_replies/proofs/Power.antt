@@ -1,8 +1,7 @@
 -- DIN SPEC 70121:2014: replies of charging hold what is declared.
-use Rattle.std.proofs.Common.{◌≡◌, ℕ, ◌<◌, ◌≤◌, Bool, List, [], ◌∷◌, Option, Some, None, pos, ◌≤ℤ◌, arith, refl, lit≤}
+use Rattle.std.proofs.Common.{Bool, [], Option, refl}
 use Rattle.std.specs.Prelude.{IfSome}
-use Rattle.exi_schema.specs.Plain.{PlainParticle}
-use Rattle.message_parts.specs.Contents.{Inside, Part, one, holding}
+use Rattle.message_parts.specs.Contents.{holding}
 use Rattle.fitting_parts.specs.Fitting.{HoldsTrees}
 use Rattle.fitting_parts.proofs.Fitted.{holding_held}
 use Rattle.session_words.specs.declared.amount.Amount.{Amount}
@@ -39,8 +38,10 @@ pub cable_check_held : (code : ResponseCode) (s : DcStatus) (processing : Proces
 cable_check_held code s processing =
     holding_held kinds CABLE_CHECK_RES_KIND [] cable_check_particles [] (cable_check_res_parts (cable_check_res code s processing)) refl tt (
       ((RESPONSE_CODE_KIND, refl, response code), refl),
-      (((DC_EVSE_STATUS_KIND, refl, dc_status_held s), refl),
-      (((EVSE_PROCESSING_KIND, refl, progress (evse_processing processing)), refl), tt)),
+      (
+        ((DC_EVSE_STATUS_KIND, refl, dc_status_held s), refl),
+        (((EVSE_PROCESSING_KIND, refl, progress (evse_processing processing)), refl), tt),
+      ),
     )
 
 pub pre_charge_held : (code : ResponseCode) (s : DcStatus) (voltage : Amount) → AreTenths voltage
@@ -48,8 +49,10 @@ pub pre_charge_held : (code : ResponseCode) (s : DcStatus) (voltage : Amount) �
 pre_charge_held code s voltage can =
     holding_held kinds PRE_CHARGE_RES_KIND [] pre_charge_particles [] (pre_charge_res_parts (pre_charge_res code s voltage)) refl tt (
       ((RESPONSE_CODE_KIND, refl, response code), refl),
-      (((DC_EVSE_STATUS_KIND, refl, dc_status_held s), refl),
-      (((PHYSICAL_VALUE_KIND, refl, tenths_held voltage can), refl), tt)),
+      (
+        ((DC_EVSE_STATUS_KIND, refl, dc_status_held s), refl),
+        (((PHYSICAL_VALUE_KIND, refl, tenths_held voltage can), refl), tt),
+      ),
     )
 
 pub welding_held : (code : ResponseCode) (s : DcStatus) (voltage : Amount) → AreTenths voltage
@@ -57,8 +60,10 @@ pub welding_held : (code : ResponseCode) (s : DcStatus) (voltage : Amount) → A
 welding_held code s voltage can =
     holding_held kinds WELDING_DETECTION_RES_KIND [] welding_detection_res [] (welding_detection_res_parts (welding_res code s voltage)) refl tt (
       ((RESPONSE_CODE_KIND, refl, response code), refl),
-      (((DC_EVSE_STATUS_KIND, refl, dc_status_held s), refl),
-      (((PHYSICAL_VALUE_KIND, refl, tenths_held voltage can), refl), tt)),
+      (
+        ((DC_EVSE_STATUS_KIND, refl, dc_status_held s), refl),
+        (((PHYSICAL_VALUE_KIND, refl, tenths_held voltage can), refl), tt),
+      ),
     )
 
 pub demand_held : (code : ResponseCode) (s : DcStatus) (voltage current : Amount) (current_cut voltage_cut watts_cut : Bool)
@@ -70,13 +75,29 @@ demand_held code s voltage current current_cut voltage_cut watts_cut most_voltag
     holding_held kinds CURRENT_DEMAND_RES_KIND [] current_demand_res []
     (current_demand_res_parts (demand_res code s voltage current current_cut voltage_cut watts_cut most_voltage most_current most_watts)) refl tt (
       ((RESPONSE_CODE_KIND, refl, response code), refl),
-      (((DC_EVSE_STATUS_KIND, refl, dc_status_held s), refl),
-      (((PHYSICAL_VALUE_KIND, refl, tenths_held voltage v), refl),
-      (((PHYSICAL_VALUE_KIND, refl, tenths_held current c), refl),
-      (((BOOLEAN_KIND, refl, truth current_cut), refl),
-      (((BOOLEAN_KIND, refl, truth voltage_cut), refl),
-      (((BOOLEAN_KIND, refl, truth watts_cut), refl),
-      (some_tenths_fit EVSE_MAXIMUM_VOLTAGE_LIMIT most_voltage mv,
-      (some_tenths_fit EVSE_MAXIMUM_CURRENT_LIMIT most_current mc,
-      (powers_fit EVSE_MAXIMUM_POWER_LIMIT most_watts mw, tt))))))))),
+      (
+        ((DC_EVSE_STATUS_KIND, refl, dc_status_held s), refl),
+        (
+          ((PHYSICAL_VALUE_KIND, refl, tenths_held voltage v), refl),
+          (
+            ((PHYSICAL_VALUE_KIND, refl, tenths_held current c), refl),
+            (
+              ((BOOLEAN_KIND, refl, truth current_cut), refl),
+              (
+                ((BOOLEAN_KIND, refl, truth voltage_cut), refl),
+                (
+                  ((BOOLEAN_KIND, refl, truth watts_cut), refl),
+                  (
+                    some_tenths_fit EVSE_MAXIMUM_VOLTAGE_LIMIT most_voltage mv,
+                    (
+                      some_tenths_fit EVSE_MAXIMUM_CURRENT_LIMIT most_current mc,
+                      (powers_fit EVSE_MAXIMUM_POWER_LIMIT most_watts mw, tt),
+                    ),
+                  ),
+                ),
+              ),
+            ),
+          ),
+        ),
+      ),
     )

@@ -1,11 +1,10 @@
 -- The message of each reply holds what is declared.
-use Rattle.std.proofs.Common.{◌≡◌, ℕ, List, [], ◌∷◌, Option, Some, None, refl, sym, subst, ◌∙◌, ap}
+use Rattle.std.proofs.Common.{[], Option, Some, None, refl, sym, subst}
 use Rattle.std.specs.Prelude.{IfSome}
 use Rattle.arrayvec.specs.ArrayVec.{ArrayVec}
-use Rattle.exi_schema.specs.Plain.{PlainParticle}
-use Rattle.message_parts.specs.Contents.{Part, perhaps_one, holding}
+use Rattle.message_parts.specs.Contents.{holding}
 use Rattle.message_parts.specs.declared.texts.Binary.{Binary}
-use Rattle.fitting_parts.specs.Fitting.{HoldsTrees, FitsPart, FitsParts}
+use Rattle.fitting_parts.specs.Fitting.{HoldsTrees, FitsParts}
 use Rattle.fitting_parts.proofs.Fitted.{holding_held}
 use Rattle.session_words.specs.declared.code.Code.{Code}
 use Rattle.session_words.specs.declared.code.Processing.{Processing}
@@ -21,10 +20,8 @@ use Rattle.din_schema.specs.declared.kinds.TheConstants.{BINARY8_KIND, HEADER_KI
 use Rattle.din_parts.specs.Frame.{header_parts}
 use Rattle.din_power.specs.declared.limits.EvseChargeParameter.{EvseChargeParameter}
 use Rattle.din_codec.specs.Documents.{IsWithin}
-use Rattle.din_codec.specs.Message.{body_element_name, body_element_inside, body_parts}
-use Rattle.din_codec.specs.declared.message.Body.{Body}
+use Rattle.din_codec.specs.Message.{body_parts}
 use Rattle.din_codec.specs.declared.message.BodyElement.{BodyElement}
-use Rattle.din_codec.specs.declared.message.DinMessage.{DinMessage}
 use Rattle.din_values.specs.Codes.{response_code}
 use Rattle.din_words.specs.Messages.{LendsTell, LendsSession, delivery_reply, parameter_if, parameters_reply, reply_element, message_with}
 use Rattle.din_words.specs.Spellable.{CanSession, CanTuples, CanTell}
@@ -38,7 +35,7 @@ abbrev pub FitsBody : BodyElement → Type 0
 FitsBody element = FitsParts kinds body (body_parts (record { element = Some element }))
 
 -- where DIN has a message for it
-abbrev FitsBodyIf : Option BodyElement → Type 0
+abbrev pub FitsBodyIf : Option BodyElement → Type 0
 FitsBodyIf None = Unit {0}
 FitsBodyIf (Some element) = FitsBody element
 
@@ -69,9 +66,18 @@ element_fits code (tell.CableCheck s processing) lent can lends =
 element_fits code (tell.PreCharge s voltage) lent can lends =
     (((PRE_CHARGE_RES_KIND, refl, pre_charge_held (response_code code) s voltage can.1), refl), tt)
 element_fits code (tell.PowerDelivery s) lent can lends = delivery_fits code s
-element_fits code (tell.CurrentDemand s voltage current current_cut voltage_cut watts_cut most_voltage most_current most_watts id) lent can lends =
-    (((CURRENT_DEMAND_RES_KIND, refl, demand_held (response_code code) s voltage current current_cut voltage_cut watts_cut most_voltage most_current
-    most_watts can.1 can.2 can.3 can.4 can.5), refl), tt)
+element_fits code (tell.CurrentDemand s voltage current current_cut voltage_cut watts_cut most_voltage most_current most_watts id) lent can lends = (
+  (
+    (
+      CURRENT_DEMAND_RES_KIND,
+      refl,
+      demand_held (response_code code) s voltage current current_cut voltage_cut watts_cut most_voltage most_current
+          most_watts can.1 can.2 can.3 can.4 can.5,
+    ),
+    refl,
+  ),
+  tt,
+)
 element_fits code (tell.ChargingStatus notify id current) lent can lends = tt
 element_fits code (tell.WeldingDetection s voltage) lent can lends =
     (((WELDING_DETECTION_RES_KIND, refl, welding_held (response_code code) s voltage can.1), refl), tt)
@@ -85,8 +91,10 @@ header_held : (session : SessionId) (lent : Binary) → CanSession session → L
 header_held session lent can lends =
     holding_held kinds HEADER_KIND [] header [] (header_parts (record { session_id = lent; notification = None })) refl tt (
       ((BINARY8_KIND, refl, identifier session lent can lends), refl),
-      (refl,
-      (refl, tt)),
+      (
+        refl,
+        (refl, tt),
+      ),
     )
 
 body_held : (element : BodyElement) → FitsBody element → HoldsTrees kinds BODY_KIND (holding (body_parts (record { element = Some element })))

@@ -1,10 +1,8 @@
 -- DIN SPEC 70121:2014: replies that set up a session hold what is declared.
-use Rattle.std.proofs.Common.{◌≡◌, ℕ, ◌<◌, ◌≤◌, Bool, IsTrue, List, [], ◌∷◌, length, All, Option, Some, None, pos, refl, lit≤}
-use Rattle.exi_schema.specs.Plain.{PlainParticle, up_to}
-use Rattle.exi_documents.specs.Trees.{Ordinal}
-use Rattle.message_parts.specs.Contents.{Inside, Part, Of, each, holding}
+use Rattle.std.proofs.Common.{Bool, List, [], refl, lit≤}
+use Rattle.message_parts.specs.Contents.{holding}
 use Rattle.message_parts.specs.declared.texts.Binary.{Binary}
-use Rattle.fitting_parts.specs.Fitting.{HoldsTrees, FitsElement, FitsPart}
+use Rattle.fitting_parts.specs.Fitting.{HoldsTrees}
 use Rattle.fitting_parts.proofs.Fitted.{holding_held}
 use Rattle.session_words.specs.declared.code.Processing.{Processing}
 use Rattle.session_words.specs.declared.limits.EvseId.{EvseId}
@@ -30,7 +28,7 @@ use Rattle.din_replies.proofs.Simple.{truth, unsigned_short, evse_id, response, 
 payments_held : HoldsTrees kinds PAYMENT_OPTIONS_KIND (holding (payment_options_parts external_payment))
 payments_held =
     holding_held kinds PAYMENT_OPTIONS_KIND [] payment_options [] (payment_options_parts external_payment) refl tt (
-      ((((PAYMENT_OPTION_KIND, refl, payment_option ExternalPayment), tt), refl), tt)
+    ((((PAYMENT_OPTION_KIND, refl, payment_option ExternalPayment), tt), refl), tt)
     )
 
 tag_held : (free : Bool) (modes : List OfferedMode)
@@ -38,9 +36,13 @@ tag_held : (free : Bool) (modes : List OfferedMode)
 tag_held free modes =
     holding_held kinds SERVICE_TAG_KIND [] service_tag [] (service_tag_parts ((charge_service free modes).service_tag)) refl tt (
       ((UNSIGNED_SHORT_KIND, refl, unsigned_short 1 (lit≤ tt)), refl),
-      (refl,
-      (((SERVICE_CATEGORY_KIND, refl, service_category EvCharging), refl),
-      (refl, tt))),
+      (
+        refl,
+        (
+          ((SERVICE_CATEGORY_KIND, refl, service_category EvCharging), refl),
+          (refl, tt),
+        ),
+      ),
     )
 
 service_held : (free : Bool) (modes : List OfferedMode)
@@ -48,8 +50,10 @@ service_held : (free : Bool) (modes : List OfferedMode)
 service_held free modes =
     holding_held kinds CHARGE_SERVICE_KIND [] charge_service_particles [] (charge_service_parts (charge_service free modes)) refl tt (
       ((SERVICE_TAG_KIND, refl, tag_held free modes), refl),
-      (((BOOLEAN_KIND, refl, truth free), refl),
-      (((SUPPORTED_ENERGY_TRANSFER_TYPE_KIND, refl, transfer_type (offered_mode (first_mode modes))), refl), tt)),
+      (
+        ((BOOLEAN_KIND, refl, truth free), refl),
+        (((SUPPORTED_ENERGY_TRANSFER_TYPE_KIND, refl, transfer_type (offered_mode (first_mode modes))), refl), tt),
+      ),
     )
 
 pub discovery_held : (code : ResponseCode) (free : Bool) (modes : List OfferedMode)
@@ -57,9 +61,13 @@ pub discovery_held : (code : ResponseCode) (free : Bool) (modes : List OfferedMo
 discovery_held code free modes =
     holding_held kinds SERVICE_DISCOVERY_RES_KIND [] service_discovery_res [] (service_discovery_res_parts (discovery_res code free modes)) refl tt (
       ((RESPONSE_CODE_KIND, refl, response code), refl),
-      (((PAYMENT_OPTIONS_KIND, refl, payments_held), refl),
-      (((CHARGE_SERVICE_KIND, refl, service_held free modes), refl),
-      (refl, tt))),
+      (
+        ((PAYMENT_OPTIONS_KIND, refl, payments_held), refl),
+        (
+          ((CHARGE_SERVICE_KIND, refl, service_held free modes), refl),
+          (refl, tt),
+        ),
+      ),
     )
 
 -- ---- a session
@@ -69,15 +77,18 @@ pub setup_held : (code : ResponseCode) (id : EvseId) (lent : Binary) → CanEvse
 setup_held code id lent can lends =
     holding_held kinds SESSION_SETUP_RES_KIND [] session_setup_res [] (session_setup_res_parts (setup_res code lent)) refl tt (
       ((RESPONSE_CODE_KIND, refl, response code), refl),
-      (((BINARY32_KIND, refl, evse_id id lent can lends), refl),
-      (refl, tt)),
+      (
+        ((BINARY32_KIND, refl, evse_id id lent can lends), refl),
+        (refl, tt),
+      ),
     )
 
 pub selection_held : (code : ResponseCode)
     → HoldsTrees kinds SERVICE_PAYMENT_SELECTION_RES_KIND (holding (service_payment_selection_res_parts (record { response_code = code })))
 selection_held code =
     holding_held kinds SERVICE_PAYMENT_SELECTION_RES_KIND [] service_payment_selection_res [] (service_payment_selection_res_parts (record { response_code = code })) refl tt (
-      ((RESPONSE_CODE_KIND, refl, response code), refl), tt
+      ((RESPONSE_CODE_KIND, refl, response code), refl),
+      tt,
     )
 
 pub authorization_held : (code : ResponseCode) (processing : Processing)
@@ -92,5 +103,6 @@ pub stop_held : (code : ResponseCode)
     → HoldsTrees kinds SESSION_STOP_RES_KIND (holding (session_stop_res_parts (record { response_code = code })))
 stop_held code =
     holding_held kinds SESSION_STOP_RES_KIND [] session_stop_res [] (session_stop_res_parts (record { response_code = code })) refl tt (
-      ((RESPONSE_CODE_KIND, refl, response code), refl), tt
+      ((RESPONSE_CODE_KIND, refl, response code), refl),
+      tt,
     )

@@ -1,15 +1,11 @@
 -- Values of the simple kinds that replies contain.
-use Rattle.std.proofs.Common.{◌≡◌, ℕ, ◌<◌, ◌≤◌, Bool, List, length, All, ℤ, pos, ◌≤ℤ◌, refl, sym, subst, lit<}
-use Rattle.std.specs.Str.{chars}
+use Rattle.std.proofs.Common.{ℕ, ◌<◌, ◌≤◌, Bool, List, ℤ, pos, refl, sym, subst, lit<}
 use Rattle.exi_bits.specs.Lent.{items_of}
-use Rattle.exi_schema.specs.declared.tables.Datatype.TheVariants.{Bool as BoolType, Named, Bounded, Unsigned, Signed, Binary, Text as TextType}
-use Rattle.exi_documents.specs.Trees.{Value, Truth, Ordinal, Number, Bytes, Text as TreeText}
+use Rattle.exi_schema.specs.declared.tables.Datatype.TheVariants.{Bool as BoolType, Named, Unsigned, Binary}
+use Rattle.exi_documents.specs.Trees.{Value, Truth, Ordinal, Number, Bytes}
 use Rattle.exi_documents.specs.Values.{IsValue}
 use Rattle.kind_laws.specs.Kinds.{HasValue}
 use Rattle.message_parts.specs.declared.texts.Binary.{Binary as LentBinary}
-use Rattle.message_parts.specs.declared.texts.Text.{Text}
-use Rattle.message_parts.specs.Texts.{chars_of, text_value}
-use Rattle.session_words.specs.Amounts.{above_zero}
 use Rattle.session_words.specs.declared.limits.EvseId.{EvseId}
 use Rattle.session_words.specs.declared.limits.EvseId.TheVariants as evse
 use Rattle.session_words.specs.declared.session.SessionId.{SessionId}

@@ -13,7 +13,6 @@ use Rattle.din_schema.specs.declared.names.TheConstants.{V2G_MESSAGE, HEADER, BO
 use Rattle.din_codec.specs.Documents.{din_tree}
 use Rattle.din_codec.specs.Message.{body_parts}
 use Rattle.din_codec.specs.declared.message.BodyElement.{BodyElement}
-use Rattle.din_codec.specs.declared.message.DinMessage.{DinMessage}
 use Rattle.din_words.specs.Messages.{LendsEvse, LendsTell, reply_element, message_with}
 use Rattle.din_replies.specs.Replies.{RepliesHaveOneTree}
 
@@ -28,7 +27,7 @@ abbrev pub inside : BodyElement → Inside
 inside element = holding (body_parts (record { element = Some element }))
 
 -- where DIN has none, no parts
-abbrev inside_if : Option BodyElement → Inside
+abbrev pub inside_if : Option BodyElement → Inside
 inside_if None = holding []
 inside_if (Some element) = inside element
 

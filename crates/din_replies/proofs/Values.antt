@@ -1,12 +1,12 @@
 -- Physical values and statuses that replies contain hold what is declared.
-use Rattle.std.proofs.Common.{◌≡◌, ℕ, ◌<◌, ◌≤◌, Bool, List, [], ◌∷◌, Option, Some, None, ℤ, pos, refl, lit≤}
+use Rattle.std.proofs.Common.{ℕ, [], Option, Some, None, refl, lit≤}
 use Rattle.std.specs.Prelude.{IfSome}
 use Rattle.std.specs.Option.{option_map}
 use Rattle.charge_world.specs.declared.heard.IsolationLevel.{IsolationLevel as Isolation}
-use Rattle.exi_schema.specs.Plain.{PlainParticle, perhaps as optional}
+use Rattle.exi_schema.specs.Plain.{perhaps as optional}
 use Rattle.exi_documents.specs.Trees.{Ordinal}
-use Rattle.message_parts.specs.Contents.{Inside, Part, Of, perhaps, mapped, holding}
-use Rattle.fitting_parts.specs.Fitting.{HoldsTrees, FitsParts, FitsPart}
+use Rattle.message_parts.specs.Contents.{Of, perhaps, mapped, holding}
+use Rattle.fitting_parts.specs.Fitting.{HoldsTrees, FitsPart}
 use Rattle.fitting_parts.proofs.Fitted.{holding_held}
 use Rattle.session_words.specs.declared.amount.Amount.{Amount}
 use Rattle.session_words.specs.declared.limits.DcStatus.{DcStatus}
@@ -40,8 +40,10 @@ pub physical_held : (v : PhysicalValue) → IsPhysical v.multiplier v.value → 
 physical_held v fits =
     holding_held kinds PHYSICAL_VALUE_KIND [] physical_value [] (physical_value_parts v) refl tt (
       ((MULTIPLIER_KIND, refl, multiplier v.multiplier fits.multiplier_fits), refl),
-      (units_fit v.unit,
-      (((SHORT_KIND, refl, short v.value fits.value_fits), refl), tt)),
+      (
+        units_fit v.unit,
+        (((SHORT_KIND, refl, short v.value fits.value_fits), refl), tt),
+      ),
     )
 
 pub tenths_held : (a : Amount) → AreTenths a → HoldsPhysical (tenths_of a)
@@ -74,7 +76,11 @@ dc_status_held status =
     let s = dc_evse_status status in
     holding_held kinds DC_EVSE_STATUS_KIND [] dc_status_particles [] (dc_evse_status_parts s) refl tt (
       levels_fit status.isolation,
-      (((EVSE_STATUS_CODE_KIND, refl, status_code s.evse_status_code), refl),
-      (((UNSIGNED_INT_KIND, refl, unsigned_int 0 (lit≤ tt)), refl),
-      (((EVSE_NOTIFICATION_KIND, refl, notified s.evse_notification), refl), tt))),
+      (
+        ((EVSE_STATUS_CODE_KIND, refl, status_code s.evse_status_code), refl),
+        (
+          ((UNSIGNED_INT_KIND, refl, unsigned_int 0 (lit≤ tt)), refl),
+          (((EVSE_NOTIFICATION_KIND, refl, notified s.evse_notification), refl), tt),
+        ),
+      ),
     )
