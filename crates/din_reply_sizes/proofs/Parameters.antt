@@ -1,12 +1,11 @@
 -- DIN SPEC 70121:2014: what the charge parameters of a post weigh, with schedule tuples of so many entries.
-use Rattle.std.proofs.Common.{◌≡◌, ℕ, zero, suc, ◌+◌, ◌*◌, ◌≤◌, List, [], ◌∷◌, length, map, All, Option, Some, None, ℤ, arith, refl}
+use Rattle.std.proofs.Common.{◌≡◌, ℕ, zero, suc, ◌+◌, ◌*◌, ◌≤◌, List, length, map, All, Option, Some, None, ℤ, arith, refl}
 use Rattle.std.specs.Prelude.{IfSome}
 use Rattle.std.specs.List.{range_with_len}
 use Rattle.arrayvec.specs.ArrayVec.{ArrayVec}
-use Rattle.message_parts.specs.Contents.{Inside, mapped, holding}
+use Rattle.message_parts.specs.Contents.{mapped, holding}
 use Rattle.document_sizes.specs.Sizes.{inside_weight, each_weight, choice_weight}
 use Rattle.document_sizes.proofs.Parts.{plain_sum}
-use Rattle.session_words.specs.declared.amount.Amount.{Amount}
 use Rattle.session_words.specs.declared.code.Processing.{Processing}
 use Rattle.session_words.specs.declared.limits.PostLimits.{PostLimits}
 use Rattle.session_words.specs.declared.limits.PostLimits.TheVariants as limits
@@ -17,7 +16,7 @@ use Rattle.din_power.specs.Limits.{dc_evse_charge_parameter_parts, evse_charge_p
 use Rattle.din_power.specs.Schedules.{p_max_schedule_entry_parts, p_max_schedule_parts, sa_schedule_tuple_parts, sa_schedule_list_parts, sa_schedules_name, sa_schedules_inside}
 use Rattle.din_power.specs.declared.limits.EvseChargeParameter.{EvseChargeParameter}
 use Rattle.din_power.specs.declared.schedules.SaScheduleList.{SaScheduleList}
-use Rattle.din_values.specs.Physical.{tenths_of, power_if, watts_of}
+use Rattle.din_values.specs.Physical.{tenths_of, watts_of}
 use Rattle.din_words.specs.Messages.{parameter_if}
 use Rattle.din_words.specs.ParameterMessages.{entry_at, schedule_tuple, schedules_if, parameters_res}
 use Rattle.din_replies.proofs.Parameters.{dc_limits}

@@ -1,6 +1,6 @@
 -- DIN SPEC 70121:2014: what replies of charging weigh.
-use Rattle.std.proofs.Common.{◌≡◌, ℕ, ◌+◌, ◌≤◌, Bool, List, [], ◌∷◌, Option, Some, None, arith, refl}
-use Rattle.message_parts.specs.Contents.{Inside, holding}
+use Rattle.std.proofs.Common.{◌≤◌, Bool, Option, arith}
+use Rattle.message_parts.specs.Contents.{holding}
 use Rattle.document_sizes.specs.Sizes.{inside_weight}
 use Rattle.document_sizes.proofs.Parts.{plain_sum}
 use Rattle.session_words.specs.declared.amount.Amount.{Amount}

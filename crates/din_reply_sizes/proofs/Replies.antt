@@ -1,8 +1,7 @@
 -- The encoding of each reply is small.
-use Rattle.std.proofs.Common.{◌≡◌, ℕ, ◌+◌, ◌*◌, ◌≤◌, List, [], ◌∷◌, length, All, Option, Some, None, arith, refl, sym, subst}
+use Rattle.std.proofs.Common.{ℕ, ◌+◌, ◌*◌, ◌≤◌, List, All, Option, Some, None, arith, sym, subst}
 use Rattle.std.specs.Prelude.{IfSome}
 use Rattle.arrayvec.specs.ArrayVec.{ArrayVec}
-use Rattle.message_parts.specs.Contents.{Inside, holding}
 use Rattle.message_parts.specs.declared.texts.Binary.{Binary}
 use Rattle.document_sizes.specs.Sizes.{inside_weight, document_weight}
 use Rattle.document_sizes.proofs.Documents.{document_fits}
@@ -21,7 +20,7 @@ use Rattle.session_words.specs.declared.word.Word.TheVariants as word
 use Rattle.din_schema.specs.Declarations.{schema}
 use Rattle.din_schema.specs.declared.names.TheConstants.{V2G_MESSAGE}
 use Rattle.din_power.specs.declared.limits.EvseChargeParameter.{EvseChargeParameter}
-use Rattle.din_codec.specs.Documents.{din_inside, din_tree, din_number, PassesBytes}
+use Rattle.din_codec.specs.Documents.{din_inside, din_tree, din_number}
 use Rattle.din_codec.specs.Message.{body_element_inside, body_parts, din_message_parts}
 use Rattle.din_codec.specs.declared.message.BodyElement.{BodyElement}
 use Rattle.din_codec.specs.declared.message.DinMessage.{DinMessage}
@@ -46,7 +45,7 @@ abbrev pub IsLight : ℕ → BodyElement → Type 0
 IsLight most element = inside_weight 6 (body_element_inside element) ≤ 2100 + 873 * most
 
 -- where DIN has a message for it
-abbrev IsLightBody : ℕ → Option BodyElement → Type 0
+abbrev pub IsLightBody : ℕ → Option BodyElement → Type 0
 IsLightBody most None = Unit {0}
 IsLightBody most (Some element) = IsLight most element
 

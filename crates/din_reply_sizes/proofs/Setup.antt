@@ -1,5 +1,5 @@
 -- DIN SPEC 70121:2014: what replies that set up a session weigh.
-use Rattle.std.proofs.Common.{◌≡◌, ℕ, ◌+◌, ◌*◌, ◌≤◌, Bool, List, [], ◌∷◌, length, arith, refl}
+use Rattle.std.proofs.Common.{◌≤◌, Bool, List, arith}
 use Rattle.message_parts.specs.Contents.{holding}
 use Rattle.message_parts.specs.declared.texts.Binary.{Binary}
 use Rattle.document_sizes.specs.Sizes.{inside_weight}

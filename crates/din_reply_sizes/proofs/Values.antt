@@ -1,10 +1,10 @@
 -- What values and statuses in replies weigh.
-use Rattle.std.proofs.Common.{◌≡◌, ℕ, ◌+◌, ◌≤◌, List, [], ◌∷◌, length, Option, Some, None, arith, refl, sym, subst}
+use Rattle.std.proofs.Common.{ℕ, ◌≤◌, List, length, Option, Some, None, arith, sym, subst}
 use Rattle.std.specs.Option.{option_map}
 use Rattle.charge_world.specs.declared.heard.IsolationLevel.{IsolationLevel as Isolation}
 use Rattle.exi_bits.specs.Lent.{items_of}
 use Rattle.exi_documents.specs.Trees.{Ordinal}
-use Rattle.message_parts.specs.Contents.{Inside, Of, mapped, holding}
+use Rattle.message_parts.specs.Contents.{Of, mapped, holding}
 use Rattle.message_parts.specs.declared.texts.Binary.{Binary}
 use Rattle.document_sizes.specs.Sizes.{inside_weight, perhaps_weight}
 use Rattle.document_sizes.proofs.Parts.{plain_sum}
