@@ -61,12 +61,12 @@ use Rattle.iso_tree_words.proofs.Values.{voltage_read, current_read, power_read,
 ac_car_read : (x : AcEvChargeParameter) → tree.ac_car (children (holding (ac_ev_charge_parameter_parts x))) ≡ message.car_limits (ev.Ac x)
 ac_car_read x =
     by_parts tree.ac_car (ac_ev_charge_parameter_parts x)
-    ∙ (ap car.Ac (current_read x.ev_max_current) ⊛ current_read x.ev_min_current ⊛ voltage_read x.ev_max_voltage)
+    ∙ (ap (λ c l v. car.Ac c l v) (current_read x.ev_max_current) ⊛ current_read x.ev_min_current ⊛ voltage_read x.ev_max_voltage)
 
 dc_car_read : (x : DcEvChargeParameter) → tree.dc_car (children (holding (dc_ev_charge_parameter_parts x))) ≡ message.car_limits (ev.Dc x)
 dc_car_read x =
     by_parts tree.dc_car (dc_ev_charge_parameter_parts x)
-    ∙ (ap (car.Dc x.dc_ev_status.ev_ready x.dc_ev_status.evress_soc) (current_read x.ev_maximum_current_limit)
+    ∙ (ap (λ c p v. car.Dc x.dc_ev_status.ev_ready x.dc_ev_status.evress_soc c p v) (current_read x.ev_maximum_current_limit)
     ⊛ power_if_read x.ev_maximum_power_limit ⊛ voltage_read x.ev_maximum_voltage_limit)
 
 abbrev request_parts : Option ℕ → EnergyTransferMode → EvChargeParameter → List Part
@@ -138,12 +138,12 @@ list_read l =
 -- ---- of a post
 
 ac_post_read : (x : AcEvseChargeParameter) → tree.ac_post (children (holding (ac_evse_charge_parameter_parts x))) ≡ message.post_limits (evse.Ac x)
-ac_post_read x = ap post.Ac (notify_read x.ac_evse_status) ⊛ voltage_read x.evse_nominal_voltage ⊛ current_read x.evse_max_current
+ac_post_read x = ap (λ n v c. post.Ac n v c) (notify_read x.ac_evse_status) ⊛ voltage_read x.evse_nominal_voltage ⊛ current_read x.evse_max_current
 
 dc_post_read : (x : DcEvseChargeParameter) → tree.dc_post (children (holding (dc_evse_charge_parameter_parts x))) ≡ message.post_limits (evse.Dc x)
 dc_post_read x =
     by_parts tree.dc_post (dc_evse_charge_parameter_parts x)
-    ∙ (ap post.Dc (dc_status_read x.dc_evse_status)
+    ∙ (ap (λ s c p v least_c least_v r. post.Dc s c p v least_c least_v r) (dc_status_read x.dc_evse_status)
     ⊛ current_read x.evse_maximum_current_limit
     ⊛ ap (λ p. Some p) (power_read x.evse_maximum_power_limit)
     ⊛ voltage_read x.evse_maximum_voltage_limit

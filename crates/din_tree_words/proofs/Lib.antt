@@ -1,0 +1,6 @@
+pub mod Enumerations
+pub mod Values
+pub mod Setup
+pub mod Parameters
+pub mod Power
+pub mod Words

@@ -1,0 +1,6 @@
+pub mod Enumerations
+pub mod Values
+pub mod SetupWords
+pub mod ParameterWords
+pub mod PowerWords
+pub mod Words
