@@ -1,19 +1,13 @@
 -- ChargeParameterDiscovery is read from a tree as it is.
-use Rattle.std.proofs.Common.{◌≡◌, ℕ, ℤ, List, [], ◌∷◌, ◌++◌, Bool, true, length, map, pos, Option, Some, None, refl, ◌∙◌, ap, ap₂}
-use Rattle.std.specs.Option.{option_map}
+use Rattle.std.proofs.Common.{◌≡◌, ℕ, ℤ, List, [], ◌∷◌, ◌++◌, true, length, map, Option, Some, None, refl, ◌∙◌, ap, ap₂}
 use Rattle.arrayvec.specs.ArrayVec.{ArrayVec}
 use Rattle.exi_documents.specs.Trees.{Ordinal, Number}
-use Rattle.message_parts.specs.Contents.{Inside, Part, Of, one, perhaps, perhaps_one, mapped, holding}
+use Rattle.message_parts.specs.Contents.{Inside, Part, Of, one, perhaps_one, mapped, holding}
 use Rattle.session_words.specs.declared.amount.Amount.{Amount}
-use Rattle.session_words.specs.declared.code.Processing.{Processing}
-use Rattle.session_words.specs.declared.limits.CarLimits.{CarLimits}
 use Rattle.session_words.specs.declared.limits.CarLimits.TheVariants as car
-use Rattle.session_words.specs.declared.limits.PostLimits.{PostLimits}
 use Rattle.session_words.specs.declared.limits.PostLimits.TheVariants as post
 use Rattle.session_words.specs.declared.limits.Tuple.{Tuple}
-use Rattle.session_words.specs.declared.word.Ask.{Ask}
 use Rattle.session_words.specs.declared.word.Ask.TheVariants as ask
-use Rattle.session_words.specs.declared.word.Tell.{Tell}
 use Rattle.session_words.specs.declared.word.Tell.TheVariants as tell
 use Rattle.din_schema.specs.declared.names.TheConstants.{EV_REQUESTED_ENERGY_TRANSFER_TYPE, RESPONSE_CODE, EVSE_PROCESSING, P_MAX, P_MAX_SCHEDULE_ENTRY, SA_SCHEDULE_TUPLE}
 use Rattle.din_parts.specs.Codes.{energy_transfer_mode_ordinal, response_code_ordinal, evse_processing_ordinal}
@@ -42,7 +36,7 @@ use Rattle.din_values.specs.Modes.{mode_of}
 use Rattle.din_values.specs.Physical.{watts_in}
 use Rattle.din_values.specs.States.{processing_of}
 use Rattle.din_words.specs.ParameterWords as message
-use Rattle.tree_words.specs.Named.{children, within}
+use Rattle.tree_words.specs.Named.{children}
 use Rattle.tree_words.proofs.Held.{held, by_parts}
 use Rattle.tree_words.proofs.Lists.{◌⊛◌, reads_each, counts_each}
 use Rattle.din_tree_words.specs.ParameterWords as tree

@@ -1,20 +1,19 @@
 -- The word of a message is that of its tree.
-use Rattle.std.proofs.Common.{◌≡◌, Option, Some, None, refl, sym, ◌∙◌, ap, ap₂}
-use Rattle.exi_documents.specs.Trees.{none}
+use Rattle.std.proofs.Common.{◌≡◌, ℕ, List, Option, Some, None, refl, sym, ◌∙◌, ap, ap₂}
+use Rattle.document_laws.proofs.Payloads.{payload_decided}
+use Rattle.exi_documents.specs.Documents.{IsDocument}
+use Rattle.exi_documents.specs.Trees.{Tree, none}
 use Rattle.session_words.specs.declared.session.SessionId.{SessionId}
-use Rattle.session_words.specs.declared.word.Ask.{Ask}
 use Rattle.session_words.specs.declared.word.Tell.{Tell}
-use Rattle.session_words.specs.declared.word.Tell.TheVariants as tell
+use Rattle.din_schema.specs.Declarations.{schema}
 use Rattle.din_parts.specs.declared.codes.ResponseCode.{ResponseCode}
 use Rattle.din_parts.specs.declared.frame.Header.{Header}
 use Rattle.din_codec.specs.declared.message.BodyElement.{BodyElement}
 use Rattle.din_codec.specs.declared.message.BodyElement.TheVariants as element
 use Rattle.din_codec.specs.declared.message.DinMessage.{DinMessage}
-use Rattle.din_codec.specs.Documents.{din_tree}
+use Rattle.din_codec.specs.Documents.{din_tree, IsDin}
 use Rattle.din_codec.specs.Message.{body_element_name, body_element_inside}
-use Rattle.din_words.specs.SetupWords as setup
 use Rattle.din_words.specs.Words as message
-use Rattle.tree_words.specs.Named.{children}
 use Rattle.tree_words.proofs.Held.{first_is}
 use Rattle.din_tree_words.specs.Words as tree
 use Rattle.din_parts.specs.Codes.{response_code_ordinal}
@@ -68,3 +67,11 @@ words_of_trees m = sym (framed_read m.header m.body.element)
 
 pub one_word : (m n : DinMessage) → din_tree m ≡ din_tree n → message.word_of m ≡ message.word_of n
 one_word m n same = words_of_trees m ∙ ap tree.tree_word same ∙ sym (words_of_trees n)
+
+pub payload_word : (payload : List ℕ) (t : Tree) (m : DinMessage) → IsDocument schema t payload → IsDin m payload
+    → message.word_of m ≡ tree.tree_word t
+payload_word payload t m spelled read =
+    words_of_trees m ∙ ap tree.tree_word ((payload_decided schema payload).one_tree (din_tree m) t read spelled)
+
+pub one_payload_word : (payload : List ℕ) (m n : DinMessage) → IsDin m payload → IsDin n payload → message.word_of m ≡ message.word_of n
+one_payload_word payload m n first second = payload_word payload (din_tree n) m second first ∙ sym (words_of_trees n)

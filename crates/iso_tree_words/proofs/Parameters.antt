@@ -1,20 +1,13 @@
 -- ChargeParameterDiscovery is read from a tree as it is.
-use Rattle.std.proofs.Common.{◌≡◌, ℕ, ℤ, List, [], ◌∷◌, ◌++◌, Bool, true, length, map, pos, Option, Some, None, refl, ◌∙◌, ap, ap₂}
-use Rattle.std.specs.List.{list_all}
-use Rattle.std.specs.Option.{option_map}
+use Rattle.std.proofs.Common.{◌≡◌, ℕ, ℤ, List, [], ◌∷◌, ◌++◌, Bool, length, map, pos, Option, Some, None, refl, ◌∙◌, ap, ap₂}
 use Rattle.arrayvec.specs.ArrayVec.{ArrayVec}
 use Rattle.exi_documents.specs.Trees.{Ordinal, Number}
 use Rattle.message_parts.specs.Contents.{Inside, Part, Of, one, perhaps, perhaps_one, mapped, holding}
 use Rattle.session_words.specs.declared.amount.Amount.{Amount}
-use Rattle.session_words.specs.declared.code.Processing.{Processing}
-use Rattle.session_words.specs.declared.limits.CarLimits.{CarLimits}
 use Rattle.session_words.specs.declared.limits.CarLimits.TheVariants as car
-use Rattle.session_words.specs.declared.limits.PostLimits.{PostLimits}
 use Rattle.session_words.specs.declared.limits.PostLimits.TheVariants as post
 use Rattle.session_words.specs.declared.limits.Tuple.{Tuple}
-use Rattle.session_words.specs.declared.word.Ask.{Ask}
 use Rattle.session_words.specs.declared.word.Ask.TheVariants as ask
-use Rattle.session_words.specs.declared.word.Tell.{Tell}
 use Rattle.session_words.specs.declared.word.Tell.TheVariants as tell
 use Rattle.iso_schema.specs.declared.names.TheConstants.{MAX_ENTRIES_SA_SCHEDULE_TUPLE, REQUESTED_ENERGY_TRANSFER_MODE, RESPONSE_CODE, EVSE_PROCESSING, P_MAX, P_MAX_SCHEDULE_ENTRY, SA_SCHEDULE_TUPLE}
 use Rattle.iso_parts.specs.Codes.{energy_transfer_mode_ordinal, response_code_ordinal, evse_processing_ordinal}
@@ -48,7 +41,7 @@ use Rattle.iso_values.specs.Modes.{mode_of}
 use Rattle.iso_values.specs.Physical as physical
 use Rattle.iso_values.specs.States.{processing_of}
 use Rattle.iso_words.specs.ParameterWords as message
-use Rattle.tree_words.specs.Named.{children, within}
+use Rattle.tree_words.specs.Named.{children}
 use Rattle.tree_words.proofs.Held.{held, by_parts}
 use Rattle.tree_words.proofs.Lists.{◌⊛◌, reads_each, reads_all, counts_each}
 use Rattle.iso_tree_words.specs.ParameterWords as tree

@@ -1,7 +1,6 @@
 -- Messages of charging are read from a tree as they are.
-use Rattle.std.proofs.Common.{◌≡◌, ℕ, List, [], ◌∷◌, Bool, true, ◌++◌, max, map, pos, Option, Some, None, refl, ◌∙◌, ap, ap₂}
+use Rattle.std.proofs.Common.{◌≡◌, ℕ, List, [], ◌∷◌, Bool, true, ◌++◌, max, map, pos, Option, Some, None, ◌∙◌, ap, ap₂}
 use Rattle.std.specs.Prelude.{fold}
-use Rattle.std.specs.List.{list_all}
 use Rattle.std.specs.Option.{option_map}
 use Rattle.exi_documents.specs.Trees.{Ordinal}
 use Rattle.message_parts.specs.Contents.{Inside, Of, one, mapped, holding}
@@ -10,7 +9,6 @@ use Rattle.session_words.specs.declared.code.Notify.{Notify}
 use Rattle.session_words.specs.declared.limits.DcStatus.{DcStatus}
 use Rattle.session_words.specs.declared.limits.EvseId.TheVariants as evse
 use Rattle.session_words.specs.declared.limits.PostStatus.TheVariants as post
-use Rattle.session_words.specs.declared.word.Ask.{Ask}
 use Rattle.session_words.specs.declared.word.Ask.TheVariants as ask
 use Rattle.session_words.specs.declared.word.Tell.{Tell}
 use Rattle.session_words.specs.declared.word.Tell.TheVariants as tell
@@ -34,7 +32,7 @@ use Rattle.iso_power.specs.declared.delivery.PowerDeliveryRes.{PowerDeliveryRes}
 use Rattle.iso_power.specs.declared.delivery.ChargingStatusRes.{ChargingStatusRes}
 use Rattle.iso_power.specs.Charging.{cable_check_res_parts, pre_charge_req_parts, pre_charge_res_parts, current_demand_req_parts, current_demand_res_parts, welding_detection_res_parts}
 use Rattle.iso_power.specs.Delivery.{ev_power_delivery_parameter_name, ev_power_delivery_parameter_inside, profile_entry_parts, charging_profile_parts, power_delivery_req_parts, power_delivery_res_parts, charging_status_res_parts}
-use Rattle.iso_values.specs.States.{notify_of, processing_of, progress_of}
+use Rattle.iso_values.specs.States.{processing_of, progress_of}
 use Rattle.iso_values.specs.Statuses.{post_status_of}
 use Rattle.iso_words.specs.PowerWords as message
 use Rattle.word_values.specs.Items.{evse_text_of}

@@ -1,5 +1,5 @@
 -- Messages that set up a session are read from a tree as they are.
-use Rattle.std.proofs.Common.{◌≡◌, ℕ, List, [], ◌∷◌, Bool, true, map, pos, Option, refl, ◌∙◌, ap, ap₂}
+use Rattle.std.proofs.Common.{◌≡◌, ℕ, List, Bool, map, refl, ◌∙◌, ap, ap₂}
 use Rattle.exi_documents.specs.Trees.{Ordinal}
 use Rattle.message_parts.specs.Contents.{Inside, Of, holding}
 use Rattle.session_words.specs.declared.mode.OfferedMode.{OfferedMode}

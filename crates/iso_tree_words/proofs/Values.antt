@@ -1,10 +1,9 @@
 -- Values and statuses are read from a tree as from a message.
-use Rattle.std.proofs.Common.{◌≡◌, List, [], ◌∷◌, Bool, true, Option, refl, ◌∙◌, ap}
+use Rattle.std.proofs.Common.{◌≡◌, [], true, Option, ◌∙◌, ap}
 use Rattle.std.specs.Option.{option_map}
 use Rattle.charge_world.specs.declared.heard.IsolationLevel.{IsolationLevel}
 use Rattle.message_parts.specs.Contents.{Inside, Of, mapped, holding}
 use Rattle.exi_documents.specs.Trees.{Ordinal}
-use Rattle.session_words.specs.declared.amount.Amount.{Amount}
 use Rattle.session_words.specs.declared.code.Notify.{Notify}
 use Rattle.session_words.specs.declared.code.StatusCode.{StatusCode}
 use Rattle.session_words.specs.declared.limits.DcStatus.{DcStatus}
@@ -21,7 +20,7 @@ use Rattle.iso_values.specs.States.{isolation_of, status_code_of, notify_of}
 use Rattle.iso_values.specs.Statuses.{dc_status_of}
 use Rattle.tree_words.specs.Leaves.{ordinal_in}
 use Rattle.tree_words.specs.Named.{children}
-use Rattle.tree_words.proofs.Held.{held, kept_if, by_parts}
+use Rattle.tree_words.proofs.Held.{kept_if, by_parts}
 use Rattle.tree_words.proofs.Lists.{◌⊛◌, reads_if}
 use Rattle.iso_tree_words.specs.Enumerations.{isolation_level_at}
 use Rattle.iso_tree_words.specs.Values.{voltage_in, current_in, power_in, voltage_if, current_if, power_if, notify_in, dc_status_in}

@@ -1,6 +1,6 @@
 -- ISO 15118-2:2014, 8.4.3.8 (ChargeParameterDiscovery): the word of what stands in a tree. Where limits of both currents stand, those of
 -- AC count: own.
-use Rattle.std.specs.Prelude.{ℕ, map, length, List, Option, Some, None}
+use Rattle.std.specs.Prelude.{map, length, List, Option, Some, None}
 use Rattle.std.specs.List.{list_all}
 use Rattle.std.specs.Option.{option_map}
 use Rattle.arrayvec.specs.ArrayVec.{ArrayVec}

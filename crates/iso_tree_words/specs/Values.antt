@@ -1,5 +1,5 @@
 -- ISO 15118-2:2014, 8.5.2 (PhysicalValueType, DC_EVStatusType, DC_EVSEStatusType, AC_EVSEStatusType), as words have what stands in a tree.
-use Rattle.std.specs.Prelude.{ℕ, Bool, List, Option, Some, None}
+use Rattle.std.specs.Prelude.{ℕ, Bool, List, Option}
 use Rattle.std.specs.Option.{option_map}
 use Rattle.message_parts.specs.Contents.{Inside}
 use Rattle.session_words.specs.declared.amount.Amount.{Amount}

@@ -1,5 +1,5 @@
 -- What the parts of an element say of its children, name by name.
-use Rattle.std.proofs.Common.{◌≡◌, ℕ, ◌==◌, Bool, true, false, List, [], ◌∷◌, ◌++◌, Option, Some, None, refl, sym, ◌∙◌, ap}
+use Rattle.std.proofs.Common.{◌≡◌, ℕ, ◌==◌, Bool, true, false, List, [], ◌∷◌, ◌++◌, Option, Some, None, refl, ◌∙◌, ap}
 use mathlib.Core.Path.{fun_ext}
 use Rattle.exi_documents.specs.Trees.{Trees}
 use Rattle.message_parts.specs.Contents.{Inside, Of, Holding, Given, Part, one, perhaps, each, perhaps_one, element, perhaps_trees, each_trees, choice_trees, trees_of, holding_with}

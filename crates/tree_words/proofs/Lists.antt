@@ -1,5 +1,5 @@
 -- What is read of each child of a name, where the parts have a list of them, or one that may be absent.
-use Rattle.std.proofs.Common.{◌≡◌, ℕ, suc, Bool, true, ◌&&◌, List, [], ◌∷◌, length, map, Option, Some, None, refl, ap, ap₂}
+use Rattle.std.proofs.Common.{◌≡◌, suc, Bool, true, ◌&&◌, List, [], ◌∷◌, length, map, Option, Some, None, refl, ap, ap₂}
 use Rattle.std.specs.List.{list_all}
 use Rattle.std.specs.Option.{option_map}
 use Rattle.message_parts.specs.Contents.{Inside, mapped}
@@ -7,7 +7,6 @@ use Rattle.tree_words.specs.Named.{head}
 use Rattle.tree_words.proofs.Held.{kept_if, kept_each}
 
 infixl 5 ◌⊛◌
-
 -- equal functions of equal values
 pub ◌⊛◌ : {X Y : Type 0} {f g : X → Y} {x y : X} → f ≡ g → x ≡ y → f x ≡ g y
 ◌⊛◌ f_is x_is = ap₂ (λ f x. f x) f_is x_is

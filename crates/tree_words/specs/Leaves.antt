@@ -1,6 +1,6 @@
 -- Own: the values of elements. An element that isn't there, or has another value, counts as the least one.
-use Rattle.std.specs.Prelude.{ℕ, ℤ, pos, negsuc, Bool, false, List, [], ◌∷◌}
-use Rattle.exi_documents.specs.Trees.{Value, Truth, Ordinal, Number, Bytes, Text}
+use Rattle.std.specs.Prelude.{ℕ, ℤ, pos, Bool, false, List, [], ◌∷◌}
+use Rattle.exi_documents.specs.Trees.{Truth, Ordinal, Number, Bytes, Text}
 use Rattle.message_parts.specs.Contents.{Inside, Of}
 
 abbrev pub truth_in : Inside → Bool
