@@ -57,7 +57,8 @@ energy_transfer_mode_back energy_transfer_mode.DcExtended = refl
 energy_transfer_mode_back energy_transfer_mode.DcComboCore = refl
 energy_transfer_mode_back energy_transfer_mode.DcUnique = refl
 
-pub supported_energy_transfer_type_back : (x : SupportedEnergyTransferType) → supported_energy_transfer_type_at (supported_energy_transfer_type_ordinal x) ≡ x
+pub supported_energy_transfer_type_back : (x : SupportedEnergyTransferType)
+    → supported_energy_transfer_type_at (supported_energy_transfer_type_ordinal x) ≡ x
 unfolding supported_energy_transfer_type_at
 supported_energy_transfer_type_back supported_energy_transfer_type.AcSinglePhaseCore = refl
 supported_energy_transfer_type_back supported_energy_transfer_type.AcThreePhaseCore = refl

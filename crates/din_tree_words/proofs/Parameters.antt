@@ -36,8 +36,8 @@ use Rattle.din_values.specs.Modes.{mode_of}
 use Rattle.din_values.specs.Physical.{watts_in}
 use Rattle.din_values.specs.States.{processing_of}
 use Rattle.din_words.specs.ParameterWords as message
-use Rattle.tree_words.specs.Named.{children}
-use Rattle.tree_words.proofs.Held.{held, by_parts}
+use Rattle.tree_words.specs.Named.{Children}
+use Rattle.tree_words.proofs.Held.{held, of_parts, by_parts}
 use Rattle.tree_words.proofs.Lists.{◌⊛◌, reads_each, counts_each}
 use Rattle.din_tree_words.specs.ParameterWords as tree
 use Rattle.din_tree_words.specs.Values.{watts}
@@ -46,20 +46,24 @@ use Rattle.din_tree_words.proofs.Values.{voltage_read, current_read, power_if_re
 
 -- ---- of a car
 
-dc_car_read : (x : DcEvChargeParameter) → tree.dc_car (children (holding (dc_ev_charge_parameter_parts x))) ≡ message.car_limits (ev.Dc x)
+dc_car_read : (x : DcEvChargeParameter) → tree.dc_car (of_parts (dc_ev_charge_parameter_parts x)) ≡ message.car_limits (ev.Dc x)
 dc_car_read x =
     by_parts tree.dc_car (dc_ev_charge_parameter_parts x)
     ∙ (ap (λ s c p v. car.Dc x.dc_ev_status.ev_ready s c p v) (state_read x.dc_ev_status)
     ⊛ current_read x.ev_maximum_current_limit
     ⊛ power_if_read x.ev_maximum_power_limit ⊛ voltage_read x.ev_maximum_voltage_limit)
 
-car_read : (mode : ℕ) (limits : EvChargeParameter)
-    → tree.car_limits (held (one EV_REQUESTED_ENERGY_TRANSFER_TYPE (Of (Ordinal mode)) ∷ one (ev_charge_parameter_name limits) (ev_charge_parameter_inside limits) ∷ []))
-    ≡ message.car_limits limits
+abbrev request_parts : ℕ → EvChargeParameter → List Part
+request_parts mode limits =
+    one EV_REQUESTED_ENERGY_TRANSFER_TYPE (Of (Ordinal mode))
+    ∷ one (ev_charge_parameter_name limits) (ev_charge_parameter_inside limits)
+    ∷ []
+
+car_read : (mode : ℕ) (limits : EvChargeParameter) → tree.car_limits (held (request_parts mode limits)) ≡ message.car_limits limits
 car_read mode (ev.Dc x) = dc_car_read x
 
 pub parameters_asked : (x : ChargeParameterDiscoveryReq)
-    → tree.parameters_ask (children (holding (charge_parameter_discovery_req_parts x))) ≡ message.parameters_ask x
+    → tree.parameters_ask (of_parts (charge_parameter_discovery_req_parts x)) ≡ message.parameters_ask x
 parameters_asked x =
     by_parts tree.parameters_ask (charge_parameter_discovery_req_parts x)
     ∙ ap₂ (λ m l. ask.ChargeParameters (mode_of m) l) (energy_transfer_mode_back x.ev_requested_energy_transfer_type)
@@ -70,7 +74,7 @@ parameters_asked x =
 abbrev interval_parts : TimeInterval → ℤ → List Part
 interval_parts t v = one (time_interval_name t) (time_interval_inside t) ∷ one P_MAX (Of (Number v)) ∷ []
 
-interval_read : (t : TimeInterval) (v : ℤ) → watts (children (holding (interval_parts t v)) P_MAX) ≡ watts_in v
+interval_read : (t : TimeInterval) (v : ℤ) → watts (of_parts (interval_parts t v) P_MAX) ≡ watts_in v
 interval_read (interval.Relative t) v = refl
 
 abbrev entry_inside : PMaxScheduleEntry → Inside
@@ -90,11 +94,15 @@ least_read es =
 abbrev tuple : ℤ → ℕ → Amount → Tuple
 tuple id entries least = record { id = id; entries = entries; least = least }
 
+-- of the children of a PMaxSchedule
+abbrev scheduled : ℤ → Children → Tuple
+scheduled id x = tuple id (length (x P_MAX_SCHEDULE_ENTRY)) (tree.least_power (x P_MAX_SCHEDULE_ENTRY))
+
 tuple_read : (id : ℤ) (s : PMaxSchedule)
-    → tuple id (length (children (holding (p_max_schedule_parts s)) P_MAX_SCHEDULE_ENTRY)) (tree.least_power (children (holding (p_max_schedule_parts s)) P_MAX_SCHEDULE_ENTRY))
+    → scheduled id (of_parts (p_max_schedule_parts s))
     ≡ tuple id (length s.p_max_schedule_entry.items) (message.least_power s.p_max_schedule_entry.items)
 tuple_read id s =
-    by_parts (λ x. tuple id (length (x P_MAX_SCHEDULE_ENTRY)) (tree.least_power (x P_MAX_SCHEDULE_ENTRY))) (p_max_schedule_parts s)
+    by_parts (scheduled id) (p_max_schedule_parts s)
     ∙ ap₂ (tuple id) (counts_each entry_inside s.p_max_schedule_entry.items) (least_read s.p_max_schedule_entry.items)
 
 abbrev tuple_inside : SaScheduleTuple → Inside
@@ -106,14 +114,15 @@ tuple_in_read t = tuple_read t.sa_schedule_tuple_id t.p_max_schedule
 abbrev tuples : List Tuple → ArrayVec Tuple
 tuples ts = record { items = ts }
 
-list_read : (l : SaScheduleList) → tree.schedules_in (holding (sa_schedule_list_parts l)) ≡ message.schedules_in (schedules.SaScheduleList l)
+list_read : (l : SaScheduleList)
+    → tree.schedules_in (holding (sa_schedule_list_parts l)) ≡ message.schedules_in (schedules.SaScheduleList l)
 list_read l =
     by_parts (λ x. tuples (map tree.tuple_in (x SA_SCHEDULE_TUPLE))) (sa_schedule_list_parts l)
     ∙ ap tuples (reads_each tree.tuple_in tuple_inside message.tuple_in tuple_in_read l.sa_schedule_tuple.items)
 
 -- ---- of a post
 
-dc_post_read : (x : DcEvseChargeParameter) → tree.dc_post (children (holding (dc_evse_charge_parameter_parts x))) ≡ message.post_limits (evse.Dc x)
+dc_post_read : (x : DcEvseChargeParameter) → tree.dc_post (of_parts (dc_evse_charge_parameter_parts x)) ≡ message.post_limits (evse.Dc x)
 dc_post_read x =
     by_parts tree.dc_post (dc_evse_charge_parameter_parts x)
     ∙ (ap (λ s c p v least_c least_v r. post.Dc s c p v least_c least_v r) (dc_status_read x.dc_evse_status)
@@ -143,7 +152,7 @@ schedules_read c p None (evse.Dc x) = refl
 schedules_read c p (Some (schedules.SaScheduleList l)) limits = ap (λ t. Some t) (list_read l)
 
 pub parameters_told : (x : ChargeParameterDiscoveryRes)
-    → tree.parameters_tell (children (holding (charge_parameter_discovery_res_parts x))) ≡ message.parameters_tell x
+    → tree.parameters_tell (of_parts (charge_parameter_discovery_res_parts x)) ≡ message.parameters_tell x
 parameters_told x =
     by_parts tree.parameters_tell (charge_parameter_discovery_res_parts x)
     ∙ (ap (λ p. tell.ChargeParameters (processing_of p)) (evse_processing_back x.evse_processing)

@@ -3,7 +3,7 @@ use Rattle.std.proofs.Common.{◌≡◌, ℕ, List, [], ◌∷◌, true, ◌++�
 use Rattle.std.specs.Prelude.{fold}
 use Rattle.std.specs.Option.{option_map}
 use Rattle.exi_documents.specs.Trees.{Ordinal}
-use Rattle.message_parts.specs.Contents.{Inside, Of, one, mapped, holding}
+use Rattle.message_parts.specs.Contents.{Inside, Part, Of, one, mapped, holding}
 use Rattle.session_words.specs.declared.amount.Amount.{Amount}
 use Rattle.session_words.specs.declared.limits.DcStatus.{DcStatus}
 use Rattle.session_words.specs.declared.limits.PostStatus.TheVariants as post
@@ -34,8 +34,8 @@ use Rattle.din_power.specs.Delivery.{ev_power_delivery_parameter_name, ev_power_
 use Rattle.din_values.specs.States.{processing_of}
 use Rattle.din_words.specs.PowerWords as message
 use Rattle.tree_words.specs.Leaves.{number}
-use Rattle.tree_words.specs.Named.{children, head}
-use Rattle.tree_words.proofs.Held.{kept_if, kept_choice, by_parts}
+use Rattle.tree_words.specs.Named.{head}
+use Rattle.tree_words.proofs.Held.{kept_if, kept_choice, of_parts, by_parts}
 use Rattle.tree_words.proofs.Lists.{◌⊛◌, reads_if, reads_each}
 use Rattle.din_tree_words.specs.PowerWords as tree
 use Rattle.din_tree_words.proofs.Enumerations.{evse_processing_back}
@@ -43,22 +43,22 @@ use Rattle.din_tree_words.proofs.Values.{voltage_read, current_read, voltage_if_
 
 -- ---- direct current
 
-pub cable_check_asked : (x : CableCheckReq) → tree.cable_check_ask (children (holding (cable_check_req_parts x))) ≡ message.cable_check_ask x
+pub cable_check_asked : (x : CableCheckReq) → tree.cable_check_ask (of_parts (cable_check_req_parts x)) ≡ message.cable_check_ask x
 cable_check_asked x = ap (ask.CableCheck x.dc_ev_status.ev_ready) (state_read x.dc_ev_status)
 
-pub cable_check_read : (x : CableCheckRes) → tree.cable_check_tell (children (holding (cable_check_res_parts x))) ≡ message.cable_check_tell x
+pub cable_check_read : (x : CableCheckRes) → tree.cable_check_tell (of_parts (cable_check_res_parts x)) ≡ message.cable_check_tell x
 cable_check_read x =
     ap₂ (λ s p. tell.CableCheck s (processing_of p)) (dc_status_read x.dc_evse_status) (evse_processing_back x.evse_processing)
 
-pub pre_charge_asked : (x : PreChargeReq) → tree.pre_charge_ask (children (holding (pre_charge_req_parts x))) ≡ message.pre_charge_ask x
+pub pre_charge_asked : (x : PreChargeReq) → tree.pre_charge_ask (of_parts (pre_charge_req_parts x)) ≡ message.pre_charge_ask x
 pre_charge_asked x =
     ap (λ s v c. ask.PreCharge x.dc_ev_status.ev_ready s v c) (state_read x.dc_ev_status)
     ⊛ voltage_read x.ev_target_voltage ⊛ current_read x.ev_target_current
 
-pub pre_charge_told : (x : PreChargeRes) → tree.pre_charge_tell (children (holding (pre_charge_res_parts x))) ≡ message.pre_charge_tell x
+pub pre_charge_told : (x : PreChargeRes) → tree.pre_charge_tell (of_parts (pre_charge_res_parts x)) ≡ message.pre_charge_tell x
 pre_charge_told x = ap₂ (λ s v. tell.PreCharge s v) (dc_status_read x.dc_evse_status) (voltage_read x.evse_present_voltage)
 
-pub demand_asked : (x : CurrentDemandReq) → tree.demand_ask (children (holding (current_demand_req_parts x))) ≡ message.demand_ask x
+pub demand_asked : (x : CurrentDemandReq) → tree.demand_ask (of_parts (current_demand_req_parts x)) ≡ message.demand_ask x
 demand_asked x =
     by_parts tree.demand_ask (current_demand_req_parts x)
     ∙ (ap (λ s v c. ask.CurrentDemand x.dc_ev_status.ev_ready s v c) (state_read x.dc_ev_status)
@@ -71,7 +71,7 @@ demand x status voltage current most_voltage most_current most_power =
     x.evse_current_limit_achieved x.evse_voltage_limit_achieved x.evse_power_limit_achieved
     most_voltage most_current most_power None
 
-pub demand_told : (x : CurrentDemandRes) → tree.demand_tell (children (holding (current_demand_res_parts x))) ≡ message.demand_tell x
+pub demand_told : (x : CurrentDemandRes) → tree.demand_tell (of_parts (current_demand_res_parts x)) ≡ message.demand_tell x
 demand_told x =
     by_parts tree.demand_tell (current_demand_res_parts x)
     ∙ (ap (demand x) (dc_status_read x.dc_evse_status)
@@ -81,10 +81,10 @@ demand_told x =
     ⊛ current_if_read x.evse_maximum_current_limit
     ⊛ power_if_read x.evse_maximum_power_limit)
 
-pub welding_asked : (x : WeldingDetectionReq) → tree.welding_ask (children (holding (welding_detection_req_parts x))) ≡ message.welding_ask x
+pub welding_asked : (x : WeldingDetectionReq) → tree.welding_ask (of_parts (welding_detection_req_parts x)) ≡ message.welding_ask x
 welding_asked x = ap (ask.WeldingDetection x.dc_ev_status.ev_ready) (state_read x.dc_ev_status)
 
-pub welding_told : (x : WeldingDetectionRes) → tree.welding_tell (children (holding (welding_detection_res_parts x))) ≡ message.welding_tell x
+pub welding_told : (x : WeldingDetectionRes) → tree.welding_tell (of_parts (welding_detection_res_parts x)) ≡ message.welding_tell x
 welding_told x = ap₂ (λ s v. tell.WeldingDetection s v) (dc_status_read x.dc_evse_status) (voltage_read x.evse_present_voltage)
 
 -- ---- power delivery
@@ -115,24 +115,28 @@ parameter_choice x = (ev_power_delivery_parameter_name x, ev_power_delivery_para
 abbrev found : Option ChargingProfile → Option EvPowerDeliveryParameter → List Inside
 found p e = kept_if true (mapped profile_inside p) (kept_choice CHARGING_PROFILE (mapped parameter_choice e) [])
 
-profiles_read : (p : Option ChargingProfile) (e : Option EvPowerDeliveryParameter) → option_map tree.profile_in (head (found p e)) ≡ message.profile_if p
+profiles_read : (p : Option ChargingProfile) (e : Option EvPowerDeliveryParameter)
+    → option_map tree.profile_in (head (found p e)) ≡ message.profile_if p
 profiles_read p None = reads_if tree.profile_in profile_inside message.profile_in profile_read p
 profiles_read p (Some (parameter.Dc x)) = reads_if tree.profile_in profile_inside message.profile_in profile_read p
 
-tuples_read : (p : Option ChargingProfile) (e : Option EvPowerDeliveryParameter) → option_map tree.tuple_in (head (found p e)) ≡ message.tuple_if p
+tuples_read : (p : Option ChargingProfile) (e : Option EvPowerDeliveryParameter)
+    → option_map tree.tuple_in (head (found p e)) ≡ message.tuple_if p
 tuples_read None None = refl
 tuples_read None (Some (parameter.Dc x)) = refl
 tuples_read (Some p) e = ap (λ t. Some t) (tuple_read p)
 
-pub delivery_asked : (x : PowerDeliveryReq) → tree.delivery_ask (children (holding (power_delivery_req_parts x))) ≡ message.delivery_ask x
+pub delivery_asked : (x : PowerDeliveryReq) → tree.delivery_ask (of_parts (power_delivery_req_parts x)) ≡ message.delivery_ask x
 delivery_asked x =
     by_parts tree.delivery_ask (power_delivery_req_parts x)
     ∙ ap₂ (λ t a. ask.PowerDelivery (message.progress_of x.ready_to_charge_state) t a)
       (tuples_read x.charging_profile x.ev_power_delivery_parameter) (profiles_read x.charging_profile x.ev_power_delivery_parameter)
 
-status_read : (c : ℕ) (s : EvseStatus)
-    → tree.post_status (children (holding (one RESPONSE_CODE (Of (Ordinal c)) ∷ one (evse_status_name s) (evse_status_inside s) ∷ []))) ≡ message.post_status_of s
+abbrev reply_parts : ℕ → EvseStatus → List Part
+reply_parts code status = one RESPONSE_CODE (Of (Ordinal code)) ∷ one (evse_status_name status) (evse_status_inside status) ∷ []
+
+status_read : (c : ℕ) (s : EvseStatus) → tree.post_status (of_parts (reply_parts c s)) ≡ message.post_status_of s
 status_read c (evse_status.Dc s) = ap post.Dc (dc_status_read s)
 
-pub delivery_told : (x : PowerDeliveryRes) → tree.delivery_tell (children (holding (power_delivery_res_parts x))) ≡ message.delivery_tell x
+pub delivery_told : (x : PowerDeliveryRes) → tree.delivery_tell (of_parts (power_delivery_res_parts x)) ≡ message.delivery_tell x
 delivery_told x = ap tell.PowerDelivery (status_read (response_code_ordinal x.response_code) x.evse_status)

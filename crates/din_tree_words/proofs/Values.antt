@@ -21,7 +21,7 @@ use Rattle.din_values.specs.States.{isolation_of, status_code_of, notify_of}
 use Rattle.din_values.specs.Statuses.{dc_status_of}
 use Rattle.tree_words.specs.Leaves.{natural, ordinal_in}
 use Rattle.tree_words.specs.Named.{children, head}
-use Rattle.tree_words.proofs.Held.{kept_if, by_parts}
+use Rattle.tree_words.proofs.Held.{kept_if, of_parts, by_parts}
 use Rattle.tree_words.proofs.Lists.{◌⊛◌, reads_if}
 use Rattle.din_tree_words.specs.Enumerations.{unit_symbol_at, isolation_level_at}
 use Rattle.din_tree_words.specs.Values.{voltage_in, current_in, power_in, voltage_if, current_if, power_if, dc_status_in}
@@ -30,7 +30,8 @@ use Rattle.din_tree_words.proofs.Enumerations.{unit_symbol_back, evse_notificati
 abbrev unit_inside : UnitSymbol → Inside
 unit_inside unit = Of (Ordinal (unit_symbol_ordinal unit))
 
-unit_read : (unit : Option UnitSymbol) → option_map (λ inside. unit_symbol_at (ordinal_in inside)) (head (kept_if true (mapped unit_inside unit) [])) ≡ unit
+unit_read : (unit : Option UnitSymbol)
+    → option_map (λ inside. unit_symbol_at (ordinal_in inside)) (head (kept_if true (mapped unit_inside unit) [])) ≡ unit
 unit_read None = refl
 unit_read (Some unit) = ap (λ u. Some u) (unit_symbol_back unit)
 
@@ -61,7 +62,7 @@ current_if_read v = reads_if (λ inside. current_in (children inside)) value_ins
 pub power_if_read : (v : Option PhysicalValue) → power_if (kept_if true (mapped value_inside v) []) ≡ option_map message.power_in v
 power_if_read v = reads_if (λ inside. power_in (children inside)) value_inside message.power_in power_read v
 
-pub state_read : (s : DcEvStatus) → natural (children (holding (dc_ev_status_parts s)) EVRESS_SOC) ≡ s.evress_soc
+pub state_read : (s : DcEvStatus) → natural (of_parts (dc_ev_status_parts s) EVRESS_SOC) ≡ s.evress_soc
 state_read s = by_parts (λ x. natural (x EVRESS_SOC)) (dc_ev_status_parts s)
 
 abbrev level_inside : IsoLevel → Inside
@@ -76,7 +77,7 @@ level_read level = ap isolation_of (isolation_level_back level)
 abbrev status : Notify → Option IsolationLevel → StatusCode → DcStatus
 status notify isolation code = record { notify = notify; isolation = isolation; code = code }
 
-pub dc_status_read : (s : DcEvseStatus) → dc_status_in (children (holding (dc_evse_status_parts s))) ≡ dc_status_of s
+pub dc_status_read : (s : DcEvseStatus) → dc_status_in (of_parts (dc_evse_status_parts s)) ≡ dc_status_of s
 dc_status_read s =
     by_parts dc_status_in (dc_evse_status_parts s)
     ∙ (ap status (ap notify_of (evse_notification_back s.evse_notification))

@@ -24,7 +24,8 @@ use Rattle.din_tree_words.proofs.Parameters.{parameters_asked, parameters_told}
 use Rattle.din_tree_words.proofs.Power.{cable_check_asked, cable_check_read, pre_charge_asked, pre_charge_told, delivery_asked, delivery_told, demand_asked, demand_told, welding_asked, welding_told}
 
 -- a reply of this code that tells the same
-said : (s : SessionId) (c : ResponseCode) {one other : Tell} → one ≡ other → message.told s (response_code_at (response_code_ordinal c)) one ≡ message.told s c other
+said : (s : SessionId) (c : ResponseCode) {one other : Tell} → one ≡ other
+    → message.told s (response_code_at (response_code_ordinal c)) one ≡ message.told s c other
 said s c same = ap₂ (message.told s) (response_code_back c) same
 
 element_read : (s : SessionId) (e : BodyElement)

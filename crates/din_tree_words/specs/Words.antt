@@ -1,4 +1,5 @@
--- DIN SPEC 70121:2014 9.2 and 9.3 (message, header and body): the neutral word of the tree of a message. That another tree has a word is own.
+-- DIN SPEC 70121:2014 9.2 and 9.3 (message, header and body): the neutral word of the tree of a message. That another tree has a word is
+-- own.
 use Rattle.std.specs.Prelude.{ℕ, ◌==◌, Bool, true, false, List, [], ◌∷◌, Option, Some, None}
 use Rattle.exi_documents.specs.Trees.{Tree}
 use Rattle.message_parts.specs.Contents.{Inside}

@@ -41,8 +41,8 @@ use Rattle.iso_values.specs.Modes.{mode_of}
 use Rattle.iso_values.specs.Physical as physical
 use Rattle.iso_values.specs.States.{processing_of}
 use Rattle.iso_words.specs.ParameterWords as message
-use Rattle.tree_words.specs.Named.{children}
-use Rattle.tree_words.proofs.Held.{held, by_parts}
+use Rattle.tree_words.specs.Named.{Children}
+use Rattle.tree_words.proofs.Held.{held, of_parts, by_parts}
 use Rattle.tree_words.proofs.Lists.{◌⊛◌, reads_each, reads_all, counts_each}
 use Rattle.iso_tree_words.specs.ParameterWords as tree
 use Rattle.iso_tree_words.specs.Values.{power}
@@ -51,12 +51,12 @@ use Rattle.iso_tree_words.proofs.Values.{voltage_read, current_read, power_read,
 
 -- ---- of a car
 
-ac_car_read : (x : AcEvChargeParameter) → tree.ac_car (children (holding (ac_ev_charge_parameter_parts x))) ≡ message.car_limits (ev.Ac x)
+ac_car_read : (x : AcEvChargeParameter) → tree.ac_car (of_parts (ac_ev_charge_parameter_parts x)) ≡ message.car_limits (ev.Ac x)
 ac_car_read x =
     by_parts tree.ac_car (ac_ev_charge_parameter_parts x)
     ∙ (ap (λ c l v. car.Ac c l v) (current_read x.ev_max_current) ⊛ current_read x.ev_min_current ⊛ voltage_read x.ev_max_voltage)
 
-dc_car_read : (x : DcEvChargeParameter) → tree.dc_car (children (holding (dc_ev_charge_parameter_parts x))) ≡ message.car_limits (ev.Dc x)
+dc_car_read : (x : DcEvChargeParameter) → tree.dc_car (of_parts (dc_ev_charge_parameter_parts x)) ≡ message.car_limits (ev.Dc x)
 dc_car_read x =
     by_parts tree.dc_car (dc_ev_charge_parameter_parts x)
     ∙ (ap (λ c p v. car.Dc x.dc_ev_status.ev_ready x.dc_ev_status.evress_soc c p v) (current_read x.ev_maximum_current_limit)
@@ -75,7 +75,7 @@ car_read most mode (ev.Ac x) = ac_car_read x
 car_read most mode (ev.Dc x) = dc_car_read x
 
 pub parameters_asked : (x : ChargeParameterDiscoveryReq)
-    → tree.parameters_ask (children (holding (charge_parameter_discovery_req_parts x))) ≡ message.parameters_ask x
+    → tree.parameters_ask (of_parts (charge_parameter_discovery_req_parts x)) ≡ message.parameters_ask x
 parameters_asked x =
     by_parts tree.parameters_ask (charge_parameter_discovery_req_parts x)
     ∙ ap₂ (λ m l. ask.ChargeParameters (mode_of m) l) (energy_transfer_mode_back x.requested_energy_transfer_mode)
@@ -86,7 +86,7 @@ parameters_asked x =
 abbrev interval_parts : TimeInterval → PhysicalValue → List Part
 interval_parts t v = one (time_interval_name t) (time_interval_inside t) ∷ one P_MAX (holding (physical_value_parts v)) ∷ []
 
-interval_read : (t : TimeInterval) (v : PhysicalValue) → power (children (holding (interval_parts t v)) P_MAX) ≡ physical.power_in v
+interval_read : (t : TimeInterval) (v : PhysicalValue) → power (of_parts (interval_parts t v) P_MAX) ≡ physical.power_in v
 interval_read (interval.Relative t) v = power_read v
 
 abbrev entry_inside : PMaxScheduleEntry → Inside
@@ -95,23 +95,33 @@ entry_inside e = holding (p_max_schedule_entry_parts e)
 entry_read : (e : PMaxScheduleEntry) → tree.entry_power (entry_inside e) ≡ message.entry_power e
 entry_read e = interval_read e.time_interval e.p_max
 
+size_read : (e : PMaxScheduleEntry) → (tree.entry_power (entry_inside e)).size ≡ (message.entry_power e).size
+size_read e = ap (λ a. a.size) (entry_read e)
+
+right_read : (e : PMaxScheduleEntry) → (tree.entry_power (entry_inside e)).right ≡ (message.entry_power e).right
+right_read e = ap (λ a. a.right) (entry_read e)
+
 abbrev amount : ℕ → Bool → Amount
 amount size right = record { size = size; right = right }
 
 least_read : (es : List PMaxScheduleEntry) → tree.least_power (map entry_inside es ++ []) ≡ message.least_power es
 least_read es =
     ap₂ amount
-    (ap message.least_of (reads_each (λ e. (tree.entry_power e).size) entry_inside (λ e. (message.entry_power e).size) (λ e. ap (λ a. a.size) (entry_read e)) es))
-    (reads_all (λ e. (tree.entry_power e).right) entry_inside (λ e. (message.entry_power e).right) (λ e. ap (λ a. a.right) (entry_read e)) es)
+    (ap message.least_of (reads_each (λ e. (tree.entry_power e).size) entry_inside (λ e. (message.entry_power e).size) size_read es))
+    (reads_all (λ e. (tree.entry_power e).right) entry_inside (λ e. (message.entry_power e).right) right_read es)
 
 abbrev tuple : ℤ → ℕ → Amount → Tuple
 tuple id entries least = record { id = id; entries = entries; least = least }
 
+-- of the children of a PMaxSchedule
+abbrev scheduled : ℤ → Children → Tuple
+scheduled id x = tuple id (length (x P_MAX_SCHEDULE_ENTRY)) (tree.least_power (x P_MAX_SCHEDULE_ENTRY))
+
 tuple_read : (id : ℤ) (s : PMaxSchedule)
-    → tuple id (length (children (holding (p_max_schedule_parts s)) P_MAX_SCHEDULE_ENTRY)) (tree.least_power (children (holding (p_max_schedule_parts s)) P_MAX_SCHEDULE_ENTRY))
+    → scheduled id (of_parts (p_max_schedule_parts s))
     ≡ tuple id (length s.p_max_schedule_entry.items) (message.least_power s.p_max_schedule_entry.items)
 tuple_read id s =
-    by_parts (λ x. tuple id (length (x P_MAX_SCHEDULE_ENTRY)) (tree.least_power (x P_MAX_SCHEDULE_ENTRY))) (p_max_schedule_parts s)
+    by_parts (scheduled id) (p_max_schedule_parts s)
     ∙ ap₂ (tuple id) (counts_each entry_inside s.p_max_schedule_entry.items) (least_read s.p_max_schedule_entry.items)
 
 abbrev tuple_inside : SaScheduleTuple → Inside
@@ -123,17 +133,20 @@ tuple_in_read t = tuple_read (pos t.sa_schedule_tuple_id) t.p_max_schedule
 abbrev tuples : List Tuple → ArrayVec Tuple
 tuples ts = record { items = ts }
 
-list_read : (l : SaScheduleList) → tree.schedules_in (holding (sa_schedule_list_parts l)) ≡ message.schedules_in (schedules.SaScheduleList l)
+list_read : (l : SaScheduleList)
+    → tree.schedules_in (holding (sa_schedule_list_parts l)) ≡ message.schedules_in (schedules.SaScheduleList l)
 list_read l =
     by_parts (λ x. tuples (map tree.tuple_in (x SA_SCHEDULE_TUPLE))) (sa_schedule_list_parts l)
     ∙ ap tuples (reads_each tree.tuple_in tuple_inside message.tuple_in tuple_in_read l.sa_schedule_tuple.items)
 
 -- ---- of a post
 
-ac_post_read : (x : AcEvseChargeParameter) → tree.ac_post (children (holding (ac_evse_charge_parameter_parts x))) ≡ message.post_limits (evse.Ac x)
-ac_post_read x = ap (λ n v c. post.Ac n v c) (notify_read x.ac_evse_status) ⊛ voltage_read x.evse_nominal_voltage ⊛ current_read x.evse_max_current
+ac_post_read : (x : AcEvseChargeParameter) → tree.ac_post (of_parts (ac_evse_charge_parameter_parts x)) ≡ message.post_limits (evse.Ac x)
+ac_post_read x =
+    ap (λ n v c. post.Ac n v c) (notify_read x.ac_evse_status)
+    ⊛ voltage_read x.evse_nominal_voltage ⊛ current_read x.evse_max_current
 
-dc_post_read : (x : DcEvseChargeParameter) → tree.dc_post (children (holding (dc_evse_charge_parameter_parts x))) ≡ message.post_limits (evse.Dc x)
+dc_post_read : (x : DcEvseChargeParameter) → tree.dc_post (of_parts (dc_evse_charge_parameter_parts x)) ≡ message.post_limits (evse.Dc x)
 dc_post_read x =
     by_parts tree.dc_post (dc_evse_charge_parameter_parts x)
     ∙ (ap (λ s c p v least_c least_v r. post.Dc s c p v least_c least_v r) (dc_status_read x.dc_evse_status)
@@ -166,7 +179,7 @@ schedules_read c p None (evse.Dc x) = refl
 schedules_read c p (Some (schedules.SaScheduleList l)) limits = ap (λ t. Some t) (list_read l)
 
 pub parameters_told : (x : ChargeParameterDiscoveryRes)
-    → tree.parameters_tell (children (holding (charge_parameter_discovery_res_parts x))) ≡ message.parameters_tell x
+    → tree.parameters_tell (of_parts (charge_parameter_discovery_res_parts x)) ≡ message.parameters_tell x
 parameters_told x =
     by_parts tree.parameters_tell (charge_parameter_discovery_res_parts x)
     ∙ (ap (λ p. tell.ChargeParameters (processing_of p)) (evse_processing_back x.evse_processing)

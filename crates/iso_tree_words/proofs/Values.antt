@@ -20,7 +20,7 @@ use Rattle.iso_values.specs.States.{isolation_of, status_code_of, notify_of}
 use Rattle.iso_values.specs.Statuses.{dc_status_of}
 use Rattle.tree_words.specs.Leaves.{ordinal_in}
 use Rattle.tree_words.specs.Named.{children}
-use Rattle.tree_words.proofs.Held.{kept_if, by_parts}
+use Rattle.tree_words.proofs.Held.{kept_if, of_parts, by_parts}
 use Rattle.tree_words.proofs.Lists.{◌⊛◌, reads_if}
 use Rattle.iso_tree_words.specs.Enumerations.{isolation_level_at}
 use Rattle.iso_tree_words.specs.Values.{voltage_in, current_in, power_in, voltage_if, current_if, power_if, notify_in, dc_status_in}
@@ -47,7 +47,7 @@ current_if_read v = reads_if (λ inside. current_in (children inside)) value_ins
 pub power_if_read : (v : Option PhysicalValue) → power_if (kept_if true (mapped value_inside v) []) ≡ option_map message.power_in v
 power_if_read v = reads_if (λ inside. power_in (children inside)) value_inside message.power_in power_read v
 
-pub notify_read : (s : AcEvseStatus) → notify_in (children (holding (ac_evse_status_parts s))) ≡ notify_of s.evse_notification
+pub notify_read : (s : AcEvseStatus) → notify_in (of_parts (ac_evse_status_parts s)) ≡ notify_of s.evse_notification
 notify_read s = ap notify_of (evse_notification_back s.evse_notification)
 
 abbrev level_inside : IsoLevel → Inside
@@ -62,7 +62,7 @@ level_read level = ap isolation_of (isolation_level_back level)
 abbrev status : Notify → Option IsolationLevel → StatusCode → DcStatus
 status notify isolation code = record { notify = notify; isolation = isolation; code = code }
 
-pub dc_status_read : (s : DcEvseStatus) → dc_status_in (children (holding (dc_evse_status_parts s))) ≡ dc_status_of s
+pub dc_status_read : (s : DcEvseStatus) → dc_status_in (of_parts (dc_evse_status_parts s)) ≡ dc_status_of s
 dc_status_read s =
     by_parts dc_status_in (dc_evse_status_parts s)
     ∙ (ap status (ap notify_of (evse_notification_back s.evse_notification))

@@ -23,6 +23,7 @@ pub fn one_word()
 
 /// What a payload is read as is the word of the tree that it spells, and so one word.
 pub fn words_of_payloads()
-    ensures tree { (payload : List ℕ) (tree : Tree) (m : IsoMessage) → IsDocument schema tree payload → IsIso m payload → word_of m ≡ tree_word tree }
+    ensures tree { (payload : List ℕ) (tree : Tree) (m : IsoMessage) → IsDocument schema tree payload → IsIso m payload
+        → word_of m ≡ tree_word tree }
     ensures one { (payload : List ℕ) (m n : IsoMessage) → IsIso m payload → IsIso n payload → word_of m ≡ word_of n }
 {}

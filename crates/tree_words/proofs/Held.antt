@@ -2,7 +2,7 @@
 use Rattle.std.proofs.Common.{◌≡◌, ℕ, ◌==◌, Bool, true, false, List, [], ◌∷◌, ◌++◌, Option, Some, None, refl, ◌∙◌, ap}
 use mathlib.Core.Path.{fun_ext}
 use Rattle.exi_documents.specs.Trees.{Trees}
-use Rattle.message_parts.specs.Contents.{Inside, Of, Holding, Given, Part, one, perhaps, each, perhaps_one, element, perhaps_trees, each_trees, choice_trees, trees_of, holding_with}
+use Rattle.message_parts.specs.Contents.{Inside, Of, Holding, Given, Part, one, perhaps, each, perhaps_one, element, perhaps_trees, each_trees, choice_trees, trees_of, holding, holding_with}
 use Rattle.tree_words.specs.Named.{Children, kept, named, first, children}
 
 abbrev pub kept_if : Bool → Option Inside → List Inside → List Inside
@@ -28,7 +28,8 @@ held (perhaps_one choice ∷ parts) name = kept_choice name choice (held parts n
 
 -- ---- one after the other
 
-element_named : (name own : ℕ) (inside : Inside) (more : Trees) → named name (element own inside more) ≡ kept (own == name) inside (named name more)
+element_named : (name own : ℕ) (inside : Inside) (more : Trees)
+    → named name (element own inside more) ≡ kept (own == name) inside (named name more)
 element_named name own (Of value) more = refl
 element_named name own (Holding attributes trees) more = refl
 
@@ -78,7 +79,11 @@ parts_named name (each own insides ∷ parts) =
 parts_named name (perhaps_one choice ∷ parts) =
     choice_named name choice (trees_of parts) ∙ ap (kept_choice name choice) (parts_named name parts)
 
--- the children of an element are what its parts say
+-- the children of an element of these parts
+abbrev pub of_parts : List Part → Children
+of_parts parts = children (holding parts)
+
+-- they are what the parts say
 pub children_held : (attributes : List Given) (parts : List Part) → children (holding_with attributes parts) ≡ held parts
 children_held attributes parts = fun_ext (λ name. parts_named name parts)
 
@@ -88,5 +93,5 @@ first_is own (Of value) more = refl
 first_is own (Holding attributes trees) more = refl
 
 -- a function of the children
-pub by_parts : {X : Type 0} (f : Children → X) (parts : List Part) → f (λ name. named name (trees_of parts)) ≡ f (held parts)
-by_parts f parts = ap f (fun_ext (λ name. parts_named name parts))
+pub by_parts : {X : Type 0} (f : Children → X) (parts : List Part) → f (of_parts parts) ≡ f (held parts)
+by_parts f parts = ap f (children_held [] parts)
