@@ -29,3 +29,15 @@ reads_all read inside meant same (x ∷ xs) = ap₂ (λ y ys. y && ys) (same x) 
 pub counts_each : {X : Type 0} (inside : X → Inside) (xs : List X) → length (kept_each true (map inside xs) []) ≡ length xs
 counts_each inside [] = refl
 counts_each inside (x ∷ xs) = ap suc (counts_each inside xs)
+
+-- ---- where it is read as itself
+
+pub same_if : {X : Type 0} (read : Inside → X) (inside : X → Inside) → ((x : X) → read (inside x) ≡ x)
+    → (o : Option X) → option_map read (head (kept_if true (mapped inside o) [])) ≡ o
+same_if read inside same None = refl
+same_if read inside same (Some x) = ap (λ y. Some y) (same x)
+
+pub same_each : {X : Type 0} (read : Inside → X) (inside : X → Inside) → ((x : X) → read (inside x) ≡ x)
+    → (xs : List X) → map read (kept_each true (map inside xs) []) ≡ xs
+same_each read inside same [] = refl
+same_each read inside same (x ∷ xs) = ap₂ (λ y ys. y ∷ ys) (same x) (same_each read inside same xs)
