@@ -98,7 +98,7 @@ def field_settled(t, it, at):
 
 def literal(rows):
     one = f"record {{ {'; '.join(rows)} }}"
-    return one if len(one) < 100 and len(rows) < 4 else "record {\n" + "".join(f"  {it};\n" for it in rows) + "}"
+    return one if len(one) < 80 and len(rows) < 4 else "record {\n" + "".join(f"  {it};\n" for it in rows) + "}"
 
 
 def record_definitions(t, kind):
@@ -127,8 +127,8 @@ def choice_definitions(t, kind):
         if not listed:
             last = last[1:-1]
         text += f"abbrev pub {low}_{suffix} : {lends[0]}Children → {result}\n{low}_{suffix} {lends[1]}x =\n"
-        text += "".join(f"    {link} ({one(it)}) {'(' if n < len(listed) - 1 else ''}{chr(10) if n < len(listed) - 1 else ''}" for n, it in enumerate(listed))
-        text += ("" if listed else "    ") + last + ")" * (len(listed) - 1) + "\n\n"
+        text += "".join(f"    {link} ({one(it)}) {'(' if n < len(listed) - 1 else ''}\n" for n, it in enumerate(listed))
+        text += "    " + last + ")" * (len(listed) - 1) + "\n\n"
     if t.lent(kind):
         text += f"abbrev pub settled_{low} : Lends → {name} → {name}\n"
         text += "".join(f"settled_{low} l ({low}.{it.variant} x) = {low}.{it.variant} {bracketed(settle(t, it.kind, 'x'))}\n" for it in members) + "\n"
@@ -143,13 +143,15 @@ def ordinal_definitions(t, kind):
     low, name = t.lower(kind), t.camel(kind)
     values = [f"{low}.{t.camel(it)}" for it in t.s.enumerations[kind]]
     listed = "\n    ∷ ".join([*values, "[]"])
+    at = f"get_or {low}_values ordinal {values[0]}"
+    at = at if len(at) + len(low) < 120 else "\n    " + at
     return f"""-- {kind}
 abbrev pub {low}_values : List {name}
 {low}_values =
     {listed}
 
 unfoldable pub {low}_at : ℕ → {name}
-{low}_at ordinal = get_or {low}_values ordinal {values[0]}
+{low}_at ordinal ={"" if at[0] == chr(10) else " "}{at}
 
 """
 
@@ -166,120 +168,95 @@ def changes(t, it):
 
 
 def same_one(t, kind, at):
+    """That one of this kind is read as it is, where that takes a lemma."""
     if kind in t.s.enumerations:
         return f"{t.lower(kind)}_back {at}"
-    return "refl" if t.is_simple(kind) or not t.inner(kind) else f"{t.lower(kind)}_read{lend(t, kind)} {at}"
+    return "" if t.is_simple(kind) or not t.inner(kind) else f"{t.lower(kind)}_read{lend(t, kind)} {at}"
 
 
-def field_same(t, it, at, low):
+def field_at(t, it, at, low):
+    """A field between what it is read as and what it is."""
     if it.form == "attribute":
-        return f"{low}_{it.field}_read l {at}" if it.optional else "refl"
+        return f"{low}_{it.field}_read l {at} i" if it.optional else field_settled(t, it, at)
     if it.optional or it.most:
         one = type_name(t, it.kind)
-        read = f"(λ (i : Inside). {read_inside(t, it.kind, 'i')})"
+        read = f"(λ (found : Inside). {read_inside(t, it.kind, 'found')})"
         put = f"(λ (x : {one}). {inside(t, it.kind, 'x')})"
         meant = f" (λ (x : {one}). {settle(t, it.kind, 'x')})" if t.lent(it.kind) else ""
+        same = f"(λ (x : {one}). {same_one(t, it.kind, 'x') or 'refl'})"
         word = ("reads" if t.lent(it.kind) else "same") + ("_each" if it.most else "_if")
-        same = f"(λ (x : {one}). {same_one(t, it.kind, 'x')})"
-        if it.most:
-            target = one
-            return f"ap (λ (xs : List {target}). list_{t.lower(it.kind) if not it.kind in t.s.values else target.lower()} xs) ({word} {read} {put}{meant} {same} {at}.items)"
-        return f"{word} {read} {put}{meant} {same} {at}"
-    return same_one(t, it.kind, at)
+        lemma = f"{word} {read} {put}{meant} {same} {at}"
+        return f"record {{ items = {lemma}.items i }}" if it.most else f"{lemma} i"
+    same = same_one(t, it.kind, at)
+    return f"{same} i" if same else field_settled(t, it, at)
 
 
-def with_fields(t, kind):
-    """A value of this type with these fields in place of its own."""
-    low, name, fields = t.lower(kind), t.camel(kind), t.inner(kind)
-    changed = [it for it in fields if changes(t, it)]
-    types = " → ".join([*(["Lends"] if t.lent(kind) else []), name, *(bracketless(field_type(t, it)) for it in changed), name])
-    names = " ".join([*(["l"] if t.lent(kind) else []), "v", *(f"new_{it.field}" for it in changed)])
-    rows = [f"{it.field} = " + (f"new_{it.field}" if it in changed else field_settled(t, it, "v." + it.field)) for it in fields]
-    return f"abbrev {low}_with : {types}\n{low}_with {names} = {literal(rows)}\n\n"
+def member_at(t, it, m, at):
+    """A choice between what it is read as and this member."""
+    if m is None:
+        return "None"
+    same = same_one(t, m.kind, at)
+    one = f"{t.lower(it.kind)}.{m.variant} " + (f"({same} i)" if same else bracketed(settle(t, m.kind, at)))
+    return f"Some ({one})" if it.optional else one
 
 
-def bracketless(text):
-    return text
+def between(rows):
+    """A path through records, field by field."""
+    return "(λ i. record {\n" + "".join(f"      {it};\n" for it in rows) + "    })"
 
 
-def chained(first, sames):
-    """first by equal values, one after the other."""
-    if not sames:
-        return ""
-    return f"(ap ({first}) ({sames[0]})" + "".join(f"\n    ⊛ {bracketed(it) if ' ' in it else it}" for it in sames[1:]) + ")"
+def attribute_proofs(t, low, it):
+    one = f"attributes_of (perhaps_given {it.name} (mapped (λ (x : Text). text_value x) o) ∷ [])"
+    text = f"{low}_{it.field}_read : (l : Lends) (o : Option Text)\n    → option_map (λ value. l.text (text_of value)) (attribute_named {it.name} ({one}))\n"
+    return text + f"    ≡ option_map (λ x. l.text (chars_of x)) o\n{low}_{it.field}_read l None = refl\n{low}_{it.field}_read l (Some x) = refl\n\n"
+
+
+def choice_cases(t, kind):
+    """For each way to fill the choices of a type: their members, by their fields."""
+    cases = [{}]
+    for it in t.inner(kind):
+        if it.form == "choice":
+            members = ([None] if it.optional else []) + t.choices[it.kind]
+            cases = [{**case, it.field: m} for case in cases for m in members]
+    return cases
 
 
 def record_proofs(t, kind):
     low, name, fields = t.lower(kind), t.camel(kind), t.inner(kind)
     if not fields:
         return ""
-    l = "l " if t.lent(kind) else ""
-    lends = "(l : Lends) " if t.lent(kind) else ""
-    text = ""
-    for it in fields:
-        if it.form == "attribute" and it.optional:
-            one = f"attributes_of (perhaps_given {it.name} (mapped (λ (x : Text). text_value x) o) ∷ [])"
-            text += f"{low}_{it.field}_read : (l : Lends) (o : Option Text)\n    → option_map (λ value. l.text (text_of value)) (attribute_named {it.name} ({one}))\n"
-            text += f"    ≡ option_map (λ x. l.text (chars_of x)) o\n{low}_{it.field}_read l None = refl\n{low}_{it.field}_read l (Some x) = refl\n\n"
-    for it in fields:
-        if it.most:
-            one = type_name(t, it.kind)
-            short = t.lower(it.kind) if it.kind not in t.s.values else one.lower()
-            text += f"abbrev list_{short} : List {one} → ArrayVec {one}\nlist_{short} xs = record {{ items = xs }}\n\n"
-    changed = [it for it in fields if changes(t, it)]
+    l, lends = ("l ", "(l : Lends) ") if t.lent(kind) else ("", "")
+    text = "".join(attribute_proofs(t, low, it) for it in fields if it.form == "attribute" and it.optional)
     given = f"(attributes_of ({low}_given v)) " if has_attributes(t, kind) else ""
     meant = f"settled_{low} l v" if t.lent(kind) else "v"
     reader = f"{low}_in {l}{given}".strip()
-    statement = f"{low}_in {l}{given}(of_parts ({low}_parts v)) ≡ {meant}"
-    choices = [it for it in fields if it.form == "choice"]
-    if not choices:
-        if changed:
-            text += with_fields(t, kind)
-        sames = [field_same(t, it, f"v.{it.field}", low) for it in changed]
-        text += f"pub {low}_read : {lends}(v : {name}) → {statement}\n{low}_read {l}v =\n    by_parts ({reader}) ({low}_parts v)"
-        text += f"\n    ∙ {chained(f'{low}_with {l}v', sames)}\n\n" if sames else "\n\n"
-        return text
-    # with choices: over each of their members
-    rows = "; ".join(f"{it.field} = {it.field}" for it in fields)
-    args = " ".join(f"({it.field} : {field_type(t, it)})" for it in fields)
-    text += f"abbrev {low}_of : {' → '.join([*(field_type(t, it) for it in fields), name])}\n{low}_of {' '.join(it.field for it in fields)} = record {{ {rows} }}\n\n"
-    text += with_fields(t, kind)
-    whole = f"({low}_of {' '.join(it.field for it in fields)})"
-    meant_at = f"settled_{low} l {whole}" if t.lent(kind) else whole[1:-1]
-    given_at = f"(attributes_of ({low}_given {whole})) " if has_attributes(t, kind) else ""
-    text += f"{low}_at : {lends}{args}\n    → {low}_in {l}{given_at}(held ({low}_parts {whole})) ≡ {meant_at}\n"
-    cases = [[]]
-    for it in choices:
-        shapes = ([("None", None)] if it.optional else []) + [(m.variant, m) for m in t.choices[it.kind]]
-        cases = [[*case, shape] for case in cases for shape in shapes]
-    for case in cases:
-        shape = dict(zip([it.field for it in choices], case))
-        pats, values, sames = [], [], []
+    head = f"pub {low}_read : {lends}(v : {name}) → {low}_in {l}{given}(of_parts ({low}_parts v)) ≡ {meant}\n"
+    head += f"{low}_read {l}v =\n    by_parts {bracketed(reader)} ({low}_parts v)"
+    if not any(it.form == "choice" for it in fields):
+        if any(changes(t, it) for it in fields):
+            head += "\n    ∙ " + between([f"{it.field} = {field_at(t, it, 'v.' + it.field, low)}" for it in fields])
+        return text + head + "\n\n"
+    names = " ".join(it.field for it in fields)
+    whole = f"({low}_of {names})"
+    meant = f"settled_{low} l {whole}" if t.lent(kind) else whole[1:-1]
+    given = f"(attributes_of ({low}_given {whole})) " if given else ""
+    text += f"abbrev {low}_of : {' → '.join([*(field_type(t, it) for it in fields), name])}\n{low}_of {names} = "
+    text += literal([f"{it.field} = {it.field}" for it in fields]) + "\n\n"
+    text += f"{low}_at : {lends}" + " ".join(f"({it.field} : {field_type(t, it)})" for it in fields)
+    text += f"\n    → {low}_in {l}{given}(held ({low}_parts {whole}))\n    ≡ {meant}\n"
+    for case in choice_cases(t, kind):
+        values, rows, letters = [], [], iter("yzw")
         for it in fields:
             if it.form != "choice":
-                pats.append(it.field), values.append(it.field)
-                if it in changed:
-                    sames.append(field_same(t, it, it.field, low))
+                values.append(it.field)
+                rows.append(f"{it.field} = {field_at(t, it, it.field, low)}")
                 continue
-            variant, m = shape[it.field]
-            v = f"of_{it.field}"
-            one = "None" if m is None else f"({t.lower(it.kind)}.{variant} {v})"
-            one = f"(Some {one})" if it.optional and m else one
-            pats.append(one), values.append(one)
-            if m is None:
-                sames.append(f"refl {{a = none_{t.lower(it.kind)}}}")
-                continue
-            build = f"{t.lower(it.kind)}.{variant} y"
-            build = f"Some ({build})" if it.optional else build
-            if t.is_simple(m.kind) or not t.inner(m.kind):
-                sames.append(f"refl {{a = {build.replace(' y', ' ' + bracketed(settle(t, m.kind, v)))}}}")
-            else:
-                sames.append(f"ap (λ (y : {type_name(t, m.kind)}). {build}) ({same_one(t, m.kind, v)})")
-        text += f"{low}_at {l}{' '.join(pats)} =\n    {chained(f'{low}_with {l}({low}_of ' + ' '.join(values) + ')', sames)}\n"
-    nones = "".join(f"abbrev none_{t.lower(it.kind)} : Option {t.camel(it.kind)}\nnone_{t.lower(it.kind)} = None\n\n" for it in choices if it.optional)
-    text = nones + text
-    text += f"\npub {low}_read : {lends}(v : {name}) → {statement}\n{low}_read {l}v =\n    by_parts ({reader}) ({low}_parts v)\n"
-    return text + f"    ∙ {low}_at {l}{' '.join('v.' + it.field for it in fields)}\n\n"
+            m, letter = case[it.field], next(letters)
+            one = f"{t.lower(it.kind)}.{m.variant} {letter}" if m else "None"
+            values.append("None" if m is None else f"(Some ({one}))" if it.optional else f"({one})")
+            rows.append(f"{it.field} = {member_at(t, it, m, letter)}")
+        text += f"{low}_at {l}{' '.join(values)} = " + between(rows)[1:-1].replace("\n      ", "\n  ").replace("\n    }", "\n}") + "\n"
+    return text + f"\n{head}\n    ∙ {low}_at {l}{' '.join('v.' + it.field for it in fields)}\n\n"
 
 
 def ordinal_proofs(t, kind):
@@ -316,8 +293,6 @@ def imports(t, crate, file, kinds, body, is_proof):
         ("tree_words.proofs.Lists", ["reads_if", "reads_each", "same_if", "same_each"]),
     ):
         found = [it for it in words if has(it)]
-        if module.endswith("proofs.Lists") and "⊛" in body:
-            found = ["◌⊛◌", *found]
         text += f"use Rattle.{module}.{{{', '.join(found)}}}\n" if found else ""
     for it in t.places:
         place = t.places[it]
@@ -338,6 +313,25 @@ def imports(t, crate, file, kinds, body, is_proof):
     return text + "".join(f"use Rattle.{place}.{{{', '.join(words)}}}\n" for place, words in uses.items() if words)
 
 
+def folded(text):
+    """Lines of at most 140 characters, broken before arguments and arrows."""
+    made = []
+    for line in text.split("\n"):
+        if len(line) <= 140 or line.startswith(("use ", "--")):
+            made.append(line)
+            continue
+        deeper = " " * (len(line) - len(line.lstrip()) + (4 if line[0] != " " else 2))
+        at = ""
+        for piece in re.split(r"(?<=[^\sλ]) (?=\(λ|→|≡|\(head|\(held|\(attributes_of|\([a-z_]+ : |\([a-z_]+_of |\([a-z_]+\.[A-Z])", line):
+            if at and len(at) + 1 + len(piece) > 138:
+                made.append(at)
+                at = deeper + piece
+            else:
+                at += (" " if at else "") + piece
+        made.append(at)
+    return "\n".join(made)
+
+
 def reader_files(t):
     files, own = {}, crate_of(t)
     parts = []
@@ -354,6 +348,6 @@ def reader_files(t):
             sections = dict.fromkeys(t.s.sections[t.section(it).lower()][0] for it in kinds if it in t.s.content)
             head = f"-- {t.s.standard} {', and '.join(sections)}: what elements of these types are read as.\n"
             told = "-- What elements of these types are read as is what they were written of.\n"
-        files[f"{own}/specs/{file.capitalize()}.antt"] = head + imports(t, crate, file, kinds, specs, False) + "\n" + specs.rstrip("\n") + "\n"
-        files[f"{own}/proofs/{file.capitalize()}.antt"] = told + imports(t, crate, file, kinds, proved, True) + "\n" + proved.rstrip("\n") + "\n"
+        files[f"{own}/specs/{file.capitalize()}.antt"] = head + imports(t, crate, file, kinds, specs, False) + "\n" + folded(specs.rstrip("\n")) + "\n"
+        files[f"{own}/proofs/{file.capitalize()}.antt"] = told + imports(t, crate, file, kinds, proved, True) + "\n" + folded(proved.rstrip("\n")) + "\n"
     return files

@@ -1,5 +1,5 @@
 -- What elements of these types are read as is what they were written of.
-use Rattle.std.proofs.Common.{Bool, Option, refl, ap, ◌≡◌, ◌∙◌}
+use Rattle.std.proofs.Common.{Bool, refl, ◌≡◌, ◌∙◌}
 use Rattle.exi_documents.specs.Trees.{Truth}
 use Rattle.message_parts.specs.Contents.{Inside, Of, holding}
 use Rattle.message_parts.specs.Texts.{chars_of}
@@ -7,12 +7,8 @@ use Rattle.tree_words.specs.Leaves.{truth_in}
 use Rattle.tree_words.specs.Named.{children}
 use Rattle.tree_words.specs.Lending.{Lends}
 use Rattle.tree_words.proofs.Held.{of_parts, by_parts}
-use Rattle.tree_words.proofs.Lists.{◌⊛◌, reads_if, same_if}
-use Rattle.iso_parts.specs.declared.codes.ResponseCode.{ResponseCode}
-use Rattle.iso_parts.specs.declared.codes.EvseProcessing.{EvseProcessing}
+use Rattle.tree_words.proofs.Lists.{reads_if, same_if}
 use Rattle.iso_parts.specs.declared.values.PhysicalValue.{PhysicalValue}
-use Rattle.iso_parts.specs.declared.values.DcEvStatus.{DcEvStatus}
-use Rattle.iso_parts.specs.declared.values.DcEvseStatus.{DcEvseStatus}
 use Rattle.iso_parts.specs.declared.values.MeterInfo.{MeterInfo}
 use Rattle.iso_power.specs.declared.charging.CableCheckReq.{CableCheckReq}
 use Rattle.iso_power.specs.declared.charging.CableCheckRes.{CableCheckRes}
@@ -29,132 +25,108 @@ use Rattle.iso_trees.proofs.Values.{physical_value_read, dc_ev_status_read, dc_e
 use Rattle.iso_power.specs.Charging.{cable_check_req_parts, cable_check_res_parts, pre_charge_req_parts, pre_charge_res_parts, current_demand_req_parts, current_demand_res_parts, welding_detection_req_parts, welding_detection_res_parts}
 use Rattle.iso_trees.specs.Charging.{cable_check_req_in, cable_check_res_in, pre_charge_req_in, pre_charge_res_in, current_demand_req_in, current_demand_res_in, settled_current_demand_res, welding_detection_req_in, welding_detection_res_in}
 
-abbrev cable_check_req_with : CableCheckReq → DcEvStatus → CableCheckReq
-cable_check_req_with v new_dc_ev_status = record { dc_ev_status = new_dc_ev_status }
-
 pub cable_check_req_read : (v : CableCheckReq) → cable_check_req_in (of_parts (cable_check_req_parts v)) ≡ v
 cable_check_req_read v =
-    by_parts (cable_check_req_in) (cable_check_req_parts v)
-    ∙ (ap (cable_check_req_with v) (dc_ev_status_read v.dc_ev_status))
-
-abbrev cable_check_res_with : CableCheckRes → ResponseCode → DcEvseStatus → EvseProcessing → CableCheckRes
-cable_check_res_with v new_response_code new_dc_evse_status new_evse_processing = record {
-  response_code = new_response_code;
-  dc_evse_status = new_dc_evse_status;
-  evse_processing = new_evse_processing;
-}
+    by_parts cable_check_req_in (cable_check_req_parts v)
+    ∙ (λ i. record {
+      dc_ev_status = dc_ev_status_read v.dc_ev_status i;
+    })
 
 pub cable_check_res_read : (v : CableCheckRes) → cable_check_res_in (of_parts (cable_check_res_parts v)) ≡ v
 cable_check_res_read v =
-    by_parts (cable_check_res_in) (cable_check_res_parts v)
-    ∙ (ap (cable_check_res_with v) (response_code_back v.response_code)
-    ⊛ (dc_evse_status_read v.dc_evse_status)
-    ⊛ (evse_processing_back v.evse_processing))
-
-abbrev pre_charge_req_with : PreChargeReq → DcEvStatus → PhysicalValue → PhysicalValue → PreChargeReq
-pre_charge_req_with v new_dc_ev_status new_ev_target_voltage new_ev_target_current = record {
-  dc_ev_status = new_dc_ev_status;
-  ev_target_voltage = new_ev_target_voltage;
-  ev_target_current = new_ev_target_current;
-}
+    by_parts cable_check_res_in (cable_check_res_parts v)
+    ∙ (λ i. record {
+      response_code = response_code_back v.response_code i;
+      dc_evse_status = dc_evse_status_read v.dc_evse_status i;
+      evse_processing = evse_processing_back v.evse_processing i;
+    })
 
 pub pre_charge_req_read : (v : PreChargeReq) → pre_charge_req_in (of_parts (pre_charge_req_parts v)) ≡ v
 pre_charge_req_read v =
-    by_parts (pre_charge_req_in) (pre_charge_req_parts v)
-    ∙ (ap (pre_charge_req_with v) (dc_ev_status_read v.dc_ev_status)
-    ⊛ (physical_value_read v.ev_target_voltage)
-    ⊛ (physical_value_read v.ev_target_current))
-
-abbrev pre_charge_res_with : PreChargeRes → ResponseCode → DcEvseStatus → PhysicalValue → PreChargeRes
-pre_charge_res_with v new_response_code new_dc_evse_status new_evse_present_voltage = record {
-  response_code = new_response_code;
-  dc_evse_status = new_dc_evse_status;
-  evse_present_voltage = new_evse_present_voltage;
-}
+    by_parts pre_charge_req_in (pre_charge_req_parts v)
+    ∙ (λ i. record {
+      dc_ev_status = dc_ev_status_read v.dc_ev_status i;
+      ev_target_voltage = physical_value_read v.ev_target_voltage i;
+      ev_target_current = physical_value_read v.ev_target_current i;
+    })
 
 pub pre_charge_res_read : (v : PreChargeRes) → pre_charge_res_in (of_parts (pre_charge_res_parts v)) ≡ v
 pre_charge_res_read v =
-    by_parts (pre_charge_res_in) (pre_charge_res_parts v)
-    ∙ (ap (pre_charge_res_with v) (response_code_back v.response_code)
-    ⊛ (dc_evse_status_read v.dc_evse_status)
-    ⊛ (physical_value_read v.evse_present_voltage))
-
-abbrev current_demand_req_with : CurrentDemandReq → DcEvStatus → PhysicalValue → Option PhysicalValue → Option PhysicalValue → Option PhysicalValue → Option Bool → Option PhysicalValue → Option PhysicalValue → PhysicalValue → CurrentDemandReq
-current_demand_req_with v new_dc_ev_status new_ev_target_current new_ev_maximum_voltage_limit new_ev_maximum_current_limit new_ev_maximum_power_limit new_bulk_charging_complete new_remaining_time_to_full_so_c new_remaining_time_to_bulk_so_c new_ev_target_voltage = record {
-  dc_ev_status = new_dc_ev_status;
-  ev_target_current = new_ev_target_current;
-  ev_maximum_voltage_limit = new_ev_maximum_voltage_limit;
-  ev_maximum_current_limit = new_ev_maximum_current_limit;
-  ev_maximum_power_limit = new_ev_maximum_power_limit;
-  bulk_charging_complete = new_bulk_charging_complete;
-  charging_complete = v.charging_complete;
-  remaining_time_to_full_so_c = new_remaining_time_to_full_so_c;
-  remaining_time_to_bulk_so_c = new_remaining_time_to_bulk_so_c;
-  ev_target_voltage = new_ev_target_voltage;
-}
+    by_parts pre_charge_res_in (pre_charge_res_parts v)
+    ∙ (λ i. record {
+      response_code = response_code_back v.response_code i;
+      dc_evse_status = dc_evse_status_read v.dc_evse_status i;
+      evse_present_voltage = physical_value_read v.evse_present_voltage i;
+    })
 
 pub current_demand_req_read : (v : CurrentDemandReq) → current_demand_req_in (of_parts (current_demand_req_parts v)) ≡ v
 current_demand_req_read v =
-    by_parts (current_demand_req_in) (current_demand_req_parts v)
-    ∙ (ap (current_demand_req_with v) (dc_ev_status_read v.dc_ev_status)
-    ⊛ (physical_value_read v.ev_target_current)
-    ⊛ (same_if (λ (i : Inside). physical_value_in (children i)) (λ (x : PhysicalValue). holding (physical_value_parts x)) (λ (x : PhysicalValue). physical_value_read x) v.ev_maximum_voltage_limit)
-    ⊛ (same_if (λ (i : Inside). physical_value_in (children i)) (λ (x : PhysicalValue). holding (physical_value_parts x)) (λ (x : PhysicalValue). physical_value_read x) v.ev_maximum_current_limit)
-    ⊛ (same_if (λ (i : Inside). physical_value_in (children i)) (λ (x : PhysicalValue). holding (physical_value_parts x)) (λ (x : PhysicalValue). physical_value_read x) v.ev_maximum_power_limit)
-    ⊛ (same_if (λ (i : Inside). truth_in i) (λ (x : Bool). Of (Truth x)) (λ (x : Bool). refl) v.bulk_charging_complete)
-    ⊛ (same_if (λ (i : Inside). physical_value_in (children i)) (λ (x : PhysicalValue). holding (physical_value_parts x)) (λ (x : PhysicalValue). physical_value_read x) v.remaining_time_to_full_so_c)
-    ⊛ (same_if (λ (i : Inside). physical_value_in (children i)) (λ (x : PhysicalValue). holding (physical_value_parts x)) (λ (x : PhysicalValue). physical_value_read x) v.remaining_time_to_bulk_so_c)
-    ⊛ (physical_value_read v.ev_target_voltage))
+    by_parts current_demand_req_in (current_demand_req_parts v)
+    ∙ (λ i. record {
+      dc_ev_status = dc_ev_status_read v.dc_ev_status i;
+      ev_target_current = physical_value_read v.ev_target_current i;
+      ev_maximum_voltage_limit = same_if (λ (found : Inside). physical_value_in (children found))
+        (λ (x : PhysicalValue). holding (physical_value_parts x))
+        (λ (x : PhysicalValue). physical_value_read x) v.ev_maximum_voltage_limit i;
+      ev_maximum_current_limit = same_if (λ (found : Inside). physical_value_in (children found))
+        (λ (x : PhysicalValue). holding (physical_value_parts x))
+        (λ (x : PhysicalValue). physical_value_read x) v.ev_maximum_current_limit i;
+      ev_maximum_power_limit = same_if (λ (found : Inside). physical_value_in (children found))
+        (λ (x : PhysicalValue). holding (physical_value_parts x))
+        (λ (x : PhysicalValue). physical_value_read x) v.ev_maximum_power_limit i;
+      bulk_charging_complete = same_if (λ (found : Inside). truth_in found) (λ (x : Bool). Of (Truth x))
+        (λ (x : Bool). refl) v.bulk_charging_complete i;
+      charging_complete = v.charging_complete;
+      remaining_time_to_full_so_c = same_if (λ (found : Inside). physical_value_in (children found))
+        (λ (x : PhysicalValue). holding (physical_value_parts x))
+        (λ (x : PhysicalValue). physical_value_read x) v.remaining_time_to_full_so_c i;
+      remaining_time_to_bulk_so_c = same_if (λ (found : Inside). physical_value_in (children found))
+        (λ (x : PhysicalValue). holding (physical_value_parts x))
+        (λ (x : PhysicalValue). physical_value_read x) v.remaining_time_to_bulk_so_c i;
+      ev_target_voltage = physical_value_read v.ev_target_voltage i;
+    })
 
-abbrev current_demand_res_with : Lends → CurrentDemandRes → ResponseCode → DcEvseStatus → PhysicalValue → PhysicalValue → Option PhysicalValue → Option PhysicalValue → Option PhysicalValue → Option MeterInfo → Option Bool → CurrentDemandRes
-current_demand_res_with l v new_response_code new_dc_evse_status new_evse_present_voltage new_evse_present_current new_evse_maximum_voltage_limit new_evse_maximum_current_limit new_evse_maximum_power_limit new_meter_info new_receipt_required = record {
-  response_code = new_response_code;
-  dc_evse_status = new_dc_evse_status;
-  evse_present_voltage = new_evse_present_voltage;
-  evse_present_current = new_evse_present_current;
-  evse_current_limit_achieved = v.evse_current_limit_achieved;
-  evse_voltage_limit_achieved = v.evse_voltage_limit_achieved;
-  evse_power_limit_achieved = v.evse_power_limit_achieved;
-  evse_maximum_voltage_limit = new_evse_maximum_voltage_limit;
-  evse_maximum_current_limit = new_evse_maximum_current_limit;
-  evse_maximum_power_limit = new_evse_maximum_power_limit;
-  evseid = l.text (chars_of v.evseid);
-  sa_schedule_tuple_id = v.sa_schedule_tuple_id;
-  meter_info = new_meter_info;
-  receipt_required = new_receipt_required;
-}
-
-pub current_demand_res_read : (l : Lends) (v : CurrentDemandRes) → current_demand_res_in l (of_parts (current_demand_res_parts v)) ≡ settled_current_demand_res l v
+pub current_demand_res_read : (l : Lends) (v : CurrentDemandRes) → current_demand_res_in l (of_parts (current_demand_res_parts v))
+    ≡ settled_current_demand_res l v
 current_demand_res_read l v =
     by_parts (current_demand_res_in l) (current_demand_res_parts v)
-    ∙ (ap (current_demand_res_with l v) (response_code_back v.response_code)
-    ⊛ (dc_evse_status_read v.dc_evse_status)
-    ⊛ (physical_value_read v.evse_present_voltage)
-    ⊛ (physical_value_read v.evse_present_current)
-    ⊛ (same_if (λ (i : Inside). physical_value_in (children i)) (λ (x : PhysicalValue). holding (physical_value_parts x)) (λ (x : PhysicalValue). physical_value_read x) v.evse_maximum_voltage_limit)
-    ⊛ (same_if (λ (i : Inside). physical_value_in (children i)) (λ (x : PhysicalValue). holding (physical_value_parts x)) (λ (x : PhysicalValue). physical_value_read x) v.evse_maximum_current_limit)
-    ⊛ (same_if (λ (i : Inside). physical_value_in (children i)) (λ (x : PhysicalValue). holding (physical_value_parts x)) (λ (x : PhysicalValue). physical_value_read x) v.evse_maximum_power_limit)
-    ⊛ (reads_if (λ (i : Inside). meter_info_in l (children i)) (λ (x : MeterInfo). holding (meter_info_parts x)) (λ (x : MeterInfo). settled_meter_info l x) (λ (x : MeterInfo). meter_info_read l x) v.meter_info)
-    ⊛ (same_if (λ (i : Inside). truth_in i) (λ (x : Bool). Of (Truth x)) (λ (x : Bool). refl) v.receipt_required))
-
-abbrev welding_detection_req_with : WeldingDetectionReq → DcEvStatus → WeldingDetectionReq
-welding_detection_req_with v new_dc_ev_status = record { dc_ev_status = new_dc_ev_status }
+    ∙ (λ i. record {
+      response_code = response_code_back v.response_code i;
+      dc_evse_status = dc_evse_status_read v.dc_evse_status i;
+      evse_present_voltage = physical_value_read v.evse_present_voltage i;
+      evse_present_current = physical_value_read v.evse_present_current i;
+      evse_current_limit_achieved = v.evse_current_limit_achieved;
+      evse_voltage_limit_achieved = v.evse_voltage_limit_achieved;
+      evse_power_limit_achieved = v.evse_power_limit_achieved;
+      evse_maximum_voltage_limit = same_if (λ (found : Inside). physical_value_in (children found))
+        (λ (x : PhysicalValue). holding (physical_value_parts x))
+        (λ (x : PhysicalValue). physical_value_read x) v.evse_maximum_voltage_limit i;
+      evse_maximum_current_limit = same_if (λ (found : Inside). physical_value_in (children found))
+        (λ (x : PhysicalValue). holding (physical_value_parts x))
+        (λ (x : PhysicalValue). physical_value_read x) v.evse_maximum_current_limit i;
+      evse_maximum_power_limit = same_if (λ (found : Inside). physical_value_in (children found))
+        (λ (x : PhysicalValue). holding (physical_value_parts x))
+        (λ (x : PhysicalValue). physical_value_read x) v.evse_maximum_power_limit i;
+      evseid = l.text (chars_of v.evseid);
+      sa_schedule_tuple_id = v.sa_schedule_tuple_id;
+      meter_info = reads_if (λ (found : Inside). meter_info_in l (children found)) (λ (x : MeterInfo). holding (meter_info_parts x))
+        (λ (x : MeterInfo). settled_meter_info l x) (λ (x : MeterInfo). meter_info_read l x) v.meter_info i;
+      receipt_required = same_if (λ (found : Inside). truth_in found) (λ (x : Bool). Of (Truth x))
+        (λ (x : Bool). refl) v.receipt_required i;
+    })
 
 pub welding_detection_req_read : (v : WeldingDetectionReq) → welding_detection_req_in (of_parts (welding_detection_req_parts v)) ≡ v
 welding_detection_req_read v =
-    by_parts (welding_detection_req_in) (welding_detection_req_parts v)
-    ∙ (ap (welding_detection_req_with v) (dc_ev_status_read v.dc_ev_status))
-
-abbrev welding_detection_res_with : WeldingDetectionRes → ResponseCode → DcEvseStatus → PhysicalValue → WeldingDetectionRes
-welding_detection_res_with v new_response_code new_dc_evse_status new_evse_present_voltage = record {
-  response_code = new_response_code;
-  dc_evse_status = new_dc_evse_status;
-  evse_present_voltage = new_evse_present_voltage;
-}
+    by_parts welding_detection_req_in (welding_detection_req_parts v)
+    ∙ (λ i. record {
+      dc_ev_status = dc_ev_status_read v.dc_ev_status i;
+    })
 
 pub welding_detection_res_read : (v : WeldingDetectionRes) → welding_detection_res_in (of_parts (welding_detection_res_parts v)) ≡ v
 welding_detection_res_read v =
-    by_parts (welding_detection_res_in) (welding_detection_res_parts v)
-    ∙ (ap (welding_detection_res_with v) (response_code_back v.response_code)
-    ⊛ (dc_evse_status_read v.dc_evse_status)
-    ⊛ (physical_value_read v.evse_present_voltage))
+    by_parts welding_detection_res_in (welding_detection_res_parts v)
+    ∙ (λ i. record {
+      response_code = response_code_back v.response_code i;
+      dc_evse_status = dc_evse_status_read v.dc_evse_status i;
+      evse_present_voltage = physical_value_read v.evse_present_voltage i;
+    })

@@ -23,7 +23,8 @@ parameter_value_in l x =
     or_last (option_map (λ inside. parameter_value.Byte (number_in inside)) (head (x BYTE_VALUE))) (
     or_last (option_map (λ inside. parameter_value.Short (number_in inside)) (head (x SHORT_VALUE))) (
     or_last (option_map (λ inside. parameter_value.Int (number_in inside)) (head (x INT_VALUE))) (
-    or_last (option_map (λ inside. parameter_value.Physical (physical_value_in (children inside))) (head (x PHYSICAL_VALUE))) (parameter_value.String (l.text (text (x STRING_VALUE))))))))
+    or_last (option_map (λ inside. parameter_value.Physical (physical_value_in (children inside))) (head (x PHYSICAL_VALUE))) 
+    (parameter_value.String (l.text (text (x STRING_VALUE))))))))
 
 abbrev pub settled_parameter_value : Lends → ParameterValue → ParameterValue
 settled_parameter_value l (parameter_value.Bool x) = parameter_value.Bool x
@@ -34,10 +35,16 @@ settled_parameter_value l (parameter_value.Physical x) = parameter_value.Physica
 settled_parameter_value l (parameter_value.String x) = parameter_value.String (l.text (chars_of x))
 
 abbrev pub parameter_in : Lends → List (ℕ × Value) → Children → Parameter
-parameter_in l given x = record { name = l.text (text_if (attribute_named NAME given)); value = parameter_value_in l x }
+parameter_in l given x = record {
+  name = l.text (text_if (attribute_named NAME given));
+  value = parameter_value_in l x;
+}
 
 abbrev pub settled_parameter : Lends → Parameter → Parameter
-settled_parameter l v = record { name = l.text (chars_of v.name); value = settled_parameter_value l v.value }
+settled_parameter l v = record {
+  name = l.text (chars_of v.name);
+  value = settled_parameter_value l v.value;
+}
 
 abbrev pub parameter_set_in : Lends → Children → ParameterSet
 parameter_set_in l x = record {

@@ -17,7 +17,10 @@ notification_in l x = record {
 }
 
 abbrev pub settled_notification : Lends → Notification → Notification
-settled_notification l v = record { fault_code = v.fault_code; fault_msg = option_map (λ x. l.text (chars_of x)) v.fault_msg }
+settled_notification l v = record {
+  fault_code = v.fault_code;
+  fault_msg = option_map (λ x. l.text (chars_of x)) v.fault_msg;
+}
 
 abbrev pub header_in : Lends → Children → Header
 header_in l x = record {

@@ -27,7 +27,10 @@ time_interval_in x =
     time_interval.Relative (relative_time_interval_in (within (x RELATIVE_TIME_INTERVAL)))
 
 abbrev pub p_max_schedule_entry_in : Children → PMaxScheduleEntry
-p_max_schedule_entry_in x = record { time_interval = time_interval_in x; p_max = physical_value_in (within (x P_MAX)) }
+p_max_schedule_entry_in x = record {
+  time_interval = time_interval_in x;
+  p_max = physical_value_in (within (x P_MAX));
+}
 
 abbrev pub p_max_schedule_in : Children → PMaxSchedule
 p_max_schedule_in x = record {
@@ -47,4 +50,5 @@ sa_schedule_list_in x = record {
 
 abbrev pub sa_schedules_if : Children → Option SaSchedules
 sa_schedules_if x =
-    or_next (option_map (λ inside. sa_schedules.SaScheduleList (sa_schedule_list_in (children inside))) (head (x SA_SCHEDULE_LIST))) None
+    or_next (option_map (λ inside. sa_schedules.SaScheduleList (sa_schedule_list_in (children inside))) (head (x SA_SCHEDULE_LIST))) 
+    None

@@ -34,10 +34,14 @@ settled_service l v = record {
 }
 
 abbrev pub service_list_in : Lends → Children → ServiceList
-service_list_in l x = record { service = record { items = map (λ inside. service_in l (children inside)) (x SERVICE) } }
+service_list_in l x = record {
+  service = record { items = map (λ inside. service_in l (children inside)) (x SERVICE) };
+}
 
 abbrev pub settled_service_list : Lends → ServiceList → ServiceList
-settled_service_list l v = record { service = record { items = map (λ x. settled_service l x) v.service.items } }
+settled_service_list l v = record {
+  service = record { items = map (λ x. settled_service l x) v.service.items };
+}
 
 abbrev pub supported_energy_transfer_mode_in : Children → SupportedEnergyTransferMode
 supported_energy_transfer_mode_in x = record {

@@ -55,7 +55,9 @@ authorization_res_in x = record {
 }
 
 abbrev pub session_stop_req_in : Children → SessionStopReq
-session_stop_req_in x = record { charging_session = charging_session_at (ordinal (x CHARGING_SESSION)) }
+session_stop_req_in x = record {
+  charging_session = charging_session_at (ordinal (x CHARGING_SESSION));
+}
 
 abbrev pub session_stop_res_in : Children → SessionStopRes
 session_stop_res_in x = record { response_code = response_code_at (ordinal (x RESPONSE_CODE)) }
