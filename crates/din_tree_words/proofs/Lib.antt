@@ -1,4 +1,3 @@
-pub mod Enumerations
 pub mod Values
 pub mod Setup
 pub mod Parameters

@@ -41,7 +41,7 @@ use Rattle.tree_words.proofs.Held.{held, of_parts, by_parts}
 use Rattle.tree_words.proofs.Lists.{◌⊛◌, reads_each, counts_each}
 use Rattle.din_tree_words.specs.ParameterWords as tree
 use Rattle.din_tree_words.specs.Values.{watts}
-use Rattle.din_tree_words.proofs.Enumerations.{energy_transfer_mode_back, evse_processing_back}
+use Rattle.din_trees.proofs.Codes.{energy_transfer_mode_back, evse_processing_back}
 use Rattle.din_tree_words.proofs.Values.{voltage_read, current_read, power_if_read, state_read, dc_status_read}
 
 -- ---- of a car

@@ -38,7 +38,7 @@ use Rattle.tree_words.specs.Named.{head}
 use Rattle.tree_words.proofs.Held.{kept_if, kept_choice, of_parts, by_parts}
 use Rattle.tree_words.proofs.Lists.{◌⊛◌, reads_if, reads_each}
 use Rattle.din_tree_words.specs.PowerWords as tree
-use Rattle.din_tree_words.proofs.Enumerations.{evse_processing_back}
+use Rattle.din_trees.proofs.Codes.{evse_processing_back}
 use Rattle.din_tree_words.proofs.Values.{voltage_read, current_read, voltage_if_read, current_if_read, power_if_read, state_read, dc_status_read}
 
 -- ---- direct current

@@ -23,7 +23,7 @@ use Rattle.tree_words.specs.Named.{children}
 use Rattle.tree_words.proofs.Held.{of_parts, by_parts}
 use Rattle.tree_words.proofs.Lists.{reads_each}
 use Rattle.din_tree_words.specs.SetupWords as tree
-use Rattle.din_tree_words.proofs.Enumerations.{supported_energy_transfer_type_back, payment_option_back, evse_processing_back}
+use Rattle.din_trees.proofs.Codes.{supported_energy_transfer_type_back, payment_option_back, evse_processing_back}
 
 abbrev discovery : Bool → OfferedMode → Tell
 discovery free mode = tell.ServiceDiscovery free (record { items = mode ∷ [] })

@@ -23,9 +23,9 @@ use Rattle.tree_words.specs.Leaves.{natural, ordinal_in}
 use Rattle.tree_words.specs.Named.{children, head}
 use Rattle.tree_words.proofs.Held.{kept_if, of_parts, by_parts}
 use Rattle.tree_words.proofs.Lists.{◌⊛◌, reads_if}
-use Rattle.din_tree_words.specs.Enumerations.{unit_symbol_at, isolation_level_at}
+use Rattle.din_trees.specs.Enumerations.{unit_symbol_at, isolation_level_at}
 use Rattle.din_tree_words.specs.Values.{voltage_in, current_in, power_in, voltage_if, current_if, power_if, dc_status_in}
-use Rattle.din_tree_words.proofs.Enumerations.{unit_symbol_back, evse_notification_back, isolation_level_back, evse_status_code_back}
+use Rattle.din_trees.proofs.Enumerations.{unit_symbol_back, evse_notification_back, isolation_level_back, evse_status_code_back}
 
 abbrev unit_inside : UnitSymbol → Inside
 unit_inside unit = Of (Ordinal (unit_symbol_ordinal unit))

@@ -18,7 +18,7 @@ use Rattle.din_values.specs.Modes.{mode_of}
 use Rattle.din_words.specs.ParameterWords.{least_of}
 use Rattle.tree_words.specs.Leaves.{ordinal, number}
 use Rattle.tree_words.specs.Named.{Children, children, head, within}
-use Rattle.din_tree_words.specs.Enumerations.{energy_transfer_mode_at}
+use Rattle.din_trees.specs.Codes.{energy_transfer_mode_at}
 use Rattle.din_tree_words.specs.Values.{voltage, current, power_if, watts, is_ready, charge_state, dc_status, processing_in}
 
 -- ---- of a car

@@ -12,7 +12,7 @@ use Rattle.din_values.specs.States.{is_external}
 use Rattle.word_values.specs.Items.{fitting}
 use Rattle.tree_words.specs.Leaves.{truth, ordinal, natural, bytes}
 use Rattle.tree_words.specs.Named.{Children, children, within}
-use Rattle.din_tree_words.specs.Enumerations.{supported_energy_transfer_type_at, payment_option_at}
+use Rattle.din_trees.specs.Codes.{supported_energy_transfer_type_at, payment_option_at}
 use Rattle.din_tree_words.specs.Values.{processing_in}
 
 abbrev pub setup_ask : Children → Ask

@@ -11,3 +11,4 @@ pub mod Discovery
 pub mod Charging
 pub mod Delivery
 pub mod Message
+pub mod Trees

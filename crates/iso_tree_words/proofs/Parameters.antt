@@ -46,7 +46,7 @@ use Rattle.tree_words.proofs.Held.{held, of_parts, by_parts}
 use Rattle.tree_words.proofs.Lists.{◌⊛◌, reads_each, reads_all, counts_each}
 use Rattle.iso_tree_words.specs.ParameterWords as tree
 use Rattle.iso_tree_words.specs.Values.{power}
-use Rattle.iso_tree_words.proofs.Enumerations.{energy_transfer_mode_back, evse_processing_back}
+use Rattle.iso_trees.proofs.Codes.{energy_transfer_mode_back, evse_processing_back}
 use Rattle.iso_tree_words.proofs.Values.{voltage_read, current_read, power_read, power_if_read, notify_read, dc_status_read}
 
 -- ---- of a car

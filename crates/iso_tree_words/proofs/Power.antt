@@ -40,7 +40,7 @@ use Rattle.tree_words.specs.Named.{head}
 use Rattle.tree_words.proofs.Held.{kept_if, kept_choice, of_parts, by_parts}
 use Rattle.tree_words.proofs.Lists.{◌⊛◌, reads_if, reads_each, reads_all}
 use Rattle.iso_tree_words.specs.PowerWords as tree
-use Rattle.iso_tree_words.proofs.Enumerations.{evse_processing_back, charge_progress_back}
+use Rattle.iso_trees.proofs.Codes.{evse_processing_back, charge_progress_back}
 use Rattle.iso_tree_words.proofs.Values.{voltage_read, current_read, power_read, voltage_if_read, current_if_read, power_if_read, notify_read, dc_status_read}
 
 -- ---- direct current

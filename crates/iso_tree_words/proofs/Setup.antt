@@ -29,7 +29,7 @@ use Rattle.tree_words.specs.Named.{children}
 use Rattle.tree_words.proofs.Held.{of_parts, by_parts}
 use Rattle.tree_words.proofs.Lists.{reads_each}
 use Rattle.iso_tree_words.specs.SetupWords as tree
-use Rattle.iso_tree_words.proofs.Enumerations.{energy_transfer_mode_back, payment_option_back, evse_processing_back, charging_session_back}
+use Rattle.iso_trees.proofs.Codes.{energy_transfer_mode_back, payment_option_back, evse_processing_back, charging_session_back}
 
 abbrev mode_inside : EnergyTransferMode → Inside
 mode_inside mode = Of (Ordinal (energy_transfer_mode_ordinal mode))

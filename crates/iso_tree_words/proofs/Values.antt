@@ -22,9 +22,9 @@ use Rattle.tree_words.specs.Leaves.{ordinal_in}
 use Rattle.tree_words.specs.Named.{children}
 use Rattle.tree_words.proofs.Held.{kept_if, of_parts, by_parts}
 use Rattle.tree_words.proofs.Lists.{◌⊛◌, reads_if}
-use Rattle.iso_tree_words.specs.Enumerations.{isolation_level_at}
+use Rattle.iso_trees.specs.Enumerations.{isolation_level_at}
 use Rattle.iso_tree_words.specs.Values.{voltage_in, current_in, power_in, voltage_if, current_if, power_if, notify_in, dc_status_in}
-use Rattle.iso_tree_words.proofs.Enumerations.{unit_symbol_back, evse_notification_back, isolation_level_back, evse_status_code_back}
+use Rattle.iso_trees.proofs.Enumerations.{unit_symbol_back, evse_notification_back, isolation_level_back, evse_status_code_back}
 
 abbrev pub value_inside : PhysicalValue → Inside
 value_inside v = holding (physical_value_parts v)

@@ -17,8 +17,8 @@ use Rattle.iso_words.specs.Words as message
 use Rattle.tree_words.proofs.Held.{first_is}
 use Rattle.iso_tree_words.specs.Words as tree
 use Rattle.iso_parts.specs.Codes.{response_code_ordinal}
-use Rattle.iso_tree_words.specs.Enumerations.{response_code_at}
-use Rattle.iso_tree_words.proofs.Enumerations.{response_code_back}
+use Rattle.iso_trees.specs.Codes.{response_code_at}
+use Rattle.iso_trees.proofs.Codes.{response_code_back}
 use Rattle.iso_tree_words.proofs.Setup.{discovery_read, selection_read, authorization_read, stop_read}
 use Rattle.iso_tree_words.proofs.Parameters.{parameters_asked, parameters_told}
 use Rattle.iso_tree_words.proofs.Power.{cable_check_read, pre_charge_asked, pre_charge_told, delivery_asked, delivery_told, demand_asked, demand_told, charging_told, welding_told}

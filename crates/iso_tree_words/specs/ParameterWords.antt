@@ -20,7 +20,7 @@ use Rattle.iso_values.specs.Modes.{mode_of}
 use Rattle.iso_words.specs.ParameterWords.{least_of}
 use Rattle.tree_words.specs.Leaves.{ordinal, number}
 use Rattle.tree_words.specs.Named.{Children, children, head, within}
-use Rattle.iso_tree_words.specs.Enumerations.{energy_transfer_mode_at}
+use Rattle.iso_trees.specs.Codes.{energy_transfer_mode_at}
 use Rattle.iso_tree_words.specs.Values.{voltage, current, power, power_if, is_ready, charge_state, notify_in, dc_status, processing_in}
 
 -- ---- of a car

@@ -18,7 +18,7 @@ use Rattle.iso_values.specs.States.{progress_of}
 use Rattle.word_values.specs.Items.{evse_bytes}
 use Rattle.tree_words.specs.Leaves.{truth, ordinal, number, text}
 use Rattle.tree_words.specs.Named.{Children, children, head, within}
-use Rattle.iso_tree_words.specs.Enumerations.{charge_progress_at}
+use Rattle.iso_trees.specs.Codes.{charge_progress_at}
 use Rattle.iso_tree_words.specs.Values.{voltage, current, power, voltage_if, current_if, power_if, is_ready, charge_state, notify_in, dc_status, processing_in}
 
 abbrev pub evse_in : Children → EvseId

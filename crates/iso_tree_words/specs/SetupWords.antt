@@ -14,7 +14,7 @@ use Rattle.iso_values.specs.States.{is_external, is_pause}
 use Rattle.word_values.specs.Items.{fitting, evse_bytes}
 use Rattle.tree_words.specs.Leaves.{truth, ordinal, natural, bytes, text, ordinal_in}
 use Rattle.tree_words.specs.Named.{Children, children, within}
-use Rattle.iso_tree_words.specs.Enumerations.{energy_transfer_mode_at, payment_option_at, charging_session_at}
+use Rattle.iso_trees.specs.Codes.{energy_transfer_mode_at, payment_option_at, charging_session_at}
 use Rattle.iso_tree_words.specs.Values.{processing_in}
 
 abbrev pub setup_ask : Children → Ask

@@ -14,7 +14,8 @@ use Rattle.iso_values.specs.Physical.{is_volt, is_ampere, is_watt}
 use Rattle.iso_values.specs.States.{isolation_of, status_code_of, notify_of, processing_of}
 use Rattle.tree_words.specs.Leaves.{truth, ordinal, number, natural, ordinal_in}
 use Rattle.tree_words.specs.Named.{Children, children, head, within}
-use Rattle.iso_tree_words.specs.Enumerations.{response_code_at, evse_processing_at, unit_symbol_at, evse_notification_at, isolation_level_at, evse_status_code_at}
+use Rattle.iso_trees.specs.Enumerations.{unit_symbol_at, evse_notification_at, isolation_level_at, evse_status_code_at}
+use Rattle.iso_trees.specs.Codes.{response_code_at, evse_processing_at}
 
 -- ---- of a PhysicalValue
 

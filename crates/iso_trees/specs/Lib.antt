@@ -12,3 +12,4 @@ pub mod Discovery
 pub mod Charging
 pub mod Delivery
 pub mod Message
+pub mod Trees
