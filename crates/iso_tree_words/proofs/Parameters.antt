@@ -79,7 +79,7 @@ pub parameters_asked : (x : ChargeParameterDiscoveryReq)
 parameters_asked x =
     by_parts tree.parameters_ask (charge_parameter_discovery_req_parts x)
     ∙ ap₂ (λ m l. ask.ChargeParameters (mode_of m) l) (energy_transfer_mode_back x.requested_energy_transfer_mode)
-      (car_read x.max_entries_sa_schedule_tuple x.requested_energy_transfer_mode x.ev_charge_parameter)
+    (car_read x.max_entries_sa_schedule_tuple x.requested_energy_transfer_mode x.ev_charge_parameter)
 
 -- ---- schedules
 

@@ -61,7 +61,7 @@ pub demand_asked : (x : CurrentDemandReq) → tree.demand_ask (of_parts (current
 demand_asked x =
     by_parts tree.demand_ask (current_demand_req_parts x)
     ∙ ap₂ (λ v c. ask.CurrentDemand x.dc_ev_status.ev_ready x.dc_ev_status.evress_soc v c)
-      (voltage_read x.ev_target_voltage) (current_read x.ev_target_current)
+    (voltage_read x.ev_target_voltage) (current_read x.ev_target_current)
 
 -- what doesn't change with how it is read
 abbrev demand : CurrentDemandRes → DcStatus → Amount → Amount → Option Amount → Option Amount → Option Amount → Tell
@@ -127,7 +127,7 @@ pub delivery_asked : (x : PowerDeliveryReq) → tree.delivery_ask (of_parts (pow
 delivery_asked x =
     by_parts tree.delivery_ask (power_delivery_req_parts x)
     ∙ ap₂ (λ p a. ask.PowerDelivery (progress_of p) (Some (pos x.sa_schedule_tuple_id)) a)
-      (charge_progress_back x.charge_progress) (profiles_read x.charging_profile x.ev_power_delivery_parameter)
+    (charge_progress_back x.charge_progress) (profiles_read x.charging_profile x.ev_power_delivery_parameter)
 
 abbrev reply_parts : ℕ → EvseStatus → List Part
 reply_parts code status = one RESPONSE_CODE (Of (Ordinal code)) ∷ one (evse_status_name status) (evse_status_inside status) ∷ []

@@ -36,15 +36,17 @@ profile_entry_read v =
       charging_profile_entry_start = v.charging_profile_entry_start;
       charging_profile_entry_max_power = physical_value_read v.charging_profile_entry_max_power i;
       charging_profile_entry_max_number_of_phases_in_use = same_if (λ (found : Inside). natural_in found) (λ (x : ℕ). Of (Number (pos x)))
-        (λ (x : ℕ). refl) v.charging_profile_entry_max_number_of_phases_in_use i;
+          (λ (x : ℕ). refl) v.charging_profile_entry_max_number_of_phases_in_use i;
     })
 
 pub charging_profile_read : (v : ChargingProfile) → charging_profile_in (of_parts (charging_profile_parts v)) ≡ v
 charging_profile_read v =
     by_parts charging_profile_in (charging_profile_parts v)
     ∙ (λ i. record {
-      profile_entry = record { items = same_each (λ (found : Inside). profile_entry_in (children found))
-        (λ (x : ProfileEntry). holding (profile_entry_parts x)) (λ (x : ProfileEntry). profile_entry_read x) v.profile_entry.items i };
+      profile_entry = record {
+        items = same_each (λ (found : Inside). profile_entry_in (children found))
+            (λ (x : ProfileEntry). holding (profile_entry_parts x)) (λ (x : ProfileEntry). profile_entry_read x) v.profile_entry.items i;
+      };
     })
 
 pub dc_ev_power_delivery_parameter_read : (v : DcEvPowerDeliveryParameter)
@@ -54,7 +56,7 @@ dc_ev_power_delivery_parameter_read v =
     ∙ (λ i. record {
       dc_ev_status = dc_ev_status_read v.dc_ev_status i;
       bulk_charging_complete = same_if (λ (found : Inside). truth_in found) (λ (x : Bool). Of (Truth x))
-        (λ (x : Bool). refl) v.bulk_charging_complete i;
+          (λ (x : Bool). refl) v.bulk_charging_complete i;
       charging_complete = v.charging_complete;
     })
 
@@ -69,20 +71,20 @@ power_delivery_req_of charge_progress sa_schedule_tuple_id charging_profile ev_p
 power_delivery_req_at : (charge_progress : ChargeProgress) (sa_schedule_tuple_id : ℕ) (charging_profile : Option ChargingProfile)
     (ev_power_delivery_parameter : Option EvPowerDeliveryParameter)
     → power_delivery_req_in (held (power_delivery_req_parts
-      (power_delivery_req_of charge_progress sa_schedule_tuple_id charging_profile ev_power_delivery_parameter)))
+    (power_delivery_req_of charge_progress sa_schedule_tuple_id charging_profile ev_power_delivery_parameter)))
     ≡ power_delivery_req_of charge_progress sa_schedule_tuple_id charging_profile ev_power_delivery_parameter
 power_delivery_req_at charge_progress sa_schedule_tuple_id charging_profile None = λ i. record {
   charge_progress = charge_progress_back charge_progress i;
   sa_schedule_tuple_id = sa_schedule_tuple_id;
   charging_profile = same_if (λ (found : Inside). charging_profile_in (children found))
-    (λ (x : ChargingProfile). holding (charging_profile_parts x)) (λ (x : ChargingProfile). charging_profile_read x) charging_profile i;
+      (λ (x : ChargingProfile). holding (charging_profile_parts x)) (λ (x : ChargingProfile). charging_profile_read x) charging_profile i;
   ev_power_delivery_parameter = None;
 }
 power_delivery_req_at charge_progress sa_schedule_tuple_id charging_profile (Some (ev_power_delivery_parameter.Dc y)) = λ i. record {
   charge_progress = charge_progress_back charge_progress i;
   sa_schedule_tuple_id = sa_schedule_tuple_id;
   charging_profile = same_if (λ (found : Inside). charging_profile_in (children found))
-    (λ (x : ChargingProfile). holding (charging_profile_parts x)) (λ (x : ChargingProfile). charging_profile_read x) charging_profile i;
+      (λ (x : ChargingProfile). holding (charging_profile_parts x)) (λ (x : ChargingProfile). charging_profile_read x) charging_profile i;
   ev_power_delivery_parameter = Some (ev_power_delivery_parameter.Dc (dc_ev_power_delivery_parameter_read y i));
 }
 
@@ -120,10 +122,10 @@ charging_status_res_read l v =
       evseid = l.text (chars_of v.evseid);
       sa_schedule_tuple_id = v.sa_schedule_tuple_id;
       evse_max_current = same_if (λ (found : Inside). physical_value_in (children found))
-        (λ (x : PhysicalValue). holding (physical_value_parts x)) (λ (x : PhysicalValue). physical_value_read x) v.evse_max_current i;
+          (λ (x : PhysicalValue). holding (physical_value_parts x)) (λ (x : PhysicalValue). physical_value_read x) v.evse_max_current i;
       meter_info = reads_if (λ (found : Inside). meter_info_in l (children found)) (λ (x : MeterInfo). holding (meter_info_parts x))
-        (λ (x : MeterInfo). settled_meter_info l x) (λ (x : MeterInfo). meter_info_read l x) v.meter_info i;
+          (λ (x : MeterInfo). settled_meter_info l x) (λ (x : MeterInfo). meter_info_read l x) v.meter_info i;
       receipt_required = same_if (λ (found : Inside). truth_in found) (λ (x : Bool). Of (Truth x))
-        (λ (x : Bool). refl) v.receipt_required i;
+          (λ (x : Bool). refl) v.receipt_required i;
       ac_evse_status = ac_evse_status_read v.ac_evse_status i;
     })

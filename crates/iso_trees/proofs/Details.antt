@@ -61,9 +61,11 @@ parameter_set_read l v =
     by_parts (parameter_set_in l) (parameter_set_parts v)
     ∙ (λ i. record {
       parameter_set_id = v.parameter_set_id;
-      parameter = record { items = reads_each (λ (found : Inside). parameter_in l (given_in found) (children found))
-        (λ (x : Parameter). holding_with (parameter_given x) (parameter_parts x)) (λ (x : Parameter). settled_parameter l x)
-        (λ (x : Parameter). parameter_read l x) v.parameter.items i };
+      parameter = record {
+        items = reads_each (λ (found : Inside). parameter_in l (given_in found) (children found))
+            (λ (x : Parameter). holding_with (parameter_given x) (parameter_parts x)) (λ (x : Parameter). settled_parameter l x)
+            (λ (x : Parameter). parameter_read l x) v.parameter.items i;
+      };
     })
 
 pub service_parameter_list_read : (l : Lends) (v : ServiceParameterList)
@@ -71,9 +73,11 @@ pub service_parameter_list_read : (l : Lends) (v : ServiceParameterList)
 service_parameter_list_read l v =
     by_parts (service_parameter_list_in l) (service_parameter_list_parts v)
     ∙ (λ i. record {
-      parameter_set = record { items = reads_each (λ (found : Inside). parameter_set_in l (children found))
-        (λ (x : ParameterSet). holding (parameter_set_parts x)) (λ (x : ParameterSet). settled_parameter_set l x)
-        (λ (x : ParameterSet). parameter_set_read l x) v.parameter_set.items i };
+      parameter_set = record {
+        items = reads_each (λ (found : Inside). parameter_set_in l (children found))
+            (λ (x : ParameterSet). holding (parameter_set_parts x)) (λ (x : ParameterSet). settled_parameter_set l x)
+            (λ (x : ParameterSet). parameter_set_read l x) v.parameter_set.items i;
+      };
     })
 
 pub service_detail_req_read : (v : ServiceDetailReq) → service_detail_req_in (of_parts (service_detail_req_parts v)) ≡ v
@@ -88,7 +92,7 @@ service_detail_res_read l v =
       response_code = response_code_back v.response_code i;
       service_id = v.service_id;
       service_parameter_list = reads_if (λ (found : Inside). service_parameter_list_in l (children found))
-        (λ (x : ServiceParameterList). holding (service_parameter_list_parts x))
-        (λ (x : ServiceParameterList). settled_service_parameter_list l x)
-        (λ (x : ServiceParameterList). service_parameter_list_read l x) v.service_parameter_list i;
+          (λ (x : ServiceParameterList). holding (service_parameter_list_parts x))
+          (λ (x : ServiceParameterList). settled_service_parameter_list l x)
+          (λ (x : ServiceParameterList). service_parameter_list_read l x) v.service_parameter_list i;
     })

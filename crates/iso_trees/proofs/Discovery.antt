@@ -32,17 +32,17 @@ charge_parameter_discovery_req_of max_entries_sa_schedule_tuple requested_energy
 charge_parameter_discovery_req_at : (max_entries_sa_schedule_tuple : Option ℕ) (requested_energy_transfer_mode : EnergyTransferMode)
     (ev_charge_parameter : EvChargeParameter)
     → charge_parameter_discovery_req_in (held (charge_parameter_discovery_req_parts
-      (charge_parameter_discovery_req_of max_entries_sa_schedule_tuple requested_energy_transfer_mode ev_charge_parameter)))
+    (charge_parameter_discovery_req_of max_entries_sa_schedule_tuple requested_energy_transfer_mode ev_charge_parameter)))
     ≡ charge_parameter_discovery_req_of max_entries_sa_schedule_tuple requested_energy_transfer_mode ev_charge_parameter
 charge_parameter_discovery_req_at max_entries_sa_schedule_tuple requested_energy_transfer_mode (ev_charge_parameter.Ac y) = λ i. record {
   max_entries_sa_schedule_tuple = same_if (λ (found : Inside). natural_in found) (λ (x : ℕ). Of (Number (pos x)))
-    (λ (x : ℕ). refl) max_entries_sa_schedule_tuple i;
+      (λ (x : ℕ). refl) max_entries_sa_schedule_tuple i;
   requested_energy_transfer_mode = energy_transfer_mode_back requested_energy_transfer_mode i;
   ev_charge_parameter = ev_charge_parameter.Ac (ac_ev_charge_parameter_read y i);
 }
 charge_parameter_discovery_req_at max_entries_sa_schedule_tuple requested_energy_transfer_mode (ev_charge_parameter.Dc y) = λ i. record {
   max_entries_sa_schedule_tuple = same_if (λ (found : Inside). natural_in found) (λ (x : ℕ). Of (Number (pos x)))
-    (λ (x : ℕ). refl) max_entries_sa_schedule_tuple i;
+      (λ (x : ℕ). refl) max_entries_sa_schedule_tuple i;
   requested_energy_transfer_mode = energy_transfer_mode_back requested_energy_transfer_mode i;
   ev_charge_parameter = ev_charge_parameter.Dc (dc_ev_charge_parameter_read y i);
 }
@@ -65,7 +65,7 @@ charge_parameter_discovery_res_of response_code evse_processing sa_schedules evs
 charge_parameter_discovery_res_at : (response_code : ResponseCode) (evse_processing : EvseProcessing) (sa_schedules : Option SaSchedules)
     (evse_charge_parameter : EvseChargeParameter)
     → charge_parameter_discovery_res_in (held (charge_parameter_discovery_res_parts
-      (charge_parameter_discovery_res_of response_code evse_processing sa_schedules evse_charge_parameter)))
+    (charge_parameter_discovery_res_of response_code evse_processing sa_schedules evse_charge_parameter)))
     ≡ charge_parameter_discovery_res_of response_code evse_processing sa_schedules evse_charge_parameter
 charge_parameter_discovery_res_at response_code evse_processing None (evse_charge_parameter.Ac z) = λ i. record {
   response_code = response_code_back response_code i;
@@ -81,18 +81,18 @@ charge_parameter_discovery_res_at response_code evse_processing None (evse_charg
 }
 charge_parameter_discovery_res_at response_code evse_processing (Some (sa_schedules.SaScheduleList y))
     (evse_charge_parameter.Ac z) = λ i. record {
-  response_code = response_code_back response_code i;
-  evse_processing = evse_processing_back evse_processing i;
-  sa_schedules = Some (sa_schedules.SaScheduleList (sa_schedule_list_read y i));
-  evse_charge_parameter = evse_charge_parameter.Ac (ac_evse_charge_parameter_read z i);
-}
+      response_code = response_code_back response_code i;
+      evse_processing = evse_processing_back evse_processing i;
+      sa_schedules = Some (sa_schedules.SaScheduleList (sa_schedule_list_read y i));
+      evse_charge_parameter = evse_charge_parameter.Ac (ac_evse_charge_parameter_read z i);
+    }
 charge_parameter_discovery_res_at response_code evse_processing (Some (sa_schedules.SaScheduleList y))
     (evse_charge_parameter.Dc z) = λ i. record {
-  response_code = response_code_back response_code i;
-  evse_processing = evse_processing_back evse_processing i;
-  sa_schedules = Some (sa_schedules.SaScheduleList (sa_schedule_list_read y i));
-  evse_charge_parameter = evse_charge_parameter.Dc (dc_evse_charge_parameter_read z i);
-}
+      response_code = response_code_back response_code i;
+      evse_processing = evse_processing_back evse_processing i;
+      sa_schedules = Some (sa_schedules.SaScheduleList (sa_schedule_list_read y i));
+      evse_charge_parameter = evse_charge_parameter.Dc (dc_evse_charge_parameter_read z i);
+    }
 
 pub charge_parameter_discovery_res_read : (v : ChargeParameterDiscoveryRes)
     → charge_parameter_discovery_res_in (of_parts (charge_parameter_discovery_res_parts v)) ≡ v

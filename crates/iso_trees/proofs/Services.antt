@@ -31,10 +31,10 @@ service_read l v =
     ∙ (λ i. record {
       service_id = v.service_id;
       service_name = reads_if (λ (found : Inside). l.text (text_in found)) (λ (x : Text). Of (text_value x)) (λ (x : Text). l.text
-        (chars_of x)) (λ (x : Text). refl) v.service_name i;
+          (chars_of x)) (λ (x : Text). refl) v.service_name i;
       service_category = service_category_back v.service_category i;
       service_scope = reads_if (λ (found : Inside). l.text (text_in found)) (λ (x : Text). Of (text_value x)) (λ (x : Text). l.text
-        (chars_of x)) (λ (x : Text). refl) v.service_scope i;
+          (chars_of x)) (λ (x : Text). refl) v.service_scope i;
       free_service = v.free_service;
     })
 
@@ -42,9 +42,11 @@ pub service_list_read : (l : Lends) (v : ServiceList) → service_list_in l (of_
 service_list_read l v =
     by_parts (service_list_in l) (service_list_parts v)
     ∙ (λ i. record {
-      service = record { items = reads_each (λ (found : Inside). service_in l (children found))
-        (λ (x : Service). holding (service_parts x)) (λ (x : Service). settled_service l x)
-        (λ (x : Service). service_read l x) v.service.items i };
+      service = record {
+        items = reads_each (λ (found : Inside). service_in l (children found))
+            (λ (x : Service). holding (service_parts x)) (λ (x : Service). settled_service l x)
+            (λ (x : Service). service_read l x) v.service.items i;
+      };
     })
 
 pub supported_energy_transfer_mode_read : (v : SupportedEnergyTransferMode)
@@ -52,9 +54,11 @@ pub supported_energy_transfer_mode_read : (v : SupportedEnergyTransferMode)
 supported_energy_transfer_mode_read v =
     by_parts supported_energy_transfer_mode_in (supported_energy_transfer_mode_parts v)
     ∙ (λ i. record {
-      energy_transfer_mode = record { items = same_each (λ (found : Inside). energy_transfer_mode_at (ordinal_in found))
-        (λ (x : EnergyTransferMode). Of (Ordinal (energy_transfer_mode_ordinal x)))
-        (λ (x : EnergyTransferMode). energy_transfer_mode_back x) v.energy_transfer_mode.items i };
+      energy_transfer_mode = record {
+        items = same_each (λ (found : Inside). energy_transfer_mode_at (ordinal_in found))
+            (λ (x : EnergyTransferMode). Of (Ordinal (energy_transfer_mode_ordinal x)))
+            (λ (x : EnergyTransferMode). energy_transfer_mode_back x) v.energy_transfer_mode.items i;
+      };
     })
 
 pub charge_service_read : (l : Lends) (v : ChargeService) → charge_service_in l (of_parts (charge_service_parts v))
@@ -64,10 +68,10 @@ charge_service_read l v =
     ∙ (λ i. record {
       service_id = v.service_id;
       service_name = reads_if (λ (found : Inside). l.text (text_in found)) (λ (x : Text). Of (text_value x)) (λ (x : Text). l.text
-        (chars_of x)) (λ (x : Text). refl) v.service_name i;
+          (chars_of x)) (λ (x : Text). refl) v.service_name i;
       service_category = service_category_back v.service_category i;
       service_scope = reads_if (λ (found : Inside). l.text (text_in found)) (λ (x : Text). Of (text_value x)) (λ (x : Text). l.text
-        (chars_of x)) (λ (x : Text). refl) v.service_scope i;
+          (chars_of x)) (λ (x : Text). refl) v.service_scope i;
       free_service = v.free_service;
       supported_energy_transfer_mode = supported_energy_transfer_mode_read v.supported_energy_transfer_mode i;
     })
@@ -76,9 +80,11 @@ pub payment_option_list_read : (v : PaymentOptionList) → payment_option_list_i
 payment_option_list_read v =
     by_parts payment_option_list_in (payment_option_list_parts v)
     ∙ (λ i. record {
-      payment_option = record { items = same_each (λ (found : Inside). payment_option_at (ordinal_in found))
-        (λ (x : PaymentOption). Of (Ordinal (payment_option_ordinal x)))
-        (λ (x : PaymentOption). payment_option_back x) v.payment_option.items i };
+      payment_option = record {
+        items = same_each (λ (found : Inside). payment_option_at (ordinal_in found))
+            (λ (x : PaymentOption). Of (Ordinal (payment_option_ordinal x)))
+            (λ (x : PaymentOption). payment_option_back x) v.payment_option.items i;
+      };
     })
 
 pub service_discovery_req_read : (l : Lends) (v : ServiceDiscoveryReq)
@@ -87,10 +93,10 @@ service_discovery_req_read l v =
     by_parts (service_discovery_req_in l) (service_discovery_req_parts v)
     ∙ (λ i. record {
       service_scope = reads_if (λ (found : Inside). l.text (text_in found)) (λ (x : Text). Of (text_value x)) (λ (x : Text). l.text
-        (chars_of x)) (λ (x : Text). refl) v.service_scope i;
+          (chars_of x)) (λ (x : Text). refl) v.service_scope i;
       service_category = same_if (λ (found : Inside). service_category_at (ordinal_in found))
-        (λ (x : ServiceCategory). Of (Ordinal (service_category_ordinal x)))
-        (λ (x : ServiceCategory). service_category_back x) v.service_category i;
+          (λ (x : ServiceCategory). Of (Ordinal (service_category_ordinal x)))
+          (λ (x : ServiceCategory). service_category_back x) v.service_category i;
     })
 
 pub service_discovery_res_read : (l : Lends) (v : ServiceDiscoveryRes)
@@ -102,6 +108,6 @@ service_discovery_res_read l v =
       payment_option_list = payment_option_list_read v.payment_option_list i;
       charge_service = charge_service_read l v.charge_service i;
       service_list = reads_if (λ (found : Inside). service_list_in l (children found))
-        (λ (x : ServiceList). holding (service_list_parts x)) (λ (x : ServiceList). settled_service_list l x)
-        (λ (x : ServiceList). service_list_read l x) v.service_list i;
+          (λ (x : ServiceList). holding (service_list_parts x)) (λ (x : ServiceList). settled_service_list l x)
+          (λ (x : ServiceList). service_list_read l x) v.service_list i;
     })

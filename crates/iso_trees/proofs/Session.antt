@@ -39,7 +39,7 @@ session_setup_res_read l v =
 
 authorization_req_id_read : (l : Lends) (o : Option Text)
     → option_map (λ value. l.text (text_of value)) (attribute_named ID (attributes_of (perhaps_given ID (mapped
-      (λ (x : Text). text_value x) o) ∷ [])))
+    (λ (x : Text). text_value x) o) ∷ [])))
     ≡ option_map (λ x. l.text (chars_of x)) o
 authorization_req_id_read l None = refl
 authorization_req_id_read l (Some x) = refl
@@ -51,7 +51,7 @@ authorization_req_read l v =
     ∙ (λ i. record {
       id = authorization_req_id_read l v.id i;
       gen_challenge = reads_if (λ (found : Inside). l.binary (bytes_in found)) (λ (x : Binary). Of (Bytes (items_of x.span)))
-        (λ (x : Binary). l.binary (items_of x.span)) (λ (x : Binary). refl) v.gen_challenge i;
+          (λ (x : Binary). l.binary (items_of x.span)) (λ (x : Binary). refl) v.gen_challenge i;
     })
 
 pub authorization_res_read : (v : AuthorizationRes) → authorization_res_in (of_parts (authorization_res_parts v)) ≡ v

@@ -55,8 +55,8 @@ dc_evse_status_read v =
       notification_max_delay = v.notification_max_delay;
       evse_notification = evse_notification_back v.evse_notification i;
       evse_isolation_status = same_if (λ (found : Inside). isolation_level_at (ordinal_in found))
-        (λ (x : IsolationLevel). Of (Ordinal (isolation_level_ordinal x)))
-        (λ (x : IsolationLevel). isolation_level_back x) v.evse_isolation_status i;
+          (λ (x : IsolationLevel). Of (Ordinal (isolation_level_ordinal x)))
+          (λ (x : IsolationLevel). isolation_level_back x) v.evse_isolation_status i;
       evse_status_code = evse_status_code_back v.evse_status_code i;
     })
 
@@ -67,7 +67,7 @@ meter_info_read l v =
       meter_id = l.text (chars_of v.meter_id);
       meter_reading = same_if (λ (found : Inside). natural_in found) (λ (x : ℕ). Of (Number (pos x))) (λ (x : ℕ). refl) v.meter_reading i;
       sig_meter_reading = reads_if (λ (found : Inside). l.binary (bytes_in found)) (λ (x : Binary). Of (Bytes (items_of x.span)))
-        (λ (x : Binary). l.binary (items_of x.span)) (λ (x : Binary). refl) v.sig_meter_reading i;
+          (λ (x : Binary). l.binary (items_of x.span)) (λ (x : Binary). refl) v.sig_meter_reading i;
       meter_status = same_if (λ (found : Inside). number_in found) (λ (x : ℤ). Of (Number x)) (λ (x : ℤ). refl) v.meter_status i;
       t_meter = same_if (λ (found : Inside). number_in found) (λ (x : ℤ). Of (Number x)) (λ (x : ℤ). refl) v.t_meter i;
     })

@@ -20,43 +20,43 @@ use Rattle.iso_trees.specs.Delivery.{power_delivery_req_in, power_delivery_res_i
 abbrev pub body_element_if : Lends → Children → Option BodyElement
 body_element_if l x =
     or_next (option_map (λ inside. body_element.AuthorizationReq (authorization_req_in l (given_in inside) (children inside)))
-      (head (x AUTHORIZATION_REQ))) (
+    (head (x AUTHORIZATION_REQ))) (
     or_next (option_map (λ inside. body_element.AuthorizationRes (authorization_res_in (children inside))) (head (x AUTHORIZATION_RES))) (
     or_next (option_map (λ inside. body_element.CableCheckReq (cable_check_req_in (children inside))) (head (x CABLE_CHECK_REQ))) (
     or_next (option_map (λ inside. body_element.CableCheckRes (cable_check_res_in (children inside))) (head (x CABLE_CHECK_RES))) (
     or_next (option_map (λ inside. body_element.ChargeParameterDiscoveryReq (charge_parameter_discovery_req_in (children inside)))
-      (head (x CHARGE_PARAMETER_DISCOVERY_REQ))) (
+    (head (x CHARGE_PARAMETER_DISCOVERY_REQ))) (
     or_next (option_map (λ inside. body_element.ChargeParameterDiscoveryRes (charge_parameter_discovery_res_in (children inside)))
-      (head (x CHARGE_PARAMETER_DISCOVERY_RES))) (
+    (head (x CHARGE_PARAMETER_DISCOVERY_RES))) (
     or_next (option_map (λ inside. body_element.ChargingStatusReq (record {})) (head (x CHARGING_STATUS_REQ))) (
     or_next (option_map (λ inside. body_element.ChargingStatusRes (charging_status_res_in l (children inside)))
-      (head (x CHARGING_STATUS_RES))) (
+    (head (x CHARGING_STATUS_RES))) (
     or_next (option_map (λ inside. body_element.CurrentDemandReq (current_demand_req_in (children inside))) (head (x CURRENT_DEMAND_REQ))) (
     or_next (option_map (λ inside. body_element.CurrentDemandRes (current_demand_res_in l (children inside)))
-      (head (x CURRENT_DEMAND_RES))) (
+    (head (x CURRENT_DEMAND_RES))) (
     or_next (option_map (λ inside. body_element.PaymentServiceSelectionReq (payment_service_selection_req_in (children inside)))
-      (head (x PAYMENT_SERVICE_SELECTION_REQ))) (
+    (head (x PAYMENT_SERVICE_SELECTION_REQ))) (
     or_next (option_map (λ inside. body_element.PaymentServiceSelectionRes (payment_service_selection_res_in (children inside)))
-      (head (x PAYMENT_SERVICE_SELECTION_RES))) (
+    (head (x PAYMENT_SERVICE_SELECTION_RES))) (
     or_next (option_map (λ inside. body_element.PowerDeliveryReq (power_delivery_req_in (children inside))) (head (x POWER_DELIVERY_REQ))) (
     or_next (option_map (λ inside. body_element.PowerDeliveryRes (power_delivery_res_in (children inside))) (head (x POWER_DELIVERY_RES))) (
     or_next (option_map (λ inside. body_element.PreChargeReq (pre_charge_req_in (children inside))) (head (x PRE_CHARGE_REQ))) (
     or_next (option_map (λ inside. body_element.PreChargeRes (pre_charge_res_in (children inside))) (head (x PRE_CHARGE_RES))) (
     or_next (option_map (λ inside. body_element.ServiceDetailReq (service_detail_req_in (children inside))) (head (x SERVICE_DETAIL_REQ))) (
     or_next (option_map (λ inside. body_element.ServiceDetailRes (service_detail_res_in l (children inside)))
-      (head (x SERVICE_DETAIL_RES))) (
+    (head (x SERVICE_DETAIL_RES))) (
     or_next (option_map (λ inside. body_element.ServiceDiscoveryReq (service_discovery_req_in l (children inside)))
-      (head (x SERVICE_DISCOVERY_REQ))) (
+    (head (x SERVICE_DISCOVERY_REQ))) (
     or_next (option_map (λ inside. body_element.ServiceDiscoveryRes (service_discovery_res_in l (children inside)))
-      (head (x SERVICE_DISCOVERY_RES))) (
+    (head (x SERVICE_DISCOVERY_RES))) (
     or_next (option_map (λ inside. body_element.SessionSetupReq (session_setup_req_in l (children inside))) (head (x SESSION_SETUP_REQ))) (
     or_next (option_map (λ inside. body_element.SessionSetupRes (session_setup_res_in l (children inside))) (head (x SESSION_SETUP_RES))) (
     or_next (option_map (λ inside. body_element.SessionStopReq (session_stop_req_in (children inside))) (head (x SESSION_STOP_REQ))) (
     or_next (option_map (λ inside. body_element.SessionStopRes (session_stop_res_in (children inside))) (head (x SESSION_STOP_RES))) (
     or_next (option_map (λ inside. body_element.WeldingDetectionReq (welding_detection_req_in (children inside)))
-      (head (x WELDING_DETECTION_REQ))) (
+    (head (x WELDING_DETECTION_REQ))) (
     or_next (option_map (λ inside. body_element.WeldingDetectionRes (welding_detection_res_in (children inside)))
-      (head (x WELDING_DETECTION_RES))) 
+    (head (x WELDING_DETECTION_RES)))
     None)))))))))))))))))))))))))
 
 abbrev pub settled_body_element : Lends → BodyElement → BodyElement

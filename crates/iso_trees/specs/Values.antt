@@ -46,7 +46,7 @@ dc_evse_status_in x = record {
 
 abbrev pub evse_status_in : Children → EvseStatus
 evse_status_in x =
-    or_last (option_map (λ inside. evse_status.Ac (ac_evse_status_in (children inside))) (head (x AC_EVSE_STATUS))) 
+    or_last (option_map (λ inside. evse_status.Ac (ac_evse_status_in (children inside))) (head (x AC_EVSE_STATUS)))
     (evse_status.Dc (dc_evse_status_in (within (x DC_EVSE_STATUS))))
 
 abbrev pub meter_info_in : Lends → Children → MeterInfo
