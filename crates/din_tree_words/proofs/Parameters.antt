@@ -67,7 +67,7 @@ pub parameters_asked : (x : ChargeParameterDiscoveryReq)
 parameters_asked x =
     by_parts tree.parameters_ask (charge_parameter_discovery_req_parts x)
     ∙ ap₂ (λ m l. ask.ChargeParameters (mode_of m) l) (energy_transfer_mode_back x.ev_requested_energy_transfer_type)
-      (car_read (energy_transfer_mode_ordinal x.ev_requested_energy_transfer_type) x.ev_charge_parameter)
+    (car_read (energy_transfer_mode_ordinal x.ev_requested_energy_transfer_type) x.ev_charge_parameter)
 
 -- ---- schedules
 

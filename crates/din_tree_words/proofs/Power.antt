@@ -130,7 +130,7 @@ pub delivery_asked : (x : PowerDeliveryReq) → tree.delivery_ask (of_parts (pow
 delivery_asked x =
     by_parts tree.delivery_ask (power_delivery_req_parts x)
     ∙ ap₂ (λ t a. ask.PowerDelivery (message.progress_of x.ready_to_charge_state) t a)
-      (tuples_read x.charging_profile x.ev_power_delivery_parameter) (profiles_read x.charging_profile x.ev_power_delivery_parameter)
+    (tuples_read x.charging_profile x.ev_power_delivery_parameter) (profiles_read x.charging_profile x.ev_power_delivery_parameter)
 
 abbrev reply_parts : ℕ → EvseStatus → List Part
 reply_parts code status = one RESPONSE_CODE (Of (Ordinal code)) ∷ one (evse_status_name status) (evse_status_inside status) ∷ []

@@ -63,23 +63,23 @@ current_demand_req_read v =
       dc_ev_status = dc_ev_status_read v.dc_ev_status i;
       ev_target_current = physical_value_read v.ev_target_current i;
       ev_maximum_voltage_limit = same_if (λ (found : Inside). physical_value_in (children found))
-        (λ (x : PhysicalValue). holding (physical_value_parts x))
-        (λ (x : PhysicalValue). physical_value_read x) v.ev_maximum_voltage_limit i;
+          (λ (x : PhysicalValue). holding (physical_value_parts x))
+          (λ (x : PhysicalValue). physical_value_read x) v.ev_maximum_voltage_limit i;
       ev_maximum_current_limit = same_if (λ (found : Inside). physical_value_in (children found))
-        (λ (x : PhysicalValue). holding (physical_value_parts x))
-        (λ (x : PhysicalValue). physical_value_read x) v.ev_maximum_current_limit i;
+          (λ (x : PhysicalValue). holding (physical_value_parts x))
+          (λ (x : PhysicalValue). physical_value_read x) v.ev_maximum_current_limit i;
       ev_maximum_power_limit = same_if (λ (found : Inside). physical_value_in (children found))
-        (λ (x : PhysicalValue). holding (physical_value_parts x))
-        (λ (x : PhysicalValue). physical_value_read x) v.ev_maximum_power_limit i;
+          (λ (x : PhysicalValue). holding (physical_value_parts x))
+          (λ (x : PhysicalValue). physical_value_read x) v.ev_maximum_power_limit i;
       bulk_charging_complete = same_if (λ (found : Inside). truth_in found) (λ (x : Bool). Of (Truth x))
-        (λ (x : Bool). refl) v.bulk_charging_complete i;
+          (λ (x : Bool). refl) v.bulk_charging_complete i;
       charging_complete = v.charging_complete;
       remaining_time_to_full_so_c = same_if (λ (found : Inside). physical_value_in (children found))
-        (λ (x : PhysicalValue). holding (physical_value_parts x))
-        (λ (x : PhysicalValue). physical_value_read x) v.remaining_time_to_full_so_c i;
+          (λ (x : PhysicalValue). holding (physical_value_parts x))
+          (λ (x : PhysicalValue). physical_value_read x) v.remaining_time_to_full_so_c i;
       remaining_time_to_bulk_so_c = same_if (λ (found : Inside). physical_value_in (children found))
-        (λ (x : PhysicalValue). holding (physical_value_parts x))
-        (λ (x : PhysicalValue). physical_value_read x) v.remaining_time_to_bulk_so_c i;
+          (λ (x : PhysicalValue). holding (physical_value_parts x))
+          (λ (x : PhysicalValue). physical_value_read x) v.remaining_time_to_bulk_so_c i;
       ev_target_voltage = physical_value_read v.ev_target_voltage i;
     })
 
@@ -95,14 +95,14 @@ current_demand_res_read v =
       evse_voltage_limit_achieved = v.evse_voltage_limit_achieved;
       evse_power_limit_achieved = v.evse_power_limit_achieved;
       evse_maximum_voltage_limit = same_if (λ (found : Inside). physical_value_in (children found))
-        (λ (x : PhysicalValue). holding (physical_value_parts x))
-        (λ (x : PhysicalValue). physical_value_read x) v.evse_maximum_voltage_limit i;
+          (λ (x : PhysicalValue). holding (physical_value_parts x))
+          (λ (x : PhysicalValue). physical_value_read x) v.evse_maximum_voltage_limit i;
       evse_maximum_current_limit = same_if (λ (found : Inside). physical_value_in (children found))
-        (λ (x : PhysicalValue). holding (physical_value_parts x))
-        (λ (x : PhysicalValue). physical_value_read x) v.evse_maximum_current_limit i;
+          (λ (x : PhysicalValue). holding (physical_value_parts x))
+          (λ (x : PhysicalValue). physical_value_read x) v.evse_maximum_current_limit i;
       evse_maximum_power_limit = same_if (λ (found : Inside). physical_value_in (children found))
-        (λ (x : PhysicalValue). holding (physical_value_parts x))
-        (λ (x : PhysicalValue). physical_value_read x) v.evse_maximum_power_limit i;
+          (λ (x : PhysicalValue). holding (physical_value_parts x))
+          (λ (x : PhysicalValue). physical_value_read x) v.evse_maximum_power_limit i;
     })
 
 pub welding_detection_req_read : (v : WeldingDetectionReq) → welding_detection_req_in (of_parts (welding_detection_req_parts v)) ≡ v

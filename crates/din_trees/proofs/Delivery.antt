@@ -30,8 +30,10 @@ charging_profile_read v =
     by_parts charging_profile_in (charging_profile_parts v)
     ∙ (λ i. record {
       sa_schedule_tuple_id = v.sa_schedule_tuple_id;
-      profile_entry = record { items = same_each (λ (found : Inside). profile_entry_in (children found))
-        (λ (x : ProfileEntry). holding (profile_entry_parts x)) (λ (x : ProfileEntry). profile_entry_read x) v.profile_entry.items i };
+      profile_entry = record {
+        items = same_each (λ (found : Inside). profile_entry_in (children found))
+            (λ (x : ProfileEntry). holding (profile_entry_parts x)) (λ (x : ProfileEntry). profile_entry_read x) v.profile_entry.items i;
+      };
     })
 
 pub dc_ev_power_delivery_parameter_read : (v : DcEvPowerDeliveryParameter)
@@ -41,7 +43,7 @@ dc_ev_power_delivery_parameter_read v =
     ∙ (λ i. record {
       dc_ev_status = dc_ev_status_read v.dc_ev_status i;
       bulk_charging_complete = same_if (λ (found : Inside). truth_in found) (λ (x : Bool). Of (Truth x))
-        (λ (x : Bool). refl) v.bulk_charging_complete i;
+          (λ (x : Bool). refl) v.bulk_charging_complete i;
       charging_complete = v.charging_complete;
     })
 
@@ -55,18 +57,18 @@ power_delivery_req_of ready_to_charge_state charging_profile ev_power_delivery_p
 power_delivery_req_at : (ready_to_charge_state : Bool) (charging_profile : Option ChargingProfile)
     (ev_power_delivery_parameter : Option EvPowerDeliveryParameter)
     → power_delivery_req_in (held (power_delivery_req_parts
-      (power_delivery_req_of ready_to_charge_state charging_profile ev_power_delivery_parameter)))
+    (power_delivery_req_of ready_to_charge_state charging_profile ev_power_delivery_parameter)))
     ≡ power_delivery_req_of ready_to_charge_state charging_profile ev_power_delivery_parameter
 power_delivery_req_at ready_to_charge_state charging_profile None = λ i. record {
   ready_to_charge_state = ready_to_charge_state;
   charging_profile = same_if (λ (found : Inside). charging_profile_in (children found))
-    (λ (x : ChargingProfile). holding (charging_profile_parts x)) (λ (x : ChargingProfile). charging_profile_read x) charging_profile i;
+      (λ (x : ChargingProfile). holding (charging_profile_parts x)) (λ (x : ChargingProfile). charging_profile_read x) charging_profile i;
   ev_power_delivery_parameter = None;
 }
 power_delivery_req_at ready_to_charge_state charging_profile (Some (ev_power_delivery_parameter.Dc y)) = λ i. record {
   ready_to_charge_state = ready_to_charge_state;
   charging_profile = same_if (λ (found : Inside). charging_profile_in (children found))
-    (λ (x : ChargingProfile). holding (charging_profile_parts x)) (λ (x : ChargingProfile). charging_profile_read x) charging_profile i;
+      (λ (x : ChargingProfile). holding (charging_profile_parts x)) (λ (x : ChargingProfile). charging_profile_read x) charging_profile i;
   ev_power_delivery_parameter = Some (ev_power_delivery_parameter.Dc (dc_ev_power_delivery_parameter_read y i));
 }
 

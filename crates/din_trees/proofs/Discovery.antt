@@ -26,7 +26,7 @@ charge_parameter_discovery_req_of ev_requested_energy_transfer_type ev_charge_pa
 
 charge_parameter_discovery_req_at : (ev_requested_energy_transfer_type : EnergyTransferMode) (ev_charge_parameter : EvChargeParameter)
     → charge_parameter_discovery_req_in (held (charge_parameter_discovery_req_parts
-      (charge_parameter_discovery_req_of ev_requested_energy_transfer_type ev_charge_parameter)))
+    (charge_parameter_discovery_req_of ev_requested_energy_transfer_type ev_charge_parameter)))
     ≡ charge_parameter_discovery_req_of ev_requested_energy_transfer_type ev_charge_parameter
 charge_parameter_discovery_req_at ev_requested_energy_transfer_type (ev_charge_parameter.Dc y) = λ i. record {
   ev_requested_energy_transfer_type = energy_transfer_mode_back ev_requested_energy_transfer_type i;
@@ -51,7 +51,7 @@ charge_parameter_discovery_res_of response_code evse_processing sa_schedules evs
 charge_parameter_discovery_res_at : (response_code : ResponseCode) (evse_processing : EvseProcessing) (sa_schedules : Option SaSchedules)
     (evse_charge_parameter : EvseChargeParameter)
     → charge_parameter_discovery_res_in (held (charge_parameter_discovery_res_parts
-      (charge_parameter_discovery_res_of response_code evse_processing sa_schedules evse_charge_parameter)))
+    (charge_parameter_discovery_res_of response_code evse_processing sa_schedules evse_charge_parameter)))
     ≡ charge_parameter_discovery_res_of response_code evse_processing sa_schedules evse_charge_parameter
 charge_parameter_discovery_res_at response_code evse_processing None (evse_charge_parameter.Dc z) = λ i. record {
   response_code = response_code_back response_code i;
@@ -61,11 +61,11 @@ charge_parameter_discovery_res_at response_code evse_processing None (evse_charg
 }
 charge_parameter_discovery_res_at response_code evse_processing (Some (sa_schedules.SaScheduleList y))
     (evse_charge_parameter.Dc z) = λ i. record {
-  response_code = response_code_back response_code i;
-  evse_processing = evse_processing_back evse_processing i;
-  sa_schedules = Some (sa_schedules.SaScheduleList (sa_schedule_list_read y i));
-  evse_charge_parameter = evse_charge_parameter.Dc (dc_evse_charge_parameter_read z i);
-}
+      response_code = response_code_back response_code i;
+      evse_processing = evse_processing_back evse_processing i;
+      sa_schedules = Some (sa_schedules.SaScheduleList (sa_schedule_list_read y i));
+      evse_charge_parameter = evse_charge_parameter.Dc (dc_evse_charge_parameter_read z i);
+    }
 
 pub charge_parameter_discovery_res_read : (v : ChargeParameterDiscoveryRes)
     → charge_parameter_discovery_res_in (of_parts (charge_parameter_discovery_res_parts v)) ≡ v

@@ -21,7 +21,7 @@ notification_read l v =
     ∙ (λ i. record {
       fault_code = fault_code_back v.fault_code i;
       fault_msg = reads_if (λ (found : Inside). l.text (text_in found)) (λ (x : Text). Of (text_value x)) (λ (x : Text). l.text
-        (chars_of x)) (λ (x : Text). refl) v.fault_msg i;
+          (chars_of x)) (λ (x : Text). refl) v.fault_msg i;
     })
 
 pub header_read : (l : Lends) (v : Header) → header_in l (of_parts (header_parts v)) ≡ settled_header l v
@@ -30,6 +30,6 @@ header_read l v =
     ∙ (λ i. record {
       session_id = l.binary (items_of v.session_id.span);
       notification = reads_if (λ (found : Inside). notification_in l (children found))
-        (λ (x : Notification). holding (notification_parts x)) (λ (x : Notification). settled_notification l x)
-        (λ (x : Notification). notification_read l x) v.notification i;
+          (λ (x : Notification). holding (notification_parts x)) (λ (x : Notification). settled_notification l x)
+          (λ (x : Notification). notification_read l x) v.notification i;
     })

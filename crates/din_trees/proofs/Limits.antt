@@ -22,13 +22,13 @@ dc_ev_charge_parameter_read v =
       dc_ev_status = dc_ev_status_read v.dc_ev_status i;
       ev_maximum_current_limit = physical_value_read v.ev_maximum_current_limit i;
       ev_maximum_power_limit = same_if (λ (found : Inside). physical_value_in (children found))
-        (λ (x : PhysicalValue). holding (physical_value_parts x))
-        (λ (x : PhysicalValue). physical_value_read x) v.ev_maximum_power_limit i;
+          (λ (x : PhysicalValue). holding (physical_value_parts x))
+          (λ (x : PhysicalValue). physical_value_read x) v.ev_maximum_power_limit i;
       ev_maximum_voltage_limit = physical_value_read v.ev_maximum_voltage_limit i;
       ev_energy_capacity = same_if (λ (found : Inside). physical_value_in (children found))
-        (λ (x : PhysicalValue). holding (physical_value_parts x)) (λ (x : PhysicalValue). physical_value_read x) v.ev_energy_capacity i;
+          (λ (x : PhysicalValue). holding (physical_value_parts x)) (λ (x : PhysicalValue). physical_value_read x) v.ev_energy_capacity i;
       ev_energy_request = same_if (λ (found : Inside). physical_value_in (children found))
-        (λ (x : PhysicalValue). holding (physical_value_parts x)) (λ (x : PhysicalValue). physical_value_read x) v.ev_energy_request i;
+          (λ (x : PhysicalValue). holding (physical_value_parts x)) (λ (x : PhysicalValue). physical_value_read x) v.ev_energy_request i;
       full_soc = same_if (λ (found : Inside). natural_in found) (λ (x : ℕ). Of (Number (pos x))) (λ (x : ℕ). refl) v.full_soc i;
       bulk_soc = same_if (λ (found : Inside). natural_in found) (λ (x : ℕ). Of (Number (pos x))) (λ (x : ℕ). refl) v.bulk_soc i;
     })
@@ -41,16 +41,16 @@ dc_evse_charge_parameter_read v =
       dc_evse_status = dc_evse_status_read v.dc_evse_status i;
       evse_maximum_current_limit = physical_value_read v.evse_maximum_current_limit i;
       evse_maximum_power_limit = same_if (λ (found : Inside). physical_value_in (children found))
-        (λ (x : PhysicalValue). holding (physical_value_parts x))
-        (λ (x : PhysicalValue). physical_value_read x) v.evse_maximum_power_limit i;
+          (λ (x : PhysicalValue). holding (physical_value_parts x))
+          (λ (x : PhysicalValue). physical_value_read x) v.evse_maximum_power_limit i;
       evse_maximum_voltage_limit = physical_value_read v.evse_maximum_voltage_limit i;
       evse_minimum_current_limit = physical_value_read v.evse_minimum_current_limit i;
       evse_minimum_voltage_limit = physical_value_read v.evse_minimum_voltage_limit i;
       evse_current_regulation_tolerance = same_if (λ (found : Inside). physical_value_in (children found))
-        (λ (x : PhysicalValue). holding (physical_value_parts x))
-        (λ (x : PhysicalValue). physical_value_read x) v.evse_current_regulation_tolerance i;
+          (λ (x : PhysicalValue). holding (physical_value_parts x))
+          (λ (x : PhysicalValue). physical_value_read x) v.evse_current_regulation_tolerance i;
       evse_peak_current_ripple = physical_value_read v.evse_peak_current_ripple i;
       evse_energy_to_be_delivered = same_if (λ (found : Inside). physical_value_in (children found))
-        (λ (x : PhysicalValue). holding (physical_value_parts x))
-        (λ (x : PhysicalValue). physical_value_read x) v.evse_energy_to_be_delivered i;
+          (λ (x : PhysicalValue). holding (physical_value_parts x))
+          (λ (x : PhysicalValue). physical_value_read x) v.evse_energy_to_be_delivered i;
     })

@@ -45,9 +45,11 @@ p_max_schedule_read v =
     by_parts p_max_schedule_in (p_max_schedule_parts v)
     ∙ (λ i. record {
       p_max_schedule_id = v.p_max_schedule_id;
-      p_max_schedule_entry = record { items = same_each (λ (found : Inside). p_max_schedule_entry_in (children found))
-        (λ (x : PMaxScheduleEntry). holding (p_max_schedule_entry_parts x))
-        (λ (x : PMaxScheduleEntry). p_max_schedule_entry_read x) v.p_max_schedule_entry.items i };
+      p_max_schedule_entry = record {
+        items = same_each (λ (found : Inside). p_max_schedule_entry_in (children found))
+            (λ (x : PMaxScheduleEntry). holding (p_max_schedule_entry_parts x))
+            (λ (x : PMaxScheduleEntry). p_max_schedule_entry_read x) v.p_max_schedule_entry.items i;
+      };
     })
 
 pub sa_schedule_tuple_read : (v : SaScheduleTuple) → sa_schedule_tuple_in (of_parts (sa_schedule_tuple_parts v)) ≡ v
@@ -62,7 +64,9 @@ pub sa_schedule_list_read : (v : SaScheduleList) → sa_schedule_list_in (of_par
 sa_schedule_list_read v =
     by_parts sa_schedule_list_in (sa_schedule_list_parts v)
     ∙ (λ i. record {
-      sa_schedule_tuple = record { items = same_each (λ (found : Inside). sa_schedule_tuple_in (children found))
-        (λ (x : SaScheduleTuple). holding (sa_schedule_tuple_parts x))
-        (λ (x : SaScheduleTuple). sa_schedule_tuple_read x) v.sa_schedule_tuple.items i };
+      sa_schedule_tuple = record {
+        items = same_each (λ (found : Inside). sa_schedule_tuple_in (children found))
+            (λ (x : SaScheduleTuple). holding (sa_schedule_tuple_parts x))
+            (λ (x : SaScheduleTuple). sa_schedule_tuple_read x) v.sa_schedule_tuple.items i;
+      };
     })

@@ -26,9 +26,11 @@ pub selected_service_list_read : (v : SelectedServiceList) → selected_service_
 selected_service_list_read v =
     by_parts selected_service_list_in (selected_service_list_parts v)
     ∙ (λ i. record {
-      selected_service = record { items = same_each (λ (found : Inside). selected_service_in (children found))
-        (λ (x : SelectedService). holding (selected_service_parts x))
-        (λ (x : SelectedService). selected_service_read x) v.selected_service.items i };
+      selected_service = record {
+        items = same_each (λ (found : Inside). selected_service_in (children found))
+            (λ (x : SelectedService). holding (selected_service_parts x))
+            (λ (x : SelectedService). selected_service_read x) v.selected_service.items i;
+      };
     })
 
 pub service_payment_selection_req_read : (v : ServicePaymentSelectionReq)

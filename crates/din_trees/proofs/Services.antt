@@ -30,10 +30,10 @@ service_tag_read l v =
     ∙ (λ i. record {
       service_id = v.service_id;
       service_name = reads_if (λ (found : Inside). l.text (text_in found)) (λ (x : Text). Of (text_value x)) (λ (x : Text). l.text
-        (chars_of x)) (λ (x : Text). refl) v.service_name i;
+          (chars_of x)) (λ (x : Text). refl) v.service_name i;
       service_category = service_category_back v.service_category i;
       service_scope = reads_if (λ (found : Inside). l.text (text_in found)) (λ (x : Text). Of (text_value x)) (λ (x : Text). l.text
-        (chars_of x)) (λ (x : Text). refl) v.service_scope i;
+          (chars_of x)) (λ (x : Text). refl) v.service_scope i;
     })
 
 pub service_read : (l : Lends) (v : Service) → service_in l (of_parts (service_parts v)) ≡ settled_service l v
@@ -48,9 +48,11 @@ pub service_list_read : (l : Lends) (v : ServiceList) → service_list_in l (of_
 service_list_read l v =
     by_parts (service_list_in l) (service_list_parts v)
     ∙ (λ i. record {
-      service = record { items = reads_each (λ (found : Inside). service_in l (children found))
-        (λ (x : Service). holding (service_parts x)) (λ (x : Service). settled_service l x)
-        (λ (x : Service). service_read l x) v.service.items i };
+      service = record {
+        items = reads_each (λ (found : Inside). service_in l (children found))
+            (λ (x : Service). holding (service_parts x)) (λ (x : Service). settled_service l x)
+            (λ (x : Service). service_read l x) v.service.items i;
+      };
     })
 
 pub charge_service_read : (l : Lends) (v : ChargeService) → charge_service_in l (of_parts (charge_service_parts v))
@@ -67,9 +69,11 @@ pub payment_options_read : (v : PaymentOptions) → payment_options_in (of_parts
 payment_options_read v =
     by_parts payment_options_in (payment_options_parts v)
     ∙ (λ i. record {
-      payment_option = record { items = same_each (λ (found : Inside). payment_option_at (ordinal_in found))
-        (λ (x : PaymentOption). Of (Ordinal (payment_option_ordinal x)))
-        (λ (x : PaymentOption). payment_option_back x) v.payment_option.items i };
+      payment_option = record {
+        items = same_each (λ (found : Inside). payment_option_at (ordinal_in found))
+            (λ (x : PaymentOption). Of (Ordinal (payment_option_ordinal x)))
+            (λ (x : PaymentOption). payment_option_back x) v.payment_option.items i;
+      };
     })
 
 pub service_discovery_req_read : (l : Lends) (v : ServiceDiscoveryReq)
@@ -78,10 +82,10 @@ service_discovery_req_read l v =
     by_parts (service_discovery_req_in l) (service_discovery_req_parts v)
     ∙ (λ i. record {
       service_scope = reads_if (λ (found : Inside). l.text (text_in found)) (λ (x : Text). Of (text_value x)) (λ (x : Text). l.text
-        (chars_of x)) (λ (x : Text). refl) v.service_scope i;
+          (chars_of x)) (λ (x : Text). refl) v.service_scope i;
       service_category = same_if (λ (found : Inside). service_category_at (ordinal_in found))
-        (λ (x : ServiceCategory). Of (Ordinal (service_category_ordinal x)))
-        (λ (x : ServiceCategory). service_category_back x) v.service_category i;
+          (λ (x : ServiceCategory). Of (Ordinal (service_category_ordinal x)))
+          (λ (x : ServiceCategory). service_category_back x) v.service_category i;
     })
 
 pub service_discovery_res_read : (l : Lends) (v : ServiceDiscoveryRes)
@@ -93,6 +97,6 @@ service_discovery_res_read l v =
       payment_options = payment_options_read v.payment_options i;
       charge_service = charge_service_read l v.charge_service i;
       service_list = reads_if (λ (found : Inside). service_list_in l (children found))
-        (λ (x : ServiceList). holding (service_list_parts x)) (λ (x : ServiceList). settled_service_list l x)
-        (λ (x : ServiceList). service_list_read l x) v.service_list i;
+          (λ (x : ServiceList). holding (service_list_parts x)) (λ (x : ServiceList). settled_service_list l x)
+          (λ (x : ServiceList). service_list_read l x) v.service_list i;
     })

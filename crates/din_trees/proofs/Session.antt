@@ -37,7 +37,7 @@ session_setup_res_read l v =
 
 contract_authentication_req_id_read : (l : Lends) (o : Option Text)
     → option_map (λ value. l.text (text_of value)) (attribute_named ID (attributes_of (perhaps_given ID (mapped
-      (λ (x : Text). text_value x) o) ∷ [])))
+    (λ (x : Text). text_value x) o) ∷ [])))
     ≡ option_map (λ x. l.text (chars_of x)) o
 contract_authentication_req_id_read l None = refl
 contract_authentication_req_id_read l (Some x) = refl
@@ -50,7 +50,7 @@ contract_authentication_req_read l v =
     ∙ (λ i. record {
       id = contract_authentication_req_id_read l v.id i;
       gen_challenge = reads_if (λ (found : Inside). l.text (text_in found)) (λ (x : Text). Of (text_value x)) (λ (x : Text). l.text
-        (chars_of x)) (λ (x : Text). refl) v.gen_challenge i;
+          (chars_of x)) (λ (x : Text). refl) v.gen_challenge i;
     })
 
 pub contract_authentication_res_read : (v : ContractAuthenticationRes)

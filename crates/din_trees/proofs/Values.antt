@@ -22,7 +22,7 @@ physical_value_read v =
     ∙ (λ i. record {
       multiplier = v.multiplier;
       unit = same_if (λ (found : Inside). unit_symbol_at (ordinal_in found)) (λ (x : UnitSymbol). Of (Ordinal (unit_symbol_ordinal x)))
-        (λ (x : UnitSymbol). unit_symbol_back x) v.unit i;
+          (λ (x : UnitSymbol). unit_symbol_back x) v.unit i;
       value = v.value;
     })
 
@@ -32,9 +32,9 @@ dc_ev_status_read v =
     ∙ (λ i. record {
       ev_ready = v.ev_ready;
       ev_cabin_conditioning = same_if (λ (found : Inside). truth_in found) (λ (x : Bool). Of (Truth x))
-        (λ (x : Bool). refl) v.ev_cabin_conditioning i;
+          (λ (x : Bool). refl) v.ev_cabin_conditioning i;
       evress_conditioning = same_if (λ (found : Inside). truth_in found) (λ (x : Bool). Of (Truth x))
-        (λ (x : Bool). refl) v.evress_conditioning i;
+          (λ (x : Bool). refl) v.evress_conditioning i;
       ev_error_code = ev_error_code_back v.ev_error_code i;
       evress_soc = v.evress_soc;
     })
@@ -44,8 +44,8 @@ dc_evse_status_read v =
     by_parts dc_evse_status_in (dc_evse_status_parts v)
     ∙ (λ i. record {
       evse_isolation_status = same_if (λ (found : Inside). isolation_level_at (ordinal_in found))
-        (λ (x : IsolationLevel). Of (Ordinal (isolation_level_ordinal x)))
-        (λ (x : IsolationLevel). isolation_level_back x) v.evse_isolation_status i;
+          (λ (x : IsolationLevel). Of (Ordinal (isolation_level_ordinal x)))
+          (λ (x : IsolationLevel). isolation_level_back x) v.evse_isolation_status i;
       evse_status_code = evse_status_code_back v.evse_status_code i;
       notification_max_delay = v.notification_max_delay;
       evse_notification = evse_notification_back v.evse_notification i;

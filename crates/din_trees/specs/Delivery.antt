@@ -37,7 +37,7 @@ dc_ev_power_delivery_parameter_in x = record {
 abbrev pub ev_power_delivery_parameter_if : Children → Option EvPowerDeliveryParameter
 ev_power_delivery_parameter_if x =
     or_next (option_map (λ inside. ev_power_delivery_parameter.Dc (dc_ev_power_delivery_parameter_in (children inside)))
-      (head (x DC_EV_POWER_DELIVERY_PARAMETER))) 
+    (head (x DC_EV_POWER_DELIVERY_PARAMETER)))
     None
 
 abbrev pub power_delivery_req_in : Children → PowerDeliveryReq

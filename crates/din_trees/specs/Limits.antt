@@ -36,7 +36,7 @@ dc_evse_charge_parameter_in x = record {
   evse_minimum_current_limit = physical_value_in (within (x EVSE_MINIMUM_CURRENT_LIMIT));
   evse_minimum_voltage_limit = physical_value_in (within (x EVSE_MINIMUM_VOLTAGE_LIMIT));
   evse_current_regulation_tolerance = option_map (λ inside. physical_value_in (children inside))
-    (head (x EVSE_CURRENT_REGULATION_TOLERANCE));
+      (head (x EVSE_CURRENT_REGULATION_TOLERANCE));
   evse_peak_current_ripple = physical_value_in (within (x EVSE_PEAK_CURRENT_RIPPLE));
   evse_energy_to_be_delivered = option_map (λ inside. physical_value_in (children inside)) (head (x EVSE_ENERGY_TO_BE_DELIVERED));
 }

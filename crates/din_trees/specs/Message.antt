@@ -21,14 +21,14 @@ body_element_if l x =
     or_next (option_map (λ inside. body_element.CableCheckReq (cable_check_req_in (children inside))) (head (x CABLE_CHECK_REQ))) (
     or_next (option_map (λ inside. body_element.CableCheckRes (cable_check_res_in (children inside))) (head (x CABLE_CHECK_RES))) (
     or_next (option_map (λ inside. body_element.ChargeParameterDiscoveryReq (charge_parameter_discovery_req_in (children inside)))
-      (head (x CHARGE_PARAMETER_DISCOVERY_REQ))) (
+    (head (x CHARGE_PARAMETER_DISCOVERY_REQ))) (
     or_next (option_map (λ inside. body_element.ChargeParameterDiscoveryRes (charge_parameter_discovery_res_in (children inside)))
-      (head (x CHARGE_PARAMETER_DISCOVERY_RES))) (
+    (head (x CHARGE_PARAMETER_DISCOVERY_RES))) (
     or_next (option_map
-      (λ inside. body_element.ContractAuthenticationReq (contract_authentication_req_in l (given_in inside) (children inside)))
-      (head (x CONTRACT_AUTHENTICATION_REQ))) (
+    (λ inside. body_element.ContractAuthenticationReq (contract_authentication_req_in l (given_in inside) (children inside)))
+    (head (x CONTRACT_AUTHENTICATION_REQ))) (
     or_next (option_map (λ inside. body_element.ContractAuthenticationRes (contract_authentication_res_in (children inside)))
-      (head (x CONTRACT_AUTHENTICATION_RES))) (
+    (head (x CONTRACT_AUTHENTICATION_RES))) (
     or_next (option_map (λ inside. body_element.CurrentDemandReq (current_demand_req_in (children inside))) (head (x CURRENT_DEMAND_REQ))) (
     or_next (option_map (λ inside. body_element.CurrentDemandRes (current_demand_res_in (children inside))) (head (x CURRENT_DEMAND_RES))) (
     or_next (option_map (λ inside. body_element.PowerDeliveryReq (power_delivery_req_in (children inside))) (head (x POWER_DELIVERY_REQ))) (
@@ -36,21 +36,21 @@ body_element_if l x =
     or_next (option_map (λ inside. body_element.PreChargeReq (pre_charge_req_in (children inside))) (head (x PRE_CHARGE_REQ))) (
     or_next (option_map (λ inside. body_element.PreChargeRes (pre_charge_res_in (children inside))) (head (x PRE_CHARGE_RES))) (
     or_next (option_map (λ inside. body_element.ServiceDiscoveryReq (service_discovery_req_in l (children inside)))
-      (head (x SERVICE_DISCOVERY_REQ))) (
+    (head (x SERVICE_DISCOVERY_REQ))) (
     or_next (option_map (λ inside. body_element.ServiceDiscoveryRes (service_discovery_res_in l (children inside)))
-      (head (x SERVICE_DISCOVERY_RES))) (
+    (head (x SERVICE_DISCOVERY_RES))) (
     or_next (option_map (λ inside. body_element.ServicePaymentSelectionReq (service_payment_selection_req_in (children inside)))
-      (head (x SERVICE_PAYMENT_SELECTION_REQ))) (
+    (head (x SERVICE_PAYMENT_SELECTION_REQ))) (
     or_next (option_map (λ inside. body_element.ServicePaymentSelectionRes (service_payment_selection_res_in (children inside)))
-      (head (x SERVICE_PAYMENT_SELECTION_RES))) (
+    (head (x SERVICE_PAYMENT_SELECTION_RES))) (
     or_next (option_map (λ inside. body_element.SessionSetupReq (session_setup_req_in l (children inside))) (head (x SESSION_SETUP_REQ))) (
     or_next (option_map (λ inside. body_element.SessionSetupRes (session_setup_res_in l (children inside))) (head (x SESSION_SETUP_RES))) (
     or_next (option_map (λ inside. body_element.SessionStopReq (record {})) (head (x SESSION_STOP_REQ))) (
     or_next (option_map (λ inside. body_element.SessionStopRes (session_stop_res_in (children inside))) (head (x SESSION_STOP_RES))) (
     or_next (option_map (λ inside. body_element.WeldingDetectionReq (welding_detection_req_in (children inside)))
-      (head (x WELDING_DETECTION_REQ))) (
+    (head (x WELDING_DETECTION_REQ))) (
     or_next (option_map (λ inside. body_element.WeldingDetectionRes (welding_detection_res_in (children inside)))
-      (head (x WELDING_DETECTION_RES))) 
+    (head (x WELDING_DETECTION_RES)))
     None)))))))))))))))))))))
 
 abbrev pub settled_body_element : Lends → BodyElement → BodyElement
