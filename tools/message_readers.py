@@ -186,7 +186,10 @@ def field_at(t, it, at, low):
         same = f"(λ (x : {one}). {same_one(t, it.kind, 'x') or 'refl'})"
         word = ("reads" if t.lent(it.kind) else "same") + ("_each" if it.most else "_if")
         lemma = f"{word} {read} {put}{meant} {same} {at}"
-        return f"record {{ items = {lemma}.items i }}" if it.most else f"{lemma} i"
+        if not it.most:
+            return f"{lemma} i"
+        one = f"record {{ items = {lemma}.items i }}"
+        return one if len(it.field) + len(one) < 131 else f"record {{\n        items = {lemma}.items i;\n      }}"
     same = same_one(t, it.kind, at)
     return f"{same} i" if same else field_settled(t, it, at)
 
