@@ -43,8 +43,7 @@ def read_found(t, kind, found):
         return f"{before} ({word} {found})" if before else f"{word} {found}"
     if not t.inner(kind):
         return "record {}"
-    given = f" (given_within {found})" if has_attributes(t, kind) else ""
-    return f"{t.lower(kind)}_in{lend(t, kind)}{given} (within {found})"
+    return f"{t.lower(kind)}_in{lend(t, kind)} (within {found})"
 
 
 def read_inside(t, kind, it):
@@ -186,7 +185,10 @@ def field_at(t, it, at, low):
         same = f"(λ (x : {one}). {same_one(t, it.kind, 'x') or 'refl'})"
         word = ("reads" if t.lent(it.kind) else "same") + ("_each" if it.most else "_if")
         lemma = f"{word} {read} {put}{meant} {same} {at}"
-        return f"record {{ items = {lemma}.items i }}" if it.most else f"{lemma} i"
+        if not it.most:
+            return f"{lemma} i"
+        one = f"record {{ items = {lemma}.items i }}"
+        return one if len(it.field) + len(one) < 131 else f"record {{\n        items = {lemma}.items i;\n      }}"
     same = same_one(t, it.kind, at)
     return f"{same} i" if same else field_settled(t, it, at)
 
@@ -288,7 +290,7 @@ def imports(t, crate, file, kinds, body, is_proof):
         (f"{t.s.crate}.specs.declared.names.TheConstants", [t.s.upper(it) for it in t.s.names]),
         ("tree_words.specs.Leaves", [it + end for it in ("truth", "ordinal", "number", "natural", "bytes", "text") for end in ("", "_in")]),
         ("tree_words.specs.Named", ["Children", "children", "head", "within"]),
-        ("tree_words.specs.Lending", ["Lends", "given_in", "given_within", "attribute_named", "text_of", "text_if", "or_next", "or_last"]),
+        ("tree_words.specs.Lending", ["Lends", "given_in", "attribute_named", "text_of", "text_if", "or_next", "or_last"]),
         ("tree_words.proofs.Held", ["held", "of_parts", "by_parts"]),
         ("tree_words.proofs.Lists", ["reads_if", "reads_each", "same_if", "same_each"]),
     ):

@@ -5,7 +5,7 @@ use Rattle.message_parts.specs.Contents.{Inside, Of, Holding}
 use Rattle.message_parts.specs.declared.texts.Binary.{Binary}
 use Rattle.message_parts.specs.declared.texts.Text.{Text}
 
--- for each content a text and a Binary that has it, wherever they lie
+-- a text and a Binary for each content: what a message is read with in place of those that lie in its payload
 pub record Lends : Type 0 where
   pub text : List ℕ → Text
   pub binary : List ℕ → Binary
@@ -15,11 +15,6 @@ pub record Lends : Type 0 where
 abbrev pub given_in : Inside → List (ℕ × Value)
 given_in (Of value) = []
 given_in (Holding attributes children) = attributes
-
--- those of the first of these
-abbrev pub given_within : List Inside → List (ℕ × Value)
-given_within [] = []
-given_within (inside ∷ more) = given_in inside
 
 abbrev pub value_or : Bool → Value → Option Value → Option Value
 value_or true value more = Some value
