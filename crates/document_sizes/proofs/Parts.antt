@@ -1,8 +1,8 @@
 -- The weight of an element is the sum of those of its parts.
-use Rattle.std.proofs.Common.{◌≡◌, ℕ, ◌+◌, List, [], ◌∷◌, Some, None, refl, arith}
+use Rattle.std.proofs.Common.{◌≡◌, ℕ, ◌+◌, ◌*◌, ◌≤◌, List, [], ◌∷◌, length, map, Option, Some, None, refl, arith}
 use Rattle.exi_documents.specs.Trees.{Trees}
-use Rattle.message_parts.specs.Contents.{Inside, Of, Holding, Given, given, perhaps_given, Part, one, perhaps, each, perhaps_one, element, root_of, attributes_of, each_trees, trees_of, holding_with}
-use Rattle.document_sizes.specs.Sizes.{attributes_weight, trees_weight, tree_weight, inside_weight, given_weight, element_weight, each_weight, parts_weight}
+use Rattle.message_parts.specs.Contents.{Inside, Of, Holding, Given, given, perhaps_given, Part, one, perhaps, each, perhaps_one, mapped, element, root_of, attributes_of, each_trees, trees_of, holding_with}
+use Rattle.document_sizes.specs.Sizes.{attributes_weight, trees_weight, tree_weight, inside_weight, given_weight, element_weight, perhaps_weight, each_weight, parts_weight}
 
 module _ (w : ℕ) where
   attributes_sum : (gs : List Given) → attributes_weight w (attributes_of gs) ≡ given_weight w gs
@@ -37,3 +37,15 @@ module _ (w : ℕ) where
   pub root_sum : (name : ℕ) (inside : Inside) → tree_weight w (root_of name inside) ≡ inside_weight w inside
   root_sum name (Of value) = refl
   root_sum name (Holding attributes children) = refl
+
+  -- ---- bounds of parts whose count isn't fixed
+
+  pub mapped_small : {X : Type 0} (f : X → Inside) (most : ℕ) (o : Option X) → ((x : X) → inside_weight w (f x) ≤ most) → perhaps_weight w (mapped f o) ≤ w + most
+  mapped_small f most None each_of_them = omega arith
+  mapped_small f most (Some x) each_of_them = omega (arith, each_of_them x)
+
+  pub each_small : {X : Type 0} (f : X → Inside) (most : ℕ) (xs : List X) → ((x : X) → inside_weight w (f x) ≤ most) → each_weight w (map f xs) ≤ length xs * (w + most)
+  each_small f most [] each_of_them = omega arith
+  each_small f most (x ∷ xs) each_of_them =
+      let more : each_weight w (map f xs) ≤ length xs * (w + most) = each_small f most xs each_of_them in
+      grind (arith, more, each_of_them x)

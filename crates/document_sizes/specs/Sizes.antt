@@ -1,4 +1,4 @@
--- Own: how many bits are written for a tree at most, by adding up, where no code of its schema has more than `w` of them. After W3C
+-- Own: how many bits are written for a tree at most, by adding up, where no code of its schema has more than `width` bits. After W3C
 -- EXI 1.0 (Second Edition) 6.2, Event Codes, and 7.1, Built-in EXI Datatype Representations.
 use Rattle.std.specs.Prelude.{ℕ, ◌+◌, ◌*◌, ◌^◌, ◌&&◌, max, nat_lt, nat_le, Bool, true, List, [], ◌∷◌, length, Option, Some, None}
 use Rattle.std.specs.List.{list_all}
@@ -23,98 +23,98 @@ most_offers (containing attributes particles) = length attributes + most_element
 
 -- a name of an enumeration is a code too. A bounded integer has 12 bits at most, and a length three octets
 abbrev pub is_narrow_datatype : ℕ → Datatype → Bool
-is_narrow_datatype w BoolType = true
-is_narrow_datatype w (Named count) = nat_le count (2 ^ w)
-is_narrow_datatype w (Bounded least count) = nat_le count 4096
-is_narrow_datatype w (Unsigned most) = true
-is_narrow_datatype w (Signed least most) = true
-is_narrow_datatype w (Binary most) = nat_lt (most + 2) (2 ^ 21)
-is_narrow_datatype w (TextType most) = nat_lt (most + 2) (2 ^ 21)
+is_narrow_datatype width BoolType = true
+is_narrow_datatype width (Named count) = nat_le count (2 ^ width)
+is_narrow_datatype width (Bounded least count) = nat_le count 4096
+is_narrow_datatype width (Unsigned most) = true
+is_narrow_datatype width (Signed least most) = true
+is_narrow_datatype width (Binary most) = nat_lt (most + 2) (2 ^ 21)
+is_narrow_datatype width (TextType most) = nat_lt (most + 2) (2 ^ 21)
 
 abbrev pub is_narrow_content : ℕ → PlainKind → Bool
-is_narrow_content w (valued datatype) = is_narrow_datatype w datatype
-is_narrow_content w (containing attributes particles) = true
+is_narrow_content width (valued datatype) = is_narrow_datatype width datatype
+is_narrow_content width (containing attributes particles) = true
 
 -- at each place a code tells the offers and the escape behind them apart in so many bits
 abbrev pub is_narrow : ℕ → PlainKind → Bool
-is_narrow w kind = nat_lt (most_offers kind) (2 ^ w) && is_narrow_content w kind
+is_narrow width kind = nat_lt (most_offers kind) (2 ^ width) && is_narrow_content width kind
 
 abbrev pub has_narrow_codes : ℕ → PlainSchema → Bool
-has_narrow_codes w s = list_all (is_narrow w) s.kinds
+has_narrow_codes width s = list_all (is_narrow width) s.kinds
 
 -- ---- trees
 
 -- an Unsigned Integer has ten octets at most; one of a sign, a bit more. In front of bytes and characters stand a length, or for a
 -- text that has been there an octet and its index. A character has three octets at most
 abbrev pub value_weight : ℕ → Value → ℕ
-value_weight w (Truth truth) = 1
-value_weight w (Ordinal ordinal) = w
-value_weight w (Number v) = 81
-value_weight w (Bytes bytes) = 24 + 8 * length bytes
-value_weight w (Text chars) = 24 + 24 * length chars
+value_weight width (Truth truth) = 1
+value_weight width (Ordinal ordinal) = width
+value_weight width (Number v) = 81
+value_weight width (Bytes bytes) = 24 + 8 * length bytes
+value_weight width (Text chars) = 24 + 24 * length chars
 
 -- a value between the codes of its characters and of its end, which are the only ones of their places
 abbrev pub simple_weight : ℕ → Value → ℕ
-simple_weight w value = 2 + value_weight w value
+simple_weight width value = 2 + value_weight width value
 
 abbrev pub attributes_weight : ℕ → List (ℕ × Value) → ℕ
-attributes_weight w [] = 0
-attributes_weight w (attribute ∷ attributes) = w + (value_weight w attribute.1 + attributes_weight w attributes)
+attributes_weight width [] = 0
+attributes_weight width (attribute ∷ attributes) = width + (value_weight width attribute.1 + attributes_weight width attributes)
 
 -- elements, and the end of the one that they stand in
 abbrev pub trees_weight : ℕ → Trees → ℕ
-trees_weight w none = w
-trees_weight w (simple name value more) = w + (simple_weight w value + trees_weight w more)
-trees_weight w (complex name attributes children more) =
-    w + (attributes_weight w attributes + (trees_weight w children + trees_weight w more))
+trees_weight width none = width
+trees_weight width (simple name value more) = width + (simple_weight width value + trees_weight width more)
+trees_weight width (complex name attributes children more) =
+    width + (attributes_weight width attributes + (trees_weight width children + trees_weight width more))
 
 -- the root, which has no code of its own
 abbrev pub tree_weight : ℕ → Tree → ℕ
-tree_weight w (Simple name value) = simple_weight w value
-tree_weight w (Complex name attributes children) = attributes_weight w attributes + trees_weight w children
+tree_weight width (Simple name value) = simple_weight width value
+tree_weight width (Complex name attributes children) = attributes_weight width attributes + trees_weight width children
 
 -- with the header and the document number
 abbrev pub document_weight : ℕ → PlainSchema → Tree → ℕ
-document_weight w s tree = 8 + (s.root_bits + tree_weight w tree)
+document_weight width s tree = 8 + (s.root_bits + tree_weight width tree)
 
 -- ---- parts
 
 abbrev pub inside_weight : ℕ → Inside → ℕ
-inside_weight w (Of value) = simple_weight w value
-inside_weight w (Holding attributes children) = attributes_weight w attributes + trees_weight w children
+inside_weight width (Of value) = simple_weight width value
+inside_weight width (Holding attributes children) = attributes_weight width attributes + trees_weight width children
 
 abbrev pub perhaps_value_weight : ℕ → Option Value → ℕ
-perhaps_value_weight w None = 0
-perhaps_value_weight w (Some value) = w + value_weight w value
+perhaps_value_weight width None = 0
+perhaps_value_weight width (Some value) = width + value_weight width value
 
 abbrev pub given_weight : ℕ → List Given → ℕ
-given_weight w [] = 0
-given_weight w (given name value ∷ more) = (w + value_weight w value) + given_weight w more
-given_weight w (perhaps_given name value ∷ more) = perhaps_value_weight w value + given_weight w more
+given_weight width [] = 0
+given_weight width (given name value ∷ more) = (width + value_weight width value) + given_weight width more
+given_weight width (perhaps_given name value ∷ more) = perhaps_value_weight width value + given_weight width more
 
 -- an element and the code that starts it
 abbrev pub element_weight : ℕ → Inside → ℕ
-element_weight w inside = w + inside_weight w inside
+element_weight width inside = width + inside_weight width inside
 
 abbrev pub perhaps_weight : ℕ → Option Inside → ℕ
-perhaps_weight w None = 0
-perhaps_weight w (Some inside) = element_weight w inside
+perhaps_weight width None = 0
+perhaps_weight width (Some inside) = element_weight width inside
 
 abbrev pub each_weight : ℕ → List Inside → ℕ
-each_weight w [] = 0
-each_weight w (inside ∷ insides) = element_weight w inside + each_weight w insides
+each_weight width [] = 0
+each_weight width (inside ∷ insides) = element_weight width inside + each_weight width insides
 
 abbrev pub choice_weight : ℕ → Option (ℕ × Inside) → ℕ
-choice_weight w None = 0
-choice_weight w (Some chosen) = element_weight w chosen.1
+choice_weight width None = 0
+choice_weight width (Some chosen) = element_weight width chosen.1
 
 abbrev pub part_weight : ℕ → Part → ℕ
-part_weight w (one name inside) = element_weight w inside
-part_weight w (perhaps name inside) = perhaps_weight w inside
-part_weight w (each name insides) = each_weight w insides
-part_weight w (perhaps_one choice) = choice_weight w choice
+part_weight width (one name inside) = element_weight width inside
+part_weight width (perhaps name inside) = perhaps_weight width inside
+part_weight width (each name insides) = each_weight width insides
+part_weight width (perhaps_one choice) = choice_weight width choice
 
 -- the parts of an element, and its end
 abbrev pub parts_weight : ℕ → List Part → ℕ
-parts_weight w [] = w
-parts_weight w (part ∷ parts) = part_weight w part + parts_weight w parts
+parts_weight width [] = width
+parts_weight width (part ∷ parts) = part_weight width part + parts_weight width parts

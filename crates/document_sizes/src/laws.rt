@@ -9,20 +9,21 @@ ghost use Rattle.message_parts.specs.Contents.{Inside, Given, Part, holding, hol
 ghost use Rattle.message_parts.specs.Documents.{PassesBytes};
 ghost use Rattle.document_sizes.specs.Sizes.{has_narrow_codes, tree_weight, document_weight, inside_weight, given_weight, parts_weight};
 
-/// Where no code of a schema has more than `w` bits, the bits that are written for a document are no more than its weight, which so
+/// Where no code of a schema has more than `width` bits, the bits that are written for a document are no more than its weight, which so
 /// many bytes as hold the weight are never too few for. Less than a byte fills the last one.
 pub fn documents_are_small()
-    ensures bits { (w : ℕ) (s : PlainSchema) (number : ℕ) (tree : Tree) (bits : List Bool) → has_narrow_codes w s ≡ true
-        → SpellsDocument WritesValue s number tree bits → length bits ≤ document_weight w s tree }
-    ensures bytes { (w : ℕ) (s : PlainSchema) (tree : Tree) (payload : List ℕ) → has_narrow_codes w s ≡ true
-        → IsEncoding s tree payload → 8 * length payload ≤ 7 + document_weight w s tree }
-    ensures room { (w : ℕ) (s : PlainSchema) (number : ℕ) (tree : Tree) (bytes : ℕ) → has_narrow_codes w s ≡ true
-        → document_weight w s tree ≤ 8 * bytes → PassesBytes s number tree bytes → ⊥ }
+    ensures bits { (width : ℕ) (s : PlainSchema) (number : ℕ) (tree : Tree) (bits : List Bool) → has_narrow_codes width s ≡ true
+        → SpellsDocument WritesValue s number tree bits → length bits ≤ document_weight width s tree }
+    ensures bytes { (width : ℕ) (s : PlainSchema) (tree : Tree) (payload : List ℕ) → has_narrow_codes width s ≡ true
+        → IsEncoding s tree payload → 8 * length payload ≤ 7 + document_weight width s tree }
+    ensures room { (width : ℕ) (s : PlainSchema) (number : ℕ) (tree : Tree) (bytes : ℕ) → has_narrow_codes width s ≡ true
+        → document_weight width s tree ≤ 8 * bytes → PassesBytes s number tree bytes → ⊥ }
 {}
 
 /// The weight of an element is the sum of those of its parts, and that of a tree the weight of its root.
 pub fn parts_add_up()
-    ensures held { (w : ℕ) (gs : List Given) (parts : List Part) → inside_weight w (holding_with gs parts) ≡ given_weight w gs + parts_weight w parts }
-    ensures plain { (w : ℕ) (parts : List Part) → inside_weight w (holding parts) ≡ parts_weight w parts }
-    ensures root { (w name : ℕ) (inside : Inside) → tree_weight w (root_of name inside) ≡ inside_weight w inside }
+    ensures held { (width : ℕ) (gs : List Given) (parts : List Part)
+        → inside_weight width (holding_with gs parts) ≡ given_weight width gs + parts_weight width parts }
+    ensures plain { (width : ℕ) (parts : List Part) → inside_weight width (holding parts) ≡ parts_weight width parts }
+    ensures root { (width name : ℕ) (inside : Inside) → tree_weight width (root_of name inside) ≡ inside_weight width inside }
 {}
