@@ -71,37 +71,14 @@ evse_id (evse.Text id) lent can lends = absurd can
 
 below_response : (x : ResponseCode) → response_code_ordinal x < 23
 below_response code.Ok = lit< tt
-below_response code.OkNewSessionEstablished = lit< tt
-below_response code.OkOldSessionJoined = lit< tt
-below_response code.OkCertificateExpiresSoon = lit< tt
-below_response code.Failed = lit< tt
-below_response code.FailedSequenceError = lit< tt
-below_response code.FailedServiceIdInvalid = lit< tt
-below_response code.FailedUnknownSession = lit< tt
-below_response code.FailedServiceSelectionInvalid = lit< tt
-below_response code.FailedPaymentSelectionInvalid = lit< tt
-below_response code.FailedCertificateExpired = lit< tt
-below_response code.FailedSignatureError = lit< tt
-below_response code.FailedNoCertificateAvailable = lit< tt
-below_response code.FailedCertChainError = lit< tt
-below_response code.FailedChallengeInvalid = lit< tt
-below_response code.FailedContractCanceled = lit< tt
-below_response code.FailedWrongChargeParameter = lit< tt
-below_response code.FailedPowerDeliveryNotApplied = lit< tt
-below_response code.FailedTariffSelectionInvalid = lit< tt
-below_response code.FailedChargingProfileInvalid = lit< tt
-below_response code.FailedEvsePresentVoltageToLow = lit< tt
-below_response code.FailedMeteringSignatureNotValid = lit< tt
-below_response code.FailedWrongEnergyTransferType = lit< tt
+below_response other = lit< tt
 
 pub response : (x : ResponseCode) → Has RESPONSE_CODE_KIND (Ordinal (response_code_ordinal x))
 response x = (Named 23, refl, below_response x)
 
 below_service_category : (x : ServiceCategory) → service_category_ordinal x < 4
 below_service_category category.EvCharging = lit< tt
-below_service_category category.Internet = lit< tt
-below_service_category category.ContractCertificate = lit< tt
-below_service_category category.OtherCustom = lit< tt
+below_service_category other = lit< tt
 
 pub service_category : (x : ServiceCategory) → Has SERVICE_CATEGORY_KIND (Ordinal (service_category_ordinal x))
 service_category x = (Named 4, refl, below_service_category x)
@@ -115,15 +92,7 @@ payment_option x = (Named 2, refl, below_payment_option x)
 
 below_transfer_type : (x : SupportedEnergyTransferType) → supported_energy_transfer_type_ordinal x < 10
 below_transfer_type mode.AcSinglePhaseCore = lit< tt
-below_transfer_type mode.AcThreePhaseCore = lit< tt
-below_transfer_type mode.DcCore = lit< tt
-below_transfer_type mode.DcExtended = lit< tt
-below_transfer_type mode.DcComboCore = lit< tt
-below_transfer_type mode.DcDual = lit< tt
-below_transfer_type mode.AcCore1pDcExtended = lit< tt
-below_transfer_type mode.AcSingleDcCore = lit< tt
-below_transfer_type mode.AcSinglePhaseThreePhaseCoreDcExtended = lit< tt
-below_transfer_type mode.AcCore3pDcExtended = lit< tt
+below_transfer_type other = lit< tt
 
 pub transfer_type : (x : SupportedEnergyTransferType) → Has SUPPORTED_ENERGY_TRANSFER_TYPE_KIND (Ordinal (supported_energy_transfer_type_ordinal x))
 transfer_type x = (Named 10, refl, below_transfer_type x)
@@ -137,49 +106,28 @@ progress x = (Named 2, refl, below_progress x)
 
 below_unit_symbol : (x : UnitSymbol) → unit_symbol_ordinal x < 10
 below_unit_symbol unit.H = lit< tt
-below_unit_symbol unit.M = lit< tt
-below_unit_symbol unit.S = lit< tt
-below_unit_symbol unit.A = lit< tt
-below_unit_symbol unit.Ah = lit< tt
-below_unit_symbol unit.V = lit< tt
-below_unit_symbol unit.Va = lit< tt
-below_unit_symbol unit.W = lit< tt
-below_unit_symbol unit.WS = lit< tt
-below_unit_symbol unit.Wh = lit< tt
+below_unit_symbol other = lit< tt
 
 pub unit_symbol : (x : UnitSymbol) → Has UNIT_SYMBOL_KIND (Ordinal (unit_symbol_ordinal x))
 unit_symbol x = (Named 10, refl, below_unit_symbol x)
 
 below_notified : (x : EvseNotification) → evse_notification_ordinal x < 3
 below_notified notification.None = lit< tt
-below_notified notification.StopCharging = lit< tt
-below_notified notification.ReNegotiation = lit< tt
+below_notified other = lit< tt
 
 pub notified : (x : EvseNotification) → Has EVSE_NOTIFICATION_KIND (Ordinal (evse_notification_ordinal x))
 notified x = (Named 3, refl, below_notified x)
 
 below_isolation : (x : IsolationLevel) → isolation_level_ordinal x < 4
 below_isolation level.Invalid = lit< tt
-below_isolation level.Valid = lit< tt
-below_isolation level.Warning = lit< tt
-below_isolation level.Fault = lit< tt
+below_isolation other = lit< tt
 
 pub isolation : (x : IsolationLevel) → Has ISOLATION_LEVEL_KIND (Ordinal (isolation_level_ordinal x))
 isolation x = (Named 4, refl, below_isolation x)
 
 below_status_code : (x : EvseStatusCode) → evse_status_code_ordinal x < 12
 below_status_code status.EvseNotReady = lit< tt
-below_status_code status.EvseReady = lit< tt
-below_status_code status.EvseShutdown = lit< tt
-below_status_code status.EvseUtilityInterruptEvent = lit< tt
-below_status_code status.EvseIsolationMonitoringActive = lit< tt
-below_status_code status.EvseEmergencyShutdown = lit< tt
-below_status_code status.EvseMalfunction = lit< tt
-below_status_code status.Reserved8 = lit< tt
-below_status_code status.Reserved9 = lit< tt
-below_status_code status.ReservedA = lit< tt
-below_status_code status.ReservedB = lit< tt
-below_status_code status.ReservedC = lit< tt
+below_status_code other = lit< tt
 
 pub status_code : (x : EvseStatusCode) → Has EVSE_STATUS_CODE_KIND (Ordinal (evse_status_code_ordinal x))
 status_code x = (Named 12, refl, below_status_code x)

@@ -33,11 +33,7 @@ evcc_id car lent few all lends =
 
 below_mode : (x : EnergyTransferMode) → energy_transfer_mode_ordinal x < 6
 below_mode mode.AcSinglePhaseCore = lit< tt
-below_mode mode.AcThreePhaseCore = lit< tt
-below_mode mode.DcCore = lit< tt
-below_mode mode.DcExtended = lit< tt
-below_mode mode.DcComboCore = lit< tt
-below_mode mode.DcUnique = lit< tt
+below_mode other = lit< tt
 
 pub transfer_mode : (x : EnergyTransferMode) → Has ENERGY_TRANSFER_MODE_KIND (Ordinal (energy_transfer_mode_ordinal x))
 transfer_mode x = (Named 6, refl, below_mode x)

@@ -45,8 +45,7 @@ charging_session x = (Named 2, refl, below_session x)
 
 below_progress : (x : ChargeProgress) → charge_progress_ordinal x < 3
 below_progress progress.Start = lit< tt
-below_progress progress.Stop = lit< tt
-below_progress progress.Renegotiate = lit< tt
+below_progress other = lit< tt
 
 pub charge_progress : (x : ChargeProgress) → Has CHARGE_PROGRESS_KIND (Ordinal (charge_progress_ordinal x))
 charge_progress x = (Named 3, refl, below_progress x)
