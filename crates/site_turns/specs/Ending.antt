@@ -1,5 +1,5 @@
 -- Own: how the serving of a site ends, and what its past and its trace are then.
-use Rattle.std.specs.Prelude.{◌≡◌, ◌<◌, ℕ, ◌+◌, true, false, List, length, map, Some, ◌⊎◌}
+use Rattle.std.specs.Prelude.{◌≡◌, ◌<◌, ℕ, ◌+◌, true, false, List, All, length, map, Some, ◌⊎◌}
 use Rattle.charge_world.specs.declared.entry.Entry.{Entry}
 use Rattle.charge_world.specs.declared.entry.Entry.TheVariants as entry
 use Rattle.charge_world.specs.declared.heard.Heard.{Heard}
@@ -28,7 +28,7 @@ pub record AreMadeOf (plan : SitePlan) (places : List Place) (limit turns : ℕ)
   pub limit_is : limit ≡ plan.limit
   pub turns_is : turns ≡ plan.turns
   pub rules : IsSitePlan plan
-  pub amounts : (i : ℕ) → i < length places → IsPlan (at places i).plan
+  pub amounts : All (λ p. IsPlan p.plan) places
 
 abbrev pub AreMade : List Place → ℕ → ℕ → Type 0
 AreMade places limit turns = (plan : SitePlan) × AreMadeOf plan places limit turns

@@ -1,6 +1,6 @@
 //! The turns of a site, from what its wire tells to what is done on it.
 
-ghost use Rattle.std.specs.Prelude.{◌≡◌, ◌≤◌, ◌<◌, ◌+◌, ◌^◌, ◌↔◌, ℕ, List, [], length, map, Option, Some, IsSome, All};
+ghost use Rattle.std.specs.Prelude.{◌≡◌, ◌≤◌, ◌<◌, ◌+◌, ◌^◌, ◌↔◌, ℕ, List, [], length, map, Some, Ok, OnOk, IsSome, All};
 ghost use Rattle.charge_world.specs.declared.entry.Entry.{Entry};
 ghost use Rattle.charge_world.specs.Outside.{IsFault};
 ghost use Rattle.session_words.specs.declared.plan.SitePlan.{SitePlan};
@@ -11,49 +11,19 @@ ghost use Rattle.site_posts.specs.Places.{RestsAt, place_of};
 ghost use Rattle.site_acts.specs.Serving.{IsReady};
 ghost use Rattle.site_acts.specs.Telling.{Carries, CarriesText, HasClosing, IsTraced, IsWrittenSo};
 ghost use Rattle.site_turns.specs.Ending.{AreMade, AreMadeOf, EndedAs, RanAs, TracedAs, AwaitedAs, AreCounts};
-ghost use Rattle.site_turns.specs.Hearing.{AwaitsLine};
-ghost use Rattle.site_turns.specs.Turns.{Waits, Stops, Turned, AreDone, AreDoneBehind, StopsText, TurnedText, ClosedText, how_heard, how_lost, how_closed, IsFinished, AreFaults};
+ghost use Rattle.site_turns.specs.Lasts.{ended_so};
+ghost use Rattle.site_turns.specs.Turns.{Waits, Stops, Turned, IsFinished, ClosedText, AreFaults};
 
 use crate::closing::close_all;
-use crate::ending::Ended;
+use crate::ending::{Ended, Last};
 use crate::hearing::{SoFar, hear};
 use charge_world::{Sink, Wire};
 use site_acts::Desk;
 use site_posts::{Place, until};
-use site_serving::{TraceFailed, close_unwritten, ends};
+use site_serving::{TraceFailed, close_unwritten};
 use trace_lines::TraceLines;
 use trace_text::Noted;
 use word_codec::Codec;
-
-/// How a hearing ends serving, where it does.
-fn behind(written: Result<(), TraceFailed>, last: bool) -> Option<Ended>
-    ensures { result ≡ how_heard written last }
-{
-    match written {
-        Err(_) => Some(Ended::TraceFault),
-        Ok(()) => if last { Some(Ended::Over) } else { None },
-    }
-}
-
-/// How a lost hearing ends serving.
-fn behind_lost(written: Result<(), TraceFailed>) -> Ended
-    ensures { result ≡ how_lost written }
-{
-    match written {
-        Err(_) => Ended::TraceFault,
-        Ok(()) => Ended::Lost,
-    }
-}
-
-/// How serving ended, behind the closing orders.
-fn behind_closing(how: Ended, written: Result<(), TraceFailed>) -> Ended
-    ensures { result ≡ how_closed how written }
-{
-    match written {
-        Err(_) => Ended::TraceFault,
-        Ok(()) => how,
-    }
-}
 
 /// Hears once, and does all that the posts have to do about it; says how serving ended, where it did.
 fn turn<C: Codec, W: Wire, J: Sink>(
@@ -64,7 +34,7 @@ fn turn<C: Codec, W: Wire, J: Sink>(
     room: &mut [u8],
     wire: &mut W,
     trace: &mut J,
-) -> Option<Ended>
+) -> Result<Option<Last>, TraceFailed>
     requires few { length places.old ≤ 8 }
     requires room { length room.old ≡ 4096 }
     requires posts { W.posts wire.old ≡ length places.old }
@@ -74,24 +44,27 @@ fn turn<C: Codec, W: Wire, J: Sink>(
     ensures carried { (plan : SitePlan) (earlier : List ℕ) → plan.limit ≡ limit → so_far.old.hearing < plan.turns → Carries (W.past wire.old) (W.past wire.new)
         (Waits (codecs C.negotiates C.reads C.encodes) plan so_far.old (W.untils wire.old) earlier places.old)
         (Turned (codecs C.negotiates C.reads C.encodes) plan result so_far.new (W.untils wire.new) earlier places.new) }
-    ensures traced { CarriesText (W.past wire.old) (W.past wire.new) (J.taken trace.old) (J.taken trace.new) (IsTraced so_far.old.hearing) (TurnedText result so_far.new.hearing) }
+    ensures traced { CarriesText (W.past wire.old) (W.past wire.new) (J.taken trace.old) (J.taken trace.new) (IsTraced so_far.old.hearing) (IsWrittenSo so_far.new.hearing result) }
     ensures hearing { so_far.new.hearing ≡ so_far.old.hearing + 1 }
     ensures ready { All (IsReady C.reads) places.new }
-    ensures quiet { AreDoneBehind result places.new }
-    ensures writes { AreFaults (J.faults trace.old) (J.faults trace.new) result }
+    ensures quiet { OnOk result (All RestsAt places.new) }
+    ensures writes { IsFault (J.faults trace.old) (J.faults trace.new) result }
     ensures started { W.started wire.new ≡ W.started wire.old }
     ensures posts { W.posts wire.new ≡ W.posts wire.old }
     ensures faults { W.faults wire.old ≤ W.faults wire.new }
-    ensures lost { result ≡ Some Ended.Lost → W.faults wire.old < W.faults wire.new }
+    ensures lost { result ≡ Ok (Some Last.Lost) → W.faults wire.old < W.faults wire.new }
 {
-    let heard = wire.next(until(places), room);
+    let next = wire.next(until(places), room);
     so_far.hearing += 1;
-    match heard {
-        Err(_) => Some(behind_lost(desk.lines.write(so_far.hearing, &Noted::Lost, trace))),
+    match next {
+        Err(_) => {
+            desk.lines.write(so_far.hearing, &Noted::Lost, trace)?;
+            Ok(Some(Last::Lost))
+        }
         Ok(heard) => {
             so_far.moment = so_far.moment.max(heard.at);
-            let written = hear(desk, places, limit, so_far, &heard, room, wire, trace);
-            behind(written, ends(heard.what))
+            hear(desk, places, limit, so_far, &heard, room, wire, trace)?;
+            Ok(Last::heard(heard.what))
         }
     }
 }
@@ -105,7 +78,7 @@ fn take_turns<C: Codec, W: Wire, J: Sink>(
     so_far: &mut SoFar,
     wire: &mut W,
     trace: &mut J,
-) -> Ended
+) -> Result<Last, TraceFailed>
     requires few { length places.old ≤ 8 }
     requires posts { W.posts wire.old ≡ length places.old }
     requires turns { turns ≤ 2 ^ 32 }
@@ -114,27 +87,27 @@ fn take_turns<C: Codec, W: Wire, J: Sink>(
     requires quiet { All RestsAt places.old }
     ensures carried { (plan : SitePlan) (earlier : List ℕ) → plan.limit ≡ limit → plan.turns ≡ turns → Carries (W.past wire.old) (W.past wire.new)
         (Waits (codecs C.negotiates C.reads C.encodes) plan so_far.old (W.untils wire.old) earlier places.old)
-        (Stops (codecs C.negotiates C.reads C.encodes) plan result (W.untils wire.new) earlier places.new) }
-    ensures traced { CarriesText (W.past wire.old) (W.past wire.new) (J.taken trace.old) (J.taken trace.new) (IsTraced so_far.old.hearing) (StopsText result so_far.new.hearing) }
-    ensures quiet { AreDone result places.new }
-    ensures writes { AreFaults (J.faults trace.old) (J.faults trace.new) (Some result) }
+        (Stops (codecs C.negotiates C.reads C.encodes) plan (ended_so result) (W.untils wire.new) earlier places.new) }
+    ensures traced { CarriesText (W.past wire.old) (W.past wire.new) (J.taken trace.old) (J.taken trace.new) (IsTraced so_far.old.hearing) (IsWrittenSo so_far.new.hearing result) }
+    ensures quiet { OnOk result (All RestsAt places.new) }
+    ensures writes { IsFault (J.faults trace.old) (J.faults trace.new) result }
     ensures started { W.started wire.new ≡ W.started wire.old }
     ensures posts { W.posts wire.new ≡ W.posts wire.old }
     ensures faults { W.faults wire.old ≤ W.faults wire.new }
-    ensures lost { result ≡ Ended.Lost → W.faults wire.old < W.faults wire.new }
+    ensures lost { result ≡ Ok Last.Lost → W.faults wire.old < W.faults wire.new }
 {
     let mut room = [0u8; 4096];
     for _ in 0..turns {
-        if let Some(how) = turn(desk, places, limit, so_far, &mut room, wire, trace) {
-            return how;
+        if let Some(last) = turn(desk, places, limit, so_far, &mut room, wire, trace)? {
+            return Ok(last);
         }
     }
-    Ended::Turns
+    Ok(Last::Turns)
 }
 
 /// Gives the orders by which serving ends, with their lines where all lines before could be written.
 fn finish<W: Wire, J: Sink>(
-    how: Ended,
+    last: Result<Last, TraceFailed>,
     places: &[Place],
     hearing: u64,
     lines: &mut TraceLines,
@@ -144,23 +117,23 @@ fn finish<W: Wire, J: Sink>(
     requires few { length places.now ≤ 8 }
     ensures closed { (posts : List Post) (blocks : List Entry) → places.now ≡ map place_of posts → Carries (W.past wire.old) (W.past wire.new) (λ past. past ≡ blocks) (Closes 1 posts blocks) }
     ensures orders { (blocks : List Entry) → Carries (W.past wire.old) (W.past wire.new) (λ past. past ≡ blocks) (HasClosing blocks) }
-    ensures traced { CarriesText (W.past wire.old) (W.past wire.new) (J.taken trace.old) (J.taken trace.new) (StopsText how hearing) (ClosedText result hearing) }
-    ensures how { IsFinished how result }
-    ensures writes { (start : ℕ) → AreFaults start (J.faults trace.old) (Some how) → AreFaults start (J.faults trace.new) (Some result) }
+    ensures traced { CarriesText (W.past wire.old) (W.past wire.new) (J.taken trace.old) (J.taken trace.new) (IsWrittenSo hearing last) (ClosedText result hearing) }
+    ensures how { IsFinished last result }
+    ensures writes { (start : ℕ) → IsFault start (J.faults trace.old) last → AreFaults start (J.faults trace.new) result }
     ensures untils { IsSome (W.past wire.new) → W.untils wire.new ≡ W.untils wire.old }
     ensures started { W.started wire.new ≡ W.started wire.old }
     ensures posts { W.posts wire.new ≡ W.posts wire.old }
     ensures faults { W.faults wire.old ≤ W.faults wire.new }
 {
-    match how {
-        Ended::TraceFault => {
+    match last {
+        Err(_) => {
             close_unwritten(places, 0, wire);
             Ended::TraceFault
         }
-        Ended::Over | Ended::Lost | Ended::Turns => {
-            let written = close_all(places, hearing, lines, wire, trace);
-            behind_closing(how, written)
-        }
+        Ok(last) => match close_all(places, hearing, lines, wire, trace) {
+            Err(_) => Ended::TraceFault,
+            Ok(()) => last.ended(),
+        },
     }
 }
 
@@ -195,6 +168,6 @@ pub fn serve_posts<C: Codec, W: Wire, J: Sink>(
         moment: 0,
         hearing: 0,
     };
-    let how = take_turns(desk, places, limit, turns, &mut so_far, wire, trace);
-    finish(how, places, so_far.hearing, &mut desk.lines, wire, trace)
+    let last = take_turns(desk, places, limit, turns, &mut so_far, wire, trace);
+    finish(last, places, so_far.hearing, &mut desk.lines, wire, trace)
 }
