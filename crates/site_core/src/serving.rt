@@ -1,10 +1,10 @@
 //! Serving.
 
-ghost use Rattle.std.specs.Prelude.{◌≡◌, ◌≤◌, ◌<◌, ◌↔◌, [], vec_len};
+ghost use Rattle.std.specs.Prelude.{◌≡◌, ◌≤◌, ◌<◌, [], vec_len};
 ghost use Rattle.session_words.specs.declared.plan.SitePlan.{SitePlan};
 ghost use Rattle.post_spec.specs.Codecs.{codecs};
 ghost use Rattle.site_acts.specs.Telling.{Carries, CarriesText};
-ghost use Rattle.site_turns.specs.Ending.{AreMade, AreMadeOf, EndedAs, RanAs, TracedAs, AwaitedAs, AreCounts};
+ghost use Rattle.site_turns.specs.Ending.{AreMade, AreMadeOf, EndedAs, RanAs, TracedAs, AwaitedAs, AreCounts, AreFaults};
 
 use crate::site::Site;
 use charge_world::{Sink, Wire};
@@ -32,8 +32,7 @@ pub fn serve<C: Codec, W: Wire, J: Sink>(wire: &mut W, trace: &mut J, site: &mut
     ensures posts { W.posts wire.new ≡ W.posts wire.old }
     ensures faults { W.faults wire.old ≤ W.faults wire.new }
     ensures lost { result ≡ Ended.Lost → W.faults wire.old < W.faults wire.new }
-    ensures trace_faults { J.faults trace.old ≤ J.faults trace.new }
-    ensures trace_fault { (result ≡ Ended.TraceFault) ↔ (J.faults trace.old < J.faults trace.new) }
+    ensures trace_fault { AreFaults (J.faults trace.old) (J.faults trace.new) result }
 {
     serve_posts(
         &mut site.desk,

@@ -1,5 +1,5 @@
 -- Own: how the serving of a site ends, and what its past and its trace are then.
-use Rattle.std.specs.Prelude.{◌≡◌, ◌<◌, ℕ, ◌+◌, true, false, List, All, length, map, Some, ◌⊎◌}
+use Rattle.std.specs.Prelude.{◌≡◌, ◌<◌, ◌≤◌, ◌↔◌, ℕ, ◌+◌, true, false, List, All, length, map, Some, ◌⊎◌}
 use Rattle.charge_world.specs.declared.entry.Entry.{Entry}
 use Rattle.charge_world.specs.declared.entry.Entry.TheVariants as entry
 use Rattle.charge_world.specs.declared.heard.Heard.{Heard}
@@ -69,3 +69,8 @@ pub record Counts (k : ℕ) (report : PostReport) (past : List Entry) : Type 0 w
 -- so of each post
 abbrev pub AreCounts : List Place → List Entry → Type 0
 AreCounts places past = (i : ℕ) → i < length places → Counts (i + 1) (at places i).report past
+
+-- the trace's count of faults rose exactly where serving ended by it
+pub record AreFaults (before after : ℕ) (how : Ended) : Type 0 where
+  pub later : before ≤ after
+  pub risen : (how ≡ ended.TraceFault) ↔ (before < after)

@@ -1,5 +1,5 @@
 -- Own: what holds between the turns of a site, and where its turns end.
-use Rattle.std.specs.Prelude.{◌≡◌, ◌<◌, ◌≤◌, ◌↔◌, ℕ, false, List, ◌++◌, Option, Some, None, Result, Ok, Err, ◌⊎◌}
+use Rattle.std.specs.Prelude.{◌≡◌, ℕ, false, List, ◌++◌, Option, Some, None, Result, Ok, Err, ◌⊎◌}
 use Rattle.charge_world.specs.declared.entry.Entry.{Entry}
 use Rattle.session_words.specs.declared.plan.SitePlan.{SitePlan}
 use Rattle.post_spec.specs.Codecs.{Codecs}
@@ -44,8 +44,3 @@ ClosedText ended.Over hearing past text = IsTraced hearing past text
 ClosedText ended.Lost hearing past text = IsTraced hearing past text
 ClosedText ended.TraceFault hearing past text = IsCutText past text
 ClosedText ended.Turns hearing past text = IsTraced hearing past text
-
--- the trace's count of faults rose exactly where serving ended by it
-pub record AreFaults (before after : ℕ) (how : Ended) : Type 0 where
-  pub later : before ≤ after
-  pub risen : (how ≡ ended.TraceFault) ↔ (before < after)

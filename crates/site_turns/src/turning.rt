@@ -1,6 +1,6 @@
 //! The turns of a site, from what its wire tells to what is done on it.
 
-ghost use Rattle.std.specs.Prelude.{◌≡◌, ◌≤◌, ◌<◌, ◌+◌, ◌^◌, ◌↔◌, ℕ, List, [], length, map, Some, Ok, OnOk, IsSome, All};
+ghost use Rattle.std.specs.Prelude.{◌≡◌, ◌≤◌, ◌<◌, ◌+◌, ◌^◌, ℕ, List, [], length, map, Some, Ok, OnOk, IsSome, All};
 ghost use Rattle.charge_world.specs.declared.entry.Entry.{Entry};
 ghost use Rattle.charge_world.specs.Outside.{IsFault};
 ghost use Rattle.session_words.specs.declared.plan.SitePlan.{SitePlan};
@@ -10,9 +10,9 @@ ghost use Rattle.station_spec.specs.Sharing.{Post};
 ghost use Rattle.site_posts.specs.Places.{RestsAt, place_of};
 ghost use Rattle.site_acts.specs.Serving.{IsReady};
 ghost use Rattle.site_acts.specs.Telling.{Carries, CarriesText, HasClosing, IsTraced, IsWrittenSo};
-ghost use Rattle.site_turns.specs.Ending.{AreMade, AreMadeOf, EndedAs, RanAs, TracedAs, AwaitedAs, AreCounts};
+ghost use Rattle.site_turns.specs.Ending.{AreMade, AreMadeOf, EndedAs, RanAs, TracedAs, AwaitedAs, AreCounts, AreFaults};
 ghost use Rattle.site_turns.specs.Lasts.{ended_so};
-ghost use Rattle.site_turns.specs.Turns.{Waits, Stops, Turned, IsFinished, ClosedText, AreFaults};
+ghost use Rattle.site_turns.specs.Turns.{Waits, Stops, Turned, IsFinished, ClosedText};
 
 use crate::closing::close_all;
 use crate::ending::{Ended, Last};
@@ -21,6 +21,7 @@ use charge_world::{Sink, Wire};
 use site_acts::Desk;
 use site_posts::{Place, until};
 use site_serving::{TraceFailed, close_unwritten};
+use station_laws::runs_of_posts;
 use trace_lines::TraceLines;
 use trace_text::Noted;
 use word_codec::Codec;
@@ -137,6 +138,38 @@ fn finish<W: Wire, J: Sink>(
     }
 }
 
+/// Serves with posts that heard nothing yet, behind the trace's first line.
+fn serve_begun<C: Codec, W: Wire, J: Sink>(
+    desk: &mut Desk<C>,
+    places: &mut [Place],
+    limit: u32,
+    turns: u64,
+    wire: &mut W,
+    trace: &mut J,
+) -> Ended
+    requires made { AreMade places.old limit turns }
+    requires posts { W.posts wire.old ≡ length places.old }
+    ensures run { (plan : SitePlan) → AreMadeOf plan places.old limit turns → Carries (W.past wire.old) (W.past wire.new) (λ past. past ≡ []) (RanAs (codecs C.negotiates C.reads C.encodes) plan result) }
+    ensures ended { Carries (W.past wire.old) (W.past wire.new) (λ past. past ≡ []) (EndedAs turns result) }
+    ensures trace { CarriesText (W.past wire.old) (W.past wire.new) (J.taken trace.old) (J.taken trace.new) (IsTraced 0) (TracedAs result) }
+    ensures untils { (plan : SitePlan) → AreMadeOf plan places.old limit turns → Carries (W.past wire.old) (W.past wire.new)
+        (λ past. (past ≡ []) × (W.untils wire.old ≡ [])) (AwaitedAs (codecs C.negotiates C.reads C.encodes) plan (W.untils wire.new)) }
+    ensures reports { Carries (W.past wire.old) (W.past wire.new) (λ past. past ≡ []) (AreCounts places.new) }
+    ensures started { W.started wire.new ≡ W.started wire.old }
+    ensures posts { W.posts wire.new ≡ W.posts wire.old }
+    ensures faults { W.faults wire.old ≤ W.faults wire.new }
+    ensures lost { result ≡ Ended.Lost → W.faults wire.old < W.faults wire.new }
+    ensures trace_fault { AreFaults (J.faults trace.old) (J.faults trace.new) result }
+{
+    runs_of_posts::<C>();
+    let mut so_far = SoFar {
+        moment: 0,
+        hearing: 0,
+    };
+    let last = take_turns(desk, places, limit, turns, &mut so_far, wire, trace);
+    finish(last, places, so_far.hearing, &mut desk.lines, wire, trace)
+}
+
 /// Serves with posts that heard nothing yet, and ends by ordering each live contactor open.
 pub fn serve_posts<C: Codec, W: Wire, J: Sink>(
     desk: &mut Desk<C>,
@@ -158,16 +191,11 @@ pub fn serve_posts<C: Codec, W: Wire, J: Sink>(
     ensures posts { W.posts wire.new ≡ W.posts wire.old }
     ensures faults { W.faults wire.old ≤ W.faults wire.new }
     ensures lost { result ≡ Ended.Lost → W.faults wire.old < W.faults wire.new }
-    ensures trace_faults { J.faults trace.old ≤ J.faults trace.new }
-    ensures trace_fault { (result ≡ Ended.TraceFault) ↔ (J.faults trace.old < J.faults trace.new) }
+    ensures trace_fault { AreFaults (J.faults trace.old) (J.faults trace.new) result }
 {
-    if desk.lines.begin(trace).is_err() {
-        return Ended::TraceFault;
+    runs_of_posts::<C>();
+    match desk.lines.begin(trace) {
+        Err(_) => Ended::TraceFault,
+        Ok(()) => serve_begun(desk, places, limit, turns, wire, trace),
     }
-    let mut so_far = SoFar {
-        moment: 0,
-        hearing: 0,
-    };
-    let last = take_turns(desk, places, limit, turns, &mut so_far, wire, trace);
-    finish(last, places, so_far.hearing, &mut desk.lines, wire, trace)
 }

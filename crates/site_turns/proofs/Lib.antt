@@ -1,0 +1,6 @@
+pub mod Lines
+pub mod Hearing
+pub mod Turns
+pub mod Ending
+pub mod Counts
+pub mod First
