@@ -1,3 +1,4 @@
+pub mod Closing
 pub mod Lines
 pub mod Hearing
 pub mod Turns
