@@ -21,6 +21,7 @@ use trace_text::Noted;
 use word_codec::Codec;
 
 /// What a site heard so far.
+#[derive(Drop)]
 pub struct SoFar {
     /// The greatest moment, in milliseconds.
     pub moment: u64,
