@@ -15,18 +15,21 @@ use Rattle.station_spec.specs.Blocks.{is_last, is_over, hearings}
 use Rattle.station_spec.specs.Sharing.{Post}
 use Rattle.station_spec.specs.Runs.{unheard, AreQuiet, Closes, IsSiteRun, IsCutRun}
 use Rattle.station_spec.specs.Until.{AreUntils}
+use Rattle.station_laws.specs.PostRuns.{RunsArePostRuns}
 use Rattle.site_posts.specs.declared.place.Place.{Place}
 use Rattle.site_posts.specs.Filling.{no_place}
 use Rattle.site_posts.specs.Places.{place_of, RestsAt}
 use Rattle.site_acts.specs.Serving.{newest}
 use Rattle.site_acts.specs.Telling.{Carries, CarriesText, HasClosing, IsClosing, IsCutText, IsTraced}
+use Rattle.site_acts.proofs.Carry.{carries_then}
 use Rattle.site_turns.specs.declared.ending.Ended.{Ended}
 use Rattle.site_turns.specs.declared.ending.Ended.TheVariants as ended
 use Rattle.site_turns.specs.declared.ending.Last.{Last}
 use Rattle.site_turns.specs.declared.ending.Last.TheVariants.{Over, Lost, Turns}
-use Rattle.site_turns.specs.Ending.{EndedAs, RanAs, TracedAs, AwaitedAs}
+use Rattle.site_turns.specs.Ending.{EndedAs, RanAs, TracedAs, AwaitedAs, AreCounts}
 use Rattle.site_turns.specs.Lasts.{ended_by, ended_so}
 use Rattle.site_turns.specs.Turns.{Stops, IsFinished, ClosedText}
+use Rattle.site_turns.proofs.Counts.{counts_stopped}
 
 -- ---- orders to open that stand on entries
 
@@ -131,29 +134,44 @@ over_closing a None places P Q closed orders step = tt
 over_closing None (Some new) places P Q closed orders step = absurd (orders [])
 over_closing (Some old) (Some new) places P Q closed orders step = λ p. step old new p (λ posts are. closed posts old are refl) (orders old refl)
 
-pub run_closed : {E : Type 0} (a b : Option (List Entry)) (c : Codecs) (plan : SitePlan) (last : Result Last E) (how : Ended) (told earlier : List ℕ) (places : List Place) → OnOk last (All RestsAt places) → IsFinished last how
-    → ((posts : List Post) (blocks : List Entry) → places ≡ map place_of posts → Carries a b (λ past. past ≡ blocks) (Closes 1 posts blocks)) → ((blocks : List Entry) → Carries a b (λ past. past ≡ blocks) (HasClosing blocks))
-    → Carries a b (Stops c plan (ended_so last) told earlier places) (RanAs c plan how)
-run_closed a b c plan last how told earlier places rest is closed orders =
-    over_closing a b places (Stops c plan (ended_so last) told earlier places) (RanAs c plan how) closed orders (λ blocks past s closes h. ran c plan last how told earlier places blocks past rest is s closes)
+over_orders : (a b : Option (List Entry)) (P Q : List Entry → Type 0) → ((blocks : List Entry) → Carries a b (λ past. past ≡ blocks) (HasClosing blocks)) → ((blocks past : List Entry) → P blocks → HasClosing blocks past → Q past) → Carries a b P Q
+over_orders a None P Q orders step = tt
+over_orders None (Some new) P Q orders step = absurd (orders [])
+over_orders (Some old) (Some new) P Q orders step = λ p. step old new p (orders old refl)
 
-pub ended_closed : {E : Type 0} (a b : Option (List Entry)) (c : Codecs) (plan : SitePlan) (last : Result Last E) (how : Ended) (told earlier : List ℕ) (places : List Place) → IsFinished last how
-    → ((posts : List Post) (blocks : List Entry) → places ≡ map place_of posts → Carries a b (λ past. past ≡ blocks) (Closes 1 posts blocks)) → ((blocks : List Entry) → Carries a b (λ past. past ≡ blocks) (HasClosing blocks))
-    → Carries a b (Stops c plan (ended_so last) told earlier places) (EndedAs plan.turns how)
-ended_closed a b c plan last how told earlier places is closed orders =
-    over_closing a b places (Stops c plan (ended_so last) told earlier places) (EndedAs plan.turns how) closed orders (λ blocks past s closes h. finished plan.turns last how past is (ended_past plan.turns (ended_so last) blocks past h s.ended))
+pub run_closed : {E : Type 0} (start mid after : Option (List Entry)) (c : Codecs) (plan : SitePlan) (last : Result Last E) (how : Ended) (told earlier : List ℕ) (places : List Place) → OnOk last (All RestsAt places) → IsFinished last how
+    → Carries start mid (λ past. past ≡ []) (Stops c plan (ended_so last) told earlier places)
+    → ((posts : List Post) (blocks : List Entry) → places ≡ map place_of posts → Carries mid after (λ past. past ≡ blocks) (Closes 1 posts blocks)) → ((blocks : List Entry) → Carries mid after (λ past. past ≡ blocks) (HasClosing blocks))
+    → Carries start after (λ past. past ≡ []) (RanAs c plan how)
+run_closed start mid after c plan last how told earlier places rest is stops closed orders =
+    carries_then start mid after (λ past. past ≡ []) (Stops c plan (ended_so last) told earlier places) (RanAs c plan how) stops
+    (over_closing mid after places (Stops c plan (ended_so last) told earlier places) (RanAs c plan how) closed orders (λ blocks past s closes h. ran c plan last how told earlier places blocks past rest is s closes))
 
-pub untils_closed : {E : Type 0} (a b : Option (List Entry)) (c : Codecs) (plan : SitePlan) (last : Result Last E) (told earlier : List ℕ) (places : List Place) → earlier ≡ []
-    → ((posts : List Post) (blocks : List Entry) → places ≡ map place_of posts → Carries a b (λ past. past ≡ blocks) (Closes 1 posts blocks)) → ((blocks : List Entry) → Carries a b (λ past. past ≡ blocks) (HasClosing blocks))
-    → Carries a b (Stops c plan (ended_so last) told earlier places) (AwaitedAs c plan told)
-untils_closed a b c plan last told earlier places none closed orders =
-    over_closing a b places (Stops c plan (ended_so last) told earlier places) (AwaitedAs c plan told) closed orders (λ blocks past s closes h. record {
-      blocks = blocks;
-      closing = h;
-      untils_are =
-          let all : told ≡ s.known.untils = s.told_are ∙ ap (λ (t : List ℕ). s.known.untils ++ t) none ∙ append-nil s.known.untils in
-          subst (AreUntils c plan blocks) (sym all) s.block.untils_are;
-    })
+pub ended_closed : {E : Type 0} (start mid after : Option (List Entry)) (c : Codecs) (plan : SitePlan) (turns : ℕ) (last : Result Last E) (how : Ended) (told earlier : List ℕ) (places : List Place) → turns ≡ plan.turns → IsFinished last how
+    → Carries start mid (λ past. past ≡ []) (Stops c plan (ended_so last) told earlier places) → ((blocks : List Entry) → Carries mid after (λ past. past ≡ blocks) (HasClosing blocks)) → Carries start after (λ past. past ≡ []) (EndedAs turns how)
+ended_closed start mid after c plan turns last how told earlier places are is stops orders =
+    carries_then start mid after (λ past. past ≡ []) (Stops c plan (ended_so last) told earlier places) (EndedAs turns how) stops
+    (over_orders mid after (Stops c plan (ended_so last) told earlier places) (EndedAs turns how) orders (λ blocks past s h.
+    subst (λ (n : ℕ). EndedAs n how past) (sym are) (finished plan.turns last how past is (ended_past plan.turns (ended_so last) blocks past h s.ended))))
+
+pub counts_closed : {E : Type 0} (start mid after : Option (List Entry)) (c : Codecs) (plan : SitePlan) (last : Result Last E) (told earlier : List ℕ) (places : List Place) → RunsArePostRuns c
+    → Carries start mid (λ past. past ≡ []) (Stops c plan (ended_so last) told earlier places) → ((blocks : List Entry) → Carries mid after (λ past. past ≡ blocks) (HasClosing blocks)) → Carries start after (λ past. past ≡ []) (AreCounts places)
+counts_closed start mid after c plan last told earlier places law stops orders =
+    carries_then start mid after (λ past. past ≡ []) (Stops c plan (ended_so last) told earlier places) (AreCounts places) stops
+    (over_orders mid after (Stops c plan (ended_so last) told earlier places) (AreCounts places) orders (λ blocks past s h. counts_stopped c plan (ended_so last) told earlier places blocks past law s h))
+
+-- the moments that were waited for are told, where none were told before serving
+awaited : (c : Codecs) (plan : SitePlan) (how : Ended) (told later earlier : List ℕ) (places : List Place) (blocks past : List Entry) → earlier ≡ [] → later ≡ told → Stops c plan how told earlier places blocks → HasClosing blocks past → AwaitedAs c plan later past
+awaited c plan how told later earlier places blocks past none same s h =
+    let all : later ≡ s.known.untils = same ∙ s.told_are ∙ ap (λ (t : List ℕ). s.known.untils ++ t) none ∙ append-nil s.known.untils in
+    record { blocks = blocks; closing = h; untils_are = subst (AreUntils c plan blocks) (sym all) s.block.untils_are }
+
+pub untils_closed : {E : Type 0} (start mid after : Option (List Entry)) (c : Codecs) (plan : SitePlan) (last : Result Last E) (told later earlier : List ℕ) (places : List Place) → Carries start mid (λ past. past ≡ []) (Stops c plan (ended_so last) told earlier places)
+    → ((blocks : List Entry) → Carries mid after (λ past. past ≡ blocks) (HasClosing blocks)) → (IsSome after → later ≡ told) → Carries start after (λ past. (past ≡ []) × (earlier ≡ [])) (AwaitedAs c plan later)
+untils_closed start mid None c plan last told later earlier places stops orders same = tt
+untils_closed start None (Some new) c plan last told later earlier places stops orders same = absurd (orders [])
+untils_closed None (Some blocks) (Some new) c plan last told later earlier places stops orders same = absurd stops
+untils_closed (Some old) (Some blocks) (Some new) c plan last told later earlier places stops orders same = λ p. awaited c plan (ended_so last) told later earlier places blocks new p.1 (same refl) (stops p.0) (orders blocks refl)
 
 -- ---- texts
 

@@ -16,11 +16,13 @@ use Rattle.site_posts.specs.declared.place.Place.{Place}
 use Rattle.site_posts.specs.Places.{place_of, RestsAt}
 use Rattle.site_acts.specs.Serving.{IsReady}
 use Rattle.site_acts.specs.Telling.{Carries, CarriesText, HasClosing, IsTraced}
+use Rattle.site_acts.proofs.Carry.{carries_from}
 use Rattle.site_acts.proofs.Frame.{begins}
+use Rattle.site_turns.specs.declared.ending.Ended.{Ended}
 use Rattle.site_turns.specs.declared.ending.Ended.TheVariants as ended
 use Rattle.site_turns.specs.declared.hearing.SoFar.{SoFar}
 use Rattle.site_turns.specs.Ending.{AreMade, AreMadeOf, RanAs, TracedAs, AwaitedAs, AreCounts}
-use Rattle.site_turns.specs.Turns.{Waits}
+use Rattle.site_turns.specs.Turns.{Waits, Stops}
 use Rattle.site_turns.proofs.Counts.{counts_first}
 use Rattle.site_turns.proofs.Ending.{closes_unheard}
 use Rattle.site_turns.proofs.Hearing.{made_ready, made_rest}
@@ -76,8 +78,8 @@ none_untils c plan told past e none = record { blocks = []; closing = record { l
 pub none_counts : (c : Codecs) (plan : SitePlan) (places : List Place) (limit turns : ℕ) (past : List Entry) → RunsArePostRuns c → AreMadeOf plan places limit turns → past ≡ [] → AreCounts places past
 none_counts c plan places limit turns past law m e = counts_first c plan places past law m.places_are e
 
--- over a call, with what is known where the past is told
-pub carries_with : (a b : Option (List Entry)) (P Q R : List Entry → Type 0) (K : Type 0) → (IsSome b → K) → ((past : List Entry) → K → Q past → R past) → Carries a b P Q → Carries a b P R
-carries_with a None P Q R K known step h = tt
-carries_with None (Some new) P Q R K known step h = absurd h
-carries_with (Some old) (Some new) P Q R K known step h = λ p. step new (known refl) (h p)
+-- from nothing to where the turns end
+pub stops_first : (start mid : Option (List Entry)) (c : Codecs) (plan : SitePlan) (places new : List Place) (limit turns : ℕ) (so_far : SoFar) (how : Ended) (told earlier : List ℕ) → so_far ≡ record { moment = 0; hearing = 0 } → AreMadeOf plan places limit turns
+    → Carries start mid (Waits c plan so_far earlier earlier places) (Stops c plan how told earlier new) → Carries start mid (λ past. past ≡ []) (Stops c plan how told earlier new)
+stops_first start mid c plan places new limit turns so_far how told earlier none m h =
+    carries_from start mid (λ past. past ≡ []) (Waits c plan so_far earlier earlier places) (Stops c plan how told earlier new) (λ past e. waits_first c plan places limit turns so_far earlier past none m e) h
