@@ -7,7 +7,7 @@ use Rattle.site_acts.proofs.Carry.{carries_from, carries_then, carries_to, text_
 use Rattle.site_turns.specs.Ending.{AreMadeOf, EndedAs, RanAs, TracedAs, AreCounts}
 use Rattle.site_turns.specs.Lasts.{ended_so}
 use Rattle.site_turns.specs.Turns.{Waits, Stops, ClosedText}
-use Rattle.site_turns.proofs.Ending.{run_closed, ended_closed, untils_closed, counts_closed, closed_text}
+use Rattle.site_turns.proofs.Finished.{run_closed, ended_closed, untils_closed, counts_closed, closed_text}
 use Rattle.site_turns.proofs.First.{first_ready, first_rest, first_few, first_turns, stops_first}
 use Rattle.site_turns.proofs.turning.serve_begun.Goals as goal
 
