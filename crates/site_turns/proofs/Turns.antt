@@ -23,7 +23,7 @@ use Rattle.site_turns.specs.declared.ending.Last.{Last}
 use Rattle.site_turns.specs.declared.hearing.SoFar.{SoFar}
 use Rattle.site_turns.specs.Ending.{EndedAs}
 use Rattle.site_turns.specs.Hearing.{Hears, known_behind}
-use Rattle.site_turns.specs.Lasts.{last_by}
+use Rattle.site_turns.specs.Lasts.{last_by, ended_so}
 use Rattle.site_turns.specs.Turns.{Waits, Stops, Turned}
 
 -- behind a hearing
@@ -87,6 +87,10 @@ pub turned_cut : (E : Type 0) (c : Codecs) (plan : SitePlan) (r : Result (Option
     → Turned {E = E} c plan r so_far told earlier places past
 turned_cut E c plan (Ok turn) so_far told earlier places past is s = cc
 turned_cut E c plan (Err fault) so_far told earlier places past is s = s
+
+pub stopped_cut : (E : Type 0) (c : Codecs) (plan : SitePlan) (r : Result Last E) (told earlier : List ℕ) (places : List Place) (past : List Entry) → IsErr r → Stops c plan ended.TraceFault told earlier places past → Stops c plan (ended_so r) told earlier places past
+stopped_cut E c plan (Ok why) told earlier places past is s = cc
+stopped_cut E c plan (Err fault) told earlier places past is s = s
 
 -- nothing was heard
 pub turn_lost : (a b : Option (List Entry)) (c : Codecs) (plan : SitePlan) (so_far : SoFar) (how : Ended) (told told_later earlier : List ℕ) (wait : ℕ) (places : List Place) → GrowsByOne a b entry.Lost → (IsSome b → told_later ≡ wait ∷ told)

@@ -12,7 +12,6 @@ use Rattle.site_turns.proofs.Heard.{heard_ready, heard_by}
 use Rattle.site_turns.proofs.Lines.{whole_line, cut_line}
 use Rattle.site_turns.proofs.hearing.hear.Goals as goal
 
-
 pub answer_all-requires-clause-ready : goal.answer_all-requires-clause-ready
 answer_all-requires-clause-ready g c = heard_ready g.C.Coded.reads c.args.so_far.now.moment c.args.heard.now _ c.args.places.now c.take_in.new.places (omega (arith, c.take_in.auto.places)) c.take_in.ensures.bounds c.take_in.ensures.heard c.requires.ready
 
