@@ -1,0 +1,11 @@
+//! A recorded run as a wire (own): it gives the hearings of a trace, and its calls fail by the trace's marks.
+//!
+//! It keeps no past in memory: its past exists in proofs alone.
+#![tactic(auto)]
+
+mod history;
+mod places;
+mod told;
+mod wire;
+
+pub use wire::{Recorded, ReplayWire};
