@@ -1,14 +1,7 @@
 -- What is heard next.
-use Rattle.std.proofs.Common.{◌≡◌, ℕ, zero, suc, ◌+◌, ◌<◌, ◌≤◌, Bool, true, false, cond, List, [], ◌∷◌, length, drop, get_or, refl, sym, ap, subst, ◌∙◌, arith}
-use Rattle.std.specs.Prelude.{if◌then◌else◌}
+use Rattle.std.proofs.Common.{◌≡◌, ℕ, zero, suc, ◌+◌, ◌<◌, Bool, true, false, cond, List, [], ◌∷◌, length, drop, get_or, refl, sym, ap, subst, ◌∙◌, arith}
 use Rattle.std.proofs.lemmas.List.{drop_more}
 use Rattle.charge_world.specs.declared.entry.Entry.{Entry}
-use Rattle.charge_world.specs.declared.entry.Entry.TheVariants as entry
-use Rattle.charge_world.specs.declared.heard.Heard.{Heard}
-use Rattle.charge_world.specs.declared.heard.What.{What}
-use Rattle.charge_world.specs.declared.heard.What.TheVariants.{Came, Bytes, Gone, Datagram, Plant, Tick, Over}
-use Rattle.charge_world.specs.Outside.{IsOfPosts, HasCount}
-use Rattle.trace_text.specs.TraceText.{HasBytes}
 use Rattle.trace_text.specs.Pasts.{is_hearing}
 use Rattle.replay_wire.specs.Replays.{from_hearing, CanBeHeard, AllCanBeHeard}
 
@@ -37,19 +30,3 @@ pub can_be_heard : (posts : ℕ) (trace entries : List Entry) (place : ℕ) (e :
 can_be_heard posts trace entries place e same within is all =
     let here = can posts entries place e within all in
     subst (CanBeHeard posts) (sym (is ∙ ap (λ (t : List Entry). get_or t place e) same)) here
-
--- posts and counts of what is heard
-pub post_of : (posts : ℕ) (heard : Heard) (bytes : List ℕ) (e : Entry) → e ≡ entry.Heard heard bytes → CanBeHeard posts e → IsOfPosts posts heard.what
-post_of posts heard bytes e is can = let here : CanBeHeard posts (entry.Heard heard bytes) = subst (CanBeHeard posts) is can in here.0
-
-count : (what : What) (bytes : List ℕ) → HasBytes what bytes → HasCount what
-count (Came post token) bytes h = tt
-count (Bytes post n) bytes h = (h.2, h.3)
-count (Gone post) bytes h = tt
-count (Datagram post n) bytes h = h.2
-count (Plant post event) bytes h = tt
-count Tick bytes h = tt
-count Over bytes h = tt
-
-pub count_of : (posts : ℕ) (heard : Heard) (bytes : List ℕ) (e : Entry) → e ≡ entry.Heard heard bytes → CanBeHeard posts e → HasCount heard.what
-count_of posts heard bytes e is can = let here : CanBeHeard posts (entry.Heard heard bytes) = subst (CanBeHeard posts) is can in count heard.what bytes here.1

@@ -1,8 +1,7 @@
 -- Own: what is told of a wire, for proofs alone.
-use Rattle.std.specs.Prelude.{◌≡◌, ℕ, ◌+◌, true, false, if◌then◌else◌, List, [], ◌∷◌}
+use Rattle.std.specs.Prelude.{◌≡◌, ℕ, ◌+◌, false, if◌then◌else◌, List, ◌∷◌}
 use Rattle.charge_world.specs.declared.entry.Entry.{Entry}
 use Rattle.charge_world.specs.declared.entry.Entry.TheVariants as entry
-use Rattle.trace_text.specs.TraceText.{taken_of}
 use Rattle.trace_text.specs.Noted.{entry_of}
 use Rattle.trace_text.specs.Pasts.{is_hearing}
 use Rattle.replay_wire.specs.Replays.{Follows}

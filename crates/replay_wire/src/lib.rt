@@ -4,8 +4,10 @@
 #![tactic(auto)]
 
 mod history;
+mod laws;
 mod places;
 mod told;
 mod wire;
 
+pub use laws::traces_can_be_heard;
 pub use wire::{Recorded, ReplayWire};

@@ -62,7 +62,11 @@ pub(crate) fn outcome_at(trace: &[Entry], at: usize) -> bool
     requires { at ≤ length trace.now }
     ensures { result ≡ outcome_of (drop at trace.now) }
 {
-    if at < trace.len() { is_taken(&trace[at]) } else { true }
+    if at < trace.len() {
+        is_taken(&trace[at])
+    } else {
+        true
+    }
 }
 
 /// The moment of the last thing heard, 0 where nothing was.

@@ -5,6 +5,7 @@ ghost use Rattle.charge_world.specs.declared.entry.Entry.{Entry};
 ghost use Rattle.charge_world.specs.declared.entry.Entry.TheVariants as variant;
 ghost use Rattle.charge_world.specs.Outside.{Grows, posts_of, IsFault, bytes_of, IsOfPosts, HasCount};
 ghost use Rattle.replay_wire.specs.Replays.{from_hearing, left_behind, hearing_of, last_moment, outcome_of, IsReplayOf, AllCanBeHeard};
+ghost use Rattle.replay_wire.specs.Standing.{counted};
 ghost use Rattle.replay_wire.specs.Telling.{IsCallOf, told_behind, with_hearing};
 
 use crate::history::History;
@@ -34,6 +35,7 @@ pub struct ReplayWire<K: Recorded> {
     at: usize,
     last: u64,
     posts: u8,
+    count: u64,
     started: Option<Ports>,
     history: History,
     recorded: PhantomData<K>,
@@ -46,7 +48,7 @@ impl<K: Recorded> Model for ReplayWire<K> {
 
     ghost view = { λ w. record { posts = w.posts; started = w.started; told = w.history.told } };
 
-    ghost invariant = { λ w. StandsAt K.entries w.trace.items w.at w.last w.posts w.history.told.past };
+    ghost invariant = { λ w. StandsAt K.entries w.trace.items w.at w.last w.posts w.count w.history.told.past };
 }
 
 impl<K: Recorded> ReplayWire<K> {
@@ -63,6 +65,7 @@ impl<K: Recorded> ReplayWire<K> {
             at,
             last,
             posts,
+            count: 0,
             started: None,
             history: History::new(),
             recorded: PhantomData,
@@ -74,6 +77,13 @@ impl<K: Recorded> ReplayWire<K> {
         ensures { IsReplayOf K.entries self.now.told.past }
     {
         let _ = &self.trace;
+    }
+
+    /// How many entries the past has; the count stands still at the end of its type.
+    pub fn entries(&self) -> u64
+        ensures { result ≡ counted self.now.told.past }
+    {
+        self.count
     }
 
     /// Whether the next call is taken.
@@ -91,6 +101,7 @@ impl<K: Recorded> ReplayWire<K> {
         let at = place_behind_call(self.trace.as_slice(), self.at);
         let history = self.history.then(call);
         self.at = at;
+        self.count = self.count.saturating_add(1);
         self.history = history;
     }
 
@@ -108,6 +119,7 @@ impl<K: Recorded> ReplayWire<K> {
         let history = self.history.then(&Step::Heard(Noted::of(entry), until));
         let result = hear(entry, room);
         self.at = place + 1;
+        self.count = self.count.saturating_add(1);
         self.history = history;
         result
     }
@@ -128,8 +140,11 @@ impl<K: Recorded> ReplayWire<K> {
         ensures { self.new ≡ record self.old { told = with_hearing self.old.told (hearing_of K.entries []) until } }
     {
         let heard = self.over();
-        let history = self.history.then(&Step::Heard(Noted::Heard { heard, bytes: &[] }, until));
+        let history = self
+            .history
+            .then(&Step::Heard(Noted::Heard { heard, bytes: &[] }, until));
         self.at = self.trace.len();
+        self.count = self.count.saturating_add(1);
         self.history = history;
     }
 }
