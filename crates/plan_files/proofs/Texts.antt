@@ -1,0 +1,47 @@
+-- What the first bytes of a text say of the whole text as a plan.
+use Rattle.std.proofs.Common.{◌≡◌, ◌⊎◌, inr, ℕ, ◌<◌, nat_lt, true, false, Bool, List, [], ◌++◌, length, Option, Some, None, Result, refl, sym, ap, ◌∙◌, subst, arith, length-append, append-nil}
+use Rattle.std.proofs.lemmas.Bool.{lt-ltb, ltb-true, ltb-false}
+use Rattle.plan_keys.specs.Faults.{text_says, told, Tells}
+use Rattle.plan_keys.specs.declared.fault.PlanFault.{PlanFault}
+use Rattle.plan_keys.specs.declared.fault.PlanFault.TheVariants.{Memory}
+use Rattle.toml.specs.Data.{Members}
+use Rattle.session_words.specs.declared.plan.SitePlan.{SitePlan}
+use Rattle.site_plan.specs.Plans.{IsSitePlanOf, site_told, site_fault}
+use Rattle.plan_files.specs.FileTexts.{IsBeginning, Told}
+
+-- a text above the limit says the same as any other
+too_long : (a b : List ℕ) → nat_lt 65536 (length a) ≡ true → nat_lt 65536 (length b) ≡ true → text_says a ≡ text_says b
+too_long a b h k = rw (h, k) refl
+
+said : (text bytes : List ℕ) (above : Bool) → nat_lt 65536 (length bytes) ≡ above → IsBeginning text bytes 65537 → text_says bytes ≡ text_says text
+said text bytes true is h =
+    let long : 65536 < length text = omega (arith, ltb-true 65536 (length bytes) is, ap length h.split, length-append bytes h.rest) in
+    too_long bytes text is (lt-ltb 65536 (length text) long)
+said text bytes false is h =
+    let none : h.rest ≡ [] = h.whole (omega (arith, ltb-false 65536 (length bytes) is)) in
+    ap text_says (sym (h.split ∙ ap (λ (xs : List ℕ). bytes ++ xs) none ∙ append-nil bytes))
+
+same_said : (text bytes : List ℕ) → IsBeginning text bytes 65537 → text_says bytes ≡ text_says text
+same_said text bytes h = said text bytes _ refl h
+
+in_room : (text bytes : List ℕ) (n : ℕ) → n ≡ 65537 → IsBeginning text bytes n → IsBeginning text bytes 65537
+in_room text bytes n is h = subst (λ (m : ℕ). IsBeginning text bytes m) is h
+
+pub same_plan : (text bytes : List ℕ) (n : ℕ) (plan : SitePlan) → n ≡ 65537 → IsBeginning text bytes n → IsSitePlanOf bytes plan → IsSitePlanOf text plan
+same_plan text bytes n plan room h is = (is.0, sym (same_said text bytes (in_room text bytes n room h)) ∙ is.1, is.2, is.3)
+
+pub same_told : (text bytes : List ℕ) (n : ℕ) (fault : PlanFault) → n ≡ 65537 → IsBeginning text bytes n → Tells fault (site_told bytes) → Tells fault (site_told text)
+same_told text bytes n fault room h tells =
+    subst (λ (said : Result Members PlanFault). Tells fault (told site_fault said)) (same_said text bytes (in_room text bytes n room h)) tells
+
+-- of what is told of a file
+pub told_weaker : (left text : Option (List ℕ)) (P Q : List ℕ → Type 0) → ((t : List ℕ) → P t → Q t) → Told left text P → Told left text Q
+told_weaker None text P Q f h = tt
+told_weaker (Some l) None P Q f h = absurd h
+told_weaker (Some l) (Some t) P Q f h = f t h
+
+pub told_fault : (left text : Option (List ℕ)) (P : List ℕ → Type 0) (fault : PlanFault) → ((t : List ℕ) → P t → Tells fault (site_told t)) → Told left text P
+    → (fault ≡ Memory) ⊎ Told left text (λ t. site_told t ≡ Some fault)
+told_fault None text P fault f h = inr tt
+told_fault (Some l) None P fault f h = absurd h
+told_fault (Some l) (Some t) P fault f h = f t h

@@ -1,0 +1,4 @@
+pub mod Steps
+pub mod Agreeing
+pub mod Closings
+pub mod Same

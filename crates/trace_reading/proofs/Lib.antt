@@ -1,0 +1,3 @@
+pub mod LineFeeds
+pub mod Steps
+pub mod Fronts
