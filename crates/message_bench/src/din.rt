@@ -1,6 +1,6 @@
 //! Messages of DIN SPEC 70121.
 
-ghost use Rattle.std.specs.Prelude.{◌≡◌};
+ghost use Rattle.std.specs.Prelude.{◌≡◌, ◌≤◌, length};
 ghost use Rattle.exi_documents.specs.Values.{most_entries};
 ghost use Rattle.din_codec.specs.Documents.{IsDinMessage};
 
@@ -26,19 +26,20 @@ pub(crate) fn rounds(
     let tables = DinTables::make(alloc)?;
     let mut count = 0_u64;
     for payload in payloads {
-        if payload.len() <= 65536 {
-            count = count.wrapping_add(do_often(&tables, task, payload.as_slice(), table, rounds));
-        }
+        let done = do_often(&tables, task, payload.as_slice(), table, rounds);
+        count = count.wrapping_add(done);
     }
     Ok(count)
 }
 
-/// Does the task with one payload so many times, and counts them.
+/// Does the task with one payload so many times, and counts them; 0 for one that is too long.
 fn do_often(tables: &DinTables, task: Task, payload: &[u8], table: &mut Table, rounds: u32) -> u64
-    requires payload { length payload.now ≤ 65536 }
-    requires cap { table.old.cap ≡ most_entries }
+    requires { table.old.cap ≡ most_entries }
     ensures { table.new.cap ≡ most_entries }
 {
+    if payload.len() > 65536 {
+        return 0;
+    }
     match task {
         Task::Read => read_often(tables, payload, table, rounds),
         Task::Write => write_often(tables, payload, table, rounds),
