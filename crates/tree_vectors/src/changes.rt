@@ -1,6 +1,6 @@
 //! Payloads that are changed, and then read as messages and printed alike.
 
-ghost use Rattle.std.specs.Prelude.{◌≡◌, ◌≤◌, length};
+ghost use Rattle.std.specs.Prelude.{◌≡◌, ◌≤◌, length, IfOk};
 
 use crate::typed::Codecs;
 use anyhow::{Result, bail};
@@ -40,7 +40,9 @@ pub(crate) fn codes_alike(
     for width in 1..4 {
         for place in 0..8 * payload.len() {
             if place + width <= 8 * payload.len() {
-                alike = alike.saturating_add(codes_at(alloc, codecs, dialect, payload, place, width)?);
+                alike = alike.saturating_add(codes_at(
+                    alloc, codecs, dialect, payload, place, width,
+                )?);
             }
         }
     }
@@ -64,7 +66,11 @@ fn codes_at(
     for code in 0..1_usize << width {
         let mut changed = copy_of(alloc, payload)?;
         for i in 0..width {
-            put_bit(changed.as_mut_slice(), place + i, code >> (width - 1 - i) & 1 == 1);
+            put_bit(
+                changed.as_mut_slice(),
+                place + i,
+                code >> (width - 1 - i) & 1 == 1,
+            );
         }
         alike = alike.saturating_add(is_alike(alloc, codecs, dialect, changed.as_slice())?);
     }
