@@ -1,12 +1,19 @@
 //! Reads files of vectors, payloads of ISO 15118-2 and of DIN SPEC 70121, and counts those that are answered as their line says.
 //!
 //! The words are pairs of a dialect and a file. A line `ok HEX TREE` is a payload and the text of its tree, for which the payload is
-//! written; a line `no HEX CAUSE BIT` a payload with its refusal. `-` stands for no bytes. Each payload of ISO 15118-2 is also read as a
-//! message, which is written again, or refused alike.
+//! written; a line `no HEX CAUSE BIT` a payload with its refusal. `-` stands for no bytes. Each payload is also read as a message, which is
+//! written again, or refused alike.
+//!
+//! A line `cut HEX N` is a payload of N bits: cut behind each of them, it is read as a message and printed alike. A line `codes HEX N` is a
+//! payload in which each code of up to three bits, N in all, is put at each place: so each event code is also its escape.
 #![tactic(auto)]
 
+ghost use Rattle.std.specs.Prelude.{◌≤◌, length};
+
+mod changes;
 mod typed;
 
+use crate::changes::{codes_alike, cuts_alike};
 use crate::typed::Codecs;
 use anyhow::{Context, Result, bail};
 use message_trees::{
@@ -19,12 +26,24 @@ use std::{env, fs};
 /// The most bytes of a payload.
 const MOST_BYTES: usize = 65_536;
 
-/// How many lines are payloads with a tree, are refused payloads, and have another answer than they say.
+/// How many lines are payloads with a tree, are refused payloads, are payloads that are changed, and have another answer than they say.
 #[derive(Clone, Copy, Debug, Default)]
 struct Counts {
     printed: u64,
     refused: u64,
+    changed: u64,
     wrong: u64,
+}
+
+impl Counts {
+    /// One line more of this mark.
+    fn add(&mut self, mark: &str) {
+        match mark {
+            "ok" => self.printed = self.printed.saturating_add(1),
+            "no" => self.refused = self.refused.saturating_add(1),
+            _ => self.changed = self.changed.saturating_add(1),
+        }
+    }
 }
 
 fn main(rt: HostRuntime) -> Result<ExitCode> {
@@ -42,10 +61,11 @@ fn main(rt: HostRuntime) -> Result<ExitCode> {
             str::from_utf8(text.as_slice())?,
         )?;
         println!(rt;
-            "{} printed {} refused {} wrong {}",
+            "{} printed {} refused {} changed {} wrong {}",
             file.as_str(),
             counts.printed,
             counts.refused,
+            counts.changed,
             counts.wrong
         )?;
         wrong |= counts.wrong > 0;
@@ -78,38 +98,60 @@ fn count(
     for line in text.lines() {
         let (mark, rest) = line.split_once(' ').context("a line without a payload")?;
         let (hex, _) = rest.split_once(' ').context("a line without an answer")?;
-        let answer = answer(alloc, codecs, dialect, hex)?;
+        let answer = answer(alloc, codecs, dialect, mark, hex)?;
         if answer.as_str() != line {
             if counts.wrong == 0 {
                 println!(rt; "{line}")?;
                 println!(rt; "gives {answer}")?;
             }
             counts.wrong = counts.wrong.saturating_add(1);
-        } else if mark == "ok" {
-            counts.printed = counts.printed.saturating_add(1);
         } else {
-            counts.refused = counts.refused.saturating_add(1);
+            counts.add(mark);
         }
     }
     Ok(counts)
 }
 
-/// The line of a payload: its text behind the payload that is written for the text, or its refusal.
-fn answer(alloc: Global, codecs: &Codecs, dialect: MessageDialect, hex: &str) -> Result<String> {
+/// The line of this mark and this payload.
+fn answer(
+    alloc: Global,
+    codecs: &Codecs,
+    dialect: MessageDialect,
+    mark: &str,
+    hex: &str,
+) -> Result<String> {
     let payload = hex::decode(alloc, if hex == "-" { "" } else { hex })?;
     if payload.len() > MOST_BYTES {
         bail!("a long payload");
     }
-    match print_payload(alloc, dialect, payload.as_slice()) {
+    let count = match mark {
+        "cut" => cuts_alike(alloc, codecs, dialect, payload.as_slice())?,
+        "codes" => codes_alike(alloc, codecs, dialect, payload.as_slice())?,
+        _ => return read_alike(alloc, codecs, dialect, hex, payload.as_slice()),
+    };
+    Ok(format!(in alloc; "{mark} {hex} {count}")?)
+}
+
+/// The line of a payload: its text behind the payload that is written for the text, or its refusal.
+fn read_alike(
+    alloc: Global,
+    codecs: &Codecs,
+    dialect: MessageDialect,
+    hex: &str,
+    payload: &[u8],
+) -> Result<String>
+    requires { length payload.now ≤ 65536 }
+{
+    match print_payload(alloc, dialect, payload) {
         Ok(text) => {
-            if !codecs.agree(alloc, dialect, payload.as_slice(), None)? {
+            if !codecs.agree(alloc, dialect, payload, None)? {
                 bail!("another message than its tree");
             }
             let written = written(alloc, dialect, text.as_str())?;
             Ok(format!(in alloc; "ok {written} {text}")?)
         }
         Err(PrintFault::Refused(refusal)) => {
-            if !codecs.agree(alloc, dialect, payload.as_slice(), Some(refusal))? {
+            if !codecs.agree(alloc, dialect, payload, Some(refusal))? {
                 bail!("another refusal of its message");
             }
             let Refusal { cause, bit } = refusal;

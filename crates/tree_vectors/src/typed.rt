@@ -48,6 +48,25 @@ impl Codecs {
         })
     }
 
+    /// Whether a payload is read as a message, or has this refusal.
+    pub(crate) fn refuses_so(
+        &self,
+        alloc: Global,
+        dialect: MessageDialect,
+        payload: &[u8],
+        refusal: Option<Refusal>,
+    ) -> Result<bool>
+        requires { length payload.now ≤ 65536 }
+    {
+        let mut table = Table::make(alloc, MOST_ENTRIES)?;
+        let found = match dialect {
+            MessageDialect::App => refusal,
+            MessageDialect::Iso => read_iso(&self.iso, payload, &mut table).err(),
+            MessageDialect::Din => read_din(&self.din, payload, &mut table).err(),
+        };
+        Ok(found == refusal)
+    }
+
     fn agrees_in_iso(&self, payload: &[u8], refusal: Option<Refusal>, table: &mut Table) -> bool
         requires payload { length payload.now ≤ 65536 }
         requires cap { table.old.cap ≡ most_entries }
