@@ -1,0 +1,139 @@
+-- Own: what the steps of a car tell of its words: what it asked, when, and what it was told. It is read off the steps, without what the car
+-- keeps.
+use Rattle.std.specs.Prelude.{ℕ, ◌+◌, Bool, true, false, ◌&&◌, ◌||◌, if◌then◌else◌, List, [], ◌∷◌, Option, Some, None}
+use Rattle.charge_world.specs.declared.heard.PlantEvent.TheVariants as plant
+use Rattle.session_words.specs.declared.session.SessionId.{SessionId}
+use Rattle.session_words.specs.declared.word.Ask.{Ask}
+use Rattle.session_words.specs.declared.word.Ask.TheVariants as ask
+use Rattle.session_words.specs.declared.word.Reply.{Reply}
+use Rattle.session_words.specs.declared.word.Request.{Request}
+use Rattle.session_words.specs.declared.word.Tell.{Tell}
+use Rattle.session_words.specs.declared.word.Tell.TheVariants as tell
+use Rattle.session_rules.specs.Stages.{is_same}
+use Rattle.session_rules.specs.Verdict.{is_accepted}
+use Rattle.car_rules.specs.Replies.{answers}
+use Rattle.post_spec.specs.Kinds.{asks_cable_check, asks_pre_charge, asks_authorization, asks_parameters, asks_renegotiation}
+use Rattle.post_spec.specs.Steps.{Event, Came, Plant}
+use Rattle.car_spec.specs.Codecs.{Judged, Told}
+use Rattle.car_spec.specs.Steps.{Asked, Act, Say, Step, Hears, Loses, Reads, Does}
+
+-- now: the greatest moment heard so far
+abbrev pub now : List Step → ℕ
+now [] = 0
+now (Hears at event ∷ steps) = at
+now (Loses ∷ steps) = now steps
+now (Reads word ∷ steps) = now steps
+now (Does act taken ∷ steps) = now steps
+
+-- a request that was sent, and when
+pub record Sent : Type 0 where
+  pub request : Request
+  pub at : ℕ
+
+abbrev pub request_in : Act → Option Request
+request_in (Say (Asked dialect request) bytes) = Some request
+request_in other = None
+
+abbrev pub sent_in : Option Request → ℕ → Option Sent → Option Sent
+sent_in None at earlier = earlier
+sent_in (Some request) at earlier = Some (record { request = request; at = at })
+
+-- the last request
+abbrev pub last_request : List Step → Option Sent
+last_request [] = None
+last_request (Hears at event ∷ steps) = last_request steps
+last_request (Loses ∷ steps) = last_request steps
+last_request (Reads word ∷ steps) = last_request steps
+last_request (Does act taken ∷ steps) = sent_in (request_in act) (now steps) (last_request steps)
+
+abbrev pub is_said : Act → Bool
+is_said (Say spoken bytes) = true
+is_said other = false
+
+-- what was said last has no reply yet
+abbrev pub awaits : List Step → Bool
+awaits [] = false
+awaits (Hears at event ∷ steps) = awaits steps
+awaits (Loses ∷ steps) = awaits steps
+awaits (Reads word ∷ steps) = false
+awaits (Does act taken ∷ steps) = is_said act || awaits steps
+
+-- the first request of a kind in a round of negotiated parameters: since the last renegotiation, if there was one
+abbrev pub or_first : Option ℕ → Bool → ℕ → Option ℕ
+or_first (Some first) asks at = Some first
+or_first None asks at = if asks then Some at else None
+
+abbrev pub first_with : (Ask → Bool) → Option Request → ℕ → Option ℕ → Option ℕ
+first_with kind None at earlier = earlier
+first_with kind (Some request) at earlier = if asks_renegotiation request.ask then None else or_first earlier (kind request.ask) at
+
+abbrev pub first_of : (Ask → Bool) → List Step → Option ℕ
+first_of kind [] = None
+first_of kind (Hears at event ∷ steps) = first_of kind steps
+first_of kind (Loses ∷ steps) = first_of kind steps
+first_of kind (Reads word ∷ steps) = first_of kind steps
+first_of kind (Does act taken ∷ steps) = first_with kind (request_in act) (now steps) (first_of kind steps)
+
+-- when the first one of a round was asked
+abbrev pub first_authorization : List Step → Option ℕ
+first_authorization = first_of asks_authorization
+
+abbrev pub first_parameters : List Step → Option ℕ
+first_parameters = first_of asks_parameters
+
+abbrev pub first_cable_check : List Step → Option ℕ
+first_cable_check = first_of asks_cable_check
+
+abbrev pub first_pre_charge : List Step → Option ℕ
+first_pre_charge = first_of asks_pre_charge
+
+abbrev pub asks_charging : Ask → Bool
+asks_charging (ask.CurrentDemand ready soc voltage current) = true
+asks_charging ask.ChargingStatus = true
+asks_charging other = false
+
+-- an OK reply to CurrentDemand or ChargingStatus, of that request's session
+abbrev pub is_cycle : Request → Reply → Bool
+is_cycle request reply =
+    asks_charging request.ask && answers request.ask reply.tell && is_same reply.session request.session && is_accepted reply.code
+
+abbrev pub cycle_in : Option Sent → Bool → Judged → ℕ
+cycle_in (Some sent) true (Told reply) = if is_cycle sent.request reply then 1 else 0
+cycle_in sent awaited word = 0
+
+-- the charging replies
+abbrev pub cycles : List Step → ℕ
+cycles [] = 0
+cycles (Hears at event ∷ steps) = cycles steps
+cycles (Loses ∷ steps) = cycles steps
+cycles (Reads word ∷ steps) = cycles steps + cycle_in (last_request steps) (awaits steps) word
+cycles (Does act taken ∷ steps) = cycles steps
+
+-- the identifier that the reply to SessionSetup gave
+abbrev pub given_by : Tell → SessionId → Option SessionId → Option SessionId
+given_by (tell.SessionSetup evse) session earlier = Some session
+given_by other session earlier = earlier
+
+abbrev pub given_in : Judged → Option SessionId → Option SessionId
+given_in (Told reply) earlier = given_by reply.tell reply.session earlier
+given_in other earlier = earlier
+
+abbrev pub given : List Step → Option SessionId
+given [] = None
+given (Hears at event ∷ steps) = given steps
+given (Loses ∷ steps) = given steps
+given (Reads word ∷ steps) = given_in word (given steps)
+given (Does act taken ∷ steps) = given steps
+
+-- somebody asked to stop since a connection came
+abbrev pub stop_heard : Event → Bool → Bool
+stop_heard (Came token) stop = false
+stop_heard (Plant plant.StopAsked) stop = true
+stop_heard other stop = stop
+
+abbrev pub stop : List Step → Bool
+stop [] = false
+stop (Hears at event ∷ steps) = stop_heard event (stop steps)
+stop (Loses ∷ steps) = stop steps
+stop (Reads word ∷ steps) = stop steps
+stop (Does act taken ∷ steps) = stop steps
