@@ -1,7 +1,8 @@
 -- ISO 15118-2:2014, 7.10.1 (the car's discovery): when a car asks for a post, and which answer it takes. One UDP port without multicast
 -- is own.
-use Rattle.std.specs.Prelude.{ℕ, ◌+◌, ◌*◌, nat_eq, nat_lt, ◌==◌, Bool, true, false, not, ◌&&◌, if◌then◌else◌, List, take, drop, slice_index, Option, Some, None}
+use Rattle.std.specs.Prelude.{ℕ, ◌+◌, nat_eq, nat_lt, ◌==◌, Bool, true, false, not, ◌&&◌, if◌then◌else◌, List, take, drop, Option, Some, None}
 use Rattle.std.specs.Cmp.Lexicographic.{pointwise}
+use Rattle.byteorder.specs.Endian.{big_number}
 use Rattle.session_words.specs.declared.cause.EndCause.TheVariants as cause
 use Rattle.session_words.specs.declared.plan.CarPlan.{CarPlan}
 use Rattle.sdp_discovery.specs.declared.message.SdpResponse.{SdpResponse}
@@ -42,7 +43,7 @@ search_datagram = request_spelling (record { tls = false })
 abbrev pub response_in : List ℕ → SdpResponse
 response_in datagram = record {
   address = take 16 (drop 8 datagram);
-  port = 256 * slice_index datagram 24 + slice_index datagram 25;
+  port = big_number 2 (drop 24 datagram);
   tls = false;
 }
 

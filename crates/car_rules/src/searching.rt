@@ -1,9 +1,11 @@
 //! How a car looks for a post.
 
 ghost use Rattle.std.specs.Prelude.{◌≡◌, ◌<◌};
+ghost use Rattle.sdp_discovery.specs.Discovery.{response_spelling, IsResponse};
 ghost use Rattle.car_rules.specs.Searching as rule;
 
 use crate::deadlines::{CarDue, due, due_at};
+use sdp_discovery::{SdpResponse, read_response};
 use session_words::{CarPlan, EndCause};
 
 /// How far the search for a post has come.
@@ -81,5 +83,28 @@ pub fn search_due(plan: &CarPlan, search: &Search) -> Option<CarDue>
         due(EndCause::NoOffer, search.last, 250)
     } else {
         None
+    }
+}
+
+/// The port of the response that a datagram is, where it has no TLS.
+fn port_in(datagram: &[u8], response: &SdpResponse) -> Option<u16>
+    requires within { IsResponse response.now }
+    requires spelled { datagram.now ≡ response_spelling response.now }
+    ensures { result ≡ rule.port_of datagram.now }
+{
+    if response.tls {
+        None
+    } else {
+        Some(response.port)
+    }
+}
+
+/// The port of a readable response without TLS.
+pub fn port_of(datagram: &[u8]) -> Option<u16>
+    ensures { result ≡ rule.port_of datagram.now }
+{
+    match read_response(datagram) {
+        Ok(response) => port_in(datagram, &response),
+        Err(_) => None,
     }
 }

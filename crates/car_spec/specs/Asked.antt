@@ -1,4 +1,4 @@
--- Own: what the steps of a car tell of its words: what it asked, when, and what it was told. It is read off the steps, without what the car
+-- Own: what the steps of a car tell of what it asked, and when. It is read off the steps, without what the car
 -- keeps.
 use Rattle.std.specs.Prelude.{ℕ, ◌+◌, Bool, true, false, ◌&&◌, ◌||◌, if◌then◌else◌, List, [], ◌∷◌, Option, Some, None}
 use Rattle.charge_world.specs.declared.heard.PlantEvent.TheVariants as plant
@@ -86,54 +86,3 @@ first_cable_check = first_of asks_cable_check
 
 abbrev pub first_pre_charge : List Step → Option ℕ
 first_pre_charge = first_of asks_pre_charge
-
-abbrev pub asks_charging : Ask → Bool
-asks_charging (ask.CurrentDemand ready soc voltage current) = true
-asks_charging ask.ChargingStatus = true
-asks_charging other = false
-
--- an OK reply to CurrentDemand or ChargingStatus, of that request's session
-abbrev pub is_cycle : Request → Reply → Bool
-is_cycle request reply =
-    asks_charging request.ask && answers request.ask reply.tell && is_same reply.session request.session && is_accepted reply.code
-
-abbrev pub cycle_in : Option Sent → Bool → Judged → ℕ
-cycle_in (Some sent) true (Told reply) = if is_cycle sent.request reply then 1 else 0
-cycle_in sent awaited word = 0
-
--- the charging replies
-abbrev pub cycles : List Step → ℕ
-cycles [] = 0
-cycles (Hears at event ∷ steps) = cycles steps
-cycles (Loses ∷ steps) = cycles steps
-cycles (Reads word ∷ steps) = cycles steps + cycle_in (last_request steps) (awaits steps) word
-cycles (Does act taken ∷ steps) = cycles steps
-
--- the identifier that the reply to SessionSetup gave
-abbrev pub given_by : Tell → SessionId → Option SessionId → Option SessionId
-given_by (tell.SessionSetup evse) session earlier = Some session
-given_by other session earlier = earlier
-
-abbrev pub given_in : Judged → Option SessionId → Option SessionId
-given_in (Told reply) earlier = given_by reply.tell reply.session earlier
-given_in other earlier = earlier
-
-abbrev pub given : List Step → Option SessionId
-given [] = None
-given (Hears at event ∷ steps) = given steps
-given (Loses ∷ steps) = given steps
-given (Reads word ∷ steps) = given_in word (given steps)
-given (Does act taken ∷ steps) = given steps
-
--- somebody asked to stop since a connection came
-abbrev pub stop_heard : Event → Bool → Bool
-stop_heard (Came token) stop = false
-stop_heard (Plant plant.StopAsked) stop = true
-stop_heard other stop = stop
-
-abbrev pub stop : List Step → Bool
-stop [] = false
-stop (Hears at event ∷ steps) = stop_heard event (stop steps)
-stop (Loses ∷ steps) = stop steps
-stop (Reads word ∷ steps) = stop steps
-stop (Does act taken ∷ steps) = stop steps

@@ -7,16 +7,16 @@ use Rattle.session_words.specs.declared.cause.EndCause.TheVariants.{BadFrame, Go
 use Rattle.session_words.specs.declared.plan.CarPlan.{CarPlan}
 use Rattle.v2gtp_frames.specs.declared.FrameFault.{FrameFault}
 use Rattle.v2gtp_frames.specs.Reading.{whole_at}
-use Rattle.car_rules.specs.declared.deadlines.CarDue.{CarDue}
 use Rattle.car_rules.specs.declared.searching.Search.{Search}
 use Rattle.car_rules.specs.declared.stage.CarStage.{CarStage}
-use Rattle.car_rules.specs.Deadlines.{deadlines, hit, is_reached}
+use Rattle.car_rules.specs.Deadlines.{hit}
 use Rattle.car_rules.specs.Replies.{plant_cause}
 use Rattle.car_rules.specs.Requests.{request_of}
-use Rattle.car_rules.specs.Searching.{is_searching, next_request, search_due, port_of}
+use Rattle.car_rules.specs.Searching.{is_searching, next_request, port_of}
 use Rattle.post_spec.specs.Steps.{Event, Came, Bytes, Gone, Datagram, Plant, Clock, Over}
 use Rattle.station_spec.specs.Deciding.{opening_if}
 use Rattle.car_spec.specs.Steps.{Spoken, Offer, Asked}
+use Rattle.car_spec.specs.Due.{all_deadlines, is_due}
 use Rattle.car_spec.specs.States.{Agenda, Part, Timing, Eventing, Wording, Session, State, nothing, is_done}
 
 -- the car ends by a cause: Open first, where the contactor is live
@@ -31,14 +31,6 @@ ending_if (Some cause) live = ending_by cause live
 abbrev pub ending_in : Option Session → EndCause → Bool → Agenda
 ending_in None cause live = nothing
 ending_in (Some session) cause live = ending_by cause live
-
--- all deadlines that run, in order of their numbers
-abbrev pub session_deadlines : CarPlan → Option Session → List (Option CarDue)
-session_deadlines plan None = []
-session_deadlines plan (Some session) = deadlines plan session.stage session.moments
-
-abbrev pub all_deadlines : CarPlan → State → List (Option CarDue)
-all_deadlines plan s = session_deadlines plan s.session ++ search_due plan s.search ∷ []
 
 abbrev pub timing : CarPlan → State → Agenda
 timing plan s = ending_if (hit (all_deadlines plan s) s.clock) s.live
@@ -82,11 +74,7 @@ abbrev pub has_word : Option Session → Bool
 has_word None = false
 has_word (Some session) = is_whole (whole_at session.unread)
 
--- a request that is due once more
-abbrev pub is_due : Option ℕ → ℕ → Bool
-is_due None now = false
-is_due (Some moment) now = is_reached moment now
-
+-- a request that is due is asked once more
 abbrev pub asking : CarPlan → Option CarStage → Option Spoken
 asking plan None = None
 asking plan (Some stage) = Some (Asked stage.dialect (request_of plan stage))

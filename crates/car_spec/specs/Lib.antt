@@ -1,6 +1,7 @@
 pub mod Codecs
 pub mod Steps
 pub mod States
+pub mod Due
 pub mod Deciding
 pub mod Judging
 pub mod Hearing
@@ -11,4 +12,5 @@ pub mod Until
 pub mod Past
 pub mod Mandated
 pub mod Asked
+pub mod Told
 pub mod Report

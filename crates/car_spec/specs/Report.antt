@@ -3,7 +3,7 @@ use Rattle.std.specs.Prelude.{ℕ, ◌==◌, if◌then◌else◌, List, [], ◌�
 use Rattle.charge_world.specs.declared.entry.Entry.{Entry}
 use Rattle.charge_world.specs.declared.entry.Entry.TheVariants as entry
 use Rattle.session_words.specs.declared.session.SessionId.{SessionId}
-use Rattle.car_spec.specs.Asked.{cycles, given}
+use Rattle.car_spec.specs.Told.{cycles, given}
 use Rattle.car_spec.specs.Steps.{Step}
 
 -- the number of the cause by which the car ended, 0 where it didn't

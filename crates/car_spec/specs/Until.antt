@@ -5,18 +5,13 @@ use Rattle.session_words.specs.declared.plan.CarPlan.{CarPlan}
 use Rattle.car_rules.specs.Deadlines.{least_moment}
 use Rattle.car_rules.specs.Searching.{next_request}
 use Rattle.car_spec.specs.Steps.{Step, Hears, Loses, Reads, Does}
-use Rattle.car_spec.specs.States.{Session, State}
-use Rattle.car_spec.specs.Deciding.{all_deadlines}
+use Rattle.car_spec.specs.States.{State}
+use Rattle.car_spec.specs.Due.{all_deadlines, again_in}
 use Rattle.car_spec.specs.Acting.{state}
 
 abbrev pub or_never : Option ℕ → ℕ
 or_never None = never
 or_never (Some moment) = moment
-
--- when a request is due once more
-abbrev pub again_in : Option Session → Option ℕ
-again_in None = None
-again_in (Some session) = session.again
 
 -- the least of the moments of all deadlines, of the request that waits, and of the next request for a post; at most 2^64 - 1
 abbrev pub until : CarPlan → State → ℕ
