@@ -1,20 +1,9 @@
 -- Own: what the steps of a car tell of what it asked, and when. It is read off the steps, without what the car
 -- keeps.
-use Rattle.std.specs.Prelude.{ℕ, ◌+◌, Bool, true, false, ◌&&◌, ◌||◌, if◌then◌else◌, List, [], ◌∷◌, Option, Some, None}
-use Rattle.charge_world.specs.declared.heard.PlantEvent.TheVariants as plant
-use Rattle.session_words.specs.declared.session.SessionId.{SessionId}
+use Rattle.std.specs.Prelude.{ℕ, Bool, true, false, ◌||◌, if◌then◌else◌, List, [], ◌∷◌, Option, Some, None}
 use Rattle.session_words.specs.declared.word.Ask.{Ask}
-use Rattle.session_words.specs.declared.word.Ask.TheVariants as ask
-use Rattle.session_words.specs.declared.word.Reply.{Reply}
 use Rattle.session_words.specs.declared.word.Request.{Request}
-use Rattle.session_words.specs.declared.word.Tell.{Tell}
-use Rattle.session_words.specs.declared.word.Tell.TheVariants as tell
-use Rattle.session_rules.specs.Stages.{is_same}
-use Rattle.session_rules.specs.Verdict.{is_accepted}
-use Rattle.car_rules.specs.Replies.{answers}
 use Rattle.post_spec.specs.Kinds.{asks_cable_check, asks_pre_charge, asks_authorization, asks_parameters, asks_renegotiation}
-use Rattle.post_spec.specs.Steps.{Event, Came, Plant}
-use Rattle.car_spec.specs.Codecs.{Judged, Told}
 use Rattle.car_spec.specs.Steps.{Asked, Act, Say, Step, Hears, Loses, Reads, Does}
 
 -- now: the greatest moment heard so far

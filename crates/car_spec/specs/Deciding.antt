@@ -1,6 +1,6 @@
 -- Own: what a car decides to do in a hearing without reading a word, part by part. A part is looked at once all that was decided before it
 -- is done. ISO 15118-2:2014, sections 8.7 (the deadlines) and 7.10.1 (the search for a post).
-use Rattle.std.specs.Prelude.{ℕ, Bool, true, false, not, ◌&&◌, if◌then◌else◌, List, [], ◌∷◌, ◌++◌, Option, Some, None, Result, Ok, Err}
+use Rattle.std.specs.Prelude.{ℕ, Bool, true, false, not, ◌&&◌, if◌then◌else◌, List, Option, Some, None, Result, Ok, Err}
 use Rattle.charge_world.specs.declared.heard.PlantEvent.{PlantEvent}
 use Rattle.session_words.specs.declared.cause.EndCause.{EndCause}
 use Rattle.session_words.specs.declared.cause.EndCause.TheVariants.{BadFrame, Gone as ConnectionGone, RunOver}
