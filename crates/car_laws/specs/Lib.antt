@@ -1,0 +1,3 @@
+pub mod Contactor
+pub mod Opening
+pub mod Silence
