@@ -5,7 +5,7 @@ use Rattle.charge_world.specs.declared.offer.Dialect.{Dialect}
 use Rattle.charge_world.specs.declared.ports.Order.{Order}
 use Rattle.charge_world.specs.declared.ports.Order.TheVariants as order
 use Rattle.session_words.specs.declared.cause.EndCause.{EndCause}
-use Rattle.session_words.specs.declared.cause.EndCause.TheVariants.{NoNegotiation, Refused as PayloadRefused, WrongSide as FromWrongSide, Gone as ConnectionGone, RunOver, BadFrame}
+use Rattle.session_words.specs.declared.cause.EndCause.TheVariants.{NoNegotiation, Refused as PayloadRefused, WrongSide as FromWrongSide, WrongReply, Gone as ConnectionGone, RunOver, BadFrame}
 use Rattle.session_words.specs.declared.plan.CarPlan.{CarPlan}
 use Rattle.session_words.specs.declared.word.Reply.{Reply}
 use Rattle.v2gtp_frames.specs.declared.FrameFault.{FrameFault}
@@ -93,8 +93,8 @@ StateOpens failed s = Opens s.agenda s.live failed
 pub decided_opens : (plan : CarPlan) (s : State) (failed : Bool) → StateOpens failed s → StateOpens failed (decided plan s)
 decided_opens plan s failed h = decided_by (StateOpens failed) plan s
     (λ d. record {
-      times = if_opens (hit (all_deadlines plan s) s.clock) s.live failed;
-      events = eventing_opens plan s.event s failed;
+      times = λ early. if_opens (hit (all_deadlines plan s) s.clock) s.live failed;
+      events = λ early. eventing_opens plan s.event s failed;
       fronts = fronting_opens s.session s.live failed;
       repeats = repeating_opens plan s.session s.clock s.live failed;
       seeks = tt;
@@ -114,7 +114,7 @@ replied_opens (Some cause) plan s session stage r failed = ending_opens cause s.
 replied_opens None plan s session stage r failed = moved_by plan s session stage r (stage_behind plan stage r session.stop) failed _ refl
 
 told_opens : (plan : CarPlan) (s : State) (session : Session) (o : Option CarStage) (r : Reply) (failed : Bool) → StateOpens failed s → StateOpens failed (replied plan s session o r)
-told_opens plan s session None r failed h = h
+told_opens plan s session None r failed h = ending_opens WrongReply s.live failed
 told_opens plan s session (Some stage) r failed h = replied_opens (reply_cause plan stage _ r) plan s session stage r failed
 
 judged_opens : (plan : CarPlan) (s : State) (session : Session) (w : Judged) (failed : Bool) → StateOpens failed s → StateOpens failed (judged plan s session w)

@@ -4,3 +4,7 @@ pub mod Silent
 pub mod Agendas
 pub mod Acts
 pub mod Opening
+pub mod Cycles
+pub mod Kept
+pub mod KeptWords
+pub mod KeptActs

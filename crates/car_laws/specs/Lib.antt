@@ -1,3 +1,4 @@
 pub mod Contactor
 pub mod Opening
 pub mod Silence
+pub mod Readings

@@ -4,6 +4,7 @@
 ghost use Rattle.car_spec.specs.Codecs.{codecs};
 ghost use Rattle.car_laws.specs.Contactor.{RunsKeepLive};
 ghost use Rattle.car_laws.specs.Opening.{RunsEndOpen};
+ghost use Rattle.car_laws.specs.Readings.{RunsKeepReadings};
 ghost use Rattle.car_laws.specs.Silence.{RunsStopAtTheEnd};
 
 use car_spec::CarCoded;
@@ -21,4 +22,9 @@ pub fn ended_cars_are_silent<C: CarCoded>()
 /// At the end of a whole run the last order that was taken isn't Close, unless a later Open failed.
 pub fn runs_end_open<C: CarCoded>()
     ensures { RunsEndOpen (codecs C.offers C.responds C.reads C.encodes) }
+{}
+
+/// What a car keeps of its session is what its steps tell: the wish to stop, what awaits a reply, and the charging replies.
+pub fn readings_are_kept<C: CarCoded>()
+    ensures { RunsKeepReadings (codecs C.offers C.responds C.reads C.encodes) }
 {}

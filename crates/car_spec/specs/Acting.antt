@@ -8,7 +8,7 @@ use Rattle.session_words.specs.declared.plan.CarPlan.{CarPlan}
 use Rattle.car_rules.specs.Searching.{asked_at, dialed}
 use Rattle.station_spec.specs.Acting.{live_ordered}
 use Rattle.car_spec.specs.Steps.{Act, Seek, Dial, Give, Say, End, Step, Hears, Loses, Reads, Does}
-use Rattle.car_spec.specs.States.{Agenda, Session, State, nothing, fresh}
+use Rattle.car_spec.specs.States.{Agenda, Wording, Session, State, nothing, fresh}
 use Rattle.car_spec.specs.Deciding.{ending_by, decided}
 use Rattle.car_spec.specs.Judging.{read}
 use Rattle.car_spec.specs.Hearing.{hearing}
@@ -40,7 +40,7 @@ abbrev pub seeking : State → State
 seeking s = record s { search = asked_at s.clock s.search; agenda = record s.agenda { seeks = false } }
 
 abbrev pub ended : State → State
-ended s = record s { session = None; agenda = nothing; over = true }
+ended s = record s { session = None; part = Wording; agenda = nothing; over = true }
 
 -- an act was done, and was taken or failed
 abbrev pub acted : Act → Bool → State → State

@@ -1,6 +1,6 @@
 -- Own: what the steps of a car tell of what it asked, and when. It is read off the steps, without what the car
 -- keeps.
-use Rattle.std.specs.Prelude.{ℕ, Bool, true, false, ◌||◌, if◌then◌else◌, List, [], ◌∷◌, Option, Some, None}
+use Rattle.std.specs.Prelude.{ℕ, Bool, true, if◌then◌else◌, List, [], ◌∷◌, Option, Some, None}
 use Rattle.session_words.specs.declared.word.Ask.{Ask}
 use Rattle.session_words.specs.declared.word.Request.{Request}
 use Rattle.post_spec.specs.Kinds.{asks_cable_check, asks_pre_charge, asks_authorization, asks_parameters, asks_renegotiation}
@@ -19,9 +19,9 @@ pub record Sent : Type 0 where
   pub request : Request
   pub at : ℕ
 
-abbrev pub request_in : Act → Option Request
-request_in (Say (Asked dialect request) bytes) = Some request
-request_in other = None
+abbrev pub request_in : Act → Bool → Option Request
+request_in (Say (Asked dialect request) bytes) true = Some request
+request_in other taken = None
 
 abbrev pub sent_in : Option Request → ℕ → Option Sent → Option Sent
 sent_in None at earlier = earlier
@@ -33,19 +33,19 @@ last_request [] = None
 last_request (Hears at event ∷ steps) = last_request steps
 last_request (Loses ∷ steps) = last_request steps
 last_request (Reads word ∷ steps) = last_request steps
-last_request (Does act taken ∷ steps) = sent_in (request_in act) (now steps) (last_request steps)
+last_request (Does act taken ∷ steps) = sent_in (request_in act taken) (now steps) (last_request steps)
 
-abbrev pub is_said : Act → Bool
-is_said (Say spoken bytes) = true
-is_said other = false
+-- when that was said which has no reply yet, where there is any
+abbrev pub said_in : Act → Bool → ℕ → Option ℕ → Option ℕ
+said_in (Say spoken bytes) true at earlier = Some at
+said_in other taken at earlier = earlier
 
--- what was said last has no reply yet
-abbrev pub awaits : List Step → Bool
-awaits [] = false
-awaits (Hears at event ∷ steps) = awaits steps
-awaits (Loses ∷ steps) = awaits steps
-awaits (Reads word ∷ steps) = false
-awaits (Does act taken ∷ steps) = is_said act || awaits steps
+abbrev pub awaited : List Step → Option ℕ
+awaited [] = None
+awaited (Hears at event ∷ steps) = awaited steps
+awaited (Loses ∷ steps) = awaited steps
+awaited (Reads word ∷ steps) = None
+awaited (Does act taken ∷ steps) = said_in act taken (now steps) (awaited steps)
 
 -- the first request of a kind in a round of negotiated parameters: since the last renegotiation, if there was one
 abbrev pub or_first : Option ℕ → Bool → ℕ → Option ℕ
@@ -61,7 +61,7 @@ first_of kind [] = None
 first_of kind (Hears at event ∷ steps) = first_of kind steps
 first_of kind (Loses ∷ steps) = first_of kind steps
 first_of kind (Reads word ∷ steps) = first_of kind steps
-first_of kind (Does act taken ∷ steps) = first_with kind (request_in act) (now steps) (first_of kind steps)
+first_of kind (Does act taken ∷ steps) = first_with kind (request_in act taken) (now steps) (first_of kind steps)
 
 -- when the first one of a round was asked
 abbrev pub first_authorization : List Step → Option ℕ

@@ -1,8 +1,8 @@
 -- Own: what a car keeps behind a hearing.
-use Rattle.std.specs.Prelude.{ℕ, Bool, true, false, ◌||◌, is_some, ◌++◌, Option, Some, None}
-use Rattle.charge_world.specs.declared.heard.PlantEvent.TheVariants as plant
+use Rattle.std.specs.Prelude.{ℕ, is_some, ◌++◌, Option, Some, None}
 use Rattle.post_spec.specs.Sessions.{brought}
 use Rattle.post_spec.specs.Steps.{Event, Came, Bytes, Gone, Datagram, Plant, Clock, Over}
+use Rattle.car_spec.specs.Steps.{stop_heard}
 use Rattle.car_spec.specs.States.{Timing, Session, State, nothing, first_session}
 
 -- a connection opens a session where none stands
@@ -15,13 +15,8 @@ opened (Plant event) at = None
 opened Clock at = None
 opened Over at = None
 
--- somebody asked to stop
-abbrev pub is_stop : Event → Bool
-is_stop (Plant plant.StopAsked) = true
-is_stop other = false
-
 abbrev pub heard_in : Event → Session → Session
-heard_in event session = record session { unread = session.unread ++ brought event; stop = session.stop || is_stop event }
+heard_in event session = record session { unread = session.unread ++ brought event; stop = stop_heard event session.stop }
 
 abbrev pub session_heard : Event → ℕ → Option Session → Option Session
 session_heard event at None = opened event at

@@ -2,7 +2,7 @@
 use Rattle.std.specs.Prelude.{ℕ, if◌then◌else◌, is_some, List, Option, Some, None, Result, Ok, Err}
 use Rattle.charge_world.specs.declared.offer.Dialect.{Dialect}
 use Rattle.session_words.specs.declared.cause.EndCause.{EndCause}
-use Rattle.session_words.specs.declared.cause.EndCause.TheVariants.{NoNegotiation, Refused as PayloadRefused, WrongSide as FromWrongSide}
+use Rattle.session_words.specs.declared.cause.EndCause.TheVariants.{NoNegotiation, Refused as PayloadRefused, WrongSide as FromWrongSide, WrongReply}
 use Rattle.session_words.specs.declared.plan.CarPlan.{CarPlan}
 use Rattle.session_words.specs.declared.word.Reply.{Reply}
 use Rattle.v2gtp_frames.specs.declared.FrameFault.{FrameFault}
@@ -39,9 +39,9 @@ payload_in (Some session) = payload_by (whole_at session.unread) session
 abbrev pub wanted : State → Option Payload
 wanted s = if is_done s.agenda then payload_in s.session else None
 
--- the session without the payload that was read
+-- the session without the payload that was read. No reply is awaited behind it
 abbrev pub passed : Session → Session
-passed session = record session { unread = behind_front session.unread }
+passed session = record session { unread = behind_front session.unread; moments = record session.moments { sent = None } }
 
 abbrev pub ends : State → Session → EndCause → State
 ends s session cause = record s { part = Wording; session = Some (passed session); agenda = ending_by cause s.live }
@@ -58,7 +58,6 @@ gone_on session stage now = record (passed session) {
 abbrev pub waiting : Session → CarStage → ℕ → Session
 waiting session stage due = record (passed session) {
   stage = Some stage;
-  moments = record session.moments { sent = None };
   again = Some due;
 }
 
@@ -86,8 +85,9 @@ abbrev pub replied_by : Option EndCause → CarPlan → State → Session → Ca
 replied_by (Some cause) plan s session stage r = ends s session cause
 replied_by None plan s session stage r = moved plan s session stage r (stage_behind plan stage r session.stop)
 
+-- before a dialect is chosen, a reply is one of another kind
 abbrev pub replied : CarPlan → State → Session → Option CarStage → Reply → State
-replied plan s session None r = s
+replied plan s session None r = ends s session WrongReply
 replied plan s session (Some stage) r =
     replied_by (reply_cause plan stage (is_some session.moments.sent) r) plan s session stage r
 

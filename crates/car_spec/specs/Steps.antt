@@ -1,11 +1,12 @@
 -- Own: what a car goes by. Steps, as pasts, have the newest first.
-use Rattle.std.specs.Prelude.{ℕ, Bool, List}
+use Rattle.std.specs.Prelude.{ℕ, Bool, true, false, List}
 use Rattle.charge_world.specs.declared.entry.Entry.{Entry}
 use Rattle.charge_world.specs.declared.entry.Entry.TheVariants as entry
+use Rattle.charge_world.specs.declared.heard.PlantEvent.TheVariants as plant
 use Rattle.charge_world.specs.declared.offer.Dialect.{Dialect}
 use Rattle.charge_world.specs.declared.ports.Order.{Order}
 use Rattle.session_words.specs.declared.word.Request.{Request}
-use Rattle.post_spec.specs.Steps.{Event}
+use Rattle.post_spec.specs.Steps.{Event, Came, Plant}
 use Rattle.car_spec.specs.Codecs.{Judged}
 
 -- what a car says: it offers its dialects, or it asks in the dialect that was chosen
@@ -36,3 +37,9 @@ entry_of (Dial port) taken = entry.Dialed port taken
 entry_of (Give order) taken = entry.Drove 1 order taken
 entry_of (Say spoken bytes) taken = entry.Sent 1 bytes taken
 entry_of (End cause) taken = entry.Ended 1 cause
+
+-- somebody asked to stop since a connection came
+abbrev pub stop_heard : Event → Bool → Bool
+stop_heard (Came token) stop = false
+stop_heard (Plant plant.StopAsked) stop = true
+stop_heard other stop = stop
