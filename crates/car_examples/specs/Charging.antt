@@ -86,4 +86,5 @@ StopsForTheDriver =
     ≡ delivers progress.Stop ∷ []
 
 abbrev pub Renegotiates : Type 0
-Renegotiates = shown (reply long_car 1100 (told (demand notify.ReNegotiation)) (live_in phase.Charging)) ≡ delivers progress.Renegotiate ∷ []
+Renegotiates = shown (reply long_car 1100 (told (demand notify.ReNegotiation)) (live_in phase.Charging))
+    ≡ delivers progress.Renegotiate ∷ []

@@ -30,7 +30,8 @@ OverOpens = shown (hear dc_car 1100 Over [] [] (live_in phase.Charging)) ≡ Ord
 
 -- a request that can't be sent
 abbrev pub FailedSendEnds : Type 0
-FailedSendEnds = shown (hear dc_car 1100 Clock [] (false ∷ []) (waiting_in phase.Authorizing false)) ≡ Asks ask.Authorization ∷ Ended cause.SendFailed ∷ []
+FailedSendEnds = shown (hear dc_car 1100 Clock [] (false ∷ []) (waiting_in phase.Authorizing false))
+    ≡ Asks ask.Authorization ∷ Ended cause.SendFailed ∷ []
 
 -- an Open that fails at an end changes nothing of it, and the car gives no order more
 abbrev pub FailedOpenEnds : Type 0

@@ -34,11 +34,13 @@ SecondEnds =
 
 -- of these the first goes before a FAILED code, and that before what the reply tells
 abbrev pub FailedEnds : Type 0
-FailedEnds = shown (reply dc_car 1100 (told_as named code.Failed (services offered.DcCore)) (open_in phase.Discovering)) ≡ Ended cause.CodeFailed ∷ []
+FailedEnds = shown (reply dc_car 1100 (told_as named code.Failed (services offered.DcCore)) (open_in phase.Discovering))
+    ≡ Ended cause.CodeFailed ∷ []
 
 abbrev pub WrongGoesFirst : Type 0
 WrongGoesFirst =
-    shown (reply dc_car 1100 (told_as other_name code.Failed (services offered.DcCore)) (open_in phase.Discovering)) ≡ Ended cause.WrongReply ∷ []
+    shown (reply dc_car 1100 (told_as other_name code.Failed (services offered.DcCore)) (open_in phase.Discovering))
+    ≡ Ended cause.WrongReply ∷ []
 
 abbrev pub OtherModeEnds : Type 0
 OtherModeEnds = shown (reply dc_car 1100 (told (services offered.DcCore)) (open_in phase.Discovering)) ≡ Ended cause.NoOffer ∷ []
@@ -52,4 +54,5 @@ RequestEnds = shown (reply dc_car 1100 WrongSide (open_in phase.Discovering)) �
 
 -- a wrong frame
 abbrev pub BadFrameEnds : Type 0
-BadFrameEnds = shown (hear dc_car 1100 (Bytes (0x02 ∷ 0xfe ∷ [])) [] [] (live_in phase.Charging)) ≡ Ordered order.Open ∷ Ended cause.BadFrame ∷ []
+BadFrameEnds = shown (hear dc_car 1100 (Bytes (0x02 ∷ 0xfe ∷ [])) [] [] (live_in phase.Charging))
+    ≡ Ordered order.Open ∷ Ended cause.BadFrame ∷ []

@@ -11,7 +11,8 @@ use Rattle.car_examples.specs.Sessions.{Searched, Dialed, Ended, shown, tick}
 -- an answer on port 15120, without TLS and with it
 abbrev pub answer : ℕ → List ℕ
 answer security =
-    0x01 ∷ 0xfe ∷ 0x90 ∷ 0x01 ∷ 0 ∷ 0 ∷ 0 ∷ 20 ∷ 0 ∷ 0 ∷ 0 ∷ 0 ∷ 0 ∷ 0 ∷ 0 ∷ 0 ∷ 0 ∷ 0 ∷ 0xff ∷ 0xff ∷ 127 ∷ 0 ∷ 0 ∷ 1 ∷ 0x3b ∷ 0x10 ∷ security ∷ 0 ∷ []
+    0x01 ∷ 0xfe ∷ 0x90 ∷ 0x01 ∷ 0 ∷ 0 ∷ 0 ∷ 20 ∷
+    0 ∷ 0 ∷ 0 ∷ 0 ∷ 0 ∷ 0 ∷ 0 ∷ 0 ∷ 0 ∷ 0 ∷ 0xff ∷ 0xff ∷ 127 ∷ 0 ∷ 0 ∷ 1 ∷ 0x3b ∷ 0x10 ∷ security ∷ 0 ∷ []
 
 -- the first request goes out at once, the next 250 ms later
 abbrev pub AsksAtOnce : Type 0

@@ -1,5 +1,5 @@
--- ISO 15118-2:2014, section 8.8.4: whole sessions of a car, from the connection to SessionStop. The contactor is ordered closed once in each
--- round, and open again.
+-- ISO 15118-2:2014, section 8.8.4: whole sessions of a car, from the connection to SessionStop. The contactor is ordered closed once in
+-- each round, and open again.
 use Rattle.std.specs.Prelude.{◌≡◌, pos, true, false, List, [], ◌∷◌, ◌++◌, Some, None}
 use Rattle.charge_world.specs.declared.offer.Dialect.TheVariants as dialect
 use Rattle.charge_world.specs.declared.ports.Order.TheVariants as order

@@ -170,7 +170,7 @@ lost_reads plan steps over (Some session) k = record { stop_is = k.stop_is; sent
     lost_stage plan steps None sent g = g
     lost_stage plan steps (Some stage) sent g = g
 
-run_keeps : (c : Codecs) (plan : CarPlan) (past : List Entry) (steps : List Step) → IsRun c plan past steps → Keeps plan steps (state plan steps)
+pub run_keeps : (c : Codecs) (plan : CarPlan) (past : List Entry) (steps : List Step) → IsRun c plan past steps → Keeps plan steps (state plan steps)
 run_keeps c plan past [] r = record { clock_is = refl; reads = λ v. record { awaits_none = refl; asked_none = refl; counts_none = refl }; fits = tt; fresh = tt }
 run_keeps c plan past (Hears at e ∷ steps) r =
     let m : MayHear plan r.0 (state plan steps) = r.2 in

@@ -8,3 +8,7 @@ pub mod Cycles
 pub mod Kept
 pub mod KeptWords
 pub mod KeptActs
+pub mod Phases
+pub mod Orders
+pub mod Mandates
+pub mod Closing

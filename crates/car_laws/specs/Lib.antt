@@ -2,3 +2,4 @@ pub mod Contactor
 pub mod Opening
 pub mod Silence
 pub mod Readings
+pub mod Closing

@@ -2,6 +2,7 @@
 #![tactic(auto)]
 
 ghost use Rattle.car_spec.specs.Codecs.{codecs};
+ghost use Rattle.car_laws.specs.Closing.{RunsCloseByWords};
 ghost use Rattle.car_laws.specs.Contactor.{RunsKeepLive};
 ghost use Rattle.car_laws.specs.Opening.{RunsEndOpen};
 ghost use Rattle.car_laws.specs.Readings.{RunsKeepReadings};
@@ -27,4 +28,10 @@ pub fn runs_end_open<C: CarCoded>()
 /// What a car keeps of its session is what its steps tell: the wish to stop, what awaits a reply, and the charging replies.
 pub fn readings_are_kept<C: CarCoded>()
     ensures { RunsKeepReadings (codecs C.offers C.responds C.reads C.encodes) }
+{}
+
+/// Each order to close stands, since the last renegotiation, in DC behind a CableCheck that was answered Finished and a PreCharge
+/// within 20.0 V of its target, in AC behind an accepted PowerDelivery Start.
+pub fn closes_by_words<C: CarCoded>()
+    ensures { RunsCloseByWords (codecs C.offers C.responds C.reads C.encodes) }
 {}

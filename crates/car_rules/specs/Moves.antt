@@ -32,7 +32,8 @@ is_pre_charged target other = false
 
 -- what a charging reply asks of the car
 abbrev pub notify_in : Tell → Notify
-notify_in (tell.CurrentDemand status voltage current current_cut voltage_cut watts_cut most_voltage most_current most_watts evse) = status.notify
+notify_in (tell.CurrentDemand status voltage current current_cut voltage_cut watts_cut most_voltage most_current most_watts evse) =
+    status.notify
 notify_in (tell.ChargingStatus notify evse current) = notify
 notify_in other = notify.None
 

@@ -13,4 +13,5 @@ pub mod Past
 pub mod Mandated
 pub mod Asked
 pub mod Told
+pub mod Answered
 pub mod Report

@@ -69,4 +69,5 @@ pub record CarMandated (c : Codecs) (plan : CarPlan) (past : List Entry) : Type 
 -- each order to close, taken or failed, is mandated by the past before it
 abbrev pub ClosesMandated : Codecs → CarPlan → List Entry → Type 0
 ClosesMandated c plan past =
-    (behind earlier : List Entry) (post : ℕ) (taken : Bool) → past ≡ behind ++ entry.Drove post order.Close taken ∷ earlier → CarMandated c plan earlier
+    (behind earlier : List Entry) (post : ℕ) (taken : Bool) → past ≡ behind ++ entry.Drove post order.Close taken ∷ earlier
+    → CarMandated c plan earlier
