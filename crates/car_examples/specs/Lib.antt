@@ -1,0 +1,10 @@
+pub mod Playing
+pub mod Fixtures
+pub mod Sessions
+pub mod Whole
+pub mod Setup
+pub mod Replies
+pub mod Charging
+pub mod Timing
+pub mod Searching
+pub mod Ending

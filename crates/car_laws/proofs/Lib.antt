@@ -1,0 +1,14 @@
+pub mod Decided
+pub mod Live
+pub mod Silent
+pub mod Agendas
+pub mod Acts
+pub mod Opening
+pub mod Cycles
+pub mod Kept
+pub mod KeptWords
+pub mod KeptActs
+pub mod Phases
+pub mod Orders
+pub mod Mandates
+pub mod Closing

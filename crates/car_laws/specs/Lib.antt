@@ -1,0 +1,5 @@
+pub mod Contactor
+pub mod Opening
+pub mod Silence
+pub mod Readings
+pub mod Closing

@@ -1,0 +1,77 @@
+-- Own: what the steps of a car tell of what it asked, and when. It is read off the steps, without what the car
+-- keeps.
+use Rattle.std.specs.Prelude.{ℕ, Bool, true, if◌then◌else◌, List, [], ◌∷◌, Option, Some, None}
+use Rattle.session_words.specs.declared.word.Ask.{Ask}
+use Rattle.session_words.specs.declared.word.Request.{Request}
+use Rattle.post_spec.specs.Kinds.{asks_cable_check, asks_pre_charge, asks_authorization, asks_parameters, asks_renegotiation}
+use Rattle.car_spec.specs.Steps.{Asked, Act, Say, Step, Hears, Loses, Reads, Does}
+
+-- now: the greatest moment heard so far
+abbrev pub now : List Step → ℕ
+now [] = 0
+now (Hears at event ∷ steps) = at
+now (Loses ∷ steps) = now steps
+now (Reads word ∷ steps) = now steps
+now (Does act taken ∷ steps) = now steps
+
+-- a request that was sent, and when
+pub record Sent : Type 0 where
+  pub request : Request
+  pub at : ℕ
+
+abbrev pub request_in : Act → Bool → Option Request
+request_in (Say (Asked dialect request) bytes) true = Some request
+request_in other taken = None
+
+abbrev pub sent_in : Option Request → ℕ → Option Sent → Option Sent
+sent_in None at earlier = earlier
+sent_in (Some request) at earlier = Some (record { request = request; at = at })
+
+-- the last request
+abbrev pub last_request : List Step → Option Sent
+last_request [] = None
+last_request (Hears at event ∷ steps) = last_request steps
+last_request (Loses ∷ steps) = last_request steps
+last_request (Reads word ∷ steps) = last_request steps
+last_request (Does act taken ∷ steps) = sent_in (request_in act taken) (now steps) (last_request steps)
+
+-- when that was said which has no reply yet, where there is any
+abbrev pub said_in : Act → Bool → ℕ → Option ℕ → Option ℕ
+said_in (Say spoken bytes) true at earlier = Some at
+said_in other taken at earlier = earlier
+
+abbrev pub awaited : List Step → Option ℕ
+awaited [] = None
+awaited (Hears at event ∷ steps) = awaited steps
+awaited (Loses ∷ steps) = awaited steps
+awaited (Reads word ∷ steps) = None
+awaited (Does act taken ∷ steps) = said_in act taken (now steps) (awaited steps)
+
+-- the first request of a kind in a round of negotiated parameters: since the last renegotiation, if there was one
+abbrev pub or_first : Option ℕ → Bool → ℕ → Option ℕ
+or_first (Some first) asks at = Some first
+or_first None asks at = if asks then Some at else None
+
+abbrev pub first_with : (Ask → Bool) → Option Request → ℕ → Option ℕ → Option ℕ
+first_with kind None at earlier = earlier
+first_with kind (Some request) at earlier = if asks_renegotiation request.ask then None else or_first earlier (kind request.ask) at
+
+abbrev pub first_of : (Ask → Bool) → List Step → Option ℕ
+first_of kind [] = None
+first_of kind (Hears at event ∷ steps) = first_of kind steps
+first_of kind (Loses ∷ steps) = first_of kind steps
+first_of kind (Reads word ∷ steps) = first_of kind steps
+first_of kind (Does act taken ∷ steps) = first_with kind (request_in act taken) (now steps) (first_of kind steps)
+
+-- when the first one of a round was asked
+abbrev pub first_authorization : List Step → Option ℕ
+first_authorization = first_of asks_authorization
+
+abbrev pub first_parameters : List Step → Option ℕ
+first_parameters = first_of asks_parameters
+
+abbrev pub first_cable_check : List Step → Option ℕ
+first_cable_check = first_of asks_cable_check
+
+abbrev pub first_pre_charge : List Step → Option ℕ
+first_pre_charge = first_of asks_pre_charge

@@ -1,0 +1,17 @@
+pub mod Codecs
+pub mod Steps
+pub mod States
+pub mod Due
+pub mod Deciding
+pub mod Judging
+pub mod Hearing
+pub mod Acting
+pub mod Next
+pub mod Runs
+pub mod Until
+pub mod Past
+pub mod Mandated
+pub mod Asked
+pub mod Told
+pub mod Answered
+pub mod Report
