@@ -12,3 +12,4 @@ pub mod Phases
 pub mod Orders
 pub mod Mandates
 pub mod Closing
+pub mod Determined

@@ -3,3 +3,4 @@ pub mod Opening
 pub mod Silence
 pub mod Readings
 pub mod Closing
+pub mod Determined

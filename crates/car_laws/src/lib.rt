@@ -4,6 +4,7 @@
 ghost use Rattle.car_spec.specs.Codecs.{codecs};
 ghost use Rattle.car_laws.specs.Closing.{RunsCloseByWords};
 ghost use Rattle.car_laws.specs.Contactor.{RunsKeepLive};
+ghost use Rattle.car_laws.specs.Determined.{CarsAreDetermined};
 ghost use Rattle.car_laws.specs.Opening.{RunsEndOpen};
 ghost use Rattle.car_laws.specs.Readings.{RunsKeepReadings};
 ghost use Rattle.car_laws.specs.Silence.{RunsStopAtTheEnd};
@@ -34,4 +35,10 @@ pub fn readings_are_kept<C: CarCoded>()
 /// within 20.0 V of its target, in AC behind an accepted PowerDelivery Start.
 pub fn closes_by_words<C: CarCoded>()
     ensures { RunsCloseByWords (codecs C.offers C.responds C.reads C.encodes) }
+{}
+
+/// What a car keeps has one act next, but for its outcome, or one word to read, or it waits for a hearing, where a payload is
+/// judged one way and what is said has one encoding.
+pub fn cars_are_determined<C: CarCoded>()
+    ensures { CarsAreDetermined (codecs C.offers C.responds C.reads C.encodes) }
 {}

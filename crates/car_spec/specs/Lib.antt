@@ -14,4 +14,5 @@ pub mod Mandated
 pub mod Asked
 pub mod Told
 pub mod Answered
+pub mod Spelled
 pub mod Report
