@@ -64,9 +64,9 @@ pub record ArePostBounds (s : Stage) (facts : Facts) (plan : PostPlan) (shown : 
 -- the same, where the types of the reply itself bound what it has of the session and of the post's identifier
 abbrev pub SpellsTyped : Type 0
 SpellsTyped = (s : Stage) (facts : Facts) (plan : PostPlan) (r : Request) (shown : ℕ)
-    → s.dialect ≡ dialect.Din → IsPostPlan plan → ArePostBounds s facts plan shown → IsSpoken r.ask → IsTyped (reply_to s facts plan r shown)
-    → CanSpell (word.Reply (reply_to s facts plan r shown))
+    → s.dialect ≡ dialect.Din → IsPostPlan plan → ArePostBounds s facts plan shown → IsSpoken r.ask
+    → IsTyped (reply_to s facts plan r shown) → CanSpell (word.Reply (reply_to s facts plan r shown))
 
 abbrev pub SpellsTypedWaiting : Type 0
-SpellsTypedWaiting = (s : Stage) (facts : Facts) (plan : PostPlan) → s.dialect ≡ dialect.Din → IsPostPlan plan → Contains plan.dialects.items dialect.Din
-    → IsTyped (waiting_reply s facts plan) → CanSpell (word.Reply (waiting_reply s facts plan))
+SpellsTypedWaiting = (s : Stage) (facts : Facts) (plan : PostPlan) → s.dialect ≡ dialect.Din → IsPostPlan plan
+    → Contains plan.dialects.items dialect.Din → IsTyped (waiting_reply s facts plan) → CanSpell (word.Reply (waiting_reply s facts plan))
