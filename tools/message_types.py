@@ -1,8 +1,9 @@
 #!/usr/bin/env python3
 """Writes the types of a dialect's messages from the list of its declarations: enumerations, structs, groups and choices, with their parts
-and their proofs.
+and their proofs, and how each type is read from a tree.
 
-usage: message_types.py LIST SCHEMA TYPES            writes crates/CRATE/{src,specs,proofs} for the files and kinds that TYPES lists
+usage: message_types.py LIST SCHEMA TYPES            writes crates/CRATE/{src,specs,proofs} for the files and kinds that TYPES lists, and what
+                                                     they are read as to crates/{iso,din}_trees
        message_types.py --check LIST SCHEMA TYPES    exits 1 where a file differs from what would be written, but for its layout
 
 SCHEMA is the crate of the dialect's schema. The kinds of a file are all enumerations or none is. The head of tools/iso.schema says what
@@ -12,6 +13,7 @@ import re
 import sys
 
 from message_proofs import proofs
+from message_readers import reader_files
 from message_shapes import Types
 from message_specs import definitions
 
@@ -230,6 +232,7 @@ def written(t):
         files[f"{crate}/specs/{file.capitalize()}.antt"] = definitions(t, crate, file, kinds)
         for kind in kinds:
             files.update({f"{crate}/proofs/{at}/Answers.antt": text for at, text in proofs(t, crate, file, kind).items()})
+    files.update(reader_files(t))
     return {f"crates/{at}": text for at, text in files.items()}
 
 

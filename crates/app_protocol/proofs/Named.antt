@@ -5,7 +5,6 @@ use Rattle.std.proofs.lemmas.Str.{chars-IsAscii}
 use Rattle.std.specs.List.{list_all}
 use Rattle.std.specs.Str.{IsAscii}
 use Rattle.exi_schema.proofs.Conditions.{and-l, and-r}
-use Rattle.charge_world.specs.declared.offer.Dialect.{Dialect}
 use Rattle.charge_world.specs.declared.offer.Dialect.TheVariants.{Iso, Din}
 use Rattle.app_protocol.specs.Negotiation.{namespace_of}
 

@@ -1,13 +1,12 @@
 -- A message in memory and the tree of its document.
-use Rattle.std.proofs.Common.{◌≡◌, ℕ, ◌↔◌, Bool, List, [], ◌∷◌, map, refl, sym, ap, subst}
-use Rattle.exi_documents.specs.Documents.{IsDocument, IsEncoding, SpellsDocument}
+use Rattle.std.proofs.Common.{◌≡◌, ℕ, ◌↔◌, List, [], ◌∷◌, map, refl, sym, ap, subst}
+use Rattle.exi_documents.specs.Documents.{IsDocument, IsEncoding}
 use Rattle.exi_documents.specs.Trees.{Tree}
-use Rattle.exi_documents.specs.Values.{WritesValue}
 use Rattle.message_parts.specs.Contents.{holding, root_of}
 use Rattle.message_parts.specs.Documents.{IsWritable, PassesBytes as DocumentPasses}
 use Rattle.app_schema.specs.Declarations.{negotiation_schema}
 use Rattle.app_schema.specs.declared.names.TheConstants.{REQUEST}
-use Rattle.app_documents.specs.Trees.{Message, IsMessage, offered_parts, request_parts, tree_of, number_of}
+use Rattle.app_documents.specs.Trees.{Message, IsMessage, offered_parts, request_parts, tree_of}
 use Rattle.app_documents.proofs.Encoded.{message_encoded}
 use Rattle.app_documents.proofs.Fits.{of_message}
 use Rattle.app_documents.proofs.OneMessage.{one_message}

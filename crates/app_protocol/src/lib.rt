@@ -14,7 +14,7 @@ pub use exi_documents::{Refusal, RefusalCause};
 pub use exi_events::{Full, Table};
 pub use message::{AppCode, AppMessage, AppProtocol, AppReq, AppRes};
 pub use message_parts::Text;
-pub use negotiation::negotiate;
+pub use negotiation::{negotiate, negotiate_among};
 pub use printing::print;
 pub use scanning::scan;
 pub use tree_text::{PrintFault, ScanFault};

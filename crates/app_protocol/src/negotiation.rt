@@ -23,9 +23,16 @@ struct Winner {
 pub fn negotiate(request: &AppReq<'_>, offer: &Offer) -> (AppRes, Option<Dialect>)
     ensures { Negotiates offer.now.entries.items (protocols_of request.now) result.0 result.1 }
 {
+    negotiate_among(request, offer.entries.as_slice())
+}
+
+/// The same, among these dialects.
+pub fn negotiate_among(request: &AppReq<'_>, offers: &[Dialect]) -> (AppRes, Option<Dialect>)
+    ensures { Negotiates offers.now (protocols_of request.now) result.0 result.1 }
+{
     let mut best: Option<Winner> = None;
     for protocol in request.protocols.as_slice() {
-        best = winner_with(best, protocol, offer);
+        best = winner_with(best, protocol, offers);
     }
     match best {
         Some(winner) => (winner.response, Some(winner.dialect)),
@@ -40,10 +47,14 @@ pub fn negotiate(request: &AppReq<'_>, offer: &Offer) -> (AppRes, Option<Dialect
 }
 
 /// The winner with one entry more.
-fn winner_with(best: Option<Winner>, protocol: &AppProtocol<'_>, offer: &Offer) -> Option<Winner>
-    ensures { (taken : List Protocol) → Won offer.now.entries.items taken best → Won offer.now.entries.items (taken ++ protocol_of protocol.now ∷ []) result }
+fn winner_with(
+    best: Option<Winner>,
+    protocol: &AppProtocol<'_>,
+    offers: &[Dialect],
+) -> Option<Winner>
+    ensures { (taken : List Protocol) → Won offers.now taken best → Won offers.now (taken ++ protocol_of protocol.now ∷ []) result }
 {
-    let Some(dialect) = dialect_of(protocol, offer) else {
+    let Some(dialect) = dialect_of(protocol, offers) else {
         return best;
     };
     let winner = Winner {
@@ -64,10 +75,10 @@ fn winner_with(best: Option<Winner>, protocol: &AppProtocol<'_>, offer: &Offer) 
 }
 
 /// The dialect on offer that the entry names.
-fn dialect_of(protocol: &AppProtocol<'_>, offer: &Offer) -> Option<Dialect>
-    ensures { MatchOption result (NoMatch offer.now.entries.items (protocol_of protocol.now)) (Matches offer.now.entries.items (protocol_of protocol.now)) }
+fn dialect_of(protocol: &AppProtocol<'_>, offers: &[Dialect]) -> Option<Dialect>
+    ensures { MatchOption result (NoMatch offers.now (protocol_of protocol.now)) (Matches offers.now (protocol_of protocol.now)) }
 {
-    for dialect in offer.entries.as_slice() {
+    for dialect in offers {
         if names(protocol, *dialect) {
             return Some(*dialect);
         }

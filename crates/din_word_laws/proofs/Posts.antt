@@ -35,7 +35,8 @@ use Rattle.din_values.specs.Modes.{is_din_mode}
 use Rattle.din_values.specs.States.{is_din_level, is_din_processing}
 use Rattle.word_values.specs.Amounts.{can_write_tenths}
 use Rattle.din_words.specs.Spellable.{IsByte, CanSession, CanEvse, IsNoEvse, CanTuple, CanTuples, CanPostStatus, CanPostLimits, CanTell}
-use Rattle.din_word_laws.specs.Posts.{IsBounded, IsSpoken, SpellsReplies, SpellsWaiting}
+use Rattle.din_word_laws.specs.Posts.{IsBounded, IsSpoken, SpellsReplies, SpellsWaiting, ArePostBounds, SpellsTyped, SpellsTypedWaiting}
+use Rattle.written_words.specs.Typed.{IsTypedEvse, IsTypedTell}
 use Rattle.written_words.proofs.Numbers.{few_tenths}
 
 -- ---- identifiers
@@ -177,10 +178,10 @@ schedule_fits true d watts is = (
 )
 schedule_fits false d watts is = tt
 
-limits_fit : (b : Bool) (d : Dialect) (s : Stage) (facts : Facts) (plan : PostPlan) (r : Request) (shown : ℕ) (c : Code) (a : Ask) (watts : ℕ)
-    → b ≡ false → d ≡ dialect.Din → IsBounded s facts plan r shown → watts < 32768000 → CanPostLimits (limits_of b d facts plan c a watts)
-limits_fit true d s facts plan r shown c a watts direct_is is h few = absurd (cc)
-limits_fit false d s facts plan r shown c a watts direct_is is h few = (
+limits_fit : (b : Bool) (d : Dialect) (s : Stage) (facts : Facts) (plan : PostPlan) (shown : ℕ) (c : Code) (a : Ask) (watts : ℕ)
+    → b ≡ false → d ≡ dialect.Din → ArePostBounds s facts plan shown → watts < 32768000 → CanPostLimits (limits_of b d facts plan c a watts)
+limits_fit true d s facts plan shown c a watts direct_is is h few = absurd (cc)
+limits_fit false d s facts plan shown c a watts direct_is is h few = (
   level_fits d facts.isolation is,
   tenths_fit plan.max_current h.max_current,
   few,
@@ -190,27 +191,32 @@ limits_fit false d s facts plan r shown c a watts direct_is is h few = (
   tenths_fit plan.ripple h.ripple,
 )
 
-told_fits : (s : Stage) (facts : Facts) (plan : PostPlan) (r : Request) (c : Code) (shown : ℕ) (a : Ask) → s.dialect ≡ dialect.Din → IsPostPlan plan
-    → IsBounded s facts plan r shown → IsSpoken a → CanTell (tell_of s facts plan c shown a)
-told_fits s facts plan r c shown (ask.SessionSetup car) is p h spoken = evse_fits s.dialect plan is p h.evse
-told_fits s facts plan r c shown ask.ServiceDiscovery is p h spoken =
+-- the bytes of the post's identifier, where it is told
+abbrev IsTellable : PostPlan → Ask → Type 0
+IsTellable plan (ask.SessionSetup car) = All IsByte plan.evse_id_din.items
+IsTellable plan other = Unit {0}
+
+told_fits : (s : Stage) (facts : Facts) (plan : PostPlan) (c : Code) (shown : ℕ) (a : Ask) → s.dialect ≡ dialect.Din → IsPostPlan plan
+    → ArePostBounds s facts plan shown → IsSpoken a → IsTellable plan a → CanTell (tell_of s facts plan c shown a)
+told_fits s facts plan c shown (ask.SessionSetup car) is p h spoken tellable = evse_fits s.dialect plan is p tellable
+told_fits s facts plan c shown ask.ServiceDiscovery is p h spoken tellable =
     (refl, all_one (λ m. IsTrue (is_din_mode m)) (offered plan.mode) (mode_fits plan.mode (p.dialects.din h.offered)))
-told_fits s facts plan r c shown (ask.ServiceDetail service) is p h spoken = absurd spoken
-told_fits s facts plan r c shown (ask.PaymentSelection external services) is p h spoken = tt
-told_fits s facts plan r c shown ask.Authorization is p h spoken = awaiting_fits s.dialect (is_accepted c) (is_finished facts plan ask.Authorization shown) is
-told_fits s facts plan r c shown (ask.ChargeParameters mode limits) is p h spoken = (
+told_fits s facts plan c shown (ask.ServiceDetail service) is p h spoken tellable = absurd spoken
+told_fits s facts plan c shown (ask.PaymentSelection external services) is p h spoken tellable = tt
+told_fits s facts plan c shown ask.Authorization is p h spoken tellable = awaiting_fits s.dialect (is_accepted c) (is_finished facts plan ask.Authorization shown) is
+told_fits s facts plan c shown (ask.ChargeParameters mode limits) is p h spoken tellable = (
   finished_fits (is_accepted c) (nat_lt 0 shown),
   schedule_fits (is_accepted c && nat_lt 0 shown) s.dialect shown is,
-  limits_fit (is_ac plan.mode) s.dialect s facts plan r shown c (ask.ChargeParameters mode limits) (if is_accepted c then shown else 0)
+  limits_fit (is_ac plan.mode) s.dialect s facts plan shown c (ask.ChargeParameters mode limits) (if is_accepted c then shown else 0)
       (direct plan.mode (p.dialects.din h.offered)) is h (told_few (is_accepted c) shown 0 h.most (lit≤ tt)),
 )
-told_fits s facts plan r c shown (ask.CableCheck ready soc) is p h spoken =
+told_fits s facts plan c shown (ask.CableCheck ready soc) is p h spoken tellable =
     (level_fits s.dialect facts.isolation is, finished_fits (is_accepted c) (is_finished facts plan (ask.CableCheck ready soc) shown))
-told_fits s facts plan r c shown (ask.PreCharge ready soc voltage current) is p h spoken =
+told_fits s facts plan c shown (ask.PreCharge ready soc voltage current) is p h spoken tellable =
     (level_fits s.dialect facts.isolation is, tenths_fit facts.voltage h.voltage)
-told_fits s facts plan r c shown (ask.PowerDelivery progress tuple profile) is p h spoken =
+told_fits s facts plan c shown (ask.PowerDelivery progress tuple profile) is p h spoken tellable =
     status_fits (is_ac plan.mode) s.dialect facts c (ask.PowerDelivery progress tuple profile) (direct plan.mode (p.dialects.din h.offered)) is
-told_fits s facts plan r c shown (ask.CurrentDemand ready soc voltage current) is p h spoken = (
+told_fits s facts plan c shown (ask.CurrentDemand ready soc voltage current) is p h spoken tellable = (
   level_fits s.dialect facts.isolation is,
   tenths_fit facts.voltage h.voltage,
   tenths_fit facts.current h.current,
@@ -219,23 +225,64 @@ told_fits s facts plan r c shown (ask.CurrentDemand ready soc voltage current) i
   told_few (is_accepted c) shown s.told h.most h.told,
   no_evse s.dialect plan is,
 )
-told_fits s facts plan r c shown ask.ChargingStatus is p h spoken = absurd spoken
-told_fits s facts plan r c shown (ask.WeldingDetection ready soc) is p h spoken =
+told_fits s facts plan c shown ask.ChargingStatus is p h spoken tellable = absurd spoken
+told_fits s facts plan c shown (ask.WeldingDetection ready soc) is p h spoken tellable =
     (level_fits s.dialect facts.isolation is, tenths_fit facts.voltage h.voltage)
-told_fits s facts plan r c shown (ask.SessionStop pause) is p h spoken = tt
+told_fits s facts plan c shown (ask.SessionStop pause) is p h spoken tellable = tt
+
+known_bytes : (plan : PostPlan) (a : Ask) → All IsByte plan.evse_id_din.items → IsTellable plan a
+known_bytes plan (ask.SessionSetup car) h = h
+known_bytes plan other h = tt
+
+evse_bytes : (d : Dialect) (plan : PostPlan) → d ≡ dialect.Din → IsTypedEvse (evse_of d plan) → All IsByte plan.evse_id_din.items
+evse_bytes dialect.Din plan is h = h
+evse_bytes dialect.Iso plan is h = absurd (cc)
+
+told_bytes : (s : Stage) (facts : Facts) (plan : PostPlan) (c : Code) (shown : ℕ) (a : Ask) → s.dialect ≡ dialect.Din
+    → IsTypedTell (tell_of s facts plan c shown a) → IsTellable plan a
+told_bytes s facts plan c shown (ask.SessionSetup car) is h = evse_bytes s.dialect plan is h
+told_bytes s facts plan c shown other is h = tt
 
 -- ---- replies
+
+bounds : (s : Stage) (facts : Facts) (plan : PostPlan) (r : Request) (shown : ℕ) → IsBounded s facts plan r shown → ArePostBounds s facts plan shown
+bounds s facts plan r shown h = record {
+  offered = h.offered;
+  voltage = h.voltage;
+  current = h.current;
+  max_voltage = h.max_voltage;
+  min_voltage = h.min_voltage;
+  max_current = h.max_current;
+  min_current = h.min_current;
+  ripple = h.ripple;
+  told = h.told;
+  most = h.most;
+}
 
 pub spells_replies : SpellsReplies
 spells_replies s facts plan r shown is p h = (
   identifier_fits (stage_behind s facts plan r shown) (behind_fits s facts plan r shown h.session h.named),
   code_fits s.dialect (verdict s facts plan r) is (answers_in_dialect s facts plan r),
-  told_fits s facts plan r (verdict s facts plan r) shown r.ask is p h h.spoken,
+  told_fits s facts plan (verdict s facts plan r) shown r.ask is p (bounds s facts plan r shown h) h.spoken (known_bytes plan r.ask h.evse),
 )
 
 pub spells_waiting : SpellsWaiting
 spells_waiting s facts plan is p offers h = (
   identifier_fits s h,
+  refl,
+  status_fits (is_ac plan.mode) s.dialect facts code.Ok (ask.PowerDelivery progress.Start None None) (direct plan.mode (p.dialects.din offers)) is,
+)
+
+pub spells_typed : SpellsTyped
+spells_typed s facts plan r shown is p h spoken typed = (
+  (typed.few, typed.bytes),
+  code_fits s.dialect (verdict s facts plan r) is (answers_in_dialect s facts plan r),
+  told_fits s facts plan (verdict s facts plan r) shown r.ask is p h spoken (told_bytes s facts plan (verdict s facts plan r) shown r.ask is typed.tell),
+)
+
+pub spells_typed_waiting : SpellsTypedWaiting
+spells_typed_waiting s facts plan is p offers typed = (
+  (typed.few, typed.bytes),
   refl,
   status_fits (is_ac plan.mode) s.dialect facts code.Ok (ask.PowerDelivery progress.Start None None) (direct plan.mode (p.dialects.din offers)) is,
 )

@@ -1,7 +1,7 @@
 //! Laws of the messages of words (DIN SPEC 70121:2014). Each of these functions does nothing: its contract is the law.
 #![tactic(auto)]
 
-ghost use Rattle.din_word_laws.specs.Posts.{SpellsReplies, SpellsWaiting};
+ghost use Rattle.din_word_laws.specs.Posts.{SpellsReplies, SpellsWaiting, SpellsTyped, SpellsTypedWaiting};
 ghost use Rattle.din_word_laws.specs.Reading.{ReadsAsWritten};
 
 /// The message of a word reads as that word, but for the watts that a Value and its Multiplier drop.
@@ -10,8 +10,11 @@ pub fn reads_as_written()
 {}
 
 /// Each reply that a post gives in DIN under a plan within its rules can be spelled: that to a request, and that to PowerDelivery Start
-/// which waited for the contactor.
+/// which waited for the contactor. What they have of the session and of the post's identifier is bounded by the types of those, or by the
+/// reply's own.
 pub fn spells_replies()
     ensures replies { SpellsReplies }
     ensures waiting { SpellsWaiting }
+    ensures typed { SpellsTyped }
+    ensures typed_waiting { SpellsTypedWaiting }
 {}

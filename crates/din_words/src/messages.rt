@@ -1,6 +1,7 @@
 //! The message of a neutral word (DIN SPEC 70121:2014).
 
 ghost use Rattle.std.specs.Prelude.{◌≡◌};
+ghost use Rattle.session_words.specs.declared.word.Word.TheVariants as words;
 ghost use Rattle.din_words.specs.Messages.{LendsEvse, LendsSession, parameter_if, parameters_request as parameters_as, delivery_reply as delivery_as, IsRequestElement, IsReplyElement, IsMessageOf, message_with as message_as};
 ghost use Rattle.din_words.specs.Spellable.{CanCarLimits, CanPostLimits, CanPostStatus, CanAsk, CanTell, CanSpell};
 
@@ -20,7 +21,7 @@ use din_setup::{ServicePaymentSelectionRes, SessionStopReq, SessionStopRes};
 use din_values::codes::response_code;
 use message_parts::Binary;
 use session_words::{
-    Ask, CarLimits, Code, EvseId, Mode, PostLimits, PostStatus, SessionId, Tell, Word,
+    Ask, CarLimits, Code, EvseId, Mode, PostLimits, PostStatus, Reply, SessionId, Tell, Word,
 };
 
 /// The bytes of an EVSEID; none of that of ISO.
@@ -221,6 +222,14 @@ fn message_with<'a>(session: &'a SessionId, element: BodyElement<'a>) -> DinMess
     }
 }
 
+/// The message of a reply that the declarations can spell, lent from it: as `of_word` gives that of a word.
+pub fn of_reply(reply: &Reply) -> DinMessage<'_>
+    requires { CanSpell (words.Reply reply.now) }
+    ensures { IsMessageOf (words.Reply reply.now) result }
+{
+    message_with(&reply.session, reply_element(reply.code, &reply.tell))
+}
+
 /// The message of a word that the declarations can spell, lent from the word, with the elements that a word doesn't keep: those of the
 /// replies of a post (`reply_to` of `session_rules`), and those of a car's requests.
 pub fn of_word(word: &Word) -> DinMessage<'_>
@@ -229,7 +238,7 @@ pub fn of_word(word: &Word) -> DinMessage<'_>
 {
     match word {
         Word::Request(request) => message_with(&request.session, request_element(&request.ask)),
-        Word::Reply(reply) => message_with(&reply.session, reply_element(reply.code, &reply.tell)),
+        Word::Reply(reply) => of_reply(reply),
         Word::Nothing => DinMessage {
             header: Header {
                 session_id: Binary::of_bytes(&[]),

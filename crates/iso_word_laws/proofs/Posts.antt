@@ -30,7 +30,8 @@ use Rattle.iso_values.specs.Codes.{is_iso_code}
 use Rattle.iso_values.specs.Modes.{is_iso_mode}
 use Rattle.word_values.specs.Amounts.{can_write_tenths}
 use Rattle.iso_words.specs.Spellable.{CanSession, CanEvse, IsSomeEvse, CanTuple, CanTuples, CanPostLimits, CanTell}
-use Rattle.iso_word_laws.specs.Posts.{IsBounded, IsServiceOf, SpellsReplies, SpellsWaiting}
+use Rattle.iso_word_laws.specs.Posts.{IsBounded, IsServiceOf, SpellsReplies, SpellsWaiting, ArePostBounds, SpellsTyped, SpellsTypedWaiting}
+use Rattle.written_words.specs.Typed.{IsTypedTell}
 use Rattle.written_words.proofs.Numbers.{few_tenths}
 
 -- ---- identifiers
@@ -145,12 +146,12 @@ schedule_fits true d watts h = (
 )
 schedule_fits false d watts h = tt
 
-limits_fit : (b : Bool) (d : Dialect) (s : Stage) (facts : Facts) (plan : PostPlan) (r : Request) (shown : ℕ) (c : Code) (a : Ask) (watts : ℕ)
-    → IsPostPlan plan → IsBounded s facts plan r shown → watts < 32768000 → CanPostLimits (limits_of b d facts plan c a watts)
-limits_fit true d s facts plan r shown c a watts p h few =
+limits_fit : (b : Bool) (d : Dialect) (s : Stage) (facts : Facts) (plan : PostPlan) (shown : ℕ) (c : Code) (a : Ask) (watts : ℕ)
+    → IsPostPlan plan → ArePostBounds s facts plan shown → watts < 32768000 → CanPostLimits (limits_of b d facts plan c a watts)
+limits_fit true d s facts plan shown c a watts p h few =
     let nominal : plan.nominal ≤ 1000 = p.nominal.1 in
     (few_tenths (10 * plan.nominal) (omega arith), current_fits plan watts)
-limits_fit false d s facts plan r shown c a watts p h few = (
+limits_fit false d s facts plan shown c a watts p h few = (
   tenths_fit plan.max_current h.max_current,
   few,
   tenths_fit plan.max_voltage h.max_voltage,
@@ -159,23 +160,23 @@ limits_fit false d s facts plan r shown c a watts p h few = (
   tenths_fit plan.ripple h.ripple,
 )
 
-told_fits : (s : Stage) (facts : Facts) (plan : PostPlan) (r : Request) (c : Code) (shown : ℕ) (a : Ask) → s.dialect ≡ dialect.Iso → IsPostPlan plan
-    → IsBounded s facts plan r shown → IsServiceOf a → CanTell (tell_of s facts plan c shown a)
-told_fits s facts plan r c shown (ask.SessionSetup car) is p h service = evse_fits s.dialect plan is p
-told_fits s facts plan r c shown ask.ServiceDiscovery is p h service =
+told_fits : (s : Stage) (facts : Facts) (plan : PostPlan) (c : Code) (shown : ℕ) (a : Ask) → s.dialect ≡ dialect.Iso → IsPostPlan plan
+    → ArePostBounds s facts plan shown → IsServiceOf a → CanTell (tell_of s facts plan c shown a)
+told_fits s facts plan c shown (ask.SessionSetup car) is p h service = evse_fits s.dialect plan is p
+told_fits s facts plan c shown ask.ServiceDiscovery is p h service =
     ((lit≤ tt, lit≤ tt), all_one (λ m. IsTrue (is_iso_mode m)) (offered plan.mode) (mode_fits plan.mode))
-told_fits s facts plan r c shown (ask.ServiceDetail service) is p h few = few
-told_fits s facts plan r c shown (ask.PaymentSelection external services) is p h service = tt
-told_fits s facts plan r c shown ask.Authorization is p h service = tt
-told_fits s facts plan r c shown (ask.ChargeParameters mode limits) is p h service = (
+told_fits s facts plan c shown (ask.ServiceDetail service) is p h few = few
+told_fits s facts plan c shown (ask.PaymentSelection external services) is p h service = tt
+told_fits s facts plan c shown ask.Authorization is p h service = tt
+told_fits s facts plan c shown (ask.ChargeParameters mode limits) is p h service = (
   schedule_fits (is_accepted c && nat_lt 0 shown) s.dialect shown h.most,
-  limits_fit (is_ac plan.mode) s.dialect s facts plan r shown c (ask.ChargeParameters mode limits) (if is_accepted c then shown else 0) p h
+  limits_fit (is_ac plan.mode) s.dialect s facts plan shown c (ask.ChargeParameters mode limits) (if is_accepted c then shown else 0) p h
       (told_few (is_accepted c) shown 0 h.most (lit≤ tt)),
 )
-told_fits s facts plan r c shown (ask.CableCheck ready soc) is p h service = tt
-told_fits s facts plan r c shown (ask.PreCharge ready soc voltage current) is p h service = tenths_fit facts.voltage h.voltage
-told_fits s facts plan r c shown (ask.PowerDelivery progress tuple profile) is p h service = tt
-told_fits s facts plan r c shown (ask.CurrentDemand ready soc voltage current) is p h service = (
+told_fits s facts plan c shown (ask.CableCheck ready soc) is p h service = tt
+told_fits s facts plan c shown (ask.PreCharge ready soc voltage current) is p h service = tenths_fit facts.voltage h.voltage
+told_fits s facts plan c shown (ask.PowerDelivery progress tuple profile) is p h service = tt
+told_fits s facts plan c shown (ask.CurrentDemand ready soc voltage current) is p h service = (
   tenths_fit facts.voltage h.voltage,
   tenths_fit facts.current h.current,
   tenths_fit plan.max_voltage h.max_voltage,
@@ -183,19 +184,46 @@ told_fits s facts plan r c shown (ask.CurrentDemand ready soc voltage current) i
   told_few (is_accepted c) shown s.told h.most h.told,
   evse_if_fits s.dialect plan is p,
 )
-told_fits s facts plan r c shown ask.ChargingStatus is p h service =
+told_fits s facts plan c shown ask.ChargingStatus is p h service =
     (evse_fits s.dialect plan is p, current_fits plan (if is_accepted c then shown else s.told))
-told_fits s facts plan r c shown (ask.WeldingDetection ready soc) is p h service = tenths_fit facts.voltage h.voltage
-told_fits s facts plan r c shown (ask.SessionStop pause) is p h service = tt
+told_fits s facts plan c shown (ask.WeldingDetection ready soc) is p h service = tenths_fit facts.voltage h.voltage
+told_fits s facts plan c shown (ask.SessionStop pause) is p h service = tt
+
+service_asked : (s : Stage) (facts : Facts) (plan : PostPlan) (c : Code) (shown : ℕ) (a : Ask) → IsTypedTell (tell_of s facts plan c shown a) → IsServiceOf a
+service_asked s facts plan c shown (ask.ServiceDetail service) h = h
+service_asked s facts plan c shown other h = tt
 
 -- ---- replies
+
+bounds : (s : Stage) (facts : Facts) (plan : PostPlan) (r : Request) (shown : ℕ) → IsBounded s facts plan r shown → ArePostBounds s facts plan shown
+bounds s facts plan r shown h = record {
+  voltage = h.voltage;
+  current = h.current;
+  max_voltage = h.max_voltage;
+  min_voltage = h.min_voltage;
+  max_current = h.max_current;
+  min_current = h.min_current;
+  ripple = h.ripple;
+  told = h.told;
+  most = h.most;
+}
 
 pub spells_replies : SpellsReplies
 spells_replies s facts plan r shown is p h = (
   identifier_fits (stage_behind s facts plan r shown) (behind_fits s facts plan r shown h.session h.named),
   code_fits s.dialect (verdict s facts plan r) is (answers_in_dialect s facts plan r),
-  told_fits s facts plan r (verdict s facts plan r) shown r.ask is p h h.service,
+  told_fits s facts plan (verdict s facts plan r) shown r.ask is p (bounds s facts plan r shown h) h.service,
 )
 
 pub spells_waiting : SpellsWaiting
 spells_waiting s facts plan h = (identifier_fits s h, refl, tt)
+
+pub spells_typed : SpellsTyped
+spells_typed s facts plan r shown is p h typed = (
+  (typed.few, typed.bytes),
+  code_fits s.dialect (verdict s facts plan r) is (answers_in_dialect s facts plan r),
+  told_fits s facts plan (verdict s facts plan r) shown r.ask is p h (service_asked s facts plan (verdict s facts plan r) shown r.ask typed.tell),
+)
+
+pub spells_typed_waiting : SpellsTypedWaiting
+spells_typed_waiting s facts plan typed = ((typed.few, typed.bytes), refl, tt)

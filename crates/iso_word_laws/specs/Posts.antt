@@ -10,6 +10,7 @@ use Rattle.session_words.specs.declared.word.Request.{Request}
 use Rattle.session_words.specs.declared.word.Word.TheVariants as word
 use Rattle.session_rules.specs.declared.stage.Stage.{Stage}
 use Rattle.session_rules.specs.Reply.{reply_to, waiting_reply}
+use Rattle.written_words.specs.Typed.{IsTyped}
 use Rattle.iso_words.specs.Spellable.{IsService, CanSession, CanSpell}
 
 -- what tenths of a plan and of facts are
@@ -41,3 +42,25 @@ SpellsReplies = (s : Stage) (facts : Facts) (plan : PostPlan) (r : Request) (sho
 
 abbrev pub SpellsWaiting : Type 0
 SpellsWaiting = (s : Stage) (facts : Facts) (plan : PostPlan) → CanSession s.session → CanSpell (word.Reply (waiting_reply s facts plan))
+
+-- what the types of a post bound, and watts that it may tell
+pub record ArePostBounds (s : Stage) (facts : Facts) (plan : PostPlan) (shown : ℕ) : Type 0 where
+  pub voltage : IsTenths facts.voltage
+  pub current : IsTenths facts.current
+  pub max_voltage : IsTenths plan.max_voltage
+  pub min_voltage : IsTenths plan.min_voltage
+  pub max_current : IsTenths plan.max_current
+  pub min_current : IsTenths plan.min_current
+  pub ripple : IsTenths plan.ripple
+  pub told : s.told ≤ 1000000
+  pub most : shown ≤ 1000000
+
+-- the same, where the types of the reply itself bound what it has of the session and of the request
+abbrev pub SpellsTyped : Type 0
+SpellsTyped = (s : Stage) (facts : Facts) (plan : PostPlan) (r : Request) (shown : ℕ)
+    → s.dialect ≡ dialect.Iso → IsPostPlan plan → ArePostBounds s facts plan shown → IsTyped (reply_to s facts plan r shown)
+    → CanSpell (word.Reply (reply_to s facts plan r shown))
+
+abbrev pub SpellsTypedWaiting : Type 0
+SpellsTypedWaiting = (s : Stage) (facts : Facts) (plan : PostPlan) → IsTyped (waiting_reply s facts plan)
+    → CanSpell (word.Reply (waiting_reply s facts plan))

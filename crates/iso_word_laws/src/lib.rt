@@ -1,7 +1,7 @@
 //! Laws of the messages of words (ISO 15118-2:2014). Each of these functions does nothing: its contract is the law.
 #![tactic(auto)]
 
-ghost use Rattle.iso_word_laws.specs.Posts.{SpellsReplies, SpellsWaiting};
+ghost use Rattle.iso_word_laws.specs.Posts.{SpellsReplies, SpellsWaiting, SpellsTyped, SpellsTypedWaiting};
 ghost use Rattle.iso_word_laws.specs.Reading.{ReadsAsWritten};
 
 /// The message of a word reads as that word, but for the watts that a Value and its Multiplier drop.
@@ -10,8 +10,10 @@ pub fn reads_as_written()
 {}
 
 /// Each reply that a post gives under a plan within its rules can be spelled: that to a request, and that to PowerDelivery Start which
-/// waited for the contactor.
+/// waited for the contactor. What they have of the session and of the request is bounded by the types of those, or by the reply's own.
 pub fn spells_replies()
     ensures replies { SpellsReplies }
     ensures waiting { SpellsWaiting }
+    ensures typed { SpellsTyped }
+    ensures typed_waiting { SpellsTypedWaiting }
 {}

@@ -1,7 +1,7 @@
 //! The messages of ISO 15118-2:2014 as neutral words, and neutral words as messages.
 //!
-//! `to_word` gives the word of any message. `of_word` gives the message of a word that the declarations can spell, with the elements
-//! that a word doesn't keep.
+//! `to_word` gives the word of any message. `of_word` and `of_reply` give the message of a word that the declarations can spell, with the
+//! elements that a word doesn't keep.
 #![tactic(auto)]
 
 mod messages;
@@ -13,5 +13,5 @@ mod setup_messages;
 mod setup_words;
 mod words;
 
-pub use messages::of_word;
+pub use messages::{of_reply, of_word};
 pub use words::to_word;

@@ -1,6 +1,7 @@
 //! The message of a neutral word (ISO 15118-2:2014, 8.3).
 
 ghost use Rattle.std.specs.Prelude.{◌≡◌};
+ghost use Rattle.session_words.specs.declared.word.Word.TheVariants as words;
 ghost use Rattle.iso_words.specs.Messages.{LendsEvse, LendsIf, IsRequestElement, IsReplyElement, IsMessageOf, LendsSession, message_with as message_as};
 ghost use Rattle.iso_words.specs.Spellable.{CanAsk, CanTell, CanSpell};
 
@@ -19,7 +20,7 @@ use iso_power::ChargingStatusReq;
 use iso_setup::{PaymentServiceSelectionRes, SessionStopRes};
 use iso_values::codes::response_code;
 use message_parts::{Binary, Text};
-use session_words::{Ask, Code, EvseId, SessionId, Tell, Word};
+use session_words::{Ask, Code, EvseId, Reply, SessionId, Tell, Word};
 
 /// The text of an EVSEID; none of that of DIN.
 fn evse_text(id: &EvseId) -> Text<'_>
@@ -183,6 +184,14 @@ fn message_with<'a>(session: &'a SessionId, element: BodyElement<'a>) -> IsoMess
     }
 }
 
+/// The message of a reply that the declarations can spell, lent from it: as `of_word` gives that of a word.
+pub fn of_reply(reply: &Reply) -> IsoMessage<'_>
+    requires { CanSpell (words.Reply reply.now) }
+    ensures { IsMessageOf (words.Reply reply.now) result }
+{
+    message_with(&reply.session, reply_element(reply.code, &reply.tell))
+}
+
 /// The message of a word that the declarations can spell, lent from the word, with the elements that a word doesn't keep: those of the
 /// replies of a post (`reply_to` of `session_rules`), and those of a car's requests.
 pub fn of_word(word: &Word) -> IsoMessage<'_>
@@ -191,7 +200,7 @@ pub fn of_word(word: &Word) -> IsoMessage<'_>
 {
     match word {
         Word::Request(request) => message_with(&request.session, request_element(&request.ask)),
-        Word::Reply(reply) => message_with(&reply.session, reply_element(reply.code, &reply.tell)),
+        Word::Reply(reply) => of_reply(reply),
         Word::Nothing => IsoMessage {
             header: Header {
                 session_id: Binary::of_bytes(&[]),

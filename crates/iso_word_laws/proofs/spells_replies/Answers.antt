@@ -6,3 +6,9 @@ returns-clause-replies c = posts.spells_replies
 
 pub returns-clause-waiting : goal.returns-clause-waiting
 returns-clause-waiting c = posts.spells_waiting
+
+pub returns-clause-typed : goal.returns-clause-typed
+returns-clause-typed c = posts.spells_typed
+
+pub returns-clause-typed_waiting : goal.returns-clause-typed_waiting
+returns-clause-typed_waiting c = posts.spells_typed_waiting

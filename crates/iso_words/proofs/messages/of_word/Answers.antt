@@ -11,13 +11,7 @@ returns-in-Request c = rw c.in-Request.is (record {
 })
 
 pub returns-in-Reply : goal.returns-in-Reply
-returns-in-Reply c = rw c.in-Reply.is (record {
-  lent = c.message_with-in-Reply.result.header.session_id;
-  lends = c.message_with-in-Reply.ensures.session;
-  element = c.reply_element.result;
-  element_is = c.reply_element.ensures;
-  message_is = c.message_with-in-Reply.ensures.element;
-})
+returns-in-Reply c = rw c.in-Reply.is c.of_reply.ensures
 
 pub returns-in-Nothing : goal.returns-in-Nothing
 returns-in-Nothing c = rw c.in-Nothing.is (record { lent = c.of_bytes.result; lends = c.of_bytes.ensures; message_is = refl })

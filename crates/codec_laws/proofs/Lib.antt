@@ -1,0 +1,5 @@
+pub mod OneAnswer
+pub mod OneJudged
+pub mod IsoPayloads
+pub mod DinPayloads
+pub mod Lawful

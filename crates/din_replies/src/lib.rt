@@ -1,0 +1,14 @@
+//! Laws of the messages of replies (DIN SPEC 70121:2014). Each of these functions does nothing: its contract is the law.
+#![tactic(auto)]
+
+ghost use Rattle.din_replies.specs.Replies.{RepliesAreWithin, RepliesHaveOneTree};
+
+/// The message of a reply that can be spelled holds what is declared, each value within its range.
+pub fn replies_are_within()
+    ensures { RepliesAreWithin }
+{}
+
+/// The messages of a reply are of one tree: they differ in nothing but where their texts lie.
+pub fn replies_have_one_tree()
+    ensures { RepliesHaveOneTree }
+{}

@@ -1,0 +1,5 @@
+pub mod Values
+pub mod Setup
+pub mod Parameters
+pub mod Power
+pub mod Replies

@@ -1,0 +1,57 @@
+-- What values and statuses in replies weigh.
+use Rattle.std.proofs.Common.{ℕ, ◌≤◌, List, length, Option, Some, None, arith, sym, subst}
+use Rattle.std.specs.Option.{option_map}
+use Rattle.charge_world.specs.declared.heard.IsolationLevel.{IsolationLevel as Isolation}
+use Rattle.exi_bits.specs.Lent.{items_of}
+use Rattle.exi_documents.specs.Trees.{Ordinal}
+use Rattle.message_parts.specs.Contents.{Of, mapped, holding}
+use Rattle.message_parts.specs.declared.texts.Binary.{Binary}
+use Rattle.document_sizes.specs.Sizes.{inside_weight, perhaps_weight}
+use Rattle.document_sizes.proofs.Parts.{plain_sum}
+use Rattle.session_words.specs.declared.amount.Amount.{Amount}
+use Rattle.session_words.specs.declared.limits.DcStatus.{DcStatus}
+use Rattle.session_words.specs.declared.limits.EvseId.{EvseId}
+use Rattle.session_words.specs.declared.limits.EvseId.TheVariants as evse
+use Rattle.session_words.specs.declared.session.SessionId.{SessionId}
+use Rattle.din_parts.specs.Enumerations.{unit_symbol_ordinal, isolation_level_ordinal}
+use Rattle.din_parts.specs.Values.{physical_value_parts, dc_evse_status_parts}
+use Rattle.din_parts.specs.declared.enumerations.UnitSymbol.{UnitSymbol}
+use Rattle.din_parts.specs.declared.values.PhysicalValue.{PhysicalValue}
+use Rattle.din_values.specs.Physical.{tenths_of, tenths_if, power_of, power_if}
+use Rattle.din_values.specs.States.{isolation_level}
+use Rattle.din_values.specs.Statuses.{dc_evse_status}
+use Rattle.din_words.specs.Messages.{LendsEvse, LendsSession}
+use Rattle.din_words.specs.Spellable.{CanEvse, CanSession}
+use Rattle.written_sizes.proofs.Parts.{perhaps_light}
+
+units_light : (u : Option UnitSymbol) → perhaps_weight 6 (mapped (λ x. Of (Ordinal (unit_symbol_ordinal x))) u) ≤ 14
+units_light None = omega arith
+units_light (Some u) = omega arith
+
+pub physical_light : (v : PhysicalValue) → inside_weight 6 (holding (physical_value_parts v)) ≤ 198
+physical_light v = omega (arith, plain_sum 6 (physical_value_parts v), units_light v.unit)
+
+pub tenths_light : (a : Option Amount) → perhaps_weight 6 (mapped (λ x. holding (physical_value_parts x)) (tenths_if a)) ≤ 204
+tenths_light a = perhaps_light 6 (λ x. holding (physical_value_parts x)) tenths_of 198 (λ x. physical_light (tenths_of x)) a
+
+pub powers_light : (a : Option Amount) → perhaps_weight 6 (mapped (λ x. holding (physical_value_parts x)) (power_if a)) ≤ 204
+powers_light a = perhaps_light 6 (λ x. holding (physical_value_parts x)) power_of 198 (λ x. physical_light (power_of x)) a
+
+-- ---- statuses
+
+levels_light : (l : Option Isolation)
+    → perhaps_weight 6 (mapped (λ x. Of (Ordinal (isolation_level_ordinal x))) (option_map isolation_level l)) ≤ 14
+levels_light None = omega arith
+levels_light (Some l) = omega arith
+
+pub dc_status_light : (s : DcStatus) → inside_weight 6 (holding (dc_evse_status_parts (dc_evse_status s))) ≤ 137
+dc_status_light s = omega (arith, plain_sum 6 (dc_evse_status_parts (dc_evse_status s)), levels_light s.isolation)
+
+-- ---- identifiers
+
+pub evse_few : (id : EvseId) (lent : Binary) → CanEvse id → LendsEvse id lent → length (items_of lent.span) ≤ 32
+evse_few (evse.Bytes id) lent can lends = subst (λ (bytes : List ℕ). length bytes ≤ 32) (sym lends) can.0
+evse_few (evse.Text id) lent can lends = absurd can
+
+pub session_few : (session : SessionId) (lent : Binary) → CanSession session → LendsSession session lent → length (items_of lent.span) ≤ 8
+session_few session lent can lends = subst (λ (bytes : List ℕ). length bytes ≤ 8) (sym lends) can.0

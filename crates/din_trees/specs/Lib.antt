@@ -1,0 +1,14 @@
+pub mod Enumerations
+pub mod Codes
+pub mod Values
+pub mod Frame
+pub mod Session
+pub mod Services
+pub mod Selection
+pub mod Limits
+pub mod Schedules
+pub mod Discovery
+pub mod Charging
+pub mod Delivery
+pub mod Message
+pub mod Trees

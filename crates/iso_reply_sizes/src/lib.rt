@@ -1,0 +1,11 @@
+//! The encoding of each reply of ISO 15118-2:2014 is small. This function does nothing: its contract is the law.
+#![tactic(auto)]
+
+ghost use Rattle.iso_reply_sizes.specs.Sizes.{BriefRepliesAreSmall, RepliesAreSmall};
+
+/// No encoding of a reply has more than 1,024 bytes where each schedule tuple has one entry, as a post gives them, nor more than 20,000 in
+/// any reply that can be spelled.
+pub fn replies_are_small()
+    ensures brief { BriefRepliesAreSmall }
+    ensures all { RepliesAreSmall }
+{}

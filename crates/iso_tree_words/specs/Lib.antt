@@ -1,0 +1,5 @@
+pub mod Values
+pub mod SetupWords
+pub mod ParameterWords
+pub mod PowerWords
+pub mod Words
