@@ -12,6 +12,7 @@ use Rattle.trace_text.specs.Pasts.{first_line_2, hearing_number, trace_text}
 use Rattle.post_spec.specs.Codecs.{Codecs}
 use Rattle.station_laws.specs.PostRuns.{RunsArePostRuns}
 use Rattle.station_spec.specs.Runs.{unheard, IsCutRun}
+use Rattle.word_codec.specs.Replies.{IsPlan}
 use Rattle.site_posts.specs.declared.place.Place.{Place}
 use Rattle.site_posts.specs.Places.{place_of, RestsAt}
 use Rattle.site_acts.specs.Serving.{IsReady}
@@ -24,12 +25,12 @@ use Rattle.site_turns.specs.declared.hearing.SoFar.{SoFar}
 use Rattle.site_turns.specs.Ending.{AreMade, AreMadeOf, RanAs, TracedAs, AwaitedAs, AreCounts}
 use Rattle.site_turns.specs.Turns.{Waits, Stops}
 use Rattle.site_turns.proofs.Counts.{counts_first}
-use Rattle.site_turns.proofs.Ending.{closes_unheard}
-use Rattle.site_turns.proofs.Hearing.{made_ready, made_rest}
+use Rattle.site_turns.proofs.Finished.{closes_unheard}
+use Rattle.site_turns.proofs.Heard.{made_ready, made_rest}
 
 -- the posts
 pub first_ready : (Reads : Dialect → List ℕ → Option Word → Type 0) (plan : SitePlan) (places : List Place) (limit turns : ℕ) → AreMadeOf plan places limit turns → All (IsReady Reads) places
-first_ready Reads plan places limit turns m = subst (All (IsReady Reads)) (sym m.places_are) (made_ready Reads plan.post.items (subst (All _) m.places_are m.amounts))
+first_ready Reads plan places limit turns m = subst (All (IsReady Reads)) (sym m.places_are) (made_ready Reads plan.post.items (subst (All (λ (p : Place). IsPlan p.plan)) m.places_are m.amounts))
 
 pub first_rest : (plan : SitePlan) (places : List Place) (limit turns : ℕ) → AreMadeOf plan places limit turns → All RestsAt places
 first_rest plan places limit turns m = subst (All RestsAt) (sym m.places_are) (made_rest plan.post.items)

@@ -1,7 +1,7 @@
-pub mod Closing
+pub mod Orders
 pub mod Lines
-pub mod Hearing
+pub mod Heard
 pub mod Turns
-pub mod Ending
 pub mod Counts
+pub mod Finished
 pub mod First

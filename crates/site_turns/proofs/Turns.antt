@@ -1,6 +1,6 @@
 -- One turn: something was heard, or nothing any more.
 use Rattle.std.proofs.Common.{◌≡◌, ◌<◌, ◌≤◌, ℕ, ◌+◌, Bool, true, false, List, [], ◌∷◌, ◌++◌, length, map, max, min, Option, Some, None, Result, Ok, Err, refl, sym, ap, subst, ◌∙◌, arith}
-use Rattle.std.specs.Prelude.{IsSome, fold}
+use Rattle.std.specs.Prelude.{IsSome, IsErr, fold}
 use Rattle.std.specs.List.{All}
 use Rattle.charge_world.specs.declared.entry.Entry.{Entry}
 use Rattle.charge_world.specs.declared.entry.Entry.TheVariants as entry
@@ -23,7 +23,7 @@ use Rattle.site_turns.specs.declared.ending.Last.{Last}
 use Rattle.site_turns.specs.declared.hearing.SoFar.{SoFar}
 use Rattle.site_turns.specs.Ending.{EndedAs}
 use Rattle.site_turns.specs.Hearing.{Hears, known_behind}
-use Rattle.site_turns.specs.Lasts.{last_by}
+use Rattle.site_turns.specs.Lasts.{last_by, ended_so}
 use Rattle.site_turns.specs.Turns.{Waits, Stops, Turned}
 
 -- behind a hearing
@@ -61,27 +61,36 @@ turn_heard (Some old) (Some mid) (Some past) c plan so_far later h bytes told to
     }
 
 -- so serving goes on, or ends
-turned_by : {E : Type 0} (c : Codecs) (plan : SitePlan) (so_far : SoFar) (h : Heard) (bytes told earlier : List ℕ) (places : List Place) (past : List Entry) (w : What) → h.what ≡ w → HeardSo c plan so_far h bytes told earlier places past
+turned_by : (E : Type 0) (c : Codecs) (plan : SitePlan) (so_far : SoFar) (h : Heard) (bytes told earlier : List ℕ) (places : List Place) (past : List Entry) (w : What) → h.what ≡ w → HeardSo c plan so_far h bytes told earlier places past
     → Turned {E = E} c plan (Ok (last_by w)) so_far told earlier places past
-turned_by c plan so_far h bytes told earlier places past (what.Came post token) e s = record { known = s.known; block = s.block; clock_is = s.clock_is; heard_is = s.heard_is; goes_on = s.last_is ∙ ap is_over e; told_are = s.told_are }
-turned_by c plan so_far h bytes told earlier places past (what.Bytes post n) e s = record { known = s.known; block = s.block; clock_is = s.clock_is; heard_is = s.heard_is; goes_on = s.last_is ∙ ap is_over e; told_are = s.told_are }
-turned_by c plan so_far h bytes told earlier places past (what.Gone post) e s = record { known = s.known; block = s.block; clock_is = s.clock_is; heard_is = s.heard_is; goes_on = s.last_is ∙ ap is_over e; told_are = s.told_are }
-turned_by c plan so_far h bytes told earlier places past (what.Datagram post n) e s = record { known = s.known; block = s.block; clock_is = s.clock_is; heard_is = s.heard_is; goes_on = s.last_is ∙ ap is_over e; told_are = s.told_are }
-turned_by c plan so_far h bytes told earlier places past (what.Plant post event) e s = record { known = s.known; block = s.block; clock_is = s.clock_is; heard_is = s.heard_is; goes_on = s.last_is ∙ ap is_over e; told_are = s.told_are }
-turned_by c plan so_far h bytes told earlier places past what.Tick e s = record { known = s.known; block = s.block; clock_is = s.clock_is; heard_is = s.heard_is; goes_on = s.last_is ∙ ap is_over e; told_are = s.told_are }
-turned_by c plan so_far h bytes told earlier places past what.Over e s = record {
+turned_by E c plan so_far h bytes told earlier places past (what.Came post token) e s = record { known = s.known; block = s.block; clock_is = s.clock_is; heard_is = s.heard_is; goes_on = s.last_is ∙ ap is_over e; told_are = s.told_are }
+turned_by E c plan so_far h bytes told earlier places past (what.Bytes post n) e s = record { known = s.known; block = s.block; clock_is = s.clock_is; heard_is = s.heard_is; goes_on = s.last_is ∙ ap is_over e; told_are = s.told_are }
+turned_by E c plan so_far h bytes told earlier places past (what.Gone post) e s = record { known = s.known; block = s.block; clock_is = s.clock_is; heard_is = s.heard_is; goes_on = s.last_is ∙ ap is_over e; told_are = s.told_are }
+turned_by E c plan so_far h bytes told earlier places past (what.Datagram post n) e s = record { known = s.known; block = s.block; clock_is = s.clock_is; heard_is = s.heard_is; goes_on = s.last_is ∙ ap is_over e; told_are = s.told_are }
+turned_by E c plan so_far h bytes told earlier places past (what.Plant post event) e s = record { known = s.known; block = s.block; clock_is = s.clock_is; heard_is = s.heard_is; goes_on = s.last_is ∙ ap is_over e; told_are = s.told_are }
+turned_by E c plan so_far h bytes told earlier places past what.Tick e s = record { known = s.known; block = s.block; clock_is = s.clock_is; heard_is = s.heard_is; goes_on = s.last_is ∙ ap is_over e; told_are = s.told_are }
+turned_by E c plan so_far h bytes told earlier places past what.Over e s = record {
   known = s.known;
   block = s.block;
   told_are = s.told_are;
   ended = (h, bytes, s.block.newest_is ∙ s.newest_is, ap is_over e);
 }
 
-pub turned : {E : Type 0} (c : Codecs) (plan : SitePlan) (so_far : SoFar) (h : Heard) (bytes told earlier : List ℕ) (places : List Place) (past : List Entry) (last : Option Last) → last ≡ last_by h.what → HeardSo c plan so_far h bytes told earlier places past
+pub turned : (E : Type 0) (c : Codecs) (plan : SitePlan) (so_far : SoFar) (h : Heard) (bytes told earlier : List ℕ) (places : List Place) (past : List Entry) (last : Option Last) → last ≡ last_by h.what → HeardSo c plan so_far h bytes told earlier places past
     → Turned {E = E} c plan (Ok last) so_far told earlier places past
-turned {E} c plan so_far h bytes told earlier places past last e s = subst (λ (l : Option Last). Turned {E = E} c plan (Ok l) so_far told earlier places past) (sym e) (turned_by {E = E} c plan so_far h bytes told earlier places past h.what refl s)
+turned E c plan so_far h bytes told earlier places past last e s = subst (λ (l : Option Last). Turned {E = E} c plan (Ok l) so_far told earlier places past) (sym e) (turned_by E c plan so_far h bytes told earlier places past h.what refl s)
 
 pub cut_turn : (c : Codecs) (plan : SitePlan) (so_far : SoFar) (h : Heard) (bytes told earlier : List ℕ) (places : List Place) (past : List Entry) → HeardSo c plan so_far h bytes told earlier places past → Stops c plan ended.TraceFault told earlier places past
 cut_turn c plan so_far h bytes told earlier places past s = record { known = s.known; block = s.block; told_are = s.told_are; ended = tt }
+
+pub turned_cut : (E : Type 0) (c : Codecs) (plan : SitePlan) (r : Result (Option Last) E) (so_far : SoFar) (told earlier : List ℕ) (places : List Place) (past : List Entry) → IsErr r → Stops c plan ended.TraceFault told earlier places past
+    → Turned {E = E} c plan r so_far told earlier places past
+turned_cut E c plan (Ok turn) so_far told earlier places past is s = cc
+turned_cut E c plan (Err fault) so_far told earlier places past is s = s
+
+pub stopped_cut : (E : Type 0) (c : Codecs) (plan : SitePlan) (r : Result Last E) (told earlier : List ℕ) (places : List Place) (past : List Entry) → IsErr r → Stops c plan ended.TraceFault told earlier places past → Stops c plan (ended_so r) told earlier places past
+stopped_cut E c plan (Ok why) told earlier places past is s = cc
+stopped_cut E c plan (Err fault) told earlier places past is s = s
 
 -- nothing was heard
 pub turn_lost : (a b : Option (List Entry)) (c : Codecs) (plan : SitePlan) (so_far : SoFar) (how : Ended) (told told_later earlier : List ℕ) (wait : ℕ) (places : List Place) → GrowsByOne a b entry.Lost → (IsSome b → told_later ≡ wait ∷ told)

@@ -70,9 +70,12 @@ pub fn close_all<W: Wire, J: Sink>(
     ensures faults { W.faults wire.old ≤ W.faults wire.new }
 {
     for i in 0..places.len() {
-        if let Err(fault) = close_one(places, i, hearing, lines, wire, trace) {
-            close_unwritten(places, i + 1, wire);
-            return Err(fault);
+        match close_one(places, i, hearing, lines, wire, trace) {
+            Ok(()) => {}
+            Err(fault) => {
+                close_unwritten(places, i + 1, wire);
+                return Err(fault);
+            }
         }
     }
     Ok(())

@@ -99,8 +99,9 @@ fn take_turns<C: Codec, W: Wire, J: Sink>(
 {
     let mut room = [0u8; 4096];
     for _ in 0..turns {
-        if let Some(last) = turn(desk, places, limit, so_far, &mut room, wire, trace)? {
-            return Ok(last);
+        match turn(desk, places, limit, so_far, &mut room, wire, trace)? {
+            None => {}
+            Some(last) => return Ok(last),
         }
     }
     Ok(Last::Turns)

@@ -1,7 +1,8 @@
-use Rattle.std.proofs.Common.{◌≡◌, ◌+◌, ◌<◌, ℕ, true, false, List, length, map, is_ok, refl, sym, ◌∙◌}
+use Rattle.std.proofs.Common.{◌≡◌, ◌+◌, ◌<◌, ℕ, Bool, true, false, List, length, map, is_ok, refl, sym, subst, ◌∙◌}
 use Rattle.charge_world.specs.declared.entry.Entry.{Entry}
 use Rattle.charge_world.specs.declared.entry.Entry.TheVariants as entry
 use Rattle.charge_world.specs.declared.ports.Order.TheVariants as order
+use Rattle.charge_world.specs.Outside.{GrowsByOne}
 use Rattle.post_spec.specs.Steps.{Give}
 use Rattle.site_serving.specs.Serving.{ClosesTo}
 use Rattle.site_acts.specs.Telling.{HasClosing, IsTraced, IsWrittenSo}
@@ -26,8 +27,10 @@ returns-then-live-clause-orders g c blocks =
 
 pub returns-then-live-clause-traced : goal.returns-then-live-clause-traced
 returns-then-live-clause-traced g c =
-    let e : Entry = entry.Drove (c.args.i + 1) order.Open (is_ok c.drive.result) in
-    text_one _ _ _ _ e c.args.hearing c.args.hearing c.write.result (outgoing (c.args.i + 1) c.args.hearing (Give order.Open) (is_ok c.drive.result)) c.drive.ensures.drove c.write.ensures.ok c.write.ensures.failed
+    let taken = c.is_ok-taken.result in
+    let e : Entry = entry.Drove (c.args.i + 1) order.Open taken in
+    let drove = subst (λ (b : Bool). GrowsByOne (g.W.Wire.past c.args.wire.now) (g.W.Wire.past c.drive.new.self) (entry.Drove (c.args.i + 1) order.Open b)) (sym c.is_ok-taken.ensures.value) c.drive.ensures.drove in
+    text_one _ _ _ _ e c.args.hearing c.args.hearing c.write.result (outgoing (c.args.i + 1) c.args.hearing (Give order.Open) taken) drove c.write.ensures.ok c.write.ensures.failed
 
 pub returns-else-live-clause-closed : goal.returns-else-live-clause-closed
 returns-else-live-clause-closed g c posts blocks are =
