@@ -1,4 +1,4 @@
 pub mod Answered
 pub mod HexLengths
 pub mod WordLists
-pub mod Unbegun
+pub mod Apart
