@@ -5,7 +5,7 @@ use Rattle.message_dialects.specs.declared.dialect.MessageDialect.TheVariants.{A
 use Rattle.command_words.specs.Command.{IsApplied, dialect_word}
 
 -- words with other first characters
-pub unlike : (a b : ℕ) (front other : List ℕ) → (a ≡ b → ⊥) → a ∷ front ≡ b ∷ other → ⊥
+unlike : (a b : ℕ) (front other : List ℕ) → (a ≡ b → ⊥) → a ∷ front ≡ b ∷ other → ⊥
 unlike a b front other differ h = let same : a ≡ b = cc in differ same
 
 one_dialect : (d e : MessageDialect) → dialect_word d ≡ dialect_word e → d ≡ e
