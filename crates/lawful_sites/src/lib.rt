@@ -12,7 +12,7 @@ ghost use Rattle.lawful_sites.specs.Lawful.{IsLawful};
 
 use charge_world::{Sink, Wire};
 use failed_replies::no_failed_reply_while_live;
-use mandated_runs::{ends_as_mandated, holds_as_mandated};
+use mandated_runs::ends_as_mandated;
 use opened_causes::opens_at_causes;
 use safe_runs::{closes_as_mandated, ends_open, opens_again};
 use silent_runs::sends_in_sessions;

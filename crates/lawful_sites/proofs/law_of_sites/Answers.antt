@@ -1,0 +1,25 @@
+use Rattle.lawful_sites.proofs.law_of_sites.Goals as goal
+
+pub returns : goal.returns
+returns g c plan past r =
+    let rb = g.met.C.LawfulCodec.reads_back in
+    let det = g.met.C.LawfulCodec.determined in
+    record {
+      blocks = r.blocks;
+      posts = r.posts;
+      run = r.run;
+      closed = r.closes;
+      within = c.spelled_within_limit.ensures.closed plan past r.blocks r.posts rb g.met.C.Codec.negotiates_first r.run r.closes;
+      each = λ before post behind are.
+          let held = c.ends_as_mandated.ensures plan past r.blocks r.posts before post behind rb r.run r.closes are in
+          record {
+            closes = c.closes_as_mandated.ensures plan r.blocks r.posts before post behind rb r.run are;
+            holds = held.0;
+            held = held.1;
+            opens_again = (c.opens_again.ensures plan r.blocks r.posts before post behind r.run are).0;
+            ends_open = c.ends_open.ensures plan past r.blocks r.posts before post behind r.run r.closes are;
+            replies = c.no_failed_reply_while_live.ensures plan r.blocks r.posts before post behind rb r.run are;
+            causes = (c.opens_at_causes.ensures plan r.blocks r.posts before post behind rb det r.run are).0;
+            silent = c.sends_in_sessions.ensures plan r.blocks r.posts before post behind r.run are;
+          };
+    }
