@@ -6,8 +6,8 @@ use Rattle.message_trees.proofs.Decided.{apart, scanned_apart}
 use Rattle.charge_run.specs.Runs.{Answers, Prints, Refuses, HasFault, Decodes, IsDecodedLine, IsDecodeFault, Encodes, IsEncodedLine}
 use Rattle.charge_run.specs.declared.fault.InputFault.{InputFault}
 use Rattle.charge_run.specs.declared.fault.InputFault.TheVariants.{Place, Memory}
-use Rattle.charge_run.specs.declared.status.Status.{Status}
-use Rattle.charge_run.specs.declared.status.Status.TheVariants as status
+use Rattle.command_status.specs.declared.status.Status.{Status}
+use Rattle.command_status.specs.declared.status.Status.TheVariants as status
 
 pub answers_line : (IsLine : List ℕ → Type 0) (IsFaultAt : ℕ → Type 0) (line : List ℕ) (s : Status) (before after : Option (List ℕ)) (n m : ℕ) →
     IsLine line → Prints line s before after → Answers IsLine IsFaultAt s before after n m

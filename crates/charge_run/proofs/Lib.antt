@@ -1,4 +1,3 @@
 pub mod Answered
 pub mod HexLengths
 pub mod WordLists
-pub mod Unbegun

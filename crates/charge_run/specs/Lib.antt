@@ -1,7 +1,5 @@
 pub use Rattle.message_trees.specs.Texts
-pub use Rattle.site_core.specs.Judging
-pub use Rattle.site_core.specs.Serving
-pub mod ReportLine
-pub mod FaultLines
+pub use Rattle.station_command.specs.Served
 pub mod HexText
 pub mod Runs
+pub mod Stations

@@ -1,83 +1,32 @@
 -- Own: what a run of the program leaves.
-use Rattle.std.specs.Prelude.{◌≡◌, ◌⊎◌, ℕ, List, [], ◌∷◌, ◌++◌, Option, Some, IfSome, IsSomeAnd, codes}
+use Rattle.std.specs.Prelude.{◌≡◌, ◌⊎◌, ℕ, List, ◌++◌, Option, Some, codes}
 use Rattle.std.specs.Str.{chars}
-use Rattle.charge_world.specs.declared.entry.Entry.{Entry}
-use Rattle.charge_world.specs.declared.offer.Dialect.{Dialect}
-use Rattle.charge_world.specs.declared.ports.Ports.{Ports}
-use Rattle.charge_world.specs.declared.ports.Ports.TheVariants.{Posts}
-use Rattle.charge_world.specs.declared.offer.Dialect.TheVariants.{Iso, Din}
 use Rattle.charge_world.specs.Outside.{Appends, AppendsSome}
 use Rattle.exi_documents.specs.declared.refusal.RefusalCause.{RefusalCause}
+use Rattle.codec_rules.specs.Negotiating.{Negotiates}
+use Rattle.codec_rules.specs.Codecs as rules
+use Rattle.post_spec.specs.Codecs.{Codecs, codecs}
 use Rattle.message_dialects.specs.declared.dialect.MessageDialect.{MessageDialect}
 use Rattle.message_trees.specs.Texts.{IsPrinted, IsRefusedIn, IsScanned, IsUnscanned}
-use Rattle.site_core.specs.declared.report.PostReport.{PostReport}
-use Rattle.site_core.specs.declared.serving.Ended.{Ended}
-use Rattle.site_core.specs.declared.serving.Ended.TheVariants as ended
-use Rattle.site_core.specs.Serving.{EndedAs}
-use Rattle.charge_run.specs.FaultLines.{Tells, input_line, turns_line, wire_line}
+use Rattle.command_status.specs.declared.status.Status.{Status}
+use Rattle.command_status.specs.declared.status.Status.TheVariants as status
+use Rattle.command_status.specs.FaultLines.{Tells, input_line}
+use Rattle.command_words.specs.Command.{IsNoCommand, IsReplay, IsStation}
 use Rattle.charge_run.specs.HexText.{hex_fault, IsHexOf}
-use Rattle.charge_run.specs.ReportLine.{report_line}
 use Rattle.hex.specs.Hex.{encode_lower}
 use Rattle.charge_run.specs.declared.fault.InputFault.{InputFault}
 use Rattle.charge_run.specs.declared.fault.InputFault.TheVariants.{Place, Memory}
-use Rattle.charge_run.specs.declared.status.Status.{Status}
-use Rattle.charge_run.specs.declared.status.Status.TheVariants as status
 
-abbrev pub number_of : Status → ℕ
-number_of status.Done = 0
-number_of status.NoMemory = 1
-number_of status.Words = 2
-number_of status.Plan = 3
-number_of status.Input = 4
-number_of status.WireFault = 5
-number_of status.SinkFault = 6
-number_of status.SourceFault = 7
-number_of status.TurnsSpent = 8
+-- the codecs of the program's station
+abbrev pub charge_codecs : Codecs
+charge_codecs = codecs Negotiates rules.Reads rules.Encodes
 
--- ---- station
+-- words that nothing is done for: those of no command, and those of a replay
+abbrev pub AreIdle : List (List ℕ) → Type 0
+AreIdle words = IsNoCommand words ⊎ ((plan : List ℕ) × (trace : List ℕ) × IsReplay words plan trace)
 
-abbrev pub both_dialects : List Dialect
-both_dialects = Iso ∷ Din ∷ []
-
--- post 1 at TCP port 15120, without discovery, until ten connections have ended
-abbrev pub station_ports : Ports
-station_ports = Posts (record { items = record { tcp = 15120; sdp = 0 } ∷ [] }) 10
-
--- the status that a past has. A report line that was not written takes the place of the first two
-abbrev pub Ran : Status → List Entry → Type 0
-Ran status.Done past = EndedAs 1000000 ended.Over past
-Ran status.TurnsSpent past = EndedAs 1000000 ended.Turns past
-Ran status.WireFault past = EndedAs 1000000 ended.Lost past ⊎ (past ≡ [])
-Ran status.SinkFault past = EndedAs 1000000 ended.Over past ⊎ EndedAs 1000000 ended.Turns past
-Ran status.NoMemory past = past ≡ []
-Ran status.Words past = ⊥
-Ran status.Plan past = ⊥
-Ran status.Input past = ⊥
-Ran status.SourceFault past = ⊥
-
--- the status of a way to end
-abbrev pub IsStatusOf : Ended → Status → Type 0
-IsStatusOf ended.Over s = (s ≡ status.Done) ⊎ (s ≡ status.SinkFault)
-IsStatusOf ended.Turns s = (s ≡ status.TurnsSpent) ⊎ (s ≡ status.SinkFault)
-IsStatusOf ended.Lost s = s ≡ status.WireFault
-
--- behind the report line the line `turns`; where the count of faults rose, from n to m, a front of it
-pub record TellsTurns (before after : Option (List ℕ)) (n m : ℕ) (line : List ℕ) : Type 0 where
-  pub front : IfSome after (λ new. IsSomeAnd before (λ old. (front : List ℕ) × (rest : List ℕ) × (turns_line ≡ front ++ rest) × (new ≡ old ++ line ++ front)))
-  pub whole : m ≡ n → Appends before after (line ++ turns_line)
-
--- what the output holds then, whose count of faults went from n to m: the report line, or a front of it where it was not written,
--- or the line of the fault, and nothing else
-abbrev pub Outputs : Status → PostReport → Option (List ℕ) → Option (List ℕ) → ℕ → ℕ → Type 0
-Outputs status.Done report before after n m = Appends before after (report_line 1 report)
-Outputs status.TurnsSpent report before after n m = TellsTurns before after n m (report_line 1 report)
-Outputs status.SinkFault report before after n m = AppendsSome before after (report_line 1 report)
-Outputs status.WireFault report before after n m = Tells before after n m wire_line
-Outputs status.NoMemory report before after n m = after ≡ before
-Outputs status.Words report before after n m = ⊥
-Outputs status.Plan report before after n m = ⊥
-Outputs status.Input report before after n m = ⊥
-Outputs status.SourceFault report before after n m = ⊥
+abbrev pub IsSomeStation : List (List ℕ) → Type 0
+IsSomeStation words = (plan : List ℕ) × IsStation words plan
 
 -- ---- a line or a fault
 

@@ -3,9 +3,9 @@
 ghost use Rattle.std.specs.Prelude.{◌≡◌, ◌<◌};
 ghost use Rattle.charge_run.specs.Runs.{Prints, Refuses};
 
-use crate::fault::{InputFault, line_of_input, tell_fault};
-use crate::status::Status;
+use crate::fault::InputFault;
 use charge_world::Sink;
+use command_status::{Status, line_of_input, tell_fault};
 
 /// Prints a line.
 pub(crate) fn print_line<K: Sink>(out: &mut K, line: &str) -> Status

@@ -7,8 +7,8 @@ ghost use Rattle.charge_run.specs.Runs.{Decodes, IsDecodedLine, IsDecodeFault, H
 use crate::answer::{print_line, refuse};
 use crate::fault::InputFault;
 use crate::hex_text::bytes_of;
-use crate::status::Status;
 use charge_world::Sink;
+use command_status::Status;
 use message_trees::{MessageDialect, PrintFault, print_payload};
 use std::alloc::Global;
 

@@ -7,8 +7,8 @@ ghost use Rattle.charge_run.specs.Runs.{Encodes, IsEncodedLine, HasFault};
 
 use crate::answer::{print_line, refuse};
 use crate::fault::InputFault;
-use crate::status::Status;
 use charge_world::Sink;
+use command_status::Status;
 use message_trees::{MessageDialect, ScanFault, scan_text};
 use std::alloc::Global;
 

@@ -6,12 +6,9 @@ mod decode;
 mod encode;
 mod fault;
 mod hex_text;
-mod line;
-mod report;
-mod station;
-mod status;
+mod serving;
 mod top;
 
+pub use command_status::Status;
 pub use command_words::WordList;
-pub use status::Status;
 pub use top::run;

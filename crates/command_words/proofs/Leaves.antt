@@ -1,5 +1,5 @@
 -- What `clap` makes of the words behind a command's name, of which none begins with `-`.
-use Rattle.std.proofs.Common.{◌≡◌, ◌==◌, true, false, List, [], ◌∷◌, None, refl}
+use Rattle.std.proofs.Common.{◌≡◌, ◌==◌, true, false, List, [], ◌∷◌, None, codes, refl}
 use Rattle.std.specs.Str.{bytes_eq}
 use Rattle.clap.specs.Lexer.{long_of, short_of}
 use Rattle.clap.specs.Walk.{Row, Text, nothing_held, rows_after}
@@ -10,7 +10,7 @@ use Rattle.clap.specs.declared.error.kind.ErrorKind.TheVariants.{MissingRequired
 use Rattle.clap.proofs.SimpleLemmas.{is_false}
 use Rattle.clap.proofs.OnLiterals.{clap_on_literals}
 use Rattle.command_words.specs.Command.{is_plain}
-use Rattle.command_words.specs.Grammar.{bare, found, on_dialect, program}
+use Rattle.command_words.specs.Grammar.{given, on_dialect, program, replay_shape, station_shape}
 
 -- a word that is read as no option
 pub record IsNoOption (word : Text) : Type 0 where
@@ -34,38 +34,49 @@ fault_below s words = level_fault (built_in s) [] nothing_held words false []
 abbrev pub rows_below : Shape → List Text → List Row
 rows_below s words = rows_after (built_in s).rules [] words
 
--- ---- a command without values
+-- ---- a command with one value
 
-pub bare_passes : (name : Text) → fault_below (bare name) [] ≡ []
+pub one_passes : (v : Text) → IsNoOption v → fault_below station_shape (v ∷ []) ≡ []
 unfolding clap_on_literals
-bare_passes name = refl
+one_passes v h = rw (h.no_dashes, h.not_long, h.not_short) refl
 
-pub bare_rows : (name : Text) → rows_below (bare name) [] ≡ []
+pub one_row : (v : Text) → IsNoOption v → rows_below station_shape (v ∷ []) ≡ given (codes "PLAN") v ∷ []
 unfolding clap_on_literals
-bare_rows name = refl
+one_row v h = rw (h.no_dashes, h.not_long, h.not_short) refl
 
-pub bare_more : (name w : Text) (rest : List Text) → IsNoOption w → fault_below (bare name) (w ∷ rest) ≡ UnknownArgument ∷ []
+pub one_none : fault_below station_shape [] ≡ MissingRequiredArgument ∷ []
 unfolding clap_on_literals
-bare_more name w rest h = rw (h.no_dashes, h.not_long, h.not_short) refl
+one_none = refl
 
--- ---- a command with a dialect and a value
-
-pub two_pass : (name d v : Text) → IsNoOption d → IsNoOption v → fault_below (on_dialect name) (d ∷ v ∷ []) ≡ []
+pub one_more : (v w : Text) (rest : List Text) → IsNoOption v → IsNoOption w → fault_below station_shape (v ∷ w ∷ rest) ≡ UnknownArgument ∷ []
 unfolding clap_on_literals
-two_pass name d v h k = rw (h.no_dashes, h.not_long, h.not_short, k.no_dashes, k.not_long, k.not_short) refl
+one_more v w rest h k = rw (h.no_dashes, h.not_long, h.not_short, k.no_dashes, k.not_long, k.not_short) refl
 
-pub two_rows : (name d v : Text) → IsNoOption d → IsNoOption v → rows_below (on_dialect name) (d ∷ v ∷ []) ≡ found d v
-unfolding clap_on_literals
-two_rows name d v h k = rw (h.no_dashes, h.not_long, h.not_short, k.no_dashes, k.not_long, k.not_short) refl
+-- ---- a command with two values
 
-pub two_none : (name : Text) → fault_below (on_dialect name) [] ≡ MissingRequiredArgument ∷ []
-unfolding clap_on_literals
-two_none name = refl
+pub record TakesTwo (s : Shape) (first second : Text) : Type 0 where
+  pub passes : (d v : Text) → IsNoOption d → IsNoOption v → fault_below s (d ∷ v ∷ []) ≡ []
+  pub rows : (d v : Text) → IsNoOption d → IsNoOption v → rows_below s (d ∷ v ∷ []) ≡ given first d ∷ given second v ∷ []
+  pub none : fault_below s [] ≡ MissingRequiredArgument ∷ []
+  pub one : (d : Text) → IsNoOption d → fault_below s (d ∷ []) ≡ MissingRequiredArgument ∷ []
+  pub more : (d v w : Text) (rest : List Text) → IsNoOption d → IsNoOption v → IsNoOption w → fault_below s (d ∷ v ∷ w ∷ rest) ≡ UnknownArgument ∷ []
 
-pub two_one : (name d : Text) → IsNoOption d → fault_below (on_dialect name) (d ∷ []) ≡ MissingRequiredArgument ∷ []
+pub takes_files : TakesTwo replay_shape (codes "PLAN") (codes "TRACE")
 unfolding clap_on_literals
-two_one name d h = rw (h.no_dashes, h.not_long, h.not_short) refl
+takes_files = record {
+  passes = λ d v h k. rw (h.no_dashes, h.not_long, h.not_short, k.no_dashes, k.not_long, k.not_short) refl;
+  rows = λ d v h k. rw (h.no_dashes, h.not_long, h.not_short, k.no_dashes, k.not_long, k.not_short) refl;
+  none = refl;
+  one = λ d h. rw (h.no_dashes, h.not_long, h.not_short) refl;
+  more = λ d v w rest h k l. rw (h.no_dashes, h.not_long, h.not_short, k.no_dashes, k.not_long, k.not_short, l.no_dashes, l.not_long, l.not_short) refl;
+}
 
-pub two_more : (name d v w : Text) (rest : List Text) → IsNoOption d → IsNoOption v → IsNoOption w → fault_below (on_dialect name) (d ∷ v ∷ w ∷ rest) ≡ UnknownArgument ∷ []
+pub takes_dialect : (name : Text) → TakesTwo (on_dialect name) (codes "DIALECT") (codes "VALUE")
 unfolding clap_on_literals
-two_more name d v w rest h k l = rw (h.no_dashes, h.not_long, h.not_short, k.no_dashes, k.not_long, k.not_short, l.no_dashes, l.not_long, l.not_short) refl
+takes_dialect name = record {
+  passes = λ d v h k. rw (h.no_dashes, h.not_long, h.not_short, k.no_dashes, k.not_long, k.not_short) refl;
+  rows = λ d v h k. rw (h.no_dashes, h.not_long, h.not_short, k.no_dashes, k.not_long, k.not_short) refl;
+  none = refl;
+  one = λ d h. rw (h.no_dashes, h.not_long, h.not_short) refl;
+  more = λ d v w rest h k l. rw (h.no_dashes, h.not_long, h.not_short, k.no_dashes, k.not_long, k.not_short, l.no_dashes, l.not_long, l.not_short) refl;
+}

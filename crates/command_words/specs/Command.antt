@@ -4,13 +4,9 @@ use Rattle.std.specs.Str.{bytes_eq}
 use Rattle.message_dialects.specs.declared.dialect.MessageDialect.{MessageDialect}
 use Rattle.message_dialects.specs.declared.dialect.MessageDialect.TheVariants.{App, Iso, Din}
 use Rattle.command_words.specs.declared.reading.Command.{Command}
-use Rattle.command_words.specs.declared.reading.Command.TheVariants.{Station, Decode, Encode}
+use Rattle.command_words.specs.declared.reading.Command.TheVariants.{Station, Replay, Decode, Encode}
 use Rattle.command_words.specs.declared.reading.WordsFault.{WordsFault}
 use Rattle.command_words.specs.declared.reading.WordsFault.TheVariants.{NoCommand, Memory}
-
--- the one word `station`: serves post 1
-abbrev pub IsStation : List (List ℕ) → Type 0
-IsStation words = words ≡ codes "station" ∷ []
 
 -- the word does not begin with `-` (45)
 abbrev pub is_plain : List ℕ → Bool
@@ -31,6 +27,17 @@ dialect_named word =
     else if bytes_eq word (dialect_word Din) then Some Din
     else None
 
+-- `station PLAN`: serves the posts of the plan in a file
+pub record IsStation (words : List (List ℕ)) (plan : List ℕ) : Type 0 where
+  pub words_are : words ≡ codes "station" ∷ plan ∷ []
+  pub plain : is_plain plan ≡ true
+
+-- `replay PLAN TRACE`: runs the posts of the plan in a file over the hearings of the trace in another
+pub record IsReplay (words : List (List ℕ)) (plan trace : List ℕ) : Type 0 where
+  pub words_are : words ≡ codes "replay" ∷ plan ∷ trace ∷ []
+  pub plain_plan : is_plain plan ≡ true
+  pub plain_trace : is_plain trace ≡ true
+
 -- a command, the word of a dialect, and a value
 pub record IsApplied (command : List ℕ) (words : List (List ℕ)) (dialect : MessageDialect) (value : List ℕ) : Type 0 where
   pub words_are : words ≡ command ∷ dialect_word dialect ∷ value ∷ []
@@ -46,13 +53,15 @@ IsEncode words dialect text = IsApplied (codes "encode") words dialect text
 
 -- the words are this command
 abbrev pub IsCommand : List (List ℕ) → Command → Type 0
-IsCommand words Station = IsStation words
+IsCommand words (Station plan) = IsStation words plan.now
+IsCommand words (Replay plan trace) = IsReplay words plan.now trace.now
 IsCommand words (Decode dialect hex) = IsDecode words dialect hex.now
 IsCommand words (Encode dialect text) = IsEncode words dialect text.now
 
 -- the words are none
 pub record IsNoCommand (words : List (List ℕ)) : Type 0 where
-  pub not_station : IsStation words → ⊥
+  pub not_station : (plan : List ℕ) → IsStation words plan → ⊥
+  pub not_replay : (plan trace : List ℕ) → IsReplay words plan trace → ⊥
   pub not_decode : (dialect : MessageDialect) (hex : List ℕ) → IsDecode words dialect hex → ⊥
   pub not_encode : (dialect : MessageDialect) (text : List ℕ) → IsEncode words dialect text → ⊥
 

@@ -8,19 +8,29 @@ use Rattle.clap.specs.declared.parser.matches.ValueSource.TheVariants.{CommandLi
 use Rattle.message_dialects.specs.declared.dialect.MessageDialect.{MessageDialect}
 use Rattle.command_words.specs.Command.{dialect_word, dialect_named}
 use Rattle.command_words.specs.declared.reading.Command.{Command}
-use Rattle.command_words.specs.declared.reading.Command.TheVariants.{Station, Decode, Encode}
+use Rattle.command_words.specs.declared.reading.Command.TheVariants.{Station, Replay, Decode, Encode}
 
 -- a value that a command needs
 abbrev pub needed : Text → Rule
 needed id = record (new_rule id) { required = true }
 
--- a command without values
-abbrev pub bare : Text → Shape
-bare name = new_shape name
+-- a command with one value
+abbrev pub with_one : Text → Text → Shape
+with_one name id = record (new_shape name) { rules = needed id ∷ [] }
+
+-- a command with two values
+abbrev pub with_two : Text → Text → Text → Shape
+with_two name first second = record (new_shape name) { rules = needed first ∷ needed second ∷ [] }
+
+abbrev pub station_shape : Shape
+station_shape = with_one (codes "station") (codes "PLAN")
+
+abbrev pub replay_shape : Shape
+replay_shape = with_two (codes "replay") (codes "PLAN") (codes "TRACE")
 
 -- a command with a dialect and a value
 abbrev pub on_dialect : Text → Shape
-on_dialect name = record (new_shape name) { rules = needed (codes "DIALECT") ∷ needed (codes "VALUE") ∷ [] }
+on_dialect name = with_two name (codes "DIALECT") (codes "VALUE")
 
 -- the program, whose words are all its arguments, without options and without help
 abbrev pub program : App
@@ -32,33 +42,40 @@ program = record {
     subcommand_required = true;
     is_leaf = false;
   };
-  subs = bare (codes "station") ∷ on_dialect (codes "decode") ∷ on_dialect (codes "encode") ∷ [];
+  subs = station_shape ∷ replay_shape ∷ on_dialect (codes "decode") ∷ on_dialect (codes "encode") ∷ [];
 }
 
 -- one value that was given
 abbrev pub given : Text → Text → Row
 given id value = record { id = id; values = value ∷ []; count = None; source = Some CommandLine; reading = AsWritten }
 
--- what is found of a command with a dialect and a value
-abbrev pub found : Text → Text → List Row
-found dialect value = given (codes "DIALECT") dialect ∷ given (codes "VALUE") value ∷ []
-
--- the words are a command, a dialect and a value, and these are found
-pub record IsOnDialect (name : Text) (words : List Text) (met : Option (Text × List Row)) : Type 0 where
-  pub dialect : Text
+-- the words are a command and its value, and this is found
+pub record IsWithOne (name id : Text) (words : List Text) (met : Option (Text × List Row)) : Type 0 where
   pub value : Text
-  pub words_are : words ≡ name ∷ dialect ∷ value ∷ []
-  pub met_is : met ≡ Some (name, found dialect value)
+  pub words_are : words ≡ name ∷ value ∷ []
+  pub met_is : met ≡ Some (name, given id value ∷ [])
+
+-- the words are a command and its two values, and these are found
+pub record IsWithTwo (name first second : Text) (words : List Text) (met : Option (Text × List Row)) : Type 0 where
+  pub one : Text
+  pub other : Text
+  pub words_are : words ≡ name ∷ one ∷ other ∷ []
+  pub met_is : met ≡ Some (name, given first one ∷ given second other ∷ [])
+
+abbrev pub IsOnDialect : Text → List Text → Option (Text × List Row) → Type 0
+IsOnDialect name words met = IsWithTwo name (codes "DIALECT") (codes "VALUE") words met
 
 -- the words are a command and the values that it needs, and these are found
 abbrev pub IsMatched : List Text → Option (Text × List Row) → Type 0
 IsMatched words met =
-    ((words ≡ codes "station" ∷ []) × (met ≡ Some (codes "station", [])))
-    ⊎ (IsOnDialect (codes "decode") words met ⊎ IsOnDialect (codes "encode") words met)
+    IsWithOne (codes "station") (codes "PLAN") words met
+    ⊎ (IsWithTwo (codes "replay") (codes "PLAN") (codes "TRACE") words met
+    ⊎ (IsOnDialect (codes "decode") words met ⊎ IsOnDialect (codes "encode") words met))
 
 -- the words are no command with the values that it needs
 pub record IsUnmatched (words : List Text) : Type 0 where
-  pub not_station : words ≡ codes "station" ∷ [] → ⊥
+  pub not_station : (plan : Text) → words ≡ codes "station" ∷ plan ∷ [] → ⊥
+  pub not_replay : (plan trace : Text) → words ≡ codes "replay" ∷ plan ∷ trace ∷ [] → ⊥
   pub not_decode : (dialect value : Text) → words ≡ codes "decode" ∷ dialect ∷ value ∷ [] → ⊥
   pub not_encode : (dialect value : Text) → words ≡ codes "encode" ∷ dialect ∷ value ∷ [] → ⊥
 
@@ -66,9 +83,15 @@ pub record IsUnmatched (words : List Text) : Type 0 where
 
 -- the words of a command
 abbrev pub words_of : Command → List Text
-words_of Station = codes "station" ∷ []
+words_of (Station plan) = codes "station" ∷ plan.now ∷ []
+words_of (Replay plan trace) = codes "replay" ∷ plan.now ∷ trace.now ∷ []
 words_of (Decode dialect hex) = codes "decode" ∷ dialect_word dialect ∷ hex.now ∷ []
 words_of (Encode dialect text) = codes "encode" ∷ dialect_word dialect ∷ text.now ∷ []
+
+-- the two files that were given
+abbrev pub files_of : List Row → Option (Text × Text)
+files_of rows =
+    option_and_then (λ plan. option_map (λ trace. (plan, trace)) (first_of (codes "TRACE") rows)) (first_of (codes "PLAN") rows)
 
 -- the dialect and the value that were given
 abbrev pub given_of : List Row → Option (MessageDialect × Text)
@@ -83,7 +106,8 @@ words_with name pair = name ∷ dialect_word pair.0 ∷ pair.1 ∷ []
 -- the words of the command that a subcommand and its values are
 abbrev pub told_of : Text → List Row → Option (List Text)
 told_of name rows =
-    if bytes_eq name (codes "station") then Some (codes "station" ∷ [])
+    if bytes_eq name (codes "station") then option_map (λ plan. codes "station" ∷ plan ∷ []) (first_of (codes "PLAN") rows)
+    else if bytes_eq name (codes "replay") then option_map (λ files. codes "replay" ∷ files.0 ∷ files.1 ∷ []) (files_of rows)
     else if bytes_eq name (codes "decode") then option_map (words_with (codes "decode")) (given_of rows)
     else if bytes_eq name (codes "encode") then option_map (words_with (codes "encode")) (given_of rows)
     else None

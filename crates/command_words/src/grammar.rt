@@ -6,7 +6,7 @@ ghost use Rattle.clap.specs.Words.{app_of, kind_of, shape_of, subcommand_rows_of
 ghost use Rattle.clap.specs.declared.builder.command.Command.TheViews.{out-Command};
 ghost use Rattle.clap.specs.declared.error.kind.ErrorKind.TheVariants.{OutOfMemory};
 ghost use Rattle.command_words.specs.Command.{is_plain};
-ghost use Rattle.command_words.specs.Grammar.{IsMatched, IsUnmatched, on_dialect, program};
+ghost use Rattle.command_words.specs.Grammar.{IsMatched, IsUnmatched, station_shape, program, with_two};
 
 use clap::{Arg, ArgMatches, Command, Error};
 use std::alloc::{AllocError, Global};
@@ -26,25 +26,41 @@ pub(crate) fn matches_of<'a>(alloc: Global, words: &'a [String]) -> Result<ArgMa
 fn program<'a>(alloc: Global) -> Result<Command<'a>, AllocError>
     ensures { IfOk result (λ made. app_of made ≡ program) }
 {
-    let station = Command::new(alloc, "station");
-    let decode = on_dialect(alloc, "decode")?;
-    let encode = on_dialect(alloc, "encode")?;
+    let station = station(alloc)?;
+    let replay = with_two(alloc, "replay", "PLAN", "TRACE")?;
+    let decode = with_two(alloc, "decode", "DIALECT", "VALUE")?;
+    let encode = with_two(alloc, "encode", "DIALECT", "VALUE")?;
     Command::new(alloc, "v2g_charge")
         .no_binary_name(true)
         .disable_help_flag(true)
         .disable_help_subcommand(true)
         .subcommand_required(true)
         .subcommand(station)?
+        .subcommand(replay)?
         .subcommand(decode)?
         .subcommand(encode)
 }
 
-/// A command with a dialect and a value.
-fn on_dialect<'a>(alloc: Global, name: &'a str) -> Result<Command<'a>, AllocError>
-    ensures shape { IfOk result (λ made. shape_of made ≡ on_dialect name.entry.now) }
+/// The command `station` with its plan.
+fn station<'a>(alloc: Global) -> Result<Command<'a>, AllocError>
+    ensures shape { IfOk result (λ made. shape_of made ≡ station_shape) }
     ensures local { IfOk result (λ made. (out-Command made).has_globals ≡ false) }
 {
-    let dialect = Arg::new(alloc, "DIALECT").required(true);
-    let value = Arg::new(alloc, "VALUE").required(true);
-    Command::new(alloc, name).arg(dialect)?.arg(value)
+    let plan = Arg::new(alloc, "PLAN").required(true);
+    Command::new(alloc, "station").arg(plan)
+}
+
+/// A command with two values.
+fn with_two<'a>(
+    alloc: Global,
+    name: &'a str,
+    first: &'a str,
+    second: &'a str,
+) -> Result<Command<'a>, AllocError>
+    ensures shape { IfOk result (λ made. shape_of made ≡ with_two name.entry.now first.entry.now second.entry.now) }
+    ensures local { IfOk result (λ made. (out-Command made).has_globals ≡ false) }
+{
+    let first = Arg::new(alloc, first).required(true);
+    let second = Arg::new(alloc, second).required(true);
+    Command::new(alloc, name).arg(first)?.arg(second)
 }

@@ -1,9 +1,10 @@
 //! A command, and how it is read.
 
-ghost use Rattle.std.specs.Prelude.{◌≡◌, ◌↔◌, IfOk, IfErr, option_map};
+ghost use Rattle.std.specs.Prelude.{◌≡◌, ◌↔◌, IfOk, IfErr, codes, option_map};
+ghost use Rattle.clap.specs.Walk.{first_of};
 ghost use Rattle.clap.specs.Words.{found_of, rows_of, subcommand_rows_of};
 ghost use Rattle.command_words.specs.Command.{HasWordsFault, IsCommand, dialect_named};
-ghost use Rattle.command_words.specs.Grammar.{given_of, told, words_of};
+ghost use Rattle.command_words.specs.Grammar.{files_of, given_of, told, words_of};
 
 use crate::grammar::matches_of;
 use crate::word_list::WordList;
@@ -15,8 +16,15 @@ use std::alloc::Global;
 /// A command.
 #[derive(Clone, Copy)]
 pub enum Command<'a> {
-    /// Serves a station.
-    Station,
+    /// Serves the posts of the plan in a file.
+    Station {
+        plan: &'a str,
+    },
+    /// Runs the posts of the plan in a file over the hearings of the trace in another.
+    Replay {
+        plan: &'a str,
+        trace: &'a str,
+    },
     /// Prints the text of a payload of a dialect.
     Decode {
         dialect: MessageDialect,
@@ -60,11 +68,28 @@ fn command_of<'a>(matches: &ArgMatches<'a>) -> Option<Command<'a>>
 {
     let (name, values) = matches.subcommand()?;
     match name {
-        "station" => Some(Command::Station),
+        "station" => plan(values).map(|plan| Command::Station { plan }),
+        "replay" => files(values).map(|(plan, trace)| Command::Replay { plan, trace }),
         "decode" => given(values).map(|(dialect, hex)| Command::Decode { dialect, hex }),
         "encode" => given(values).map(|(dialect, text)| Command::Encode { dialect, text }),
         _ => None,
     }
+}
+
+/// The plan of a command.
+fn plan<'a>(values: &ArgMatches<'a>) -> Option<&'a str>
+    ensures { option_map (λ word. word.now) result ≡ first_of (codes "PLAN") (rows_of (found_of values.now)) }
+{
+    values.get_str("PLAN")
+}
+
+/// The plan and the trace of a command.
+fn files<'a>(values: &ArgMatches<'a>) -> Option<(&'a str, &'a str)>
+    ensures { option_map (λ pair. (pair.0.now, pair.1.now)) result ≡ files_of (rows_of (found_of values.now)) }
+{
+    let plan = values.get_str("PLAN")?;
+    let trace = values.get_str("TRACE")?;
+    Some((plan, trace))
 }
 
 /// The dialect and the value of a command.

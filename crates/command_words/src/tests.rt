@@ -14,8 +14,19 @@ fn list_of(alloc: Global, texts: &[&str]) -> Result<WordList, AllocError> {
 #[test]
 fn commands_are_read(rt: HostRuntime) -> Result<(), Fail> {
     let alloc = rt.alloc();
-    let station = list_of(alloc, &["station"])?;
-    assert!(rt; matches!(&read_words(alloc, &station), Ok(Command::Station)));
+    for file in ["plan.toml", "", "station", "é"] {
+        let words = list_of(alloc, &["station", file])?;
+        let Ok(Command::Station { plan }) = read_words(alloc, &words) else {
+            return Err(Fail::from("no station"));
+        };
+        assert_eq!(rt; plan, file);
+    }
+    let words = list_of(alloc, &["replay", "plan.toml", "v2g.trace"])?;
+    let Ok(Command::Replay { plan, trace }) = read_words(alloc, &words) else {
+        return Err(Fail::from("no replay"));
+    };
+    assert_eq!(rt; plan, "plan.toml");
+    assert_eq!(rt; trace, "v2g.trace");
     let payloads = [
         ("app", MessageDialect::App, "80400040"),
         ("app", MessageDialect::App, ""),
@@ -50,7 +61,7 @@ fn commands_are_read(rt: HostRuntime) -> Result<(), Fail> {
 
 #[test]
 fn other_words_are_refused(rt: HostRuntime) -> Result<(), Fail> {
-    let table: [&[&str]; 37] = [
+    let table: [&[&str]; 44] = [
         // no word, and no command's name
         &[],
         &[""],
@@ -61,23 +72,27 @@ fn other_words_are_refused(rt: HostRuntime) -> Result<(), Fail> {
         &[" station"],
         &["v2g_charge"],
         &["v2g_charge", "station"],
+        &["v2g_charge", "station", "plan"],
         &["80", "app", "decode"],
         // there is no help
         &["help"],
         &["help", "decode"],
-        &["station", "help"],
+        &["station", "help", "plan"],
         &["-h"],
         &["--help"],
         &["--version"],
         // a value is missing
+        &["station"],
+        &["replay"],
+        &["replay", "plan"],
         &["decode"],
         &["decode", "app"],
         &["encode"],
         &["encode", "app"],
         // a word too many
-        &["station", "app"],
-        &["station", ""],
-        &["station", "station"],
+        &["station", "plan", ""],
+        &["station", "station", "station"],
+        &["replay", "plan", "trace", "trace"],
         &["decode", "app", "80", ""],
         &["encode", "app", "a", "b", "c"],
         // no dialect
@@ -89,7 +104,10 @@ fn other_words_are_refused(rt: HostRuntime) -> Result<(), Fail> {
         &["decode", "iso din", "80"],
         // `-` begins a word
         &["-", "app", "80"],
-        &["--", "station"],
+        &["--", "station", "plan"],
+        &["station", "-x"],
+        &["replay", "plan", "-"],
+        &["replay", "-plan", "trace"],
         &["decode", "-app", "80"],
         &["decode", "--", "app", "80"],
         &["decode", "app", "-80"],

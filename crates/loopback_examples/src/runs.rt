@@ -4,7 +4,7 @@ use crate::client::{Clients, Deed};
 use crate::free::{free_port, loopback};
 use crate::visited::Visited;
 use charge_run::{Status, WordList, run};
-use charge_world::{MemorySink, MemorySource};
+use charge_world::{MemorySink, MemorySource, NamedFile, Piece};
 use net_wire::NetWire;
 use std::alloc::Global;
 use std::io;
@@ -36,7 +36,7 @@ fn bytes_of(alloc: Global, hex: &str) -> Result<Vec<u8>, Fail> {
     Ok(hex::decode(alloc, hex)?)
 }
 
-/// Runs the word `station` over sockets at a port, until so many connections have ended, with these clients.
+/// Serves a station over sockets at a port, until so many connections have ended, with these clients.
 fn served<R: Net<Stream = TcpStream> + Clock + RandomSource>(
     rt: &R,
     alloc: Global,
@@ -48,8 +48,14 @@ fn served<R: Net<Stream = TcpStream> + Clock + RandomSource>(
     let mut wire = Visited::new(rt, NetWire::new(rt, alloc), clients, port, sessions);
     let mut out = MemorySink::make(alloc, Vec::new(alloc), 1024)?;
     let mut trace = MemorySink::make(alloc, Vec::new(alloc), 0)?;
-    let mut files = MemorySource::of(Vec::new(alloc), Vec::new(alloc));
-    let words = WordList::of(vec![in alloc; String::from_str(alloc, "station")?]?);
+    let plan = format!(in alloc; "sessions = {sessions}\n[[post]]\ntcp = {port}\n")?;
+    let file = NamedFile {
+        name: Piece::of(b"plan".to_vec(alloc)?),
+        bytes: Piece::of(plan.into_bytes()),
+    };
+    let mut files = MemorySource::of(vec![in alloc; file]?, Vec::new(alloc));
+    let station = String::from_str(alloc, "station")?;
+    let words = WordList::of(vec![in alloc; station, String::from_str(alloc, "plan")?]?);
     let status = run(alloc, &words, &mut files, &mut out, &mut trace, &mut wire);
     let clients = &wire.clients;
     Ok(Left {

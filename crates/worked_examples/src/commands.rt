@@ -26,11 +26,14 @@ pub(crate) fn said(
 
 #[test]
 fn words_that_are_no_command(rt: HostRuntime) -> Result<(), Fail> {
-    let table: [&[&str]; 13] = [
+    let table: [&[&str]; 16] = [
         &[],
         &[""],
         &["Station"],
-        &["station", "app"],
+        &["station"],
+        &["station", "-x"],
+        &["station", "plan", "plan"],
+        &["replay", "plan", "trace"],
         &["help"],
         &["--help"],
         &["decode"],

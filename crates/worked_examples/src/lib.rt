@@ -11,6 +11,8 @@ mod fakes;
 #[cfg(test)]
 mod negotiation;
 #[cfg(test)]
+mod plans;
+#[cfg(test)]
 mod scripts;
 #[cfg(test)]
 mod station;

@@ -3,7 +3,7 @@
 use crate::events::came;
 use charge_run::{Status, WordList, run};
 use charge_world::{
-    Entry, Heard, MemorySink, MemorySource, MemoryWire, NoMemory, Piece, Scripted, What, Wire,
+    Entry, Heard, MemorySink, MemorySource, MemoryWire, NamedFile, NoMemory, Piece, Scripted, What, Wire,
 };
 use std::alloc::Global;
 use std::test::Fail;
@@ -40,9 +40,20 @@ pub fn brought(alloc: Global, hex: &str) -> Result<Vec<Scripted>, Fail> {
     Ok(vec![in alloc; came(alloc), piece(alloc, hex)?]?)
 }
 
-/// The words of the command that serves a station.
+/// The plan of a station with one post, which offers both dialects.
+pub const PLAN: &str = "sessions = 10\n[[post]]\ntcp = 15120\n";
+
+/// The words of the command that serves a station by the plan in the file `plan`.
 pub fn station_words(alloc: Global) -> Result<Vec<String>, NoMemory> {
-    Ok(vec![in alloc; String::from_str(alloc, "station")?]?)
+    Ok(vec![in alloc; String::from_str(alloc, "station")?, String::from_str(alloc, "plan")?]?)
+}
+
+/// A file of that name.
+pub fn named(alloc: Global, name: &str, text: &str) -> Result<NamedFile, NoMemory> {
+    Ok(NamedFile {
+        name: Piece::of(name.as_bytes().to_vec(alloc)?),
+        bytes: Piece::of(text.as_bytes().to_vec(alloc)?),
+    })
 }
 
 /// Serves the script, whose calls of these numbers fail, with an output whose writes of these numbers fail.
@@ -62,7 +73,8 @@ pub fn station(
     })
 }
 
-/// Runs the words over the wire, with an output whose writes of these numbers fail: the status, and the output.
+/// Runs the words over the wire, with the plan in the file `plan` and an output whose writes of these numbers fail: the status, and the
+/// output.
 pub fn told<W: Wire>(
     alloc: Global,
     words: Vec<String>,
@@ -71,7 +83,7 @@ pub fn told<W: Wire>(
 ) -> Result<(Status, String), Fail> {
     let mut out = MemorySink::make(alloc, unwritten.to_vec(alloc)?, 1024)?;
     let mut trace = MemorySink::make(alloc, Vec::new(alloc), 0)?;
-    let mut files = MemorySource::of(Vec::new(alloc), Vec::new(alloc));
+    let mut files = MemorySource::of(vec![in alloc; named(alloc, "plan", PLAN)?]?, Vec::new(alloc));
     let words = WordList::of(words);
     let status = run(alloc, &words, &mut files, &mut out, &mut trace, wire);
     Ok((

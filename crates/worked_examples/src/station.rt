@@ -1,4 +1,4 @@
-//! A station of this stage: one negotiation.
+//! A station that negotiates.
 
 use crate::events::{came, event};
 use crate::scripts::{REQUEST, brought, piece, station, station_words, told};
@@ -45,11 +45,11 @@ fn one_byte_per_hearing_with_a_tick_between(rt: HostRuntime) -> Result<(), Fail>
 fn other_scripts(rt: HostRuntime) -> Result<(), Fail> {
     // the bytes in one piece, and what is done
     let table = [
-        // the same request twice: one reply, and then a second payload isn't built
+        // the same request twice: one reply, and the second is no message of DIN
         (
             "01fe8001000000228000dbab9371d3234b71d1b981899189d191818991d26b9b3a232b30020000040040\
 01fe8001000000228000dbab9371d3234b71d1b981899189d191818991d26b9b3a232b30020000040040",
-            " sent 1 01fe80010000000480400040 true ended 1 21",
+            " sent 1 01fe80010000000480400040 true ended 1 2",
         ),
         // DIN with Priority 2, then ISO with Priority 1
         (

@@ -1,6 +1,5 @@
 use Rattle.std.proofs.Common.{refl}
 use Rattle.charge_run.proofs.Answered.{only_refused, only_unscanned, same_decoded, same_encoded}
-use Rattle.charge_run.proofs.Unbegun.{nothing, unbegun}
 use Rattle.charge_run.proofs.WordLists.{one_value}
 use Rattle.charge_run.proofs.top.run.Goals as goal
 
@@ -23,6 +22,3 @@ returns-in-Ok-Encode-clause-encode g c dialect text is =
 pub returns-in-Ok-Encode-clause-encode_refused : goal.returns-in-Ok-Encode-clause-encode_refused
 returns-in-Ok-Encode-clause-encode_refused g c dialect text place is fault =
     only_unscanned dialect text place c.encode.result _ _ _ _ (returns-in-Ok-Encode-clause-encode g c dialect text is) fault
-
-pub returns-in-Err-Memory-clause-lines : goal.returns-in-Err-Memory-clause-lines
-returns-in-Err-Memory-clause-lines g c = λ station. (nothing, unbegun (g.W.Wire.past c.args.wire.now), refl)

@@ -7,10 +7,10 @@ use arrayvec::ArrayVec;
 use itoa::Buffer;
 
 /// A line of text, without its own memory.
-pub(crate) type Line = ArrayVec<u8, 128>;
+pub type Line = ArrayVec<u8, 128>;
 
 /// Puts a text behind a line.
-pub(crate) fn add(line: &mut Line, text: &[u8])
+pub fn add(line: &mut Line, text: &[u8])
     requires { array_vec_len line.old + length text.now ≤ 128 }
     ensures items { line.new.items ≡ line.old.items ++ text.now }
     ensures len { array_vec_len line.new ≡ array_vec_len line.old + length text.now }
@@ -19,7 +19,7 @@ pub(crate) fn add(line: &mut Line, text: &[u8])
 }
 
 /// Puts a number behind a line, in decimal digits.
-pub(crate) fn add_number(line: &mut Line, n: u64)
+pub fn add_number(line: &mut Line, n: u64)
     requires { array_vec_len line.old + 20 ≤ 128 }
     ensures items { line.new.items ≡ line.old.items ++ decimal n }
     ensures len { array_vec_len line.new ≤ array_vec_len line.old + 20 }

@@ -6,6 +6,10 @@ use Rattle.charge_world.specs.Outside.{Appends, AppendsSome}
 abbrev pub words_line : List ℕ
 words_line = codes "words\n"
 
+-- a plan is refused, at a key, or `toml`
+abbrev pub plan_line : List ℕ → List ℕ
+plan_line key = codes "plan " ++ key ++ codes "\n"
+
 -- an input is refused, at a character or at a bit
 unfoldable pub input_line : ℕ → List ℕ
 input_line place = codes "input " ++ decimal place ++ codes "\n"
@@ -13,6 +17,10 @@ input_line place = codes "input " ++ decimal place ++ codes "\n"
 -- the wire could not be started, or a hearing failed
 abbrev pub wire_line : List ℕ
 wire_line = codes "wire\n"
+
+-- a file could not be read
+abbrev pub source_line : List ℕ
+source_line = codes "source\n"
 
 -- the last turn was made
 abbrev pub turns_line : List ℕ

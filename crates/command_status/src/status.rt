@@ -17,7 +17,7 @@ pub enum Status {
     Input,
     /// The wire could not be started, or a hearing failed.
     WireFault,
-    /// A report line could not be written.
+    /// A line of the report, or of the trace, could not be written.
     SinkFault,
     /// A file could not be read.
     SourceFault,
@@ -26,7 +26,7 @@ pub enum Status {
 }
 
 impl Status {
-    ghost use Rattle.charge_run.specs.Runs.{number_of};
+    ghost use Rattle.command_status.specs.Statuses.{number_of};
 
     /// Its number.
     pub fn number(&self) -> u8

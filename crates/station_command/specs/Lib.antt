@@ -1,0 +1,4 @@
+pub mod Ports
+pub mod Lines
+pub mod Served
+pub mod Refused

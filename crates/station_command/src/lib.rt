@@ -1,0 +1,9 @@
+//! The command that serves a station by the plan in a file (own), with codecs of any kind.
+#![tactic(auto)]
+
+mod command;
+mod lines;
+mod ports;
+mod serving;
+
+pub use command::station;
