@@ -7,9 +7,9 @@ ghost use Rattle.din_words.specs.Spellable.{CanSpell};
 ghost use Rattle.written_sizes.specs.Entries.{HasEntries};
 ghost use Rattle.codec_rules.specs.Din.{Reads, Encodes};
 
-use exi_events::Table;
 use din_codec::{DinTables, read_din, write_din};
 use din_words::{of_reply, to_word};
+use exi_events::Table;
 use session_words::{Reply, Word};
 
 /// The word that a payload spells; none where it spells no message. The table is emptied.
@@ -26,12 +26,7 @@ pub(crate) fn read(tables: &DinTables, payload: &[u8], table: &mut Table) -> Opt
 }
 
 /// Writes the encoding of a reply to the front of a room, and answers its number of bytes. The table is emptied.
-pub(crate) fn write(
-    tables: &DinTables,
-    reply: &Reply,
-    room: &mut [u8],
-    table: &mut Table,
-) -> u32
+pub(crate) fn write(tables: &DinTables, reply: &Reply, room: &mut [u8], table: &mut Table) -> u32
     requires room { length room.old ≡ 1024 }
     requires reply { CanSpell (words.Reply reply.now) }
     requires brief { HasEntries 1 reply.now.tell }

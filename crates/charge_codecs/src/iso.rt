@@ -26,12 +26,7 @@ pub(crate) fn read(tables: &IsoTables, payload: &[u8], table: &mut Table) -> Opt
 }
 
 /// Writes the encoding of a reply to the front of a room, and answers its number of bytes. The table is emptied.
-pub(crate) fn write(
-    tables: &IsoTables,
-    reply: &Reply,
-    room: &mut [u8],
-    table: &mut Table,
-) -> u32
+pub(crate) fn write(tables: &IsoTables, reply: &Reply, room: &mut [u8], table: &mut Table) -> u32
     requires room { length room.old ≡ 1024 }
     requires reply { CanSpell (words.Reply reply.now) }
     requires brief { HasEntries 1 reply.now.tell }
