@@ -9,6 +9,7 @@ use Rattle.site_acts.specs.Telling.{Carries, CarriesText}
 use Rattle.site_posts.specs.declared.report.PostReport.{PostReport}
 use Rattle.site_turns.specs.declared.ending.Ended.{Ended}
 use Rattle.site_turns.specs.Ending.{RanAs, EndedAs, AwaitedAs, TracedAs}
+use Rattle.lawful_sites.specs.Lawful.{IsLawful}
 use Rattle.command_status.specs.declared.status.Status.{Status}
 use Rattle.command_status.specs.declared.status.Status.TheVariants as status
 use Rattle.command_status.specs.FaultLines.{Tells, wire_line}
@@ -38,11 +39,13 @@ pub record IsUnstarted (s : Status) (before after : WireTold) (trace_before trac
   pub nothing_written : trace ≡ trace_before
   pub line : Tells out_before.taken out.taken out_before.faults out.faults wire_line
 
--- The site was served. Where the wire tells its past, and was lent with an empty one, that is a run of the plan, which ended so; the trace
--- is its text, where it was empty; each `until` is that of the past before it, where there was none; and the lines count it, each a post.
+-- The site was served. Where the wire tells its past, and was lent with an empty one, that is a run of the plan, which ended so, and it is
+-- lawful: safe, within the limit, and silent without a session; the trace is its text, where it was empty; each `until` is that of the past
+-- before it, where there was none; and the lines count it, each a post.
 pub record WasServed (c : Codecs) (plan : SitePlan) (s : Status) (before after : WireTold) (trace_before trace : Option (List ℕ)) (out_before out : SinkTold) : Type 0 where
   pub how : Ended
   pub run : Carries before.past after.past (λ past. past ≡ []) (RanAs c plan how)
+  pub lawful : Carries before.past after.past (λ past. past ≡ []) (IsLawful c plan)
   pub ended : Carries before.past after.past (λ past. past ≡ []) (EndedAs plan.turns how)
   pub traced : CarriesText before.past after.past trace_before trace (λ past text. (past ≡ []) × (text ≡ [])) (TracedAs how)
   pub awaited : Carries before.past after.past (λ past. (past ≡ []) × (before.untils ≡ [])) (AwaitedAs c plan after.untils)

@@ -14,7 +14,7 @@ use command_status::{Status, tell_fault, tell_plan};
 use plan_files::{PlanFileFault, site_plan_in};
 use site_plan::PlanFault;
 use std::alloc::Global;
-use word_codec::Codec;
+use word_codec::LawfulCodec;
 
 /// Serves a station by the plan in the file of that name, with these codecs, and prints a line for each post.
 ///
@@ -22,7 +22,7 @@ use word_codec::Codec;
 /// `SinkFault` takes the place of these where a line of the report couldn't be written, and stands where the trace's couldn't. Before the
 /// wire is started, `SourceFault` where the file can't be read, `Plan` where it is no plan, and `NoMemory`. Each fault but want of memory
 /// and those of sinks has its line, whose failure changes nothing.
-pub fn station<C: Codec + Drop, F: Source, K: Sink, J: Sink, W: Wire>(
+pub fn station<C: LawfulCodec + Drop, F: Source, K: Sink, J: Sink, W: Wire>(
     alloc: Global,
     codec: C,
     name: &str,

@@ -10,13 +10,14 @@ use crate::lines::conclude;
 use crate::ports::ports_of;
 use charge_world::{Sink, Wire};
 use command_status::{Status, tell_fault};
+use lawful_sites::serve;
 use session_words::SitePlan;
-use site_core::{Site, serve};
+use site_core::Site;
 use std::alloc::Global;
-use word_codec::Codec;
+use word_codec::LawfulCodec;
 
 /// Serves a site that was just made of a plan, and prints its reports.
-fn serve_site<C: Codec + Drop, K: Sink, J: Sink, W: Wire>(
+fn serve_site<C: LawfulCodec + Drop, K: Sink, J: Sink, W: Wire>(
     site: &mut Site<C>,
     plan: &SitePlan,
     out: &mut K,
@@ -41,7 +42,7 @@ fn serve_site<C: Codec + Drop, K: Sink, J: Sink, W: Wire>(
 }
 
 /// Makes a site of a plan, with these codecs, and serves it. Want of memory leaves all as it was.
-pub(crate) fn serve_plan<C: Codec + Drop, K: Sink, J: Sink, W: Wire>(
+pub(crate) fn serve_plan<C: LawfulCodec + Drop, K: Sink, J: Sink, W: Wire>(
     alloc: Global,
     codec: C,
     plan: &SitePlan,

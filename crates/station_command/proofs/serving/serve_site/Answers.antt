@@ -18,6 +18,7 @@ returns-clause-served g c =
       served = inr (record {
         how = c.serve-ended.result;
         run = started_run _ _ _ _ start.past (s.run plan c.requires.made);
+        lawful = started_run _ _ _ _ start.past (s.lawful plan c.requires.made);
         ended = started_run _ _ _ _ start.past
             (subst (λ (turns : ℕ). Carries (g.W.Wire.past c.start.new.self) (g.W.Wire.past c.serve-ended.new.wire) IsNew (EndedAs turns c.serve-ended.result))
             c.requires.made.turns_is s.ended);
