@@ -9,6 +9,7 @@ use std::alloc::Global;
 
 /// Room for what a wire keeps: entries, and the bytes of them.
 const ENTRIES: u32 = 4_000;
+
 const BYTES: u32 = 1_000_000;
 
 /// What a run left: its trace, its output, and its status.
@@ -109,8 +110,9 @@ fn compare_hearing(alloc: Global, report: &mut String, trace: &str, done: &Done)
             hearing,
             lines: wanted,
         } = done;
-        report
-            .push_str(format!(in alloc; "hearing {hearing}\n{lines}in place of\n{wanted}")?.as_str())?;
+        report.push_str(format!(in alloc;
+            "hearing {hearing}\n{lines}in place of\n{wanted}"
+        )?.as_str())?;
     }
     Ok(())
 }
