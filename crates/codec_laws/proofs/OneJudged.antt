@@ -13,7 +13,7 @@ use Rattle.app_protocol.specs.Negotiation as rule
 use Rattle.app_protocol.proofs.Decided.{apart}
 use Rattle.app_protocol.proofs.Encodings.{one_encoding}
 use Rattle.post_spec.specs.Codecs.{Judged, Negotiated, Asked, WrongSide, Refused}
-use Rattle.codec_rules.specs.Negotiating.{IsNegotiated, IsResponse, IsNone, Negotiates}
+use Rattle.codec_rules.specs.Negotiating.{IsNegotiated, IsResponse, Negotiates}
 use Rattle.codec_laws.proofs.OneAnswer.{one_answer}
 
 same_message : (payload : List ℕ) (m n : Message) → IsApp m payload → IsApp n payload → m ≡ n

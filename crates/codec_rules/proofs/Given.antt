@@ -20,7 +20,6 @@ use Rattle.written_sizes.specs.Entries.{HasEntries}
 use Rattle.written_sizes.proofs.Entries.{replies_are_brief, waiting_is_brief}
 use Rattle.word_codec.specs.Replies.{IsPlan, AreFacts, IsAnswer, IsGiven}
 use Rattle.codec_rules.specs.Codecs.{Reads, CanSpell}
-use Rattle.codec_rules.specs.Din as din
 use Rattle.codec_rules.proofs.Spoken.{spoken_in}
 
 -- ---- in ISO

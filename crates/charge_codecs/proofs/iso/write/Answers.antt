@@ -1,4 +1,4 @@
-use Rattle.std.proofs.Common.{ℕ, ◌<◌, rules, arith, subst}
+use Rattle.std.proofs.Common.{ℕ, rules, arith, subst}
 use Rattle.iso_codec.specs.Documents.{PassesBytes}
 use Rattle.charge_codecs.proofs.Bytes.{front_bytes}
 use Rattle.charge_codecs.proofs.Results.{is_ok}

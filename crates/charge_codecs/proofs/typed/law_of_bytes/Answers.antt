@@ -1,4 +1,4 @@
-use Rattle.std.proofs.Common.{ℕ, ◌<◌, arith, get_or}
+use Rattle.std.proofs.Common.{◌<◌, arith}
 use Rattle.std.proofs.lemmas.List.Elements.{All-from_get_or}
 use Rattle.charge_codecs.proofs.Bytes.{all_bytes}
 use Rattle.charge_codecs.proofs.typed.law_of_bytes.Goals as goal
