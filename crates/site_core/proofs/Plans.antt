@@ -1,11 +1,10 @@
 -- Posts that are made of plans, one after another.
-use Rattle.std.proofs.Common.{◌≡◌, ◌+◌, ◌<◌, ◌≤◌, ℕ, zero, suc, List, [], ◌∷◌, ◌++◌, length, map, take, get_or, refl, sym, ap, subst, ◌∙◌, arith}
+use Rattle.std.proofs.Common.{◌≡◌, ◌+◌, ◌<◌, ℕ, zero, suc, List, [], ◌∷◌, ◌++◌, length, map, take, get_or, sym, ap, subst, ◌∙◌, arith}
 use Rattle.std.proofs.Math.Seq.{take-length}
 use Rattle.std.proofs.lemmas.List.{map-append, take_more}
 use Rattle.std.specs.List.{All}
 use Rattle.std.proofs.lemmas.List.Elements.{All-append}
 use Rattle.session_words.specs.declared.plan.PostPlan.{PostPlan}
-use Rattle.station_spec.specs.Sharing.{Post}
 use Rattle.station_spec.specs.Runs.{unheard}
 use Rattle.word_codec.specs.Replies.{IsPlan}
 use Rattle.site_posts.specs.declared.place.Place.{Place}

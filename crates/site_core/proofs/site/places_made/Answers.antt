@@ -1,4 +1,4 @@
-use Rattle.std.proofs.Common.{◌≡◌, ◌<◌, ℕ, List, length, get_or, refl, sym, ap, subst, ◌∙◌, arith}
+use Rattle.std.proofs.Common.{◌≡◌, ◌<◌, List, length, get_or, refl, ap, subst, arith}
 use Rattle.session_words.specs.declared.plan.PostPlan.{PostPlan}
 use Rattle.site_core.proofs.Plans.{made_more, made_all, plan_more}
 use Rattle.site_core.proofs.site.places_made.Goals as goal
