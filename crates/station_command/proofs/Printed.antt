@@ -76,7 +76,8 @@ all_lines places n before after whole h =
 pub counts_from : (places : List Place) (k : ℕ) (past : List Entry) → ((i : ℕ) → i < length places → Counts (k + i) (at places i).report past)
     → CountFrom k (reports_of places) past
 counts_from [] k past counts = tt
-counts_from (place ∷ places) k past counts =
-    (subst (λ (n : ℕ). Counts n place.report past) (omega arith) (counts 0 (omega arith)),
-     counts_from places (suc k) past
-     (λ i within. subst (λ (n : ℕ). Counts n (at places i).report past) (omega arith) (counts (suc i) (omega (arith, within)))))
+counts_from (place ∷ places) k past counts = (
+  subst (λ (n : ℕ). Counts n place.report past) (omega arith) (counts 0 (omega arith)),
+  counts_from places (suc k) past
+      (λ i within. subst (λ (n : ℕ). Counts n (at places i).report past) (omega arith) (counts (suc i) (omega (arith, within)))),
+)

@@ -17,7 +17,10 @@ struct Left {
 /// Serves a station by this plan, from a source whose calls of these numbers fail.
 fn served(alloc: Global, plan: &str, failing: &[u32]) -> Result<Left, Fail> {
     let mut wire = MemoryWire::make(alloc, Vec::new(alloc), Vec::new(alloc), 16, 64)?;
-    let files = vec![in alloc; named(alloc, "first", "x")?, named(alloc, "plan.toml", plan)?]?;
+    let files = vec![in alloc;
+        named(alloc, "first", "x")?,
+        named(alloc, "plan.toml", plan)?,
+    ]?;
     let mut files = MemorySource::of(files, failing.to_vec(alloc)?);
     let mut out = MemorySink::make(alloc, Vec::new(alloc), 1024)?;
     let mut trace = MemorySink::make(alloc, Vec::new(alloc), 1024)?;
@@ -36,10 +39,16 @@ fn plans_are_refused_at_their_first_key(rt: HostRuntime) -> Result<(), Fail> {
     let table = [
         ("", "plan post\n"),
         ("[[post]]\n", "plan post.1.tcp\n"),
-        ("[[post]]\ntcp = 15120\nmax_watts = 0\n", "plan post.1.max_watts\n"),
+        (
+            "[[post]]\ntcp = 15120\nmax_watts = 0\n",
+            "plan post.1.max_watts\n",
+        ),
         ("colour = 1\n[[post]]\ntcp = 15120\n", "plan colour\n"),
         ("limit = 0\n[[post]]\n", "plan limit\n"),
-        ("[[post]]\ntcp = 1\n[[post]]\ntcp = 0\n", "plan post.2.tcp\n"),
+        (
+            "[[post]]\ntcp = 1\n[[post]]\ntcp = 0\n",
+            "plan post.2.tcp\n",
+        ),
         ("post = 1\n", "plan post\n"),
         ("[[post]", "plan toml\n"),
     ];

@@ -3,7 +3,8 @@
 use crate::events::came;
 use charge_run::{Status, WordList, run};
 use charge_world::{
-    Entry, Heard, MemorySink, MemorySource, MemoryWire, NamedFile, NoMemory, Piece, Scripted, What, Wire,
+    Entry, Heard, MemorySink, MemorySource, MemoryWire, NamedFile, NoMemory, Piece, Scripted, What,
+    Wire,
 };
 use std::alloc::Global;
 use std::test::Fail;
@@ -45,7 +46,10 @@ pub const PLAN: &str = "sessions = 10\n[[post]]\ntcp = 15120\n";
 
 /// The words of the command that serves a station by the plan in the file `plan`.
 pub fn station_words(alloc: Global) -> Result<Vec<String>, NoMemory> {
-    Ok(vec![in alloc; String::from_str(alloc, "station")?, String::from_str(alloc, "plan")?]?)
+    Ok(vec![in alloc;
+        String::from_str(alloc, "station")?,
+        String::from_str(alloc, "plan")?,
+    ]?)
 }
 
 /// A file of that name.
@@ -73,17 +77,31 @@ pub fn station(
     })
 }
 
-/// Runs the words over the wire, with the plan in the file `plan` and an output whose writes of these numbers fail: the status, and the
-/// output.
+/// Runs the words over the wire, with the stored plan in the file `plan` and an output whose writes of these numbers fail: the status, and
+/// the output.
 pub fn told<W: Wire>(
     alloc: Global,
     words: Vec<String>,
     unwritten: &[u32],
     wire: &mut W,
 ) -> Result<(Status, String), Fail> {
+    told_by(alloc, PLAN, words, unwritten, wire)
+}
+
+/// The same with this text in the file `plan`.
+pub fn told_by<W: Wire>(
+    alloc: Global,
+    plan: &str,
+    words: Vec<String>,
+    unwritten: &[u32],
+    wire: &mut W,
+) -> Result<(Status, String), Fail> {
     let mut out = MemorySink::make(alloc, unwritten.to_vec(alloc)?, 1024)?;
     let mut trace = MemorySink::make(alloc, Vec::new(alloc), 0)?;
-    let mut files = MemorySource::of(vec![in alloc; named(alloc, "plan", PLAN)?]?, Vec::new(alloc));
+    let mut files = MemorySource::of(
+        vec![in alloc; named(alloc, "plan", plan)?]?,
+        Vec::new(alloc),
+    );
     let words = WordList::of(words);
     let status = run(alloc, &words, &mut files, &mut out, &mut trace, wire);
     Ok((

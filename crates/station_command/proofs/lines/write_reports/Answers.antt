@@ -14,7 +14,7 @@ returns-in_err-write-clause-failed g c =
     let number : i + 1 - 1 ≡ i = omega arith in
     let report : c.report.result ≡ (at places i).report = c.report.ensures ∙ ap (λ (n : ℕ). (at places n).report) number in
     let line : c.as_slice.result.now ≡ report_line (i + 1) (at places i).report =
-        c.as_slice.ensures.value ∙ c.line_of.ensures ∙ ap (λ (r : PostReport). report_line (i + 1) r) report in
+    c.as_slice.ensures.value ∙ c.line_of.ensures ∙ ap (λ (r : PostReport). report_line (i + 1) r) report in
     let within : i < length places = omega arith in
     on_err c.from_residual.result _ (one_cut places i _ _ _ _ within line c.loop-place.invariant.written c.in_err-write.ensures.failed)
 
@@ -25,7 +25,7 @@ loop-place-preserved g c =
     let number : i + 1 - 1 ≡ i = omega arith in
     let report : c.report.result ≡ (at places i).report = c.report.ensures ∙ ap (λ (n : ℕ). (at places n).report) number in
     let line : c.as_slice.result.now ≡ report_line (i + 1) (at places i).report =
-        c.as_slice.ensures.value ∙ c.line_of.ensures ∙ ap (λ (r : PostReport). report_line (i + 1) r) report in
+    c.as_slice.ensures.value ∙ c.line_of.ensures ∙ ap (λ (r : PostReport). report_line (i + 1) r) report in
     let within : i < length places = omega arith in
     record {
       written = one_more places i _ _ _ _ within line c.loop-place.invariant.written c.in_ok-write.ensures.ok;
