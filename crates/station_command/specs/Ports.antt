@@ -1,5 +1,5 @@
 -- Own: where a station listens, by its plan.
-use Rattle.std.specs.Prelude.{List, map}
+use Rattle.std.specs.Prelude.{map}
 use Rattle.charge_world.specs.declared.ports.PortPair.{PortPair}
 use Rattle.charge_world.specs.declared.ports.Ports.{Ports}
 use Rattle.charge_world.specs.declared.ports.Ports.TheVariants.{Posts}

@@ -77,10 +77,21 @@ pub fn station(
     })
 }
 
-/// Runs the words over the wire, with the plan in the file `plan` and an output whose writes of these numbers fail: the status, and the
-/// output.
+/// Runs the words over the wire, with the stored plan in the file `plan` and an output whose writes of these numbers fail: the status, and
+/// the output.
 pub fn told<W: Wire>(
     alloc: Global,
+    words: Vec<String>,
+    unwritten: &[u32],
+    wire: &mut W,
+) -> Result<(Status, String), Fail> {
+    told_by(alloc, PLAN, words, unwritten, wire)
+}
+
+/// The same with this text in the file `plan`.
+pub fn told_by<W: Wire>(
+    alloc: Global,
+    plan: &str,
     words: Vec<String>,
     unwritten: &[u32],
     wire: &mut W,
@@ -88,7 +99,7 @@ pub fn told<W: Wire>(
     let mut out = MemorySink::make(alloc, unwritten.to_vec(alloc)?, 1024)?;
     let mut trace = MemorySink::make(alloc, Vec::new(alloc), 0)?;
     let mut files = MemorySource::of(
-        vec![in alloc; named(alloc, "plan", PLAN)?]?,
+        vec![in alloc; named(alloc, "plan", plan)?]?,
         Vec::new(alloc),
     );
     let words = WordList::of(words);

@@ -1,7 +1,7 @@
 //! A station that negotiates.
 
 use crate::events::{came, event};
-use crate::scripts::{REQUEST, brought, piece, station, station_words, told};
+use crate::scripts::{REQUEST, brought, piece, station, station_words, told_by};
 use crate::ticking::Ticking;
 use charge_run::Status;
 use charge_world::What;
@@ -124,9 +124,10 @@ fn each_failing_call(rt: HostRuntime) -> Result<(), Fail> {
 fn a_station_stops_behind_its_last_turn(rt: HostRuntime) -> Result<(), Fail> {
     let words = station_words(rt.alloc())?;
     let mut wire = Ticking::new();
-    let (status, out) = told(rt.alloc(), words, &[], &mut wire)?;
+    let plan = "turns = 1000\n[[post]]\ntcp = 15120\n";
+    let (status, out) = told_by(rt.alloc(), plan, words, &[], &mut wire)?;
     assert_eq!(rt; status, Status::TurnsSpent);
-    assert_eq!(rt; wire.hearings(), 1_000_000);
+    assert_eq!(rt; wire.hearings(), 1000);
     assert_eq!(rt;
         out.as_str(),
         "post 1 sessions 0 closed 0 causes 00000000\nturns\n"
