@@ -1,0 +1,61 @@
+//! A site whose codecs read back what they write is served lawfully: safe, within its limit, and silent without a session.
+#![tactic(auto)]
+
+ghost use Rattle.std.specs.Prelude.{◌≡◌, ◌≤◌, ◌<◌, List, [], vec_len};
+ghost use Rattle.charge_world.specs.declared.entry.Entry.{Entry};
+ghost use Rattle.session_words.specs.declared.plan.SitePlan.{SitePlan};
+ghost use Rattle.post_spec.specs.Codecs.{codecs};
+ghost use Rattle.station_spec.specs.Runs.{IsCutRun};
+ghost use Rattle.site_acts.specs.Telling.{Carries, CarriesText};
+ghost use Rattle.site_turns.specs.Ending.{AreMade, AreMadeOf, EndedAs, RanAs, TracedAs, AwaitedAs, AreCounts, AreFaults};
+ghost use Rattle.lawful_sites.specs.Lawful.{IsLawful};
+
+use charge_world::{Sink, Wire};
+use failed_replies::no_failed_reply_while_live;
+use mandated_runs::{ends_as_mandated, holds_as_mandated};
+use opened_causes::opens_at_causes;
+use safe_runs::{closes_as_mandated, ends_open, opens_again};
+use silent_runs::sends_in_sessions;
+use site_core::{Ended, Site};
+use spelled_watts::spelled_within_limit;
+use word_codec::LawfulCodec;
+
+/// Every run of a site, whole or cut, is lawful.
+pub fn law_of_sites<C: LawfulCodec>()
+    ensures { (plan : SitePlan) (past : List Entry) → IsCutRun (codecs C.negotiates C.reads C.encodes) plan past → IsLawful (codecs C.negotiates C.reads C.encodes) plan past }
+{
+    closes_as_mandated::<C>();
+    opens_again::<C>();
+    ends_open::<C>();
+    no_failed_reply_while_live::<C>();
+    ends_as_mandated::<C>();
+    opens_at_causes::<C>();
+    sends_in_sessions::<C>();
+    spelled_within_limit::<C>();
+}
+
+/// Serves as `serve` of `site_core` does. Where the wire tells its past, that is lawful, however serving ended.
+pub fn serve<C: LawfulCodec, W: Wire, J: Sink>(
+    wire: &mut W,
+    trace: &mut J,
+    site: &mut Site<C>,
+) -> Ended
+    requires made { AreMade site.old.places.items site.old.limit site.old.turns }
+    requires posts { W.posts wire.old ≡ vec_len site.old.places }
+    ensures run { (plan : SitePlan) → AreMadeOf plan site.old.places.items site.old.limit site.old.turns → Carries (W.past wire.old) (W.past wire.new) (λ past. past ≡ []) (RanAs (codecs C.negotiates C.reads C.encodes) plan result) }
+    ensures lawful { (plan : SitePlan) → AreMadeOf plan site.old.places.items site.old.limit site.old.turns → Carries (W.past wire.old) (W.past wire.new) (λ past. past ≡ []) (IsLawful (codecs C.negotiates C.reads C.encodes) plan) }
+    ensures ended { Carries (W.past wire.old) (W.past wire.new) (λ past. past ≡ []) (EndedAs site.old.turns result) }
+    ensures trace { CarriesText (W.past wire.old) (W.past wire.new) (J.taken trace.old) (J.taken trace.new) (λ past text. (past ≡ []) × (text ≡ [])) (TracedAs result) }
+    ensures untils { (plan : SitePlan) → AreMadeOf plan site.old.places.items site.old.limit site.old.turns → Carries (W.past wire.old) (W.past wire.new)
+        (λ past. (past ≡ []) × (W.untils wire.old ≡ [])) (AwaitedAs (codecs C.negotiates C.reads C.encodes) plan (W.untils wire.new)) }
+    ensures reports { Carries (W.past wire.old) (W.past wire.new) (λ past. past ≡ []) (AreCounts site.new.places.items) }
+    ensures count { vec_len site.new.places ≡ vec_len site.old.places }
+    ensures started { W.started wire.new ≡ W.started wire.old }
+    ensures posts { W.posts wire.new ≡ W.posts wire.old }
+    ensures faults { W.faults wire.old ≤ W.faults wire.new }
+    ensures lost { result ≡ Ended.Lost → W.faults wire.old < W.faults wire.new }
+    ensures trace_fault { AreFaults (J.faults trace.old) (J.faults trace.new) result }
+{
+    law_of_sites::<C>();
+    site_core::serve(wire, trace, site)
+}

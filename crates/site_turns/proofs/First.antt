@@ -1,0 +1,86 @@
+-- Before anything was heard.
+use Rattle.std.proofs.Common.{◌≡◌, ◌<◌, ◌≤◌, ℕ, zero, suc, ◌+◌, false, List, [], ◌∷◌, ◌++◌, length, map, Option, Some, None, refl, sym, ap, subst, ◌∙◌, arith, inl, inr}
+use Rattle.std.specs.Prelude.{IsSome}
+use Rattle.std.specs.List.{All}
+use Rattle.std.proofs.lemmas.List.{append-nil, length-map}
+use Rattle.charge_world.specs.declared.entry.Entry.{Entry}
+use Rattle.charge_world.specs.declared.offer.Dialect.{Dialect}
+use Rattle.charge_world.specs.Outside.{Appends, AppendsSome}
+use Rattle.session_words.specs.declared.plan.SitePlan.{SitePlan}
+use Rattle.session_words.specs.declared.word.Word.{Word}
+use Rattle.trace_text.specs.Pasts.{first_line_2, hearing_number, trace_text}
+use Rattle.post_spec.specs.Codecs.{Codecs}
+use Rattle.station_laws.specs.PostRuns.{RunsArePostRuns}
+use Rattle.station_spec.specs.Runs.{unheard, IsCutRun}
+use Rattle.word_codec.specs.Replies.{IsPlan}
+use Rattle.site_posts.specs.declared.place.Place.{Place}
+use Rattle.site_posts.specs.Places.{place_of, RestsAt}
+use Rattle.site_acts.specs.Serving.{IsReady}
+use Rattle.site_acts.specs.Telling.{Carries, CarriesText, HasClosing, IsTraced}
+use Rattle.site_acts.proofs.Carry.{carries_from}
+use Rattle.site_acts.proofs.Frame.{begins}
+use Rattle.site_turns.specs.declared.ending.Ended.{Ended}
+use Rattle.site_turns.specs.declared.ending.Ended.TheVariants as ended
+use Rattle.site_turns.specs.declared.hearing.SoFar.{SoFar}
+use Rattle.site_turns.specs.Ending.{AreMade, AreMadeOf, RanAs, TracedAs, AwaitedAs, AreCounts}
+use Rattle.site_turns.specs.Turns.{Waits, Stops}
+use Rattle.site_turns.proofs.Counts.{counts_first}
+use Rattle.site_turns.proofs.Finished.{closes_unheard}
+use Rattle.site_turns.proofs.Heard.{made_ready, made_rest}
+
+-- the posts
+pub first_ready : (Reads : Dialect → List ℕ → Option Word → Type 0) (plan : SitePlan) (places : List Place) (limit turns : ℕ) → AreMadeOf plan places limit turns → All (IsReady Reads) places
+first_ready Reads plan places limit turns m = subst (All (IsReady Reads)) (sym m.places_are) (made_ready Reads plan.post.items (subst (All (λ (p : Place). IsPlan p.plan)) m.places_are m.amounts))
+
+pub first_rest : (plan : SitePlan) (places : List Place) (limit turns : ℕ) → AreMadeOf plan places limit turns → All RestsAt places
+first_rest plan places limit turns m = subst (All RestsAt) (sym m.places_are) (made_rest plan.post.items)
+
+pub first_few : (plan : SitePlan) (places : List Place) (limit turns : ℕ) → AreMadeOf plan places limit turns → length places ≤ 8
+first_few plan places limit turns m =
+    let count : length places ≡ length plan.post.items = ap length m.places_are ∙ length-map (map unheard plan.post.items) place_of ∙ length-map plan.post.items unheard in
+    omega (arith, count, m.rules.posts.1)
+
+pub first_turns : (plan : SitePlan) (places : List Place) (limit turns : ℕ) → AreMadeOf plan places limit turns → turns ≤ 4294967296
+first_turns plan places limit turns m = omega (arith, m.turns_is, m.rules.turns.1)
+
+pub waits_first : (c : Codecs) (plan : SitePlan) (places : List Place) (limit turns : ℕ) (so_far : SoFar) (told : List ℕ) (past : List Entry) → so_far ≡ record { moment = 0; hearing = 0 } → AreMadeOf plan places limit turns → past ≡ [] → Waits c plan so_far told told places past
+waits_first c plan places limit turns so_far told past none m e = record {
+  known = record { newest_hearing = None; clock = 0; heard = 0; last = false; untils = [] };
+  block = begins c plan places past m.places_are e;
+  clock_is = ap (λ (s : SoFar). s.moment) (sym none);
+  heard_is = ap (λ (s : SoFar). s.hearing) (sym none);
+  goes_on = refl;
+  told_are = refl;
+}
+
+-- the first line
+pub begin_ok : (a : Option (List Entry)) (s t : Option (List ℕ)) → Appends s t first_line_2 → CarriesText a a s t (λ past text. (past ≡ []) × (text ≡ [])) (IsTraced 0)
+begin_ok None s t h = tt
+begin_ok (Some past) s None h = tt
+begin_ok (Some past) None (Some now) h = absurd h
+begin_ok (Some past) (Some start) (Some now) h = λ p. record {
+  text_is = h ∙ ap (λ (x : List ℕ). x ++ first_line_2) p.1 ∙ sym (append-nil first_line_2) ∙ ap trace_text (sym p.0);
+  hearing_is = ap hearing_number p.0;
+}
+
+pub begin_failed : (a : Option (List Entry)) (s t : Option (List ℕ)) → AppendsSome s t first_line_2 → CarriesText a a s t (λ past text. (past ≡ []) × (text ≡ [])) (TracedAs ended.TraceFault)
+begin_failed None s t h = tt
+begin_failed (Some past) s None h = tt
+begin_failed (Some past) None (Some now) h = absurd h
+begin_failed (Some past) (Some start) (Some now) h = λ p. inl (record { front = h.0; rest = h.1; past_is = p.0; line_is = h.2; text_is = h.3 ∙ ap (λ (x : List ℕ). x ++ h.0) p.1 })
+
+-- nothing is heard
+pub none_run : (c : Codecs) (plan : SitePlan) (past : List Entry) → past ≡ [] → RanAs c plan ended.TraceFault past
+none_run c plan past e = subst (IsCutRun c plan) (sym e) (record { blocks = []; posts = map unheard plan.post.items; run = refl; closes = closes_unheard plan.post.items 1 [] })
+
+pub none_untils : (c : Codecs) (plan : SitePlan) (told : List ℕ) (past : List Entry) → past ≡ [] → told ≡ [] → AwaitedAs c plan told past
+none_untils c plan told past e none = record { blocks = []; closing = record { later = []; past_is = e; closing = tt }; untils_are = none }
+
+pub none_counts : (c : Codecs) (plan : SitePlan) (places : List Place) (limit turns : ℕ) (past : List Entry) → RunsArePostRuns c → AreMadeOf plan places limit turns → past ≡ [] → AreCounts places past
+none_counts c plan places limit turns past law m e = counts_first c plan places past law m.places_are e
+
+-- from nothing to where the turns end
+pub stops_first : (start mid : Option (List Entry)) (c : Codecs) (plan : SitePlan) (places new : List Place) (limit turns : ℕ) (so_far : SoFar) (how : Ended) (told earlier : List ℕ) → so_far ≡ record { moment = 0; hearing = 0 } → AreMadeOf plan places limit turns
+    → Carries start mid (Waits c plan so_far earlier earlier places) (Stops c plan how told earlier new) → Carries start mid (λ past. past ≡ []) (Stops c plan how told earlier new)
+stops_first start mid c plan places new limit turns so_far how told earlier none m h =
+    carries_from start mid (λ past. past ≡ []) (Waits c plan so_far earlier earlier places) (Stops c plan how told earlier new) (λ past e. waits_first c plan places limit turns so_far earlier past none m e) h

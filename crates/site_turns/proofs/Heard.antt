@@ -1,0 +1,101 @@
+-- What posts hear, and the line of a hearing.
+use Rattle.std.proofs.Common.{◌≡◌, ◌<◌, ◌≤◌, ℕ, zero, suc, ◌+◌, Bool, true, false, ◌==◌, if◌then◌else◌, List, [], ◌∷◌, ◌++◌, length, map, take, get_or, max, min, Option, Some, None, refl, sym, ap, subst, ◌∙◌, arith, inl, inr}
+use Rattle.std.specs.Prelude.{fold}
+use Rattle.std.specs.List.{All}
+use Rattle.std.proofs.lemmas.List.{length-take}
+use Rattle.charge_world.specs.declared.entry.Entry.{Entry}
+use Rattle.charge_world.specs.declared.entry.Entry.TheVariants as entry
+use Rattle.charge_world.specs.declared.heard.Heard.{Heard}
+use Rattle.charge_world.specs.declared.heard.What.{What}
+use Rattle.charge_world.specs.declared.heard.What.TheVariants as what
+use Rattle.charge_world.specs.declared.offer.Dialect.{Dialect}
+use Rattle.charge_world.specs.Outside.{GrowsByOne, HasCount, IsOfPosts, bytes_of}
+use Rattle.charge_world.specs.Outside as outside
+use Rattle.session_words.specs.declared.plan.PostPlan.{PostPlan}
+use Rattle.session_words.specs.declared.plan.SitePlan.{SitePlan}
+use Rattle.session_words.specs.declared.word.Word.{Word}
+use Rattle.session_timers.specs.Due.{never}
+use Rattle.trace_text.specs.TraceText.{IsPost, HasBytes}
+use Rattle.post_spec.specs.Codecs.{Codecs}
+use Rattle.post_spec.specs.Steps.{event_at}
+use Rattle.post_spec.specs.Steps as steps
+use Rattle.station_spec.specs.Blocks.{IsHearing, Brings}
+use Rattle.station_spec.specs.Runs.{unheard}
+use Rattle.secc_machine.specs.Resting.{ReadsAll, IsReadOut}
+use Rattle.word_codec.specs.Replies.{IsPlan}
+use Rattle.site_posts.specs.declared.place.Place.{Place}
+use Rattle.site_posts.specs.Filling.{no_place}
+use Rattle.site_posts.specs.Places.{place_of, heard_place, HeardAll, due_at, RestsAt}
+use Rattle.site_posts.proofs.Sound.{IsEvent, fresh_sound, heard_sound}
+use Rattle.site_acts.specs.Serving.{IsReady, Known, InBlock}
+use Rattle.site_acts.specs.Telling.{Carries}
+use Rattle.site_acts.proofs.Carry.{carries_none, carries_one}
+use Rattle.site_acts.proofs.Frame.{heard_one}
+use Rattle.site_turns.specs.Hearing.{Hears, known_behind}
+
+-- quiet posts read all that came
+pub read_out : (places : List Place) → ReadsAll → All RestsAt places → All (λ p. IsReadOut p.post.session) places
+read_out places law rest = λ k d less. law (get_or places k d).plan (get_or places k d).post (rest k d less)
+
+-- what is told of the charger is within its types
+event_if : (b : Bool) (e : steps.Event) → IsEvent e → IsEvent (if b then e else steps.Clock)
+event_if true e h = h
+event_if false e h = tt
+
+event_bounds : (k : ℕ) (w : What) (bytes : List ℕ) → Brings w bytes → IsEvent (event_at k w bytes)
+event_bounds k (what.Came post token) bytes b = event_if (post == k) (steps.Came token) tt
+event_bounds k (what.Bytes post n) bytes b = event_if (post == k) (steps.Bytes bytes) tt
+event_bounds k (what.Gone post) bytes b = event_if (post == k) steps.Gone tt
+event_bounds k (what.Datagram post n) bytes b = event_if (post == k) (steps.Datagram bytes) tt
+event_bounds k (what.Plant post event) bytes b = event_if (post == k) (steps.Plant event) b.0
+event_bounds k what.Tick bytes b = tt
+event_bounds k what.Over bytes b = tt
+
+-- a post stays ready
+place_ready : (Reads : Dialect → List ℕ → Option Word → Type 0) (k now : ℕ) (h : Heard) (bytes : List ℕ) (p : Place) → IsHearing h bytes → IsReady Reads p → IsReady Reads (heard_place k now h.what bytes p)
+place_ready Reads k now h bytes p bounds r = record { plan = r.plan; sound = heard_sound Reads p.plan p.post now (event_at k h.what bytes) (event_bounds k h.what bytes bounds.brings) r.sound }
+
+pub heard_ready : (Reads : Dialect → List ℕ → Option Word → Type 0) (now : ℕ) (h : Heard) (bytes : List ℕ) (old new : List Place) → length new ≡ length old → IsHearing h bytes → HeardAll now h.what bytes old new
+    → All (IsReady Reads) old → All (IsReady Reads) new
+heard_ready Reads now h bytes old new same bounds all ready = λ j d less.
+    let within : j < length old = omega (arith, same, less) in
+    subst (IsReady Reads) (sym (all j d within)) (place_ready Reads (j + 1) now h bytes (get_or old j d) bounds (ready j d within))
+
+-- posts that heard nothing yet
+pub made_ready : (Reads : Dialect → List ℕ → Option Word → Type 0) (plans : List PostPlan) → All (λ p. IsPlan p.plan) (map place_of (map unheard plans)) → (k : ℕ) (d : Place) → k < length (map place_of (map unheard plans))
+    → IsReady Reads (get_or (map place_of (map unheard plans)) k d)
+made_ready Reads [] h k d less = absurd (let f : k < 0 = less in omega arith)
+made_ready Reads (p ∷ plans) h zero d less = record { plan = h zero d (omega arith); sound = fresh_sound Reads p }
+made_ready Reads (p ∷ plans) h (suc k) d less = made_ready Reads plans (λ j e l. h (suc j) e (omega (arith, l))) k d (omega (arith, less))
+
+pub made_rest : (plans : List PostPlan) (k : ℕ) (d : Place) → k < length (map place_of (map unheard plans)) → RestsAt (get_or (map place_of (map unheard plans)) k d)
+made_rest [] k d less = absurd (let f : k < 0 = less in omega arith)
+made_rest (p ∷ plans) zero d less = record { none = refl; no_word = refl }
+made_rest (p ∷ plans) (suc k) d less = made_rest plans k d (omega (arith, less))
+
+-- the line of a hearing is short
+post_few : (n k : ℕ) → n ≤ 8 → outside.IsPost n k → IsPost k
+post_few n k few is = (is.0, omega (arith, is.1, few))
+
+few_of : (room : List ℕ) (n : ℕ) → length room ≡ 4096 → n ≤ 4096 → n ≡ length (take n room)
+few_of room n len most = omega (arith, length-take n room, len, most)
+
+pub line_short : (n : ℕ) (w : What) (room : List ℕ) → n ≤ 8 → length room ≡ 4096 → HasCount w → IsOfPosts n w → HasBytes w (bytes_of w room)
+line_short n (what.Came post token) room few len count of = (post_few n post few of, refl)
+line_short n (what.Bytes post m) room few len count of = (post_few n post few of, few_of room m len count.1, count.0, count.1)
+line_short n (what.Gone post) room few len count of = (post_few n post few of, refl)
+line_short n (what.Datagram post m) room few len count of = (post_few n post few of, few_of room m len count, count)
+line_short n (what.Plant post event) room few len count of = (post_few n post few of, refl)
+line_short n what.Tick room few len count of = refl
+line_short n what.Over room few len count of = refl
+
+-- what was heard next, and all posts hear it
+pub heard_next : (a b : Option (List Entry)) (c : Codecs) (plan : SitePlan) (k : Known) (h : Heard) (bytes : List ℕ) (places : List Place) → GrowsByOne a b (entry.Heard h bytes) → Carries a b (InBlock c plan k places) (Hears c plan k h bytes places)
+heard_next a b c plan k h bytes places grows = carries_one a b (entry.Heard h bytes) (InBlock c plan k places) (Hears c plan k h bytes places) grows (λ past i. record { earlier = past; past_is = refl; block = i })
+
+pub heard_by : (a : Option (List Entry)) (c : Codecs) (plan : SitePlan) (k : Known) (places new : List Place) (h : Heard) (bytes : List ℕ) (now wait : ℕ) → k.last ≡ false → k.heard < plan.turns → All RestsAt places → IsOfPosts (length places) h.what → IsHearing h bytes
+    → length new ≡ length places → max k.clock h.at ≡ now → HeardAll now h.what bytes places new → wait ≡ fold min never (map due_at places) → Carries a a (Hears c plan k h bytes places) (InBlock c plan (known_behind k h bytes wait) new)
+heard_by a c plan k places new h bytes now wait goes_on left rest of is same clock all waits =
+    carries_none a (Hears c plan k h bytes places) (InBlock c plan (known_behind k h bytes wait) new) (λ past b.
+    subst (InBlock c plan (known_behind k h bytes wait) new) (sym b.past_is)
+    (heard_one c plan k places new b.earlier h bytes wait goes_on left rest of is same (subst (λ (m : ℕ). HeardAll m h.what bytes places new) (sym clock) all) waits b.block))

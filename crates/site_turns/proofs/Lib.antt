@@ -1,0 +1,7 @@
+pub mod Orders
+pub mod Lines
+pub mod Heard
+pub mod Turns
+pub mod Counts
+pub mod Finished
+pub mod First

@@ -1,0 +1,4 @@
+pub mod Lasts
+pub mod Ending
+pub mod Hearing
+pub mod Turns

@@ -1,0 +1,84 @@
+//! A hearing, and all that the posts do about it.
+
+ghost use Rattle.std.specs.Prelude.{◌≡◌, ◌≤◌, ◌<◌, ◌+◌, ℕ, length, map, max, min, fold, true, false, IsSome, OnOk, All};
+ghost use Rattle.charge_world.specs.declared.entry.Entry.TheVariants as entry;
+ghost use Rattle.charge_world.specs.Outside.{IsFault, HasCount, IsOfPosts, bytes_of};
+ghost use Rattle.session_timers.specs.Due.{never};
+ghost use Rattle.session_words.specs.declared.plan.SitePlan.{SitePlan};
+ghost use Rattle.post_spec.specs.Codecs.{codecs};
+ghost use Rattle.station_spec.specs.Blocks.{IsHearing};
+ghost use Rattle.site_posts.specs.Places.{RestsAt, HeardAll, due_at};
+ghost use Rattle.site_acts.specs.Serving.{IsReady, InBlock, Known};
+ghost use Rattle.site_acts.specs.Telling.{Carries, CarriesText, IsWrittenSo};
+ghost use Rattle.site_turns.specs.Hearing.{Hears, known_behind, AwaitsLine};
+
+use charge_world::{Heard, Sink, Wire};
+use secc_machine::law_of_rest;
+use site_acts::Desk;
+use site_posts::{Place, hear_all};
+use site_serving::{TraceFailed, answer_all, bound_heard, bytes_heard};
+use trace_text::Noted;
+use word_codec::Codec;
+
+/// What a site heard so far.
+#[derive(Drop)]
+pub struct SoFar {
+    /// The greatest moment, in milliseconds.
+    pub moment: u64,
+    /// How many hearings there were, a lost one counted.
+    pub hearing: u64,
+}
+
+/// Each post hears this, at this moment.
+fn take_in(places: &mut [Place], now: u64, heard: &Heard, room: &[u8])
+    requires few { length places.old ≤ 8 }
+    requires room { length room.now ≡ 4096 }
+    requires count { HasCount heard.now.what }
+    requires quiet { All RestsAt places.old }
+    ensures heard { HeardAll now heard.now.what (bytes_of heard.now.what room.now) places.old places.new }
+    ensures bounds { IsHearing heard.now (bytes_of heard.now.what room.now) }
+{
+    law_of_rest();
+    bound_heard(heard, room);
+    hear_all(places, now, heard, bytes_heard(heard.what, room));
+}
+
+/// Takes in what was heard, writes its line, and does all that the posts have to do about it.
+pub(crate) fn hear<C: Codec, W: Wire, J: Sink>(
+    desk: &mut Desk<C>,
+    places: &mut [Place],
+    limit: u32,
+    so_far: &SoFar,
+    heard: &Heard,
+    room: &[u8],
+    wire: &mut W,
+    trace: &mut J,
+) -> Result<(), TraceFailed>
+    requires few { length places.old ≤ 8 }
+    requires room { length room.now ≡ 4096 }
+    requires count { HasCount heard.now.what }
+    requires post { IsOfPosts (length places.old) heard.now.what }
+    requires ready { All (IsReady C.reads) places.old }
+    requires quiet { All RestsAt places.old }
+    ensures carried { (plan : SitePlan) (k : Known) (wait : ℕ) → plan.limit ≡ limit → k.last ≡ false → k.heard < plan.turns → max k.clock heard.now.at ≡ so_far.now.moment
+        → wait ≡ fold min never (map due_at places.old) → Carries (W.past wire.old) (W.past wire.new)
+        (Hears (codecs C.negotiates C.reads C.encodes) plan k heard.now (bytes_of heard.now.what room.now) places.old)
+        (InBlock (codecs C.negotiates C.reads C.encodes) plan (known_behind k heard.now (bytes_of heard.now.what room.now) wait) places.new) }
+    ensures traced { (n : ℕ) → so_far.now.hearing ≡ n + 1 → CarriesText (W.past wire.old) (W.past wire.new) (J.taken trace.old) (J.taken trace.new)
+        (AwaitsLine n (entry.Heard heard.now (bytes_of heard.now.what room.now))) (IsWrittenSo so_far.now.hearing result) }
+    ensures ready { All (IsReady C.reads) places.new }
+    ensures quiet { OnOk result (All RestsAt places.new) }
+    ensures writes { IsFault (J.faults trace.old) (J.faults trace.new) result }
+    ensures untils { IsSome (W.past wire.new) → W.untils wire.new ≡ W.untils wire.old }
+    ensures started { W.started wire.new ≡ W.started wire.old }
+    ensures posts { W.posts wire.new ≡ W.posts wire.old }
+    ensures faults { W.faults wire.old ≤ W.faults wire.new }
+{
+    take_in(places, so_far.moment, heard, room);
+    let noted = Noted::Heard {
+        heard: *heard,
+        bytes: bytes_heard(heard.what, room),
+    };
+    desk.lines.write(so_far.hearing, &noted, trace)?;
+    answer_all(desk, places, limit, so_far.hearing, wire, trace)
+}
