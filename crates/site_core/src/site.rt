@@ -64,19 +64,20 @@ fn places_made(alloc: Global, plan: &SitePlan) -> Result<Vec<Place>, NoMemory>
 {
     let mut places = Vec::new(alloc);
     for post in plan.post.as_slice() {
-        places.push(place_made(alloc, post)?)?;
+        let place = place_made(alloc, post)?;
+        places.push(place)?;
     }
     Ok(places)
 }
 
 /// The codecs of a site, with the rooms in which frames and lines are made.
-fn desk_made<C>(alloc: Global, codec: C) -> Result<Desk<C>, NoMemory> {
+fn desk_made<C: Drop>(alloc: Global, codec: C) -> Result<Desk<C>, NoMemory> {
     let room = vec![in alloc; 0; FRAME]?;
     let lines = TraceLines::make(alloc)?;
     Ok(Desk { codec, room, lines })
 }
 
-impl<C> Site<C> {
+impl<C: Drop> Site<C> {
     /// A site of this plan that heard nothing yet. It takes all the memory that serving needs.
     pub fn make(alloc: Global, codec: C, plan: &SitePlan) -> Result<Site<C>, NoMemory>
         requires { IsSitePlan plan.now }
@@ -91,7 +92,9 @@ impl<C> Site<C> {
             turns: plan.turns,
         })
     }
+}
 
+impl<C> Site<C> {
     /// What the site counted of a post, by its number.
     pub fn report(&self, post: u8) -> PostReport
         requires least { 1 ≤ post }
