@@ -2,7 +2,7 @@
 //!
 //! The word is a file of rows. A row begins with `row NAME`. Then come, in this order or any other:
 //! - `plan LINE`: a line of the station's plan;
-//! - `heard ..`: what is heard, as in a trace of format 1;
+//! - `heard ..`: what is heard, as in a trace, without its number;
 //! - `fail N`: the N-th of all calls of the wire that can fail fails, counted from 1 with `start`;
 //! - `spoil N`: the N-th write on the trace fails;
 //! - `at N LINE`: what is done in the N-th hearing, as a trace says it. All lines of a hearing that is named stand there, in their order;

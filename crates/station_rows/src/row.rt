@@ -3,7 +3,7 @@
 use anyhow::{Context, Result, bail};
 use charge_world::{Entry, Scripted};
 use std::alloc::Global;
-use trace_text::read_line;
+use trace_text::read_numbered;
 
 /// What is done in a hearing: its number, and its lines.
 #[derive(Drop)]
@@ -64,7 +64,8 @@ impl Row {
 
     /// Adds a hearing.
     fn hear(&mut self, alloc: Global, line: &str) -> Result<()> {
-        let entry = read_line(alloc, line.as_bytes(), 0)?;
+        let numbered = format!(in alloc; "1 {line}\n")?;
+        let (_, entry) = read_numbered(alloc, numbered.as_str().as_bytes(), 0)?;
         if let Entry::Heard { heard, bytes } = entry {
             self.script.push(Scripted { heard, bytes })?;
         }
