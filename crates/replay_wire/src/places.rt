@@ -9,13 +9,7 @@ ghost use Rattle.trace_text.specs.Pasts.{is_hearing};
 ghost use Rattle.replay_wire.specs.Replays.{from_hearing, behind_call, outcome_of, last_moment, CanBeHeard};
 
 use charge_world::{Entry, Failed, Heard, Ports};
-
-/// Whether something was heard, or that nothing was.
-pub(crate) fn is_hearing(entry: &Entry) -> bool
-    ensures { result ≡ is_hearing entry.now }
-{
-    matches!(entry, Entry::Heard { .. } | Entry::Lost)
-}
+use trace_reading::is_hearing;
 
 /// The place of the first hearing from a place on, or the trace's end.
 pub(crate) fn hearing_place(trace: &[Entry], at: usize) -> usize

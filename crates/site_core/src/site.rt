@@ -9,6 +9,7 @@ ghost use Rattle.site_posts.specs.Places.{place_of};
 ghost use Rattle.site_turns.specs.Ending.{AreMadeOf};
 
 use crate::copying::copied;
+use bitflags::Flags;
 use secc_machine::Post;
 use session_words::{PostPlan, SitePlan};
 use site_acts::{Desk, FRAME};

@@ -32,7 +32,7 @@ no_plan = record {
 }
 
 abbrev pub no_place : Place
-no_place = record { plan = no_plan; post = fresh; report = record { sessions = 0; closed = 0; causes = 0 } }
+no_place = record { plan = no_plan; post = fresh; report = record { sessions = 0; closed = 0; causes = record { 0 = 0 } } }
 
 -- the post at a place, the first at 0
 abbrev pub at : List Place → ℕ → Place

@@ -19,7 +19,11 @@ abbrev pub capped : ℕ → ℕ
 capped n = min n (2 ^ 64 - 1)
 
 abbrev pub report_of : List Step → PostReport
-report_of steps = record { sessions = capped (sessions (map seen_of steps)); closed = capped (closed (map seen_of steps)); causes = causes (map seen_of steps) }
+report_of steps = record {
+  sessions = capped (sessions (map seen_of steps));
+  closed = capped (closed (map seen_of steps));
+  causes = record { 0 = causes (map seen_of steps) };
+}
 
 abbrev pub place_of : Post → Place
 place_of post = record { plan = post.plan; post = state_of post; report = report_of post.steps }
@@ -49,7 +53,7 @@ abbrev pub acted_report : Act → Bool → PostReport → PostReport
 acted_report (Give order) taken r = record r { closed = if is_close order && taken then capped (r.closed + 1) else r.closed }
 acted_report (Send bytes) taken r = r
 acted_report (Answer bytes) taken r = r
-acted_report (End cause) taken r = record r { causes = bit_or r.causes (2 ^ cause) }
+acted_report (End cause) taken r = record r { causes = record { 0 = bit_or r.causes.0 (2 ^ cause) } }
 
 abbrev pub done_place : Act → Bool → Place → Place
 done_place act taken p = record { plan = p.plan; post = acted act taken p.post; report = acted_report act taken p.report }

@@ -2,14 +2,16 @@
 //! any kind (ISO 15118-2:2014, sections 8.7 and 8.8).
 #![tactic(auto)]
 
+mod causes;
 mod filling;
 mod hearing;
 mod place;
 mod report;
 mod sharing;
 
+pub use causes::CauseSet;
 pub use filling::fill;
 pub use hearing::{hear_all, until};
 pub use place::Place;
-pub use report::{CauseSet, PostReport};
+pub use report::PostReport;
 pub use sharing::share;

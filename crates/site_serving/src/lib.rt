@@ -6,4 +6,4 @@ mod turning;
 
 pub use closing::close_unwritten;
 pub use site_acts::TraceFailed;
-pub use turning::{answer_all, bound_heard, bytes_heard, ends};
+pub use turning::{answer_all, bound_heard, bytes_heard};

@@ -5,7 +5,7 @@ ghost use Rattle.std.specs.List.{AllWithin};
 ghost use Rattle.charge_world.specs.Outside.{IsFault, HasCount, bytes_of};
 ghost use Rattle.session_words.specs.declared.plan.SitePlan.{SitePlan};
 ghost use Rattle.post_spec.specs.Codecs.{codecs};
-ghost use Rattle.station_spec.specs.Blocks.{is_over, IsHearing, IsPlantEvent};
+ghost use Rattle.station_spec.specs.Blocks.{IsHearing, IsPlantEvent};
 ghost use Rattle.site_posts.specs.Places.{RestsAt};
 ghost use Rattle.site_acts.specs.Serving.{IsReady, InBlock, Known};
 ghost use Rattle.site_acts.specs.Telling.{Carries, CarriesText, IsTraced, IsWrittenSo};
@@ -84,13 +84,6 @@ pub fn bytes_heard(what: What, room: &[u8]) -> &[u8]
         What::Came { .. } | What::Gone { .. } | What::Plant { .. } | What::Tick | What::Over =>
             &room[..0],
     }
-}
-
-/// Whether nothing more will be heard.
-pub fn ends(what: What) -> bool
-    ensures { result ≡ is_over what }
-{
-    matches!(&what, What::Over)
 }
 
 /// What was heard is within its types.

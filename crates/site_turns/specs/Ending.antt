@@ -64,7 +64,7 @@ pub record AwaitedAs (c : Codecs) (plan : SitePlan) (untils : List ℕ) (past : 
 pub record Counts (k : ℕ) (report : PostReport) (past : List Entry) : Type 0 where
   pub sessions_are : report.sessions ≡ capped (sessions (seen k past))
   pub closed_are : report.closed ≡ capped (closed (seen k past))
-  pub causes_are : report.causes ≡ causes (seen k past)
+  pub causes_are : report.causes.0 ≡ causes (seen k past)
 
 -- so of each post
 abbrev pub AreCounts : List Place → List Entry → Type 0

@@ -20,7 +20,7 @@ hex8 n = encode_lower (to_be_bytes w32 n)
 unfoldable pub report_line : ℕ → PostReport → List ℕ
 report_line post report =
     codes "post " ++ decimal post ++ codes " sessions " ++ decimal report.sessions ++ codes " closed " ++ decimal report.closed
-    ++ codes " causes " ++ hex8 report.causes ++ codes "\n"
+    ++ codes " causes " ++ hex8 report.causes.0 ++ codes "\n"
 
 -- the lines of the posts from k on
 abbrev pub report_lines : ℕ → List PostReport → List ℕ

@@ -5,6 +5,7 @@ ghost use Rattle.arrayvec.specs.ArrayVec.{array_vec_len};
 ghost use Rattle.charge_world.specs.Outside.{Appends, AppendsSome, IsFault};
 ghost use Rattle.station_command.specs.Lines.{hex8, report_line, report_lines, reports_of, Concludes};
 
+use bitflags::Flags;
 use charge_world::{Failed, Sink};
 use command_status::{Line, Status, add, add_number, tell_fault};
 use site_core::{CauseSet, Ended, PostReport, Site};
@@ -29,7 +30,7 @@ fn line_of(post: u8, report: &PostReport) -> Line
 
 fn add_causes(line: &mut Line, causes: CauseSet)
     requires { array_vec_len line.old + 8 ≤ 128 }
-    ensures items { line.new.items ≡ line.old.items ++ hex8 causes }
+    ensures items { line.new.items ≡ line.old.items ++ hex8 causes.0 }
     ensures len { array_vec_len line.new ≡ array_vec_len line.old + 8 }
 {
     let mut digits = [0u8; 8];

@@ -10,5 +10,6 @@ mod reading;
 mod standing;
 
 pub use format::Format;
+pub use next::is_hearing;
 pub use reading::read_trace;
 pub use trace_text::LineFault as TraceFault;

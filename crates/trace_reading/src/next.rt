@@ -14,7 +14,7 @@ use std::alloc::Global;
 use trace_text::{LineFault, read_line, read_numbered};
 
 /// Whether something was heard, or that nothing was.
-fn is_hearing(entry: &Entry) -> bool
+pub fn is_hearing(entry: &Entry) -> bool
     ensures { result ≡ is_hearing entry.now }
 {
     matches!(entry, Entry::Heard { .. } | Entry::Lost)
