@@ -1,17 +1,17 @@
 -- Where each payload is judged somehow, every stream has its words; and one is next where a frame is whole or wrong.
-use Rattle.std.proofs.Common.{◌≡◌, ◌≤◌, ◌<◌, ℕ, zero, suc, ◌+◌, Bool, true, false, if◌then◌else◌, List, [], ◌∷◌, ◌++◌, length, drop, get_or, map, Option, Some, None, Result, Ok, Err, refl, sym, ap, subst, ◌∙◌, inl, inr, ◌⊎◌, MatchBool, arith}
+use Rattle.std.proofs.Common.{◌≡◌, ◌<◌, ℕ, zero, suc, ◌+◌, Bool, true, false, if◌then◌else◌, List, [], ◌∷◌, ◌++◌, length, drop, get_or, Option, Some, None, Result, Ok, Err, refl, sym, ap, subst, ◌∙◌, MatchBool, arith}
 use Rattle.std.proofs.lemmas.List.{drop_more, length-append}
 use Rattle.charge_world.specs.declared.offer.Dialect.{Dialect}
 use Rattle.session_words.specs.declared.cause.EndCause.{EndCause}
 use Rattle.session_words.specs.declared.plan.PostPlan.{PostPlan}
 use Rattle.v2gtp_frames.specs.declared.FrameFault.{FrameFault}
-use Rattle.v2gtp_frames.specs.Frames.{Frames, IsFault, IsRight}
+use Rattle.v2gtp_frames.specs.Frames.{Frames, IsFault}
 use Rattle.v2gtp_frames.specs.Reading.{whole_at, behind_front, behind_frames}
 use Rattle.v2gtp_frames.proofs.Ends.{fault_is, none_right, none_rest, fault_rest}
 use Rattle.v2gtp_frames.proofs.Same.{one_reading, last_rest}
 use Rattle.v2gtp_frames.proofs.Taking.{taking_shrinks}
 use Rattle.session_rules.specs.Stages.{is_waiting}
-use Rattle.post_spec.specs.Codecs.{Judged, Refused, Codecs, judged_word}
+use Rattle.post_spec.specs.Codecs.{Refused, Codecs, judged_word}
 use Rattle.post_spec.specs.Sessions.{session, stream, replies, waits}
 use Rattle.post_spec.specs.Spelled.{AreDetermined}
 use Rattle.post_spec.specs.Steps.{Seen}
@@ -24,7 +24,7 @@ use Rattle.read_sessions.specs.Sessions.{words_read, IsSession}
 use Rattle.safe_runs.proofs.Growth.{AreWhole}
 use Rattle.safe_runs.proofs.Links.{Pending, Waits, Link}
 use Rattle.opened_causes.proofs.Spoken.{Spoke, spoke, counted, DialectAt}
-use Rattle.served_sessions.proofs.Bytes.{AreOctets, Fronts, fronts}
+use Rattle.served_sessions.proofs.Bytes.{AreOctets, fronts}
 use Rattle.next_words.proofs.Order.{in_payloads, read_long, chosen_is, word_there, dialect_here}
 use Rattle.reasoned_openings.specs.Reasons.{JudgesAll}
 

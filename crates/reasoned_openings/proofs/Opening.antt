@@ -1,47 +1,42 @@
 -- What may be ordered of what was decided before, and what a cause that was decided in a hearing comes from.
-use Rattle.std.proofs.Common.{◌≡◌, ◌≤◌, ◌<◌, ℕ, zero, suc, ◌+◌, Bool, true, false, if◌then◌else◌, ◌&&◌, nat_le, nat_lt, cond, List, [], ◌∷◌, map, Option, Some, None, is_some, Result, Ok, Err, refl, sym, ap, subst, ◌∙◌, inl, inr, ◌⊎◌, arith}
+use Rattle.std.proofs.Common.{◌≡◌, ◌≤◌, ◌<◌, ℕ, Bool, true, false, if◌then◌else◌, ◌&&◌, nat_le, nat_lt, cond, List, [], ◌∷◌, map, Option, Some, None, is_some, Result, Ok, Err, refl, sym, ap, subst, ◌∙◌, inl, inr, ◌⊎◌, arith}
 use Rattle.std.proofs.lemmas.Bool.Decides.{nat_tests}
-use Rattle.std.specs.Option.{option_map}
 use Rattle.charge_world.specs.declared.heard.PlantEvent.{PlantEvent}
 use Rattle.charge_world.specs.declared.ports.Order.{Order}
 use Rattle.charge_world.specs.declared.ports.Order.TheVariants as order
 use Rattle.charge_world.specs.declared.offer.Dialect.{Dialect}
 use Rattle.session_words.specs.declared.cause.EndCause.{EndCause}
-use Rattle.session_words.specs.declared.cause.EndCause.TheVariants.{SendFailed, OrderFailed, NoNegotiation, BadFrame, Impatient}
+use Rattle.session_words.specs.declared.cause.EndCause.TheVariants.{BadFrame, Impatient}
 use Rattle.session_words.specs.declared.phase.Standing.{Standing}
 use Rattle.session_words.specs.declared.phase.Standing.TheVariants as standing
 use Rattle.session_words.specs.declared.plan.PostPlan.{PostPlan}
 use Rattle.session_words.specs.Causes.{cause_of}
 use Rattle.session_timers.specs.Due.{never}
 use Rattle.v2gtp_frames.specs.declared.FrameFault.{FrameFault}
-use Rattle.v2gtp_frames.specs.Frames.{frame}
-use Rattle.v2gtp_frames.specs.Reading.{whole_at, payload_at, behind_frames}
+use Rattle.v2gtp_frames.specs.Reading.{whole_at, behind_frames}
 use Rattle.session_rules.specs.declared.causes.Found.{Found}
 use Rattle.session_rules.specs.declared.causes.Found.TheVariants as found
 use Rattle.session_rules.specs.declared.causes.Watch.{Watch}
 use Rattle.session_rules.specs.Causes.{plant_cause, word_cause}
 use Rattle.session_rules.specs.Deadlines.{timeout_of}
-use Rattle.session_rules.specs.Stages.{is_waiting, is_set_up}
+use Rattle.session_rules.specs.Stages.{is_waiting}
 use Rattle.contactor.specs.Standing.{Kind, Close, Open, last_order, feedback_since, standing_by}
 use Rattle.contactor.specs.Standing as contactor
 use Rattle.post_spec.specs.Causes.{IsCause, IsTold, HasLeft, HasCome as HasArrived, IsOver, HasNotSent, HasNoMatch, IsWord, found_word}
 use Rattle.post_spec.specs.Causes as causes
-use Rattle.post_spec.specs.Codecs.{Judged, Negotiated, Asked, WrongSide, Refused, Codecs}
+use Rattle.post_spec.specs.Codecs.{Codecs}
 use Rattle.post_spec.specs.Contactors.{contactor_acts, live, with_feedback, feedback_in}
 use Rattle.post_spec.specs.Contactors as contactors
-use Rattle.post_spec.specs.Course.{Talked, Course, course}
+use Rattle.post_spec.specs.Course.{course}
 use Rattle.post_spec.specs.Facts.{now, told_by}
 use Rattle.post_spec.specs.Sessions.{session, stream, waits}
 use Rattle.post_spec.specs.Spelled.{ReadsBack, AreDetermined}
-use Rattle.post_spec.specs.Steps.{Event, Came as Arrives, Bytes, Gone, Datagram, Plant, Clock, Over, Act, Give, Send, Answer, End, Seen, Heard, Did, Reading, Step, Hears, Does, seen_of}
-use Rattle.post_spec.specs.Talk.{Negotiation, OneMore, InSession, Talks}
-use Rattle.post_spec.specs.Words.{HeardWord, Payload, Fault, Words, next_words}
-use Rattle.station_spec.specs.States.{Agenda, Part, Repeating, Timing, Eventing, Wording, Session, State, Spoken, Response, nothing, first, first_of, is_done}
-use Rattle.station_spec.specs.States as states
+use Rattle.post_spec.specs.Steps.{Event, Came as Arrives, Bytes, Gone, Datagram, Plant, Clock, Over, Act, Seen, Reading, Step, Hears, Does, seen_of}
+use Rattle.post_spec.specs.Words.{HeardWord, Fault}
+use Rattle.station_spec.specs.States.{Agenda, Session, State, Spoken, nothing, is_done}
 use Rattle.station_spec.specs.Deciding.{opening_if, ending_by, ending_in, repeating, timing, watch, confirming, charging_by, charging, eventing, fronting_by, fronting, due, is_reached, decided}
 use Rattle.station_spec.specs.Deciding as deciding
-use Rattle.station_spec.specs.Judging.{filled}
-use Rattle.station_spec.specs.Acting.{failing, agenda_said, state}
+use Rattle.station_spec.specs.Acting.{failing, state}
 use Rattle.station_laws.specs.PostRuns.{IsPostRun}
 use Rattle.station_laws.proofs.Contactors.{contactors_are_read}
 use Rattle.read_runs.specs.Courses.{talked_of, talked_in}
@@ -56,7 +51,7 @@ use Rattle.opened_causes.proofs.Spoken.{FaultAt, PayloadAt, word_at}
 use Rattle.read_agendas.proofs.Between.{done_session}
 use Rattle.served_sessions.proofs.Bytes.{AreHeard, stream_octets}
 use Rattle.standing_causes.specs.Standing.{HasCome, CameBefore}
-use Rattle.standing_causes.proofs.Coming.{Laws, acted_laws, heard_laws, Late, late_came, cause_came, came_on, failed_here}
+use Rattle.standing_causes.proofs.Coming.{Laws, acted_laws, heard_laws, late_came, cause_came}
 use Rattle.reasoned_openings.specs.Reasons.{JudgesAll}
 use Rattle.reasoned_openings.proofs.Judging.{Placed, placed, Following, following}
 
