@@ -1,13 +1,11 @@
 -- What is read stands at the front of what is unread, where the next word of the stream is.
-use Rattle.std.proofs.Common.{◌≡◌, ◌≤◌, ◌<◌, ℕ, zero, suc, ◌+◌, Bool, true, false, if◌then◌else◌, List, [], ◌∷◌, ◌++◌, length, drop, get_or, map, Option, Some, None, Ok, Err, refl, sym, ap, subst, ◌∙◌, inl, inr, ◌⊎◌, MatchBool, arith, add-one}
+use Rattle.std.proofs.Common.{◌≡◌, ◌≤◌, ◌<◌, ℕ, zero, suc, ◌+◌, Bool, true, false, List, [], ◌∷◌, length, drop, get_or, map, Option, Some, None, Ok, Err, refl, sym, ap, subst, ◌∙◌, inl, inr, ◌⊎◌, MatchBool, arith}
 use Rattle.std.proofs.lemmas.List.{drop_more, length-append, length-drop, length-take-le}
 use Rattle.std.proofs.lemmas.Bool.{cases_lt}
-use Rattle.charge_world.specs.declared.entry.Entry.{Entry}
 use Rattle.charge_world.specs.declared.offer.Dialect.{Dialect}
 use Rattle.session_words.specs.declared.phase.Phase.{Phase}
 use Rattle.session_words.specs.declared.phase.Phase.TheVariants as row
 use Rattle.session_words.specs.declared.plan.PostPlan.{PostPlan}
-use Rattle.session_words.specs.declared.plan.SitePlan.{SitePlan}
 use Rattle.v2gtp_frames.specs.Frames.{IsRest, Frames}
 use Rattle.v2gtp_frames.specs.Reading.{whole_at, payload_at, behind_frames}
 use Rattle.v2gtp_frames.proofs.Again.{is_frame}
@@ -18,16 +16,15 @@ use Rattle.session_rules.specs.Stages.{is_waiting}
 use Rattle.post_spec.specs.Codecs.{Judged, Negotiated, Codecs, Judges, judged_word}
 use Rattle.post_spec.specs.Sessions.{session, stream, replies, waits}
 use Rattle.post_spec.specs.Spelled.{ReadsBack, AreDetermined}
-use Rattle.post_spec.specs.Steps.{Seen, Reading, Step, Hears, Does, seen, seen_of}
+use Rattle.post_spec.specs.Steps.{Seen, Reading, Step, Hears, Does, seen_of}
 use Rattle.post_spec.specs.Talk.{Exchange, dialect_of}
 use Rattle.post_spec.specs.Words as words
 use Rattle.post_spec.specs.Words.{HeardWord, Payload, Fault, chosen_by, AreJudged, Words, IsPayloadAt, next_words}
-use Rattle.station_spec.specs.States.{Session, State, is_done}
+use Rattle.station_spec.specs.States.{Session, State}
 use Rattle.station_spec.specs.Deciding.{decided}
 use Rattle.station_spec.specs.Judging.{Payload as Wanted, speaks, speaks_in, wanted, IsRead}
 use Rattle.station_spec.specs.Acting.{state}
-use Rattle.station_spec.specs.Sharing.{Post, Shows}
-use Rattle.station_spec.specs.Runs.{IsRun}
+use Rattle.station_spec.specs.Sharing.{Shows}
 use Rattle.station_laws.specs.PostRuns.{IsPostRun, ArePostsOf}
 use Rattle.station_laws.proofs.PostRuns.{run_posts, post_at}
 use Rattle.safe_runs.proofs.Growth.{AreWhole}
@@ -38,7 +35,7 @@ use Rattle.safe_runs.proofs.Safety.{run_linked}
 use Rattle.read_runs.proofs.Agendas.{IsWanted, WantedIn, wanted_in, wanted_done}
 use Rattle.opened_causes.proofs.Spoken.{same_payload, Spoke, spoke, counted, FaultAt, PayloadAt, DialectAt, word_at}
 use Rattle.served_sessions.proofs.Bytes.{AreOctets, AreHeard, fronts, run_heard, stream_octets}
-use Rattle.next_words.specs.Next.{IsNext, IsNextWord, IsReadNext, AreReadInOrder, RunsReadInOrder}
+use Rattle.next_words.specs.Next.{IsNext, IsReadNext, AreReadInOrder, RunsReadInOrder}
 
 -- A whole frame is one of the payloads.
 

@@ -1,15 +1,13 @@
 -- What a post decides is what its past asks for.
-use Rattle.std.proofs.Common.{◌≡◌, ℕ, Bool, true, false, if◌then◌else◌, List, map, Option, Some, None, refl, sym, ap, subst, ◌∙◌}
+use Rattle.std.proofs.Common.{◌≡◌, ℕ, Bool, true, false, if◌then◌else◌, List, map, Option, Some, None, refl, ap, ◌∙◌}
 use Rattle.charge_world.specs.declared.heard.PlantEvent.{PlantEvent}
 use Rattle.session_words.specs.declared.cause.EndCause.{EndCause}
 use Rattle.session_words.specs.declared.cause.EndCause.TheVariants.{Gone as ConnectionGone, RunOver}
 use Rattle.session_words.specs.declared.cause.Timeout.{Timeout}
 use Rattle.session_words.specs.declared.facts.Facts.{Facts}
 use Rattle.session_words.specs.declared.plan.PostPlan.{PostPlan}
-use Rattle.session_words.specs.declared.phase.Standing.{Standing}
 use Rattle.session_words.specs.declared.word.Request.{Request}
 use Rattle.session_words.specs.Causes.{cause_of}
-use Rattle.v2gtp_frames.specs.declared.FrameFault.{FrameFault}
 use Rattle.v2gtp_frames.specs.Reading.{whole_at, behind_frames}
 use Rattle.session_rules.specs.declared.causes.Watch.{Watch}
 use Rattle.session_rules.specs.declared.stage.Stage.{Stage}
@@ -29,7 +27,7 @@ use Rattle.post_spec.specs.Facts.{now}
 use Rattle.post_spec.specs.Sessions.{session, stream, waits}
 use Rattle.post_spec.specs.Steps.{Event, Came, Bytes, Gone, Datagram, Plant, Clock, Over, Seen, Step, seen_of}
 use Rattle.station_spec.specs.States.{Said, Agenda, Session, State, nothing, is_done}
-use Rattle.station_spec.specs.Deciding.{ending_by, ending_in, repeating, timing, watch, confirming, charging_by, charging, eventing, fronting_by, fronting, due, is_reached}
+use Rattle.station_spec.specs.Deciding.{ending_by, ending_in, repeating, timing, watch, confirming, charging_by, charging, eventing, fronting_by, fronting, is_reached}
 use Rattle.station_spec.specs.Judging.{order_by, judged}
 use Rattle.station_spec.specs.Acting.{state}
 use Rattle.station_laws.specs.PostRuns.{IsPostRun}

@@ -1,10 +1,9 @@
 -- What is left of it behind each act.
-use Rattle.std.proofs.Common.{◌≡◌, ℕ, Bool, true, false, not, if◌then◌else◌, List, [], ◌∷◌, drop, map, Option, Some, None, is_some, refl, sym, ap, subst, ◌∙◌}
-use Rattle.std.specs.Option.{option_map}
+use Rattle.std.proofs.Common.{◌≡◌, ℕ, Bool, true, false, not, if◌then◌else◌, List, [], ◌∷◌, drop, map, Option, Some, None, is_some, refl, sym, ap, ◌∙◌}
 use Rattle.session_words.specs.declared.cause.EndCause.{EndCause}
 use Rattle.session_words.specs.declared.cause.EndCause.TheVariants.{SendFailed, OrderFailed}
 use Rattle.session_words.specs.declared.plan.PostPlan.{PostPlan}
-use Rattle.session_rules.specs.Lines.{Line, line, first_line}
+use Rattle.session_rules.specs.Lines.{Line, first_line}
 use Rattle.post_spec.specs.Codecs.{Judged, Negotiated, Asked, WrongSide, Refused, Codecs}
 use Rattle.post_spec.specs.Contactors.{live}
 use Rattle.post_spec.specs.Course.{Talked, course}
@@ -18,13 +17,13 @@ use Rattle.station_spec.specs.Acting.{failing, agenda_said, acted, state}
 use Rattle.station_spec.specs.Sharing.{Shows}
 use Rattle.station_laws.specs.PostRuns.{IsPostRun}
 use Rattle.station_laws.proofs.Decided.{same_session, same_live, same_facts}
-use Rattle.read_runs.specs.Courses.{talked_of, talked_in}
+use Rattle.read_runs.specs.Courses.{talked_in}
 use Rattle.read_runs.specs.Facts.{newest_event}
 use Rattle.read_runs.proofs.Agendas.{WantedIn, wanted_in, wanted_done, decided_not}
 use Rattle.read_runs.proofs.Courses.{courses_are_read}
 use Rattle.read_runs.proofs.Facts.{facts_are_read}
-use Rattle.read_agendas.specs.Rows.{again, late, told, front, asked}
-use Rattle.read_agendas.specs.Left.{Left, row, rows, looked_at, begun, in_hand, failed, replied, less, left, IsLeft, AgendasAreRead, SessionsAreReadBetween}
+use Rattle.read_agendas.specs.Rows.{again, late, told, asked}
+use Rattle.read_agendas.specs.Left.{Left, row, rows, looked_at, begun, in_hand, failed, replied, less, left, AgendasAreRead, SessionsAreReadBetween}
 use Rattle.read_agendas.proofs.Asking.{again_is, late_is, told_is, front_is, word_is}
 use Rattle.read_agendas.proofs.Between.{done_session}
 

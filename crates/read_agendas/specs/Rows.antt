@@ -1,6 +1,6 @@
 -- Own: what the newest hearing and the words ask of a post, row by row, each over what is read off the past. ISO 15118-2:2014, sections 8.4,
 -- 8.7 and 8.8, have the requests, the deadlines and the ends of sessions.
-use Rattle.std.specs.Prelude.{ℕ, Bool, false, ◌&&◌, if◌then◌else◌, List, [], ◌∷◌, Option, Some, None}
+use Rattle.std.specs.Prelude.{ℕ, Bool, false, ◌&&◌, if◌then◌else◌, List, Option, Some, None}
 use Rattle.charge_world.specs.declared.heard.PlantEvent.{PlantEvent}
 use Rattle.session_words.specs.declared.cause.EndCause.{EndCause}
 use Rattle.session_words.specs.declared.cause.EndCause.TheVariants.{Gone as ConnectionGone, RunOver, Refused as PayloadRefused, WrongSide as FromWrongSide}

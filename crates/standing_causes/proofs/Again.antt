@@ -1,5 +1,5 @@
 -- A word that orders limits is accepted again behind that order.
-use Rattle.std.proofs.Common.{◌≡◌, ℕ, Bool, true, false, if◌then◌else◌, List, [], ◌∷◌, map, Option, Some, None, is_some, refl, sym, ap, subst, ◌∙◌}
+use Rattle.std.proofs.Common.{◌≡◌, ℕ, Bool, true, false, if◌then◌else◌, List, ◌∷◌, map, Option, Some, None, is_some, refl, sym, ap, subst, ◌∙◌}
 use Rattle.charge_world.specs.declared.offer.Dialect.{Dialect}
 use Rattle.charge_world.specs.declared.ports.Order.{Order}
 use Rattle.charge_world.specs.declared.ports.Order.TheVariants as order
@@ -15,7 +15,7 @@ use Rattle.session_words.specs.declared.word.Ask.TheVariants as ask
 use Rattle.session_words.specs.declared.word.Request.{Request}
 use Rattle.session_rules.specs.declared.stage.PreCharged.{PreCharged}
 use Rattle.session_rules.specs.declared.stage.Stage.{Stage}
-use Rattle.session_rules.specs.Causes.{found_by, word_cause}
+use Rattle.session_rules.specs.Causes.{word_cause}
 use Rattle.session_rules.specs.Moves.{facts_by, facts_behind, moved, stage_behind}
 use Rattle.session_rules.specs.Orders.{granted_order, order_of}
 use Rattle.session_rules.specs.Rows.{leads}
@@ -24,7 +24,7 @@ use Rattle.post_spec.specs.Causes.{found_word}
 use Rattle.post_spec.specs.Codecs.{Judged, Negotiated, Asked, WrongSide, Refused, Codecs}
 use Rattle.post_spec.specs.Course.{Talked, Course, course, facts_of, asked_talk, asked_course, read_in, read_by}
 use Rattle.post_spec.specs.Facts.{now}
-use Rattle.post_spec.specs.Steps.{Give, Answer, Seen, Did, Reading, Step, Does, seen_of}
+use Rattle.post_spec.specs.Steps.{Give, Answer, Seen, Reading, Step, Does, seen_of}
 use Rattle.post_spec.specs.Words.{Payload}
 use Rattle.station_spec.specs.States.{Session, State, first}
 use Rattle.station_spec.specs.States as states

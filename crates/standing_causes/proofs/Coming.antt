@@ -17,30 +17,30 @@ use Rattle.session_rules.specs.Causes.{found_by, word_cause}
 use Rattle.session_rules.specs.Stages.{is_set_up}
 use Rattle.session_rules.specs.Verdict.{verdict}
 use Rattle.post_spec.specs.Causes.{running, counts_from, due, found_word, IsCause, IsDue, IsTold, HasLeft, HasCome as HasArrived, IsOver, HasNotSent, HasNotDriven, HasNoMatch, IsWord}
-use Rattle.post_spec.specs.Codecs.{Judged, Negotiated, Asked, WrongSide, Refused, Codecs}
+use Rattle.post_spec.specs.Codecs.{Negotiated, Asked, WrongSide, Refused, Codecs}
 use Rattle.post_spec.specs.Contactors.{live}
 use Rattle.post_spec.specs.Course.{Talked, Course, course, facts_of, read_by}
 use Rattle.post_spec.specs.Facts.{now}
-use Rattle.post_spec.specs.Sessions.{session, with_seen, stream, brought, replies, waits, came_at, replied_at, closed_at}
+use Rattle.post_spec.specs.Sessions.{session, with_seen, stream, brought, waits}
 use Rattle.post_spec.specs.Spelled.{ReadsBack, AreDetermined}
-use Rattle.post_spec.specs.Steps.{Event, Came, Bytes, Gone, Datagram, Plant, Clock, Over, Act, Give, Send, Answer, End, Seen, Heard, Did, Reading, Step, Hears, Does, seen, seen_of}
+use Rattle.post_spec.specs.Steps.{Event, Came, Bytes, Gone, Datagram, Plant, Clock, Over, Act, Give, Send, Answer, End, Seen, Did, Reading, Step, Hears, Does, seen_of}
 use Rattle.post_spec.specs.Words.{HeardWord, Payload, Fault, Words, next_words}
 use Rattle.station_spec.specs.Acting.{state}
 use Rattle.station_spec.specs.Next.{Acts}
 use Rattle.station_spec.specs.Sharing.{Post, Shows}
-use Rattle.station_spec.specs.Runs.{Rests, IsRun}
-use Rattle.station_laws.specs.PostRuns.{IsPostRun, IsPostOf, ArePostsOf}
+use Rattle.station_spec.specs.Runs.{IsRun}
+use Rattle.station_laws.specs.PostRuns.{IsPostRun, ArePostsOf}
 use Rattle.station_laws.proofs.PostRuns.{run_posts, post_at}
 use Rattle.read_sessions.proofs.Keeping.{session_now}
-use Rattle.opened_causes.specs.Causing.{Comes, IsFirst, HasCause, IsOpening, OpenAtCauses}
+use Rattle.opened_causes.specs.Causing.{HasCause, OpenAtCauses}
 use Rattle.opened_causes.proofs.Causing.{runs_open}
-use Rattle.heard_deadlines.specs.Reached.{IsReached, AreLateByHearing}
+use Rattle.heard_deadlines.specs.Reached.{AreLateByHearing}
 use Rattle.heard_deadlines.proofs.Acted.{runs_are_late_by_hearing}
 use Rattle.heard_words.specs.Words.{AreRead}
 use Rattle.heard_words.proofs.Read.{runs_read_words}
 use Rattle.next_words.specs.Next.{IsNextWord, AreReadInOrder}
 use Rattle.next_words.proofs.Order.{runs_read_in_order}
-use Rattle.standing_causes.specs.Standing.{HasCome, CameBefore, IsCome, HaveCome, RunsHaveCome, StandsFirst, OpenAtFirst, CausesOpen}
+use Rattle.standing_causes.specs.Standing.{HasCome, CameBefore, HaveCome, RunsHaveCome, StandsFirst, OpenAtFirst, CausesOpen}
 use Rattle.standing_causes.proofs.Again.{Limits, tells_unread, limited, no_cause_again}
 
 -- what the laws below say of the steps of a post

@@ -10,7 +10,7 @@ use Rattle.post_spec.specs.Codecs.{Codecs}
 use Rattle.post_spec.specs.Contactors.{live}
 use Rattle.post_spec.specs.Sessions.{arriving}
 use Rattle.post_spec.specs.Spelled.{ReadsBack, AreDetermined}
-use Rattle.post_spec.specs.Steps.{Give, Send, Answer, End, Step, Hears, Does, seen_of}
+use Rattle.post_spec.specs.Steps.{End, Step, Hears, Does, seen_of}
 use Rattle.post_spec.specs.Talk.{Unless}
 use Rattle.station_spec.specs.Sharing.{Post}
 use Rattle.station_spec.specs.Runs.{Rests, IsRun}
