@@ -1,7 +1,6 @@
 -- Step by step the bytes that aren't read stand behind as many frames as words were read, and the moment is kept.
-use Rattle.std.proofs.Common.{◌≡◌, ℕ, zero, suc, ◌+◌, Bool, true, false, if◌then◌else◌, List, [], ◌∷◌, ◌++◌, map, Option, Some, None, Ok, refl, sym, ap, subst, ◌∙◌, add-one}
+use Rattle.std.proofs.Common.{◌≡◌, ℕ, suc, ◌+◌, Bool, true, false, if◌then◌else◌, List, [], ◌∷◌, ◌++◌, map, Option, Some, None, Ok, refl, sym, ap, subst, ◌∙◌, add-one}
 use Rattle.std.specs.Option.{option_map}
-use Rattle.charge_world.specs.declared.ports.Order.{Order}
 use Rattle.charge_world.specs.declared.ports.Order.TheVariants as order
 use Rattle.session_words.specs.declared.plan.PostPlan.{PostPlan}
 use Rattle.v2gtp_frames.specs.Reading.{whole_at, behind_front, behind_frames}
@@ -11,17 +10,17 @@ use Rattle.post_spec.specs.Codecs.{Judged, Negotiated, Asked, WrongSide, Refused
 use Rattle.post_spec.specs.Course.{Talked, course}
 use Rattle.post_spec.specs.Facts.{now}
 use Rattle.post_spec.specs.Sessions.{arriving, session_behind, session, with_seen, stream, brought}
-use Rattle.post_spec.specs.Steps.{Event, Came, Act, Give, Send, Answer, End, Seen, Heard, Did, Reading, Step, Hears, Does, seen_of}
+use Rattle.post_spec.specs.Steps.{Event, Act, Give, Send, Answer, End, Seen, Heard, Did, Reading, Step, Hears, Does, seen_of}
 use Rattle.station_spec.specs.States.{Session, State}
 use Rattle.station_spec.specs.Deciding.{decided}
 use Rattle.station_spec.specs.Judging.{Payload, judged, taken_in, read, filled, wanted, IsRead}
 use Rattle.station_spec.specs.Hearing.{with_bytes, session_opened}
-use Rattle.station_spec.specs.Acting.{since_order, replied, acted, state}
+use Rattle.station_spec.specs.Acting.{since_order, replied, state}
 use Rattle.station_spec.specs.Sharing.{Shows}
 use Rattle.station_laws.specs.PostRuns.{IsPostRun}
 use Rattle.station_laws.proofs.Decided.{same_session}
 use Rattle.safe_runs.proofs.Growth.{AreWhole, grown}
-use Rattle.read_runs.specs.Courses.{talked_of, talked_in}
+use Rattle.read_runs.specs.Courses.{talked_in}
 use Rattle.read_runs.proofs.Agendas.{WantedIn, wanted_in}
 use Rattle.read_runs.proofs.Arrivals.{Arrives, steps_arrive}
 use Rattle.read_runs.proofs.Courses.{courses_are_read}

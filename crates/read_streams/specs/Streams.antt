@@ -9,7 +9,7 @@ use Rattle.post_spec.specs.Codecs.{Codecs}
 use Rattle.post_spec.specs.Course.{course}
 use Rattle.post_spec.specs.Facts.{now}
 use Rattle.post_spec.specs.Sessions.{arriving, session, stream}
-use Rattle.post_spec.specs.Steps.{Give, Send, Answer, End, Seen, Reading, Step, Hears, Does, seen_of}
+use Rattle.post_spec.specs.Steps.{Give, Send, Seen, Reading, Step, Hears, Does, seen_of}
 use Rattle.station_spec.specs.States.{Session}
 use Rattle.station_spec.specs.Acting.{state}
 use Rattle.station_laws.specs.PostRuns.{IsPostRun}

@@ -22,7 +22,7 @@ pub record JudgesAll (c : Codecs) : Type 0 where
   pub negotiates : (offers : List Dialect) (payload : List ℕ) → (judged : Judged) × c.Negotiates offers payload judged
   pub reads : (dialect : Dialect) (payload : List ℕ) → (word : Option Word) × c.Reads dialect payload word
 
--- an order to open behind these steps: it repeats one that failed, or the car asked for it, or what ends the session came, there or before
+-- an order to open behind these steps: it repeats one that failed, or the car asked for it, or what ends the session came, there or before in the block
 abbrev pub IsReasoned : Codecs → PostPlan → Option Reading → Act → List Step → Type 0
 IsReasoned c plan reading (Give order.Open) steps = Repeats steps ⊎ (WasAsked plan steps reading ⊎ (HasCome c plan steps ⊎ CameBefore c plan steps))
 IsReasoned c plan reading act steps = Unit {0}
@@ -37,7 +37,7 @@ abbrev pub RunsOpenForReasons : Codecs → Type 0
 RunsOpenForReasons c = (site : SitePlan) (past : List Entry) (posts before : List Post) (post : Post) (behind : List Post)
     → ReadsBack c → AreDetermined c → JudgesAll c → IsRun c site past posts → posts ≡ before ++ post ∷ behind → AreReasoned c post.plan post.steps
 
--- anything that ends the session stands while the contactor is live, and nothing came before
+-- anything that ends the session stands while the contactor is live, and nothing came before in the block
 pub record Stands (c : Codecs) (plan : PostPlan) (steps : List Step) : Type 0 where
   pub cause : EndCause
   pub is : IsCause c plan steps cause

@@ -7,13 +7,13 @@ ghost use Rattle.reasoned_openings.specs.Reasons.{RunsOpenForReasons, EveryCause
 use post_spec::Coded;
 
 /// In every run over codecs that judge each payload, an order to open repeats one that has failed, or the car asked to stop or to negotiate
-/// anew, or what ends the session came.
+/// anew, or what ends the session came in that block.
 pub fn opens_for_reasons<C: Coded>()
     ensures { RunsOpenForReasons (codecs C.negotiates C.reads C.encodes) }
 {}
 
 /// In every run over codecs that judge each payload, where anything that ends a session stands while its contactor is live, and nothing
-/// came before in that session, the next thing that the post does is an order to open: before anything else is heard, and before anything
+/// came before in that block, the next thing that the post does is an order to open: before anything else is heard, and before anything
 /// is sent. An order to open that failed is no exception (IEC 61851-1, annex A; IEC 61851-23; ISO 15118-2:2014, 8.7 and 8.8).
 pub fn every_cause_opens<C: Coded>()
     ensures { EveryCauseOpens (codecs C.negotiates C.reads C.encodes) }

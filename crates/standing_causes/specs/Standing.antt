@@ -8,10 +8,8 @@ use Rattle.session_words.specs.declared.plan.SitePlan.{SitePlan}
 use Rattle.post_spec.specs.Causes.{IsCause}
 use Rattle.post_spec.specs.Codecs.{Codecs}
 use Rattle.post_spec.specs.Contactors.{live}
-use Rattle.post_spec.specs.Sessions.{arriving}
 use Rattle.post_spec.specs.Spelled.{ReadsBack, AreDetermined}
 use Rattle.post_spec.specs.Steps.{End, Step, Hears, Does, seen_of}
-use Rattle.post_spec.specs.Talk.{Unless}
 use Rattle.station_spec.specs.Sharing.{Post}
 use Rattle.station_spec.specs.Runs.{Rests, IsRun}
 use Rattle.opened_causes.specs.Causing.{Comes, IsFirst, IsOpening}
@@ -22,14 +20,14 @@ pub record HasCome (c : Codecs) (plan : PostPlan) (steps : List Step) : Type 0 w
   pub is : IsCause c plan steps cause
   pub comes : Comes c plan steps cause is
 
--- or it came earlier in the session that lives there. A session begins behind the block of its connection, and lasts to its end
+-- or one came earlier in this block, which a hearing begins, and in this session, which its end ends
 abbrev pub CameBefore : Codecs → PostPlan → List Step → Type 0
 CameBefore c plan [] = ⊥
-CameBefore c plan (Hears at event ∷ steps) = Unless (arriving (map seen_of steps)) (HasCome c plan steps ⊎ CameBefore c plan steps) ⊥
+CameBefore c plan (Hears at event ∷ steps) = ⊥
 CameBefore c plan (Does reading (End cause) taken ∷ steps) = ⊥
 CameBefore c plan (Does reading act taken ∷ steps) = HasCome c plan steps ⊎ CameBefore c plan steps
 
--- a cause that stands behind any part of a run, while the contactor is live, came there or before
+-- a cause that stands behind any part of a run, while the contactor is live, came there, or one came before in the block
 abbrev pub IsCome : Codecs → PostPlan → List Step → Type 0
 IsCome c plan steps =
     (cause : EndCause) → IsCause c plan steps cause → live (map seen_of steps) ≡ true → HasCome c plan steps ⊎ CameBefore c plan steps
@@ -43,9 +41,9 @@ abbrev pub RunsHaveCome : Codecs → Type 0
 RunsHaveCome c = (site : SitePlan) (past : List Entry) (posts before : List Post) (post : Post) (behind : List Post)
     → ReadsBack c → AreDetermined c → IsRun c site past posts → posts ≡ before ++ post ∷ behind → HaveCome c post.plan post.steps
 
--- A cause stands while the contactor is live, in a session in which none came before. What is read off the next word again, once its
--- first act was done, is none: that act is the Open of an accepted PowerDelivery, behind which the contactor isn't live, that of a
--- cause, which came before, or an order on the outlet, behind which the word is accepted again.
+-- A cause stands while the contactor is live, and none came before in its block. What is read off the next word again, once its first
+-- act was done, is none: that act is the Open of an accepted PowerDelivery, behind which the contactor isn't live, that of a cause,
+-- which came before, or an order on the outlet, behind which the word is accepted again.
 pub record StandsFirst (c : Codecs) (plan : PostPlan) (steps : List Step) : Type 0 where
   pub cause : EndCause
   pub is : IsCause c plan steps cause
