@@ -27,10 +27,9 @@ returns g c plan past r =
                 record { served = gets.0; up_to_date = gets.1 };
           };
       whole = λ uncut before post behind are.
-          let gets = λ conforms. c.serves_conforming_sessions.ensures.whole plan past before post behind rb uncut are conforms in
           record {
-            served = λ conforms. (gets conforms).0;
-            up_to_date = λ conforms. (gets conforms).1;
+            served = λ conforms. (c.serves_conforming_sessions.ensures.whole plan past before post behind rb uncut are conforms).0;
+            up_to_date = λ conforms. (c.serves_conforming_sessions.ensures.whole plan past before post behind rb uncut are conforms).1;
             isolated = λ site others run before' alike behind' are' n alike_is.
                 sym (c.posts_are_isolated.ensures plan site past others uncut run _ before before' post alike behind behind' det are are' refl n alike_is);
           };
