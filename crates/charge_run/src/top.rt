@@ -27,8 +27,10 @@ use std::alloc::Global;
 ///
 /// `station`: where the wire tells its past, and was lent with an empty one, that is a run of the site by the plan of the file, and the
 /// status is the one that the past has: `Done` where Over was heard, `TurnsSpent` behind the plan's last turn, `WireFault` where a hearing
-/// was lost or the wire did not start. The trace is the text of that past. Before the wire is started come `NoMemory`, `SourceFault` where the
-/// file can't be read, and `Plan` where it is no plan.
+/// was lost or the wire did not start. That past is lawful (`IsLawful` of `lawful_sites`): a contactor is closed only as mandated and opened
+/// by what ends its session, the watts stay within the limit, a car that conforms is served, and no post depends on another but by the watts that it
+/// is shown. The trace is the text of that past. Before the wire is started come `NoMemory`, `SourceFault` where the file can't be read, and `Plan`
+/// where it is no plan.
 ///
 /// `decode`: `Input` where the text spells no bytes or the payload no message. `encode`: `Input` where no payload is written for the
 /// text. Neither uses a file, the trace or the wire. A replay of a trace isn't done yet: its words are answered as those of no command.

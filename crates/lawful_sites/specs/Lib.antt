@@ -1,1 +1,3 @@
+pub mod Posts
+pub mod Whole
 pub mod Lawful

@@ -1,4 +1,5 @@
-//! A site whose codecs read back what they write is served lawfully: safe, within its limit, and silent without a session.
+//! A site whose codecs read back what they write is served lawfully: safe, within its limit, and silent without a session. It serves the cars
+//! that conform, and isolates its posts.
 #![tactic(auto)]
 
 ghost use Rattle.std.specs.Prelude.{◌≡◌, ◌≤◌, ◌<◌, List, [], vec_len};
@@ -12,15 +13,18 @@ ghost use Rattle.lawful_sites.specs.Lawful.{IsLawful};
 
 use charge_world::{Sink, Wire};
 use failed_replies::no_failed_reply_while_live;
+use isolated_runs::posts_are_isolated;
 use mandated_runs::ends_as_mandated;
 use opened_causes::opens_at_causes;
 use safe_runs::{closes_as_mandated, ends_open, opens_again};
+use served_sessions::serves_conforming_sessions;
 use silent_runs::sends_in_sessions;
 use site_core::{Ended, Site};
 use spelled_watts::spelled_within_limit;
 use word_codec::LawfulCodec;
 
-/// Every run of a site, whole or cut, is lawful.
+/// Every run of a site, whole or cut, is lawful: safe, within its limit, and silent without a session. A post whose sessions conform is served, and a
+/// whole run isolates each post from the others.
 pub fn law_of_sites<C: LawfulCodec>()
     ensures { (plan : SitePlan) (past : List Entry) → IsCutRun (codecs C.negotiates C.reads C.encodes) plan past → IsLawful (codecs C.negotiates C.reads C.encodes) plan past }
 {
@@ -32,6 +36,8 @@ pub fn law_of_sites<C: LawfulCodec>()
     opens_at_causes::<C>();
     sends_in_sessions::<C>();
     spelled_within_limit::<C>();
+    serves_conforming_sessions::<C>();
+    posts_are_isolated::<C>();
 }
 
 /// Serves as `serve` of `site_core` does. Where the wire tells its past, that is lawful, however serving ended.

@@ -40,8 +40,8 @@ pub record IsUnstarted (s : Status) (before after : WireTold) (trace_before trac
   pub line : Tells out_before.taken out.taken out_before.faults out.faults wire_line
 
 -- The site was served. Where the wire tells its past, and was lent with an empty one, that is a run of the plan, which ended so, and it is
--- lawful: safe, within the limit, and silent without a session; the trace is its text, where it was empty; each `until` is that of the past
--- before it, where there was none; and the lines count it, each a post.
+-- lawful: safe, within the limit, and silent without a session, it serves the cars that conform, and isolates the posts; the trace is its text,
+-- where it was empty; each `until` is that of the past before it, where there was none; and the lines count it, each a post.
 pub record WasServed (c : Codecs) (plan : SitePlan) (s : Status) (before after : WireTold) (trace_before trace : Option (List ℕ)) (out_before out : SinkTold) : Type 0 where
   pub how : Ended
   pub run : Carries before.past after.past (λ past. past ≡ []) (RanAs c plan how)

@@ -1,3 +1,4 @@
+use Rattle.std.proofs.Common.{refl, sym}
 use Rattle.lawful_sites.proofs.law_of_sites.Goals as goal
 
 pub returns : goal.returns
@@ -21,5 +22,15 @@ returns g c plan past r =
             replies = c.no_failed_reply_while_live.ensures plan r.blocks r.posts before post behind rb r.run are;
             causes = (c.opens_at_causes.ensures plan r.blocks r.posts before post behind rb det r.run are).0;
             silent = c.sends_in_sessions.ensures plan r.blocks r.posts before post behind r.run are;
+            served = λ conforms.
+                let gets = c.serves_conforming_sessions.ensures.runs plan r.blocks r.posts before post behind rb r.run are conforms in
+                record { served = gets.0; up_to_date = gets.1 };
+          };
+      whole = λ uncut before post behind are.
+          record {
+            served = λ conforms. (c.serves_conforming_sessions.ensures.whole plan past before post behind rb uncut are conforms).0;
+            up_to_date = λ conforms. (c.serves_conforming_sessions.ensures.whole plan past before post behind rb uncut are conforms).1;
+            isolated = λ site others run before' alike behind' are' n alike_is.
+                sym (c.posts_are_isolated.ensures plan site past others uncut run _ before before' post alike behind behind' det are are' refl n alike_is);
           };
     }
