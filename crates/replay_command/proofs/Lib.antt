@@ -1,0 +1,3 @@
+pub mod Texts
+pub mod Leaving
+pub mod Itself
