@@ -1,13 +1,13 @@
 //! Replays recorded runs of a station, and counts those that come out as they were recorded.
 //!
 //! The words are files of runs. A run is the lines of its plan, each behind `p `, then the lines of its trace, each behind `t `, and then a line
-//! that names it: its replay writes that trace anew, as many lines as it has. A damaged one has besides, each behind `w `, the status of its
-//! replay and the line that is printed. A run that comes out otherwise is named.
+//! that names it: its replay writes that trace anew, as many lines as it has. Another, as a damaged one, has besides, each behind `w `, the status
+//! of its replay and the line that is printed. A run that comes out otherwise is named.
 //!
 //! Each run is replayed once more, with a trace that takes one line alone: that is a front of what the whole replay wrote.
 #![tactic(auto)]
 
-use anyhow::{Context, Result};
+use anyhow::Result;
 use charge_run::{Status, WordList, run};
 use charge_world::{MemorySink, MemorySource, MemoryWire, NamedFile, Piece};
 use std::alloc::Global;
@@ -24,7 +24,7 @@ struct Counts {
     other: u64,
 }
 
-/// A run: its plan and its trace; of a damaged one also what its replay comes to.
+/// A run: its plan and its trace, and, where these don't tell it, what its replay comes to.
 #[derive(Drop)]
 struct Run {
     plan: String,
@@ -128,7 +128,7 @@ fn is_written_so(alloc: Global, run: &Run, left: &Left) -> Result<bool> {
     )
 }
 
-/// Whether the status and the line are those that a damaged run wants.
+/// Whether the status and the line are those that a run wants.
 fn is_wanted(alloc: Global, run: &Run, left: &Left) -> Result<bool> {
     let status = left.status.number();
     let line = str::from_utf8(left.out.bytes())?;
