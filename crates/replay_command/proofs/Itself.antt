@@ -4,7 +4,6 @@ use Rattle.std.specs.Prelude.{reverse}
 use Rattle.std.proofs.lemmas.List.{reverse-reverse}
 use Rattle.charge_world.specs.declared.entry.Entry.{Entry}
 use Rattle.session_words.specs.declared.plan.SitePlan.{SitePlan}
-use Rattle.session_words.specs.Plans.{IsSitePlan}
 use Rattle.post_spec.specs.Codecs.{Codecs}
 use Rattle.post_spec.specs.Spelled.{AreDetermined}
 use Rattle.station_spec.specs.Blocks.{hearings}
@@ -18,8 +17,8 @@ use Rattle.trace_reading.specs.declared.format.Format.TheVariants.{Numbered}
 use Rattle.trace_reading.proofs.Fronts.{one_past}
 use Rattle.replay_wire.specs.Replays.{IsReplayOf}
 use Rattle.replayed_runs.specs.Replayed.{ReplaysItself}
-use Rattle.site_replays.specs.Replayed.{IsReplayed, IsWritten}
-use Rattle.replay_command.specs.Itself.{IsWhole, WritesItself}
+use Rattle.site_replays.specs.Replayed.{IsWritten}
+use Rattle.replay_command.specs.Itself.{WritesItself}
 
 -- something was heard
 some_newest : (past : List Entry) (e : Entry) → newest past ≡ Some e → past ≢ []
