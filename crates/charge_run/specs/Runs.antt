@@ -11,7 +11,7 @@ use Rattle.message_trees.specs.Texts.{IsPrinted, IsRefusedIn, IsScanned, IsUnsca
 use Rattle.command_status.specs.declared.status.Status.{Status}
 use Rattle.command_status.specs.declared.status.Status.TheVariants as status
 use Rattle.command_status.specs.FaultLines.{Tells, input_line}
-use Rattle.command_words.specs.Command.{IsNoCommand, IsReplay, IsStation}
+use Rattle.command_words.specs.Command.{IsReplay, IsStation}
 use Rattle.charge_run.specs.HexText.{hex_fault, IsHexOf}
 use Rattle.hex.specs.Hex.{encode_lower}
 use Rattle.charge_run.specs.declared.fault.InputFault.{InputFault}
@@ -21,12 +21,15 @@ use Rattle.charge_run.specs.declared.fault.InputFault.TheVariants.{Place, Memory
 abbrev pub charge_codecs : Codecs
 charge_codecs = codecs Negotiates rules.Reads rules.Encodes
 
--- words that nothing is done for: those of no command, and those of a replay
-abbrev pub AreIdle : List (List ℕ) → Type 0
-AreIdle words = IsNoCommand words ⊎ ((plan : List ℕ) × (trace : List ℕ) × IsReplay words plan trace)
-
 abbrev pub IsSomeStation : List (List ℕ) → Type 0
 IsSomeStation words = (plan : List ℕ) × IsStation words plan
+
+abbrev pub IsSomeReplay : List (List ℕ) → Type 0
+IsSomeReplay words = (plan : List ℕ) × (trace : List ℕ) × IsReplay words plan trace
+
+-- the commands that read files, and write a trace
+abbrev pub ReadsFiles : List (List ℕ) → Type 0
+ReadsFiles words = IsSomeStation words ⊎ IsSomeReplay words
 
 -- ---- a line or a fault
 

@@ -6,6 +6,7 @@ mod decode;
 mod encode;
 mod fault;
 mod hex_text;
+mod replaying;
 mod serving;
 mod top;
 

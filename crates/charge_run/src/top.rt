@@ -3,14 +3,17 @@
 ghost use Rattle.std.specs.Prelude.{◌≡◌, ◌<◌, ◌⊎◌, ℕ, List};
 ghost use Rattle.message_dialects.specs.declared.dialect.MessageDialect.{MessageDialect as OfDialect};
 ghost use Rattle.message_trees.specs.Texts.{IsUnscanned};
-ghost use Rattle.command_words.specs.Command.{IsStation, IsDecode, IsEncode};
+ghost use Rattle.command_words.specs.Command.{IsNoCommand, IsStation, IsReplay, IsDecode, IsEncode};
 ghost use Rattle.command_status.specs.FaultLines.{Tells, words_line};
 ghost use Rattle.station_command.specs.Served.{wire_told, sink_told, IsUnbegun};
-ghost use Rattle.charge_run.specs.Runs.{charge_codecs, AreIdle, IsSomeStation, Decodes, IsDecodeFault, Encodes};
+ghost use Rattle.replay_command.specs.Files.{files_told, TellsAlways};
+ghost use Rattle.replay_command.specs.Replays.{ReplayLeaves};
+ghost use Rattle.charge_run.specs.Runs.{charge_codecs, IsSomeStation, IsSomeReplay, ReadsFiles, Decodes, IsDecodeFault, Encodes};
 ghost use Rattle.charge_run.specs.Stations.{file_told, StationLeaves};
 
 use crate::decode::decode;
 use crate::encode::encode;
+use crate::replaying::replay_trace;
 use crate::serving::serve;
 use charge_world::{Sink, Source, Wire};
 use command_status::{Status, tell_fault};
@@ -21,6 +24,9 @@ use std::alloc::Global;
 ///
 /// - `station PLAN` serves the posts of the plan in a file, and prints a line for each: the connections that began, the orders to close that
 ///   its charger took, and the causes by which its sessions ended. Its trace is written as it serves.
+/// - `replay PLAN TRACE` runs the posts of the plan in one file over the hearings of the trace in another, where calls fail by the trace's
+///   marks, writes the whole trace anew, and prints `lines N ended over`, with `lost` or `turns` in place of `over`: how many lines that
+///   trace has, and how the run ended.
 /// - `decode DIALECT HEX` prints the tree text of the message that a payload spells. DIALECT is `app` for the negotiation, `iso` for
 ///   ISO 15118-2 or `din` for DIN SPEC 70121.
 /// - `encode DIALECT TEXT` prints the payload that is written for the message whose tree text this is, in hexadecimal digits.
@@ -32,8 +38,12 @@ use std::alloc::Global;
 /// is shown. The trace is the text of that past. Before the wire is started come `NoMemory`, `SourceFault` where the file can't be read, and `Plan`
 /// where it is no plan.
 ///
+/// `replay`: `Done` for each of the three ends, and the trace is the text of a run of the site. Before that come `NoMemory`, `SourceFault`
+/// where a file can't be read, `Plan` where the first is no plan, and `Input` where the second is no trace at its posts. The wire stays as it
+/// was.
+///
 /// `decode`: `Input` where the text spells no bytes or the payload no message. `encode`: `Input` where no payload is written for the
-/// text. Neither uses a file, the trace or the wire. A replay of a trace isn't done yet: its words are answered as those of no command.
+/// text. Neither uses a file, the trace or the wire.
 ///
 /// `SinkFault` takes the place of `Done` and `TurnsSpent` where a line could not be written, and ends serving where a line of the trace
 /// could not. Each fault has its line, whose failure changes nothing.
@@ -45,9 +55,9 @@ pub fn run<F: Source, K: Sink, J: Sink, W: Wire>(
     trace: &mut J,
     wire: &mut W,
 ) -> Status
-    // Exactly where the words are no command that is done, but for want of memory.
-    ensures words { result ≡ Status.Words → AreIdle words.now }
-    ensures other_words { AreIdle words.now → (result ≡ Status.Words) ⊎ (result ≡ Status.NoMemory) }
+    // Exactly where the words are no command, but for want of memory.
+    ensures words { result ≡ Status.Words → IsNoCommand words.now }
+    ensures other_words { IsNoCommand words.now → (result ≡ Status.Words) ⊎ (result ≡ Status.NoMemory) }
     ensures words_line { result ≡ Status.Words → Tells (K.taken out.old) (K.taken out.new) (K.faults out.old) (K.faults out.new) words_line }
 
     // `station`: the past, the trace, the ports and the lines are those of the plan in the file, or its fault is told.
@@ -56,9 +66,16 @@ pub fn run<F: Source, K: Sink, J: Sink, W: Wire>(
         (wire_told (W.past wire.old) (W.untils wire.old) (W.started wire.old)) (wire_told (W.past wire.new) (W.untils wire.new) (W.started wire.new))
         (J.taken trace.old) (J.taken trace.new) (sink_told (K.taken out.old) (K.faults out.old)) (sink_told (K.taken out.new) (K.faults out.new)) }
 
-    // Only `station` reads a plan.
-    ensures plan { result ≡ Status.Plan → IsSomeStation words.now }
-    ensures source { result ≡ Status.SourceFault → IsSomeStation words.now }
+    // `replay`: the trace is written anew as the plan and the trace in the files say, or their fault is told.
+    ensures replay { (plan : List ℕ) (recorded : List ℕ) → IsReplay words.now plan recorded
+        → ReplayLeaves charge_codecs (TellsAlways F.left) result
+        (files_told (F.holds files.old plan) (F.holds files.old recorded) (F.faults files.old) (F.faults files.new))
+        (sink_told (J.taken trace.old) (J.faults trace.old)) (sink_told (J.taken trace.new) (J.faults trace.new))
+        (sink_told (K.taken out.old) (K.faults out.old)) (sink_told (K.taken out.new) (K.faults out.new)) }
+
+    // Only these two read files.
+    ensures plan { result ≡ Status.Plan → ReadsFiles words.now }
+    ensures source { result ≡ Status.SourceFault → ReadsFiles words.now }
 
     // `decode`: the line is the text of the message, or tells where the input is refused.
     ensures decode { (dialect : OfDialect) (hex : List ℕ) → IsDecode words.now dialect hex
@@ -71,7 +88,8 @@ pub fn run<F: Source, K: Sink, J: Sink, W: Wire>(
     // Exactly where the input is refused, but for want of memory.
     ensures input { result ≡ Status.Input
         → ((dialect : OfDialect) × (hex : List ℕ) × (place : ℕ) × IsDecode words.now dialect hex × IsDecodeFault dialect hex place)
-        ⊎ ((dialect : OfDialect) × (text : List ℕ) × (place : ℕ) × IsEncode words.now dialect text × IsUnscanned dialect text place) }
+        ⊎ ((dialect : OfDialect) × (text : List ℕ) × (place : ℕ) × IsEncode words.now dialect text × IsUnscanned dialect text place)
+        ⊎ IsSomeReplay words.now }
     ensures refused { (dialect : OfDialect) (hex : List ℕ) (place : ℕ) → IsDecode words.now dialect hex → IsDecodeFault dialect hex place
         → (result ≡ Status.Input) ⊎ (result ≡ Status.NoMemory) }
     ensures encode_refused { (dialect : OfDialect) (text : List ℕ) (place : ℕ) → IsEncode words.now dialect text → IsUnscanned dialect text place
@@ -81,8 +99,9 @@ pub fn run<F: Source, K: Sink, J: Sink, W: Wire>(
     ensures unbegun { IsUnbegun result → (wire.new ≡ wire.old) × (trace.new ≡ trace.old) }
     ensures no_memory { result ≡ Status.NoMemory → (K.taken out.new ≡ K.taken out.old) × (K.faults out.new ≡ K.faults out.old) }
 
-    // Only `station` uses files, the trace and the wire; no file changes.
-    ensures alone { (IsSomeStation words.now → ⊥) → (files.new ≡ files.old) × (wire.new ≡ wire.old) × (trace.new ≡ trace.old) }
+    // Only `station` uses the wire, and only it and `replay` use files and the trace; no file changes.
+    ensures alone { (IsSomeStation words.now → ⊥) → wire.new ≡ wire.old }
+    ensures apart { (ReadsFiles words.now → ⊥) → (files.new ≡ files.old) × (trace.new ≡ trace.old) }
     ensures holds { (other : List ℕ) → F.holds files.new other ≡ F.holds files.old other }
 
     // A fault is told only where a call failed, and that of the trace exactly there.
@@ -92,9 +111,12 @@ pub fn run<F: Source, K: Sink, J: Sink, W: Wire>(
 {
     match read_words(alloc, words) {
         Ok(Command::Station { plan }) => serve(alloc, plan, files, out, trace, wire),
+        Ok(Command::Replay { plan, trace: recorded }) => {
+            replay_trace(alloc, plan, recorded, files, out, trace)
+        }
         Ok(Command::Decode { dialect, hex }) => decode(alloc, dialect, hex, out),
         Ok(Command::Encode { dialect, text }) => encode(alloc, dialect, text, out),
-        Ok(Command::Replay { .. }) | Err(WordsFault::NoCommand) => {
+        Err(WordsFault::NoCommand) => {
             tell_fault(out, b"words\n");
             Status::Words
         }

@@ -1,41 +1,35 @@
-//! Replays recorded runs of a station, and counts those that are written anew as they were recorded.
+//! Replays recorded runs of a station, and counts those that come out as they were recorded.
 //!
-//! The word is a file of runs. A run is the lines of its plan, each behind `p `, then the lines of its trace, each behind `t `, and then a line
-//! that names it. A run that is written otherwise is named.
+//! The words are files of runs. A run is the lines of its plan, each behind `p `, then the lines of its trace, each behind `t `, and then a line
+//! that names it: its replay writes that trace anew, as many lines as it has. Another, as a damaged one, has besides, each behind `w `, the status
+//! of its replay and the line that is printed. A run that comes out otherwise is named.
+//!
+//! Each run is replayed once more, with a trace that takes one line alone: that is a front of what the whole replay wrote.
 #![tactic(auto)]
 
-ghost use Rattle.std.specs.Prelude.{◌≡◌, length};
-ghost use Rattle.session_words.specs.Plans.{IsSitePlan};
-ghost use Rattle.replay_wire.specs.Replays.{AllCanBeHeard};
-
-use anyhow::{Context, Result};
-use charge_codecs::ChargeCodecs;
-use charge_world::{Entry, MemorySink};
-use replay_wire::traces_can_be_heard;
-use session_words::SitePlan;
-use site_core::Site;
-use site_plan::site_plan_of;
-use site_replays::replay;
+use anyhow::Result;
+use charge_run::{Status, WordList, run};
+use charge_world::{MemorySink, MemorySource, MemoryWire, NamedFile, Piece};
 use std::alloc::Global;
 use std::process::ExitCode;
 use std::{env, fs};
-use trace_reading::read_trace;
 
 /// Room for a trace that is written anew, in bytes.
 const ROOM: u32 = 1_000_000;
 
-/// How many runs are written anew as they were, and how many aren't.
+/// How many runs come out as they were recorded, and how many don't.
 #[derive(Clone, Copy, Debug, Default)]
 struct Counts {
     same: u64,
     other: u64,
 }
 
-/// A run: its plan and its trace.
+/// A run: its plan and its trace, and, where these don't tell it, what its replay comes to.
 #[derive(Drop)]
 struct Run {
     plan: String,
     trace: String,
+    wanted: String,
 }
 
 impl Run {
@@ -43,31 +37,42 @@ impl Run {
         Run {
             plan: String::new(alloc),
             trace: String::new(alloc),
+            wanted: String::new(alloc),
         }
     }
 }
 
-fn main(rt: HostRuntime) -> Result<ExitCode> {
-    let file = env::args(&rt)?.nth(1).context("no file of runs")?;
-    let bytes = fs::read(&rt, file.as_str())?;
-    let counts = count(&rt, rt.alloc(), str::from_utf8(bytes.as_slice())?)?;
-    println!(rt; "same {} other {}", counts.same, counts.other)?;
-    Ok(if counts.other > 0 {
-        ExitCode::from(1)
-    } else {
-        ExitCode::SUCCESS
-    })
+/// What a replay left.
+#[derive(Drop)]
+struct Left {
+    status: Status,
+    out: MemorySink,
+    trace: MemorySink,
 }
 
-/// Replays each run of a text.
-fn count(rt: &impl Print, alloc: Global, text: &str) -> Result<Counts> {
+fn main(rt: HostRuntime) -> Result<ExitCode> {
+    let mut code = ExitCode::SUCCESS;
+    for file in env::args(&rt)?.skip(1) {
+        let counts = count(&rt, rt.alloc(), &fs::read(&rt, file.as_str())?)?;
+        println!(rt; "{file}: same {} other {}", counts.same, counts.other)?;
+        if counts.other > 0 {
+            code = ExitCode::from(1);
+        }
+    }
+    Ok(code)
+}
+
+/// Replays each run of a file.
+fn count(rt: &impl Print, alloc: Global, bytes: &[u8]) -> Result<Counts> {
     let mut counts = Counts::default();
     let mut run = Run::new(alloc);
-    for line in text.lines() {
+    for line in str::from_utf8(bytes)?.lines() {
         if let Some(rest) = line.strip_prefix("p ") {
             add_line(&mut run.plan, rest)?;
         } else if let Some(rest) = line.strip_prefix("t ") {
             add_line(&mut run.trace, rest)?;
+        } else if let Some(rest) = line.strip_prefix("w ") {
+            add_line(&mut run.wanted, rest)?;
         } else {
             settle(rt, alloc, &run, line, &mut counts)?;
             run = Run::new(alloc);
@@ -83,7 +88,7 @@ fn add_line(text: &mut String, line: &str) -> Result<()> {
     Ok(())
 }
 
-/// Replays a run, and counts it. One that is written otherwise is named.
+/// Replays a run, and counts it. One that comes out otherwise is named.
 fn settle(
     rt: &impl Print,
     alloc: Global,
@@ -91,50 +96,89 @@ fn settle(
     name: &str,
     counts: &mut Counts,
 ) -> Result<()> {
-    if is_same(alloc, run)? {
+    if is_as_recorded(alloc, run)? {
         counts.same = counts.same.saturating_add(1);
     } else {
         counts.other = counts.other.saturating_add(1);
-        println!(rt; "{name} is written otherwise")?;
+        println!(rt; "{name} comes out otherwise")?;
     }
     Ok(())
 }
 
-/// Whether a run is written anew as it was; `false` where its plan or its trace is refused.
-fn is_same(alloc: Global, run: &Run) -> Result<bool> {
-    let Ok(plan) = site_plan_of(alloc, run.plan.as_bytes()) else {
-        return Ok(false);
+/// Whether a run comes out as it was recorded.
+fn is_as_recorded(alloc: Global, run: &Run) -> Result<bool> {
+    let left = replayed(alloc, run, Vec::new(alloc))?;
+    let cut = replayed(alloc, run, vec![in alloc; 2]?)?;
+    let is_same = if run.wanted.is_empty() {
+        is_written_so(alloc, run, &left)?
+    } else {
+        is_wanted(alloc, run, &left)?
     };
-    let posts = posts_of(&plan);
-    traces_can_be_heard();
-    match read_trace(alloc, run.trace.as_bytes(), posts) {
-        Ok(recorded) => is_written_so(alloc, &plan, posts, recorded, run.trace.as_bytes()),
-        Err(_) => Ok(false),
+    Ok(is_same && is_front(&left, &cut))
+}
+
+/// Whether the trace of a run was written anew as it was, and the line tells that it was.
+fn is_written_so(alloc: Global, run: &Run, left: &Left) -> Result<bool> {
+    let lines = run.trace.lines().count();
+    let front = format!(in alloc; "lines {lines} ended ")?;
+    Ok(
+        left.status == Status::Done
+            && left.trace.bytes() == run.trace.as_bytes()
+            && left.out.bytes().starts_with(front.as_bytes()),
+    )
+}
+
+/// Whether the status and the line are those that a run wants.
+fn is_wanted(alloc: Global, run: &Run, left: &Left) -> Result<bool> {
+    let status = left.status.number();
+    let line = str::from_utf8(left.out.bytes())?;
+    Ok(format!(in alloc; "{status}\n{line}")? == run.wanted)
+}
+
+/// Whether a replay was cut off behind one line where the whole one wrote its trace, and else came out the same.
+fn is_front(left: &Left, cut: &Left) -> bool {
+    if left.status == Status::Done {
+        cut.status == Status::SinkFault
+            && cut.out.bytes().is_empty()
+            && left.trace.bytes().starts_with(cut.trace.bytes())
+    } else {
+        cut.status == left.status && cut.trace.bytes().is_empty()
     }
 }
 
-/// How many posts a plan has.
-fn posts_of(plan: &SitePlan) -> u8
-    requires { IsSitePlan plan.now }
-    ensures { result ≡ length plan.now.post.items }
-{
-    plan.post.len() as u8
+/// Replays the trace of a run under its plan. The writes of these numbers on the trace fail.
+fn replayed(alloc: Global, run_of: &Run, failing: Vec<u32>) -> Result<Left> {
+    let files = vec![in alloc;
+        named(alloc, "plan", run_of.plan.as_str())?,
+        named(alloc, "recorded", run_of.trace.as_str())?,
+    ]?;
+    let mut out = MemorySink::make(alloc, Vec::new(alloc), 128)?;
+    let mut trace = MemorySink::make(alloc, failing, ROOM)?;
+    let mut wire = MemoryWire::make(alloc, Vec::new(alloc), Vec::new(alloc), 0, 0)?;
+    let status = run(
+        alloc,
+        &words(alloc)?,
+        &mut MemorySource::of(files, Vec::new(alloc)),
+        &mut out,
+        &mut trace,
+        &mut wire,
+    );
+    Ok(Left { status, out, trace })
 }
 
-/// Whether the trace of a site that replays this record is this text.
-fn is_written_so(
-    alloc: Global,
-    plan: &SitePlan,
-    posts: u8,
-    recorded: Vec<Entry>,
-    text: &[u8],
-) -> Result<bool>
-    requires plan { IsSitePlan plan.now }
-    requires posts { posts ≡ length plan.now.post.items }
-    requires heard { AllCanBeHeard posts recorded.items }
-{
-    let mut site = Site::make(alloc, ChargeCodecs::make(alloc)?, plan)?;
-    let mut trace = MemorySink::make(alloc, Vec::new(alloc), ROOM)?;
-    let _ = replay(recorded, posts, &mut site, &mut trace);
-    Ok(trace.bytes() == text)
+/// A file of that name.
+fn named(alloc: Global, name: &str, text: &str) -> Result<NamedFile> {
+    Ok(NamedFile {
+        name: Piece::of(name.as_bytes().to_vec(alloc)?),
+        bytes: Piece::of(text.as_bytes().to_vec(alloc)?),
+    })
+}
+
+/// The words of the command.
+fn words(alloc: Global) -> Result<WordList> {
+    Ok(WordList::of(vec![in alloc;
+        String::from_str(alloc, "replay")?,
+        String::from_str(alloc, "plan")?,
+        String::from_str(alloc, "recorded")?,
+    ]?))
 }

@@ -26,14 +26,13 @@ pub(crate) fn said(
 
 #[test]
 fn words_that_are_no_command(rt: HostRuntime) -> Result<(), Fail> {
-    let table: [&[&str]; 16] = [
+    let table: [&[&str]; 15] = [
         &[],
         &[""],
         &["Station"],
         &["station"],
         &["station", "-x"],
         &["station", "plan", "plan"],
-        &["replay", "plan", "trace"],
         &["help"],
         &["--help"],
         &["decode"],

@@ -1,0 +1,67 @@
+-- Own: the two files of a replay: the plan of a station, and a trace.
+use Rattle.std.specs.Prelude.{◌≡◌, ◌⊎◌, ◌<◌, ℕ, List, length, Option, Some, IsSome, IsSomeAnd}
+use Rattle.charge_world.specs.declared.entry.Entry.{Entry}
+use Rattle.session_words.specs.declared.plan.SitePlan.{SitePlan}
+use Rattle.plan_keys.specs.declared.fault.PlanFault.{PlanFault}
+use Rattle.plan_keys.specs.declared.fault.PlanFault.TheVariants as plan_fault
+use Rattle.site_plan.specs.Plans.{IsSitePlanOf, site_told}
+use Rattle.trace_files.specs.Recordings.{IsRecorded, IsRefusedAt}
+use Rattle.replay_command.specs.declared.recording.FilesFault.{FilesFault}
+use Rattle.replay_command.specs.declared.recording.FilesFault.TheVariants.{Unread, Plan, Line, Memory}
+
+-- what a source tells of them: their texts, and its count of faults, which went from n to m
+pub record FilesTold : Type 0 where
+  pub plan : Option (List ℕ)
+  pub trace : Option (List ℕ)
+  pub n : ℕ
+  pub m : ℕ
+
+abbrev pub files_told : Option (List ℕ) → Option (List ℕ) → ℕ → ℕ → FilesTold
+files_told plan trace n m = record { plan = plan; trace = trace; n = n; m = m }
+
+-- a source that tells at each moment what is left of the file that it reads
+abbrev pub TellsAlways : {S : Type 0} → (S → Option (List ℕ)) → Type 0
+TellsAlways {S} left = (s : S) → IsSome (left s)
+
+-- where that is so, the text of a file is told, and this holds of it
+abbrev pub OfText : Type 0 → Option (List ℕ) → (List ℕ → Type 0) → Type 0
+OfText tells text P = tells → IsSomeAnd text P
+
+-- the first file is this plan, and the second a trace of these entries at its posts, the oldest first
+pub record AreFiles (tells : Type 0) (files : FilesTold) (plan : SitePlan) (recorded : List Entry) : Type 0 where
+  pub plan_is : OfText tells files.plan (λ text. IsSitePlanOf text plan)
+  pub trace_is : OfText tells files.trace (λ text. IsRecorded (length plan.post.items) text recorded)
+
+-- the first file is a plan, and the second is refused at this line as a trace at its posts
+pub record IsTraceRefused (tells : Type 0) (files : FilesTold) (number : ℕ) : Type 0 where
+  pub plan : SitePlan
+  pub plan_is : OfText tells files.plan (λ text. IsSitePlanOf text plan)
+  pub refused : OfText tells files.trace (λ text. IsRefusedAt (length plan.post.items) text number)
+
+-- what is wrong with them. Want of memory comes freely
+abbrev pub HasFault : Type 0 → FilesTold → FilesFault → Type 0
+HasFault tells files Unread = Unit {0}
+HasFault tells files (Plan fault) = (fault ≡ plan_fault.Memory) ⊎ OfText tells files.plan (λ text. site_told text ≡ Some fault)
+HasFault tells files (Line number) = IsTraceRefused tells files number
+HasFault tells files Memory = Unit {0}
+
+-- what is wrong with the second, read as a trace of so many posts
+abbrev pub HasTraceFault : Type 0 → Option (List ℕ) → ℕ → FilesFault → Type 0
+HasTraceFault tells trace posts Unread = Unit {0}
+HasTraceFault tells trace posts (Plan fault) = ⊥
+HasTraceFault tells trace posts (Line number) = OfText tells trace (λ text. IsRefusedAt posts text number)
+HasTraceFault tells trace posts Memory = Unit {0}
+
+-- what is told where the first has this fault: the second is read before that is judged
+abbrev pub IsBehind : PlanFault → FilesFault → Type 0
+IsBehind fault Unread = Unit {0}
+IsBehind fault (Plan told) = told ≡ fault
+IsBehind fault (Line number) = ⊥
+IsBehind fault Memory = Unit {0}
+
+-- the count of faults rose exactly where a file could not be read
+abbrev pub CountsFault : ℕ → ℕ → FilesFault → Type 0
+CountsFault n m Unread = n < m
+CountsFault n m (Plan fault) = m ≡ n
+CountsFault n m (Line number) = m ≡ n
+CountsFault n m Memory = m ≡ n

@@ -1,0 +1,4 @@
+pub mod Files
+pub mod Itself
+pub mod Lines
+pub mod Replays

@@ -1,0 +1,103 @@
+//! The plan and the trace of a replay.
+
+ghost use Rattle.std.specs.Prelude.{◌≡◌, ◌≤◌, ℕ, List, length, IfOk, IfErr, MatchResult};
+ghost use Rattle.session_words.specs.Plans.{IsSitePlan};
+ghost use Rattle.replay_wire.specs.Replays.{AllCanBeHeard};
+ghost use Rattle.trace_files.specs.Recordings.{IsRecorded};
+ghost use Rattle.replay_command.specs.Files.{files_told, TellsAlways, OfText, AreFiles, HasFault, HasTraceFault, IsBehind, CountsFault};
+
+use charge_world::{Entry, Source};
+use plan_files::{PlanFileFault, site_plan_in};
+use site_plan::{PlanFault, SitePlan};
+use std::alloc::Global;
+use trace_files::{TextFault, text_in, trace_of};
+use trace_reading::TraceFault;
+
+/// A plan, and the entries of a trace at its posts, the oldest first.
+#[derive(Drop)]
+pub(crate) struct Recording {
+    pub(crate) plan: SitePlan,
+    pub(crate) entries: Vec<Entry>,
+}
+
+/// Why there is nothing to replay.
+#[derive(Debug, Drop)]
+pub(crate) enum FilesFault {
+    /// A file could not be read.
+    Unread,
+    /// The plan is refused, or memory ran out.
+    Plan(PlanFault),
+    /// The trace is refused at this line, counted from 1.
+    Line(u64),
+    /// Memory ran out.
+    Memory,
+}
+
+/// The entries of the trace in the file of that name, whose posts are from 1 to `posts`.
+fn entries_in<F: Source>(
+    alloc: Global,
+    posts: u8,
+    name: &str,
+    files: &mut F,
+) -> Result<Vec<Entry>, FilesFault>
+    ensures read { IfOk result (λ entries. OfText (TellsAlways F.left) (F.holds files.old name.now) (λ text. IsRecorded posts text entries.items)) }
+    ensures heard { IfOk result (λ entries. AllCanBeHeard posts entries.items) }
+    ensures fault { IfErr result (HasTraceFault (TellsAlways F.left) (F.holds files.old name.now) posts) }
+    ensures faults { MatchResult result (λ _. F.faults files.new ≡ F.faults files.old) (CountsFault (F.faults files.old) (F.faults files.new)) }
+    ensures holds { (other : List ℕ) → F.holds files.new other ≡ F.holds files.old other }
+{
+    match text_in(alloc, files, name) {
+        Ok(bytes) => match trace_of(alloc, &bytes, posts) {
+            Ok(entries) => Ok(entries),
+            Err(TraceFault::BadLine(number)) => Err(FilesFault::Line(number)),
+            Err(TraceFault::Memory) => Err(FilesFault::Memory),
+        },
+        Err(TextFault::Unread) => Err(FilesFault::Unread),
+        Err(TextFault::Memory) => Err(FilesFault::Memory),
+    }
+}
+
+/// Why there is nothing to replay where the plan is refused: the trace is still read, and what can't be read is told first.
+fn refused_behind<F: Source>(
+    alloc: Global,
+    fault: PlanFault,
+    name: &str,
+    files: &mut F,
+) -> FilesFault
+    ensures fault { IsBehind fault result }
+    ensures faults { CountsFault (F.faults files.old) (F.faults files.new) result }
+    ensures holds { (other : List ℕ) → F.holds files.new other ≡ F.holds files.old other }
+{
+    match text_in(alloc, files, name) {
+        Ok(_) => FilesFault::Plan(fault),
+        Err(TextFault::Unread) => FilesFault::Unread,
+        Err(TextFault::Memory) => FilesFault::Memory,
+    }
+}
+
+/// Reads both files, and then judges the plan, and the trace at its posts.
+pub(crate) fn recording_in<F: Source>(
+    alloc: Global,
+    plan_name: &str,
+    trace_name: &str,
+    files: &mut F,
+) -> Result<Recording, FilesFault>
+    ensures read { IfOk result (λ recording. AreFiles (TellsAlways F.left)
+        (files_told (F.holds files.old plan_name.now) (F.holds files.old trace_name.now) (F.faults files.old) (F.faults files.new))
+        recording.plan recording.entries.items) }
+    ensures within { IfOk result (λ recording. IsSitePlan recording.plan) }
+    ensures heard { IfOk result (λ recording. AllCanBeHeard (length recording.plan.post.items) recording.entries.items) }
+    ensures fault { IfErr result (HasFault (TellsAlways F.left)
+        (files_told (F.holds files.old plan_name.now) (F.holds files.old trace_name.now) (F.faults files.old) (F.faults files.new))) }
+    ensures faults { MatchResult result (λ _. F.faults files.new ≡ F.faults files.old) (CountsFault (F.faults files.old) (F.faults files.new)) }
+    ensures holds { (other : List ℕ) → F.holds files.new other ≡ F.holds files.old other }
+{
+    match site_plan_in(alloc, files, plan_name) {
+        Ok(plan) => match entries_in(alloc, plan.post.len() as u8, trace_name, files) {
+            Ok(entries) => Ok(Recording { plan, entries }),
+            Err(fault) => Err(fault),
+        },
+        Err(PlanFileFault::Unread) => Err(FilesFault::Unread),
+        Err(PlanFileFault::Refused(fault)) => Err(refused_behind(alloc, fault, trace_name, files)),
+    }
+}
