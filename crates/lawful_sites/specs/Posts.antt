@@ -11,6 +11,7 @@ use Rattle.safe_runs.specs.Opening.{OpensAgain, EndsOpen}
 use Rattle.failed_replies.specs.Replies.{AreOpened}
 use Rattle.mandated_runs.specs.Holding.{HoldsMandated, IsHeldRightly}
 use Rattle.opened_causes.specs.Causing.{OpenAtCauses}
+use Rattle.standing_causes.specs.Standing.{OpenAtFirst}
 use Rattle.conforming_runs.specs.Conforming.{Conforming}
 use Rattle.served_sessions.specs.Serving.{AreServed, IsRested}
 
@@ -23,8 +24,8 @@ pub record IsWellServed (c : Codecs) (plan : PostPlan) (steps : List Step) (bloc
 
 -- Of one post, whose entries behind the last hearing's answers are `blocks`, with the closing orders `past`:
 -- each Close is mandated, and the contactor is held closed only as mandated; a failed order is followed by an Open; at the end a live contactor
--- is ordered open; while it is live no FAILED reply is sent; what ends a session opens it first; without a session nothing is sent; and
--- where its sessions conform, it is served
+-- is ordered open; while it is live no FAILED reply is sent; what ends a session opens it first, where it comes and wherever it stands
+-- first; without a session nothing is sent; and where its sessions conform, it is served
 pub record IsLawfulPost (c : Codecs) (plan : PostPlan) (steps : List Step) (blocks past : List Seen) : Type 0 where
   pub closes : ClosesMandated c plan blocks
   pub holds : HoldsMandated c plan past
@@ -33,5 +34,6 @@ pub record IsLawfulPost (c : Codecs) (plan : PostPlan) (steps : List Step) (bloc
   pub ends_open : EndsOpen past blocks
   pub replies : AreOpened c plan blocks
   pub causes : OpenAtCauses c plan steps
+  pub stands : OpenAtFirst c plan steps
   pub silent : IsSilent blocks
   pub served : Conforming plan steps → IsWellServed c plan steps blocks

@@ -21,6 +21,7 @@ use served_sessions::serves_conforming_sessions;
 use silent_runs::sends_in_sessions;
 use site_core::{Ended, Site};
 use spelled_watts::spelled_within_limit;
+use standing_causes::opens_where_causes_stand;
 use word_codec::LawfulCodec;
 
 /// Every run of a site, whole or cut, is lawful: safe, within its limit, and silent without a session. A post whose sessions conform is served, and a
@@ -34,6 +35,7 @@ pub fn law_of_sites<C: LawfulCodec>()
     no_failed_reply_while_live::<C>();
     ends_as_mandated::<C>();
     opens_at_causes::<C>();
+    opens_where_causes_stand::<C>();
     sends_in_sessions::<C>();
     spelled_within_limit::<C>();
     serves_conforming_sessions::<C>();

@@ -1,6 +1,6 @@
 //! The lines that a replay prints.
 
-ghost use Rattle.std.specs.Prelude.{◌≡◌, ◌+◌, ◌≤◌, ◌++◌, length, min, option_map, codes, decimal};
+ghost use Rattle.std.specs.Prelude.{◌≡◌, ◌+◌, ◌≤◌, ◌++◌, length, min, codes, decimal};
 ghost use Rattle.station_command.specs.Refused.{key_of};
 ghost use Rattle.station_command.specs.Served.{sink_told};
 ghost use Rattle.replay_command.specs.Lines.{replay_line, Prints, Concludes, Refuses};
@@ -9,8 +9,8 @@ use crate::recording::FilesFault;
 use charge_world::Sink;
 use command_status::{Line, Status, add, add_number, line_of_input, tell_fault, tell_plan};
 use site_core::Ended;
-use site_plan::PlanFault;
 use site_replays::Replayed;
+use station_command::key_of;
 
 /// The line of a replay that wrote so many lines.
 #[tactic(auto, unfolding(crate::specs::Lines::replay_line))]
@@ -73,18 +73,5 @@ pub(crate) fn refuse<K: Sink>(out: &mut K, fault: FilesFault) -> Status
             Status::Input
         }
         FilesFault::Memory => Status::NoMemory,
-    }
-}
-
-/// The key of a fault, or `toml`; none for want of memory.
-fn key_of(fault: &PlanFault) -> Option<&str>
-    ensures { option_map (λ key. key.now) result ≡ key_of fault.now }
-{
-    match fault {
-        PlanFault::NotToml => Some("toml"),
-        PlanFault::Missing(key) | PlanFault::BadValue(key) | PlanFault::OverLimit(key) => {
-            Some(key.as_str())
-        }
-        PlanFault::Memory => None,
     }
 }

@@ -69,7 +69,7 @@ pub fn station<C: LawfulCodec + Drop, F: Source, K: Sink, J: Sink, W: Wire>(
 }
 
 /// The key of a fault, or `toml`; none for want of memory.
-fn key_of(fault: &PlanFault) -> Option<&str>
+pub fn key_of(fault: &PlanFault) -> Option<&str>
     ensures { option_map (λ key. key.now) result ≡ key_of fault.now }
 {
     match fault {

@@ -6,4 +6,4 @@ mod lines;
 mod ports;
 mod serving;
 
-pub use command::station;
+pub use command::{key_of, station};

@@ -21,6 +21,7 @@ returns g c plan past r =
             ends_open = c.ends_open.ensures plan past r.blocks r.posts before post behind r.run r.closes are;
             replies = c.no_failed_reply_while_live.ensures plan r.blocks r.posts before post behind rb r.run are;
             causes = (c.opens_at_causes.ensures plan r.blocks r.posts before post behind rb det r.run are).0;
+            stands = (c.opens_where_causes_stand.ensures plan r.blocks r.posts before post behind rb det r.run are).0;
             silent = c.sends_in_sessions.ensures plan r.blocks r.posts before post behind r.run are;
             served = λ conforms.
                 let gets = c.serves_conforming_sessions.ensures.runs plan r.blocks r.posts before post behind rb r.run are conforms in
