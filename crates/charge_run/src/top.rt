@@ -111,9 +111,12 @@ pub fn run<F: Source, K: Sink, J: Sink, W: Wire>(
 {
     match read_words(alloc, words) {
         Ok(Command::Station { plan }) => serve(alloc, plan, files, out, trace, wire),
-        Ok(Command::Replay { plan, trace: recorded }) => {
-            replay_trace(alloc, plan, recorded, files, out, trace)
-        }
+        Ok(
+            Command::Replay {
+                plan,
+                trace: recorded,
+            },
+        ) => { replay_trace(alloc, plan, recorded, files, out, trace) }
         Ok(Command::Decode { dialect, hex }) => decode(alloc, dialect, hex, out),
         Ok(Command::Encode { dialect, text }) => encode(alloc, dialect, text, out),
         Err(WordsFault::NoCommand) => {
