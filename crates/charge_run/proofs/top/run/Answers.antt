@@ -1,4 +1,3 @@
-use Rattle.std.proofs.Common.{refl}
 use Rattle.charge_run.proofs.Answered.{only_refused, only_unscanned, same_decoded, same_encoded}
 use Rattle.charge_run.proofs.WordLists.{one_value}
 use Rattle.charge_run.proofs.top.run.Goals as goal
