@@ -36,10 +36,10 @@ fn is_mode(mode: OfferedMode) -> bool
 }
 
 /// Whether all of these are modes of ISO.
-fn are_modes(modes: &[OfferedMode]) -> bool
-    ensures { IsTrue result ↔ All (λ m. IsTrue (modes.is_iso_mode m)) modes.now }
+fn are_modes(offered: &[OfferedMode]) -> bool
+    ensures { IsTrue result ↔ All (λ m. IsTrue (modes.is_iso_mode m)) offered.now }
 {
-    modes.iter().all(|mode| is_mode(*mode))
+    offered.iter().all(|mode| is_mode(*mode))
 }
 
 /// Whether all bytes of a text are ASCII characters.

@@ -1,5 +1,7 @@
-//! The codecs of a site's messages (ISO 15118-2:2014, sections 8.2 and 8.3; DIN SPEC 70121:2014) as a plain site asks for them. They stand
-//! outside the product.
+//! Whether the past of a site is a run of it, by the definitions of a station at the codecs of the product: those of the negotiation
+//! (ISO 15118-2:2014, section 8.2), of ISO 15118-2:2014 (section 8.3) and of DIN SPEC 70121:2014.
+//!
+//! It takes a plain site, which knows the definitions alone, and stands outside the product.
 #![tactic(auto)]
 
 mod amounts;
@@ -7,8 +9,10 @@ mod codecs;
 mod din;
 mod iso;
 mod judged;
+mod running;
 mod typed;
 mod writer;
 
 pub use codecs::PlainCodecs;
-pub use plain_site::{Codec, NoMemory};
+pub use plain_site::{Ending, NoMemory};
+pub use running::is_run;

@@ -1,97 +1,62 @@
-//! Holds recorded runs of a station against a plain site.
+//! Holds recorded runs of a station against the definitions, by a plain site at the codecs of the product.
+//!
+//! Each run is accepted as a whole one. Each is refused where one line of what the site did is left out, doubled, altered or moved by one
+//! place: by the definitions nothing but the outcome of a call, and that of the same call, may stand in its place.
+//!
+//! The words are a file of runs and a number N. A run is the lines of its plan, each behind `p `, then the lines of its trace, each behind
+//! `t `, and then a line that names it. Every Nth line of what the site did is changed. What comes otherwise is named.
 #![tactic(auto)]
 
 mod changes;
 mod places;
+mod runs;
+
+ghost use Rattle.std.specs.Prelude.{◌<◌};
 
 use anyhow::{Context, Result};
-use changes::{Change, changed};
-use charge_world::Entry;
-use places::places_of;
 use plain_codecs::PlainCodecs;
-use plain_site::{Ending, check};
-use session_words::SitePlan;
-use site_plan::site_plan_of;
+use runs::{Run, Tried};
 use std::alloc::Global;
 use std::process::ExitCode;
 use std::{env, fs};
-use trace_reading::read_trace;
-
-#[derive(Drop)]
-struct Run {
-    plan: String,
-    trace: String,
-}
-
-impl Run {
-    fn new(alloc: Global) -> Run {
-        Run {
-            plan: String::new(alloc),
-            trace: String::new(alloc),
-        }
-    }
-}
 
 fn main(rt: HostRuntime) -> Result<ExitCode> {
-    let file = env::args(&rt)?.nth(1).context("no file of runs")?;
-    let most: usize = env::args(&rt)?.nth(2).context("no number of lines")?.as_str().parse()?;
+    let mut words = env::args(&rt)?.skip(1);
+    let file = words.next().context("no file of runs")?;
+    let step: usize = words.next().context("no number")?.as_str().parse()?;
     let bytes = fs::read(&rt, file.as_str())?;
-    let alloc = rt.alloc();
+    let tried = try_all(&rt, rt.alloc(), str::from_utf8(bytes.as_slice())?, step.max(1))?;
+    println!(rt; "runs {} accepted, changes {} refused", tried.accepted, tried.refused)?;
+    Ok(if tried.otherwise > 0 {
+        ExitCode::from(1)
+    } else {
+        ExitCode::SUCCESS
+    })
+}
+
+/// Tries each run of a text.
+fn try_all(rt: &impl Print, alloc: Global, text: &str, step: usize) -> Result<Tried>
+    requires { 0 < step }
+{
     let codecs = PlainCodecs::make(alloc)?;
+    let mut tried = Tried::default();
     let mut run = Run::new(alloc);
-    for line in str::from_utf8(bytes.as_slice())?.lines() {
+    for line in text.lines() {
         if let Some(rest) = line.strip_prefix("p ") {
             add_line(&mut run.plan, rest)?;
         } else if let Some(rest) = line.strip_prefix("t ") {
             add_line(&mut run.trace, rest)?;
         } else {
-            settle(&rt, alloc, &codecs, &run, line, most)?;
+            run.settle(rt, alloc, &codecs, line, step, &mut tried)?;
             run = Run::new(alloc);
         }
     }
-    Ok(ExitCode::SUCCESS)
+    Ok(tried)
 }
 
+/// Adds a line to a text.
 fn add_line(text: &mut String, line: &str) -> Result<()> {
     text.push_str(line)?;
     text.push('\n')?;
-    Ok(())
-}
-
-fn plan_of(alloc: Global, run: &Run) -> Result<SitePlan> {
-    match site_plan_of(alloc, run.plan.as_bytes()) {
-        Ok(plan) => Ok(plan),
-        Err(_) => anyhow::bail!("no plan"),
-    }
-}
-
-fn settle(
-    rt: &impl Print,
-    alloc: Global,
-    codecs: &PlainCodecs,
-    run: &Run,
-    name: &str,
-    most: usize,
-) -> Result<()> {
-    let plan = plan_of(alloc, run)?;
-    let Ok(entries) = read_trace(alloc, run.trace.as_bytes(), plan.post.len() as u8) else {
-        println!(rt; "{name} isn't read")?;
-        return Ok(());
-    };
-    match check(alloc, codecs, plan, Ending::Whole, entries.as_slice()) {
-        Ok(()) => println!(rt; "{name} whole")?,
-        Err(fault) => println!(rt; "{name} {fault:?}")?,
-    }
-    for place in places_of(alloc, entries.as_slice(), most)? {
-        for change in [Change::LeftOut, Change::Doubled, Change::Altered, Change::Moved] {
-            let plan = plan_of(alloc, run)?;
-            let later = changed(alloc, entries.as_slice(), place, change)?;
-            match check(alloc, codecs, plan, Ending::Whole, later.as_slice()) {
-                Ok(()) => println!(rt; "{name} still {place} {change:?}")?,
-                Err(plain_site::Fault::Memory) => println!(rt; "{name} memory")?,
-                Err(_) => {}
-            }
-        }
-    }
     Ok(())
 }

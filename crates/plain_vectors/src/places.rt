@@ -1,29 +1,42 @@
-//! Which lines are changed.
+//! Which lines of a record are changed.
 
-use anyhow::Result;
+ghost use Rattle.std.specs.Prelude.{◌<◌};
+
 use charge_world::Entry;
+use plain_codecs::NoMemory;
 use std::alloc::Global;
 
-/// Whether an entry is an act of the site.
-fn is_act(entry: &Entry) -> bool {
+/// Whether an entry is something that the site did.
+fn is_done(entry: &Entry) -> bool {
     !matches!(entry, Entry::Heard { .. } | Entry::Lost)
 }
 
-/// At most so many places of acts, spread evenly.
-pub(crate) fn places_of(alloc: Global, entries: &[Entry], most: usize) -> Result<Vec<usize>> {
-    let mut all = Vec::new(alloc);
+/// The places of all that the site did.
+fn done_places(alloc: Global, entries: &[Entry]) -> Result<Vec<usize>, NoMemory> {
+    let mut places = Vec::new(alloc);
     for (place, entry) in entries.iter().enumerate() {
-        if is_act(entry) {
-            all.push(place)?;
+        if is_done(entry) {
+            places.push(place)?;
         }
     }
-    let count = all.len();
-    if count <= most {
-        return Ok(all);
+    Ok(places)
+}
+
+/// The places of every so manieth thing that the site did. Which one is first depends on the number of the record.
+pub(crate) fn places_of(
+    alloc: Global,
+    entries: &[Entry],
+    step: usize,
+    number: usize,
+) -> Result<Vec<usize>, NoMemory>
+    requires { 0 < step }
+{
+    let all = done_places(alloc, entries)?;
+    let mut places = Vec::new(alloc);
+    for (k, place) in all.as_slice().iter().enumerate() {
+        if k % step == number % step {
+            places.push(*place)?;
+        }
     }
-    let mut some = Vec::new(alloc);
-    for k in 0..most {
-        some.push(all[k * count / most])?;
-    }
-    Ok(some)
+    Ok(places)
 }
