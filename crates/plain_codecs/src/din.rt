@@ -159,7 +159,8 @@ fn can_tell(tell: &Tell) -> bool
             schedule,
             limits,
         } => is_processing(*processing) && may_be_tuples(schedule) && can_limits(limits),
-        Tell::CableCheck { status, processing } => can_status(*status) && is_processing(*processing),
+        Tell::CableCheck { status, processing } => can_status(*status)
+            && is_processing(*processing),
         Tell::PreCharge { status, voltage } | Tell::WeldingDetection { status, voltage } => {
             can_status(*status) && are_tenths(*voltage)
         }

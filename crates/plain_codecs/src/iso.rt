@@ -113,7 +113,9 @@ fn can_limits(limits: &PostLimits) -> bool
 {
     match limits {
         PostLimits::Ac {
-            nominal, current, ..
+            nominal,
+            current,
+            ..
         } => are_tenths(*nominal) && are_tenths(*current),
         PostLimits::Dc {
             current,
@@ -146,7 +148,9 @@ fn can_tell(tell: &Tell) -> bool
             true
         }
         Tell::ChargeParameters {
-            schedule, limits, ..
+            schedule,
+            limits,
+            ..
         } => may_be_tuples(schedule) && can_limits(limits),
         Tell::PreCharge { voltage, .. } | Tell::WeldingDetection { voltage, .. } => {
             are_tenths(*voltage)

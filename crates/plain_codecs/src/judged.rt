@@ -10,10 +10,7 @@ use plain_station::Judged;
 use std::alloc::Global;
 
 /// The same judgement as a plain site has it.
-pub(crate) fn plain_judged(
-    alloc: Global,
-    judged: charge_codecs::Judged,
-) -> Result<Judged, NoMemory>
+pub(crate) fn plain_judged(alloc: Global, judged: charge_codecs::Judged) -> Result<Judged, NoMemory>
     ensures { IfOk result (λ same. plain.judged_of same ≡ machine.judged_of judged) }
 {
     match judged {
