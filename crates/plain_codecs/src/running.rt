@@ -1,8 +1,8 @@
 //! Whether a past is a run.
 
-ghost use Rattle.std.specs.Prelude.{◌≡◌, ◌↔◌, IfOk, IsTrue};
+ghost use Rattle.std.specs.Prelude.{◌≡◌, ◌↔◌, IfOk, IsTrue, false};
 ghost use Rattle.session_words.specs.Plans.{IsSitePlan};
-ghost use Rattle.plain_site.specs.Checking.{IsRunOf, past_of};
+ghost use Rattle.plain_site.specs.Checking.{IsRunOf, IsKnown, past_of};
 ghost use Rattle.plain_codecs.specs.Coding.{site_codecs};
 
 use crate::codecs::PlainCodecs;
@@ -11,6 +11,17 @@ use codec_laws::codecs_are_lawful;
 use plain_site::{Ending, Fault, NoMemory, check};
 use session_words::SitePlan;
 use std::alloc::Global;
+
+/// What a fault says of the entries: that they are no run. Want of memory says nothing.
+fn refused(fault: Fault) -> Result<bool, NoMemory>
+    ensures { IfOk result (λ is. (is ≡ false) × IsKnown fault) }
+{
+    match fault {
+        Fault::Memory => Err(NoMemory),
+        Fault::Wrong { .. } => Ok(false),
+        Fault::Unfinished => Ok(false),
+    }
+}
 
 /// Whether these entries, the oldest first, are a run of a site under this plan, which ends so.
 pub fn is_run(
@@ -26,7 +37,6 @@ pub fn is_run(
     codecs_are_lawful();
     match check(alloc, codecs, plan, ending, entries) {
         Ok(()) => Ok(true),
-        Err(Fault::Memory) => Err(NoMemory),
-        Err(Fault::Wrong { .. }) | Err(Fault::Unfinished) => Ok(false),
+        Err(fault) => refused(fault),
     }
 }

@@ -18,8 +18,12 @@ pub(crate) enum Change {
 }
 
 impl Change {
-    pub(crate) const ALL: [Change; 4] =
-        [Change::LeftOut, Change::Doubled, Change::Altered, Change::Moved];
+    pub(crate) const ALL: [Change; 4] = [
+        Change::LeftOut,
+        Change::Doubled,
+        Change::Altered,
+        Change::Moved,
+    ];
 }
 
 /// The same bytes once more.

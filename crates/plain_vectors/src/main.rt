@@ -25,8 +25,16 @@ fn main(rt: HostRuntime) -> Result<ExitCode> {
     let file = words.next().context("no file of runs")?;
     let step: usize = words.next().context("no number")?.as_str().parse()?;
     let bytes = fs::read(&rt, file.as_str())?;
-    let tried = try_all(&rt, rt.alloc(), str::from_utf8(bytes.as_slice())?, step.max(1))?;
-    println!(rt; "runs {} accepted, changes {} refused", tried.accepted, tried.refused)?;
+    let tried = try_all(
+        &rt,
+        rt.alloc(),
+        str::from_utf8(bytes.as_slice())?,
+        step.max(1),
+    )?;
+    println!(rt;
+        "runs {} accepted, changes {} refused",
+        tried.accepted, tried.refused
+    )?;
     Ok(if tried.otherwise > 0 {
         ExitCode::from(1)
     } else {

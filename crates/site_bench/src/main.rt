@@ -28,7 +28,11 @@ fn main(rt: HostRuntime) -> Result<ExitCode> {
     if task.as_str() == "replay" {
         replay_file(&rt, word.as_str())?;
     } else {
-        let requests: u32 = words.next().context("no number of requests")?.as_str().parse()?;
+        let requests: u32 = words
+            .next()
+            .context("no number of requests")?
+            .as_str()
+            .parse()?;
         serve_session(&rt, task.as_str(), word.as_str().parse()?, requests)?;
     }
     Ok(ExitCode::SUCCESS)
@@ -54,7 +58,11 @@ fn serve_session(rt: &HostRuntime, task: &str, posts: u8, requests: u32) -> Resu
 
 /// Prints what was written, and whether the site takes little.
 fn tell(rt: &HostRuntime, posts: u8, served: &Served) -> Result<()> {
-    println!(rt; "entries {} bytes {}", served.entries, served.trace.bytes().len())?;
+    println!(rt;
+        "entries {} bytes {}",
+        served.entries,
+        served.trace.bytes().len()
+    )?;
     let below = if served.taken < MOST { "yes" } else { "no" };
     println!(rt; "site of {posts} posts: below {MOST} bytes: {below}")?;
     Ok(())

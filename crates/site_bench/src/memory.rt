@@ -13,7 +13,11 @@ pub(crate) fn heap_bytes(rt: &HostRuntime) -> Result<u64> {
 fn heap_in(status: &str) -> Result<u64> {
     for line in status.lines() {
         if let Some(rest) = line.strip_prefix("VmData:") {
-            let word = rest.trim().split(' ').next().context("no number of kilobytes")?;
+            let word = rest
+                .trim()
+                .split(' ')
+                .next()
+                .context("no number of kilobytes")?;
             let kilobytes: u64 = word.parse()?;
             return Ok(kilobytes.saturating_mul(1024));
         }

@@ -12,7 +12,10 @@ pub(crate) fn plan_text(alloc: Global, posts: u8, hearings: u32) -> Result<Strin
     let mut text = format!(in alloc; "limit = 50000\nturns = {hearings}\n")?;
     for k in 0..posts {
         let port = 15120 + u16::from(k);
-        write!(text, "[[post]]\ntcp = {port}\ndialects = [\"iso\", \"din\"]\n")?;
+        write!(
+            text,
+            "[[post]]\ntcp = {port}\ndialects = [\"iso\", \"din\"]\n"
+        )?;
     }
     Ok(text)
 }
