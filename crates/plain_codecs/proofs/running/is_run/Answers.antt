@@ -1,4 +1,3 @@
-use Rattle.std.proofs.Common.{IfOk}
 use Rattle.plain_codecs.proofs.Refusals.{no_run}
 use Rattle.plain_codecs.proofs.running.is_run.Goals as goal
 
