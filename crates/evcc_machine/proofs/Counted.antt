@@ -63,3 +63,22 @@ counted_by plan d phase.Ending n t stop p h = h
 
 pub counted_behind : (plan : CarPlan) (s : CarStage) (r : Reply) (stop : Bool) → IsCarPlan plan → IsCounted s → IsCounted (stage_behind plan s r stop)
 counted_behind plan s r stop p h = counted_by plan s.dialect s.phase s.cycles r.tell stop p.cycles.1 h
+
+-- so one more can be counted
+most_le : (p : CarPhase) → most_cycles p ≤ 10000
+most_le phase.SettingUp = omega arith
+most_le phase.Discovering = omega arith
+most_le phase.Selecting = omega arith
+most_le phase.Authorizing = omega arith
+most_le phase.Asking = omega arith
+most_le phase.CableChecking = omega arith
+most_le phase.PreCharging = omega arith
+most_le phase.Starting = omega arith
+most_le phase.Charging = omega arith
+most_le phase.Stopping = omega arith
+most_le phase.Renegotiating = omega arith
+most_le (phase.Welding left) = omega arith
+most_le phase.Ending = omega arith
+
+pub counted_few : (s : CarStage) → IsCounted s → s.cycles < 4294967295
+counted_few s h = omega (arith, h, most_le s.phase)

@@ -1,6 +1,7 @@
 -- What each act and each word leaves to do.
 use Rattle.std.proofs.Common.{◌≡◌, ◌<◌, ◌≤◌, ℕ, ◌+◌, ◌*◌, min, ◌==◌, nat_le, nat_lt, Bool, true, false, not, ◌&&◌, if◌then◌else◌, List, length, drop, Option, Some, None, is_some, Result, Ok, Err, refl, sym, ap, ap₂, subst, ◌∙◌, arith}
 use Rattle.std.specs.Option.{option_map}
+use Rattle.std.proofs.lemmas.Bool.{leb-true, ltb-true}
 use Rattle.std.proofs.lemmas.Bool.Decides.{nat_tests}
 use Rattle.std.proofs.lemmas.List.{length-drop}
 use Rattle.charge_world.specs.declared.heard.PlantEvent.{PlantEvent}
@@ -8,7 +9,7 @@ use Rattle.charge_world.specs.declared.offer.Dialect.{Dialect}
 use Rattle.charge_world.specs.declared.ports.Order.{Order}
 use Rattle.session_timers.specs.Due.{never}
 use Rattle.session_words.specs.declared.cause.EndCause.{EndCause}
-use Rattle.session_words.specs.declared.cause.EndCause.TheVariants.{SendFailed, OrderFailed}
+use Rattle.session_words.specs.declared.cause.EndCause.TheVariants.{SendFailed, OrderFailed, BadFrame, NoNegotiation, WrongReply, Refused as PayloadRefused, WrongSide as FromWrongSide}
 use Rattle.session_words.specs.declared.plan.CarPlan.{CarPlan}
 use Rattle.session_words.specs.declared.word.Reply.{Reply}
 use Rattle.session_words.specs.Plans.{IsCarPlan}
@@ -69,8 +70,15 @@ seeks_le false due = omega arith
 seeks_le true due = omega arith
 
 -- a moment that lies behind now isn't reached
+not_and : (a b : Bool) → (a ≡ true → b ≡ true → ⊥) → (a && b) ≡ false
+not_and true true h = absurd (h refl refl)
+not_and true false h = refl
+not_and false b h = refl
+
 not_yet : (now span : ℕ) → 1 ≤ span → is_reached (due_at now span) now ≡ false
-not_yet now span h = grind (arith, nat_tests)
+not_yet now span h =
+    not_and (nat_le (due_at now span) now) (nat_lt (due_at now span) never)
+    (λ a b. omega (arith, leb-true (due_at now span) now a, ltb-true (due_at now span) never b, h))
 
 -- what is done first counts
 call_first : (p : Option ℕ) (o : Option Order) (sp : Option Spoken) (e : Option EndCause) (sk : Bool) (port : ℕ) → first_of p o sp e sk ≡ Some (states.Call port) → one_if p ≡ 1
@@ -128,8 +136,11 @@ failed_less : (plan : CarPlan) (s : State) (l : Bool) (x : Search) (cause : EndC
     → work plan (record s { live = l; search = x; agenda = failing s.agenda.ending cause k }) < work plan s
 failed_less plan s l x cause k o h =
     let t : State = record s { live = l; search = x; agenda = failing s.agenda.ending cause k } in
-    rw o (omega (arith, failed_by s.agenda.ending cause k (pending plan t) (pending plan s)
-    (one_if s.agenda.port + one_if s.agenda.order + one_if s.agenda.spoken + weight s.agenda.seeks 1) (omega (arith, h))))
+    rw o (omega (
+      arith,
+      failed_by s.agenda.ending cause k (pending plan t) (pending plan s)
+          (one_if s.agenda.port + one_if s.agenda.order + one_if s.agenda.spoken + weight s.agenda.seeks 1) (omega (arith, h)),
+    ))
 
 -- a car that dialed looks for no post
 no_search : (b y : Bool) (asked last : ℕ) → (if (b && false) && y then Some (if asked == 0 then 0 else due_at last 250) else None) ≡ None
@@ -221,15 +232,22 @@ rest_by None None None None false over da ds x h = omega arith
 
 rest_work : (plan : CarPlan) (s : State) → is_done s.agenda ≡ true → work plan s ≡ 6 * parts_left s.part + base plan s
 rest_work plan s h =
-    omega (arith, rest_by s.agenda.port s.agenda.order s.agenda.spoken s.agenda.ending s.agenda.seeks s.over (is_due (again_in s.session) s.clock)
-    (is_due (next_request plan s.search) s.clock) (6 * parts_left s.part + length (unread_in s.session)) h)
+    omega (
+      arith,
+      rest_by s.agenda.port s.agenda.order s.agenda.spoken s.agenda.ending s.agenda.seeks s.over (is_due (again_in s.session) s.clock)
+          (is_due (next_request plan s.search) s.clock) (6 * parts_left s.part + length (unread_in s.session)) h,
+    )
 
 placed_work : (plan : CarPlan) (s : State) (agenda : Agenda) (part : Part) → work plan (record s { agenda = agenda; part = part }) ≤ 5 + 6 * parts_left part + base plan s
 placed_work plan s agenda part =
     let r = repeats_le agenda.spoken (is_due (again_in s.session) s.clock) in
     let k = seeks_le agenda.seeks (is_due (next_request plan s.search) s.clock) in
-    omega (arith, load_le agenda, spare_le s.over agenda.ending (repeats agenda.spoken (is_due (again_in s.session) s.clock) + seeks agenda.seeks (is_due (next_request plan s.search) s.clock))
-    (repeats None (is_due (again_in s.session) s.clock) + seeks false (is_due (next_request plan s.search) s.clock)) (omega (arith, r, k)))
+    omega (
+      arith,
+      load_le agenda,
+      spare_le s.over agenda.ending (repeats agenda.spoken (is_due (again_in s.session) s.clock) + seeks agenda.seeks (is_due (next_request plan s.search) s.clock))
+          (repeats None (is_due (again_in s.session) s.clock) + seeks false (is_due (next_request plan s.search) s.clock)) (omega (arith, r, k)),
+    )
 
 decide_work : (plan : CarPlan) (agenda : Agenda) (part : Part) (s rest : State) (n : ℕ) (b : Bool) → is_done agenda ≡ b
     → (is_done agenda ≡ false → work plan (record s { agenda = agenda; part = part }) ≤ n) → work plan rest ≤ n → work plan (decide agenda part s rest) ≤ n
@@ -239,7 +257,7 @@ decide_work plan agenda part s rest n false e h r = rw e (h e)
 -- a fault at the front leads to an end
 front_load : (w : Result (Option ℕ) FrameFault) (live over : Bool) (m : ℕ) → over ≡ false → is_done (fronting_by w live) ≡ false
     → load (fronting_by w live) + spare_by over (fronting_by w live).ending m ≤ 2
-front_load (Err fault) live over m o h = rw o (omega (arith, ending_load _ live))
+front_load (Err fault) live over m o h = rw o (omega (arith, ending_load BadFrame live))
 front_load (Ok count) live over m o h = cc
 
 front_work : (plan : CarPlan) (s : State) (session : Option Session) → s.over ≡ false → is_done (fronting session s.live) ≡ false
@@ -259,7 +277,6 @@ repeat_by : (plan : CarPlan) (s : State) (session : Session) (due : Bool) → s.
     → work plan (record s { agenda = if due then record nothing { spoken = asking plan session.stage } else nothing; part = Wording }) ≤ base plan s
 repeat_by plan s session true o e d h =
     let a : is_due (again_in s.session) s.clock ≡ true = rw e d in
-    let t : State = record s { agenda = record nothing { spoken = asking plan session.stage }; part = Wording } in
     rw a (omega (arith, asked_load (asking plan session.stage) s.over (seeks false (is_due (next_request plan s.search) s.clock)) h, ap (λ (b : Bool). weight b 1) o))
 repeat_by plan s session false o e d h = cc
 
@@ -309,21 +326,41 @@ part_work plan Timing s n o b r = timing_work plan s n o (omega (arith, b)) r
 part_work plan Eventing s n o b r = eventing_work plan s n o (omega (arith, b)) r
 part_work plan Wording s n o b r = wording_work plan s n o (omega (arith, b)) r
 
+go_both : (d o : Bool) → d ≡ true → o ≡ false → (d && not o) ≡ true
+go_both true true e f = cc
+go_both true false e f = refl
+go_both false o e f = cc
+
+not_both : (d o : Bool) → o ≡ true → (d && not o) ≡ false
+not_both true true e = refl
+not_both true false e = cc
+not_both false o e = refl
+
+same_le : (n : ℕ) → n ≤ n
+same_le n = omega arith
+
 decided_by : (plan : CarPlan) (s : State) (d over : Bool) → is_done s.agenda ≡ d → s.over ≡ over → work plan (decided plan s) ≤ work plan s
-decided_by plan s true true e o = rw (e, o) (omega arith)
+decided_by plan s true true e o =
+    let same : decided plan s ≡ s = rw (not_both (is_done s.agenda) s.over o) refl in
+    subst (λ (t : State). work plan t ≤ work plan s) (sym same) (same_le (work plan s))
 decided_by plan s true false e o =
     let r = rest_work plan s e in
     let w = part_work plan s.part s (work plan s) o (omega (arith, r)) (omega arith) in
-    let same : decided plan s ≡ from_part plan s.part s = rw (e, o) refl in
-    omega (arith, w, ap (work plan) same)
-decided_by plan s false over e o = rw e (omega arith)
+    let same : decided plan s ≡ from_part plan s.part s = rw (go_both (is_done s.agenda) s.over e o) refl in
+    subst (λ (t : State). work plan t ≤ work plan s) (sym same) w
+decided_by plan s false over e o =
+    let same : decided plan s ≡ s = rw e refl in
+    subst (λ (t : State). work plan t ≤ work plan s) (sym same) (same_le (work plan s))
 
 decided_work : (plan : CarPlan) (s : State) → work plan (decided plan s) ≤ work plan s
 decided_work plan s = decided_by plan s (is_done s.agenda) s.over refl refl
 
+less_than : (a b c : ℕ) → a < b → b ≤ c → a < c
+less_than a b c h k = omega (arith, h, k)
+
 pub act_lessens : (c : Codecs) (plan : CarPlan) (s : State) (a : Act) (taken : Bool) → (decided plan s).over ≡ false → MayAct c plan s a taken
     → work plan (acted a taken (decided plan s)) < work plan s
-act_lessens c plan s a taken o m = omega (arith, acted_less c plan m.todo a taken (decided plan s) o m.acts m.done, decided_work plan s)
+act_lessens c plan s a taken o m = less_than _ _ _ (acted_less c plan m.todo a taken (decided plan s) o m.acts m.done) (decided_work plan s)
 
 -- what a word leaves: what stood behind its frame, and at most two things to do
 abbrev still : CarPlan → State → Session → ℕ
@@ -345,15 +382,23 @@ said_none (Some said) = refl
 go_work : (plan : CarPlan) (s : State) (session : Session) (to : CarStage) (o : Option Order) (sp : Option Spoken)
     → work plan (record s { part = Wording; session = Some (gone_on session to s.clock); agenda = record nothing { order = o; spoken = sp } }) ≤ still plan s session
 go_work plan s session to o sp =
-    omega (arith, one_le o, one_le sp, spare_same s.over None (repeats sp false + seeks false (is_due (next_request plan s.search) s.clock))
-    (seeks false (is_due (next_request plan s.search) s.clock)) (omega (arith, said_none sp)))
+    omega (
+      arith,
+      one_le o,
+      one_le sp,
+      spare_same s.over None (repeats sp false + seeks false (is_due (next_request plan s.search) s.clock))
+          (seeks false (is_due (next_request plan s.search) s.clock)) (omega (arith, said_none sp)),
+    )
 
 wait_work : (plan : CarPlan) (s : State) (session : Session) (to : CarStage) → 1 ≤ plan.pace
     → work plan (record s { part = Wording; session = Some (waiting session to (due_at s.clock plan.pace)); agenda = nothing }) ≤ still plan s session
 wait_work plan s session to p =
     let none = ap (λ (b : Bool). repeats None b) (not_yet s.clock plan.pace p) in
-    omega (arith, spare_same s.over None (repeats None (is_reached (due_at s.clock plan.pace) s.clock) + seeks false (is_due (next_request plan s.search) s.clock))
-    (seeks false (is_due (next_request plan s.search) s.clock)) (omega (arith, none)))
+    omega (
+      arith,
+      spare_same s.over None (repeats None (is_reached (due_at s.clock plan.pace) s.clock) + seeks false (is_due (next_request plan s.search) s.clock))
+          (seeks false (is_due (next_request plan s.search) s.clock)) (omega (arith, none)),
+    )
 
 moved_work : (plan : CarPlan) (s : State) (session : Session) (from to : CarStage) (r : Reply) (b : Bool) → 1 ≤ plan.pace → is_again from.phase to.phase ≡ b
     → work plan (moved plan s session from r to) ≤ still plan s session
@@ -367,15 +412,15 @@ caused_work None plan s session stage r p = moved_work plan s session stage (sta
 
 replied_work : (plan : CarPlan) (s : State) (session : Session) (stage : Option CarStage) (r : Reply) → 1 ≤ plan.pace
     → work plan (replied plan s session stage r) ≤ still plan s session
-replied_work plan s session None r p = end_work plan s session _
+replied_work plan s session None r p = end_work plan s session WrongReply
 replied_work plan s session (Some stage) r p = caused_work (reply_cause plan stage (is_some session.moments.sent) r) plan s session stage r p
 
 judged_work : (plan : CarPlan) (s : State) (session : Session) (word : Judged) → 1 ≤ plan.pace → work plan (judged plan s session word) ≤ still plan s session
-judged_work plan s session (Chosen None) p = end_work plan s session _
+judged_work plan s session (Chosen None) p = end_work plan s session NoNegotiation
 judged_work plan s session (Chosen (Some dialect)) p = go_work plan s session (first_stage plan dialect) None (asking plan (Some (first_stage plan dialect)))
 judged_work plan s session (Told r) p = replied_work plan s session session.stage r p
-judged_work plan s session WrongSide p = end_work plan s session _
-judged_work plan s session Refused p = end_work plan s session _
+judged_work plan s session WrongSide p = end_work plan s session FromWrongSide
+judged_work plan s session Refused p = end_work plan s session PayloadRefused
 
 -- a whole frame has at least eight bytes
 shorter_by : (bytes : List ℕ) (w : Result (Option ℕ) FrameFault) (session : Session) (payload : Payload) → whole_at bytes ≡ w → payload_by w session ≡ Some payload
@@ -388,14 +433,18 @@ more_pending : (over : Bool) (a b : ℕ) → spare_by over None b ≤ spare_by o
 more_pending true a b = omega arith
 more_pending false a b = omega arith
 
+sum_less : (w before behind_len len unread_len sb sa parts : ℕ) → w ≤ 2 + behind_len + sb → 8 + behind_len ≤ len → sb ≤ sa
+    → before ≡ 6 * parts + (unread_len + sa) → unread_len ≡ len → w < before
+sum_less w before behind_len len unread_len sb sa parts a b c d e = omega (arith, a, b, c, d, e)
+
 read_by : (plan : CarPlan) (s : State) (session : Option Session) (word : Judged) (payload : Payload) → 1 ≤ plan.pace → is_done s.agenda ≡ true → s.session ≡ session
     → payload_in session ≡ Some payload → work plan (judged_in plan s session word) < work plan s
 read_by plan s None word payload p d e h = cc
 read_by plan s (Some session) word payload p d e h =
     let less = shorter_by session.unread (whole_at session.unread) session payload refl h in
     let kept : length (unread_in s.session) ≡ length session.unread = ap (λ (x : Option Session). length (unread_in x)) e in
-    omega (arith, judged_work plan s session word p, less, kept, rest_work plan s d,
-    more_pending s.over (repeats None (is_due (again_in s.session) s.clock)) (seeks false (is_due (next_request plan s.search) s.clock)))
+    let fewer = more_pending s.over (repeats None (is_due (again_in s.session) s.clock)) (seeks false (is_due (next_request plan s.search) s.clock)) in
+    sum_less _ _ _ _ _ _ _ _ (judged_work plan s session word p) less fewer (rest_work plan s d) kept
 
 -- a word is wanted where nothing is left to do
 done_if : (s : State) (payload : Payload) (b : Bool) → is_done s.agenda ≡ b → wanted s ≡ Some payload → is_done s.agenda ≡ true
@@ -409,5 +458,5 @@ pub word_lessens : (plan : CarPlan) (s : State) (payload : Payload) (word : Judg
     → work plan (read plan (decided plan s) word) < work plan s
 word_lessens plan s payload word p h =
     let d = done_if (decided plan s) payload (is_done (decided plan s).agenda) refl h in
-    omega (arith, decided_work plan s,
-    read_by plan (decided plan s) (decided plan s).session word payload (omega (arith, p.pace.0)) d refl (front_is (decided plan s) payload d h))
+    less_than _ _ _ (read_by plan (decided plan s) (decided plan s).session word payload (omega (arith, p.pace.0)) d refl (front_is (decided plan s) payload d h))
+    (decided_work plan s)

@@ -64,23 +64,33 @@ from_none plan Timing s h = timing_none plan s h
 from_none plan Eventing s h = eventing_none plan s h
 from_none plan Wording s h = wording_none plan s h
 
+go_both : (d o : Bool) → d ≡ true → o ≡ false → (d && not o) ≡ true
+go_both true true e f = cc
+go_both true false e f = refl
+go_both false o e f = cc
+
+not_both : (d o : Bool) → o ≡ true → (d && not o) ≡ false
+not_both true true e = refl
+not_both true false e = cc
+not_both false o e = refl
+
 -- of a car that didn't end
 left_if : (plan : CarPlan) (s : State) (b : Bool) → is_done s.agenda ≡ b → s.over ≡ false → first (decided plan s).agenda ≡ None → Left s (decided plan s)
 left_if plan s true e o h =
-    let g : first (from_part plan s.part s).agenda ≡ None = rw (e, o) at h in
+    let both = go_both (is_done s.agenda) s.over e o in
+    let g : first (from_part plan s.part s).agenda ≡ None = rw both at h in
     let l = from_none plan s.part s g in
-    record { same = rw (e, o) l.same; front = l.front }
+    record { same = rw both l.same; front = l.front }
 left_if plan s false e o h = absurd (let none : first s.agenda ≡ None = rw e at h in let done : is_done s.agenda ≡ true = ap is_none none in cc)
 
 left : (plan : CarPlan) (s : State) → IsQuiet plan s → s.over ≡ false → Left s (decided plan s)
 left plan s q o = left_if plan s (is_done s.agenda) refl o q.none
 
-over_stays : (plan : CarPlan) (s : State) (b : Bool) → is_done s.agenda ≡ b → s.over ≡ true → decided plan s ≡ s
-over_stays plan s true e o = rw (e, o) refl
-over_stays plan s false e o = rw e refl
+over_stays : (plan : CarPlan) (s : State) → s.over ≡ true → decided plan s ≡ s
+over_stays plan s o = rw (not_both (is_done s.agenda) s.over o) refl
 
 stays_if : (plan : CarPlan) (s : State) (b : Bool) → s.over ≡ b → IsQuiet plan s → decided plan s ≡ s
-stays_if plan s true o q = over_stays plan s (is_done s.agenda) refl o
+stays_if plan s true o q = over_stays plan s o
 stays_if plan s false o q = (left plan s q o).same
 
 pub stays : (plan : CarPlan) (s : State) → IsQuiet plan s → decided plan s ≡ s

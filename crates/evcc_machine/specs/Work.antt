@@ -56,8 +56,8 @@ abbrev pub work : CarPlan → State → ℕ
 work plan s = load s.agenda + 6 * parts_left s.part + length (unread_in s.session) + spare plan s
 
 -- each act of a car that didn't end leaves less to do
-abbrev pub ActsLessen : Type 1
-ActsLessen = (c : Codecs) (plan : CarPlan) (s : State) (act : Act) (taken : Bool) → (decided plan s).over ≡ false → MayAct c plan s act taken
+abbrev pub ActsLessen : Codecs → Type 0
+ActsLessen c = (plan : CarPlan) (s : State) (act : Act) (taken : Bool) → (decided plan s).over ≡ false → MayAct c plan s act taken
     → work plan (acted act taken (decided plan s)) < work plan s
 
 -- and so does each word that is read

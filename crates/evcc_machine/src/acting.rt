@@ -7,7 +7,7 @@ ghost use Rattle.car_spec.specs.Steps.{Act};
 ghost use Rattle.station_spec.specs.Acting as station;
 ghost use Rattle.evcc_machine.specs.Resting.{IsReadOut};
 ghost use Rattle.evcc_machine.specs.Views.{event_of, IsBy};
-ghost use Rattle.evcc_machine.specs.declared.event.Done.TheVariants as done;
+ghost use Rattle.evcc_machine.specs.declared.event.Done.TheVariants.{Sought};
 
 use crate::agenda::Agenda;
 use crate::car::{Car, Part};
@@ -111,7 +111,7 @@ impl Car {
     /// What the car asked for was done, and was taken or failed. A discovery request and an end change the same either way; a
     /// discovery request has to be one that the car asked for.
     pub fn did(&mut self, done: Done, taken: bool)
-        requires { done ≡ done.Sought → self.old.agenda.seeks ≡ true }
+        requires { done ≡ Sought → self.old.agenda.seeks ≡ true }
         ensures { (act : Act) → IsBy done act → self.new ≡ acting.acted act taken self.old }
     {
         match done {

@@ -118,6 +118,7 @@ impl Car {
     }
 
     /// When a deadline, a repeated request or the next discovery request is due, in milliseconds; 2^64 - 1 is never.
+    #[tactic(auto, using(crate::proofs::Dues::least_of))]
     pub fn next_due(&self, plan: &CarPlan) -> u64
         ensures { result ≡ until plan.now self.now }
     {

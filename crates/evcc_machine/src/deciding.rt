@@ -1,6 +1,6 @@
 //! What a car decides without reading a word.
 
-ghost use Rattle.std.specs.Prelude.{◌≡◌};
+ghost use Rattle.std.specs.Prelude.{◌≡◌, None};
 ghost use Rattle.car_rules.specs.Deadlines.{hit as first_hit, hit_by as by_hit};
 ghost use Rattle.car_rules.specs.Searching.{is_searching};
 ghost use Rattle.car_spec.specs.Deciding as deciding;
@@ -41,8 +41,20 @@ fn ending_if(cause: Option<EndCause>, live: bool) -> Agenda
     }
 }
 
+/// The first post that answers is dialed.
+fn calling(plan: &CarPlan, search: &Search, datagram: &[u8]) -> Agenda
+    ensures { result ≡ deciding.calling plan.now search.now datagram.now }
+{
+    if is_searching(plan, search) {
+        Agenda::calling(port_of(datagram))
+    } else {
+        Agenda::nothing()
+    }
+}
+
 impl Car {
     /// The cause of the deadline that was reached, if one was; of several that with the least number.
+    #[tactic(auto, using(crate::proofs::Dues::hit_of))]
     fn hit(&self, plan: &CarPlan) -> Option<EndCause>
         ensures { result ≡ first_hit (all_deadlines plan.now self.now) self.now.clock }
     {
@@ -55,17 +67,6 @@ impl Car {
         ensures { result ≡ deciding.timing plan.now self.now }
     {
         ending_if(self.hit(plan), self.live)
-    }
-
-    /// The first post that answers is dialed.
-    fn calling(&self, plan: &CarPlan) -> Agenda
-        ensures { result ≡ deciding.calling plan.now self.now.search self.now.piece }
-    {
-        if is_searching(plan, &self.search) {
-            Agenda::calling(port_of(self.piece.bytes()))
-        } else {
-            Agenda::nothing()
-        }
     }
 
     /// What the car itself told may end it.
@@ -97,7 +98,7 @@ impl Car {
         match &self.event {
             CarEvent::Came { .. } => self.greeting(),
             CarEvent::Gone => self.slot.ending(EndCause::Gone, self.live),
-            CarEvent::Datagram => self.calling(plan),
+            CarEvent::Datagram => calling(plan, &self.search, self.piece.bytes()),
             CarEvent::Plant(event) => self.charging(event),
             CarEvent::Over => Agenda::ending_by(EndCause::RunOver, self.live),
             CarEvent::Bytes | CarEvent::Clock => Agenda::nothing(),

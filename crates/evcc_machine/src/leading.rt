@@ -45,6 +45,7 @@ fn chosen_lead(plan: &CarPlan, dialect: Option<Dialect>) -> Lead
 }
 
 /// Where a reply leads from a stage, where it ends nothing. `stop` says that somebody asked to stop since the connection came.
+#[tactic(auto, using(crate::proofs::Counted::counted_behind, crate::proofs::Counted::counted_few))]
 fn moved_lead(plan: &CarPlan, stage: &CarStage, reply: &Reply, stop: bool) -> Lead
     requires plan { IsCarPlan plan.now }
     requires counted { IsCounted stage.now }

@@ -21,6 +21,6 @@ mod slot;
 pub use agenda::{Spoken, Todo};
 pub use car::Car;
 pub use event::{CarEvent, Done, Judged};
-pub use law::{law_of_rest, law_of_work};
+pub use law::{law_of_acts, law_of_rest, law_of_words};
 pub use slot::Wanted;
 pub use std::alloc::AllocError as NoMemory;

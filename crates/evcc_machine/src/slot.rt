@@ -12,8 +12,8 @@ ghost use Rattle.car_spec.specs.Judging as judging;
 ghost use Rattle.car_spec.specs.States.{first_session};
 ghost use Rattle.car_spec.specs.Steps as steps;
 ghost use Rattle.car_spec.specs.Until.{or_never};
-ghost use Rattle.evcc_machine.specs.Counting.{IsCountedIn, IsCountedSo, IsCountedLead};
-ghost use Rattle.evcc_machine.specs.Leading.{session_led};
+ghost use Rattle.evcc_machine.specs.Counting.{IsCountedIn, IsCountedSo};
+ghost use Rattle.evcc_machine.specs.Leading.{session_led, IsCountedLead};
 ghost use Rattle.evcc_machine.specs.Resting.{IsReadOut};
 ghost use Rattle.evcc_machine.specs.Views.{dialect_in, event_of, stage_in, unread_in, wanted_of, with_unread};
 
