@@ -1,13 +1,15 @@
 -- What is due in a session, and what is due in the search behind it.
-use Rattle.std.proofs.Common.{◌≡◌, ℕ, min, Bool, true, false, if◌then◌else◌, List, [], ◌∷◌, ◌++◌, Option, Some, None, refl, sym, ap, ◌∙◌}
+use Rattle.std.proofs.Common.{◌≡◌, ◌<◌, ℕ, min, ◌==◌, nat_lt, Bool, true, false, ◌&&◌, if◌then◌else◌, List, [], ◌∷◌, ◌++◌, Option, Some, None, refl, sym, ap, ◌∙◌}
+use Rattle.std.proofs.lemmas.Bool.{ltb-true}
 use Rattle.std.specs.Option.{option_or}
 use Rattle.session_words.specs.declared.cause.EndCause.{EndCause}
 use Rattle.session_words.specs.declared.plan.CarPlan.{CarPlan}
 use Rattle.car_rules.specs.declared.deadlines.CarDue.{CarDue}
-use Rattle.car_rules.specs.Deadlines.{is_reached, hit_by, hit, moment_of, least_moment, setup_due, message_due, step_due}
-use Rattle.car_rules.specs.Searching.{search_due}
-use Rattle.car_spec.specs.Due.{session_deadlines, all_deadlines}
-use Rattle.car_spec.specs.States.{Session, State}
+use Rattle.car_rules.specs.Deadlines.{due_at, is_reached, hit_by, hit, moment_of, least_moment}
+use Rattle.car_rules.specs.declared.searching.Search.{Search}
+use Rattle.car_rules.specs.Searching.{is_searching, next_request}
+use Rattle.car_spec.specs.Due.{session_deadlines, is_due}
+use Rattle.car_spec.specs.States.{Session}
 
 -- the least moment of all deadlines
 pub least_of : (plan : CarPlan) (session : Option Session) (d : Option CarDue)
@@ -32,3 +34,12 @@ hit_in (x ∷ ds) d now = ap (hit_by x now) (hit_in ds d now) ∙ by_or x now (h
 pub hit_of : (plan : CarPlan) (session : Option Session) (d : Option CarDue) (now : ℕ)
     → hit (session_deadlines plan session ++ d ∷ []) now ≡ option_or (hit (session_deadlines plan session) now) (hit_by d now None)
 hit_of plan session d now = hit_in (session_deadlines plan session) d now
+
+-- a post is looked for at most 50 times
+few_by : (b c : Bool) (m now : ℕ) → is_due (if b && c then Some m else None) now ≡ true → c ≡ true
+few_by true true m now h = refl
+few_by true false m now h = cc
+few_by false c m now h = cc
+
+pub asked_few : (plan : CarPlan) (x : Search) (now : ℕ) → is_due (next_request plan x) now ≡ true → x.asked < 50
+asked_few plan x now h = ltb-true x.asked 50 (few_by (is_searching plan x) (nat_lt x.asked 50) (if x.asked == 0 then 0 else due_at x.last 250) now h)

@@ -1,6 +1,6 @@
 //! What a car keeps behind a hearing, and behind what was done.
 
-ghost use Rattle.std.specs.Prelude.{◌≡◌, ◌≤◌, true, length};
+ghost use Rattle.std.specs.Prelude.{◌≡◌, ◌≤◌, true, false, length};
 ghost use Rattle.car_spec.specs.Acting as acting;
 ghost use Rattle.car_spec.specs.Hearing as hearings;
 ghost use Rattle.car_spec.specs.Steps.{Act};
@@ -45,7 +45,8 @@ impl Car {
 
     /// What failed ends a car that has no cause yet; behind a cause it changes nothing of that.
     fn failing(&self, cause: EndCause) -> Agenda
-        ensures { result ≡ acting.failing self.now.agenda.ending cause self.now.live }
+        ensures value { result ≡ acting.failing self.now.agenda.ending cause self.now.live }
+        ensures still { result.seeks ≡ false }
     {
         match self.agenda.ending {
             Some(ending) => Agenda::ended_by(ending),

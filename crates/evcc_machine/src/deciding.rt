@@ -1,6 +1,6 @@
 //! What a car decides without reading a word.
 
-ghost use Rattle.std.specs.Prelude.{◌≡◌, None};
+ghost use Rattle.std.specs.Prelude.{◌≡◌, false, None};
 ghost use Rattle.car_rules.specs.Deadlines.{hit as first_hit, hit_by as by_hit};
 ghost use Rattle.car_rules.specs.Searching.{is_searching};
 ghost use Rattle.car_spec.specs.Deciding as deciding;
@@ -33,7 +33,8 @@ fn hit_by(due: Option<CarDue>, now: u64) -> Option<EndCause>
 
 /// The end of the car by a cause, where there is one.
 fn ending_if(cause: Option<EndCause>, live: bool) -> Agenda
-    ensures { result ≡ deciding.ending_if cause live }
+    ensures value { result ≡ deciding.ending_if cause live }
+    ensures still { result.seeks ≡ false }
 {
     match cause {
         Some(cause) => Agenda::ending_by(cause, live),
@@ -43,7 +44,8 @@ fn ending_if(cause: Option<EndCause>, live: bool) -> Agenda
 
 /// The first post that answers is dialed.
 fn calling(plan: &CarPlan, search: &Search, datagram: &[u8]) -> Agenda
-    ensures { result ≡ deciding.calling plan.now search.now datagram.now }
+    ensures value { result ≡ deciding.calling plan.now search.now datagram.now }
+    ensures still { result.seeks ≡ false }
 {
     if is_searching(plan, search) {
         Agenda::calling(port_of(datagram))
@@ -64,14 +66,16 @@ impl Car {
 
     /// What the clock asks for.
     fn timing(&self, plan: &CarPlan) -> Agenda
-        ensures { result ≡ deciding.timing plan.now self.now }
+        ensures value { result ≡ deciding.timing plan.now self.now }
+        ensures still { result.seeks ≡ false }
     {
         ending_if(self.hit(plan), self.live)
     }
 
     /// What the car itself told may end it.
     fn charging(&self, event: &PlantEvent) -> Agenda
-        ensures { result ≡ deciding.charging self.now.session event.now self.now.live }
+        ensures value { result ≡ deciding.charging self.now.session event.now self.now.live }
+        ensures still { result.seeks ≡ false }
     {
         if self.slot.lives() {
             ending_if(plant_cause(event), self.live)
@@ -82,7 +86,8 @@ impl Car {
 
     /// A connection is answered by the offer of dialects; another one while it stands ends the car.
     fn greeting(&self) -> Agenda
-        ensures { result ≡ deciding.greeting self.now.stood self.now.live }
+        ensures value { result ≡ deciding.greeting self.now.stood self.now.live }
+        ensures still { result.seeks ≡ false }
     {
         if self.stood {
             Agenda::ending_by(EndCause::Gone, self.live)
@@ -93,7 +98,8 @@ impl Car {
 
     /// What the event asks for.
     fn eventing(&self, plan: &CarPlan) -> Agenda
-        ensures { result ≡ deciding.eventing plan.now self.now.event self.now }
+        ensures value { result ≡ deciding.eventing plan.now self.now.event self.now }
+        ensures still { result.seeks ≡ false }
     {
         match &self.event {
             CarEvent::Came { .. } => self.greeting(),
@@ -106,6 +112,7 @@ impl Car {
     }
 
     /// The car asks once more for a post, where that is due.
+    #[tactic(auto, using(crate::proofs::Dues::asked_few))]
     fn from_seeking(&mut self, plan: &CarPlan)
         ensures { self.new ≡ deciding.from_seeking plan.now self.old }
     {

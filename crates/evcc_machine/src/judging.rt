@@ -1,6 +1,6 @@
 //! What a car makes of a word.
 
-ghost use Rattle.std.specs.Prelude.{◌≡◌};
+ghost use Rattle.std.specs.Prelude.{◌≡◌, false};
 ghost use Rattle.session_words.specs.Plans.{IsCarPlan};
 ghost use Rattle.car_spec.specs.Judging as judging;
 ghost use Rattle.evcc_machine.specs.Leading.{led, agenda_led, IsCountedLead};
@@ -14,7 +14,8 @@ use session_words::CarPlan;
 
 /// What is to be done where a word leads.
 fn agenda_led(plan: &CarPlan, lead: &Lead, live: bool) -> Agenda
-    ensures { result ≡ agenda_led plan.now lead.now live }
+    ensures value { result ≡ agenda_led plan.now lead.now live }
+    ensures still { result.seeks ≡ false }
 {
     match lead {
         Lead::Ends(cause) => Agenda::ending_by(*cause, live),

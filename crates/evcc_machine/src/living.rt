@@ -1,6 +1,6 @@
 //! What a car keeps of a session that lives, beside its stream.
 
-ghost use Rattle.std.specs.Prelude.{◌≡◌, ℕ, List, [], Option, Some};
+ghost use Rattle.std.specs.Prelude.{◌≡◌, ℕ, List, false, [], Option, Some};
 ghost use Rattle.std.specs.Option.{option_map};
 ghost use Rattle.v2gtp_frames.specs.Reading.{behind_front};
 ghost use Rattle.car_rules.specs.Deadlines.{deadlines, hit as first_hit, least_moment};
@@ -89,7 +89,8 @@ impl Living {
 
     /// A request that is due is asked once more.
     pub(crate) fn repeating(&self, plan: &CarPlan, now: u64) -> Agenda
-        ensures { result ≡ deciding.repeating plan.now (Some (with_unread [] self.now)) now }
+        ensures value { result ≡ deciding.repeating plan.now (Some (with_unread [] self.now)) now }
+        ensures still { result.seeks ≡ false }
     {
         if is_due(self.again, now) {
             Agenda::saying(None, asking(plan, &self.stage))

@@ -1,6 +1,6 @@
 //! The session of a car, in memory of its own.
 
-ghost use Rattle.std.specs.Prelude.{◌≡◌, ◌≤◌, List, ℕ, Option, Some, None, [], length, is_some, IfOk, IfSome, unwrap_or};
+ghost use Rattle.std.specs.Prelude.{◌≡◌, ◌≤◌, List, ℕ, Option, Some, None, false, [], length, is_some, IfOk, IfSome};
 ghost use Rattle.std.specs.Option.{option_map};
 ghost use Rattle.v2gtp_frames.specs.Reading.{behind_front};
 ghost use Rattle.car_rules.specs.Deadlines.{hit as first_hit, least_moment};
@@ -138,7 +138,8 @@ impl SessionSlot {
 
     /// The end of the car, where a session lives.
     pub(crate) fn ending(&self, cause: EndCause, live: bool) -> Agenda
-        ensures { result ≡ deciding.ending_in self.now cause live }
+        ensures value { result ≡ deciding.ending_in self.now cause live }
+        ensures still { result.seeks ≡ false }
     {
         match &self.living {
             Some(_) => Agenda::ending_by(cause, live),
@@ -148,7 +149,8 @@ impl SessionSlot {
 
     /// A request that is due is asked once more.
     pub(crate) fn repeating(&self, plan: &CarPlan, now: u64) -> Agenda
-        ensures { result ≡ deciding.repeating plan.now self.now now }
+        ensures value { result ≡ deciding.repeating plan.now self.now now }
+        ensures still { result.seeks ≡ false }
     {
         match &self.living {
             Some(living) => living.repeating(plan, now),
@@ -158,7 +160,8 @@ impl SessionSlot {
 
     /// A fault of the frame at the front ends the car.
     pub(crate) fn fronting(&self, live: bool) -> Agenda
-        ensures { result ≡ deciding.fronting self.now live }
+        ensures value { result ≡ deciding.fronting self.now live }
+        ensures still { result.seeks ≡ false }
     {
         if self.living.is_none() {
             return Agenda::nothing();
