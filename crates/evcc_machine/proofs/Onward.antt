@@ -55,7 +55,7 @@ spare_le false None a b h = omega (arith, h)
 spare_same : (over : Bool) (e : Option EndCause) (a b : ℕ) → a ≤ b → spare_by over e a ≤ spare_by over e b
 spare_same true e a b h = omega arith
 spare_same false (Some cause) a b h = omega arith
-spare_same false None a b h = h
+spare_same false None a b h = omega (arith, h)
 
 spare_least : (over : Bool) (n : ℕ) → over ≡ false → 7 ≤ spare_by over None n
 spare_least true n h = cc
@@ -402,8 +402,13 @@ wait_work plan s session to p =
 
 moved_work : (plan : CarPlan) (s : State) (session : Session) (from to : CarStage) (r : Reply) (b : Bool) → 1 ≤ plan.pace → is_again from.phase to.phase ≡ b
     → work plan (moved plan s session from r to) ≤ still plan s session
-moved_work plan s session from to r true p e = rw e (wait_work plan s session to p)
-moved_work plan s session from to r false p e = rw e (go_work plan s session to (order_of plan from.phase r.tell) (asking plan (Some to)))
+moved_work plan s session from to r true p e =
+    let same : moved plan s session from r to ≡ record s { part = Wording; session = Some (waiting session to (due_at s.clock plan.pace)); agenda = nothing } = rw e refl in
+    subst (λ (t : State). work plan t ≤ still plan s session) (sym same) (wait_work plan s session to p)
+moved_work plan s session from to r false p e =
+    let next : Agenda = record nothing { order = order_of plan from.phase r.tell; spoken = asking plan (Some to) } in
+    let same : moved plan s session from r to ≡ record s { part = Wording; session = Some (gone_on session to s.clock); agenda = next } = rw e refl in
+    subst (λ (t : State). work plan t ≤ still plan s session) (sym same) (go_work plan s session to (order_of plan from.phase r.tell) (asking plan (Some to)))
 
 caused_work : (cause : Option EndCause) (plan : CarPlan) (s : State) (session : Session) (stage : CarStage) (r : Reply) → 1 ≤ plan.pace
     → work plan (replied_by cause plan s session stage r) ≤ still plan s session

@@ -1,6 +1,7 @@
 //! What a car is told.
 
 ghost use Rattle.std.specs.Prelude.{◌≡◌, ℕ, Bool, List};
+ghost use Rattle.post_spec.specs.Sessions.{brought};
 ghost use Rattle.post_spec.specs.Steps.{event_at};
 ghost use Rattle.car_spec.specs.Steps as steps;
 ghost use Rattle.evcc_machine.specs.Views.{event_of};
@@ -52,6 +53,16 @@ pub(crate) fn stop_heard(event: &CarEvent, stop: bool) -> bool
         CarEvent::Came { .. } => false,
         CarEvent::Plant(PlantEvent::StopAsked) => true,
         _ => stop,
+    }
+}
+
+/// The bytes that came on the connection.
+pub(crate) fn brought<'a>(event: &CarEvent, bytes: &'a [u8]) -> &'a [u8]
+    ensures { result.now ≡ brought (event_of event.now bytes.now) }
+{
+    match event {
+        CarEvent::Bytes => bytes,
+        _ => &bytes[..0],
     }
 }
 

@@ -1,6 +1,6 @@
 //! The session of a car, in memory of its own.
 
-ghost use Rattle.std.specs.Prelude.{◌≡◌, ◌≤◌, List, ℕ, Option, Some, None, false, [], length, is_some, IfOk, IfSome};
+ghost use Rattle.std.specs.Prelude.{◌≡◌, ◌≤◌, List, ℕ, Option, Some, None, true, false, [], length, is_some, IfOk, IfSome};
 ghost use Rattle.std.specs.Option.{option_map};
 ghost use Rattle.v2gtp_frames.specs.Reading.{behind_front};
 ghost use Rattle.car_rules.specs.Deadlines.{hit as first_hit, least_moment};
@@ -10,7 +10,6 @@ ghost use Rattle.car_spec.specs.Due as due;
 ghost use Rattle.car_spec.specs.Hearing as hearings;
 ghost use Rattle.car_spec.specs.Judging as judging;
 ghost use Rattle.car_spec.specs.States.{first_session};
-ghost use Rattle.car_spec.specs.Steps as steps;
 ghost use Rattle.car_spec.specs.Until.{or_never};
 ghost use Rattle.evcc_machine.specs.Counting.{IsCountedIn, IsCountedSo};
 ghost use Rattle.evcc_machine.specs.Leading.{session_led, IsCountedLead};
@@ -19,7 +18,7 @@ ghost use Rattle.evcc_machine.specs.Views.{dialect_in, event_of, stage_in, unrea
 
 use crate::NoMemory;
 use crate::agenda::Agenda;
-use crate::event::{CarEvent, stop_heard};
+use crate::event::{CarEvent, brought, stop_heard};
 use crate::leading::Lead;
 use crate::living::{Living, or_never};
 use car_rules::{CarStage, due_at};
@@ -209,11 +208,14 @@ impl SessionSlot {
         self.living = None;
     }
 
-    /// A wish to stop is heard.
-    fn hear_stop(&mut self, event: &CarEvent)
-        ensures { (bytes : List ℕ) → self.new
-            ≡ option_map (λ session. record session { stop = steps.stop_heard (event_of event.now bytes) session.stop }) self.old }
+    /// What is heard while a session lives, with its bytes.
+    fn listen(&mut self, event: &CarEvent, bytes: &[u8])
+        requires lives { is_some self.old ≡ true }
+        requires short { length bytes.now ≤ 4096 }
+        requires read { IsReadOut self.old }
+        ensures { self.new ≡ option_map (hearings.heard_in (event_of event.now bytes.now)) self.old }
     {
+        self.unread.feed(brought(event, bytes));
         if let Some(living) = &mut self.living {
             living.stop = stop_heard(event, living.stop);
         }
@@ -225,10 +227,10 @@ impl SessionSlot {
         requires read { IsReadOut self.old }
         ensures { self.new ≡ hearings.session_heard (event_of event.now bytes.now) now self.old }
     {
-        match (event, self.living.is_some()) {
-            (CarEvent::Came { .. }, false) => self.open(now),
-            (CarEvent::Bytes, true) => self.unread.feed(bytes),
-            _ => self.hear_stop(event),
+        if self.lives() {
+            self.listen(event, bytes);
+        } else if let CarEvent::Came { .. } = event {
+            self.open(now);
         }
     }
 
