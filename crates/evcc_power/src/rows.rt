@@ -340,12 +340,13 @@ impl Charging {
         requires goes_on { reply_cause plan.now self true reply.now ≡ None }
         ensures { Leads plan.now self reply.now stop result }
     {
+        let Charging { carried } = self;
         let CarStage {
             phase,
             dialect,
             session,
             cycles,
-        } = stage_behind(plan, &self.stage(), reply, stop);
+        } = stage_behind(plan, &carried.stage(CarPhase::Charging), reply, stop);
         let carried = Carried {
             dialect,
             session,
