@@ -1,5 +1,5 @@
 -- A reply that ends nothing leaves the charging replies within their bound.
-use Rattle.std.proofs.Common.{◌≡◌, ◌<◌, ◌≤◌, ℕ, ◌+◌, ◌-◌, ◌==◌, nat_le, Bool, true, false, ◌||◌, if◌then◌else◌, refl, sym, ap, arith}
+use Rattle.std.proofs.Common.{◌≡◌, ◌<◌, ◌≤◌, ℕ, ◌+◌, ◌-◌, ◌==◌, nat_le, Bool, true, false, ◌||◌, if◌then◌else◌, refl, arith}
 use Rattle.std.proofs.lemmas.Bool.{leb-false}
 use Rattle.charge_world.specs.declared.offer.Dialect.{Dialect}
 use Rattle.session_words.specs.declared.plan.CarPlan.{CarPlan}
@@ -11,7 +11,7 @@ use Rattle.post_spec.specs.Kinds.{says_finished}
 use Rattle.car_rules.specs.declared.stage.CarPhase.{CarPhase}
 use Rattle.car_rules.specs.declared.stage.CarPhase.TheVariants as phase
 use Rattle.car_rules.specs.declared.stage.CarStage.{CarStage}
-use Rattle.car_rules.specs.Moves.{is_pre_charged, asks_stop, notify_in, stops, renews, welding_phase, first_power_phase, charging_leads, phase_behind_stop, until_done, leads, cycles_behind, stage_behind}
+use Rattle.car_rules.specs.Moves.{is_pre_charged, asks_stop, notify_in, stops, welding_phase, first_power_phase, charging_leads, until_done, leads, cycles_behind, stage_behind}
 use Rattle.evcc_machine.specs.Counting.{most_cycles, IsCounted}
 
 -- the lesser bound holds in every phase

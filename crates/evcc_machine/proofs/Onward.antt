@@ -1,11 +1,9 @@
 -- What each act and each word leaves to do.
-use Rattle.std.proofs.Common.{◌≡◌, ◌<◌, ◌≤◌, ℕ, ◌+◌, ◌*◌, min, ◌==◌, nat_le, nat_lt, Bool, true, false, not, ◌&&◌, if◌then◌else◌, List, length, drop, Option, Some, None, is_some, Result, Ok, Err, refl, sym, ap, ap₂, subst, ◌∙◌, arith}
+use Rattle.std.proofs.Common.{◌≡◌, ◌<◌, ◌≤◌, ℕ, ◌+◌, ◌*◌, ◌==◌, nat_le, nat_lt, Bool, true, false, not, ◌&&◌, if◌then◌else◌, List, length, Option, Some, None, is_some, Result, Ok, Err, refl, sym, ap, subst, arith}
 use Rattle.std.specs.Option.{option_map}
 use Rattle.std.proofs.lemmas.Bool.{leb-true, ltb-true}
 use Rattle.std.proofs.lemmas.Bool.Decides.{nat_tests}
 use Rattle.std.proofs.lemmas.List.{length-drop}
-use Rattle.charge_world.specs.declared.heard.PlantEvent.{PlantEvent}
-use Rattle.charge_world.specs.declared.offer.Dialect.{Dialect}
 use Rattle.charge_world.specs.declared.ports.Order.{Order}
 use Rattle.session_timers.specs.Due.{never}
 use Rattle.session_words.specs.declared.cause.EndCause.{EndCause}
@@ -21,20 +19,20 @@ use Rattle.car_rules.specs.declared.stage.CarStage.{CarStage}
 use Rattle.car_rules.specs.Deadlines.{due_at, is_reached}
 use Rattle.car_rules.specs.Moves.{is_again, order_of, stage_behind}
 use Rattle.car_rules.specs.Replies.{reply_cause}
-use Rattle.car_rules.specs.Searching.{is_searching, next_request, asked_at, dialed}
+use Rattle.car_rules.specs.Searching.{is_searching, next_request, dialed}
 use Rattle.car_rules.specs.Stages.{first_stage}
-use Rattle.car_spec.specs.Acting.{failing, dialing, giving, awaiting, saying, seeking, ended, acted}
+use Rattle.car_spec.specs.Acting.{failing, dialing, giving, awaiting, saying, seeking, acted}
 use Rattle.car_spec.specs.Codecs.{Codecs, Judged, Chosen, Told, WrongSide, Refused}
 use Rattle.car_spec.specs.Deciding.{ending_by, asking, decide, fronting_by, fronting, has_word, repeating, from_seeking, from_repeating, from_wording, from_eventing, from_timing, from_part, decided, timing, eventing}
 use Rattle.car_spec.specs.Deciding as deciding
 use Rattle.car_spec.specs.Due.{again_in, is_due}
-use Rattle.car_spec.specs.Judging.{Payload, payload_by, payload_in, wanted, passed, gone_on, waiting, chosen, moved, replied_by, replied, judged, judged_in, read}
+use Rattle.car_spec.specs.Judging.{Payload, payload_by, payload_in, wanted, passed, gone_on, waiting, moved, replied_by, replied, judged, judged_in, read}
 use Rattle.car_spec.specs.Next.{IsDone, IsSaid, MayAct}
 use Rattle.car_spec.specs.States.{Agenda, Part, Timing, Eventing, Wording, Session, State, nothing, first_of, first, is_none, is_done}
 use Rattle.car_spec.specs.States as states
-use Rattle.car_spec.specs.Steps.{Spoken, Act, Seek, Dial, Give, Say, End}
+use Rattle.car_spec.specs.Steps.{Spoken, Act}
 use Rattle.evcc_machine.specs.Views.{unread_in}
-use Rattle.evcc_machine.specs.Work.{parts_left, one_if, weight, load, repeats, seeks, spare_by, pending, spare, work}
+use Rattle.evcc_machine.specs.Work.{parts_left, one_if, weight, load, repeats, seeks, spare_by, pending, work}
 
 one_le : {A : Type 0} (o : Option A) → one_if o ≤ 1
 one_le None = omega arith

@@ -1,5 +1,5 @@
 -- Own: where a word leads a car, and what the car keeps of that.
-use Rattle.std.specs.Prelude.{◌≡◌, ℕ, Bool, Option, Some}
+use Rattle.std.specs.Prelude.{◌≡◌, ℕ, Bool, Some}
 use Rattle.std.specs.Option.{option_map}
 use Rattle.session_words.specs.declared.plan.CarPlan.{CarPlan}
 use Rattle.car_rules.specs.Deadlines.{due_at}

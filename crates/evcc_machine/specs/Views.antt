@@ -1,6 +1,5 @@
 -- Own: the machine's values as those of the definitions.
 use Rattle.std.specs.Prelude.{◌≡◌, ℕ, List, [], Option, Some, None}
-use Rattle.std.specs.Option.{option_map}
 use Rattle.charge_world.specs.declared.offer.Dialect.{Dialect}
 use Rattle.car_rules.specs.declared.stage.CarStage.{CarStage}
 use Rattle.post_spec.specs.Steps as heard
