@@ -1,7 +1,6 @@
 -- Own: where a reply leads a car, as the rules of a car say it.
 use Rattle.std.specs.Prelude.{◌≡◌, Bool, true, false, Option, Some, None}
 use Rattle.charge_world.specs.declared.ports.Order.{Order}
-use Rattle.session_words.specs.declared.cause.EndCause.{EndCause}
 use Rattle.session_words.specs.declared.plan.CarPlan.{CarPlan}
 use Rattle.session_words.specs.declared.word.Reply.{Reply}
 use Rattle.car_rules.specs.declared.stage.CarPhase.TheVariants as phase
