@@ -361,7 +361,8 @@ impl Charging {
         }
     }
 
-    /// Charging stops once the planned replies came, the post asks for it, or somebody asked to stop (`stop`). In ISO the post may ask to negotiate anew. It counts fewer than 4,294,967,295 of them.
+    /// Charging stops once the planned replies came, the post asks for it, or somebody asked to stop (`stop`). In ISO the post may ask to
+    /// negotiate anew. At most 4,294,967,294 replies came before.
     pub fn step(self, reply: &Reply, stop: bool, plan: &CarPlan) -> Moved
         requires few { self.cycles < 4294967295 }
         ensures { Leads plan.now self reply.now stop result }
