@@ -1,0 +1,4 @@
+pub mod Counted
+pub mod Dues
+pub mod Quiet
+pub mod Onward

@@ -1,0 +1,5 @@
+pub mod Views
+pub mod Counting
+pub mod Leading
+pub mod Resting
+pub mod Work

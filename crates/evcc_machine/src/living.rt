@@ -1,0 +1,101 @@
+//! What a car keeps of a session that lives, beside its stream.
+
+ghost use Rattle.std.specs.Prelude.{◌≡◌, ℕ, List, false, [], Option, Some};
+ghost use Rattle.std.specs.Option.{option_map};
+ghost use Rattle.v2gtp_frames.specs.Reading.{behind_front};
+ghost use Rattle.car_rules.specs.Deadlines.{deadlines, hit as first_hit, least_moment};
+ghost use Rattle.car_spec.specs.Acting as acting;
+ghost use Rattle.car_spec.specs.Deciding as deciding;
+ghost use Rattle.car_spec.specs.Due as due;
+ghost use Rattle.car_spec.specs.Judging as judging;
+ghost use Rattle.car_spec.specs.States.{first_session};
+ghost use Rattle.car_spec.specs.Until.{or_never};
+ghost use Rattle.evcc_machine.specs.Views.{spoken_of, with_unread};
+
+use crate::agenda::{Agenda, Spoken, asking};
+use car_rules::{CarMoments, CarStage, hit, is_reached, next_due};
+use charge_world::Dialect;
+use session_words::{CarPlan, EndCause};
+
+/// What is kept of a session that lives, beside its stream.
+#[derive(Drop)]
+pub(crate) struct Living {
+    /// None until a dialect is chosen.
+    pub(crate) stage: Option<CarStage>,
+    pub(crate) moments: CarMoments,
+    /// When the request is due that is asked once more.
+    pub(crate) again: Option<u64>,
+    /// Whether somebody asked to stop since the connection came.
+    pub(crate) stop: bool,
+}
+
+/// Whether something is due.
+pub(crate) fn is_due(moment: Option<u64>, now: u64) -> bool
+    ensures { result ≡ due.is_due moment now }
+{
+    match moment {
+        Some(moment) => is_reached(moment, now),
+        None => false,
+    }
+}
+
+/// The moment, and 2^64 - 1 where there is none.
+pub(crate) fn or_never(moment: Option<u64>) -> u64
+    ensures { result ≡ or_never moment }
+{
+    moment.unwrap_or(u64::MAX)
+}
+
+impl Living {
+    /// A connection came at this moment.
+    pub(crate) fn new(at: u64) -> Living
+        ensures { with_unread [] result ≡ first_session at }
+    {
+        Living {
+            stage: None,
+            moments: CarMoments {
+                came: at,
+                sent: None,
+                begun: at,
+            },
+            again: None,
+            stop: false,
+        }
+    }
+
+    /// The dialect that was chosen, if one was.
+    pub(crate) fn dialect(&self) -> Option<Dialect>
+        ensures { result ≡ judging.dialect_of self.now.stage }
+    {
+        match &self.stage {
+            Some(stage) => Some(stage.dialect),
+            None => None,
+        }
+    }
+
+    /// The cause of the deadline that was reached, if one was.
+    pub(crate) fn hit(&self, plan: &CarPlan, now: u64) -> Option<EndCause>
+        ensures { result ≡ first_hit (deadlines plan.now self.now.stage self.now.moments) now }
+    {
+        hit(plan, &self.stage, &self.moments, now)
+    }
+
+    /// When the session is due; 2^64 - 1 is never.
+    pub(crate) fn due(&self, plan: &CarPlan) -> u64
+        ensures { result ≡ least_moment (deadlines plan.now self.now.stage self.now.moments) }
+    {
+        next_due(plan, &self.stage, &self.moments)
+    }
+
+    /// A request that is due is asked once more.
+    pub(crate) fn repeating(&self, plan: &CarPlan, now: u64) -> Agenda
+        ensures value { result ≡ deciding.repeating plan.now (Some (with_unread [] self.now)) now }
+        ensures still { result.seeks ≡ false }
+    {
+        if is_due(self.again, now) {
+            Agenda::saying(None, asking(plan, &self.stage))
+        } else {
+            Agenda::nothing()
+        }
+    }
+}

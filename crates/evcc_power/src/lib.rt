@@ -1,0 +1,14 @@
+//! The requests of a car from the cable check on (ISO 15118-2:2014, 8.8.4; DIN SPEC 70121:2014; IEC 61851-23), each a type of its own that
+//! its reply uses up. The contactor is ordered closed by spending a `CloseRight`, which in direct current a reply to PreCharge within 20.0 V
+//! of its target gives, and in alternating current an accepted PowerDelivery Start. What is asked and what a reply leads to are the rules of
+//! a car (`car_rules`).
+#![tactic(auto)]
+
+pub mod right;
+pub mod rows;
+
+pub use right::CloseRight;
+pub use rows::{
+    CableChecking, Charging, Ending, Moved, Next, PreCharging, Renegotiating, Starting, Stopping,
+    Welding,
+};
