@@ -36,7 +36,12 @@ fn main(rt: HostRuntime) -> Result<ExitCode> {
     for file in env::args(&rt)?.skip(1) {
         let text = fs::read(&rt, file.as_str())?;
         let counts = count(&rt, rt.alloc(), str::from_utf8(text.as_slice())?)?;
-        println!(rt; "{} rows {} wrong {}", file.as_str(), counts.rows, counts.wrong)?;
+        println!(rt;
+            "{} rows {} wrong {}",
+            file.as_str(),
+            counts.rows,
+            counts.wrong
+        )?;
         wrong |= counts.wrong > 0;
     }
     Ok(if wrong {

@@ -4,9 +4,7 @@ use crate::left::Left;
 use crate::row::{Failing, Given};
 use anyhow::Result;
 use charge_run::{Status, WordList, run};
-use charge_world::{
-    MemorySink, MemorySource, MemoryWire, NamedFile, Piece, Sink, Source, Wire,
-};
+use charge_world::{MemorySink, MemorySource, MemoryWire, NamedFile, Piece, Sink, Source, Wire};
 use std::alloc::Global;
 
 /// Room for what a wire keeps: entries, and the bytes of them.
@@ -34,9 +32,7 @@ pub(crate) fn left_by(alloc: Global, given: Given) -> Result<Left> {
     let mut out = MemorySink::make(alloc, out, BYTES)?;
     let mut trace = MemorySink::make(alloc, trace, BYTES)?;
     let mut wire = MemoryWire::make(alloc, script, wire, ENTRIES, BYTES)?;
-    let status = status_of(
-        alloc, &words, &mut files, &mut out, &mut trace, &mut wire,
-    );
+    let status = status_of(alloc, &words, &mut files, &mut out, &mut trace, &mut wire);
     Ok(Left {
         trace: text_of(alloc, trace.bytes())?,
         out: text_of(alloc, out.bytes())?,
