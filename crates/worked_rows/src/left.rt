@@ -4,12 +4,14 @@ use anyhow::Result;
 use std::alloc::Global;
 use std::fmt;
 
-/// What a run leaves: the bytes of its trace and of its output, the moments until which its hearings waited, a line each, and its status.
+/// What a run leaves: its trace and its output, the moments until which its hearings waited and the orders that were driven, a line each,
+/// and its status.
 #[derive(Drop)]
 pub(crate) struct Left {
     pub(crate) trace: String,
     pub(crate) out: String,
     pub(crate) untils: String,
+    pub(crate) driven: String,
     pub(crate) status: u8,
 }
 
@@ -20,26 +22,34 @@ impl Left {
             trace: String::new(alloc),
             out: String::new(alloc),
             untils: String::new(alloc),
+            driven: String::new(alloc),
             status: 0,
         }
     }
 
-    /// Whether this is what was wanted. Moments that aren't told are any.
+    /// Whether this is what was wanted. Moments and orders of which none is told are any.
     pub(crate) fn is_as(&self, wanted: &Left) -> bool {
         self.trace.as_str() == wanted.trace.as_str()
             && self.out.as_str() == wanted.out.as_str()
-            && (wanted.untils.is_empty() || self.untils.as_str() == wanted.untils.as_str())
+            && is_if_told(&self.untils, &wanted.untils)
+            && is_if_told(&self.driven, &wanted.driven)
             && self.status == wanted.status
     }
+}
+
+/// Whether these are the lines that are wanted, where any is.
+fn is_if_told(lines: &String, wanted: &String) -> bool {
+    wanted.is_empty() || lines.as_str() == wanted.as_str()
 }
 
 impl fmt::Display for Left {
     fn fmt<W: fmt::Write>(&self, f: &mut fmt::Formatter<W>) -> fmt::Result {
         write!(
             f,
-            "{}{}{}status {}\n",
+            "{}{}{}{}status {}\n",
             self.trace.as_str(),
             self.untils.as_str(),
+            self.driven.as_str(),
             self.out.as_str(),
             self.status
         )

@@ -9,6 +9,7 @@
 //!   what the wire brings;
 //! - `unheard ..`: what the wire would bring next, as a trace says it without a number, where it isn't written on the trace;
 //! - `until N`: until when a hearing waits, all of them in order where one is told;
+//! - `driven ORDER`: `open`, `close` or `limits`, an order that was driven, all of them in order where one is told;
 //! - `out LINE`: a line of the output, all of them in order; `status N`: the exit status.
 //! A line that begins with `#` says something to the reader.
 #![tactic(auto)]

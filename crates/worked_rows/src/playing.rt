@@ -1,17 +1,19 @@
 //! A run of the program with the outside in memory.
 
-use crate::left::Left;
+use crate::left::{Left, add_line};
 use crate::row::{Failing, Given};
 use anyhow::Result;
 use charge_run::{Status, WordList, run};
-use charge_world::{MemorySink, MemorySource, MemoryWire, NamedFile, Piece, Sink, Source, Wire};
+use charge_world::{
+    Entry, MemorySink, MemorySource, MemoryWire, NamedFile, Order, Piece, Sink, Source, Wire,
+};
 use std::alloc::Global;
 
-/// Room for what a wire keeps: entries, and the bytes of them.
-const ENTRIES: u32 = 4_000;
+/// Room for the entries of a wire.
+const ENTRIES: u32 = 400;
 
 /// Bytes of the entries of a wire, and bytes of a sink.
-const BYTES: u32 = 1_000_000;
+const BYTES: u32 = 100_000;
 
 /// What a run leaves to which this is given.
 pub(crate) fn left_by(alloc: Global, given: Given) -> Result<Left> {
@@ -37,6 +39,7 @@ pub(crate) fn left_by(alloc: Global, given: Given) -> Result<Left> {
         trace: text_of(alloc, trace.bytes())?,
         out: text_of(alloc, out.bytes())?,
         untils: lines_of(alloc, wire.untils())?,
+        driven: orders_of(alloc, wire.entries(alloc)?.as_slice())?,
         status: status.number(),
     })
 }
@@ -74,4 +77,23 @@ fn lines_of(alloc: Global, numbers: &[u64]) -> Result<String> {
         lines.push_str(line.as_str())?;
     }
     Ok(lines)
+}
+
+/// A line for each order that was driven.
+fn orders_of(alloc: Global, entries: &[Entry]) -> Result<String> {
+    let mut lines = String::new(alloc);
+    for entry in entries {
+        if let Entry::Drove { order, .. } = entry {
+            add_line(&mut lines, name_of(order))?;
+        }
+    }
+    Ok(lines)
+}
+
+fn name_of(order: &Order) -> &'static str {
+    match order {
+        Order::Open => "open",
+        Order::Close => "close",
+        Order::Limits { .. } => "limits",
+    }
 }

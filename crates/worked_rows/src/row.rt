@@ -113,6 +113,7 @@ impl Row {
             "fails" => self.fail(rest),
             "unheard" => self.add_unheard(alloc, rest),
             "until" => add_line(&mut self.wanted.untils, rest),
+            "driven" => add_line(&mut self.wanted.driven, rest),
             "out" => add_line(&mut self.wanted.out, rest),
             "status" => self.end(rest),
             "v2g-trace" => add_line(&mut self.wanted.trace, line),
