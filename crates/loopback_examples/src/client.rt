@@ -58,10 +58,10 @@ impl<'d> Clients<'d> {
     /// Does what can be done now. An error ends all that was to be done.
     pub fn take_turn<R: Net<Stream = TcpStream>>(&mut self, rt: &R) {
         for _ in 0..1000 {
-            let Some(deed) = self.deeds.get(self.place) else {
+            let Some(deed) = self.deeds.get(self.place).copied() else {
                 return;
             };
-            match self.is_done(rt, *deed) {
+            match self.is_done(rt, deed) {
                 Ok(true) => {
                     self.place = self.place.saturating_add(1);
                     self.turns = 0;
@@ -104,10 +104,16 @@ impl<'d> Clients<'d> {
     }
 
     fn connect<R: Net<Stream = TcpStream>>(&mut self, rt: &R, post: usize) -> io::Result<bool> {
-        let port = if post == 1 { self.ports[0] } else { self.ports[1] };
+        let port = if post == 1 {
+            self.ports[0]
+        } else {
+            self.ports[1]
+        };
         let line = Line::connected(rt, self.alloc, port)?;
-        self.lines.push(line)?;
-        Ok(true)
+        match self.lines.push(line) {
+            Ok(()) => Ok(true),
+            Err(_) => Err(io::Error::from(io::ErrorKind::OutOfMemory)),
+        }
     }
 
     fn send(&mut self, number: usize, hex: &str) -> io::Result<bool> {
@@ -149,11 +155,7 @@ impl<'d> Clients<'d> {
 
 impl Line {
     /// A connection to this port.
-    fn connected<R: Net<Stream = TcpStream>>(
-        rt: &R,
-        alloc: Global,
-        port: u16,
-    ) -> io::Result<Line> {
+    fn connected<R: Net<Stream = TcpStream>>(rt: &R, alloc: Global, port: u16) -> io::Result<Line> {
         let stream = rt.connect(loopback(port))?;
         stream.set_nodelay(true)?;
         stream.set_nonblocking(true)?;
@@ -193,7 +195,7 @@ impl Line {
     /// How many bytes came, the first twelve of them, and `ended` where it was.
     fn told(&self, alloc: Global) -> io::Result<String> {
         let got = self.got.as_slice();
-        let hex = hex::encode(alloc, got.get(..12).unwrap_or(got))?;
+        let hex = hex::encode(alloc, &got[..got.len().min(12)])?;
         let count = got.len();
         let ended = if self.ended { " ended" } else { "" };
         Ok(format!(in alloc; "{count} {hex}{ended}\n")?)

@@ -18,21 +18,24 @@ const REQUEST: &'static str = "01fe800100000022\
 
 /// Its first 20 bytes, and the others.
 const HALF: &'static str = "01fe8001000000228000dbab9371d3234b71d1b9";
+
 const REST: &'static str = "81899189d191818991d26b9b3a232b30020000040040";
 
 /// The next request of that car.
 const SETUP: &'static str = "01fe800100000015809a02000000000000000011d0180004080c101400";
 
-/// How many connections have to end until a station with one post or two is over, what clients do there, and what is left.
+/// How many connections have to end until a station with two posts is over, what clients do there, and what is left.
+#[derive(Clone, Copy)]
 struct Visit {
+    name: &'static str,
     sessions: u32,
     deeds: &'static [Deed],
     left: &'static str,
 }
 
 const VISITS: [Visit; 6] = [
-    // the published request in one piece
     Visit {
+        name: "the published request in one piece",
         sessions: 1,
         deeds: &[
             Deed::Connect(1),
@@ -43,8 +46,8 @@ const VISITS: [Visit; 6] = [
         left: "12 01fe80010000000480400040\n\
 post 1 sessions 1 closed 0 causes 00008000\npost 2 sessions 0 closed 0 causes 00000000\nstatus 0\n",
     },
-    // and in 42 pieces
     Visit {
+        name: "the published request in 42 pieces",
         sessions: 1,
         deeds: &[
             Deed::Connect(1),
@@ -55,8 +58,8 @@ post 1 sessions 1 closed 0 causes 00008000\npost 2 sessions 0 closed 0 causes 00
         left: "12 01fe80010000000480400040\n\
 post 1 sessions 1 closed 0 causes 00008000\npost 2 sessions 0 closed 0 causes 00000000\nstatus 0\n",
     },
-    // two clients at two posts, by turns
     Visit {
+        name: "two clients at two posts, by turns",
         sessions: 2,
         deeds: &[
             Deed::Connect(1),
@@ -78,8 +81,8 @@ post 1 sessions 1 closed 0 causes 00008000\npost 2 sessions 0 closed 0 causes 00
         left: "37 01fe80010000000480400040\n37 01fe80010000000480400040\n\
 post 1 sessions 1 closed 0 causes 00008000\npost 2 sessions 1 closed 0 causes 00008000\nstatus 0\n",
     },
-    // one that says nothing holds nobody back, at its post or at the other
     Visit {
+        name: "one that says nothing holds nobody back, at its post or at the other",
         sessions: 3,
         deeds: &[
             Deed::Connect(1),
@@ -97,8 +100,8 @@ post 1 sessions 1 closed 0 causes 00008000\npost 2 sessions 1 closed 0 causes 00
         left: "0  ended\n12 01fe80010000000480400040\n12 01fe80010000000480400040\n\
 post 1 sessions 2 closed 0 causes 00008000\npost 2 sessions 1 closed 0 causes 00008000\nstatus 0\n",
     },
-    // half a frame, and a reset behind an answer that isn't read, end their session alone
     Visit {
+        name: "half a frame, and a reset behind an answer that is not read, end their session alone",
         sessions: 3,
         deeds: &[
             Deed::Connect(2),
@@ -121,8 +124,8 @@ post 1 sessions 2 closed 0 causes 00008000\npost 2 sessions 1 closed 0 causes 00
         left: "37 01fe80010000000480400040\n0 \n0 \n\
 post 1 sessions 2 closed 0 causes 00008000\npost 2 sessions 1 closed 0 causes 00008000\nstatus 0\n",
     },
-    // a frame of another version ends its session, and the post serves the next one
     Visit {
+        name: "a frame of another version ends its session, and the post serves the next one",
         sessions: 2,
         deeds: &[
             Deed::Connect(1),
@@ -140,10 +143,10 @@ post 1 sessions 2 closed 0 causes 00008008\npost 2 sessions 0 closed 0 causes 00
 
 #[test]
 fn clients_are_served(rt: HostRuntime) -> Result<(), Fail> {
-    for (number, visit) in VISITS.iter().enumerate() {
+    for visit in VISITS {
         let ports = [free_port(&rt)?, free_port(&rt)?];
         let left = served(&rt, rt.alloc(), ports, visit.sessions, visit.deeds)?;
-        assert_eq!(rt; left.as_str(), visit.left, "at {number}");
+        assert_eq!(rt; left.as_str(), visit.left, "{}", visit.name);
     }
     Ok(())
 }
@@ -172,9 +175,7 @@ fn served<R: Net<Stream = TcpStream> + Clock + RandomSource>(
     let mut trace = MemorySink::make(alloc, Vec::new(alloc), 0)?;
     let clients = Clients::new(alloc, ports, deeds);
     let mut wire = Visited::new(rt, NetWire::new(rt, alloc), clients);
-    let status = status_of(
-        alloc, &words, &mut files, &mut out, &mut trace, &mut wire,
-    );
+    let status = status_of(alloc, &words, &mut files, &mut out, &mut trace, &mut wire);
     let mut left = wire.clients.report()?;
     left.push_str(str::from_utf8(out.bytes())?)?;
     let number = status.number();
@@ -202,7 +203,9 @@ fn text(alloc: Global, text: &str) -> Result<String, Fail> {
 /// The file of a plan of two posts at these ports.
 fn plan_file(alloc: Global, ports: [u16; 2], sessions: u32) -> Result<MemorySource, Fail> {
     let [one, two] = ports;
-    let plan = format!(in alloc; "sessions = {sessions}\n[[post]]\ntcp = {one}\n[[post]]\ntcp = {two}\n")?;
+    let plan = format!(in alloc;
+        "sessions = {sessions}\n[[post]]\ntcp = {one}\n[[post]]\ntcp = {two}\n"
+    )?;
     let file = NamedFile {
         name: Piece::of(b"plan".to_vec(alloc)?),
         bytes: Piece::of(plan.into_bytes()),
