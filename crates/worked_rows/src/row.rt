@@ -44,14 +44,13 @@ impl Failing {
 
     /// Adds a call of one of these names.
     fn add(&mut self, name: &str, number: u32) -> Result<()> {
-        let calls = match name {
-            "wire" => &mut self.wire,
-            "files" => &mut self.files,
-            "out" => &mut self.out,
-            "trace" => &mut self.trace,
+        match name {
+            "wire" => self.wire.push(number)?,
+            "files" => self.files.push(number)?,
+            "out" => self.out.push(number)?,
+            "trace" => self.trace.push(number)?,
             _ => bail!("an unknown call"),
-        };
-        calls.push(number)?;
+        }
         Ok(())
     }
 }
