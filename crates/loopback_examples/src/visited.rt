@@ -1,47 +1,85 @@
 //! A wire with clients beside it.
 
-ghost use Rattle.std.specs.Prelude.{None, []};
+ghost use Rattle.std.specs.Prelude.{◌≡◌, None, []};
+ghost use Rattle.charge_world.specs.Outside.{posts_of};
 
 use crate::client::Clients;
-use charge_world::{Failed, Heard, Order, Ports, What, Wire};
+use arrayvec::ArrayVec;
+use charge_world::{Failed, Heard, Order, PortPair, Ports, What, Wire};
 use std::net::{Net, TcpStream};
 
 /// How many turns of 5 ms a client may take in one hearing. Behind them nothing more is heard.
 const TURNS: u32 = 600;
 
-/// A wire beside which clients take a turn before each hearing, and each 5 ms in it.
+/// A wire whose one post lies at another TCP port than `start` says, until so many connections have ended. Before each hearing, and
+/// each 5 ms in it, its clients take a turn.
 #[derive(Drop)]
-pub struct Visited<'r, 'd, R: Net<Stream = TcpStream>, W: Wire + Drop> {
+pub struct Visited<'r, R: Net<Stream = TcpStream>, W: Wire + Drop> {
     rt: &'r R,
     wire: W,
-    pub clients: Clients<'d>,
+    pub clients: Clients,
+    port: u16,
+    sessions: u32,
     at: u64,
+    started: Option<Ports>,
 }
 
-impl<'r, 'd, R: Net<Stream = TcpStream>, W: Wire + Drop> Visited<'r, 'd, R, W> {
-    pub fn new(rt: &'r R, wire: W, clients: Clients<'d>) -> Visited<'r, 'd, R, W> {
+impl<'r, R: Net<Stream = TcpStream>, W: Wire + Drop> Visited<'r, R, W> {
+    pub fn new(
+        rt: &'r R,
+        wire: W,
+        clients: Clients,
+        port: u16,
+        sessions: u32,
+    ) -> Visited<'r, R, W> {
         Visited {
             rt,
             wire,
             clients,
+            port,
+            sessions,
             at: 0,
+            started: None,
         }
     }
 }
 
-impl<'r, 'd, R: Net<Stream = TcpStream>, W: Wire + Drop> Wire for Visited<'r, 'd, R, W> {
+/// The same number of posts, each at this port.
+fn moved(ports: &Ports, port: u16, sessions: u32) -> Ports
+    ensures { posts_of result ≡ posts_of ports.now }
+{
+    match ports {
+        Ports::Posts { pairs, sessions: _ } => {
+            let mut moved = ArrayVec::new();
+            for _ in 0..pairs.len() {
+                moved.push(PortPair { tcp: port, sdp: 0 });
+            }
+            Ports::Posts {
+                pairs: moved,
+                sessions,
+            }
+        }
+        Ports::Car { tcp: _, sdp } => Ports::Car {
+            tcp: port,
+            sdp: *sdp,
+        },
+    }
+}
+
+impl<'r, R: Net<Stream = TcpStream>, W: Wire + Drop> Wire for Visited<'r, R, W> {
     ghost past = { λ _. None };
 
     ghost untils = { λ _. [] };
 
-    ghost started = { λ w. W.started w.wire };
+    ghost started = { λ w. w.started };
 
     ghost posts = { λ w. W.posts w.wire };
 
     ghost faults = { λ w. W.faults w.wire };
 
     fn start(&mut self, ports: &Ports) -> Result<(), Failed> {
-        self.wire.start(ports)
+        self.started = Some(ports.copied());
+        self.wire.start(&moved(ports, self.port, self.sessions))
     }
 
     fn next(&mut self, until: u64, room: &mut [u8]) -> Result<Heard, Failed> {
