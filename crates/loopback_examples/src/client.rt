@@ -6,19 +6,21 @@ use std::io;
 use std::io::{Read, Write};
 use std::net::{Net, TcpStream};
 
-/// One thing that a client does.
-#[derive(Drop)]
+/// One thing that a client does. Connections have numbers from 0, in the order in which they are made. Bytes are hexadecimal.
+#[derive(Clone, Copy)]
 pub enum Deed {
-    /// One connection more is made.
-    Connect,
-    /// The connection of this number, from 0, sends bytes.
-    Send(usize, Vec<u8>),
+    /// One connection more is made, to the post of this number.
+    Connect(usize),
+    /// The connection sends bytes in one piece.
+    Send(usize, &'static str),
+    /// The connection sends bytes one by one, each in a turn of its own.
+    Trickle(usize, &'static str),
     /// Nothing more is done until the connection got so many bytes in all, or was ended.
     Await(usize, usize),
     /// The connection is closed, by a reset where bytes came that weren't read.
     Close(usize),
     /// Nothing is done for so many turns.
-    Rest(u32),
+    Rest(usize),
 }
 
 /// A connection of a client, and what it got.
@@ -29,104 +31,116 @@ struct Line {
     ended: bool,
 }
 
-/// Clients at one port, with what is still to be done, the next thing last.
+/// Clients at the posts of these ports, and what they do: the deed of this place, which was begun so many turns ago, and those behind it.
 #[derive(Drop)]
-pub struct Clients {
+pub struct Clients<'d> {
     alloc: Global,
-    port: u16,
+    ports: [u16; 2],
     lines: Vec<Line>,
-    deeds: Vec<Deed>,
+    deeds: &'d [Deed],
+    place: usize,
+    turns: usize,
 }
 
-impl Clients {
+impl<'d> Clients<'d> {
     /// Clients that do these things in order.
-    pub fn new(alloc: Global, port: u16, mut deeds: Vec<Deed>) -> Clients {
-        deeds.reverse();
+    pub fn new(alloc: Global, ports: [u16; 2], deeds: &'d [Deed]) -> Clients<'d> {
         Clients {
             alloc,
-            port,
+            ports,
             lines: Vec::new(alloc),
             deeds,
+            place: 0,
+            turns: 0,
         }
     }
 
     /// Does what can be done now. An error ends all that was to be done.
     pub fn take_turn<R: Net<Stream = TcpStream>>(&mut self, rt: &R) {
-        for _ in 0..10_000 {
-            match self.do_next(rt) {
-                Ok(true) => {}
-                Ok(false) => return,
-                Err(_) => self.deeds.clear(),
+        for _ in 0..1000 {
+            let Some(deed) = self.deeds.get(self.place).copied() else {
+                return;
+            };
+            match self.is_done(rt, deed) {
+                Ok(true) => {
+                    self.place = self.place.saturating_add(1);
+                    self.turns = 0;
+                }
+                Ok(false) => {
+                    self.turns = self.turns.saturating_add(1);
+                    return;
+                }
+                Err(_) => self.place = usize::MAX,
             }
         }
     }
 
-    /// Whether all was done.
-    pub fn are_done(&self) -> bool {
-        self.deeds.is_empty()
-    }
-
-    /// What the connection of this number got, in hexadecimal, and a full stop where it was ended.
-    pub fn got(&self, number: usize) -> io::Result<String> {
-        let Some(line) = self.lines.get(number) else {
-            return Ok(String::from_str(self.alloc, "none")?);
-        };
-        let mut text = hex::encode(self.alloc, line.got.as_slice())?;
-        if line.ended {
-            text.push('.')?;
+    /// For each connection, a line: how many bytes it got, the first twelve of them, and `ended` where it was. Where not all was done,
+    /// the place of what was not.
+    pub fn report(&self) -> io::Result<String> {
+        let mut text = String::new(self.alloc);
+        for line in self.lines.as_slice() {
+            let told = line.told(self.alloc)?;
+            text.push_str(told.as_str())?;
+        }
+        if self.place != self.deeds.len() {
+            let place = self.place;
+            let undone = format!(in self.alloc; "not done from {place}\n")?;
+            text.push_str(undone.as_str())?;
         }
         Ok(text)
     }
 
-    /// Does the next thing. `false` where it has to wait, or nothing is left.
-    fn do_next<R: Net<Stream = TcpStream>>(&mut self, rt: &R) -> io::Result<bool> {
-        match self.deeds.pop() {
-            None => Ok(false),
-            Some(Deed::Connect) => {
-                let stream = rt.connect(loopback(self.port))?;
-                stream.set_nodelay(true)?;
-                stream.set_nonblocking(true)?;
-                let line = Line {
-                    stream: Some(stream),
-                    got: Vec::new(self.alloc),
-                    ended: false,
-                };
-                self.lines
-                    .push(line)
-                    .map_err(|_| io::Error::from(io::ErrorKind::OutOfMemory))?;
-                Ok(true)
-            }
-            Some(Deed::Send(number, bytes)) => {
-                if let Some(line) = self.lines.get_mut(number) {
-                    if let Some(stream) = &mut line.stream {
-                        stream.write_all(bytes.as_slice())?;
-                    }
-                }
-                Ok(true)
-            }
-            Some(Deed::Await(number, bytes)) => {
-                if self.has_got(number, bytes)? {
-                    return Ok(true);
-                }
-                self.put_back(Deed::Await(number, bytes))
-            }
-            Some(Deed::Close(number)) => {
-                if let Some(line) = self.lines.get_mut(number) {
-                    line.stream = None;
-                }
-                Ok(true)
-            }
-            Some(Deed::Rest(0)) => Ok(true),
-            Some(Deed::Rest(turns)) => self.put_back(Deed::Rest(turns - 1)),
+    /// Does this, or a part of it. `false` where it has to wait.
+    fn is_done<R: Net<Stream = TcpStream>>(&mut self, rt: &R, deed: Deed) -> io::Result<bool> {
+        match deed {
+            Deed::Connect(post) => self.connect(rt, post),
+            Deed::Send(number, hex) => self.send(number, hex),
+            Deed::Trickle(number, hex) => self.trickle(number, hex),
+            Deed::Await(number, bytes) => self.has_got(number, bytes),
+            Deed::Close(number) => self.close(number),
+            Deed::Rest(turns) => Ok(self.turns >= turns),
         }
     }
 
-    /// This is still to be done.
-    fn put_back(&mut self, deed: Deed) -> io::Result<bool> {
-        match self.deeds.push(deed) {
-            Ok(()) => Ok(false),
+    fn connect<R: Net<Stream = TcpStream>>(&mut self, rt: &R, post: usize) -> io::Result<bool> {
+        let port = if post == 1 {
+            self.ports[0]
+        } else {
+            self.ports[1]
+        };
+        let line = Line::connected(rt, self.alloc, port)?;
+        match self.lines.push(line) {
+            Ok(()) => Ok(true),
             Err(_) => Err(io::Error::from(io::ErrorKind::OutOfMemory)),
         }
+    }
+
+    fn send(&mut self, number: usize, hex: &str) -> io::Result<bool> {
+        let alloc = self.alloc;
+        if let Some(line) = self.lines.get_mut(number) {
+            line.send(alloc, hex)?;
+        }
+        Ok(true)
+    }
+
+    /// Sends the byte of this turn. `true` once there is no more.
+    fn trickle(&mut self, number: usize, hex: &str) -> io::Result<bool> {
+        let place = self.turns.saturating_mul(2);
+        match hex.get(place..place.saturating_add(2)) {
+            Some(byte) => {
+                self.send(number, byte)?;
+                Ok(false)
+            }
+            None => Ok(true),
+        }
+    }
+
+    fn close(&mut self, number: usize) -> io::Result<bool> {
+        if let Some(line) = self.lines.get_mut(number) {
+            line.stream = None;
+        }
+        Ok(true)
     }
 
     /// Reads what came, and says whether there are so many bytes, or the connection was ended.
@@ -140,6 +154,29 @@ impl Clients {
 }
 
 impl Line {
+    /// A connection to this port.
+    fn connected<R: Net<Stream = TcpStream>>(rt: &R, alloc: Global, port: u16) -> io::Result<Line> {
+        let stream = rt.connect(loopback(port))?;
+        stream.set_nodelay(true)?;
+        stream.set_nonblocking(true)?;
+        Ok(Line {
+            stream: Some(stream),
+            got: Vec::new(alloc),
+            ended: false,
+        })
+    }
+
+    /// Sends bytes.
+    fn send(&mut self, alloc: Global, hex: &str) -> io::Result<()> {
+        let Ok(bytes) = hex::decode(alloc, hex) else {
+            return Err(io::Error::from(io::ErrorKind::InvalidInput));
+        };
+        match &mut self.stream {
+            Some(stream) => stream.write_all(bytes.as_slice()),
+            None => Ok(()),
+        }
+    }
+
     /// Reads what came.
     fn read(&mut self) -> io::Result<()> {
         let mut room = [0u8; 256];
@@ -153,5 +190,14 @@ impl Line {
             Err(_) => self.ended = true,
         }
         Ok(())
+    }
+
+    /// How many bytes came, the first twelve of them, and `ended` where it was.
+    fn told(&self, alloc: Global) -> io::Result<String> {
+        let got = self.got.as_slice();
+        let hex = hex::encode(alloc, &got[..got.len().min(12)])?;
+        let count = got.len();
+        let ended = if self.ended { " ended" } else { "" };
+        Ok(format!(in alloc; "{count} {hex}{ended}\n")?)
     }
 }

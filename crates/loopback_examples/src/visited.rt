@@ -1,85 +1,47 @@
 //! A wire with clients beside it.
 
-ghost use Rattle.std.specs.Prelude.{◌≡◌, None, []};
-ghost use Rattle.charge_world.specs.Outside.{posts_of};
+ghost use Rattle.std.specs.Prelude.{None, []};
 
 use crate::client::Clients;
-use arrayvec::ArrayVec;
-use charge_world::{Failed, Heard, Order, PortPair, Ports, What, Wire};
+use charge_world::{Failed, Heard, Order, Ports, What, Wire};
 use std::net::{Net, TcpStream};
 
 /// How many turns of 5 ms a client may take in one hearing. Behind them nothing more is heard.
 const TURNS: u32 = 600;
 
-/// A wire whose one post lies at another TCP port than `start` says, until so many connections have ended. Before each hearing, and
-/// each 5 ms in it, its clients take a turn.
+/// A wire beside which clients take a turn before each hearing, and each 5 ms in it.
 #[derive(Drop)]
-pub struct Visited<'r, R: Net<Stream = TcpStream>, W: Wire + Drop> {
+pub struct Visited<'r, 'd, R: Net<Stream = TcpStream>, W: Wire + Drop> {
     rt: &'r R,
     wire: W,
-    pub clients: Clients,
-    port: u16,
-    sessions: u32,
+    pub clients: Clients<'d>,
     at: u64,
-    started: Option<Ports>,
 }
 
-impl<'r, R: Net<Stream = TcpStream>, W: Wire + Drop> Visited<'r, R, W> {
-    pub fn new(
-        rt: &'r R,
-        wire: W,
-        clients: Clients,
-        port: u16,
-        sessions: u32,
-    ) -> Visited<'r, R, W> {
+impl<'r, 'd, R: Net<Stream = TcpStream>, W: Wire + Drop> Visited<'r, 'd, R, W> {
+    pub fn new(rt: &'r R, wire: W, clients: Clients<'d>) -> Visited<'r, 'd, R, W> {
         Visited {
             rt,
             wire,
             clients,
-            port,
-            sessions,
             at: 0,
-            started: None,
         }
     }
 }
 
-/// The same number of posts, each at this port.
-fn moved(ports: &Ports, port: u16, sessions: u32) -> Ports
-    ensures { posts_of result ≡ posts_of ports.now }
-{
-    match ports {
-        Ports::Posts { pairs, sessions: _ } => {
-            let mut moved = ArrayVec::new();
-            for _ in 0..pairs.len() {
-                moved.push(PortPair { tcp: port, sdp: 0 });
-            }
-            Ports::Posts {
-                pairs: moved,
-                sessions,
-            }
-        }
-        Ports::Car { tcp: _, sdp } => Ports::Car {
-            tcp: port,
-            sdp: *sdp,
-        },
-    }
-}
-
-impl<'r, R: Net<Stream = TcpStream>, W: Wire + Drop> Wire for Visited<'r, R, W> {
+impl<'r, 'd, R: Net<Stream = TcpStream>, W: Wire + Drop> Wire for Visited<'r, 'd, R, W> {
     ghost past = { λ _. None };
 
     ghost untils = { λ _. [] };
 
-    ghost started = { λ w. w.started };
+    ghost started = { λ w. W.started w.wire };
 
     ghost posts = { λ w. W.posts w.wire };
 
     ghost faults = { λ w. W.faults w.wire };
 
     fn start(&mut self, ports: &Ports) -> Result<(), Failed> {
-        self.started = Some(ports.copied());
-        self.wire.start(&moved(ports, self.port, self.sessions))
+        self.wire.start(ports)
     }
 
     fn next(&mut self, until: u64, room: &mut [u8]) -> Result<Heard, Failed> {

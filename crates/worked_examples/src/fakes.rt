@@ -1,7 +1,6 @@
 //! The fakes in memory: each call once, and each failing call once.
 
 use crate::events::{came, event};
-use crate::scripts::piece;
 use arrayvec::ArrayVec;
 use charge_world::{
     Failed, Heard, MemorySink, MemorySource, MemoryWire, NamedFile, Order, Piece, PortPair, Ports,
@@ -110,10 +109,8 @@ fn a_wire_leaves_out_what_does_not_fit(rt: HostRuntime) -> Result<(), Fail> {
     // of no post, and of a post that was not started
     script.push(event(rt.alloc(), What::Gone { post: 0 }))?;
     script.push(event(rt.alloc(), What::Gone { post: 2 }))?;
-    // two bytes of which one is there
-    let mut short = piece(rt.alloc(), "00")?;
-    short.heard.what = What::Bytes { post: 1, n: 2 };
-    script.push(short)?;
+    // two bytes of which none is there
+    script.push(event(rt.alloc(), What::Bytes { post: 1, n: 2 }))?;
     script.push(event(rt.alloc(), What::Tick))?;
     let mut wire = memory_wire(rt.alloc(), script, &[])?;
     assert_eq!(rt; wire.start(&post_1()), Ok(()));

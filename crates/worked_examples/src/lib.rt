@@ -1,21 +1,10 @@
-//! Worked examples that cross the crates: scripts of hearings, a wire that only ticks, and what a station does about them.
+//! Worked examples that cross the crates: events of scripts, a wire that only ticks, the fakes in memory, and what the program's call
+//! does where a row of text would be too long. The worked rows themselves are in `worked_rows`.
 #![tactic(auto)]
 
-#[cfg(test)]
-mod commands;
-#[cfg(test)]
-mod dialects;
 pub mod events;
 #[cfg(test)]
 mod fakes;
 #[cfg(test)]
-mod negotiation;
-#[cfg(test)]
-mod plans;
-#[cfg(test)]
-mod scripts;
-#[cfg(test)]
-mod station;
-#[cfg(test)]
-mod texts;
+mod runs;
 pub mod ticking;
