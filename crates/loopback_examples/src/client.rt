@@ -33,18 +33,18 @@ struct Line {
 
 /// Clients at the posts of these ports, and what they do: the deed of this place, which was begun so many turns ago, and those behind it.
 #[derive(Drop)]
-pub struct Clients<'d> {
+pub struct Clients {
     alloc: Global,
     ports: [u16; 2],
     lines: Vec<Line>,
-    deeds: &'d [Deed],
+    deeds: &'static [Deed],
     place: usize,
     turns: usize,
 }
 
-impl<'d> Clients<'d> {
+impl Clients {
     /// Clients that do these things in order.
-    pub fn new(alloc: Global, ports: [u16; 2], deeds: &'d [Deed]) -> Clients<'d> {
+    pub fn new(alloc: Global, ports: [u16; 2], deeds: &'static [Deed]) -> Clients {
         Clients {
             alloc,
             ports,

@@ -167,7 +167,7 @@ fn served<R: Net<Stream = TcpStream> + Clock + RandomSource>(
     alloc: Global,
     ports: [u16; 2],
     sessions: u32,
-    deeds: &[Deed],
+    deeds: &'static [Deed],
 ) -> Result<String, Fail> {
     let words = WordList::of(vec![in alloc; text(alloc, "station")?, text(alloc, "plan")?]?);
     let mut files = plan_file(alloc, ports, sessions)?;

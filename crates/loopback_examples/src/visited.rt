@@ -11,15 +11,15 @@ const TURNS: u32 = 600;
 
 /// A wire beside which clients take a turn before each hearing, and each 5 ms in it.
 #[derive(Drop)]
-pub struct Visited<'r, 'd, R: Net<Stream = TcpStream>, W: Wire + Drop> {
+pub struct Visited<'r, R: Net<Stream = TcpStream>, W: Wire + Drop> {
     rt: &'r R,
     wire: W,
-    pub clients: Clients<'d>,
+    pub clients: Clients,
     at: u64,
 }
 
-impl<'r, 'd, R: Net<Stream = TcpStream>, W: Wire + Drop> Visited<'r, 'd, R, W> {
-    pub fn new(rt: &'r R, wire: W, clients: Clients<'d>) -> Visited<'r, 'd, R, W> {
+impl<'r, R: Net<Stream = TcpStream>, W: Wire + Drop> Visited<'r, R, W> {
+    pub fn new(rt: &'r R, wire: W, clients: Clients) -> Visited<'r, R, W> {
         Visited {
             rt,
             wire,
@@ -29,7 +29,7 @@ impl<'r, 'd, R: Net<Stream = TcpStream>, W: Wire + Drop> Visited<'r, 'd, R, W> {
     }
 }
 
-impl<'r, 'd, R: Net<Stream = TcpStream>, W: Wire + Drop> Wire for Visited<'r, 'd, R, W> {
+impl<'r, R: Net<Stream = TcpStream>, W: Wire + Drop> Wire for Visited<'r, R, W> {
     ghost past = { λ _. None };
 
     ghost untils = { λ _. [] };
