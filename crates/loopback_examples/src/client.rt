@@ -37,14 +37,14 @@ pub struct Clients {
     alloc: Global,
     ports: [u16; 2],
     lines: Vec<Line>,
-    deeds: &'static [Deed],
+    deeds: Vec<Deed>,
     place: usize,
     turns: usize,
 }
 
 impl Clients {
     /// Clients that do these things in order.
-    pub fn new(alloc: Global, ports: [u16; 2], deeds: &'static [Deed]) -> Clients {
+    pub fn new(alloc: Global, ports: [u16; 2], deeds: Vec<Deed>) -> Clients {
         Clients {
             alloc,
             ports,

@@ -167,13 +167,13 @@ fn served<R: Net<Stream = TcpStream> + Clock + RandomSource>(
     alloc: Global,
     ports: [u16; 2],
     sessions: u32,
-    deeds: &'static [Deed],
+    deeds: &[Deed],
 ) -> Result<String, Fail> {
     let words = WordList::of(vec![in alloc; text(alloc, "station")?, text(alloc, "plan")?]?);
     let mut files = plan_file(alloc, ports, sessions)?;
     let mut out = MemorySink::make(alloc, Vec::new(alloc), 1024)?;
     let mut trace = MemorySink::make(alloc, Vec::new(alloc), 0)?;
-    let clients = Clients::new(alloc, ports, deeds);
+    let clients = Clients::new(alloc, ports, deeds.to_vec(alloc)?);
     let mut wire = Visited::new(rt, NetWire::new(rt, alloc), clients);
     let status = status_of(alloc, &words, &mut files, &mut out, &mut trace, &mut wire);
     let mut left = wire.clients.report()?;
