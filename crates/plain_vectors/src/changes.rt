@@ -1,6 +1,6 @@
 //! Changes of a record.
 
-ghost use Rattle.std.specs.Prelude.{◌≡◌, IfOk};
+ghost use Rattle.std.specs.Prelude.{◌≡◌, ◌<◌, IfOk};
 
 use charge_world::{Entry, Order, Piece, Tenths};
 use plain_codecs::NoMemory;
@@ -156,7 +156,10 @@ fn altered(alloc: Global, entry: &Entry, place: usize) -> Result<Entry, NoMemory
 }
 
 /// The place that the entry at this one is moved to, among so many.
-fn moved_to(place: usize, len: usize) -> usize {
+fn moved_to(place: usize, len: usize) -> usize
+    requires { place < len }
+    ensures { result < len }
+{
     if place + 1 < len {
         place + 1
     } else {
