@@ -52,11 +52,7 @@ fn next_place<A: Places>(plain: &A, place: Place) -> Option<Place>
     }
     match plain.advance(place, 0) {
         Step::Attribute { next, .. } | Step::Element { next, .. } | Step::Characters { next } => {
-            if next == place {
-                None
-            } else {
-                Some(next)
-            }
+            if next == place { None } else { Some(next) }
         }
         Step::End => None,
     }
