@@ -6,15 +6,55 @@ use std::io;
 use std::io::{Read, Write};
 use std::net::{Net, TcpStream};
 
-/// One thing that a client does. Connections have numbers from 0, in the order in which they are made. Bytes are hexadecimal.
+/// The published request of a car that speaks DIN SPEC 70121, in its frame; its answer is `01fe80010000000480400040`.
+const REQUEST: &'static str = "01fe800100000022\
+8000dbab9371d3234b71d1b981899189d191818991d26b9b3a232b30020000040040";
+
+/// Its first 20 bytes, and the others.
+const HALF: &'static str = "01fe8001000000228000dbab9371d3234b71d1b9";
+
+const REST: &'static str = "81899189d191818991d26b9b3a232b30020000040040";
+
+/// The next request of that car.
+const SETUP: &'static str = "01fe800100000015809a02000000000000000011d0180004080c101400";
+
+/// What a client sends.
+#[derive(Clone, Copy)]
+pub enum Bytes {
+    /// The published request.
+    Request,
+    /// Its first 20 bytes.
+    Half,
+    /// The others.
+    Rest,
+    /// The next request of that car.
+    Setup,
+    /// A frame of a version that there isn't.
+    OtherVersion,
+}
+
+impl Bytes {
+    /// In hexadecimal.
+    fn hex(self) -> &'static str {
+        match self {
+            Bytes::Request => REQUEST,
+            Bytes::Half => HALF,
+            Bytes::Rest => REST,
+            Bytes::Setup => SETUP,
+            Bytes::OtherVersion => "02fe800100000000",
+        }
+    }
+}
+
+/// One thing that a client does. Connections have numbers from 0, in the order in which they are made.
 #[derive(Clone, Copy)]
 pub enum Deed {
     /// One connection more is made, to the post of this number.
     Connect(usize),
-    /// The connection sends bytes in one piece.
-    Send(usize, &'static str),
+    /// The connection sends these bytes in one piece.
+    Send(usize, Bytes),
     /// The connection sends bytes one by one, each in a turn of its own.
-    Trickle(usize, &'static str),
+    Trickle(usize, Bytes),
     /// Nothing more is done until the connection got so many bytes in all, or was ended.
     Await(usize, usize),
     /// The connection is closed, by a reset where bytes came that weren't read.
@@ -95,8 +135,8 @@ impl Clients {
     fn is_done<R: Net<Stream = TcpStream>>(&mut self, rt: &R, deed: Deed) -> io::Result<bool> {
         match deed {
             Deed::Connect(post) => self.connect(rt, post),
-            Deed::Send(number, hex) => self.send(number, hex),
-            Deed::Trickle(number, hex) => self.trickle(number, hex),
+            Deed::Send(number, bytes) => self.send(number, bytes.hex()),
+            Deed::Trickle(number, bytes) => self.trickle(number, bytes.hex()),
             Deed::Await(number, bytes) => self.has_got(number, bytes),
             Deed::Close(number) => self.close(number),
             Deed::Rest(turns) => Ok(self.turns >= turns),

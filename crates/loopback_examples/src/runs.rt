@@ -1,28 +1,16 @@
 //! The program's call over the real wire, with clients beside it.
 
-use crate::client::{Clients, Deed};
+use crate::client::{Bytes, Clients, Deed};
 use crate::free::{free_port, loopback};
 use crate::visited::Visited;
-use charge_run::{Status, WordList, run};
-use charge_world::{MemorySink, MemorySource, NamedFile, Piece, Sink, Source, Wire};
+use charge_run::{WordList, run};
+use charge_world::{MemorySink, MemorySource, NamedFile, Piece};
 use net_wire::NetWire;
 use std::alloc::Global;
 use std::net::{Net, TcpStream};
 use std::random::RandomSource;
 use std::test::*;
 use std::time::Clock;
-
-/// The published request of a car that speaks DIN SPEC 70121, in its frame; its answer is `01fe80010000000480400040`.
-const REQUEST: &'static str = "01fe800100000022\
-8000dbab9371d3234b71d1b981899189d191818991d26b9b3a232b30020000040040";
-
-/// Its first 20 bytes, and the others.
-const HALF: &'static str = "01fe8001000000228000dbab9371d3234b71d1b9";
-
-const REST: &'static str = "81899189d191818991d26b9b3a232b30020000040040";
-
-/// The next request of that car.
-const SETUP: &'static str = "01fe800100000015809a02000000000000000011d0180004080c101400";
 
 /// How many connections have to end until a station with two posts is over, what clients do there, and what is left.
 #[derive(Clone, Copy)]
@@ -39,7 +27,7 @@ const VISITS: [Visit; 6] = [
         sessions: 1,
         deeds: &[
             Deed::Connect(1),
-            Deed::Send(0, REQUEST),
+            Deed::Send(0, Bytes::Request),
             Deed::Await(0, 12),
             Deed::Close(0),
         ],
@@ -51,7 +39,7 @@ post 1 sessions 1 closed 0 causes 00008000\npost 2 sessions 0 closed 0 causes 00
         sessions: 1,
         deeds: &[
             Deed::Connect(1),
-            Deed::Trickle(0, REQUEST),
+            Deed::Trickle(0, Bytes::Request),
             Deed::Await(0, 12),
             Deed::Close(0),
         ],
@@ -64,15 +52,15 @@ post 1 sessions 1 closed 0 causes 00008000\npost 2 sessions 0 closed 0 causes 00
         deeds: &[
             Deed::Connect(1),
             Deed::Connect(2),
-            Deed::Send(0, HALF),
-            Deed::Send(1, HALF),
+            Deed::Send(0, Bytes::Half),
+            Deed::Send(1, Bytes::Half),
             Deed::Rest(2),
-            Deed::Send(0, REST),
+            Deed::Send(0, Bytes::Rest),
             Deed::Await(0, 12),
-            Deed::Send(1, REST),
+            Deed::Send(1, Bytes::Rest),
             Deed::Await(1, 12),
-            Deed::Send(0, SETUP),
-            Deed::Send(1, SETUP),
+            Deed::Send(0, Bytes::Setup),
+            Deed::Send(1, Bytes::Setup),
             Deed::Await(0, 37),
             Deed::Await(1, 37),
             Deed::Close(0),
@@ -88,10 +76,10 @@ post 1 sessions 1 closed 0 causes 00008000\npost 2 sessions 1 closed 0 causes 00
             Deed::Connect(1),
             Deed::Rest(2),
             Deed::Connect(2),
-            Deed::Send(1, REQUEST),
+            Deed::Send(1, Bytes::Request),
             Deed::Await(1, 12),
             Deed::Connect(1),
-            Deed::Send(2, REQUEST),
+            Deed::Send(2, Bytes::Request),
             Deed::Await(2, 12),
             Deed::Await(0, 1),
             Deed::Close(1),
@@ -105,19 +93,19 @@ post 1 sessions 2 closed 0 causes 00008000\npost 2 sessions 1 closed 0 causes 00
         sessions: 3,
         deeds: &[
             Deed::Connect(2),
-            Deed::Send(0, REQUEST),
+            Deed::Send(0, Bytes::Request),
             Deed::Await(0, 12),
             Deed::Connect(1),
-            Deed::Send(1, HALF),
+            Deed::Send(1, Bytes::Half),
             Deed::Rest(2),
             Deed::Close(1),
             Deed::Rest(2),
             Deed::Connect(1),
-            Deed::Send(2, REQUEST),
+            Deed::Send(2, Bytes::Request),
             Deed::Rest(4),
             Deed::Close(2),
             Deed::Rest(2),
-            Deed::Send(0, SETUP),
+            Deed::Send(0, Bytes::Setup),
             Deed::Await(0, 37),
             Deed::Close(0),
         ],
@@ -129,10 +117,10 @@ post 1 sessions 2 closed 0 causes 00008000\npost 2 sessions 1 closed 0 causes 00
         sessions: 2,
         deeds: &[
             Deed::Connect(1),
-            Deed::Send(0, "02fe800100000000"),
+            Deed::Send(0, Bytes::OtherVersion),
             Deed::Await(0, 1),
             Deed::Connect(1),
-            Deed::Send(1, REQUEST),
+            Deed::Send(1, Bytes::Request),
             Deed::Await(1, 12),
             Deed::Close(1),
         ],
@@ -175,25 +163,13 @@ fn served<R: Net<Stream = TcpStream> + Clock + RandomSource>(
     let mut trace = MemorySink::make(alloc, Vec::new(alloc), 0)?;
     let clients = Clients::new(alloc, ports, deeds.to_vec(alloc)?);
     let mut wire = Visited::new(rt, NetWire::new(rt, alloc), clients);
-    let status = status_of(alloc, &words, &mut files, &mut out, &mut trace, &mut wire);
+    let status = run(alloc, &words, &mut files, &mut out, &mut trace, &mut wire);
     let mut left = wire.clients.report()?;
     left.push_str(str::from_utf8(out.bytes())?)?;
     let number = status.number();
     let line = format!(in alloc; "status {number}\n")?;
     left.push_str(line.as_str())?;
     Ok(left)
-}
-
-/// Does all that the program does. That `run` has a large contract is felt here alone.
-fn status_of<F: Source, K: Sink, J: Sink, W: Wire>(
-    alloc: Global,
-    words: &WordList,
-    files: &mut F,
-    out: &mut K,
-    trace: &mut J,
-    wire: &mut W,
-) -> Status {
-    run(alloc, words, files, out, trace, wire)
 }
 
 fn text(alloc: Global, text: &str) -> Result<String, Fail> {
