@@ -18,6 +18,3 @@ pub use negotiation::{negotiate, negotiate_among};
 pub use printing::print;
 pub use scanning::scan;
 pub use tree_text::{PrintFault, ScanFault};
-
-#[cfg(test)]
-mod tests;

@@ -7,6 +7,3 @@ mod tables;
 
 pub use places::NegotiationPlaces;
 pub use tables::negotiation;
-
-#[cfg(test)]
-mod tests;

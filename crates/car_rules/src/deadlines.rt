@@ -135,7 +135,7 @@ pub(crate) fn hit_by(due: Option<CarDue>, now: u64, later: Option<EndCause>) -> 
 }
 
 /// The moment of a deadline; 2^64 - 1 where none runs.
-pub(crate) fn moment_of(due: Option<CarDue>) -> u64
+pub fn moment_of(due: Option<CarDue>) -> u64
     ensures { result ≡ rule.moment_of due }
 {
     match due {

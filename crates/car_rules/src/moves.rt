@@ -11,7 +11,7 @@ use session_rules::is_ac;
 use session_words::{Amount, CarPlan, Mode, Notify, Processing, Reply, SessionId, Tell};
 
 /// Whether the reply says Finished.
-fn says_finished(tell: &Tell) -> bool
+pub fn says_finished(tell: &Tell) -> bool
     ensures { result ≡ finished tell.now }
 {
     match tell {

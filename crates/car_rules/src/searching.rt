@@ -56,7 +56,7 @@ impl Search {
 }
 
 /// Whether the car still looks for a post.
-fn is_searching(plan: &CarPlan, search: &Search) -> bool
+pub fn is_searching(plan: &CarPlan, search: &Search) -> bool
     ensures { result ≡ rule.is_searching plan.now search.now }
 {
     0 < plan.sdp && !search.dialed

@@ -7,6 +7,3 @@ mod word_list;
 
 pub use reading::{Command, WordsFault, read_words};
 pub use word_list::WordList;
-
-#[cfg(test)]
-mod tests;

@@ -10,6 +10,3 @@ pub use contactor::Contactor;
 pub use law::law_of_contactor;
 pub use right::{CloseRight, is_ready};
 pub use session_words::Standing;
-
-#[cfg(test)]
-mod tests;

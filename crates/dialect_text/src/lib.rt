@@ -17,6 +17,3 @@ mod take;
 pub use said::Said;
 pub use scanner::DialectScanner;
 pub use value_text::ScanFault;
-
-#[cfg(test)]
-mod tests;

@@ -13,7 +13,7 @@ use crate::agenda::{Agenda, Todo};
 use crate::event::CarEvent;
 use crate::living::or_never;
 use crate::slot::{SessionSlot, Wanted};
-use car_rules::{CarDue, CarStage, Search, next_request, search_due};
+use car_rules::{CarDue, CarStage, Search, moment_of, next_request, search_due};
 use charge_world::Dialect;
 use heard_bytes::NewestPiece;
 use session_words::CarPlan;
@@ -65,16 +65,6 @@ impl Model for Car {
     } };
 
     ghost invariant = { λ c. (c.search.asked ≤ 50) × (c.agenda.seeks ≡ true → c.search.asked < 50) };
-}
-
-/// The moment of a deadline; 2^64 - 1 where none runs.
-fn moment_of(due: Option<CarDue>) -> u64
-    ensures { result ≡ moment_of due }
-{
-    match due {
-        Some(due) => due.moment,
-        None => u64::MAX,
-    }
 }
 
 impl Car {

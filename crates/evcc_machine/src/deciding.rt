@@ -10,16 +10,11 @@ use crate::agenda::{Agenda, Spoken};
 use crate::car::{Car, Part};
 use crate::event::CarEvent;
 use crate::living::is_due;
-use car_rules::{CarDue, Search, is_reached, next_request, plant_cause, port_of, search_due};
+use car_rules::{
+    CarDue, Search, is_reached, is_searching, next_request, plant_cause, port_of, search_due,
+};
 use charge_world::PlantEvent;
 use session_words::{CarPlan, EndCause};
-
-/// Whether the car still looks for a post.
-fn is_searching(plan: &CarPlan, search: &Search) -> bool
-    ensures { result ≡ is_searching plan.now search.now }
-{
-    0 < plan.sdp && !search.dialed
-}
 
 /// The cause of a deadline, where it is reached.
 fn hit_by(due: Option<CarDue>, now: u64) -> Option<EndCause>

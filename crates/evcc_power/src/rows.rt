@@ -10,7 +10,7 @@ ghost use Rattle.evcc_power.specs.Leading.{Leads, next_stage};
 
 use crate::right::CloseRight;
 use car_rules::{CarPhase, CarStage, reply_cause, request_of, stage_behind};
-use evcc_setup::{Carried, says_finished};
+use evcc_setup::Carried;
 use session_rules::is_ac;
 use session_words::{CarPlan, EndCause, Reply, Request};
 use std::marker::Model;

@@ -7,6 +7,4 @@ pub mod carried;
 pub mod rows;
 
 pub use carried::Carried;
-pub use rows::{
-    Asking, Authorizing, Discovering, Moved, Next, Selecting, SettingUp, says_finished,
-};
+pub use rows::{Asking, Authorizing, Discovering, Moved, Next, Selecting, SettingUp};

@@ -1,7 +1,6 @@
 //! The requests whose replies a car awaits, each a type of its own. Contracts see the stage of the session.
 
 ghost use Rattle.std.specs.Prelude.{◌≡◌, Bool, true, None};
-ghost use Rattle.post_spec.specs.Kinds.{says_finished as finished};
 ghost use Rattle.car_rules.specs.Replies.{reply_cause};
 ghost use Rattle.car_rules.specs.Requests.{request_of};
 ghost use Rattle.car_rules.specs.Stages.{first_stage};
@@ -10,24 +9,11 @@ ghost use Rattle.evcc_setup.specs.Carrying.{carried_stage};
 ghost use Rattle.evcc_setup.specs.Leading.{Leads};
 
 use crate::carried::Carried;
-use car_rules::{CarPhase, CarStage, reply_cause, request_of};
+use car_rules::{CarPhase, CarStage, reply_cause, request_of, says_finished};
 use charge_world::Dialect;
 use session_rules::is_ac;
-use session_words::{CarPlan, EndCause, Processing, Reply, Request, SessionId, Tell};
+use session_words::{CarPlan, EndCause, Reply, Request, SessionId};
 use std::marker::Model;
-
-/// Whether a reply says Finished.
-pub fn says_finished(tell: &Tell) -> bool
-    ensures { result ≡ finished tell.now }
-{
-    match tell {
-        Tell::Authorization { processing } | Tell::CableCheck { processing, .. } => {
-            matches!(processing, Processing::Finished)
-        }
-        Tell::ChargeParameters { processing, .. } => matches!(processing, Processing::Finished),
-        _ => false,
-    }
-}
 
 /// SessionSetup.
 #[derive(Drop)]

@@ -18,6 +18,3 @@ pub use lengths::{integer_bits, unsigned_bits};
 pub use pen::{BitPen, Full};
 pub use room::{begun_bytes, chars_bits};
 pub use span::{BitSpan, SpanAt};
-
-#[cfg(test)]
-mod tests;

@@ -17,10 +17,3 @@ pub use exi_documents::{Refusal, RefusalCause};
 pub use exi_values::{Event, Table, Value};
 pub use reader::EventReader;
 pub use writer::{EventWriter, NotPut};
-
-#[cfg(test)]
-mod choices;
-#[cfg(test)]
-mod particles;
-#[cfg(test)]
-mod tests;

@@ -9,6 +9,3 @@ mod texts;
 
 pub use items::index_width;
 pub use reader::PayloadReader;
-
-#[cfg(test)]
-mod tests;

@@ -7,6 +7,3 @@ mod filling;
 
 pub use charge_world::NoMemory;
 pub use compiled::{Declared, Rows, compile};
-
-#[cfg(test)]
-mod tests;

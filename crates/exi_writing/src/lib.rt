@@ -11,6 +11,3 @@ mod value;
 
 pub use needed::value_bits;
 pub use value::put_value;
-
-#[cfg(test)]
-mod tests;

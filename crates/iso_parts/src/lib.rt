@@ -15,6 +15,3 @@ pub use enumerations::{
 };
 pub use frame::{Header, Notification};
 pub use values::{AcEvseStatus, DcEvStatus, DcEvseStatus, EvseStatus, MeterInfo, PhysicalValue};
-
-#[cfg(test)]
-mod tests;

@@ -12,6 +12,3 @@ pub use amounts::{AcSupply, Amount, Cause, DcSupply, Reading, State, Stopped, Su
 pub use meter::Meter;
 pub use report::{Closed, Day, Report, read_report, write_report};
 pub use tables::report_schema;
-
-#[cfg(test)]
-mod tests;

@@ -11,6 +11,3 @@ pub use duty::{Offered, current_of, duty_of};
 pub use laws::{closes_for_ready_vehicles, offers_no_more, pauses};
 pub use machine::Basic;
 pub use words::{BasicEvent, BasicOrder, Mode};
-
-#[cfg(test)]
-mod tests;

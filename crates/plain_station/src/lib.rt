@@ -17,6 +17,3 @@ pub use post::{Part, Post};
 pub use session::Session;
 pub use sharing::Payload;
 pub use std::alloc::AllocError as NoMemory;
-
-#[cfg(test)]
-mod tests;

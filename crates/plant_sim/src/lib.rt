@@ -6,6 +6,3 @@ mod charger;
 mod moments;
 
 pub use charger::Sim;
-
-#[cfg(test)]
-mod tests;

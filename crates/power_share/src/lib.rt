@@ -10,6 +10,3 @@ pub mod sharing;
 
 pub use laws::{one_level, within_limit};
 pub use sharing::Shares;
-
-#[cfg(test)]
-mod tests;

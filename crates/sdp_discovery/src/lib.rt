@@ -12,6 +12,3 @@ pub use fault::SdpFault;
 pub use message::{LOOPBACK, SdpRequest, SdpResponse};
 pub use reading::{read_request, read_response};
 pub use writing::{answer_to, write_request, write_response};
-
-#[cfg(test)]
-mod tests;

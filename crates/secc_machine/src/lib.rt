@@ -13,10 +13,8 @@ mod deciding;
 mod event;
 mod judging;
 pub mod law;
-mod piece;
 mod post;
 mod slot;
-mod unread;
 
 pub use agenda::{Spoken, Todo};
 pub use event::{Done, Judged, PostEvent};

@@ -19,8 +19,8 @@ ghost use Rattle.secc_machine.specs.Views.{wanted_of, with_unread, chosen_sessio
 
 use crate::NoMemory;
 use crate::agenda::Agenda;
-use crate::unread::Unread;
 use charge_world::{Dialect, Order};
+use heard_bytes::Unread;
 use session_rules::{
     Lowered, Stage, asks, is_accepted, is_set_up, is_waiting, judge, lowered_by, shows_watts,
     stage_behind, timeout_of,

@@ -38,6 +38,3 @@ pub use reply::{reply_to, waiting_reply};
 pub use rows::{accepts, is_spoken, leads, may_stop};
 pub use stage::{PreCharged, Stage, is_set_up, is_waiting};
 pub use verdict::{is_accepted, joins, judge};
-
-#[cfg(test)]
-mod tests;

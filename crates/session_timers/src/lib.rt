@@ -7,6 +7,3 @@ pub mod law;
 
 pub use deadlines::{Deadlines, Last};
 pub use law::law_of_deadlines;
-
-#[cfg(test)]
-mod tests;

@@ -24,6 +24,3 @@ pub use phase::{Phase, Standing};
 pub use plan::{CarPlan, PostPlan, SitePlan, Stop};
 pub use session::SessionId;
 pub use word::{Ask, Reply, Request, Tell, Word};
-
-#[cfg(test)]
-mod tests;

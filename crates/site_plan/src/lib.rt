@@ -15,6 +15,3 @@ pub use reading::{car_plan_of, site_plan_of};
 pub use session_words::{CarPlan, Mode, PostPlan, SitePlan, Stop};
 pub use stored::{fixed, fixed_car};
 pub use words::mode_name;
-
-#[cfg(test)]
-mod tests;

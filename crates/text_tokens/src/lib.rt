@@ -16,6 +16,3 @@ pub use laws::{texts_are_unambiguous, words_are_cut};
 pub use line::{Full, Line};
 pub use numbers::number;
 pub use words::{Words, before_line_feed};
-
-#[cfg(test)]
-mod tests;

@@ -17,6 +17,3 @@ pub use noted::Noted;
 pub use reading::{LineFault, read_line, read_numbered};
 pub use text_tokens::Full;
 pub use writing::{write_line, write_noted, write_numbered};
-
-#[cfg(test)]
-mod tests;

@@ -17,6 +17,3 @@ pub use exi_documents::{Refusal, RefusalCause};
 pub use fault::PrintFault;
 pub use print::print_tree;
 pub use scan::scan_tree;
-
-#[cfg(test)]
-mod tests;

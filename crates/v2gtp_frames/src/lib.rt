@@ -9,8 +9,6 @@ ghost use Rattle.v2gtp_frames.specs.Header.{header};
 ghost use Rattle.v2gtp_frames.specs.Reading.{whole_at, behind, payload_at, behind_front, behind_frames, IsNext};
 
 mod splitting;
-#[cfg(test)]
-mod tests;
 
 use byteorder::{BigEndian, ByteOrder};
 pub use splitting::{StreamFrames, split};

@@ -20,6 +20,3 @@ pub use awaited::Awaited;
 pub use cursor::TextCursor;
 pub use fault::ScanFault;
 pub use scanned::Scanned;
-
-#[cfg(test)]
-mod tests;
