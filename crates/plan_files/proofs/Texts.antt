@@ -24,15 +24,12 @@ said text bytes false is h =
 same_said : (text bytes : List ℕ) → IsBeginning text bytes 65537 → text_says bytes ≡ text_says text
 same_said text bytes h = said text bytes _ refl h
 
-in_room : (text bytes : List ℕ) (n : ℕ) → n ≡ 65537 → IsBeginning text bytes n → IsBeginning text bytes 65537
-in_room text bytes n is h = subst (λ (m : ℕ). IsBeginning text bytes m) is h
+pub same_plan : (text bytes : List ℕ) (plan : SitePlan) → IsBeginning text bytes 65537 → IsSitePlanOf bytes plan → IsSitePlanOf text plan
+same_plan text bytes plan h is = (is.0, sym (same_said text bytes h) ∙ is.1, is.2, is.3)
 
-pub same_plan : (text bytes : List ℕ) (n : ℕ) (plan : SitePlan) → n ≡ 65537 → IsBeginning text bytes n → IsSitePlanOf bytes plan → IsSitePlanOf text plan
-same_plan text bytes n plan room h is = (is.0, sym (same_said text bytes (in_room text bytes n room h)) ∙ is.1, is.2, is.3)
-
-pub same_told : (text bytes : List ℕ) (n : ℕ) (fault : PlanFault) → n ≡ 65537 → IsBeginning text bytes n → Tells fault (site_told bytes) → Tells fault (site_told text)
-same_told text bytes n fault room h tells =
-    subst (λ (said : Result Members PlanFault). Tells fault (told site_fault said)) (same_said text bytes (in_room text bytes n room h)) tells
+pub same_told : (text bytes : List ℕ) (fault : PlanFault) → IsBeginning text bytes 65537 → Tells fault (site_told bytes) → Tells fault (site_told text)
+same_told text bytes fault h tells =
+    subst (λ (said : Result Members PlanFault). Tells fault (told site_fault said)) (same_said text bytes h) tells
 
 -- of what is told of a file
 pub told_weaker : (left text : Option (List ℕ)) (P Q : List ℕ → Type 0) → ((t : List ℕ) → P t → Q t) → Told left text P → Told left text Q

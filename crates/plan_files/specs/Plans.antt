@@ -1,5 +1,5 @@
 -- Own: the plan of a station in a file.
-use Rattle.std.specs.Prelude.{◌≡◌, ◌⊎◌, ℕ, ◌<◌, List, Option, Some}
+use Rattle.std.specs.Prelude.{◌≡◌, ◌⊎◌, ℕ, List, Option, Some}
 use Rattle.plan_keys.specs.declared.fault.PlanFault.TheVariants.{Memory}
 use Rattle.site_plan.specs.Plans.{IsSitePlanOf, site_told}
 use Rattle.session_words.specs.declared.plan.SitePlan.{SitePlan}
@@ -15,8 +15,3 @@ IsSitePlanIn left text plan = Told left text (λ t. IsSitePlanOf t plan)
 abbrev pub IsFileFault : Option (List ℕ) → Option (List ℕ) → PlanFileFault → Type 0
 IsFileFault left text Unread = Unit {0}
 IsFileFault left text (Refused fault) = (fault ≡ Memory) ⊎ Told left text (λ t. site_told t ≡ Some fault)
-
--- the count of the source's faults, which went from n to m, rose exactly where the file could not be read
-abbrev pub CountsFault : ℕ → ℕ → PlanFileFault → Type 0
-CountsFault n m Unread = n < m
-CountsFault n m (Refused fault) = m ≡ n

@@ -1,8 +1,8 @@
-//! Plans that are read from files (own).
+//! Texts that are read from files, and plans (own).
 #![tactic(auto)]
 
-mod beginning;
 mod plans;
+mod reading;
 
-pub use beginning::read_beginning;
 pub use plans::{PlanFileFault, site_plan_in};
+pub use reading::{TextFault, text_in};

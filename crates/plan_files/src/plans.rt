@@ -1,13 +1,13 @@
 //! The plan of a station in a file.
 
-ghost use Rattle.std.specs.Prelude.{◌≡◌, ◌≤◌, ℕ, List, length, take, IfOk, IfErr, MatchResult};
+ghost use Rattle.std.specs.Prelude.{◌≡◌, ℕ, List, IfOk, IfErr, MatchResult};
 ghost use Rattle.session_words.specs.Plans.{IsSitePlan};
 ghost use Rattle.plan_keys.specs.Faults.{Tells};
 ghost use Rattle.site_plan.specs.Plans.{IsSitePlanOf, site_told};
-ghost use Rattle.plan_files.specs.FileTexts.{IsBeginning};
-ghost use Rattle.plan_files.specs.Plans.{IsSitePlanIn, IsFileFault, CountsFault};
+ghost use Rattle.plan_files.specs.FileTexts.{IsBeginning, CountsFault};
+ghost use Rattle.plan_files.specs.Plans.{IsSitePlanIn, IsFileFault};
 
-use crate::beginning::read_beginning;
+use crate::reading::{TextFault, text_in};
 use charge_world::Source;
 use plan_keys::LONGEST;
 use site_plan::{PlanFault, SitePlan, site_plan_of};
@@ -32,45 +32,24 @@ pub fn site_plan_in<F: Source>(
     ensures plan { IfOk result (IsSitePlanIn (F.left files.new) (F.holds files.old name.now)) }
     ensures within { IfOk result IsSitePlan }
     ensures fault { IfErr result (IsFileFault (F.left files.new) (F.holds files.old name.now)) }
-    ensures faults { MatchResult result (λ _. F.faults files.new ≡ F.faults files.old) (CountsFault (F.faults files.old) (F.faults files.new)) }
+    ensures faults { MatchResult result (λ _. F.faults files.new ≡ F.faults files.old) (CountsFault PlanFileFault.Unread (F.faults files.old) (F.faults files.new)) }
     ensures holds { (other : List ℕ) → F.holds files.new other ≡ F.holds files.old other }
 {
-    let Ok(mut room) = vec![in alloc; 0u8; LONGEST + 1] else {
-        return Err(PlanFileFault::Refused(PlanFault::Memory));
-    };
-    plan_through(alloc, files, name, &mut room)
-}
-
-/// Reads a plan through a room of one byte above the limit.
-fn plan_through<F: Source>(
-    alloc: Global,
-    files: &mut F,
-    name: &str,
-    room: &mut [u8],
-) -> Result<SitePlan, PlanFileFault>
-    requires { length room.old ≡ 65537 }
-    ensures plan { IfOk result (IsSitePlanIn (F.left files.new) (F.holds files.old name.now)) }
-    ensures within { IfOk result IsSitePlan }
-    ensures fault { IfErr result (IsFileFault (F.left files.new) (F.holds files.old name.now)) }
-    ensures faults { MatchResult result (λ _. F.faults files.new ≡ F.faults files.old) (CountsFault (F.faults files.old) (F.faults files.new)) }
-    ensures holds { (other : List ℕ) → F.holds files.new other ≡ F.holds files.old other }
-{
-    let Ok(taken) = read_beginning(files, name, room) else {
-        return Err(PlanFileFault::Unread);
-    };
-    match plan_of(alloc, room, taken) {
-        Ok(plan) => Ok(plan),
-        Err(fault) => Err(PlanFileFault::Refused(fault)),
+    match text_in(alloc, files, name, LONGEST) {
+        Ok(bytes) => match plan_of(alloc, &bytes) {
+            Ok(plan) => Ok(plan),
+            Err(fault) => Err(PlanFileFault::Refused(fault)),
+        },
+        Err(TextFault::Unread) => Err(PlanFileFault::Unread),
+        Err(TextFault::Memory) => Err(PlanFileFault::Refused(PlanFault::Memory)),
     }
 }
 
-/// The plan of the text that begins with the first bytes of a room above the limit, and is these where they are fewer.
-fn plan_of(alloc: Global, room: &[u8], taken: usize) -> Result<SitePlan, PlanFault>
-    requires whole { length room.now ≡ 65537 }
-    requires within { taken ≤ 65537 }
-    ensures plan { IfOk result (λ plan. (text : List ℕ) → IsBeginning text (take taken room.now) (length room.now) → IsSitePlanOf text plan) }
+/// The plan of the text that begins with these bytes, and is these where they are no more than a plan may have.
+fn plan_of(alloc: Global, bytes: &[u8]) -> Result<SitePlan, PlanFault>
+    ensures plan { IfOk result (λ plan. (text : List ℕ) → IsBeginning text bytes.now 65537 → IsSitePlanOf text plan) }
     ensures within { IfOk result IsSitePlan }
-    ensures fault { IfErr result (λ fault. (text : List ℕ) → IsBeginning text (take taken room.now) (length room.now) → Tells fault (site_told text)) }
+    ensures fault { IfErr result (λ fault. (text : List ℕ) → IsBeginning text bytes.now 65537 → Tells fault (site_told text)) }
 {
-    site_plan_of(alloc, &room[..taken])
+    site_plan_of(alloc, bytes)
 }

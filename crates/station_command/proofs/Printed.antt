@@ -1,14 +1,24 @@
 -- The lines of a site's posts.
-use Rattle.std.proofs.Common.{◌≡◌, ℕ, suc, ◌+◌, ◌<◌, ◌≤◌, List, [], ◌∷◌, ◌++◌, length, take, drop, Option, refl, sym, ap, ◌∙◌, subst, arith, append_assoc}
+use Rattle.std.proofs.Common.{◌≡◌, ℕ, suc, ◌+◌, ◌<◌, ◌≤◌, true, false, List, [], ◌∷◌, ◌++◌, length, take, drop, Option, Ok, refl, sym, ap, ◌∙◌, subst, arith, append_assoc}
 use Rattle.std.proofs.lemmas.List.{append-nil, take-append-drop, map-append, length-take-le, drop_more, take_all, take_more}
 use Rattle.charge_world.specs.declared.entry.Entry.{Entry}
-use Rattle.charge_world.specs.Outside.{Appends, AppendsSome}
+use Rattle.charge_world.specs.declared.failed.Failed.{Failed}
+use Rattle.charge_world.specs.Outside.{IsFault, Appends, AppendsSome}
 use Rattle.site_posts.specs.declared.place.Place.{Place}
 use Rattle.site_posts.specs.declared.report.PostReport.{PostReport}
 use Rattle.site_posts.specs.Filling.{at, no_place}
 use Rattle.site_turns.specs.Ending.{Counts}
 use Rattle.command_status.proofs.Pieces.{appends_more, appends_front, appends_first}
 use Rattle.station_command.specs.Lines.{report_line, report_lines, reports_of, CountFrom}
+
+differ : false ≡ true → ⊥
+differ h = cc
+
+-- a call that was done leaves the count of faults
+pub unfailed : {T : Type 0} (before after : ℕ) (answer : T) → IsFault {T = T} {E = Failed} before after (Ok answer) → after ≡ before
+unfailed before after answer h =
+    let none : before < after → ⊥ = λ above. differ (h.risen.1 above) in
+    omega (arith, h.later)
 
 pub lines_split : (k m : ℕ) (xs ys : List PostReport) → m ≡ k + length xs → report_lines k (xs ++ ys) ≡ report_lines k xs ++ report_lines m ys
 lines_split k m [] ys is = ap (λ (n : ℕ). report_lines n ys) (omega (arith, is))

@@ -1,10 +1,9 @@
 use Rattle.std.proofs.Common.{◌≡◌, ℕ, ◌+◌, ◌-◌, ◌<◌, length, ap, ◌∙◌, arith}
 use Rattle.site_posts.specs.declared.report.PostReport.{PostReport}
 use Rattle.site_posts.specs.Filling.{at}
-use Rattle.plan_files.proofs.Beginnings.{unfailed}
 use Rattle.command_status.proofs.Pieces.{on_err}
 use Rattle.station_command.specs.Lines.{report_line}
-use Rattle.station_command.proofs.Printed.{one_more, one_cut}
+use Rattle.station_command.proofs.Printed.{unfailed, one_more, one_cut}
 use Rattle.station_command.proofs.lines.write_reports.Goals as goal
 
 pub returns-in_err-write-clause-failed : goal.returns-in_err-write-clause-failed

@@ -1,6 +1,6 @@
-use Rattle.std.proofs.Common.{◌-◌, ◌≡◌, ℕ, List, length}
+use Rattle.std.proofs.Common.{◌+◌, ◌-◌, ◌≡◌, ℕ, List, length}
 use Rattle.charge_world.specs.Outside.{Takes}
-use Rattle.trace_files.proofs.text.text_in.Given as goal
+use Rattle.plan_files.proofs.reading.text_in.Given as goal
 
 abbrev pub invariant-loop-room : goal.invariant-loop-room
 invariant-loop-room g l = record {
@@ -11,4 +11,4 @@ invariant-loop-room g l = record {
 }
 
 abbrev pub decreases-loop-room : goal.decreases-loop-room
-decreases-loop-room g l = 268435457 - length l.bytes.items
+decreases-loop-room g l = l.longest + 1 - length l.bytes.items
