@@ -12,11 +12,12 @@ use Rattle.replay_wire.specs.Standing.{counted}
 use Rattle.site_replays.specs.Replayed.{IsReplayed}
 use Rattle.command_status.specs.declared.status.Status.{Status}
 use Rattle.command_status.specs.declared.status.Status.TheVariants as status
+use Rattle.plan_files.specs.FileTexts.{CountsFault}
 use Rattle.station_command.specs.Refused.{key_of}
 use Rattle.station_command.specs.Served.{SinkTold}
 use Rattle.replay_command.specs.declared.recording.FilesFault.{FilesFault}
 use Rattle.replay_command.specs.declared.recording.FilesFault.TheVariants.{Unread, Plan, Line, Memory}
-use Rattle.replay_command.specs.Files.{FilesTold, HasFault, CountsFault}
+use Rattle.replay_command.specs.Files.{FilesTold, AreFiles, HasFault}
 use Rattle.replay_command.specs.Lines.{lines_of, Concludes, RefusesPlan, Refuses}
 use Rattle.replay_command.specs.Replays.{IsRun, Ran, LeavesBy}
 
@@ -56,6 +57,19 @@ ran c plan recorded how entries s trace_before trace out_before out r faults lin
       line = subst (λ (lines : ℕ). Concludes how lines s out_before out) (lines_counted r.past entries r.count) line;
     })
 
+-- of the files that were read
+pub run_leaves : (c : Codecs) (tells : Type 0) (s : Status) (plan : SitePlan) (recorded : List Entry) (files : FilesTold) (trace_before trace out_before out : SinkTold)
+    → AreFiles tells files plan recorded → Ran c plan recorded s trace_before trace out_before out → LeavesBy c tells s files trace_before trace out_before out
+run_leaves c tells status.Done plan recorded files trace_before trace out_before out are run = record { plan = plan; recorded = recorded; files_are = are; run = run }
+run_leaves c tells status.SinkFault plan recorded files trace_before trace out_before out are run = record { plan = plan; recorded = recorded; files_are = are; run = run }
+run_leaves c tells status.NoMemory plan recorded files trace_before trace out_before out are run = run
+run_leaves c tells _ plan recorded files trace_before trace out_before out are run = absurd run
+
+pub run_read : (c : Codecs) (s : Status) (plan : SitePlan) (recorded : List Entry) (trace_before trace out_before out : SinkTold) (n m : ℕ) → m ≡ n
+    → Ran c plan recorded s trace_before trace out_before out → (s ≡ status.SourceFault) ↔ (n < m)
+run_read c s plan recorded trace_before trace out_before out n m same run =
+    (λ is. absurd (subst (λ (s : Status). Ran c plan recorded s trace_before trace out_before out) is run), λ less. absurd (omega (arith, same, less)))
+
 -- ---- files that are refused
 
 no_key : (fault : PlanFault) (key : List ℕ) → key_of fault ≡ Some key → fault ≡ plan_fault.Memory → ⊥
@@ -83,24 +97,31 @@ refused_leaves c tells (Line number) s files trace out_before out has h =
 refused_leaves c tells Memory s files trace out_before out has h =
     subst (λ (s : Status). LeavesBy c tells s files trace trace out_before out) (sym h.0) (refl, h.1)
 
-never : (n m : ℕ) → m ≡ n → n < m → ⊥
-never n m is risen = omega (arith, is, risen)
-
 -- a status that isn't `SourceFault`, where no count rose
 abbrev pub IsOther : Status → Type 0
 IsOther status.SourceFault = ⊥
 IsOther _ = Unit {0}
 
-other : (s : Status) (n m : ℕ) → IsOther s → m ≡ n → (s ≡ status.SourceFault) ↔ (n < m)
-other s n m is same = (λ unread. absurd (subst IsOther unread is), λ less. absurd (never n m same less))
+other : (s : Status) (n m : ℕ) → IsOther s → (n < m → ⊥) → (s ≡ status.SourceFault) ↔ (n < m)
+other s n m is same = (λ unread. absurd (subst IsOther unread is), λ less. absurd (same less))
 
 other_plan : (key : Option (List ℕ)) (s : Status) (before after : SinkTold) → RefusesPlan key s before after → IsOther s
 other_plan None s before after h = subst IsOther (sym h.0) tt
 other_plan (Some key) s before after h = subst IsOther (sym h.0) tt
 
-pub refused_read : (fault : FilesFault) (s : Status) (before after : SinkTold) (n m : ℕ) → CountsFault n m fault → Refuses fault s before after
+read_plan : (fault : PlanFault) → Plan fault ≡ Unread → ⊥
+read_plan fault is = cc
+
+read_line : (number : ℕ) → Line number ≡ Unread → ⊥
+read_line number is = cc
+
+read_all : Memory ≡ Unread → ⊥
+read_all is = cc
+
+pub refused_read : (fault : FilesFault) (s : Status) (before after : SinkTold) (n m : ℕ) → CountsFault Unread n m fault → Refuses fault s before after
     → (s ≡ status.SourceFault) ↔ (n < m)
-refused_read Unread s before after n m risen h = (λ is. risen, λ less. h.0)
-refused_read (Plan fault) s before after n m same h = other s n m (other_plan (key_of fault) s before after h) same
-refused_read (Line number) s before after n m same h = other s n m (subst IsOther (sym h.0) tt) same
-refused_read Memory s before after n m same h = other s n m (subst IsOther (sym h.0) tt) same
+refused_read Unread s before after n m counts h = (λ is. counts.risen.0 refl, λ less. h.0)
+refused_read (Plan fault) s before after n m counts h =
+    other s n m (other_plan (key_of fault) s before after h) (λ less. read_plan fault (counts.risen.1 less))
+refused_read (Line number) s before after n m counts h = other s n m (subst IsOther (sym h.0) tt) (λ less. read_line number (counts.risen.1 less))
+refused_read Memory s before after n m counts h = other s n m (subst IsOther (sym h.0) tt) (λ less. read_all (counts.risen.1 less))

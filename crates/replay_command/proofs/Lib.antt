@@ -1,2 +1,3 @@
-pub mod Leaving
+pub mod Decided
 pub mod Itself
+pub mod Leaving

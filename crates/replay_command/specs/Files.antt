@@ -1,5 +1,5 @@
 -- Own: the two files of a replay: the plan of a station, and a trace.
-use Rattle.std.specs.Prelude.{◌≡◌, ◌⊎◌, ◌<◌, ℕ, List, length, Option, Some, IsSome, IsSomeAnd}
+use Rattle.std.specs.Prelude.{◌≡◌, ◌⊎◌, ℕ, List, length, Option, Some, IsSome, IsSomeAnd}
 use Rattle.charge_world.specs.declared.entry.Entry.{Entry}
 use Rattle.session_words.specs.declared.plan.SitePlan.{SitePlan}
 use Rattle.plan_keys.specs.declared.fault.PlanFault.{PlanFault}
@@ -58,10 +58,3 @@ IsBehind fault Unread = Unit {0}
 IsBehind fault (Plan told) = told ≡ fault
 IsBehind fault (Line number) = ⊥
 IsBehind fault Memory = Unit {0}
-
--- the count of faults rose exactly where a file could not be read
-abbrev pub CountsFault : ℕ → ℕ → FilesFault → Type 0
-CountsFault n m Unread = n < m
-CountsFault n m (Plan fault) = m ≡ n
-CountsFault n m (Line number) = m ≡ n
-CountsFault n m Memory = m ≡ n

@@ -15,6 +15,7 @@ use Rattle.station_command.specs.Refused.{key_of}
 use Rattle.station_command.specs.Served.{SinkTold}
 use Rattle.replay_command.specs.Files.{FilesTold, OfText, AreFiles, IsTraceRefused}
 use Rattle.replay_command.specs.Lines.{lines_of, Concludes, TellsLine}
+use Rattle.replay_command.specs.Decided.{IsDecided}
 
 -- A site of the plan ran off the recorded entries: it heard what is recorded, and its calls failed by the marks there. The text of its past
 -- was written anew, and the line counts that text's lines and tells how the run ended. Where the text or the line couldn't be written, the
@@ -66,7 +67,8 @@ LeavesBy c tells status.Words files trace_before trace out_before out = ⊥
 LeavesBy c tells status.WireFault files trace_before trace out_before out = ⊥
 LeavesBy c tells status.TurnsSpent files trace_before trace out_before out = ⊥
 
--- All is as the files say, and a file could not be read exactly where the source's count of faults rose
+-- All is as the files say. A file could not be read exactly where the source's count of faults rose, and else the files decide
 pub record ReplayLeaves (c : Codecs) (tells : Type 0) (s : Status) (files : FilesTold) (trace_before trace out_before out : SinkTold) : Type 0 where
   pub leaves : LeavesBy c tells s files trace_before trace out_before out
   pub unread : (s ≡ status.SourceFault) ↔ (files.n < files.m)
+  pub decided : tells → files.m ≡ files.n → IsDecided s files trace_before trace out_before out

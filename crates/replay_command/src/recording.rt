@@ -3,14 +3,15 @@
 ghost use Rattle.std.specs.Prelude.{◌≡◌, ◌≤◌, ℕ, List, length, IfOk, IfErr, MatchResult};
 ghost use Rattle.session_words.specs.Plans.{IsSitePlan};
 ghost use Rattle.replay_wire.specs.Replays.{AllCanBeHeard};
+ghost use Rattle.plan_files.specs.FileTexts.{CountsFault};
 ghost use Rattle.trace_files.specs.Recordings.{IsRecorded};
-ghost use Rattle.replay_command.specs.Files.{files_told, TellsAlways, OfText, AreFiles, HasFault, HasTraceFault, IsBehind, CountsFault};
+ghost use Rattle.replay_command.specs.Files.{files_told, TellsAlways, OfText, AreFiles, HasFault, HasTraceFault, IsBehind};
 
 use charge_world::{Entry, Source};
-use plan_files::{PlanFileFault, site_plan_in};
+use plan_files::{PlanFileFault, TextFault, site_plan_in, text_in};
 use site_plan::{PlanFault, SitePlan};
 use std::alloc::Global;
-use trace_files::{TextFault, text_in, trace_of};
+use trace_files::{LONGEST_TRACE, trace_of};
 use trace_reading::TraceFault;
 
 /// A plan, and the entries of a trace at its posts, the oldest first.
@@ -43,10 +44,10 @@ fn entries_in<F: Source>(
     ensures read { IfOk result (λ entries. OfText (TellsAlways F.left) (F.holds files.old name.now) (λ text. IsRecorded posts text entries.items)) }
     ensures heard { IfOk result (λ entries. AllCanBeHeard posts entries.items) }
     ensures fault { IfErr result (HasTraceFault (TellsAlways F.left) (F.holds files.old name.now) posts) }
-    ensures faults { MatchResult result (λ _. F.faults files.new ≡ F.faults files.old) (CountsFault (F.faults files.old) (F.faults files.new)) }
+    ensures faults { MatchResult result (λ _. F.faults files.new ≡ F.faults files.old) (CountsFault FilesFault.Unread (F.faults files.old) (F.faults files.new)) }
     ensures holds { (other : List ℕ) → F.holds files.new other ≡ F.holds files.old other }
 {
-    match text_in(alloc, files, name) {
+    match text_in(alloc, files, name, LONGEST_TRACE) {
         Ok(bytes) => match trace_of(alloc, &bytes, posts) {
             Ok(entries) => Ok(entries),
             Err(TraceFault::BadLine(number)) => Err(FilesFault::Line(number)),
@@ -65,10 +66,10 @@ fn refused_behind<F: Source>(
     files: &mut F,
 ) -> FilesFault
     ensures fault { IsBehind fault result }
-    ensures faults { CountsFault (F.faults files.old) (F.faults files.new) result }
+    ensures faults { CountsFault FilesFault.Unread (F.faults files.old) (F.faults files.new) result }
     ensures holds { (other : List ℕ) → F.holds files.new other ≡ F.holds files.old other }
 {
-    match text_in(alloc, files, name) {
+    match text_in(alloc, files, name, LONGEST_TRACE) {
         Ok(_) => FilesFault::Plan(fault),
         Err(TextFault::Unread) => FilesFault::Unread,
         Err(TextFault::Memory) => FilesFault::Memory,
@@ -89,7 +90,7 @@ pub(crate) fn recording_in<F: Source>(
     ensures heard { IfOk result (λ recording. AllCanBeHeard (length recording.plan.post.items) recording.entries.items) }
     ensures fault { IfErr result (HasFault (TellsAlways F.left)
         (files_told (F.holds files.old plan_name.now) (F.holds files.old trace_name.now) (F.faults files.old) (F.faults files.new))) }
-    ensures faults { MatchResult result (λ _. F.faults files.new ≡ F.faults files.old) (CountsFault (F.faults files.old) (F.faults files.new)) }
+    ensures faults { MatchResult result (λ _. F.faults files.new ≡ F.faults files.old) (CountsFault FilesFault.Unread (F.faults files.old) (F.faults files.new)) }
     ensures holds { (other : List ℕ) → F.holds files.new other ≡ F.holds files.old other }
 {
     match site_plan_in(alloc, files, plan_name) {
