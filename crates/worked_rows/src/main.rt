@@ -2,7 +2,7 @@
 //!
 //! Each word is a file of rows. A row begins with `row NAME`. Then come, in this order or any other:
 //! - `words W W ..`: words of the command; `word TEXT`: one word more, with the spaces in it;
-//! - `plan LINE`: a line of the file `plan`;
+//! - `plan LINE`: a line of the file `plan`; `recorded LINE`: one of the file `recorded`;
 //! - `fails wire N`: the N-th of all calls of the wire that can fail fails, counted from 1 with `start`. Likewise `fails files N` of the
 //!   calls on files, and `fails out N` and `fails trace N` of the writes there;
 //! - a line of a trace (`v2g-trace 2`, or one with its number): what is written on the trace, all of it in order. What is `heard` there is

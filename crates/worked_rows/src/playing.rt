@@ -20,6 +20,7 @@ pub(crate) fn left_by(alloc: Global, given: Given) -> Result<Left> {
     let Given {
         words,
         plan,
+        recorded,
         script,
         failing,
     } = given;
@@ -30,7 +31,7 @@ pub(crate) fn left_by(alloc: Global, given: Given) -> Result<Left> {
         trace,
     } = failing;
     let words = WordList::of(words);
-    let mut files = MemorySource::of(vec![in alloc; file_of(alloc, plan)?]?, files);
+    let mut files = MemorySource::of(files_of(alloc, plan, recorded)?, files);
     let mut out = MemorySink::make(alloc, out, BYTES)?;
     let mut trace = MemorySink::make(alloc, trace, BYTES)?;
     let mut wire = MemoryWire::make(alloc, script, wire, ENTRIES, BYTES)?;
@@ -56,11 +57,18 @@ fn status_of<F: Source, K: Sink, J: Sink, W: Wire>(
     run(alloc, words, files, out, trace, wire)
 }
 
-/// The file `plan` of this text.
-fn file_of(alloc: Global, plan: String) -> Result<NamedFile> {
+/// The files `plan` and `recorded` of these texts.
+fn files_of(alloc: Global, plan: String, recorded: String) -> Result<Vec<NamedFile>> {
+    let plan = file_of(alloc, b"plan", plan)?;
+    let recorded = file_of(alloc, b"recorded", recorded)?;
+    Ok(vec![in alloc; plan, recorded]?)
+}
+
+/// A file of this name and text.
+fn file_of(alloc: Global, name: &[u8], text: String) -> Result<NamedFile> {
     Ok(NamedFile {
-        name: Piece::of(b"plan".to_vec(alloc)?),
-        bytes: Piece::of(plan.into_bytes()),
+        name: Piece::of(name.to_vec(alloc)?),
+        bytes: Piece::of(text.into_bytes()),
     })
 }
 

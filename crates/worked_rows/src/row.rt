@@ -20,6 +20,7 @@ pub(crate) struct Failing {
 pub(crate) struct Given {
     pub(crate) words: Vec<String>,
     pub(crate) plan: String,
+    pub(crate) recorded: String,
     pub(crate) script: Vec<Scripted>,
     pub(crate) failing: Failing,
 }
@@ -60,6 +61,7 @@ impl Given {
         Given {
             words: Vec::new(alloc),
             plan: String::new(alloc),
+            recorded: String::new(alloc),
             script: Vec::new(alloc),
             failing: Failing::new(alloc),
         }
@@ -109,6 +111,7 @@ impl Row {
             "words" => self.given.add_words(alloc, rest),
             "word" => self.given.add_word(alloc, rest),
             "plan" => add_line(&mut self.given.plan, rest),
+            "recorded" => add_line(&mut self.given.recorded, rest),
             "fails" => self.fail(rest),
             "unheard" => self.add_unheard(alloc, rest),
             "until" => add_line(&mut self.wanted.untils, rest),
