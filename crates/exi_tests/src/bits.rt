@@ -1,4 +1,4 @@
-use crate::{BitCause, BitCursor, BitFault, BitPen, BitSpan, Full, SpanAt};
+use exi_bits::{BitCause, BitCursor, BitFault, BitPen, BitSpan, Full, SpanAt};
 
 #[test]
 fn a_number_that_has_no_room_is_refused_with_the_bits_needed(rt: HostRuntime) {

@@ -6,9 +6,11 @@ ghost use Rattle.exi_events.specs.Reader.{IsReady};
 ghost use Rattle.exi_events.specs.Writer.{IsShapedEvent, IsReadyToPut, KeepsLent};
 
 use crate::choices::four_choices;
-use crate::{Event, EventReader, EventWriter, Full, NotPut, Refusal, RefusalCause, Table, Value};
 use app_schema::negotiation;
 use exi_documents::MOST_ENTRIES;
+use exi_events::{
+    Event, EventReader, EventWriter, Full, NotPut, Refusal, RefusalCause, Table, Value,
+};
 use exi_schema::Places;
 use exi_strings::Partitions;
 use std::process::Abort;

@@ -4,9 +4,9 @@
 ghost use Rattle.std.specs.Prelude.{◌≡◌, ◌≤◌, length};
 ghost use Rattle.exi_documents.specs.Values.{most_entries};
 
-use crate::tests::{Told, next_is, refusal_of};
-use crate::{EventReader, Refusal, RefusalCause, Table};
+use crate::events::{Told, next_is, refusal_of};
 use exi_documents::MOST_ENTRIES;
+use exi_events::{EventReader, Refusal, RefusalCause, Table};
 use exi_schema::{
     AttributeOf, Datatype, Declaration, Member, MemberStanding, Particle, RootOf, Schema,
 };

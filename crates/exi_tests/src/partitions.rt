@@ -1,4 +1,4 @@
-use super::*;
+use exi_strings::{Partitions, TableFull};
 
 #[test]
 fn a_third_item_finds_a_table_of_two_full(rt: HostRuntime) {

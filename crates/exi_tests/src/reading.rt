@@ -5,8 +5,8 @@ ghost use Rattle.exi_schema.specs.Schemas.{is_datatype};
 ghost use Rattle.exi_documents.specs.Values.{most_entries};
 ghost use Rattle.exi_values.specs.Meaning.{AreTexts};
 
-use crate::PayloadReader;
 use exi_documents::{MOST_ENTRIES, Refusal, RefusalCause};
+use exi_reading::PayloadReader;
 use exi_schema::Datatype;
 use exi_strings::Partitions;
 use exi_values::{Table, Value};

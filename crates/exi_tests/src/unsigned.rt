@@ -1,4 +1,5 @@
-use super::*;
+use exi_spec::BitCause;
+use exi_spec::plain::unsigned_of;
 use std::process::Abort;
 
 // the bits of bytes, in order

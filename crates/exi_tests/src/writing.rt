@@ -5,12 +5,12 @@ ghost use Rattle.exi_bits.specs.Pens.{written_bits};
 ghost use Rattle.exi_documents.specs.Values.{most_entries};
 ghost use Rattle.exi_values.specs.Meaning.{AreTexts};
 
-use crate::put_value;
 use exi_bits::{BitCursor, BitPen, BitSpan, Full};
 use exi_documents::MOST_ENTRIES;
 use exi_schema::Datatype;
 use exi_strings::Partitions;
 use exi_values::{Table, Value};
+use exi_writing::put_value;
 use std::process::Abort;
 
 /// Writes a text of at most two bytes, behind which the pen stands at `place`.

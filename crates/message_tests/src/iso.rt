@@ -1,7 +1,7 @@
 //! The places of values in their enumerations, counted by hand.
 
-use super::*;
 use exi_events::Value;
+use iso_parts::*;
 use message_parts::Simple;
 
 fn ordinal_of<'a, T: Simple<'a>>(value: &T) -> Option<u32> {

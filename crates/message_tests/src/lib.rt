@@ -1,10 +1,11 @@
-//! Tests of the public calls.
+//! Tests of the public calls that read and write typed messages: the negotiation's (ISO 15118-2:2014, section 8.2), a message with each shape
+//! of a part, and the enumerations of ISO 15118-2. They stand here so that the crates whose calls they are are proved once.
 
 #[cfg(test)]
-mod parts;
+mod iso;
 #[cfg(test)]
 mod negotiation;
 #[cfg(test)]
-mod schema;
+mod parts;
 #[cfg(test)]
-mod iso;
+mod schema;

@@ -1,7 +1,7 @@
 ghost use Rattle.std.specs.Prelude.{◌≡◌, ◌≤◌, length};
 ghost use Rattle.exi_documents.specs.Values.{most_entries};
 
-use super::*;
+use app_protocol::*;
 use arrayvec::ArrayVec;
 use exi_documents::MOST_ENTRIES;
 use std::alloc::{AllocError, Global};

@@ -6,10 +6,10 @@ ghost use Rattle.kind_laws.specs.Laws.{HasDocument};
 ghost use Rattle.parts_examples.specs.Declarations.{report_schema};
 ghost use Rattle.parts_examples.specs.Parts.{report_tree};
 
-use super::*;
 use exi_documents::{MOST_ENTRIES, RefusalCause};
 use exi_events::Table;
 use message_parts::{Binary, Text};
+use parts_examples::*;
 use std::process::Abort;
 
 /// A report of every part but a correction, with two days.

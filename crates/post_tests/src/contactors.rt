@@ -1,5 +1,5 @@
-use super::*;
 use charge_world::{IsolationLevel, Order, PilotState, Tenths};
+use contactor::{CloseRight, Contactor, Standing, is_ready};
 
 #[test]
 fn a_pre_charge_that_is_20_volts_off_may_close(rt: HostRuntime) {

@@ -1,4 +1,4 @@
-use super::{
+use sdp_discovery::{
     LOOPBACK, SdpFault, SdpRequest, SdpResponse, answer_to, read_request, read_response,
     write_request, write_response,
 };

@@ -1,8 +1,8 @@
 ghost use Rattle.std.specs.Prelude.{◌≤◌, length};
 
-use super::{FrameFault, FrameReader, NoMemory, StreamFrames, put_frame, split};
 use std::alloc::Global;
 use std::test::Fail;
+use v2gtp_frames::{FrameFault, FrameReader, NoMemory, StreamFrames, put_frame, split};
 
 /// A frame of one byte, and then one of two.
 const TWO_FRAMES: [u8; 19] = [

@@ -1,22 +1,24 @@
-//! Tests of the public calls.
+//! Tests of the public calls that a post is made of: frames and discovery, words, deadlines, contactor and pilot, the rules of a session,
+//! shares of power, a simulated charger, and the plain program of a post. They stand here so that the crates whose calls they are are proved
+//! once.
 
-#[cfg(test)]
-mod rules;
-#[cfg(test)]
-mod words;
-#[cfg(test)]
-mod timers;
 #[cfg(test)]
 mod contactors;
 #[cfg(test)]
-mod pilot;
-#[cfg(test)]
-mod simulator;
-#[cfg(test)]
-mod shares;
-#[cfg(test)]
-mod station;
+mod discovery;
 #[cfg(test)]
 mod frames;
 #[cfg(test)]
-mod discovery;
+mod pilot;
+#[cfg(test)]
+mod rules;
+#[cfg(test)]
+mod shares;
+#[cfg(test)]
+mod simulator;
+#[cfg(test)]
+mod station;
+#[cfg(test)]
+mod timers;
+#[cfg(test)]
+mod words;

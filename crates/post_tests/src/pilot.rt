@@ -1,7 +1,7 @@
 ghost use Rattle.pilot_basic.specs.Machine.{IsInRange};
 
-use crate::{Basic, BasicEvent, BasicOrder, Offered, current_of, duty_of};
 use charge_world::PilotState;
+use pilot_basic::{Basic, BasicEvent, BasicOrder, Offered, current_of, duty_of};
 use std::process::Abort;
 
 #[test]

@@ -1,9 +1,9 @@
 ghost use Rattle.std.specs.Prelude.{◌≤◌};
 ghost use Rattle.session_words.specs.Plans.{IsPostPlan};
 
-use super::*;
 use arrayvec::ArrayVec;
 use charge_world::{Dialect, IsolationLevel, Order, PilotState, PlantEvent, Tenths};
+use session_rules::*;
 use session_words::{
     Amount, Ask, CarLimits, Code, DcStatus, EndCause, EvseId, EvseText, Facts, Mode, Notify, Phase,
     PostLimits, PostPlan, PostStatus, Processing, Progress, Request, SessionId, Standing,

@@ -1,4 +1,4 @@
-use crate::Shares;
+use power_share::Shares;
 
 #[test]
 fn two_posts_at_fifty_kilowatts_settle_at_half_each_and_a_third_waits(rt: HostRuntime) {

@@ -1,6 +1,7 @@
-use crate::Sim;
-use crate::amounts::tenths;
-use charge_world::{IsolationLevel, Order, PilotState, PlantEvent};
+ghost use Rattle.std.specs.Prelude.{◌≡◌, ◌≤◌};
+
+use charge_world::{IsolationLevel, Order, PilotState, PlantEvent, Tenths};
+use plant_sim::Sim;
 use std::process::Abort;
 
 /// The charger's next event is this one, at this moment and not before.
@@ -8,6 +9,14 @@ fn tells(rt: &impl Abort, sim: &mut Sim, moment: u64, event: PlantEvent) {
     assert_eq!(rt; sim.due(), moment);
     assert_eq!(rt; sim.next(moment.saturating_sub(1)), None);
     assert_eq!(rt; sim.next(moment), Some(event));
+}
+
+/// So many tenths of a volt or of an ampere.
+fn tenths(n: u16) -> Tenths
+    requires { n ≤ 30000 }
+    ensures { result ≡ n }
+{
+    Tenths::of(n).unwrap()
 }
 
 #[test]

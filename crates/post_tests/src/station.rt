@@ -1,8 +1,8 @@
 ghost use Rattle.session_words.specs.Plans.{IsPostPlan};
 
-use super::*;
 use arrayvec::ArrayVec;
 use charge_world::{Dialect, Order, Piece, PlantEvent, Tenths};
+use plain_station::*;
 use session_words::{Ask, Code, EndCause, EvseText, Mode, PostPlan, Request, SessionId};
 use std::test::*;
 

@@ -1,4 +1,4 @@
-use super::*;
+use session_timers::*;
 use session_words::Timeout;
 
 fn after_reply(at: u64) -> Deadlines {

@@ -1,5 +1,5 @@
-use super::*;
 use arrayvec::ArrayVec;
+use session_words::*;
 use std::test::Fail;
 
 #[test]

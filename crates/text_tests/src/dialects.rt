@@ -3,8 +3,8 @@
 ghost use Rattle.exi_schema.specs.Told.{schema_of};
 ghost use Rattle.dialect_text.specs.Scanning.{standing_of, IsReady};
 
-use crate::{DialectScanner, ScanFault};
 use app_schema::negotiation;
+use dialect_text::{DialectScanner, ScanFault};
 use std::process::Abort;
 
 /// Scans up to the end or a fault, which is answered again: how many events are said.

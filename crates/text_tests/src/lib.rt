@@ -1,16 +1,17 @@
-//! Tests of the public calls.
+//! Tests of the public calls that read and write texts: tokens, values, trees, words of the command line, traces and plans. They stand here
+//! so that the crates whose calls they are are proved once.
 
-#[cfg(test)]
-mod tokens;
-#[cfg(test)]
-mod values;
 #[cfg(test)]
 mod dialects;
 #[cfg(test)]
-mod trees;
+mod plans;
 #[cfg(test)]
-mod words;
+mod tokens;
 #[cfg(test)]
 mod traces;
 #[cfg(test)]
-mod plans;
+mod trees;
+#[cfg(test)]
+mod values;
+#[cfg(test)]
+mod words;

@@ -1,8 +1,8 @@
 //! What no clause says: the messages of faults, and that there is memory for a plan.
 
-use super::{Mode, PlanFault, Stop, car_plan_of, fixed, fixed_car, mode_name, site_plan_of};
 use charge_world::Dialect;
 use plan_keys::{Keys, Place, Scalar, document};
+use site_plan::{Mode, PlanFault, Stop, car_plan_of, fixed, fixed_car, mode_name, site_plan_of};
 use std::alloc::{AllocError, Global};
 use std::test::Fail;
 

@@ -1,7 +1,7 @@
 //! The examples of the calls.
 
-use super::{Full, Line, Words, before_line_feed, hex_bytes, identifier, is_hex, number};
 use std::test::Fail;
+use text_tokens::{Full, Line, Words, before_line_feed, hex_bytes, identifier, is_hex, number};
 
 #[test]
 fn a_number_has_one_text(rt: HostRuntime) {

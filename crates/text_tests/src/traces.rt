@@ -1,8 +1,8 @@
 //! The examples of the calls.
 
-use super::{Full, LineFault, read_line, read_numbered, write_line, write_numbered};
 use std::alloc::Global;
 use std::test::Fail;
+use trace_text::{Full, LineFault, read_line, read_numbered, write_line, write_numbered};
 
 #[test]
 fn a_line_ends_in_its_one_line_feed(rt: HostRuntime) {

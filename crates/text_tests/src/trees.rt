@@ -4,12 +4,12 @@ ghost use Rattle.std.specs.Prelude.{◌≡◌, ◌≤◌, true, length};
 ghost use Rattle.exi_schema.specs.Told.{schema_of};
 ghost use Rattle.tree_text.specs.Consistent.{are_consistent};
 
-use super::*;
 use exi_schema::{
     AttributeOf, Datatype, Declaration, Member, MemberStanding, Particle, RootOf, Schema,
 };
 use std::alloc::{AllocError, Global};
 use std::test::Fail;
+use tree_text::*;
 
 /// The text of a payload, or why and at which bit it is refused.
 fn answer(alloc: Global, payload: &[u8], schema: &Schema) -> Result<String, AllocError>

@@ -3,10 +3,10 @@
 ghost use Rattle.std.specs.Prelude.{◌≤◌, length};
 ghost use Rattle.exi_schema.specs.Told.{schema_of};
 
-use super::*;
 use exi_schema::{Datatype, Declaration, RootOf, Schema};
 use std::alloc::{AllocError, Global};
 use std::test::Fail;
+use value_text::*;
 
 const NAMES: [&'static str; 3] = ["Unit", "Units", "Value"];
 

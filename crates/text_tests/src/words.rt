@@ -1,4 +1,4 @@
-use crate::{Command, WordList, WordsFault, read_words};
+use command_words::{Command, WordList, WordsFault, read_words};
 use message_dialects::MessageDialect;
 use std::alloc::{AllocError, Global};
 use std::test::*;

@@ -1,6 +1,6 @@
 use Rattle.std.proofs.Common.{◌≡◌}
 use Rattle.exi_events.specs.Reader.{IsReady}
-use Rattle.exi_events.proofs.tests.refusal_of.Given as goal
+use Rattle.exi_tests.proofs.events.refusal_of.Given as goal
 
 abbrev pub invariant-loop : goal.invariant-loop
 invariant-loop g l =

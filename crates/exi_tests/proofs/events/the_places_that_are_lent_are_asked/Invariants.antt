@@ -1,6 +1,6 @@
 use Rattle.exi_schema.specs.Told.{schema_of}
 use Rattle.exi_events.specs.Reader.{IsReady}
-use Rattle.exi_events.proofs.tests.the_places_that_are_lent_are_asked.Given as goal
+use Rattle.exi_tests.proofs.events.the_places_that_are_lent_are_asked.Given as goal
 
 abbrev pub invariant-loop-told : goal.invariant-loop-told
 invariant-loop-told g l =

@@ -1,7 +1,7 @@
 use Rattle.std.proofs.Common.{◌≡◌, true, ap, arith}
 use Rattle.exi_bits.specs.Lent.{Span}
 use Rattle.exi_writing.proofs.Values.{lent_text}
-use Rattle.exi_writing.proofs.tests.a_lent_text_is_written_shorter.Goals as goal
+use Rattle.exi_tests.proofs.writing.a_lent_text_is_written_shorter.Goals as goal
 
 pub put_value-requires-clause-value : goal.put_value-requires-clause-value
 put_value-requires-clause-value g c =

@@ -6,7 +6,7 @@ use Rattle.exi_bits.specs.declared.span.SpanAt.{SpanAt}
 use Rattle.exi_strings.specs.Table.{Table}
 use Rattle.exi_values.specs.Meaning.{AreTexts}
 use Rattle.exi_reading.proofs.Places.{local_places, place_spelled, AreTexts-push}
-use Rattle.exi_writing.proofs.tests.enter_again.Goals as goal
+use Rattle.exi_tests.proofs.writing.enter_again.Goals as goal
 
 -- whether the table has room or not
 entered_or_full : {T E : Type 0} (r : Result T E) (bits : List Bool) (old new : Table SpanAt) (name : ℕ) (at : SpanAt) → AreTexts bits old.entries → IsSpan (text_at bits at) → OnOk r (new ≡ record { entries = old.entries ++ (name, at) ∷ []; cap = old.cap }) → OnErr r (new ≡ old) → AreTexts bits new.entries

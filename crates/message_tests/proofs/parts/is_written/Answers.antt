@@ -1,6 +1,6 @@
 use Rattle.parts_examples.specs.Parts.{report_tree}
 use Rattle.parts_examples.proofs.Again.{writable}
-use Rattle.parts_examples.proofs.tests.is_written.Goals as goal
+use Rattle.message_tests.proofs.parts.is_written.Goals as goal
 
 pub write_report-requires-clause-message : goal.write_report-requires-clause-message
 write_report-requires-clause-message g c = writable (report_tree c.args.report.now) c.requires.message

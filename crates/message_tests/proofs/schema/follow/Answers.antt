@@ -1,5 +1,5 @@
 use Rattle.exi_schema.specs.Told.{schema_of}
-use Rattle.app_schema.proofs.tests.follow.Goals as goal
+use Rattle.message_tests.proofs.schema.follow.Goals as goal
 
 pub loop-width-init : goal.loop-width-init
 loop-width-init g c = c.first-place.ensures.of_schema (schema_of c.args.schema.now) c.requires

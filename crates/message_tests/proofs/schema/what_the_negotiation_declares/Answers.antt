@@ -1,7 +1,7 @@
 use Rattle.std.proofs.Common.{◌<◌, length, sym, subst, arith}
 use Rattle.exi_schema.specs.Schemas.{PlainSchema}
 use Rattle.exi_schema.specs.Steps.{texts_at}
-use Rattle.app_schema.proofs.tests.what_the_negotiation_declares.Goals as goal
+use Rattle.message_tests.proofs.schema.what_the_negotiation_declares.Goals as goal
 
 pub value_name-requires : goal.value_name-requires
 value_name-requires g c =
