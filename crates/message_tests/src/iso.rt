@@ -1,7 +1,11 @@
 //! The places of values in their enumerations, counted by hand.
 
 use exi_events::Value;
-use iso_parts::*;
+use iso_parts::{
+    ChargeProgress, ChargingSession, EnergyTransferMode, EvErrorCode, EvseNotification,
+    EvseProcessing, EvseStatusCode, FaultCode, IsolationLevel, PaymentOption, ResponseCode,
+    ServiceCategory, UnitSymbol,
+};
 use message_parts::Simple;
 
 fn ordinal_of<'a, T: Simple<'a>>(value: &T) -> Option<u32> {

@@ -1,7 +1,10 @@
 ghost use Rattle.std.specs.Prelude.{◌≡◌, ◌≤◌, length};
 ghost use Rattle.exi_documents.specs.Values.{most_entries};
 
-use app_protocol::*;
+use app_protocol::{
+    AppCode, AppMessage, AppProtocol, AppReq, AppRes, Dialect, Offer, RefusalCause, ScanFault,
+    Table, Text, negotiate, read_app, scan, write_app,
+};
 use arrayvec::ArrayVec;
 use exi_documents::MOST_ENTRIES;
 use std::alloc::{AllocError, Global};

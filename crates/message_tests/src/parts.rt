@@ -9,7 +9,10 @@ ghost use Rattle.parts_examples.specs.Parts.{report_tree};
 use exi_documents::{MOST_ENTRIES, RefusalCause};
 use exi_events::Table;
 use message_parts::{Binary, Text};
-use parts_examples::*;
+use parts_examples::{
+    Amount, Cause, DcSupply, Meter, Reading, Report, State, Stopped, Supply, names, read_report,
+    report_schema, write_report,
+};
 use std::process::Abort;
 
 /// A report of every part but a correction, with two days.

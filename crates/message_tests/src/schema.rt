@@ -5,7 +5,7 @@ ghost use Rattle.exi_schema.specs.Offers.{IsPlace};
 ghost use Rattle.exi_schema.specs.Steps.{IsStep};
 ghost use Rattle.exi_schema.specs.Told.{schema_of};
 
-use app_schema::*;
+use app_schema::negotiation;
 use exi_schema::{Datatype, Place, Places, Root, Schema, Step};
 use std::process::Abort;
 

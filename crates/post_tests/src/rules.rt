@@ -3,7 +3,11 @@ ghost use Rattle.session_words.specs.Plans.{IsPostPlan};
 
 use arrayvec::ArrayVec;
 use charge_world::{Dialect, IsolationLevel, Order, PilotState, PlantEvent, Tenths};
-use session_rules::*;
+use session_rules::{
+    Break, Found, PreCharged, Stage, Watch, allowed_watts, ask_of, asks, break_cause, facts_behind,
+    found_by, is_waiting, lowered_by, order_of, plant_cause, reply_to, stage_behind, timeout_of,
+    waiting_reply, word_cause,
+};
 use session_words::{
     Amount, Ask, CarLimits, Code, DcStatus, EndCause, EvseId, EvseText, Facts, Mode, Notify, Phase,
     PostLimits, PostPlan, PostStatus, Processing, Progress, Request, SessionId, Standing,

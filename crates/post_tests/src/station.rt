@@ -2,7 +2,7 @@ ghost use Rattle.session_words.specs.Plans.{IsPostPlan};
 
 use arrayvec::ArrayVec;
 use charge_world::{Dialect, Order, Piece, PlantEvent, Tenths};
-use plain_station::*;
+use plain_station::{Act, Event, Judged, NoMemory, Post, Reading, Spoken, Step, Todo};
 use session_words::{Ask, Code, EndCause, EvseText, Mode, PostPlan, Request, SessionId};
 use std::test::*;
 

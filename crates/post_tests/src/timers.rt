@@ -1,4 +1,4 @@
-use session_timers::*;
+use session_timers::Deadlines;
 use session_words::Timeout;
 
 fn after_reply(at: u64) -> Deadlines {

@@ -1,5 +1,8 @@
 use arrayvec::ArrayVec;
-use session_words::*;
+use session_words::{
+    Amount, Code, EndCause, EvseId, EvseText, Mode, OfferedMode, PostPlan, SessionId, Timeout,
+    ac_current, ac_watts, dc_watts, written_watts,
+};
 use std::test::Fail;
 
 #[test]

@@ -9,7 +9,7 @@ use exi_schema::{
 };
 use std::alloc::{AllocError, Global};
 use std::test::Fail;
-use tree_text::*;
+use tree_text::{PrintFault, Refusal, ScanFault, print_tree, scan_tree};
 
 /// The text of a payload, or why and at which bit it is refused.
 fn answer(alloc: Global, payload: &[u8], schema: &Schema) -> Result<String, AllocError>

@@ -6,7 +6,7 @@ ghost use Rattle.exi_schema.specs.Told.{schema_of};
 use exi_schema::{Datatype, Declaration, RootOf, Schema};
 use std::alloc::{AllocError, Global};
 use std::test::Fail;
-use value_text::*;
+use value_text::{Awaited, ScanFault, Scanned, TextCursor};
 
 const NAMES: [&'static str; 3] = ["Unit", "Units", "Value"];
 
