@@ -9,7 +9,7 @@ ghost use Rattle.evcc_setup.specs.Carrying.{carried_stage};
 ghost use Rattle.evcc_power.specs.Leading.{Leads, next_stage};
 
 use crate::right::CloseRight;
-use car_rules::{CarPhase, CarStage, reply_cause, request_of, stage_behind};
+use car_rules::{CarPhase, CarStage, reply_cause, request_of, says_finished, stage_behind};
 use evcc_setup::Carried;
 use session_rules::is_ac;
 use session_words::{CarPlan, EndCause, Reply, Request};

@@ -1,5 +1,6 @@
 //! Tests of the public calls that read and write texts: tokens, values, trees, words of the command line, traces and plans. They stand here
 //! so that the crates whose calls they are are proved once.
+#![tactic(auto)]
 
 #[cfg(test)]
 mod dialects;
