@@ -1,5 +1,6 @@
 -- ISO 15118-2:2014, 8.7 (the timers of the car): which deadlines run, and which decides. The spans are used in DIN too (own).
-use Rattle.std.specs.Prelude.{ℕ, ◌+◌, min, fold, map, nat_le, nat_lt, Bool, true, ◌&&◌, if◌then◌else◌, List, [], ◌∷◌, Option, Some, None}
+use Rattle.std.specs.Prelude.{ℕ, ◌+◌, min, fold, map, nat_le, Bool, true, if◌then◌else◌, List, [], ◌∷◌, Option, Some, None}
+use Rattle.std.specs.Option.{option_map}
 use Rattle.session_words.specs.declared.cause.EndCause.{EndCause}
 use Rattle.session_words.specs.declared.cause.EndCause.TheVariants as cause
 use Rattle.session_words.specs.declared.plan.CarPlan.{CarPlan}
@@ -14,15 +15,15 @@ use Rattle.car_rules.specs.declared.stage.CarStage.{CarStage}
 use Rattle.car_rules.specs.Replies.{is_setting_up}
 use Rattle.car_rules.specs.Requests.{ask_of}
 
--- so many milliseconds behind a moment. One of 2^64 - 1 or more is never reached
-abbrev pub due_at : ℕ → ℕ → ℕ
-due_at at span = min (at + span) never
+-- so many milliseconds behind a moment; none where that is past 2^64 - 1, since no such moment is ever reached
+abbrev pub due_at : ℕ → ℕ → Option ℕ
+due_at at span = if nat_le (at + span) never then Some (at + span) else None
 
 abbrev pub is_reached : ℕ → ℕ → Bool
-is_reached moment now = nat_le moment now && nat_lt moment never
+is_reached moment now = nat_le moment now
 
 abbrev pub due : EndCause → ℕ → ℕ → Option CarDue
-due cause at span = Some (record { cause = cause; moment = due_at at span })
+due cause at span = option_map (λ moment. record { cause = cause; moment = moment }) (due_at at span)
 
 -- how long a reply may take
 abbrev pub message_span : Ask → ℕ
@@ -71,7 +72,7 @@ abbrev pub hit : List (Option CarDue) → ℕ → Option EndCause
 hit [] now = None
 hit (d ∷ ds) now = hit_by d now (hit ds now)
 
--- the moment to wait for
+-- the moment to wait for, at most 2^64 - 1
 abbrev pub moment_of : Option CarDue → ℕ
 moment_of None = never
 moment_of (Some d) = d.moment

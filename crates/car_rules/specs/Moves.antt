@@ -21,9 +21,9 @@ use Rattle.car_rules.specs.declared.stage.CarPhase.{CarPhase}
 use Rattle.car_rules.specs.declared.stage.CarPhase.TheVariants as phase
 use Rattle.car_rules.specs.declared.stage.CarStage.{CarStage}
 
--- a voltage within 20.0 V of the target, in tenths. An amount in another unit is no voltage
+-- a voltage within 20.0 V of the target, in tenths, whatever unit the reply says
 abbrev pub is_near : ℕ → Amount → Bool
-is_near target voltage = voltage.right && nat_le (off_of (record { target = target; voltage = voltage.size })) 200
+is_near target voltage = nat_le (off_of (record { target = target; voltage = voltage.size })) 200
 
 -- the pre-charge is done
 abbrev pub is_pre_charged : ℕ → Tell → Bool

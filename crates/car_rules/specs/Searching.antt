@@ -22,7 +22,7 @@ is_searching plan s = nat_lt 0 plan.sdp && not s.dialed
 -- when the next request is due: the first at once, each other 250 ms behind the one before, and none behind the 50th
 abbrev pub next_request : CarPlan → Search → Option ℕ
 next_request plan s =
-    if is_searching plan s && nat_lt s.asked 50 then Some (if s.asked == 0 then 0 else due_at s.last 250) else None
+    if is_searching plan s && nat_lt s.asked 50 then (if s.asked == 0 then Some 0 else due_at s.last 250) else None
 
 -- nobody answers
 abbrev pub search_due : CarPlan → Search → Option CarDue

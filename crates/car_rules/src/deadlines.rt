@@ -11,7 +11,6 @@ use session_words::{Ask, CarPlan, EndCause};
 #[derive(Clone, Copy, Debug, PartialEq, Eq)]
 pub struct CarDue {
     pub cause: EndCause,
-    /// 2^64 - 1 is never reached.
     pub moment: u64,
 }
 
@@ -26,28 +25,25 @@ pub struct CarMoments {
     pub begun: u64,
 }
 
-/// So many milliseconds behind a moment.
-pub fn due_at(at: u64, span: u64) -> u64
+/// So many milliseconds behind a moment; none where that is past 2^64 - 1.
+pub fn due_at(at: u64, span: u64) -> Option<u64>
     ensures { result ≡ rule.due_at at span }
 {
-    at.saturating_add(span)
+    at.checked_add(span)
 }
 
 /// Whether the moment is reached.
 pub fn is_reached(moment: u64, now: u64) -> bool
     ensures { result ≡ rule.is_reached moment now }
 {
-    moment <= now && moment < u64::MAX
+    moment <= now
 }
 
-/// A deadline so many milliseconds behind a moment.
+/// A deadline so many milliseconds behind a moment; none where that is past 2^64 - 1.
 pub(crate) fn due(cause: EndCause, at: u64, span: u64) -> Option<CarDue>
     ensures { result ≡ rule.due cause at span }
 {
-    Some(CarDue {
-        cause,
-        moment: due_at(at, span),
-    })
+    due_at(at, span).map(|moment| CarDue { cause, moment })
 }
 
 /// How long the reply to this request may take.

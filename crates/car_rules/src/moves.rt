@@ -23,12 +23,12 @@ pub fn says_finished(tell: &Tell) -> bool
     }
 }
 
-/// Whether this is a voltage within 20.0 V of the target.
+/// Whether this is within 20.0 V of the target, whatever unit the reply says.
 fn is_near(target: Tenths, voltage: Amount) -> bool
     ensures { result ≡ rule.is_near target voltage }
 {
     let target = u32::from(target.get());
-    voltage.right && voltage.size.abs_diff(target) <= 200
+    voltage.size.abs_diff(target) <= 200
 }
 
 /// Whether the pre-charge is done.

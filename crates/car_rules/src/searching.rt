@@ -62,7 +62,7 @@ pub fn is_searching(plan: &CarPlan, search: &Search) -> bool
     0 < plan.sdp && !search.dialed
 }
 
-/// When the next request is due; none where no further one is.
+/// When the next request is due; none where no further one is, or at no moment up to 2^64 - 1.
 pub fn next_request(plan: &CarPlan, search: &Search) -> Option<u64>
     ensures { result ≡ rule.next_request plan.now search.now }
 {
@@ -72,7 +72,7 @@ pub fn next_request(plan: &CarPlan, search: &Search) -> Option<u64>
     if search.asked == 0 {
         return Some(0);
     }
-    Some(due_at(search.last, 250))
+    due_at(search.last, 250)
 }
 
 /// The deadline of a search that nobody answers.

@@ -14,7 +14,7 @@ session_deadlines plan (Some session) = deadlines plan session.stage session.mom
 abbrev pub all_deadlines : CarPlan → State → List (Option CarDue)
 all_deadlines plan s = session_deadlines plan s.session ++ search_due plan s.search ∷ []
 
--- when a request is due once more
+-- when a request is due once more, if ever
 abbrev pub again_in : Option Session → Option ℕ
 again_in None = None
 again_in (Some session) = session.again

@@ -54,11 +54,11 @@ gone_on session stage now = record (passed session) {
   again = None;
 }
 
--- the request is asked once more, the car's pace behind the reply
-abbrev pub waiting : Session → CarStage → ℕ → Session
+-- the request is asked once more, the car's pace behind the reply. Where that is past 2^64 - 1, it waits for ever
+abbrev pub waiting : Session → CarStage → Option ℕ → Session
 waiting session stage due = record (passed session) {
   stage = Some stage;
-  again = Some due;
+  again = due;
 }
 
 -- a dialect was chosen

@@ -23,8 +23,8 @@ pub data Part : Type 0 where
   Eventing : Part
   Wording : Part
 
--- A session that lives. `stage`: none until a dialect is chosen. `again`: when the request is due that is asked once more. `unread`: what
--- of the stream was not read yet. `stop`: somebody asked to stop.
+-- A session that lives. `stage`: none until a dialect is chosen. `again`: when the request is due that is asked once more, if it ever is.
+-- `unread`: what of the stream was not read yet. `stop`: somebody asked to stop.
 pub record Session : Type 0 where
   pub stage : Option CarStage
   pub moments : CarMoments
