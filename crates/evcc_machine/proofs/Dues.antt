@@ -36,10 +36,10 @@ pub hit_of : (plan : CarPlan) (session : Option Session) (d : Option CarDue) (no
 hit_of plan session d now = hit_in (session_deadlines plan session) d now
 
 -- a post is looked for at most 50 times
-few_by : (b c : Bool) (m now : ℕ) → is_due (if b && c then Some m else None) now ≡ true → c ≡ true
+few_by : (b c : Bool) (m : Option ℕ) (now : ℕ) → is_due (if b && c then m else None) now ≡ true → c ≡ true
 few_by true true m now h = refl
 few_by true false m now h = cc
 few_by false c m now h = cc
 
 pub asked_few : (plan : CarPlan) (x : Search) (now : ℕ) → is_due (next_request plan x) now ≡ true → x.asked < 50
-asked_few plan x now h = ltb-true x.asked 50 (few_by (is_searching plan x) (nat_lt x.asked 50) (if x.asked == 0 then 0 else due_at x.last 250) now h)
+asked_few plan x now h = ltb-true x.asked 50 (few_by (is_searching plan x) (nat_lt x.asked 50) (if x.asked == 0 then Some 0 else due_at x.last 250) now h)

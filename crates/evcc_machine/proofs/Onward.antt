@@ -1,7 +1,7 @@
 -- What each act and each word leaves to do.
 use Rattle.std.proofs.Common.{◌≡◌, ◌<◌, ◌≤◌, ℕ, ◌+◌, ◌*◌, ◌==◌, nat_le, nat_lt, Bool, true, false, not, ◌&&◌, if◌then◌else◌, List, length, Option, Some, None, is_some, Result, Ok, Err, refl, sym, ap, subst, arith}
 use Rattle.std.specs.Option.{option_map}
-use Rattle.std.proofs.lemmas.Bool.{leb-true, ltb-true}
+use Rattle.std.proofs.lemmas.Bool.{leb-true}
 use Rattle.std.proofs.lemmas.Bool.Decides.{nat_tests}
 use Rattle.std.proofs.lemmas.List.{length-drop}
 use Rattle.charge_world.specs.declared.ports.Order.{Order}
@@ -16,7 +16,7 @@ use Rattle.v2gtp_frames.specs.Reading.{whole_at, behind, behind_front}
 use Rattle.v2gtp_frames.proofs.Growing.{whole_fits}
 use Rattle.car_rules.specs.declared.searching.Search.{Search}
 use Rattle.car_rules.specs.declared.stage.CarStage.{CarStage}
-use Rattle.car_rules.specs.Deadlines.{due_at, is_reached}
+use Rattle.car_rules.specs.Deadlines.{due_at}
 use Rattle.car_rules.specs.Moves.{is_again, order_of, stage_behind}
 use Rattle.car_rules.specs.Replies.{reply_cause}
 use Rattle.car_rules.specs.Searching.{is_searching, next_request, dialed}
@@ -68,15 +68,16 @@ seeks_le false due = omega arith
 seeks_le true due = omega arith
 
 -- a moment that lies behind now isn't reached
-not_and : (a b : Bool) → (a ≡ true → b ≡ true → ⊥) → (a && b) ≡ false
-not_and true true h = absurd (h refl refl)
-not_and true false h = refl
-not_and false b h = refl
+not_true : (b : Bool) → (b ≡ true → ⊥) → b ≡ false
+not_true true h = absurd (h refl)
+not_true false h = refl
 
-not_yet : (now span : ℕ) → 1 ≤ span → is_reached (due_at now span) now ≡ false
-not_yet now span h =
-    not_and (nat_le (due_at now span) now) (nat_lt (due_at now span) never)
-    (λ a b. omega (arith, leb-true (due_at now span) now a, ltb-true (due_at now span) never b, h))
+unreached : (b : Bool) (moment now : ℕ) → now < moment → is_due (if b then Some moment else None) now ≡ false
+unreached true moment now h = not_true (nat_le moment now) (λ r. omega (arith, leb-true moment now r, h))
+unreached false moment now h = refl
+
+not_yet : (now span : ℕ) → 1 ≤ span → is_due (due_at now span) now ≡ false
+not_yet now span h = unreached (nat_le (now + span) never) (now + span) now (omega (arith, h))
 
 -- what is done first counts
 call_first : (p : Option ℕ) (o : Option Order) (sp : Option Spoken) (e : Option EndCause) (sk : Bool) (port : ℕ) → first_of p o sp e sk ≡ Some (states.Call port) → one_if p ≡ 1
@@ -141,7 +142,7 @@ failed_less plan s l x cause k o h =
     ))
 
 -- a car that dialed looks for no post
-no_search : (b y : Bool) (asked last : ℕ) → (if (b && false) && y then Some (if asked == 0 then 0 else due_at last 250) else None) ≡ None
+no_search : (b y : Bool) (asked last : ℕ) → (if (b && false) && y then (if asked == 0 then Some 0 else due_at last 250) else None) ≡ None
 no_search true y asked last = refl
 no_search false y asked last = refl
 
@@ -188,7 +189,7 @@ say_less plan s said false o h =
     failed_less plan s s.live s.search SendFailed s.live o (omega (arith, one))
 
 -- a post is looked for once in a hearing
-sought_by : (b z : Bool) (now : ℕ) → z ≡ false → is_due (if b then Some (if z then 0 else due_at now 250) else None) now ≡ false
+sought_by : (b z : Bool) (now : ℕ) → z ≡ false → is_due (if b then (if z then Some 0 else due_at now 250) else None) now ≡ false
 sought_by true true now e = cc
 sought_by true false now e = not_yet now 250 (omega arith)
 sought_by false z now e = refl
@@ -394,7 +395,7 @@ wait_work plan s session to p =
     let none = ap (λ (b : Bool). repeats None b) (not_yet s.clock plan.pace p) in
     omega (
       arith,
-      spare_same s.over None (repeats None (is_reached (due_at s.clock plan.pace) s.clock) + seeks false (is_due (next_request plan s.search) s.clock))
+      spare_same s.over None (repeats None (is_due (due_at s.clock plan.pace) s.clock) + seeks false (is_due (next_request plan s.search) s.clock))
           (seeks false (is_due (next_request plan s.search) s.clock)) (omega (arith, none)),
     )
 

@@ -23,7 +23,7 @@ pub(crate) struct Living {
     /// None until a dialect is chosen.
     pub(crate) stage: Option<CarStage>,
     pub(crate) moments: CarMoments,
-    /// When the request is due that is asked once more.
+    /// When the request is due that is asked once more, if it ever is.
     pub(crate) again: Option<u64>,
     /// Whether somebody asked to stop since the connection came.
     pub(crate) stop: bool,

@@ -268,7 +268,7 @@ fn follow(living: &mut Living, plan: &CarPlan, lead: Lead, now: u64)
         Lead::Ends(_) => {}
         Lead::Waits(stage) => {
             living.stage = Some(stage);
-            living.again = Some(due_at(now, u64::from(plan.pace)));
+            living.again = due_at(now, u64::from(plan.pace));
         }
         Lead::Goes { stage, order: _ } => {
             living.stage = Some(stage);
