@@ -53,7 +53,7 @@ goes_on plan steps w s session stage a z e t k = record {
   fresh = tt;
 }
 
-waits : (plan : CarPlan) (steps : List Step) (w : Judged) (s : State) (session : Session) (stage : CarStage) (due : ℕ) → stage.cycles ≡ cycles (Reads w ∷ steps)
+waits : (plan : CarPlan) (steps : List Step) (w : Judged) (s : State) (session : Session) (stage : CarStage) (due : Option ℕ) → stage.cycles ≡ cycles (Reads w ∷ steps)
     → s.clock ≡ now steps → SessionReads plan steps session → Keeps plan (Reads w ∷ steps) (record s { part = Wording; session = Some (waiting session stage due); agenda = nothing })
 waits plan steps w s session stage due z t k = record {
   clock_is = t;
