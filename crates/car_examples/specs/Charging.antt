@@ -1,5 +1,5 @@
 -- ISO 15118-2:2014, section 8.4.5, and IEC 61851-23: examples of when a car closes and opens its contactor, and of its pace.
-use Rattle.std.specs.Prelude.{◌≡◌, pos, false, List, [], ◌∷◌, Some, None}
+use Rattle.std.specs.Prelude.{◌≡◌, ℕ, pos, false, List, [], ◌∷◌, Some, None}
 use Rattle.charge_world.specs.declared.heard.PlantEvent.TheVariants as plant
 use Rattle.charge_world.specs.declared.ports.Order.TheVariants as order
 use Rattle.session_words.specs.declared.cause.EndCause.TheVariants as cause
@@ -12,9 +12,9 @@ use Rattle.session_words.specs.declared.word.Ask.TheVariants as ask
 use Rattle.session_words.specs.declared.word.Tell.TheVariants as tell
 use Rattle.car_rules.specs.declared.stage.CarPhase.TheVariants as phase
 use Rattle.car_spec.specs.Codecs.{Judged}
-use Rattle.car_examples.specs.Playing.{hear}
+use Rattle.car_examples.specs.Playing.{Play, hear}
 use Rattle.car_examples.specs.Fixtures.{dc_car, ac_car, told, authorization, parameters, pre_charge, demand, delivery, dc_status}
-use Rattle.car_examples.specs.Sessions.{Shown, Ordered, Asks, Ended, shown, reply, a_frame, tells, tick, open_in, live_in, waiting_in}
+use Rattle.car_examples.specs.Sessions.{Shown, Ordered, Asks, Ended, shown, reply, a_frame, tells, tick, session_in, keeping, open_in, live_in, waiting_in}
 
 abbrev pub delivers : Progress → Shown
 delivers progress = Asks (ask.PowerDelivery progress (Some (pos 1)) None)
@@ -35,12 +35,12 @@ WaitsFar = shown (reply dc_car 1100 (told (pre_charge 3799)) (open_in phase.PreC
 abbrev pub WaitsFarAbove : Type 0
 WaitsFarAbove = shown (reply dc_car 1100 (told (pre_charge 4201)) (open_in phase.PreCharging)) ≡ []
 
--- a voltage in another unit is none
+-- units in replies decide nothing
 abbrev pub in_wrong_unit : Judged
 in_wrong_unit = told (tell.PreCharge (dc_status notify.None) (record { size = 4000; right = false }))
 
-abbrev pub WaitsInWrongUnit : Type 0
-WaitsInWrongUnit = shown (reply dc_car 1100 in_wrong_unit (open_in phase.PreCharging)) ≡ []
+abbrev pub ClosesInWrongUnit : Type 0
+ClosesInWrongUnit = shown (reply dc_car 1100 in_wrong_unit (open_in phase.PreCharging)) ≡ starts
 
 -- in AC the contactor closes once PowerDelivery is accepted
 abbrev pub AcCloses : Type 0
@@ -62,6 +62,17 @@ WaitsForItsPace = shown (tick dc_car 1199 (reply dc_car 1100 (told (parameters p
 abbrev pub AsksAtItsPace : Type 0
 AsksAtItsPace = shown (tick dc_car 1200 (reply dc_car 1100 (told (authorization processing.Ongoing)) (open_in phase.Authorizing)))
     ≡ Asks ask.Authorization ∷ []
+
+-- at 2^64 - 1 where that is the moment, and never where the moment is past that
+abbrev pub authorizing_at : ℕ → Play
+authorizing_at at = reply dc_car at (told (authorization processing.Ongoing))
+    (keeping (record (session_in phase.Authorizing) { moments = record { came = at; sent = Some at; begun = at } }) false)
+
+abbrev pub AsksAtTheLastMoment : Type 0
+AsksAtTheLastMoment = shown (tick dc_car 18446744073709551615 (authorizing_at 18446744073709551515)) ≡ Asks ask.Authorization ∷ []
+
+abbrev pub AsksNeverPastIt : Type 0
+AsksNeverPastIt = shown (tick dc_car 18446744073709551615 (authorizing_at 18446744073709551516)) ≡ []
 
 -- behind the event of the hearing
 abbrev pub AsksBehindTheEvent : Type 0

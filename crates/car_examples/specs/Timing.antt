@@ -81,9 +81,9 @@ LeastNumberDecides = shown (tick dc_car 20000 (comes_at 0)) ≡ Ended cause.Setu
 abbrev pub OtherBeforeIt : Type 0
 OtherBeforeIt = shown (tick dc_car 19999 (comes_at 0)) ≡ Ended cause.MessageTimeout ∷ []
 
--- a moment of 2^64 - 1 or more is never reached
-abbrev pub LastMomentIsNever : Type 0
-LastMomentIsNever = shown (tick dc_car 18446744073709551615 (comes_at 18446744073709549615)) ≡ []
+-- a deadline of exactly 2^64 - 1 is reached at that moment, and one past it never
+abbrev pub LastMomentIsReached : Type 0
+LastMomentIsReached = shown (tick dc_car 18446744073709551615 (comes_at 18446744073709549615)) ≡ Ended cause.MessageTimeout ∷ []
 
-abbrev pub LastButOneIsDue : Type 0
-LastButOneIsDue = shown (tick dc_car 18446744073709551615 (comes_at 18446744073709549614)) ≡ Ended cause.MessageTimeout ∷ []
+abbrev pub PastItIsNever : Type 0
+PastItIsNever = shown (tick dc_car 18446744073709551615 (comes_at 18446744073709549616)) ≡ []

@@ -50,12 +50,14 @@ pub fn contactors_close_and_open()
     ensures closes_near_above { charging.ClosesNearAbove }
     ensures waits_far { charging.WaitsFar }
     ensures waits_far_above { charging.WaitsFarAbove }
-    ensures waits_in_wrong_unit { charging.WaitsInWrongUnit }
+    ensures closes_in_wrong_unit { charging.ClosesInWrongUnit }
     ensures ac_closes { charging.AcCloses }
     ensures failed_close_ends { charging.FailedCloseEnds }
     ensures failed_open_ends { charging.FailedOpenEnds }
     ensures waits_for_its_pace { charging.WaitsForItsPace }
     ensures asks_at_its_pace { charging.AsksAtItsPace }
+    ensures asks_at_the_last_moment { charging.AsksAtTheLastMoment }
+    ensures asks_never_past_it { charging.AsksNeverPastIt }
     ensures asks_behind_the_event { charging.AsksBehindTheEvent }
     ensures charges_on { charging.ChargesOn }
     ensures stops_at_the_last { charging.StopsAtTheLast }
@@ -84,8 +86,8 @@ pub fn deadlines_run()
     ensures renews_its_span { timing.RenewsItsSpan }
     ensures least_number_decides { timing.LeastNumberDecides }
     ensures other_before_it { timing.OtherBeforeIt }
-    ensures last_moment_is_never { timing.LastMomentIsNever }
-    ensures last_but_one_is_due { timing.LastButOneIsDue }
+    ensures last_moment_is_reached { timing.LastMomentIsReached }
+    ensures past_it_is_never { timing.PastItIsNever }
 {}
 
 /// How a car looks for its post (ISO 15118-2:2014, section 7.10.1).

@@ -18,9 +18,9 @@ pub returns-clause-waits_far_above : goal.returns-clause-waits_far_above
 unfolding reading.whole_at
 returns-clause-waits_far_above c = refl
 
-pub returns-clause-waits_in_wrong_unit : goal.returns-clause-waits_in_wrong_unit
+pub returns-clause-closes_in_wrong_unit : goal.returns-clause-closes_in_wrong_unit
 unfolding reading.whole_at
-returns-clause-waits_in_wrong_unit c = refl
+returns-clause-closes_in_wrong_unit c = refl
 
 pub returns-clause-ac_closes : goal.returns-clause-ac_closes
 unfolding reading.whole_at
@@ -41,6 +41,14 @@ returns-clause-waits_for_its_pace c = refl
 pub returns-clause-asks_at_its_pace : goal.returns-clause-asks_at_its_pace
 unfolding reading.whole_at
 returns-clause-asks_at_its_pace c = refl
+
+pub returns-clause-asks_at_the_last_moment : goal.returns-clause-asks_at_the_last_moment
+unfolding reading.whole_at
+returns-clause-asks_at_the_last_moment c = refl
+
+pub returns-clause-asks_never_past_it : goal.returns-clause-asks_never_past_it
+unfolding reading.whole_at
+returns-clause-asks_never_past_it c = refl
 
 pub returns-clause-asks_behind_the_event : goal.returns-clause-asks_behind_the_event
 unfolding reading.whole_at

@@ -74,10 +74,10 @@ pub returns-clause-other_before_it : goal.returns-clause-other_before_it
 unfolding reading.whole_at
 returns-clause-other_before_it c = refl
 
-pub returns-clause-last_moment_is_never : goal.returns-clause-last_moment_is_never
+pub returns-clause-last_moment_is_reached : goal.returns-clause-last_moment_is_reached
 unfolding reading.whole_at
-returns-clause-last_moment_is_never c = refl
+returns-clause-last_moment_is_reached c = refl
 
-pub returns-clause-last_but_one_is_due : goal.returns-clause-last_but_one_is_due
+pub returns-clause-past_it_is_never : goal.returns-clause-past_it_is_never
 unfolding reading.whole_at
-returns-clause-last_but_one_is_due c = refl
+returns-clause-past_it_is_never c = refl
