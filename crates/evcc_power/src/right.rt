@@ -27,7 +27,7 @@ impl Model for CloseRight {
 }
 
 impl CloseRight {
-    /// The right that a reply to PreCharge with this target gives, where its voltage is within 20.0 V of it.
+    /// The right that a reply to PreCharge with this target gives, where its voltage is within 20.0 V of it, whatever unit it says.
     pub(crate) fn pre_charged(target: Tenths, tell: &Tell) -> Option<CloseRight>
         ensures given { is_some result ≡ is_pre_charged target tell.now }
         ensures off { IfSome result (λ right. right ≡ off_in target tell.now) }
@@ -36,7 +36,7 @@ impl CloseRight {
             return None;
         };
         let off = voltage.size.abs_diff(u32::from(target.get()));
-        if voltage.right && off <= 200 {
+        if off <= 200 {
             Some(CloseRight { off: Some(off) })
         } else {
             None
