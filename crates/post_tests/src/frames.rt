@@ -80,7 +80,7 @@ fn a_header_names_its_type_and_length(rt: HostRuntime) {
 }
 
 #[test]
-#[tactic(auto, unfolding(crate::specs::Reading::whole_at))]
+#[tactic(auto, unfolding(v2gtp_frames::specs::Reading::whole_at))]
 fn a_fault_is_answered_again_until_the_reader_is_cleared(rt: HostRuntime) -> Result<(), Fail> {
     let mut reader = FrameReader::make(rt.alloc())?;
     reader.feed(&[0x01, 0xfe, 0x80, 0x02]);
