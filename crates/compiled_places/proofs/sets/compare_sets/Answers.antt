@@ -3,4 +3,4 @@ use Rattle.exi_schema.proofs.OneSchema.{one_schema}
 use Rattle.compiled_places.proofs.sets.compare_sets.Goals as goal
 
 pub compile-requires : goal.compile-requires
-compile-requires g c = one_schema _ _ refl refl refl refl refl
+compile-requires c = one_schema _ _ refl refl refl refl refl

@@ -1,5 +1,5 @@
 use Rattle.parts_examples.specs.Parts.{report_tree}
-use Rattle.parts_examples.proofs.Again.{writable}
+use Rattle.message_tests.proofs.Again.{writable}
 use Rattle.message_tests.proofs.parts.is_written.Goals as goal
 
 pub write_report-requires-clause-message : goal.write_report-requires-clause-message
