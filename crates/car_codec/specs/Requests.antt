@@ -1,7 +1,7 @@
 -- Own: the requests that a car asks, which its codecs have to spell.
-use Rattle.std.specs.Prelude.{◌≡◌, ◌≤◌, ℕ, Contains, length}
+use Rattle.std.specs.Prelude.{◌≡◌, ◌≤◌, Contains, length}
 use Rattle.charge_world.specs.declared.offer.Dialect.{Dialect}
-use Rattle.charge_world.specs.declared.offer.Dialect.TheVariants as dialect
+use Rattle.charge_world.specs.declared.offer.Dialect.TheVariants.{Iso}
 use Rattle.session_words.specs.declared.plan.CarPlan.{CarPlan}
 use Rattle.session_words.specs.declared.word.Request.{Request}
 use Rattle.session_words.specs.Plans.{IsCarPlan}
@@ -26,5 +26,5 @@ pub record IsAsked (dialect : Dialect) (request : Request) : Type 0 where
   pub is_plan : IsPlan plan
   pub dialect_is : dialect ≡ stage.dialect
   pub offered : Contains plan.dialects.items dialect
-  pub renegotiates : stage.phase ≡ phase.Renegotiating → dialect ≡ dialect.Iso
+  pub renegotiates : stage.phase ≡ phase.Renegotiating → dialect ≡ Iso
   pub request_is : request ≡ request_of plan stage
