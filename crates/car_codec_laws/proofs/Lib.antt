@@ -1,0 +1,5 @@
+pub mod Dropped
+pub mod OneResponse
+pub mod IsoPayloads
+pub mod DinPayloads
+pub mod Lawful

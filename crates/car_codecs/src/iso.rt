@@ -1,0 +1,45 @@
+//! ISO 15118-2:2014, section 8.3: payloads as words, and requests as payloads.
+
+ghost use Rattle.std.specs.Prelude.{◌≡◌, ◌≤◌, length, take};
+ghost use Rattle.exi_documents.specs.Values.{most_entries};
+ghost use Rattle.session_words.specs.declared.word.Word.TheVariants as words;
+ghost use Rattle.iso_words.specs.Spellable.{CanSpell};
+ghost use Rattle.codec_rules.specs.Iso.{Reads};
+ghost use Rattle.car_codec_rules.specs.Iso.{Encodes};
+ghost use Rattle.car_codec_rules.specs.Profiles.{HasNoProfile};
+
+use crate::copies::word_of;
+use iso_codec::{IsoTables, read_iso, write_iso};
+use iso_words::{of_word, to_word};
+use exi_events::Table;
+use session_words::{Request, Word};
+
+/// The word that a payload spells; none where it spells no message. The table is emptied.
+pub(crate) fn read(tables: &IsoTables, payload: &[u8], table: &mut Table) -> Option<Word>
+    requires payload { length payload.now ≤ 65536 }
+    requires cap { table.old.cap ≡ most_entries }
+    ensures cap { table.new.cap ≡ most_entries }
+    ensures read { Reads payload.now result }
+{
+    match read_iso(tables, payload, table) {
+        Ok(message) => Some(to_word(&message)),
+        Err(_) => None,
+    }
+}
+
+/// Writes the encoding of a request to the front of a room, and answers its number of bytes. The table is emptied.
+pub(crate) fn write(tables: &IsoTables, request: &Request, room: &mut [u8], table: &mut Table) -> u32
+    requires room { length room.old ≡ 1024 }
+    requires request { CanSpell (words.Request request.now) }
+    requires no_profile { HasNoProfile request.now.ask }
+    requires cap { table.old.cap ≡ most_entries }
+    ensures cap { table.new.cap ≡ most_entries }
+    ensures within { result ≤ 1024 }
+    ensures encoded { Encodes request.now (take result room.new) }
+{
+    iso_codec::laws::messages_are_written();
+    iso_requests::requests_are_within();
+    iso_requests::requests_are_small();
+    let word = word_of(request);
+    write_iso(tables, &of_word(&word), room, table).unwrap()
+}
