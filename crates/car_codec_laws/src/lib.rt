@@ -4,13 +4,15 @@
 ghost use Rattle.car_spec.specs.Codecs.{codecs};
 ghost use Rattle.car_spec.specs.Spelled.{ReadsBack, AreDetermined};
 ghost use Rattle.codec_rules.specs.Codecs.{Reads};
+ghost use Rattle.car_codec.specs.Judging.{ChoosesOffered};
 ghost use Rattle.car_codec_rules.specs.Codecs.{Encodes};
 ghost use Rattle.car_codec_rules.specs.Offering.{Offers};
 ghost use Rattle.car_codec_rules.specs.Responding.{Responds};
 
 /// The encoding of a request reads as that request, but for the watts that its numbers drop. A payload is judged one way, and an offer and
-/// a request have one encoding.
+/// a request have one encoding. A dialect that is chosen is one of those on offer.
 pub fn car_codecs_are_lawful()
     ensures reads_back { ReadsBack (codecs Offers Responds Reads Encodes) }
     ensures determined { AreDetermined (codecs Offers Responds Reads Encodes) }
+    ensures offered { ChoosesOffered Responds }
 {}

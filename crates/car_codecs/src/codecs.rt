@@ -104,11 +104,11 @@ impl CarCoded for CarCodecs {
 }
 
 impl CarCodec for CarCodecs {
-    ghost use Rattle.car_codecs.proofs.Choices.{chooses_offered};
+    ghost use Rattle.car_codec_laws.proofs.Choices as choices;
 
     ghost responds_first = { λ dialects payload reply never. never };
 
-    ghost chooses_offered = { chooses_offered };
+    ghost chooses_offered = { choices.chooses_offered };
 
     fn offer(&mut self, dialects: &[Dialect], room: &mut [u8]) -> u32 {
         write_offer(dialects, &mut room[..REQUEST_ROOM], &mut self.table)

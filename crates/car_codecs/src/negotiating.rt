@@ -41,7 +41,7 @@ fn entry_at(place: u8, dialect: Dialect) -> AppProtocol<'static>
 
 /// The request that offers these dialects.
 fn offer_of(dialects: &[Dialect]) -> AppReq<'static>
-    requires { IsOfferOnce dialects.now }
+    requires { length dialects.now ≤ 2 }
     ensures { protocols_of result ≡ entries_of dialects.now }
 {
     let mut protocols = ArrayVec::new();

@@ -1,0 +1,4 @@
+pub mod Bytes
+pub mod Results
+pub mod Offers
+pub mod Loops
