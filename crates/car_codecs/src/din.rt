@@ -28,7 +28,12 @@ pub(crate) fn read(tables: &DinTables, payload: &[u8], table: &mut Table) -> Opt
 }
 
 /// Writes the encoding of a request to the front of a room, and answers its number of bytes. The table is emptied.
-pub(crate) fn write(tables: &DinTables, request: &Request, room: &mut [u8], table: &mut Table) -> u32
+pub(crate) fn write(
+    tables: &DinTables,
+    request: &Request,
+    room: &mut [u8],
+    table: &mut Table,
+) -> u32
     requires room { length room.old ≡ 1024 }
     requires request { CanSpell (words.Request request.now) }
     requires no_profile { HasNoProfile request.now.ask }

@@ -9,9 +9,9 @@ ghost use Rattle.car_codec_rules.specs.Iso.{Encodes};
 ghost use Rattle.car_codec_rules.specs.Profiles.{HasNoProfile};
 
 use crate::copies::word_of;
+use exi_events::Table;
 use iso_codec::{IsoTables, read_iso, write_iso};
 use iso_words::{of_word, to_word};
-use exi_events::Table;
 use session_words::{Request, Word};
 
 /// The word that a payload spells; none where it spells no message. The table is emptied.
@@ -28,7 +28,12 @@ pub(crate) fn read(tables: &IsoTables, payload: &[u8], table: &mut Table) -> Opt
 }
 
 /// Writes the encoding of a request to the front of a room, and answers its number of bytes. The table is emptied.
-pub(crate) fn write(tables: &IsoTables, request: &Request, room: &mut [u8], table: &mut Table) -> u32
+pub(crate) fn write(
+    tables: &IsoTables,
+    request: &Request,
+    room: &mut [u8],
+    table: &mut Table,
+) -> u32
     requires room { length room.old ≡ 1024 }
     requires request { CanSpell (words.Request request.now) }
     requires no_profile { HasNoProfile request.now.ask }
