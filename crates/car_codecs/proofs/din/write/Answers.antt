@@ -9,13 +9,13 @@ use Rattle.car_codecs.proofs.Results.{is_ok}
 use Rattle.car_codecs.proofs.din.write.Goals as goal
 
 pub of_word-requires : goal.of_word-requires
-of_word-requires c = subst CanSpell (sym c.word_of.ensures) c.requires.request
+of_word-requires c = subst CanSpell (sym c.word_of-word.ensures) c.requires.request
 
 -- it holds what is declared
 pub write_din-requires-clause-message : goal.write_din-requires-clause-message
 write_din-requires-clause-message c =
     let own : IsMessageOf (word.Request c.args.request.now) c.of_word.result =
-    subst (λ (w : Word). IsMessageOf w c.of_word.result) c.word_of.ensures c.of_word.ensures in
+    subst (λ (w : Word). IsMessageOf w c.of_word.result) c.word_of-word.ensures c.of_word.ensures in
     c.messages_are_written.ensures.within c.of_word.result
     (c.requests_are_within.ensures c.args.request.now c.of_word.result c.requires.request own)
 
@@ -23,7 +23,7 @@ write_din-requires-clause-message c =
 pub unwrap-requires : goal.unwrap-requires
 unwrap-requires c =
     let own : IsMessageOf (word.Request c.args.request.now) c.of_word.result =
-    subst (λ (w : Word). IsMessageOf w c.of_word.result) c.word_of.ensures c.of_word.ensures in
+    subst (λ (w : Word). IsMessageOf w c.of_word.result) c.word_of-word.ensures c.of_word.ensures in
     let small : PassesBytes c.of_word.result 1024 → ⊥ =
     c.requests_are_small.ensures c.args.request.now c.of_word.result c.requires.request own in
     is_ok c.write_din.result
@@ -34,7 +34,7 @@ returns-clause-encoded c = record {
   can = c.requires.request;
   no_profile = c.requires.no_profile;
   message = c.of_word.result;
-  message_is = subst (λ (w : Word). IsMessageOf w c.of_word.result) c.word_of.ensures c.of_word.ensures;
+  message_is = subst (λ (w : Word). IsMessageOf w c.of_word.result) c.word_of-word.ensures c.of_word.ensures;
   bytes = front_bytes c.unwrap.result c.write_din.new.room (λ i. omega (arith, c.type_inv.room i));
   encoded = search rules;
 }
