@@ -1,5 +1,5 @@
 -- A request that a car asks can be spelled.
-use Rattle.std.proofs.Common.{◌≡◌, ℕ, zero, suc, ◌<◌, ◌≤◌, Bool, true, false, if◌then◌else◌, IsTrue, List, [], ◌∷◌, All, length, Contains, Some, None, pos, refl, sym, ◌∙◌, subst, arith, lit≤}
+use Rattle.std.proofs.Common.{◌≡◌, ℕ, zero, suc, ◌<◌, ◌≤◌, Bool, true, false, if◌then◌else◌, IsTrue, [], ◌∷◌, All, length, Some, pos, refl, sym, subst, arith, lit≤}
 use Rattle.std.proofs.lemmas.Int.{ints}
 use Rattle.charge_world.specs.declared.offer.Dialect.{Dialect}
 use Rattle.charge_world.specs.declared.offer.Dialect.TheVariants as dialect
@@ -8,7 +8,6 @@ use Rattle.session_words.specs.declared.limits.CarLimits.TheVariants as limits
 use Rattle.session_words.specs.declared.mode.Mode.{Mode}
 use Rattle.session_words.specs.declared.mode.Mode.TheVariants as mode
 use Rattle.session_words.specs.declared.plan.CarPlan.{CarPlan}
-use Rattle.session_words.specs.declared.word.Ask.{Ask}
 use Rattle.session_words.specs.declared.word.Ask.TheVariants as ask
 use Rattle.session_words.specs.declared.word.Request.{Request}
 use Rattle.session_words.specs.declared.word.Word.TheVariants as word
@@ -22,9 +21,8 @@ use Rattle.word_values.specs.Amounts.{can_write_tenths}
 use Rattle.written_words.proofs.Numbers.{few_tenths}
 use Rattle.iso_words.specs.Spellable as iso_words
 use Rattle.din_words.specs.Spellable as din_words
-use Rattle.car_codec.specs.Requests.{IsPlan, IsAsked}
+use Rattle.car_codec.specs.Requests.{IsPlan}
 use Rattle.car_codec_rules.specs.Asked.{IsTyped, IsTypedAsk, AskedAreSpelled, AskedHaveNoProfile}
-use Rattle.car_codec_rules.specs.Codecs.{CanSpell}
 use Rattle.car_codec_rules.specs.Profiles.{HasNoProfile}
 
 all_one : {X : Type 0} (P : X → Type 0) (x : X) → P x → All P (x ∷ [])

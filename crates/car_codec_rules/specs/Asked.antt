@@ -1,5 +1,5 @@
 -- Own: each request that a car asks can be spelled in its dialect, and has no profile.
-use Rattle.std.specs.Prelude.{ℕ, ◌<◌, ◌≤◌, All, length}
+use Rattle.std.specs.Prelude.{◌<◌, ◌≤◌, All, length}
 use Rattle.charge_world.specs.declared.offer.Dialect.{Dialect}
 use Rattle.session_words.specs.declared.word.Ask.{Ask}
 use Rattle.session_words.specs.declared.word.Ask.TheVariants as ask
