@@ -1,6 +1,5 @@
 -- What a request without a profile drops.
-use Rattle.std.proofs.Common.{◌≡◌, Option, Some, None, refl, ap}
-use Rattle.session_words.specs.declared.amount.Amount.{Amount}
+use Rattle.std.proofs.Common.{◌≡◌, Some, None, refl, ap}
 use Rattle.session_words.specs.declared.limits.CarLimits.{CarLimits}
 use Rattle.session_words.specs.declared.limits.CarLimits.TheVariants as limits
 use Rattle.session_words.specs.declared.word.Ask.{Ask}
