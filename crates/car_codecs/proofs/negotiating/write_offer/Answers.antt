@@ -1,6 +1,6 @@
 use Rattle.std.proofs.Common.{ℕ, List, rules, arith, sym, subst}
 use Rattle.app_documents.specs.Trees.{Offered, Request, IsMessage}
-use Rattle.app_protocol.specs.Documents.{IsAppEncoding, PassesBytes}
+use Rattle.app_protocol.specs.Documents.{PassesBytes}
 use Rattle.app_protocol.specs.Messages.{protocols_of}
 use Rattle.car_codecs.proofs.Bytes.{front_bytes}
 use Rattle.car_codecs.proofs.Offers.{few_dialects, offer_within, offer_small}
