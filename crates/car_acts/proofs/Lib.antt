@@ -1,0 +1,4 @@
+pub mod Sound
+pub mod Named
+pub mod Next
+pub mod Runs

@@ -1,0 +1,4 @@
+pub mod Reporting
+pub mod Deeds
+pub mod Sound
+pub mod Driving
