@@ -1,0 +1,131 @@
+-- A hearing carries a run to a run, as a lost one does.
+use Rattle.std.proofs.Common.{◌≡◌, ◌<◌, ℕ, ◌+◌, max, true, false, List, [], ◌∷◌, Option, Some, None, refl, sym, ap, subst, ◌∙◌}
+use Rattle.charge_world.specs.declared.entry.Entry.{Entry}
+use Rattle.charge_world.specs.declared.entry.Entry.TheVariants as entry
+use Rattle.charge_world.specs.declared.heard.Heard.{Heard}
+use Rattle.charge_world.specs.Outside.{IsOfPosts}
+use Rattle.session_words.specs.declared.plan.CarPlan.{CarPlan}
+use Rattle.post_spec.specs.Steps.{Event, moment, event_at}
+use Rattle.station_spec.specs.Blocks.{IsHearing}
+use Rattle.site_acts.specs.Serving.{Known}
+use Rattle.site_acts.specs.Telling.{Carries}
+use Rattle.site_acts.proofs.Carry.{carries_none}
+use Rattle.site_turns.specs.Hearing.{known_behind}
+use Rattle.car_spec.specs.Acting.{state}
+use Rattle.car_spec.specs.Codecs.{Codecs}
+use Rattle.car_spec.specs.Hearing.{hearing}
+use Rattle.car_spec.specs.Next.{IsQuiet}
+use Rattle.car_spec.specs.Report.{Report}
+use Rattle.car_spec.specs.Runs.{MayHear}
+use Rattle.car_spec.specs.States.{State, fresh}
+use Rattle.car_spec.specs.Steps.{Hears, Loses}
+use Rattle.car_spec.specs.Until.{until, untils}
+use Rattle.car_acts.specs.Driving.{InRun}
+use Rattle.car_acts.specs.Sound.{IsSound}
+use Rattle.car_acts.proofs.Runs.{unreported, still_unreported}
+use Rattle.car_acts.proofs.Sound.{heard_sound}
+use Rattle.car_turns.specs.Turns as turns
+
+-- a next hearing may come
+hearable : (c : Codecs) (plan : CarPlan) (k : Known) (s : State) (told : Option Report) (past : List Entry) → k.last ≡ false → k.heard < plan.turns → s.over ≡ false → IsQuiet plan s → (r : InRun c plan k s told past)
+    → MayHear plan past (state plan r.steps)
+hearable c plan k s told past goes_on left lives quiet r = record {
+  whole = subst (IsQuiet plan) r.state_is quiet;
+  lives = sym (ap (λ (t : State). t.over) r.state_is) ∙ lives;
+  goes_on = r.last_is ∙ goes_on;
+  turns_left = subst (λ (n : ℕ). n < plan.turns) (sym r.heard_is) left;
+}
+
+pub heard_run : (c : Codecs) (plan : CarPlan) (k : Known) (s : State) (told : Option Report) (past : List Entry) (h : Heard) (bytes : List ℕ) (wait : ℕ) → k.last ≡ false → k.heard < plan.turns → s.over ≡ false → IsQuiet plan s
+    → IsOfPosts 1 h.what → IsHearing h bytes → wait ≡ until plan s → InRun c plan k s told past
+    → InRun c plan (known_behind k h bytes wait) (hearing (max k.clock h.at) (event_at 1 h.what bytes) s) told (entry.Heard h bytes ∷ past)
+heard_run c plan k s told past h bytes wait goes_on left lives quiet of is waits r =
+    let at = max (moment past) h.at in
+    let event = event_at 1 h.what bytes in
+    let none = unreported s.over told r.steps past lives r.report_is in
+    record {
+      steps = Hears at event ∷ r.steps;
+      run = (
+        past,
+        r.run,
+        hearable c plan k s told past goes_on left lives quiet r,
+        record {
+          heard = h;
+          bytes = bytes;
+          of_car = of;
+          within = is;
+          at_is = refl;
+          event_is = refl;
+          past_is = refl;
+        },
+      );
+      state_is = ap (λ (m : ℕ). hearing (max m h.at) event s) (sym r.clock_is) ∙ ap (hearing at event) r.state_is;
+      report_is = still_unreported s.over told (Hears at event ∷ r.steps) (entry.Heard h bytes ∷ past) lives none;
+      newest_is = refl;
+      clock_is = ap (λ (m : ℕ). max m h.at) r.clock_is;
+      heard_is = ap (λ (n : ℕ). n + 1) r.heard_is;
+      last_is = refl;
+      untils_are = ap (λ (t : State). until plan t ∷ untils plan r.steps) (sym r.state_is) ∙ ap (λ (n : ℕ). n ∷ untils plan r.steps) (sym waits) ∙ ap (λ (us : List ℕ). wait ∷ us) r.untils_are;
+    }
+
+-- behind a lost hearing
+abbrev pub known_lost : Known → ℕ → Known
+known_lost k wait = record {
+  newest_hearing = Some entry.Lost;
+  clock = k.clock;
+  heard = k.heard + 1;
+  last = true;
+  untils = wait ∷ k.untils;
+}
+
+pub lost_run : (c : Codecs) (plan : CarPlan) (k : Known) (s : State) (told : Option Report) (past : List Entry) (wait : ℕ) → k.last ≡ false → k.heard < plan.turns → s.over ≡ false → IsQuiet plan s → wait ≡ until plan s → InRun c plan k s told past
+    → InRun c plan (known_lost k wait) s told (entry.Lost ∷ past)
+lost_run c plan k s told past wait goes_on left lives quiet waits r = record {
+  steps = Loses ∷ r.steps;
+  run = (past, r.run, hearable c plan k s told past goes_on left lives quiet r, refl);
+  state_is = r.state_is;
+  report_is = still_unreported s.over told (Loses ∷ r.steps) (entry.Lost ∷ past) lives (unreported s.over told r.steps past lives r.report_is);
+  newest_is = refl;
+  clock_is = r.clock_is;
+  heard_is = ap (λ (n : ℕ). n + 1) r.heard_is;
+  last_is = refl;
+  untils_are = ap (λ (t : State). until plan t ∷ untils plan r.steps) (sym r.state_is) ∙ ap (λ (n : ℕ). n ∷ untils plan r.steps) (sym waits) ∙ ap (λ (us : List ℕ). wait ∷ us) r.untils_are;
+}
+
+-- what was heard next, once the car knows it
+pub hears_run : (a : Option (List Entry)) (c : Codecs) (plan : CarPlan) (k : Known) (s new : State) (told later : Option Report) (h : Heard) (bytes : List ℕ) (now wait : ℕ) → k.last ≡ false → k.heard < plan.turns → s.over ≡ false → IsQuiet plan s
+    → IsOfPosts 1 h.what → IsHearing h bytes → wait ≡ until plan s → max k.clock h.at ≡ now → new ≡ hearing now (event_at 1 h.what bytes) s → later ≡ told
+    → Carries a a (turns.Hears c plan k h bytes s told) (InRun c plan (known_behind k h bytes wait) new later)
+hears_run a c plan k s new told later h bytes now wait goes_on left lives quiet of is waits clock new_is later_is =
+    carries_none a (turns.Hears c plan k h bytes s told) (InRun c plan (known_behind k h bytes wait) new later)
+    (λ past n.
+    let after = heard_run c plan k s told n.earlier h bytes wait goes_on left lives quiet of is waits n.run in
+    let there = subst (λ (p : List Entry). InRun c plan (known_behind k h bytes wait) (hearing (max k.clock h.at) (event_at 1 h.what bytes) s) told p) (sym n.past_is) after in
+    let known_then : InRun c plan (known_behind k h bytes wait) new told past = subst (λ (t : State). InRun c plan (known_behind k h bytes wait) t told past) (ap (λ (m : ℕ). hearing m (event_at 1 h.what bytes) s) clock ∙ sym new_is) there in
+    subst (λ (o : Option Report). InRun c plan (known_behind k h bytes wait) new o past) (sym later_is) known_then)
+
+-- before anything was heard
+pub begins : (c : Codecs) (plan : CarPlan) (s : State) (told : Option Report) (past : List Entry) → s ≡ fresh → told ≡ None → past ≡ []
+    → InRun c plan (record { newest_hearing = None; clock = 0; heard = 0; last = false; untils = [] }) s told past
+begins c plan s told past fresh_is none e =
+    let k : Known = record { newest_hearing = None; clock = 0; heard = 0; last = false; untils = [] } in
+    let first : InRun c plan k fresh None [] = record {
+      steps = [];
+      run = refl;
+      state_is = refl;
+      report_is = (refl, refl);
+      newest_is = refl;
+      clock_is = refl;
+      heard_is = refl;
+      last_is = refl;
+      untils_are = refl;
+    } in
+    subst (λ (p : List Entry). InRun c plan k s told p) (sym e) (subst (λ (o : Option Report). InRun c plan k s o []) (sym none) (subst (λ (t : State). InRun c plan k t None []) (sym fresh_is) first))
+
+-- by the same plan
+pub same_plan : (a b : Option (List Entry)) (c : Codecs) (p q : CarPlan) (k : Known) (s t : State) (told later : Option Report) → p ≡ q → Carries a b (InRun c p k s told) (InRun c p k t later) → Carries a b (InRun c q k s told) (InRun c q k t later)
+same_plan a b c p q k s t told later e h = subst (λ (x : CarPlan). Carries a b (InRun c x k s told) (InRun c x k t later)) e h
+
+-- a car that heard it stays sound
+pub heard_so : (plan : CarPlan) (s new : State) (now : ℕ) (event : Event) → s.over ≡ false → IsSound plan s → new ≡ hearing now event s → IsSound plan new
+heard_so plan s new now event lives h e = subst (IsSound plan) (sym e) (heard_sound plan s now event lives h)
