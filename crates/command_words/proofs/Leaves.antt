@@ -10,7 +10,7 @@ use Rattle.clap.specs.declared.error.kind.ErrorKind.TheVariants.{MissingRequired
 use Rattle.clap.proofs.SimpleLemmas.{is_false}
 use Rattle.clap.proofs.OnLiterals.{clap_on_literals}
 use Rattle.command_words.specs.Command.{is_plain}
-use Rattle.command_words.specs.Grammar.{given, on_dialect, program, replay_shape, station_shape}
+use Rattle.command_words.specs.Grammar.{given, on_dialect, plan_shape, program, replay_shape}
 
 -- a word that is read as no option
 pub record IsNoOption (word : Text) : Type 0 where
@@ -36,21 +36,20 @@ rows_below s words = rows_after (built_in s).rules [] words
 
 -- ---- a command with one value
 
-pub one_passes : (v : Text) → IsNoOption v → fault_below station_shape (v ∷ []) ≡ []
-unfolding clap_on_literals
-one_passes v h = rw (h.no_dashes, h.not_long, h.not_short) refl
+pub record TakesOne (s : Shape) (id : Text) : Type 0 where
+  pub passes : (v : Text) → IsNoOption v → fault_below s (v ∷ []) ≡ []
+  pub rows : (v : Text) → IsNoOption v → rows_below s (v ∷ []) ≡ given id v ∷ []
+  pub none : fault_below s [] ≡ MissingRequiredArgument ∷ []
+  pub more : (v w : Text) (rest : List Text) → IsNoOption v → IsNoOption w → fault_below s (v ∷ w ∷ rest) ≡ UnknownArgument ∷ []
 
-pub one_row : (v : Text) → IsNoOption v → rows_below station_shape (v ∷ []) ≡ given (codes "PLAN") v ∷ []
+pub takes_plan : (name : Text) → TakesOne (plan_shape name) (codes "PLAN")
 unfolding clap_on_literals
-one_row v h = rw (h.no_dashes, h.not_long, h.not_short) refl
-
-pub one_none : fault_below station_shape [] ≡ MissingRequiredArgument ∷ []
-unfolding clap_on_literals
-one_none = refl
-
-pub one_more : (v w : Text) (rest : List Text) → IsNoOption v → IsNoOption w → fault_below station_shape (v ∷ w ∷ rest) ≡ UnknownArgument ∷ []
-unfolding clap_on_literals
-one_more v w rest h k = rw (h.no_dashes, h.not_long, h.not_short, k.no_dashes, k.not_long, k.not_short) refl
+takes_plan name = record {
+  passes = λ v h. rw (h.no_dashes, h.not_long, h.not_short) refl;
+  rows = λ v h. rw (h.no_dashes, h.not_long, h.not_short) refl;
+  none = refl;
+  more = λ v w rest h k. rw (h.no_dashes, h.not_long, h.not_short, k.no_dashes, k.not_long, k.not_short) refl;
+}
 
 -- ---- a command with two values
 

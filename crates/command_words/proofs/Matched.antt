@@ -10,8 +10,8 @@ use Rattle.clap.specs.Faults.{fault_of}
 use Rattle.clap.proofs.WalkLemmas.{both}
 use Rattle.command_words.specs.Command.{is_plain}
 use Rattle.command_words.specs.Grammar.{IsMatched, IsUnmatched, IsWithOne, IsWithTwo, program}
-use Rattle.command_words.proofs.Leaves.{TakesTwo, no_option, one_more, one_none, one_passes, one_row, takes_dialect, takes_files}
-use Rattle.command_words.proofs.Entered.{Named, decode, encode, enters_fault, enters_rows, name_of, no_word, other_word, replay, shape_of, station}
+use Rattle.command_words.proofs.Leaves.{TakesOne, TakesTwo, no_option, takes_dialect, takes_files, takes_plan}
+use Rattle.command_words.proofs.Entered.{Named, car, decode, encode, enters_fault, enters_rows, name_of, no_word, other_word, replay, shape_of, station}
 
 abbrev pub ArePlain : List Text → Type 0
 ArePlain words = list_all is_plain words ≡ true
@@ -33,24 +33,25 @@ Reads words = IsMatched words (subcommand_of program words) ⊎ IsFaulty (fault_
 
 -- ---- a command with one value
 
-passes_one : (v : Text) → ArePlain (v ∷ []) → fault_of program (name_of station ∷ v ∷ []) ≡ []
-passes_one v h = enters_fault station (v ∷ []) ∙ one_passes v (no_option v (both _ _ h).0)
+passes_one : (n : Named) (id : Text) → TakesOne (shape_of n) id → (v : Text) → ArePlain (v ∷ []) → fault_of program (name_of n ∷ v ∷ []) ≡ []
+passes_one n id takes v h = enters_fault n (v ∷ []) ∙ takes.passes v (no_option v (both _ _ h).0)
 
-finds_one : (v : Text) → ArePlain (v ∷ []) → IsWithOne (name_of station) (codes "PLAN") (name_of station ∷ v ∷ []) (subcommand_of program (name_of station ∷ v ∷ []))
-finds_one v h = record {
+finds_one : (n : Named) (id : Text) → TakesOne (shape_of n) id → (v : Text) → ArePlain (v ∷ [])
+    → IsWithOne (name_of n) id (name_of n ∷ v ∷ []) (subcommand_of program (name_of n ∷ v ∷ []))
+finds_one n id takes v h = record {
   value = v;
   words_are = refl;
-  met_is = enters_rows station (v ∷ []) ∙ ap (λ rows. Some (name_of station, rows)) (one_row v (no_option v (both _ _ h).0));
+  met_is = enters_rows n (v ∷ []) ∙ ap (λ rows. Some (name_of n, rows)) (takes.rows v (no_option v (both _ _ h).0));
 }
 
-reads_one : (rest : List Text) → ArePlain rest
-    → IsWithOne (name_of station) (codes "PLAN") (name_of station ∷ rest) (subcommand_of program (name_of station ∷ rest)) ⊎ IsFaulty (fault_of program (name_of station ∷ rest))
-reads_one [] h = inr (faulty _ _ (enters_fault station [] ∙ one_none) tt)
-reads_one (v ∷ []) h = inl (finds_one v h)
-reads_one (v ∷ w ∷ rest) h =
+reads_one : (n : Named) (id : Text) → TakesOne (shape_of n) id → (rest : List Text) → ArePlain rest
+    → IsWithOne (name_of n) id (name_of n ∷ rest) (subcommand_of program (name_of n ∷ rest)) ⊎ IsFaulty (fault_of program (name_of n ∷ rest))
+reads_one n id takes [] h = inr (faulty _ _ (enters_fault n [] ∙ takes.none) tt)
+reads_one n id takes (v ∷ []) h = inl (finds_one n id takes v h)
+reads_one n id takes (v ∷ w ∷ rest) h =
     let first = both _ _ h in
     let second = both _ _ first.1 in
-    inr (faulty _ _ (enters_fault station (v ∷ w ∷ rest) ∙ one_more v w rest (no_option v first.0) (no_option w second.0)) tt)
+    inr (faulty _ _ (enters_fault n (v ∷ w ∷ rest) ∙ takes.more v w rest (no_option v first.0) (no_option w second.0)) tt)
 
 -- ---- a command with two values
 
@@ -85,27 +86,29 @@ reads_two n first second takes (d ∷ v ∷ w ∷ rest) h =
 -- ---- any words
 
 reads_named : (n : Named) (rest : List Text) → ArePlain rest → Reads (name_of n ∷ rest)
-reads_named station rest h = ⊎_elim (λ found. inl (inl found)) (λ fault. inr fault) (reads_one rest h)
-reads_named replay rest h = ⊎_elim (λ found. inl (inr (inl found))) (λ fault. inr fault) (reads_two replay _ _ takes_files rest h)
-reads_named decode rest h = ⊎_elim (λ found. inl (inr (inr (inl found)))) (λ fault. inr fault) (reads_two decode _ _ (takes_dialect (name_of decode)) rest h)
-reads_named encode rest h = ⊎_elim (λ found. inl (inr (inr (inr found)))) (λ fault. inr fault) (reads_two encode _ _ (takes_dialect (name_of encode)) rest h)
+reads_named station rest h = ⊎_elim (λ found. inl (inl found)) (λ fault. inr fault) (reads_one station _ (takes_plan (name_of station)) rest h)
+reads_named car rest h = ⊎_elim (λ found. inl (inr (inl found))) (λ fault. inr fault) (reads_one car _ (takes_plan (name_of car)) rest h)
+reads_named replay rest h = ⊎_elim (λ found. inl (inr (inr (inl found)))) (λ fault. inr fault) (reads_two replay _ _ takes_files rest h)
+reads_named decode rest h = ⊎_elim (λ found. inl (inr (inr (inr (inl found))))) (λ fault. inr fault) (reads_two decode _ _ (takes_dialect (name_of decode)) rest h)
+reads_named encode rest h = ⊎_elim (λ found. inl (inr (inr (inr (inr found))))) (λ fault. inr fault) (reads_two encode _ _ (takes_dialect (name_of encode)) rest h)
 
 named : (n : Named) (w : Text) (rest : List Text) → ArePlain rest → bytes_eq (name_of n) w ≡ true → Reads (w ∷ rest)
 named n w rest h is =
     subst (λ (name : Text). Reads (name ∷ rest)) ((bytes_eq-Decides (name_of n) w).0 is) (reads_named n rest h)
 
-reads_first : (w : Text) (rest : List Text) → ArePlain (w ∷ rest) → (a r b c : Bool) → bytes_eq (name_of station) w ≡ a → bytes_eq (name_of replay) w ≡ r
-    → bytes_eq (name_of decode) w ≡ b → bytes_eq (name_of encode) w ≡ c → Reads (w ∷ rest)
-reads_first w rest h true r b c is is2 is3 is4 = named station w rest (both _ _ h).1 is
-reads_first w rest h false true b c is is2 is3 is4 = named replay w rest (both _ _ h).1 is2
-reads_first w rest h false false true c is is2 is3 is4 = named decode w rest (both _ _ h).1 is3
-reads_first w rest h false false false true is is2 is3 is4 = named encode w rest (both _ _ h).1 is4
-reads_first w rest h false false false false is is2 is3 is4 =
-    inr (faulty _ _ (other_word w rest (no_option w (both _ _ h).0) is is2 is3 is4) tt)
+reads_first : (w : Text) (rest : List Text) → ArePlain (w ∷ rest) → (a d r b c : Bool) → bytes_eq (name_of station) w ≡ a → bytes_eq (name_of car) w ≡ d
+    → bytes_eq (name_of replay) w ≡ r → bytes_eq (name_of decode) w ≡ b → bytes_eq (name_of encode) w ≡ c → Reads (w ∷ rest)
+reads_first w rest h true d r b c is is1 is2 is3 is4 = named station w rest (both _ _ h).1 is
+reads_first w rest h false true r b c is is1 is2 is3 is4 = named car w rest (both _ _ h).1 is1
+reads_first w rest h false false true b c is is1 is2 is3 is4 = named replay w rest (both _ _ h).1 is2
+reads_first w rest h false false false true c is is1 is2 is3 is4 = named decode w rest (both _ _ h).1 is3
+reads_first w rest h false false false false true is is1 is2 is3 is4 = named encode w rest (both _ _ h).1 is4
+reads_first w rest h false false false false false is is1 is2 is3 is4 =
+    inr (faulty _ _ (other_word w rest (no_option w (both _ _ h).0) is is1 is2 is3 is4) tt)
 
 pub reads : (words : List Text) → ArePlain words → Reads words
 reads [] h = inr (faulty _ _ no_word tt)
-reads (w ∷ rest) h = reads_first w rest h _ _ _ _ refl refl refl refl
+reads (w ∷ rest) h = reads_first w rest h _ _ _ _ _ refl refl refl refl refl
 
 -- words that pass have no fault
 no_fault : (words others : List Text) → words ≡ others → fault_of program others ≡ [] → IsFaulty (fault_of program words) → ⊥
@@ -117,7 +120,8 @@ values_plain words name rest e h = (both _ _ (subst ArePlain e h)).1
 -- where there is a fault, the words are no command with the values that it needs
 pub unmatched : (words : List Text) → ArePlain words → IsFaulty (fault_of program words) → IsUnmatched words
 unmatched words h fault = record {
-  not_station = λ v e. no_fault words _ e (passes_one v (values_plain words (name_of station) _ e h)) fault;
+  not_station = λ v e. no_fault words _ e (passes_one station _ (takes_plan (name_of station)) v (values_plain words (name_of station) _ e h)) fault;
+  not_car = λ v e. no_fault words _ e (passes_one car _ (takes_plan (name_of car)) v (values_plain words (name_of car) _ e h)) fault;
   not_replay = λ d v e. no_fault words _ e (passes_two replay _ _ takes_files d v (values_plain words (name_of replay) _ e h)) fault;
   not_decode = λ d v e. no_fault words _ e (passes_two decode _ _ (takes_dialect (name_of decode)) d v (values_plain words (name_of decode) _ e h)) fault;
   not_encode = λ d v e. no_fault words _ e (passes_two encode _ _ (takes_dialect (name_of encode)) d v (values_plain words (name_of encode) _ e h)) fault;

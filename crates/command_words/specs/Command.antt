@@ -4,7 +4,7 @@ use Rattle.std.specs.Str.{bytes_eq}
 use Rattle.message_dialects.specs.declared.dialect.MessageDialect.{MessageDialect}
 use Rattle.message_dialects.specs.declared.dialect.MessageDialect.TheVariants.{App, Iso, Din}
 use Rattle.command_words.specs.declared.reading.Command.{Command}
-use Rattle.command_words.specs.declared.reading.Command.TheVariants.{Station, Replay, Decode, Encode}
+use Rattle.command_words.specs.declared.reading.Command.TheVariants.{Station, Car, Replay, Decode, Encode}
 use Rattle.command_words.specs.declared.reading.WordsFault.{WordsFault}
 use Rattle.command_words.specs.declared.reading.WordsFault.TheVariants.{NoCommand, Memory}
 
@@ -32,6 +32,11 @@ pub record IsStation (words : List (List ℕ)) (plan : List ℕ) : Type 0 where
   pub words_are : words ≡ codes "station" ∷ plan ∷ []
   pub plain : is_plain plan ≡ true
 
+-- `car PLAN`: drives a car by the plan in a file
+pub record IsCar (words : List (List ℕ)) (plan : List ℕ) : Type 0 where
+  pub words_are : words ≡ codes "car" ∷ plan ∷ []
+  pub plain : is_plain plan ≡ true
+
 -- `replay PLAN TRACE`: runs the posts of the plan in a file over the hearings of the trace in another
 pub record IsReplay (words : List (List ℕ)) (plan trace : List ℕ) : Type 0 where
   pub words_are : words ≡ codes "replay" ∷ plan ∷ trace ∷ []
@@ -54,6 +59,7 @@ IsEncode words dialect text = IsApplied (codes "encode") words dialect text
 -- the words are this command
 abbrev pub IsCommand : List (List ℕ) → Command → Type 0
 IsCommand words (Station plan) = IsStation words plan.now
+IsCommand words (Car plan) = IsCar words plan.now
 IsCommand words (Replay plan trace) = IsReplay words plan.now trace.now
 IsCommand words (Decode dialect hex) = IsDecode words dialect hex.now
 IsCommand words (Encode dialect text) = IsEncode words dialect text.now
@@ -61,6 +67,7 @@ IsCommand words (Encode dialect text) = IsEncode words dialect text.now
 -- the words are none
 pub record IsNoCommand (words : List (List ℕ)) : Type 0 where
   pub not_station : (plan : List ℕ) → IsStation words plan → ⊥
+  pub not_car : (plan : List ℕ) → IsCar words plan → ⊥
   pub not_replay : (plan trace : List ℕ) → IsReplay words plan trace → ⊥
   pub not_decode : (dialect : MessageDialect) (hex : List ℕ) → IsDecode words dialect hex → ⊥
   pub not_encode : (dialect : MessageDialect) (text : List ℕ) → IsEncode words dialect text → ⊥

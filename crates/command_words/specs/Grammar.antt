@@ -8,7 +8,7 @@ use Rattle.clap.specs.declared.parser.matches.ValueSource.TheVariants.{CommandLi
 use Rattle.message_dialects.specs.declared.dialect.MessageDialect.{MessageDialect}
 use Rattle.command_words.specs.Command.{dialect_word, dialect_named}
 use Rattle.command_words.specs.declared.reading.Command.{Command}
-use Rattle.command_words.specs.declared.reading.Command.TheVariants.{Station, Replay, Decode, Encode}
+use Rattle.command_words.specs.declared.reading.Command.TheVariants.{Station, Car, Replay, Decode, Encode}
 
 -- a value that a command needs
 abbrev pub needed : Text → Rule
@@ -22,8 +22,9 @@ with_one name id = record (new_shape name) { rules = needed id ∷ [] }
 abbrev pub with_two : Text → Text → Text → Shape
 with_two name first second = record (new_shape name) { rules = needed first ∷ needed second ∷ [] }
 
-abbrev pub station_shape : Shape
-station_shape = with_one (codes "station") (codes "PLAN")
+-- a command with a plan
+abbrev pub plan_shape : Text → Shape
+plan_shape name = with_one name (codes "PLAN")
 
 abbrev pub replay_shape : Shape
 replay_shape = with_two (codes "replay") (codes "PLAN") (codes "TRACE")
@@ -42,7 +43,7 @@ program = record {
     subcommand_required = true;
     is_leaf = false;
   };
-  subs = station_shape ∷ replay_shape ∷ on_dialect (codes "decode") ∷ on_dialect (codes "encode") ∷ [];
+  subs = plan_shape (codes "station") ∷ plan_shape (codes "car") ∷ replay_shape ∷ on_dialect (codes "decode") ∷ on_dialect (codes "encode") ∷ [];
 }
 
 -- one value that was given
@@ -62,19 +63,24 @@ pub record IsWithTwo (name first second : Text) (words : List Text) (met : Optio
   pub words_are : words ≡ name ∷ one ∷ other ∷ []
   pub met_is : met ≡ Some (name, given first one ∷ given second other ∷ [])
 
+abbrev pub IsWithPlan : Text → List Text → Option (Text × List Row) → Type 0
+IsWithPlan name words met = IsWithOne name (codes "PLAN") words met
+
 abbrev pub IsOnDialect : Text → List Text → Option (Text × List Row) → Type 0
 IsOnDialect name words met = IsWithTwo name (codes "DIALECT") (codes "VALUE") words met
 
 -- the words are a command and the values that it needs, and these are found
 abbrev pub IsMatched : List Text → Option (Text × List Row) → Type 0
 IsMatched words met =
-    IsWithOne (codes "station") (codes "PLAN") words met
+    IsWithPlan (codes "station") words met
+    ⊎ (IsWithPlan (codes "car") words met
     ⊎ (IsWithTwo (codes "replay") (codes "PLAN") (codes "TRACE") words met
-    ⊎ (IsOnDialect (codes "decode") words met ⊎ IsOnDialect (codes "encode") words met))
+    ⊎ (IsOnDialect (codes "decode") words met ⊎ IsOnDialect (codes "encode") words met)))
 
 -- the words are no command with the values that it needs
 pub record IsUnmatched (words : List Text) : Type 0 where
   pub not_station : (plan : Text) → words ≡ codes "station" ∷ plan ∷ [] → ⊥
+  pub not_car : (plan : Text) → words ≡ codes "car" ∷ plan ∷ [] → ⊥
   pub not_replay : (plan trace : Text) → words ≡ codes "replay" ∷ plan ∷ trace ∷ [] → ⊥
   pub not_decode : (dialect value : Text) → words ≡ codes "decode" ∷ dialect ∷ value ∷ [] → ⊥
   pub not_encode : (dialect value : Text) → words ≡ codes "encode" ∷ dialect ∷ value ∷ [] → ⊥
@@ -84,6 +90,7 @@ pub record IsUnmatched (words : List Text) : Type 0 where
 -- the words of a command
 abbrev pub words_of : Command → List Text
 words_of (Station plan) = codes "station" ∷ plan.now ∷ []
+words_of (Car plan) = codes "car" ∷ plan.now ∷ []
 words_of (Replay plan trace) = codes "replay" ∷ plan.now ∷ trace.now ∷ []
 words_of (Decode dialect hex) = codes "decode" ∷ dialect_word dialect ∷ hex.now ∷ []
 words_of (Encode dialect text) = codes "encode" ∷ dialect_word dialect ∷ text.now ∷ []
@@ -103,10 +110,15 @@ given_of rows =
 abbrev pub words_with : Text → MessageDialect × Text → List Text
 words_with name pair = name ∷ dialect_word pair.0 ∷ pair.1 ∷ []
 
+-- the words of a command with a plan that was given
+abbrev pub words_by : Text → List Row → Option (List Text)
+words_by name rows = option_map (λ plan. name ∷ plan ∷ []) (first_of (codes "PLAN") rows)
+
 -- the words of the command that a subcommand and its values are
 abbrev pub told_of : Text → List Row → Option (List Text)
 told_of name rows =
-    if bytes_eq name (codes "station") then option_map (λ plan. codes "station" ∷ plan ∷ []) (first_of (codes "PLAN") rows)
+    if bytes_eq name (codes "station") then words_by (codes "station") rows
+    else if bytes_eq name (codes "car") then words_by (codes "car") rows
     else if bytes_eq name (codes "replay") then option_map (λ files. codes "replay" ∷ files.0 ∷ files.1 ∷ []) (files_of rows)
     else if bytes_eq name (codes "decode") then option_map (words_with (codes "decode")) (given_of rows)
     else if bytes_eq name (codes "encode") then option_map (words_with (codes "encode")) (given_of rows)

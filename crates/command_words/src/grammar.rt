@@ -6,7 +6,7 @@ ghost use Rattle.clap.specs.Words.{app_of, kind_of, shape_of, subcommand_rows_of
 ghost use Rattle.clap.specs.declared.builder.command.Command.TheViews.{out-Command};
 ghost use Rattle.clap.specs.declared.error.kind.ErrorKind.TheVariants.{OutOfMemory};
 ghost use Rattle.command_words.specs.Command.{is_plain};
-ghost use Rattle.command_words.specs.Grammar.{IsMatched, IsUnmatched, station_shape, program, with_two};
+ghost use Rattle.command_words.specs.Grammar.{IsMatched, IsUnmatched, plan_shape, program, with_two};
 
 use clap::{Arg, ArgMatches, Command, Error};
 use std::alloc::{AllocError, Global};
@@ -26,7 +26,8 @@ pub(crate) fn matches_of<'a>(alloc: Global, words: &'a [String]) -> Result<ArgMa
 fn program<'a>(alloc: Global) -> Result<Command<'a>, AllocError>
     ensures { IfOk result (λ made. app_of made ≡ program) }
 {
-    let station = station(alloc)?;
+    let station = with_plan(alloc, "station")?;
+    let car = with_plan(alloc, "car")?;
     let replay = with_two(alloc, "replay", "PLAN", "TRACE")?;
     let decode = with_two(alloc, "decode", "DIALECT", "VALUE")?;
     let encode = with_two(alloc, "encode", "DIALECT", "VALUE")?;
@@ -36,18 +37,19 @@ fn program<'a>(alloc: Global) -> Result<Command<'a>, AllocError>
         .disable_help_subcommand(true)
         .subcommand_required(true)
         .subcommand(station)?
+        .subcommand(car)?
         .subcommand(replay)?
         .subcommand(decode)?
         .subcommand(encode)
 }
 
-/// The command `station` with its plan.
-fn station<'a>(alloc: Global) -> Result<Command<'a>, AllocError>
-    ensures shape { IfOk result (λ made. shape_of made ≡ station_shape) }
+/// A command with a plan.
+fn with_plan<'a>(alloc: Global, name: &'a str) -> Result<Command<'a>, AllocError>
+    ensures shape { IfOk result (λ made. shape_of made ≡ plan_shape name.entry.now) }
     ensures local { IfOk result (λ made. (out-Command made).has_globals ≡ false) }
 {
     let plan = Arg::new(alloc, "PLAN").required(true);
-    Command::new(alloc, "station").arg(plan)
+    Command::new(alloc, name).arg(plan)
 }
 
 /// A command with two values.

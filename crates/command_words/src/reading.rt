@@ -20,6 +20,10 @@ pub enum Command<'a> {
     Station {
         plan: &'a str,
     },
+    /// Drives a car by the plan in a file.
+    Car {
+        plan: &'a str,
+    },
     /// Runs the posts of the plan in a file over the hearings of the trace in another.
     Replay {
         plan: &'a str,
@@ -69,6 +73,7 @@ fn command_of<'a>(matches: &ArgMatches<'a>) -> Option<Command<'a>>
     let (name, values) = matches.subcommand()?;
     match name {
         "station" => plan(values).map(|plan| Command::Station { plan }),
+        "car" => plan(values).map(|plan| Command::Car { plan }),
         "replay" => files(values).map(|(plan, trace)| Command::Replay { plan, trace }),
         "decode" => given(values).map(|(dialect, hex)| Command::Decode { dialect, hex }),
         "encode" => given(values).map(|(dialect, text)| Command::Encode { dialect, text }),
