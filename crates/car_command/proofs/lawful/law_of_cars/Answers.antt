@@ -1,0 +1,10 @@
+use Rattle.car_command.proofs.Lawful.{ran}
+use Rattle.car_command.proofs.lawful.law_of_cars.Goals as goal
+
+pub returns : goal.returns
+returns g c = ran _ (record {
+  by_words = c.closes_by_words.ensures;
+  silent = c.ended_cars_are_silent.ensures;
+  live = c.contactors_are_read.ensures;
+  open = c.runs_end_open.ensures;
+})

@@ -1,0 +1,5 @@
+pub mod Ports
+pub mod Lines
+pub mod Lawful
+pub mod Driven
+pub mod Refused

@@ -1,0 +1,11 @@
+//! The command that drives a car by the plan in a file (own), with codecs of any kind.
+#![tactic(auto)]
+
+mod command;
+mod driving;
+mod lawful;
+mod lines;
+mod ports;
+
+pub use command::car;
+pub use lawful::law_of_cars;
