@@ -3,3 +3,4 @@ pub use Rattle.station_command.specs.Served
 pub mod HexText
 pub mod Runs
 pub mod Stations
+pub mod Cars

@@ -6,12 +6,16 @@ use Rattle.exi_documents.specs.declared.refusal.RefusalCause.{RefusalCause}
 use Rattle.codec_rules.specs.Negotiating.{Negotiates}
 use Rattle.codec_rules.specs.Codecs as rules
 use Rattle.post_spec.specs.Codecs.{Codecs, codecs}
+use Rattle.car_codec_rules.specs.Codecs as car_rules
+use Rattle.car_codec_rules.specs.Offering.{Offers}
+use Rattle.car_codec_rules.specs.Responding.{Responds}
+use Rattle.car_spec.specs.Codecs as cars
 use Rattle.message_dialects.specs.declared.dialect.MessageDialect.{MessageDialect}
 use Rattle.message_trees.specs.Texts.{IsPrinted, IsRefusedIn, IsScanned, IsUnscanned}
 use Rattle.command_status.specs.declared.status.Status.{Status}
 use Rattle.command_status.specs.declared.status.Status.TheVariants as status
 use Rattle.command_status.specs.FaultLines.{Tells, input_line}
-use Rattle.command_words.specs.Command.{IsReplay, IsStation}
+use Rattle.command_words.specs.Command.{IsCar, IsReplay, IsStation}
 use Rattle.charge_run.specs.HexText.{hex_fault, IsHexOf}
 use Rattle.hex.specs.Hex.{encode_lower}
 use Rattle.charge_run.specs.declared.fault.InputFault.{InputFault}
@@ -21,15 +25,26 @@ use Rattle.charge_run.specs.declared.fault.InputFault.TheVariants.{Place, Memory
 abbrev pub charge_codecs : Codecs
 charge_codecs = codecs Negotiates rules.Reads rules.Encodes
 
+-- those of its car
+abbrev pub car_codecs : cars.Codecs
+car_codecs = cars.codecs Offers Responds rules.Reads car_rules.Encodes
+
 abbrev pub IsSomeStation : List (List ℕ) → Type 0
 IsSomeStation words = (plan : List ℕ) × IsStation words plan
+
+abbrev pub IsSomeCar : List (List ℕ) → Type 0
+IsSomeCar words = (plan : List ℕ) × IsCar words plan
 
 abbrev pub IsSomeReplay : List (List ℕ) → Type 0
 IsSomeReplay words = (plan : List ℕ) × (trace : List ℕ) × IsReplay words plan trace
 
+-- the commands that use the wire
+abbrev pub UsesWire : List (List ℕ) → Type 0
+UsesWire words = IsSomeStation words ⊎ IsSomeCar words
+
 -- the commands that read files, and write a trace
 abbrev pub ReadsFiles : List (List ℕ) → Type 0
-ReadsFiles words = IsSomeStation words ⊎ IsSomeReplay words
+ReadsFiles words = UsesWire words ⊎ IsSomeReplay words
 
 -- ---- a line or a fault
 

@@ -3,6 +3,7 @@
 
 mod answer;
 mod decode;
+mod driving;
 mod encode;
 mod fault;
 mod hex_text;

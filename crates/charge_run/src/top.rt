@@ -3,15 +3,17 @@
 ghost use Rattle.std.specs.Prelude.{◌≡◌, ◌<◌, ◌⊎◌, ℕ, List};
 ghost use Rattle.message_dialects.specs.declared.dialect.MessageDialect.{MessageDialect as OfDialect};
 ghost use Rattle.message_trees.specs.Texts.{IsUnscanned};
-ghost use Rattle.command_words.specs.Command.{IsNoCommand, IsStation, IsReplay, IsDecode, IsEncode};
+ghost use Rattle.command_words.specs.Command.{IsNoCommand, IsStation, IsCar, IsReplay, IsDecode, IsEncode};
 ghost use Rattle.command_status.specs.FaultLines.{Tells, words_line};
 ghost use Rattle.station_command.specs.Served.{wire_told, sink_told, IsUnbegun};
 ghost use Rattle.replay_command.specs.Files.{files_told, TellsAlways};
 ghost use Rattle.replay_command.specs.Replays.{ReplayLeaves};
-ghost use Rattle.charge_run.specs.Runs.{charge_codecs, IsSomeStation, IsSomeReplay, ReadsFiles, Decodes, IsDecodeFault, Encodes};
+ghost use Rattle.charge_run.specs.Cars.{CarLeaves};
+ghost use Rattle.charge_run.specs.Runs.{charge_codecs, car_codecs, UsesWire, IsSomeReplay, ReadsFiles, Decodes, IsDecodeFault, Encodes};
 ghost use Rattle.charge_run.specs.Stations.{file_told, StationLeaves};
 
 use crate::decode::decode;
+use crate::driving::drive;
 use crate::encode::encode;
 use crate::replaying::replay_trace;
 use crate::serving::serve;
@@ -24,6 +26,9 @@ use std::alloc::Global;
 ///
 /// - `station PLAN` serves the posts of the plan in a file, and prints a line for each: the connections that began, the orders to close that
 ///   its charger took, and the causes by which its sessions ended. Its trace is written as it serves.
+/// - `car PLAN` drives a car through one session by the plan in a file, and prints `cycles N cause C`: the accepted charging replies, and the
+///   number of the cause that ended it, 0 without one. At cause 29 ` session HEX` follows, the identifier of the session to come back to. Its
+///   trace is written as it drives.
 /// - `replay PLAN TRACE` runs the posts of the plan in one file over the hearings of the trace in another, where calls fail by the trace's
 ///   marks, writes the whole trace anew, and prints `lines N ended over`, with `lost` or `turns` in place of `over`: how many lines that
 ///   trace has, and how the run ended.
@@ -37,6 +42,12 @@ use std::alloc::Global;
 /// by what ends its session, the watts stay within the limit, a car that conforms is served, and no post depends on another but by the watts that it
 /// is shown. The trace is the text of that past. Before the wire is started come `NoMemory`, `SourceFault` where the file can't be read, and `Plan`
 /// where it is no plan.
+///
+/// `car`: where the wire tells its past, and was lent with an empty one, that is a run of the car by the plan of the file, and the status is
+/// the one that the past has: `Done` where the car's session ended or Over was heard, `TurnsSpent` behind the plan's last turn, `WireFault`
+/// where a hearing was lost or the wire did not start. That past is lawful (`IsLawful` of `car_command`): the contactor is closed only behind
+/// the words that mandate it, a car that ended does nothing more, and at the end the contactor is ordered open. The trace is the text of that
+/// past. What comes before the wire is started is that of `station`.
 ///
 /// `replay`: `Done` for each of the three ends, and the trace is the text of a run of the site. Before that come `NoMemory`, `SourceFault`
 /// where a file can't be read, `Plan` where the first is no plan, and `Input` where the second is no trace at its posts. The wire stays as it
@@ -66,6 +77,12 @@ pub fn run<F: Source, K: Sink, J: Sink, W: Wire>(
         (wire_told (W.past wire.old) (W.untils wire.old) (W.started wire.old)) (wire_told (W.past wire.new) (W.untils wire.new) (W.started wire.new))
         (J.taken trace.old) (J.taken trace.new) (sink_told (K.taken out.old) (K.faults out.old)) (sink_told (K.taken out.new) (K.faults out.new)) }
 
+    // `car`: the past, the trace, the ports and the line are those of the plan in the file, or its fault is told.
+    ensures car { (name : List ℕ) → IsCar words.now name
+        → CarLeaves car_codecs result (file_told (F.holds files.old name) (F.left files.new) (F.faults files.old) (F.faults files.new))
+        (wire_told (W.past wire.old) (W.untils wire.old) (W.started wire.old)) (wire_told (W.past wire.new) (W.untils wire.new) (W.started wire.new))
+        (J.taken trace.old) (J.taken trace.new) (sink_told (K.taken out.old) (K.faults out.old)) (sink_told (K.taken out.new) (K.faults out.new)) }
+
     // `replay`: the trace is written anew as the plan and the trace in the files say, or their fault is told.
     ensures replay { (plan : List ℕ) (recorded : List ℕ) → IsReplay words.now plan recorded
         → ReplayLeaves charge_codecs (TellsAlways F.left) result
@@ -73,7 +90,7 @@ pub fn run<F: Source, K: Sink, J: Sink, W: Wire>(
         (sink_told (J.taken trace.old) (J.faults trace.old)) (sink_told (J.taken trace.new) (J.faults trace.new))
         (sink_told (K.taken out.old) (K.faults out.old)) (sink_told (K.taken out.new) (K.faults out.new)) }
 
-    // Only these two read files.
+    // Only these three read files.
     ensures plan { result ≡ Status.Plan → ReadsFiles words.now }
     ensures source { result ≡ Status.SourceFault → ReadsFiles words.now }
 
@@ -99,8 +116,8 @@ pub fn run<F: Source, K: Sink, J: Sink, W: Wire>(
     ensures unbegun { IsUnbegun result → (wire.new ≡ wire.old) × (trace.new ≡ trace.old) }
     ensures no_memory { result ≡ Status.NoMemory → (K.taken out.new ≡ K.taken out.old) × (K.faults out.new ≡ K.faults out.old) }
 
-    // Only `station` uses the wire, and only it and `replay` use files and the trace; no file changes.
-    ensures alone { (IsSomeStation words.now → ⊥) → wire.new ≡ wire.old }
+    // Only `station` and `car` use the wire, and only they and `replay` use files and the trace; no file changes.
+    ensures alone { (UsesWire words.now → ⊥) → wire.new ≡ wire.old }
     ensures apart { (ReadsFiles words.now → ⊥) → (files.new ≡ files.old) × (trace.new ≡ trace.old) }
     ensures holds { (other : List ℕ) → F.holds files.new other ≡ F.holds files.old other }
 
@@ -111,6 +128,7 @@ pub fn run<F: Source, K: Sink, J: Sink, W: Wire>(
 {
     match read_words(alloc, words) {
         Ok(Command::Station { plan }) => serve(alloc, plan, files, out, trace, wire),
+        Ok(Command::Car { plan }) => drive(alloc, plan, files, out, trace, wire),
         Ok(
             Command::Replay {
                 plan,
