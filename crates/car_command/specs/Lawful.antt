@@ -47,4 +47,4 @@ pub record IsLawful (c : Codecs) (plan : CarPlan) (past : List Entry) : Type 0 w
   pub closes : Closes due blocks past
   pub mandated : AreMandated plan steps
   pub silent : IsSilent blocks
-  pub open : closed past ≡ true → failed_open past ≡ true
+  pub ends_open : closed past ≡ true → failed_open past ≡ true

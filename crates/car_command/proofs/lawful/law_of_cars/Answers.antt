@@ -1,4 +1,4 @@
-use Rattle.car_command.proofs.Lawful.{ran}
+use Rattle.car_command.proofs.Laws.{ran}
 use Rattle.car_command.proofs.lawful.law_of_cars.Goals as goal
 
 pub returns : goal.returns
@@ -6,5 +6,5 @@ returns g c = ran _ (record {
   by_words = c.closes_by_words.ensures;
   silent = c.ended_cars_are_silent.ensures;
   live = c.contactors_are_read.ensures;
-  open = c.runs_end_open.ensures;
+  ends_open = c.runs_end_open.ensures;
 })

@@ -23,7 +23,7 @@ pub record AreLawful (c : Codecs) : Type 0 where
   pub by_words : RunsCloseByWords c
   pub silent : RunsStopAtTheEnd c
   pub live : RunsKeepLive c
-  pub open : RunsEndOpen c
+  pub ends_open : RunsEndOpen c
 
 -- ---- the orders to close
 
@@ -111,7 +111,7 @@ whole c laws plan past r = record {
   closes = r.closes;
   mandated = mandated c laws.by_words plan r.blocks r.steps r.run;
   silent = silent c laws.silent plan r.blocks r.steps r.run;
-  open = laws.open plan past r;
+  ends_open = laws.ends_open plan past r;
 }
 
 pub cut : (c : Codecs) → AreLawful c → (plan : CarPlan) (past : List Entry) → IsCutRun c plan past → IsLawful c plan past
@@ -125,7 +125,7 @@ cut c laws plan past r =
       closes = r.closes;
       mandated = mandated c laws.by_words plan r.blocks r.steps r.run;
       silent = silent c laws.silent plan r.blocks r.steps r.run;
-      open = closing (state plan r.steps).live r.blocks past r.closes
+      ends_open = closing (state plan r.steps).live r.blocks past r.closes
           (λ dead h. let x : true ≡ false = sym (closed_live r.blocks h) ∙ sym kept ∙ dead in cc);
     }
 
