@@ -1,11 +1,9 @@
 -- ISO 15118-2:2014, section 8.8.4, and IEC 61851-23: a lawful past of a car.
-use Rattle.std.specs.Prelude.{◌≡◌, Bool, true, false, List, [], ◌∷◌, ◌⊎◌}
+use Rattle.std.specs.Prelude.{◌≡◌, Bool, true, false, List, [], ◌∷◌}
 use Rattle.charge_world.specs.declared.entry.Entry.{Entry}
 use Rattle.charge_world.specs.declared.entry.Entry.TheVariants as entry
-use Rattle.charge_world.specs.declared.ports.Order.{Order}
 use Rattle.charge_world.specs.declared.ports.Order.TheVariants as order
 use Rattle.session_words.specs.declared.plan.CarPlan.{CarPlan}
-use Rattle.car_spec.specs.Acting.{state}
 use Rattle.car_spec.specs.Answered.{exchanges, may_close}
 use Rattle.car_spec.specs.Codecs.{Codecs}
 use Rattle.car_spec.specs.Runs.{IsRun, Closes}
