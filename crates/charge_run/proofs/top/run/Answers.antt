@@ -1,3 +1,4 @@
+use Rattle.std.proofs.Common.{inr}
 use Rattle.charge_run.proofs.Answered.{only_refused, only_unscanned, same_decoded, same_encoded}
 use Rattle.charge_run.proofs.WordLists.{one_value}
 use Rattle.charge_run.proofs.top.run.Goals as goal
@@ -21,3 +22,8 @@ returns-in-Ok-Encode-clause-encode g c dialect text is =
 pub returns-in-Ok-Encode-clause-encode_refused : goal.returns-in-Ok-Encode-clause-encode_refused
 returns-in-Ok-Encode-clause-encode_refused g c dialect text place is fault =
     only_unscanned dialect text place c.encode.result _ _ _ _ (returns-in-Ok-Encode-clause-encode g c dialect text is) fault
+
+pub returns-in-Ok-Replay-clause-apart : goal.returns-in-Ok-Replay-clause-apart
+returns-in-Ok-Replay-clause-apart g c =
+    let told = (rw c.in-Ok-Replay.field-0-is at c.in-Ok-Replay.ensures.command) in
+    λ none. absurd (none (inr (_, _, told)))
