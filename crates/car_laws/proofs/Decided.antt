@@ -1,11 +1,12 @@
 -- What holds of each thing that may be decided holds of what is decided: one eliminator for every law.
 use Rattle.std.proofs.Common.{◌≡◌, Bool, true, false, ◌&&◌, not, if◌then◌else◌, refl, ap, sym, subst}
 use Rattle.session_words.specs.declared.plan.CarPlan.{CarPlan}
-use Rattle.car_spec.specs.States.{Agenda, Part, Timing, Eventing, Wording, State, is_done}
-use Rattle.car_spec.specs.Deciding.{decide, timing, eventing, fronting, has_word, repeating, seeking, from_seeking, from_repeating, from_wording, from_eventing, from_timing, from_part, decided}
+use Rattle.car_spec.specs.States.{Agenda, Part, Unheard, Timing, Eventing, Wording, State, is_done}
+use Rattle.car_spec.specs.Deciding.{decide, timing, eventing, fronting, has_word, repeating, seeking, from_seeking, from_repeating, from_wording, from_nothing, from_eventing, from_timing, from_part, decided}
 
--- the words aren't reached yet
+-- the hearing's words aren't reached yet
 abbrev pub IsEarly : Part → Type 0
+IsEarly Unheard = ⊥
 IsEarly Timing = Unit {0}
 IsEarly Eventing = Unit {0}
 IsEarly Wording = ⊥
@@ -35,6 +36,9 @@ unless_word P plan s false parts p = repeating_by P plan s parts p
 wording_by : (P : State → Type 0) (plan : CarPlan) (s : State) → Parts P plan s → P s → P (from_wording plan s)
 wording_by P plan s parts p = decide_by P (fronting s.session s.live) Wording s _ _ refl parts.fronts (unless_word P plan s (has_word s.session) parts p)
 
+nothing_by : (P : State → Type 0) (plan : CarPlan) (s : State) → Parts P plan s → P s → P (from_nothing s)
+nothing_by P plan s parts p = decide_by P (fronting s.session s.live) Wording s s _ refl parts.fronts p
+
 eventing_by : (P : State → Type 0) (plan : CarPlan) (s : State) → IsEarly s.part → Parts P plan s → P s → P (from_eventing plan s)
 eventing_by P plan s early parts p = decide_by P (eventing plan s.event s) Wording s (from_wording plan s) _ refl (parts.events early) (wording_by P plan s parts p)
 
@@ -42,6 +46,7 @@ timing_by : (P : State → Type 0) (plan : CarPlan) (s : State) → IsEarly s.pa
 timing_by P plan s early parts p = decide_by P (timing plan s) Eventing s (from_eventing plan s) _ refl (parts.times early) (eventing_by P plan s early parts p)
 
 part_by : (P : State → Type 0) (plan : CarPlan) (part : Part) (s : State) → s.part ≡ part → Parts P plan s → P s → P (from_part plan part s)
+part_by P plan Unheard s e parts p = nothing_by P plan s parts p
 part_by P plan Timing s e parts p = timing_by P plan s (subst IsEarly (sym e) tt) parts p
 part_by P plan Eventing s e parts p = eventing_by P plan s (subst IsEarly (sym e) tt) parts p
 part_by P plan Wording s e parts p = wording_by P plan s parts p

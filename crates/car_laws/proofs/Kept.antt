@@ -16,7 +16,7 @@ use Rattle.car_rules.specs.Searching.{is_searching}
 use Rattle.post_spec.specs.Steps.{Event, Came, Bytes, Gone, Datagram, Plant, Clock, Over}
 use Rattle.car_spec.specs.Asked.{now, last_request, awaited}
 use Rattle.car_spec.specs.Steps.{Spoken, Offer, Asked, Step}
-use Rattle.car_spec.specs.States.{Part, Timing, Eventing, Wording, Session, State}
+use Rattle.car_spec.specs.States.{Part, Unheard, Timing, Eventing, Wording, Session, State}
 use Rattle.car_spec.specs.Due.{all_deadlines, is_due}
 use Rattle.car_spec.specs.Deciding.{ending_if, ending_in, greeting, calling, charging, eventing, fronting_by, fronting, asking, repeating, decided}
 use Rattle.car_spec.specs.Told.{stop, cycles}
@@ -69,6 +69,7 @@ IsFresh Clock stood session = Unit {0}
 IsFresh Over stood session = Unit {0}
 
 abbrev pub IsFreshIn : Part → Event → Bool → Option Session → Type 0
+IsFreshIn Unheard event stood session = Unit {0}
 IsFreshIn Timing event stood session = IsFresh event stood session
 IsFreshIn Eventing event stood session = IsFresh event stood session
 IsFreshIn Wording event stood session = Unit {0}
@@ -130,6 +131,7 @@ fits_repeating plan None at = tt
 fits_repeating plan (Some session) at = fits_again plan session at _ refl
 
 early_fresh : (part : Part) (event : Event) (stood : Bool) (session : Option Session) → IsEarly part → IsFreshIn part event stood session → IsFresh event stood session
+early_fresh Unheard event stood session e f = absurd e
 early_fresh Timing event stood session e f = f
 early_fresh Eventing event stood session e f = f
 early_fresh Wording event stood session e f = absurd e

@@ -14,7 +14,7 @@ use Rattle.post_spec.specs.Steps.{Event, Came, Bytes, Gone, Datagram, Plant, Clo
 use Rattle.car_spec.specs.Asked.{Sent, now, last_request, awaited}
 use Rattle.car_spec.specs.Codecs.{Codecs}
 use Rattle.car_spec.specs.Steps.{Spoken, Offer, Asked, Act, Seek, Dial, Give, Say, Step, Hears, Loses, Reads, Does, stop_heard}
-use Rattle.car_spec.specs.States.{Agenda, Part, Timing, Eventing, Wording, Session, State, first_of, first}
+use Rattle.car_spec.specs.States.{Agenda, Part, Unheard, Timing, Eventing, Wording, Session, State, first_of, first}
 use Rattle.car_spec.specs.States as states
 use Rattle.car_spec.specs.Deciding.{decided}
 use Rattle.car_spec.specs.Hearing.{session_heard}
@@ -46,6 +46,7 @@ unchosen_again None at u = u
 unchosen_again (Some session) at u = u
 
 fresh_again : (part : Part) (e : Event) (stood : Bool) (o : Option Session) (at : ℕ) → IsFreshIn part e stood o → IsFreshIn part e stood (option_map (awaiting at) o)
+fresh_again Unheard e stood o at f = tt
 fresh_again Timing (Came token) true o at f = tt
 fresh_again Timing (Came token) false o at f = unchosen_again o at f
 fresh_again Timing (Bytes bytes) stood o at f = tt

@@ -17,7 +17,7 @@ use Rattle.post_spec.specs.Steps.{Event, Came, Bytes, Gone, Datagram, Plant, Clo
 use Rattle.station_spec.specs.Deciding.{opening_if}
 use Rattle.car_spec.specs.Steps.{Spoken, Offer, Asked}
 use Rattle.car_spec.specs.Due.{all_deadlines, is_due}
-use Rattle.car_spec.specs.States.{Agenda, Part, Timing, Eventing, Wording, Session, State, nothing, is_done}
+use Rattle.car_spec.specs.States.{Agenda, Part, Unheard, Timing, Eventing, Wording, Session, State, nothing, is_done}
 
 -- the car ends by a cause: Open first, where the contactor is live
 abbrev pub ending_by : EndCause → Bool → Agenda
@@ -100,6 +100,10 @@ from_repeating plan s = decide (repeating plan s.session s.clock) Wording s (fro
 abbrev pub from_wording : CarPlan → State → State
 from_wording plan s = decide (fronting s.session s.live) Wording s (if has_word s.session then s else from_repeating plan s)
 
+-- of a car that heard nothing yet, the front of its stream alone is looked at
+abbrev pub from_nothing : State → State
+from_nothing s = decide (fronting s.session s.live) Wording s s
+
 abbrev pub from_eventing : CarPlan → State → State
 from_eventing plan s = decide (eventing plan s.event s) Wording s (from_wording plan s)
 
@@ -107,6 +111,7 @@ abbrev pub from_timing : CarPlan → State → State
 from_timing plan s = decide (timing plan s) Eventing s (from_eventing plan s)
 
 abbrev pub from_part : CarPlan → Part → State → State
+from_part plan Unheard s = from_nothing s
 from_part plan Timing s = from_timing plan s
 from_part plan Eventing s = from_eventing plan s
 from_part plan Wording s = from_wording plan s

@@ -17,8 +17,10 @@ pub record Agenda : Type 0 where
   pub ending : Option EndCause
   pub seeks : Bool
 
--- the parts of a hearing, in order: the deadlines, the event, and the words with what is due behind them
+-- Before the first hearing nothing is due; then the parts of a hearing, in order: the deadlines, the event, and the words with what is due
+-- behind them.
 pub data Part : Type 0 where
+  Unheard : Part
   Timing : Part
   Eventing : Part
   Wording : Part
@@ -57,7 +59,7 @@ fresh = record {
   search = first_search;
   event = Clock;
   stood = false;
-  part = Wording;
+  part = Unheard;
   agenda = nothing;
   over = false;
 }

@@ -166,7 +166,11 @@ stop_turns c plan so_far waited before s told past all lives w = record {
   over = tt;
 }
 
--- before anything was heard
+-- before anything was heard there is nothing to do
+pub fresh_quiet : (plan : CarPlan) → IsQuiet plan fresh
+fresh_quiet plan = record { none = refl; no_word = refl }
+
+-- and the first hearing may come
 pub waits_first : (c : Codecs) (plan : CarPlan) (so_far : SoFar) (waited : List ℕ) (s : State) (told : Option Report) (past : List Entry) → so_far ≡ record { moment = 0; hearing = 0 } → s ≡ fresh → told ≡ None → past ≡ []
     → Waits c plan so_far waited waited s told past
 waits_first c plan so_far waited s told past none fresh_is unreported_is e = record {
@@ -182,35 +186,3 @@ waits_first c plan so_far waited s told past none fresh_is unreported_is e = rec
 pub turn_by : (a b : Option (List Entry)) (c : Codecs) (p q : CarPlan) (so_far : SoFar) (waited before : List ℕ) (s : State) (told : Option Report) (Q : CarPlan → List Entry → Type 0) → p ≡ q
     → Carries a b (Waits c p so_far waited before s told) (Q p) → Carries a b (Waits c q so_far waited before s told) (Q q)
 turn_by a b c p q so_far waited before s told Q e h = subst (λ (x : CarPlan). Carries a b (Waits c x so_far waited before s told) (Q x)) e h
-
--- what is done between hearings
-pub waits_done : (a b : Option (List Entry)) (c : Codecs) (plan : CarPlan) (so_far : SoFar) (waited later before : List ℕ) (s new : State) (told told_later : Option Report) → ((k : Known) → Carries a b (InRun c plan k s told) (InRun c plan k new told_later))
-    → (IsSome b → later ≡ waited) → Carries a b (Waits c plan so_far waited before s told) (Waits c plan so_far later before new told_later)
-waits_done a None c plan so_far waited later before s new told told_later step same = tt
-waits_done None (Some past) c plan so_far waited later before s new told told_later step same =
-    absurd (step (record { newest_hearing = None; clock = 0; heard = 0; last = false; untils = [] }))
-waits_done (Some old) (Some past) c plan so_far waited later before s new told told_later step same = λ w. record {
-  known = w.known;
-  run = step w.known w.run;
-  clock_is = w.clock_is;
-  heard_is = w.heard_is;
-  goes_on = w.goes_on;
-  waited_are = same refl ∙ w.waited_are;
-}
-
-pub stop_cut : (c : Codecs) (plan : CarPlan) (so_far : SoFar) (waited before : List ℕ) (s : State) (told : Option Report) (past : List Entry) → Waits c plan so_far waited before s told past → Stops c plan ended.TraceFault waited before s told past
-stop_cut c plan so_far waited before s told past w = record { known = w.known; run = w.run; waited_are = w.waited_are; ended = tt; over = tt }
-
-pub stop_over : (c : Codecs) (plan : CarPlan) (so_far : SoFar) (waited before : List ℕ) (s : State) (told : Option Report) (past : List Entry) → s.over ≡ true → Waits c plan so_far waited before s told past → Stops c plan ended.Finished waited before s told past
-stop_over c plan so_far waited before s told past over w = record {
-  known = w.known;
-  run = w.run;
-  waited_are = w.waited_are;
-  ended = (w.run.last_is ∙ w.goes_on, ended_cause s.over told w.run.steps past over w.run.report_is);
-  over = over;
-}
-
-pub stops_by : (a b : Option (List Entry)) (c : Codecs) (p q : CarPlan) (how : Ended) (so_far : SoFar) (waited later before : List ℕ) (s t : State) (told told_later : Option Report) → p ≡ q
-    → Carries a b (Waits c p so_far waited before s told) (Stops c p how later before t told_later) → Carries a b (Waits c q so_far waited before s told) (Stops c q how later before t told_later)
-stops_by a b c p q how so_far waited later before s t told told_later e h =
-    subst (λ (x : CarPlan). Carries a b (Waits c x so_far waited before s told) (Stops c x how later before t told_later)) e h

@@ -51,7 +51,7 @@ fn take_in(driver: &mut Driver, now: u64, heard: &Heard, room: &[u8])
 }
 
 /// Does and reads all that is left before the next hearing.
-pub(crate) fn answer<C: CarCodec, W: Wire, J: Sink>(
+fn answer<C: CarCodec, W: Wire, J: Sink>(
     desk: &mut Desk<C>,
     driver: &mut Driver,
     hearing: u64,

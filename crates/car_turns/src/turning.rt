@@ -16,7 +16,7 @@ ghost use Rattle.car_turns.specs.Turns.{Waits, Stops, Turned, IsFinished, Closed
 
 use crate::closing::{close, close_unwritten};
 use crate::ending::{Ended, Last};
-use crate::hearing::{SoFar, answer, hear};
+use crate::hearing::{SoFar, hear};
 use car_acts::{Desk, Driver};
 use car_codec::CarCodec;
 use charge_world::{Sink, Wire};
@@ -106,38 +106,6 @@ fn take_turns<C: CarCodec, W: Wire, J: Sink>(
     Ok(Last::Turns)
 }
 
-/// Does what is due before anything is heard, as to look for a post, and then makes the turns.
-fn begin_turns<C: CarCodec, W: Wire, J: Sink>(
-    desk: &mut Desk<C>,
-    driver: &mut Driver,
-    so_far: &mut SoFar,
-    wire: &mut W,
-    trace: &mut J,
-) -> Result<Last, TraceFailed>
-    requires posts { W.posts wire.old ≡ 1 }
-    requires first { so_far.old.hearing ≡ 0 }
-    requires plan { IsPlan driver.old.plan }
-    requires sound { IsSound driver.old.plan driver.old.car }
-    ensures carried { (before : List ℕ) → Carries (W.past wire.old) (W.past wire.new)
-        (Waits (codecs C.offers C.responds C.reads C.encodes) driver.old.plan so_far.old (W.untils wire.old) before driver.old.car driver.old.report)
-        (Stops (codecs C.offers C.responds C.reads C.encodes) driver.old.plan (ended_so result) (W.untils wire.new) before driver.new.car driver.new.report) }
-    ensures traced { CarriesText (W.past wire.old) (W.past wire.new) (J.taken trace.old) (J.taken trace.new) (IsTraced so_far.old.hearing) (IsWrittenSo so_far.new.hearing result) }
-    ensures plan { driver.new.plan ≡ driver.old.plan }
-    ensures quiet { OnOk result (IsQuiet driver.old.plan driver.new.car) }
-    ensures writes { IsFault (J.faults trace.old) (J.faults trace.new) result }
-    ensures started { W.started wire.new ≡ W.started wire.old }
-    ensures posts { W.posts wire.new ≡ W.posts wire.old }
-    ensures faults { W.faults wire.old ≤ W.faults wire.new }
-    ensures lost { result ≡ Ok Last.Lost → W.faults wire.old < W.faults wire.new }
-{
-    answer(desk, driver, so_far.hearing, wire, trace)?;
-    if driver.car.is_over() {
-        Ok(Last::Finished)
-    } else {
-        take_turns(desk, driver, so_far, wire, trace)
-    }
-}
-
 /// How driving ended, by why no hearing follows and how the write of the closing order's line went.
 fn closed(last: Last, written: Result<(), TraceFailed>) -> Ended
     ensures ok { OnOk written (result ≡ ended_by last) }
@@ -203,7 +171,7 @@ fn drive_begun<C: CarCodec, W: Wire, J: Sink>(
         moment: 0,
         hearing: 0,
     };
-    let last = begin_turns(desk, driver, &mut so_far, wire, trace);
+    let last = take_turns(desk, driver, &mut so_far, wire, trace);
     finish(
         last,
         &driver.car,

@@ -23,12 +23,12 @@ use Rattle.car_rules.specs.Searching.{is_searching, next_request, dialed}
 use Rattle.car_rules.specs.Stages.{first_stage}
 use Rattle.car_spec.specs.Acting.{failing, dialing, giving, awaiting, saying, seeking, acted}
 use Rattle.car_spec.specs.Codecs.{Codecs, Judged, Chosen, Told, WrongSide, Refused}
-use Rattle.car_spec.specs.Deciding.{ending_by, asking, decide, fronting_by, fronting, has_word, repeating, from_seeking, from_repeating, from_wording, from_eventing, from_timing, from_part, decided, timing, eventing}
+use Rattle.car_spec.specs.Deciding.{ending_by, asking, decide, fronting_by, fronting, has_word, repeating, from_seeking, from_repeating, from_wording, from_nothing, from_eventing, from_timing, from_part, decided, timing, eventing}
 use Rattle.car_spec.specs.Deciding as deciding
 use Rattle.car_spec.specs.Due.{again_in, is_due}
 use Rattle.car_spec.specs.Judging.{Payload, payload_by, payload_in, wanted, passed, gone_on, waiting, moved, replied_by, replied, judged, judged_in, read}
 use Rattle.car_spec.specs.Next.{IsDone, IsSaid, MayAct}
-use Rattle.car_spec.specs.States.{Agenda, Part, Timing, Eventing, Wording, Session, State, nothing, first_of, first, is_none, is_done}
+use Rattle.car_spec.specs.States.{Agenda, Part, Unheard, Timing, Eventing, Wording, Session, State, nothing, first_of, first, is_none, is_done}
 use Rattle.car_spec.specs.States as states
 use Rattle.car_spec.specs.Steps.{Spoken, Act}
 use Rattle.evcc_machine.specs.Views.{unread_in}
@@ -310,6 +310,12 @@ wording_work plan s n o b r =
     (λ h. omega (arith, front_work plan s s.session o h, b, spare_least s.over (repeats None (is_due (again_in s.session) s.clock) + seeks false (is_due (next_request plan s.search) s.clock)) o))
     (unless_work plan s n (has_word s.session) o b r)
 
+nothing_work : (plan : CarPlan) (s : State) (n : ℕ) → s.over ≡ false → base plan s ≤ n → work plan s ≤ n → work plan (from_nothing s) ≤ n
+nothing_work plan s n o b r =
+    decide_work plan (fronting s.session s.live) Wording s s n _ refl
+    (λ h. omega (arith, front_work plan s s.session o h, b, spare_least s.over (repeats None (is_due (again_in s.session) s.clock) + seeks false (is_due (next_request plan s.search) s.clock)) o))
+    r
+
 eventing_work : (plan : CarPlan) (s : State) (n : ℕ) → s.over ≡ false → 5 + base plan s ≤ n → work plan s ≤ n → work plan (from_eventing plan s) ≤ n
 eventing_work plan s n o b r =
     decide_work plan (eventing plan s.event s) Wording s (from_wording plan s) n _ refl (λ h. omega (arith, placed_work plan s (eventing plan s.event s) Wording, b))
@@ -321,6 +327,7 @@ timing_work plan s n o b r =
     (eventing_work plan s n o (omega (arith, b)) r)
 
 part_work : (plan : CarPlan) (part : Part) (s : State) (n : ℕ) → s.over ≡ false → 6 * parts_left part + base plan s ≤ n → work plan s ≤ n → work plan (from_part plan part s) ≤ n
+part_work plan Unheard s n o b r = nothing_work plan s n o (omega (arith, b)) r
 part_work plan Timing s n o b r = timing_work plan s n o (omega (arith, b)) r
 part_work plan Eventing s n o b r = eventing_work plan s n o (omega (arith, b)) r
 part_work plan Wording s n o b r = wording_work plan s n o (omega (arith, b)) r

@@ -3,8 +3,8 @@ use Rattle.std.proofs.Common.{◌≡◌, ℕ, Bool, true, false, not, ◌&&◌, 
 use Rattle.session_words.specs.declared.plan.CarPlan.{CarPlan}
 use Rattle.v2gtp_frames.specs.declared.FrameFault.{FrameFault}
 use Rattle.v2gtp_frames.specs.Reading.{whole_at}
-use Rattle.car_spec.specs.States.{Agenda, Part, Timing, Eventing, Wording, Session, State, first, is_none, is_done}
-use Rattle.car_spec.specs.Deciding.{timing, eventing, fronting_by, fronting, has_word, repeating, seeking, decide, from_seeking, from_repeating, from_wording, from_eventing, from_timing, from_part, decided}
+use Rattle.car_spec.specs.States.{Agenda, Part, Unheard, Timing, Eventing, Wording, Session, State, first, is_none, is_done}
+use Rattle.car_spec.specs.Deciding.{timing, eventing, fronting_by, fronting, has_word, repeating, seeking, decide, from_seeking, from_repeating, from_wording, from_nothing, from_eventing, from_timing, from_part, decided}
 use Rattle.car_spec.specs.Judging.{payload_by, payload_in, wanted}
 use Rattle.car_spec.specs.Next.{IsQuiet}
 use Rattle.evcc_machine.specs.Resting.{IsReadOut}
@@ -53,6 +53,11 @@ wording_none plan s h =
     let done = done_if (fronting s.session s.live) Wording s rest (is_done (fronting s.session s.live)) refl h in
     record { same = part_same (fronting s.session s.live) Wording s rest (unless_word plan s (has_word s.session)) h; front = done }
 
+nothing_none : (s : State) → first (from_nothing s).agenda ≡ None → Left s (from_nothing s)
+nothing_none s h =
+    let done = done_if (fronting s.session s.live) Wording s s (is_done (fronting s.session s.live)) refl h in
+    record { same = part_same (fronting s.session s.live) Wording s s (λ n. refl) h; front = done }
+
 eventing_none : (plan : CarPlan) (s : State) → first (from_eventing plan s).agenda ≡ None → Left s (from_eventing plan s)
 eventing_none plan s h = part_none (eventing plan s.event s) Wording s (from_wording plan s) (wording_none plan s) h
 
@@ -60,6 +65,7 @@ timing_none : (plan : CarPlan) (s : State) → first (from_timing plan s).agenda
 timing_none plan s h = part_none (timing plan s) Eventing s (from_eventing plan s) (eventing_none plan s) h
 
 from_none : (plan : CarPlan) (part : Part) (s : State) → first (from_part plan part s).agenda ≡ None → Left s (from_part plan part s)
+from_none plan Unheard s h = nothing_none s h
 from_none plan Timing s h = timing_none plan s h
 from_none plan Eventing s h = eventing_none plan s h
 from_none plan Wording s h = wording_none plan s h

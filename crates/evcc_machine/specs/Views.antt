@@ -58,6 +58,7 @@ judged_of judged.WrongSide = codecs.WrongSide
 judged_of judged.Refused = codecs.Refused
 
 abbrev pub part_of : Part → states.Part
+part_of part.Unheard = states.Unheard
 part_of part.Timing = states.Timing
 part_of part.Eventing = states.Eventing
 part_of part.Wording = states.Wording

@@ -10,11 +10,12 @@ use Rattle.car_spec.specs.Deciding.{decided}
 use Rattle.car_spec.specs.Due.{again_in, is_due}
 use Rattle.car_spec.specs.Judging.{Payload, wanted, read}
 use Rattle.car_spec.specs.Next.{MayAct}
-use Rattle.car_spec.specs.States.{Agenda, Part, Timing, Eventing, Wording, State}
+use Rattle.car_spec.specs.States.{Agenda, Part, Unheard, Timing, Eventing, Wording, State}
 use Rattle.car_spec.specs.Steps.{Spoken, Act}
 use Rattle.evcc_machine.specs.Views.{unread_in}
 
 abbrev pub parts_left : Part → ℕ
+parts_left Unheard = 0
 parts_left Timing = 2
 parts_left Eventing = 1
 parts_left Wording = 0

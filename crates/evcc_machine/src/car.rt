@@ -20,9 +20,11 @@ use session_words::CarPlan;
 use std::alloc::Global;
 use std::marker::Model;
 
-/// The parts of a hearing, in order: the deadlines, the event, and the words with what is due behind them.
+/// Before the first hearing nothing is due; then the parts of a hearing, in order: the deadlines, the event, and the words with
+/// what is due behind them.
 #[derive(Clone, Copy, Debug, PartialEq, Eq)]
 pub(crate) enum Part {
+    Unheard,
     Timing,
     Eventing,
     Wording,
@@ -82,7 +84,7 @@ impl Car {
             event: CarEvent::Clock,
             piece,
             stood: false,
-            part: Part::Wording,
+            part: Part::Unheard,
             agenda: Agenda::nothing(),
             over: false,
         })

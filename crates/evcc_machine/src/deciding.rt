@@ -141,6 +141,16 @@ impl Car {
         }
     }
 
+    fn from_nothing(&mut self)
+        ensures { self.new ≡ deciding.from_nothing self.old }
+    {
+        let agenda = self.slot.fronting(self.live);
+        if !agenda.is_done() {
+            self.agenda = agenda;
+            self.part = Part::Wording;
+        }
+    }
+
     fn from_eventing(&mut self, plan: &CarPlan)
         ensures { self.new ≡ deciding.from_eventing plan.now self.old }
     {
@@ -171,6 +181,7 @@ impl Car {
     {
         if self.agenda.is_done() && !self.over {
             match self.part {
+                Part::Unheard => self.from_nothing(),
                 Part::Timing => self.from_timing(plan),
                 Part::Eventing => self.from_eventing(plan),
                 Part::Wording => self.from_wording(plan),
