@@ -1,6 +1,6 @@
 //! The frames of what a car says, made with its codecs in a room.
 
-ghost use Rattle.std.specs.Prelude.{◌≡◌, ◌≤◌, ◌+◌, ℕ, List, length, take, drop, Some};
+ghost use Rattle.std.specs.Prelude.{◌≡◌, ◌≤◌, ℕ, List, length, take, Some};
 ghost use Rattle.session_words.specs.Plans.{IsOfferOnce};
 ghost use Rattle.v2gtp_frames.specs.Frames.{frame};
 ghost use Rattle.car_codec.specs.Requests.{IsAsked};
@@ -15,17 +15,7 @@ use car_codec::CarCodec;
 use charge_world::Dialect;
 use evcc_machine::{Car, Spoken, Todo};
 use session_words::{CarPlan, Request};
-use v2gtp_frames::put_frame;
-
-/// Writes the frame of a payload that stands behind the header's place.
-#[tactic(auto, using(site_acts::proofs::Frames::framed))]
-fn put_header(room: &mut [u8], n: usize)
-    requires within { 8 + n ≤ length room.old }
-    requires small { n ≤ 1024 }
-    ensures { take (8 + n) room.new ≡ frame (take n (drop 8 room.old)) }
-{
-    room[..8].copy_from_slice(&put_frame(0x8001, n as u32));
-}
+use site_acts::put_header;
 
 /// Writes the frame of an offer to the front of a room, and answers its number of bytes.
 fn frame_offer<C: CarCodec>(codec: &mut C, dialects: &[Dialect], room: &mut [u8]) -> usize

@@ -3,7 +3,6 @@
 ghost use Rattle.std.specs.Prelude.{◌≡◌, ◌≤◌, length, take};
 ghost use Rattle.car_spec.specs.Codecs.{judged_word};
 ghost use Rattle.evcc_machine.specs.Views.{judged_of};
-ghost use Rattle.codec_rules.specs.Codecs.{Reads};
 ghost use Rattle.car_codec_rules.specs.Codecs.{Encodes, CanSpell};
 ghost use Rattle.car_codec_rules.specs.Profiles.{HasNoProfile};
 
@@ -14,6 +13,7 @@ use car_codec::{CarCodec, LawfulCarCodec, REQUEST_ROOM};
 use car_codec_rules::asked_requests;
 use car_spec::CarCoded;
 use charge_world::{Dialect, NoMemory};
+use codec_rules::read_word;
 use din_codec::DinTables;
 use evcc_machine::Judged;
 use exi_documents::MOST_ENTRIES;
@@ -49,17 +49,6 @@ impl CarCodecs {
         let din = DinTables::make(alloc)?;
         let table = Table::make(alloc, MOST_ENTRIES)?;
         Ok(CarCodecs { iso, din, table })
-    }
-
-    /// The word that a payload spells in a dialect; none where it spells no message.
-    fn read(&mut self, dialect: Dialect, payload: &[u8]) -> Option<Word>
-        requires { length payload.now ≤ 65536 }
-        ensures { Reads dialect payload.now result }
-    {
-        match dialect {
-            Dialect::Iso => iso::read(&self.iso, payload, &mut self.table),
-            Dialect::Din => din::read(&self.din, payload, &mut self.table),
-        }
     }
 
     /// Writes the encoding of a request to the front of the room, and answers its number of bytes.
@@ -119,7 +108,7 @@ impl CarCodec for CarCodecs {
     }
 
     fn judge(&mut self, dialect: Dialect, payload: &[u8]) -> Judged {
-        judged_as(self.read(dialect, payload))
+        judged_as(read_word(dialect, &self.iso, &self.din, payload, &mut self.table))
     }
 
     fn encode(&mut self, dialect: Dialect, request: &Request, room: &mut [u8]) -> u32 {

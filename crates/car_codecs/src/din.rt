@@ -1,31 +1,17 @@
-//! DIN SPEC 70121:2014, 9.2 and 9.3: payloads as words, and requests as payloads.
+//! DIN SPEC 70121:2014, 9.2 and 9.3: requests as payloads.
 
 ghost use Rattle.std.specs.Prelude.{◌≡◌, ◌≤◌, length, take};
 ghost use Rattle.exi_documents.specs.Values.{most_entries};
 ghost use Rattle.session_words.specs.declared.word.Word.TheVariants as words;
 ghost use Rattle.din_words.specs.Spellable.{CanSpell};
-ghost use Rattle.codec_rules.specs.Din.{Reads};
 ghost use Rattle.car_codec_rules.specs.Din.{Encodes};
 ghost use Rattle.car_codec_rules.specs.Profiles.{HasNoProfile};
 
 use crate::copies::word_of;
-use din_codec::{DinTables, read_din, write_din};
-use din_words::{of_word, to_word};
+use din_codec::{DinTables, write_din};
+use din_words::of_word;
 use exi_events::Table;
 use session_words::{Request, Word};
-
-/// The word that a payload spells; none where it spells no message. The table is emptied.
-pub(crate) fn read(tables: &DinTables, payload: &[u8], table: &mut Table) -> Option<Word>
-    requires payload { length payload.now ≤ 65536 }
-    requires cap { table.old.cap ≡ most_entries }
-    ensures cap { table.new.cap ≡ most_entries }
-    ensures read { Reads payload.now result }
-{
-    match read_din(tables, payload, table) {
-        Ok(message) => Some(to_word(&message)),
-        Err(_) => None,
-    }
-}
 
 /// Writes the encoding of a request to the front of a room, and answers its number of bytes. The table is emptied.
 pub(crate) fn write(

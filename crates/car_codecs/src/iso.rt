@@ -1,31 +1,17 @@
-//! ISO 15118-2:2014, section 8.3: payloads as words, and requests as payloads.
+//! ISO 15118-2:2014, section 8.3: requests as payloads.
 
 ghost use Rattle.std.specs.Prelude.{◌≡◌, ◌≤◌, length, take};
 ghost use Rattle.exi_documents.specs.Values.{most_entries};
 ghost use Rattle.session_words.specs.declared.word.Word.TheVariants as words;
 ghost use Rattle.iso_words.specs.Spellable.{CanSpell};
-ghost use Rattle.codec_rules.specs.Iso.{Reads};
 ghost use Rattle.car_codec_rules.specs.Iso.{Encodes};
 ghost use Rattle.car_codec_rules.specs.Profiles.{HasNoProfile};
 
 use crate::copies::word_of;
 use exi_events::Table;
-use iso_codec::{IsoTables, read_iso, write_iso};
-use iso_words::{of_word, to_word};
+use iso_codec::{IsoTables, write_iso};
+use iso_words::of_word;
 use session_words::{Request, Word};
-
-/// The word that a payload spells; none where it spells no message. The table is emptied.
-pub(crate) fn read(tables: &IsoTables, payload: &[u8], table: &mut Table) -> Option<Word>
-    requires payload { length payload.now ≤ 65536 }
-    requires cap { table.old.cap ≡ most_entries }
-    ensures cap { table.new.cap ≡ most_entries }
-    ensures read { Reads payload.now result }
-{
-    match read_iso(tables, payload, table) {
-        Ok(message) => Some(to_word(&message)),
-        Err(_) => None,
-    }
-}
 
 /// Writes the encoding of a request to the front of a room, and answers its number of bytes. The table is emptied.
 pub(crate) fn write(

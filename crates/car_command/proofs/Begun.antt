@@ -12,10 +12,3 @@ started_waits before then None earlier told Q h same k = tt
 started_waits before None (Some new) earlier told Q h same k = absurd k
 started_waits None (Some mid) (Some new) earlier told Q h same k = absurd h
 started_waits (Some old) (Some mid) (Some new) earlier told Q h same k = λ none. subst (λ (waits : List ℕ). Q waits new) (same refl) (k (h ∙ none))
-
--- what follows
-pub carries_more : (before after : Option (List Entry)) (P Q : List Entry → Type 0) → ((past : List Entry) → P past → Q past) → Carries before after IsNew P
-    → Carries before after IsNew Q
-carries_more before None P Q f k = tt
-carries_more None (Some new) P Q f k = absurd k
-carries_more (Some old) (Some new) P Q f k = λ none. f new (k none)

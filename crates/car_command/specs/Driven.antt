@@ -6,9 +6,9 @@ use Rattle.car_spec.specs.Codecs.{Codecs}
 use Rattle.car_spec.specs.Report.{Report}
 use Rattle.car_turns.specs.declared.ending.Ended.{Ended}
 use Rattle.car_turns.specs.Ending.{EndedAs, IsDriven, RanAs, TracedAs}
+use Rattle.car_core.specs.Lawful.{IsLawful}
 use Rattle.command_status.specs.declared.status.Status.{Status}
 use Rattle.station_command.specs.Served.{WireTold, SinkTold, IsUnstarted}
-use Rattle.car_command.specs.Lawful.{IsLawful}
 use Rattle.car_command.specs.Lines.{Concludes}
 use Rattle.car_command.specs.Ports.{ports_of}
 

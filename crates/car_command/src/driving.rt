@@ -7,7 +7,6 @@ ghost use Rattle.car_core.specs.Made.{IsMadeOf};
 ghost use Rattle.station_command.specs.Served.{wire_told, sink_told, IsBegun};
 ghost use Rattle.car_command.specs.Driven.{Drives};
 
-use crate::lawful::law_of_cars;
 use crate::lines::conclude;
 use crate::ports::ports_of;
 use car_codec::CarCodec;
@@ -38,7 +37,6 @@ fn drive_site<C: CarCodec + Drop, K: Sink, J: Sink, W: Wire>(
         tell_fault(out, b"wire\n");
         return Status::WireFault;
     }
-    law_of_cars::<C>();
     let ended = drive_car(wire, trace, site);
     conclude(ended, &site.report(), out)
 }

@@ -3,9 +3,7 @@
 
 mod command;
 mod driving;
-mod lawful;
 mod lines;
 mod ports;
 
 pub use command::car;
-pub use lawful::law_of_cars;

@@ -1,20 +1,30 @@
--- The laws of runs, of the past that a car was driven with.
-use Rattle.std.proofs.Common.{ℕ, List, [], ◌∷◌, ◌++◌, subst}
+-- A run of a car, whole or cut, is lawful.
+use Rattle.std.proofs.Common.{◌≡◌, Bool, true, false, not, ◌&&◌, List, [], ◌∷◌, ◌++◌, refl, sym, ap, subst, ◌∙◌}
 use Rattle.charge_world.specs.declared.entry.Entry.{Entry}
 use Rattle.charge_world.specs.declared.ports.Order.TheVariants as order
 use Rattle.session_words.specs.declared.plan.CarPlan.{CarPlan}
+use Rattle.car_spec.specs.Acting.{state}
 use Rattle.car_spec.specs.Codecs.{Codecs}
-use Rattle.car_spec.specs.Report.{Report}
-use Rattle.car_spec.specs.Runs.{IsRun}
-use Rattle.car_spec.specs.Steps.{Give, Step, Hears, Loses, Reads, Does}
+use Rattle.car_spec.specs.Runs.{IsRun, Closes, IsCarRun, IsCutRun}
+use Rattle.car_spec.specs.Steps.{Act, Seek, Dial, Give, Say, End, Step, Hears, Loses, Reads, Does, entry_of}
 use Rattle.car_laws.specs.Closing.{RunsCloseByWords}
-use Rattle.car_laws.specs.Contactor.{RunsKeepLive}
+use Rattle.car_laws.specs.Contactor.{live, closed, failed_open, RunsKeepLive}
 use Rattle.car_laws.specs.Opening.{RunsEndOpen}
 use Rattle.car_laws.specs.Readings.{RunsKeepReadings}
 use Rattle.car_laws.specs.Silence.{RunsStopAtTheEnd}
+use Rattle.car_laws.proofs.Opening.{closed_live}
 use Rattle.car_turns.specs.declared.ending.Ended.{Ended}
-use Rattle.car_turns.specs.Ending.{IsDriven}
-use Rattle.car_core.specs.Lawful.{IsLawful}
+use Rattle.car_turns.specs.declared.ending.Ended.TheVariants as ended
+use Rattle.car_turns.specs.Ending.{RanAs}
+use Rattle.car_core.specs.Lawful.{has_ended, IsSilent, IsLawful}
+
+-- what holds of every run of a car
+pub record AreLawful (c : Codecs) : Type 0 where
+  pub by_words : RunsCloseByWords c
+  pub live : RunsKeepLive c
+  pub stops : RunsStopAtTheEnd c
+  pub keeps : RunsKeepReadings c
+  pub ends_open : RunsEndOpen c
 
 -- what was done before is a run too
 earlier_run : (c : Codecs) (plan : CarPlan) (past : List Entry) (behind steps : List Step) → IsRun c plan past (behind ++ steps) → (earlier : List Entry) × IsRun c plan earlier steps
@@ -24,16 +34,77 @@ earlier_run c plan past (Loses ∷ behind) steps r = earlier_run c plan r.0 behi
 earlier_run c plan past (Reads word ∷ behind) steps r = earlier_run c plan past behind steps r.0
 earlier_run c plan past (Does act taken ∷ behind) steps r = earlier_run c plan r.0 behind steps r.1
 
-pub lawful : (c : Codecs) (plan : CarPlan) (how : Ended) (before after : List ℕ) (told : Report) (past : List Entry) → RunsCloseByWords c → RunsKeepLive c → RunsStopAtTheEnd c → RunsKeepReadings c → RunsEndOpen c
-    → IsDriven c plan how before after told past → IsLawful c plan past
-lawful c plan how before after told past closes lives stops keeps opens d = record {
-  blocks = d.blocks;
-  steps = d.steps;
-  run = d.run;
-  closes = λ behind earlier taken e.
-      (let r = earlier_run c plan d.blocks behind (Does (Give order.Close) taken ∷ earlier) (subst (IsRun c plan d.blocks) e d.run) in closes plan r.0 earlier taken r.1);
-  live_is = lives plan d.blocks d.steps d.run;
-  stops = λ behind earlier step e. (let r = earlier_run c plan d.blocks behind (step ∷ earlier) (subst (IsRun c plan d.blocks) e d.run) in stops plan r.0 step earlier r.1);
-  keeps = λ session e. keeps plan d.blocks d.steps session d.run e;
-  ends_open = λ run. opens plan past run;
+-- ---- the end
+
+-- a car that didn't end has no entry that says so
+acted_ended : (a : Act) (taken : Bool) (plan : CarPlan) (steps : List Step) (past : List Entry) → has_ended past ≡ false
+    → (state plan (Does a taken ∷ steps)).over ≡ false → has_ended (entry_of a taken ∷ past) ≡ false
+acted_ended (Seek d) taken plan steps past h o = h
+acted_ended (Dial port) taken plan steps past h o = h
+acted_ended (Give order) taken plan steps past h o = h
+acted_ended (Say spoken bytes) taken plan steps past h o = h
+acted_ended (End cause) taken plan steps past h o = let x : true ≡ false = o in cc
+
+not_ended : (c : Codecs) → RunsStopAtTheEnd c → (plan : CarPlan) (past : List Entry) (steps : List Step) → IsRun c plan past steps
+    → (state plan steps).over ≡ false → has_ended past ≡ false
+not_ended c law plan past [] r o = ap has_ended r
+not_ended c law plan past (Hears at e ∷ steps) r o =
+    ap has_ended r.3.past_is ∙ not_ended c law plan r.0 steps r.1 (law plan past (Hears at e) steps r)
+not_ended c law plan past (Loses ∷ steps) r o = ap has_ended r.3 ∙ not_ended c law plan r.0 steps r.1 (law plan past Loses steps r)
+not_ended c law plan past (Reads w ∷ steps) r o = not_ended c law plan past steps r.0 (law plan past (Reads w) steps r)
+not_ended c law plan past (Does a taken ∷ steps) r o =
+    ap has_ended r.3 ∙ acted_ended a taken plan steps r.0 (not_ended c law plan r.0 steps r.1 (law plan past (Does a taken) steps r)) o
+
+silent : (c : Codecs) → RunsStopAtTheEnd c → (plan : CarPlan) (past : List Entry) (steps : List Step) → IsRun c plan past steps → IsSilent past
+silent c law plan past [] r = subst IsSilent (sym r) tt
+silent c law plan past (Hears at e ∷ steps) r =
+    subst IsSilent (sym r.3.past_is) (not_ended c law plan r.0 steps r.1 (law plan past (Hears at e) steps r))
+silent c law plan past (Loses ∷ steps) r = subst IsSilent (sym r.3) (not_ended c law plan r.0 steps r.1 (law plan past Loses steps r))
+silent c law plan past (Reads w ∷ steps) r = silent c law plan past steps r.0
+silent c law plan past (Does a taken ∷ steps) r =
+    subst IsSilent (sym r.3) (not_ended c law plan r.0 steps r.1 (law plan past (Does a taken) steps r))
+
+-- ---- the order that closes a cut run
+
+closing : (alive : Bool) (blocks past : List Entry) → Closes alive blocks past → (alive ≡ false → closed blocks ≡ true → ⊥)
+    → closed past ≡ true → failed_open past ≡ true
+closing false blocks past k dead h = absurd (dead refl (sym (ap closed k) ∙ h))
+closing true blocks past (true, e) dead h = let x : false ≡ true = sym (ap closed e) ∙ h in cc
+closing true blocks past (false, e) dead h = ap failed_open e
+
+-- ---- runs
+
+lawful : (c : Codecs) → AreLawful c → (plan : CarPlan) (blocks past : List Entry) (steps : List Step) (due : Bool) → IsRun c plan blocks steps → Closes due blocks past
+    → (closed past ≡ true → failed_open past ≡ true) → IsLawful c plan past
+lawful c laws plan blocks past steps due run closes opens = record {
+  blocks = blocks;
+  steps = steps;
+  due = due;
+  run = run;
+  closes = closes;
+  by_words = λ behind earlier taken e.
+      (let r = earlier_run c plan blocks behind (Does (Give order.Close) taken ∷ earlier) (subst (IsRun c plan blocks) e run) in laws.by_words plan r.0 earlier taken r.1);
+  live_is = laws.live plan blocks steps run;
+  stops = λ behind earlier step e. (let r = earlier_run c plan blocks behind (step ∷ earlier) (subst (IsRun c plan blocks) e run) in laws.stops plan r.0 step earlier r.1);
+  silent = silent c laws.stops plan blocks steps run;
+  keeps = λ session e. laws.keeps plan blocks steps session run e;
+  ends_open = opens;
 }
+
+whole : (c : Codecs) → AreLawful c → (plan : CarPlan) (past : List Entry) → IsCarRun c plan past → IsLawful c plan past
+whole c laws plan past r =
+    lawful c laws plan r.blocks past r.steps ((state plan r.steps).live && not (state plan r.steps).over) r.run r.closes (laws.ends_open plan past r)
+
+cut : (c : Codecs) → AreLawful c → (plan : CarPlan) (past : List Entry) → IsCutRun c plan past → IsLawful c plan past
+cut c laws plan past r =
+    let kept : (state plan r.steps).live ≡ live r.blocks = laws.live plan r.blocks r.steps r.run in
+    lawful c laws plan r.blocks past r.steps (state plan r.steps).live r.run r.closes
+    (closing (state plan r.steps).live r.blocks past r.closes (λ dead h. let x : true ≡ false = sym (closed_live r.blocks h) ∙ sym kept ∙ dead in cc))
+
+-- however driving ended
+pub ran : (c : Codecs) → AreLawful c → (plan : CarPlan) (how : Ended) (past : List Entry) → RanAs c plan how past → IsLawful c plan past
+ran c laws plan ended.Over past r = whole c laws plan past r
+ran c laws plan ended.Lost past r = whole c laws plan past r
+ran c laws plan ended.TraceFault past r = cut c laws plan past r
+ran c laws plan ended.Turns past r = whole c laws plan past r
+ran c laws plan ended.Finished past r = whole c laws plan past r

@@ -9,11 +9,9 @@ ghost use Rattle.car_turns.specs.Ending.{EndedAs, IsDriven, RanAs, TracedAs, Are
 ghost use Rattle.car_core.specs.Lawful.{IsLawful};
 ghost use Rattle.car_core.specs.Made.{IsMadeOf};
 
+use crate::lawful::law_of_cars;
 use crate::site::CarSite;
 use car_codec::CarCodec;
-use car_laws::{
-    closes_by_words, contactors_are_read, ended_cars_are_silent, readings_are_kept, runs_end_open,
-};
 use car_turns::{Ended, drive};
 use charge_world::{Sink, Wire};
 
@@ -44,10 +42,6 @@ pub fn drive_car<C: CarCodec, W: Wire, J: Sink>(
     ensures lost { result ≡ Ended.Lost → W.faults wire.old < W.faults wire.new }
     ensures trace_fault { AreFaults (J.faults trace.old) (J.faults trace.new) result }
 {
-    contactors_are_read::<C>();
-    ended_cars_are_silent::<C>();
-    runs_end_open::<C>();
-    readings_are_kept::<C>();
-    closes_by_words::<C>();
+    law_of_cars::<C>();
     drive(&mut car.desk, &mut car.driver, wire, trace)
 }

@@ -4,10 +4,12 @@
 
 mod copying;
 mod driving;
+mod lawful;
 mod site;
 
 pub use car_acts::CarReport;
 pub use car_turns::Ended;
 pub use driving::drive_car;
+pub use lawful::law_of_cars;
 pub use site::CarSite;
 pub use trace_lines::NoMemory;

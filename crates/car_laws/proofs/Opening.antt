@@ -29,7 +29,7 @@ closed_ordered order.Open false shut alive k h = k h
 closed_ordered (order.Limits v a w) true shut alive k h = k h
 closed_ordered (order.Limits v a w) false shut alive k h = k h
 
-closed_live : (past : List Entry) → closed past ≡ true → live past ≡ true
+pub closed_live : (past : List Entry) → closed past ≡ true → live past ≡ true
 closed_live [] h = cc
 closed_live (entry.Heard heard bytes ∷ past) h = closed_live past h
 closed_live (entry.Lost ∷ past) h = closed_live past h

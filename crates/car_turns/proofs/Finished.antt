@@ -3,16 +3,14 @@ use Rattle.std.proofs.Common.{◌≡◌, ℕ, ◌==◌, Bool, true, false, not, 
 use Rattle.std.specs.Prelude.{OnOk, OnErr, IsSome}
 use Rattle.charge_world.specs.declared.entry.Entry.{Entry}
 use Rattle.charge_world.specs.declared.entry.Entry.TheVariants as entry
-use Rattle.charge_world.specs.declared.heard.Heard.{Heard}
 use Rattle.charge_world.specs.declared.ports.Order.TheVariants as order
 use Rattle.charge_world.specs.Outside.{IsFault, AppendsSome}
 use Rattle.session_words.specs.declared.plan.CarPlan.{CarPlan}
 use Rattle.trace_text.specs.Pasts.{first_line_2}
-use Rattle.station_spec.specs.Blocks.{is_last, is_over}
-use Rattle.site_acts.specs.Serving.{newest}
 use Rattle.site_acts.specs.Telling.{Carries, CarriesText, IsClosedSo, IsTraced, IsWrittenSo}
 use Rattle.site_serving.proofs.Counts.{fault_ok}
 use Rattle.site_serving.proofs.Shutting.{cut_behind, none_closing}
+use Rattle.site_turns.proofs.Finished.{last_heard, last_lost}
 use Rattle.car_spec.specs.Acting.{state}
 use Rattle.car_spec.specs.Codecs.{Codecs}
 use Rattle.car_spec.specs.Next.{IsQuiet}
@@ -99,28 +97,6 @@ closes_written (Ok done) last how s blocks past ok err lives h = subst (λ (x : 
 closes_written (Err fault) last how s blocks past ok err lives h = subst (λ (x : Ended). ClosesAs x s blocks past) (sym err) (live_closes s.live s.over blocks past lives h)
 
 -- ---- how a run ends
-
-last_heard : (past : List Entry) (h : Heard) (bytes : List ℕ) → newest past ≡ Some (entry.Heard h bytes) → is_over h.what ≡ true → is_last past ≡ true
-last_heard [] h bytes e over = cc
-last_heard (entry.Heard heard bytes ∷ past) h b e over =
-    let same : heard ≡ h = cc in
-    ap (λ (x : Heard). is_over x.what) same ∙ over
-last_heard (entry.Lost ∷ past) h bytes e over = refl
-last_heard (entry.Sent post bytes taken ∷ past) h b e over = last_heard past h b e over
-last_heard (entry.Answered post bytes taken ∷ past) h b e over = last_heard past h b e over
-last_heard (entry.Drove post order taken ∷ past) h b e over = last_heard past h b e over
-last_heard (entry.Dialed port taken ∷ past) h b e over = last_heard past h b e over
-last_heard (entry.Ended post cause ∷ past) h b e over = last_heard past h b e over
-
-last_lost : (past : List Entry) → newest past ≡ Some entry.Lost → is_last past ≡ true
-last_lost [] e = cc
-last_lost (entry.Heard heard bytes ∷ past) e = cc
-last_lost (entry.Lost ∷ past) e = refl
-last_lost (entry.Sent post bytes taken ∷ past) e = last_lost past e
-last_lost (entry.Answered post bytes taken ∷ past) e = last_lost past e
-last_lost (entry.Drove post order taken ∷ past) e = last_lost past e
-last_lost (entry.Dialed port taken ∷ past) e = last_lost past e
-last_lost (entry.Ended post cause ∷ past) e = last_lost past e
 
 rests_last : (plan : CarPlan) (last : Last) (blocks : List Entry) (s : State) → IsQuiet plan s → EndedAs plan.turns (ended_by last) blocks → IsOverBy (ended_by last) s → RestsAs (ended_by last) plan blocks s
 rests_last plan Over blocks s quiet e over = (quiet, inr (inl (last_heard blocks e.0 e.1 e.2 e.3)))

@@ -4,13 +4,13 @@ ghost use Rattle.std.specs.Prelude.{◌≡◌, ◌≤◌, length, take};
 ghost use Rattle.post_spec.specs.Codecs.{judged_word};
 ghost use Rattle.secc_machine.specs.Views.{judged_of};
 ghost use Rattle.written_sizes.specs.Entries.{HasEntries};
-ghost use Rattle.codec_rules.specs.Codecs.{Reads, Encodes, CanSpell};
+ghost use Rattle.codec_rules.specs.Codecs.{Encodes, CanSpell};
 
 use crate::negotiating::first_payload;
 use crate::typed::law_of_types;
 use crate::{din, iso};
 use charge_world::{Dialect, NoMemory};
-use codec_rules::given_replies;
+use codec_rules::{given_replies, read_word};
 use din_codec::DinTables;
 use exi_documents::MOST_ENTRIES;
 use exi_events::Table;
@@ -48,17 +48,6 @@ impl ChargeCodecs {
         let din = DinTables::make(alloc)?;
         let table = Table::make(alloc, MOST_ENTRIES)?;
         Ok(ChargeCodecs { iso, din, table })
-    }
-
-    /// The word that a payload spells in a dialect; none where it spells no message.
-    fn read(&mut self, dialect: Dialect, payload: &[u8]) -> Option<Word>
-        requires { length payload.now ≤ 65536 }
-        ensures { Reads dialect payload.now result }
-    {
-        match dialect {
-            Dialect::Iso => iso::read(&self.iso, payload, &mut self.table),
-            Dialect::Din => din::read(&self.din, payload, &mut self.table),
-        }
     }
 
     /// Writes the encoding of a reply to the front of the room, and answers its number of bytes.
@@ -108,7 +97,7 @@ impl Codec for ChargeCodecs {
     }
 
     fn judge(&mut self, dialect: Dialect, payload: &[u8]) -> Judged {
-        judged_as(self.read(dialect, payload))
+        judged_as(read_word(dialect, &self.iso, &self.din, payload, &mut self.table))
     }
 
     fn encode(&mut self, dialect: Dialect, reply: &Reply, room: &mut [u8]) -> u32 {

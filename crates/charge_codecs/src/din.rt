@@ -1,29 +1,16 @@
-//! DIN SPEC 70121:2014, 9.2 and 9.3: payloads as words, and replies as payloads.
+//! DIN SPEC 70121:2014, 9.2 and 9.3: replies as payloads.
 
 ghost use Rattle.std.specs.Prelude.{◌≡◌, ◌≤◌, length, take};
 ghost use Rattle.exi_documents.specs.Values.{most_entries};
 ghost use Rattle.session_words.specs.declared.word.Word.TheVariants as words;
 ghost use Rattle.din_words.specs.Spellable.{CanSpell};
 ghost use Rattle.written_sizes.specs.Entries.{HasEntries};
-ghost use Rattle.codec_rules.specs.Din.{Reads, Encodes};
+ghost use Rattle.codec_rules.specs.Din.{Encodes};
 
-use din_codec::{DinTables, read_din, write_din};
-use din_words::{of_reply, to_word};
+use din_codec::{DinTables, write_din};
+use din_words::of_reply;
 use exi_events::Table;
-use session_words::{Reply, Word};
-
-/// The word that a payload spells; none where it spells no message. The table is emptied.
-pub(crate) fn read(tables: &DinTables, payload: &[u8], table: &mut Table) -> Option<Word>
-    requires payload { length payload.now ≤ 65536 }
-    requires cap { table.old.cap ≡ most_entries }
-    ensures cap { table.new.cap ≡ most_entries }
-    ensures read { Reads payload.now result }
-{
-    match read_din(tables, payload, table) {
-        Ok(message) => Some(to_word(&message)),
-        Err(_) => None,
-    }
-}
+use session_words::Reply;
 
 /// Writes the encoding of a reply to the front of a room, and answers its number of bytes. The table is emptied.
 pub(crate) fn write(tables: &DinTables, reply: &Reply, room: &mut [u8], table: &mut Table) -> u32

@@ -1,29 +1,16 @@
-//! ISO 15118-2:2014, section 8.3: payloads as words, and replies as payloads.
+//! ISO 15118-2:2014, section 8.3: replies as payloads.
 
 ghost use Rattle.std.specs.Prelude.{◌≡◌, ◌≤◌, length, take};
 ghost use Rattle.exi_documents.specs.Values.{most_entries};
 ghost use Rattle.session_words.specs.declared.word.Word.TheVariants as words;
 ghost use Rattle.iso_words.specs.Spellable.{CanSpell};
 ghost use Rattle.written_sizes.specs.Entries.{HasEntries};
-ghost use Rattle.codec_rules.specs.Iso.{Reads, Encodes};
+ghost use Rattle.codec_rules.specs.Iso.{Encodes};
 
 use exi_events::Table;
-use iso_codec::{IsoTables, read_iso, write_iso};
-use iso_words::{of_reply, to_word};
-use session_words::{Reply, Word};
-
-/// The word that a payload spells; none where it spells no message. The table is emptied.
-pub(crate) fn read(tables: &IsoTables, payload: &[u8], table: &mut Table) -> Option<Word>
-    requires payload { length payload.now ≤ 65536 }
-    requires cap { table.old.cap ≡ most_entries }
-    ensures cap { table.new.cap ≡ most_entries }
-    ensures read { Reads payload.now result }
-{
-    match read_iso(tables, payload, table) {
-        Ok(message) => Some(to_word(&message)),
-        Err(_) => None,
-    }
-}
+use iso_codec::{IsoTables, write_iso};
+use iso_words::of_reply;
+use session_words::Reply;
 
 /// Writes the encoding of a reply to the front of a room, and answers its number of bytes. The table is emptied.
 pub(crate) fn write(tables: &IsoTables, reply: &Reply, room: &mut [u8], table: &mut Table) -> u32

@@ -3,26 +3,24 @@ use Rattle.std.proofs.Common.{◌≡◌, ◌≤◌, ◌<◌, ℕ, zero, suc, ◌
 use Rattle.std.proofs.lemmas.List.{drop_more, length-append, length-drop, length-take-le}
 use Rattle.std.proofs.lemmas.Bool.{cases_lt}
 use Rattle.charge_world.specs.declared.offer.Dialect.{Dialect}
-use Rattle.session_words.specs.declared.phase.Phase.{Phase}
-use Rattle.session_words.specs.declared.phase.Phase.TheVariants as row
 use Rattle.session_words.specs.declared.plan.PostPlan.{PostPlan}
 use Rattle.v2gtp_frames.specs.Frames.{IsRest, Frames}
 use Rattle.v2gtp_frames.specs.Reading.{whole_at, payload_at, behind_frames}
 use Rattle.v2gtp_frames.proofs.Again.{is_frame}
 use Rattle.v2gtp_frames.proofs.Growing.{whole_fits}
-use Rattle.v2gtp_frames.proofs.Same.{next_word, last_rest}
+use Rattle.v2gtp_frames.proofs.Same.{last_rest}
 use Rattle.session_rules.specs.declared.stage.Stage.{Stage}
 use Rattle.session_rules.specs.Stages.{is_waiting}
-use Rattle.post_spec.specs.Codecs.{Judged, Negotiated, Codecs, Judges, judged_word}
+use Rattle.post_spec.specs.Codecs.{Judged, Codecs, Judges}
 use Rattle.post_spec.specs.Sessions.{session, stream, replies, waits}
 use Rattle.post_spec.specs.Spelled.{ReadsBack, AreDetermined}
 use Rattle.post_spec.specs.Steps.{Seen, Reading, Step, Hears, Does, seen_of}
 use Rattle.post_spec.specs.Talk.{Exchange, dialect_of}
 use Rattle.post_spec.specs.Words as words
-use Rattle.post_spec.specs.Words.{HeardWord, Payload, Fault, chosen_by, AreJudged, Words, IsPayloadAt, next_words}
+use Rattle.post_spec.specs.Words.{HeardWord, Payload, Fault, AreJudged, Words, next_words}
 use Rattle.station_spec.specs.States.{Session, State}
 use Rattle.station_spec.specs.Deciding.{decided}
-use Rattle.station_spec.specs.Judging.{Payload as Wanted, speaks, speaks_in, wanted, IsRead}
+use Rattle.station_spec.specs.Judging.{Payload as Wanted, speaks, wanted, IsRead}
 use Rattle.station_spec.specs.Acting.{state}
 use Rattle.station_spec.specs.Sharing.{Shows}
 use Rattle.station_laws.specs.PostRuns.{IsPostRun, ArePostsOf}
@@ -33,7 +31,9 @@ use Rattle.safe_runs.proofs.Parts.{decided_planned}
 use Rattle.safe_runs.proofs.Rows.{RowHas}
 use Rattle.safe_runs.proofs.Safety.{run_linked}
 use Rattle.read_runs.proofs.Agendas.{IsWanted, WantedIn, wanted_in, wanted_done}
-use Rattle.opened_causes.proofs.Spoken.{same_payload, Spoke, spoke, counted, FaultAt, PayloadAt, DialectAt, word_at}
+use Rattle.read_runs.proofs.Counting.{counted}
+use Rattle.opened_causes.proofs.Spoken.{Spoke, spoke, chosen_is, FaultAt, PayloadAt, DialectAt, word_at}
+use Rattle.opened_causes.proofs.Wording.{connected, none_yet, word_same}
 use Rattle.served_sessions.proofs.Bytes.{AreOctets, AreHeard, fronts, run_heard, stream_octets}
 use Rattle.next_words.specs.Next.{IsNext, IsReadNext, AreReadInOrder, RunsReadInOrder}
 
@@ -72,14 +72,6 @@ read_long c offers d (p ∷ ps) [] a = absurd a
 read_long c offers d (p ∷ ps) (Fault fault ∷ ws) a = absurd a
 read_long c offers d (p ∷ ps) (Payload judged ∷ ws) a = ap suc (read_long c offers d ps ws a.1)
 
-first_payload : (bytes rest p : List ℕ) (ps : List (List ℕ)) → Frames bytes (p ∷ ps) rest → IsPayloadAt bytes zero p
-first_payload bytes rest p ps f = let x = next_word bytes (p ∷ ps) rest zero f (omega arith) in record { count = length p; whole = x.0; payload_is = sym x.1 }
-
-pub chosen_is : (c : Codecs) (offers : List Dialect) (bytes rest p : List ℕ) (ps : List (List ℕ)) (judged : Judged) (e : Dialect) → AreDetermined c → Frames bytes (p ∷ ps) rest → c.Negotiates offers p judged → Spoke c offers bytes e → chosen_by judged ≡ Some e
-chosen_is c offers bytes rest p ps judged e det f j s =
-    let same : s.payload ≡ p = same_payload bytes zero s.payload p s.first (first_payload bytes rest p ps f) in
-    ap chosen_by (det.negotiates offers p judged (Negotiated (Some e) s.response) j (subst (λ (x : List ℕ). c.Negotiates offers x (Negotiated (Some e) s.response)) same s.judged))
-
 pub word_there : (c : Codecs) (offers : List Dialect) (bytes rest : List ℕ) (payloads : List (List ℕ)) (front : List HeardWord) (n : ℕ) (d : Option Dialect) → AreDetermined c → Frames bytes payloads rest → AreJudged c offers payloads front → DialectAt c offers bytes n d → n < length payloads → n < length front
 word_there c offers bytes rest [] front n d det f a k h = absurd (let l : length {A = List ℕ} [] ≡ 0 = refl in omega (arith, h, l))
 word_there c offers bytes rest (p ∷ ps) [] n d det f a k h = absurd a
@@ -94,13 +86,6 @@ word_there c offers bytes rest (p ∷ ps) (Payload judged ∷ ws) (suc n) d det 
 
 -- The dialect of what is read.
 
-connected : (here : Phase) (d : Dialect) → (here ≡ row.Connected) ⊎ (speaks_in here d ≡ Some d)
-connected row.Connected d = inl refl
-connected here d = inr refl
-
-none_yet : (here : Phase) (xs : List Exchange) → here ≡ row.Connected → RowHas here xs → xs ≡ []
-none_yet here xs e h = subst (λ (p : Phase). RowHas p xs) e h
-
 pub dialect_here : (c : Codecs) (offers : List Dialect) (es : List Seen) (n : ℕ) (xs : List Exchange) (stage : Stage) → n ≡ length xs → RowHas stage.row xs → dialect_of xs ≡ speaks stage → ((d : Dialect) → dialect_of xs ≡ Some d → Spoke c offers (stream es) d)
     → DialectAt c offers (stream es) n (speaks stage)
 dialect_here c offers es zero [] stage e r d f = sym d
@@ -114,10 +99,6 @@ dialect_here c offers es (suc n) (x ∷ xs) stage e r d f = elim (connected stag
 -- where the word stands
 words_at : (es : List Seen) (ws : List HeardWord) (n : ℕ) → waits es ≡ false → n ≡ length (replies es) → next_words es ws ≡ drop n ws
 words_at es ws n w e = rw (w, e) refl
-
-word_same : (c : Codecs) (offers : List Dialect) (d : Option Dialect) (payload : List ℕ) (a b : Judged) → AreDetermined c → Judges c offers d payload a → Judges c offers d payload b → a ≡ b
-word_same c offers None payload a b det p q = det.negotiates offers payload a b p q
-word_same c offers (Some d) payload a b det p q = p.2 ∙ ap judged_word (det.reads d payload p.0 q.0 p.1 q.1) ∙ sym q.2
 
 -- What is read is judged as the word at its place.
 

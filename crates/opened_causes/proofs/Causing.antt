@@ -26,7 +26,8 @@ use Rattle.post_spec.specs.Codecs.{Negotiated, Asked, Codecs}
 use Rattle.post_spec.specs.Talk.{Exchange, Negotiation, dialect_of, Negotiates, IsExchange, OneMore, InSession, Talks}
 use Rattle.charge_world.specs.declared.offer.Dialect.{Dialect}
 use Rattle.session_rules.specs.Stages.{is_waiting}
-use Rattle.opened_causes.proofs.Spoken.{same_payload, counted}
+use Rattle.read_runs.proofs.Counting.{counted}
+use Rattle.opened_causes.proofs.Spoken.{same_payload}
 use Rattle.post_spec.specs.Course.{Talked, course, facts_of}
 use Rattle.post_spec.specs.Facts.{now}
 use Rattle.post_spec.specs.Contactors.{standing, live}

@@ -28,12 +28,13 @@ use Rattle.station_spec.specs.Deciding.{fronting, from_wording, decided}
 use Rattle.station_spec.specs.Judging.{Payload as Wanted, wanted, speaks, speaks_in, order_by, cause_by, judged, taken_in, read, IsRead}
 use Rattle.station_spec.specs.Next.{IsQuiet, Acts}
 use Rattle.read_runs.specs.Courses.{talked_of}
+use Rattle.read_runs.proofs.Counting.{counted}
 use Rattle.safe_runs.proofs.Links.{Rowed, Pending, Waits, Link, Tie, Clear}
 use Rattle.safe_runs.proofs.Openings.{open_todo}
 use Rattle.safe_runs.proofs.Rows.{RowHas}
 use Rattle.safe_runs.proofs.Shut.{Still}
 use Rattle.opened_causes.proofs.Opens.{OpensIn, Opens, opens_next, opens_busy}
-use Rattle.opened_causes.proofs.Spoken.{Spoke, spoke, counted, DialectAt, PayloadAt, word_at}
+use Rattle.opened_causes.proofs.Spoken.{Spoke, spoke, DialectAt, PayloadAt, word_at}
 
 -- Open is what the post does next
 pub record Next (c : Codecs) (plan : PostPlan) (s : State) : Type 1 where
@@ -72,11 +73,11 @@ pub record Place (c : Codecs) (offers : List Dialect) (es : List Seen) (ss : Ses
   pub spoken : is_waiting ss.stage.row ≡ false → d ≡ speaks ss.stage
   pub there : (words : List HeardWord) → next_words es words ≡ drop taken words
 
-connected : (here : Phase) (d : Dialect) → (here ≡ row.Connected) ⊎ (speaks_in here d ≡ Some d)
+pub connected : (here : Phase) (d : Dialect) → (here ≡ row.Connected) ⊎ (speaks_in here d ≡ Some d)
 connected row.Connected d = inl refl
 connected here d = inr refl
 
-none_yet : (here : Phase) (xs : List Exchange) → here ≡ row.Connected → RowHas here xs → xs ≡ []
+pub none_yet : (here : Phase) (xs : List Exchange) → here ≡ row.Connected → RowHas here xs → xs ≡ []
 none_yet here xs e h = subst (λ (p : Phase). RowHas p xs) e h
 
 dialect_at : (c : Codecs) (offers : List Dialect) (es : List Seen) (n : ℕ) (xs : List Exchange) (d : Dialect) → n ≡ length xs → dialect_of xs ≡ Some d → Spoke c offers (stream es) d → DialectAt c offers (stream es) n (Some d)
@@ -131,7 +132,7 @@ tie_of c plan past (Some ys) (Some ts) zs ss h k t =
     subst (λ (us : List Seen). Link c plan past us ss.stage ss.unread None None (Unit {0})) y (subst (λ (u : Session). Link c plan past ys u.stage u.unread None None (Unit {0})) x t)
 
 -- a payload is judged one way
-word_same : (c : Codecs) (offers : List Dialect) (d : Option Dialect) (payload : List ℕ) (a b : Judged) → AreDetermined c → Judges c offers d payload a → Judges c offers d payload b → a ≡ b
+pub word_same : (c : Codecs) (offers : List Dialect) (d : Option Dialect) (payload : List ℕ) (a b : Judged) → AreDetermined c → Judges c offers d payload a → Judges c offers d payload b → a ≡ b
 word_same c offers None payload a b det p q = det.negotiates offers payload a b p q
 word_same c offers (Some d) payload a b det p q = p.2 ∙ ap judged_word (det.reads d payload p.0 q.0 p.1 q.1) ∙ sym q.2
 

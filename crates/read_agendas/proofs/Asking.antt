@@ -37,8 +37,8 @@ use Rattle.read_runs.proofs.Courses.{courses_are_read}
 use Rattle.read_runs.proofs.Facts.{facts_are_read}
 use Rattle.read_sessions.specs.Sessions.{words_read, IsSessionOf}
 use Rattle.read_sessions.proofs.Starts.{timeout_is}
+use Rattle.read_sessions.proofs.Streams.{done_session}
 use Rattle.read_agendas.specs.Rows.{again, late, let_go, charged, ended, told, front, word_asks}
-use Rattle.read_agendas.proofs.Between.{done_session}
 
 -- The deadline.
 

@@ -22,10 +22,10 @@ use Rattle.read_runs.specs.Facts.{newest_event}
 use Rattle.read_runs.proofs.Agendas.{WantedIn, wanted_in, wanted_done, decided_not}
 use Rattle.read_runs.proofs.Courses.{courses_are_read}
 use Rattle.read_runs.proofs.Facts.{facts_are_read}
+use Rattle.read_sessions.proofs.Streams.{done_session}
 use Rattle.read_agendas.specs.Rows.{again, late, told, asked}
 use Rattle.read_agendas.specs.Left.{Left, row, rows, looked_at, begun, in_hand, failed, replied, less, left, AgendasAreRead, SessionsAreReadBetween}
 use Rattle.read_agendas.proofs.Asking.{again_is, late_is, told_is, front_is, word_is}
-use Rattle.read_agendas.proofs.Between.{done_session}
 
 abbrev left_in : State → Left
 left_in s = record { part = s.part; agenda = s.agenda }

@@ -540,8 +540,8 @@ tie_is None (Some ss) t = t
 tie_is (Some es) None t = t
 tie_is (Some es) (Some ss) t = session_is (is_waiting ss.stage.row) es ss refl t
 
+pub done_session : (c : Codecs) (plan : PostPlan) (steps : List Step) → IsPostRun c plan steps → is_done (state plan steps).agenda ≡ true → IsSessionOf (session (map seen_of steps)) (state plan steps).session
+done_session c plan steps run d = tie_is (session (map seen_of steps)) (state plan steps).session (empty_tie (map seen_of steps) (state plan steps) d (steps_tied c plan steps run))
+
 pub sessions_are_read : (c : Codecs) → SessionsAreRead c
-sessions_are_read c plan steps run quiet =
-    let past = map seen_of steps in
-    let s = state plan steps in
-    tie_is (session past) s.session (empty_tie past s (quiet_done plan s quiet) (steps_tied c plan steps run))
+sessions_are_read c plan steps run quiet = done_session c plan steps run (quiet_done plan (state plan steps) quiet)

@@ -23,9 +23,10 @@ use Rattle.station_spec.specs.Judging.{speaks}
 use Rattle.read_sessions.specs.Sessions.{words_read, IsSession}
 use Rattle.safe_runs.proofs.Growth.{AreWhole}
 use Rattle.safe_runs.proofs.Links.{Pending, Waits, Link}
-use Rattle.opened_causes.proofs.Spoken.{Spoke, spoke, counted, DialectAt}
+use Rattle.read_runs.proofs.Counting.{counted}
+use Rattle.opened_causes.proofs.Spoken.{Spoke, spoke, chosen_is, DialectAt}
 use Rattle.served_sessions.proofs.Bytes.{AreOctets, fronts}
-use Rattle.next_words.proofs.Order.{in_payloads, read_long, chosen_is, word_there, dialect_here}
+use Rattle.next_words.proofs.Order.{in_payloads, read_long, word_there, dialect_here}
 use Rattle.reasoned_openings.specs.Reasons.{JudgesAll}
 
 -- The words of a stream.

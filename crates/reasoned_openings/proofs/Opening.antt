@@ -44,11 +44,11 @@ use Rattle.read_runs.proofs.Agendas.{done_empty}
 use Rattle.read_runs.proofs.Courses.{courses_are_read}
 use Rattle.read_runs.proofs.Facts.{facts_are_read}
 use Rattle.read_sessions.specs.Sessions.{words_read, IsSession, IsSessionOf}
+use Rattle.read_sessions.proofs.Streams.{done_session}
 use Rattle.safe_runs.proofs.Links.{Premise, Link, Tie}
 use Rattle.safe_runs.proofs.Safety.{run_linked}
 use Rattle.safe_runs.specs.Opening.{HasFailed}
 use Rattle.opened_causes.proofs.Spoken.{FaultAt, PayloadAt, word_at}
-use Rattle.read_agendas.proofs.Between.{done_session}
 use Rattle.served_sessions.proofs.Bytes.{AreHeard, stream_octets}
 use Rattle.standing_causes.specs.Standing.{HasCome, CameBefore}
 use Rattle.standing_causes.proofs.Coming.{Laws, acted_laws, heard_laws, late_came, cause_came}

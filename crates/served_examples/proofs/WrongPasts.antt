@@ -16,11 +16,11 @@ use Rattle.post_spec.specs.Sessions.{stream, waits}
 use Rattle.post_spec.specs.Steps.{Clock, Send, Seen, Heard, Did}
 use Rattle.post_spec.specs.Talk.{Exchange, Negotiation, Answered, IsExchange, IsOk}
 use Rattle.post_spec.specs.Words.{IsPayloadAt}
+use Rattle.read_runs.proofs.Counting.{counted}
 use Rattle.station_examples.specs.Fixtures.{ac_post}
 use Rattle.post_spec.specs.Kinds.{asks_start}
 use Rattle.served_sessions.specs.Answered.{IsStart}
 use Rattle.served_sessions.specs.Serving.{IsUpToDate}
-use Rattle.served_sessions.proofs.Counting.{counted}
 use Rattle.served_examples.specs.WrongPasts.{answered, asked, closing, IsFailed, FailedReply, NoReply, TwoReplies, LateClose, CloseForAnother, EarlyReply, LateReply, EarlyEnd}
 
 -- two whole frames

@@ -4,5 +4,4 @@ pub mod Ready
 pub mod Hearing
 pub mod Reading
 pub mod Doing
-pub mod Counting
 pub mod Served

@@ -39,6 +39,7 @@ use Rattle.safe_runs.proofs.Safety.{run_tied, run_linked, quiet_clear, quiet_sti
 use Rattle.safe_runs.proofs.Shut.{Still}
 use Rattle.read_runs.specs.Facts.{before_hearing}
 use Rattle.read_runs.proofs.Agendas.{quiet_done, say_is, give_is}
+use Rattle.read_runs.proofs.Counting.{counted}
 use Rattle.read_runs.proofs.Courses.{courses_are_read}
 use Rattle.read_sessions.specs.Sessions.{words_read}
 use Rattle.conforming_runs.specs.Conforming.{IsFramed, AreFramed, Conforming}
@@ -46,7 +47,6 @@ use Rattle.served_sessions.specs.Answered.{OfSession, IsAnswered, IsStart, Await
 use Rattle.served_sessions.specs.Serving.{ClosesAtOnce, Replies, EndsByStop, Acts, IsReply, IsUpToDate, IsRested, AreServed}
 use Rattle.served_sessions.specs.Laws.{RunsServe, WholeRunsServe}
 use Rattle.served_sessions.proofs.Bytes.{AreOctets, AreHeard, counts, run_heard, stream_octets}
-use Rattle.served_sessions.proofs.Counting.{counted}
 use Rattle.served_sessions.proofs.Doing.{acted_ready, acted_part, finish_is, words_next}
 use Rattle.served_sessions.proofs.Hearing.{framed_of, fronts_nothing, heard_ready, decides}
 use Rattle.served_sessions.proofs.Reading.{filled_ready}

@@ -31,7 +31,7 @@ pub struct Desk<C> {
 }
 
 /// Writes the frame of a payload that stands behind the header's place.
-fn put_header(room: &mut [u8], n: usize)
+pub fn put_header(room: &mut [u8], n: usize)
     requires within { 8 + n ≤ length room.old }
     requires small { n ≤ 1024 }
     ensures { take (8 + n) room.new ≡ frame (take n (drop 8 room.old)) }

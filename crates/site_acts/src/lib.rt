@@ -6,5 +6,5 @@ mod deeds;
 mod desk;
 
 pub use acting::act;
-pub use desk::{Desk, FRAME};
+pub use desk::{Desk, FRAME, put_header};
 pub use trace_lines::TraceFailed;

@@ -56,7 +56,7 @@ ended_past turns how blocks past h e = subst (EndedAs turns how) (sym h.past_is)
 
 -- ---- how a run ends
 
-last_heard : (past : List Entry) (h : Heard) (bytes : List ℕ) → newest past ≡ Some (entry.Heard h bytes) → is_over h.what ≡ true → is_last past ≡ true
+pub last_heard : (past : List Entry) (h : Heard) (bytes : List ℕ) → newest past ≡ Some (entry.Heard h bytes) → is_over h.what ≡ true → is_last past ≡ true
 last_heard [] h bytes e over = cc
 last_heard (entry.Heard heard bytes ∷ past) h b e over =
     let same : heard ≡ h = cc in
@@ -68,7 +68,7 @@ last_heard (entry.Drove post order taken ∷ past) h b e over = last_heard past 
 last_heard (entry.Dialed port taken ∷ past) h b e over = last_heard past h b e over
 last_heard (entry.Ended post cause ∷ past) h b e over = last_heard past h b e over
 
-last_lost : (past : List Entry) → newest past ≡ Some entry.Lost → is_last past ≡ true
+pub last_lost : (past : List Entry) → newest past ≡ Some entry.Lost → is_last past ≡ true
 last_lost [] e = cc
 last_lost (entry.Heard heard bytes ∷ past) e = cc
 last_lost (entry.Lost ∷ past) e = refl

@@ -6,13 +6,15 @@ ghost use Rattle.session_words.specs.declared.plan.CarPlan.{CarPlan};
 ghost use Rattle.car_spec.specs.Codecs.{codecs};
 ghost use Rattle.car_turns.specs.declared.ending.Ended.{Ended as HasEnded};
 ghost use Rattle.car_turns.specs.Ending.{RanAs};
-ghost use Rattle.car_command.specs.Lawful.{IsLawful};
+ghost use Rattle.car_core.specs.Lawful.{IsLawful};
 
-use car_laws::{closes_by_words, contactors_are_read, ended_cars_are_silent, runs_end_open};
+use car_laws::{
+    closes_by_words, contactors_are_read, ended_cars_are_silent, readings_are_kept, runs_end_open,
+};
 use car_spec::CarCoded;
 
 /// However driving a car ended, and whatever its codecs are, its run is lawful: each order to close is mandated by the words before it, a car
-/// that ended does nothing more, and at the end the contactor is ordered open.
+/// that ended does nothing more, what it keeps is what its past and its steps tell, and at the end the contactor is ordered open.
 pub fn law_of_cars<C: CarCoded>()
     ensures { (plan : CarPlan) (how : HasEnded) (past : List Entry) → RanAs (codecs C.offers C.responds C.reads C.encodes) plan how past
         → IsLawful (codecs C.offers C.responds C.reads C.encodes) plan past }
@@ -20,5 +22,6 @@ pub fn law_of_cars<C: CarCoded>()
     closes_by_words::<C>();
     contactors_are_read::<C>();
     ended_cars_are_silent::<C>();
+    readings_are_kept::<C>();
     runs_end_open::<C>();
 }

@@ -1,0 +1,11 @@
+use Rattle.car_core.proofs.Lawful.{ran}
+use Rattle.car_core.proofs.lawful.law_of_cars.Goals as goal
+
+pub returns : goal.returns
+returns g c = ran _ (record {
+  by_words = c.closes_by_words.ensures;
+  live = c.contactors_are_read.ensures;
+  stops = c.ended_cars_are_silent.ensures;
+  keeps = c.readings_are_kept.ensures;
+  ends_open = c.runs_end_open.ensures;
+})
