@@ -33,7 +33,6 @@ fn default_site(ac: bool) -> SitePlan
 }
 
 /// The plan of a car with the defaults of its keys.
-#[tactic(auto, using(crate::proofs::Defaults::nothing_wrong))]
 fn default_car(ac: bool) -> CarPlan
     ensures fields { IsFixedCar ac result }
     ensures within { IsCarPlan result }
