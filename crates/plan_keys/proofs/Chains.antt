@@ -1,12 +1,12 @@
 -- Keys that are read one after another.
-use Rattle.std.proofs.Common.{◌≡◌, option_map, Option, Some, None, Result, Ok, Err, refl, ap, sym, subst, ◌∙◌}
+use Rattle.std.proofs.Common.{◌≡◌, option_map, Option, Some, None, Result, Ok, Err, refl, ap, subst, ◌∙◌}
 use Rattle.std.specs.Option.{ok_or}
 use Rattle.std.specs.Result.{result_unwrap_or, result_err}
 use Rattle.toml.specs.Data.{Data, get_member}
 use Rattle.plan_keys.specs.declared.forms.Wrong.{Wrong}
 use Rattle.plan_keys.specs.declared.forms.Wrong.TheVariants.{Missing}
 use Rattle.plan_keys.specs.declared.keys.Keys.{Keys}
-use Rattle.plan_keys.specs.Keys.{on_some, seen, Rule, there, members_of, says, Asked, asked_of, named, noted, ask, Says, Rules, done, given, judged, ask_all, Holds, Reads}
+use Rattle.plan_keys.specs.Keys.{on_some, seen, Rule, there, members_of, Asked, asked_of, named, noted, ask, Says, Rules, done, given, judged, ask_all, Holds, Reads}
 
 pub none_left : {P : Type 0} {keys : Keys} {plan : P} → Reads done keys keys plan
 none_left = record { asked = refl; holds = tt }
@@ -37,25 +37,23 @@ in_words is says = record { value = is ∙ says.value; asked = says.asked }
 
 -- what a rule says, as something that is there
 module _ {X : Type 0} where
-  said_there : (form : Data → Result X Wrong) (o : Option Data) (default : Option X)
-      → on_some o (λ d. seen (λ x. Some x) (form d)) (ok_or (option_map (λ x. Some x) default) Missing)
-      ≡ seen (λ x. Some x) (on_some o form (ok_or default Missing))
-  said_there form (Some d) default = refl
-  said_there form None (Some x) = refl
-  said_there form None None = refl
+  abbrev Same : Result X Wrong → Result (Option X) Wrong → X → Type 0
+  Same r s x = (Some (result_unwrap_or r x) ≡ result_unwrap_or s (Some x)) × (result_err r ≡ result_err s)
 
-  value_there : (r : Result X Wrong) (x : X) → Some (result_unwrap_or r x) ≡ result_unwrap_or (seen (λ y. Some y) r) (Some x)
-  value_there (Ok y) x = refl
-  value_there (Err w) x = refl
+  same_seen : (r : Result X Wrong) (x : X) → Same r (seen (λ y. Some y) r) x
+  same_seen (Ok y) x = (refl, refl)
+  same_seen (Err w) x = (refl, refl)
 
-  wrong_there : (r : Result X Wrong) → result_err r ≡ result_err (seen (λ y. Some y) r)
-  wrong_there (Ok y) = refl
-  wrong_there (Err w) = refl
+  same_says : (form : Data → Result X Wrong) (o : Option Data) (default : Option X) (x : X)
+      → Same (on_some o form (ok_or default Missing)) (on_some o (λ d. seen (λ y. Some y) (form d)) (ok_or (option_map (λ y. Some y) default) Missing)) x
+  same_says form (Some d) default x = same_seen (form d) x
+  same_says form None (Some y) x = (refl, refl)
+  same_says form None None x = (refl, refl)
 
   pub says_there : (rule : Rule X) (old new : Keys) (said : X) → Says rule old new said → Says (there rule) old new (Some said)
   says_there rule old new said h =
-      let same = said_there rule.form (get_member rule.name (members_of old.table)) rule.default in
+      let same = same_says rule.form (get_member rule.name (members_of old.table)) rule.default rule.otherwise in
       record {
-        value = ap (λ y. Some y) h.value ∙ value_there (says rule (members_of old.table)) rule.otherwise ∙ ap (λ r. result_unwrap_or r (Some rule.otherwise)) (sym same);
-        asked = h.asked ∙ ap (λ w. noted rule.name rule.wanted w (named rule.name (asked_of old))) (wrong_there (says rule (members_of old.table)) ∙ ap (λ r. result_err r) (sym same));
+        value = ap (λ y. Some y) h.value ∙ same.0;
+        asked = h.asked ∙ ap (λ w. noted rule.name rule.wanted w (named rule.name (asked_of old))) same.1;
       }

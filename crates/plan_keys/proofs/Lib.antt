@@ -1,4 +1,3 @@
 pub mod Chains
-mod Hexadecimal
-pub mod Items
 pub mod Documents
+mod Hexadecimal

@@ -1,6 +1,6 @@
 -- Own: what a value of TOML says by its form, the rules of a table's keys, and the first key that is wrong.
 use Rattle.std.specs.Prelude.{◌≡◌, ℕ, ◌<◌, ◌≤◌, All, ◌+◌, ◌%◌, ◌/◌, ◌==◌, Bool, true, false, ◌&&◌, nat_lt, nat_le, position, slice_get, if◌then◌else◌, ℤ, pos, negsuc, List, [], ◌∷◌, ◌++◌, length, map, codes, decimal, Option, Some, None, option_map, Result, Ok, Err, String}
-use Rattle.std.specs.List.{list_all}
+use Rattle.std.specs.List.{list_all, flat_map}
 use Rattle.std.specs.Str.{bytes_eq}
 use Rattle.std.specs.Borrow.{Bor}
 use Rattle.std.specs.BTreeMap.{BTreeMap}
@@ -95,14 +95,14 @@ tables_says least most d =
 abbrev pub between : ℕ → ℕ → List ℕ → List ℕ
 between least most unit = decimal least ++ codes " to " ++ decimal most ++ unit
 
--- words, with commas between them, the first behind this text
-abbrev pub listed : List ℕ → List (List ℕ) → List ℕ
-listed comma [] = []
-listed comma (w ∷ ws) = comma ++ w ++ listed (codes ", ") ws
+-- words with commas between them
+abbrev pub listed : List (List ℕ) → List ℕ
+listed [] = []
+listed (w ∷ ws) = w ++ flat_map (λ v. codes ", " ++ v) ws
 
 abbrev pub wanted_text : Wanted → List ℕ
 wanted_text (Between least most unit) = between least most unit.now
-wanted_text (Words front ws behind) = front.now ++ listed [] (map (λ w. w.now) ws.now) ++ behind.now
+wanted_text (Words front ws behind) = front.now ++ listed (map (λ w. w.now) ws.now) ++ behind.now
 wanted_text (Said text) = text.now
 
 -- ---- rules
@@ -134,7 +134,7 @@ truth name default = record { name = name; form = truth_says; wanted = codes "tr
 
 abbrev pub word : {X : Type 0} → List ℕ → List (List ℕ) → List X → Option X → X → Rule X
 word name ws meanings default otherwise =
-    record { name = name; form = word_says ws meanings; wanted = codes "one of " ++ listed [] ws ++ []; default = default; otherwise = otherwise }
+    record { name = name; form = word_says ws meanings; wanted = codes "one of " ++ listed ws ++ []; default = default; otherwise = otherwise }
 
 abbrev pub ascii : List ℕ → ℕ → ℕ → List ℕ → Rule (List ℕ)
 ascii name least most default =

@@ -1,7 +1,7 @@
 //! Why a plan is refused.
 
-ghost use Rattle.std.specs.Prelude.{◌≡◌, ◌++◌, IfOk, string_bytes};
-ghost use Rattle.plan_keys.specs.Keys.{wanted_text};
+ghost use Rattle.std.specs.Prelude.{◌≡◌, ◌++◌, OnOk, IfOk, map, string_bytes};
+ghost use Rattle.plan_keys.specs.Keys.{listed, wanted_text};
 
 use itoa::Buffer;
 use std::alloc::{AllocError, Global};
@@ -19,6 +19,21 @@ pub enum Wanted {
     Said(&'static str),
 }
 
+/// Writes words with commas between them.
+fn push_words(text: &mut String, words: &[&str]) -> Result<(), AllocError>
+    ensures { OnOk result (string_bytes text.new ≡ string_bytes text.old ++ listed (map (λ w. w.now) words.now)) }
+{
+    let Some((first, rest)) = words.split_first() else {
+        return Ok(());
+    };
+    text.push_str(first)?;
+    for word in rest {
+        text.push_str(", ")?;
+        text.push_str(word)?;
+    }
+    Ok(())
+}
+
 /// What is wanted, in words.
 fn text_of(alloc: Global, wanted: Wanted) -> Result<String, AllocError>
     ensures { IfOk result (λ text. string_bytes text ≡ wanted_text wanted) }
@@ -33,12 +48,7 @@ fn text_of(alloc: Global, wanted: Wanted) -> Result<String, AllocError>
         }
         Wanted::Words(front, words, behind) => {
             let mut text = String::from_str(alloc, front)?;
-            let mut comma = "";
-            for word in words {
-                text.push_str(comma)?;
-                text.push_str(word)?;
-                comma = ", ";
-            }
+            push_words(&mut text, words)?;
             text.push_str(behind)?;
             Ok(text)
         }

@@ -4,7 +4,7 @@ ghost use Rattle.std.specs.Prelude.{◌≡◌, ◌≤◌, ◌<◌, ◌*◌, true
 ghost use Rattle.std.specs.List.{list_all};
 ghost use Rattle.hex.specs.Hex.{is_hex_digit};
 ghost use Rattle.toml.specs.View.{view, items_view};
-ghost use Rattle.plan_keys.specs.Keys.{seen, within as within_limits, IsAscii, number_says, truth_says, place_of as place_said, word_says, ascii_says, is_digits, hex_value, hex_says, all_tables, tables_says};
+ghost use Rattle.plan_keys.specs.Keys.{seen, within as within_limits, IsAscii, number_says, place_of as place_said, word_says, ascii_says, is_digits, hex_value, hex_says, all_tables, tables_says};
 
 use arrayvec::ArrayVec;
 use toml::Value;
@@ -57,13 +57,6 @@ pub(crate) fn number_of(least: u64, most: u64, value: &Value) -> Result<u64, Wro
             within(least <= n && n <= most, n)
         }
     }
-}
-
-/// A truth value.
-pub(crate) fn truth_of(value: &Value) -> Result<bool, Wrong>
-    ensures { result ≡ truth_says (view value.now) }
-{
-    value.as_bool().ok_or(Wrong::BadValue)
 }
 
 /// The place of the word that a value says.
@@ -167,7 +160,7 @@ fn are_tables(items: &[Value]) -> bool
 }
 
 /// A list of so many tables.
-#[tactic(auto, using(crate::proofs::Items::item_count_view))]
+#[tactic(auto, using(crate::proofs::Documents::item_count_view))]
 pub(crate) fn tables_of(least: usize, most: usize, value: &Value) -> Result<&[Value], Wrong>
     ensures value { seen (λ v. items_view v.now) result ≡ tables_says least most (view value.now) }
     ensures bounds { IfOk result (λ v. (least ≤ length v.now) × (length v.now ≤ most)) }

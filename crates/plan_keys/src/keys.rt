@@ -140,7 +140,7 @@ impl<'a> Keys<'a> {
         ensures { Says (rule.truth name.now default) self.old self.new result }
     {
         let judged = match self.find(name) {
-            Some(value) => forms::truth_of(value),
+            Some(value) => value.as_bool().ok_or(Wrong::BadValue),
             None => default.ok_or(Wrong::Missing),
         };
         self.keep(name, Wanted::Said("true or false"), judged, false)

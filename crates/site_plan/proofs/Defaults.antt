@@ -30,22 +30,12 @@ unfolding toml_on_literals lib.Utf8.encode
 car_read true = is_document (car_text true) (call true) (omega arith) ((car_text true, (refl, refl)), refl)
 car_read false = is_document (car_text false) (call false) (omega arith) ((car_text false, (refl, refl)), refl)
 
-site_same : (ac : Bool) (site : SitePlan) (post : PostPlan) → Holds limit_rules no_members site → Holds (post_rules (Some 15120) (fixed_mode ac)) no_members post
-    → (site_fault (site_members ac) ≡ None) × Holds limit_rules (site_members ac) site × Each (Holds post_file) (value_at post_tables (site_members ac)) (post ∷ [])
-unfolding post_rules
-site_same true site post h k = (refl, h, (k, tt))
-site_same false site post h k = (refl, h, (k, tt))
-
 pub site_said : (ac : Bool) (site : SitePlan) → IsFixedSite ac site → IsSitePlanOf (site_text ac) site
-site_said ac site h =
-    let same = site_same ac site h.post h.limits h.keys in
-    let posts = subst (λ (l : List PostPlan). Each (Holds post_file) (value_at post_tables (site_members ac)) l) (sym h.alone) same.2 in
-    (site_members ac, site_read ac, same.0, record { keys = same.1; posts = posts })
-
-car_same : (ac : Bool) (car : CarPlan) → IsFixedCar ac car → (car_fault (call ac) ≡ None) × IsCarOf (call ac) car
-unfolding car_rules
-car_same true car h = (refl, record { keys = h })
-car_same false car h = (refl, record { keys = h })
+unfolding post_rules
+site_said true site h = (site_members true, site_read true, refl, record { keys = h.limits; posts = rw h.alone (h.keys, tt) })
+site_said false site h = (site_members false, site_read false, refl, record { keys = h.limits; posts = rw h.alone (h.keys, tt) })
 
 pub car_said : (ac : Bool) (car : CarPlan) → IsFixedCar ac car → IsCarPlanOf (car_text ac) car
-car_said ac car h = (call ac, car_read ac, (car_same ac car h).0, (car_same ac car h).1)
+unfolding car_rules
+car_said true car h = (call true, car_read true, refl, record { keys = h })
+car_said false car h = (call false, car_read false, refl, record { keys = h })

@@ -62,7 +62,7 @@ abbrev pub dialects_rule : Mode → Rule (List Dialect)
 dialects_rule mode = record {
   name = codes "dialects";
   form = λ d. ok_or (offer_of (speaks_din mode) d) BadValue;
-  wanted = codes "a list of one or more of " ++ listed [] (dialect_names (speaks_din mode)) ++ codes ", each once";
+  wanted = codes "a list of one or more of " ++ listed (dialect_names (speaks_din mode)) ++ codes ", each once";
   default = Some (dialects_of (speaks_din mode));
   otherwise = dialects_of (speaks_din mode);
 }

@@ -3,7 +3,7 @@ use Rattle.std.proofs.lemmas.Grind.{common_steps}
 use Rattle.std.proofs.lemmas.List.{drop_all}
 use Rattle.std.proofs.lemmas.List.Elements.{All-push}
 use Rattle.session_words.specs.Plans.{IsPostPlan}
-use Rattle.plan_keys.proofs.Items.{tables_here, fault_here, each_here}
+use Rattle.plan_keys.proofs.Documents.{tables_here, fault_here, each_here}
 use Rattle.plan_keys.specs.Keys.{Holds}
 use Rattle.site_plan.specs.Plans.{post_file, post_fault}
 use Rattle.site_plan.proofs.site.read_posts.Goals as goal
