@@ -1,9 +1,12 @@
 -- Keys that are read one after another.
-use Rattle.std.proofs.Common.{◌≡◌, ℕ, List, Option, Some, None, refl, ap, sym, subst, ◌∙◌}
+use Rattle.std.proofs.Common.{◌≡◌, option_map, Option, Some, None, Result, Ok, Err, refl, ap, subst, ◌∙◌}
+use Rattle.std.specs.Option.{ok_or}
+use Rattle.std.specs.Result.{result_unwrap_or, result_err}
+use Rattle.toml.specs.Data.{Data, get_member}
+use Rattle.plan_keys.specs.declared.forms.Wrong.{Wrong}
+use Rattle.plan_keys.specs.declared.forms.Wrong.TheVariants.{Missing}
 use Rattle.plan_keys.specs.declared.keys.Keys.{Keys}
-use Rattle.plan_keys.specs.declared.fault.PlanFault.{PlanFault}
-use Rattle.plan_keys.specs.Keys.{Rule, members_of, value_at, first_of, Asked, asked_of, noted, ask, Says, Trouble, Rules, done, given, also, ask_all, Holds, Reads}
-use Rattle.plan_keys.specs.Faults.{told_at}
+use Rattle.plan_keys.specs.Keys.{on_some, seen, Rule, there, members_of, Asked, asked_of, named, noted, ask, Says, Rules, done, given, judged, ask_all, Holds, Reads}
 
 pub none_left : {P : Type 0} {keys : Keys} {plan : P} → Reads done keys keys plan
 none_left = record { asked = refl; holds = tt }
@@ -20,37 +23,37 @@ pub ◌▸◌ : {P X : Type 0} {old mid new : Keys} {rule : Rule X} {field : P �
       holds = (says.value, subst (λ x. Holds (more x) (members_of old.table) plan) says.value holds);
     }
 
--- what else is wrong, and the keys behind it
-pub and_also : {P : Type 0} {old mid new : Keys} {trouble : Option Trouble} {lines : Rules P} {plan : P}
-    → asked_of mid ≡ noted trouble (asked_of old) → Reads lines mid new plan → Reads (also trouble lines) old new plan
-and_also {lines = lines} {plan = plan} is rest = record {
-  asked = rest.asked ∙ ap (ask_all lines) is;
-  holds = subst (λ (a : Asked). Holds lines a.members plan) is rest.holds;
+-- a key that is judged alone, and those behind it
+pub and_judged : {P X : Type 0} {old mid new : Keys} {rule : Rule X} {said : X} {lines : Rules P} {plan : P}
+    → Says rule old mid said → Reads lines mid new plan → Reads (judged rule lines) old new plan
+and_judged {lines = lines} {plan = plan} says rest = record {
+  asked = rest.asked ∙ ap (ask_all lines) says.asked;
+  holds = subst (λ (a : Asked). Holds lines a.members plan) says.asked rest.holds;
 }
 
 -- the same value, said in other words
 pub in_words : {X : Type 0} {rule : Rule X} {old new : Keys} {said other : X} → other ≡ said → Says rule old new said → Says rule old new other
 in_words is says = record { value = is ∙ says.value; asked = says.asked }
 
--- where its keys are right, what is told comes behind them
-pub keys_right : (prefix : List ℕ) (a b : Asked) (behind : Option PlanFault) → a ≡ b → a.found ≡ None → first_of (told_at prefix b.found) behind ≡ behind
-keys_right prefix a b behind is right =
-    ap (λ (found : Option Trouble). first_of (told_at prefix found) behind) (sym (ap (λ (asked : Asked). asked.found) is) ∙ right)
+-- what a rule says, as something that is there
+module _ {X : Type 0} where
+  abbrev Same : Result X Wrong → Result (Option X) Wrong → X → Type 0
+  Same r s x = (Some (result_unwrap_or r x) ≡ result_unwrap_or s (Some x)) × (result_err r ≡ result_err s)
 
--- a fault that is told first, or where nothing is told before it
-pub told_first : (a b : Option PlanFault) (fault : PlanFault) → a ≡ Some fault → first_of a b ≡ Some fault
-told_first a b fault is = rw is refl
+  same_seen : (r : Result X Wrong) (x : X) → Same r (seen (λ y. Some y) r) x
+  same_seen (Ok y) x = (refl, refl)
+  same_seen (Err w) x = (refl, refl)
 
--- what nothing is wrong in began with nothing wrong
-none_before : {X : Type 0} (a b : Option X) → first_of a b ≡ None → a ≡ None
-none_before None b h = refl
-none_before (Some x) b h = h
+  same_says : (form : Data → Result X Wrong) (o : Option Data) (default : Option X) (x : X)
+      → Same (on_some o form (ok_or default Missing)) (on_some o (λ d. seen (λ y. Some y) (form d)) (ok_or (option_map (λ y. Some y) default) Missing)) x
+  same_says form (Some d) default x = same_seen (form d) x
+  same_says form None (Some y) x = (refl, refl)
+  same_says form None None x = (refl, refl)
 
-pub none_after : {X : Type 0} (a b : Option X) → first_of a b ≡ None → b ≡ None
-none_after None b h = h
-none_after (Some x) b h = cc h
-
-pub none_first : {P : Type 0} (lines : Rules P) (asked : Asked) → (ask_all lines asked).found ≡ None → asked.found ≡ None
-none_first done asked h = h
-none_first (given rule field more) asked h = none_before asked.found _ (none_first (more (value_at rule asked.members)) (ask rule asked) h)
-none_first (also trouble lines) asked h = none_before asked.found _ (none_first lines (noted trouble asked) h)
+  pub says_there : (rule : Rule X) (old new : Keys) (said : X) → Says rule old new said → Says (there rule) old new (Some said)
+  says_there rule old new said h =
+      let same = same_says rule.form (get_member rule.name (members_of old.table)) rule.default rule.otherwise in
+      record {
+        value = ap (λ y. Some y) h.value ∙ same.0;
+        asked = h.asked ∙ ap (λ w. noted rule.name rule.wanted w (named rule.name (asked_of old))) same.1;
+      }

@@ -7,7 +7,7 @@ use Rattle.std.specs.List.{list_all}
 use Rattle.hex.specs.Hex.{decode_sized, is_hex_digit}
 use Rattle.hex.proofs.HexLemmas.{decode_of-digits, decode_of-ok, decode_sized-twice}
 use Rattle.hex.specs.declared.error.FromHexError.{FromHexError}
-use Rattle.plan_keys.specs.Forms.{is_digits, hex_value}
+use Rattle.plan_keys.specs.Keys.{is_digits, hex_value}
 
 pub hex_fits : (s : List ℕ) (n : ℕ) → is_digits s ≡ true → length s ≡ 2 * n
     → (decode_sized s n ≡ Ok (hex_value s)) × (length (hex_value s) ≡ n)

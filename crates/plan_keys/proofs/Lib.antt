@@ -1,6 +1,3 @@
 pub mod Chains
-mod Hexadecimal
-mod Least
-pub mod Items
 pub mod Documents
-pub mod Words
+mod Hexadecimal

@@ -1,17 +1,15 @@
 -- Own: which fault of a text as a plan is told, and in which words: the first.
-use Rattle.std.specs.Prelude.{◌≡◌, IsTrue, ℕ, ◌+◌, Bool, false, nat_lt, List, [], ◌∷◌, ◌++◌, length, codes, decimal, if◌then◌else◌, Option, Some, None, option_map, Result, Ok, Err, ◌⊎◌}
+use Rattle.std.specs.Prelude.{◌≡◌, ℕ, ◌+◌, Bool, nat_lt, List, [], ◌∷◌, ◌++◌, length, codes, if◌then◌else◌, Option, Some, None, option_map, IsSomeAnd, Result, Ok, Err, MatchResult, ◌⊎◌}
 use Rattle.std.specs.List.{list_any}
+use Rattle.std.specs.Option.{option_or}
 use Rattle.std.specs.Str.{bytes_eq, is_utf8}
-use Rattle.std.specs.Cmp.Lexicographic.{slice_cmp}
-use Rattle.std.specs.Ordering.{is_lt, nat_cmp}
 use Rattle.toml.specs.Data.{Items, no_items, item, Members, no_members, member, as_table}
 use Rattle.toml.specs.Parse.{parse_document}
 use Rattle.plan_keys.specs.declared.forms.Wrong.TheVariants as wrong
 use Rattle.plan_keys.specs.declared.forms.Wrong.{Wrong}
 use Rattle.plan_keys.specs.declared.fault.PlanFault.{PlanFault}
 use Rattle.plan_keys.specs.declared.fault.PlanFault.TheVariants.{NotToml, Missing, BadValue, OverLimit, Memory}
-use Rattle.plan_keys.specs.Forms.{on_some}
-use Rattle.plan_keys.specs.Keys.{Trouble, Asked, fresh, Rules, ask_all, first_of}
+use Rattle.plan_keys.specs.Keys.{on_some, Trouble, Asked}
 
 -- a fault as it is told: a key is its place and what it has to say
 abbrev pub fault_text : PlanFault → List ℕ
@@ -20,10 +18,6 @@ fault_text (Missing key) = key.0 ++ (codes " is missing, and must be " ++ key.1)
 fault_text (BadValue key) = key.0 ++ codes " must be " ++ key.1
 fault_text (OverLimit key) = key.0 ++ codes " must be " ++ key.1
 fault_text Memory = codes "no memory"
-
--- the key N of the table K of a list: LIST.K.N, with the place of that list before it
-abbrev pub prefix_in : List ℕ → List ℕ → ℕ → List ℕ
-prefix_in prefix list number = prefix ++ list ++ codes "." ++ decimal number ++ codes "."
 
 abbrev pub fault_of : List ℕ × List ℕ → Wrong → PlanFault
 fault_of key wrong.Missing = Missing key
@@ -42,42 +36,19 @@ abbrev pub first_unknown : List (List ℕ) → Members → Option (List ℕ)
 first_unknown known no_members = None
 first_unknown known (member text d rest) = if is_known known text then first_unknown known rest else Some text
 
-abbrev pub no_key : List ℕ
-no_key = codes "left out, since there is no such key"
-
 abbrev pub unknown_at : List ℕ → Asked → Option PlanFault
-unknown_at prefix asked = option_map (λ text. BadValue (prefix ++ text, no_key)) (first_unknown asked.names asked.members)
-
--- each other unknown key is above this one, byte by byte
-abbrev pub IsLeastUnknown : List (List ℕ) → Members → List ℕ → Type 0
-IsLeastUnknown known no_members text = Unit {0}
-IsLeastUnknown known (member other d rest) text =
-    (is_known known other ≡ false → (other ≡ text) ⊎ IsTrue (is_lt (slice_cmp nat_cmp text other))) × IsLeastUnknown known rest text
-
--- the first fault of what was asked for: that of a key, or of the unknown keys
-abbrev pub first_fault : List ℕ → Asked → Option PlanFault
-first_fault prefix asked = first_of (told_at prefix asked.found) (unknown_at prefix asked)
-
--- the first fault of the keys of a table, and that of its unknown keys
-abbrev pub table_fault : {P : Type 0} → Rules P → List ℕ → Members → Option PlanFault
-table_fault rules prefix table = told_at prefix (ask_all rules (fresh table)).found
-
-abbrev pub table_unknown : {P : Type 0} → Rules P → List ℕ → Members → Option PlanFault
-table_unknown rules prefix table = unknown_at prefix (ask_all rules (fresh table))
+unknown_at prefix asked =
+    option_map (λ text. BadValue (prefix ++ text, codes "left out, since there is no such key")) (first_unknown asked.names asked.members)
 
 -- the first fault of the tables of a list, the first of which has this number
 abbrev pub each_fault : (ℕ → Members → Option PlanFault) → ℕ → Items → Option PlanFault
 each_fault of_table number no_items = None
-each_fault of_table number (item d rest) = first_of (on_some (as_table d) (of_table number) None) (each_fault of_table (number + 1) rest)
+each_fault of_table number (item d rest) = option_or (on_some (as_table d) (of_table number) None) (each_fault of_table (number + 1) rest)
 
 -- what is made of each table of a list
-abbrev pub OfTable : (Members → Type 0) → Option Members → Type 0
-OfTable P (Some table) = P table
-OfTable P None = ⊥
-
 abbrev pub Each : {X : Type 0} → (Members → X → Type 0) → Items → List X → Type 0
 Each R no_items [] = Unit {0}
-Each R (item d rest) (x ∷ xs) = OfTable (λ table. R table x) (as_table d) × Each R rest xs
+Each R (item d rest) (x ∷ xs) = IsSomeAnd (as_table d) (λ table. R table x) × Each R rest xs
 Each R no_items (x ∷ xs) = ⊥
 Each R (item d rest) [] = ⊥
 
@@ -97,6 +68,10 @@ told of_members (Err fault) = Some fault
 -- a fault that is answered is what is told, or memory ran out
 abbrev pub Tells : PlanFault → Option PlanFault → Type 0
 Tells fault told = (fault ≡ Memory) ⊎ (told ≡ Some fault)
+
+-- a fault is answered by what is told, and none where nothing is told
+abbrev pub AnswersBy : {X : Type 0} → Option PlanFault → Result X PlanFault → Type 0
+AnswersBy told result = MatchResult result (λ _. told ≡ None) (λ fault. Tells fault told)
 
 -- a plan is answered of a text, of which nothing is told, or else a fault
 abbrev pub IsPlanOf : {X : Type 0} → (Members → Option PlanFault) → (Members → X → Type 0) → List ℕ → X → Type 0

@@ -1,41 +1,108 @@
--- Own: the rules of a table's keys, what they say, and the first key that is wrong.
-use Rattle.std.specs.Prelude.{◌≡◌, ℕ, ℤ, Bool, false, nat_lt, List, [], ◌∷◌, ◌++◌, length, map, codes, decimal, if◌then◌else◌, Option, Some, None, option_map, Result, Ok, Err, String}
+-- Own: what a value of TOML says by its form, the rules of a table's keys, and the first key that is wrong.
+use Rattle.std.specs.Prelude.{◌≡◌, ℕ, ◌<◌, ◌≤◌, All, ◌+◌, ◌%◌, ◌/◌, ◌==◌, Bool, true, false, ◌&&◌, nat_lt, nat_le, position, slice_get, if◌then◌else◌, ℤ, pos, negsuc, List, [], ◌∷◌, ◌++◌, length, map, codes, decimal, Option, Some, None, option_map, Result, Ok, Err, String}
+use Rattle.std.specs.List.{list_all, flat_map}
+use Rattle.std.specs.Str.{bytes_eq}
 use Rattle.std.specs.Borrow.{Bor}
 use Rattle.std.specs.BTreeMap.{BTreeMap}
-use Rattle.std.specs.Fmt.{signed_decimal}
-use Rattle.std.specs.List.{flat_map}
+use Rattle.std.specs.Option.{ok_or, option_or}
+use Rattle.std.specs.Result.{result_unwrap_or, result_err}
 use Rattle.std.specs.declared.alloc.Global.{Global}
-use Rattle.toml.specs.Data.{Data, boolean, Items, no_items, Members, no_members, get_member}
+use Rattle.hex.specs.Hex.{decode_of, is_hex_digit}
+use Rattle.toml.specs.Data.{Data, Items, no_items, item, Members, no_members, get_member, as_integer, as_str, as_bool, as_array, as_table}
 use Rattle.toml.specs.View.{table_view}
 use Rattle.toml.specs.declared.value.Value.{Value}
 use Rattle.plan_keys.specs.declared.fault.Wanted.{Wanted}
-use Rattle.plan_keys.specs.declared.fault.Wanted.TheVariants.{Between, Signed, Word, Words, Said}
+use Rattle.plan_keys.specs.declared.fault.Wanted.TheVariants.{Between, Words, Said}
 use Rattle.plan_keys.specs.declared.forms.Wrong.{Wrong}
-use Rattle.plan_keys.specs.declared.forms.Wrong.TheVariants.{Missing}
+use Rattle.plan_keys.specs.declared.forms.Wrong.TheVariants.{Missing, BadValue, OverLimit}
 use Rattle.plan_keys.specs.declared.keys.Found.{Found}
 use Rattle.plan_keys.specs.declared.keys.Keys.{Keys}
-use Rattle.plan_keys.specs.Forms.{on_some, seen, number_says, signed_says, truth_says, word_says, words_say, ascii_says, hex_says, tables_says, scalar_says}
+
+-- what is made of a value, or something else where there is none
+abbrev pub on_some : {A B : Type 0} → Option A → (A → B) → B → B
+on_some (Some x) f d = f x
+on_some None f d = d
+
+-- what is said, seen by a view
+abbrev pub seen : {A B : Type 0} → (A → B) → Result A Wrong → Result B Wrong
+seen view (Ok x) = Ok (view x)
+seen view (Err w) = Err w
+
+-- ---- forms
+
+-- a number or a length from least to most
+abbrev pub has_bounds : ℕ → ℕ → ℕ → Bool
+has_bounds least most n = nat_le least n && nat_le n most
+
+abbrev pub within : {X : Type 0} → Bool → X → Result X Wrong
+within fits x = if fits then Ok x else Err OverLimit
+
+-- a whole number from 0 on
+abbrev pub whole_says : ℕ → ℕ → ℤ → Result ℕ Wrong
+whole_says least most (pos n) = within (has_bounds least most n) n
+whole_says least most (negsuc n) = Err OverLimit
+
+abbrev pub number_says : ℕ → ℕ → Data → Result ℕ Wrong
+number_says least most d = on_some (as_integer d) (whole_says least most) (Err BadValue)
+
+abbrev pub truth_says : Data → Result Bool Wrong
+truth_says d = ok_or (as_bool d) BadValue
+
+-- a word of a list, each of which has a meaning
+abbrev pub place_of : List (List ℕ) → Data → Option ℕ
+place_of words d = on_some (as_str d) (λ s. position (λ word. bytes_eq word s) words) None
+
+abbrev pub word_says : {X : Type 0} → List (List ℕ) → List X → Data → Result X Wrong
+word_says words meanings d = ok_or (on_some (place_of words d) (slice_get meanings) None) BadValue
+
+-- a text of ASCII characters
+abbrev pub IsAscii : ℕ → ℕ → List ℕ → Type 0
+IsAscii least most s = All (λ c. c < 128) s × (least ≤ length s) × (length s ≤ most)
+
+abbrev pub ascii_says : ℕ → ℕ → Data → Result (List ℕ) Wrong
+ascii_says least most d =
+    on_some (as_str d)
+    (λ s. if list_all (λ c. nat_lt c 128) s then within (has_bounds least most (length s)) s else Err BadValue) (Err BadValue)
+
+-- whole bytes in hexadecimal, of either case, and their bytes
+abbrev pub is_digits : List ℕ → Bool
+is_digits s = (length s % 2 == 0) && list_all is_hex_digit s
+
+abbrev pub hex_value : List ℕ → List ℕ
+hex_value s = result_unwrap_or (decode_of s) []
+
+abbrev pub hex_says : ℕ → ℕ → Data → Result (List ℕ) Wrong
+hex_says least most d =
+    on_some (as_str d)
+    (λ s. if is_digits s then within (has_bounds least most (length s / 2)) (hex_value s) else Err BadValue) (Err BadValue)
+
+-- a list of tables, and how many there are
+abbrev pub item_count : Items → ℕ
+item_count no_items = 0
+item_count (item d rest) = 1 + item_count rest
+
+abbrev pub all_tables : Items → Bool
+all_tables no_items = true
+all_tables (item d rest) = on_some (as_table d) (λ table. all_tables rest) false
+
+abbrev pub tables_says : ℕ → ℕ → Data → Result Items Wrong
+tables_says least most d =
+    on_some (as_array d)
+    (λ items. if all_tables items then within (has_bounds least most (item_count items)) items else Err BadValue) (Err BadValue)
 
 -- ---- what a key has to say, in words
 
 abbrev pub between : ℕ → ℕ → List ℕ → List ℕ
 between least most unit = decimal least ++ codes " to " ++ decimal most ++ unit
 
+-- words with commas between them
 abbrev pub listed : List (List ℕ) → List ℕ
 listed [] = []
 listed (w ∷ ws) = w ++ flat_map (λ v. codes ", " ++ v) ws
 
-abbrev pub one_of : List (List ℕ) → List ℕ
-one_of ws = codes "one of " ++ listed ws
-
-abbrev pub some_of : List (List ℕ) → List ℕ
-some_of ws = codes "a list of one or more of " ++ listed ws ++ codes ", each once"
-
 abbrev pub wanted_text : Wanted → List ℕ
 wanted_text (Between least most unit) = between least most unit.now
-wanted_text (Signed least most) = signed_decimal least ++ codes " to " ++ signed_decimal most
-wanted_text (Word ws) = one_of (map (λ w. w.now) ws.now)
-wanted_text (Words ws) = some_of (map (λ w. w.now) ws.now)
+wanted_text (Words front ws behind) = front.now ++ listed (map (λ w. w.now) ws.now) ++ behind.now
 wanted_text (Said text) = text.now
 
 -- ---- rules
@@ -53,25 +120,21 @@ abbrev pub number : List ℕ → ℕ → ℕ → Option ℕ → Rule ℕ
 number name least most default =
     record { name = name; form = number_says least most; wanted = between least most []; default = default; otherwise = least }
 
+-- what is said by a rule, as something that is there
+abbrev pub there : {X : Type 0} → Rule X → Rule (Option X)
+there rule =
+    record { name = rule.name; form = λ d. seen (λ x. Some x) (rule.form d); wanted = rule.wanted; default = option_map (λ x. Some x) rule.default; otherwise = Some rule.otherwise }
+
 -- a number that may be left out
 abbrev pub perhaps : List ℕ → ℕ → ℕ → Option ℕ → Rule (Option ℕ)
-perhaps name least most default =
-    record { name = name; form = λ d. seen (λ n. Some n) (number_says least most d); wanted = between least most []; default = Some default; otherwise = default }
-
-abbrev pub signed : List ℕ → ℤ → ℤ → Option ℤ → Rule ℤ
-signed name least most default =
-    record { name = name; form = signed_says least most; wanted = wanted_text (Signed least most); default = default; otherwise = least }
+perhaps name least most default = record (there (number name least most default)) { default = Some default; otherwise = default }
 
 abbrev pub truth : List ℕ → Option Bool → Rule Bool
 truth name default = record { name = name; form = truth_says; wanted = codes "true or false"; default = default; otherwise = false }
 
 abbrev pub word : {X : Type 0} → List ℕ → List (List ℕ) → List X → Option X → X → Rule X
 word name ws meanings default otherwise =
-    record { name = name; form = word_says ws meanings; wanted = one_of ws; default = default; otherwise = otherwise }
-
-abbrev pub words : {X : Type 0} → List ℕ → List (List ℕ) → List X → List X → Rule (List X)
-words name ws meanings default =
-    record { name = name; form = words_say ws meanings; wanted = some_of ws; default = Some default; otherwise = default }
+    record { name = name; form = word_says ws meanings; wanted = codes "one of " ++ listed ws ++ []; default = default; otherwise = otherwise }
 
 abbrev pub ascii : List ℕ → ℕ → ℕ → List ℕ → Rule (List ℕ)
 ascii name least most default =
@@ -81,29 +144,17 @@ abbrev pub hex : List ℕ → ℕ → ℕ → List ℕ → Rule (List ℕ)
 hex name least most default =
     record { name = name; form = hex_says least most; wanted = between least most (codes " bytes in hexadecimal"); default = Some default; otherwise = default }
 
--- a list of tables, which may be left out where it isn't needed
-abbrev pub tables : List ℕ → ℕ → ℕ → Bool → Rule Items
-tables name least most needed =
-    record { name = name; form = tables_says least most; wanted = between least most (codes " tables"); default = if needed then None else Some no_items; otherwise = no_items }
-
-abbrev pub scalar : List ℕ → Rule Data
-scalar name =
-    record { name = name; form = scalar_says; wanted = codes "true, false, a whole number of 32 bits or a text"; default = None; otherwise = boolean false }
+-- a list of tables, which has to be there
+abbrev pub tables : List ℕ → ℕ → ℕ → Rule Items
+tables name least most =
+    record { name = name; form = tables_says least most; wanted = between least most (codes " tables"); default = None; otherwise = no_items }
 
 -- what a table says by a rule, or what is wrong with its key
-abbrev pub or_missing : {X : Type 0} → Option X → Result X Wrong
-or_missing (Some x) = Ok x
-or_missing None = Err Missing
-
 abbrev pub says : {X : Type 0} → Rule X → Members → Result X Wrong
-says rule table = on_some (get_member rule.name table) rule.form (or_missing rule.default)
-
-abbrev pub value_or : {X : Type 0} → X → Result X Wrong → X
-value_or x (Ok y) = y
-value_or x (Err w) = x
+says rule table = on_some (get_member rule.name table) rule.form (ok_or rule.default Missing)
 
 abbrev pub value_at : {X : Type 0} → Rule X → Members → X
-value_at rule table = value_or rule.otherwise (says rule table)
+value_at rule table = result_unwrap_or (says rule table) rule.otherwise
 
 -- ---- keys that are asked for one after another
 
@@ -112,21 +163,6 @@ pub record Trouble : Type 0 where
   pub name : List ℕ
   pub wrong : Wrong
   pub wanted : List ℕ
-
-abbrev pub trouble_if : List ℕ → List ℕ → Option Wrong → Option Trouble
-trouble_if name wanted wrong = option_map (λ w. record { name = name; wrong = w; wanted = wanted }) wrong
-
-abbrev pub wrong_in : {X : Type 0} → Result X Wrong → Option Wrong
-wrong_in (Ok x) = None
-wrong_in (Err w) = Some w
-
-abbrev pub missing_unless : Bool → Option Wrong
-missing_unless there = if there then None else Some Missing
-
--- the first of two
-abbrev pub first_of : {X : Type 0} → Option X → Option X → Option X
-first_of (Some x) other = Some x
-first_of None other = other
 
 -- the names so far, of which 32 are kept, and the first key that is wrong
 pub record Asked : Type 0 where
@@ -148,19 +184,15 @@ asked_of keys = record {
   found = option_map (λ (f : Found). record { name = f.name.now; wrong = f.wrong; wanted = wanted_text f.wanted }) keys.found;
 }
 
-abbrev pub noted : Option Trouble → Asked → Asked
-noted trouble asked =
-    record { members = asked.members; names = asked.names; found = first_of asked.found trouble }
-
 abbrev pub named : List ℕ → Asked → Asked
-named name asked = record {
-  members = asked.members;
-  names = if nat_lt (length asked.names) 32 then asked.names ++ name ∷ [] else asked.names;
-  found = asked.found;
-}
+named name asked = record asked { names = if nat_lt (length asked.names) 32 then asked.names ++ name ∷ [] else asked.names }
+
+abbrev pub noted : List ℕ → List ℕ → Option Wrong → Asked → Asked
+noted name wanted wrong asked =
+    record asked { found = option_or asked.found (option_map (λ w. record { name = name; wrong = w; wanted = wanted }) wrong) }
 
 abbrev pub ask : {X : Type 0} → Rule X → Asked → Asked
-ask rule asked = noted (trouble_if rule.name rule.wanted (wrong_in (says rule asked.members))) (named rule.name asked)
+ask rule asked = noted rule.name rule.wanted (result_err (says rule asked.members)) (named rule.name asked)
 
 -- a key says a value, after which the next is asked for
 pub record Says {X : Type 0} (rule : Rule X) (old new : Keys) (said : X) : Type 0 where
@@ -169,12 +201,12 @@ pub record Says {X : Type 0} (rule : Rule X) (old new : Keys) (said : X) : Type 
 
 -- ---- the rules of a table
 
--- in their order: a key with the field of a plan that has what it says, on which the rules behind it may depend; and
--- what else is wrong
+-- in their order: a key with the field of a plan that has what it says, on which the rules behind it may depend; and a
+-- key that is judged alone
 pub data Rules (P : Type 0) : Type 1 where
   done : Rules P
   given : {X : Type 0} → Rule X → (P → X) → (X → Rules P) → Rules P
-  also : Option Trouble → Rules P → Rules P
+  judged : {X : Type 0} → Rule X → Rules P → Rules P
 
 infixr 5 ◌⊳◌
 abbrev pub ◌⊳◌ : {P : Type 0} → (Rules P → Rules P) → Rules P → Rules P
@@ -186,13 +218,13 @@ key rule field lines = given rule field (λ _. lines)
 abbrev pub ask_all : {P : Type 0} → Rules P → Asked → Asked
 ask_all done asked = asked
 ask_all (given rule field more) asked = ask_all (more (value_at rule asked.members)) (ask rule asked)
-ask_all (also trouble lines) asked = ask_all lines (noted trouble asked)
+ask_all (judged rule lines) asked = ask_all lines (ask rule asked)
 
 -- a plan has what the keys of a table say
 abbrev pub Holds : {P : Type 0} → Rules P → Members → P → Type 0
 Holds done table plan = Unit {0}
 Holds (given rule field more) table plan = (field plan ≡ value_at rule table) × Holds (more (value_at rule table)) table plan
-Holds (also trouble lines) table plan = Holds lines table plan
+Holds (judged rule lines) table plan = Holds lines table plan
 
 -- the keys of these rules are read, one after another, into a plan
 pub record Reads {P : Type 0} (lines : Rules P) (old new : Keys) (plan : P) : Type 0 where

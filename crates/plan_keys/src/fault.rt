@@ -3,7 +3,6 @@
 ghost use Rattle.std.specs.Prelude.{◌≡◌, ◌++◌, OnOk, IfOk, map, string_bytes};
 ghost use Rattle.plan_keys.specs.Keys.{listed, wanted_text};
 
-use crate::places::{Place, key_text};
 use itoa::Buffer;
 use std::alloc::{AllocError, Global};
 use std::fmt;
@@ -14,13 +13,9 @@ use std::marker::Model;
 pub enum Wanted {
     /// A number from the least to the greatest, and its unit behind a space, or nothing.
     Between(u64, u64, &'static str),
-    /// A number with a sign from the least to the greatest.
-    Signed(i64, i64),
-    /// One of these words.
-    Word(&'static [&'static str]),
-    /// A list of one or more of these words, each once.
-    Words(&'static [&'static str]),
-    /// What these words say.
+    /// What the first text says, these words with commas between them, and what the last says.
+    Words(&'static str, &'static [&'static str], &'static str),
+    /// What this text says.
     Said(&'static str),
 }
 
@@ -51,21 +46,10 @@ fn text_of(alloc: Global, wanted: Wanted) -> Result<String, AllocError>
             text.push_str(unit)?;
             Ok(text)
         }
-        Wanted::Signed(least, most) => {
-            let mut text = String::from_str(alloc, Buffer::new().format(least))?;
-            text.push_str(" to ")?;
-            text.push_str(Buffer::new().format(most))?;
-            Ok(text)
-        }
-        Wanted::Word(words) => {
-            let mut text = String::from_str(alloc, "one of ")?;
+        Wanted::Words(front, words, behind) => {
+            let mut text = String::from_str(alloc, front)?;
             push_words(&mut text, words)?;
-            Ok(text)
-        }
-        Wanted::Words(words) => {
-            let mut text = String::from_str(alloc, "a list of one or more of ")?;
-            push_words(&mut text, words)?;
-            text.push_str(", each once")?;
+            text.push_str(behind)?;
             Ok(text)
         }
         Wanted::Said(text) => String::from_str(alloc, text),
@@ -90,16 +74,11 @@ impl Model for Key {
 
 impl Key {
     /// The key of this name at a place, which has to say that.
-    pub fn at(
-        alloc: Global,
-        place: &Place<'_>,
-        name: &str,
-        wanted: Wanted,
-    ) -> Result<Key, AllocError>
-        ensures { IfOk result (λ key. key ≡ (place.now.prefix.now ++ name.now, wanted_text wanted)) }
+    pub fn at(alloc: Global, prefix: &str, name: &str, wanted: Wanted) -> Result<Key, AllocError>
+        ensures { IfOk result (λ key. key ≡ (prefix.now ++ name.now, wanted_text wanted)) }
     {
         Ok(Key {
-            place: key_text(alloc, place, name)?,
+            place: format!(in alloc; "{prefix}{name}")?,
             wanted: text_of(alloc, wanted)?,
         })
     }
@@ -154,11 +133,10 @@ impl fmt::Display for PlanFault {
     fn fmt<W: fmt::Write>(&self, f: &mut fmt::Formatter<W>) -> fmt::Result {
         match self {
             PlanFault::NotToml => f.write_str("not a TOML document"),
-            PlanFault::Missing(key) => {
-                write!(f, "{key} is missing, and must be {}", key.wanted())
+            PlanFault::Missing(key) => write!(f, "{key} is missing, and must be {}", key.wanted()),
+            PlanFault::BadValue(key) | PlanFault::OverLimit(key) => {
+                write!(f, "{key} must be {}", key.wanted())
             }
-            PlanFault::BadValue(key) => write!(f, "{key} must be {}", key.wanted()),
-            PlanFault::OverLimit(key) => write!(f, "{key} must be {}", key.wanted()),
             PlanFault::Memory => f.write_str("no memory"),
         }
     }

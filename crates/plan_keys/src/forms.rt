@@ -1,11 +1,10 @@
 //! What a value says by its form, or what is wrong with it.
 
-ghost use Rattle.std.specs.Prelude.{◌≡◌, ◌≤◌, ◌<◌, ◌*◌, ◌%◌, ◌==◌, ◌&&◌, true, ◌≤ℤ◌, nat_lt, nat_le, int_le, ℤ, List, [], All, IsTrue, IfOk, map, position, length};
-ghost use Rattle.std.specs.List.{list_all, list_any};
-ghost use Rattle.std.specs.Str.{bytes_eq};
+ghost use Rattle.std.specs.Prelude.{◌≡◌, ◌≤◌, ◌<◌, ◌*◌, true, nat_lt, All, IsTrue, IfOk, map, length};
+ghost use Rattle.std.specs.List.{list_all};
 ghost use Rattle.hex.specs.Hex.{is_hex_digit};
 ghost use Rattle.toml.specs.View.{view, items_view};
-ghost use Rattle.plan_keys.specs.Forms.{seen, has_bounds, within as within_limits, IsAscii, number_says, signed_says, truth_says, place_of as place_said, word_says, new_word as fresh_word, places_of, words_behind, words_say, ascii_says, is_digits, hex_value, hex_says, all_tables, item_count, tables_says, data_of, scalar_says};
+ghost use Rattle.plan_keys.specs.Keys.{seen, within as within_limits, IsAscii, number_says, place_of as place_said, word_says, ascii_says, is_digits, hex_value, hex_says, all_tables, tables_says};
 
 use arrayvec::ArrayVec;
 use toml::Value;
@@ -19,14 +18,6 @@ pub enum Wrong {
     BadValue,
     /// Its number or length is outside its bounds.
     OverLimit,
-}
-
-/// A value of one of several kinds.
-#[derive(Clone, Copy, Debug)]
-pub enum Scalar<'a> {
-    Truth(bool),
-    Integer(i32),
-    Text(&'a str),
 }
 
 /// Up to 32 bytes.
@@ -68,22 +59,6 @@ pub(crate) fn number_of(least: u64, most: u64, value: &Value) -> Result<u64, Wro
     }
 }
 
-/// A whole number with a sign from the least to the greatest.
-pub(crate) fn signed_of(least: i64, most: i64, value: &Value) -> Result<i64, Wrong>
-    ensures value { result ≡ signed_says least most (view value.now) }
-    ensures bounds { IfOk result (λ n. (least ≤ℤ n) × (n ≤ℤ most)) }
-{
-    let n = value.as_integer().ok_or(Wrong::BadValue)?;
-    within(least <= n && n <= most, n)
-}
-
-/// A truth value.
-pub(crate) fn truth_of(value: &Value) -> Result<bool, Wrong>
-    ensures { result ≡ truth_says (view value.now) }
-{
-    value.as_bool().ok_or(Wrong::BadValue)
-}
-
 /// The place of the word that a value says.
 fn place_of(words: &[&str], value: &Value) -> Option<usize>
     ensures { result ≡ place_said (map (λ w. w.now) words.now) (view value.now) }
@@ -101,85 +76,8 @@ fn place_of(words: &[&str], value: &Value) -> Option<usize>
 pub(crate) fn word_of<T: Copy>(words: &[&str], meanings: &[T], value: &Value) -> Result<T, Wrong>
     ensures { result ≡ word_says (map (λ w. w.now) words.now) meanings.now (view value.now) }
 {
-    let Some(place) = place_of(words, value) else {
-        return Err(Wrong::BadValue);
-    };
+    let place = place_of(words, value).ok_or(Wrong::BadValue)?;
     meanings.get(place).copied().ok_or(Wrong::BadValue)
-}
-
-/// Whether there are so many items.
-#[tactic(auto, using(crate::proofs::Items::item_count_view))]
-fn has_count(least: usize, most: usize, items: &[Value]) -> bool
-    ensures value { result ≡ has_bounds least most (item_count (items_view items.now)) }
-    ensures bounds { IsTrue result → (least ≤ length items.now) × (length items.now ≤ most) }
-{
-    least <= items.len() && items.len() <= most
-}
-
-/// Whether a place is one of these.
-fn is_among(before: &[usize], place: usize) -> bool
-    ensures { result ≡ list_any (λ q. q == place) before.now }
-{
-    before.iter().any(|other| *other == place)
-}
-
-/// The place and the meaning of a word that isn't at one of these places.
-fn new_word<T: Copy>(
-    words: &[&str],
-    meanings: &[T],
-    before: &[usize],
-    item: &Value,
-) -> Result<(usize, T), Wrong>
-    ensures { result ≡ fresh_word meanings.now before.now (place_said (map (λ w. w.now) words.now) (view item.now)) }
-{
-    let Some(place) = place_of(words, item) else {
-        return Err(Wrong::BadValue);
-    };
-    if is_among(before, place) {
-        return Err(Wrong::BadValue);
-    }
-    match meanings.get(place).copied() {
-        Some(meaning) => Ok((place, meaning)),
-        None => Err(Wrong::BadValue),
-    }
-}
-
-/// The meanings of so many words, each once.
-fn words_in<T: Copy + Default, const N: usize>(
-    words: &[&str],
-    meanings: &[T],
-    items: &[Value],
-) -> Result<ArrayVec<T, N>, Wrong>
-    requires room { length items.now ≤ N }
-    requires few { length items.now ≤ 32 }
-    ensures { seen (λ v. v.items) result ≡ words_behind meanings.now (places_of (map (λ w. w.now) words.now) (items_view items.now)) [] [] }
-{
-    let mut places: ArrayVec<usize, 32> = ArrayVec::new();
-    let mut said = ArrayVec::new();
-    for item in items {
-        let (place, meaning) = new_word(words, meanings, places.as_slice(), item)?;
-        places.push(place);
-        said.push(meaning);
-    }
-    Ok(said)
-}
-
-/// The meanings of the words of a list of one or more, each once.
-pub(crate) fn words_of<T: Copy + Default, const N: usize>(
-    words: &[&str],
-    meanings: &[T],
-    value: &Value,
-) -> Result<ArrayVec<T, N>, Wrong>
-    requires room { length words.now ≤ N }
-    requires few { length words.now ≤ 32 }
-    ensures { seen (λ v. v.items) result ≡ words_say (map (λ w. w.now) words.now) meanings.now (view value.now) }
-{
-    let items = value.as_array().ok_or(Wrong::BadValue)?.as_slice();
-    if has_count(1, words.len(), items) {
-        words_in(words, meanings, items)
-    } else {
-        Err(Wrong::BadValue)
-    }
 }
 
 /// Whether all bytes of a text are ASCII characters.
@@ -262,6 +160,7 @@ fn are_tables(items: &[Value]) -> bool
 }
 
 /// A list of so many tables.
+#[tactic(auto, using(crate::proofs::Documents::item_count_view))]
 pub(crate) fn tables_of(least: usize, most: usize, value: &Value) -> Result<&[Value], Wrong>
     ensures value { seen (λ v. items_view v.now) result ≡ tables_says least most (view value.now) }
     ensures bounds { IfOk result (λ v. (least ≤ length v.now) × (length v.now ≤ most)) }
@@ -271,20 +170,5 @@ pub(crate) fn tables_of(least: usize, most: usize, value: &Value) -> Result<&[Va
     if !are_tables(items) {
         return Err(Wrong::BadValue);
     }
-    within(has_count(least, most, items), items)
-}
-
-/// A truth value, a whole number of 32 bits with its sign, or a text.
-pub(crate) fn scalar_of(value: &Value) -> Result<Scalar<'_>, Wrong>
-    ensures { seen data_of result ≡ scalar_says (view value.now) }
-{
-    match value {
-        Value::Boolean(truth) => Ok(Scalar::Truth(*truth)),
-        Value::Integer(n) => match i32::try_from(*n) {
-            Ok(n) => Ok(Scalar::Integer(n)),
-            Err(_) => Err(Wrong::OverLimit),
-        },
-        Value::String(text) => Ok(Scalar::Text(text.as_str())),
-        _ => Err(Wrong::BadValue),
-    }
+    within(least <= items.len() && items.len() <= most, items)
 }

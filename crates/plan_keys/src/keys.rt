@@ -1,18 +1,19 @@
 //! The keys of a table, read one after another.
 
-ghost use Rattle.std.specs.Prelude.{◌≡◌, ◌≤◌, ◌≤ℤ◌, IfSome, OnOk, IfErr, IfOk, Some, None, option_map, map, length, true, false, codes};
+ghost use Rattle.std.specs.Prelude.{◌≡◌, ◌≤◌, IfSome, OnOk, Some, None, option_map, map, length, string_bytes, true};
+ghost use Rattle.std.specs.BTreeMap.{IsOrdered};
+ghost use Rattle.std.specs.Result.{result_unwrap_or, result_err};
+ghost use Rattle.std.specs.String.{string_cmp};
 ghost use Rattle.toml.specs.Data.{get_member};
 ghost use Rattle.toml.specs.View.{view, table_view, items_view};
-ghost use Rattle.plan_keys.specs.Forms.{IsAscii, all_tables, data_of};
 ghost use Rattle.plan_keys.specs.Keys as rule;
-ghost use Rattle.plan_keys.specs.Keys.{members_of, value_or, asked_of, fresh, noted, named, trouble_if, wrong_in, wanted_text, Says};
-ghost use Rattle.plan_keys.specs.Faults.{told_at, unknown_at, first_unknown, first_fault, IsLeastUnknown, Tells};
+ghost use Rattle.plan_keys.specs.Keys.{IsAscii, all_tables, members_of, asked_of, fresh, noted, named, wanted_text, Says};
+ghost use Rattle.plan_keys.specs.Faults.{told_at, unknown_at, is_known, first_unknown, AnswersBy};
 
 use crate::fault::{Key, PlanFault, Wanted};
-use crate::forms::{self, Scalar, Short, Wrong};
-use crate::places::{Place, unknown_key};
+use crate::forms::{self, Short, Wrong};
 use arrayvec::ArrayVec;
-use std::alloc::{AllocError, Global};
+use std::alloc::Global;
 use toml::{Table, Value};
 
 /// The name of a key.
@@ -36,13 +37,6 @@ pub struct Keys<'a> {
     pub found: Option<Found>,
 }
 
-/// The value at a key.
-fn find<'a>(table: &'a Table, name: &str) -> Option<&'a Value>
-    ensures { option_map (λ v. view v.now) result ≡ get_member name.now (table_view table.now) }
-{
-    table.get(name)
-}
-
 impl<'a> Keys<'a> {
     /// The keys of a table, or of none.
     pub fn of(table: Option<&'a Table>) -> Keys<'a>
@@ -60,10 +54,7 @@ impl<'a> Keys<'a> {
     pub fn find(&self, name: &str) -> Option<&'a Value>
         ensures { option_map (λ v. view v.now) result ≡ get_member name.now (members_of self.now.table) }
     {
-        match self.table {
-            Some(table) => find(table, name),
-            None => None,
-        }
+        self.table?.get(name)
     }
 
     /// Keeps a name that was asked for.
@@ -75,9 +66,9 @@ impl<'a> Keys<'a> {
         }
     }
 
-    /// Keeps what else is wrong with a key, if anything is, where nothing was wrong before.
-    pub fn note(&mut self, name: Name, wanted: Wanted, wrong: Option<Wrong>)
-        ensures { asked_of self.new ≡ noted (trouble_if name.now (wanted_text wanted) wrong) (asked_of self.old) }
+    /// Keeps what is wrong with a key, if anything is, where nothing was wrong before.
+    fn note(&mut self, name: Name, wanted: Wanted, wrong: Option<Wrong>)
+        ensures { asked_of self.new ≡ noted name.now (wanted_text wanted) wrong (asked_of self.old) }
     {
         if let Some(wrong) = wrong
             && self.found.is_none()
@@ -98,8 +89,8 @@ impl<'a> Keys<'a> {
         judged: Result<T, Wrong>,
         otherwise: T,
     ) -> T
-        ensures value { result ≡ value_or otherwise judged }
-        ensures asked { asked_of self.new ≡ noted (trouble_if name.now (wanted_text wanted) (wrong_in judged)) (named name.now (asked_of self.old)) }
+        ensures value { result ≡ result_unwrap_or judged otherwise }
+        ensures asked { asked_of self.new ≡ noted name.now (wanted_text wanted) (result_err judged) (named name.now (asked_of self.old)) }
     {
         self.name(name);
         match judged {
@@ -144,26 +135,12 @@ impl<'a> Keys<'a> {
         self.keep(name, Wanted::Between(least, most, ""), judged, default)
     }
 
-    /// A number with a sign, from the least to the greatest, or the default; without one it has to be there.
-    pub fn signed(&mut self, name: Name, least: i64, most: i64, default: Option<i64>) -> i64
-        requires bounds { least ≤ℤ most }
-        requires default { IfSome default (λ n. (least ≤ℤ n) × (n ≤ℤ most)) }
-        ensures said { Says (rule.signed name.now least most default) self.old self.new result }
-        ensures bounds { (least ≤ℤ result) × (result ≤ℤ most) }
-    {
-        let judged = match self.find(name) {
-            Some(value) => forms::signed_of(least, most, value),
-            None => default.ok_or(Wrong::Missing),
-        };
-        self.keep(name, Wanted::Signed(least, most), judged, least)
-    }
-
     /// A truth value, or the default; without one it has to be there.
     pub fn truth(&mut self, name: Name, default: Option<bool>) -> bool
         ensures { Says (rule.truth name.now default) self.old self.new result }
     {
         let judged = match self.find(name) {
-            Some(value) => forms::truth_of(value),
+            Some(value) => value.as_bool().ok_or(Wrong::BadValue),
             None => default.ok_or(Wrong::Missing),
         };
         self.keep(name, Wanted::Said("true or false"), judged, false)
@@ -184,26 +161,7 @@ impl<'a> Keys<'a> {
             Some(value) => forms::word_of(words, meanings, value),
             None => default.ok_or(Wrong::Missing),
         };
-        self.keep(name, Wanted::Word(words), judged, otherwise)
-    }
-
-    /// The meanings of one or more of these words, each once, or the default.
-    pub fn words<T: Copy + Default, const N: usize>(
-        &mut self,
-        name: Name,
-        words: &'static [&'static str],
-        meanings: &[T],
-        default: &[T],
-    ) -> ArrayVec<T, N>
-        requires words { (length words.now ≤ N) × (length words.now ≤ 32) }
-        requires default { length default.now ≤ N }
-        ensures { Says (rule.words name.now (map (λ w. w.now) words.now) meanings.now default.now) self.old self.new result.items }
-    {
-        let judged = match self.find(name) {
-            Some(value) => forms::words_of(words, meanings, value),
-            None => Ok(forms::list_of(default)),
-        };
-        self.keep(name, Wanted::Words(words), judged, forms::list_of(default))
+        self.keep(name, Wanted::Words("one of ", words, ""), judged, otherwise)
     }
 
     /// From so many to so many ASCII characters, or the default.
@@ -236,42 +194,28 @@ impl<'a> Keys<'a> {
         self.keep(name, wanted, judged, forms::list_of(default))
     }
 
-    /// From so many to so many tables of a list, or none where it is left out and not needed.
-    pub fn tables(&mut self, name: Name, least: usize, most: usize, needed: bool) -> &'a [Value]
-        ensures said { Says (rule.tables name.now least most needed) self.old self.new (items_view result.now) }
+    /// From so many to so many tables of a list, which has to be there.
+    pub fn tables(&mut self, name: Name, least: usize, most: usize) -> &'a [Value]
+        ensures said { Says (rule.tables name.now least most) self.old self.new (items_view result.now) }
         ensures bound { length result.now ≤ most }
         ensures tables { all_tables (items_view result.now) ≡ true }
     {
         let judged: Result<&'a [Value], Wrong> = match self.find(name) {
             Some(value) => forms::tables_of(least, most, value),
-            None if needed => Err(Wrong::Missing),
-            None => Ok(&[]),
+            None => Err(Wrong::Missing),
         };
         let wanted = Wanted::Between(least as u64, most as u64, " tables");
         self.keep(name, wanted, judged, &[])
     }
 
-    /// A truth value, a number of 32 bits or a text, which has to be there.
-    pub fn scalar(&mut self, name: Name) -> Scalar<'a>
-        ensures { Says (rule.scalar name.now) self.old self.new (data_of result) }
-    {
-        let judged = match self.find(name) {
-            Some(value) => forms::scalar_of(value),
-            None => Err(Wrong::Missing),
-        };
-        let wanted = Wanted::Said("true, false, a whole number of 32 bits or a text");
-        self.keep(name, wanted, judged, Scalar::Truth(false))
-    }
-
     /// Refuses the first key that was wrong, at the place of its table.
-    pub fn judged(&self, alloc: Global, place: &Place<'_>) -> Result<(), PlanFault>
-        ensures ok { OnOk result ((asked_of self.now).found ≡ None) }
-        ensures err { IfErr result (λ fault. Tells fault (told_at place.now.prefix.now (asked_of self.now).found)) }
+    pub fn judged(&self, alloc: Global, prefix: &str) -> Result<(), PlanFault>
+        ensures { AnswersBy (told_at prefix.now (asked_of self.now).found) result }
     {
         let Some(found) = self.found else {
             return Ok(());
         };
-        let key = Key::at(alloc, place, found.name, found.wanted)?;
+        let key = Key::at(alloc, prefix, found.name, found.wanted)?;
         Err(match found.wrong {
             Wrong::Missing => PlanFault::Missing(key),
             Wrong::BadValue => PlanFault::BadValue(key),
@@ -279,31 +223,43 @@ impl<'a> Keys<'a> {
         })
     }
 
-    /// The fault of the least key of the table, in the order of their bytes, that was never asked for.
-    pub fn unknown(&self, alloc: Global, place: &Place<'_>) -> Result<Option<PlanFault>, AllocError>
-        ensures told { IfOk result (λ told. told ≡ unknown_at place.now.prefix.now (asked_of self.now)) }
-        ensures least { IfSome (first_unknown (asked_of self.now).names (asked_of self.now).members) (IsLeastUnknown (asked_of self.now).names (asked_of self.now).members) }
+    /// Refuses the first key of the table that was never asked for. The keys ascend by their bytes, so it is the least.
+    pub fn unknown(&self, alloc: Global, prefix: &str) -> Result<(), PlanFault>
+        ensures told { AnswersBy (unknown_at prefix.now (asked_of self.now)) result }
+        ensures ordered { IfSome self.now.table (λ table. IsOrdered string_cmp table.now) }
     {
         let Some(table) = self.table else {
-            return Ok(None);
+            return Ok(());
         };
         let Some(name) = unknown_key(self.names.as_slice(), table) else {
-            return Ok(None);
+            return Ok(());
         };
         let wanted = Wanted::Said("left out, since there is no such key");
-        Ok(Some(PlanFault::BadValue(Key::at(alloc, place, name.as_str(), wanted)?)))
+        Err(PlanFault::BadValue(Key::at(alloc, prefix, name.as_str(), wanted)?))
     }
-    /// Refuses the first key that was wrong, and then the least that was never asked for, at the place of the table.
-    #[tactic(auto, using(crate::proofs::Chains::told_first))]
-    pub fn finish(&self, alloc: Global, place: &Place<'_>) -> Result<(), PlanFault>
-        ensures right { OnOk result ((asked_of self.now).found ≡ None) }
-        ensures none { OnOk result (first_fault place.now.prefix.now (asked_of self.now) ≡ None) }
-        ensures err { IfErr result (λ fault. Tells fault (first_fault place.now.prefix.now (asked_of self.now))) }
-    {
-        self.judged(alloc, place)?;
-        match self.unknown(alloc, place)? {
-            Some(fault) => Err(fault),
-            None => Ok(()),
+}
+
+/// Whether a name is one of these.
+fn is_among(names: &[&str], name: &str) -> bool
+    ensures { result ≡ is_known (map (λ s. s.now) names.now) name.now }
+{
+    for known in names {
+        if *known == name {
+            return true;
         }
     }
+    false
+}
+
+/// The first key of a table that is none of these.
+fn unknown_key<'a>(names: &[&str], table: &'a Table) -> Option<&'a String>
+    ensures first { option_map (λ k. string_bytes k.now) result ≡ first_unknown (map (λ s. s.now) names.now) (table_view table.now) }
+    ensures ordered { IsOrdered string_cmp table.now }
+{
+    for (name, _) in table.iter() {
+        if !is_among(names, name.as_str()) {
+            return Some(name);
+        }
+    }
+    None
 }

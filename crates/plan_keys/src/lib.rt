@@ -2,18 +2,16 @@
 //! is left out.
 //!
 //! A table's keys are read one after another from `Keys`, which remembers their names and the first that is wrong.
-//! `specs/Forms.antt` says what a value says, `specs/Keys.antt` the rules of keys and what is known after each, and
+//! `specs/Keys.antt` says what a value says by its form, the rules of keys and what is known after each, and
 //! `specs/Faults.antt` which fault is told.
 #![tactic(auto)]
 
 mod fault;
 mod forms;
 mod keys;
-mod places;
 mod texts;
 
 pub use fault::{Key, PlanFault, Wanted};
-pub use forms::{Scalar, Short, Wrong, list_of};
+pub use forms::{Short, Wrong, list_of};
 pub use keys::{Found, Keys};
-pub use places::{Place, place_in};
 pub use texts::{LONGEST, document};

@@ -6,7 +6,6 @@ ghost use Rattle.plan_keys.specs.declared.fault.PlanFault.TheVariants.{Memory};
 ghost use Rattle.plan_keys.specs.Faults.{text_says};
 
 use crate::fault::{Key, PlanFault, Wanted};
-use crate::places::Place;
 use std::alloc::Global;
 use toml::Table;
 
@@ -19,8 +18,7 @@ pub fn document(alloc: Global, text: &[u8]) -> Result<Table, PlanFault>
 {
     if text.len() > LONGEST {
         let wanted = Wanted::Said("at most 65536");
-        let key = Key::at(alloc, &Place { prefix: "" }, "bytes", wanted)?;
-        return Err(PlanFault::OverLimit(key));
+        return Err(PlanFault::OverLimit(Key::at(alloc, "", "bytes", wanted)?));
     }
     match toml::table_from_slice(alloc, text) {
         Ok(table) => Ok(table),

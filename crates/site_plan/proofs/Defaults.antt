@@ -1,17 +1,16 @@
 -- What the texts of the plans that are there without a file say.
 use Rattle.std.specs.Prelude.{◌≡◌, Bool, true, false, codes, pos, List, [], ◌∷◌, Some, None, Ok, refl}
-use Rattle.std.proofs.Common.{arith, ap, sym, subst, ◌∙◌}
+use Rattle.std.proofs.Common.{arith, sym, subst}
 use Rattle.toml.specs.Data.{Members, no_members, member, no_items, item, string, integer, array, table}
 use Rattle.toml.proofs.OnLiterals.{toml_on_literals}
 use Rattle.session_words.specs.declared.plan.PostPlan.{PostPlan}
 use Rattle.session_words.specs.declared.plan.SitePlan.{SitePlan}
 use Rattle.session_words.specs.declared.plan.CarPlan.{CarPlan}
-use Rattle.plan_keys.specs.declared.keys.Keys.{Keys}
-use Rattle.plan_keys.specs.Keys.{value_at, Holds, Asked, asked_of, fresh, ask_all, Reads}
+use Rattle.plan_keys.specs.Keys.{value_at, Holds}
 use Rattle.plan_keys.specs.Faults.{text_says, Each}
 use Rattle.plan_keys.proofs.Documents.{is_document}
 use Rattle.site_plan.specs.Keys.{limit_rules, post_tables, post_rules, car_rules}
-use Rattle.site_plan.specs.Plans.{post_file, site_fault, car_file, car_fault, fixed_mode, site_text, car_text, IsFixedSite, IsFixedCar, IsSitePlanOf, IsCarPlanOf}
+use Rattle.site_plan.specs.Plans.{post_file, site_fault, car_fault, IsCarOf, fixed_mode, site_text, car_text, IsFixedSite, IsFixedCar, IsSitePlanOf, IsCarPlanOf}
 
 -- the members of the table of a car or a post
 abbrev call : Bool → Members
@@ -31,30 +30,12 @@ unfolding toml_on_literals lib.Utf8.encode
 car_read true = is_document (car_text true) (call true) (omega arith) ((car_text true, (refl, refl)), refl)
 car_read false = is_document (car_text false) (call false) (omega arith) ((car_text false, (refl, refl)), refl)
 
-site_same : (ac : Bool) (site : SitePlan) (post : PostPlan) → Holds limit_rules no_members site → Holds (post_rules (Some 15120) (fixed_mode ac)) no_members post
-    → (site_fault (site_members ac) ≡ None) × Holds limit_rules (site_members ac) site × Each (Holds post_file) (value_at post_tables (site_members ac)) (post ∷ [])
-site_same true site post h k = (refl, h, (k, tt))
-site_same false site post h k = (refl, h, (k, tt))
-
 pub site_said : (ac : Bool) (site : SitePlan) → IsFixedSite ac site → IsSitePlanOf (site_text ac) site
-site_said ac site h =
-    let same = site_same ac site h.post h.limits h.keys in
-    let posts = subst (λ (l : List PostPlan). Each (Holds post_file) (value_at post_tables (site_members ac)) l) (sym h.alone) same.2 in
-    (site_members ac, site_read ac, same.0, record { keys = same.1; posts = posts })
-
-car_same : (ac : Bool) (car : CarPlan) → IsFixedCar ac car → (car_fault (call ac) ≡ None) × Holds car_file (call ac) car
-car_same true car h = (refl, h)
-car_same false car h = (refl, h)
+unfolding post_rules
+site_said true site h = (site_members true, site_read true, refl, record { keys = h.limits; posts = rw h.alone (h.keys, tt) })
+site_said false site h = (site_members false, site_read false, refl, record { keys = h.limits; posts = rw h.alone (h.keys, tt) })
 
 pub car_said : (ac : Bool) (car : CarPlan) → IsFixedCar ac car → IsCarPlanOf (car_text ac) car
-car_said ac car h = (call ac, car_read ac, (car_same ac car h).0, (car_same ac car h).1)
-
--- the defaults of a car, with a port, have nothing wrong
-right : (ac : Bool) → (ask_all (car_rules (Some 15120) (fixed_mode ac)) (fresh no_members)).found ≡ None
-right true = refl
-right false = refl
-
-pub nothing_wrong : (ac : Bool) (old new : Keys) (car : CarPlan) → asked_of old ≡ fresh no_members
-    → Reads (car_rules (Some 15120) (fixed_mode ac)) old new car → (asked_of new).found ≡ None
-nothing_wrong ac old new car is read =
-    ap (λ (asked : Asked). asked.found) (read.asked ∙ ap (ask_all (car_rules (Some 15120) (fixed_mode ac))) is) ∙ right ac
+unfolding car_rules
+car_said true car h = (call true, car_read true, refl, record { keys = h })
+car_said false car h = (call false, car_read false, refl, record { keys = h })

@@ -1,3 +1,2 @@
 mod Defaults
 pub mod Offers
-mod Ports

@@ -1,7 +1,9 @@
 -- Own: the keys of the plans of a station, of a post and of a car in the order in which they are judged, each with its
 -- rule and its field. The modes have their names of ISO 15118-2:2014, EnergyTransferModeType.
-use Rattle.std.specs.Prelude.{ℕ, ◌==◌, ◌||◌, not, is_some, Bool, true, false, List, [], ◌∷◌, codes, Option, Some}
-use Rattle.toml.specs.Data.{Items}
+use Rattle.std.specs.Prelude.{ℕ, ◌==◌, ◌&&◌, is_some, if◌then◌else◌, Bool, true, false, List, [], ◌∷◌, ◌++◌, codes, Option, Some, None}
+use Rattle.std.specs.Option.{ok_or}
+use Rattle.std.specs.Str.{bytes_eq}
+use Rattle.toml.specs.Data.{Data, Items, at, as_str}
 use Rattle.charge_world.specs.declared.offer.Dialect.{Dialect}
 use Rattle.charge_world.specs.declared.offer.Dialect.TheVariants.{Iso, Din}
 use Rattle.session_words.specs.Modes.{speaks_din}
@@ -12,7 +14,8 @@ use Rattle.session_words.specs.declared.plan.Stop.TheVariants.{Terminate, Pause}
 use Rattle.session_words.specs.declared.plan.PostPlan.{PostPlan}
 use Rattle.session_words.specs.declared.plan.SitePlan.{SitePlan}
 use Rattle.session_words.specs.declared.plan.CarPlan.{CarPlan}
-use Rattle.plan_keys.specs.Keys.{Rule, number, perhaps, truth, word, words, ascii, hex, tables, between, trouble_if, missing_unless, Rules, done, given, also, key, ◌⊳◌}
+use Rattle.plan_keys.specs.declared.forms.Wrong.TheVariants.{BadValue}
+use Rattle.plan_keys.specs.Keys.{on_some, listed, Rule, number, there, perhaps, truth, word, ascii, hex, tables, Rules, done, given, judged, key, ◌⊳◌}
 
 -- tenths of a volt or of an ampere
 abbrev pub tenths : List ℕ → ℕ → Rule ℕ
@@ -33,12 +36,36 @@ abbrev pub stop_rule : Rule Stop
 stop_rule = word (codes "stop") (codes "terminate" ∷ codes "pause" ∷ []) (Terminate ∷ Pause ∷ []) (Some Terminate) Terminate
 
 -- ISO, and DIN SPEC 70121 where it goes with the mode
-abbrev pub dialects_if : Bool → Rule (List Dialect)
-dialects_if true = words (codes "dialects") (codes "iso" ∷ codes "din" ∷ []) (Iso ∷ Din ∷ []) (Iso ∷ Din ∷ [])
-dialects_if false = words (codes "dialects") (codes "iso" ∷ []) (Iso ∷ []) (Iso ∷ [])
+abbrev pub dialect_names : Bool → List (List ℕ)
+dialect_names din = if din then codes "iso" ∷ codes "din" ∷ [] else codes "iso" ∷ []
+
+abbrev pub dialects_of : Bool → List Dialect
+dialects_of din = if din then Iso ∷ Din ∷ [] else Iso ∷ []
+
+abbrev pub dialect_at : Bool → Data → ℕ → Option Dialect
+dialect_at din list place =
+    on_some (on_some (at place list) as_str None)
+    (λ s. if bytes_eq s (codes "iso") then Some Iso else if bytes_eq s (codes "din") && din then Some Din else None) None
+
+-- one or two, each once
+abbrev pub two_of : Dialect → Dialect → Option (List Dialect)
+two_of Iso Din = Some (Iso ∷ Din ∷ [])
+two_of Din Iso = Some (Din ∷ Iso ∷ [])
+two_of _ _ = None
+
+abbrev pub offer_of : Bool → Data → Option (List Dialect)
+offer_of din list =
+    on_some (dialect_at din list 0) (λ first. if is_some (at 1 list) then on_some (dialect_at din list 1) (λ second.
+    if is_some (at 2 list) then None else two_of first second) None else Some (first ∷ [])) None
 
 abbrev pub dialects_rule : Mode → Rule (List Dialect)
-dialects_rule mode = dialects_if (speaks_din mode)
+dialects_rule mode = record {
+  name = codes "dialects";
+  form = λ d. ok_or (offer_of (speaks_din mode) d) BadValue;
+  wanted = codes "a list of one or more of " ++ listed (dialect_names (speaks_din mode)) ++ codes ", each once";
+  default = Some (dialects_of (speaks_din mode));
+  otherwise = dialects_of (speaks_din mode);
+}
 
 -- the whole of a station, and its posts
 abbrev pub limit_rules : Rules SitePlan
@@ -49,10 +76,10 @@ limit_rules =
     ⊳ done
 
 abbrev pub post_tables : Rule Items
-post_tables = tables (codes "post") 1 8 true
+post_tables = tables (codes "post") 1 8
 
 -- A port and a mode have their defaults given. Watts, tenths of a volt and of an ampere, and volts.
-abbrev pub post_rules : Option ℕ → Mode → Rules PostPlan
+unfoldable pub post_rules : Option ℕ → Mode → Rules PostPlan
 post_rules port usual =
     key (number (codes "tcp") 1 65535 port) (λ p. p.tcp)
     ⊳ key (number (codes "sdp") 0 65535 (Some 0)) (λ p. p.sdp)
@@ -70,10 +97,17 @@ post_rules port usual =
     ⊳ key (number (codes "nominal") 1 1000 (Some 230)) (λ p. p.nominal)
     ⊳ done)
 
+-- the port of a car, which has to be there where there is no discovery
+abbrev pub tcp_rule : Option ℕ → Bool → Rule (Option ℕ)
+tcp_rule port needed = if needed then there (number (codes "tcp") 1 65535 port) else perhaps (codes "tcp") 1 65535 port
+
 -- percent, tenths of a volt and of an ampere, watts, replies, detections and milliseconds
-abbrev pub drive_rules : Mode → Rules CarPlan
-drive_rules usual =
-    key (number (codes "turns") 1 4294967296 (Some 1000000)) (λ c. c.turns)
+unfoldable pub car_rules : Option ℕ → Mode → Rules CarPlan
+car_rules port usual =
+    judged (perhaps (codes "tcp") 1 65535 port)
+    ⊳ given (number (codes "sdp") 0 65535 (Some 0)) (λ c. c.sdp) (λ sdp.
+    key (tcp_rule port (sdp == 0)) (λ c. c.tcp)
+    ⊳ key (number (codes "turns") 1 4294967296 (Some 1000000)) (λ c. c.turns)
     ⊳ given (mode_rule usual) (λ c. c.mode) (λ mode.
     key (dialects_rule mode) (λ c. c.dialects.items)
     ⊳ key (hex (codes "car_id") 6 6 (0 ∷ 1 ∷ 2 ∷ 3 ∷ 4 ∷ 5 ∷ [])) (λ c. c.car_id)
@@ -89,11 +123,4 @@ drive_rules usual =
     ⊳ key (number (codes "pace") 100 1000 (Some 100)) (λ c. c.pace)
     ⊳ key stop_rule (λ c. c.stop)
     ⊳ key (hex (codes "session") 0 8 []) (λ c. c.session.bytes.items)
-    ⊳ done)
-
--- the port of a car has to be there where there is no discovery
-abbrev pub car_rules : Option ℕ → Mode → Rules CarPlan
-car_rules port usual =
-    given (perhaps (codes "tcp") 1 65535 port) (λ c. c.tcp) (λ tcp.
-    given (number (codes "sdp") 0 65535 (Some 0)) (λ c. c.sdp) (λ sdp.
-    also (trouble_if (codes "tcp") (between 1 65535 []) (missing_unless (is_some tcp || not (sdp == 0)))) (drive_rules usual)))
+    ⊳ done))

@@ -1,5 +1,6 @@
 -- Own: what a text says as the plan of a station or of a car, its first fault, and the plans without a file.
-use Rattle.std.specs.Prelude.{◌≡◌, ℕ, Bool, true, false, List, [], ◌∷◌, ◌++◌, codes, Option, Some, None}
+use Rattle.std.specs.Prelude.{◌≡◌, ℕ, Bool, true, false, List, [], ◌∷◌, ◌++◌, codes, decimal, if◌then◌else◌, Option, Some, None}
+use Rattle.std.specs.Option.{option_or}
 use Rattle.toml.specs.Data.{Members, no_members}
 use Rattle.session_words.specs.declared.mode.Mode.{Mode}
 use Rattle.session_words.specs.declared.mode.Mode.TheVariants.{AcThreePhaseCore, DcExtended}
@@ -7,19 +8,19 @@ use Rattle.session_words.specs.declared.plan.PostPlan.{PostPlan}
 use Rattle.session_words.specs.declared.plan.SitePlan.{SitePlan}
 use Rattle.session_words.specs.declared.plan.CarPlan.{CarPlan}
 use Rattle.plan_keys.specs.declared.fault.PlanFault.{PlanFault}
-use Rattle.plan_keys.specs.Keys.{value_at, Asked, fresh, ask, Rules, ask_all, Holds, first_of}
-use Rattle.plan_keys.specs.Faults.{told_at, unknown_at, prefix_in, first_fault, table_fault, table_unknown, each_fault, Each, text_says, told, IsPlanOf}
+use Rattle.plan_keys.specs.Keys.{value_at, fresh, ask, Rules, ask_all, Holds}
+use Rattle.plan_keys.specs.Faults.{told_at, unknown_at, each_fault, Each, text_says, told, IsPlanOf}
 use Rattle.site_plan.specs.Keys.{limit_rules, post_tables, post_rules, car_rules}
 
--- the plan of a post in a file, the first fault of its keys, and that of its unknown keys
+-- the plan of a post in a file, and the first fault of its keys, or of its unknown ones
 abbrev pub post_file : Rules PostPlan
 post_file = post_rules None DcExtended
 
-abbrev pub post_fault : ℕ → Members → Option PlanFault
-post_fault number table = table_fault post_file (prefix_in [] (codes "post") number) table
-
-abbrev pub post_unknown : ℕ → Members → Option PlanFault
-post_unknown number table = table_unknown post_file (prefix_in [] (codes "post") number) table
+abbrev pub post_fault : Bool → ℕ → Members → Option PlanFault
+post_fault unknown number table =
+    let place = codes "post." ++ decimal number ++ codes "." in
+    let asked = ask_all post_file (fresh table) in
+    if unknown then unknown_at place asked else told_at place asked.found
 
 -- the plan of a station has what the keys of its table say, and a post for each table of its list
 pub record IsSiteOf (table : Members) (site : SitePlan) : Type 0 where
@@ -27,29 +28,29 @@ pub record IsSiteOf (table : Members) (site : SitePlan) : Type 0 where
   pub posts : Each (Holds post_file) (value_at post_tables table) site.post.items
 
 -- its first fault: that of its keys, of its posts one after another, of its unknown keys, and of those of its posts
-abbrev pub site_asked : Members → Asked
-site_asked table = ask post_tables (ask_all limit_rules (fresh table))
-
 abbrev pub site_fault : Members → Option PlanFault
 site_fault table =
-    first_of (told_at [] (site_asked table).found)
-    (first_of (each_fault post_fault 1 (value_at post_tables table))
-    (first_of (unknown_at [] (site_asked table))
-    (each_fault post_unknown 1 (value_at post_tables table))))
+    let asked = ask post_tables (ask_all limit_rules (fresh table)) in
+    let posts = value_at post_tables table in
+    option_or (told_at [] asked.found) (option_or (each_fault (post_fault false) 1 posts)
+    (option_or (unknown_at [] asked) (each_fault (post_fault true) 1 posts)))
 
--- the plan of a car in a file, and its first fault
+-- the plan of a car in a file has what the keys of its table say, and its first fault
 abbrev pub car_file : Rules CarPlan
 car_file = car_rules None DcExtended
 
+pub record IsCarOf (table : Members) (car : CarPlan) : Type 0 where
+  pub keys : Holds car_file table car
+
 abbrev pub car_fault : Members → Option PlanFault
-car_fault table = first_fault [] (ask_all car_file (fresh table))
+car_fault table = let asked = ask_all car_file (fresh table) in option_or (told_at [] asked.found) (unknown_at [] asked)
 
 -- of texts
 abbrev pub IsSitePlanOf : List ℕ → SitePlan → Type 0
 IsSitePlanOf text site = IsPlanOf site_fault IsSiteOf text site
 
 abbrev pub IsCarPlanOf : List ℕ → CarPlan → Type 0
-IsCarPlanOf text car = IsPlanOf car_fault (Holds car_file) text car
+IsCarPlanOf text car = IsPlanOf car_fault IsCarOf text car
 
 abbrev pub site_told : List ℕ → Option PlanFault
 site_told text = told site_fault (text_says text)

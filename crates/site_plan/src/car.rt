@@ -1,18 +1,16 @@
 //! The keys of a car.
 
-ghost use Rattle.std.specs.Prelude.{◌≡◌, ◌≤◌, ◌||◌, ◌==◌, not, is_some, IfOk, IfErr, IfSome, IsSome, OnOk, None, length};
+ghost use Rattle.std.specs.Prelude.{◌≡◌, ◌≤◌, ◌==◌, IfOk, IfSome, IsSome, length};
 ghost use Rattle.session_words.specs.Plans.{IsCarPlan, IsWithin};
-ghost use Rattle.toml.specs.View.{table_view};
-ghost use Rattle.plan_keys.specs.Keys.{missing_unless, Holds, Reads};
-ghost use Rattle.plan_keys.specs.Faults.{Tells};
-ghost use Rattle.site_plan.specs.Keys.{car_rules};
-ghost use Rattle.site_plan.specs.Plans.{car_file, car_fault};
+ghost use Rattle.plan_keys.specs.Keys.{Reads, Says};
+ghost use Rattle.plan_keys.specs.Faults.{AnswersBy};
+ghost use Rattle.site_plan.specs.Keys.{car_rules, tcp_rule};
+ghost use Rattle.site_plan.specs.Plans.{IsCarPlanOf, car_told};
 
 use crate::words::{dialects, mode, stop, tenths};
-use plan_keys::{Keys, Place, PlanFault, Short, Wanted, Wrong, list_of};
+use plan_keys::{Keys, PlanFault, Short, document, list_of};
 use session_words::{CarPlan, Mode, SessionId};
 use std::alloc::Global;
-use toml::Table;
 
 /// Six bytes.
 fn six(bytes: Short) -> [u8; 6]
@@ -24,23 +22,18 @@ fn six(bytes: Short) -> [u8; 6]
     list
 }
 
-/// The port that a car dials at once, if there is one.
-fn dialed(tcp: Option<u64>) -> Option<u16>
-    requires { IfSome tcp (IsWithin 1 65535) }
-    ensures port { result ≡ tcp }
+/// The port that a car dials at once, which has to be there where it has no discovery.
+#[tactic(auto, using(plan_keys::proofs::Chains::says_there))]
+fn tcp_port(keys: &mut Keys<'_>, port: Option<u64>, sdp: u16) -> Option<u16>
+    requires { IfSome port (IsWithin 1 65535) }
+    ensures said { Says (tcp_rule port (sdp == 0)) keys.old keys.new result }
+    ensures there { sdp ≡ 0 → IsSome result }
     ensures some { IfSome result (λ p. 1 ≤ p) }
 {
-    tcp.map(|port| port as u16)
-}
-
-/// What is wrong where a car has nowhere to call: neither a port nor discovery.
-fn nowhere(tcp: Option<u64>, sdp: u16) -> Option<Wrong>
-    ensures { result ≡ missing_unless (is_some tcp || not (sdp == 0)) }
-{
-    if tcp.is_some() || sdp != 0 {
-        None
+    if sdp == 0 {
+        Some(keys.number("tcp", 1, 65535, port) as u16)
     } else {
-        Some(Wrong::Missing)
+        keys.perhaps("tcp", 1, 65535, port).map(|port| port as u16)
     }
 }
 
@@ -48,15 +41,15 @@ fn nowhere(tcp: Option<u64>, sdp: u16) -> Option<Wrong>
 pub(crate) fn car_keys(keys: &mut Keys<'_>, port: Option<u64>, usual: Mode) -> CarPlan
     requires { IfSome port (IsWithin 1 65535) }
     ensures read { Reads (car_rules port usual) keys.old keys.new result }
-    ensures within { (result.sdp ≡ 0 → IsSome result.tcp) → IsCarPlan result }
+    ensures within { IsCarPlan result }
 {
-    let tcp = keys.perhaps("tcp", 1, 65535, port);
+    let _port = keys.perhaps("tcp", 1, 65535, port);
     let sdp = keys.number("sdp", 0, 65535, Some(0)) as u16;
-    keys.note("tcp", Wanted::Between(1, 65535, ""), nowhere(tcp, sdp));
+    let tcp = tcp_port(keys, port, sdp);
     let turns = keys.number("turns", 1, 4_294_967_296, Some(1_000_000));
     let mode = mode(keys, usual);
     CarPlan {
-        tcp: dialed(tcp),
+        tcp,
         sdp,
         turns,
         mode,
@@ -79,18 +72,16 @@ pub(crate) fn car_keys(keys: &mut Keys<'_>, port: Option<u64>, usual: Mode) -> C
     }
 }
 
-/// Reads the plan of a car.
-pub(crate) fn car_plan(alloc: Global, table: &Table) -> Result<CarPlan, PlanFault>
-    ensures plan { IfOk result (Holds car_file (table_view table.now)) }
-    ensures none { OnOk result (car_fault (table_view table.now) ≡ None) }
-    ensures fault { IfErr result (λ fault. Tells fault (car_fault (table_view table.now))) }
+/// Reads the plan of a car from TOML, or names its first fault (own).
+pub fn car_plan_of(alloc: Global, text: &[u8]) -> Result<CarPlan, PlanFault>
+    ensures plan { IfOk result (IsCarPlanOf text.now) }
+    ensures told { AnswersBy (car_told text.now) result }
     ensures within { IfOk result IsCarPlan }
 {
-    let whole = Place { prefix: "" };
-    let mut keys = Keys::of(Some(table));
+    let table = document(alloc, text)?;
+    let mut keys = Keys::of(Some(&table));
     let car = car_keys(&mut keys, None, Mode::DcExtended);
-    match keys.finish(alloc, &whole) {
-        Ok(()) => Ok(car),
-        Err(fault) => Err(fault),
-    }
+    keys.judged(alloc, "")?;
+    keys.unknown(alloc, "")?;
+    Ok(car)
 }

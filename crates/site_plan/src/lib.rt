@@ -5,13 +5,13 @@
 
 mod car;
 mod post;
-mod reading;
 mod site;
 mod stored;
 mod words;
 
+pub use car::car_plan_of;
 pub use plan_keys::{Key, PlanFault};
-pub use reading::{car_plan_of, site_plan_of};
 pub use session_words::{CarPlan, Mode, PostPlan, SitePlan, Stop};
+pub use site::site_plan_of;
 pub use stored::{fixed, fixed_car};
 pub use words::mode_name;

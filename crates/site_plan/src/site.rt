@@ -1,47 +1,42 @@
 //! The keys of a station.
 
-ghost use Rattle.std.specs.Prelude.{◌≡◌, ◌≤◌, All, IfOk, IfErr, IsSome, OnOk, None, Some, true, [], length};
+ghost use Rattle.std.specs.Prelude.{◌≡◌, ◌≤◌, All, IfOk, IsSome, Some, true, [], length};
 ghost use Rattle.arrayvec.specs.ArrayVec.{array_vec_len};
 ghost use Rattle.session_words.specs.Plans.{IsPostPlan, IsSitePlan, IsWithin};
 ghost use Rattle.toml.specs.Data.{as_table};
 ghost use Rattle.toml.specs.View.{view, table_view, items_view};
-ghost use Rattle.plan_keys.specs.Forms.{all_tables};
-ghost use Rattle.plan_keys.specs.Keys.{Holds, Reads};
-ghost use Rattle.plan_keys.specs.Faults.{Tells, Each, each_fault};
+ghost use Rattle.plan_keys.specs.Keys.{Holds, Reads, all_tables};
+ghost use Rattle.plan_keys.specs.Faults.{AnswersBy, Each, each_fault};
 ghost use Rattle.site_plan.specs.Keys.{limit_rules};
-ghost use Rattle.site_plan.specs.Plans.{post_file, IsSiteOf, post_fault, post_unknown, site_fault};
+ghost use Rattle.site_plan.specs.Plans.{post_file, IsSitePlanOf, post_fault, site_told};
 
 use crate::post::post_plan;
 use arrayvec::ArrayVec;
-use plan_keys::{Keys, Place, PlanFault, place_in};
+use plan_keys::{Keys, PlanFault, document};
 use session_words::{Mode, PostPlan, SitePlan};
 use std::alloc::Global;
 use toml::{Table, Value};
 
-/// A post that was read, and the fault of its unknown keys.
-#[derive(Drop)]
-struct ReadPost {
-    plan: PostPlan,
-    unknown: Option<PlanFault>,
-}
-
-/// Reads the plan of the post with this number.
-fn read_post(alloc: Global, number: u16, table: &Table) -> Result<ReadPost, PlanFault>
-    ensures plan { IfOk result (λ post. Holds post_file (table_view table.now) post.plan) }
-    ensures unknown { IfOk result (λ post. post.unknown ≡ post_unknown number (table_view table.now)) }
-    ensures none { OnOk result (post_fault number (table_view table.now) ≡ None) }
-    ensures fault { IfErr result (λ fault. Tells fault (post_fault number (table_view table.now))) }
-    ensures within { IfOk result (λ post. IsPostPlan post.plan) }
+/// Reads the plan of the post with this number. Its first key that is wrong is refused, or else the first unknown one.
+fn read_post(
+    alloc: Global,
+    number: u16,
+    table: &Table,
+    unknown: bool,
+) -> Result<PostPlan, PlanFault>
+    ensures plan { IfOk result (Holds post_file (table_view table.now)) }
+    ensures told { AnswersBy (post_fault unknown number (table_view table.now)) result }
+    ensures within { IfOk result IsPostPlan }
 {
-    let prefix = place_in(alloc, &Place { prefix: "" }, "post", number)?;
-    let place = Place {
-        prefix: prefix.as_str(),
-    };
+    let prefix = format!(in alloc; "post.{number}.")?;
     let mut keys = Keys::of(Some(table));
     let plan = post_plan(&mut keys, None, Mode::DcExtended);
-    keys.judged(alloc, &place)?;
-    let unknown = keys.unknown(alloc, &place)?;
-    Ok(ReadPost { plan, unknown })
+    if unknown {
+        keys.unknown(alloc, prefix.as_str())?;
+    } else {
+        keys.judged(alloc, prefix.as_str())?;
+    }
+    Ok(plan)
 }
 
 /// The table of an item that is one.
@@ -55,34 +50,27 @@ fn table_of(item: &Value) -> &Table
     }
 }
 
-/// The posts that were read, and the first fault of their unknown keys.
-#[derive(Drop)]
-struct ReadPosts {
-    plans: ArrayVec<PostPlan, 8>,
-    unknown: Option<PlanFault>,
-}
-
 /// Reads the plans of the posts, one after another.
-fn read_posts(alloc: Global, items: &[Value]) -> Result<ReadPosts, PlanFault>
+fn read_posts(
+    alloc: Global,
+    items: &[Value],
+    unknown: bool,
+) -> Result<ArrayVec<PostPlan, 8>, PlanFault>
     requires few { length items.now ≤ 8 }
     requires tables { all_tables (items_view items.now) ≡ true }
-    ensures plans { IfOk result (λ v. Each (Holds post_file) (items_view items.now) v.plans.items) }
-    ensures unknown { IfOk result (λ v. v.unknown ≡ each_fault post_unknown 1 (items_view items.now)) }
-    ensures none { OnOk result (each_fault post_fault 1 (items_view items.now) ≡ None) }
-    ensures fault { IfErr result (λ fault. Tells fault (each_fault post_fault 1 (items_view items.now))) }
-    ensures within { IfOk result (λ v. All IsPostPlan v.plans.items) }
-    ensures count { IfOk result (λ v. array_vec_len v.plans ≡ length items.now) }
+    ensures plans { IfOk result (λ v. Each (Holds post_file) (items_view items.now) v.items) }
+    ensures told { AnswersBy (each_fault (post_fault unknown) 1 (items_view items.now)) result }
+    ensures within { IfOk result (λ v. All IsPostPlan v.items) }
+    ensures count { IfOk result (λ v. array_vec_len v ≡ length items.now) }
 {
     let mut plans = ArrayVec::new();
-    let mut unknown = None;
     let mut number: u16 = 1;
     for item in items {
-        let post = read_post(alloc, number, table_of(item))?;
-        plans.push(post.plan);
-        unknown = unknown.or(post.unknown);
+        let post = read_post(alloc, number, table_of(item), unknown)?;
+        plans.push(post);
         number += 1;
     }
-    Ok(ReadPosts { plans, unknown })
+    Ok(plans)
 }
 
 /// Reads what a station's plan says of the whole, without its posts.
@@ -99,22 +87,19 @@ pub(crate) fn site_limits(keys: &mut Keys<'_>) -> SitePlan
     }
 }
 
-/// Reads the plan of a station.
-pub(crate) fn site_plan(alloc: Global, table: &Table) -> Result<SitePlan, PlanFault>
-    ensures plan { IfOk result (IsSiteOf (table_view table.now)) }
-    ensures none { OnOk result (site_fault (table_view table.now) ≡ None) }
-    ensures fault { IfErr result (λ fault. Tells fault (site_fault (table_view table.now))) }
+/// Reads the plan of a station from TOML, or names its first fault (own).
+pub fn site_plan_of(alloc: Global, text: &[u8]) -> Result<SitePlan, PlanFault>
+    ensures plan { IfOk result (IsSitePlanOf text.now) }
+    ensures told { AnswersBy (site_told text.now) result }
     ensures within { IfOk result IsSitePlan }
 {
-    let whole = Place { prefix: "" };
-    let mut keys = Keys::of(Some(table));
+    let table = document(alloc, text)?;
+    let mut keys = Keys::of(Some(&table));
     let mut site = site_limits(&mut keys);
-    let items = keys.tables("post", 1, 8, true);
-    keys.judged(alloc, &whole)?;
-    let posts = read_posts(alloc, items)?;
-    if let Some(fault) = keys.unknown(alloc, &whole)?.or(posts.unknown) {
-        return Err(fault);
-    }
-    site.post = posts.plans;
+    let items = keys.tables("post", 1, 8);
+    keys.judged(alloc, "")?;
+    site.post = read_posts(alloc, items, false)?;
+    keys.unknown(alloc, "")?;
+    read_posts(alloc, items, true)?;
     Ok(site)
 }

@@ -33,7 +33,6 @@ fn default_site(ac: bool) -> SitePlan
 }
 
 /// The plan of a car with the defaults of its keys.
-#[tactic(auto, using(crate::proofs::Defaults::nothing_wrong))]
 fn default_car(ac: bool) -> CarPlan
     ensures fields { IsFixedCar ac result }
     ensures within { IsCarPlan result }
@@ -53,6 +52,7 @@ pub fn fixed(ac: bool) -> SitePlan
 
 /// The plan of a car that dials the TCP port 15120, and else the defaults (own). It takes alternating current in three
 /// phases and speaks ISO alone where `ac` is true; else it takes direct current and speaks ISO and DIN.
+#[tactic(auto, using(crate::proofs::Defaults::car_said))]
 pub fn fixed_car(ac: bool) -> CarPlan
     ensures fields { IsFixedCar ac result }
     ensures text { IsCarPlanOf (spec.car_text ac) result }

@@ -1,17 +1,20 @@
 //! The words of plans.
 
-ghost use Rattle.std.specs.Prelude.{◌≡◌, ◌≤◌, map, Ok, Some, codes};
+ghost use Rattle.std.specs.Prelude.{◌≡◌, ◌≤◌, map, option_map, IfSome, Ok, Some, codes};
+ghost use Rattle.charge_world.specs.declared.offer.Dialect.TheVariants.{Din};
+ghost use Rattle.session_words.specs.Modes.{speaks_din, CanSpeakDin};
 ghost use Rattle.session_words.specs.Plans.{IsOffer};
 ghost use Rattle.toml.specs.Data.{string};
-ghost use Rattle.plan_keys.specs.Forms.{IsAscii, word_says};
-ghost use Rattle.plan_keys.specs.Keys.{ascii, Says};
+ghost use Rattle.toml.specs.View.{view};
+ghost use Rattle.plan_keys.specs.Keys.{IsAscii, word_says, ascii, Says};
 ghost use Rattle.site_plan.specs.Keys as spec;
 ghost use Rattle.site_plan.specs.Keys.{mode_rule, stop_rule, dialects_rule};
 
 use arrayvec::ArrayVec;
 use charge_world::{Dialect, Tenths};
-use plan_keys::Keys;
+use plan_keys::{Keys, Wanted, Wrong, list_of};
 use session_words::{EvseText, Mode, Stop};
+use toml::Value;
 
 /// The names of the modes.
 fn mode_names() -> &'static [&'static str]
@@ -67,17 +70,77 @@ pub(crate) fn stop(keys: &mut Keys<'_>) -> Stop
     keys.word("stop", &["terminate", "pause"], &ways, Some(usual), usual)
 }
 
+/// The names of the dialects that go with a mode.
+fn dialect_names(mode: Mode) -> &'static [&'static str]
+    ensures { map (λ w. w.now) result.now ≡ spec.dialect_names (speaks_din mode) }
+{
+    if mode.can_speak_din() {
+        &["iso", "din"]
+    } else {
+        &["iso"]
+    }
+}
+
+/// The dialects that go with a mode.
+#[tactic(auto, using(crate::proofs::Offers::both, crate::proofs::Offers::alone))]
+fn all_of(mode: Mode) -> ArrayVec<Dialect, 2>
+    ensures value { result.items ≡ spec.dialects_of (speaks_din mode) }
+    ensures fits { IsOffer mode result.items }
+{
+    if mode.can_speak_din() {
+        list_of(&[Dialect::Iso, Dialect::Din])
+    } else {
+        list_of(&[Dialect::Iso])
+    }
+}
+
+/// The dialect at a place of a list, where it goes with the mode.
+fn dialect_at(mode: Mode, list: &Value, place: usize) -> Option<Dialect>
+    ensures value { result ≡ spec.dialect_at (speaks_din mode) (view list.now) place }
+    ensures din { result ≡ Some Din → CanSpeakDin mode }
+{
+    let name = list.get(place)?.as_str()?;
+    if name == "iso" {
+        Some(Dialect::Iso)
+    } else if name == "din" && mode.can_speak_din() {
+        Some(Dialect::Din)
+    } else {
+        None
+    }
+}
+
+/// The dialects of a list of one or two, each once.
+#[tactic(auto, using(crate::proofs::Offers::pair, crate::proofs::Offers::alone))]
+fn offer_of(mode: Mode, list: &Value) -> Option<ArrayVec<Dialect, 2>>
+    ensures value { option_map (λ v. v.items) result ≡ spec.offer_of (speaks_din mode) (view list.now) }
+    ensures fits { IfSome result (λ v. IsOffer mode v.items) }
+{
+    let first = dialect_at(mode, list, 0)?;
+    if list.get(1).is_none() {
+        return Some(list_of(&[first]));
+    }
+    let second = dialect_at(mode, list, 1)?;
+    if list.get(2).is_some() || first == second {
+        return None;
+    }
+    Some(list_of(&[first, second]))
+}
+
 /// The dialects, or all that go with the mode.
 pub(crate) fn dialects(keys: &mut Keys<'_>, mode: Mode) -> ArrayVec<Dialect, 2>
     ensures said { Says (dialects_rule mode) keys.old keys.new result.items }
     ensures fits { IsOffer mode result.items }
 {
-    let both = [Dialect::Iso, Dialect::Din];
-    if mode.can_speak_din() {
-        keys.words("dialects", &["iso", "din"], &both, &both)
-    } else {
-        keys.words("dialects", &["iso"], &both[..1], &both[..1])
-    }
+    let judged = match keys.find("dialects") {
+        Some(list) => offer_of(mode, list).ok_or(Wrong::BadValue),
+        None => Ok(all_of(mode)),
+    };
+    let wanted = Wanted::Words(
+        "a list of one or more of ",
+        dialect_names(mode),
+        ", each once",
+    );
+    keys.keep("dialects", wanted, judged, all_of(mode))
 }
 
 /// An EVSEID in ISO, or that of no operator.

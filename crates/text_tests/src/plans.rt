@@ -1,7 +1,6 @@
 //! What no clause says: the messages of faults, and that there is memory for a plan.
 
 use charge_world::Dialect;
-use plan_keys::{Keys, Place, Scalar, document};
 use site_plan::{Mode, PlanFault, Stop, car_plan_of, fixed, fixed_car, mode_name, site_plan_of};
 use std::alloc::{AllocError, Global};
 use std::test::Fail;
@@ -84,55 +83,6 @@ fn faults_of_cars(rt: HostRuntime) -> Result<(), Fail> {
     for (text, wanted) in table {
         let (_, car) = told(rt.alloc(), text.as_bytes())?;
         assert_eq!(rt; car.as_str(), wanted, "{text}");
-    }
-    Ok(())
-}
-
-/// What a table says by the forms that no plan has, or its first fault.
-fn said_by_forms(alloc: Global, text: &[u8]) -> Result<String, AllocError> {
-    let table = match document(alloc, text) {
-        Ok(table) => table,
-        Err(fault) => return format!(in alloc; "{fault}"),
-    };
-    let mut keys = Keys::of(Some(&table));
-    let id = keys.signed("id", -32768, 32767, None);
-    let value = keys.scalar("value");
-    let params = keys.tables("param", 1, 2, false).len();
-    if let Err(fault) = keys.finish(alloc, &Place { prefix: "set.1." }) {
-        return format!(in alloc; "{fault}");
-    }
-    match value {
-        Scalar::Truth(truth) => format!(in alloc; "{id} {truth} {params}"),
-        Scalar::Integer(n) => format!(in alloc; "{id} {n} {params}"),
-        Scalar::Text(text) => format!(in alloc; "{id} {text} {params}"),
-    }
-}
-
-#[test]
-fn numbers_below_0_and_values_of_several_kinds(rt: HostRuntime) -> Result<(), Fail> {
-    let value = "set.1.value must be true, false, a whole number of 32 bits or a text";
-    let table = [
-        ("id = -1\nvalue = true", "-1 true 0"),
-        ("id = 32767\nvalue = \"a\"", "32767 a 0"),
-        (
-            "id = -32768\nvalue = -2147483648\nparam = [{}, {}]",
-            "-32768 -2147483648 2",
-        ),
-        ("id = 32768\nvalue = 1", "set.1.id must be -32768 to 32767"),
-        (
-            "value = 1",
-            "set.1.id is missing, and must be -32768 to 32767",
-        ),
-        ("id = 0\nvalue = 2147483648", value),
-        ("id = 0\nvalue = 1.5", value),
-        (
-            "id = 0\nvalue = 1\nparam = []",
-            "set.1.param must be 1 to 2 tables",
-        ),
-    ];
-    for (text, wanted) in table {
-        let said = said_by_forms(rt.alloc(), text.as_bytes())?;
-        assert_eq!(rt; said.as_str(), wanted, "{text}");
     }
     Ok(())
 }
