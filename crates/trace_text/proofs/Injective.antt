@@ -32,29 +32,22 @@ feedback_same true true e = refl
 feedback_same false false e = refl
 feedback_same _ _ e = search rules
 
-same_number : (m n : ℕ) → m < 2 ^ 64 → n < 2 ^ 64 → decimal m ≡ decimal n → m ≡ n
-same_number m n small_m small_n e = decimal_injective m n small_m small_n e
-
 event_same : (d e : PlantEvent) → IsEventOfTypes d → IsEventOfTypes e → event_words d ≡ event_words e → d ≡ e
 event_same (Pilot s) (Pilot t) x y e = ap Pilot (pilot_same s t cc)
 event_same (Isolation s) (Isolation t) x y e = ap Isolation (isolation_same s t cc)
 event_same (Measured v i) (Measured w j) x y e =
-    let voltage = same_number v w (omega (arith, x.0)) (omega (arith, y.0)) cc in
-    let current = same_number i j (omega (arith, x.1)) (omega (arith, y.1)) cc in
-    rw (voltage, current) refl
+    cc (decimal_injective v w (omega arith) (omega arith) (cc), decimal_injective i j (omega arith) (omega arith) (cc))
 event_same (Feedback s) (Feedback t) x y e = ap Feedback (feedback_same s t cc)
 event_same _ _ x y e = search rules
 
 order_same : (d e : Order) → IsOrderOfTypes d → IsOrderOfTypes e → order_words d ≡ order_words e → d ≡ e
 order_same (Limits v i w) (Limits v' i' w') x y e =
-    let voltage = same_number v v' (omega (arith, x.0)) (omega (arith, y.0)) cc in
-    let current = same_number i i' (omega (arith, x.1)) (omega (arith, y.1)) cc in
-    let watts = same_number w w' (omega (arith, x.2)) (omega (arith, y.2)) cc in
-    rw (voltage, current, watts) refl
+    let current = decimal_injective i i' (omega arith) (omega arith) cc in
+    cc (decimal_injective v v' (omega arith) (omega arith) (cc), current, decimal_injective w w' (omega arith) (omega arith) (cc))
 order_same _ _ x y e = search rules
 
-same_post : (p q : ℕ) → IsPost p → IsPost q → decimal p ≡ decimal q → p ≡ q
-same_post p q x y e = same_number p q (omega (arith, x.1)) (omega (arith, y.1)) e
+pub same_post : (p q : ℕ) → IsPost p → IsPost q → decimal p ≡ decimal q → p ≡ q
+same_post p q x y e = decimal_injective p q (omega arith) (omega arith) e
 
 dash : (b : ℕ) (bytes : List ℕ) → codes "-" ≡ encode_lower (b ∷ bytes) → ⊥
 dash b bytes e = omega (arith, ap length e, length_hex (b ∷ bytes))
@@ -68,62 +61,26 @@ datagram_same (c ∷ a) (d ∷ b) x y e = hex_injective (c ∷ a) (d ∷ b) x y 
 abbrev IsHeard : What → List ℕ → Type 0
 IsHeard what bytes = HasBytes what bytes × IsWhatOfTypes what × IsBytes bytes
 
-what_same : (v w : What) (a b : List ℕ) → IsHeard v a → IsHeard w b → what_words v a ≡ what_words w b → (v ≡ w) × (a ≡ b)
-what_same (Came p t) (Came q u) a b x y e =
-    let post = same_post p q x.0.0 y.0.0 cc in
-    let token = identifier_injective t u x.1 y.1 cc in
-    (rw (post, token) refl, x.0.1 ∙ sym y.0.1)
-what_same (Bytes p n) (Bytes q m) a b x y e =
-    let post = same_post p q x.0.0 y.0.0 cc in
-    let bytes = hex_injective a b x.2 y.2 cc in
-    let count : n ≡ m = x.0.1 ∙ ap length bytes ∙ sym y.0.1 in
-    (rw (post, count) refl, bytes)
-what_same (Gone p) (Gone q) a b x y e =
-    let post = same_post p q x.0.0 y.0.0 cc in
-    (rw post refl, x.0.1 ∙ sym y.0.1)
-what_same (Datagram p n) (Datagram q m) a b x y e =
-    let post = same_post p q x.0.0 y.0.0 cc in
-    let bytes = datagram_same a b x.2 y.2 cc in
-    let count : n ≡ m = x.0.1 ∙ ap length bytes ∙ sym y.0.1 in
-    (rw (post, count) refl, bytes)
-what_same (Plant p event) (Plant q other) a b x y e =
-    let post = same_post p q x.0.0 y.0.0 cc in
-    let same = event_same event other x.1 y.1 cc in
-    (rw (post, same) refl, x.0.1 ∙ sym y.0.1)
-what_same Tick Tick a b x y e = (refl, x.0 ∙ sym y.0)
-what_same Over Over a b x y e = (refl, x.0 ∙ sym y.0)
-what_same _ _ a b x y e = search rules
-
-heard_same : (h k : Heard) (a b : List ℕ) → h.at ≡ k.at → h.what ≡ k.what → a ≡ b → entry.Heard h a ≡ entry.Heard k b
-heard_same h k a b at what bytes =
-    ap (λ (x : ℕ). entry.Heard (record { at = x; what = h.what }) a) at
-    ∙ ap (λ (x : What). entry.Heard (record { at = k.at; what = x }) a) what
-    ∙ ap (λ (x : List ℕ). entry.Heard k x) bytes
+what_same : (v w : What) (a b : List ℕ) → IsHeard v a → IsHeard w b → what_words v a ≡ what_words w b
+    → (at : ℕ) → entry.Heard (record { at = at; what = v }) a ≡ entry.Heard (record { at = at; what = w }) b
+what_same (Came p t) (Came q u) a b x y e at = cc (same_post p q x.0.0 y.0.0 (cc), identifier_injective t u x.1 y.1 (cc))
+what_same (Bytes p n) (Bytes q m) a b x y e at = cc (same_post p q x.0.0 y.0.0 (cc), hex_injective a b x.2 y.2 (cc))
+what_same (Gone p) (Gone q) a b x y e at = cc (same_post p q x.0.0 y.0.0 (cc))
+what_same (Datagram p n) (Datagram q m) a b x y e at = cc (same_post p q x.0.0 y.0.0 (cc), datagram_same a b x.2 y.2 (cc))
+what_same (Plant p event) (Plant q other) a b x y e at = cc (same_post p q x.0.0 y.0.0 (cc), event_same event other x.1 y.1 (cc))
+what_same Tick Tick a b x y e at = cc
+what_same Over Over a b x y e at = cc
+what_same _ _ a b x y e at = search rules
 
 plain_same : (d e : Entry) → InBounds d → IsOfTypes d → InBounds e → IsOfTypes e → taken_of d ≡ taken_of e → plain_words d ≡ plain_words e → d ≡ e
 plain_same (entry.Heard h a) (entry.Heard k b) x s y t o e =
-    let at = same_number h.at k.at s.0 t.0 cc in
-    let what = what_same h.what k.what a b (x, s.1, s.2) (y, t.1, t.2) cc in
-    heard_same h k a b at what.0 what.1
-plain_same (entry.Sent p a taken) (entry.Sent q b other) x s y t o e =
-    let post = same_post p q x.0 y.0 cc in
-    let bytes = hex_injective a b s t cc in
-    rw (post, bytes, o) refl
-plain_same (entry.Answered p a taken) (entry.Answered q b other) x s y t o e =
-    let post = same_post p q x.0 y.0 cc in
-    let bytes = hex_injective a b s t cc in
-    rw (post, bytes, o) refl
-plain_same (entry.Drove p order taken) (entry.Drove q ordered other) x s y t o e =
-    let post = same_post p q x y cc in
-    let same = order_same order ordered s t cc in
-    rw (post, same, o) refl
-plain_same (entry.Dialed p taken) (entry.Dialed q other) x s y t o e =
-    let port = same_number p q (omega (arith, s)) (omega (arith, t)) cc in
-    rw (port, o) refl
-plain_same (entry.Ended p c) (entry.Ended q d) x s y t o e =
-    let post = same_post p q x y cc in
-    let cause = same_number c d (omega (arith, s)) (omega (arith, t)) cc in
-    rw (post, cause) refl
+    ap (λ (n : ℕ). entry.Heard (record { at = n; what = h.what }) a) (decimal_injective h.at k.at s.0 t.0 cc)
+    ∙ what_same h.what k.what a b (x, s.1, s.2) (y, t.1, t.2) (cc) k.at
+plain_same (entry.Sent p a taken) (entry.Sent q b other) x s y t o e = cc (same_post p q x.0 y.0 (cc), hex_injective a b s t (cc))
+plain_same (entry.Answered p a taken) (entry.Answered q b other) x s y t o e = cc (same_post p q x.0 y.0 (cc), hex_injective a b s t (cc))
+plain_same (entry.Drove p order taken) (entry.Drove q ordered other) x s y t o e = cc (same_post p q x y (cc), order_same order ordered s t (cc))
+plain_same (entry.Dialed p taken) (entry.Dialed q other) x s y t o e = cc (decimal_injective p q (omega arith) (omega arith) (cc))
+plain_same (entry.Ended p c) (entry.Ended q d) x s y t o e = cc (same_post p q x y (cc), decimal_injective c d (omega arith) (omega arith) (cc))
 plain_same _ _ x s y t o e = search rules
 
 not_failed : (e : Entry) (rest : List (List ℕ)) → plain_words e ≡ codes "failed" ∷ rest → ⊥

@@ -68,20 +68,16 @@ plain_are (entry.Drove post order taken) bounds types = (refl, (post_is post bou
 plain_are (entry.Dialed port taken) bounds types = (refl, (decimal_word port (omega (arith, types)), tt))
 plain_are (entry.Ended post cause) bounds types = (refl, (post_is post bounds, (decimal_word cause (omega (arith, types)), tt)))
 
+either : (P : List (List ℕ) → Type 0) (taken : Bool) (words : List (List ℕ)) → P words → P (codes "failed" ∷ words) → P (cond taken words (codes "failed" ∷ words))
+either P true words x y = x
+either P false words x y = y
+
 pub words_are : (e : Entry) → InBounds e → IsOfTypes e → AreWords (words_of e)
-words_are e bounds types =
-    elim (taken_of e) as (λ taken. AreWords (cond taken (plain_words e) (codes "failed" ∷ plain_words e))) [
-      | true ↦ plain_are e bounds types
-      | false ↦ (refl, plain_are e bounds types)
-    ]
+words_are e bounds types = let are = plain_are e bounds types in either AreWords (taken_of e) (plain_words e) are (refl, are)
 
 some_plain : (e : Entry) → 0 < length (plain_words e)
 some_plain (entry.Heard heard bytes) = omega arith
 some_plain _ = omega arith
 
 pub some_words : (e : Entry) → 0 < length (words_of e)
-some_words e =
-    elim (taken_of e) as (λ taken. 0 < length (cond taken (plain_words e) (codes "failed" ∷ plain_words e))) [
-      | true ↦ some_plain e
-      | false ↦ omega arith
-    ]
+some_words e = either (λ words. 0 < length words) (taken_of e) (plain_words e) (some_plain e) (omega arith)
