@@ -8,8 +8,7 @@ use Rattle.text_tokens.proofs.Splits.{same_line, decimal_word}
 use Rattle.charge_world.specs.declared.entry.Entry.{Entry}
 use Rattle.trace_text.specs.TraceText.{words_of, IsLine, IsLine1}
 use Rattle.trace_text.specs.Pasts.{lines_by, hearing_number, trace_text, trace_text_1, IsTrace, IsTrace1}
-use Rattle.trace_text.proofs.Spelling.{words_are, some_words}
-use Rattle.trace_text.proofs.Injective.{words_same}
+use Rattle.trace_text.proofs.Spelling.{words_are, some_words, words_same}
 
 abbrev IsSome : List (List ℕ) → Type 0
 IsSome words = AreWords words × (0 < length words)

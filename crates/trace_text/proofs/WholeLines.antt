@@ -12,8 +12,7 @@ use Rattle.trace_text.specs.declared.refused.Refused.{Refused}
 use Rattle.trace_text.specs.declared.refused.Refused.TheVariants.{Bad, Memory}
 use Rattle.trace_text.specs.TraceText.{words_of, line_of, numbered_line_of, InBounds, IsOfTypes, IsLine, longest}
 use Rattle.trace_text.specs.Reading.{Gives, IsRead, IsNumbered}
-use Rattle.trace_text.proofs.Spelling.{words_are, some_words}
-use Rattle.trace_text.proofs.Injective.{words_same}
+use Rattle.trace_text.proofs.Spelling.{words_are, some_words, words_same}
 use Rattle.std.proofs.lemmas.Fmt.{decimal_injective, length-decimal-le}
 
 -- a line of an entry, cut at its spaces

@@ -156,27 +156,11 @@ fn datagram(alloc: Global, word: &[u8]) -> Result<Piece, Refused>
     short_bytes(alloc, word)
 }
 
-/// Takes the next word.
-fn next<'a>(words: &mut Words<'a>) -> Result<&'a [u8], Refused>
-    ensures { MatchResult result (λ word. words.old ≡ word.now ∷ words.new)
-        (λ refused. (refused ≡ Refused.Bad) × (words.old ≡ [])) }
-{
-    words.next().ok_or(Refused::Bad)
-}
-
 /// Takes a number.
 pub(crate) fn count(words: &mut Words) -> Option<u64>
     ensures { MatchOption result ((n : ℕ) (rest : List (List ℕ)) → n < 2 ^ 64 → words.old ≢ decimal n ∷ rest) (λ n. (n < 2 ^ 64) × (words.old ≡ decimal n ∷ words.new)) }
 {
     number(words.next()?, 0, u64::MAX)
-}
-
-/// Reads the one word that is left.
-fn only<'a>(words: Words<'a>) -> Result<&'a [u8], Refused>
-    ensures { MatchResult result (λ word. words.entry ≡ word.now ∷ [])
-        (λ refused. (refused ≡ Refused.Bad) × ((word : List ℕ) → words.entry ≢ word ∷ [])) }
-{
-    words.only().ok_or(Refused::Bad)
 }
 
 /// Reads what is heard at a post, with its bytes, which is all the words.
@@ -185,13 +169,13 @@ fn at_post(alloc: Global, post: u8, mut words: Words) -> Result<(What, Piece), R
     requires { IsPost post }
     ensures { Gives (λ w. what_words w.0 w.1) IsHeard (decimal post ∷ words.entry) result }
 {
-    match next(&mut words)? {
+    match words.next().ok_or(Refused::Bad)? {
         kind if is(kind, b"came") => {
-            let token = identifier(only(words)?).ok_or(Refused::Bad)?;
+            let token = identifier(words.only().ok_or(Refused::Bad)?).ok_or(Refused::Bad)?;
             Ok((What::Came { post, token }, nothing(alloc)))
         }
         kind if is(kind, b"bytes") => {
-            let piece = short_bytes(alloc, only(words)?)?;
+            let piece = short_bytes(alloc, words.only().ok_or(Refused::Bad)?)?;
             let n = piece.bytes().len() as u32;
             Ok((What::Bytes { post, n }, piece))
         }
@@ -200,7 +184,7 @@ fn at_post(alloc: Global, post: u8, mut words: Words) -> Result<(What, Piece), R
             words.end(gone).ok_or(Refused::Bad)
         }
         kind if is(kind, b"datagram") => {
-            let piece = datagram(alloc, only(words)?)?;
+            let piece = datagram(alloc, words.only().ok_or(Refused::Bad)?)?;
             let n = piece.bytes().len() as u32;
             Ok((What::Datagram { post, n }, piece))
         }
@@ -217,7 +201,7 @@ fn at_post(alloc: Global, post: u8, mut words: Words) -> Result<(What, Piece), R
 fn what(alloc: Global, mut words: Words) -> Result<(What, Piece), Refused>
     ensures { Gives (λ w. what_words w.0 w.1) IsHeard words.entry result }
 {
-    match next(&mut words)? {
+    match words.next().ok_or(Refused::Bad)? {
         word if is(word, b"tick") => words.end((What::Tick, nothing(alloc))).ok_or(Refused::Bad),
         word if is(word, b"over") => words.end((What::Over, nothing(alloc))).ok_or(Refused::Bad),
         word => match post(word) {
@@ -243,22 +227,13 @@ fn heard(alloc: Global, mut words: Words) -> Result<Entry, Refused>
     }
 }
 
-/// Reads the end of a session behind its first word.
-fn ended(mut words: Words) -> Option<Entry>
-    ensures { Reads plain_words IsRead (codes "ended" ∷ words.entry) result }
-{
-    let post = post(words.next()?)?;
-    let cause = number(words.only()?, 0, 255)? as u8;
-    Some(Entry::Ended { post, cause })
-}
-
 /// Reads a post and the bytes that went out there.
 fn sent(alloc: Global, mut words: Words) -> Result<(u8, Piece), Refused>
     ensures { MatchResult result (λ s. IsPost s.0 × AreSent s.1 × (words.entry ≡ decimal s.0 ∷ encode_lower s.1 ∷ []))
         (λ refused. refused ≡ Refused.Bad → (k : ℕ) (b : List ℕ) → IsPost k → AreSent b → words.entry ≢ decimal k ∷ encode_lower b ∷ []) }
 {
-    let post = post(next(&mut words)?).ok_or(Refused::Bad)?;
-    let bytes = bytes(alloc, only(words)?)?;
+    let post = post(words.next().ok_or(Refused::Bad)?).ok_or(Refused::Bad)?;
+    let bytes = bytes(alloc, words.only().ok_or(Refused::Bad)?)?;
     Ok((post, bytes))
 }
 
@@ -276,12 +251,14 @@ fn call(alloc: Global, kind: &[u8], mut words: Words, taken: bool) -> Result<Ent
             Ok(Entry::Answered { post, bytes, taken })
         }
         _ if is(kind, b"drove") => {
-            let post = post(next(&mut words)?).ok_or(Refused::Bad)?;
+            let post = post(words.next().ok_or(Refused::Bad)?).ok_or(Refused::Bad)?;
             let order = order(words).ok_or(Refused::Bad)?;
             Ok(Entry::Drove { post, order, taken })
         }
         _ if is(kind, b"dialed") => {
-            let port = number(only(words)?, 0, 65_535).ok_or(Refused::Bad)? as u16;
+            let port = number(words.only().ok_or(Refused::Bad)?, 0, 65_535).ok_or(
+                Refused::Bad,
+            )? as u16;
             Ok(Entry::Dialed { port, taken })
         }
         _ => Err(Refused::Bad),
@@ -292,11 +269,17 @@ fn call(alloc: Global, kind: &[u8], mut words: Words, taken: bool) -> Result<Ent
 pub(crate) fn entry(alloc: Global, mut words: Words) -> Result<Entry, Refused>
     ensures { Gives words_of IsRead words.entry result }
 {
-    match next(&mut words)? {
+    match words.next().ok_or(Refused::Bad)? {
         kind if is(kind, b"heard") => heard(alloc, words),
         kind if is(kind, b"lost") => words.end(Entry::Lost).ok_or(Refused::Bad),
-        kind if is(kind, b"ended") => ended(words).ok_or(Refused::Bad),
-        kind if is(kind, b"failed") => call(alloc, next(&mut words)?, words, false),
+        kind if is(kind, b"ended") => {
+            let post = post(words.next().ok_or(Refused::Bad)?).ok_or(Refused::Bad)?;
+            let cause = number(words.only().ok_or(Refused::Bad)?, 0, 255).ok_or(
+                Refused::Bad,
+            )? as u8;
+            Ok(Entry::Ended { post, cause })
+        }
+        kind if is(kind, b"failed") => call(alloc, words.next().ok_or(Refused::Bad)?, words, false),
         kind => call(alloc, kind, words, true),
     }
 }
