@@ -1,10 +1,10 @@
 -- The words of an entry are words, none with a space or a line feed, and no two entries have the same.
-use Rattle.std.proofs.Common.{◌≡◌, ℕ, ◌+◌, ◌^◌, ◌<◌, ◌≤◌, Bool, true, false, cond, List, [], ◌∷◌, length, rules, refl, sym, ap, ◌∙◌, arith}
+use Rattle.std.proofs.Common.{◌≡◌, ℕ, ◌<◌, Bool, true, false, cond, List, [], ◌∷◌, length, rules, refl, sym, ap, ◌∙◌, arith}
 use Rattle.std.specs.Prelude.{decimal, codes}
 use Rattle.std.specs.Int.{w64, to_be_bytes}
 use Rattle.std.proofs.lemmas.Fmt.{decimal_injective}
 use Rattle.hex.specs.Hex.{IsBytes, encode_lower}
-use Rattle.text_tokens.specs.Words.{IsWord, AreWords, identifier_text}
+use Rattle.text_tokens.specs.Words.{IsWord, AreWords}
 use Rattle.text_tokens.proofs.Digits.{eight_bytes, hex_injective, identifier_injective, length_hex}
 use Rattle.text_tokens.proofs.Splits.{decimal_word, hex_word}
 use Rattle.charge_world.specs.declared.entry.Entry.{Entry}
@@ -12,14 +12,14 @@ use Rattle.charge_world.specs.declared.entry.Entry.TheVariants as entry
 use Rattle.charge_world.specs.declared.heard.What.{What}
 use Rattle.charge_world.specs.declared.heard.What.TheVariants.{Came, Bytes, Gone, Datagram, Plant, Tick, Over}
 use Rattle.charge_world.specs.declared.heard.PlantEvent.{PlantEvent}
-use Rattle.charge_world.specs.declared.heard.PlantEvent.TheVariants.{Pilot, Isolation, Measured, Feedback, Paid, Emergency, StopAsked, RenewAsked}
+use Rattle.charge_world.specs.declared.heard.PlantEvent.TheVariants.{Pilot, Isolation, Measured, Feedback}
 use Rattle.charge_world.specs.declared.heard.PilotState.{PilotState}
 use Rattle.charge_world.specs.declared.heard.PilotState.TheVariants as pilot
 use Rattle.charge_world.specs.declared.heard.IsolationLevel.{IsolationLevel}
 use Rattle.charge_world.specs.declared.heard.IsolationLevel.TheVariants as isolation
 use Rattle.charge_world.specs.declared.ports.Order.{Order}
-use Rattle.charge_world.specs.declared.ports.Order.TheVariants.{Open, Close, Limits}
-use Rattle.trace_text.specs.TraceText.{pilot_word, isolation_word, feedback_word, event_words, order_words, datagram_word, at_post_words, what_words, plain_words, taken_of, words_of, IsPost, HasBytes, InBounds, IsEventOfTypes, IsOrderOfTypes, IsWhatOfTypes, IsOfTypes}
+use Rattle.charge_world.specs.declared.ports.Order.TheVariants.{Limits}
+use Rattle.trace_text.specs.TraceText.{pilot_word, isolation_word, feedback_word, event_words, order_words, datagram_word, what_words, plain_words, taken_of, words_of, IsPost, HasBytes, InBounds, IsEventOfTypes, IsOrderOfTypes, IsWhatOfTypes, IsOfTypes}
 
 pilot_is : (s : PilotState) → IsWord (pilot_word s)
 pilot_is pilot.A = refl

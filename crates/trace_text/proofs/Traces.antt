@@ -1,9 +1,9 @@
 -- No two pasts have the same lines.
-use Rattle.std.proofs.Common.{◌≡◌, ℕ, ◌+◌, ◌^◌, ◌<◌, List, [], ◌∷◌, ◌++◌, length, refl, sym, ap, ◌∙◌, append_assoc, append-nil, subst, drop, get_or, arith}
+use Rattle.std.proofs.Common.{◌≡◌, ℕ, ◌^◌, ◌<◌, List, [], ◌∷◌, ◌++◌, length, refl, sym, ap, ◌∙◌, append_assoc, append-nil, subst, drop, get_or, arith}
 use Rattle.std.specs.Prelude.{decimal, codes}
 use Rattle.std.specs.List.{AllByRecursion, flat_map}
 use Rattle.std.proofs.lemmas.List.{append_cancel_left, same_from_push, flat_map_more, length-append}
-use Rattle.text_tokens.specs.Words.{spaced, line_text, AreWords}
+use Rattle.text_tokens.specs.Words.{line_text, AreWords}
 use Rattle.text_tokens.proofs.Splits.{same_line, decimal_word}
 use Rattle.charge_world.specs.declared.entry.Entry.{Entry}
 use Rattle.trace_text.specs.TraceText.{words_of, IsLine, IsLine1}

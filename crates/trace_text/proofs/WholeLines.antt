@@ -1,16 +1,16 @@
 -- A line is read as the entry whose line it is.
-use Rattle.std.proofs.Common.{◌≡◌, ℕ, ◌+◌, ◌^◌, ◌<◌, ◌≤◌, List, [], ◌∷◌, ◌++◌, length, Result, Ok, Err, refl, sym, ap, subst, ◌∙◌, append_assoc, arith}
-use Rattle.std.specs.Prelude.{◌≢◌, decimal}
+use Rattle.std.proofs.Common.{◌≡◌, ℕ, ◌^◌, ◌<◌, ◌≤◌, List, [], ◌∷◌, ◌++◌, length, Result, Ok, Err, sym, ap, ◌∙◌, append_assoc, arith}
+use Rattle.std.specs.Prelude.{decimal}
 use Rattle.std.specs.List.{slice_split}
 use Rattle.std.proofs.lemmas.List.{append_cancel_right, length-append}
 use Rattle.std.proofs.lemmas.List.Splits.{length-slice_split}
-use Rattle.text_tokens.specs.Words.{spaced, line_text, AreWords}
+use Rattle.text_tokens.specs.Words.{spaced, AreWords}
 use Rattle.text_tokens.proofs.Cuts.{is_space}
 use Rattle.text_tokens.proofs.Splits.{cut_spaced, spaced_cut, cut_word, decimal_word, line_cons, same_line, spaced_more}
 use Rattle.charge_world.specs.declared.entry.Entry.{Entry}
 use Rattle.trace_text.specs.declared.refused.Refused.{Refused}
 use Rattle.trace_text.specs.declared.refused.Refused.TheVariants.{Bad, Memory}
-use Rattle.trace_text.specs.TraceText.{words_of, line_of, numbered_line_of, InBounds, IsOfTypes, IsLine, longest}
+use Rattle.trace_text.specs.TraceText.{words_of, line_of, numbered_line_of, IsLine, longest}
 use Rattle.trace_text.specs.Reading.{Gives, IsRead, IsNumbered}
 use Rattle.trace_text.proofs.Spelling.{words_are, some_words, words_same}
 use Rattle.std.proofs.lemmas.Fmt.{decimal_injective, length-decimal-le}

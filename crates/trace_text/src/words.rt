@@ -121,6 +121,7 @@ fn nothing(alloc: Global) -> Piece
 }
 
 /// Reads bytes, of which there is one at least.
+#[tactic(auto, using(text_tokens::proofs::Digits::length_hex))]
 fn bytes(alloc: Global, word: &[u8]) -> Result<Piece, Refused>
     ensures { Gives encode_lower AreSent word.now result }
 {
@@ -137,6 +138,7 @@ fn bytes(alloc: Global, word: &[u8]) -> Result<Piece, Refused>
 }
 
 /// Reads bytes, from 1 to 4,096.
+#[tactic(auto, using(text_tokens::proofs::Digits::length_hex))]
 fn short_bytes(alloc: Global, word: &[u8]) -> Result<Piece, Refused>
     ensures { Gives encode_lower AreHeard word.now result }
 {

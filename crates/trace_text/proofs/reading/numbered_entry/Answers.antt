@@ -1,4 +1,4 @@
-use Rattle.std.proofs.Common.{◌≡◌, List, ℕ, [], ◌∙◌, sym}
+use Rattle.std.proofs.Common.{◌≡◌, [], ◌∙◌, sym}
 use Rattle.std.specs.List.{slice_split}
 use Rattle.text_tokens.proofs.Cuts.{is_space}
 use Rattle.trace_text.specs.TraceText.{line_of}
