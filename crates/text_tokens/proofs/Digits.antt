@@ -2,7 +2,7 @@
 use Rattle.std.proofs.Common.{◌≡◌, ℕ, zero, suc, ◌+◌, ◌*◌, ◌/◌, ◌%◌, ◌-◌, ◌^◌, ◌<◌, ◌≤◌, true, List, [], ◌∷◌, length, get_or, ◌⊎◌, inl, inr, Result, Ok, Err, refl, sym, ap, subst, ◌∙◌, arith}
 use Rattle.std.specs.Prelude.{MatchResult}
 use Rattle.std.specs.Int.{w64, to_be_bytes, from_be_bytes}
-use Rattle.std.specs.List.{list_all}
+use Rattle.std.specs.List.{list_all, AllByRecursion}
 use Rattle.std.proofs.lemmas.Bool.{and_parts}
 use Rattle.std.proofs.lemmas.Nat.{be_bytes_8, from_be_bytes-to_be_bytes_8}
 use Rattle.hex.specs.Hex.{IsBytes, encode_lower, encode_with, lower_digits, decode_of, decode_sized}
@@ -62,16 +62,13 @@ length_hex bytes = length-encode_with lower_digits bytes
 
 -- ---- identifiers
 
+each_byte : (bytes : List ℕ) → AllByRecursion (λ b. b < 256) bytes → IsBytes bytes
+each_byte [] all = λ i. omega arith
+each_byte (b ∷ bytes) all = byte_first b bytes all.0 (each_byte bytes all.1)
+
 pub eight_bytes : (n : ℕ) → IsBytes (to_be_bytes w64 n)
-eight_bytes n zero = omega arith
-eight_bytes n (suc zero) = omega arith
-eight_bytes n (suc (suc zero)) = omega arith
-eight_bytes n (suc (suc (suc zero))) = omega arith
-eight_bytes n (suc (suc (suc (suc zero)))) = omega arith
-eight_bytes n (suc (suc (suc (suc (suc zero))))) = omega arith
-eight_bytes n (suc (suc (suc (suc (suc (suc zero)))))) = omega arith
-eight_bytes n (suc (suc (suc (suc (suc (suc (suc zero))))))) = omega arith
-eight_bytes n (suc (suc (suc (suc (suc (suc (suc (suc i)))))))) = omega arith
+eight_bytes n =
+    each_byte (to_be_bytes w64 n) (omega arith, (omega arith, (omega arith, (omega arith, (omega arith, (omega arith, (omega arith, (omega arith, tt))))))))
 
 -- what decoding gives
 pub read_back : (word bytes : List ℕ) → IsHex word → decode_of word ≡ Ok bytes → IsBytes bytes × (word ≡ encode_lower bytes)

@@ -67,45 +67,40 @@ impl<'a> Line<'a> {
         }
     }
 
-    /// These words and one behind them.
-    fn with(mut self, word: Word<'a>) -> Line<'a>
-        requires { length self < 8 }
-        ensures { result ≡ self.entry ++ text_of word.entry ∷ [] }
-    {
-        self.words.push(word);
-        self
-    }
-
     /// These words and one that stands as it is. It has no space.
-    pub fn plain(self, word: &'a [u8]) -> Line<'a>
+    pub fn plain(mut self, word: &'a [u8]) -> Line<'a>
         requires { length self < 8 }
         ensures { result ≡ self.entry ++ word.now ∷ [] }
     {
-        self.with(Word::Plain(word))
+        self.words.push(Word::Plain(word));
+        self
     }
 
     /// These words and a number in decimal digits.
-    pub fn number(self, n: u64) -> Line<'a>
+    pub fn number(mut self, n: u64) -> Line<'a>
         requires { length self < 8 }
         ensures { result ≡ self.entry ++ decimal n ∷ [] }
     {
-        self.with(Word::Number(n))
+        self.words.push(Word::Number(n));
+        self
     }
 
     /// These words and bytes in lower-case hexadecimal.
-    pub fn bytes(self, bytes: &'a [u8]) -> Line<'a>
+    pub fn bytes(mut self, bytes: &'a [u8]) -> Line<'a>
         requires { length self < 8 }
         ensures { result ≡ self.entry ++ encode_lower bytes.now ∷ [] }
     {
-        self.with(Word::Bytes(bytes))
+        self.words.push(Word::Bytes(bytes));
+        self
     }
 
     /// These words and a number in sixteen digits of lower-case hexadecimal, the highest first.
-    pub fn identifier(self, n: u64) -> Line<'a>
+    pub fn identifier(mut self, n: u64) -> Line<'a>
         requires { length self < 8 }
         ensures { result ≡ self.entry ++ identifier_text n ∷ [] }
     {
-        self.with(Word::Identifier(n))
+        self.words.push(Word::Identifier(n));
+        self
     }
 
     /// These words and those of another line behind them.

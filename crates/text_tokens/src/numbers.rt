@@ -24,9 +24,5 @@ pub fn number(word: &[u8], least: u64, most: u64) -> Option<u64>
         return None;
     }
     let mut buffer = Buffer::new();
-    if buffer.format(number).as_bytes() == word {
-        Some(number)
-    } else {
-        None
-    }
+    (buffer.format(number).as_bytes() == word).then_some(number)
 }

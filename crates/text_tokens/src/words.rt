@@ -65,10 +65,7 @@ impl<'a> Words<'a> {
     pub fn end<T: Drop>(mut self, value: T) -> Option<T>
         ensures { MatchOption result (self.entry ≢ []) (λ v. (self.entry ≡ []) × (v ≡ value)) }
     {
-        match self.next() {
-            None => Some(value),
-            Some(_) => None,
-        }
+        self.next().is_none().then_some(value)
     }
 
     /// The one word that is left, `None` exactly where there is none or there are more.

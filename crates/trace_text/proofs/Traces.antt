@@ -1,130 +1,90 @@
 -- No two pasts have the same lines.
-use Rattle.std.proofs.Common.{◌≡◌, ℕ, suc, ◌+◌, ◌^◌, ◌<◌, ◌≤◌, Bool, true, false, ◌==◌, List, [], ◌∷◌, ◌++◌, length, rules, refl, sym, ap, ◌∙◌, append_assoc, subst, drop, get_or, arith}
-use Rattle.std.specs.Prelude.{decimal, nat_le, if◌then◌else◌, codes}
-use Rattle.std.specs.List.{list_all, AllByRecursion}
-use Rattle.std.proofs.lemmas.Bool.{and_parts}
-use Rattle.std.proofs.lemmas.List.{append_cancel_left}
-use Rattle.text_tokens.specs.Words.{spaced, line_text, AreWords}
-use Rattle.text_tokens.proofs.Splits.{same_line, line_bytes, decimal_word}
+use Rattle.std.proofs.Common.{◌≡◌, ℕ, ◌^◌, ◌<◌, List, [], ◌∷◌, ◌++◌, length, refl, sym, ap, ◌∙◌, append_assoc, append-nil, subst, drop, get_or, arith}
+use Rattle.std.specs.Prelude.{decimal, codes}
+use Rattle.std.specs.List.{AllByRecursion, flat_map}
+use Rattle.std.proofs.lemmas.List.{append_cancel_left, same_from_push, flat_map_more, length-append}
+use Rattle.text_tokens.specs.Words.{line_text, AreWords}
+use Rattle.text_tokens.proofs.Splits.{same_line, decimal_word}
 use Rattle.charge_world.specs.declared.entry.Entry.{Entry}
-use Rattle.trace_text.specs.TraceText.{words_of, line_of, numbered_line_of, InBounds, IsOfTypes, IsLine, IsLine1}
-use Rattle.trace_text.specs.Pasts.{lines_by, line_after, numbered_after, hearing_number, is_hearing, trace_text, trace_text_1, IsTrace, IsTrace1}
-use Rattle.trace_text.proofs.Spelling.{words_are, some_words}
-use Rattle.trace_text.proofs.Injective.{words_same}
+use Rattle.trace_text.specs.TraceText.{words_of, IsLine, IsLine1}
+use Rattle.trace_text.specs.Pasts.{lines_by, hearing_number, trace_text, trace_text_1, IsTrace, IsTrace1}
+use Rattle.trace_text.proofs.Spelling.{words_are, some_words, words_same}
 
--- how many line feeds a text has
-feeds : List ℕ → ℕ
-feeds [] = 0
-feeds (b ∷ text) = (if b == 10 then 1 else 0) + feeds text
+abbrev IsSome : List (List ℕ) → Type 0
+IsSome words = AreWords words × (0 < length words)
 
-feeds_append : (a b : List ℕ) → feeds (a ++ b) ≡ feeds a + feeds b
-unfolding feeds
-feeds_append [] b = omega arith
-feeds_append (c ∷ a) b = let more = feeds_append a b in omega (arith, more)
+-- lines that stand one behind the other have one reading
+lines_same : (a b : List (List (List ℕ))) → AllByRecursion IsSome a → AllByRecursion IsSome b → flat_map line_text a ≡ flat_map line_text b → a ≡ b
+lines_same [] [] x y e = refl
+lines_same [] (w ∷ b) x y e = absurd (omega (arith, simp length-append at (ap length e)))
+lines_same (v ∷ a) [] x y e = absurd (omega (arith, simp length-append at (ap length e)))
+lines_same (v ∷ a) (w ∷ b) x y e =
+    let first = same_line v w (flat_map line_text a) (flat_map line_text b) x.0.0 y.0.0 x.0.1 y.0.1 e in
+    let rest = lines_same a b x.1 y.1 first.1 in
+    cc (first.0, rest)
 
-no_feed : (c : ℕ) → nat_le 32 c ≡ true → (c == 10) ≡ false
-no_feed c h = grind arith
+-- the words of the lines of a past, the oldest first, where each line depends on what was before
+abbrev told : (List Entry → Entry → List (List ℕ)) → List Entry → List (List (List ℕ))
+told words [] = []
+told words (e ∷ past) = told words past ++ words past e ∷ []
 
-feeds_none : (text : List ℕ) → list_all (λ b. nat_le 32 b) text ≡ true → feeds text ≡ 0
-unfolding feeds
-feeds_none [] h = refl
-feeds_none (c ∷ text) h =
-    let parts = and_parts (nat_le 32 c) (list_all (λ b. nat_le 32 b) text) h in
-    rw (no_feed c parts.0, feeds_none text parts.1) refl
+told_text : (words : List Entry → Entry → List (List ℕ)) (first : List ℕ) (past : List Entry)
+    → first ++ lines_by (λ past e. line_text (words past e)) past ≡ first ++ flat_map line_text (told words past)
+told_text words first [] = refl
+told_text words first (e ∷ past) =
+    sym (append_assoc first (lines_by (λ past e. line_text (words past e)) past) (line_text (words past e)))
+    ∙ ap (λ (t : List ℕ). t ++ line_text (words past e)) (told_text words first past) ∙ flat_map_more line_text first (told words past) (words past e)
 
-feeds_line : (words : List (List ℕ)) → AreWords words → feeds (line_text words) ≡ 1
-unfolding feeds
-feeds_line words are = feeds_append (spaced words) (10 ∷ []) ∙ rw (feeds_none (spaced words) (line_bytes words are)) refl
+record IsFormat (words : List Entry → Entry → List (List ℕ)) (Good : List Entry → Type 0) : Type 0 where
+  before : (past : List Entry) (e : Entry) → Good (e ∷ past) → Good past
+  are : (past : List Entry) (e : Entry) → Good (e ∷ past) → IsSome (words past e)
+  same : (past : List Entry) (d e : Entry) → Good (d ∷ past) → Good (e ∷ past) → words past d ≡ words past e → d ≡ e
 
--- how the line of an entry behind a past is told from others
-record IsLineWriter (line : List Entry → Entry → List ℕ) (Good : List Entry → Entry → Type 0) : Type 0 where
-  one_feed : (past : List Entry) (e : Entry) → Good past e → feeds (line past e) ≡ 1
-  same : (past : List Entry) (d e : Entry) (r s : List ℕ) → Good past d → Good past e → line past d ++ r ≡ line past e ++ s → (d ≡ e) × (r ≡ s)
+told_are : (words : List Entry → Entry → List (List ℕ)) (Good : List Entry → Type 0) → IsFormat words Good
+    → (past : List Entry) (rest : List (List (List ℕ))) → Good past → AllByRecursion IsSome rest → AllByRecursion IsSome (told words past ++ rest)
+told_are words Good f [] rest good all = all
+told_are words Good f (e ∷ past) rest good all =
+    rw append_assoc (told_are words Good f past (words past e ∷ rest) (f.before past e good) (f.are past e good, all))
 
-AllGood : (List Entry → Entry → Type 0) → List Entry → Type 0
-AllGood Good [] = Unit {0}
-AllGood Good (e ∷ past) = Good past e × AllGood Good past
+told_same : (words : List Entry → Entry → List (List ℕ)) (Good : List Entry → Type 0) → IsFormat words Good
+    → (p q : List Entry) → Good p → Good q → told words p ≡ told words q → p ≡ q
+told_same words Good f [] [] x y said = refl
+told_same words Good f [] (e ∷ q) x y said = absurd (omega (arith, simp length-append at (ap length said)))
+told_same words Good f (d ∷ p) [] x y said = absurd (omega (arith, simp length-append at (ap length said)))
+told_same words Good f (d ∷ p) (e ∷ q) x y said =
+    let parts = same_from_push (told words p) (told words q) (words p d) (words q e) said in
+    let past = told_same words Good f p q (f.before p d x) (f.before q e y) parts.0 in
+    let entry = f.same p d e x (subst (λ (l : List Entry). Good (e ∷ l)) (sym past) y) (parts.1 ∙ ap (λ (l : List Entry). words l e) (sym past)) in
+    cc (past, entry)
 
-count_lines : (line : List Entry → Entry → List ℕ) (Good : List Entry → Entry → Type 0) → IsLineWriter line Good
-    → (past : List Entry) → AllGood Good past → feeds (lines_by line past) ≡ length past
-unfolding feeds AllGood
-count_lines line Good w [] good = refl
-count_lines line Good w (e ∷ past) good =
-    let more = count_lines line Good w past good.1 in
-    let one = w.one_feed past e good.0 in
-    omega (arith, feeds_append (lines_by line past) (line past e), more, one)
-
-lines_same : (line : List Entry → Entry → List ℕ) (Good : List Entry → Entry → Type 0) → IsLineWriter line Good
-    → (p q : List Entry) (r s : List ℕ) → AllGood Good p → AllGood Good q → length p ≡ length q → lines_by line p ++ r ≡ lines_by line q ++ s → (p ≡ q) × (r ≡ s)
-unfolding AllGood
-lines_same line Good w [] [] r s gp gq len e = (refl, e)
-lines_same line Good w [] (f ∷ q) r s gp gq len e = absurd (omega arith)
-lines_same line Good w (d ∷ p) [] r s gp gq len e = absurd (omega arith)
-lines_same line Good w (d ∷ p) (f ∷ q) r s gp gq len e =
-    let regrouped : lines_by line p ++ (line p d ++ r) ≡ lines_by line q ++ (line q f ++ s) =
-    sym (append_assoc (lines_by line p) (line p d) r) ∙ e ∙ append_assoc (lines_by line q) (line q f) s in
-    let before = lines_same line Good w p q (line p d ++ r) (line q f ++ s) gp.1 gq.1 (omega arith) regrouped in
-    let at : q ≡ p = sym before.0 in
-    let here : line p d ++ r ≡ line p f ++ s = before.1 ∙ ap (λ (x : List Entry). line x f ++ s) at in
-    let last = w.same p d f r s gp.0 (subst (λ (x : List Entry). Good x f) at gq.0) here in
-    (ap (λ (x : Entry). x ∷ p) last.0 ∙ ap (λ (x : List Entry). f ∷ x) before.0, last.1)
-
-texts_same : (line : List Entry → Entry → List ℕ) (Good : List Entry → Entry → Type 0) → IsLineWriter line Good
-    → (first : List ℕ) (p q : List Entry) → AllGood Good p → AllGood Good q → first ++ lines_by line p ≡ first ++ lines_by line q → p ≡ q
-texts_same line Good w first p q gp gq e =
-    let lines = append_cancel_left first (lines_by line p) (lines_by line q) e in
-    let len : length p ≡ length q = sym (count_lines line Good w p gp) ∙ ap feeds lines ∙ count_lines line Good w q gq in
-    let both = lines_same line Good w p q [] [] gp gq len (ap (λ (t : List ℕ). t ++ []) lines) in
-    both.0
+texts_same : (words : List Entry → Entry → List (List ℕ)) (Good : List Entry → Type 0) → IsFormat words Good → (first : List ℕ) (p q : List Entry) → Good p → Good q
+    → first ++ lines_by (λ past e. line_text (words past e)) p ≡ first ++ lines_by (λ past e. line_text (words past e)) q → p ≡ q
+texts_same words Good f first p q x y said =
+    let flat = append_cancel_left first _ _ (sym (told_text words first p) ∙ said ∙ told_text words first q) in
+    let are = λ (l : List Entry) (good : Good l). subst (AllByRecursion IsSome) (append-nil (told words l)) (told_are words Good f l [] good tt) in
+    told_same words Good f p q x y (lines_same (told words p) (told words q) (are p x) (are q y) flat)
 
 -- ---- the two formats
 
-IsLineAfter : List Entry → Entry → Type 0
-IsLineAfter past e = IsLine e
-
-plain_writer : IsLineWriter line_after IsLineAfter
-unfolding IsLineAfter
-plain_writer = record {
-  one_feed = λ past e is. feeds_line (words_of e) (words_are e is.0.0 is.1);
-  same = λ past d e r s x y said.
-      let lines = same_line (words_of d) (words_of e) r s (words_are d x.0.0 x.1) (words_are e y.0.0 y.1) (some_words d) (some_words e) said in
-      (words_same d e x.0.0 x.1 y.0.0 y.1 lines.0, lines.1);
+plain : IsFormat (λ past e. words_of e) (AllByRecursion IsLine1)
+plain = record {
+  before = λ past e good. good.1;
+  are = λ past e good. (words_are e good.0.0.0.0 good.0.0.1, some_words e);
+  same = λ past d e x y. words_same d e x.0.0.0.0 x.0.0.1 y.0.0.0.0 y.0.0.1;
 }
 
-IsNumberedAfter : List Entry → Entry → Type 0
-IsNumberedAfter past e = IsLine e × (hearing_number (e ∷ past) < 2 ^ 64)
-
-numbered_are : (n : ℕ) (e : Entry) → n < 2 ^ 64 → IsLine e → AreWords (decimal n ∷ words_of e)
-numbered_are n e small is = (decimal_word n small, words_are e is.0.0 is.1)
-
-numbered_writer : IsLineWriter numbered_after IsNumberedAfter
-unfolding IsNumberedAfter
-numbered_writer = record {
-  one_feed = λ past e is. feeds_line (decimal (hearing_number (e ∷ past)) ∷ words_of e) (numbered_are (hearing_number (e ∷ past)) e is.1 is.0);
-  same = λ past d e r s x y said.
-      let lines = same_line (decimal (hearing_number (d ∷ past)) ∷ words_of d) (decimal (hearing_number (e ∷ past)) ∷ words_of e) r s
-      (numbered_are (hearing_number (d ∷ past)) d x.1 x.0) (numbered_are (hearing_number (e ∷ past)) e y.1 y.0) (omega arith) (omega arith) said in
-      let words : words_of d ≡ words_of e = ap (drop 1) lines.0 in
-      (words_same d e x.0.0.0 x.0.1 y.0.0.0 y.0.1 words, lines.1);
+numbered : IsFormat (λ past e. decimal (hearing_number (e ∷ past)) ∷ words_of e) (λ past. AllByRecursion IsLine past × (hearing_number past < 2 ^ 64))
+numbered = record {
+  before = λ past e good. (good.0.1, omega (arith, good.1));
+  are = λ past e good. ((decimal_word (hearing_number (e ∷ past)) good.1, words_are e good.0.0.0.0 good.0.0.1), omega arith);
+  same = λ past d e x y said. words_same d e x.0.0.0.0 x.0.0.1 y.0.0.0.0 y.0.0.1 (ap (drop 1) said);
 }
-
-plain_good : (past : List Entry) → AllByRecursion IsLine1 past → AllGood IsLineAfter past
-unfolding AllGood IsLineAfter
-plain_good [] all = tt
-plain_good (e ∷ past) all = (all.0.0, plain_good past all.1)
-
-numbered_good : (past : List Entry) → AllByRecursion IsLine past → hearing_number past < 2 ^ 64 → AllGood IsNumberedAfter past
-unfolding AllGood IsNumberedAfter
-numbered_good [] all few = tt
-numbered_good (e ∷ past) all few =
-    let fewer : hearing_number past ≤ hearing_number (e ∷ past) = omega arith in
-    ((all.0, few), numbered_good past all.1 (omega (arith, few, fewer)))
 
 pub same_past_1 : (p q : List Entry) → IsTrace1 p → IsTrace1 q → trace_text_1 p ≡ trace_text_1 q → p ≡ q
-same_past_1 p q x y e = texts_same line_after IsLineAfter plain_writer (codes "v2g-trace 1\n") p q (plain_good p x.0) (plain_good q y.0) e
+same_past_1 p q x y said = texts_same _ _ plain (codes "v2g-trace 1\n") p q x.0 y.0 said
 
 pub same_past_2 : (p q : List Entry) → IsTrace p → IsTrace q → trace_text p ≡ trace_text q → p ≡ q
-same_past_2 p q x y e = texts_same numbered_after IsNumberedAfter numbered_writer (codes "v2g-trace 2\n") p q (numbered_good p x.0 x.2) (numbered_good q y.0 y.2) e
+same_past_2 p q x y said = texts_same _ _ numbered (codes "v2g-trace 2\n") p q (x.0, x.2) (y.0, y.2) said
 
 pub two_formats : (p q : List Entry) → trace_text_1 p ≡ trace_text q → ⊥
 two_formats p q e = let digit : 49 ≡ 50 = ap (λ (t : List ℕ). get_or t 10 0) e in absurd (omega (arith, digit))

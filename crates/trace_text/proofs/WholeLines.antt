@@ -1,19 +1,18 @@
 -- A line is read as the entry whose line it is.
-use Rattle.std.proofs.Common.{◌≡◌, ℕ, ◌+◌, ◌^◌, ◌<◌, ◌≤◌, List, [], ◌∷◌, ◌++◌, length, Result, Ok, Err, refl, sym, ap, subst, ◌∙◌, append_assoc, arith}
-use Rattle.std.specs.Prelude.{◌≢◌, decimal}
+use Rattle.std.proofs.Common.{◌≡◌, ℕ, ◌^◌, ◌<◌, ◌≤◌, List, [], ◌∷◌, ◌++◌, length, Result, Ok, Err, sym, ap, ◌∙◌, append_assoc, arith}
+use Rattle.std.specs.Prelude.{decimal}
 use Rattle.std.specs.List.{slice_split}
 use Rattle.std.proofs.lemmas.List.{append_cancel_right, length-append}
 use Rattle.std.proofs.lemmas.List.Splits.{length-slice_split}
-use Rattle.text_tokens.specs.Words.{spaced, line_text, AreWords}
+use Rattle.text_tokens.specs.Words.{spaced, AreWords}
 use Rattle.text_tokens.proofs.Cuts.{is_space}
 use Rattle.text_tokens.proofs.Splits.{cut_spaced, spaced_cut, cut_word, decimal_word, line_cons, same_line, spaced_more}
 use Rattle.charge_world.specs.declared.entry.Entry.{Entry}
 use Rattle.trace_text.specs.declared.refused.Refused.{Refused}
 use Rattle.trace_text.specs.declared.refused.Refused.TheVariants.{Bad, Memory}
-use Rattle.trace_text.specs.TraceText.{words_of, line_of, numbered_line_of, InBounds, IsOfTypes, IsLine, longest}
+use Rattle.trace_text.specs.TraceText.{words_of, line_of, numbered_line_of, IsLine, longest}
 use Rattle.trace_text.specs.Reading.{Gives, IsRead, IsNumbered}
-use Rattle.trace_text.proofs.Spelling.{words_are, some_words}
-use Rattle.trace_text.proofs.Injective.{words_same}
+use Rattle.trace_text.proofs.Spelling.{words_are, some_words, words_same}
 use Rattle.std.proofs.lemmas.Fmt.{decimal_injective, length-decimal-le}
 
 -- a line of an entry, cut at its spaces
@@ -54,15 +53,9 @@ numbered_same m n d e small_m small_n x y said =
 numbered_parts : (n : ℕ) (e : Entry) → numbered_line_of n e ≡ decimal n ++ 32 ∷ line_of e
 numbered_parts n e = line_cons (decimal n) (words_of e) (some_words e) ∙ append_assoc (decimal n) (32 ∷ []) (line_of e)
 
-cut_numbered : (n : ℕ) (e : Entry) → n < 2 ^ 64 → slice_split is_space (numbered_line_of n e) ≡ decimal n ∷ slice_split is_space (line_of e)
-cut_numbered n e small = ap (slice_split is_space) (numbered_parts n e) ∙ cut_word (decimal n) (line_of e) (decimal_word n small)
-
--- what is no number and a line has no other reading
-pub numbered_words : (line first : List ℕ) (others : List (List ℕ)) (x : ℕ × Entry) → slice_split is_space line ≡ first ∷ others → IsNumbered x → line ≡ numbered_line_of x.0 x.1
-    → (first ≡ decimal x.0) × (others ≡ slice_split is_space (line_of x.1))
-numbered_words line first others x cut is said =
-    let whole : first ∷ others ≡ decimal x.0 ∷ slice_split is_space (line_of x.1) = sym cut ∙ ap (slice_split is_space) said ∙ cut_numbered x.0 x.1 is.0 in
-    (cc, cc)
+pub numbered_cut : (line : List ℕ) (x : ℕ × Entry) → IsNumbered x → line ≡ numbered_line_of x.0 x.1 → slice_split is_space line ≡ decimal x.0 ∷ slice_split is_space (line_of x.1)
+numbered_cut line x is said =
+    ap (slice_split is_space) (said ∙ numbered_parts x.0 x.1) ∙ cut_word (decimal x.0) (line_of x.1) (decimal_word x.0 is.0)
 
 same_rest : (a b : List ℕ) → slice_split is_space a ≡ slice_split is_space b → a ≡ b
 same_rest a b e = sym (spaced_cut a) ∙ ap spaced e ∙ spaced_cut b
@@ -73,19 +66,17 @@ some_cut text e = omega (arith, ap length e, length-slice_split is_space text)
 spaced_cons : (word text : List ℕ) → spaced (word ∷ slice_split is_space text) ≡ word ++ 32 ∷ text
 spaced_cons word text = spaced_more word (slice_split is_space text) (λ none. some_cut text none) ∙ ap (λ (t : List ℕ). word ++ 32 ∷ t) (spaced_cut text)
 
-pub numbered_read : (line rest : List ℕ) (n : ℕ) (r : Result Entry Refused) → n < 2 ^ 64 → slice_split is_space line ≡ decimal n ∷ slice_split is_space rest
-    → Gives line_of IsLine rest r → (e : Entry) → r ≡ Ok e → IsNumbered (n, e) × (line ≡ numbered_line_of n e)
-numbered_read line rest n (Ok d) small cut h e same =
-    let is : d ≡ e = cc in
+pub numbered_read : (line rest : List ℕ) (n : ℕ) (e : Entry) → n < 2 ^ 64 → slice_split is_space line ≡ decimal n ∷ slice_split is_space rest
+    → IsLine e × (rest ≡ line_of e) → IsNumbered (n, e) × (line ≡ numbered_line_of n e)
+numbered_read line rest n e small cut h =
     let line_is : line ≡ decimal n ++ 32 ∷ rest = sym (spaced_cut line) ∙ ap spaced cut ∙ spaced_cons (decimal n) rest in
-    let whole : line ≡ numbered_line_of n d = line_is ∙ ap (λ (t : List ℕ). decimal n ++ 32 ∷ t) h.1 ∙ sym (numbered_parts n d) in
-    subst (λ (f : Entry). IsNumbered (n, f) × (line ≡ numbered_line_of n f)) is ((small, h.0), whole)
-numbered_read line rest n (Err f) small cut h e same = cc
+    ((small, h.0), line_is ∙ ap (λ (t : List ℕ). decimal n ++ 32 ∷ t) h.1 ∙ sym (numbered_parts n e))
 
 pub numbered_missed : (line rest : List ℕ) (n : ℕ) (refused : Refused) → slice_split is_space line ≡ decimal n ∷ slice_split is_space rest
     → Gives line_of IsLine rest (Err refused) → Gives (λ (x : ℕ × Entry). numbered_line_of x.0 x.1) IsNumbered line (Err refused)
 numbered_missed line rest n Bad cut h =
-    λ x is said. h x.1 is.1 (same_rest rest (line_of x.1) (numbered_words line (decimal n) (slice_split is_space rest) x cut is said).1)
+    λ x is said. let whole = sym cut ∙ numbered_cut line x is said in let same : slice_split is_space rest ≡ slice_split is_space (line_of x.1) = cc in
+    h x.1 is.1 (same_rest rest (line_of x.1) same)
 numbered_missed line rest n Memory cut h = tt
 
 pub numbered_short : (n : ℕ) (e : Entry) → n < 2 ^ 64 → length (line_of e) ≤ longest → length (numbered_line_of n e) < 2 ^ 32

@@ -4,7 +4,6 @@ use Rattle.hex.specs.Hex.{IsBytes}
 use Rattle.charge_world.specs.declared.entry.Entry.{Entry}
 use Rattle.charge_world.specs.declared.entry.Entry.TheVariants as entry
 use Rattle.charge_world.specs.declared.heard.What.{What}
-use Rattle.charge_world.specs.declared.heard.What.TheVariants.{Came, Bytes, Gone, Datagram, Plant, Tick, Over}
 use Rattle.trace_text.specs.declared.refused.Refused.{Refused}
 use Rattle.trace_text.specs.declared.refused.Refused.TheVariants.{Bad, Memory}
 use Rattle.trace_text.specs.TraceText.{HasBytes, IsWhatOfTypes, InBounds, IsOfTypes, IsLine}
@@ -52,16 +51,3 @@ IsDatagram bytes = (length bytes ≤ 4096) × IsBytes bytes
 -- what is heard, with its bytes
 abbrev pub IsHeard : What × List ℕ → Type 0
 IsHeard w = HasBytes w.0 w.1 × IsWhatOfTypes w.0 × IsBytes w.1
-
--- at this post
-abbrev pub IsOfPost : ℕ → What → Type 0
-IsOfPost k (Came post token) = post ≡ k
-IsOfPost k (Bytes post n) = post ≡ k
-IsOfPost k (Gone post) = post ≡ k
-IsOfPost k (Datagram post n) = post ≡ k
-IsOfPost k (Plant post event) = post ≡ k
-IsOfPost k Tick = ⊥
-IsOfPost k Over = ⊥
-
-abbrev pub IsHeardAt : ℕ → What × List ℕ → Type 0
-IsHeardAt k w = IsOfPost k w.0 × IsHeard w

@@ -65,8 +65,7 @@ at_post_words (Bytes post n) bytes = codes "bytes" ∷ encode_lower bytes ∷ []
 at_post_words (Gone post) bytes = codes "gone" ∷ []
 at_post_words (Datagram post n) bytes = codes "datagram" ∷ datagram_word bytes ∷ []
 at_post_words (Plant post event) bytes = codes "plant" ∷ event_words event
-at_post_words Tick bytes = []
-at_post_words Over bytes = []
+at_post_words _ bytes = []
 
 abbrev pub what_words : What → List ℕ → List (List ℕ)
 what_words (Came post token) bytes = decimal post ∷ at_post_words (Came post token) bytes
@@ -119,17 +118,15 @@ HasBytes (Bytes post n) bytes = IsPost post × (n ≡ length bytes) × (1 ≤ n)
 HasBytes (Gone post) bytes = IsPost post × (bytes ≡ [])
 HasBytes (Datagram post n) bytes = IsPost post × (n ≡ length bytes) × (n ≤ 4096)
 HasBytes (Plant post event) bytes = IsPost post × (bytes ≡ [])
-HasBytes Tick bytes = bytes ≡ []
-HasBytes Over bytes = bytes ≡ []
+HasBytes _ bytes = bytes ≡ []
 
 abbrev pub InBounds : Entry → Type 0
 InBounds (entry.Heard heard bytes) = HasBytes heard.what bytes
-InBounds entry.Lost = Unit {0}
 InBounds (entry.Sent post bytes taken) = IsPost post × (1 ≤ length bytes)
 InBounds (entry.Answered post bytes taken) = IsPost post × (1 ≤ length bytes)
 InBounds (entry.Drove post order taken) = IsPost post
-InBounds (entry.Dialed port taken) = Unit {0}
 InBounds (entry.Ended post cause) = IsPost post
+InBounds _ = Unit {0}
 
 -- a line has at most 131,200 bytes, with its line feed and without a number before it
 abbrev pub longest : ℕ

@@ -1,11 +1,11 @@
-//! Entries as words.
+//! Entries as words, each behind the words of a line.
 
-ghost use Rattle.std.specs.Prelude.{◌≡◌, ◌++◌, [], ◌∷◌, false, ◌<◌, ◌≤◌, length};
-ghost use Rattle.trace_text.specs.TraceText.{pilot_word, isolation_word, feedback_word, event_words, order_words, datagram_word, what_words, plain_words, taken_of, words_of};
+ghost use Rattle.std.specs.Prelude.{◌≡◌, ◌++◌, [], ◌∷◌, ◌<◌, ◌≤◌, length, codes, decimal, if◌then◌else◌};
+ghost use Rattle.trace_text.specs.TraceText.{pilot_word, isolation_word, feedback_word, event_words, order_words, datagram_word, what_words, words_of};
 ghost use Rattle.trace_text.specs.Noted.{entry_of};
 
 use crate::noted::Noted;
-use charge_world::{Entry, IsolationLevel, Order, PilotState, PlantEvent, What};
+use charge_world::{IsolationLevel, Order, PilotState, PlantEvent, What};
 use text_tokens::Line;
 
 /// The letter of a pilot state.
@@ -23,7 +23,7 @@ fn pilot_text(state: PilotState) -> &'static [u8]
 }
 
 /// The word of an isolation level.
-fn isolation_text(level: IsolationLevel) -> &'static [u8]
+fn level_text(level: IsolationLevel) -> &'static [u8]
     ensures { result.now ≡ isolation_word level }
 {
     match level {
@@ -49,16 +49,17 @@ fn event_line<'a>(event: PlantEvent) -> Line<'a>
 {
     match event {
         PlantEvent::Pilot(state) => Line::new().plain(b"pilot").plain(pilot_text(state)),
-        PlantEvent::Isolation(level) => {
-            Line::new().plain(b"isolation").plain(isolation_text(level))
+        PlantEvent::Isolation(level) => Line::new().plain(b"isolation").plain(level_text(level)),
+        PlantEvent::Measured { voltage, current } => {
+            let (voltage, current) = (voltage.get() as u64, current.get() as u64);
+            Line::new()
+                .plain(b"measured")
+                .number(voltage)
+                .number(current)
         }
-        PlantEvent::Measured { voltage, current } => Line::new()
-            .plain(b"measured")
-            .number(voltage.get() as u64)
-            .number(current.get() as u64),
-        PlantEvent::Feedback { closed } => {
-            Line::new().plain(b"feedback").plain(feedback_text(closed))
-        }
+        PlantEvent::Feedback { closed } => Line::new()
+            .plain(b"feedback")
+            .plain(feedback_text(closed)),
         PlantEvent::Paid => Line::new().plain(b"paid"),
         PlantEvent::Emergency => Line::new().plain(b"emergency"),
         PlantEvent::StopAsked => Line::new().plain(b"stop"),
@@ -67,26 +68,28 @@ fn event_line<'a>(event: PlantEvent) -> Line<'a>
 }
 
 /// An order.
-fn order_line<'a>(order: Order) -> Line<'a>
-    ensures words { result ≡ order_words order }
-    ensures short { length result ≤ 4 }
+fn order_line<'a>(line: Line<'a>, order: Order) -> Line<'a>
+    requires { length line ≤ 4 }
+    ensures { result ≡ line.entry ++ order_words order }
 {
     match order {
-        Order::Open => Line::new().plain(b"open"),
-        Order::Close => Line::new().plain(b"close"),
+        Order::Open => line.plain(b"open"),
+        Order::Close => line.plain(b"close"),
         Order::Limits {
             voltage,
             current,
             watts,
-        } => Line::new()
-            .plain(b"limits")
-            .number(voltage.get() as u64)
-            .number(current.get() as u64)
-            .number(watts as u64),
+        } => {
+            let (voltage, current) = (voltage.get() as u64, current.get() as u64);
+            line.plain(b"limits")
+                .number(voltage)
+                .number(current)
+                .number(watts as u64)
+        }
     }
 }
 
-/// The bytes of a datagram behind other words.
+/// The bytes of a datagram.
 fn datagram_line<'a>(line: Line<'a>, bytes: &'a [u8]) -> Line<'a>
     requires { length line < 8 }
     ensures { result ≡ line.entry ++ datagram_word bytes.now ∷ [] }
@@ -99,101 +102,60 @@ fn datagram_line<'a>(line: Line<'a>, bytes: &'a [u8]) -> Line<'a>
 }
 
 /// What was heard, with the bytes that came.
-fn what_line<'a>(what: What, bytes: &'a [u8]) -> Line<'a>
-    ensures words { result ≡ what_words what bytes.now }
-    ensures short { length result ≤ 5 }
+fn what_line<'a>(line: Line<'a>, what: What, bytes: &'a [u8]) -> Line<'a>
+    requires { length line ≤ 3 }
+    ensures { result ≡ line.entry ++ what_words what bytes.now }
 {
     match what {
-        What::Came { post, token } => Line::new()
-            .number(post as u64)
-            .plain(b"came")
-            .identifier(token),
-        What::Bytes { post, n: _ } => Line::new().number(post as u64).plain(b"bytes").bytes(bytes),
-        What::Gone { post } => Line::new().number(post as u64).plain(b"gone"),
+        What::Came { post, token } => line.number(post as u64).plain(b"came").identifier(token),
+        What::Bytes { post, n: _ } => line.number(post as u64).plain(b"bytes").bytes(bytes),
+        What::Gone { post } => line.number(post as u64).plain(b"gone"),
         What::Datagram { post, n: _ } => {
-            datagram_line(Line::new().number(post as u64).plain(b"datagram"), bytes)
+            datagram_line(line.number(post as u64).plain(b"datagram"), bytes)
         }
-        What::Plant { post, event } => {
-            Line::new()
-                .number(post as u64)
-                .plain(b"plant")
-                .then(event_line(event))
-        }
-        What::Tick => Line::new().plain(b"tick"),
-        What::Over => Line::new().plain(b"over"),
+        What::Plant { post, event } => line
+            .number(post as u64)
+            .plain(b"plant")
+            .then(event_line(event)),
+        What::Tick => line.plain(b"tick"),
+        What::Over => line.plain(b"over"),
     }
 }
 
-/// An entry, whether it was taken or not.
-fn plain_line<'a>(noted: &Noted<'a>) -> Line<'a>
-    ensures words { result ≡ plain_words (entry_of noted.now) }
-    ensures some { 0 < length result }
-    ensures short { length result ≤ 7 }
-    ensures call { taken_of (entry_of noted.now) ≡ false → length result ≤ 6 }
+/// A call and its number. One that failed says so first.
+fn call<'a>(line: Line<'a>, taken: bool, kind: &'a [u8], number: u64) -> Line<'a>
+    requires { length line ≤ 5 }
+    ensures { result ≡ line.entry ++ (if taken then kind.now ∷ decimal number ∷ [] else (codes "failed" ∷ kind.now ∷ decimal number ∷ [])) }
 {
-    match noted {
-        Noted::Heard { heard, bytes } => Line::new()
-            .plain(b"heard")
-            .number(heard.at)
-            .then(what_line(heard.what, *bytes)),
-        Noted::Lost => Line::new().plain(b"lost"),
-        Noted::Sent { post, bytes, .. } => {
-            Line::new()
-                .plain(b"sent")
-                .number(*post as u64)
-                .bytes(*bytes)
-        }
-        Noted::Answered { post, bytes, .. } => {
-            Line::new()
-                .plain(b"answered")
-                .number(*post as u64)
-                .bytes(*bytes)
-        }
-        Noted::Drove { post, order, .. } => {
-            Line::new()
-                .plain(b"drove")
-                .number(*post as u64)
-                .then(order_line(*order))
-        }
-        Noted::Dialed { port, .. } => { Line::new().plain(b"dialed").number(*port as u64) }
-        Noted::Ended { post, cause } => Line::new()
-            .plain(b"ended")
-            .number(*post as u64)
-            .number(*cause as u64),
-    }
-}
-
-/// Whether an entry is anything but a call that failed.
-fn is_taken(noted: &Noted<'_>) -> bool
-    ensures { result ≡ taken_of (entry_of noted.now) }
-{
-    match noted {
-        Noted::Sent { taken, .. }
-        | Noted::Answered { taken, .. }
-        | Noted::Drove { taken, .. }
-        | Noted::Dialed { taken, .. } => *taken,
-        Noted::Heard { .. } | Noted::Lost | Noted::Ended { .. } => true,
+    if taken {
+        line.plain(kind).number(number)
+    } else {
+        line.plain(b"failed").plain(kind).number(number)
     }
 }
 
 /// An entry.
-pub(crate) fn noted_line<'a>(noted: &Noted<'a>) -> Line<'a>
-    ensures words { result ≡ words_of (entry_of noted.now) }
+pub(crate) fn noted_line<'a>(line: Line<'a>, noted: &Noted<'a>) -> Line<'a>
+    requires { length line ≤ 1 }
+    ensures words { result ≡ line.entry ++ words_of (entry_of noted.now) }
     ensures some { 0 < length result }
-    ensures short { length result ≤ 7 }
 {
-    let line = plain_line(noted);
-    if is_taken(noted) {
-        return line;
+    match *noted {
+        Noted::Heard { heard, bytes } => {
+            what_line(line.plain(b"heard").number(heard.at), heard.what, bytes)
+        }
+        Noted::Lost => line.plain(b"lost"),
+        Noted::Sent { post, bytes, taken } => call(line, taken, b"sent", post as u64).bytes(bytes),
+        Noted::Answered { post, bytes, taken } => {
+            call(line, taken, b"answered", post as u64).bytes(bytes)
+        }
+        Noted::Drove { post, order, taken } => {
+            order_line(call(line, taken, b"drove", post as u64), order)
+        }
+        Noted::Dialed { port, taken } => call(line, taken, b"dialed", port as u64),
+        Noted::Ended { post, cause } => line
+            .plain(b"ended")
+            .number(post as u64)
+            .number(cause as u64),
     }
-    Line::new().plain(b"failed").then(line)
-}
-
-/// An entry that owns its bytes.
-pub(crate) fn entry_line<'a>(entry: &'a Entry) -> Line<'a>
-    ensures words { result ≡ words_of entry.now }
-    ensures some { 0 < length result }
-    ensures short { length result ≤ 7 }
-{
-    noted_line(&Noted::of(entry))
 }

@@ -67,19 +67,9 @@ impl<'a> Noted<'a> {
                 bytes: bytes.bytes(),
                 taken: *taken,
             },
-            Entry::Drove { post, order, taken } => Noted::Drove {
-                post: *post,
-                order: *order,
-                taken: *taken,
-            },
-            Entry::Dialed { port, taken } => Noted::Dialed {
-                port: *port,
-                taken: *taken,
-            },
-            Entry::Ended { post, cause } => Noted::Ended {
-                post: *post,
-                cause: *cause,
-            },
+            &Entry::Drove { post, order, taken } => Noted::Drove { post, order, taken },
+            &Entry::Dialed { port, taken } => Noted::Dialed { port, taken },
+            &Entry::Ended { post, cause } => Noted::Ended { post, cause },
         }
     }
 }

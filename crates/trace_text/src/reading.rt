@@ -6,10 +6,10 @@ ghost use Rattle.trace_text.specs.TraceText.{line_of, numbered_line_of, IsLine, 
 ghost use Rattle.trace_text.specs.Reading.{Gives, IsNumbered};
 
 use crate::refused::Refused;
-use crate::words::entry;
+use crate::words::{count, entry};
 use charge_world::{Entry, PlantEvent, What};
 use std::alloc::Global;
-use text_tokens::{Words, before_line_feed, number};
+use text_tokens::{Words, before_line_feed};
 use thiserror::Error;
 
 /// Why a line isn't read.
@@ -27,40 +27,22 @@ pub enum LineFault {
 fn is_of_format_1(entry: &Entry) -> bool
     ensures { IsTrue result ↔ IsOfFormat1 entry.now }
 {
-    let Entry::Heard { heard, .. } = entry else {
-        return true;
-    };
-    !matches!(
-        heard.what,
-        What::Plant {
-            event: PlantEvent::RenewAsked,
-            ..
-        }
-    )
+    match entry {
+        Entry::Heard { heard, .. } => match heard.what {
+            What::Plant { event, .. } => !matches!(event, PlantEvent::RenewAsked),
+            _ => true,
+        },
+        _ => true,
+    }
 }
 
 /// Reads the line of an entry.
 fn line_entry(alloc: Global, line: &[u8]) -> Result<Entry, Refused>
     ensures { Gives line_of IsLine line.now result }
 {
-    if line.len() > 131_200 {
-        return Err(Refused::Bad);
-    }
     match before_line_feed(line) {
-        Some(text) => entry(alloc, Words::of(text)),
-        None => Err(Refused::Bad),
-    }
-}
-
-/// Reads the line of an entry of format 1.
-fn line_entry_1(alloc: Global, line: &[u8]) -> Result<Entry, Refused>
-    ensures { Gives line_of IsLine1 line.now result }
-{
-    let entry = line_entry(alloc, line)?;
-    if is_of_format_1(&entry) {
-        Ok(entry)
-    } else {
-        Err(Refused::Bad)
+        Some(text) if line.len() <= 131_200 => entry(alloc, Words::of(text)),
+        _ => Err(Refused::Bad),
     }
 }
 
@@ -73,8 +55,9 @@ pub fn read_line(alloc: Global, line: &[u8], number: u64) -> Result<Entry, LineF
     ensures number { IfErr result (λ fault. (fault ≡ LineFault.Memory) ⊎ (fault ≡ LineFault.BadLine number)) }
     ensures bad { result ≡ Err (LineFault.BadLine number) → (e : Entry) → IsLine1 e → line.now ≡ line_of e → ⊥ }
 {
-    match line_entry_1(alloc, line) {
-        Ok(entry) => Ok(entry),
+    match line_entry(alloc, line) {
+        Ok(entry) if is_of_format_1(&entry) => Ok(entry),
+        Ok(_) => Err(LineFault::BadLine(number)),
         Err(Refused::Bad) => Err(LineFault::BadLine(number)),
         Err(Refused::Memory) => Err(LineFault::Memory),
     }
@@ -85,18 +68,15 @@ fn numbered_entry(alloc: Global, line: &[u8]) -> Result<(u64, Entry), Refused>
     ensures { Gives (λ x. numbered_line_of x.0 x.1) IsNumbered line.now result }
 {
     let mut words = Words::of(line);
-    let Some(first) = words.next() else {
+    let Some(hearing) = count(&mut words) else {
         return Err(Refused::Bad);
     };
-    let Some(hearing) = number(first, 0, u64::MAX) else {
-        return Err(Refused::Bad);
-    };
-    let Some(rest) = words.rest() else {
-        return Err(Refused::Bad);
-    };
-    match line_entry(alloc, rest) {
-        Ok(entry) => Ok((hearing, entry)),
-        Err(refused) => Err(refused),
+    match words.rest() {
+        Some(rest) => match line_entry(alloc, rest) {
+            Ok(entry) => Ok((hearing, entry)),
+            Err(refused) => Err(refused),
+        },
+        None => Err(Refused::Bad),
     }
 }
 

@@ -2,8 +2,8 @@
 
 ghost use Rattle.std.specs.Prelude.{◌≡◌, ◌≢◌, ◌^◌, ◌<◌, ◌≤◌, ◌↔◌, IsTrue, ℕ, List, [], ◌∷◌, codes, decimal, MatchOption, MatchResult, length};
 ghost use Rattle.hex.specs.Hex.{encode_lower, IsBytes};
-ghost use Rattle.trace_text.specs.TraceText.{pilot_word, isolation_word, feedback_word, event_words, order_words, datagram_word, at_post_words, what_words, plain_words, words_of, taken_of, IsPost, IsEventOfTypes, IsOrderOfTypes, HasBytes, IsWhatOfTypes, InBounds, IsOfTypes};
-ghost use Rattle.trace_text.specs.Reading.{Reads, Gives, AreSent, AreHeard, IsDatagram, IsHeard, IsHeardAt, IsRead, IsCall};
+ghost use Rattle.trace_text.specs.TraceText.{pilot_word, isolation_word, feedback_word, event_words, order_words, datagram_word, what_words, plain_words, words_of, taken_of, IsPost, IsEventOfTypes, IsOrderOfTypes, HasBytes, IsWhatOfTypes, InBounds, IsOfTypes};
+ghost use Rattle.trace_text.specs.Reading.{Reads, Gives, AreSent, AreHeard, IsDatagram, IsHeard, IsRead, IsCall};
 
 use crate::refused::Refused;
 use charge_world::{
@@ -73,72 +73,44 @@ fn post(word: &[u8]) -> Option<u8>
     Some(number(word, 1, 8)? as u8)
 }
 
-/// Reads a voltage and a current, which are all the words.
-fn amounts(mut words: Words) -> Option<(Tenths, Tenths)>
-    ensures { MatchOption result ((v i : ℕ) → v ≤ 30000 → i ≤ 30000 → words.entry ≢ decimal v ∷ decimal i ∷ [])
-        (λ a. (a.0 ≤ 30000) × (a.1 ≤ 30000) × (words.entry ≡ decimal a.0 ∷ decimal a.1 ∷ [])) }
-{
-    let voltage = tenths(words.next()?)?;
-    let current = tenths(words.only()?)?;
-    Some((voltage, current))
-}
-
 /// Reads what a charger told, which is all the words.
 fn event(mut words: Words) -> Option<PlantEvent>
     ensures { Reads event_words IsEventOfTypes words.entry result }
 {
-    let kind = words.next()?;
-    if is(kind, b"pilot") {
-        return Some(PlantEvent::Pilot(pilot(words.only()?)?));
+    match words.next()? {
+        kind if is(kind, b"pilot") => Some(PlantEvent::Pilot(pilot(words.only()?)?)),
+        kind if is(kind, b"isolation") => Some(PlantEvent::Isolation(isolation(words.only()?)?)),
+        kind if is(kind, b"measured") => {
+            let voltage = tenths(words.next()?)?;
+            let current = tenths(words.only()?)?;
+            Some(PlantEvent::Measured { voltage, current })
+        }
+        kind if is(kind, b"feedback") => {
+            let closed = feedback(words.only()?)?;
+            Some(PlantEvent::Feedback { closed })
+        }
+        kind if is(kind, b"paid") => words.end(PlantEvent::Paid),
+        kind if is(kind, b"emergency") => words.end(PlantEvent::Emergency),
+        kind if is(kind, b"stop") => words.end(PlantEvent::StopAsked),
+        kind if is(kind, b"renew") => words.end(PlantEvent::RenewAsked),
+        _ => None,
     }
-    if is(kind, b"isolation") {
-        return Some(PlantEvent::Isolation(isolation(words.only()?)?));
-    }
-    if is(kind, b"measured") {
-        let (voltage, current) = amounts(words)?;
-        return Some(PlantEvent::Measured { voltage, current });
-    }
-    if is(kind, b"feedback") {
-        let closed = feedback(words.only()?)?;
-        return Some(PlantEvent::Feedback { closed });
-    }
-    if is(kind, b"paid") {
-        return words.end(PlantEvent::Paid);
-    }
-    if is(kind, b"emergency") {
-        return words.end(PlantEvent::Emergency);
-    }
-    if is(kind, b"stop") {
-        return words.end(PlantEvent::StopAsked);
-    }
-    if is(kind, b"renew") {
-        return words.end(PlantEvent::RenewAsked);
-    }
-    None
 }
 
 /// Reads an order, which is all the words.
 fn order(mut words: Words) -> Option<Order>
     ensures { Reads order_words IsOrderOfTypes words.entry result }
 {
-    let kind = words.next()?;
-    if is(kind, b"open") {
-        return words.end(Order::Open);
+    match words.next()? {
+        kind if is(kind, b"open") => words.end(Order::Open),
+        kind if is(kind, b"close") => words.end(Order::Close),
+        kind if is(kind, b"limits") => Some(Order::Limits {
+            voltage: tenths(words.next()?)?,
+            current: tenths(words.next()?)?,
+            watts: number(words.only()?, 0, 4_294_967_295)? as u32,
+        }),
+        _ => None,
     }
-    if is(kind, b"close") {
-        return words.end(Order::Close);
-    }
-    if is(kind, b"limits") {
-        let voltage = tenths(words.next()?)?;
-        let current = tenths(words.next()?)?;
-        let watts = number(words.only()?, 0, 4_294_967_295)? as u32;
-        return Some(Order::Limits {
-            voltage,
-            current,
-            watts,
-        });
-    }
-    None
 }
 
 /// No bytes.
@@ -149,6 +121,7 @@ fn nothing(alloc: Global) -> Piece
 }
 
 /// Reads bytes, of which there is one at least.
+#[tactic(auto, using(text_tokens::proofs::Digits::length_hex))]
 fn bytes(alloc: Global, word: &[u8]) -> Result<Piece, Refused>
     ensures { Gives encode_lower AreSent word.now result }
 {
@@ -165,6 +138,7 @@ fn bytes(alloc: Global, word: &[u8]) -> Result<Piece, Refused>
 }
 
 /// Reads bytes, from 1 to 4,096.
+#[tactic(auto, using(text_tokens::proofs::Digits::length_hex))]
 fn short_bytes(alloc: Global, word: &[u8]) -> Result<Piece, Refused>
     ensures { Gives encode_lower AreHeard word.now result }
 {
@@ -184,76 +158,66 @@ fn datagram(alloc: Global, word: &[u8]) -> Result<Piece, Refused>
     short_bytes(alloc, word)
 }
 
-/// Takes the next word.
-fn next<'a>(words: &mut Words<'a>) -> Result<&'a [u8], Refused>
-    ensures { MatchResult result (λ word. words.old ≡ word.now ∷ words.new)
-        (λ refused. (refused ≡ Refused.Bad) × (words.old ≡ [])) }
+/// Takes a number.
+pub(crate) fn count(words: &mut Words) -> Option<u64>
+    ensures { MatchOption result ((n : ℕ) (rest : List (List ℕ)) → n < 2 ^ 64 → words.old ≢ decimal n ∷ rest) (λ n. (n < 2 ^ 64) × (words.old ≡ decimal n ∷ words.new)) }
 {
-    words.next().ok_or(Refused::Bad)
-}
-
-/// Reads the one word that is left.
-fn only<'a>(words: Words<'a>) -> Result<&'a [u8], Refused>
-    ensures { MatchResult result (λ word. words.entry ≡ word.now ∷ [])
-        (λ refused. (refused ≡ Refused.Bad) × ((word : List ℕ) → words.entry ≢ word ∷ [])) }
-{
-    words.only().ok_or(Refused::Bad)
+    number(words.next()?, 0, u64::MAX)
 }
 
 /// Reads what is heard at a post, with its bytes, which is all the words.
+#[tactic(auto, using(std::proofs::lemmas::Fmt::decimal_digit))]
 fn at_post(alloc: Global, post: u8, mut words: Words) -> Result<(What, Piece), Refused>
     requires { IsPost post }
-    ensures { Gives (λ w. at_post_words w.0 w.1) (IsHeardAt post) words.entry result }
+    ensures { Gives (λ w. what_words w.0 w.1) IsHeard (decimal post ∷ words.entry) result }
 {
-    let kind = next(&mut words)?;
-    if is(kind, b"came") {
-        let token = identifier(only(words)?).ok_or(Refused::Bad)?;
-        return Ok((What::Came { post, token }, nothing(alloc)));
+    match words.next().ok_or(Refused::Bad)? {
+        kind if is(kind, b"came") => {
+            let token = identifier(words.only().ok_or(Refused::Bad)?).ok_or(Refused::Bad)?;
+            Ok((What::Came { post, token }, nothing(alloc)))
+        }
+        kind if is(kind, b"bytes") => {
+            let piece = short_bytes(alloc, words.only().ok_or(Refused::Bad)?)?;
+            let n = piece.bytes().len() as u32;
+            Ok((What::Bytes { post, n }, piece))
+        }
+        kind if is(kind, b"gone") => {
+            let gone = (What::Gone { post }, nothing(alloc));
+            words.end(gone).ok_or(Refused::Bad)
+        }
+        kind if is(kind, b"datagram") => {
+            let piece = datagram(alloc, words.only().ok_or(Refused::Bad)?)?;
+            let n = piece.bytes().len() as u32;
+            Ok((What::Datagram { post, n }, piece))
+        }
+        kind if is(kind, b"plant") => {
+            let event = event(words).ok_or(Refused::Bad)?;
+            Ok((What::Plant { post, event }, nothing(alloc)))
+        }
+        _ => Err(Refused::Bad),
     }
-    if is(kind, b"bytes") {
-        let piece = short_bytes(alloc, only(words)?)?;
-        let n = piece.bytes().len() as u32;
-        return Ok((What::Bytes { post, n }, piece));
-    }
-    if is(kind, b"gone") {
-        let gone = (What::Gone { post }, nothing(alloc));
-        return words.end(gone).ok_or(Refused::Bad);
-    }
-    if is(kind, b"datagram") {
-        let piece = datagram(alloc, only(words)?)?;
-        let n = piece.bytes().len() as u32;
-        return Ok((What::Datagram { post, n }, piece));
-    }
-    if is(kind, b"plant") {
-        let event = event(words).ok_or(Refused::Bad)?;
-        return Ok((What::Plant { post, event }, nothing(alloc)));
-    }
-    Err(Refused::Bad)
 }
 
 /// Reads what is heard, with its bytes, which is all the words.
+#[tactic(auto, using(std::proofs::lemmas::Fmt::decimal_digit))]
 fn what(alloc: Global, mut words: Words) -> Result<(What, Piece), Refused>
     ensures { Gives (λ w. what_words w.0 w.1) IsHeard words.entry result }
 {
-    let first = next(&mut words)?;
-    if is(first, b"tick") {
-        return words.end((What::Tick, nothing(alloc))).ok_or(Refused::Bad);
+    match words.next().ok_or(Refused::Bad)? {
+        word if is(word, b"tick") => words.end((What::Tick, nothing(alloc))).ok_or(Refused::Bad),
+        word if is(word, b"over") => words.end((What::Over, nothing(alloc))).ok_or(Refused::Bad),
+        word => match post(word) {
+            Some(post) => at_post(alloc, post, words),
+            None => Err(Refused::Bad),
+        },
     }
-    if is(first, b"over") {
-        return words.end((What::Over, nothing(alloc))).ok_or(Refused::Bad);
-    }
-    let Some(post) = post(first) else {
-        return Err(Refused::Bad);
-    };
-    at_post(alloc, post, words)
 }
 
 /// Reads a heard entry behind its first word.
 fn heard(alloc: Global, mut words: Words) -> Result<Entry, Refused>
     ensures { Gives plain_words IsRead (codes "heard" ∷ words.entry) result }
 {
-    let moment = next(&mut words)?;
-    let Some(at) = number(moment, 0, u64::MAX) else {
+    let Some(at) = count(&mut words) else {
         return Err(Refused::Bad);
     };
     match what(alloc, words) {
@@ -265,75 +229,59 @@ fn heard(alloc: Global, mut words: Words) -> Result<Entry, Refused>
     }
 }
 
-/// Reads the end of a session behind its first word.
-fn ended(mut words: Words) -> Option<Entry>
-    ensures { Reads plain_words IsRead (codes "ended" ∷ words.entry) result }
-{
-    let post = post(words.next()?)?;
-    let cause = number(words.only()?, 0, 255)? as u8;
-    Some(Entry::Ended { post, cause })
-}
-
 /// Reads a post and the bytes that went out there.
 fn sent(alloc: Global, mut words: Words) -> Result<(u8, Piece), Refused>
     ensures { MatchResult result (λ s. IsPost s.0 × AreSent s.1 × (words.entry ≡ decimal s.0 ∷ encode_lower s.1 ∷ []))
         (λ refused. refused ≡ Refused.Bad → (k : ℕ) (b : List ℕ) → IsPost k → AreSent b → words.entry ≢ decimal k ∷ encode_lower b ∷ []) }
 {
-    let post = post(next(&mut words)?).ok_or(Refused::Bad)?;
-    let bytes = bytes(alloc, only(words)?)?;
+    let post = post(words.next().ok_or(Refused::Bad)?).ok_or(Refused::Bad)?;
+    let bytes = bytes(alloc, words.only().ok_or(Refused::Bad)?)?;
     Ok((post, bytes))
 }
 
-/// Reads a post and an order.
-fn drove(mut words: Words) -> Option<(u8, Order)>
-    ensures { MatchOption result ((k : ℕ) (o : Order) → IsPost k → IsOrderOfTypes o → words.entry ≢ decimal k ∷ order_words o)
-        (λ d. IsPost d.0 × IsOrderOfTypes d.1 × (words.entry ≡ decimal d.0 ∷ order_words d.1)) }
-{
-    let post = post(words.next()?)?;
-    let order = order(words)?;
-    Some((post, order))
-}
-
 /// Reads a call, given its first word.
-fn call(alloc: Global, kind: &[u8], words: Words, taken: bool) -> Result<Entry, Refused>
+fn call(alloc: Global, kind: &[u8], mut words: Words, taken: bool) -> Result<Entry, Refused>
     ensures { Gives plain_words (IsCall taken) (kind.now ∷ words.entry) result }
 {
-    if is(kind, b"sent") {
-        let (post, bytes) = sent(alloc, words)?;
-        return Ok(Entry::Sent { post, bytes, taken });
+    match kind {
+        _ if is(kind, b"sent") => {
+            let (post, bytes) = sent(alloc, words)?;
+            Ok(Entry::Sent { post, bytes, taken })
+        }
+        _ if is(kind, b"answered") => {
+            let (post, bytes) = sent(alloc, words)?;
+            Ok(Entry::Answered { post, bytes, taken })
+        }
+        _ if is(kind, b"drove") => {
+            let post = post(words.next().ok_or(Refused::Bad)?).ok_or(Refused::Bad)?;
+            let order = order(words).ok_or(Refused::Bad)?;
+            Ok(Entry::Drove { post, order, taken })
+        }
+        _ if is(kind, b"dialed") => {
+            let port = number(words.only().ok_or(Refused::Bad)?, 0, 65_535).ok_or(
+                Refused::Bad,
+            )? as u16;
+            Ok(Entry::Dialed { port, taken })
+        }
+        _ => Err(Refused::Bad),
     }
-    if is(kind, b"answered") {
-        let (post, bytes) = sent(alloc, words)?;
-        return Ok(Entry::Answered { post, bytes, taken });
-    }
-    if is(kind, b"drove") {
-        let (post, order) = drove(words).ok_or(Refused::Bad)?;
-        return Ok(Entry::Drove { post, order, taken });
-    }
-    if is(kind, b"dialed") {
-        let port = number(only(words)?, 0, 65_535).ok_or(Refused::Bad)? as u16;
-        return Ok(Entry::Dialed { port, taken });
-    }
-    Err(Refused::Bad)
 }
 
 /// Reads an entry, which is all the words.
 pub(crate) fn entry(alloc: Global, mut words: Words) -> Result<Entry, Refused>
     ensures { Gives words_of IsRead words.entry result }
 {
-    let kind = next(&mut words)?;
-    if is(kind, b"heard") {
-        return heard(alloc, words);
+    match words.next().ok_or(Refused::Bad)? {
+        kind if is(kind, b"heard") => heard(alloc, words),
+        kind if is(kind, b"lost") => words.end(Entry::Lost).ok_or(Refused::Bad),
+        kind if is(kind, b"ended") => {
+            let post = post(words.next().ok_or(Refused::Bad)?).ok_or(Refused::Bad)?;
+            let cause = number(words.only().ok_or(Refused::Bad)?, 0, 255).ok_or(
+                Refused::Bad,
+            )? as u8;
+            Ok(Entry::Ended { post, cause })
+        }
+        kind if is(kind, b"failed") => call(alloc, words.next().ok_or(Refused::Bad)?, words, false),
+        kind => call(alloc, kind, words, true),
     }
-    if is(kind, b"lost") {
-        return words.end(Entry::Lost).ok_or(Refused::Bad);
-    }
-    if is(kind, b"ended") {
-        return ended(words).ok_or(Refused::Bad);
-    }
-    if !is(kind, b"failed") {
-        return call(alloc, kind, words, true);
-    }
-    let kind = next(&mut words)?;
-    call(alloc, kind, words, false)
 }

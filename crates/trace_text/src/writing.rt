@@ -4,7 +4,7 @@ ghost use Rattle.std.specs.Prelude.{◌≡◌, ◌≤◌, ◌↔◌, ◌++◌, l
 ghost use Rattle.trace_text.specs.TraceText.{line_of, numbered_line_of, IsWritable, IsOfFormat1};
 ghost use Rattle.trace_text.specs.Noted.{entry_of};
 
-use crate::lines::{entry_line, noted_line};
+use crate::lines::noted_line;
 use crate::noted::Noted;
 use charge_world::Entry;
 use text_tokens::{Full, Line};
@@ -23,7 +23,7 @@ pub fn write_line(entry: &Entry, room: &mut [u8]) -> Result<u32, Full>
     ensures needed { IfErr result (λ full. full.bytes ≡ length (line_of entry.now)) }
     ensures unchanged { OnErr result (room.new ≡ room.old) }
 {
-    entry_line(entry).write(room)
+    noted_line(Line::new(), &Noted::of(entry)).write(room)
 }
 
 /// Writes the number of a hearing, a space and the line of an entry to the front of a room, and gives the number of
@@ -36,10 +36,7 @@ pub fn write_numbered(hearing: u64, entry: &Entry, room: &mut [u8]) -> Result<u3
     ensures needed { IfErr result (λ full. full.bytes ≡ length (numbered_line_of hearing entry.now)) }
     ensures unchanged { OnErr result (room.new ≡ room.old) }
 {
-    Line::new()
-        .number(hearing)
-        .then(entry_line(entry))
-        .write(room)
+    write_noted(hearing, &Noted::of(entry), room)
 }
 
 /// Writes what `write_numbered` writes of an entry whose bytes are lent.
@@ -51,8 +48,5 @@ pub fn write_noted(hearing: u64, noted: &Noted<'_>, room: &mut [u8]) -> Result<u
     ensures needed { IfErr result (λ full. full.bytes ≡ length (numbered_line_of hearing (entry_of noted.now))) }
     ensures unchanged { OnErr result (room.new ≡ room.old) }
 {
-    Line::new()
-        .number(hearing)
-        .then(noted_line(noted))
-        .write(room)
+    noted_line(Line::new().number(hearing), noted).write(room)
 }

@@ -1,6 +1,0 @@
-use Rattle.trace_text.proofs.WholeLines.{numbered_short}
-use Rattle.trace_text.proofs.writing.write_numbered.Goals as goal
-
-pub write-requires-clause-fits : goal.write-requires-clause-fits
-write-requires-clause-fits c =
-    rw (c.then.ensures, c.number.ensures, c.new.ensures, c.entry_line.ensures.words) (numbered_short c.args.hearing c.args.entry.now c.ranges.hearing.fits c.requires.1)
