@@ -42,9 +42,10 @@ impl End {
     }
 }
 
-/// What a run leaves: its output and its trace.
+/// What a run leaves: its status, its output and its trace.
 #[derive(Drop)]
 struct Left {
+    status: Status,
     out: String,
     trace: Vec<u8>,
 }
@@ -59,29 +60,28 @@ pub(crate) fn printed_by<R: Net<Stream = TcpStream> + Clock + RandomSource>(
 ) -> Result<String> {
     let mut wire = Bounded::new(NetWire::new(rt, alloc));
     let files = vec![in alloc; file(alloc, "plan", plan.as_bytes())?]?;
-    let Left { mut out, trace } = left_by(alloc, &[end.word(), "plan"], files, &mut wire)?;
+    let mut left = left_by(alloc, &[end.word(), "plan"], files, &mut wire)?;
     if wire.is_cut() {
-        out.push_str("time up\n")?;
+        left.out.push_str("time up\n")?;
     }
     if end == End::Station {
-        let replayed = replayed(alloc, plan, trace.as_slice(), &mut wire)?;
-        out.push_str(if replayed.as_slice() == trace.as_slice() {
+        left.out.push_str(if replays(alloc, plan, left.trace.as_slice(), &mut wire)? {
             "trace replayed to itself\n"
         } else {
             "trace replayed otherwise\n"
         })?;
     }
-    Ok(out)
+    Ok(left.out)
 }
 
-/// The trace that the replay of a trace writes. It leaves the wire alone.
-fn replayed<W: Wire>(alloc: Global, plan: &str, trace: &[u8], wire: &mut W) -> Result<Vec<u8>> {
+/// Whether a trace replays to itself by the plan of this text. It leaves the wire alone.
+fn replays<W: Wire>(alloc: Global, plan: &str, trace: &[u8], wire: &mut W) -> Result<bool> {
     let files = vec![in alloc;
         file(alloc, "plan", plan.as_bytes())?,
         file(alloc, "trace", trace)?,
     ]?;
     let left = left_by(alloc, &["replay", "plan", "trace"], files, wire)?;
-    Ok(left.trace)
+    Ok(left.status == Status::Done && left.trace.as_slice() == trace)
 }
 
 /// What a run of these words leaves, with files, output and trace in memory.
@@ -95,8 +95,9 @@ fn left_by<W: Wire>(
     let mut files = MemorySource::of(files, Vec::new(alloc));
     let mut out = MemorySink::make(alloc, Vec::new(alloc), OUTPUT)?;
     let mut trace = MemorySink::make(alloc, Vec::new(alloc), TRACE)?;
-    let _ = status_of(alloc, &words, &mut files, &mut out, &mut trace, wire);
+    let status = status_of(alloc, &words, &mut files, &mut out, &mut trace, wire);
     Ok(Left {
+        status,
         out: String::from_str(alloc, str::from_utf8(out.bytes())?)?,
         trace: trace.bytes().to_vec(alloc)?,
     })
