@@ -5,7 +5,7 @@ ghost use Rattle.std.specs.Prelude.{None, []};
 use charge_world::{Failed, Heard, Order, Ports, What, Wire};
 
 /// From when on nothing more is heard, in milliseconds since the start of a wire.
-const LAST: u64 = 10_000;
+const LAST: u64 = 40_000;
 
 /// A wire that is over from the moment `LAST` on, so that an end whose partner is gone ends by itself. It tells no past.
 #[derive(Drop)]

@@ -35,11 +35,11 @@ pub(crate) struct Pair {
 }
 
 impl Pair {
-    /// The plan of the car: 10 charging replies, one each 100 ms.
-    pub(crate) fn car_plan(&self, alloc: Global) -> Result<String, AllocError> {
+    /// The plan of the car: so many charging replies, one each 100 ms.
+    pub(crate) fn car_plan(&self, alloc: Global, cycles: u32) -> Result<String, AllocError> {
         let sdp = self.ports.sdp;
         let lines = self.charge.lines();
-        format!(in alloc; "sdp = {sdp}\ncycles = 10\n{lines}")
+        format!(in alloc; "sdp = {sdp}\ncycles = {cycles}\n{lines}")
     }
 
     /// The table of the post.

@@ -32,7 +32,7 @@ pub(crate) fn goes_well<
     let wanted = scene.printed;
     let mut printed = String::new(alloc);
     for _ in 0..TRIES {
-        printed = played(rt, alloc, scene.charges)?;
+        printed = played(rt, alloc, scene)?;
         if printed.as_str() == wanted {
             println!(rt; "{name}: {wanted}")?;
             return Ok(true);
@@ -47,14 +47,14 @@ pub(crate) fn goes_well<
 fn played<R: Net<Stream = TcpStream> + Clock + RandomSource + Processes + Env + AllocGlobal>(
     rt: &R,
     alloc: Global,
-    charges: &[Charge],
+    scene: &Scene,
 ) -> Result<String> {
-    let pairs = pairs_of(rt, alloc, charges)?;
+    let pairs = pairs_of(rt, alloc, scene.charges)?;
     let (first, others) = pairs.as_slice().split_first().context("no car")?;
     let plan = station_plan(alloc, pairs.as_slice())?;
     let station = Neighbour::start(rt, End::Station, plan.as_str())?;
-    let cars = cars_of(rt, alloc, others)?;
-    let plan = first.car_plan(alloc)?;
+    let cars = cars_of(rt, alloc, others, scene.cycles)?;
+    let plan = first.car_plan(alloc, scene.cycles)?;
     let lines = printed_by(rt, alloc, End::Car, plan.as_str())?;
     let mut printed = String::new(alloc);
     add(&mut printed, lines.as_str())?;
@@ -77,15 +77,16 @@ fn pairs_of(rt: &impl Net, alloc: Global, charges: &[Charge]) -> Result<Vec<Pair
     Ok(pairs)
 }
 
-/// The cars of these pairs, started beside this process.
+/// The cars of these pairs, each for so many charging replies, started beside this process.
 fn cars_of<R: Processes + Env + AllocGlobal>(
     rt: &R,
     alloc: Global,
     pairs: &[Pair],
+    cycles: u32,
 ) -> Result<Vec<Neighbour<R::Started>>> {
     let mut cars = Vec::new(alloc);
     for pair in pairs {
-        let plan = pair.car_plan(alloc)?;
+        let plan = pair.car_plan(alloc, cycles)?;
         cars.push(Neighbour::start(rt, End::Car, plan.as_str())?)?;
     }
     Ok(cars)
