@@ -1,4 +1,4 @@
-use Rattle.car_core.proofs.Lawful.{ran}
+use Rattle.car_core.proofs.Laws.{ran}
 use Rattle.car_core.proofs.lawful.law_of_cars.Goals as goal
 
 pub returns : goal.returns
