@@ -34,8 +34,8 @@ pub(crate) const SCENES: [Scene; 4] = [
     Scene {
         name: "two cars at once, the first in ISO 15118-2 and the second in DIN SPEC 70121",
         charges: &[Charge::IsoDirect, Charge::DinDirect],
-        cycles: 10,
-        printed: "cycles 10 cause 1, cycles 10 cause 1, post 1 sessions 1 closed 1 causes 00000002, \
+        cycles: 200,
+        printed: "cycles 200 cause 1, cycles 200 cause 1, post 1 sessions 1 closed 1 causes 00000002, \
 post 2 sessions 1 closed 1 causes 00000002, trace replayed to itself",
     },
 ];
