@@ -29,7 +29,10 @@ def read_record(t, kind):
     low, fields = t.declared(kind), t.fields(kind)
     attributes = [it for it in fields if it.form == "attribute"]
     given = f"{t.lower(kind)}_attributes" if attributes else "[]"
-    steps = [(it.field, f"c.in_ok-{it.field}.ensures.read kinds F {given} {low} {it.at} _ %s refl refl") for it in attributes]
+    # a large type sets its fields where they stand: what is read then has no name of its own
+    calls = iter(list(numbered(it.read() if it.large else "self" for it in fields if it.form != "out")))
+    step = {it.field: next(calls) if kind in t.large else it.field for it in fields if it.form != "out"}
+    steps = [(it.field, f"c.in_ok-{step[it.field]}.ensures.read kinds F {given} {low} {it.at} _ %s refl refl") for it in attributes]
     if not any(it.optional for it in attributes):
         steps.append(("first", f"c.in_ok-first_child.ensures.read kinds F {given} {low} _ %s"))
     for it in fields:
@@ -37,15 +40,15 @@ def read_record(t, kind):
             steps.append((it.field, f"c.left_out.ensures.read kinds F {given} {low} {it.at} _ %s refl"))
         elif it.form != "attribute":
             kinds = "kinds " if it.simple else ""
-            steps.append((it.field, f"c.in_ok-{it.field}.ensures.read {kinds}F {given} {low} {it.at} _ %s refl refl" + (" refl" if it.is_asked() else "")))
+            steps.append((it.field, f"c.in_ok-{step[it.field]}.ensures.read {kinds}F {given} {low} {it.at} _ %s refl refl" + (" refl" if it.is_asked() else "")))
     signed = any(t.is_signed(it.kind) for it in fields)
     lines, last = [], "h"
-    for n, (word, step) in enumerate(steps):
+    for n, (word, fact) in enumerate(steps):
         if n < len(steps) - 1 or signed:
-            lines.append(f"    let at_{word} = {step % last} in")
+            lines.append(f"    let at_{word} = {fact % last} in")
             last = f"at_{word}"
         else:
-            lines.append(f"    {step % last}")
+            lines.append(f"    {fact % last}")
     return answer("clause-read", "told", lines + ([f"    search (rules, {last})"] if signed else []))
 
 
@@ -68,22 +71,51 @@ def put_choice(t, kind):
     return text
 
 
-def read_choice(t, kind):
-    members, text = t.choices[kind], ""
+def member_here(t, members, n):
+    """That the child which has started is this member: by the test of its name, the last since no other is left."""
     pair = lambda it: f"({it.name}, {kind_name(t, it)})"
     test = lambda n: "c.is_at" if n == 0 else "c.is_at-else-is_at" + (f"-{n}" if n > 1 else "")
     branch = lambda n: "c.if-is_at" + (f"-{n + 1}" if n else "")
+    if n < len(members) - 1:
+        return f"({test(n)}.ensures.here {branch(n)}.true)"
+    others = " ∷ ".join([pair(other) for other in members[:-1]] + ["[]"])
+    absent = "tt"
+    for k in reversed(range(n)):
+        absent = f"({test(k)}.ensures.absent {branch(k)}.false, {absent})"
+    others = f"({others})" if n else "[]"
+    return f"(only_last {others} {pair(members[n])} _ F.name h.kind h.here h.among {absent})"
+
+
+def member_of(call, fact):
+    """A member that was read, as the one of its group that stands in the place."""
+    return [f"    let it = {call}.ensures.read F _ _ _ told h {fact} refl refl in", "    (_, refl, it.0, it.1)"]
+
+
+def read_large_choice(t, kind):
+    members, text = t.choices[kind], ""
+    calls = iter(list(numbered(it.read() for it in members if not t.holds_list(it.kind))))
+    for n, it in enumerate(members):
+        fact = member_here(t, members, n)
+        if t.holds_list(it.kind):
+            last = n == len(members) - 1
+            at = n if last else n + 1
+            arm = f"{'else' if last else 'then'}-is_at" + (f"-{at}" if at > 1 else "")
+            text += answer(f"{arm}-clause-read", "told", [f"    c.{it.word}.ensures.read F told h {fact}"])
+        else:
+            call = next(calls)
+            text += answer(f"in_ok-{call}-clause-read", "told", member_of(f"c.in_ok-{call}", fact))
+    return text
+
+
+def read_apart(it):
+    return "\npub returns-clause-read : goal.returns-clause-read\nreturns-clause-read g c = λ F told h here.\n" + "\n".join(member_of(f"c.in_ok-{it.read()}", "here")) + "\n"
+
+
+def read_choice(t, kind):
+    members, text = t.choices[kind], ""
     for n, (it, call) in enumerate(zip(members, numbered(it.read() for it in members))):
         head = f"c.in_ok-{call}.ensures.read {'_ F _ _ _ _' if it.simple else 'F _ _ _'} told h"
-        if n < len(members) - 1:
-            fact = f"({test(n)}.ensures.here {branch(n)}.true)"
-        else:
-            others = " ∷ ".join([pair(other) for other in members[:-1]] + ["[]"])
-            absent = "tt"
-            for k in reversed(range(n)):
-                absent = f"({test(k)}.ensures.absent {branch(k)}.false, {absent})"
-            others = f"({others})" if n else "[]"
-            fact = f"(only_last {others} {pair(it)} _ F.name h.kind h.here h.among {absent})"
+        fact = member_here(t, members, n)
         whole = f"{head} {fact} refl refl" + (" refl" if it.simple else "")
         goal = f"in_ok-{call}-clause-read" if len(members) > 1 else "clause-read"
         text += answer(goal, "told", [f"    search (rules, {whole})" if t.is_signed(it.kind) else f"    {whole}"])
@@ -135,12 +167,19 @@ def proofs(t, crate, file, kind):
     if kind in t.choices:
         put = put_choice if len(t.choices[kind]) > 1 else put_only
         found.append(("PutChoice/write_member", put_choice_head(t, crate, file, kind), put(t, kind)))
-        found.append(("Choice/read_member", read_choice_head(t, kind), read_choice(t, kind)))
+        if kind in t.large:
+            found.append(("LargeGroup/read_member_into", read_choice_head(t, kind), read_large_choice(t, kind)))
+        else:
+            found.append(("Choice/read_member", read_choice_head(t, kind), read_choice(t, kind)))
     elif kind in t.s.content:
         found.append(("PutRecord/write", "", put_record(t, kind)))
-        found.append(("Record/read", read_record_head(t, crate, file, kind), read_record(t, kind)))
+        large = "LargeRecord/read_here" if kind in t.large else "Record/read"
+        found.append((large, read_record_head(t, crate, file, kind), read_record(t, kind)))
     elif kind in t.s.empty:
         head = f"use Rattle.std.proofs.Common.{{[]}}\nuse Rattle.{t.s.crate}.specs.Declarations.{{kinds}}\n"
         found.append(("Record/read", head, read_empty(t)))
-    places = ((f"{file}/{name}{place}", head, body) for place, head, body in found)
+    places = [(f"{file}/{name}{place}", head, body) for place, head, body in found]
+    if kind in t.large and kind in t.choices:
+        apart = [it for it in t.choices[kind] if t.holds_list(it.kind)]
+        places += [(f"{file}/{it.word}", "use Rattle.std.proofs.Common.{refl}\n", read_apart(it)) for it in apart]
     return {place: with_uses(t, crate, place, head, body) for place, head, body in places}

@@ -20,7 +20,7 @@ class Element:
 
     def __init__(self, t, form, name, kind, at=0, optional=False, most=None):
         self.form, self.name, self.kind, self.at, self.optional, self.most = form, name, kind, at, optional, most
-        self.field, self.simple = name.lower(), t.is_simple(kind)
+        self.field, self.simple, self.large = name.lower(), t.is_simple(kind), kind in t.large
         self.bound = t.bound(kind) if self.simple else ""
         one = t.type_of(kind) if form != "out" else ""
         self.type = f"Option<{one}>" if optional else f"ArrayVec<{one}, {most}>" if most else one
@@ -39,11 +39,13 @@ class Element:
         if self.form == "attribute":
             return "last_attribute" if self.optional else "attribute"
         if self.form == "choice":
-            return "optional_choice" if self.optional else "choice"
+            return ("optional_choice_here" if self.large else "optional_choice") if self.optional else "choice"
         if self.form == "member":
             return "member_value" if self.simple else "member"
         if self.most:
             return "values" if self.simple else "records"
+        if self.large:
+            return "required_here"
         return ("optional_value" if self.optional else "value") if self.simple else "optional" if self.optional else "required"
 
     def is_asked(self):
@@ -55,9 +57,11 @@ class Types:
     def __init__(self, path, schema, types):
         self.s = Schema(path)
         self.s.crate = schema
-        self.renamed, self.files, self.file_sections = {}, [], {}
+        self.renamed, self.files, self.file_sections, self.large = {}, [], {}, set()
         for crate, file, section, kinds in listed_types(types):
             self.file_sections[crate, file] = section
+            self.large |= {it.split("*")[0] for it in kinds if "*" in it}
+            kinds = [it.replace("*", "") for it in kinds]
             self.renamed.update(it.split("=") for it in kinds if "=" in it)
             self.files.append((crate, file, [it.split("=")[0] for it in kinds]))
         self.kinds = {self.s.kind(it): it for it in self.s.kinds}
@@ -168,6 +172,10 @@ class Types:
             return any(self.lent(it) for _, it in self.taken(particle))
         return kind.startswith(("Text", "Binary")) if kind in self.s.values else any(self.lent(it.kind) for it in self.inner(kind))
 
+    def holds_list(self, kind):
+        """Whether a list stands somewhere in a type."""
+        return any(it.most or self.holds_list(it.kind) for it in self.inner(kind))
+
     def is_plain(self, kind):
         """Whether it is copied as its bits are."""
         if self.lent(kind):
@@ -175,8 +183,9 @@ class Types:
         return self.is_simple(kind) or all(not it.most and self.is_plain(it.kind) for it in self.inner(kind))
 
     def with_defaults(self):
-        """The types that stand in lists, with what they hold: room for them has to be filled with some value."""
+        """The types that stand in lists or are large, with what they hold: room for them has to be filled with some value."""
         found, left = set(), [it.kind for kind in self.places for it in (self.inner(kind) if kind not in self.choices else []) if it.most]
+        left += [it for it in self.large if it not in self.choices]
         while left:
             kind = left.pop()
             if kind not in found:

@@ -18,10 +18,10 @@ from message_shapes import Types
 from message_specs import definitions
 
 WORDS = [
-    "Binary", "Choice", "Descent", "Group", "PutChoice", "PutRecord", "Record", "Text", "attribute", "choice", "first_child", "last_attribute",
-    "left_out", "member", "member_value", "optional", "optional_choice", "optional_value", "put_attribute", "put_choice", "put_optional",
-    "put_optional_attribute", "put_optional_choice", "put_optional_value", "put_record", "put_records", "put_value", "put_values", "records",
-    "required", "value", "values",
+    "Binary", "Choice", "Descent", "Group", "LargeGroup", "LargeRecord", "PutChoice", "PutRecord", "Record", "Text", "attribute", "choice",
+    "first_child", "last_attribute", "left_out", "member", "member_value", "optional", "optional_choice", "optional_choice_here",
+    "optional_value", "put_attribute", "put_choice", "put_optional", "put_optional_attribute", "put_optional_choice", "put_optional_value",
+    "put_record", "put_records", "put_value", "put_values", "records", "required", "required_here", "value", "values",
 ]
 
 
@@ -64,6 +64,13 @@ def derived(t, kind):
     return f"#[derive({plain}{', Default' if kind in t.defaults and kind not in t.choices else ''})]"
 
 
+READ_HERE = "fn read_here<P: Places>(&mut self, descent: &mut Descent<'a, '_, P>) -> Result<(), Refusal>"
+
+
+def lifetime(lent):
+    return "<'a>" if lent else ""
+
+
 def put(it):
     if it.form == "choice":
         return f"put_{'optional_' if it.optional else ''}choice(writer, &self.{it.field});"
@@ -77,6 +84,11 @@ def read(it):
     return f"let {it.field} = {it.read()}(descent{asked})?;"
 
 
+def read_here(it):
+    """Reads a field of a large type where it stands."""
+    return f"{it.read()}(&mut self.{it.field}, descent)?;" if it.large else read(it).replace("let ", "self.")
+
+
 def written_struct(name, kept):
     return f"{name} {{ {', '.join(it.field for it in kept)} }}" if kept else name
 
@@ -88,8 +100,10 @@ def struct(t, crate, file, kind):
     attributes = any(it.form == "attribute" for it in kept)
     puts = "".join(f"        {put(it)}\n" for it in kept)
     first = [] if any(it.form == "attribute" and it.optional for it in kept) else ["first_child(descent)?;"]
-    given = [read(it) for it in t.fields(kind) if it.form == "attribute"]
-    reads = "".join(f"        {it}\n" for it in [*given, *first, *(read(it) for it in t.fields(kind) if it.form != "attribute")])
+    large = kind in t.large
+    reads = read_here if large else read
+    given = [reads(it) for it in t.fields(kind) if it.form == "attribute"]
+    reads = "".join(f"        {it}\n" for it in [*given, *first, *(reads(it) for it in t.fields(kind) if it.form != "attribute")])
     words = ([f"{low}_given"] if attributes else []) + ([f"{low}_parts"] if kept else [])
     uses = f"    ghost use Rattle.{crate}.specs.{file.capitalize()}.{{{', '.join(words)}}};\n\n" if words else ""
     declared = f"    ghost use Rattle.{crate}.specs.{file.capitalize()}.{{{low}_attributes}};\n" if attributes else ""
@@ -109,7 +123,7 @@ impl PutRecord for {name}{"<'_>" if lent else ""} {{
 {puts}    }}
 }}
 
-impl<'a> Record<'a> for {name}{"<'a>" if lent else ""} {{
+impl<'a> {"Large" if large else ""}Record<'a> for {name}{"<'a>" if lent else ""} {{
     ghost use Rattle.{t.s.crate}.specs.Declarations.{{kinds}};
 {particles}{declared}
     ghost kinds = {{ kinds }};
@@ -118,8 +132,8 @@ impl<'a> Record<'a> for {name}{"<'a>" if lent else ""} {{
 
     ghost particles = {{ {t.declared(kind) if kept else "[]"} }};
 
-    fn read<P: Places>(descent: &mut Descent<'a, '_, P>) -> Result<{name}{"<'a>" if lent else ""}, Refusal> {{
-{reads}        Ok({written_struct(name, kept)})
+    {READ_HERE if large else f"fn read<P: Places>(descent: &mut Descent<'a, '_, P>) -> Result<{name}{lifetime(lent)}, Refusal>"} {{
+{reads}        Ok({"()" if large else written_struct(name, kept)})
     }}
 }}
 """
@@ -137,6 +151,52 @@ def chain(t, name, members):
     return text
 
 
+def large_chain(t, name, members):
+    """Reads one of these members into a place, after its name; the last without a look at it."""
+    text = "        "
+    for n, it in enumerate(members):
+        stands = f"*place = Some({name}::{it.variant}({it.read()}(descent)?));\n            Ok(())"
+        head = f"if descent.is_at(names::{it.name}) " if n < len(members) - 1 else ""
+        text += f"{head}{{\n            {f'{it.word}(place, descent)' if t.holds_list(it.kind) else stands}\n        }}{' else ' if head else chr(10)}"
+    return text
+
+
+def apart(name, low, it):
+    """Reads a member that holds a list."""
+    return f"""/// {it.type.split("<")[0]}, which holds a list: apart from the others, so that they don't fill its room.
+#[inline(never)]
+fn {it.word}<'a, P: Places>(place: &mut Option<{name}<'a>>, descent: &mut Descent<'a, '_, P>) -> Result<(), Refusal>
+    requires open {{ IsOpen P.schema descent.old }}
+    ensures open {{ IsOpen P.schema descent.new }}
+    ensures table {{ descent.new.reader.table.ghost_name ≡ descent.old.reader.table.ghost_name }}
+    ensures places {{ descent.new.reader.places.now ≡ descent.old.reader.places.now }}
+    ensures payload {{ descent.new.reader.reader.bits ≡ descent.old.reader.reader.bits }}
+    ensures refused {{ IfErr result (λ r. IsRefusal (seen_of P.schema descent.old) r) }}
+    ensures read {{ (F : Frame) (told : List TreeEvent) → IsChosen kinds F {low}_members told (seen_of P.schema descent.old) → descent.old.child ≡ Some {it.name}
+        → IfOk result (λ _. (v : {name}) × (place.new ≡ Some v) × ({low}_name v ≡ F.name) × Leaves kinds F (told_inside ({low}_inside v) told) (seen_of P.schema descent.new)) }}
+{{
+    *place = Some({name}::{it.variant}({it.read()}(descent)?));
+    Ok(())
+}}
+
+"""
+
+
+def large_uses(t, crate, file, kind):
+    """What the clauses of a large group's own functions name."""
+    low, name = t.lower(kind), t.camel(kind)
+    names = ", ".join(it.name for it in t.choices[kind] if t.holds_list(it.kind))
+    return f"""ghost use Rattle.std.specs.Prelude.{{◌≡◌, [], List, Some, IfOk, IfErr}};
+ghost use Rattle.exi_documents.specs.Trees.{{Event as TreeEvent}};
+ghost use Rattle.message_parts.specs.Contents.{{told_inside}};
+ghost use Rattle.message_parts.specs.Reading.{{Frame, IsOpen, IsRefusal, IsChosen, Leaves, seen_of}};
+ghost use Rattle.{t.s.crate}.specs.Declarations.{{kinds}};
+ghost use Rattle.{t.s.crate}.specs.declared.names.TheConstants.{{{names}}};
+ghost use Rattle.{crate}.specs.declared.{file}.{name}.{{{name}}};
+ghost use Rattle.{crate}.specs.{file.capitalize()}.{{{low}_members, {low}_name, {low}_inside}};
+"""
+
+
 def choice(t, crate, file, kind):
     name, low, lent, members = t.camel(kind), t.lower(kind), t.lent(kind), t.choices[kind]
     variants = "".join(f"    /// {it.bound}.\n    {it.variant}({it.type}),\n" if it.bound else f"    {it.variant}({it.type}),\n" for it in members)
@@ -145,13 +205,40 @@ def choice(t, crate, file, kind):
     # what the trait says of names has to be said again where the type borrows
     clause = f"\n        ensures {{ result.now ≡ names_among {low}_members }}\n   " if lent else ""
     uses = f"    ghost use Rattle.std.specs.Prelude.{{◌≡◌}};\n    ghost use Rattle.message_parts.specs.Particles.{{names_among}};\n    ghost use Rattle.{crate}.specs.{file.capitalize()}.{{{low}_members}};\n\n" if lent else ""
-    group = f"""
-impl<'a> Group<'a> for {name}{"<'a>" if lent else ""} {{
-{uses}    fn names() -> &'static [u16]{clause} {{
+    names = f"""    fn names() -> &'static [u16]{clause} {{
         &[{listed}]
     }}
-}}
+"""
+    group = f"""
+impl<'a> Group<'a> for {name}{"<'a>" if lent else ""} {{
+{uses}{names}}}
 """ if kind in t.optional_choices else ""
+    reading = f"""impl<'a> Choice<'a> for {name}{"<'a>" if lent else ""} {{
+    ghost use Rattle.{t.s.crate}.specs.Declarations.{{kinds}};
+    ghost use Rattle.{crate}.specs.{file.capitalize()}.{{{low}_members}};
+
+    ghost kinds = {{ kinds }};
+
+    ghost members = {{ {low}_members }};
+
+    fn read_member<P: Places>(descent: &mut Descent<'a, '_, P>) -> Result<{name}{"<'a>" if lent else ""}, Refusal> {{
+{chain(t, name, members)}    }}
+}}
+{group}"""
+    if kind in t.large:
+        reading = "".join(apart(name, low, it) for it in members if t.holds_list(it.kind)) + f"""impl<'a> LargeGroup<'a> for {name}<'a> {{
+    ghost use Rattle.{t.s.crate}.specs.Declarations.{{kinds}};
+{uses.rstrip()}
+
+    ghost kinds = {{ kinds }};
+
+    ghost members = {{ {low}_members }};
+
+{names}
+    fn read_member_into<P: Places>(place: &mut Option<{name}<'a>>, descent: &mut Descent<'a, '_, P>) -> Result<(), Refusal> {{
+{large_chain(t, name, members)}    }}
+}}
+"""
     default = f"""
 impl{"<'a>" if lent else ""} Default for {name}{"<'a>" if lent else ""} {{
     fn default() -> {name}{"<'a>" if lent else ""} {{
@@ -179,18 +266,7 @@ impl PutChoice for {name}{"<'_>" if lent else ""} {{
     }}
 }}
 
-impl<'a> Choice<'a> for {name}{"<'a>" if lent else ""} {{
-    ghost use Rattle.{t.s.crate}.specs.Declarations.{{kinds}};
-    ghost use Rattle.{crate}.specs.{file.capitalize()}.{{{low}_members}};
-
-    ghost kinds = {{ kinds }};
-
-    ghost members = {{ {low}_members }};
-
-    fn read_member<P: Places>(descent: &mut Descent<'a, '_, P>) -> Result<{name}{"<'a>" if lent else ""}, Refusal> {{
-{chain(t, name, members)}    }}
-}}
-{group}"""
+{reading}"""
 
 
 def code(t, crate, file, kinds):
@@ -217,6 +293,9 @@ use message_parts::Simple;
     words = [it for it in WORDS if re.search(rf"(?<![\w:.]){it}(?=[(<]| for)" if it[0].islower() else rf"(?<![\w:]){it}\b", said)]
     lines += [f"use message_parts::{{{', '.join(words)}}};"]
     ghost = "ghost use Rattle.std.specs.Prelude.{[]};\n\n" if "[]" in re.sub(r"&\[[^]]*\]", "", said) else ""
+    for it in kinds:
+        if it in t.large and it in t.choices:
+            ghost = large_uses(t, crate, file, it) + "\n"
     return f"//! Types of elements of {t.s.title}.\n\n{ghost}" + "\n".join(sorted(lines, key=order)) + "\n" + body
 
 

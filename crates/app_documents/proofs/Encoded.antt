@@ -62,18 +62,18 @@ field_written here q a b k v m t u d entries value more is code written others =
     let inside = number_bits 1 0 ++ (written.0 ++ number_bits 1 0) in (
       code.0 ++ (inside ++ rest.0),
       rest.1,
-      (
-        b,
-        q,
-        written.1,
-        code.0,
-        inside,
-        rest.0,
-        code.1,
-        record { datatype = d; is_simple = is; inside = written.0; spelled = written.2; bits_are = refl },
-        rest.2,
-        refl,
-      ),
+      record {
+        kind = b;
+        next = q;
+        middle = written.1;
+        code = code.0;
+        inside = inside;
+        rest = rest.0;
+        starts = code.1;
+        spelled = record { datatype = d; is_simple = is; inside = written.0; spelled = written.2; bits_are = refl };
+        behind = rest.2;
+        bits_are = refl;
+      },
       omega (arith, code.2, written.3, rest.3, length-append code.0 (inside ++ rest.0), length-append inside rest.0, length-append (number_bits 1 0) (written.0 ++ number_bits 1 0), length-append written.0 (number_bits 1 0), length-number_bits 1 0),
       rest.4,
     )
@@ -145,10 +145,21 @@ protocols_written n entries (p ∷ ps) most some all few =
     let code = start_coded n (omega (arith, most)) in
     let inside = fields_written p n entries all.0 few (omega (arith, most)) in
     let rest = protocols_written (n + 1) inside.1 ps (omega (arith, most)) (omega arith) all.1 inside.4 in (
-      code.0 ++ ([] ++ (inside.0 ++ rest.0)),
+      code.0 ++ (inside.0 ++ rest.0),
       rest.1,
-      (5, at_copy (n + 1), first 5, entries, inside.1, code.0, [], inside.0, rest.0, code.1, (refl, refl, refl), inside.2, rest.2, refl),
-      omega (arith, code.2, inside.3, rest.3, length-append code.0 ([] ++ (inside.0 ++ rest.0)), length-append inside.0 rest.0),
+      record {
+        kind = 5;
+        next = at_copy (n + 1);
+        middle = inside.1;
+        code = code.0;
+        inside = inside.0;
+        rest = rest.0;
+        starts = code.1;
+        spelled = record { there = first 5; within = entries; front = []; inside = inside.0; begun = (refl, refl, refl); ended = inside.2; bits_are = refl };
+        behind = rest.2;
+        bits_are = refl;
+      },
+      omega (arith, code.2, inside.3, rest.3, length-append code.0 (inside.0 ++ rest.0), length-append inside.0 rest.0),
       rest.4,
     )
 
@@ -177,7 +188,7 @@ response_written code schema below is =
 
 root_written : (kind most : ℕ) (name : ℕ) (children : Trees) → IsWritten (SpellsTrees WritesValue kinds (first kind) [] children) most 20 → IsWritten (SpellsTree WritesValue kinds kind [] (Complex name [] children)) most 20
 root_written kind most name children inside =
-    (inside.0, inside.1, (first kind, [], [], inside.0, (refl, refl, refl), inside.2, refl), inside.3, inside.4)
+    (inside.0, inside.1, record { there = first kind; within = []; front = []; inside = inside.0; begun = (refl, refl, refl); ended = inside.2; bits_are = refl }, inside.3, inside.4)
 
 -- a message has a document of at most so many bits
 abbrev pub IsEncodedWithin : ℕ → Message → Type 0

@@ -3,7 +3,7 @@ use Rattle.std.proofs.Common.{◌≡◌, ℕ, ◌↔◌, List, [], ◌∷◌, ma
 use Rattle.exi_documents.specs.Documents.{IsDocument, IsEncoding}
 use Rattle.exi_documents.specs.Trees.{Tree}
 use Rattle.message_parts.specs.Contents.{holding, root_of}
-use Rattle.message_parts.specs.Documents.{IsWritable, PassesBytes as DocumentPasses}
+use Rattle.message_parts.specs.Documents.{IsWritable, PassesBytes as DocumentPasses, TellsBits as DocumentTells}
 use Rattle.app_schema.specs.Declarations.{negotiation_schema}
 use Rattle.app_schema.specs.declared.names.TheConstants.{REQUEST}
 use Rattle.app_documents.specs.Trees.{Message, IsMessage, offered_parts, request_parts, tree_of}
@@ -13,7 +13,7 @@ use Rattle.app_documents.proofs.OneMessage.{one_message}
 use Rattle.app_protocol.specs.declared.message.AppMessage.{AppMessage}
 use Rattle.app_protocol.specs.declared.message.AppMessage.TheVariants.{Req, Res}
 use Rattle.app_protocol.specs.declared.message.AppProtocol.{AppProtocol}
-use Rattle.app_protocol.specs.Documents.{IsApp, IsAppEncoding, PassesBytes}
+use Rattle.app_protocol.specs.Documents.{IsApp, IsAppEncoding, PassesBytes, TellsBits}
 use Rattle.app_protocol.specs.Messages.{protocol_of, protocol_parts, message_of, root_name, root_inside, root_number}
 
 all_inside : (ps : List AppProtocol) → map (λ p. holding (protocol_parts p)) ps ≡ map (λ p. holding (offered_parts p)) (map protocol_of ps)
@@ -43,6 +43,9 @@ pub is_writable : (m : AppMessage) → IsMessage (message_of m) → IsWritable n
 is_writable m is =
     let written = message_encoded (message_of m) is in
     subst (λ (t : Tree). IsWritable negotiation_schema (root_number m) t) (sym (tree_is m)) (written.0, written.1)
+
+pub tells : (m : AppMessage) (told : ℕ) → DocumentTells negotiation_schema (root_number m) (root_tree m) told → TellsBits (message_of m) told
+tells m told h = subst (λ (t : Tree). DocumentTells negotiation_schema (root_number m) t told) (tree_is m) h
 
 pub passes : (m : AppMessage) (bytes : ℕ) → DocumentPasses negotiation_schema (root_number m) (root_tree m) bytes ↔ PassesBytes (message_of m) bytes
 passes m bytes = (

@@ -3,7 +3,7 @@
 ghost use Rattle.std.specs.Prelude.{◌≡◌, ◌*◌, ◌<◌, ◌≤◌, ◌↔◌, length, take, IfOk, IfErr, IsErr};
 ghost use Rattle.exi_documents.specs.Values.{most_entries};
 ghost use Rattle.app_documents.specs.Trees.{IsMessage};
-ghost use Rattle.app_protocol.specs.Documents.{IsApp, IsAppRefused, IsAppEncoding, PassesBytes};
+ghost use Rattle.app_protocol.specs.Documents.{IsApp, IsAppRefused, IsAppEncoding, PassesBytes, TellsBits};
 ghost use Rattle.app_protocol.specs.Messages.{message_of};
 
 use crate::message::AppMessage;
@@ -28,7 +28,8 @@ pub fn read_app<'a>(payload: &'a [u8], table: &mut Table) -> Result<AppMessage<'
 /// Writes the one encoding of a message within its ranges (ISO 15118-2:2014, section 8.2) to the front of a room of at most 65,536
 /// bytes, and returns how many bytes it has. The table, which has room for 8,192 entries, is emptied.
 ///
-/// `Full` exactly where the encoding has more bits than the room.
+/// `Full` exactly where the encoding has more bits than the room. It tells the bits of the whole encoding where these are at most
+/// 65,536 bytes, and else more than those have.
 pub fn write_app(message: &AppMessage<'_>, room: &mut [u8], table: &mut Table) -> Result<u32, Full>
     requires message { IsMessage (message_of message.now) }
     requires room { length room.old ≤ 65536 }
@@ -38,7 +39,8 @@ pub fn write_app(message: &AppMessage<'_>, room: &mut [u8], table: &mut Table) -
     ensures written { IfOk result (λ n. IsAppEncoding (message_of message.now) (take n room.new)) }
     ensures read { IfOk result (λ n. IsApp (message_of message.now) (take n room.new)) }
     ensures full { IsErr result ↔ PassesBytes (message_of message.now) (length room.old) }
-    ensures bits { IfErr result (λ full. 8 * length room.old < full.bits) }
+    ensures bits { IfErr result (λ full. TellsBits (message_of message.now) full.bits) }
+    ensures more { IfErr result (λ full. 8 * length room.old < full.bits) }
 {
     message_parts::write(message, room, &NegotiationPlaces, table)
 }

@@ -7,9 +7,9 @@ ghost use Rattle.codec_rules.specs.Din as din_rules;
 ghost use Rattle.codec_rules.specs.Iso as iso_rules;
 
 use charge_world::Dialect;
-use din_codec::{DinTables, read_din};
+use din_codec::{DinMessage, DinTables, read_din};
 use exi_events::Table;
-use iso_codec::{IsoTables, read_iso};
+use iso_codec::{IsoMessage, IsoTables, read_iso};
 use session_words::Word;
 
 fn iso_word(tables: &IsoTables, payload: &[u8], table: &mut Table) -> Option<Word>
@@ -18,8 +18,9 @@ fn iso_word(tables: &IsoTables, payload: &[u8], table: &mut Table) -> Option<Wor
     ensures cap { table.new.cap ≡ most_entries }
     ensures read { iso_rules.Reads payload.now result }
 {
-    match read_iso(tables, payload, table) {
-        Ok(message) => Some(iso_words::to_word(&message)),
+    let mut message = IsoMessage::default();
+    match read_iso(tables, payload, table, &mut message) {
+        Ok(()) => Some(iso_words::to_word(&message)),
         Err(_) => None,
     }
 }
@@ -30,8 +31,9 @@ fn din_word(tables: &DinTables, payload: &[u8], table: &mut Table) -> Option<Wor
     ensures cap { table.new.cap ≡ most_entries }
     ensures read { din_rules.Reads payload.now result }
 {
-    match read_din(tables, payload, table) {
-        Ok(message) => Some(din_words::to_word(&message)),
+    let mut message = DinMessage::default();
+    match read_din(tables, payload, table, &mut message) {
+        Ok(()) => Some(din_words::to_word(&message)),
         Err(_) => None,
     }
 }

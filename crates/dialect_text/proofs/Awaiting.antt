@@ -12,7 +12,7 @@ use Rattle.exi_schema.specs.Plain.{PlainParticle, plain_particle, plain_particle
 use Rattle.exi_schema.proofs.Conditions.{and-r}
 use Rattle.value_text.specs.declared.awaited.Awaited.{Awaited}
 use Rattle.dialect_text.specs.Dialect.{member_named, element_named, or_else, mark}
-use Rattle.dialect_text.specs.Scanning.{IsAwaitedElement, HasMembers, HasElements}
+use Rattle.dialect_text.specs.Awaited.{IsAwaitedElement, HasMembers, HasElements}
 
 -- ---- lists that grow
 

@@ -15,7 +15,7 @@ use Rattle.value_text.proofs.FrontLaws.{passes_on}
 use Rattle.value_text.proofs.PieceTexts.{char_fails}
 use Rattle.dialect_text.specs.Dialect.{Standing, Adds}
 use Rattle.dialect_text.specs.Languages.{Leads, Stalls, Completes}
-use Rattle.dialect_text.specs.Scanning.{TakesNext, StallsAt}
+use Rattle.dialect_text.specs.Following.{TakesNext, StallsAt}
 use Rattle.dialect_text.proofs.Agreeing.{leads_then, stalls_after}
 
 -- a character that isn't next

@@ -17,7 +17,9 @@ use Rattle.value_text.specs.declared.fault.ScanFault.{ScanFault}
 use Rattle.value_text.specs.declared.fault.ScanFault.TheVariants as fault
 use Rattle.dialect_text.specs.Dialect.{Within, element, element_in, element_of, element_named, mark, gap, IsStartText}
 use Rattle.dialect_text.specs.Languages.{Completes, Leads}
-use Rattle.dialect_text.specs.Scanning.{TakesNext, StallsAt, StartsElement, IsSound, IsAwaitedElement, HasElements}
+use Rattle.dialect_text.specs.Scanning.{IsSound}
+use Rattle.dialect_text.specs.Following.{TakesNext, StallsAt, StartsElement}
+use Rattle.dialect_text.specs.Awaited.{IsAwaitedElement, HasElements}
 use Rattle.dialect_text.proofs.Awaiting.{element_found}
 use Rattle.dialect_text.proofs.Named.{AreMarked, all_at, all_then, stalls_named}
 use Rattle.dialect_text.proofs.Once.{start_once, mark_is_none}
@@ -81,12 +83,12 @@ opened_sound s top above name kind sound is low =
 element_leads : (s : PlainSchema) (top : OpenElement) (above : List OpenElement) (name kind : ℕ) (front rest : List ℕ) → element_of s top.kind name ≡ Some kind → IsStartText s name kind (encode_utf8_all front) →
     Leads (StartsElement s top above) front rest (Completes s (Within (opened kind top above)))
 element_leads s top above name kind front rest is start = record {
-  from = λ text new. (name, kind, encode_utf8_all front, text, is, start, new, refl);
+  from = λ text new. record { name = name; kind = kind; front = encode_utf8_all front; rest = text; declared = is; starts = start; follows = new; text_is = refl };
   to = λ text shares old.
-      let one = start_once s name old.0 kind old.1 (encode_utf8_all front) old.2 text old.3 start old.5 old.7 in
-      let kinds : Some kind ≡ Some old.1 = sym is ∙ ap (λ (n : ℕ). element_of s top.kind n) one.0 ∙ old.4 in
-      let same : old.1 ≡ kind = cc in
-      subst (λ (t : List ℕ). Completes s (Within (opened kind top above)) t) (sym one.1) (subst (λ (k : ℕ). Completes s (Within (opened k top above)) old.3) same old.6);
+      let one = start_once s name old.name kind old.kind (encode_utf8_all front) old.front text old.rest start old.starts old.text_is in
+      let kinds : Some kind ≡ Some old.kind = sym is ∙ ap (λ (n : ℕ). element_of s top.kind n) one.0 ∙ old.declared in
+      let same : old.kind ≡ kind = cc in
+      subst (λ (t : List ℕ). Completes s (Within (opened kind top above)) t) (sym one.1) (subst (λ (k : ℕ). Completes s (Within (opened k top above)) old.rest) same old.follows);
 }
 
 pub element_answer : (s : PlainSchema) (elements filled pushed : List OpenElement) (top : OpenElement) (particles : List PlainParticle) (awaited items : List Awaited) (i kind : ℕ) (one : Awaited) (a b : TextCursor) (o : Option ℕ) (above : List OpenElement) →
@@ -139,10 +141,10 @@ element_stalls s top above particles awaited items a f sound fit of_kind only ea
     let low = (element_fits s particles is.1.name right.0 fit right.1).1 in
     let some = completes_all s (opened right.0 top above) (opened_sound s top above is.1.name right.0 sound named low).0 in
     let marked : IsAwaitedText s (record { name = is.1.name; end = mark s right.0 }) text = subst (λ (c : ℕ). IsAwaitedText s (record { name = is.1.name; end = c }) text) right.2 is.3 in
-    (some.0, (is.1.name, right.0, text, some.0, named, awaited_start s is.1.name right.0 text marked, some.1, refl)))
+    (some.0, record { name = is.1.name; kind = right.0; front = text; rest = some.0; declared = named; starts = awaited_start s is.1.name right.0 text marked; follows = some.1; text_is = refl }))
     (λ text q.
-    let there = each q.0 q.1 (sym (of_kind q.0) ∙ q.4) in
-    (q.2, q.3, (there.0, record { name = q.0; end = mark s q.1 }, ap (λ (xs : List Awaited). slice_get xs there.0) same ∙ there.1, start_awaited s q.0 q.1 q.2 q.5), q.7))
+    let there = each q.name q.kind (sym (of_kind q.name) ∙ q.declared) in
+    (q.front, q.rest, (there.0, record { name = q.name; end = mark s q.kind }, ap (λ (xs : List Awaited). slice_get xs there.0) same ∙ there.1, start_awaited s q.name q.kind q.front q.starts), q.text_is))
     p
 
 -- where no element may stand, none follows
@@ -155,8 +157,8 @@ element_none s top above particles items a of_kind each none = (
     stands = refl;
     begins = inl refl;
     none_further = λ text shares q.
-        let there = each q.0 q.1 (sym (of_kind q.0) ∙ q.4) in
-        let low = slice_get_within items there.0 (record { name = q.0; end = mark s q.1 }) there.1 in omega (arith, low, none);
+        let there = each q.name q.kind (sym (of_kind q.name) ∙ q.declared) in
+        let low = slice_get_within items there.0 (record { name = q.name; end = mark s q.kind }) there.1 in omega (arith, low, none);
   },
   omega arith,
 )

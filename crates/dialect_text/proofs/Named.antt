@@ -13,7 +13,7 @@ use Rattle.value_text.specs.Scanning.{IsAwaitedText, IsAnyAwaited, MissesAt}
 use Rattle.value_text.specs.ValueText.{IsName}
 use Rattle.value_text.specs.declared.fault.ScanFault.{ScanFault}
 use Rattle.value_text.specs.declared.fault.ScanFault.TheVariants as fault
-use Rattle.dialect_text.specs.Scanning.{StallsAt}
+use Rattle.dialect_text.specs.Following.{StallsAt}
 use Rattle.value_text.proofs.FrontLaws.{Stops}
 use Rattle.value_text.proofs.NextLaws.{some_bytes}
 use Rattle.dialect_text.proofs.Agreeing.{missed}

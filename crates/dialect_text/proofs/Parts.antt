@@ -2,7 +2,6 @@
 use Rattle.std.proofs.Common.{◌≡◌, ℕ, zero, suc, ◌<◌, inl, inr, false, List, [], ◌∷◌, ◌++◌, length, map, Option, Some, None, slice_get, refl, sym, ap, subst, ◌∙◌, arith, get_or}
 use Rattle.std.specs.List.{AllByRecursion}
 use Rattle.std.specs.Str.{encode_utf8_all}
-use Rattle.std.proofs.lemmas.List.{length-map}
 use Rattle.std.proofs.lemmas.Option.{slice_get_within, slice_get-get_or}
 use Rattle.document_laws.proofs.Fits.{root_kind, root_name}
 use Rattle.dialect_text.proofs.Roots.{root_deep}
@@ -24,7 +23,9 @@ use Rattle.value_text.specs.declared.fault.ScanFault.{ScanFault}
 use Rattle.value_text.specs.declared.fault.ScanFault.TheVariants as fault
 use Rattle.dialect_text.specs.Dialect.{Standing, Before, AtRoot, Within, element, mark, mark_of, IsStartText, IsEndText, Adds}
 use Rattle.dialect_text.specs.Languages.{Goes, Completes, Leads}
-use Rattle.dialect_text.specs.Scanning.{TakesNext, StallsAt, StartsValue, TakesValueOf, MissesValueOf, IsNested, IsSound, awaited_root}
+use Rattle.dialect_text.specs.Scanning.{IsNested, IsSound}
+use Rattle.dialect_text.specs.Following.{TakesNext, StallsAt, StartsValue, TakesValueOf, MissesValueOf}
+use Rattle.dialect_text.specs.Awaited.{awaited_root}
 use Rattle.dialect_text.proofs.Named.{AreMarked, all_map, stalls_named}
 use Rattle.dialect_text.proofs.Once.{IsValued, event_once, mark_is_none, element_no_value, attribute_no_value}
 use Rattle.dialect_text.proofs.Running.{IsSome, completes_some}

@@ -1,10 +1,10 @@
 -- Parts of an element of a complex kind, and its end.
-use Rattle.std.proofs.Common.{◌≡◌, ℕ, zero, suc, ◌<◌, ◌⊎◌, inl, inr, Bool, true, ◌&&◌, nat_lt, List, [], ◌∷◌, ◌++◌, length, codes, map, Option, Some, None, slice_get, refl, sym, ap, subst, ◌∙◌, append_assoc, arith}
+use Rattle.std.proofs.Common.{◌≡◌, ℕ, zero, suc, ◌<◌, ◌⊎◌, inl, inr, Bool, true, ◌&&◌, nat_lt, List, [], ◌∷◌, ◌++◌, length, codes, Option, Some, None, slice_get, refl, sym, ap, subst, ◌∙◌, append_assoc, arith}
 use Rattle.std.specs.Prelude.{encode_utf8, Result, Ok, Err, IfOk, IfErr}
 use Rattle.std.specs.List.{list_all, AllByRecursion}
 use Rattle.std.specs.Str.{encode_utf8_all}
 use Rattle.std.proofs.lemmas.Bool.{ltb-true}
-use Rattle.std.proofs.lemmas.List.{append-nil, length-map}
+use Rattle.std.proofs.lemmas.List.{append-nil}
 use Rattle.std.proofs.lemmas.Str.{encode_ascii}
 use Rattle.exi_schema.specs.Schemas.{PlainSchema, is_attribute, is_particle, is_simple}
 use Rattle.exi_schema.specs.declared.tables.AttributeOf.{AttributeOf}
@@ -22,7 +22,8 @@ use Rattle.dialect_text.specs.declared.elements.OpenElement.{OpenElement}
 use Rattle.value_text.specs.declared.fault.ScanFault.{ScanFault}
 use Rattle.dialect_text.specs.Dialect.{Within, attribute_in, element_in, attribute_of, attribute_named, element_of, element_named, gap, IsBeforeElements}
 use Rattle.dialect_text.specs.Languages.{Shares, Leads}
-use Rattle.dialect_text.specs.Scanning.{TakesNext, StallsAt, StartsElement, StartsAttribute, StartsPart, IsSound}
+use Rattle.dialect_text.specs.Scanning.{IsSound}
+use Rattle.dialect_text.specs.Following.{TakesNext, StallsAt, StartsElement, StartsAttribute, StartsPart}
 use Rattle.dialect_text.proofs.Cursors.{takes_behind, stalls_behind}
 use Rattle.dialect_text.proofs.ElementStarts.{FitsMember, FitsParticle}
 use Rattle.dialect_text.proofs.Named.{all_at}
@@ -107,7 +108,7 @@ pub part_attribute : (s : PlainSchema) (top : OpenElement) (above : List OpenEle
 part_attribute s top above rest before = record {
   from = λ text new. inr (before, text, new, ap (λ (bs : List ℕ). bs ++ text) (one_char 64 (omega arith)));
   to = λ text shares old. elim old [
-    | inl p ↦ absurd (start_first s p.0 p.1 p.2 p.3 text 64 p.5 refl (sym p.7 ∙ ap (λ (bs : List ℕ). bs ++ text) (one_char 64 (omega arith))))
+    | inl p ↦ absurd (start_first s p.name p.kind p.front p.rest text 64 p.starts refl (sym p.text_is ∙ ap (λ (bs : List ℕ). bs ++ text) (one_char 64 (omega arith))))
     | inr q ↦ subst (StartsAttribute s top above) (tails_same 64 q.1 text (sym q.3 ∙ ap (λ (bs : List ℕ). bs ++ text) (one_char 64 (omega arith)))) q.2
   ];
 }
@@ -147,7 +148,7 @@ some_attribute s top above attributes particles is sound some =
     let value = value_some s top above one.0.name found.0 sound named (named_fits s attributes one.0.name found.0 fit found.1).1 in
     let low = (all_at (FitsAttribute s) attributes 0 one.0 fit one.1).0 in
     let word = name_there s one.0.name low in
-    (word.0 ++ 61 ∷ value.0, (one.0.name, found.0, word.0, value.0, named, word.1, value.1, refl))
+    (word.0 ++ 61 ∷ value.0, record { name = one.0.name; kind = found.0; word = word.0; rest = value.0; declared = named; named = word.1; follows = value.1; text_is = refl })
 
 -- the three ways on behind the gap
 pub behind_sign : (s : PlainSchema) (elements new : List OpenElement) (top : OpenElement) (above : List OpenElement) (event : Event) (a b c : TextCursor) → elements ≡ top ∷ above → IsBeforeElements top.filling → Passes a (64 ∷ []) b →
@@ -171,7 +172,7 @@ no_sign s top above a none text r shares before p e = let first = shares_first a
 pub no_attributes : (s : PlainSchema) (top : OpenElement) (above : List OpenElement) (attributes : _) (particles : _) (a : TextCursor) → slice_get s.kinds top.kind ≡ Some (containing attributes particles) → (IsBeforeElements top.filling → attributes ≡ []) →
     NoAttribute s top above a
 no_attributes s top above attributes particles a is none text r shares before p e =
-    let wrong : None ≡ Some p.1 = ap (λ (xs : List AttributeOf). attribute_named xs p.0) (sym (none before)) ∙ sym (of_complex s top.kind attributes particles p.0 is) ∙ p.4 in cc
+    let wrong : None ≡ Some p.kind = ap (λ (xs : List AttributeOf). attribute_named xs p.name) (sym (none before)) ∙ sym (of_complex s top.kind attributes particles p.name is) ∙ p.declared in cc
 
 pub behind_none : (s : PlainSchema) (elements new : List OpenElement) (top : OpenElement) (above : List OpenElement) (event : Event) (a b c : TextCursor) → b ≡ a → NoAttribute s top above a →
     TakesNext s (gap top.filling) (StartsElement s top above) (Within elements) b event (Within new) c → TakesNext s (gap top.filling) (StartsPart s top above) (Within elements) a event (Within new) c

@@ -1,5 +1,5 @@
 -- No element of a root stands deeper than 16.
-use Rattle.std.proofs.Common.{◌≡◌, ℕ, zero, suc, ◌<◌, ◌≤◌, true, not, ◌&&◌, nat_lt, nat_le, List, [], ◌∷◌, length, map, Some, slice_get, refl, arith}
+use Rattle.std.proofs.Common.{◌≡◌, ℕ, zero, suc, ◌<◌, ◌≤◌, true, not, ◌&&◌, nat_lt, nat_le, List, [], ◌∷◌, length, Some, slice_get, refl, arith}
 use Rattle.std.proofs.lemmas.Bool.{leb-true}
 use Rattle.document_laws.proofs.Fits.{root_name}
 use Rattle.value_text.specs.ValueText.{IsName}

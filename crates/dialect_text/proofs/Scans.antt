@@ -21,7 +21,8 @@ use Rattle.dialect_text.specs.declared.said.Said.{Said}
 use Rattle.value_text.specs.Faults.{place_in}
 use Rattle.dialect_text.specs.Dialect.{Standing, Before, AtRoot, Within, element, mark, gap, IsStartText, Adds, Says, IsDialectText, IsOfDialect}
 use Rattle.dialect_text.specs.Languages.{Goes, Completes, Shares, Leads, Stalls}
-use Rattle.dialect_text.specs.Scanning.{TakesNext, StallsAt, IsOpen, IsSound, HasSaid, HasRead, IsReady, IsAtFault, IsNext, IsFaultOf, event_of, events_within, events_left, weight}
+use Rattle.dialect_text.specs.Scanning.{IsOpen, IsSound, HasSaid, HasRead, IsReady, IsAtFault, IsFaultOf, event_of, events_within, events_left, weight}
+use Rattle.dialect_text.specs.Following.{TakesNext, StallsAt, IsNext}
 use Rattle.value_text.proofs.NextLaws.{some_bytes}
 use Rattle.dialect_text.proofs.Agreeing.{leads_then, stalls_after, stalled}
 use Rattle.dialect_text.proofs.ElementStarts.{room_inside}

@@ -12,7 +12,8 @@ use Rattle.dialect_text.specs.declared.elements.OpenElement.{OpenElement}
 use Rattle.value_text.specs.declared.fault.ScanFault.{ScanFault}
 use Rattle.dialect_text.specs.Dialect.{Within, element, attribute_in, element_in, IsEndText}
 use Rattle.dialect_text.specs.Languages.{Completes}
-use Rattle.dialect_text.specs.Scanning.{TakesNext, StallsAt, TakesValueOf, MissesValueOf, IsSound, IsFilled}
+use Rattle.dialect_text.specs.Scanning.{IsSound, IsFilled}
+use Rattle.dialect_text.specs.Following.{TakesNext, StallsAt, TakesValueOf, MissesValueOf}
 use Rattle.dialect_text.proofs.Parts.{takes_content, stalls_content, takes_end}
 
 abbrev pub HasTop : List OpenElement → OpenElement → Type 0

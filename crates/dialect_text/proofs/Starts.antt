@@ -20,7 +20,9 @@ use Rattle.dialect_text.specs.declared.elements.OpenElement.{OpenElement}
 use Rattle.value_text.specs.declared.fault.ScanFault.{ScanFault}
 use Rattle.dialect_text.specs.Dialect.{Within, element, attribute_of, attribute_named, gap, IsBeforeElements}
 use Rattle.dialect_text.specs.Languages.{Completes, Leads}
-use Rattle.dialect_text.specs.Scanning.{TakesNext, StallsAt, StartsValue, StartsAttribute, TakesValueOf, MissesValueOf, AreOpen, IsSound, awaited_attribute}
+use Rattle.dialect_text.specs.Scanning.{AreOpen, IsSound}
+use Rattle.dialect_text.specs.Following.{TakesNext, StallsAt, StartsValue, StartsAttribute, TakesValueOf, MissesValueOf}
+use Rattle.dialect_text.specs.Awaited.{awaited_attribute}
 use Rattle.dialect_text.proofs.Agreeing.{leads_then}
 use Rattle.value_text.proofs.FrontLaws.{passes_on}
 use Rattle.dialect_text.proofs.Cursors.{stalls_behind}
@@ -113,14 +115,14 @@ attribute_leads s top above name kind front rest is named =
     let text_is : (text : List ℕ) → encode_utf8_all front ++ text ≡ named.0 ++ 61 ∷ text =
     λ text. ap (λ (bs : List ℕ). bs ++ text) (named.2 ∙ ap (λ (bs : List ℕ). named.0 ++ bs) (encode_ascii 61 (omega arith))) ∙ append_assoc named.0 (61 ∷ []) text in
     record {
-      from = λ text new. (name, kind, named.0, text, is, named.1, new, text_is text);
+      from = λ text new. record { name = name; kind = kind; word = named.0; rest = text; declared = is; named = named.1; follows = new; text_is = text_is text };
       to = λ text shares old.
-          let split = words_split named.0 old.2 61 61 text old.3 (name_word s name named.0 named.1).1 (name_word s old.0 old.2 old.5).1 refl refl (sym (text_is text) ∙ old.7) in
-          let same = one_name s name old.0 named.0 named.1 (subst (λ (w : List ℕ). IsName s old.0 w) (sym split.0) old.5) in
-          let kinds : Some kind ≡ Some old.1 = sym is ∙ ap (λ (n : ℕ). attribute_of s top.kind n) same ∙ old.4 in
-          let one : old.1 ≡ kind = cc in
+          let split = words_split named.0 old.word 61 61 text old.rest (name_word s name named.0 named.1).1 (name_word s old.name old.word old.named).1 refl refl (sym (text_is text) ∙ old.text_is) in
+          let same = one_name s name old.name named.0 named.1 (subst (λ (w : List ℕ). IsName s old.name w) (sym split.0) old.named) in
+          let kinds : Some kind ≡ Some old.kind = sym is ∙ ap (λ (n : ℕ). attribute_of s top.kind n) same ∙ old.declared in
+          let one : old.kind ≡ kind = cc in
           let L : List ℕ → Type 0 = Completes s (Within (element top.kind fills.Attributes ∷ above)) in
-          subst (λ (t : List ℕ). StartsValue s kind L t) (sym split.2) (subst (λ (k : ℕ). StartsValue s k L old.3) one old.6);
+          subst (λ (t : List ℕ). StartsValue s kind L t) (sym split.2) (subst (λ (k : ℕ). StartsValue s k L old.rest) one old.follows);
     }
 
 attributes_open : (s : PlainSchema) (top : OpenElement) (above : List OpenElement) (name kind : ℕ) → IsSound s (Within (top ∷ above)) → attribute_of s top.kind name ≡ Some kind → AreOpen s (element top.kind fills.Attributes ∷ above)
@@ -187,25 +189,25 @@ attribute_name_stalls s top above attributes awaited items a f sound fit of_kind
     let some = value_some s top above one.0.name found.0 sound kind fits.1 in
     let named : IsAwaitedText s (awaited_attribute one.0) text = subst (λ (x : Awaited). IsAwaitedText s x text) (sym one.2) is.3 in (
       some.0,
-      (
-        one.0.name,
-        found.0,
-        named.0,
-        some.0,
-        kind,
-        named.1,
-        some.1,
-        ap (λ (bs : List ℕ). bs ++ some.0) (named.2 ∙ ap (λ (bs : List ℕ). named.0 ++ bs) (encode_ascii 61 (omega arith))) ∙ append_assoc named.0 (61 ∷ []) some.0,
-      ),
+      record {
+        name = one.0.name;
+        kind = found.0;
+        word = named.0;
+        rest = some.0;
+        declared = kind;
+        named = named.1;
+        follows = some.1;
+        text_is = ap (λ (bs : List ℕ). bs ++ some.0) (named.2 ∙ ap (λ (bs : List ℕ). named.0 ++ bs) (encode_ascii 61 (omega arith))) ∙ append_assoc named.0 (61 ∷ []) some.0;
+      },
     ))
     (λ text q.
-    let there = attribute_there attributes q.0 q.1 (sym (of_kind q.0) ∙ q.4) in
-    let word : IsAwaitedText s (awaited_attribute there.1) (q.2 ++ 61 ∷ []) =
-    (q.2, subst (λ (n : ℕ). IsName s n q.2) (sym there.3) q.5, ap (λ (bs : List ℕ). q.2 ++ bs) (sym (encode_ascii 61 (omega arith)))) in (
-      q.2 ++ 61 ∷ [],
-      q.3,
+    let there = attribute_there attributes q.name q.kind (sym (of_kind q.name) ∙ q.declared) in
+    let word : IsAwaitedText s (awaited_attribute there.1) (q.word ++ 61 ∷ []) =
+    (q.word, subst (λ (n : ℕ). IsName s n q.word) (sym there.3) q.named, ap (λ (bs : List ℕ). q.word ++ bs) (sym (encode_ascii 61 (omega arith)))) in (
+      q.word ++ 61 ∷ [],
+      q.rest,
       (there.0, awaited_attribute there.1, ap (λ (xs : List Awaited). slice_get xs there.0) (same ∙ made) ∙ get_map awaited_attribute attributes there.0 there.1 there.2, word),
-      q.7 ∙ sym (append_assoc q.2 (61 ∷ []) q.3),
+      q.text_is ∙ sym (append_assoc q.word (61 ∷ []) q.rest),
     ))
     p
 

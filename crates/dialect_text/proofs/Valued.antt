@@ -12,7 +12,7 @@ use Rattle.value_text.specs.ValueText.{IsFormed}
 use Rattle.value_text.specs.declared.fault.ScanFault.{ScanFault}
 use Rattle.value_text.specs.declared.fault.ScanFault.TheVariants as fault
 use Rattle.dialect_text.specs.Languages.{Leads}
-use Rattle.dialect_text.specs.Scanning.{StallsAt, StartsValue, TakesValueOf, MissesValueOf}
+use Rattle.dialect_text.specs.Following.{StallsAt, StartsValue, TakesValueOf, MissesValueOf}
 use Rattle.dialect_text.proofs.Agreeing.{missed, taken_once}
 use Rattle.dialect_text.proofs.Values.{value_chars, value_stops, EndsValue}
 

@@ -17,7 +17,8 @@ use Rattle.value_text.specs.declared.fault.ScanFault.{ScanFault}
 use Rattle.value_text.specs.declared.fault.ScanFault.TheVariants as fault
 use Rattle.dialect_text.specs.Dialect.{Standing, Within, element, mark, gap, IsBeforeElements, IsEndText}
 use Rattle.dialect_text.specs.Languages.{Goes, Completes, Shares, Leads}
-use Rattle.dialect_text.specs.Scanning.{TakesNext, StallsAt, StartsPart, IsFilled, IsSound}
+use Rattle.dialect_text.specs.Scanning.{IsFilled, IsSound}
+use Rattle.dialect_text.specs.Following.{TakesNext, StallsAt, StartsPart}
 use Rattle.dialect_text.proofs.Cursors.{takes_behind, stalls_behind}
 use Rattle.dialect_text.proofs.ElementStarts.{element_fits, opened, opened_sound}
 use Rattle.dialect_text.proofs.Once.{attribute_behind, behind, heads_differ}
@@ -46,7 +47,17 @@ follows s top above attributes particles text is p = by p.0 p.1
     by [] goes = let wrong : Within (top ∷ above) ≡ Within [] = goes.1 in absurd cc
     by (Document n ∷ es) goes = absurd goes.3
     by (Start n ∷ es) goes =
-        part (goes.3.1 ++ goes.2) (inl (n, goes.3.0, goes.3.1, goes.2, goes.3.2, goes.3.3, (es, subst (λ (x : Standing). Goes s x es goes.2) goes.3.5 goes.4), refl))
+        part (goes.3.1 ++ goes.2) (inl
+        record {
+          name = n;
+          kind = goes.3.0;
+          front = goes.3.1;
+          rest = goes.2;
+          declared = goes.3.2;
+          starts = goes.3.3;
+          follows = (es, subst (λ (x : Standing). Goes s x es goes.2) goes.3.5 goes.4);
+          text_is = refl;
+        })
         (goes.5 ∙ behind goes.1 (gap top.filling) goes.3.1 goes.2 goes.3.4)
     by (Attribute n v ∷ es) goes =
         let named = goes.3.4 in
@@ -55,7 +66,16 @@ follows s top above attributes particles text is p = by p.0 p.1
         (inr (
           goes.3.2,
           named.0 ++ 61 ∷ (named.1 ++ goes.2),
-          (n, goes.3.0, named.0, named.1 ++ goes.2, goes.3.3, named.2, (v, named.1, goes.2, named.3, rest, refl), refl),
+          record {
+            name = n;
+            kind = goes.3.0;
+            word = named.0;
+            rest = named.1 ++ goes.2;
+            declared = goes.3.3;
+            named = named.2;
+            follows = (v, named.1, goes.2, named.3, rest, refl);
+            text_is = refl;
+          },
           attribute_behind named.0 named.1 goes.3.1 goes.2 named.4,
         ))
         (goes.5 ∙ behind goes.1 (gap top.filling) goes.3.1 goes.2 goes.3.5)
@@ -64,29 +84,29 @@ follows s top above attributes particles text is p = by p.0 p.1
 
 pub part_follows : (s : PlainSchema) (top : OpenElement) (above : List OpenElement) (text : List ℕ) → StartsPart s top above text → Completes s (Within (top ∷ above)) (gap top.filling ++ text)
 part_follows s top above text (inl p) = (
-  Start p.0 ∷ p.6.0,
+  Start p.name ∷ p.follows.0,
   (
-    Within (opened p.1 top above),
-    gap top.filling ++ p.2,
-    p.3,
-    (p.1, p.2, p.4, p.5, refl, refl),
-    p.6.1,
-    ap (λ (bs : List ℕ). gap top.filling ++ bs) p.7 ∙ sym (append_assoc (gap top.filling) p.2 p.3),
+    Within (opened p.kind top above),
+    gap top.filling ++ p.front,
+    p.rest,
+    (p.kind, p.front, p.declared, p.starts, refl, refl),
+    p.follows.1,
+    ap (λ (bs : List ℕ). gap top.filling ++ bs) p.text_is ∙ sym (append_assoc (gap top.filling) p.front p.rest),
   ),
 )
 part_follows s top above text (inr q) =
     let named = q.2 in
-    let value = named.6 in
-    let part : List ℕ = codes "@" ++ named.2 ++ codes "=" ++ value.1 in (
-      Attribute named.0 value.0 ∷ value.4.0,
+    let value = named.follows in
+    let part : List ℕ = codes "@" ++ named.word ++ codes "=" ++ value.1 in (
+      Attribute named.name value.0 ∷ value.4.0,
       (
         Within (element top.kind fills.Attributes ∷ above),
         gap top.filling ++ part,
         value.2,
-        (named.1, part, q.0, named.4, (named.2, value.1, named.5, value.3, refl), refl, refl),
+        (named.kind, part, q.0, named.declared, (named.word, value.1, named.named, value.3, refl), refl, refl),
         value.4.1,
         ap (λ (bs : List ℕ). gap top.filling ++ bs)
-            (q.3 ∙ ap (λ (bs : List ℕ). 64 ∷ bs) (named.7 ∙ ap (λ (bs : List ℕ). named.2 ++ 61 ∷ bs) value.5) ∙ sym (attribute_behind named.2 value.1 part value.2 refl))
+            (q.3 ∙ ap (λ (bs : List ℕ). 64 ∷ bs) (named.text_is ∙ ap (λ (bs : List ℕ). named.word ++ 61 ∷ bs) value.5) ∙ sym (attribute_behind named.word value.1 part value.2 refl))
             ∙ sym (append_assoc (gap top.filling) part value.2),
       ),
     )
@@ -126,7 +146,20 @@ gap_or_part s top above attributes particles fills.Elements e is sound filled =
     let fits = element_fits s particles filled.0 filled.1 (complex_particles s top.kind attributes particles is) (sym (of_element s top.kind attributes particles filled.0 is) ∙ filled.2) in
     let rest = completes_all s (opened filled.1 top above) (opened_sound s top above filled.0 filled.1 sound filled.2 fits.1).0 in
     let word = name_there s filled.0 fits.0 in
-    (inr ((word.0 ++ mark s filled.1 ∷ []) ++ rest.0, inl (filled.0, filled.1, word.0 ++ mark s filled.1 ∷ [], rest.0, filled.2, (word.0, word.1, refl), rest.1, refl)))
+    (inr (
+      (word.0 ++ mark s filled.1 ∷ []) ++ rest.0,
+      inl
+          record {
+            name = filled.0;
+            kind = filled.1;
+            front = word.0 ++ mark s filled.1 ∷ [];
+            rest = rest.0;
+            declared = filled.2;
+            starts = (word.0, word.1, refl);
+            follows = rest.1;
+            text_is = refl;
+          },
+    ))
 gap_or_part s top above attributes particles fills.Value e is sound filled = absurd (no_value (slice_get s.kinds top.kind) attributes particles filled.0 is filled.1)
 
 -- ---- the answers

@@ -1,3 +1,5 @@
 pub mod Dialect
 pub mod Languages
 pub mod Scanning
+pub mod Following
+pub mod Awaited

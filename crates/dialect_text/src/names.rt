@@ -4,7 +4,7 @@ ghost use Rattle.std.specs.Prelude.{◌≡◌, ◌<◌, ◌++◌, [], List, leng
 ghost use Rattle.std.specs.List.{AllByRecursion};
 ghost use Rattle.exi_schema.specs.Plain.{plain_particles};
 ghost use Rattle.exi_schema.specs.Told.{schema_of};
-ghost use Rattle.dialect_text.specs.Scanning.{awaited_root, awaited_attribute, IsAwaitedElement, HasMembers, HasElements};
+ghost use Rattle.dialect_text.specs.Awaited.{awaited_root, awaited_attribute, IsAwaitedElement, HasMembers, HasElements};
 
 use crate::kinds::{kind_of_element, mark_behind};
 use charge_world::NoMemory;

@@ -7,7 +7,8 @@ ghost use Rattle.value_text.specs.declared.fault.ScanFault.TheVariants as fault;
 ghost use Rattle.dialect_text.specs.declared.phase.Phase.TheVariants as phase;
 ghost use Rattle.dialect_text.specs.Dialect.{Within, IsDialectText};
 ghost use Rattle.dialect_text.specs.Languages.{Completes};
-ghost use Rattle.dialect_text.specs.Scanning.{event_of, standing_of, IsReady, HasSaid, IsFaultOf, events_left, IsNext, StallsAt};
+ghost use Rattle.dialect_text.specs.Scanning.{event_of, standing_of, IsReady, HasSaid, IsFaultOf, events_left};
+ghost use Rattle.dialect_text.specs.Following.{IsNext, StallsAt};
 
 use crate::elements::OpenElements;
 use crate::phase::Phase;

@@ -8,7 +8,8 @@ ghost use Rattle.exi_schema.specs.Told.{schema_of};
 ghost use Rattle.exi_documents.specs.Trees.{Document};
 ghost use Rattle.dialect_text.specs.Dialect.{Before, AtRoot, Within, attribute_of, attribute_named, element_of, element_named, gap, IsBeforeElements};
 ghost use Rattle.dialect_text.specs.Languages.{Completes};
-ghost use Rattle.dialect_text.specs.Scanning.{event_of, IsSound, TakesNext, StallsAt, StartsElement, StartsAttribute, StartsPart, AwaitsAttribute};
+ghost use Rattle.dialect_text.specs.Scanning.{event_of, IsSound};
+ghost use Rattle.dialect_text.specs.Following.{TakesNext, StallsAt, StartsElement, StartsAttribute, StartsPart, AwaitsAttribute};
 
 use crate::elements::{Filling, OpenElement, OpenElements};
 use crate::kinds::{kind_of_attribute, kind_of_element};

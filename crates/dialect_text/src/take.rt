@@ -6,7 +6,7 @@ ghost use Rattle.exi_schema.specs.Steps.{simple_at};
 ghost use Rattle.exi_schema.specs.Told.{schema_of};
 ghost use Rattle.value_text.specs.declared.awaited.Awaited.{Awaited};
 ghost use Rattle.value_text.specs.Scanning.{Takes, MissesAt, IsAnyAwaited, IsAwaitedText, meaning};
-ghost use Rattle.dialect_text.specs.Scanning.{TakesValueOf, MissesValueOf, PassesGap};
+ghost use Rattle.dialect_text.specs.Following.{TakesValueOf, MissesValueOf, PassesGap};
 
 use crate::elements::Filling;
 use exi_schema::{Places, Schema};

@@ -5,7 +5,7 @@ use Rattle.exi_documents.specs.Documents.{IsDocument, IsEncoding}
 use Rattle.exi_documents.specs.Refusals.{IsRefused}
 use Rattle.exi_documents.specs.Trees.{Tree}
 use Rattle.message_parts.specs.Contents.{Inside, holding, root_of}
-use Rattle.message_parts.specs.Documents.{IsWritable, PassesBytes as DocumentPasses}
+use Rattle.message_parts.specs.Documents.{IsWritable, PassesBytes as DocumentPasses, TellsBits as DocumentTells}
 use Rattle.fitting_parts.specs.Fitting.{FitsParts}
 use Rattle.din_schema.specs.Declarations.{kinds, schema}
 use Rattle.din_schema.specs.Frame.{v2g_message}
@@ -51,3 +51,7 @@ IsDinEncoding m payload = IsEncoding schema (din_tree m) payload
 -- its bits are more than so many bytes hold
 abbrev pub PassesBytes : DinMessage → ℕ → Type 0
 PassesBytes m bytes = DocumentPasses schema din_number (din_tree m) bytes
+
+-- how many they are is told: exactly, up to those of 65,536 bytes
+abbrev pub TellsBits : DinMessage → ℕ → Type 0
+TellsBits m told = DocumentTells schema din_number (din_tree m) told

@@ -1,6 +1,13 @@
 //! Types of elements of the messages of DIN SPEC 70121.
 
-ghost use Rattle.std.specs.Prelude.{[]};
+ghost use Rattle.std.specs.Prelude.{◌≡◌, [], List, Some, IfOk, IfErr};
+ghost use Rattle.exi_documents.specs.Trees.{Event as TreeEvent};
+ghost use Rattle.message_parts.specs.Contents.{told_inside};
+ghost use Rattle.message_parts.specs.Reading.{Frame, IsOpen, IsRefusal, IsChosen, Leaves, seen_of};
+ghost use Rattle.din_schema.specs.Declarations.{kinds};
+ghost use Rattle.din_schema.specs.declared.names.TheConstants.{CHARGE_PARAMETER_DISCOVERY_RES, POWER_DELIVERY_REQ, SERVICE_DISCOVERY_RES, SERVICE_PAYMENT_SELECTION_REQ};
+ghost use Rattle.din_codec.specs.declared.message.BodyElement.{BodyElement};
+ghost use Rattle.din_codec.specs.Message.{body_element_members, body_element_name, body_element_inside};
 
 use din_parts::Header;
 use din_power::{
@@ -18,8 +25,8 @@ use exi_documents::Refusal;
 use exi_events::EventWriter;
 use exi_schema::Places;
 use message_parts::{
-    Choice, Descent, Group, PutChoice, PutRecord, Record, first_child, member, optional_choice,
-    put_optional_choice, put_record, required,
+    Descent, LargeGroup, LargeRecord, PutChoice, PutRecord, first_child, member,
+    optional_choice_here, put_optional_choice, put_record, required, required_here,
 };
 
 /// One element of the substitution group BodyElement.
@@ -172,69 +179,91 @@ impl PutChoice for BodyElement<'_> {
     }
 }
 
-impl<'a> Choice<'a> for BodyElement<'a> {
+/// ChargeParameterDiscoveryRes, which holds a list: apart from the others, so that they don't fill its room.
+#[inline(never)]
+fn charge_parameter_discovery_res<'a, P: Places>(
+    place: &mut Option<BodyElement<'a>>,
+    descent: &mut Descent<'a, '_, P>,
+) -> Result<(), Refusal>
+    requires open { IsOpen P.schema descent.old }
+    ensures open { IsOpen P.schema descent.new }
+    ensures table { descent.new.reader.table.ghost_name ≡ descent.old.reader.table.ghost_name }
+    ensures places { descent.new.reader.places.now ≡ descent.old.reader.places.now }
+    ensures payload { descent.new.reader.reader.bits ≡ descent.old.reader.reader.bits }
+    ensures refused { IfErr result (λ r. IsRefusal (seen_of P.schema descent.old) r) }
+    ensures read { (F : Frame) (told : List TreeEvent) → IsChosen kinds F body_element_members told (seen_of P.schema descent.old) → descent.old.child ≡ Some CHARGE_PARAMETER_DISCOVERY_RES
+        → IfOk result (λ _. (v : BodyElement) × (place.new ≡ Some v) × (body_element_name v ≡ F.name) × Leaves kinds F (told_inside (body_element_inside v) told) (seen_of P.schema descent.new)) }
+{
+    *place = Some(BodyElement::ChargeParameterDiscoveryRes(member(descent)?));
+    Ok(())
+}
+
+/// PowerDeliveryReq, which holds a list: apart from the others, so that they don't fill its room.
+#[inline(never)]
+fn power_delivery_req<'a, P: Places>(
+    place: &mut Option<BodyElement<'a>>,
+    descent: &mut Descent<'a, '_, P>,
+) -> Result<(), Refusal>
+    requires open { IsOpen P.schema descent.old }
+    ensures open { IsOpen P.schema descent.new }
+    ensures table { descent.new.reader.table.ghost_name ≡ descent.old.reader.table.ghost_name }
+    ensures places { descent.new.reader.places.now ≡ descent.old.reader.places.now }
+    ensures payload { descent.new.reader.reader.bits ≡ descent.old.reader.reader.bits }
+    ensures refused { IfErr result (λ r. IsRefusal (seen_of P.schema descent.old) r) }
+    ensures read { (F : Frame) (told : List TreeEvent) → IsChosen kinds F body_element_members told (seen_of P.schema descent.old) → descent.old.child ≡ Some POWER_DELIVERY_REQ
+        → IfOk result (λ _. (v : BodyElement) × (place.new ≡ Some v) × (body_element_name v ≡ F.name) × Leaves kinds F (told_inside (body_element_inside v) told) (seen_of P.schema descent.new)) }
+{
+    *place = Some(BodyElement::PowerDeliveryReq(member(descent)?));
+    Ok(())
+}
+
+/// ServiceDiscoveryRes, which holds a list: apart from the others, so that they don't fill its room.
+#[inline(never)]
+fn service_discovery_res<'a, P: Places>(
+    place: &mut Option<BodyElement<'a>>,
+    descent: &mut Descent<'a, '_, P>,
+) -> Result<(), Refusal>
+    requires open { IsOpen P.schema descent.old }
+    ensures open { IsOpen P.schema descent.new }
+    ensures table { descent.new.reader.table.ghost_name ≡ descent.old.reader.table.ghost_name }
+    ensures places { descent.new.reader.places.now ≡ descent.old.reader.places.now }
+    ensures payload { descent.new.reader.reader.bits ≡ descent.old.reader.reader.bits }
+    ensures refused { IfErr result (λ r. IsRefusal (seen_of P.schema descent.old) r) }
+    ensures read { (F : Frame) (told : List TreeEvent) → IsChosen kinds F body_element_members told (seen_of P.schema descent.old) → descent.old.child ≡ Some SERVICE_DISCOVERY_RES
+        → IfOk result (λ _. (v : BodyElement) × (place.new ≡ Some v) × (body_element_name v ≡ F.name) × Leaves kinds F (told_inside (body_element_inside v) told) (seen_of P.schema descent.new)) }
+{
+    *place = Some(BodyElement::ServiceDiscoveryRes(member(descent)?));
+    Ok(())
+}
+
+/// ServicePaymentSelectionReq, which holds a list: apart from the others, so that they don't fill its room.
+#[inline(never)]
+fn service_payment_selection_req<'a, P: Places>(
+    place: &mut Option<BodyElement<'a>>,
+    descent: &mut Descent<'a, '_, P>,
+) -> Result<(), Refusal>
+    requires open { IsOpen P.schema descent.old }
+    ensures open { IsOpen P.schema descent.new }
+    ensures table { descent.new.reader.table.ghost_name ≡ descent.old.reader.table.ghost_name }
+    ensures places { descent.new.reader.places.now ≡ descent.old.reader.places.now }
+    ensures payload { descent.new.reader.reader.bits ≡ descent.old.reader.reader.bits }
+    ensures refused { IfErr result (λ r. IsRefusal (seen_of P.schema descent.old) r) }
+    ensures read { (F : Frame) (told : List TreeEvent) → IsChosen kinds F body_element_members told (seen_of P.schema descent.old) → descent.old.child ≡ Some SERVICE_PAYMENT_SELECTION_REQ
+        → IfOk result (λ _. (v : BodyElement) × (place.new ≡ Some v) × (body_element_name v ≡ F.name) × Leaves kinds F (told_inside (body_element_inside v) told) (seen_of P.schema descent.new)) }
+{
+    *place = Some(BodyElement::ServicePaymentSelectionReq(member(descent)?));
+    Ok(())
+}
+
+impl<'a> LargeGroup<'a> for BodyElement<'a> {
     ghost use Rattle.din_schema.specs.Declarations.{kinds};
+    ghost use Rattle.std.specs.Prelude.{◌≡◌};
+    ghost use Rattle.message_parts.specs.Particles.{names_among};
     ghost use Rattle.din_codec.specs.Message.{body_element_members};
 
     ghost kinds = { kinds };
 
     ghost members = { body_element_members };
-
-    fn read_member<P: Places>(
-        descent: &mut Descent<'a, '_, P>,
-    ) -> Result<BodyElement<'a>, Refusal> {
-        if descent.is_at(names::CABLE_CHECK_REQ) {
-            Ok(BodyElement::CableCheckReq(member(descent)?))
-        } else if descent.is_at(names::CABLE_CHECK_RES) {
-            Ok(BodyElement::CableCheckRes(member(descent)?))
-        } else if descent.is_at(names::CHARGE_PARAMETER_DISCOVERY_REQ) {
-            Ok(BodyElement::ChargeParameterDiscoveryReq(member(descent)?))
-        } else if descent.is_at(names::CHARGE_PARAMETER_DISCOVERY_RES) {
-            Ok(BodyElement::ChargeParameterDiscoveryRes(member(descent)?))
-        } else if descent.is_at(names::CONTRACT_AUTHENTICATION_REQ) {
-            Ok(BodyElement::ContractAuthenticationReq(member(descent)?))
-        } else if descent.is_at(names::CONTRACT_AUTHENTICATION_RES) {
-            Ok(BodyElement::ContractAuthenticationRes(member(descent)?))
-        } else if descent.is_at(names::CURRENT_DEMAND_REQ) {
-            Ok(BodyElement::CurrentDemandReq(member(descent)?))
-        } else if descent.is_at(names::CURRENT_DEMAND_RES) {
-            Ok(BodyElement::CurrentDemandRes(member(descent)?))
-        } else if descent.is_at(names::POWER_DELIVERY_REQ) {
-            Ok(BodyElement::PowerDeliveryReq(member(descent)?))
-        } else if descent.is_at(names::POWER_DELIVERY_RES) {
-            Ok(BodyElement::PowerDeliveryRes(member(descent)?))
-        } else if descent.is_at(names::PRE_CHARGE_REQ) {
-            Ok(BodyElement::PreChargeReq(member(descent)?))
-        } else if descent.is_at(names::PRE_CHARGE_RES) {
-            Ok(BodyElement::PreChargeRes(member(descent)?))
-        } else if descent.is_at(names::SERVICE_DISCOVERY_REQ) {
-            Ok(BodyElement::ServiceDiscoveryReq(member(descent)?))
-        } else if descent.is_at(names::SERVICE_DISCOVERY_RES) {
-            Ok(BodyElement::ServiceDiscoveryRes(member(descent)?))
-        } else if descent.is_at(names::SERVICE_PAYMENT_SELECTION_REQ) {
-            Ok(BodyElement::ServicePaymentSelectionReq(member(descent)?))
-        } else if descent.is_at(names::SERVICE_PAYMENT_SELECTION_RES) {
-            Ok(BodyElement::ServicePaymentSelectionRes(member(descent)?))
-        } else if descent.is_at(names::SESSION_SETUP_REQ) {
-            Ok(BodyElement::SessionSetupReq(member(descent)?))
-        } else if descent.is_at(names::SESSION_SETUP_RES) {
-            Ok(BodyElement::SessionSetupRes(member(descent)?))
-        } else if descent.is_at(names::SESSION_STOP_REQ) {
-            Ok(BodyElement::SessionStopReq(member(descent)?))
-        } else if descent.is_at(names::SESSION_STOP_RES) {
-            Ok(BodyElement::SessionStopRes(member(descent)?))
-        } else if descent.is_at(names::WELDING_DETECTION_REQ) {
-            Ok(BodyElement::WeldingDetectionReq(member(descent)?))
-        } else {
-            Ok(BodyElement::WeldingDetectionRes(member(descent)?))
-        }
-    }
-}
-
-impl<'a> Group<'a> for BodyElement<'a> {
-    ghost use Rattle.std.specs.Prelude.{◌≡◌};
-    ghost use Rattle.message_parts.specs.Particles.{names_among};
-    ghost use Rattle.din_codec.specs.Message.{body_element_members};
 
     fn names() -> &'static [u16]
         ensures { result.now ≡ names_among body_element_members }
@@ -264,10 +293,79 @@ impl<'a> Group<'a> for BodyElement<'a> {
             names::WELDING_DETECTION_RES,
         ]
     }
+
+    fn read_member_into<P: Places>(
+        place: &mut Option<BodyElement<'a>>,
+        descent: &mut Descent<'a, '_, P>,
+    ) -> Result<(), Refusal> {
+        if descent.is_at(names::CABLE_CHECK_REQ) {
+            *place = Some(BodyElement::CableCheckReq(member(descent)?));
+            Ok(())
+        } else if descent.is_at(names::CABLE_CHECK_RES) {
+            *place = Some(BodyElement::CableCheckRes(member(descent)?));
+            Ok(())
+        } else if descent.is_at(names::CHARGE_PARAMETER_DISCOVERY_REQ) {
+            *place = Some(BodyElement::ChargeParameterDiscoveryReq(member(descent)?));
+            Ok(())
+        } else if descent.is_at(names::CHARGE_PARAMETER_DISCOVERY_RES) {
+            charge_parameter_discovery_res(place, descent)
+        } else if descent.is_at(names::CONTRACT_AUTHENTICATION_REQ) {
+            *place = Some(BodyElement::ContractAuthenticationReq(member(descent)?));
+            Ok(())
+        } else if descent.is_at(names::CONTRACT_AUTHENTICATION_RES) {
+            *place = Some(BodyElement::ContractAuthenticationRes(member(descent)?));
+            Ok(())
+        } else if descent.is_at(names::CURRENT_DEMAND_REQ) {
+            *place = Some(BodyElement::CurrentDemandReq(member(descent)?));
+            Ok(())
+        } else if descent.is_at(names::CURRENT_DEMAND_RES) {
+            *place = Some(BodyElement::CurrentDemandRes(member(descent)?));
+            Ok(())
+        } else if descent.is_at(names::POWER_DELIVERY_REQ) {
+            power_delivery_req(place, descent)
+        } else if descent.is_at(names::POWER_DELIVERY_RES) {
+            *place = Some(BodyElement::PowerDeliveryRes(member(descent)?));
+            Ok(())
+        } else if descent.is_at(names::PRE_CHARGE_REQ) {
+            *place = Some(BodyElement::PreChargeReq(member(descent)?));
+            Ok(())
+        } else if descent.is_at(names::PRE_CHARGE_RES) {
+            *place = Some(BodyElement::PreChargeRes(member(descent)?));
+            Ok(())
+        } else if descent.is_at(names::SERVICE_DISCOVERY_REQ) {
+            *place = Some(BodyElement::ServiceDiscoveryReq(member(descent)?));
+            Ok(())
+        } else if descent.is_at(names::SERVICE_DISCOVERY_RES) {
+            service_discovery_res(place, descent)
+        } else if descent.is_at(names::SERVICE_PAYMENT_SELECTION_REQ) {
+            service_payment_selection_req(place, descent)
+        } else if descent.is_at(names::SERVICE_PAYMENT_SELECTION_RES) {
+            *place = Some(BodyElement::ServicePaymentSelectionRes(member(descent)?));
+            Ok(())
+        } else if descent.is_at(names::SESSION_SETUP_REQ) {
+            *place = Some(BodyElement::SessionSetupReq(member(descent)?));
+            Ok(())
+        } else if descent.is_at(names::SESSION_SETUP_RES) {
+            *place = Some(BodyElement::SessionSetupRes(member(descent)?));
+            Ok(())
+        } else if descent.is_at(names::SESSION_STOP_REQ) {
+            *place = Some(BodyElement::SessionStopReq(member(descent)?));
+            Ok(())
+        } else if descent.is_at(names::SESSION_STOP_RES) {
+            *place = Some(BodyElement::SessionStopRes(member(descent)?));
+            Ok(())
+        } else if descent.is_at(names::WELDING_DETECTION_REQ) {
+            *place = Some(BodyElement::WeldingDetectionReq(member(descent)?));
+            Ok(())
+        } else {
+            *place = Some(BodyElement::WeldingDetectionRes(member(descent)?));
+            Ok(())
+        }
+    }
 }
 
 /// Body.
-#[derive(Drop)]
+#[derive(Drop, Default)]
 pub struct Body<'a> {
     pub element: Option<BodyElement<'a>>,
 }
@@ -284,7 +382,7 @@ impl PutRecord for Body<'_> {
     }
 }
 
-impl<'a> Record<'a> for Body<'a> {
+impl<'a> LargeRecord<'a> for Body<'a> {
     ghost use Rattle.din_schema.specs.Declarations.{kinds};
     ghost use Rattle.din_schema.specs.Frame.{body};
 
@@ -294,15 +392,15 @@ impl<'a> Record<'a> for Body<'a> {
 
     ghost particles = { body };
 
-    fn read<P: Places>(descent: &mut Descent<'a, '_, P>) -> Result<Body<'a>, Refusal> {
+    fn read_here<P: Places>(&mut self, descent: &mut Descent<'a, '_, P>) -> Result<(), Refusal> {
         first_child(descent)?;
-        let element = optional_choice(descent)?;
-        Ok(Body { element })
+        optional_choice_here(&mut self.element, descent)?;
+        Ok(())
     }
 }
 
 /// V2G_Message.
-#[derive(Drop)]
+#[derive(Drop, Default)]
 pub struct DinMessage<'a> {
     pub header: Header<'a>,
     pub body: Body<'a>,
@@ -321,7 +419,7 @@ impl PutRecord for DinMessage<'_> {
     }
 }
 
-impl<'a> Record<'a> for DinMessage<'a> {
+impl<'a> LargeRecord<'a> for DinMessage<'a> {
     ghost use Rattle.din_schema.specs.Declarations.{kinds};
     ghost use Rattle.din_schema.specs.Frame.{v2g_message};
 
@@ -331,10 +429,10 @@ impl<'a> Record<'a> for DinMessage<'a> {
 
     ghost particles = { v2g_message };
 
-    fn read<P: Places>(descent: &mut Descent<'a, '_, P>) -> Result<DinMessage<'a>, Refusal> {
+    fn read_here<P: Places>(&mut self, descent: &mut Descent<'a, '_, P>) -> Result<(), Refusal> {
         first_child(descent)?;
-        let header = required(descent)?;
-        let body = required(descent)?;
-        Ok(DinMessage { header, body })
+        self.header = required(descent)?;
+        required_here(&mut self.body, descent)?;
+        Ok(())
     }
 }

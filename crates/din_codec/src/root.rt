@@ -5,7 +5,7 @@ use din_schema::names;
 use exi_documents::Refusal;
 use exi_events::EventWriter;
 use exi_schema::Places;
-use message_parts::{Choice, Descent, PutChoice, Root, member, put_record};
+use message_parts::{Descent, LargeChoice, PutChoice, Root, member_here, put_record};
 
 impl PutChoice for DinMessage<'_> {
     ghost use Rattle.din_codec.specs.Documents.{din_inside};
@@ -20,7 +20,7 @@ impl PutChoice for DinMessage<'_> {
     }
 }
 
-impl<'a> Choice<'a> for DinMessage<'a> {
+impl<'a> LargeChoice<'a> for DinMessage<'a> {
     ghost use Rattle.din_schema.specs.Declarations.{kinds};
     ghost use Rattle.din_codec.specs.Documents.{din_roots};
 
@@ -28,8 +28,11 @@ impl<'a> Choice<'a> for DinMessage<'a> {
 
     ghost members = { din_roots };
 
-    fn read_member<P: Places>(descent: &mut Descent<'a, '_, P>) -> Result<DinMessage<'a>, Refusal> {
-        member(descent)
+    fn read_member_here<P: Places>(
+        &mut self,
+        descent: &mut Descent<'a, '_, P>,
+    ) -> Result<(), Refusal> {
+        member_here(self, descent)
     }
 }
 

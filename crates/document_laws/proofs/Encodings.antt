@@ -16,7 +16,7 @@ use Rattle.exi_schema.proofs.Fitting.{first_place}
 use Rattle.exi_documents.specs.Trees.{Value, Trees, none, simple, complex, Tree, Simple, Complex, Event, Document, Start, Attribute, Content, EndElement}
 use Rattle.exi_documents.specs.Grammar.{Standing, Before, AtRoot, Inside, State, stands, Moves}
 use Rattle.exi_documents.specs.Values.{Entries, SpellsValue, WritesValue}
-use Rattle.exi_documents.specs.Documents.{Speller, SpellsStep, SpellsSimple, SpellsAttributes, SpellsTrees, SpellsTree, SpellsDocument, IsDocument, IsEncoding, name_of, element, first, header}
+use Rattle.exi_documents.specs.Documents.{Speller, SpellsStep, SpellsSimple, SpellsAttributes, SpellsComplex, SpellsTrees, SpellsTree, SpellsDocument, IsDocument, IsEncoding, name_of, element, first, header}
 use Rattle.document_laws.specs.Laws.{WritesOnce, AreBytes, IsOneEncoding}
 use Rattle.document_laws.proofs.Fits.{step_fits, root_kind, one_numbered, distinct_names}
 use Rattle.document_laws.proofs.Names.{element_key, attribute_key, end_key, one_taken_by, ones_at}
@@ -40,55 +40,100 @@ module _ (s : PlainSchema) where
 
   attributes_spelled : (here there : Place) (entries after : Entries) (attributes : List (ℕ × Value)) (bits : List Bool) → SpellsAttributes WritesValue s.kinds here entries attributes bits there after → SpellsAttributes SpellsValue s.kinds here entries attributes bits there after
   attributes_spelled here there entries after [] bits h = h
-  attributes_spelled here there entries after (attribute ∷ attributes) bits h = (
-    h.0,
-    h.1,
-    h.2,
-    h.3,
-    h.4,
-    h.5,
-    h.6,
-    h.7,
-    h.8,
-    value_spelled h.2 entries attribute.0 attribute.1 (range_at s h.0 h.2 h.8) h.5 h.3 h.9,
-    attributes_spelled h.1 there h.3 after attributes h.6 h.10,
-    h.11,
-  )
+  attributes_spelled here there entries after (attribute ∷ attributes) bits h =
+      record {
+        kind = h.kind;
+        next = h.next;
+        datatype = h.datatype;
+        middle = h.middle;
+        code = h.code;
+        inside = h.inside;
+        rest = h.rest;
+        starts = h.starts;
+        is_simple = h.is_simple;
+        spelled = value_spelled h.datatype entries attribute.0 attribute.1 (range_at s h.kind h.datatype h.is_simple) h.inside h.middle h.spelled;
+        behind = attributes_spelled h.next there h.middle after attributes h.rest h.behind;
+        bits_are = h.bits_are;
+      }
+
+  complex_spelled : (kind : ℕ) (entries : Entries) (attributes : List (ℕ × Value)) (C D : Place → Entries → List Bool → Type 0) (bits : List Bool) → ((there : Place) (within : Entries) (inside : List Bool) → C there within inside → D there within inside) →
+      SpellsComplex WritesValue s.kinds kind entries attributes C bits → SpellsComplex SpellsValue s.kinds kind entries attributes D bits
+  complex_spelled kind entries attributes C D bits children h =
+      record {
+        there = h.there;
+        within = h.within;
+        front = h.front;
+        inside = h.inside;
+        begun = attributes_spelled (first kind) h.there entries h.within attributes h.front h.begun;
+        ended = children h.there h.within h.inside h.ended;
+        bits_are = h.bits_are;
+      }
 
   trees_spelled : (here : Place) (entries after : Entries) (trees : Trees) (bits : List Bool) → SpellsTrees WritesValue s.kinds here entries trees bits after → SpellsTrees SpellsValue s.kinds here entries trees bits after
   trees_spelled here entries after none bits h = h
   trees_spelled here entries after (simple name value more) bits h =
-      (h.0, h.1, h.2, h.3, h.4, h.5, h.6, simple_spelled h.0 entries h.2 name value h.4 h.7, trees_spelled h.1 h.2 after more h.5 h.8, h.9)
-  trees_spelled here entries after (complex name attributes children more) bits h = (
-    h.0,
-    h.1,
-    h.2,
-    h.3,
-    h.4,
-    h.5,
-    h.6,
-    h.7,
-    h.8,
-    h.9,
-    attributes_spelled (first h.0) h.2 entries h.3 attributes h.6 h.10,
-    trees_spelled h.2 h.3 h.4 children h.7 h.11,
-    trees_spelled h.1 h.4 after more h.8 h.12,
-    h.13,
-  )
+      record {
+        kind = h.kind;
+        next = h.next;
+        middle = h.middle;
+        code = h.code;
+        inside = h.inside;
+        rest = h.rest;
+        starts = h.starts;
+        spelled = simple_spelled h.kind entries h.middle name value h.inside h.spelled;
+        behind = trees_spelled h.next h.middle after more h.rest h.behind;
+        bits_are = h.bits_are;
+      }
+  trees_spelled here entries after (complex name attributes children more) bits h =
+      record {
+        kind = h.kind;
+        next = h.next;
+        middle = h.middle;
+        code = h.code;
+        inside = h.inside;
+        rest = h.rest;
+        starts = h.starts;
+        spelled = complex_spelled h.kind entries attributes _ _ h.inside (λ there within inside. trees_spelled there within h.middle children inside) h.spelled;
+        behind = trees_spelled h.next h.middle after more h.rest h.behind;
+        bits_are = h.bits_are;
+      }
 
   tree_spelled : (kind : ℕ) (after : Entries) (tree : Tree) (bits : List Bool) → SpellsTree WritesValue s.kinds kind [] tree bits after → SpellsTree SpellsValue s.kinds kind [] tree bits after
   tree_spelled kind after (Simple name value) bits h = simple_spelled kind [] after name value bits h
   tree_spelled kind after (Complex name attributes children) bits h =
-      (h.0, h.1, h.2, h.3, attributes_spelled (first kind) h.0 [] h.1 attributes h.2 h.4, trees_spelled h.0 h.1 after children h.3 h.5, h.6)
+      complex_spelled kind [] attributes _ _ bits (λ there within inside. trees_spelled there within after children inside) h
 
   event_at : (standing : Standing) (entries : Entries) (new : State) (event : Event) (bits : List Bool) → Moves WritesValue s (stands standing entries) event bits new → Moves SpellsValue s (stands standing entries) event bits new
   event_at Before entries new (Document number) bits m = m
   event_at (AtRoot root kind) entries new (Start name) bits m = m
   event_at (Inside top above) entries new (Start name) bits m = m
   event_at (Inside top above) entries new (Attribute name value) bits m =
-      (m.0, m.1, m.2, m.3, m.4, m.5, m.6, m.7, value_spelled m.2 entries name value (range_at s m.0 m.2 m.7) m.5 m.3 m.8, m.9, m.10)
+      record {
+        kind = m.kind;
+        next = m.next;
+        datatype = m.datatype;
+        after = m.after;
+        code = m.code;
+        inside = m.inside;
+        starts = m.starts;
+        is_simple = m.is_simple;
+        spelled = value_spelled m.datatype entries name value (range_at s m.kind m.datatype m.is_simple) m.inside m.after m.spelled;
+        bits_are = m.bits_are;
+        leads = m.leads;
+      }
   event_at (Inside top above) entries new (Content value) bits m =
-      (m.0, m.1, m.2, m.3, m.4, m.5, m.6, value_spelled m.1 entries top.name value (range_at s top.place.kind m.1 m.6) m.4 m.2 m.7, m.8, m.9)
+      record {
+        next = m.next;
+        datatype = m.datatype;
+        after = m.after;
+        code = m.code;
+        inside = m.inside;
+        starts = m.starts;
+        is_simple = m.is_simple;
+        spelled = value_spelled m.datatype entries top.name value (range_at s top.place.kind m.datatype m.is_simple) m.inside m.after m.spelled;
+        bits_are = m.bits_are;
+        leads = m.leads;
+      }
   event_at (Inside top above) entries new EndElement bits m = m
   event_at standing entries new event bits m = absurd m
 
@@ -158,55 +203,60 @@ module _ (V : Speller) (once : WritesOnce V) (s : PlainSchema) where
       SpellsAttributes V s.kinds here entries attributes a there after → SpellsAttributes V s.kinds here entries attributes b far other → (a ≡ b) × (there ≡ far) × (after ≡ other)
   attributes_once here there far entries after other [] a b at p q = (p.0 ∙ sym q.0, p.1 ∙ sym q.1, p.2 ∙ sym q.2)
   attributes_once here there far entries after other (attribute ∷ attributes) a b at p q =
-      let code = attribute_once here p.1 q.1 attribute.0 p.0 q.0 p.4 q.4 at p.7 q.7 in
-      let d = one_of (simple_at s.kinds q.0) p.2 q.2 (ap (λ (k : ℕ). simple_at s.kinds k) (sym code.0) ∙ p.8) q.8 in
-      let value = once q.2 entries attribute.0 attribute.1 p.5 q.5 p.3 q.3 (subst (λ (x : Datatype). V x entries attribute.0 attribute.1 p.5 p.3) d p.9) q.9 in
-      let moved : SpellsAttributes V s.kinds q.1 q.3 attributes p.6 there after =
-      subst (λ (h : Place). SpellsAttributes V s.kinds h q.3 attributes p.6 there after) code.1
-      (subst (λ (es : Entries). SpellsAttributes V s.kinds p.1 es attributes p.6 there after) value.1 p.10) in
-      let more = attributes_once q.1 there far q.3 after other attributes p.6 q.6 (behind_attribute here q.1 attribute.0 q.0 q.4 at q.7) moved q.10 in
-      (p.11 ∙ ap₂ (λ (x y : List Bool). x ++ y) code.2 (ap₂ (λ (x y : List Bool). x ++ y) value.0 more.0) ∙ sym q.11, more.1, more.2)
+      let code = attribute_once here p.next q.next attribute.0 p.kind q.kind p.code q.code at p.starts q.starts in
+      let d = one_of (simple_at s.kinds q.kind) p.datatype q.datatype (ap (λ (k : ℕ). simple_at s.kinds k) (sym code.0) ∙ p.is_simple) q.is_simple in
+      let value = once q.datatype entries attribute.0 attribute.1 p.inside q.inside p.middle q.middle (subst (λ (x : Datatype). V x entries attribute.0 attribute.1 p.inside p.middle) d p.spelled) q.spelled in
+      let moved : SpellsAttributes V s.kinds q.next q.middle attributes p.rest there after =
+      subst (λ (h : Place). SpellsAttributes V s.kinds h q.middle attributes p.rest there after) code.1
+      (subst (λ (es : Entries). SpellsAttributes V s.kinds p.next es attributes p.rest there after) value.1 p.behind) in
+      let more = attributes_once q.next there far q.middle after other attributes p.rest q.rest (behind_attribute here q.next attribute.0 q.kind q.code at q.starts) moved q.behind in
+      (p.bits_are ∙ ap₂ (λ (x y : List Bool). x ++ y) code.2 (ap₂ (λ (x y : List Bool). x ++ y) value.0 more.0) ∙ sym q.bits_are, more.1, more.2)
 
   behind_attributes : (here there : Place) (entries after : Entries) (attributes : List (ℕ × Value)) (bits : List Bool) → IsPlace s.kinds here → SpellsAttributes V s.kinds here entries attributes bits there after → IsPlace s.kinds there
   behind_attributes here there entries after [] bits at h = subst (λ (x : Place). IsPlace s.kinds x) (sym h.1) at
   behind_attributes here there entries after (attribute ∷ attributes) bits at h =
-      behind_attributes h.1 there h.3 after attributes h.6 (behind_attribute here h.1 attribute.0 h.0 h.4 at h.7) h.10
+      behind_attributes h.next there h.middle after attributes h.rest (behind_attribute here h.next attribute.0 h.kind h.code at h.starts) h.behind
+
+  abbrev IsComplex : ℕ → Entries → List (ℕ × Value) → Trees → List Bool → Entries → Type 0
+  IsComplex kind entries attributes children bits after =
+      SpellsComplex V s.kinds kind entries attributes (λ there within inside. SpellsTrees V s.kinds there within children inside after) bits
+
+  complex_once : (kind : ℕ) (entries after other : Entries) (attributes : List (ℕ × Value)) (children : Trees) (a b : List Bool) → IsPlace s.kinds (first kind) →
+      ((there : Place) (within : Entries) (x y : List Bool) → IsPlace s.kinds there → SpellsTrees V s.kinds there within children x after → SpellsTrees V s.kinds there within children y other → (x ≡ y) × (after ≡ other)) →
+      IsComplex kind entries attributes children a after → IsComplex kind entries attributes children b other → (a ≡ b) × (after ≡ other)
+  complex_once kind entries after other attributes children a b at children_once p q =
+      let front = attributes_once (first kind) p.there q.there entries p.within q.within attributes p.front q.front at p.begun q.begun in
+      let begun : SpellsTrees V s.kinds q.there q.within children p.inside after =
+      subst (λ (h : Place). SpellsTrees V s.kinds h q.within children p.inside after) front.1
+      (subst (λ (es : Entries). SpellsTrees V s.kinds p.there es children p.inside after) front.2 p.ended) in
+      let inside = children_once q.there q.within p.inside q.inside (behind_attributes (first kind) q.there entries q.within attributes q.front at q.begun) begun q.ended in
+      (p.bits_are ∙ ap₂ (λ (x y : List Bool). x ++ y) front.0 inside.0 ∙ sym q.bits_are, inside.1)
 
   trees_once : (here : Place) (entries after other : Entries) (trees : Trees) (a b : List Bool) → IsPlace s.kinds here → SpellsTrees V s.kinds here entries trees a after → SpellsTrees V s.kinds here entries trees b other → (a ≡ b) × (after ≡ other)
   trees_once here entries after other none a b at p q = (end_once here a b at p.0 q.0, p.1 ∙ sym q.1)
   trees_once here entries after other (simple name value more) a b at p q =
-      let code = element_once here p.1 q.1 name p.0 q.0 p.3 q.3 at p.6 q.6 in
-      let inside = simple_once q.0 entries p.2 q.2 name value p.4 q.4 (subst (λ (k : ℕ). SpellsSimple V s.kinds k entries name value p.4 p.2) code.0 p.7) q.7 in
-      let moved : SpellsTrees V s.kinds q.1 q.2 more p.5 after =
-      subst (λ (h : Place). SpellsTrees V s.kinds h q.2 more p.5 after) code.1
-      (subst (λ (es : Entries). SpellsTrees V s.kinds p.1 es more p.5 after) inside.1 p.8) in
-      let later = trees_once q.1 q.2 after other more p.5 q.5 (behind_element here q.1 name q.0 q.3 at q.6).0 moved q.8 in
-      (p.9 ∙ ap₂ (λ (x y : List Bool). x ++ y) code.2 (ap₂ (λ (x y : List Bool). x ++ y) inside.0 later.0) ∙ sym q.9, later.1)
+      let code = element_once here p.next q.next name p.kind q.kind p.code q.code at p.starts q.starts in
+      let inside = simple_once q.kind entries p.middle q.middle name value p.inside q.inside (subst (λ (k : ℕ). SpellsSimple V s.kinds k entries name value p.inside p.middle) code.0 p.spelled) q.spelled in
+      let moved : SpellsTrees V s.kinds q.next q.middle more p.rest after =
+      subst (λ (h : Place). SpellsTrees V s.kinds h q.middle more p.rest after) code.1
+      (subst (λ (es : Entries). SpellsTrees V s.kinds p.next es more p.rest after) inside.1 p.behind) in
+      let later = trees_once q.next q.middle after other more p.rest q.rest (behind_element here q.next name q.kind q.code at q.starts).0 moved q.behind in
+      (p.bits_are ∙ ap₂ (λ (x y : List Bool). x ++ y) code.2 (ap₂ (λ (x y : List Bool). x ++ y) inside.0 later.0) ∙ sym q.bits_are, later.1)
   trees_once here entries after other (complex name attributes children more) a b at p q =
-      let code = element_once here p.1 q.1 name p.0 q.0 p.5 q.5 at p.9 q.9 in
-      let places = behind_element here q.1 name q.0 q.5 at q.9 in
-      let front = attributes_once (first q.0) p.2 q.2 entries p.3 q.3 attributes p.6 q.6 places.1 (subst (λ (k : ℕ). SpellsAttributes V s.kinds (first k) entries attributes p.6 p.2 p.3) code.0 p.10) q.10 in
-      let begun : SpellsTrees V s.kinds q.2 q.3 children p.7 p.4 =
-      subst (λ (h : Place). SpellsTrees V s.kinds h q.3 children p.7 p.4) front.1
-      (subst (λ (es : Entries). SpellsTrees V s.kinds p.2 es children p.7 p.4) front.2 p.11) in
-      let inside = trees_once q.2 q.3 p.4 q.4 children p.7 q.7 (behind_attributes (first q.0) q.2 entries q.3 attributes q.6 places.1 q.10) begun q.11 in
-      let moved : SpellsTrees V s.kinds q.1 q.4 more p.8 after =
-      subst (λ (h : Place). SpellsTrees V s.kinds h q.4 more p.8 after) code.1
-      (subst (λ (es : Entries). SpellsTrees V s.kinds p.1 es more p.8 after) inside.1 p.12) in
-      let later = trees_once q.1 q.4 after other more p.8 q.8 places.0 moved q.12 in (
-        p.13 ∙ ap₂ (λ (x y : List Bool). x ++ y) code.2 (ap₂ (λ (x y : List Bool). x ++ y) front.0 (ap₂ (λ (x y : List Bool). x ++ y) inside.0 later.0)) ∙ sym q.13,
-        later.1,
-      )
+      let code = element_once here p.next q.next name p.kind q.kind p.code q.code at p.starts q.starts in
+      let places = behind_element here q.next name q.kind q.code at q.starts in
+      let inside = complex_once q.kind entries p.middle q.middle attributes children p.inside q.inside places.1 (λ there within. trees_once there within p.middle q.middle children)
+      (subst (λ (k : ℕ). IsComplex k entries attributes children p.inside p.middle) code.0 p.spelled) q.spelled in
+      let moved : SpellsTrees V s.kinds q.next q.middle more p.rest after =
+      subst (λ (h : Place). SpellsTrees V s.kinds h q.middle more p.rest after) code.1
+      (subst (λ (es : Entries). SpellsTrees V s.kinds p.next es more p.rest after) inside.1 p.behind) in
+      let later = trees_once q.next q.middle after other more p.rest q.rest places.0 moved q.behind in
+      (p.bits_are ∙ ap₂ (λ (x y : List Bool). x ++ y) code.2 (ap₂ (λ (x y : List Bool). x ++ y) inside.0 later.0) ∙ sym q.bits_are, later.1)
 
   tree_once : (kind : ℕ) (after other : Entries) (tree : Tree) (a b : List Bool) → IsPlace s.kinds (first kind) → SpellsTree V s.kinds kind [] tree a after → SpellsTree V s.kinds kind [] tree b other → a ≡ b
   tree_once kind after other (Simple name value) a b at p q = (simple_once kind [] after other name value a b p q).0
   tree_once kind after other (Complex name attributes children) a b at p q =
-      let front = attributes_once (first kind) p.0 q.0 [] p.1 q.1 attributes p.2 q.2 at p.4 q.4 in
-      let begun : SpellsTrees V s.kinds q.0 q.1 children p.3 after =
-      subst (λ (h : Place). SpellsTrees V s.kinds h q.1 children p.3 after) front.1
-      (subst (λ (es : Entries). SpellsTrees V s.kinds p.0 es children p.3 after) front.2 p.5) in
-      let inside = trees_once q.0 q.1 after other children p.3 q.3 (behind_attributes (first kind) q.0 [] q.1 attributes q.2 at q.4) begun q.5 in
-      p.6 ∙ ap₂ (λ (x y : List Bool). x ++ y) front.0 inside.0 ∙ sym q.6
+      (complex_once kind [] after other attributes children a b at (λ there within. trees_once there within after other children) p q).0
 
   pub document_once : (n m : ℕ) (tree : Tree) (a b : List Bool) → SpellsDocument V s n tree a → SpellsDocument V s m tree b → (n ≡ m) × (a ≡ b)
   document_once n m tree a b p q =

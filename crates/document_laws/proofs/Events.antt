@@ -174,38 +174,40 @@ module _ (s : PlainSchema) (top : Opened) (above : List Opened) (entries : Entri
   forth_at : (x : Step) (m : Event × State) (bits front rest : List Bool) → SpellsTaken s.kinds top.place x front → Follows x m rest → bits ≡ front ++ rest → Moves SpellsValue s here m.0 bits m.1
   forth_at (step.Attribute name kind next) m bits front rest h f e =
       let v = f.0 in
-      subst (λ (x : Event × State). Moves SpellsValue s here x.0 bits x.1) (sym f.2) (kind, next, f.1.0, v.1, front, rest, h.0, f.1.1, f.1.2, e, refl)
+      subst (λ (x : Event × State). Moves SpellsValue s here x.0 bits x.1) (sym f.2)
+      (record { kind = kind; next = next; datatype = f.1.0; after = v.1; code = front; inside = rest; starts = h.0; is_simple = f.1.1; spelled = f.1.2; bits_are = e; leads = refl })
   forth_at (step.Element name kind next standing past_limit) m bits front rest h f e =
       let whole : front ≡ bits = sym (e ∙ ap (λ (l : List Bool). front ++ l) f.0 ∙ append-nil front) in
       subst (λ (x : Event × State). Moves SpellsValue s here x.0 bits x.1) (sym f.1)
-      (kind, next, subst (λ (l : List Bool). SpellsStep s.kinds top.place (element name kind next) l) whole (element_taken name kind next standing past_limit front h.0 h.1), refl)
+      (record { kind = kind; next = next; starts = subst (λ (l : List Bool). SpellsStep s.kinds top.place (element name kind next) l) whole (element_taken name kind next standing past_limit front h.0 h.1); leads = refl })
   forth_at step.End m bits front rest h f e =
       let whole : front ≡ bits = sym (e ∙ ap (λ (l : List Bool). front ++ l) f.0 ∙ append-nil front) in
       subst (λ (x : Event × State). Moves SpellsValue s here x.0 bits x.1) (sym f.1)
       (subst (λ (l : List Bool). SpellsStep s.kinds top.place step.End l) whole h.0, refl)
   forth_at (step.Characters next) m bits front rest h f e =
       let v = f.0 in
-      subst (λ (x : Event × State). Moves SpellsValue s here x.0 bits x.1) (sym f.2) (next, f.1.0, v.1, front, rest, h.0, f.1.1, f.1.2, e, refl)
+      subst (λ (x : Event × State). Moves SpellsValue s here x.0 bits x.1) (sym f.2)
+      (record { next = next; datatype = f.1.0; after = v.1; code = front; inside = rest; starts = h.0; is_simple = f.1.1; spelled = f.1.2; bits_are = e; leads = refl })
 
   back : (event : Event) (new : State) (bits : List Bool) → Moves SpellsValue s here event bits new → Inner (event, new) bits
   back (Document number) new bits h = absurd h
   back (Start name) new bits h =
-      (element name h.0 h.1, bits, [], (h.2, refl), (refl, ap (λ (state : State). (Start name, state)) h.3), sym (append-nil bits))
+      (element name h.kind h.next, bits, [], (h.starts, refl), (refl, ap (λ (state : State). (Start name, state)) h.leads), sym (append-nil bits))
   back (Attribute name value) new bits h = (
-    step.Attribute name h.0 h.1,
-    h.4,
-    h.5,
-    (h.6, refl),
-    ((value, h.3), (h.2, h.7, h.8), ap (λ (state : State). (Attribute name value, state)) h.10),
-    h.9,
+    step.Attribute name h.kind h.next,
+    h.code,
+    h.inside,
+    (h.starts, refl),
+    ((value, h.after), (h.datatype, h.is_simple, h.spelled), ap (λ (state : State). (Attribute name value, state)) h.leads),
+    h.bits_are,
   )
   back (Content value) new bits h = (
-    step.Characters h.0,
-    h.3,
-    h.4,
-    (h.5, refl),
-    ((value, h.2), (h.1, h.6, h.7), ap (λ (state : State). (Content value, state)) h.9),
-    h.8,
+    step.Characters h.next,
+    h.code,
+    h.inside,
+    (h.starts, refl),
+    ((value, h.after), (h.datatype, h.is_simple, h.spelled), ap (λ (state : State). (Content value, state)) h.leads),
+    h.bits_are,
   )
   back EndElement new bits h =
       (step.End, bits, [], (h.0, refl), (refl, ap (λ (state : State). (EndElement, state)) h.1), sym (append-nil bits))

@@ -165,19 +165,20 @@ module _ (s : PlainSchema) where
         let w = h.0 in
         let c = h.1 in
         let number : w.0 ≡ c.4.0 = c.4.2.0 in
-        subst (λ (x : Event × State). Moves SpellsValue s (stands Before entries) x.0 bits x.1) (sym h.2) (
-          w.1,
-          w.2,
-          c.2,
-          subst (λ (n : ℕ). IsRoot s.roots s.root_bits n (Kind w.1 w.2)) (sym number) c.4.2.1,
-          subst (λ (n : ℕ). SpellsNumber s.root_bits n c.2) (sym number) c.4.1,
-          c.5 ∙ ap (λ (l : List Bool). l ++ c.2) c.3,
-          refl,
-        )
+        subst (λ (x : Event × State). Moves SpellsValue s (stands Before entries) x.0 bits x.1) (sym h.2)
+        record {
+          name = w.1;
+          kind = w.2;
+          front = c.2;
+          named = subst (λ (n : ℕ). IsRoot s.roots s.root_bits n (Kind w.1 w.2)) (sym number) c.4.2.1;
+          numbered = subst (λ (n : ℕ). SpellsNumber s.root_bits n c.2) (sym number) c.4.1;
+          bits_are = c.5 ∙ ap (λ (l : List Bool). l ++ c.2) c.3;
+          leads = refl;
+        }
 
     front_back : (event : Event) (new : State) (bits : List Bool) → Moves SpellsValue s (stands Before entries) event bits new → SpellsFront (event, new) bits
     front_back (Document number) new bits h =
-        ((number, h.0, h.1), (tt, header, h.2, refl, (number, h.4, (refl, h.3)), h.5), ap (λ (state : State). (Document number, state)) h.6)
+        ((number, h.name, h.kind), (tt, header, h.front, refl, (number, h.numbered, (refl, h.named)), h.bits_are), ap (λ (state : State). (Document number, state)) h.leads)
     front_back (Start name) new bits h = absurd h
     front_back (Attribute name value) new bits h = absurd h
     front_back (Content value) new bits h = absurd h

@@ -39,18 +39,18 @@ module _ (s : PlainSchema) where
   -- one clause for each event that may come
   kept_at : (standing : Standing) (entries : Entries) (new : State) (event : Event) (bits : List Bool) → IsState s (stands standing entries) → Moves SpellsValue s (stands standing entries) event bits new → IsState s new
   kept_at Before entries new (Document number) bits is m =
-      state_by (stands (AtRoot m.0 m.1) entries) new (sym m.6) (root_kind s number m.0 m.1 m.3, is.1)
+      state_by (stands (AtRoot m.name m.kind) entries) new (sym m.leads) (root_kind s number m.name m.kind m.named, is.1)
   kept_at (AtRoot root kind) entries new (Start name) bits is m =
       state_by (stands (Inside (opened name (first kind)) []) entries) new (sym m.2) ((first_place s kind is.0, tt), is.1)
   kept_at (Inside top above) entries new (Start name) bits is m =
-      let fits = step_fits s top.place m.2.code (element name m.0 m.1) is.0.0 m.2.offered in
-      state_by (stands (Inside (opened name (first m.0)) (opened top.name m.1 ∷ above)) entries) new (sym m.3) ((first_place s m.0 fits.1, (fits.2, is.0.1)), is.1)
+      let fits = step_fits s top.place m.starts.code (element name m.kind m.next) is.0.0 m.starts.offered in
+      state_by (stands (Inside (opened name (first m.kind)) (opened top.name m.next ∷ above)) entries) new (sym m.leads) ((first_place s m.kind fits.1, (fits.2, is.0.1)), is.1)
   kept_at (Inside top above) entries new (Attribute name value) bits is m =
-      let fits = step_fits s top.place m.6.code (step.Attribute name m.0 m.1) is.0.0 m.6.offered in
-      state_by (stands (Inside (opened top.name m.1) above) m.3) new (sym m.10) ((fits.3, is.0.1), value_kept m.2 entries m.3 name value m.5 is.1 m.8)
+      let fits = step_fits s top.place m.starts.code (step.Attribute name m.kind m.next) is.0.0 m.starts.offered in
+      state_by (stands (Inside (opened top.name m.next) above) m.after) new (sym m.leads) ((fits.3, is.0.1), value_kept m.datatype entries m.after name value m.inside is.1 m.spelled)
   kept_at (Inside top above) entries new (Content value) bits is m =
-      let fits = step_fits s top.place m.5.code (step.Characters m.0) is.0.0 m.5.offered in
-      state_by (stands (Inside (opened top.name m.0) above) m.2) new (sym m.9) ((fits.1, is.0.1), value_kept m.1 entries m.2 top.name value m.4 is.1 m.7)
+      let fits = step_fits s top.place m.starts.code (step.Characters m.next) is.0.0 m.starts.offered in
+      state_by (stands (Inside (opened top.name m.next) above) m.after) new (sym m.leads) ((fits.1, is.0.1), value_kept m.datatype entries m.after top.name value m.inside is.1 m.spelled)
   kept_at (Inside top above) entries new EndElement bits is m = state_by (stands (around above) entries) new (sym m.1) (around_kept above entries is.0.1 is.1)
   kept_at standing entries new event bits is m = absurd m
 

@@ -54,21 +54,21 @@ module _ (V : Speller) (once : WritesOnce V) (s : PlainSchema) where
 
   once_at : (standing : Standing) (entries : Entries) (event : Event) (a b : List Bool) (new other : State) → IsStanding s standing → Moves V s (stands standing entries) event a new → Moves V s (stands standing entries) event b other → (a ≡ b) × (new ≡ other)
   once_at Before entries (Document number) a b new other is p q =
-      let root = one_root s number p.0 p.1 q.0 q.1 p.3 q.3 in
-      let front = p.4.spelled ∙ sym q.4.spelled in
-      (p.5 ∙ ap (λ (l : List Bool). header ++ l) front ∙ sym q.5, p.6 ∙ ap₂ (λ (n k : ℕ). stands (AtRoot n k) entries) root.0 root.1 ∙ sym q.6)
+      let root = one_root s number p.name p.kind q.name q.kind p.named q.named in
+      let front = p.numbered.spelled ∙ sym q.numbered.spelled in
+      (p.bits_are ∙ ap (λ (l : List Bool). header ++ l) front ∙ sym q.bits_are, p.leads ∙ ap₂ (λ (n k : ℕ). stands (AtRoot n k) entries) root.0 root.1 ∙ sym q.leads)
   once_at (AtRoot root kind) entries (Start name) a b new other is p q = (p.1 ∙ sym q.1, p.2 ∙ sym q.2)
   once_at (Inside top above) entries (Start name) a b new other is p q =
-      let one = element_once top.place p.1 q.1 name p.0 q.0 a b is.0 p.2 q.2 in
-      (one.2, p.3 ∙ ap₂ (λ (k : ℕ) (n : Place). stands (Inside (opened name (first k)) (opened top.name n ∷ above)) entries) one.0 one.1 ∙ sym q.3)
+      let one = element_once top.place p.next q.next name p.kind q.kind a b is.0 p.starts q.starts in
+      (one.2, p.leads ∙ ap₂ (λ (k : ℕ) (n : Place). stands (Inside (opened name (first k)) (opened top.name n ∷ above)) entries) one.0 one.1 ∙ sym q.leads)
   once_at (Inside top above) entries (Attribute name value) a b new other is p q =
-      let one = attribute_once top.place p.1 q.1 name p.0 q.0 p.4 q.4 is.0 p.6 q.6 in
-      let same = value_once p.0 q.0 name entries value p.2 q.2 p.5 q.5 p.3 q.3 one.0 p.7 q.7 p.8 q.8 in
-      (p.9 ∙ ap₂ (λ (x y : List Bool). x ++ y) one.2 same.0 ∙ sym q.9, p.10 ∙ ap₂ (λ (n : Place) (es : Entries). stands (Inside (opened top.name n) above) es) one.1 same.1 ∙ sym q.10)
+      let one = attribute_once top.place p.next q.next name p.kind q.kind p.code q.code is.0 p.starts q.starts in
+      let same = value_once p.kind q.kind name entries value p.datatype q.datatype p.inside q.inside p.after q.after one.0 p.is_simple q.is_simple p.spelled q.spelled in
+      (p.bits_are ∙ ap₂ (λ (x y : List Bool). x ++ y) one.2 same.0 ∙ sym q.bits_are, p.leads ∙ ap₂ (λ (n : Place) (es : Entries). stands (Inside (opened top.name n) above) es) one.1 same.1 ∙ sym q.leads)
   once_at (Inside top above) entries (Content value) a b new other is p q =
-      let one = characters_once top.place p.0 q.0 p.1 p.3 q.3 p.6 p.5 q.5 in
-      let same = value_once top.place.kind top.place.kind top.name entries value p.1 q.1 p.4 q.4 p.2 q.2 refl p.6 q.6 p.7 q.7 in
-      (p.8 ∙ ap₂ (λ (x y : List Bool). x ++ y) one.1 same.0 ∙ sym q.8, p.9 ∙ ap₂ (λ (n : Place) (es : Entries). stands (Inside (opened top.name n) above) es) one.0 same.1 ∙ sym q.9)
+      let one = characters_once top.place p.next q.next p.datatype p.code q.code p.is_simple p.starts q.starts in
+      let same = value_once top.place.kind top.place.kind top.name entries value p.datatype q.datatype p.inside q.inside p.after q.after refl p.is_simple q.is_simple p.spelled q.spelled in
+      (p.bits_are ∙ ap₂ (λ (x y : List Bool). x ++ y) one.1 same.0 ∙ sym q.bits_are, p.leads ∙ ap₂ (λ (n : Place) (es : Entries). stands (Inside (opened top.name n) above) es) one.0 same.1 ∙ sym q.leads)
   once_at (Inside top above) entries EndElement a b new other is p q = (end_once top.place a b is.0 p.0 q.0, p.1 ∙ sym q.1)
   once_at standing entries event a b new other is p q = absurd p
 

@@ -48,23 +48,23 @@ new_weight new state e = ap (λ (x : State). weight x.standing) e
 module _ (s : PlainSchema) where
   pub shrinks_at : (standing : Standing) (entries : Entries) (new : State) (event : Event) (bits : List Bool) → Moves SpellsValue s (stands standing entries) event bits new → weight new.standing < weight standing + length bits
   shrinks_at Before entries new (Document number) bits m =
-      let w : weight new.standing ≡ 1 = new_weight new (stands (AtRoot m.0 m.1) entries) m.6 in
+      let w : weight new.standing ≡ 1 = new_weight new (stands (AtRoot m.name m.kind) entries) m.leads in
       omega (arith, w)
   shrinks_at (AtRoot root kind) entries new (Start name) bits m =
       let w : weight new.standing ≡ 0 = ap (λ (x : State). weight x.standing) m.2 in
       omega (arith, w)
   shrinks_at (Inside top above) entries new (Start name) bits m =
-      let w : weight new.standing ≡ 0 = ap (λ (x : State). weight x.standing) m.3 in
-      let takes = step_takes s.kinds top.place _ bits m.2 in
+      let w : weight new.standing ≡ 0 = ap (λ (x : State). weight x.standing) m.leads in
+      let takes = step_takes s.kinds top.place _ bits m.starts in
       omega (arith, w, takes)
   shrinks_at (Inside top above) entries new (Attribute name value) bits m =
-      let w : weight new.standing ≡ 0 = ap (λ (x : State). weight x.standing) m.10 in
-      let takes = step_takes s.kinds top.place _ m.4 m.6 in
-      omega (arith, w, takes, ap length m.9, length-append m.4 m.5)
+      let w : weight new.standing ≡ 0 = ap (λ (x : State). weight x.standing) m.leads in
+      let takes = step_takes s.kinds top.place _ m.code m.starts in
+      omega (arith, w, takes, ap length m.bits_are, length-append m.code m.inside)
   shrinks_at (Inside top above) entries new (Content value) bits m =
-      let w : weight new.standing ≡ 0 = ap (λ (x : State). weight x.standing) m.9 in
-      let takes = step_takes s.kinds top.place _ m.3 m.5 in
-      omega (arith, w, takes, ap length m.8, length-append m.3 m.4)
+      let w : weight new.standing ≡ 0 = ap (λ (x : State). weight x.standing) m.leads in
+      let takes = step_takes s.kinds top.place _ m.code m.starts in
+      omega (arith, w, takes, ap length m.bits_are, length-append m.code m.inside)
   shrinks_at (Inside top above) entries new EndElement bits m =
       let w : weight new.standing ≡ 0 = ap (λ (x : State). weight x.standing) m.1 ∙ weight_around above in
       let takes = step_takes s.kinds top.place _ bits m.0 in

@@ -73,7 +73,18 @@ module _ (V : Speller) (s : PlainSchema) where
         stands (Inside (opened name there) above) after,
         one ++ h.inside,
         one,
-        (there, h.datatype, after, one, h.inside, one_offered s.kinds (first kind) (Characters there) (offers_simple s.kinds (first kind) h.datatype h.is_simple), h.is_simple, h.spelled, refl, refl),
+        record {
+          next = there;
+          datatype = h.datatype;
+          after = after;
+          code = one;
+          inside = h.inside;
+          starts = one_offered s.kinds (first kind) (Characters there) (offers_simple s.kinds (first kind) h.datatype h.is_simple);
+          is_simple = h.is_simple;
+          spelled = h.spelled;
+          bits_are = refl;
+          leads = refl;
+        },
         (stands (around above) after, one, [], (one_offered s.kinds there End (offers_simple s.kinds there h.datatype h.is_simple), refl), (refl, refl), sym (append-nil one)),
         h.bits_are ∙ sym (append_assoc one h.inside one),
       )
@@ -83,12 +94,24 @@ module _ (V : Speller) (s : PlainSchema) where
   attributes_run name above here there entries after [] bits h =
       (h.0, ap (λ (p : Place). stands (Inside (opened name p) above) after) h.1 ∙ ap (λ (e : Entries). stands (Inside (opened name here) above) e) h.2)
   attributes_run name above here there entries after (attribute ∷ attributes) bits h = (
-    stands (Inside (opened name h.1) above) h.3,
-    h.4 ++ h.5,
-    h.6,
-    (h.0, h.1, h.2, h.3, h.4, h.5, h.7, h.8, h.9, refl, refl),
-    attributes_run name above h.1 there h.3 after attributes h.6 h.10,
-    h.11 ∙ sym (append_assoc h.4 h.5 h.6),
+    stands (Inside (opened name h.next) above) h.middle,
+    h.code ++ h.inside,
+    h.rest,
+    record {
+      kind = h.kind;
+      next = h.next;
+      datatype = h.datatype;
+      after = h.middle;
+      code = h.code;
+      inside = h.inside;
+      starts = h.starts;
+      is_simple = h.is_simple;
+      spelled = h.spelled;
+      bits_are = refl;
+      leads = refl;
+    },
+    attributes_run name above h.next there h.middle after attributes h.rest h.behind,
+    h.bits_are ∙ sym (append_assoc h.code h.inside h.rest),
   )
 
   pub trees_run : (name : ℕ) (above : List Opened) (here : Place) (entries after : Entries) (trees : Trees) (bits : List Bool) → SpellsTrees V s.kinds here entries trees bits after →
@@ -96,32 +119,38 @@ module _ (V : Speller) (s : PlainSchema) where
   trees_run name above here entries after none bits h =
       (stands (around above) after, bits, [], (h.0, ap (λ (e : Entries). stands (around above) e) h.1), (refl, refl), sym (append-nil bits))
   trees_run name above here entries after (simple child value more) bits h =
-      let inside = stands (Inside (opened child (first h.0)) (opened name h.1 ∷ above)) entries in (
+      let inside = stands (Inside (opened child (first h.kind)) (opened name h.next ∷ above)) entries in (
         inside,
-        h.3,
-        h.4 ++ h.5,
-        (h.0, h.1, h.6, refl),
-        runs_both inside (stands (Inside (opened name h.1) above) h.2) (stands (around above) after) (Content value ∷ EndElement ∷ []) (events_of more ++ (EndElement ∷ [])) h.4 h.5
-            (simple_runs child h.0 (opened name h.1 ∷ above) entries h.2 value h.4 h.7)
-            (trees_run name above h.1 h.2 after more h.5 h.8),
-        h.9,
+        h.code,
+        h.inside ++ h.rest,
+        record { kind = h.kind; next = h.next; starts = h.starts; leads = refl },
+        runs_both inside (stands (Inside (opened name h.next) above) h.middle) (stands (around above) after) (Content value ∷ EndElement ∷ []) (events_of more ++ (EndElement ∷ [])) h.inside h.rest
+            (simple_runs child h.kind (opened name h.next ∷ above) entries h.middle value h.inside h.spelled)
+            (trees_run name above h.next h.middle after more h.rest h.behind),
+        h.bits_are,
       )
   trees_run name above here entries after (complex child attributes children more) bits h =
-      let inside = stands (Inside (opened child (first h.0)) (opened name h.1 ∷ above)) entries in
+      let c = h.spelled in
+      let inside = stands (Inside (opened child (first h.kind)) (opened name h.next ∷ above)) entries in
       let new = stands (around above) after in
-      let begun = stands (Inside (opened child h.2) (opened name h.1 ∷ above)) h.3 in
-      let later = stands (Inside (opened name h.1) above) h.4 in (
+      let begun = stands (Inside (opened child c.there) (opened name h.next ∷ above)) c.within in
+      let later = stands (Inside (opened name h.next) above) h.middle in
+      let own = attribute_events attributes in
+      let inner = events_of children ++ (EndElement ∷ []) in
+      let outer = events_of more ++ (EndElement ∷ []) in
+      let whole : c.front ++ (c.inside ++ h.rest) ≡ h.inside ++ h.rest = sym (append_assoc c.front c.inside h.rest) ∙ ap (λ (l : List Bool). l ++ h.rest) (sym c.bits_are) in (
         inside,
-        h.5,
-        h.6 ++ (h.7 ++ h.8),
-        (h.0, h.1, h.9, refl),
-        subst (λ (l : List Event). Runs V s inside l (h.6 ++ (h.7 ++ h.8)) new) (sym (regroup (attribute_events attributes) (events_of children) (events_of more) (EndElement ∷ []) EndElement))
-            (runs_both inside begun new (attribute_events attributes) ((events_of children ++ (EndElement ∷ [])) ++ (events_of more ++ (EndElement ∷ []))) h.6 (h.7 ++ h.8)
-            (attributes_run child (opened name h.1 ∷ above) (first h.0) h.2 entries h.3 attributes h.6 h.10)
-            (runs_both begun later new (events_of children ++ (EndElement ∷ [])) (events_of more ++ (EndElement ∷ [])) h.7 h.8
-            (trees_run child (opened name h.1 ∷ above) h.2 h.3 h.4 children h.7 h.11)
-            (trees_run name above h.1 h.4 after more h.8 h.12))),
-        h.13,
+        h.code,
+        h.inside ++ h.rest,
+        record { kind = h.kind; next = h.next; starts = h.starts; leads = refl },
+        subst (λ (l : List Event). Runs V s inside l (h.inside ++ h.rest) new) (sym (regroup own (events_of children) (events_of more) (EndElement ∷ []) EndElement))
+            (subst (λ (l : List Bool). Runs V s inside (own ++ (inner ++ outer)) l new) whole
+            (runs_both inside begun new own (inner ++ outer) c.front (c.inside ++ h.rest)
+            (attributes_run child (opened name h.next ∷ above) (first h.kind) c.there entries c.within attributes c.front c.begun)
+            (runs_both begun later new inner outer c.inside h.rest
+            (trees_run child (opened name h.next ∷ above) c.there c.within h.middle children c.inside c.ended)
+            (trees_run name above h.next h.middle after more h.rest h.behind)))),
+        h.bits_are,
       )
 
   -- the header and the number, and the root's start
@@ -140,19 +169,19 @@ module _ (V : Speller) (s : PlainSchema) where
   pub document_runs : (number : ℕ) (tree : Tree) (bits : List Bool) (d : SpellsDocument V s number tree bits) → Runs V s start (document_events number tree) bits (stands Behind d.after)
   document_runs number (Simple name value) bits d =
       root_runs number name d.kind (Content value ∷ EndElement ∷ []) bits d.front d.inside (stands Behind d.after)
-      (name, d.kind, d.front, d.named, d.numbered, refl, refl) (simple_runs name d.kind [] [] d.after value d.inside d.spelled) d.bits_are
+      (record { name = name; kind = d.kind; front = d.front; named = d.named; numbered = d.numbered; bits_are = refl; leads = refl }) (simple_runs name d.kind [] [] d.after value d.inside d.spelled) d.bits_are
   document_runs number (Complex name attributes children) bits d =
       let h = d.spelled in
       let inside = stands (Inside (opened name (first d.kind)) []) [] in
-      let begun = stands (Inside (opened name h.0) []) h.1 in
+      let begun = stands (Inside (opened name h.there) []) h.within in
       let new = stands Behind d.after in
       root_runs number name d.kind ((attribute_events attributes ++ events_of children) ++ (EndElement ∷ [])) bits d.front d.inside new
-      (name, d.kind, d.front, d.named, d.numbered, refl, refl)
+      (record { name = name; kind = d.kind; front = d.front; named = d.named; numbered = d.numbered; bits_are = refl; leads = refl })
       (subst (λ (l : List Event). Runs V s inside l d.inside new) (sym (append_assoc (attribute_events attributes) (events_of children) (EndElement ∷ [])))
-      (subst (λ (l : List Bool). Runs V s inside (attribute_events attributes ++ (events_of children ++ (EndElement ∷ []))) l new) (sym h.6)
-      (runs_both inside begun new (attribute_events attributes) (events_of children ++ (EndElement ∷ [])) h.2 h.3
-      (attributes_run name [] (first d.kind) h.0 [] h.1 attributes h.2 h.4)
-      (trees_run name [] h.0 h.1 d.after children h.3 h.5)))) d.bits_are
+      (subst (λ (l : List Bool). Runs V s inside (attribute_events attributes ++ (events_of children ++ (EndElement ∷ []))) l new) (sym h.bits_are)
+      (runs_both inside begun new (attribute_events attributes) (events_of children ++ (EndElement ∷ [])) h.front h.inside
+      (attributes_run name [] (first d.kind) h.there [] h.within attributes h.front h.begun)
+      (trees_run name [] h.there h.within d.after children h.inside h.ended)))) d.bits_are
 
   -- a document tells its events
   pub document_tells : (number : ℕ) (tree : Tree) (bits : List Bool) → SpellsDocument V s number tree bits → IsToldBy V s number tree bits

@@ -22,17 +22,17 @@ module _ (V : Speller) (s : PlainSchema) where
 
   -- one clause for each event that may come
   kept_at : (standing : Standing) (entries : Entries) (new : State) (event : Event) (bits : List Bool) → IsStanding s standing → Moves V s (stands standing entries) event bits new → IsStanding s new.standing
-  kept_at Before entries new (Document number) bits is m = stands_at new _ m.6 (root_kind s number m.0 m.1 m.3)
+  kept_at Before entries new (Document number) bits is m = stands_at new _ m.leads (root_kind s number m.name m.kind m.named)
   kept_at (AtRoot root kind) entries new (Start name) bits is m = stands_at new _ m.2 (first_place s kind is, tt)
   kept_at (Inside top above) entries new (Start name) bits is m =
-      let fits = step_fits s top.place m.2.code (element name m.0 m.1) is.0 m.2.offered in
-      stands_at new _ m.3 (first_place s m.0 fits.1, (fits.2, is.1))
+      let fits = step_fits s top.place m.starts.code (element name m.kind m.next) is.0 m.starts.offered in
+      stands_at new _ m.leads (first_place s m.kind fits.1, (fits.2, is.1))
   kept_at (Inside top above) entries new (Attribute name value) bits is m =
-      let fits = step_fits s top.place m.6.code (step.Attribute name m.0 m.1) is.0 m.6.offered in
-      stands_at new _ m.10 (fits.3, is.1)
+      let fits = step_fits s top.place m.starts.code (step.Attribute name m.kind m.next) is.0 m.starts.offered in
+      stands_at new _ m.leads (fits.3, is.1)
   kept_at (Inside top above) entries new (Content value) bits is m =
-      let fits = step_fits s top.place m.5.code (step.Characters m.0) is.0 m.5.offered in
-      stands_at new _ m.9 (fits.1, is.1)
+      let fits = step_fits s top.place m.starts.code (step.Characters m.next) is.0 m.starts.offered in
+      stands_at new _ m.leads (fits.1, is.1)
   kept_at (Inside top above) entries new EndElement bits is m = stands_at new _ m.1 (around_stands above is.1)
   kept_at standing entries new event bits is m = absurd m
 

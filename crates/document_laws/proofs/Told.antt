@@ -89,7 +89,7 @@ module _ (V : Speller) (s : PlainSchema) where
   no_attributes : (here there : Place) (entries within : Entries) (attributes : List (ℕ × Value)) (front : List Bool) → HasNoAttribute s.kinds here → SpellsAttributes V s.kinds here entries attributes front there within →
       (attributes ≡ []) × (front ≡ []) × (there ≡ here) × (within ≡ entries)
   no_attributes here there entries within [] front lacks h = (refl, h.0, h.1, h.2)
-  no_attributes here there entries within (attribute ∷ attributes) front lacks h = absurd (lacks h.7.code attribute.0 h.0 h.1 h.7.offered)
+  no_attributes here there entries within (attribute ∷ attributes) front lacks h = absurd (lacks h.starts.code attribute.0 h.kind h.next h.starts.offered)
 
   elements_from : (here : Place) (entries after : Entries) (events : List Event) (bits : List Bool) → HasNoAttribute s.kinds here → Complexly here entries events bits after → Elements here entries events bits after
   elements_from here entries after events bits lacks h =
@@ -133,7 +133,19 @@ module _ (V : Speller) (s : PlainSchema) where
   with_child here next name kind entries middle after code mine others own later step (inl h) more =
       record {
         children = simple name h.value more.children;
-        ended = (kind, next, middle, code, mine, others, step, record { datatype = h.datatype; is_simple = h.is_simple; inside = h.inside; spelled = h.spelled; bits_are = h.bits_are }, more.ended, refl);
+        ended =
+            record {
+              kind = kind;
+              next = next;
+              middle = middle;
+              code = code;
+              inside = mine;
+              rest = others;
+              starts = step;
+              spelled = record { datatype = h.datatype; is_simple = h.is_simple; inside = h.inside; spelled = h.spelled; bits_are = h.bits_are };
+              behind = more.ended;
+              bits_are = refl;
+            };
         events_are =
             ap (λ (l : List Event). Start name ∷ (l ++ later)) h.events_are
             ∙ ap (λ (l : List Event). Start name ∷ Content h.value ∷ EndElement ∷ l) more.events_are;
@@ -143,22 +155,19 @@ module _ (V : Speller) (s : PlainSchema) where
       let c = events_of h.children in
       record {
         children = complex name h.attributes h.children more.children;
-        ended = (
-          kind,
-          next,
-          h.there,
-          h.within,
-          middle,
-          code,
-          h.front,
-          h.inside,
-          others,
-          step,
-          h.begun,
-          h.ended,
-          more.ended,
-          ap (λ (l : List Bool). code ++ l) (ap (λ (l : List Bool). l ++ others) h.bits_are ∙ append_assoc h.front h.inside others),
-        );
+        ended =
+            record {
+              kind = kind;
+              next = next;
+              middle = middle;
+              code = code;
+              inside = mine;
+              rest = others;
+              starts = step;
+              spelled = record { there = h.there; within = h.within; front = h.front; inside = h.inside; begun = h.begun; ended = h.ended; bits_are = h.bits_are };
+              behind = more.ended;
+              bits_are = refl;
+            };
         events_are =
             ap (λ (l : List Event). Start name ∷ (l ++ later)) h.events_are
             ∙ ap (λ (l : List Event). Start name ∷ ((a ++ (c ++ (EndElement ∷ []))) ++ l)) more.events_are
@@ -180,7 +189,21 @@ module _ (V : Speller) (s : PlainSchema) where
         within = h.within;
         front = code ++ (word ++ h.front);
         inside = h.inside;
-        begun = (kind, next, datatype, middle, code, word, h.front, step, is_simple, spelled, h.begun, refl);
+        begun =
+            record {
+              kind = kind;
+              next = next;
+              datatype = datatype;
+              middle = middle;
+              code = code;
+              inside = word;
+              rest = h.front;
+              starts = step;
+              is_simple = is_simple;
+              spelled = spelled;
+              behind = h.begun;
+              bits_are = refl;
+            };
         ended = h.ended;
         bits_are =
             ap (λ (l : List Bool). (code ++ word) ++ l) h.bits_are ∙ append_assoc code word (h.front ++ h.inside)
@@ -198,8 +221,8 @@ module _ (V : Speller) (s : PlainSchema) where
 
       go : (trees : Trees) → SpellsTrees V s.kinds here entries trees bits after → events ≡ events_of trees ++ (EndElement ∷ []) → (events ≡ EndElement ∷ []) × (bits ≡ number_bits 1 0) × (after ≡ entries)
       go none t e = (e, (one_taken s.kinds here step.End step.End bits only t.0).1, t.1)
-      go (simple name value more) t e = absurd (other (element name t.0 t.1) t.3 (λ wrong. cc) t.6)
-      go (complex name attributes children more) t e = absurd (other (element name t.0 t.1) t.5 (λ wrong. cc) t.9)
+      go (simple name value more) t e = absurd (other (element name t.kind t.next) t.code (λ wrong. cc) t.starts)
+      go (complex name attributes children more) t e = absurd (other (element name t.kind t.next) t.code (λ wrong. cc) t.starts)
 
   no_end_attribute : (here : Place) → offers s.kinds here ≡ step.End ∷ [] → HasNoAttribute s.kinds here
   no_end_attribute here only code name kind next h =
@@ -219,11 +242,11 @@ module _ (V : Speller) (s : PlainSchema) where
   closes (suc n) name here above entries (Document number ∷ events) bits new few behind r = absurd r.3
   closes (suc n) name here above entries (Start child ∷ events) bits new few behind r =
       let m = r.3 in
-      let next = m.1 in
-      let inner = closes n child (first m.0) (opened name next ∷ above) entries events r.2 new (omega (arith, few)) behind (subst (λ (state : State). Runs V s state events r.2 new) m.3 r.4) in
+      let next = m.next in
+      let inner = closes n child (first m.kind) (opened name next ∷ above) entries events r.2 new (omega (arith, few)) behind (subst (λ (state : State). Runs V s state events r.2 new) m.leads r.4) in
       let less : length inner.later ≤ n = omega (arith, few, ap length inner.events_are, length-append inner.own inner.later) in
       let outer = closes n name next above inner.after inner.later inner.others new less behind inner.going in
-      let lacks = behind_element s.kinds here next child m.0 r.1 m.2 in
+      let lacks = behind_element s.kinds here next child m.kind r.1 m.starts in
       let more = elements_from next inner.after outer.after outer.own outer.mine lacks.0 (complexly_only name next inner.after outer.after outer.own outer.mine lacks.1 outer.rest) in
       record {
         own = Start child ∷ (inner.own ++ outer.own);
@@ -231,7 +254,7 @@ module _ (V : Speller) (s : PlainSchema) where
         mine = r.1 ++ (inner.mine ++ outer.mine);
         others = outer.others;
         after = outer.after;
-        rest = inr (plainly here entries outer.after (Start child ∷ (inner.own ++ outer.own)) (r.1 ++ (inner.mine ++ outer.mine)) (with_child here next child m.0 entries inner.after outer.after r.1 inner.mine outer.mine inner.own outer.own m.2 inner.rest more));
+        rest = inr (plainly here entries outer.after (Start child ∷ (inner.own ++ outer.own)) (r.1 ++ (inner.mine ++ outer.mine)) (with_child here next child m.kind entries inner.after outer.after r.1 inner.mine outer.mine inner.own outer.own m.starts inner.rest more));
         going = outer.going;
         events_are = ap (λ (l : List Event). Start child ∷ l) (inner.events_are ∙ ap (λ (l : List Event). inner.own ++ l) outer.events_are ∙ sym (append_assoc inner.own outer.own outer.later));
         bits_are =
@@ -240,50 +263,50 @@ module _ (V : Speller) (s : PlainSchema) where
       }
   closes (suc n) name here above entries (Attribute child value ∷ events) bits new few behind r =
       let m = r.3 in
-      let next = m.1 in
-      let outer = closes n name next above m.3 events r.2 new (omega (arith, few)) behind (subst (λ (state : State). Runs V s state events r.2 new) m.10 r.4) in
-      let more = complexly_only name next m.3 outer.after outer.own outer.mine (behind_attribute s.kinds here next child m.0 m.4 m.6) outer.rest in
+      let next = m.next in
+      let outer = closes n name next above m.after events r.2 new (omega (arith, few)) behind (subst (λ (state : State). Runs V s state events r.2 new) m.leads r.4) in
+      let more = complexly_only name next m.after outer.after outer.own outer.mine (behind_attribute s.kinds here next child m.kind m.code m.starts) outer.rest in
       record {
         own = Attribute child value ∷ outer.own;
         later = outer.later;
-        mine = (m.4 ++ m.5) ++ outer.mine;
+        mine = (m.code ++ m.inside) ++ outer.mine;
         others = outer.others;
         after = outer.after;
-        rest = inr (with_attribute here next child m.0 value m.2 entries m.3 outer.after m.4 m.5 outer.mine outer.own m.6 m.7 m.8 more);
+        rest = inr (with_attribute here next child m.kind value m.datatype entries m.after outer.after m.code m.inside outer.mine outer.own m.starts m.is_simple m.spelled more);
         going = outer.going;
         events_are = ap (λ (l : List Event). Attribute child value ∷ l) outer.events_are;
         bits_are =
-            r.5 ∙ ap (λ (l : List Bool). l ++ r.2) m.9 ∙ ap (λ (l : List Bool). (m.4 ++ m.5) ++ l) outer.bits_are ∙ sym (append_assoc (m.4 ++ m.5) outer.mine outer.others);
+            r.5 ∙ ap (λ (l : List Bool). l ++ r.2) m.bits_are ∙ ap (λ (l : List Bool). (m.code ++ m.inside) ++ l) outer.bits_are ∙ sym (append_assoc (m.code ++ m.inside) outer.mine outer.others);
       }
   closes (suc n) name here above entries (Content value ∷ events) bits new few behind r =
       let m = r.3 in
-      let next = m.0 in
-      let outer = closes n name next above m.2 events r.2 new (omega (arith, few)) behind (subst (λ (state : State). Runs V s state events r.2 new) m.9 r.4) in
-      let only = behind_characters s.kinds here next m.1 m.3 m.6 m.5 in
-      let ended = end_only_of name next m.2 outer.after outer.own outer.mine only.1 outer.rest in
-      let one : m.3 ≡ number_bits 1 0 = (one_taken s.kinds here (step.Characters next) (step.Characters next) m.3 only.0 m.5).1 in
+      let next = m.next in
+      let outer = closes n name next above m.after events r.2 new (omega (arith, few)) behind (subst (λ (state : State). Runs V s state events r.2 new) m.leads r.4) in
+      let only = behind_characters s.kinds here next m.datatype m.code m.is_simple m.starts in
+      let ended = end_only_of name next m.after outer.after outer.own outer.mine only.1 outer.rest in
+      let one : m.code ≡ number_bits 1 0 = (one_taken s.kinds here (step.Characters next) (step.Characters next) m.code only.0 m.starts).1 in
       record {
         own = Content value ∷ outer.own;
         later = outer.later;
-        mine = (m.3 ++ m.4) ++ outer.mine;
+        mine = (m.code ++ m.inside) ++ outer.mine;
         others = outer.others;
         after = outer.after;
         rest = inl record {
           value = value;
-          datatype = m.1;
-          inside = m.4;
+          datatype = m.datatype;
+          inside = m.inside;
           next = next;
           offered = only.0;
-          is_simple = m.6;
-          spelled = subst (λ (es : Entries). V m.1 entries name value m.4 es) (sym ended.2) m.7;
+          is_simple = m.is_simple;
+          spelled = subst (λ (es : Entries). V m.datatype entries name value m.inside es) (sym ended.2) m.spelled;
           bits_are =
-              append_assoc m.3 m.4 outer.mine ∙ ap (λ (l : List Bool). l ++ (m.4 ++ outer.mine)) one ∙ ap (λ (l : List Bool). number_bits 1 0 ++ (m.4 ++ l)) ended.1;
+              append_assoc m.code m.inside outer.mine ∙ ap (λ (l : List Bool). l ++ (m.inside ++ outer.mine)) one ∙ ap (λ (l : List Bool). number_bits 1 0 ++ (m.inside ++ l)) ended.1;
           events_are = ap (λ (l : List Event). Content value ∷ l) ended.0;
         };
         going = outer.going;
         events_are = ap (λ (l : List Event). Content value ∷ l) outer.events_are;
         bits_are =
-            r.5 ∙ ap (λ (l : List Bool). l ++ r.2) m.8 ∙ ap (λ (l : List Bool). (m.3 ++ m.4) ++ l) outer.bits_are ∙ sym (append_assoc (m.3 ++ m.4) outer.mine outer.others);
+            r.5 ∙ ap (λ (l : List Bool). l ++ r.2) m.bits_are ∙ ap (λ (l : List Bool). (m.code ++ m.inside) ++ l) outer.bits_are ∙ sym (append_assoc (m.code ++ m.inside) outer.mine outer.others);
       }
   closes (suc n) name here above entries (EndElement ∷ events) bits new few behind r =
       let m = r.3 in
@@ -346,7 +369,7 @@ module _ (V : Speller) (s : PlainSchema) where
       after = after;
       named = named;
       numbered = numbered;
-      spelled = (h.there, h.within, h.front, h.inside, h.begun, h.ended, h.bits_are);
+      spelled = record { there = h.there; within = h.within; front = h.front; inside = h.inside; begun = h.begun; ended = h.ended; bits_are = h.bits_are };
       bits_are = are;
     },
   )
@@ -378,8 +401,8 @@ module _ (V : Speller) (s : PlainSchema) where
   run_told entries (EndElement ∷ events) bits r = absurd r.3
   run_told entries (Document number ∷ events) bits r =
       let m = r.3 in
-      at_root number m.0 m.1 entries events m.2 r.2 bits m.3 m.4 (subst (λ (state : State). Runs V s state events r.2 (stands Behind entries)) m.6 r.4)
-      (r.5 ∙ ap (λ (l : List Bool). l ++ r.2) m.5 ∙ append_assoc header m.2 r.2)
+      at_root number m.name m.kind entries events m.front r.2 bits m.named m.numbered (subst (λ (state : State). Runs V s state events r.2 (stands Behind entries)) m.leads r.4)
+      (r.5 ∙ ap (λ (l : List Bool). l ++ r.2) m.bits_are ∙ append_assoc header m.front r.2)
 
   -- events up to the end of the root tell a document
   pub events_told : (events : List Event) (bits : List Bool) (entries : Entries) → Reaches V s events bits (stands Behind entries) → TellsOf V s events bits

@@ -1,12 +1,11 @@
 -- Own: what makes the events, the tree and the refusal of a payload one.
-use Rattle.std.specs.Prelude.{◌≡◌, ℕ, ◌^◌, ◌<◌, ◌≤◌, ◌⊎◌, Bool, true, List, ◌++◌, length, reverse, FitsSigned, Some}
+use Rattle.std.specs.Prelude.{◌≡◌, ℕ, ◌^◌, ◌<◌, ◌≤◌, ◌⊎◌, Bool, true, List, ◌++◌, length, reverse, FitsSigned}
 use Rattle.std.specs.Int.{w64}
 use Rattle.std.specs.List.{AllByRecursion}
 use Rattle.exi_spec.specs.Laws.{IsExact}
 use Rattle.exi_schema.specs.declared.tables.Datatype.{Datatype}
 use Rattle.exi_schema.specs.declared.tables.Datatype.TheVariants.{Bool as BoolType, Named, Bounded, Unsigned, Signed, Binary, Text}
 use Rattle.exi_schema.specs.Plain.{PlainKind}
-use Rattle.exi_schema.specs.Steps.{simple_at}
 use Rattle.exi_schema.specs.Schemas.{PlainSchema, attribute_names, element_names, are_distinct}
 use Rattle.exi_schema.specs.declared.places.Place.{Place}
 use Rattle.exi_schema.specs.Offers.{offers, IsPlace}

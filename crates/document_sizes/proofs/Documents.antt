@@ -29,31 +29,32 @@ module _ (w : ℕ) (kinds : List PlainKind) (narrow : list_all (is_narrow w) kin
   attributes_small : (here there : Place) (entries after : Entries) (attributes : List (ℕ × Value)) (bits : List Bool) → SpellsAttributes WritesValue kinds here entries attributes bits there after → length bits ≤ attributes_weight w attributes
   attributes_small here there entries after [] bits h = omega (arith, ap length h.0)
   attributes_small here there entries after (attribute ∷ attributes) bits h =
-      let code = step_short w kinds narrow here (Attribute attribute.0 h.0 h.1) h.4 (some_power w) h.7 in
-      let own = value_small w h.2 entries attribute.0 attribute.1 h.5 h.3 (datatype_narrow w kinds narrow h.0 h.2 h.8) h.9 in
-      let more = attributes_small h.1 there h.3 after attributes h.6 h.10 in
-      omega (arith, code, own, more, ap length h.11, length-append h.4 (h.5 ++ h.6), length-append h.5 h.6)
+      let code = step_short w kinds narrow here (Attribute attribute.0 h.kind h.next) h.code (some_power w) h.starts in
+      let own = value_small w h.datatype entries attribute.0 attribute.1 h.inside h.middle (datatype_narrow w kinds narrow h.kind h.datatype h.is_simple) h.spelled in
+      let more = attributes_small h.next there h.middle after attributes h.rest h.behind in
+      omega (arith, code, own, more, ap length h.bits_are, length-append h.code (h.inside ++ h.rest), length-append h.inside h.rest)
 
   trees_small : (here : Place) (entries after : Entries) (trees : Trees) (bits : List Bool) → SpellsTrees WritesValue kinds here entries trees bits after → length bits ≤ trees_weight w trees
   trees_small here entries after none bits h = step_short w kinds narrow here End bits (some_power w) h.0
   trees_small here entries after (simple name value more) bits h =
-      let code = step_short w kinds narrow here (element name h.0 h.1) h.3 (some_power w) h.6 in
-      let own = simple_small h.0 name entries h.2 value h.4 h.7 in
-      let later = trees_small h.1 h.2 after more h.5 h.8 in
-      omega (arith, code, own, later, ap length h.9, length-append h.3 (h.4 ++ h.5), length-append h.4 h.5)
+      let code = step_short w kinds narrow here (element name h.kind h.next) h.code (some_power w) h.starts in
+      let own = simple_small h.kind name entries h.middle value h.inside h.spelled in
+      let later = trees_small h.next h.middle after more h.rest h.behind in
+      omega (arith, code, own, later, ap length h.bits_are, length-append h.code (h.inside ++ h.rest), length-append h.inside h.rest)
   trees_small here entries after (complex name attributes children more) bits h =
-      let code = step_short w kinds narrow here (element name h.0 h.1) h.5 (some_power w) h.9 in
-      let front = attributes_small (first h.0) h.2 entries h.3 attributes h.6 h.10 in
-      let inside = trees_small h.2 h.3 h.4 children h.7 h.11 in
-      let later = trees_small h.1 h.4 after more h.8 h.12 in
-      omega (arith, code, front, inside, later, ap length h.13, length-append h.5 (h.6 ++ (h.7 ++ h.8)), length-append h.6 (h.7 ++ h.8), length-append h.7 h.8)
+      let c = h.spelled in
+      let code = step_short w kinds narrow here (element name h.kind h.next) h.code (some_power w) h.starts in
+      let front = attributes_small (first h.kind) c.there entries c.within attributes c.front c.begun in
+      let inside = trees_small c.there c.within h.middle children c.inside c.ended in
+      let later = trees_small h.next h.middle after more h.rest h.behind in
+      omega (arith, code, front, inside, later, ap length h.bits_are, ap length c.bits_are, length-append h.code (h.inside ++ h.rest), length-append h.inside h.rest, length-append c.front c.inside)
 
   tree_small : (kind : ℕ) (after : Entries) (tree : Tree) (bits : List Bool) → SpellsTree WritesValue kinds kind [] tree bits after → length bits ≤ tree_weight w tree
   tree_small kind after (Simple name value) bits h = simple_small kind name [] after value bits h
   tree_small kind after (Complex name attributes children) bits h =
-      let front = attributes_small (first kind) h.0 [] h.1 attributes h.2 h.4 in
-      let inside = trees_small h.0 h.1 after children h.3 h.5 in
-      omega (arith, front, inside, ap length h.6, length-append h.2 h.3)
+      let front = attributes_small (first kind) h.there [] h.within attributes h.front h.begun in
+      let inside = trees_small h.there h.within after children h.inside h.ended in
+      omega (arith, front, inside, ap length h.bits_are, length-append h.front h.inside)
 
 pub document_small : (w : ℕ) (s : PlainSchema) (number : ℕ) (tree : Tree) (bits : List Bool) → has_narrow_codes w s ≡ true → SpellsDocument WritesValue s number tree bits → length bits ≤ document_weight w s tree
 document_small w s number tree bits narrow d =

@@ -44,43 +44,69 @@ pub record SpellsSimple (V : Speller) (kinds : List PlainKind) (kind : ℕ) (ent
   pub spelled : V datatype entries name value inside after
   pub bits_are : bits ≡ number_bits 1 0 ++ (inside ++ number_bits 1 0)
 
+-- an attribute, and what stands behind it
+pub record SpellsAttribute (V : Speller) (kinds : List PlainKind) (here : Place) (entries : Entries) (name : ℕ) (value : Value) (Behind : Place → Entries → List Bool → Type 0) (bits : List Bool) : Type 0 where
+  pub kind : ℕ
+  pub next : Place
+  pub datatype : Datatype
+  pub middle : Entries
+  pub code : List Bool
+  pub inside : List Bool
+  pub rest : List Bool
+  pub starts : SpellsStep kinds here (Attribute name kind next) code
+  pub is_simple : simple_at kinds kind ≡ Some datatype
+  pub spelled : V datatype entries name value inside middle
+  pub behind : Behind next middle rest
+  pub bits_are : bits ≡ code ++ (inside ++ rest)
+
 -- attributes from a place on, and the place behind them
 abbrev pub SpellsAttributes : Speller → List PlainKind → Place → Entries → List (ℕ × Value) → List Bool → Place → Entries → Type 0
 SpellsAttributes V kinds here entries [] bits there after = (bits ≡ []) × (there ≡ here) × (after ≡ entries)
 SpellsAttributes V kinds here entries (attribute ∷ attributes) bits there after =
-    (kind : ℕ) × (next : Place) × (datatype : Datatype) × (middle : Entries) × (code : List Bool) × (value : List Bool) × (rest : List Bool)
-    × SpellsStep kinds here (Attribute attribute.0 kind next) code
-    × (simple_at kinds kind ≡ Some datatype)
-    × V datatype entries attribute.0 attribute.1 value middle
-    × SpellsAttributes V kinds next middle attributes rest there after
-    × (bits ≡ code ++ (value ++ rest))
+    SpellsAttribute V kinds here entries attribute.0 attribute.1 (λ next middle rest. SpellsAttributes V kinds next middle attributes rest there after) bits
+
+-- behind the code that starts it, an element of a complex kind: its attributes, then its children and its end
+pub record SpellsComplex (V : Speller) (kinds : List PlainKind) (kind : ℕ) (entries : Entries) (attributes : List (ℕ × Value)) (Children : Place → Entries → List Bool → Type 0) (bits : List Bool) : Type 0 where
+  pub there : Place
+  pub within : Entries
+  pub front : List Bool
+  pub inside : List Bool
+  pub begun : SpellsAttributes V kinds (first kind) entries attributes front there within
+  pub ended : Children there within inside
+  pub bits_are : bits ≡ front ++ inside
+
+-- an element of some kind: the code that starts it, what is inside, and what stands behind its end
+pub record SpellsElement (kinds : List PlainKind) (here : Place) (name : ℕ) (Inside : ℕ → List Bool → Entries → Type 0) (Behind : Place → Entries → List Bool → Type 0) (bits : List Bool) : Type 0 where
+  pub kind : ℕ
+  pub next : Place
+  pub middle : Entries
+  pub code : List Bool
+  pub inside : List Bool
+  pub rest : List Bool
+  pub starts : SpellsStep kinds here (element name kind next) code
+  pub spelled : Inside kind inside middle
+  pub behind : Behind next middle rest
+  pub bits_are : bits ≡ code ++ (inside ++ rest)
 
 -- the elements from a place on, and the end of the element that they stand in
 abbrev pub SpellsTrees : Speller → List PlainKind → Place → Entries → Trees → List Bool → Entries → Type 0
 SpellsTrees V kinds here entries none bits after = SpellsStep kinds here End bits × (after ≡ entries)
 SpellsTrees V kinds here entries (simple name value more) bits after =
-    (kind : ℕ) × (next : Place) × (middle : Entries) × (code : List Bool) × (inside : List Bool) × (rest : List Bool)
-    × SpellsStep kinds here (element name kind next) code
-    × SpellsSimple V kinds kind entries name value inside middle
-    × SpellsTrees V kinds next middle more rest after
-    × (bits ≡ code ++ (inside ++ rest))
+    SpellsElement kinds here name
+    (λ kind inside middle. SpellsSimple V kinds kind entries name value inside middle)
+    (λ next middle rest. SpellsTrees V kinds next middle more rest after)
+    bits
 SpellsTrees V kinds here entries (complex name attributes children more) bits after =
-    (kind : ℕ) × (next : Place) × (there : Place) × (within : Entries) × (middle : Entries)
-    × (code : List Bool) × (front : List Bool) × (inside : List Bool) × (rest : List Bool)
-    × SpellsStep kinds here (element name kind next) code
-    × SpellsAttributes V kinds (first kind) entries attributes front there within
-    × SpellsTrees V kinds there within children inside middle
-    × SpellsTrees V kinds next middle more rest after
-    × (bits ≡ code ++ (front ++ (inside ++ rest)))
+    SpellsElement kinds here name
+    (λ kind inside middle. SpellsComplex V kinds kind entries attributes (λ there within bits. SpellsTrees V kinds there within children bits middle) inside)
+    (λ next middle rest. SpellsTrees V kinds next middle more rest after)
+    bits
 
 -- the root: an element of its kind
 abbrev pub SpellsTree : Speller → List PlainKind → ℕ → Entries → Tree → List Bool → Entries → Type 0
 SpellsTree V kinds kind entries (Simple name value) bits after = SpellsSimple V kinds kind entries name value bits after
 SpellsTree V kinds kind entries (Complex name attributes children) bits after =
-    (there : Place) × (within : Entries) × (front : List Bool) × (inside : List Bool)
-    × SpellsAttributes V kinds (first kind) entries attributes front there within
-    × SpellsTrees V kinds there within children inside after
-    × (bits ≡ front ++ inside)
+    SpellsComplex V kinds kind entries attributes (λ there within inside. SpellsTrees V kinds there within children inside after) bits
 
 abbrev pub name_of : Tree → ℕ
 name_of (Simple name value) = name

@@ -43,38 +43,48 @@ abbrev pub stands : Standing → Entries → State
 stands standing entries = record { standing = standing; entries = entries }
 
 -- the header and the number of a root
-abbrev pub OpensDocument : PlainSchema → ℕ → List Bool → Entries → State → Type 0
-OpensDocument s number bits entries new =
-    (name : ℕ) × (kind : ℕ) × (front : List Bool)
-    × IsRoot s.roots s.root_bits number (Kind name kind)
-    × SpellsNumber s.root_bits number front
-    × (bits ≡ header ++ front)
-    × (new ≡ stands (AtRoot name kind) entries)
+pub record OpensDocument (s : PlainSchema) (number : ℕ) (bits : List Bool) (entries : Entries) (new : State) : Type 0 where
+  pub name : ℕ
+  pub kind : ℕ
+  pub front : List Bool
+  pub named : IsRoot s.roots s.root_bits number (Kind name kind)
+  pub numbered : SpellsNumber s.root_bits number front
+  pub bits_are : bits ≡ header ++ front
+  pub leads : new ≡ stands (AtRoot name kind) entries
 
 -- an element that is offered; the place behind it stands in the one around it
-abbrev pub OpensElement : PlainSchema → Opened → List Opened → Entries → ℕ → List Bool → State → Type 0
-OpensElement s top above entries name bits new =
-    (kind : ℕ) × (next : Place)
-    × SpellsStep s.kinds top.place (element name kind next) bits
-    × (new ≡ stands (Inside (opened name (first kind)) (opened top.name next ∷ above)) entries)
+pub record OpensElement (s : PlainSchema) (top : Opened) (above : List Opened) (entries : Entries) (name : ℕ) (bits : List Bool) (new : State) : Type 0 where
+  pub kind : ℕ
+  pub next : Place
+  pub starts : SpellsStep s.kinds top.place (element name kind next) bits
+  pub leads : new ≡ stands (Inside (opened name (first kind)) (opened top.name next ∷ above)) entries
 
-abbrev pub TakesAttribute : Speller → PlainSchema → Opened → List Opened → Entries → ℕ → Value → List Bool → State → Type 0
-TakesAttribute V s top above entries name value bits new =
-    (kind : ℕ) × (next : Place) × (datatype : Datatype) × (after : Entries) × (code : List Bool) × (rest : List Bool)
-    × SpellsStep s.kinds top.place (step.Attribute name kind next) code
-    × (simple_at s.kinds kind ≡ Some datatype)
-    × V datatype entries name value rest after
-    × (bits ≡ code ++ rest)
-    × (new ≡ stands (Inside (opened top.name next) above) after)
+-- an attribute that is offered, and its value
+pub record TakesAttribute (V : Speller) (s : PlainSchema) (top : Opened) (above : List Opened) (entries : Entries) (name : ℕ) (value : Value) (bits : List Bool) (new : State) : Type 0 where
+  pub kind : ℕ
+  pub next : Place
+  pub datatype : Datatype
+  pub after : Entries
+  pub code : List Bool
+  pub inside : List Bool
+  pub starts : SpellsStep s.kinds top.place (step.Attribute name kind next) code
+  pub is_simple : simple_at s.kinds kind ≡ Some datatype
+  pub spelled : V datatype entries name value inside after
+  pub bits_are : bits ≡ code ++ inside
+  pub leads : new ≡ stands (Inside (opened top.name next) above) after
 
-abbrev pub TakesContent : Speller → PlainSchema → Opened → List Opened → Entries → Value → List Bool → State → Type 0
-TakesContent V s top above entries value bits new =
-    (next : Place) × (datatype : Datatype) × (after : Entries) × (code : List Bool) × (rest : List Bool)
-    × SpellsStep s.kinds top.place (step.Characters next) code
-    × (simple_at s.kinds top.place.kind ≡ Some datatype)
-    × V datatype entries top.name value rest after
-    × (bits ≡ code ++ rest)
-    × (new ≡ stands (Inside (opened top.name next) above) after)
+-- the value of an element, where one is offered
+pub record TakesContent (V : Speller) (s : PlainSchema) (top : Opened) (above : List Opened) (entries : Entries) (value : Value) (bits : List Bool) (new : State) : Type 0 where
+  pub next : Place
+  pub datatype : Datatype
+  pub after : Entries
+  pub code : List Bool
+  pub inside : List Bool
+  pub starts : SpellsStep s.kinds top.place (step.Characters next) code
+  pub is_simple : simple_at s.kinds top.place.kind ≡ Some datatype
+  pub spelled : V datatype entries top.name value inside after
+  pub bits_are : bits ≡ code ++ inside
+  pub leads : new ≡ stands (Inside (opened top.name next) above) after
 
 abbrev pub ClosesElement : PlainSchema → Opened → List Opened → Entries → List Bool → State → Type 0
 ClosesElement s top above entries bits new =

@@ -1,5 +1,5 @@
 -- The datatype of a simple kind is one.
-use Rattle.std.proofs.Common.{◌≡◌, ℕ, true, length, map, Option, Some, None, refl, subst, sym}
+use Rattle.std.proofs.Common.{◌≡◌, ℕ, true, length, Option, Some, None, refl, subst, sym}
 use Rattle.std.specs.Prelude.{slice_get}
 use Rattle.exi_schema.specs.Schemas.{PlainSchema, is_datatype}
 use Rattle.exi_schema.specs.declared.tables.Datatype.{Datatype}

@@ -70,7 +70,20 @@ attribute_took s old middle new elements moved top entries after name kind next 
       (
         Attribute name (value_of v),
         refl,
-        rw has.1 (rw (goes (opened_of top) has.0 has.1) (kind, next, both.1.3.0, after, both.1.0, both.1.1, both.1.2, both.1.3.1, both.1.3.2, both.1.4, refl)),
+        rw has.1 (rw (goes (opened_of top) has.0 has.1)
+            (record {
+              kind = kind;
+              next = next;
+              datatype = both.1.3.0;
+              after = after;
+              code = both.1.0;
+              inside = both.1.1;
+              starts = both.1.2;
+              is_simple = both.1.3.1;
+              spelled = both.1.3.2;
+              bits_are = both.1.4;
+              leads = refl;
+            })),
       ),
       both.2,
     )
@@ -86,7 +99,19 @@ content_took s old middle new elements moved top entries after next v has goes c
       (
         Content (value_of v),
         refl,
-        rw has.1 (rw (goes (opened_of top) has.0 has.1) (next, both.1.3.0, after, both.1.0, both.1.1, both.1.2, both.1.3.1, both.1.3.2, both.1.4, refl)),
+        rw has.1 (rw (goes (opened_of top) has.0 has.1)
+            (record {
+              next = next;
+              datatype = both.1.3.0;
+              after = after;
+              code = both.1.0;
+              inside = both.1.1;
+              starts = both.1.2;
+              is_simple = both.1.3.1;
+              spelled = both.1.3.2;
+              bits_are = both.1.4;
+              leads = refl;
+            })),
       ),
       both.2,
     )
@@ -115,7 +140,7 @@ element_took s old new elements moved pushed top entries name kind next place st
       (
         Start name,
         refl,
-        rw has.1 (rw pushes (rw is_first (rw (goes (opened_of top) has.0 has.1) (kind, next, both, refl)))),
+        rw has.1 (rw pushes (rw is_first (rw (goes (opened_of top) has.0 has.1) (record { kind = kind; next = next; starts = both; leads = refl })))),
       ),
       code.2,
     )

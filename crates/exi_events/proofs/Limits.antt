@@ -1,5 +1,5 @@
 -- Document numbers and event codes have at most 32 bits.
-use Rattle.std.proofs.Common.{ℕ, ◌<◌, ◌≤◌, nat_le, List, length, map, arith}
+use Rattle.std.proofs.Common.{ℕ, ◌<◌, ◌≤◌, nat_le, List, length, arith}
 use Rattle.std.proofs.lemmas.Bool.{leb-true}
 use Rattle.std.specs.List.{list_all}
 use Rattle.exi_schema.specs.Schemas.{PlainSchema, are_kinds, are_roots, are_words, are_values, is_root}

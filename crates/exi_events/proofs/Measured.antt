@@ -1,5 +1,5 @@
 -- How many bits an event needs.
-use Rattle.std.proofs.Common.{◌≡◌, ℕ, ◌+◌, ◌*◌, ◌<◌, Option, None, Bool, List, [], ◌∷◌, ◌++◌, length, Some, slice_get, refl, sym, ap, subst, ◌∙◌, arith, length-append}
+use Rattle.std.proofs.Common.{◌≡◌, ℕ, ◌+◌, ◌*◌, ◌<◌, Option, None, Bool, List, [], ◌++◌, length, Some, slice_get, refl, sym, ap, subst, ◌∙◌, arith, length-append}
 use Rattle.exi_spec.specs.Bits.{number_bits}
 use Rattle.exi_spec.proofs.BitLaws.{length-number_bits}
 use Rattle.exi_schema.specs.declared.places.Place.{Place}
@@ -7,7 +7,7 @@ use Rattle.exi_schema.specs.declared.places.Step.{Step}
 use Rattle.exi_schema.specs.declared.places.Step.TheVariants as step
 use Rattle.exi_schema.specs.Schemas.{PlainSchema}
 use Rattle.exi_schema.specs.Offers.{IsPlace, IsWidth, offers}
-use Rattle.exi_documents.specs.Grammar.{Opened, Before, AtRoot, Inside, Behind, State, around, stands}
+use Rattle.exi_documents.specs.Grammar.{Opened, Before, AtRoot, Inside, Behind, State, stands}
 use Rattle.exi_documents.specs.Values.{Entries, WritesValue}
 use Rattle.exi_values.specs.declared.Event.{Event}
 use Rattle.exi_values.specs.declared.Event.TheVariants as event
@@ -103,8 +103,8 @@ module _ (s : PlainSchema) (top : Opened) (entries : Entries) (e : Event) (code 
 
 front_bits : (s : PlainSchema) (entries : Entries) (e : Event) → IsOffered s (stands Before entries) e → HasBits s (stands Before entries) (event_of e) (8 + s.root_bits)
 front_bits s entries (event.Document number) h =
-    let long = ap length h.2.5 ∙ length-append (number_bits 8 128) h.2.2 in
-    let front = ap length h.2.4.spelled ∙ length-number_bits s.root_bits number in
+    let long = ap length h.2.bits_are ∙ length-append (number_bits 8 128) h.2.front in
+    let front = ap length h.2.numbered.spelled ∙ length-number_bits s.root_bits number in
     (h.0, (h.1, h.2), omega (arith, long, front, length-number_bits 8 128))
 front_bits s entries (event.Start name) h = absurd h.2
 front_bits s entries (event.Attribute name v) h = absurd h.2

@@ -64,17 +64,19 @@ spells_code kinds here code width st is_width offered =
 pub attribute_moves : (s : PlainSchema) (top : Opened) (above : List Opened) (entries after : Entries) (name kind : ℕ) (next : Place) (v : TreeValue) (code rest : List Bool) →
     SpellsStep s.kinds top.place (step.Attribute name kind next) code → WritesValueOf s.kinds kind entries name v after rest →
     MovesFrom WritesValue s (Inside top above) entries (Attribute name v) (code ++ rest) (stands (Inside (opened top.name next) above) after)
-attribute_moves s top above entries after name kind next v code rest st w = (kind, next, w.0, after, code, rest, st, w.1, w.2, refl, refl)
+attribute_moves s top above entries after name kind next v code rest st w =
+    record { kind = kind; next = next; datatype = w.0; after = after; code = code; inside = rest; starts = st; is_simple = w.1; spelled = w.2; bits_are = refl; leads = refl }
 
 pub content_moves : (s : PlainSchema) (top : Opened) (above : List Opened) (entries after : Entries) (next : Place) (v : TreeValue) (code rest : List Bool) →
     SpellsStep s.kinds top.place (step.Characters next) code → WritesValueOf s.kinds top.place.kind entries top.name v after rest →
     MovesFrom WritesValue s (Inside top above) entries (Content v) (code ++ rest) (stands (Inside (opened top.name next) above) after)
-content_moves s top above entries after next v code rest st w = (next, w.0, after, code, rest, st, w.1, w.2, refl, refl)
+content_moves s top above entries after next v code rest st w =
+    record { next = next; datatype = w.0; after = after; code = code; inside = rest; starts = st; is_simple = w.1; spelled = w.2; bits_are = refl; leads = refl }
 
 pub element_moves : (s : PlainSchema) (top : Opened) (above : List Opened) (entries : Entries) (name kind : ℕ) (next : Place) (code : List Bool) →
     SpellsStep s.kinds top.place (element name kind next) code →
     MovesFrom WritesValue s (Inside top above) entries (Start name) code (stands (Inside (opened name (first kind)) (opened top.name next ∷ above)) entries)
-element_moves s top above entries name kind next code st = (kind, next, st, refl)
+element_moves s top above entries name kind next code st = record { kind = kind; next = next; starts = st; leads = refl }
 
 pub end_moves : (s : PlainSchema) (top : Opened) (above : List Opened) (entries : Entries) (code : List Bool) →
     SpellsStep s.kinds top.place step.End code → MovesFrom WritesValue s (Inside top above) entries EndElement code (stands (around above) entries)
@@ -116,9 +118,9 @@ move_join s top above entries _ _ code rest st is w = absurd is
 pub offered_step : (s : PlainSchema) (top : Opened) (above : List Opened) (entries : Entries) (e : Event) (bits : List Bool) (new : State) →
     MovesAs s (stands (Inside top above) entries) (event_of e) bits new → (code : ℕ) × (st : Step) × (slice_get (offers s.kinds top.place) code ≡ Some st) × IsStepOf st e
 offered_step s top above entries (event.Document number) bits new m = absurd m
-offered_step s top above entries (event.Start name) bits new m = (m.2.code, element name m.0 m.1, m.2.offered, (refl, refl, refl))
-offered_step s top above entries (event.Attribute name v) bits new m = (m.6.code, step.Attribute name m.0 m.1, m.6.offered, refl)
-offered_step s top above entries (event.Value v) bits new m = (m.5.code, step.Characters m.0, m.5.offered, tt)
+offered_step s top above entries (event.Start name) bits new m = (m.starts.code, element name m.kind m.next, m.starts.offered, (refl, refl, refl))
+offered_step s top above entries (event.Attribute name v) bits new m = (m.starts.code, step.Attribute name m.kind m.next, m.starts.offered, refl)
+offered_step s top above entries (event.Value v) bits new m = (m.starts.code, step.Characters m.next, m.starts.offered, tt)
 offered_step s top above entries event.EndElement bits new m = (m.0.code, step.End, m.0.offered, tt)
 offered_step s top above entries event.Finished bits new m = absurd m
 
@@ -127,25 +129,25 @@ pub move_split : (s : PlainSchema) (top : Opened) (above : List Opened) (entries
     IsPlace s.kinds top.place → SpellsStep s.kinds top.place st code → IsStepOf st e → MovesAs s (stands (Inside top above) entries) (event_of e) bits new →
     (rest : List Bool) × IsRest s top entries st e rest × (bits ≡ code ++ rest)
 move_split s top above entries (step.Attribute name kind next) (event.Attribute n v) code bits new at st is m =
-    let both = one_taken_by attribute_key s.kinds top.place n (step.Attribute n m.0 m.1) (step.Attribute name kind next) m.4 code (ones_at s top.place at).attributes m.6 st refl (ap (λ (k : ℕ). Some k) (sym is)) in
-    let same : step.Attribute n m.0 m.1 ≡ step.Attribute name kind next = both.0 in
-    let k : m.0 ≡ kind = cc in
-    let w : WritesValueOf s.kinds m.0 entries n (value_of v) m.3 m.5 = (m.2, m.7, m.8) in (
-      m.5,
-      (m.3, subst (λ (j : ℕ). WritesValueOf s.kinds j entries name (value_of v) m.3 m.5) k (subst (λ (j : ℕ). WritesValueOf s.kinds m.0 entries j (value_of v) m.3 m.5) is w)),
-      m.9 ∙ ap (λ (l : List Bool). l ++ m.5) both.1,
+    let both = one_taken_by attribute_key s.kinds top.place n (step.Attribute n m.kind m.next) (step.Attribute name kind next) m.code code (ones_at s top.place at).attributes m.starts st refl (ap (λ (k : ℕ). Some k) (sym is)) in
+    let same : step.Attribute n m.kind m.next ≡ step.Attribute name kind next = both.0 in
+    let k : m.kind ≡ kind = cc in
+    let w : WritesValueOf s.kinds m.kind entries n (value_of v) m.after m.inside = (m.datatype, m.is_simple, m.spelled) in (
+      m.inside,
+      (m.after, subst (λ (j : ℕ). WritesValueOf s.kinds j entries name (value_of v) m.after m.inside) k (subst (λ (j : ℕ). WritesValueOf s.kinds m.kind entries j (value_of v) m.after m.inside) is w)),
+      m.bits_are ∙ ap (λ (l : List Bool). l ++ m.inside) both.1,
     )
 move_split s top above entries (step.Element name kind next standing past_limit) (event.Start n) code bits new at st is m =
-    let both = one_taken_by element_key s.kinds top.place n (element n m.0 m.1) (step.Element name kind next standing past_limit) bits code (ones_at s top.place at).elements m.2 st refl (ap (λ (k : ℕ). Some k) (sym is.0)) in
+    let both = one_taken_by element_key s.kinds top.place n (element n m.kind m.next) (step.Element name kind next standing past_limit) bits code (ones_at s top.place at).elements m.starts st refl (ap (λ (k : ℕ). Some k) (sym is.0)) in
     ([], refl, both.1 ∙ sym (append-nil code))
 move_split s top above entries step.End event.EndElement code bits new at st is m =
     let both = one_taken_by end_key s.kinds top.place 0 step.End step.End bits code (ones_at s top.place at).ends m.0 st refl refl in
     ([], refl, both.1 ∙ sym (append-nil code))
 move_split s top above entries (step.Characters next) (event.Value v) code bits new at st is m =
-    let alone = offers_simple s.kinds top.place m.1 m.6 in
-    let mine = one_taken s.kinds top.place (simple_step top.place) (step.Characters m.0) m.3 alone m.5 in
+    let alone = offers_simple s.kinds top.place m.datatype m.is_simple in
+    let mine = one_taken s.kinds top.place (simple_step top.place) (step.Characters m.next) m.code alone m.starts in
     let other = one_taken s.kinds top.place (simple_step top.place) (step.Characters next) code alone st in
-    (m.4, (m.2, (m.1, m.6, m.7)), m.8 ∙ ap (λ (l : List Bool). l ++ m.4) (mine.1 ∙ sym other.1))
+    (m.inside, (m.after, (m.datatype, m.is_simple, m.spelled)), m.bits_are ∙ ap (λ (l : List Bool). l ++ m.inside) (mine.1 ∙ sym other.1))
 move_split s top above entries _ _ code bits new at st is m = absurd is
 
 -- ---- the value of an event

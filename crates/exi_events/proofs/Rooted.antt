@@ -1,5 +1,5 @@
 -- Document numbers that name a root, and the front of a document that is written.
-use Rattle.std.proofs.Common.{◌≡◌, ℕ, ◌^◌, ◌<◌, nat_lt, nat_le, not, ◌&&◌, Bool, true, false, List, ◌++◌, length, map, Some, slice_get, inl, inr, refl, sym, ap, subst, ◌∙◌}
+use Rattle.std.proofs.Common.{◌≡◌, ℕ, ◌^◌, ◌<◌, nat_lt, nat_le, not, ◌&&◌, Bool, true, false, List, ◌++◌, length, Some, slice_get, inl, inr, refl, sym, ap, subst, ◌∙◌}
 use Rattle.std.specs.Prelude.{◌==◌, ◌↔◌, ◌⊎◌, IsTrue}
 use Rattle.std.specs.List.{list_all}
 use Rattle.std.proofs.lemmas.Bool.{ltb-true}

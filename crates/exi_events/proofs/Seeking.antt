@@ -1,10 +1,9 @@
 -- What an event is looked for as, and the steps that it means.
-use Rattle.std.proofs.Common.{◌≡◌, ℕ, Option, Some, None, IfSome, refl, subst, sym, ◌∙◌, ap}
+use Rattle.std.proofs.Common.{◌≡◌, Option, Some, None, IfSome, subst}
 use Rattle.exi_schema.specs.declared.places.Step.{Step}
 use Rattle.exi_schema.specs.declared.places.Step.TheVariants as step
 use Rattle.exi_schema.specs.declared.places.Offer.{Offer}
 use Rattle.exi_schema.specs.declared.places.Sought.{Sought}
-use Rattle.exi_schema.specs.declared.places.Sought.TheVariants as sought
 use Rattle.exi_schema.specs.Steps.{IsSought}
 use Rattle.exi_values.specs.declared.Event.{Event}
 use Rattle.exi_values.specs.declared.Event.TheVariants as event

@@ -39,9 +39,12 @@ document_decides s p e elements bits entries number b is same named =
     offered_in (λ (state : State) (x : Event). IsTrue b ↔ IsOffered s state x) p phase.Before e (event.Document number) elements bits entries is same (
       (λ t.
           let h = named.0 t in
-          let front = number_bits s.root_bits number in
-          (header ++ front, stands (AtRoot h.0 h.1) (texts_in bits entries), (h.0, h.1, front, h.2, record { range = root_range s number h.0 h.1 h.2; spelled = refl }, refl, refl))),
-      (λ h. named.1 (h.2.0, h.2.1, h.2.3)),
+          let front = number_bits s.root_bits number in (
+            header ++ front,
+            stands (AtRoot h.0 h.1) (texts_in bits entries),
+            record { name = h.0; kind = h.1; front = front; named = h.2; numbered = record { range = root_range s number h.0 h.1 h.2; spelled = refl }; bits_are = refl; leads = refl },
+          )),
+      (λ h. named.1 (h.2.name, h.2.kind, h.2.named)),
     )
 
 pub start_decides : (s : PlainSchema) (p : Phase) (e : Event) (elements : List Opened) (bits : List Bool) (entries : List (ℕ × SpanAt)) (name kind child : ℕ) → p ≡ phase.AtRoot name kind → e ≡ event.Start child →

@@ -29,7 +29,7 @@ pub names_offered : (s : PlainSchema) (p : Phase) (e : Event) (elements : List O
     (name : ℕ) × (kind : ℕ) × IsRoot s.roots s.root_bits number (Kind name kind)
 names_offered s p e elements bits entries number is same may =
     offered_in (λ (state : State) (x : Event). IsOffered s state x → (name : ℕ) × (kind : ℕ) × IsRoot s.roots s.root_bits number (Kind name kind)) p phase.Before e (event.Document number) elements bits entries is same
-    (λ h. (h.2.0, h.2.1, h.2.3)) may
+    (λ h. (h.2.name, h.2.kind, h.2.named)) may
 
 -- more bits leave the writer ready
 pub ready_more : (s : PlainSchema) (p : Phase) (elements : List Opened) (old new : BitPen) (table : Table SpanAt) → IsReadyAt s p elements (written_bits old) table → WritesMore old new → IsReadyAt s p elements (written_bits new) table
@@ -50,8 +50,11 @@ document_put s p e elements entries old new number named name kind is same one t
     let kept = texts_kept old new puts.0 entries puts.2 texts in
     let front : SpellsFront s number puts.0 = subst (λ (n : ℕ). SpellsFront s n puts.0) one puts.1 in
     let is_root : IsRoot s.roots s.root_bits number (Kind name kind) = subst (λ (n : ℕ). IsRoot s.roots s.root_bits n (Kind name kind)) one root in
-    offered_in (λ (state : State) (x : Event). IsPut s (drafted old state) (drafted new (state_of (phase.AtRoot name kind) elements (written_bits new) entries)) (event_of x)) p phase.Before e (event.Document number) elements (written_bits old) entries is same
-    (puts.0, (name, kind, front.0, is_root, front.1, front.2, ap (λ (es : Entries). stands (AtRoot name kind) es) kept), adds old new _ _ puts.0 puts.2)
+    offered_in (λ (state : State) (x : Event). IsPut s (drafted old state) (drafted new (state_of (phase.AtRoot name kind) elements (written_bits new) entries)) (event_of x)) p phase.Before e (event.Document number) elements (written_bits old) entries is same (
+      puts.0,
+      record { name = name; kind = kind; front = front.0; named = is_root; numbered = front.1; bits_are = front.2; leads = ap (λ (es : Entries). stands (AtRoot name kind) es) kept },
+      adds old new _ _ puts.0 puts.2,
+    )
 
 -- the root has no bits
 root_lacks : (s : PlainSchema) (name kind : ℕ) (entries : Entries) (pen : BitPen) (e : Event) → HasNoRoom s (drafted pen (stands (AtRoot name kind) entries)) (event_of e) → ⊥

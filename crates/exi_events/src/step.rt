@@ -1,11 +1,13 @@
 //! Event codes, and the front of a document, taken from a payload.
 
-ghost use Rattle.std.specs.Prelude.{◌≡◌, ℕ, ◌+◌, ◌<◌, ◌≤◌, ◌==◌, if◌then◌else◌, length, Some, None, IfOk, IfErr, OnOk};
+ghost use Rattle.std.specs.Prelude.{◌≡◌, ℕ, List, ◌+◌, ◌<◌, ◌≤◌, ◌==◌, if◌then◌else◌, length, Some, None, IfOk, IfErr, OnOk};
 ghost use Rattle.exi_spec.specs.Items.{SpellsNumber};
 ghost use Rattle.exi_bits.specs.Reading.{Takes, ahead};
 ghost use Rattle.exi_schema.specs.declared.places.Root.TheVariants.{Kind};
+ghost use Rattle.exi_schema.specs.declared.tables.Datatype.{Datatype};
 ghost use Rattle.exi_schema.specs.Offers.{IsPlace, IsWidth, offers};
-ghost use Rattle.exi_schema.specs.Steps.{IsStep, IsRoot, IsRootOf};
+ghost use Rattle.exi_schema.specs.Plain.{PlainKind};
+ghost use Rattle.exi_schema.specs.Steps.{IsStep, IsRoot, IsRootOf, simple_at};
 ghost use Rattle.exi_documents.specs.Documents.{SpellsStep};
 ghost use Rattle.exi_documents.specs.Refusals.{RefusesStep, step_cause, RefusesFront, RefusesHeader, RefusesNumber};
 ghost use Rattle.exi_documents.specs.declared.refusal.RefusalCause.TheVariants as cause;
@@ -13,7 +15,7 @@ ghost use Rattle.exi_events.specs.Front.{SpellsHeader, SpellsFront};
 
 use exi_documents::{Refusal, RefusalCause};
 use exi_reading::PayloadReader;
-use exi_schema::{MemberStanding, Place, Places, Root, Step};
+use exi_schema::{MemberStanding, Place, Places, Root, Step, simple_step};
 
 /// Takes the event code at a place: what it means, where that may stand there.
 #[tactic(auto, using(crate::proofs::Codes::code_refused, crate::proofs::Codes::none_behind, crate::proofs::Limits::few_code_bits))]
@@ -31,6 +33,9 @@ pub(crate) fn take_step<P: Places>(
     ensures at { IfErr result (λ r. r.bit ≡ reader.old.place) }
     ensures same { reader.new.bits ≡ reader.old.bits }
 {
+    if let Some(_) = places.datatype(here.kind) {
+        return take_simple_step(reader, here);
+    }
     let bit = reader.place();
     let codes = places.codes(here);
     let offered = u32::from(codes.offered);
@@ -46,6 +51,28 @@ pub(crate) fn take_step<P: Places>(
         None => Ok(step),
         Some(cause) => Err(Refusal { cause, bit }),
     }
+}
+
+/// Takes the one event code at a place of a simple kind, which has one bit: its characters, or the end behind them.
+#[tactic(auto, using(crate::proofs::Simple::step_taken, crate::proofs::Simple::code_refused, crate::proofs::Simple::bits_refused, crate::proofs::Simple::step_of_schema))]
+#[inline(always)]
+fn take_simple_step(reader: &mut PayloadReader, here: Place) -> Result<Step, Refusal>
+    ensures ok { (kinds : List PlainKind) (d : Datatype) → simple_at kinds here.kind ≡ Some d → IfOk result (λ step. Takes (SpellsStep kinds here step) reader.old reader.new) }
+    ensures taken { IfOk result (λ step. step_cause step ≡ None) }
+    ensures of_schema { (kinds : List PlainKind) (names : ℕ) (d : Datatype) → simple_at kinds here.kind ≡ Some d → IfOk result (λ step. IsStep kinds names here.kind step) }
+    ensures refused { (kinds : List PlainKind) (d : Datatype) → simple_at kinds here.kind ≡ Some d → IfErr result (λ r. RefusesStep kinds here (ahead reader.old) r.cause) }
+    ensures at { IfErr result (λ r. r.bit ≡ reader.old.place) }
+    ensures same { reader.new.bits ≡ reader.old.bits }
+{
+    let bit = reader.place();
+    let code = reader.take_number(1)?;
+    if code >= 1 {
+        return Err(Refusal {
+            cause: not_offered(code, 1),
+            bit,
+        });
+    }
+    Ok(simple_step(here))
 }
 
 /// What is wrong with a code that is not offered: the first one is the escape.

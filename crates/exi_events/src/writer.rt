@@ -242,6 +242,13 @@ impl<'b, 'p, P: Places> EventWriter<'b, 'p, P> {
         begun_bytes(self.room, self.bits)
     }
 
+    /// How many bits are put.
+    pub fn bit_count(&self) -> u32
+        ensures { result ≡ length (draft_of self.now).bits }
+    {
+        self.bits
+    }
+
     /// Ends the writing, wherever it stands, and tells how many bytes of the room are written, the last one filled with 0. The room and
     /// the table stay as they are.
     pub fn finish(self) -> u32

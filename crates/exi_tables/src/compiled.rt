@@ -69,6 +69,7 @@ impl<D: Declared> Rows<D> {
     ghost use Rattle.exi_tables.specs.Filled.{IsRow};
 
     /// The row of a place.
+    #[inline(always)]
     fn row(&self, place: Place) -> &Row
         requires { IsPlace D.schema.kinds place }
         ensures { IsRow D.schema place result.now }
@@ -88,6 +89,7 @@ impl<D: Declared> Places for Rows<D> {
         row.steps.len() as u16
     }
 
+    #[inline(always)]
     fn codes(&self, place: Place) -> Codes {
         let row = self.row(place);
         Codes {
@@ -115,6 +117,7 @@ impl<D: Declared> Places for Rows<D> {
         self.row(place).width
     }
 
+    #[inline(always)]
     fn advance(&self, place: Place, code: u16) -> Step {
         let row = self.row(place);
         row.steps[code as usize]

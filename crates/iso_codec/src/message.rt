@@ -1,6 +1,13 @@
 //! Types of elements of the messages of ISO 15118-2.
 
-ghost use Rattle.std.specs.Prelude.{[]};
+ghost use Rattle.std.specs.Prelude.{◌≡◌, [], List, Some, IfOk, IfErr};
+ghost use Rattle.exi_documents.specs.Trees.{Event as TreeEvent};
+ghost use Rattle.message_parts.specs.Contents.{told_inside};
+ghost use Rattle.message_parts.specs.Reading.{Frame, IsOpen, IsRefusal, IsChosen, Leaves, seen_of};
+ghost use Rattle.iso_schema.specs.Declarations.{kinds};
+ghost use Rattle.iso_schema.specs.declared.names.TheConstants.{CHARGE_PARAMETER_DISCOVERY_RES, PAYMENT_SERVICE_SELECTION_REQ, POWER_DELIVERY_REQ, SERVICE_DETAIL_RES, SERVICE_DISCOVERY_RES};
+ghost use Rattle.iso_codec.specs.declared.message.BodyElement.{BodyElement};
+ghost use Rattle.iso_codec.specs.Message.{body_element_members, body_element_name, body_element_inside};
 
 use exi_documents::Refusal;
 use exi_events::EventWriter;
@@ -19,8 +26,8 @@ use iso_setup::{
     SessionSetupRes, SessionStopReq, SessionStopRes,
 };
 use message_parts::{
-    Choice, Descent, Group, PutChoice, PutRecord, Record, first_child, member, optional_choice,
-    put_optional_choice, put_record, required,
+    Descent, LargeGroup, LargeRecord, PutChoice, PutRecord, first_child, member,
+    optional_choice_here, put_optional_choice, put_record, required, required_here,
 };
 
 /// One element of the substitution group BodyElement.
@@ -197,77 +204,110 @@ impl PutChoice for BodyElement<'_> {
     }
 }
 
-impl<'a> Choice<'a> for BodyElement<'a> {
+/// ChargeParameterDiscoveryRes, which holds a list: apart from the others, so that they don't fill its room.
+#[inline(never)]
+fn charge_parameter_discovery_res<'a, P: Places>(
+    place: &mut Option<BodyElement<'a>>,
+    descent: &mut Descent<'a, '_, P>,
+) -> Result<(), Refusal>
+    requires open { IsOpen P.schema descent.old }
+    ensures open { IsOpen P.schema descent.new }
+    ensures table { descent.new.reader.table.ghost_name ≡ descent.old.reader.table.ghost_name }
+    ensures places { descent.new.reader.places.now ≡ descent.old.reader.places.now }
+    ensures payload { descent.new.reader.reader.bits ≡ descent.old.reader.reader.bits }
+    ensures refused { IfErr result (λ r. IsRefusal (seen_of P.schema descent.old) r) }
+    ensures read { (F : Frame) (told : List TreeEvent) → IsChosen kinds F body_element_members told (seen_of P.schema descent.old) → descent.old.child ≡ Some CHARGE_PARAMETER_DISCOVERY_RES
+        → IfOk result (λ _. (v : BodyElement) × (place.new ≡ Some v) × (body_element_name v ≡ F.name) × Leaves kinds F (told_inside (body_element_inside v) told) (seen_of P.schema descent.new)) }
+{
+    *place = Some(BodyElement::ChargeParameterDiscoveryRes(member(descent)?));
+    Ok(())
+}
+
+/// PaymentServiceSelectionReq, which holds a list: apart from the others, so that they don't fill its room.
+#[inline(never)]
+fn payment_service_selection_req<'a, P: Places>(
+    place: &mut Option<BodyElement<'a>>,
+    descent: &mut Descent<'a, '_, P>,
+) -> Result<(), Refusal>
+    requires open { IsOpen P.schema descent.old }
+    ensures open { IsOpen P.schema descent.new }
+    ensures table { descent.new.reader.table.ghost_name ≡ descent.old.reader.table.ghost_name }
+    ensures places { descent.new.reader.places.now ≡ descent.old.reader.places.now }
+    ensures payload { descent.new.reader.reader.bits ≡ descent.old.reader.reader.bits }
+    ensures refused { IfErr result (λ r. IsRefusal (seen_of P.schema descent.old) r) }
+    ensures read { (F : Frame) (told : List TreeEvent) → IsChosen kinds F body_element_members told (seen_of P.schema descent.old) → descent.old.child ≡ Some PAYMENT_SERVICE_SELECTION_REQ
+        → IfOk result (λ _. (v : BodyElement) × (place.new ≡ Some v) × (body_element_name v ≡ F.name) × Leaves kinds F (told_inside (body_element_inside v) told) (seen_of P.schema descent.new)) }
+{
+    *place = Some(BodyElement::PaymentServiceSelectionReq(member(descent)?));
+    Ok(())
+}
+
+/// PowerDeliveryReq, which holds a list: apart from the others, so that they don't fill its room.
+#[inline(never)]
+fn power_delivery_req<'a, P: Places>(
+    place: &mut Option<BodyElement<'a>>,
+    descent: &mut Descent<'a, '_, P>,
+) -> Result<(), Refusal>
+    requires open { IsOpen P.schema descent.old }
+    ensures open { IsOpen P.schema descent.new }
+    ensures table { descent.new.reader.table.ghost_name ≡ descent.old.reader.table.ghost_name }
+    ensures places { descent.new.reader.places.now ≡ descent.old.reader.places.now }
+    ensures payload { descent.new.reader.reader.bits ≡ descent.old.reader.reader.bits }
+    ensures refused { IfErr result (λ r. IsRefusal (seen_of P.schema descent.old) r) }
+    ensures read { (F : Frame) (told : List TreeEvent) → IsChosen kinds F body_element_members told (seen_of P.schema descent.old) → descent.old.child ≡ Some POWER_DELIVERY_REQ
+        → IfOk result (λ _. (v : BodyElement) × (place.new ≡ Some v) × (body_element_name v ≡ F.name) × Leaves kinds F (told_inside (body_element_inside v) told) (seen_of P.schema descent.new)) }
+{
+    *place = Some(BodyElement::PowerDeliveryReq(member(descent)?));
+    Ok(())
+}
+
+/// ServiceDetailRes, which holds a list: apart from the others, so that they don't fill its room.
+#[inline(never)]
+fn service_detail_res<'a, P: Places>(
+    place: &mut Option<BodyElement<'a>>,
+    descent: &mut Descent<'a, '_, P>,
+) -> Result<(), Refusal>
+    requires open { IsOpen P.schema descent.old }
+    ensures open { IsOpen P.schema descent.new }
+    ensures table { descent.new.reader.table.ghost_name ≡ descent.old.reader.table.ghost_name }
+    ensures places { descent.new.reader.places.now ≡ descent.old.reader.places.now }
+    ensures payload { descent.new.reader.reader.bits ≡ descent.old.reader.reader.bits }
+    ensures refused { IfErr result (λ r. IsRefusal (seen_of P.schema descent.old) r) }
+    ensures read { (F : Frame) (told : List TreeEvent) → IsChosen kinds F body_element_members told (seen_of P.schema descent.old) → descent.old.child ≡ Some SERVICE_DETAIL_RES
+        → IfOk result (λ _. (v : BodyElement) × (place.new ≡ Some v) × (body_element_name v ≡ F.name) × Leaves kinds F (told_inside (body_element_inside v) told) (seen_of P.schema descent.new)) }
+{
+    *place = Some(BodyElement::ServiceDetailRes(member(descent)?));
+    Ok(())
+}
+
+/// ServiceDiscoveryRes, which holds a list: apart from the others, so that they don't fill its room.
+#[inline(never)]
+fn service_discovery_res<'a, P: Places>(
+    place: &mut Option<BodyElement<'a>>,
+    descent: &mut Descent<'a, '_, P>,
+) -> Result<(), Refusal>
+    requires open { IsOpen P.schema descent.old }
+    ensures open { IsOpen P.schema descent.new }
+    ensures table { descent.new.reader.table.ghost_name ≡ descent.old.reader.table.ghost_name }
+    ensures places { descent.new.reader.places.now ≡ descent.old.reader.places.now }
+    ensures payload { descent.new.reader.reader.bits ≡ descent.old.reader.reader.bits }
+    ensures refused { IfErr result (λ r. IsRefusal (seen_of P.schema descent.old) r) }
+    ensures read { (F : Frame) (told : List TreeEvent) → IsChosen kinds F body_element_members told (seen_of P.schema descent.old) → descent.old.child ≡ Some SERVICE_DISCOVERY_RES
+        → IfOk result (λ _. (v : BodyElement) × (place.new ≡ Some v) × (body_element_name v ≡ F.name) × Leaves kinds F (told_inside (body_element_inside v) told) (seen_of P.schema descent.new)) }
+{
+    *place = Some(BodyElement::ServiceDiscoveryRes(member(descent)?));
+    Ok(())
+}
+
+impl<'a> LargeGroup<'a> for BodyElement<'a> {
     ghost use Rattle.iso_schema.specs.Declarations.{kinds};
+    ghost use Rattle.std.specs.Prelude.{◌≡◌};
+    ghost use Rattle.message_parts.specs.Particles.{names_among};
     ghost use Rattle.iso_codec.specs.Message.{body_element_members};
 
     ghost kinds = { kinds };
 
     ghost members = { body_element_members };
-
-    fn read_member<P: Places>(
-        descent: &mut Descent<'a, '_, P>,
-    ) -> Result<BodyElement<'a>, Refusal> {
-        if descent.is_at(names::AUTHORIZATION_REQ) {
-            Ok(BodyElement::AuthorizationReq(member(descent)?))
-        } else if descent.is_at(names::AUTHORIZATION_RES) {
-            Ok(BodyElement::AuthorizationRes(member(descent)?))
-        } else if descent.is_at(names::CABLE_CHECK_REQ) {
-            Ok(BodyElement::CableCheckReq(member(descent)?))
-        } else if descent.is_at(names::CABLE_CHECK_RES) {
-            Ok(BodyElement::CableCheckRes(member(descent)?))
-        } else if descent.is_at(names::CHARGE_PARAMETER_DISCOVERY_REQ) {
-            Ok(BodyElement::ChargeParameterDiscoveryReq(member(descent)?))
-        } else if descent.is_at(names::CHARGE_PARAMETER_DISCOVERY_RES) {
-            Ok(BodyElement::ChargeParameterDiscoveryRes(member(descent)?))
-        } else if descent.is_at(names::CHARGING_STATUS_REQ) {
-            Ok(BodyElement::ChargingStatusReq(member(descent)?))
-        } else if descent.is_at(names::CHARGING_STATUS_RES) {
-            Ok(BodyElement::ChargingStatusRes(member(descent)?))
-        } else if descent.is_at(names::CURRENT_DEMAND_REQ) {
-            Ok(BodyElement::CurrentDemandReq(member(descent)?))
-        } else if descent.is_at(names::CURRENT_DEMAND_RES) {
-            Ok(BodyElement::CurrentDemandRes(member(descent)?))
-        } else if descent.is_at(names::PAYMENT_SERVICE_SELECTION_REQ) {
-            Ok(BodyElement::PaymentServiceSelectionReq(member(descent)?))
-        } else if descent.is_at(names::PAYMENT_SERVICE_SELECTION_RES) {
-            Ok(BodyElement::PaymentServiceSelectionRes(member(descent)?))
-        } else if descent.is_at(names::POWER_DELIVERY_REQ) {
-            Ok(BodyElement::PowerDeliveryReq(member(descent)?))
-        } else if descent.is_at(names::POWER_DELIVERY_RES) {
-            Ok(BodyElement::PowerDeliveryRes(member(descent)?))
-        } else if descent.is_at(names::PRE_CHARGE_REQ) {
-            Ok(BodyElement::PreChargeReq(member(descent)?))
-        } else if descent.is_at(names::PRE_CHARGE_RES) {
-            Ok(BodyElement::PreChargeRes(member(descent)?))
-        } else if descent.is_at(names::SERVICE_DETAIL_REQ) {
-            Ok(BodyElement::ServiceDetailReq(member(descent)?))
-        } else if descent.is_at(names::SERVICE_DETAIL_RES) {
-            Ok(BodyElement::ServiceDetailRes(member(descent)?))
-        } else if descent.is_at(names::SERVICE_DISCOVERY_REQ) {
-            Ok(BodyElement::ServiceDiscoveryReq(member(descent)?))
-        } else if descent.is_at(names::SERVICE_DISCOVERY_RES) {
-            Ok(BodyElement::ServiceDiscoveryRes(member(descent)?))
-        } else if descent.is_at(names::SESSION_SETUP_REQ) {
-            Ok(BodyElement::SessionSetupReq(member(descent)?))
-        } else if descent.is_at(names::SESSION_SETUP_RES) {
-            Ok(BodyElement::SessionSetupRes(member(descent)?))
-        } else if descent.is_at(names::SESSION_STOP_REQ) {
-            Ok(BodyElement::SessionStopReq(member(descent)?))
-        } else if descent.is_at(names::SESSION_STOP_RES) {
-            Ok(BodyElement::SessionStopRes(member(descent)?))
-        } else if descent.is_at(names::WELDING_DETECTION_REQ) {
-            Ok(BodyElement::WeldingDetectionReq(member(descent)?))
-        } else {
-            Ok(BodyElement::WeldingDetectionRes(member(descent)?))
-        }
-    }
-}
-
-impl<'a> Group<'a> for BodyElement<'a> {
-    ghost use Rattle.std.specs.Prelude.{◌≡◌};
-    ghost use Rattle.message_parts.specs.Particles.{names_among};
-    ghost use Rattle.iso_codec.specs.Message.{body_element_members};
 
     fn names() -> &'static [u16]
         ensures { result.now ≡ names_among body_element_members }
@@ -301,10 +341,90 @@ impl<'a> Group<'a> for BodyElement<'a> {
             names::WELDING_DETECTION_RES,
         ]
     }
+
+    fn read_member_into<P: Places>(
+        place: &mut Option<BodyElement<'a>>,
+        descent: &mut Descent<'a, '_, P>,
+    ) -> Result<(), Refusal> {
+        if descent.is_at(names::AUTHORIZATION_REQ) {
+            *place = Some(BodyElement::AuthorizationReq(member(descent)?));
+            Ok(())
+        } else if descent.is_at(names::AUTHORIZATION_RES) {
+            *place = Some(BodyElement::AuthorizationRes(member(descent)?));
+            Ok(())
+        } else if descent.is_at(names::CABLE_CHECK_REQ) {
+            *place = Some(BodyElement::CableCheckReq(member(descent)?));
+            Ok(())
+        } else if descent.is_at(names::CABLE_CHECK_RES) {
+            *place = Some(BodyElement::CableCheckRes(member(descent)?));
+            Ok(())
+        } else if descent.is_at(names::CHARGE_PARAMETER_DISCOVERY_REQ) {
+            *place = Some(BodyElement::ChargeParameterDiscoveryReq(member(descent)?));
+            Ok(())
+        } else if descent.is_at(names::CHARGE_PARAMETER_DISCOVERY_RES) {
+            charge_parameter_discovery_res(place, descent)
+        } else if descent.is_at(names::CHARGING_STATUS_REQ) {
+            *place = Some(BodyElement::ChargingStatusReq(member(descent)?));
+            Ok(())
+        } else if descent.is_at(names::CHARGING_STATUS_RES) {
+            *place = Some(BodyElement::ChargingStatusRes(member(descent)?));
+            Ok(())
+        } else if descent.is_at(names::CURRENT_DEMAND_REQ) {
+            *place = Some(BodyElement::CurrentDemandReq(member(descent)?));
+            Ok(())
+        } else if descent.is_at(names::CURRENT_DEMAND_RES) {
+            *place = Some(BodyElement::CurrentDemandRes(member(descent)?));
+            Ok(())
+        } else if descent.is_at(names::PAYMENT_SERVICE_SELECTION_REQ) {
+            payment_service_selection_req(place, descent)
+        } else if descent.is_at(names::PAYMENT_SERVICE_SELECTION_RES) {
+            *place = Some(BodyElement::PaymentServiceSelectionRes(member(descent)?));
+            Ok(())
+        } else if descent.is_at(names::POWER_DELIVERY_REQ) {
+            power_delivery_req(place, descent)
+        } else if descent.is_at(names::POWER_DELIVERY_RES) {
+            *place = Some(BodyElement::PowerDeliveryRes(member(descent)?));
+            Ok(())
+        } else if descent.is_at(names::PRE_CHARGE_REQ) {
+            *place = Some(BodyElement::PreChargeReq(member(descent)?));
+            Ok(())
+        } else if descent.is_at(names::PRE_CHARGE_RES) {
+            *place = Some(BodyElement::PreChargeRes(member(descent)?));
+            Ok(())
+        } else if descent.is_at(names::SERVICE_DETAIL_REQ) {
+            *place = Some(BodyElement::ServiceDetailReq(member(descent)?));
+            Ok(())
+        } else if descent.is_at(names::SERVICE_DETAIL_RES) {
+            service_detail_res(place, descent)
+        } else if descent.is_at(names::SERVICE_DISCOVERY_REQ) {
+            *place = Some(BodyElement::ServiceDiscoveryReq(member(descent)?));
+            Ok(())
+        } else if descent.is_at(names::SERVICE_DISCOVERY_RES) {
+            service_discovery_res(place, descent)
+        } else if descent.is_at(names::SESSION_SETUP_REQ) {
+            *place = Some(BodyElement::SessionSetupReq(member(descent)?));
+            Ok(())
+        } else if descent.is_at(names::SESSION_SETUP_RES) {
+            *place = Some(BodyElement::SessionSetupRes(member(descent)?));
+            Ok(())
+        } else if descent.is_at(names::SESSION_STOP_REQ) {
+            *place = Some(BodyElement::SessionStopReq(member(descent)?));
+            Ok(())
+        } else if descent.is_at(names::SESSION_STOP_RES) {
+            *place = Some(BodyElement::SessionStopRes(member(descent)?));
+            Ok(())
+        } else if descent.is_at(names::WELDING_DETECTION_REQ) {
+            *place = Some(BodyElement::WeldingDetectionReq(member(descent)?));
+            Ok(())
+        } else {
+            *place = Some(BodyElement::WeldingDetectionRes(member(descent)?));
+            Ok(())
+        }
+    }
 }
 
 /// Body.
-#[derive(Drop)]
+#[derive(Drop, Default)]
 pub struct Body<'a> {
     pub element: Option<BodyElement<'a>>,
 }
@@ -321,7 +441,7 @@ impl PutRecord for Body<'_> {
     }
 }
 
-impl<'a> Record<'a> for Body<'a> {
+impl<'a> LargeRecord<'a> for Body<'a> {
     ghost use Rattle.iso_schema.specs.Declarations.{kinds};
     ghost use Rattle.iso_schema.specs.Frame.{body};
 
@@ -331,15 +451,15 @@ impl<'a> Record<'a> for Body<'a> {
 
     ghost particles = { body };
 
-    fn read<P: Places>(descent: &mut Descent<'a, '_, P>) -> Result<Body<'a>, Refusal> {
+    fn read_here<P: Places>(&mut self, descent: &mut Descent<'a, '_, P>) -> Result<(), Refusal> {
         first_child(descent)?;
-        let element = optional_choice(descent)?;
-        Ok(Body { element })
+        optional_choice_here(&mut self.element, descent)?;
+        Ok(())
     }
 }
 
 /// V2G_Message.
-#[derive(Drop)]
+#[derive(Drop, Default)]
 pub struct IsoMessage<'a> {
     pub header: Header<'a>,
     pub body: Body<'a>,
@@ -358,7 +478,7 @@ impl PutRecord for IsoMessage<'_> {
     }
 }
 
-impl<'a> Record<'a> for IsoMessage<'a> {
+impl<'a> LargeRecord<'a> for IsoMessage<'a> {
     ghost use Rattle.iso_schema.specs.Declarations.{kinds};
     ghost use Rattle.iso_schema.specs.Frame.{v2g_message};
 
@@ -368,10 +488,10 @@ impl<'a> Record<'a> for IsoMessage<'a> {
 
     ghost particles = { v2g_message };
 
-    fn read<P: Places>(descent: &mut Descent<'a, '_, P>) -> Result<IsoMessage<'a>, Refusal> {
+    fn read_here<P: Places>(&mut self, descent: &mut Descent<'a, '_, P>) -> Result<(), Refusal> {
         first_child(descent)?;
-        let header = required(descent)?;
-        let body = required(descent)?;
-        Ok(IsoMessage { header, body })
+        self.header = required(descent)?;
+        required_here(&mut self.body, descent)?;
+        Ok(())
     }
 }

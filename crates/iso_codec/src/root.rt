@@ -5,7 +5,7 @@ use exi_documents::Refusal;
 use exi_events::EventWriter;
 use exi_schema::Places;
 use iso_schema::names;
-use message_parts::{Choice, Descent, PutChoice, Root, member, put_record};
+use message_parts::{Descent, LargeChoice, PutChoice, Root, member_here, put_record};
 
 impl PutChoice for IsoMessage<'_> {
     ghost use Rattle.iso_codec.specs.Documents.{iso_inside};
@@ -20,7 +20,7 @@ impl PutChoice for IsoMessage<'_> {
     }
 }
 
-impl<'a> Choice<'a> for IsoMessage<'a> {
+impl<'a> LargeChoice<'a> for IsoMessage<'a> {
     ghost use Rattle.iso_schema.specs.Declarations.{kinds};
     ghost use Rattle.iso_codec.specs.Documents.{iso_roots};
 
@@ -28,8 +28,11 @@ impl<'a> Choice<'a> for IsoMessage<'a> {
 
     ghost members = { iso_roots };
 
-    fn read_member<P: Places>(descent: &mut Descent<'a, '_, P>) -> Result<IsoMessage<'a>, Refusal> {
-        member(descent)
+    fn read_member_here<P: Places>(
+        &mut self,
+        descent: &mut Descent<'a, '_, P>,
+    ) -> Result<(), Refusal> {
+        member_here(self, descent)
     }
 }
 

@@ -2,7 +2,7 @@
 
 use crate::setup::SETUP;
 use exi_documents::MOST_ENTRIES;
-use iso_codec::{IsoTables, Refusal, RefusalCause, Table, read_iso};
+use iso_codec::{IsoMessage, IsoTables, Refusal, RefusalCause, Table, read_iso};
 use iso_schema::names;
 use std::test::*;
 
@@ -36,8 +36,9 @@ fn payloads_are_refused_exactly(rt: HostRuntime) -> Result<(), Fail> {
         let payload = hex::decode(rt.alloc(), hex)?;
         assert!(rt; payload.len() <= 65536);
         let mut room = Table::make(rt.alloc(), MOST_ENTRIES)?;
+        let mut message = IsoMessage::default();
         assert_eq!(rt;
-            read_iso(&tables, payload.as_slice(), &mut room).err(),
+            read_iso(&tables, payload.as_slice(), &mut room, &mut message).err(),
             Some(Refusal { cause, bit })
         );
     }
@@ -55,7 +56,8 @@ fn a_cut_payload_is_short_at_the_first_item_that_is_not_whole(rt: HostRuntime) -
     let tables = IsoTables::make(rt.alloc())?;
     for count in 0..21 {
         let mut room = Table::make(rt.alloc(), MOST_ENTRIES)?;
-        let refused = read_iso(&tables, &SETUP[..count], &mut room).err();
+        let mut message = IsoMessage::default();
+        let refused = read_iso(&tables, &SETUP[..count], &mut room, &mut message).err();
         let wanted = Refusal {
             cause: RefusalCause::ShortInput,
             bit: CUTS[count],
@@ -93,8 +95,9 @@ fn an_escape_in_place_of_an_event_is_a_deviation(rt: HostRuntime) -> Result<(), 
             cause: RefusalCause::Deviation,
             bit,
         };
+        let mut message = IsoMessage::default();
         assert_eq!(rt;
-            read_iso(&tables, payload.as_slice(), &mut room).err(),
+            read_iso(&tables, payload.as_slice(), &mut room, &mut message).err(),
             Some(wanted)
         );
     }

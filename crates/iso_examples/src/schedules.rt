@@ -5,7 +5,7 @@ ghost use Rattle.exi_documents.specs.Values.{most_entries};
 
 use arrayvec::ArrayVec;
 use exi_documents::MOST_ENTRIES;
-use iso_codec::{BodyElement, IsoTables, Refusal, RefusalCause, Table, read_iso};
+use iso_codec::{BodyElement, IsoMessage, IsoTables, Refusal, RefusalCause, Table, read_iso};
 use iso_parameters::{SaSchedules, TimeInterval};
 use message_trees::{MessageDialect, scan_text};
 use std::alloc::Global;
@@ -53,9 +53,10 @@ fn lasts(
     ensures { table.new.cap ≡ most_entries }
 {
     let mut found = ArrayVec::new();
-    let Ok(message) = read_iso(tables, payload, table) else {
+    let mut message = IsoMessage::default();
+    if read_iso(tables, payload, table, &mut message).is_err() {
         return found;
-    };
+    }
     let Some(BodyElement::ChargeParameterDiscoveryRes(response)) = &message.body.element else {
         return found;
     };
@@ -101,6 +102,10 @@ fn a_schedule_has_128_entries_at_most(rt: HostRuntime) -> Result<(), Fail> {
         cause: RefusalCause::TooLong,
         bit: 5704,
     };
-    assert_eq!(rt; read_iso(&tables, &longer, &mut table).err(), Some(wanted));
+    let mut message = IsoMessage::default();
+    assert_eq!(rt;
+        read_iso(&tables, &longer, &mut table, &mut message).err(),
+        Some(wanted)
+    );
     Ok(())
 }

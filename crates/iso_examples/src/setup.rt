@@ -52,7 +52,8 @@ fn is_written_back(
 fn a_session_setup_is_read_and_written(rt: HostRuntime) -> Result<(), Fail> {
     let tables = IsoTables::make(rt.alloc())?;
     let mut table = Table::make(rt.alloc(), MOST_ENTRIES)?;
-    let Ok(message) = read_iso(&tables, &SETUP, &mut table) else {
+    let mut message = IsoMessage::default();
+    let Ok(()) = read_iso(&tables, &SETUP, &mut table, &mut message) else {
         return Err(Fail::from("refused"));
     };
     assert!(rt; is_bytes(&message.header.session_id, &[0; 8]));

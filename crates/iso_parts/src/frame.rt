@@ -55,7 +55,7 @@ impl<'a> Record<'a> for Notification<'a> {
 }
 
 /// Header.
-#[derive(Drop)]
+#[derive(Drop, Default)]
 pub struct Header<'a> {
     /// At most 8 bytes.
     pub session_id: Binary<'a>,

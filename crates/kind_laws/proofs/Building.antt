@@ -104,20 +104,21 @@ module _ (V : Speller) (W : Values) (I : Entries → Type 0) (kinds : List Plain
         bits = code.0 ++ (written.0 ++ rest.bits);
         there = rest.there;
         after = rest.after;
-        spelled = (
-          attribute.kind,
-          behind,
-          own.0,
-          written.1,
-          code.0,
-          written.0,
-          rest.bits,
-          subst (λ (n : ℕ). SpellsStep kinds here (Attribute n attribute.kind behind) code.0) (sym have.0) code.1,
-          own.1,
-          written.2,
-          rest.spelled,
-          refl,
-        );
+        spelled =
+            record {
+              kind = attribute.kind;
+              next = behind;
+              datatype = own.0;
+              middle = written.1;
+              code = code.0;
+              inside = written.0;
+              rest = rest.bits;
+              starts = subst (λ (n : ℕ). SpellsStep kinds here (Attribute n attribute.kind behind) code.0) (sym have.0) code.1;
+              is_simple = own.1;
+              spelled = written.2;
+              behind = rest.spelled;
+              bits_are = refl;
+            };
         stands = record { same_kind = rest.stands.same_kind; same_particle = rest.stands.same_particle; same_copies = rest.stands.same_copies };
         past = rest.past;
         kept = rest.kept;
@@ -164,18 +165,19 @@ module _ (V : Speller) (W : Values) (I : Entries → Type 0) (kinds : List Plain
       record {
         bits = code.0 ++ (inside.bits ++ rest.bits);
         after = rest.after;
-        spelled = (
-          member.kind,
-          lead.next,
-          inside.after,
-          code.0,
-          inside.bits,
-          rest.bits,
-          subst (λ (n : ℕ). SpellsStep kinds here (element n member.kind lead.next) code.0) (sym are.3) code.1,
-          inside.spelled,
-          rest.spelled,
-          refl,
-        );
+        spelled =
+            record {
+              kind = member.kind;
+              next = lead.next;
+              middle = inside.after;
+              code = code.0;
+              inside = inside.bits;
+              rest = rest.bits;
+              starts = subst (λ (n : ℕ). SpellsStep kinds here (element n member.kind lead.next) code.0) (sym are.3) code.1;
+              spelled = inside.spelled;
+              behind = rest.spelled;
+              bits_are = refl;
+            };
         kept = rest.kept;
       }
   trees_built here declared particles members entries (complex name attributes children more) at past remain are held =
@@ -196,23 +198,20 @@ module _ (V : Speller) (W : Values) (I : Entries → Type 0) (kinds : List Plain
       trees_built lead.next declared particles are.1 inside.after more (record { is_kind = ap (λ (k : ℕ). slice_get kinds k) lead.same_kind ∙ at.is_kind })
       (ap any_required (drop_all lead.next.attributes declared (omega (arith, lead.behind)))) left are.11 inside.kept in
       record {
-        bits = code.0 ++ (front.bits ++ (inside.bits ++ rest.bits));
+        bits = code.0 ++ ((front.bits ++ inside.bits) ++ rest.bits);
         after = rest.after;
-        spelled = (
-          member.kind,
-          lead.next,
-          front.there,
-          front.after,
-          inside.after,
-          code.0,
-          front.bits,
-          inside.bits,
-          rest.bits,
-          subst (λ (n : ℕ). SpellsStep kinds here (element n member.kind lead.next) code.0) (sym are.3) code.1,
-          front.spelled,
-          inside.spelled,
-          rest.spelled,
-          refl,
-        );
+        spelled =
+            record {
+              kind = member.kind;
+              next = lead.next;
+              middle = inside.after;
+              code = code.0;
+              inside = front.bits ++ inside.bits;
+              rest = rest.bits;
+              starts = subst (λ (n : ℕ). SpellsStep kinds here (element n member.kind lead.next) code.0) (sym are.3) code.1;
+              spelled = record { there = front.there; within = front.after; front = front.bits; inside = inside.bits; begun = front.spelled; ended = inside.spelled; bits_are = refl };
+              behind = rest.spelled;
+              bits_are = refl;
+            };
         kept = rest.kept;
       }

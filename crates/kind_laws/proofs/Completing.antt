@@ -178,7 +178,7 @@ module _ (s : PlainSchema) where
           stands (AtRoot root.name root.kind) entries,
           header ++ front,
           rest.1,
-          (root.name, root.kind, front, named, record { range = root_numbered s 0 root found.1; spelled = refl }, refl, refl),
+          record { name = root.name; kind = root.kind; front = front; named = named; numbered = record { range = root_numbered s 0 root found.1; spelled = refl }; bits_are = refl; leads = refl },
           rest.3,
           refl,
         ),

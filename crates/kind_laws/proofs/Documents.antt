@@ -38,19 +38,19 @@ module _ (s : PlainSchema) where
       }
   root_held number kind (Complex name attributes children) bits after h =
       let root : RootOf = record { number = number; name = name; kind = kind } in
-      let own = is_complex SpellsValue s.kinds (first kind) h.0 [] h.1 after attributes children h.2 h.3 refl h.4 h.5 in
-      let front = attributes_held SpellsValue IsValue IsProper s value_told (first kind) h.0 own.0 own.1 [] h.1 attributes h.2 (record { is_kind = own.2 }) h.4 proper_none in
+      let own = is_complex SpellsValue s.kinds (first kind) h.there [] h.within after attributes children h.front h.inside refl h.begun h.ended in
+      let front = attributes_held SpellsValue IsValue IsProper s value_told (first kind) h.there own.0 own.1 [] h.within attributes h.front (record { is_kind = own.2 }) h.begun proper_none in
       let sound = sound_in s kind own.0 own.1 own.2 in
       let stands = front.stands in
-      let may_begin : MayBePassed h.0.copies (drop h.0.particle own.1) =
-      subst (λ (c : ℕ). MayBePassed c (drop h.0.particle own.1)) (sym stands.same_copies) (subst (λ (n : ℕ). MayBePassed 0 (drop n own.1)) (sym stands.same_particle) (none_passed own.1 sound)) in
-      let inside = trees_held SpellsValue IsValue IsProper s value_told h.0 own.0 own.1 h.1 after children h.3 (record { is_kind = ap (λ (k : ℕ). slice_get s.kinds k) stands.same_kind ∙ own.2 }) sound may_begin h.5 front.kept in
+      let may_begin : MayBePassed h.there.copies (drop h.there.particle own.1) =
+      subst (λ (c : ℕ). MayBePassed c (drop h.there.particle own.1)) (sym stands.same_copies) (subst (λ (n : ℕ). MayBePassed 0 (drop n own.1)) (sym stands.same_particle) (none_passed own.1 sound)) in
+      let inside = trees_held SpellsValue IsValue IsProper s value_told h.there own.0 own.1 h.within after children h.inside (record { is_kind = ap (λ (k : ℕ). slice_get s.kinds k) stands.same_kind ∙ own.2 }) sound may_begin h.ended front.kept in
       let all = front.hold inside.past in
       let divided : AreDivided own.1 inside.members =
       divided_all own.1 inside.members
-      (subst (λ (n : ℕ). Remain 0 (drop n own.1) inside.members) stands.same_particle (subst (λ (c : ℕ). Remain c (drop h.0.particle own.1) inside.members) stands.same_copies inside.remain)) in
-      let told = attributes_among s.kinds (first kind) h.0 [] h.1 attributes h.2 h.4 in
-      let told_inside = trees_among s.kinds h.0 h.1 after children h.3 h.5 in
+      (subst (λ (n : ℕ). Remain 0 (drop n own.1) inside.members) stands.same_particle (subst (λ (c : ℕ). Remain c (drop h.there.particle own.1) inside.members) stands.same_copies inside.remain)) in
+      let told = attributes_among s.kinds (first kind) h.there [] h.within attributes h.front h.begun in
+      let told_inside = trees_among s.kinds h.there h.within after children h.inside h.ended in
       record {
         elements = (
           member_of root,
@@ -68,7 +68,7 @@ module _ (s : PlainSchema) where
         );
         proper = inside.kept;
         among =
-            both_among after (attribute_texts attributes) (texts_of children ++ []) (all_grown h.1 after (attribute_texts attributes) told_inside.1 told.0)
+            both_among after (attribute_texts attributes) (texts_of children ++ []) (all_grown h.within after (attribute_texts attributes) told_inside.1 told.0)
             (both_among after (texts_of children) [] told_inside.0 tt);
       }
 

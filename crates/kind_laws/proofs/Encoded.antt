@@ -120,7 +120,7 @@ module _ (s : PlainSchema) (different : List (List ℕ)) (few : length different
       let inside =
       trees_built WritesValue (MayBeWritten different) (IsKnown different) s.kinds spell front.there are.4 are.5 are.6 front.after children
       (record { is_kind = ap (λ (k : ℕ). slice_get s.kinds k) stands.same_kind ∙ is_kind }) front.past begun are.10 front.kept in
-      record { bits = front.bits ++ inside.bits; after = inside.after; spelled = (front.there, front.after, front.bits, inside.bits, front.spelled, inside.spelled, refl) }
+      record { bits = front.bits ++ inside.bits; after = inside.after; spelled = record { there = front.there; within = front.after; front = front.bits; inside = inside.bits; begun = front.spelled; ended = inside.spelled; bits_are = refl } }
 
 root_named : (root : RootOf) (tree : Tree) (V : Values) (kinds : List PlainKind) → AreElements V kinds (member_of root ∷ []) (alone tree) → name_of tree ≡ root.name
 root_named root (Simple name value) V kinds are = are.3 ∙ sym (ap (λ (m : Member). m.name) (same_head (member_of root) are.0 [] are.1 are.2))

@@ -159,14 +159,14 @@ complex_at kinds here step bits start proper h = complex_by (slice_get kinds her
 
 trees_complex : (V : Speller) (kinds : List PlainKind) (here : Place) (entries after : Entries) (trees : Trees) (bits : List Bool) → here.particle ≡ 0 → SpellsTrees V kinds here entries trees bits after → IsComplex kinds here.kind
 trees_complex V kinds here entries after none bits start h = complex_at kinds here End bits start tt h.0
-trees_complex V kinds here entries after (simple name value more) bits start h = complex_at kinds here (element name h.0 h.1) h.3 start tt h.6
-trees_complex V kinds here entries after (complex name attributes children more) bits start h = complex_at kinds here (element name h.0 h.1) h.5 start tt h.9
+trees_complex V kinds here entries after (simple name value more) bits start h = complex_at kinds here (element name h.kind h.next) h.code start tt h.starts
+trees_complex V kinds here entries after (complex name attributes children more) bits start h = complex_at kinds here (element name h.kind h.next) h.code start tt h.starts
 
 pub is_complex : (V : Speller) (kinds : List PlainKind) (here there : Place) (entries within after : Entries) (values : List (ℕ × Value)) (trees : Trees) (front inside : List Bool) → here.particle ≡ 0 →
     SpellsAttributes V kinds here entries values front there within → SpellsTrees V kinds there within trees inside after → IsComplex kinds here.kind
 is_complex V kinds here there entries within after [] trees front inside start a t =
     trees_complex V kinds here within after trees inside start (subst (λ (p : Place). SpellsTrees V kinds p within trees inside after) a.1 t)
-is_complex V kinds here there entries within after (value ∷ values) trees front inside start a t = complex_at kinds here (Attribute value.0 a.0 a.1) a.4 start tt a.7
+is_complex V kinds here there entries within after (value ∷ values) trees front inside start a t = complex_at kinds here (Attribute value.0 a.kind a.next) a.code start tt a.starts
 
 -- ---- with values of which a spelling tells what they are
 
@@ -186,11 +186,11 @@ module _ (V : Speller) (W : Values) (I : Entries → Type 0) (s : PlainSchema)
         hold = λ past. ([], none_chosen (drop here.attributes declared) (sym (ap (λ (p : Place). any_required (drop p.attributes declared)) h.1) ∙ past), refl);
       }
   attributes_held here there declared particles entries after (value ∷ values) bits at h held =
-      let stems = attribute_at s.kinds here declared particles at value.0 h.0 h.1 h.4 h.7 in
-      let own = unspell h.2 entries value.0 value.1 h.5 h.3 h.9 held in
+      let stems = attribute_at s.kinds here declared particles at value.0 h.kind h.next h.code h.starts in
+      let own = unspell h.datatype entries value.0 value.1 h.inside h.middle h.spelled held in
       let next_kind = ap (λ (p : Place). p.kind) stems.is_next in
-      let rest = attributes_held h.1 there declared particles h.3 after values h.6 (record { is_kind = ap (λ (k : ℕ). slice_get s.kinds k) next_kind ∙ at.is_kind }) h.10 own.1 in
-      let left : drop h.1.attributes declared ≡ drop (suc stems.passed) (drop here.attributes declared) =
+      let rest = attributes_held h.next there declared particles h.middle after values h.rest (record { is_kind = ap (λ (k : ℕ). slice_get s.kinds k) next_kind ∙ at.is_kind }) h.behind own.1 in
+      let left : drop h.next.attributes declared ≡ drop (suc stems.passed) (drop here.attributes declared) =
       ap (λ (p : Place). drop p.attributes declared) stems.is_next
       ∙ ap (λ (n : ℕ). drop n declared) (let e : here.attributes + stems.passed + 1 ≡ here.attributes + suc stems.passed = omega arith in e)
       ∙ sym (drop_more here.attributes (suc stems.passed) declared) in
@@ -206,7 +206,7 @@ module _ (V : Speller) (W : Values) (I : Entries → Type 0) (s : PlainSchema)
             let more = rest.hold past in (
               stems.chosen ∷ more.0,
               stems.are_chosen more.0 (subst (λ (l : List AttributeOf). AreChosen l more.0) left more.1),
-              (stems.named, (h.2, sym (ap (λ (k : ℕ). simple_at s.kinds k) stems.of_kind) ∙ h.8, own.0), more.2),
+              (stems.named, (h.datatype, sym (ap (λ (k : ℕ). simple_at s.kinds k) stems.of_kind) ∙ h.is_simple, own.0), more.2),
             );
       }
 
@@ -232,42 +232,42 @@ module _ (V : Speller) (W : Values) (I : Entries → Type 0) (s : PlainSchema)
       let end = end_at s.kinds here declared particles at bits h.0 in
       record { members = []; past = end.0; remain = end.1; elements = refl; kept = subst I (sym h.1) held }
   trees_held here declared particles entries after (simple name value more) bits at sound may h held =
-      let step = element_at s.kinds here declared particles at name h.0 h.1 h.3 sound may h.6 in
+      let step = element_at s.kinds here declared particles at name h.kind h.next h.code sound may h.starts in
       let stems = step.1 in
-      let inside = simple_held h.0 entries h.2 name value h.4 h.7 held in
-      let there = remain_there here h.1 declared particles name h.0 stems in
+      let inside = simple_held h.kind entries h.middle name value h.inside h.spelled held in
+      let there = remain_there here h.next declared particles name h.kind stems in
       let rest =
-      trees_held h.1 declared particles h.2 after more h.5 (record { is_kind = ap (λ (k : ℕ). slice_get s.kinds k) stems.same_kind ∙ at.is_kind }) sound
-      (subst (λ (l : List PlainParticle). MayBePassed h.1.copies l) (sym there) stems.may_pass) h.8 inside.1 in
+      trees_held h.next declared particles h.middle after more h.rest (record { is_kind = ap (λ (k : ℕ). slice_get s.kinds k) stems.same_kind ∙ at.is_kind }) sound
+      (subst (λ (l : List PlainParticle). MayBePassed h.next.copies l) (sym there) stems.may_pass) h.behind inside.1 in
       record {
         members = stems.member ∷ rest.members;
         past = step.0;
-        remain = stems.remain rest.members (subst (λ (l : List PlainParticle). Remain h.1.copies l rest.members) there rest.remain);
+        remain = stems.remain rest.members (subst (λ (l : List PlainParticle). Remain h.next.copies l rest.members) there rest.remain);
         elements = (stems.member, rest.members, refl, stems.named, subst (λ (k : ℕ). HasValue W s.kinds k value) stems.of_kind inside.0, rest.elements);
         kept = rest.kept;
       }
   trees_held here declared particles entries after (complex name attributes children more) bits at sound may h held =
-      let step = element_at s.kinds here declared particles at name h.0 h.1 h.5 sound may h.9 in
+      let step = element_at s.kinds here declared particles at name h.kind h.next h.code sound may h.starts in
       let stems = step.1 in
-      let kind = is_complex V s.kinds (first h.0) h.2 entries h.3 h.4 attributes children h.6 h.7 refl h.10 h.11 in
-      let front = attributes_held (first h.0) h.2 kind.0 kind.1 entries h.3 attributes h.6 (record { is_kind = kind.2 }) h.10 held in
-      let own_sound = sound_in s h.0 kind.0 kind.1 kind.2 in
+      let kind = is_complex V s.kinds (first h.kind) h.spelled.there entries h.spelled.within h.middle attributes children h.spelled.front h.spelled.inside refl h.spelled.begun h.spelled.ended in
+      let front = attributes_held (first h.kind) h.spelled.there kind.0 kind.1 entries h.spelled.within attributes h.spelled.front (record { is_kind = kind.2 }) h.spelled.begun held in
+      let own_sound = sound_in s h.kind kind.0 kind.1 kind.2 in
       let stands = front.stands in
-      let may_begin : MayBePassed h.2.copies (drop h.2.particle kind.1) =
-      subst (λ (c : ℕ). MayBePassed c (drop h.2.particle kind.1)) (sym stands.same_copies) (subst (λ (n : ℕ). MayBePassed 0 (drop n kind.1)) (sym stands.same_particle) (none_passed kind.1 own_sound)) in
-      let inside = trees_held h.2 kind.0 kind.1 h.3 h.4 children h.7 (record { is_kind = ap (λ (k : ℕ). slice_get s.kinds k) stands.same_kind ∙ kind.2 }) own_sound may_begin h.11 front.kept in
+      let may_begin : MayBePassed h.spelled.there.copies (drop h.spelled.there.particle kind.1) =
+      subst (λ (c : ℕ). MayBePassed c (drop h.spelled.there.particle kind.1)) (sym stands.same_copies) (subst (λ (n : ℕ). MayBePassed 0 (drop n kind.1)) (sym stands.same_particle) (none_passed kind.1 own_sound)) in
+      let inside = trees_held h.spelled.there kind.0 kind.1 h.spelled.within h.middle children h.spelled.inside (record { is_kind = ap (λ (k : ℕ). slice_get s.kinds k) stands.same_kind ∙ kind.2 }) own_sound may_begin h.spelled.ended front.kept in
       let all = front.hold inside.past in
       let divided : AreDivided kind.1 inside.members =
       divided_all kind.1 inside.members
-      (subst (λ (n : ℕ). Remain 0 (drop n kind.1) inside.members) stands.same_particle (subst (λ (c : ℕ). Remain c (drop h.2.particle kind.1) inside.members) stands.same_copies inside.remain)) in
-      let there = remain_there here h.1 declared particles name h.0 stems in
+      (subst (λ (n : ℕ). Remain 0 (drop n kind.1) inside.members) stands.same_particle (subst (λ (c : ℕ). Remain c (drop h.spelled.there.particle kind.1) inside.members) stands.same_copies inside.remain)) in
+      let there = remain_there here h.next declared particles name h.kind stems in
       let rest =
-      trees_held h.1 declared particles h.4 after more h.8 (record { is_kind = ap (λ (k : ℕ). slice_get s.kinds k) stems.same_kind ∙ at.is_kind }) sound
-      (subst (λ (l : List PlainParticle). MayBePassed h.1.copies l) (sym there) stems.may_pass) h.12 inside.kept in
+      trees_held h.next declared particles h.middle after more h.rest (record { is_kind = ap (λ (k : ℕ). slice_get s.kinds k) stems.same_kind ∙ at.is_kind }) sound
+      (subst (λ (l : List PlainParticle). MayBePassed h.next.copies l) (sym there) stems.may_pass) h.behind inside.kept in
       record {
         members = stems.member ∷ rest.members;
         past = step.0;
-        remain = stems.remain rest.members (subst (λ (l : List PlainParticle). Remain h.1.copies l rest.members) there rest.remain);
+        remain = stems.remain rest.members (subst (λ (l : List PlainParticle). Remain h.next.copies l rest.members) there rest.remain);
         elements = (
           stems.member,
           rest.members,

@@ -150,26 +150,26 @@ simple_among kinds kind entries after name value bits h = value_among h.datatype
 pub attributes_among : (kinds : List PlainKind) (here there : Place) (entries after : Entries) (values : List (ℕ × Value)) (bits : List Bool) → SpellsAttributes SpellsValue kinds here entries values bits there after → Among after (attribute_texts values) × Grows entries after
 attributes_among kinds here there entries after [] bits h = (tt, grows_same entries after h.2)
 attributes_among kinds here there entries after (value ∷ values) bits h =
-    let own = value_among h.2 entries value.0 value.1 h.5 h.3 h.9 in
-    let rest = attributes_among kinds h.1 there h.3 after values h.6 h.10 in (
-      both_among after (text_in value.1) (attribute_texts values) (all_grown h.3 after (text_in value.1) rest.1 own.0) rest.0,
+    let own = value_among h.datatype entries value.0 value.1 h.inside h.middle h.spelled in
+    let rest = attributes_among kinds h.next there h.middle after values h.rest h.behind in (
+      both_among after (text_in value.1) (attribute_texts values) (all_grown h.middle after (text_in value.1) rest.1 own.0) rest.0,
       (λ t known. rest.1 t (own.1 t known)),
     )
 
 pub trees_among : (kinds : List PlainKind) (here : Place) (entries after : Entries) (trees : Trees) (bits : List Bool) → SpellsTrees SpellsValue kinds here entries trees bits after → Among after (texts_of trees) × Grows entries after
 trees_among kinds here entries after none bits h = (tt, grows_same entries after h.1)
 trees_among kinds here entries after (simple name value more) bits h =
-    let own = simple_among kinds h.0 entries h.2 name value h.4 h.7 in
-    let rest = trees_among kinds h.1 h.2 after more h.5 h.8 in (
-      both_among after (text_in value) (texts_of more) (all_grown h.2 after (text_in value) rest.1 own.0) rest.0,
+    let own = simple_among kinds h.kind entries h.middle name value h.inside h.spelled in
+    let rest = trees_among kinds h.next h.middle after more h.rest h.behind in (
+      both_among after (text_in value) (texts_of more) (all_grown h.middle after (text_in value) rest.1 own.0) rest.0,
       (λ t known. rest.1 t (own.1 t known)),
     )
 trees_among kinds here entries after (complex name attributes children more) bits h =
-    let front = attributes_among kinds _ h.2 entries h.3 attributes h.6 h.10 in
-    let inside = trees_among kinds h.2 h.3 h.4 children h.7 h.11 in
-    let rest = trees_among kinds h.1 h.4 after more h.8 h.12 in (
+    let front = attributes_among kinds _ h.spelled.there entries h.spelled.within attributes h.spelled.front h.spelled.begun in
+    let inside = trees_among kinds h.spelled.there h.spelled.within h.middle children h.spelled.inside h.spelled.ended in
+    let rest = trees_among kinds h.next h.middle after more h.rest h.behind in (
       both_among after (attribute_texts attributes) (texts_of children ++ texts_of more)
-          (all_grown h.3 after (attribute_texts attributes) (λ t known. rest.1 t (inside.1 t known)) front.0)
-          (both_among after (texts_of children) (texts_of more) (all_grown h.4 after (texts_of children) rest.1 inside.0) rest.0),
+          (all_grown h.spelled.within after (attribute_texts attributes) (λ t known. rest.1 t (inside.1 t known)) front.0)
+          (both_among after (texts_of children) (texts_of more) (all_grown h.middle after (texts_of children) rest.1 inside.0) rest.0),
       (λ t known. rest.1 t (inside.1 t (front.1 t known))),
     )

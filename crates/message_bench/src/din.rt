@@ -46,14 +46,16 @@ fn do_often(tables: &DinTables, task: Task, payload: &[u8], table: &mut Table, r
     }
 }
 
+/// Reads the payload so many times into one message, and counts it. Making a message each time would fill its room once more.
 fn read_often(tables: &DinTables, payload: &[u8], table: &mut Table, rounds: u32) -> u64
     requires payload { length payload.now ≤ 65536 }
     requires cap { table.old.cap ≡ most_entries }
     ensures { table.new.cap ≡ most_entries }
 {
+    let mut message = DinMessage::default();
     let mut count = 0_u64;
     for _ in 0..rounds {
-        if read_din(tables, payload, table).is_ok() {
+        if read_din(tables, payload, table, &mut message).is_ok() {
             count = count.wrapping_add(1);
         }
     }
@@ -66,8 +68,9 @@ fn write_often(tables: &DinTables, payload: &[u8], table: &mut Table, rounds: u3
     ensures { table.new.cap ≡ most_entries }
 {
     din_codec::laws::messages_are_written();
-    match read_din(tables, payload, table) {
-        Ok(message) => write_rounds(tables, &message, table, rounds),
+    let mut message = DinMessage::default();
+    match read_din(tables, payload, table, &mut message) {
+        Ok(()) => write_rounds(tables, &message, table, rounds),
         Err(_) => 0,
     }
 }

@@ -142,12 +142,12 @@ module _ (ks : List PlainKind) (F : Frame) (attributes : List AttributeOf) (decl
           ((n : ℕ) (x : ReadValue) → e ≡ read.Attribute n x → v ≡ x) →
           Goes ks F (now ∷ told) new → MovesFrom SpellsValue F.schema (Inside (opened F.name here) F.above) entries now bits new.state → Came v
       attribute_by e v (Document number) entries bits are is in_it goes moves = absurd moves
-      attribute_by e v (Start n) entries bits are is in_it goes moves = let wrong = only _ _ are moves.2 in absurd cc
+      attribute_by e v (Start n) entries bits are is in_it goes moves = let wrong = only _ _ are moves.starts in absurd cc
       attribute_by e v (Attribute n value) entries bits are is in_it goes moves =
           let x = attribute_event e n value is in
-          took n moves.0 moves.1 moves.2 v value entries moves.3 moves.5 are (only _ _ are moves.6) moves.7 moves.8 (sym x.3 ∙ ap value_of (sym (in_it x.0 x.1 x.2))) goes (ap (λ (s : State). s.standing) moves.10)
+          took n moves.kind moves.next moves.datatype v value entries moves.after moves.inside are (only _ _ are moves.starts) moves.is_simple moves.spelled (sym x.3 ∙ ap value_of (sym (in_it x.0 x.1 x.2))) goes (ap (λ (s : State). s.standing) moves.leads)
       attribute_by e v (Content value) entries bits are is in_it goes moves =
-          let none : None ≡ Some moves.1 = sym (not_simple F.schema ks kind 0 0 attributes declared are h.is_kind) ∙ moves.6 in absurd cc
+          let none : None ≡ Some moves.datatype = sym (not_simple F.schema ks kind 0 0 attributes declared are h.is_kind) ∙ moves.is_simple in absurd cc
       attribute_by e v EndElement entries bits are is in_it goes moves = let wrong = only _ _ are moves.0 in absurd cc
 
       attribute_next : (e : ReadEvent) (o : Option Event) (v : ReadValue) → event_of e ≡ o → ((n : ℕ) (x : ReadValue) → e ≡ read.Attribute n x → v ≡ x) →
@@ -195,18 +195,18 @@ module _ (ks : List PlainKind) (F : Frame) (attributes : List AttributeOf) (decl
       last_by (read.Start n) (Start name) entries bits are is child goes moves =
           let same : Some (Start n) ≡ Some (Start name) = is in
           let name_is : n ≡ name = cc in
-          let code = subst (λ (os : List Step). slice_get os moves.2.code ≡ Some (element name moves.0 moves.1)) (offered_here are) moves.2.offered in
-          let c = behind_first moves.2.code (element name moves.0 moves.1) (λ wrong. cc) code in
-          looks (Some name) (child ∙ ap (λ (m : ℕ). Some m) name_is) (c.0, moves.0, moves.1, c.1, goes, ap (λ (st : State). st.standing) moves.3)
+          let code = subst (λ (os : List Step). slice_get os moves.starts.code ≡ Some (element name moves.kind moves.next)) (offered_here are) moves.starts.offered in
+          let c = behind_first moves.starts.code (element name moves.kind moves.next) (λ wrong. cc) code in
+          looks (Some name) (child ∙ ap (λ (m : ℕ). Some m) name_is) (c.0, moves.kind, moves.next, c.1, goes, ap (λ (st : State). st.standing) moves.leads)
       last_by e (Start name) entries bits are is child goes moves = absurd cc
       last_by (read.Attribute n x) (Attribute name value) entries bits are is child goes moves =
           let same : Some (Attribute n (value_of x)) ≡ Some (Attribute name value) = is in
           let v_is : value_of x ≡ value = cc in
-          let code = subst (λ (os : List Step). slice_get os moves.6.code ≡ Some (step.Attribute name moves.0 moves.1)) (offered_here are) moves.6.offered in
-          took name moves.0 moves.1 moves.2 x value entries moves.3 moves.5 are (at_first moves.6.code name moves.0 moves.1 code) moves.7 moves.8 (sym v_is) goes (ap (λ (s : State). s.standing) moves.10)
+          let code = subst (λ (os : List Step). slice_get os moves.starts.code ≡ Some (step.Attribute name moves.kind moves.next)) (offered_here are) moves.starts.offered in
+          took name moves.kind moves.next moves.datatype x value entries moves.after moves.inside are (at_first moves.starts.code name moves.kind moves.next code) moves.is_simple moves.spelled (sym v_is) goes (ap (λ (s : State). s.standing) moves.leads)
       last_by e (Attribute name value) entries bits are is child goes moves = absurd cc
       last_by e (Content value) entries bits are is child goes moves =
-          let none : None ≡ Some moves.1 = sym (not_simple F.schema ks kind 0 0 attributes declared are h.is_kind) ∙ moves.6 in absurd cc
+          let none : None ≡ Some moves.datatype = sym (not_simple F.schema ks kind 0 0 attributes declared are h.is_kind) ∙ moves.is_simple in absurd cc
       last_by read.EndElement EndElement entries bits are is child goes moves =
           let code = subst (λ (os : List Step). slice_get os moves.0.code ≡ Some step.End) (offered_here are) moves.0.offered in
           let c = behind_first moves.0.code step.End (λ wrong. cc) code in

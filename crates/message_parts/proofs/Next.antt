@@ -121,15 +121,15 @@ module _ (ks : List PlainKind) (F : Frame) (kind at copies : ℕ) (attributes : 
   child_by (read.Start n) entries bits (Start name) are is goes moves =
       let same : Some (Start n) ≡ Some (Start name) = is in
       let name_is : n ≡ name = cc in
-      let code = subst (λ (os : List Step). slice_get os moves.2.code ≡ Some (element name moves.0 moves.1))
-      (offered_here F.schema ks kind at copies attributes declared are is_kind) moves.2.offered in
-      subst (λ (k : ℕ). Child (Some k)) (sym name_is) (moves.2.code, moves.0, moves.1, code, goes, ap (λ (st : State). st.standing) moves.3)
+      let code = subst (λ (os : List Step). slice_get os moves.starts.code ≡ Some (element name moves.kind moves.next))
+      (offered_here F.schema ks kind at copies attributes declared are is_kind) moves.starts.offered in
+      subst (λ (k : ℕ). Child (Some k)) (sym name_is) (moves.starts.code, moves.kind, moves.next, code, goes, ap (λ (st : State). st.standing) moves.leads)
   child_by e entries bits (Start name) are is goes moves = absurd cc
   child_by e entries bits (Attribute name value) are is goes moves =
-      absurd (each_of IsElementOrEnd _ moves.6.code _ (all_elements (at_particle kind (length attributes) at copies) (length attributes) at copies (drop at declared))
-      (subst (λ (os : List Step). slice_get os moves.6.code ≡ Some (step.Attribute name moves.0 moves.1)) (offered_here F.schema ks kind at copies attributes declared are is_kind) moves.6.offered))
+      absurd (each_of IsElementOrEnd _ moves.starts.code _ (all_elements (at_particle kind (length attributes) at copies) (length attributes) at copies (drop at declared))
+      (subst (λ (os : List Step). slice_get os moves.starts.code ≡ Some (step.Attribute name moves.kind moves.next)) (offered_here F.schema ks kind at copies attributes declared are is_kind) moves.starts.offered))
   child_by e entries bits (Content value) are is goes moves =
-      let none : None ≡ Some moves.1 = sym (not_simple F.schema ks kind at copies attributes declared are is_kind) ∙ moves.6 in absurd cc
+      let none : None ≡ Some moves.datatype = sym (not_simple F.schema ks kind at copies attributes declared are is_kind) ∙ moves.is_simple in absurd cc
   child_by read.EndElement entries bits EndElement are is goes moves =
       let code = subst (λ (os : List Step). slice_get os moves.0.code ≡ Some step.End) (offered_here F.schema ks kind at copies attributes declared are is_kind) moves.0.offered in
       ((moves.0.code, code), goes, ap (λ (st : State). st.standing) moves.1)
@@ -208,18 +208,18 @@ module _ (ks : List PlainKind) (F : Frame) (kind : ℕ) (d : Datatype) (told : L
       Goes ks F (now ∷ told) new → MovesFrom SpellsValue F.schema (Inside (opened F.name (first kind)) F.above) entries now bits new.state → Came v
   content_by e v (Document number) entries bits are is in_it goes moves = absurd moves
   content_by e v (Start name) entries bits are is in_it goes moves =
-      let wrong = one_step (first kind) _ _ _ are refl refl moves.2 in absurd cc
+      let wrong = one_step (first kind) _ _ _ are refl refl moves.starts in absurd cc
   content_by e v (Attribute name value) entries bits are is in_it goes moves =
-      let wrong = one_step (first kind) _ _ _ are refl refl moves.6 in absurd cc
+      let wrong = one_step (first kind) _ _ _ are refl refl moves.starts in absurd cc
   content_by e v (Content value) entries bits are is in_it goes moves =
       let x = value_event e value is in
       let v_is : value ≡ value_of v = sym x.2 ∙ ap value_of (sym (in_it x.0 x.1)) in
-      let d_is : moves.1 ≡ d = (let both : Some moves.1 ≡ Some d = sym moves.6 ∙ simple_in are in cc) in
-      let next : step.Characters moves.0 ≡ step.Characters (behind_value kind) = one_step (first kind) _ _ _ are refl refl moves.5 in
-      let next_is : moves.0 ≡ behind_value kind = cc in
-      let spelled = subst (λ (t : Datatype). SpellsValue t entries F.name value moves.4 moves.2) d_is moves.7 in
-      let good : IsRead d value = is_read d entries moves.2 F.name value moves.4 spelled in
-      let st : new.state.standing ≡ Inside (opened F.name (behind_value kind)) F.above = ap (λ (s : State). s.standing) moves.9 ∙ ap (λ (p : Place). Inside (opened F.name p) F.above) next_is in
+      let d_is : moves.datatype ≡ d = (let both : Some moves.datatype ≡ Some d = sym moves.is_simple ∙ simple_in are in cc) in
+      let next : step.Characters moves.next ≡ step.Characters (behind_value kind) = one_step (first kind) _ _ _ are refl refl moves.starts in
+      let next_is : moves.next ≡ behind_value kind = cc in
+      let spelled = subst (λ (t : Datatype). SpellsValue t entries F.name value moves.inside moves.after) d_is moves.spelled in
+      let good : IsRead d value = is_read d entries moves.after F.name value moves.inside spelled in
+      let st : new.state.standing ≡ Inside (opened F.name (behind_value kind)) F.above = ap (λ (s : State). s.standing) moves.leads ∙ ap (λ (p : Place). Inside (opened F.name p) F.above) next_is in
       subst (λ (w : Value). IsRead d w × HasValue ks F kind (Content w ∷ told) new) v_is (good, record { goes = goes; standing = st })
   content_by e v EndElement entries bits are is in_it goes moves =
       let wrong = one_step (first kind) _ _ _ are refl refl moves.0 in absurd cc
@@ -238,11 +238,11 @@ module _ (ks : List PlainKind) (F : Frame) (kind : ℕ) (d : Datatype) (told : L
       Goes ks F (now ∷ told) new → MovesFrom SpellsValue F.schema (Inside (opened F.name (behind_value kind)) F.above) entries now bits new.state → Leaves ks F told new
   end_by (Document number) entries bits are goes moves = absurd moves
   end_by (Start name) entries bits are goes moves =
-      let wrong = one_step (behind_value kind) _ _ _ are refl refl moves.2 in absurd cc
+      let wrong = one_step (behind_value kind) _ _ _ are refl refl moves.starts in absurd cc
   end_by (Attribute name value) entries bits are goes moves =
-      let wrong = one_step (behind_value kind) _ _ _ are refl refl moves.6 in absurd cc
+      let wrong = one_step (behind_value kind) _ _ _ are refl refl moves.starts in absurd cc
   end_by (Content value) entries bits are goes moves =
-      let wrong = one_step (behind_value kind) _ _ _ are refl refl moves.5 in absurd cc
+      let wrong = one_step (behind_value kind) _ _ _ are refl refl moves.starts in absurd cc
   end_by EndElement entries bits are goes moves = record { goes = goes; standing = ap (λ (s : State). s.standing) moves.1 }
 
   pub end_next : (o : Option Event) (old : Seen) → HasValue ks F kind told old →

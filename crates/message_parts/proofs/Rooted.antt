@@ -1,5 +1,5 @@
 -- The root of a document, and the end behind it.
-use Rattle.std.proofs.Common.{◌≡◌, ℕ, List, [], ◌∷◌, ◌++◌, length, Option, Some, None, Bool, true, if◌then◌else◌, refl, sym, ap, subst, ◌∙◌, zero, suc}
+use Rattle.std.proofs.Common.{Result, Ok, Err, IfOk, ◌≡◌, ℕ, List, [], ◌∷◌, ◌++◌, length, Option, Some, None, Bool, true, if◌then◌else◌, refl, sym, ap, subst, ◌∙◌, zero, suc}
 use Rattle.std.specs.Prelude.{slice_get, ◌==◌, ◌&&◌}
 use Rattle.std.specs.List.{list_all}
 use Rattle.exi_bits.specs.Reading.{Cursor}
@@ -33,10 +33,10 @@ module _ (s : PlainSchema) (bits : List Bool) (old new : Seen) (kept : new.schem
         bits_are = same_bits ∙ begins.bits_are;
         none_refused = open_still;
         number = number;
-        name = moves.0;
-        kind = moves.1;
-        named = moves.3;
-        standing = ap (λ (st : State). st.standing) moves.6;
+        name = moves.name;
+        kind = moves.kind;
+        named = moves.named;
+        standing = ap (λ (st : State). st.standing) moves.leads;
         told = told;
       }
   numbered_by (Start name) entries front begins told moves = absurd moves
@@ -131,3 +131,8 @@ root_chosen ks members s bits d are among r =
 pub is_document : (s : PlainSchema) (name number : ℕ) (inside : Contents) (payload : List ℕ) → IsTold s (EndElement ∷ told_inside inside (Start name ∷ Document number ∷ [])) payload → IsDocument s (root_of name inside) payload
 is_document s name number inside payload told =
     subst (λ t. IsDocument s t payload) (root_is name number told.0 inside told.1 told.2) told.3
+
+pub is_read : {V E : Type 0} (r : Result V E) (s : PlainSchema) (name number : ℕ) (inside : Contents) (payload : List ℕ) → IfOk r (λ _. IsTold s (EndElement ∷ told_inside inside (Start name ∷ Document number ∷ [])) payload) →
+    IfOk r (λ _. IsDocument s (root_of name inside) payload)
+is_read {V} {E} (Ok v) s name number inside payload told = is_document s name number inside payload told
+is_read {V} {E} (Err e) s name number inside payload told = tt

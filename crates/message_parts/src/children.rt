@@ -1,6 +1,6 @@
 //! The children of an element, one after the other.
 
-ghost use Rattle.std.specs.Prelude.{◌≡◌, ℕ, suc, ◌∷◌, [], List, true, Some, IfOk, IfErr, slice_get, map, length};
+ghost use Rattle.std.specs.Prelude.{◌≡◌, ℕ, suc, ◌∷◌, [], List, true, Some, None, IfOk, IfErr, slice_get, map, length};
 ghost use Rattle.exi_documents.specs.Trees.{Event as TreeEvent, Attribute};
 ghost use Rattle.exi_schema.specs.declared.tables.AttributeOf.{AttributeOf};
 ghost use Rattle.exi_schema.specs.declared.tables.Datatype.{Datatype};
@@ -11,7 +11,7 @@ ghost use Rattle.message_parts.specs.Particles.{name_at, kind_at, alternatives_a
 ghost use Rattle.message_parts.specs.Reading.{Frame, seen_of, IsOpen, Enters, Leaves, Reads, IsRefusal, IsChosen, StartsAt};
 
 use crate::descent::Descent;
-use crate::part::{Choice, Group, Record, Simple};
+use crate::part::{Choice, Group, LargeGroup, LargeRecord, Record, Simple};
 use arrayvec::ArrayVec;
 use exi_documents::Refusal;
 use exi_schema::Places;
@@ -307,7 +307,9 @@ pub fn member_value<'a, T: Simple<'a>, P: Places>(
     simple_inside(descent)
 }
 
-/// What a member with attributes and children contains, where the child that has started is this member.
+/// What a member with attributes and children contains, where the child that has started is this member. Each has a function of its own,
+/// so that a group of many members doesn't fill the room that one of them wants.
+#[inline(never)]
 pub fn member<'a, T: Record<'a>, P: Places>(descent: &mut Descent<'a, '_, P>) -> Result<T, Refusal>
     requires open { IsOpen P.schema descent.old }
     ensures open { IsOpen P.schema descent.new }
@@ -328,3 +330,91 @@ pub fn left_out<P: Places>(descent: &Descent<'_, '_, P>)
         → Reads ks F attributes declared at told (seen_of P.schema descent.now) → is_left_out (slice_get declared at) ≡ true
         → Reads ks F attributes declared (suc at) told (seen_of P.schema descent.now) }
 {}
+
+// ---- elements that are read into a place that the caller lends
+
+/// The rest of an element that has started and has attributes and children.
+fn record_here<'a, T: LargeRecord<'a>, P: Places>(
+    place: &mut T,
+    descent: &mut Descent<'a, '_, P>,
+) -> Result<(), Refusal>
+    requires open { IsOpen P.schema descent.old }
+    ensures open { IsOpen P.schema descent.new }
+    ensures table { descent.new.reader.table.ghost_name ≡ descent.old.reader.table.ghost_name }
+    ensures places { descent.new.reader.places.now ≡ descent.old.reader.places.now }
+    ensures payload { descent.new.reader.reader.bits ≡ descent.old.reader.reader.bits }
+    ensures refused { IfErr result (λ r. IsRefusal (seen_of P.schema descent.old) r) }
+    ensures read { (F : Frame) (kind : ℕ) (told : List TreeEvent) → Enters T.kinds F kind told (seen_of P.schema descent.old)
+        → slice_get T.kinds kind ≡ Some (containing T.attributes T.particles)
+        → IfOk result (λ _. Leaves T.kinds F (told_inside (holding_with (T.given place.new) (T.parts place.new)) told) (seen_of P.schema descent.new)) }
+{
+    place.read_here(descent)
+}
+
+/// An element with attributes and children that has to be there.
+pub fn required_here<'a, T: LargeRecord<'a>, P: Places>(
+    place: &mut T,
+    descent: &mut Descent<'a, '_, P>,
+) -> Result<(), Refusal>
+    requires open { IsOpen P.schema descent.old }
+    ensures open { IsOpen P.schema descent.new }
+    ensures table { descent.new.reader.table.ghost_name ≡ descent.old.reader.table.ghost_name }
+    ensures places { descent.new.reader.places.now ≡ descent.old.reader.places.now }
+    ensures payload { descent.new.reader.reader.bits ≡ descent.old.reader.reader.bits }
+    ensures refused { IfErr result (λ r. IsRefusal (seen_of P.schema descent.old) r) }
+    ensures read { (F : Frame) (attributes : List AttributeOf) (declared : List PlainParticle) (at : ℕ) (told : List TreeEvent) → Reads T.kinds F attributes declared at told (seen_of P.schema descent.old)
+        → is_once_at declared at ≡ true → slice_get T.kinds (kind_at declared at) ≡ Some (containing T.attributes T.particles)
+        → IfOk result (λ _. Reads T.kinds F attributes declared (suc at) (told_one (name_at declared at) (holding_with (T.given place.new) (T.parts place.new)) told) (seen_of P.schema descent.new)) }
+{
+    record_here(place, descent)?;
+    descent.next_child()
+}
+
+/// Nothing stands in a place any more. A function of its own, so that others don't fill the room of what they clear.
+#[inline(never)]
+fn clear<T: Drop>(place: &mut Option<T>)
+    ensures { place.new ≡ None }
+{
+    *place = None;
+}
+
+/// One of several elements that may be there.
+pub fn optional_choice_here<'a, T: LargeGroup<'a>, P: Places>(
+    place: &mut Option<T>,
+    descent: &mut Descent<'a, '_, P>,
+) -> Result<(), Refusal>
+    requires open { IsOpen P.schema descent.old }
+    ensures open { IsOpen P.schema descent.new }
+    ensures table { descent.new.reader.table.ghost_name ≡ descent.old.reader.table.ghost_name }
+    ensures places { descent.new.reader.places.now ≡ descent.old.reader.places.now }
+    ensures payload { descent.new.reader.reader.bits ≡ descent.old.reader.reader.bits }
+    ensures refused { IfErr result (λ r. IsRefusal (seen_of P.schema descent.old) r) }
+    ensures read { (F : Frame) (attributes : List AttributeOf) (declared : List PlainParticle) (at : ℕ) (told : List TreeEvent) → Reads T.kinds F attributes declared at told (seen_of P.schema descent.old)
+        → is_single (slice_get declared at) ≡ true → alternatives_at declared at ≡ T.members
+        → IfOk result (λ _. Reads T.kinds F attributes declared (suc at) (told_choice (mapped (λ v. (T.name v, T.inside v)) place.new) told) (seen_of P.schema descent.new)) }
+{
+    if !descent.is_among(T::names()) {
+        clear(place);
+        return Ok(());
+    }
+    T::read_member_into(place, descent)?;
+    descent.next_child()
+}
+
+/// What a member with attributes and children contains, where the child that has started is this member.
+pub fn member_here<'a, T: LargeRecord<'a>, P: Places>(
+    place: &mut T,
+    descent: &mut Descent<'a, '_, P>,
+) -> Result<(), Refusal>
+    requires open { IsOpen P.schema descent.old }
+    ensures open { IsOpen P.schema descent.new }
+    ensures table { descent.new.reader.table.ghost_name ≡ descent.old.reader.table.ghost_name }
+    ensures places { descent.new.reader.places.now ≡ descent.old.reader.places.now }
+    ensures payload { descent.new.reader.reader.bits ≡ descent.old.reader.reader.bits }
+    ensures refused { IfErr result (λ r. IsRefusal (seen_of P.schema descent.old) r) }
+    ensures read { (F : Frame) (members : List (ℕ × ℕ)) (name kind : ℕ) (told : List TreeEvent) → IsChosen T.kinds F members told (seen_of P.schema descent.old)
+        → descent.old.child ≡ Some name → kind_among members name ≡ Some kind → slice_get T.kinds kind ≡ Some (containing T.attributes T.particles)
+        → IfOk result (λ _. (name ≡ F.name) × Leaves T.kinds F (told_inside (holding_with (T.given place.new) (T.parts place.new)) told) (seen_of P.schema descent.new)) }
+{
+    record_here(place, descent)
+}

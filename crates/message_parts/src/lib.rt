@@ -11,13 +11,16 @@ mod texts;
 mod writer;
 
 pub use children::{
-    attribute, choice, first_child, last_attribute, left_out, member, member_value, optional,
-    optional_choice, optional_value, records, required, value, values,
+    attribute, choice, first_child, last_attribute, left_out, member, member_here, member_value,
+    optional, optional_choice, optional_choice_here, optional_value, records, required,
+    required_here, value, values,
 };
 pub use descent::Descent;
-pub use document::{read, write};
+pub use document::{read, read_here, write};
 pub use lent_text::LentText;
-pub use part::{Choice, Group, PutChoice, PutRecord, Record, Root, Simple};
+pub use part::{
+    Choice, Group, LargeChoice, LargeGroup, LargeRecord, PutChoice, PutRecord, Record, Root, Simple,
+};
 pub use texts::{Binary, Text};
 pub use writer::{
     put_attribute, put_choice, put_event, put_optional, put_optional_attribute,

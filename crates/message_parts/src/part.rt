@@ -80,6 +80,31 @@ pub trait Record<'a>: PutRecord {
             → IfOk result (λ v. Reads kinds F attributes particles (length particles) (told_parts (Self.parts v) (told_given (Self.given v) told)) (seen_of P.schema descent.new)) };
 }
 
+/// What an element of a complex kind contains, as it is read into a place that the caller lends: for types that are too large to move.
+pub trait LargeRecord<'a>: PutRecord {
+    /// The declarations of its schema.
+    ghost kinds: { List PlainKind };
+
+    /// Those of its attributes.
+    ghost attributes: { List AttributeOf };
+
+    /// Those of its elements.
+    ghost particles: { List PlainParticle };
+
+    /// Reads the attributes and the elements, up to where there is no more. What it is after a refusal is not told.
+    fn read_here<P: Places>(&mut self, descent: &mut Descent<'a, '_, P>) -> Result<(), Refusal>
+        requires open { IsOpen P.schema descent.old }
+        ensures open { IsOpen P.schema descent.new }
+        ensures table { descent.new.reader.table.ghost_name ≡ descent.old.reader.table.ghost_name }
+        ensures places { descent.new.reader.places.now ≡ descent.old.reader.places.now }
+        ensures payload { descent.new.reader.reader.bits ≡ descent.old.reader.reader.bits }
+        ensures refused { IfErr result (λ r. IsRefusal (seen_of P.schema descent.old) r) }
+        // No two elements have one name.
+        ensures distinct { are_distinct (names_in particles) ≡ true }
+        ensures read { (F : Frame) (told : List TreeEvent) → StartsAt kinds F attributes particles 0 told (seen_of P.schema descent.old)
+            → IfOk result (λ _. Reads kinds F attributes particles (length particles) (told_parts (Self.parts self.new) (told_given (Self.given self.new) told)) (seen_of P.schema descent.new)) };
+}
+
 /// One of several elements, of a choice or of a substitution group, and how it is put.
 pub trait PutChoice: Drop {
     /// Which it is.
@@ -122,6 +147,56 @@ pub trait Group<'a>: Choice<'a> {
     /// The names of the elements that may stand there.
     fn names() -> &'static [u16]
         ensures { result.now ≡ names_among Self.members };
+}
+
+/// One of several elements where none may stand either, as it is read into a place that the caller lends.
+pub trait LargeGroup<'a>: PutChoice {
+    /// The declarations of its schema.
+    ghost kinds: { List PlainKind };
+
+    /// The names and kinds of the elements that may stand there.
+    ghost members: { List (ℕ × ℕ) };
+
+    /// The names of the elements that may stand there.
+    fn names() -> &'static [u16]
+        ensures { result.now ≡ names_among members };
+
+    /// Reads the rest of the element, which has started. What stands in the place after a refusal is not told.
+    fn read_member_into<P: Places>(
+        place: &mut Option<Self>,
+        descent: &mut Descent<'a, '_, P>,
+    ) -> Result<(), Refusal>
+        requires open { IsOpen P.schema descent.old }
+        ensures open { IsOpen P.schema descent.new }
+        ensures table { descent.new.reader.table.ghost_name ≡ descent.old.reader.table.ghost_name }
+        ensures places { descent.new.reader.places.now ≡ descent.old.reader.places.now }
+        ensures payload { descent.new.reader.reader.bits ≡ descent.old.reader.reader.bits }
+        ensures refused { IfErr result (λ r. IsRefusal (seen_of P.schema descent.old) r) }
+        ensures read { (F : Frame) (told : List TreeEvent) → IsChosen kinds F members told (seen_of P.schema descent.old)
+            → IfOk result (λ _. (v : Self) × (place.new ≡ Some v) × (Self.name v ≡ F.name) × Leaves kinds F (told_inside (Self.inside v) told) (seen_of P.schema descent.new)) };
+}
+
+/// What stands at the root of a document, as it is read into a place that the caller lends.
+pub trait LargeChoice<'a>: PutChoice {
+    /// The declarations of its schema.
+    ghost kinds: { List PlainKind };
+
+    /// The names and kinds of the elements that may stand there.
+    ghost members: { List (ℕ × ℕ) };
+
+    /// Reads the rest of the element, which has started. What it is after a refusal is not told.
+    fn read_member_here<P: Places>(
+        &mut self,
+        descent: &mut Descent<'a, '_, P>,
+    ) -> Result<(), Refusal>
+        requires open { IsOpen P.schema descent.old }
+        ensures open { IsOpen P.schema descent.new }
+        ensures table { descent.new.reader.table.ghost_name ≡ descent.old.reader.table.ghost_name }
+        ensures places { descent.new.reader.places.now ≡ descent.old.reader.places.now }
+        ensures payload { descent.new.reader.reader.bits ≡ descent.old.reader.reader.bits }
+        ensures refused { IfErr result (λ r. IsRefusal (seen_of P.schema descent.old) r) }
+        ensures read { (F : Frame) (told : List TreeEvent) → IsChosen kinds F members told (seen_of P.schema descent.old)
+            → IfOk result (λ _. (Self.name self.new ≡ F.name) × Leaves kinds F (told_inside (Self.inside self.new) told) (seen_of P.schema descent.new)) };
 }
 
 /// The root of a document.

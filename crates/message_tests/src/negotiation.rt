@@ -2,8 +2,8 @@ ghost use Rattle.std.specs.Prelude.{◌≡◌, ◌≤◌, length};
 ghost use Rattle.exi_documents.specs.Values.{most_entries};
 
 use app_protocol::{
-    AppCode, AppMessage, AppProtocol, AppReq, AppRes, Dialect, Offer, RefusalCause, ScanFault,
-    Table, Text, negotiate, read_app, scan, write_app,
+    AppCode, AppMessage, AppProtocol, AppReq, AppRes, Dialect, Full, Offer, RefusalCause,
+    ScanFault, Table, Text, negotiate, read_app, scan, write_app,
 };
 use arrayvec::ArrayVec;
 use exi_documents::MOST_ENTRIES;
@@ -123,8 +123,12 @@ fn the_published_response_is_written(rt: HostRuntime) -> Result<(), Fail> {
     let mut room = [0xff; 5];
     assert_eq!(rt; write_app(&response, &mut room, &mut table), Ok(4));
     assert_eq!(rt; room, [0x80, 0x40, 0x00, 0x40, 0xff]);
+    // Header 8, root 2, ResponseCode 1 + 1 + 2 + 1, SchemaID 2 + 1 + 8 + 1, end 1.
+    let needed = Err(Full { bits: 28 });
     let mut short = [0xff; 3];
-    assert!(rt; write_app(&response, &mut short, &mut table).is_err());
+    assert_eq!(rt; write_app(&response, &mut short, &mut table), needed);
+    let mut none = [0; 0];
+    assert_eq!(rt; write_app(&response, &mut none, &mut table), needed);
     Ok(())
 }
 

@@ -4,7 +4,7 @@ ghost use Rattle.std.specs.Prelude.{◌≡◌, ◌≤◌, ◌<◌, ◌*◌, ◌�
 ghost use Rattle.exi_documents.specs.Documents.{IsDocument, IsEncoding};
 ghost use Rattle.exi_documents.specs.Refusals.{IsRefused};
 ghost use Rattle.exi_documents.specs.Values.{most_entries};
-ghost use Rattle.message_parts.specs.Documents.{IsWritable, PassesBytes};
+ghost use Rattle.message_parts.specs.Documents.{IsWritable, PassesBytes, TellsBits};
 ghost use Rattle.parts_examples.specs.Declarations.{report_schema};
 ghost use Rattle.parts_examples.specs.Parts.{report_tree};
 
@@ -218,7 +218,8 @@ pub fn read_report<'a, P: Places>(
 /// Writes the one encoding of a report to the front of a room of at most 65,536 bytes, and returns how many bytes it has. The table,
 /// which has room for 8,192 entries, is emptied.
 ///
-/// `Full` exactly where the encoding has more bits than the room.
+/// `Full` exactly where the encoding has more bits than the room. It tells the bits of the whole encoding where these are at most
+/// 65,536 bytes, and else more than those have.
 pub fn write_report<P: Places>(
     message: &Report<'_>,
     room: &mut [u8],
@@ -233,7 +234,8 @@ pub fn write_report<P: Places>(
     ensures within { IfOk result (λ n. n ≤ length room.new) }
     ensures written { IfOk result (λ n. IsEncoding report_schema (report_tree message.now) (take n room.new)) }
     ensures full { IsErr result ↔ PassesBytes report_schema 0 (report_tree message.now) (length room.old) }
-    ensures bits { IfErr result (λ full. 8 * length room.old < full.bits) }
+    ensures bits { IfErr result (λ full. TellsBits report_schema 0 (report_tree message.now) full.bits) }
+    ensures more { IfErr result (λ full. 8 * length room.old < full.bits) }
 {
     write(message, room, places, table)
 }

@@ -1,3 +1,3 @@
 pub mod Chains
 pub mod Documents
-mod Hexadecimal
+mod Unknown

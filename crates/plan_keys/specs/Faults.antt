@@ -1,9 +1,11 @@
 -- Own: which fault of a text as a plan is told, and in which words: the first.
-use Rattle.std.specs.Prelude.{◌≡◌, ℕ, ◌+◌, Bool, nat_lt, List, [], ◌∷◌, ◌++◌, length, codes, if◌then◌else◌, Option, Some, None, option_map, IsSomeAnd, Result, Ok, Err, MatchResult, ◌⊎◌}
+use Rattle.std.specs.Prelude.{◌≡◌, ℕ, ◌+◌, Bool, nat_lt, List, [], ◌∷◌, ◌++◌, length, codes, if◌then◌else◌, Option, Some, None, option_map, Result, Ok, Err, MatchResult, ◌⊎◌}
 use Rattle.std.specs.List.{list_any}
 use Rattle.std.specs.Option.{option_or}
+use Rattle.std.specs.Ordering.{is_le, nat_cmp}
+use Rattle.std.specs.Cmp.Lexicographic.{slice_cmp}
 use Rattle.std.specs.Str.{bytes_eq, is_utf8}
-use Rattle.toml.specs.Data.{Items, no_items, item, Members, no_members, member, as_table}
+use Rattle.toml.specs.Data.{Members, no_members, member}
 use Rattle.toml.specs.Parse.{parse_document}
 use Rattle.plan_keys.specs.declared.forms.Wrong.TheVariants as wrong
 use Rattle.plan_keys.specs.declared.forms.Wrong.{Wrong}
@@ -28,29 +30,27 @@ fault_of key wrong.OverLimit = OverLimit key
 abbrev pub told_at : List ℕ → Option Trouble → Option PlanFault
 told_at prefix trouble = option_map (λ t. fault_of (prefix ++ t.name, t.wanted) t.wrong) trouble
 
--- the first unknown key of a table, whose members ascend by the bytes of their keys
+-- the least unknown key of a table, byte by byte
 abbrev pub is_known : List (List ℕ) → List ℕ → Bool
 is_known known text = list_any (λ name. bytes_eq name text) known
 
-abbrev pub first_unknown : List (List ℕ) → Members → Option (List ℕ)
-first_unknown known no_members = None
-first_unknown known (member text d rest) = if is_known known text then first_unknown known rest else Some text
+abbrev pub lesser : List ℕ → Option (List ℕ) → List ℕ
+lesser text None = text
+lesser text (Some other) = if is_le (slice_cmp nat_cmp text other) then text else other
+
+abbrev pub least_unknown : List (List ℕ) → Members → Option (List ℕ)
+least_unknown known no_members = None
+least_unknown known (member text d rest) =
+    if is_known known text then least_unknown known rest else Some (lesser text (least_unknown known rest))
 
 abbrev pub unknown_at : List ℕ → Asked → Option PlanFault
 unknown_at prefix asked =
-    option_map (λ text. BadValue (prefix ++ text, codes "left out, since there is no such key")) (first_unknown asked.names asked.members)
+    option_map (λ text. BadValue (prefix ++ text, codes "left out, since there is no such key")) (least_unknown asked.names asked.members)
 
 -- the first fault of the tables of a list, the first of which has this number
-abbrev pub each_fault : (ℕ → Members → Option PlanFault) → ℕ → Items → Option PlanFault
-each_fault of_table number no_items = None
-each_fault of_table number (item d rest) = option_or (on_some (as_table d) (of_table number) None) (each_fault of_table (number + 1) rest)
-
--- what is made of each table of a list
-abbrev pub Each : {X : Type 0} → (Members → X → Type 0) → Items → List X → Type 0
-Each R no_items [] = Unit {0}
-Each R (item d rest) (x ∷ xs) = IsSomeAnd (as_table d) (λ table. R table x) × Each R rest xs
-Each R no_items (x ∷ xs) = ⊥
-Each R (item d rest) [] = ⊥
+abbrev pub each_fault : (ℕ → Members → Option PlanFault) → ℕ → List Members → Option PlanFault
+each_fault of_table number [] = None
+each_fault of_table number (table ∷ rest) = option_or (of_table number table) (each_fault of_table (number + 1) rest)
 
 -- ---- texts
 

@@ -1,5 +1,5 @@
 -- Own: what a value of TOML says by its form, the rules of a table's keys, and the first key that is wrong.
-use Rattle.std.specs.Prelude.{◌≡◌, ℕ, ◌<◌, ◌≤◌, All, ◌+◌, ◌%◌, ◌/◌, ◌==◌, Bool, true, false, ◌&&◌, nat_lt, nat_le, position, slice_get, if◌then◌else◌, ℤ, pos, negsuc, List, [], ◌∷◌, ◌++◌, length, map, codes, decimal, Option, Some, None, option_map, Result, Ok, Err, String}
+use Rattle.std.specs.Prelude.{◌≡◌, ℕ, ◌<◌, ◌≤◌, All, ◌%◌, ◌/◌, ◌==◌, Bool, true, false, ◌&&◌, nat_lt, nat_le, position, slice_get, if◌then◌else◌, ℤ, pos, negsuc, List, [], ◌∷◌, ◌++◌, length, map, codes, decimal, Option, Some, None, option_map, Result, Ok, Err, String}
 use Rattle.std.specs.List.{list_all, flat_map}
 use Rattle.std.specs.Str.{bytes_eq}
 use Rattle.std.specs.Borrow.{Bor}
@@ -8,8 +8,9 @@ use Rattle.std.specs.Option.{ok_or, option_or}
 use Rattle.std.specs.Result.{result_unwrap_or, result_err}
 use Rattle.std.specs.declared.alloc.Global.{Global}
 use Rattle.hex.specs.Hex.{decode_of, is_hex_digit}
+use Rattle.hex.specs.declared.error.FromHexError.{FromHexError}
 use Rattle.toml.specs.Data.{Data, Items, no_items, item, Members, no_members, get_member, as_integer, as_str, as_bool, as_array, as_table}
-use Rattle.toml.specs.View.{table_view}
+use Rattle.toml.specs.View.{view, table_view}
 use Rattle.toml.specs.declared.value.Value.{Value}
 use Rattle.plan_keys.specs.declared.fault.Wanted.{Wanted}
 use Rattle.plan_keys.specs.declared.fault.Wanted.TheVariants.{Between, Words, Said}
@@ -68,27 +69,34 @@ ascii_says least most d =
 abbrev pub is_digits : List ℕ → Bool
 is_digits s = (length s % 2 == 0) && list_all is_hex_digit s
 
-abbrev pub hex_value : List ℕ → List ℕ
-hex_value s = result_unwrap_or (decode_of s) []
+abbrev pub decoded : Result (List ℕ) FromHexError → Result (List ℕ) Wrong
+decoded (Ok bytes) = Ok bytes
+decoded (Err fault) = Err BadValue
 
 abbrev pub hex_says : ℕ → ℕ → Data → Result (List ℕ) Wrong
 hex_says least most d =
     on_some (as_str d)
-    (λ s. if is_digits s then within (has_bounds least most (length s / 2)) (hex_value s) else Err BadValue) (Err BadValue)
+    (λ s. if is_digits s then (if has_bounds least most (length s / 2) then decoded (decode_of s) else Err OverLimit) else Err BadValue) (Err BadValue)
 
--- a list of tables, and how many there are
-abbrev pub item_count : Items → ℕ
-item_count no_items = 0
-item_count (item d rest) = 1 + item_count rest
+-- a list of tables; what is no table has no keys
+abbrev pub table_in : Data → Members
+table_in d = on_some (as_table d) (λ table. table) no_members
+
+abbrev pub tables_in : Items → List Members
+tables_in no_items = []
+tables_in (item d rest) = table_in d ∷ tables_in rest
+
+abbrev pub table_of : Value → Members
+table_of value = table_in (view value)
 
 abbrev pub all_tables : Items → Bool
 all_tables no_items = true
 all_tables (item d rest) = on_some (as_table d) (λ table. all_tables rest) false
 
-abbrev pub tables_says : ℕ → ℕ → Data → Result Items Wrong
+abbrev pub tables_says : ℕ → ℕ → Data → Result (List Members) Wrong
 tables_says least most d =
     on_some (as_array d)
-    (λ items. if all_tables items then within (has_bounds least most (item_count items)) items else Err BadValue) (Err BadValue)
+    (λ items. if all_tables items then within (has_bounds least most (length (tables_in items))) (tables_in items) else Err BadValue) (Err BadValue)
 
 -- ---- what a key has to say, in words
 
@@ -116,38 +124,34 @@ pub record Rule (X : Type 0) : Type 0 where
   pub default : Option X
   pub otherwise : X
 
+abbrev pub rule_of : {X : Type 0} → List ℕ → (Data → Result X Wrong) → List ℕ → Option X → X → Rule X
+rule_of name form wanted default otherwise =
+    record { name = name; form = form; wanted = wanted; default = default; otherwise = otherwise }
+
 abbrev pub number : List ℕ → ℕ → ℕ → Option ℕ → Rule ℕ
-number name least most default =
-    record { name = name; form = number_says least most; wanted = between least most []; default = default; otherwise = least }
+number name least most default = rule_of name (number_says least most) (between least most []) default least
 
--- what is said by a rule, as something that is there
-abbrev pub there : {X : Type 0} → Rule X → Rule (Option X)
-there rule =
-    record { name = rule.name; form = λ d. seen (λ x. Some x) (rule.form d); wanted = rule.wanted; default = option_map (λ x. Some x) rule.default; otherwise = Some rule.otherwise }
-
--- a number that may be left out
-abbrev pub perhaps : List ℕ → ℕ → ℕ → Option ℕ → Rule (Option ℕ)
-perhaps name least most default = record (there (number name least most default)) { default = Some default; otherwise = default }
+-- a number that may be left out, where it isn't needed
+abbrev pub perhaps : List ℕ → ℕ → ℕ → Option ℕ → Bool → Rule (Option ℕ)
+perhaps name least most default needed =
+    rule_of name (λ d. seen (λ n. Some n) (number_says least most d)) (between least most [])
+    (if needed then option_map (λ n. Some n) default else Some default) (if needed then Some least else default)
 
 abbrev pub truth : List ℕ → Option Bool → Rule Bool
-truth name default = record { name = name; form = truth_says; wanted = codes "true or false"; default = default; otherwise = false }
+truth name default = rule_of name truth_says (codes "true or false") default false
 
 abbrev pub word : {X : Type 0} → List ℕ → List (List ℕ) → List X → Option X → X → Rule X
-word name ws meanings default otherwise =
-    record { name = name; form = word_says ws meanings; wanted = codes "one of " ++ listed ws ++ []; default = default; otherwise = otherwise }
+word name ws meanings default otherwise = rule_of name (word_says ws meanings) (codes "one of " ++ listed ws ++ []) default otherwise
 
 abbrev pub ascii : List ℕ → ℕ → ℕ → List ℕ → Rule (List ℕ)
-ascii name least most default =
-    record { name = name; form = ascii_says least most; wanted = between least most (codes " ASCII characters"); default = Some default; otherwise = default }
+ascii name least most default = rule_of name (ascii_says least most) (between least most (codes " ASCII characters")) (Some default) default
 
 abbrev pub hex : List ℕ → ℕ → ℕ → List ℕ → Rule (List ℕ)
-hex name least most default =
-    record { name = name; form = hex_says least most; wanted = between least most (codes " bytes in hexadecimal"); default = Some default; otherwise = default }
+hex name least most default = rule_of name (hex_says least most) (between least most (codes " bytes in hexadecimal")) (Some default) default
 
 -- a list of tables, which has to be there
-abbrev pub tables : List ℕ → ℕ → ℕ → Rule Items
-tables name least most =
-    record { name = name; form = tables_says least most; wanted = between least most (codes " tables"); default = None; otherwise = no_items }
+abbrev pub tables : List ℕ → ℕ → ℕ → Rule (List Members)
+tables name least most = rule_of name (tables_says least most) (between least most (codes " tables")) None []
 
 -- what a table says by a rule, or what is wrong with its key
 abbrev pub says : {X : Type 0} → Rule X → Members → Result X Wrong

@@ -1,10 +1,10 @@
 //! What a value says by its form, or what is wrong with it.
 
-ghost use Rattle.std.specs.Prelude.{◌≡◌, ◌≤◌, ◌<◌, ◌*◌, true, nat_lt, All, IsTrue, IfOk, map, length};
+ghost use Rattle.std.specs.Prelude.{◌≡◌, ◌≤◌, ◌<◌, true, nat_lt, All, IsTrue, IfOk, map, length};
 ghost use Rattle.std.specs.List.{list_all};
 ghost use Rattle.hex.specs.Hex.{is_hex_digit};
 ghost use Rattle.toml.specs.View.{view, items_view};
-ghost use Rattle.plan_keys.specs.Keys.{seen, within as within_limits, IsAscii, number_says, place_of as place_said, word_says, ascii_says, is_digits, hex_value, hex_says, all_tables, tables_says};
+ghost use Rattle.plan_keys.specs.Keys.{seen, within as within_limits, IsAscii, number_says, place_of as place_said, word_says, ascii_says, is_digits, hex_says, all_tables, table_of, tables_says};
 
 use arrayvec::ArrayVec;
 use toml::Value;
@@ -114,22 +114,6 @@ fn all_digits(text: &str) -> bool
     text.as_bytes().iter().all(|byte| matches!(*byte, b'A'..=b'F' | b'a'..=b'f' | b'0'..=b'9'))
 }
 
-/// The bytes of a text in hexadecimal.
-#[tactic(auto, using(crate::proofs::Hexadecimal::hex_fits))]
-fn decoded(text: &str, count: usize) -> Short
-    requires digits { is_digits text.now ≡ true }
-    requires count { length text.now ≡ 2 * count }
-    requires room { count ≤ 32 }
-    ensures bytes { result.items ≡ hex_value text.now }
-    ensures length { length result.items ≡ count }
-{
-    let mut room = [0u8; 32];
-    let bytes = &mut room[..count];
-    // Digits decode.
-    let _ = hex::decode_to_slice(text.as_bytes(), bytes);
-    list_of(bytes)
-}
-
 /// So many bytes in hexadecimal of either case.
 pub(crate) fn hex_of(least: usize, most: usize, value: &Value) -> Result<Short, Wrong>
     requires { most ≤ 32 }
@@ -144,7 +128,12 @@ pub(crate) fn hex_of(least: usize, most: usize, value: &Value) -> Result<Short, 
     if count < least || most < count {
         return Err(Wrong::OverLimit);
     }
-    Ok(decoded(text, count))
+    let mut room = [0u8; 32];
+    let bytes = &mut room[..count];
+    match hex::decode_to_slice(text.as_bytes(), bytes) {
+        Ok(()) => Ok(list_of(bytes)),
+        Err(_) => Err(Wrong::BadValue),
+    }
 }
 
 /// Whether each item is a table.
@@ -160,9 +149,9 @@ fn are_tables(items: &[Value]) -> bool
 }
 
 /// A list of so many tables.
-#[tactic(auto, using(crate::proofs::Documents::item_count_view))]
+#[tactic(auto, using(std::proofs::lemmas::Grind::common_steps, crate::proofs::Documents::tables_view))]
 pub(crate) fn tables_of(least: usize, most: usize, value: &Value) -> Result<&[Value], Wrong>
-    ensures value { seen (λ v. items_view v.now) result ≡ tables_says least most (view value.now) }
+    ensures value { seen (λ v. map table_of v.now) result ≡ tables_says least most (view value.now) }
     ensures bounds { IfOk result (λ v. (least ≤ length v.now) × (length v.now ≤ most)) }
     ensures tables { IfOk result (λ v. all_tables (items_view v.now) ≡ true) }
 {

@@ -1,14 +1,14 @@
 //! The keys of a table, read one after another.
 
-ghost use Rattle.std.specs.Prelude.{◌≡◌, ◌≤◌, IfSome, OnOk, Some, None, option_map, map, length, string_bytes, true};
+ghost use Rattle.std.specs.Prelude.{◌≡◌, ◌≤◌, IsTrue, IsSome, IfSome, OnOk, Some, None, option_map, map, length, string_bytes, true};
 ghost use Rattle.std.specs.BTreeMap.{IsOrdered};
 ghost use Rattle.std.specs.Result.{result_unwrap_or, result_err};
 ghost use Rattle.std.specs.String.{string_cmp};
 ghost use Rattle.toml.specs.Data.{get_member};
 ghost use Rattle.toml.specs.View.{view, table_view, items_view};
 ghost use Rattle.plan_keys.specs.Keys as rule;
-ghost use Rattle.plan_keys.specs.Keys.{IsAscii, all_tables, members_of, asked_of, fresh, noted, named, wanted_text, Says};
-ghost use Rattle.plan_keys.specs.Faults.{told_at, unknown_at, is_known, first_unknown, AnswersBy};
+ghost use Rattle.plan_keys.specs.Keys.{IsAscii, all_tables, table_of, members_of, asked_of, fresh, noted, named, wanted_text, Says};
+ghost use Rattle.plan_keys.specs.Faults.{told_at, unknown_at, is_known, least_unknown, AnswersBy};
 
 use crate::fault::{Key, PlanFault, Wanted};
 use crate::forms::{self, Short, Wrong};
@@ -51,6 +51,7 @@ impl<'a> Keys<'a> {
     }
 
     /// The value at a key.
+    #[tactic(auto, using(toml::proofs::Views::table_get))]
     pub fn find(&self, name: &str) -> Option<&'a Value>
         ensures { option_map (λ v. view v.now) result ≡ get_member name.now (members_of self.now.table) }
     {
@@ -116,23 +117,29 @@ impl<'a> Keys<'a> {
         self.keep(name, Wanted::Between(least, most, ""), judged, least)
     }
 
-    /// A number from the least to the greatest, if it is there, or the default, if there is one.
+    /// A number from the least to the greatest, if it is there, or the default, if there is one; where it is needed, and
+    /// there is none, it has to be there.
     pub fn perhaps(
         &mut self,
         name: Name,
         least: u64,
         most: u64,
         default: Option<u64>,
+        needed: bool,
     ) -> Option<u64>
-        requires { IfSome default (λ n. (least ≤ n) × (n ≤ most)) }
-        ensures said { Says (rule.perhaps name.now least most default) self.old self.new result }
+        requires bounds { IsTrue needed → least ≤ most }
+        requires default { IfSome default (λ n. (least ≤ n) × (n ≤ most)) }
+        ensures said { Says (rule.perhaps name.now least most default needed) self.old self.new result }
         ensures bounds { IfSome result (λ n. (least ≤ n) × (n ≤ most)) }
+        ensures there { IsTrue needed → IsSome result }
     {
         let judged = match self.find(name) {
             Some(value) => forms::number_of(least, most, value).map(Some),
+            None if needed => default.map(Some).ok_or(Wrong::Missing),
             None => Ok(default),
         };
-        self.keep(name, Wanted::Between(least, most, ""), judged, default)
+        let otherwise = if needed { Some(least) } else { default };
+        self.keep(name, Wanted::Between(least, most, ""), judged, otherwise)
     }
 
     /// A truth value, or the default; without one it has to be there.
@@ -196,7 +203,7 @@ impl<'a> Keys<'a> {
 
     /// From so many to so many tables of a list, which has to be there.
     pub fn tables(&mut self, name: Name, least: usize, most: usize) -> &'a [Value]
-        ensures said { Says (rule.tables name.now least most) self.old self.new (items_view result.now) }
+        ensures said { Says (rule.tables name.now least most) self.old self.new (map table_of result.now) }
         ensures bound { length result.now ≤ most }
         ensures tables { all_tables (items_view result.now) ≡ true }
     {
@@ -223,7 +230,7 @@ impl<'a> Keys<'a> {
         })
     }
 
-    /// Refuses the first key of the table that was never asked for. The keys ascend by their bytes, so it is the least.
+    /// Refuses the least key of the table, byte by byte, that was never asked for.
     pub fn unknown(&self, alloc: Global, prefix: &str) -> Result<(), PlanFault>
         ensures told { AnswersBy (unknown_at prefix.now (asked_of self.now)) result }
         ensures ordered { IfSome self.now.table (λ table. IsOrdered string_cmp table.now) }
@@ -251,9 +258,10 @@ fn is_among(names: &[&str], name: &str) -> bool
     false
 }
 
-/// The first key of a table that is none of these.
+/// The least key of a table that is none of these. The keys ascend, so it is the first.
+#[tactic(auto, using(crate::proofs::Unknown::first_is_least))]
 fn unknown_key<'a>(names: &[&str], table: &'a Table) -> Option<&'a String>
-    ensures first { option_map (λ k. string_bytes k.now) result ≡ first_unknown (map (λ s. s.now) names.now) (table_view table.now) }
+    ensures least { option_map (λ k. string_bytes k.now) result ≡ least_unknown (map (λ s. s.now) names.now) (table_view table.now) }
     ensures ordered { IsOrdered string_cmp table.now }
 {
     for (name, _) in table.iter() {

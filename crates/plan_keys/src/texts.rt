@@ -13,6 +13,7 @@ use toml::Table;
 pub const LONGEST: usize = 65536;
 
 /// The table of a text of at most 65,536 bytes.
+#[tactic(auto, using(crate::proofs::Documents::is_document, crate::proofs::Documents::is_no_document))]
 pub fn document(alloc: Global, text: &[u8]) -> Result<Table, PlanFault>
     ensures { MatchResult result (λ table. text_says text.now ≡ Ok (table_view table)) (λ fault. (fault ≡ Memory) ⊎ (text_says text.now ≡ Err fault)) }
 {

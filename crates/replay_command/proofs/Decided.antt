@@ -1,14 +1,15 @@
 -- What the texts of the files decide.
-use Rattle.std.proofs.Common.{◌≡◌, ◌⊎◌, inl, inr, ◌↔◌, ℕ, suc, ◌<◌, List, [], ◌∷◌, length, Option, Some, None, Result, Ok, refl, sym, ap, ◌∙◌, subst, arith}
+use Rattle.std.proofs.Common.{◌≡◌, ◌⊎◌, inl, inr, ◌↔◌, ℕ, ◌<◌, List, length, Option, Some, None, Result, Ok, refl, sym, ap, ◌∙◌, subst, arith}
+use Rattle.std.proofs.lemmas.Slice.Zip.{AllZip-long}
+use Rattle.std.specs.List.{AllZip}
 use Rattle.std.specs.Prelude.{IsSomeAnd}
-use Rattle.toml.specs.Data.{Items, no_items, item, Members}
+use Rattle.toml.specs.Data.{Members}
 use Rattle.charge_world.specs.declared.entry.Entry.{Entry}
-use Rattle.session_words.specs.declared.plan.PostPlan.{PostPlan}
 use Rattle.session_words.specs.declared.plan.SitePlan.{SitePlan}
 use Rattle.post_spec.specs.Codecs.{Codecs}
 use Rattle.plan_keys.specs.declared.fault.PlanFault.{PlanFault}
 use Rattle.plan_keys.specs.Keys.{Holds, value_at}
-use Rattle.plan_keys.specs.Faults.{text_says, told, Each}
+use Rattle.plan_keys.specs.Faults.{text_says, told}
 use Rattle.site_plan.specs.Keys.{post_tables}
 use Rattle.site_plan.specs.Plans.{post_file, site_fault, IsSitePlanOf, site_told}
 use Rattle.site_turns.specs.declared.ending.Ended.{Ended}
@@ -46,20 +47,12 @@ same_table : (said : Result Members PlanFault) (a b : Members) → said ≡ Ok a
 same_table said a b h k =
     let both : Ok a ≡ Ok b = sym h ∙ k in cc
 
-as_many : (R : Members → PostPlan → Type 0) (items : Items) (ps qs : List PostPlan) → Each R items ps → Each R items qs → length ps ≡ length qs
-as_many R no_items [] [] p q = refl
-as_many R no_items [] (y ∷ ys) p q = absurd q
-as_many R no_items (x ∷ xs) qs p q = absurd p
-as_many R (item d rest) [] qs p q = absurd p
-as_many R (item d rest) (x ∷ xs) [] p q = absurd q
-as_many R (item d rest) (x ∷ xs) (y ∷ ys) p q = ap suc (as_many R rest xs ys p.1 q.1)
-
 -- a text says how many posts there are
 same_posts : (p q : SitePlan) (text : List ℕ) → IsSitePlanOf text p → IsSitePlanOf text q → length p.post.items ≡ length q.post.items
 same_posts p q text a b =
     let table : a.0 ≡ b.0 = same_table (text_says text) a.0 b.0 a.1 b.1 in
-    as_many (Holds post_file) (value_at post_tables b.0) p.post.items q.post.items
-    (subst (λ (t : Members). Each (Holds post_file) (value_at post_tables t) p.post.items) table a.3.posts) b.3.posts
+    let posts = subst (λ (t : Members). AllZip (Holds post_file) (value_at post_tables t) p.post.items) table a.3.posts in
+    AllZip-long (Holds post_file) _ p.post.items posts ∙ sym (AllZip-long (Holds post_file) _ q.post.items b.3.posts)
 
 -- ---- files
 

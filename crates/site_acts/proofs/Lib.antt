@@ -1,4 +1,3 @@
 pub mod Carry
 pub mod Frame
 pub mod Next
-pub mod Frames

@@ -1,16 +1,14 @@
 -- What the texts of the plans that are there without a file say.
-use Rattle.std.specs.Prelude.{◌≡◌, Bool, true, false, codes, pos, List, [], ◌∷◌, Some, None, Ok, refl}
-use Rattle.std.proofs.Common.{arith, sym, subst}
+use Rattle.std.specs.Prelude.{◌≡◌, Bool, true, false, codes, pos, Ok, refl}
+use Rattle.std.proofs.Common.{arith}
 use Rattle.toml.specs.Data.{Members, no_members, member, no_items, item, string, integer, array, table}
 use Rattle.toml.proofs.OnLiterals.{toml_on_literals}
-use Rattle.session_words.specs.declared.plan.PostPlan.{PostPlan}
 use Rattle.session_words.specs.declared.plan.SitePlan.{SitePlan}
 use Rattle.session_words.specs.declared.plan.CarPlan.{CarPlan}
-use Rattle.plan_keys.specs.Keys.{value_at, Holds}
-use Rattle.plan_keys.specs.Faults.{text_says, Each}
+use Rattle.plan_keys.specs.Faults.{text_says}
 use Rattle.plan_keys.proofs.Documents.{is_document}
-use Rattle.site_plan.specs.Keys.{limit_rules, post_tables, post_rules, car_rules}
-use Rattle.site_plan.specs.Plans.{post_file, site_fault, car_fault, IsCarOf, fixed_mode, site_text, car_text, IsFixedSite, IsFixedCar, IsSitePlanOf, IsCarPlanOf}
+use Rattle.site_plan.specs.Keys.{post_rules, car_rules}
+use Rattle.site_plan.specs.Plans.{site_text, car_text, IsFixedSite, IsFixedCar, IsSitePlanOf, IsCarPlanOf}
 
 -- the members of the table of a car or a post
 abbrev call : Bool → Members

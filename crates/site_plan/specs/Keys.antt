@@ -3,7 +3,7 @@
 use Rattle.std.specs.Prelude.{ℕ, ◌==◌, ◌&&◌, is_some, if◌then◌else◌, Bool, true, false, List, [], ◌∷◌, ◌++◌, codes, Option, Some, None}
 use Rattle.std.specs.Option.{ok_or}
 use Rattle.std.specs.Str.{bytes_eq}
-use Rattle.toml.specs.Data.{Data, Items, at, as_str}
+use Rattle.toml.specs.Data.{Data, Members, at, as_str}
 use Rattle.charge_world.specs.declared.offer.Dialect.{Dialect}
 use Rattle.charge_world.specs.declared.offer.Dialect.TheVariants.{Iso, Din}
 use Rattle.session_words.specs.Modes.{speaks_din}
@@ -15,7 +15,7 @@ use Rattle.session_words.specs.declared.plan.PostPlan.{PostPlan}
 use Rattle.session_words.specs.declared.plan.SitePlan.{SitePlan}
 use Rattle.session_words.specs.declared.plan.CarPlan.{CarPlan}
 use Rattle.plan_keys.specs.declared.forms.Wrong.TheVariants.{BadValue}
-use Rattle.plan_keys.specs.Keys.{on_some, listed, Rule, number, there, perhaps, truth, word, ascii, hex, tables, Rules, done, given, judged, key, ◌⊳◌}
+use Rattle.plan_keys.specs.Keys.{on_some, listed, Rule, rule_of, number, perhaps, truth, word, ascii, hex, tables, Rules, done, given, judged, key, ◌⊳◌}
 
 -- tenths of a volt or of an ampere
 abbrev pub tenths : List ℕ → ℕ → Rule ℕ
@@ -59,13 +59,10 @@ offer_of din list =
     if is_some (at 2 list) then None else two_of first second) None else Some (first ∷ [])) None
 
 abbrev pub dialects_rule : Mode → Rule (List Dialect)
-dialects_rule mode = record {
-  name = codes "dialects";
-  form = λ d. ok_or (offer_of (speaks_din mode) d) BadValue;
-  wanted = codes "a list of one or more of " ++ listed (dialect_names (speaks_din mode)) ++ codes ", each once";
-  default = Some (dialects_of (speaks_din mode));
-  otherwise = dialects_of (speaks_din mode);
-}
+dialects_rule mode =
+    let din = speaks_din mode in
+    rule_of (codes "dialects") (λ d. ok_or (offer_of din d) BadValue)
+    (codes "a list of one or more of " ++ listed (dialect_names din) ++ codes ", each once") (Some (dialects_of din)) (dialects_of din)
 
 -- the whole of a station, and its posts
 abbrev pub limit_rules : Rules SitePlan
@@ -75,7 +72,7 @@ limit_rules =
     ⊳ key (number (codes "sessions") 1 1000000 (Some 1)) (λ s. s.sessions)
     ⊳ done
 
-abbrev pub post_tables : Rule Items
+abbrev pub post_tables : Rule (List Members)
 post_tables = tables (codes "post") 1 8
 
 -- A port and a mode have their defaults given. Watts, tenths of a volt and of an ampere, and volts.
@@ -97,16 +94,13 @@ post_rules port usual =
     ⊳ key (number (codes "nominal") 1 1000 (Some 230)) (λ p. p.nominal)
     ⊳ done)
 
--- the port of a car, which has to be there where there is no discovery
-abbrev pub tcp_rule : Option ℕ → Bool → Rule (Option ℕ)
-tcp_rule port needed = if needed then there (number (codes "tcp") 1 65535 port) else perhaps (codes "tcp") 1 65535 port
-
--- percent, tenths of a volt and of an ampere, watts, replies, detections and milliseconds
+-- The port has to be there where there is no discovery. Percent, tenths of a volt and of an ampere, watts, replies,
+-- detections and milliseconds.
 unfoldable pub car_rules : Option ℕ → Mode → Rules CarPlan
 car_rules port usual =
-    judged (perhaps (codes "tcp") 1 65535 port)
+    judged (perhaps (codes "tcp") 1 65535 port false)
     ⊳ given (number (codes "sdp") 0 65535 (Some 0)) (λ c. c.sdp) (λ sdp.
-    key (tcp_rule port (sdp == 0)) (λ c. c.tcp)
+    key (perhaps (codes "tcp") 1 65535 port (sdp == 0)) (λ c. c.tcp)
     ⊳ key (number (codes "turns") 1 4294967296 (Some 1000000)) (λ c. c.turns)
     ⊳ given (mode_rule usual) (λ c. c.mode) (λ mode.
     key (dialects_rule mode) (λ c. c.dialects.items)

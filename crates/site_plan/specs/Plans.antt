@@ -1,5 +1,6 @@
 -- Own: what a text says as the plan of a station or of a car, its first fault, and the plans without a file.
-use Rattle.std.specs.Prelude.{◌≡◌, ℕ, Bool, true, false, List, [], ◌∷◌, ◌++◌, codes, decimal, if◌then◌else◌, Option, Some, None}
+use Rattle.std.specs.Prelude.{◌≡◌, ℕ, Bool, true, false, List, [], ◌∷◌, ◌++◌, codes, decimal, Option, Some, None}
+use Rattle.std.specs.List.{AllZip}
 use Rattle.std.specs.Option.{option_or}
 use Rattle.toml.specs.Data.{Members, no_members}
 use Rattle.session_words.specs.declared.mode.Mode.{Mode}
@@ -9,31 +10,35 @@ use Rattle.session_words.specs.declared.plan.SitePlan.{SitePlan}
 use Rattle.session_words.specs.declared.plan.CarPlan.{CarPlan}
 use Rattle.plan_keys.specs.declared.fault.PlanFault.{PlanFault}
 use Rattle.plan_keys.specs.Keys.{value_at, fresh, ask, Rules, ask_all, Holds}
-use Rattle.plan_keys.specs.Faults.{told_at, unknown_at, each_fault, Each, text_says, told, IsPlanOf}
+use Rattle.plan_keys.specs.Faults.{told_at, unknown_at, each_fault, text_says, told, IsPlanOf}
 use Rattle.site_plan.specs.Keys.{limit_rules, post_tables, post_rules, car_rules}
 
--- the plan of a post in a file, and the first fault of its keys, or of its unknown ones
+-- the plan of a post in a file
 abbrev pub post_file : Rules PostPlan
 post_file = post_rules None DcExtended
 
-abbrev pub post_fault : Bool → ℕ → Members → Option PlanFault
-post_fault unknown number table =
-    let place = codes "post." ++ decimal number ++ codes "." in
-    let asked = ask_all post_file (fresh table) in
-    if unknown then unknown_at place asked else told_at place asked.found
+-- the fault of the post with this number: of its first key that is wrong, and of its least unknown one
+abbrev pub post_place : ℕ → List ℕ
+post_place number = codes "post." ++ decimal number ++ codes "."
+
+abbrev pub post_wrong : ℕ → Members → Option PlanFault
+post_wrong number table = told_at (post_place number) (ask_all post_file (fresh table)).found
+
+abbrev pub post_unknown : ℕ → Members → Option PlanFault
+post_unknown number table = unknown_at (post_place number) (ask_all post_file (fresh table))
 
 -- the plan of a station has what the keys of its table say, and a post for each table of its list
 pub record IsSiteOf (table : Members) (site : SitePlan) : Type 0 where
   pub keys : Holds limit_rules table site
-  pub posts : Each (Holds post_file) (value_at post_tables table) site.post.items
+  pub posts : AllZip (Holds post_file) (value_at post_tables table) site.post.items
 
--- its first fault: that of its keys, of its posts one after another, of its unknown keys, and of those of its posts
+-- its first fault: that of its keys, of its posts one after another, of its least unknown key, and of those of its posts
 abbrev pub site_fault : Members → Option PlanFault
 site_fault table =
     let asked = ask post_tables (ask_all limit_rules (fresh table)) in
     let posts = value_at post_tables table in
-    option_or (told_at [] asked.found) (option_or (each_fault (post_fault false) 1 posts)
-    (option_or (unknown_at [] asked) (each_fault (post_fault true) 1 posts)))
+    option_or (told_at [] asked.found) (option_or (each_fault post_wrong 1 posts)
+    (option_or (unknown_at [] asked) (each_fault post_unknown 1 posts)))
 
 -- the plan of a car in a file has what the keys of its table say, and its first fault
 abbrev pub car_file : Rules CarPlan

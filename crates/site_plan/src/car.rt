@@ -1,10 +1,10 @@
 //! The keys of a car.
 
-ghost use Rattle.std.specs.Prelude.{◌≡◌, ◌≤◌, ◌==◌, IfOk, IfSome, IsSome, length};
+ghost use Rattle.std.specs.Prelude.{◌≡◌, ◌≤◌, ◌==◌, IfOk, IfSome, IsSome, length, codes};
 ghost use Rattle.session_words.specs.Plans.{IsCarPlan, IsWithin};
-ghost use Rattle.plan_keys.specs.Keys.{Reads, Says};
+ghost use Rattle.plan_keys.specs.Keys.{Reads, Says, perhaps};
 ghost use Rattle.plan_keys.specs.Faults.{AnswersBy};
-ghost use Rattle.site_plan.specs.Keys.{car_rules, tcp_rule};
+ghost use Rattle.site_plan.specs.Keys.{car_rules};
 ghost use Rattle.site_plan.specs.Plans.{IsCarPlanOf, car_told};
 
 use crate::words::{dialects, mode, stop, tenths};
@@ -23,18 +23,14 @@ fn six(bytes: Short) -> [u8; 6]
 }
 
 /// The port that a car dials at once, which has to be there where it has no discovery.
-#[tactic(auto, using(plan_keys::proofs::Chains::says_there))]
 fn tcp_port(keys: &mut Keys<'_>, port: Option<u64>, sdp: u16) -> Option<u16>
     requires { IfSome port (IsWithin 1 65535) }
-    ensures said { Says (tcp_rule port (sdp == 0)) keys.old keys.new result }
+    ensures said { Says (perhaps (codes "tcp") 1 65535 port (sdp == 0)) keys.old keys.new result }
     ensures there { sdp ≡ 0 → IsSome result }
     ensures some { IfSome result (λ p. 1 ≤ p) }
 {
-    if sdp == 0 {
-        Some(keys.number("tcp", 1, 65535, port) as u16)
-    } else {
-        keys.perhaps("tcp", 1, 65535, port).map(|port| port as u16)
-    }
+    keys.perhaps("tcp", 1, 65535, port, sdp == 0)
+        .map(|port| port as u16)
 }
 
 /// Reads the plan of a car, whose port and mode have these defaults.
@@ -43,7 +39,7 @@ pub(crate) fn car_keys(keys: &mut Keys<'_>, port: Option<u64>, usual: Mode) -> C
     ensures read { Reads (car_rules port usual) keys.old keys.new result }
     ensures within { IsCarPlan result }
 {
-    let _port = keys.perhaps("tcp", 1, 65535, port);
+    let _port = keys.perhaps("tcp", 1, 65535, port, false);
     let sdp = keys.number("sdp", 0, 65535, Some(0)) as u16;
     let tcp = tcp_port(keys, port, sdp);
     let turns = keys.number("turns", 1, 4_294_967_296, Some(1_000_000));

@@ -1,76 +1,61 @@
 //! The keys of a station.
 
-ghost use Rattle.std.specs.Prelude.{◌≡◌, ◌≤◌, All, IfOk, IsSome, Some, true, [], length};
+ghost use Rattle.std.specs.Prelude.{◌≡◌, ◌≤◌, All, IfOk, map, [], length};
+ghost use Rattle.std.specs.List.{AllZip};
 ghost use Rattle.arrayvec.specs.ArrayVec.{array_vec_len};
 ghost use Rattle.session_words.specs.Plans.{IsPostPlan, IsSitePlan, IsWithin};
-ghost use Rattle.toml.specs.Data.{as_table};
-ghost use Rattle.toml.specs.View.{view, table_view, items_view};
-ghost use Rattle.plan_keys.specs.Keys.{Holds, Reads, all_tables};
-ghost use Rattle.plan_keys.specs.Faults.{AnswersBy, Each, each_fault};
+ghost use Rattle.plan_keys.specs.Keys.{Holds, Reads, table_of};
+ghost use Rattle.plan_keys.specs.Faults.{AnswersBy, each_fault};
 ghost use Rattle.site_plan.specs.Keys.{limit_rules};
-ghost use Rattle.site_plan.specs.Plans.{post_file, IsSitePlanOf, post_fault, site_told};
+ghost use Rattle.site_plan.specs.Plans.{post_file, post_wrong, post_unknown, IsSitePlanOf, site_told};
 
 use crate::post::post_plan;
 use arrayvec::ArrayVec;
 use plan_keys::{Keys, PlanFault, document};
 use session_words::{Mode, PostPlan, SitePlan};
 use std::alloc::Global;
-use toml::{Table, Value};
+use toml::Value;
 
-/// Reads the plan of the post with this number. Its first key that is wrong is refused, or else the first unknown one.
+/// Reads the plan of the post with this number, and judges its unknown keys. Its first key that is wrong is refused.
 fn read_post(
     alloc: Global,
     number: u16,
-    table: &Table,
-    unknown: bool,
-) -> Result<PostPlan, PlanFault>
-    ensures plan { IfOk result (Holds post_file (table_view table.now)) }
-    ensures told { AnswersBy (post_fault unknown number (table_view table.now)) result }
-    ensures within { IfOk result IsPostPlan }
+    item: &Value,
+) -> Result<(PostPlan, Result<(), PlanFault>), PlanFault>
+    ensures plan { IfOk result (λ post. Holds post_file (table_of item.now) post.0) }
+    ensures wrong { AnswersBy (post_wrong number (table_of item.now)) result }
+    ensures unknown { IfOk result (λ post. AnswersBy (post_unknown number (table_of item.now)) post.1) }
+    ensures within { IfOk result (λ post. IsPostPlan post.0) }
 {
     let prefix = format!(in alloc; "post.{number}.")?;
-    let mut keys = Keys::of(Some(table));
+    let mut keys = Keys::of(item.as_table());
     let plan = post_plan(&mut keys, None, Mode::DcExtended);
-    if unknown {
-        keys.unknown(alloc, prefix.as_str())?;
-    } else {
-        keys.judged(alloc, prefix.as_str())?;
-    }
-    Ok(plan)
+    keys.judged(alloc, prefix.as_str())?;
+    Ok((plan, keys.unknown(alloc, prefix.as_str())))
 }
 
-/// The table of an item that is one.
-fn table_of(item: &Value) -> &Table
-    requires { IsSome (as_table (view item.now)) }
-    ensures { as_table (view item.now) ≡ Some (table_view result.now) }
-{
-    match item.as_table() {
-        Some(table) => table,
-        None => unreachable!(),
-    }
-}
-
-/// Reads the plans of the posts, one after another.
+/// Reads the plans of the posts, one after another, and judges their unknown keys. The first key that is wrong is refused.
 fn read_posts(
     alloc: Global,
     items: &[Value],
-    unknown: bool,
-) -> Result<ArrayVec<PostPlan, 8>, PlanFault>
-    requires few { length items.now ≤ 8 }
-    requires tables { all_tables (items_view items.now) ≡ true }
-    ensures plans { IfOk result (λ v. Each (Holds post_file) (items_view items.now) v.items) }
-    ensures told { AnswersBy (each_fault (post_fault unknown) 1 (items_view items.now)) result }
-    ensures within { IfOk result (λ v. All IsPostPlan v.items) }
-    ensures count { IfOk result (λ v. array_vec_len v ≡ length items.now) }
+) -> Result<(ArrayVec<PostPlan, 8>, Result<(), PlanFault>), PlanFault>
+    requires { length items.now ≤ 8 }
+    ensures plans { IfOk result (λ posts. AllZip (Holds post_file) (map table_of items.now) posts.0.items) }
+    ensures wrong { AnswersBy (each_fault post_wrong 1 (map table_of items.now)) result }
+    ensures unknown { IfOk result (λ posts. AnswersBy (each_fault post_unknown 1 (map table_of items.now)) posts.1) }
+    ensures within { IfOk result (λ posts. All IsPostPlan posts.0.items) }
+    ensures count { IfOk result (λ posts. array_vec_len posts.0 ≡ length items.now) }
 {
     let mut plans = ArrayVec::new();
+    let mut unknown = Ok(());
     let mut number: u16 = 1;
     for item in items {
-        let post = read_post(alloc, number, table_of(item), unknown)?;
-        plans.push(post);
+        let (plan, judged) = read_post(alloc, number, item)?;
+        plans.push(plan);
+        unknown = unknown.and(judged);
         number += 1;
     }
-    Ok(plans)
+    Ok((plans, unknown))
 }
 
 /// Reads what a station's plan says of the whole, without its posts.
@@ -98,8 +83,9 @@ pub fn site_plan_of(alloc: Global, text: &[u8]) -> Result<SitePlan, PlanFault>
     let mut site = site_limits(&mut keys);
     let items = keys.tables("post", 1, 8);
     keys.judged(alloc, "")?;
-    site.post = read_posts(alloc, items, false)?;
+    let (posts, unknown) = read_posts(alloc, items)?;
+    site.post = posts;
     keys.unknown(alloc, "")?;
-    read_posts(alloc, items, true)?;
+    unknown?;
     Ok(site)
 }

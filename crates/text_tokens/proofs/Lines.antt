@@ -1,25 +1,24 @@
 -- Words that are put one behind the other are a line.
-use Rattle.std.proofs.Common.{◌≡◌, ℕ, zero, suc, ◌+◌, ◌-◌, ◌<◌, ◌≤◌, List, [], ◌∷◌, ◌++◌, length, take, drop, get_or, set, refl, ap, ◌∙◌, append_assoc, arith}
-use Rattle.std.proofs.lemmas.List.{length-append, length-set}
-use Rattle.text_tokens.specs.declared.word.Word.{Word}
+use Rattle.std.proofs.Common.{◌≡◌, ℕ, zero, suc, ◌+◌, ◌-◌, ◌<◌, ◌≤◌, List, [], ◌∷◌, ◌++◌, length, take, drop, get_or, set, sym, ◌∙◌, append_assoc, arith}
+use Rattle.std.proofs.Math.Seq.{set-append_seam}
+use Rattle.std.proofs.lemmas.List.{length-append, length-set, length-map, take_all}
+use Rattle.text_tokens.specs.declared.line.Word.{Word}
+use Rattle.text_tokens.specs.declared.line.Word.TheVariants.{Plain}
 use Rattle.text_tokens.specs.Words.{text_of, texts_of, spaced, spaced_out, line_text, Puts}
 
--- one word more
-pub one_more : (ws : List Word) (i : ℕ) (d : Word) → i < length ws
-    → (spaced_out (texts_of (take i ws)) ++ text_of (get_or ws i d)) ++ 32 ∷ [] ≡ spaced_out (texts_of (take (suc i) ws))
-one_more [] i d lt = absurd (omega arith)
-one_more (w ∷ ws) zero d lt = simp append_assoc
-one_more (w ∷ ws) (suc i) d lt = rw (← one_more ws i d (omega arith)) (simp append_assoc)
+-- the word that a place without one has
+abbrev pub blank : Word
+blank = Plain (record { ref_ptr = (0, 0); now = [] })
 
--- there is room for it
-pub room_for : (ws : List Word) (i : ℕ) (d : Word) → i < length ws
-    → length (spaced_out (texts_of (take i ws))) + length (text_of (get_or ws i d)) < length (spaced_out (texts_of ws))
-room_for [] i d lt = absurd (omega arith)
-room_for (w ∷ ws) zero d lt = simp length-append (omega arith)
-room_for (w ∷ ws) (suc i) d lt = let more = room_for ws i d (omega arith) in simp length-append (omega arith)
+-- one word more
+pub one_more : (ws : List Word) (i : ℕ) → i < length ws
+    → (spaced_out (texts_of (take i ws)) ++ text_of (get_or ws i blank)) ++ 32 ∷ [] ≡ spaced_out (texts_of (take (suc i) ws))
+one_more [] i lt = absurd (omega arith)
+one_more (w ∷ ws) zero lt = simp append_assoc
+one_more (w ∷ ws) (suc i) lt = rw (← one_more ws i (omega arith)) (simp append_assoc)
 
 -- the last space is where the line feed stands
-pub last_space : (words : List (List ℕ)) → 0 < length words → spaced_out words ≡ spaced words ++ 32 ∷ []
+last_space : (words : List (List ℕ)) → 0 < length words → spaced_out words ≡ spaced words ++ 32 ∷ []
 last_space [] some = absurd (omega arith)
 last_space (w ∷ []) some = simp append_assoc
 last_space (w ∷ v ∷ words) some = rw (last_space (v ∷ words) (omega arith)) (simp append_assoc)
@@ -27,32 +26,40 @@ last_space (w ∷ v ∷ words) some = rw (last_space (v ∷ words) (omega arith)
 pub length_line : (words : List (List ℕ)) → 0 < length words → length (spaced_out words) ≡ length (line_text words)
 length_line words some = rw (last_space words some) (simp length-append)
 
-pub length_spaced : (words : List (List ℕ)) → 0 < length words → 0 < length (spaced_out words)
-length_spaced words some = rw (last_space words some) (omega (arith, length-append (spaced words) (32 ∷ [])))
+-- there is room for it
+room_out : (ws : List Word) (i : ℕ) → i < length ws
+    → length (spaced_out (texts_of (take i ws))) + length (text_of (get_or ws i blank)) < length (spaced_out (texts_of ws))
+room_out [] i lt = absurd (omega arith)
+room_out (w ∷ ws) zero lt = simp length-append (omega arith)
+room_out (w ∷ ws) (suc i) lt = let more = room_out ws i (omega arith) in simp length-append (omega arith)
 
--- a byte behind a text is written anew
-pub end_set : (text rest : List ℕ) (a b : ℕ) → set ((text ++ a ∷ []) ++ rest) (length text) b ≡ (text ++ b ∷ []) ++ rest
-end_set [] rest a b = refl
-end_set (c ∷ text) rest a b = ap (λ (t : List ℕ). c ∷ t) (end_set text rest a b)
+pub room_for : (ws : List Word) (i : ℕ) → i < length ws
+    → length (spaced_out (texts_of (take i ws))) + length (text_of (get_or ws i blank)) < length (line_text (texts_of ws))
+room_for ws i lt = rw (← length_line (texts_of ws) (omega (arith, length-map ws text_of))) (room_out ws i lt)
 
-pub some_texts : (ws : List Word) → 0 < length ws → 0 < length (texts_of ws)
-some_texts [] some = some
-some_texts (w ∷ ws) some = omega arith
+-- all words
+pub record IsPut (a b : List ℕ) (end : ℕ) (ws : List Word) : Type 0 where
+  pub same : length b ≡ length a
+  pub last : end ≡ suc (length (spaced (texts_of ws)))
+  pub count : end ≡ 0 + length (line_text (texts_of ws))
+  pub room : end ≤ length a → b ≡ spaced (texts_of ws) ++ 32 ∷ drop end a
 
--- with a line feed in place of the last space the words are a line
-pub line_put : (a b : List ℕ) (end : ℕ) (words : List (List ℕ)) → 0 < length words → Puts a 0 b end (spaced_out words) → end ≤ length b
-    → Puts a 0 (set b (end - 1) 10) end (line_text words)
-line_put a b end words some p fits =
-    let len = length_line words some in
-    let e : end - 1 ≡ length (spaced words) = omega (arith, p.count, len, length-append (spaced words) (10 ∷ [])) in
-    let whole : b ≡ (spaced words ++ 32 ∷ []) ++ drop end a = p.room (omega (arith, p.same)) ∙ ap (λ (t : List ℕ). t ++ drop end a) (last_space words some) in
+pub all_put : (a b : List ℕ) (end i : ℕ) (ws : List Word) → 0 < length ws → length ws ≤ i → Puts a 0 b end (spaced_out (texts_of (take i ws))) → IsPut a b end ws
+all_put a b end i ws some done p =
+    let all = rw (take_all i ws done, last_space (texts_of ws) (omega (arith, length-map ws text_of))) at p in
     record {
-      same = length-set b (end - 1) 10 ∙ p.same;
-      count = omega (arith, p.count, len);
-      room = λ h. rw (e, whole) (end_set (spaced words) (drop end a) 32 10);
+      same = all.same;
+      last = omega (arith, all.count, length-append (spaced (texts_of ws)) (32 ∷ []));
+      count = omega (arith, all.count, length-append (spaced (texts_of ws)) (32 ∷ []), length-append (spaced (texts_of ws)) (10 ∷ []));
+      room = λ h. all.room h ∙ append_assoc (spaced (texts_of ws)) (32 ∷ []) (drop end a);
     }
 
-pub line_missed : (a b : List ℕ) (end : ℕ) (words : List (List ℕ)) → 0 < length words → Puts a 0 b end (spaced_out words) → length b < end
-    → Puts a 0 b end (line_text words)
-line_missed a b end words some p small =
-    record { same = p.same; count = omega (arith, p.count, length_line words some); room = λ h. absurd (omega (arith, p.same)) }
+-- with a line feed in place of the last space
+pub line_put : (a b : List ℕ) (end : ℕ) (ws : List Word) → IsPut a b end ws → end ≤ length b → Puts a 0 (set b (end - 1) 10) end (line_text (texts_of ws))
+line_put a b end ws p fits =
+    let last : end - 1 ≡ length (spaced (texts_of ws)) = omega (arith, p.last) in
+    record {
+      same = length-set b (end - 1) 10 ∙ p.same;
+      count = p.count;
+      room = λ h. rw (last, p.room h, set-append_seam) (sym (append_assoc (spaced (texts_of ws)) (10 ∷ []) (drop end a)));
+    }

@@ -1,11 +1,24 @@
 -- Own: the words of a line, which stand there with one space between each two.
-use Rattle.std.specs.Prelude.{◌≡◌, ℕ, ◌==◌, ◌&&◌, ◌||◌, nat_le, nat_lt, Bool, true, List, [], ◌∷◌, ◌++◌, ◌+◌, ◌≤◌, length, take, drop, map, decimal, Option, Some, None}
+use Rattle.std.specs.Prelude.{◌≡◌, ◌≢◌, ℕ, ◌==◌, ◌&&◌, ◌||◌, nat_le, nat_lt, Bool, true, List, [], ◌∷◌, ◌++◌, ◌+◌, ◌≤◌, ◌↔◌, length, take, drop, map, decimal, Option, Some, None, Result, IsOk, IfOk, IfErr, OnErr, MatchResult}
 use Rattle.std.specs.Borrow.{Bor}
 use Rattle.std.specs.Int.{w64, to_be_bytes}
 use Rattle.std.specs.List.{join_with_byte, slice_split, flat_map, list_all, AllByRecursion}
 use Rattle.hex.specs.Hex.{encode_lower, IsBytes}
-use Rattle.text_tokens.specs.declared.word.Word.{Word}
-use Rattle.text_tokens.specs.declared.word.Word.TheVariants.{Plain, Number, Bytes, Identifier}
+use Rattle.text_tokens.specs.declared.line.Full.{Full}
+use Rattle.text_tokens.specs.declared.line.Word.{Word}
+use Rattle.text_tokens.specs.declared.line.Word.TheVariants.{Plain, Number, Bytes, Identifier}
+use Rattle.text_tokens.specs.declared.words.Refused.{Refused}
+use Rattle.text_tokens.specs.declared.words.Refused.TheVariants as refused
+
+-- reading answers the value that is spelled so, of those in a kind, or that there is none
+abbrev pub Reads : {W X : Type 0} → (X → W) → (X → Type 0) → W → Result X Refused → Type 0
+Reads {W} {X} spell IsIn words result =
+    MatchResult result (λ x. IsIn x × (words ≡ spell x)) (λ r. (r ≡ refused.Bad) × ((x : X) → IsIn x → words ≢ spell x))
+
+-- likewise, but where memory runs out, nothing is said
+abbrev pub Gives : {W X : Type 0} → (X → W) → (X → Type 0) → W → Result X Refused → Type 0
+Gives {W} {X} spell IsIn words result =
+    MatchResult result (λ x. IsIn x × (words ≡ spell x)) (λ r. r ≡ refused.Bad → (x : X) → IsIn x → words ≢ spell x)
 
 -- words with one space between each two
 abbrev pub spaced : List (List ℕ) → List ℕ
@@ -60,3 +73,11 @@ pub record Puts (old : List ℕ) (at : ℕ) (new : List ℕ) (end : ℕ) (text :
   pub same : length new ≡ length old
   pub count : end ≡ at + length text
   pub room : end ≤ length old → new ≡ take at old ++ text ++ drop end old
+
+-- a text is written at the front of a room; one that is too small stays as it was, and what it needs is told
+pub record Writes (text old new : List ℕ) (result : Result ℕ Full) : Type 0 where
+  pub fits : IsOk result ↔ (length text ≤ length old)
+  pub count : IfOk result (λ n. n ≡ length text)
+  pub written : IfOk result (λ n. new ≡ text ++ drop n old)
+  pub needed : IfErr result (λ full. full.bytes ≡ length text)
+  pub unchanged : OnErr result (new ≡ old)

@@ -4,15 +4,12 @@
 //! between each two. Each value has one text, and reading takes that text alone.
 #![tactic(auto)]
 
-pub mod hexadecimal;
 pub mod laws;
 pub mod line;
-pub mod numbers;
-mod word;
+pub mod values;
 pub mod words;
 
-pub use hexadecimal::{hex_bytes, identifier, is_hex};
 pub use laws::{texts_are_unambiguous, words_are_cut};
-pub use line::{Full, Line};
-pub use numbers::number;
-pub use words::{Words, before_line_feed};
+pub use line::{Full, Line, Word};
+pub use values::{hex_bytes, identifier, is_hex, number};
+pub use words::{Refused, Words, before_line_feed};

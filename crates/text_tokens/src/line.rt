@@ -1,12 +1,12 @@
 //! Lines that are written.
 
-ghost use Rattle.std.specs.Prelude.{◌≡◌, ◌+◌, ◌<◌, ◌≤◌, ◌^◌, ◌↔◌, [], ◌∷◌, ◌++◌, length, drop, decimal, IsOk, IfOk, IfErr, OnErr};
+ghost use Rattle.std.specs.Prelude.{◌≡◌, ◌+◌, ◌*◌, ◌<◌, ◌≤◌, ◌^◌, ◌++◌, length};
+ghost use Rattle.arrayvec.specs.ArrayVec.{array_vec_len};
 ghost use Rattle.hex.specs.Hex.{encode_lower};
-ghost use Rattle.text_tokens.specs.Words.{text_of, texts_of, identifier_text, spaced_out, line_text, Puts};
+ghost use Rattle.text_tokens.specs.Words.{text_of, texts_of, line_text, Puts, Writes};
 
-use crate::word::{Word, put, put_word};
 use arrayvec::ArrayVec;
-use std::marker::Model;
+use itoa::Buffer;
 
 /// The room is too small. Nothing was written.
 #[derive(Clone, Copy, Debug, PartialEq, Eq)]
@@ -15,17 +15,63 @@ pub struct Full {
     pub bytes: u32,
 }
 
-/// Puts words at the front of a room, with a space behind each, and gives the place behind them.
-fn put_words(room: &mut [u8], words: &[Word]) -> usize
-    requires { length (spaced_out (texts_of words.now)) < 2 ^ 32 }
-    ensures { Puts room.old 0 room.new result (spaced_out (texts_of words.now)) }
-{
-    let mut at = 0;
-    for word in words {
-        let end = put_word(room, at, word);
-        at = put(room, end, b" ");
+/// One word of a line.
+#[derive(Clone, Copy, Debug)]
+pub enum Word<'a> {
+    /// A word that stands as it is. It has no space.
+    Plain(&'a [u8]),
+    /// A number in decimal digits, without a leading zero.
+    Number(u64),
+    /// Bytes in lower-case hexadecimal.
+    Bytes(&'a [u8]),
+    /// A number in sixteen digits of lower-case hexadecimal, the highest first.
+    Identifier(u64),
+}
+
+impl Default for Word<'_> {
+    /// The word without a letter.
+    fn default() -> Self {
+        Word::Plain(b"")
     }
-    at
+}
+
+/// Puts a text at a place, where the room reaches so far, and gives the place behind it.
+fn put(room: &mut [u8], at: usize, text: &[u8]) -> usize
+    requires { at < 2 ^ 32 }
+    ensures { Puts room.old at room.new result text.now }
+{
+    let end = at + text.len();
+    if end <= room.len() {
+        room[at..end].copy_from_slice(text);
+    }
+    end
+}
+
+/// Puts bytes in lower-case hexadecimal.
+fn put_hex(room: &mut [u8], at: usize, bytes: &[u8]) -> usize
+    requires at { at < 2 ^ 32 }
+    requires bytes { 2 * length bytes.now < 2 ^ 32 }
+    ensures { Puts room.old at room.new result (encode_lower bytes.now) }
+{
+    let end = at + 2 * bytes.len();
+    if end <= room.len() {
+        let _ = hex::encode_to_slice(bytes, &mut room[at..end]);
+    }
+    end
+}
+
+/// Puts a word.
+fn put_word(room: &mut [u8], at: usize, word: &Word) -> usize
+    requires at { at < 2 ^ 32 }
+    requires word { length (text_of word.now) < 2 ^ 32 }
+    ensures { Puts room.old at room.new result (text_of word.now) }
+{
+    match word {
+        Word::Plain(text) => put(room, at, text),
+        Word::Number(n) => put(room, at, Buffer::new().format(*n).as_bytes()),
+        Word::Bytes(bytes) => put_hex(room, at, bytes),
+        Word::Identifier(n) => put_hex(room, at, &n.to_be_bytes()),
+    }
 }
 
 /// Puts words at the front of a room, with one space between each two and a line feed behind them, and gives the place
@@ -35,101 +81,44 @@ fn put_line(room: &mut [u8], words: &[Word]) -> usize
     requires short { length (line_text (texts_of words.now)) < 2 ^ 32 }
     ensures { Puts room.old 0 room.new result (line_text (texts_of words.now)) }
 {
-    let end = put_words(room, words);
-    if end <= room.len() {
-        room[end - 1] = b'\n';
+    let mut at = 0;
+    for word in words {
+        let end = put_word(room, at, word);
+        at = put(room, end, b" ");
     }
-    end
+    if at <= room.len() {
+        room[at - 1] = b'\n';
+    }
+    at
 }
 
-/// The words of a line that is written, at most eight. Contracts see the texts of the words.
-#[derive(Drop)]
+/// The words of a line that is written, at most eight.
+#[derive(Default, Drop)]
 pub struct Line<'a> {
-    words: ArrayVec<Word<'a>, 8>,
-}
-
-impl<'a> Model for Line<'a> {
-    ghost use Rattle.std.specs.Prelude.{ℕ, List};
-    ghost use Rattle.text_tokens.specs.Words.{texts_of};
-
-    ghost Value = { List (List ℕ) };
-
-    ghost view = { λ l. texts_of l.words.items };
+    pub words: ArrayVec<Word<'a>, 8>,
 }
 
 impl<'a> Line<'a> {
-    /// No words yet.
-    pub fn new() -> Line<'a>
-        ensures { result ≡ [] }
+    /// The line with more words behind its own.
+    pub fn then(mut self, more: &[Word<'a>]) -> Line<'a>
+        requires { array_vec_len self.words + length more.now ≤ 8 }
+        ensures { result.words.items ≡ self.entry.words.items ++ more.now }
     {
-        Line {
-            words: ArrayVec::new(),
-        }
-    }
-
-    /// These words and one that stands as it is. It has no space.
-    pub fn plain(mut self, word: &'a [u8]) -> Line<'a>
-        requires { length self < 8 }
-        ensures { result ≡ self.entry ++ word.now ∷ [] }
-    {
-        self.words.push(Word::Plain(word));
-        self
-    }
-
-    /// These words and a number in decimal digits.
-    pub fn number(mut self, n: u64) -> Line<'a>
-        requires { length self < 8 }
-        ensures { result ≡ self.entry ++ decimal n ∷ [] }
-    {
-        self.words.push(Word::Number(n));
-        self
-    }
-
-    /// These words and bytes in lower-case hexadecimal.
-    pub fn bytes(mut self, bytes: &'a [u8]) -> Line<'a>
-        requires { length self < 8 }
-        ensures { result ≡ self.entry ++ encode_lower bytes.now ∷ [] }
-    {
-        self.words.push(Word::Bytes(bytes));
-        self
-    }
-
-    /// These words and a number in sixteen digits of lower-case hexadecimal, the highest first.
-    pub fn identifier(mut self, n: u64) -> Line<'a>
-        requires { length self < 8 }
-        ensures { result ≡ self.entry ++ identifier_text n ∷ [] }
-    {
-        self.words.push(Word::Identifier(n));
-        self
-    }
-
-    /// These words and those of another line behind them.
-    pub fn then(mut self, more: Line<'a>) -> Line<'a>
-        requires { length self + length more ≤ 8 }
-        ensures { result ≡ self.entry ++ more.entry }
-    {
-        let _ = self.words.try_extend_from_slice(more.words.as_slice());
+        let _ = self.words.try_extend_from_slice(more);
         self
     }
 
     /// Writes the words to the front of a room, with one space between each two and a line feed behind them, and gives
     /// the number of bytes.
     pub fn write(&self, room: &mut [u8]) -> Result<u32, Full>
-        requires some { 0 < length self.now }
-        requires fits { length (line_text self.now) < 2 ^ 32 }
-        ensures fits { IsOk result ↔ (length (line_text self.now) ≤ length room.old) }
-        ensures count { IfOk result (λ n. n ≡ length (line_text self.now)) }
-        ensures written { IfOk result (λ n. room.new ≡ line_text self.now ++ drop n room.old) }
-        ensures needed { IfErr result (λ full. full.bytes ≡ length (line_text self.now)) }
-        ensures unchanged { OnErr result (room.new ≡ room.old) }
+        requires some { 0 < array_vec_len self.now.words }
+        requires fits { length (line_text (texts_of self.now.words.items)) < 2 ^ 32 }
+        ensures { Writes (line_text (texts_of self.now.words.items)) room.old room.new result }
     {
-        let words = self.words.as_slice();
-        let needed = put_line(&mut [], words);
-        if room.len() < needed {
-            return Err(Full {
-                bytes: needed as u32,
-            });
+        let bytes = put_line(&mut [], self.words.as_slice()) as u32;
+        if room.len() < bytes as usize {
+            return Err(Full { bytes });
         }
-        Ok(put_line(room, words) as u32)
+        Ok(put_line(room, self.words.as_slice()) as u32)
     }
 }

@@ -1,4 +1,3 @@
-pub mod Posts
 pub mod Spelling
 pub mod Injective
 pub mod WholeLines

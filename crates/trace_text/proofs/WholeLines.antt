@@ -1,19 +1,24 @@
 -- A line is read as the entry whose line it is.
-use Rattle.std.proofs.Common.{◌≡◌, ℕ, ◌^◌, ◌<◌, ◌≤◌, List, [], ◌∷◌, ◌++◌, length, Result, Ok, Err, sym, ap, ◌∙◌, append_assoc, arith}
-use Rattle.std.specs.Prelude.{decimal}
+use Rattle.std.proofs.Common.{◌≡◌, ℕ, ◌^◌, ◌<◌, ◌≤◌, List, [], ◌∷◌, ◌++◌, length, Result, Ok, Err, sym, ap, subst, ◌∙◌, append_assoc, arith}
+use Rattle.std.specs.Prelude.{decimal, IsErr, IsErrAnd, MatchResult}
 use Rattle.std.specs.List.{slice_split}
 use Rattle.std.proofs.lemmas.List.{append_cancel_right, length-append}
 use Rattle.std.proofs.lemmas.List.Splits.{length-slice_split}
-use Rattle.text_tokens.specs.Words.{spaced, AreWords}
+use Rattle.text_tokens.specs.Words.{spaced, AreWords, Gives}
 use Rattle.text_tokens.proofs.Cuts.{is_space}
 use Rattle.text_tokens.proofs.Splits.{cut_spaced, spaced_cut, cut_word, decimal_word, line_cons, same_line, spaced_more}
 use Rattle.charge_world.specs.declared.entry.Entry.{Entry}
-use Rattle.trace_text.specs.declared.refused.Refused.{Refused}
-use Rattle.trace_text.specs.declared.refused.Refused.TheVariants.{Bad, Memory}
+use Rattle.text_tokens.specs.declared.words.Refused.{Refused}
 use Rattle.trace_text.specs.TraceText.{words_of, line_of, numbered_line_of, IsLine, longest}
-use Rattle.trace_text.specs.Reading.{Gives, IsRead, IsNumbered}
+use Rattle.trace_text.specs.Reading.{IsRead, IsNumbered}
 use Rattle.trace_text.proofs.Spelling.{words_are, some_words, words_same}
 use Rattle.std.proofs.lemmas.Fmt.{decimal_injective, length-decimal-le}
+
+-- an error that is passed on
+pub passed_on : {X : Type 0} (Q : X → Type 0) (P : Refused → Type 0) (r : Result X Refused) (e : Refused)
+    → IsErr r × IsErrAnd r (λ f. f ≡ e) → P e → MatchResult r Q P
+passed_on Q P (Ok x) e h p = absurd cc
+passed_on Q P (Err f) e h p = subst P (sym h.1) p
 
 -- a line of an entry, cut at its spaces
 cut_line : (e : Entry) (text : List ℕ) → IsRead e → text ++ 10 ∷ [] ≡ line_of e → slice_split is_space text ≡ words_of e
@@ -27,9 +32,8 @@ line_read line text (Ok e) ends short h =
     let same : text ≡ spaced (words_of e) = sym (spaced_cut text) ∙ ap spaced h.1 in
     let whole : line ≡ line_of e = ends ∙ ap (λ (t : List ℕ). t ++ 10 ∷ []) same in
     (((h.0.0, rw whole at short), h.0.1), whole)
-line_read line text (Err Bad) ends short h =
-    λ e is said. h e (is.0.0, is.1) (cut_line e text (is.0.0, is.1) (sym ends ∙ said))
-line_read line text (Err Memory) ends short h = tt
+line_read line text (Err refused) ends short h =
+    λ bad e is said. h bad e (is.0.0, is.1) (cut_line e text (is.0.0, is.1) (sym ends ∙ said))
 
 -- ---- one entry for each line
 
@@ -74,10 +78,9 @@ numbered_read line rest n e small cut h =
 
 pub numbered_missed : (line rest : List ℕ) (n : ℕ) (refused : Refused) → slice_split is_space line ≡ decimal n ∷ slice_split is_space rest
     → Gives line_of IsLine rest (Err refused) → Gives (λ (x : ℕ × Entry). numbered_line_of x.0 x.1) IsNumbered line (Err refused)
-numbered_missed line rest n Bad cut h =
-    λ x is said. let whole = sym cut ∙ numbered_cut line x is said in let same : slice_split is_space rest ≡ slice_split is_space (line_of x.1) = cc in
-    h x.1 is.1 (same_rest rest (line_of x.1) same)
-numbered_missed line rest n Memory cut h = tt
+numbered_missed line rest n refused cut h =
+    λ bad x is said. let whole = sym cut ∙ numbered_cut line x is said in let same : slice_split is_space rest ≡ slice_split is_space (line_of x.1) = cc in
+    h bad x.1 is.1 (same_rest rest (line_of x.1) same)
 
 pub numbered_short : (n : ℕ) (e : Entry) → n < 2 ^ 64 → length (line_of e) ≤ longest → length (numbered_line_of n e) < 2 ^ 32
 numbered_short n e small short =

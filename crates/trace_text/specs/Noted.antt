@@ -1,8 +1,8 @@
 -- Own: the entry that is noted.
 use Rattle.charge_world.specs.declared.entry.Entry.{Entry}
 use Rattle.charge_world.specs.declared.entry.Entry.TheVariants as entry
-use Rattle.trace_text.specs.declared.noted.Noted.{Noted}
-use Rattle.trace_text.specs.declared.noted.Noted.TheVariants.{Heard, Lost, Sent, Answered, Drove, Dialed, Ended}
+use Rattle.trace_text.specs.declared.writing.Noted.{Noted}
+use Rattle.trace_text.specs.declared.writing.Noted.TheVariants.{Heard, Lost, Sent, Answered, Drove, Dialed, Ended}
 
 abbrev pub entry_of : Noted → Entry
 entry_of (Heard heard bytes) = entry.Heard heard bytes.now

@@ -1,23 +1,10 @@
--- Own: what reading words answers: the value whose words they are, or that there is none.
-use Rattle.std.specs.Prelude.{◌≡◌, ◌≢◌, Bool, List, ◌<◌, ◌≤◌, ◌^◌, ℕ, length, Option, Some, None, Result, Ok, Err}
+-- Own: the values that are read from words.
+use Rattle.std.specs.Prelude.{◌≡◌, Bool, List, ◌<◌, ◌≤◌, ◌^◌, ℕ, length}
 use Rattle.hex.specs.Hex.{IsBytes}
 use Rattle.charge_world.specs.declared.entry.Entry.{Entry}
 use Rattle.charge_world.specs.declared.entry.Entry.TheVariants as entry
 use Rattle.charge_world.specs.declared.heard.What.{What}
-use Rattle.trace_text.specs.declared.refused.Refused.{Refused}
-use Rattle.trace_text.specs.declared.refused.Refused.TheVariants.{Bad, Memory}
 use Rattle.trace_text.specs.TraceText.{HasBytes, IsWhatOfTypes, InBounds, IsOfTypes, IsLine}
-
--- of the values that are in a kind
-abbrev pub Reads : {W X : Type 0} → (X → W) → (X → Type 0) → W → Option X → Type 0
-Reads spell IsIn words (Some x) = IsIn x × (words ≡ spell x)
-Reads {W} {X} spell IsIn words None = (x : X) → IsIn x → words ≢ spell x
-
--- where memory runs out, nothing is said
-abbrev pub Gives : {W X : Type 0} → (X → W) → (X → Type 0) → W → Result X Refused → Type 0
-Gives spell IsIn words (Ok x) = IsIn x × (words ≡ spell x)
-Gives {W} {X} spell IsIn words (Err Bad) = (x : X) → IsIn x → words ≢ spell x
-Gives spell IsIn words (Err Memory) = Unit {0}
 
 -- entries
 abbrev pub IsRead : Entry → Type 0

@@ -5,15 +5,10 @@
 #![tactic(auto)]
 
 pub mod laws;
-mod lines;
-pub mod noted;
 pub mod reading;
-mod refused;
-mod words;
 pub mod writing;
 
 pub use laws::{lines_are_unambiguous, traces_are_unambiguous};
-pub use noted::Noted;
 pub use reading::{LineFault, read_line, read_numbered};
 pub use text_tokens::Full;
-pub use writing::{write_line, write_noted, write_numbered};
+pub use writing::{Noted, write_line, write_noted, write_numbered};

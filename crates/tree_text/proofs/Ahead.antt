@@ -48,14 +48,14 @@ module _ (V : Speller) (s : PlainSchema) (fits : are_consistent s.kinds ≡ true
 
   at_start : (number : ℕ) (entries : Entries) (bits : List Bool) (new : State) (ahead told : List ℕ) → ahead ≡ [] → Moves V s (stands Before entries) (Document number) bits new → told ≡ [] → Leads dialect.Before (Document number) new ahead told
   at_start number entries bits new ahead told none m t =
-      let word = found s.names m.0 (root_name s number m.0 m.1 m.3) in
-      let added = word.0 ++ (mark s m.1 ∷ []) in
+      let word = found s.names m.name (root_name s number m.name m.kind m.named) in
+      let added = word.0 ++ (mark s m.kind ∷ []) in
       record {
         added = added;
-        after = dialect.AtRoot m.0 m.1;
+        after = dialect.AtRoot m.name m.kind;
         next = added;
-        adds = (m.0, m.1, m.3, (word.0, word.1, refl), refl);
-        alike = alike_by V s fits ends.Nothing new (stands (AtRoot m.0 m.1) entries) (dialect.AtRoot m.0 m.1) added m.6 (word.0, word.1, refl, refl, refl);
+        adds = (m.name, m.kind, m.named, (word.0, word.1, refl), refl);
+        alike = alike_by V s fits ends.Nothing new (stands (AtRoot m.name m.kind) entries) (dialect.AtRoot m.name m.kind) added m.leads (word.0, word.1, refl, refl, refl);
         same = ap (λ (l : List ℕ). l ++ added) none ∙ ap (λ (l : List ℕ). l ++ added) (sym t);
       }
 
@@ -77,26 +77,26 @@ module _ (V : Speller) (s : PlainSchema) (fits : are_consistent s.kinds ≡ true
       AllByRecursion (IsOuter s) above → IsAlikeIn s end top.place filling ahead → Moves V s (stands (Inside top above) entries) (Start name) bits new → AddsStart s end name told →
       Leads (dialect.Within (dialect.element top.place.kind filling ∷ map outer_of above)) (Start name) new ahead told
   within_start end top above filling name entries bits new ahead told all is m t =
-      let offered : IsOffered s top.place (element name m.0 m.1) = (m.2.code, m.2.offered) in
-      let declared = element_declared s top.place m.1 name m.0 fits offered in
+      let offered : IsOffered s top.place (element name m.kind m.next) = (m.starts.code, m.starts.offered) in
+      let declared = element_declared s top.place m.next name m.kind fits offered in
       let word = t.0 in
-      let complex = complex_of_element s (slice_get s.kinds top.place.kind) name m.0 declared in
-      let kept = element_kind_kept s top.place m.1 name m.0 offered in
-      let text = word ++ (mark s m.0 ∷ []) in
-      let after = dialect.Within (dialect.element m.0 fills.Nothing ∷ dialect.element top.place.kind fills.Elements ∷ map outer_of above) in
+      let complex = complex_of_element s (slice_get s.kinds top.place.kind) name m.kind declared in
+      let kept = element_kind_kept s top.place m.next name m.kind offered in
+      let text = word ++ (mark s m.kind ∷ []) in
+      let after = dialect.Within (dialect.element m.kind fills.Nothing ∷ dialect.element top.place.kind fills.Elements ∷ map outer_of above) in
       record {
         added = dialect.gap filling ++ text;
         after = after;
-        next = mark s m.0 ∷ [];
-        adds = (m.0, text, declared, (word, t.1, refl), refl, refl);
-        alike = alike_by V s fits ends.Name new (stands (Inside (opened name (first m.0)) (opened top.name m.1 ∷ above)) entries) after (mark s m.0 ∷ []) m.3 (
+        next = mark s m.kind ∷ [];
+        adds = (m.kind, text, declared, (word, t.1, refl), refl, refl);
+        alike = alike_by V s fits ends.Name new (stands (Inside (opened name (first m.kind)) (opened top.name m.next ∷ above)) entries) after (mark s m.kind ∷ []) m.leads (
           fills.Nothing,
-          ap (λ (n : ℕ). dialect.Within (dialect.element m.0 fills.Nothing ∷ dialect.element n fills.Elements ∷ map outer_of above)) (sym kept),
-          (behind_element s.kinds top.place m.1 name m.0 bits m.2, all),
+          ap (λ (n : ℕ). dialect.Within (dialect.element m.kind fills.Nothing ∷ dialect.element n fills.Elements ∷ map outer_of above)) (sym kept),
+          (behind_element s.kinds top.place m.next name m.kind bits m.starts, all),
           (refl, refl, refl),
         );
-        same = start_regroup ahead (dialect.gap filling) word (mark s m.0 ∷ []) (gap end) (gaps s end top.place filling ahead (element name m.0 m.1) is complex offered (λ wrong. cc))
-            ∙ ap (λ (l : List ℕ). l ++ (mark s m.0 ∷ [])) (sym t.2);
+        same = start_regroup ahead (dialect.gap filling) word (mark s m.kind ∷ []) (gap end) (gaps s end top.place filling ahead (element name m.kind m.next) is complex offered (λ wrong. cc))
+            ∙ ap (λ (l : List ℕ). l ++ (mark s m.kind ∷ [])) (sym t.2);
       }
 
   -- an attribute is offered before elements alone
@@ -114,34 +114,34 @@ module _ (V : Speller) (s : PlainSchema) (fits : are_consistent s.kinds ≡ true
       AllByRecursion (IsOuter s) above → IsAlikeIn s end top.place filling ahead → Moves V s (stands (Inside top above) entries) (Attribute name value) bits new → AddsAttribute s end top.place name value told →
       Leads (dialect.Within (dialect.element top.place.kind filling ∷ map outer_of above)) (Attribute name value) new ahead told
   within_attribute end top above filling name value entries bits new ahead told at all is m t =
-      let x : Step = step.Attribute name m.0 m.1 in
-      let offered : IsOffered s top.place x = (m.6.code, m.6.offered) in
-      let declared = attribute_declared s top.place m.1 name m.0 fits offered in
-      let kind : t.0 ≡ m.0 = (one_attribute s top.place name t.0 m.0 t.1 m.1 at t.3 offered).0 in
+      let x : Step = step.Attribute name m.kind m.next in
+      let offered : IsOffered s top.place x = (m.starts.code, m.starts.offered) in
+      let declared = attribute_declared s top.place m.next name m.kind fits offered in
+      let kind : t.0 ≡ m.kind = (one_attribute s top.place name t.0 m.kind t.1 m.next at t.3 offered).0 in
       let word = t.4.0 in
       let said = t.4.1 in
       let text = codes "@" ++ word ++ codes "=" ++ said in
-      let complex = complex_of_attribute s (slice_get s.kinds top.place.kind) name m.0 declared in
-      let kept = attribute_kind_kept s top.place m.1 name m.0 offered in
+      let complex = complex_of_attribute s (slice_get s.kinds top.place.kind) name m.kind declared in
+      let kept = attribute_kind_kept s top.place m.next name m.kind offered in
       let after = dialect.Within (dialect.element top.place.kind fills.Attributes ∷ map outer_of above) in
       record {
         added = dialect.gap filling ++ text;
         after = after;
         next = [];
         adds = (
-          m.0,
+          m.kind,
           text,
-          before_elements end top.place filling ahead name m.0 m.1 is offered,
+          before_elements end top.place filling ahead name m.kind m.next is offered,
           declared,
-          (word, said, t.4.2, (m.2, m.7, (formed m.0 name m.2 entries m.3 value m.5 m.7 m.8, subst (λ (k : ℕ). IsValueText s k value said) kind t.4.3)), refl),
+          (word, said, t.4.2, (m.datatype, m.is_simple, (formed m.kind name m.datatype entries m.after value m.inside m.is_simple m.spelled, subst (λ (k : ℕ). IsValueText s k value said) kind t.4.3)), refl),
           refl,
           refl,
         );
-        alike = alike_by V s fits ends.Part new (stands (Inside (opened top.name m.1) above) m.3) after [] m.10 (
+        alike = alike_by V s fits ends.Part new (stands (Inside (opened top.name m.next) above) m.after) after [] m.leads (
           fills.Attributes,
           ap (λ (n : ℕ). dialect.Within (dialect.element n fills.Attributes ∷ map outer_of above)) (sym kept),
           all,
-          (tt, behind_attribute s.kinds top.place m.1 name m.0 m.4 m.6, refl),
+          (tt, behind_attribute s.kinds top.place m.next name m.kind m.code m.starts, refl),
         );
         same = attribute_regroup ahead (dialect.gap filling) (codes "@") word (codes "=") said (gap end) (gaps s end top.place filling ahead x is complex offered (λ wrong. cc))
             ∙ ap (λ (l : List ℕ). l ++ []) (ap (λ (l : List ℕ). gap end ++ codes "@" ++ l) (sym t.4.4) ∙ sym t.5);
@@ -158,22 +158,22 @@ module _ (V : Speller) (s : PlainSchema) (fits : are_consistent s.kinds ≡ true
       AllByRecursion (IsOuter s) above → IsAlikeIn s end top.place filling ahead → Moves V s (stands (Inside top above) entries) (Content value) bits new → AddsContent s top.place value told →
       Leads (dialect.Within (dialect.element top.place.kind filling ∷ map outer_of above)) (Content value) new ahead told
   within_content end top above filling value entries bits new ahead told all is m t =
-      let offered : IsOffered s top.place (step.Characters m.0) = (m.5.code, m.5.offered) in
-      let kept = characters_kind_kept s top.place m.0 offered in
-      let none = before_value end top.place filling ahead m.1 m.0 is m.6 offered in
+      let offered : IsOffered s top.place (step.Characters m.next) = (m.starts.code, m.starts.offered) in
+      let kept = characters_kind_kept s top.place m.next offered in
+      let none = before_value end top.place filling ahead m.datatype m.next is m.is_simple offered in
       let after = dialect.Within (dialect.element top.place.kind fills.Value ∷ map outer_of above) in
       record {
         added = t.0;
         after = after;
         next = [];
-        adds = (none, (m.1, m.6, (formed top.place.kind top.name m.1 entries m.2 value m.4 m.6 m.7, t.1)), refl);
-        alike = alike_by V s fits ends.Value new (stands (Inside (opened top.name m.0) above) m.2) after [] m.9 (
+        adds = (none, (m.datatype, m.is_simple, (formed top.place.kind top.name m.datatype entries m.after value m.inside m.is_simple m.spelled, t.1)), refl);
+        alike = alike_by V s fits ends.Value new (stands (Inside (opened top.name m.next) above) m.after) after [] m.leads (
           fills.Value,
           ap (λ (n : ℕ). dialect.Within (dialect.element n fills.Value ∷ map outer_of above)) (sym kept),
           all,
-          (refl, (behind_characters s.kinds top.place m.0 m.1 m.3 m.6 m.5).1, (m.1, ap (λ (n : ℕ). simple_at s.kinds n) kept ∙ m.6), refl),
+          (refl, (behind_characters s.kinds top.place m.next m.datatype m.code m.is_simple m.starts).1, (m.datatype, ap (λ (n : ℕ). simple_at s.kinds n) kept ∙ m.is_simple), refl),
         );
-        same = ap (λ (l : List ℕ). l ++ t.0) (content_gap V s fits end top.place filling ahead m.1 is none m.6) ∙ sym t.2 ∙ sym (append-nil told);
+        same = ap (λ (l : List ℕ). l ++ t.0) (content_gap V s fits end top.place filling ahead m.datatype is none m.is_simple) ∙ sym t.2 ∙ sym (append-nil told);
       }
 
   -- the end of an element

@@ -129,13 +129,13 @@ module _ (V : Speller) (s : PlainSchema) (fits : are_consistent s.kinds ≡ true
   at_start : (number : ℕ) (entries : Entries) (bits : List Bool) (new : State) (ahead added : List ℕ) (after : dialect.Standing) → ahead ≡ [] → Moves V s (stands Before entries) (Document number) bits new → dialect.OpensDocument s number added after →
       Follows ends.Nothing None (Document number) new ahead added after
   at_start number entries bits new ahead added after none m d =
-      let one = one_root s number d.0 d.1 m.0 m.1 d.2 m.3 in
+      let one = one_root s number d.0 d.1 m.name m.kind d.2 m.named in
       let word = d.3.0 in
       record {
         told = [];
         next = added;
         adds = refl;
-        alike = alike_by ends.Nothing new (stands (AtRoot m.0 m.1) entries) after added m.6 (
+        alike = alike_by ends.Nothing new (stands (AtRoot m.name m.kind) entries) after added m.leads (
           word,
           subst (λ (n : ℕ). IsName s n word) one.0 d.3.1,
           d.4 ∙ ap₂ (λ (n k : ℕ). dialect.AtRoot n k) one.0 one.1,
@@ -160,46 +160,46 @@ module _ (V : Speller) (s : PlainSchema) (fits : are_consistent s.kinds ≡ true
       AllByRecursion (IsOuter s) above → IsAlikeIn s end top.place filling ahead → Moves V s (stands (Inside top above) entries) (Start name) bits new →
       dialect.OpensElement s (dialect.element top.place.kind filling) (map outer_of above) name added after → Follows end (Some top.place) (Start name) new ahead added after
   within_start end top above filling name entries bits new ahead added after all is m d =
-      let offered : IsOffered s top.place (element name m.0 m.1) = (m.2.code, m.2.offered) in
-      let kind : d.0 ≡ m.0 = one_of (element_of s top.place.kind name) d.0 m.0 d.2 (element_declared s top.place m.1 name m.0 fits offered) in
+      let offered : IsOffered s top.place (element name m.kind m.next) = (m.starts.code, m.starts.offered) in
+      let kind : d.0 ≡ m.kind = one_of (element_of s top.place.kind name) d.0 m.kind d.2 (element_declared s top.place m.next name m.kind fits offered) in
       let word = d.3.0 in
       let complex = complex_of_element s (slice_get s.kinds top.place.kind) name d.0 d.2 in
-      let kept = element_kind_kept s top.place m.1 name m.0 offered in
+      let kept = element_kind_kept s top.place m.next name m.kind offered in
       record {
         told = gap end ++ word;
-        next = mark s m.0 ∷ [];
+        next = mark s m.kind ∷ [];
         adds = (word, d.3.1, refl);
-        alike = alike_by ends.Name new (stands (Inside (opened name (first m.0)) (opened top.name m.1 ∷ above)) entries) after (mark s m.0 ∷ []) m.3 (
+        alike = alike_by ends.Name new (stands (Inside (opened name (first m.kind)) (opened top.name m.next ∷ above)) entries) after (mark s m.kind ∷ []) m.leads (
           fills.Nothing,
           d.5 ∙ ap₂ (λ (k n : ℕ). dialect.Within (dialect.element k fills.Nothing ∷ dialect.element n fills.Elements ∷ map outer_of above)) kind (sym kept),
-          (behind_element s.kinds top.place m.1 name m.0 bits m.2, all),
+          (behind_element s.kinds top.place m.next name m.kind bits m.starts, all),
           (refl, refl, refl),
         );
         same = ap (λ (l : List ℕ). ahead ++ l) (d.4 ∙ ap (λ (l : List ℕ). dialect.gap filling ++ l) (d.3.2 ∙ ap (λ (k : ℕ). word ++ (mark s k ∷ [])) kind))
-            ∙ start_regroup ahead (dialect.gap filling) word (mark s m.0 ∷ []) (gap end) (gaps s end top.place filling ahead (element name m.0 m.1) is complex offered (λ wrong. cc));
+            ∙ start_regroup ahead (dialect.gap filling) word (mark s m.kind ∷ []) (gap end) (gaps s end top.place filling ahead (element name m.kind m.next) is complex offered (λ wrong. cc));
       }
 
   within_attribute : (end : TextEnd) (top : Opened) (above : List Opened) (filling : Filling) (name : ℕ) (value : Value) (entries : Entries) (bits : List Bool) (new : State) (ahead added : List ℕ) (after : dialect.Standing) →
       AllByRecursion (IsOuter s) above → IsAlikeIn s end top.place filling ahead → Moves V s (stands (Inside top above) entries) (Attribute name value) bits new →
       dialect.TakesAttribute s (dialect.element top.place.kind filling) (map outer_of above) name value added after → Follows end (Some top.place) (Attribute name value) new ahead added after
   within_attribute end top above filling name value entries bits new ahead added after all is m d =
-      let x : Step = step.Attribute name m.0 m.1 in
-      let offered : IsOffered s top.place x = (m.6.code, m.6.offered) in
-      let kind : d.0 ≡ m.0 = one_of (attribute_of s top.place.kind name) d.0 m.0 d.3 (attribute_declared s top.place m.1 name m.0 fits offered) in
+      let x : Step = step.Attribute name m.kind m.next in
+      let offered : IsOffered s top.place x = (m.starts.code, m.starts.offered) in
+      let kind : d.0 ≡ m.kind = one_of (attribute_of s top.place.kind name) d.0 m.kind d.3 (attribute_declared s top.place m.next name m.kind fits offered) in
       let word = d.4.0 in
       let said = d.4.1 in
       let part = word ++ codes "=" ++ said in
       let complex = complex_of_attribute s (slice_get s.kinds top.place.kind) name d.0 d.3 in
-      let kept = attribute_kind_kept s top.place m.1 name m.0 offered in
+      let kept = attribute_kind_kept s top.place m.next name m.kind offered in
       record {
         told = gap end ++ codes "@" ++ part;
         next = [];
-        adds = (m.0, m.1, part, offered, (word, said, d.4.2, subst (λ (k : ℕ). IsValueText s k value said) kind d.4.3.2.1, refl), refl);
-        alike = alike_by ends.Part new (stands (Inside (opened top.name m.1) above) m.3) after [] m.10 (
+        adds = (m.kind, m.next, part, offered, (word, said, d.4.2, subst (λ (k : ℕ). IsValueText s k value said) kind d.4.3.2.1, refl), refl);
+        alike = alike_by ends.Part new (stands (Inside (opened top.name m.next) above) m.after) after [] m.leads (
           fills.Attributes,
           d.6 ∙ ap (λ (n : ℕ). dialect.Within (dialect.element n fills.Attributes ∷ map outer_of above)) (sym kept),
           all,
-          (tt, behind_attribute s.kinds top.place m.1 name m.0 m.4 m.6, refl),
+          (tt, behind_attribute s.kinds top.place m.next name m.kind m.code m.starts, refl),
         );
         same = ap (λ (l : List ℕ). ahead ++ l) (d.5 ∙ ap (λ (l : List ℕ). dialect.gap filling ++ l) d.4.4)
             ∙ attribute_regroup ahead (dialect.gap filling) (codes "@") word (codes "=") said (gap end) (gaps s end top.place filling ahead x is complex offered (λ wrong. cc));
@@ -221,19 +221,19 @@ module _ (V : Speller) (s : PlainSchema) (fits : are_consistent s.kinds ≡ true
       AllByRecursion (IsOuter s) above → IsAlikeIn s end top.place filling ahead → Moves V s (stands (Inside top above) entries) (Content value) bits new →
       dialect.TakesContent s (dialect.element top.place.kind filling) (map outer_of above) value added after → Follows end (Some top.place) (Content value) new ahead added after
   within_content end top above filling value entries bits new ahead added after all is m d =
-      let offered : IsOffered s top.place (step.Characters m.0) = (m.5.code, m.5.offered) in
-      let kept = characters_kind_kept s top.place m.0 offered in
+      let offered : IsOffered s top.place (step.Characters m.next) = (m.starts.code, m.starts.offered) in
+      let kept = characters_kind_kept s top.place m.next offered in
       record {
         told = codes "=" ++ added;
         next = [];
         adds = (added, d.1.2.1, refl);
-        alike = alike_by ends.Value new (stands (Inside (opened top.name m.0) above) m.2) after [] m.9 (
+        alike = alike_by ends.Value new (stands (Inside (opened top.name m.next) above) m.after) after [] m.leads (
           fills.Value,
           d.2 ∙ ap (λ (n : ℕ). dialect.Within (dialect.element n fills.Value ∷ map outer_of above)) (sym kept),
           all,
-          (refl, (behind_characters s.kinds top.place m.0 m.1 m.3 m.6 m.5).1, (m.1, ap (λ (n : ℕ). simple_at s.kinds n) kept ∙ m.6), refl),
+          (refl, (behind_characters s.kinds top.place m.next m.datatype m.code m.is_simple m.starts).1, (m.datatype, ap (λ (n : ℕ). simple_at s.kinds n) kept ∙ m.is_simple), refl),
         );
-        same = ap (λ (l : List ℕ). l ++ added) (content_gap end top.place filling ahead m.1 is d.0 m.6) ∙ sym (append-nil (codes "=" ++ added));
+        same = ap (λ (l : List ℕ). l ++ added) (content_gap end top.place filling ahead m.datatype is d.0 m.is_simple) ∙ sym (append-nil (codes "=" ++ added));
       }
 
   -- the end of an element

@@ -1,5 +1,5 @@
 -- Events with which no document begins that has room: one is not offered, is too long, or has no room.
-use Rattle.std.proofs.Common.{rules, ◌≡◌, ℕ, ◌+◌, ◌*◌, ◌<◌, ◌↔◌, IsTrue, IsFalse, not, Bool, true, false, List, ◌∷◌, ◌++◌, length, reverse, Option, Some, Result, Ok, Err, IsErr, refl, sym, ap, subst, ◌∙◌, arith, length-append}
+use Rattle.std.proofs.Common.{rules, ◌≡◌, ℕ, ◌+◌, ◌*◌, ◌<◌, IsTrue, IsFalse, not, Bool, true, false, List, ◌∷◌, ◌++◌, length, reverse, Option, Some, Result, Ok, Err, IsErr, refl, sym, ap, subst, ◌∙◌, arith, length-append}
 use Rattle.exi_spec.specs.Bits.{bits_of}
 use Rattle.exi_spec.specs.Items.{shortest_unsigned}
 use Rattle.exi_spec.proofs.BitLaws.{length-bits_of}
@@ -76,12 +76,12 @@ module _ (s : PlainSchema) where
 
   long_move : (standing : Standing) (entries : Entries) (event : Event) (bits : List Bool) (new : State) → IsTooLong event → Moves WritesValue s (stands standing entries) event bits new → 8 * 65536 < length bits
   long_move (Inside top above) entries (Attribute name value) bits new long m =
-      let less = long_value m.2 entries m.3 name value m.5 long m.8 in
-      let all : length bits ≡ length m.4 + length m.5 = ap length m.9 ∙ length-append m.4 m.5 in
+      let less = long_value m.datatype entries m.after name value m.inside long m.spelled in
+      let all : length bits ≡ length m.code + length m.inside = ap length m.bits_are ∙ length-append m.code m.inside in
       omega (arith, less, all)
   long_move (Inside top above) entries (Content value) bits new long m =
-      let less = long_value m.1 entries m.2 top.name value m.4 long m.7 in
-      let all : length bits ≡ length m.3 + length m.4 = ap length m.8 ∙ length-append m.3 m.4 in
+      let less = long_value m.datatype entries m.after top.name value m.inside long m.spelled in
+      let all : length bits ≡ length m.code + length m.inside = ap length m.bits_are ∙ length-append m.code m.inside in
       omega (arith, less, all)
   long_move standing entries (Document number) bits new long m = absurd long
   long_move standing entries (Start name) bits new long m = absurd long

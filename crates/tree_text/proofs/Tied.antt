@@ -82,17 +82,17 @@ module _ (V : Speller) (s : PlainSchema) where
       record { there = here; entries = entries; texts = []; rest = text; are = (refl, refl); is_state = is; going = r; text_is = refl }
   attributes_told end name here above entries (attribute ∷ attributes) later text new is r =
       let m = r.4 in
-      let next = m.1 in
+      let next = m.next in
       let added = r.5 in
       let part = added.2 in
-      let same = one_attribute s here attribute.0 added.0 m.0 added.1 next is.0 added.3 (m.6.code, m.6.offered) in
-      let more = attributes_told ends.Part name next above m.3 attributes later r.3 new (behind (inside name here above entries) (Attribute attribute.0 attribute.1) r.1 r.0 (inside name next above m.3) is m m.10) (runs_from ends.Part r.0 (inside name next above m.3) (attribute_events attributes ++ later) r.3 new m.10 r.6) in
+      let same = one_attribute s here attribute.0 added.0 m.kind added.1 next is.0 added.3 (m.starts.code, m.starts.offered) in
+      let more = attributes_told ends.Part name next above m.after attributes later r.3 new (behind (inside name here above entries) (Attribute attribute.0 attribute.1) r.1 r.0 (inside name next above m.after) is m m.leads) (runs_from ends.Part r.0 (inside name next above m.after) (attribute_events attributes ++ later) r.3 new m.leads r.6) in
       record {
         there = more.there;
         entries = more.entries;
         texts = (codes "@" ++ part) ∷ more.texts;
         rest = more.rest;
-        are = (m.0, next, part, more.texts, (m.6.code, m.6.offered), subst (λ (k : ℕ). IsNamedText s attribute.0 k attribute.1 part) same.0 added.4, more.are, refl);
+        are = (m.kind, next, part, more.texts, (m.starts.code, m.starts.offered), subst (λ (k : ℕ). IsNamedText s attribute.0 k attribute.1 part) same.0 added.4, more.are, refl);
         is_state = more.is_state;
         going = behind_parts more.texts (inside name more.there above more.entries) later more.rest new more.going;
         text_is =
@@ -116,17 +116,17 @@ module _ (V : Speller) (s : PlainSchema) where
       IsAt (inside name (first kind) above entries) → TextRuns V s ends.Name (inside name (first kind) above entries) (Content value ∷ EndElement ∷ later) text new → Valued kind above value later text new
   value_told name kind above entries value later text new is r =
       let m = r.4 in
-      let middle = inside name m.0 above m.2 in
-      let is_middle = behind (inside name (first kind) above entries) (Content value) r.1 r.0 middle is m m.9 in
-      let q = runs_from ends.Value r.0 middle (EndElement ∷ later) r.3 new m.9 r.6 in
+      let middle = inside name m.next above m.after in
+      let is_middle = behind (inside name (first kind) above entries) (Content value) r.1 r.0 middle is m m.leads in
+      let q = runs_from ends.Value r.0 middle (EndElement ∷ later) r.3 new m.leads r.6 in
       let end = q.4 in
       record {
         said = r.5.0;
-        entries = m.2;
+        entries = m.after;
         rest = q.3;
         is_text = r.5.1;
-        is_state = behind middle EndElement q.1 q.0 (stands (around above) m.2) is_middle end end.1;
-        going = runs_from ends.Part q.0 (stands (around above) m.2) later q.3 new end.1 q.6;
+        is_state = behind middle EndElement q.1 q.0 (stands (around above) m.after) is_middle end end.1;
+        going = runs_from ends.Part q.0 (stands (around above) m.after) later q.3 new end.1 q.6;
         text_is = r.7 ∙ ap (λ (l : List ℕ). l ++ r.3) r.5.2 ∙ ap (λ (l : List ℕ). (codes "=" ++ r.5.0) ++ l) (q.7 ∙ ap (λ (l : List ℕ). l ++ q.3) q.5);
       }
 
@@ -176,17 +176,17 @@ module _ (V : Speller) (s : PlainSchema) where
       record { there = here; entries = entries; texts = []; rest = text; are = refl; is_state = is; going = r; text_is = refl }
   trees_told end name here above entries (simple child value more) later text new is r =
       let m = r.4 in
-      let next = m.1 in
+      let next = m.next in
       let word = r.5.0 in
-      let begun = inside child (first m.0) (opened name next ∷ above) entries in
-      let v = value_told child m.0 (opened name next ∷ above) entries value (events_of more ++ later) r.3 new (behind (inside name here above entries) (Start child) r.1 r.0 begun is m m.3) (runs_from ends.Name r.0 begun (Content value ∷ EndElement ∷ (events_of more ++ later)) r.3 new m.3 r.6) in
+      let begun = inside child (first m.kind) (opened name next ∷ above) entries in
+      let v = value_told child m.kind (opened name next ∷ above) entries value (events_of more ++ later) r.3 new (behind (inside name here above entries) (Start child) r.1 r.0 begun is m m.leads) (runs_from ends.Name r.0 begun (Content value ∷ EndElement ∷ (events_of more ++ later)) r.3 new m.leads r.6) in
       let rest = trees_told ends.Part name next above v.entries more later v.rest new v.is_state v.going in
       record {
         there = rest.there;
         entries = rest.entries;
         texts = (word ++ codes "=" ++ v.said) ∷ rest.texts;
         rest = rest.rest;
-        are = (m.0, next, word ++ codes "=" ++ v.said, rest.texts, (m.2.code, m.2.offered), (word, v.said, r.5.1, v.is_text, refl), rest.are, refl);
+        are = (m.kind, next, word ++ codes "=" ++ v.said, rest.texts, (m.starts.code, m.starts.offered), (word, v.said, r.5.1, v.is_text, refl), rest.are, refl);
         is_state = rest.is_state;
         going = behind_parts rest.texts (inside name rest.there above rest.entries) later rest.rest new rest.going;
         text_is =
@@ -195,15 +195,15 @@ module _ (V : Speller) (s : PlainSchema) where
       }
   trees_told end name here above entries (complex child attributes children more) later text new is r =
       let m = r.4 in
-      let next = m.1 in
+      let next = m.next in
       let word = r.5.0 in
       let up = opened name next ∷ above in
-      let begun = inside child (first m.0) up entries in
+      let begun = inside child (first m.kind) up entries in
       let behind_end = events_of more ++ later in
       let regrouped = children_regroup (attribute_events attributes) (events_of children) (events_of more) later EndElement in
       let runs : TextRuns V s ends.Name begun (attribute_events attributes ++ (events_of children ++ (EndElement ∷ behind_end))) r.3 new =
-      subst (λ (l : List Event). TextRuns V s ends.Name begun l r.3 new) regrouped (runs_from ends.Name r.0 begun (((attribute_events attributes ++ events_of children) ++ (EndElement ∷ events_of more)) ++ later) r.3 new m.3 r.6) in
-      let a = attributes_told ends.Name child (first m.0) up entries attributes (events_of children ++ (EndElement ∷ behind_end)) r.3 new (behind (inside name here above entries) (Start child) r.1 r.0 begun is m m.3) runs in
+      subst (λ (l : List Event). TextRuns V s ends.Name begun l r.3 new) regrouped (runs_from ends.Name r.0 begun (((attribute_events attributes ++ events_of children) ++ (EndElement ∷ events_of more)) ++ later) r.3 new m.leads r.6) in
+      let a = attributes_told ends.Name child (first m.kind) up entries attributes (events_of children ++ (EndElement ∷ behind_end)) r.3 new (behind (inside name here above entries) (Start child) r.1 r.0 begun is m m.leads) runs in
       let t = trees_told (end_behind ends.Name a.texts) child a.there up a.entries children (EndElement ∷ behind_end) a.rest new a.is_state a.going in
       let e = end_told (end_behind (end_behind ends.Name a.texts) t.texts) child t.there up t.entries behind_end t.rest new t.is_state t.going in
       let rest = trees_told ends.Part name next above t.entries more later e.rest new e.is_state e.going in
@@ -214,7 +214,7 @@ module _ (V : Speller) (s : PlainSchema) where
         entries = rest.entries;
         texts = braced word (a.texts ++ t.texts) ∷ rest.texts;
         rest = rest.rest;
-        are = (m.0, next, a.there, word, a.texts, t.texts, rest.texts, (m.2.code, m.2.offered), r.5.1, a.are, t.are, rest.are, refl);
+        are = (m.kind, next, a.there, word, a.texts, t.texts, rest.texts, (m.starts.code, m.starts.offered), r.5.1, a.are, t.are, rest.are, refl);
         is_state = rest.is_state;
         going = behind_parts rest.texts (inside name rest.there above rest.entries) later rest.rest new rest.going;
         text_is =
@@ -279,12 +279,12 @@ module _ (V : Speller) (s : PlainSchema) where
   document_told number tree text new h =
       let r = document_runs number tree text new h in
       let m = r.4 in
-      let at_root = stands (AtRoot m.0 m.1) [] in
-      let is = behind start (Document number) r.1 r.0 at_root tt m m.6 in
-      let root = root_told m.1 m.0 tree r.3 new is (runs_from ends.Nothing r.0 at_root (events_of (alone tree)) r.3 new m.6 r.6) in
+      let at_root = stands (AtRoot m.name m.kind) [] in
+      let is = behind start (Document number) r.1 r.0 at_root tt m m.leads in
+      let root = root_told m.kind m.name tree r.3 new is (runs_from ends.Nothing r.0 at_root (events_of (alone tree)) r.3 new m.leads r.6) in
       record {
         number = number;
-        kind = m.1;
-        named = subst (λ (n : ℕ). IsRoot s.roots s.root_bits number (Kind n m.1)) (sym root.0) m.3;
-        written = subst (λ (l : List ℕ). IsRootText s m.1 tree l) (ap (λ (l : List ℕ). l ++ r.3) (sym r.5) ∙ sym r.7) root.1;
+        kind = m.kind;
+        named = subst (λ (n : ℕ). IsRoot s.roots s.root_bits number (Kind n m.kind)) (sym root.0) m.named;
+        written = subst (λ (l : List ℕ). IsRootText s m.kind tree l) (ap (λ (l : List ℕ). l ++ r.3) (sym r.5) ∙ sym r.7) root.1;
       }

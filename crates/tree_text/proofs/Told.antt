@@ -1,7 +1,6 @@
 -- What is spelled has a text: each event that moves a document on adds one.
-use Rattle.std.proofs.Common.{◌≡◌, ℕ, zero, suc, ◌<◌, Bool, true, ◌&&◌, List, [], ◌∷◌, ◌++◌, length, codes, map, Some, None, refl, sym, ap, subst, ◌∙◌, inl, inr, arith}
+use Rattle.std.proofs.Common.{◌≡◌, ℕ, zero, suc, ◌<◌, Bool, true, ◌&&◌, List, [], ◌∷◌, ◌++◌, length, codes, Some, None, refl, sym, ap, subst, ◌∙◌, inl, inr, arith}
 use Rattle.std.proofs.lemmas.Bool.Decides.{eqb_tells}
-use Rattle.std.proofs.lemmas.List.{length-map}
 use Rattle.std.proofs.lemmas.Option.{slice_get_cases}
 use Rattle.std.specs.Prelude.{◌==◌, slice_get}
 use Rattle.std.specs.Fmt.{signed_decimal}
@@ -99,11 +98,11 @@ module _ (V : Speller) (s : PlainSchema) (texts : HasTexts V s) where
   named_by new state e is = subst (λ (x : State). IsNamedAt s x.standing) (sym e) is
 
   named_behind : (standing : Standing) (entries : Entries) (new : State) (event : Event) (bits : List Bool) → Moves V s (stands standing entries) event bits new → IsNamedAt s new.standing
-  named_behind Before entries new (Document number) bits m = named_by new _ m.6 (root_name s number m.0 m.1 m.3)
+  named_behind Before entries new (Document number) bits m = named_by new _ m.leads (root_name s number m.name m.kind m.named)
   named_behind (AtRoot root kind) entries new (Start name) bits m = named_by new _ m.2 tt
-  named_behind (Inside top above) entries new (Start name) bits m = named_by new _ m.3 tt
-  named_behind (Inside top above) entries new (Attribute name value) bits m = named_by new _ m.10 tt
-  named_behind (Inside top above) entries new (Content value) bits m = named_by new _ m.9 tt
+  named_behind (Inside top above) entries new (Start name) bits m = named_by new _ m.leads tt
+  named_behind (Inside top above) entries new (Attribute name value) bits m = named_by new _ m.leads tt
+  named_behind (Inside top above) entries new (Content value) bits m = named_by new _ m.leads tt
   named_behind (Inside top above) entries new EndElement bits m = named_by new _ m.1 (named_around above)
   named_behind standing entries new event bits m = absurd m
 
@@ -123,15 +122,15 @@ module _ (V : Speller) (s : PlainSchema) (texts : HasTexts V s) where
       let word = found s.names root named in
       (gap end ++ word.0, (word.0, subst (λ (n : ℕ). IsName s n word.0) (sym m.0) word.1, refl))
   adds_at end (Inside top above) entries new (Start name) bits is named m =
-      let word = has_name s name (step_fits s top.place m.2.code (element name m.0 m.1) is.0 m.2.offered).0 in
+      let word = has_name s name (step_fits s top.place m.starts.code (element name m.kind m.next) is.0 m.starts.offered).0 in
       (gap end ++ word.0, (word.0, word.1, refl))
   adds_at end (Inside top above) entries new (Attribute name value) bits is named m =
-      let word = has_name s name (step_fits s top.place m.6.code (step.Attribute name m.0 m.1) is.0 m.6.offered).0 in
-      let said = texts m.0 name m.2 entries m.3 value m.5 m.7 m.8 in
+      let word = has_name s name (step_fits s top.place m.starts.code (step.Attribute name m.kind m.next) is.0 m.starts.offered).0 in
+      let said = texts m.kind name m.datatype entries m.after value m.inside m.is_simple m.spelled in
       let part = word.0 ++ codes "=" ++ said.0 in
-      (gap end ++ codes "@" ++ part, (m.0, m.1, part, (m.6.code, m.6.offered), (word.0, said.0, word.1, said.1, refl), refl))
+      (gap end ++ codes "@" ++ part, (m.kind, m.next, part, (m.starts.code, m.starts.offered), (word.0, said.0, word.1, said.1, refl), refl))
   adds_at end (Inside top above) entries new (Content value) bits is named m =
-      value_adds top.place value (texts top.place.kind top.name m.1 entries m.2 value m.4 m.6 m.7)
+      value_adds top.place value (texts top.place.kind top.name m.datatype entries m.after value m.inside m.is_simple m.spelled)
   adds_at end (Inside top above) entries new EndElement bits is named m = (closing end, refl)
   adds_at end standing entries new event bits is named m = absurd m
 

@@ -1,16 +1,13 @@
 -- A turn of the printer's loop.
-use Rattle.std.proofs.Common.{◌≡◌, ℕ, ◌+◌, ◌<◌, List, ◌∷◌, ◌++◌, length, length-append, Option, Some, None, refl, sym, ap, subst, arith}
+use Rattle.std.proofs.Common.{◌≡◌, ℕ, List, ◌∷◌, ◌++◌, Option, Some, None, refl, sym, subst}
 use Rattle.std.specs.Prelude.{IfSome}
-use Rattle.exi_bits.specs.Reading.{Cursor, ahead}
+use Rattle.exi_bits.specs.Reading.{Cursor}
 use Rattle.exi_schema.specs.declared.places.Place.{Place}
 use Rattle.exi_schema.specs.Schemas.{PlainSchema}
 use Rattle.exi_documents.specs.Grammar.{State}
 use Rattle.exi_documents.specs.Trees.{Tree, Event}
 use Rattle.exi_documents.specs.Documents.{IsDocument}
 use Rattle.exi_documents.specs.Values.{SpellsValue}
-use Rattle.exi_values.specs.declared.Event.{Event as Read}
-use Rattle.exi_values.specs.declared.Event.TheVariants as event
-use Rattle.exi_values.specs.Meaning.{event_of}
 use Rattle.exi_events.specs.Reader.{innermost_place, IsNext, HasTold, IsTold, reading}
 use Rattle.tree_text.specs.TreeText.{IsTreeText}
 use Rattle.tree_text.specs.EventText.{text_end, Adds, Tells}

@@ -61,8 +61,12 @@ impl Codecs {
         let mut table = Table::make(alloc, MOST_ENTRIES)?;
         let found = match dialect {
             MessageDialect::App => refusal,
-            MessageDialect::Iso => read_iso(&self.iso, payload, &mut table).err(),
-            MessageDialect::Din => read_din(&self.din, payload, &mut table).err(),
+            MessageDialect::Iso => {
+                read_iso(&self.iso, payload, &mut table, &mut IsoMessage::default()).err()
+            }
+            MessageDialect::Din => {
+                read_din(&self.din, payload, &mut table, &mut DinMessage::default()).err()
+            }
         };
         Ok(found == refusal)
     }
@@ -71,8 +75,9 @@ impl Codecs {
         requires payload { length payload.now ≤ 65536 }
         requires cap { table.old.cap ≡ most_entries }
     {
-        match read_iso(&self.iso, payload, table) {
-            Ok(message) => refusal.is_none() && is_iso_again(&self.iso, &message, payload, table),
+        let mut message = IsoMessage::default();
+        match read_iso(&self.iso, payload, table, &mut message) {
+            Ok(()) => refusal.is_none() && is_iso_again(&self.iso, &message, payload, table),
             Err(other) => refusal == Some(other),
         }
     }
@@ -81,8 +86,9 @@ impl Codecs {
         requires payload { length payload.now ≤ 65536 }
         requires cap { table.old.cap ≡ most_entries }
     {
-        match read_din(&self.din, payload, table) {
-            Ok(message) => refusal.is_none() && is_din_again(&self.din, &message, payload, table),
+        let mut message = DinMessage::default();
+        match read_din(&self.din, payload, table, &mut message) {
+            Ok(()) => refusal.is_none() && is_din_again(&self.din, &message, payload, table),
             Err(other) => refusal == Some(other),
         }
     }

@@ -2,7 +2,7 @@ use Rattle.std.proofs.Common.{◌≡◌, List, ◌++◌, take}
 use Rattle.std.specs.List.{AllByRecursion}
 use Rattle.exi_schema.specs.Plain.{plain_particles}
 use Rattle.exi_schema.specs.Told.{schema_of}
-use Rattle.dialect_text.specs.Scanning.{IsAwaitedElement, HasMembers}
+use Rattle.dialect_text.specs.Awaited.{IsAwaitedElement, HasMembers}
 use Rattle.dialect_text.proofs.names.await_members.Given as goal
 
 abbrev pub invariant-loop-member : goal.invariant-loop-member

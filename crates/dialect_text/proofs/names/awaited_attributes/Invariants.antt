@@ -1,5 +1,5 @@
 use Rattle.std.proofs.Common.{◌≡◌, take, map}
-use Rattle.dialect_text.specs.Scanning.{awaited_attribute}
+use Rattle.dialect_text.specs.Awaited.{awaited_attribute}
 use Rattle.dialect_text.proofs.names.awaited_attributes.Given as goal
 
 abbrev pub invariant-loop-attribute : goal.invariant-loop-attribute

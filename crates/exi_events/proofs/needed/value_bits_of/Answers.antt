@@ -1,4 +1,3 @@
-use Rattle.std.proofs.Common.{Bool, List, length}
 use Rattle.exi_bits.specs.Pens.{written_bits}
 use Rattle.exi_values.specs.Meaning.{texts_in}
 use Rattle.exi_events.specs.Writer.{value_in}

@@ -1,4 +1,4 @@
-use Rattle.std.proofs.Common.{◌≡◌, ℕ, ◌+◌, ◌∙◌, List, refl, sym, subst, ap}
+use Rattle.std.proofs.Common.{ℕ, ◌+◌, ◌∙◌, List, refl, sym, subst, ap}
 use Rattle.exi_bits.specs.Pens.{written_bits}
 use Rattle.exi_documents.specs.Grammar.{Opened, State}
 use Rattle.exi_events.specs.declared.reader.Phase.{Phase}

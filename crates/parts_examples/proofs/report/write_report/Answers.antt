@@ -1,8 +1,8 @@
-use Rattle.std.proofs.Common.{subst, sym, IfOk, IsErr, length, ◌↔◌}
+use Rattle.std.proofs.Common.{subst, sym, IfOk, IfErr, IsErr, length, ◌↔◌}
 use Rattle.std.specs.Prelude.{take}
 use Rattle.exi_schema.specs.Schemas.{PlainSchema}
 use Rattle.exi_documents.specs.Documents.{IsEncoding}
-use Rattle.message_parts.specs.Documents.{IsWritable, PassesBytes}
+use Rattle.message_parts.specs.Documents.{IsWritable, PassesBytes, TellsBits}
 use Rattle.parts_examples.specs.Parts.{report_tree}
 use Rattle.parts_examples.proofs.report.write_report.Goals as goal
 
@@ -17,3 +17,7 @@ returns-clause-written g c =
 pub returns-clause-full : goal.returns-clause-full
 returns-clause-full g c =
     subst (λ (s : PlainSchema). IsErr c.write.result ↔ PassesBytes s 0 (report_tree c.args.message.now) (length c.args.room.now)) c.requires.schema c.write.ensures.full
+
+pub returns-clause-bits : goal.returns-clause-bits
+returns-clause-bits g c =
+    subst (λ (s : PlainSchema). IfErr c.write.result (λ full. TellsBits s 0 (report_tree c.args.message.now) full.bits)) c.requires.schema c.write.ensures.bits

@@ -1,4 +1,4 @@
-use Rattle.std.proofs.Common.{◌≡◌, Ok, sym, ap, ◌∙◌, inl, ℕ}
+use Rattle.std.proofs.Common.{◌≡◌, Ok, refl, sym, ap, ◌∙◌, inl, ℕ}
 use Rattle.charge_world.specs.declared.entry.Entry.{Entry}
 use Rattle.trace_text.proofs.WholeLines.{numbered_same}
 use Rattle.trace_text.proofs.reading.read_numbered.Goals as goal
@@ -12,7 +12,7 @@ returns-in-Ok-clause-readable c n e small is said =
     inl (ap (λ (m : ℕ). Ok (m, c.in-Ok.entry)) hearing ∙ ap (λ (d : Entry). Ok (n, d)) entry)
 
 pub returns-in-Err-Bad-clause-readable : goal.returns-in-Err-Bad-clause-readable
-returns-in-Err-Bad-clause-readable c n e small is said = let none = rw c.in-Err-Bad.field-0-is at c.in-Err-Bad.ensures in absurd (none (n, e) (small, is) said)
+returns-in-Err-Bad-clause-readable c n e small is said = let none = rw c.in-Err-Bad.field-0-is at c.in-Err-Bad.ensures in absurd (none refl (n, e) (small, is) said)
 
 pub returns-in-Err-Bad-clause-bad : goal.returns-in-Err-Bad-clause-bad
-returns-in-Err-Bad-clause-bad c same n e small is said = let none = rw c.in-Err-Bad.field-0-is at c.in-Err-Bad.ensures in none (n, e) (small, is) said
+returns-in-Err-Bad-clause-bad c same n e small is said = let none = rw c.in-Err-Bad.field-0-is at c.in-Err-Bad.ensures in none refl (n, e) (small, is) said

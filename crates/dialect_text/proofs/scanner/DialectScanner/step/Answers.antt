@@ -4,7 +4,8 @@ use Rattle.exi_documents.specs.Trees.{Start}
 use Rattle.dialect_text.specs.declared.phase.Phase.{Phase}
 use Rattle.dialect_text.specs.Dialect.{Within}
 use Rattle.dialect_text.specs.Languages.{Completes}
-use Rattle.dialect_text.specs.Scanning.{TakesNext, standing_of}
+use Rattle.dialect_text.specs.Scanning.{standing_of}
+use Rattle.dialect_text.specs.Following.{TakesNext}
 use Rattle.dialect_text.proofs.Scans.{root_starts}
 use Rattle.dialect_text.proofs.scanner.DialectScanner.step.Goals as goal
 

@@ -1,4 +1,4 @@
-use Rattle.std.proofs.Common.{◌≡◌, Bool, List, OnOk, IfErr, ◌↔◌, rules, sym, subst}
+use Rattle.std.proofs.Common.{Bool, List, OnOk, IfErr, ◌↔◌, rules, sym, subst}
 use Rattle.std.specs.Result.{IsErr}
 use Rattle.exi_bits.specs.Pens.{written_bits}
 use Rattle.exi_events.specs.Reader.{state_of, IsReadyAt}
