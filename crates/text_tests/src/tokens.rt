@@ -40,7 +40,7 @@ fn bytes_have_one_text(rt: HostRuntime) {
 
 #[test]
 fn a_line_is_words_with_one_space_between(rt: HostRuntime) {
-    let line = Line::default().then(&[Word::Plain(b"sent"), Word::Number(8)]);
+    let line = Line::default().then(&[Word::Plain(b"sent"), Word::Plain(b"8")]);
     let mut room = [7; 8];
     assert_eq!(rt; line.write(&mut room[..6]), Err(Full { bytes: 7 }));
     assert_eq!(rt; line.write(&mut room), Ok(7));
