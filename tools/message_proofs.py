@@ -25,7 +25,16 @@ def put_record(t, kind):
     return answer("clause-write", "rest", [*lines, line])
 
 
+def read_three(t, kind):
+    fact = f"c.in_ok-three.ensures.read kinds F {t.declared(kind)} _ h refl refl refl refl refl refl"
+    if any(t.is_signed(it.kind) for it in t.fields(kind)):
+        return answer("clause-read", "told", [f"    let three = {fact} in", "    search (rules, three)"])
+    return answer("clause-read", "told", [f"    {fact}"])
+
+
 def read_record(t, kind):
+    if t.is_three(kind):
+        return read_three(t, kind)
     low, fields = t.declared(kind), t.fields(kind)
     attributes = [it for it in fields if it.form == "attribute"]
     given = f"{t.lower(kind)}_attributes" if attributes else "[]"
@@ -151,7 +160,7 @@ def read_record_head(t, crate, file, kind):
     low, fields = t.lower(kind), t.fields(kind)
     attributes = any(it.form == "attribute" for it in fields)
     words = ["rules"] if any(t.is_signed(it.kind) for it in fields) else []
-    words += ["refl"] + (["[]"] if words or not attributes else [])
+    words += ["refl"] + (["[]"] if (words or not attributes) and not t.is_three(kind) else [])
     head = f"use Rattle.std.proofs.Common.{{{', '.join(words)}}}\n"
     head += f"use Rattle.{t.s.crate}.specs.Declarations.{{kinds}}\nuse Rattle.{t.s.crate}.specs.{t.section(kind)}.{{{t.declared(kind)}}}\n"
     return head + (f"use Rattle.{crate}.specs.{file.capitalize()}.{{{low}_attributes}}\n" if attributes else "")

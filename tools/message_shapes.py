@@ -182,6 +182,11 @@ class Types:
             return False
         return self.is_simple(kind) or all(not it.most and self.is_plain(it.kind) for it in self.inner(kind))
 
+    def is_three(self, kind):
+        """Whether it is a sequence of three values, which are read at once."""
+        fields = self.fields(kind)
+        return len(fields) == 3 and kind not in self.large and all(it.form == "value" and it.read() == "value" for it in fields)
+
     def with_defaults(self):
         """The types that stand in lists or are large, with what they hold: room for them has to be filled with some value."""
         found, left = set(), [it.kind for kind in self.places for it in (self.inner(kind) if kind not in self.choices else []) if it.most]

@@ -21,7 +21,7 @@ WORDS = [
     "Binary", "Choice", "Descent", "Group", "LargeGroup", "LargeRecord", "PutChoice", "PutRecord", "Record", "Text", "attribute", "choice",
     "first_child", "last_attribute", "left_out", "member", "member_value", "optional", "optional_choice", "optional_choice_here",
     "optional_value", "put_attribute", "put_choice", "put_optional", "put_optional_attribute", "put_optional_choice", "put_optional_value",
-    "put_record", "put_records", "put_value", "put_values", "records", "required", "required_here", "value", "values",
+    "put_record", "put_records", "put_value", "put_values", "records", "required", "required_here", "three_values", "value", "values",
 ]
 
 
@@ -89,7 +89,17 @@ def read_here(it):
     return f"{it.read()}(&mut self.{it.field}, descent)?;" if it.large else read(it).replace("let ", "self.")
 
 
-def written_struct(name, kept):
+def part_by_part(t, kind):
+    """Reads the attributes of a struct, and then its children."""
+    fields, reads = t.fields(kind), read_here if kind in t.large else read
+    attributes = [it for it in fields if it.form == "attribute"]
+    first = [] if any(it.optional for it in attributes) else ["first_child(descent)?;"]
+    return [*(reads(it) for it in attributes), *first, *(reads(it) for it in fields if it.form != "attribute")]
+
+
+def written_struct(t, kind, name, kept):
+    if t.is_three(kind):
+        return f"{name} {{ {', '.join(f'{it.field}: three.{word}' for it, word in zip(kept, ('first', 'second', 'third')))} }}"
     return f"{name} {{ {', '.join(it.field for it in kept)} }}" if kept else name
 
 
@@ -99,11 +109,8 @@ def struct(t, crate, file, kind):
     body = f" {{\n{members}}}" if kept else ";"
     attributes = any(it.form == "attribute" for it in kept)
     puts = "".join(f"        {put(it)}\n" for it in kept)
-    first = [] if any(it.form == "attribute" and it.optional for it in kept) else ["first_child(descent)?;"]
     large = kind in t.large
-    reads = read_here if large else read
-    given = [reads(it) for it in t.fields(kind) if it.form == "attribute"]
-    reads = "".join(f"        {it}\n" for it in [*given, *first, *(reads(it) for it in t.fields(kind) if it.form != "attribute")])
+    reads = "".join(f"        {it}\n" for it in (["let three = three_values(descent)?;"] if t.is_three(kind) else part_by_part(t, kind)))
     words = ([f"{low}_given"] if attributes else []) + ([f"{low}_parts"] if kept else [])
     uses = f"    ghost use Rattle.{crate}.specs.{file.capitalize()}.{{{', '.join(words)}}};\n\n" if words else ""
     declared = f"    ghost use Rattle.{crate}.specs.{file.capitalize()}.{{{low}_attributes}};\n" if attributes else ""
@@ -133,7 +140,7 @@ impl<'a> {"Large" if large else ""}Record<'a> for {name}{"<'a>" if lent else ""}
     ghost particles = {{ {t.declared(kind) if kept else "[]"} }};
 
     {READ_HERE if large else f"fn read<P: Places>(descent: &mut Descent<'a, '_, P>) -> Result<{name}{lifetime(lent)}, Refusal>"} {{
-{reads}        Ok({"()" if large else written_struct(name, kept)})
+{reads}        Ok({"()" if large else written_struct(t, kind, name, kept)})
     }}
 }}
 """

@@ -17,4 +17,7 @@ pub mod Simple
 pub mod Standings
 pub mod Starting
 pub mod Told
+pub mod Valued
+pub mod Whole
 pub mod Writable
+pub mod Sequences

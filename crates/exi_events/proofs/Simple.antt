@@ -1,5 +1,5 @@
 -- The one step at a place of a simple kind.
-use Rattle.std.proofs.Common.{◌≡◌, ℕ, zero, suc, ◌≤◌, ◌^◌, ◌+◌, Bool, true, false, if◌then◌else◌, List, [], ◌∷◌, Option, Some, None, refl, sym, ap, subst, ◌∙◌, inl, arith}
+use Rattle.std.proofs.Common.{◌≡◌, ℕ, zero, suc, ◌≤◌, ◌^◌, Bool, true, false, if◌then◌else◌, List, [], ◌∷◌, Option, Some, None, refl, sym, ap, subst, ◌∙◌, inl, arith}
 use Rattle.std.specs.Prelude.{slice_get, ◌==◌, IsSome, length}
 use Rattle.exi_spec.specs.Items.{SpellsNumber, RefusesBits}
 use Rattle.exi_bits.specs.Reading.{Cursor, Takes, ahead}
@@ -8,7 +8,7 @@ use Rattle.exi_schema.specs.declared.places.Step.{Step}
 use Rattle.exi_schema.specs.declared.places.Step.TheVariants.{Characters, End}
 use Rattle.exi_schema.specs.declared.tables.Datatype.{Datatype}
 use Rattle.exi_schema.specs.Plain.{PlainKind, valued, containing}
-use Rattle.exi_schema.specs.Offers.{offers, offers_of, simple_step, IsWidth, IsPlace, IsPlaceOf}
+use Rattle.exi_schema.specs.Offers.{offers, offers_of, simple_step, IsWidth, IsPlaceOf}
 use Rattle.exi_schema.specs.Steps.{IsStep, simple_at, datatype_of}
 use Rattle.exi_documents.specs.declared.refusal.RefusalCause.{RefusalCause}
 use Rattle.exi_documents.specs.Documents.{SpellsStep}
@@ -21,7 +21,7 @@ offered_of here None d is = absurd cc
 offered_of here (Some (valued e)) d is = refl
 offered_of here (Some (containing attributes particles)) d is = absurd cc
 
-offered : (kinds : List PlainKind) (here : Place) (d : Datatype) → simple_at kinds here.kind ≡ Some d → offers kinds here ≡ simple_step here ∷ []
+pub offered : (kinds : List PlainKind) (here : Place) (d : Datatype) → simple_at kinds here.kind ≡ Some d → offers kinds here ≡ simple_step here ∷ []
 offered kinds here d is = offered_of here (slice_get kinds here.kind) d is
 
 some_bit : (w : ℕ) → 2 ≤ 2 ^ w → 1 ≤ w
@@ -31,33 +31,33 @@ some_bit (suc w) enough = omega (arith)
 one_bit : IsWidth 1 1
 one_bit = record { enough = omega (arith); least = λ w enough. some_bit w enough }
 
-width_of : (kinds : List PlainKind) (here : Place) (d : Datatype) → simple_at kinds here.kind ≡ Some d → IsWidth (length (offers kinds here)) 1
-width_of kinds here d is = subst (λ (steps : List Step). IsWidth (length steps) 1) (sym (offered kinds here d is)) one_bit
+-- of any place where one thing is offered
+width_of : (kinds : List PlainKind) (here : Place) (step : Step) → offers kinds here ≡ step ∷ [] → IsWidth (length (offers kinds here)) 1
+width_of kinds here step is = subst (λ (steps : List Step). IsWidth (length steps) 1) (sym is) one_bit
 
-pub step_taken : (kinds : List PlainKind) (here : Place) (d : Datatype) (old new : Cursor) (code : ℕ) (step : Step) → simple_at kinds here.kind ≡ Some d → step ≡ simple_step here → code ≡ 0 →
+pub step_taken : (kinds : List PlainKind) (here : Place) (step : Step) (old new : Cursor) (code : ℕ) → offers kinds here ≡ step ∷ [] → code ≡ 0 →
     Takes (SpellsNumber 1 code) old new → Takes (SpellsStep kinds here step) old new
-step_taken kinds here d old new code step is step_is first took = (
+step_taken kinds here step old new code is first took = (
   took.0,
   record {
     code = code;
     width = 1;
-    is_width = width_of kinds here d is;
-    offered = subst (λ (c : ℕ). slice_get (offers kinds here) c ≡ Some step) (sym first)
-        (ap (λ (steps : List Step). slice_get steps 0) (offered kinds here d is) ∙ ap (λ (s : Step). Some s) (sym step_is));
+    is_width = width_of kinds here step is;
+    offered = subst (λ (c : ℕ). slice_get (offers kinds here) c ≡ Some step) (sym first) (ap (λ (steps : List Step). slice_get steps 0) is);
     spelled = took.1;
   },
   took.2,
 )
 
-pub code_refused : (kinds : List PlainKind) (here : Place) (d : Datatype) (old new : Cursor) (code : ℕ) (why : RefusalCause) → simple_at kinds here.kind ≡ Some d → 1 ≤ code →
+pub code_refused : (kinds : List PlainKind) (here : Place) (step : Step) (old new : Cursor) (code : ℕ) (why : RefusalCause) → offers kinds here ≡ step ∷ [] → 1 ≤ code →
     Takes (SpellsNumber 1 code) old new → code_cause 1 code None ≡ Some why → RefusesStep kinds here (ahead old) why
-code_refused kinds here d old new code why is more took cause =
-    any_code_refused kinds here old new 1 code why (width_of kinds here d is) took
-    (subst (λ (steps : List Step). code_cause (length steps) code (slice_get steps code) ≡ Some why) (sym (offered kinds here d is))
-    (ap (λ (o : Option Step). code_cause 1 code o) (none_behind (simple_step here ∷ []) code more) ∙ cause))
+code_refused kinds here step old new code why is more took cause =
+    any_code_refused kinds here old new 1 code why (width_of kinds here step is) took
+    (subst (λ (steps : List Step). code_cause (length steps) code (slice_get steps code) ≡ Some why) (sym is)
+    (ap (λ (o : Option Step). code_cause 1 code o) (none_behind (step ∷ []) code more) ∙ cause))
 
-pub bits_refused : (kinds : List PlainKind) (here : Place) (d : Datatype) (bits : List Bool) (why : RefusalCause) → simple_at kinds here.kind ≡ Some d → RefusesItem (RefusesBits 1) bits why → RefusesStep kinds here bits why
-bits_refused kinds here d bits why is short = record { width = 1; is_width = width_of kinds here d is; refused = inl short }
+pub bits_refused : (kinds : List PlainKind) (here : Place) (step : Step) (bits : List Bool) (why : RefusalCause) → offers kinds here ≡ step ∷ [] → RefusesItem (RefusesBits 1) bits why → RefusesStep kinds here bits why
+bits_refused kinds here step bits why is short = record { width = 1; is_width = width_of kinds here step is; refused = inl short }
 
 place_of : (o : Option PlainKind) (d : Datatype) (kind : ℕ) → datatype_of o ≡ Some d → IsPlaceOf (record { kind = kind; particle = 1; copies = 0; attributes = 0 }) o
 place_of None d kind is = absurd cc

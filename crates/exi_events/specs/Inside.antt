@@ -1,16 +1,21 @@
 -- Own: the open elements of a document of a schema, and events inside the innermost of them.
-use Rattle.std.specs.Prelude.{◌≡◌, ℕ, ◌-◌, true, Bool, List, [], ◌∷◌, length, Some}
+use Rattle.std.specs.Prelude.{◌≡◌, ℕ, ◌+◌, ◌-◌, true, Bool, List, [], ◌∷◌, length, Some, ◌⊎◌}
+use Rattle.exi_bits.specs.Reading.{Cursor, Takes, ahead}
 use Rattle.exi_schema.specs.declared.places.Place.{Place}
 use Rattle.exi_schema.specs.Schemas.{PlainSchema, is_within}
 use Rattle.exi_schema.specs.declared.tables.Datatype.{Datatype}
 use Rattle.exi_schema.specs.Plain.{PlainKind}
 use Rattle.exi_schema.specs.Offers.{IsPlace}
 use Rattle.exi_schema.specs.Steps.{simple_at}
+use Rattle.exi_documents.specs.declared.refusal.Refusal.{Refusal}
 use Rattle.exi_documents.specs.declared.refusal.RefusalCause.{RefusalCause}
+use Rattle.exi_documents.specs.Refusals.{RefusesFrom}
 use Rattle.exi_documents.specs.Grammar.{Opened, MovesFrom, around, stands}
 use Rattle.exi_documents.specs.Trees.{Event as TreeEvent, Value as TreeValue}
 use Rattle.exi_documents.specs.Values.{Entries, SpellsValue, RefusesValue}
 use Rattle.exi_values.specs.declared.Event.{Event}
+use Rattle.exi_values.specs.declared.Event.TheVariants as event
+use Rattle.exi_values.specs.declared.Value.{Value}
 use Rattle.exi_values.specs.Meaning.{event_of}
 use Rattle.exi_events.specs.declared.open.OpenElement.{OpenElement}
 use Rattle.exi_events.specs.Open.{opened_of}
@@ -42,3 +47,24 @@ RefusesValueOf kinds kind entries name bits why at =
 abbrev pub SpellsInside : PlainSchema → List Opened → Entries → Event → List Opened → Entries → List Bool → Type 0
 SpellsInside s elements entries e elements_after after bits =
     (told : TreeEvent) × (event_of e ≡ Some told) × MovesFrom SpellsValue s (around elements) entries told bits (stands (around elements_after) after)
+
+-- these bits spell a value, and behind it the end of its element
+pub record TakesWhole (s : PlainSchema) (elements : List Opened) (entries : Entries) (v : Value) (elements_after : List Opened) (after : Entries) (old new : Cursor) : Type 0 where
+  pub moved : List Opened
+  pub middle : Cursor
+  pub content : Takes (SpellsInside s elements entries (event.Value v) moved after) old middle
+  pub end : Takes (SpellsInside s moved after event.EndElement elements_after after) middle new
+
+-- the next item inside the innermost element can't be taken
+abbrev pub RefusesInside : PlainSchema → List Opened → Entries → Cursor → Refusal → Type 0
+RefusesInside s elements entries cursor r =
+    (at : ℕ) × RefusesFrom s (around elements) entries (ahead cursor) r.cause at × (r.bit ≡ cursor.place + at)
+
+-- a value, and behind it the end of its element, can't be taken: at an item of the value, or behind it
+abbrev pub RefusesWhole : PlainSchema → List Opened → Entries → Cursor → Refusal → Type 0
+RefusesWhole s elements entries old r =
+    RefusesInside s elements entries old r
+    ⊎ ((v : Value) × (moved : List Opened) × (middle : Cursor) × (after : Entries)
+    × Takes (SpellsInside s elements entries (event.Value v) moved after) old middle
+    × (middle.bits ≡ old.bits)
+    × RefusesInside s moved after middle r)

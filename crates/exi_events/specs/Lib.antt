@@ -3,3 +3,4 @@ pub mod Front
 pub mod Inside
 pub mod Reader
 pub mod Writer
+pub mod Sequence

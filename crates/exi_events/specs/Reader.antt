@@ -1,11 +1,11 @@
 -- Own: where an event reader stands in a document.
-use Rattle.std.specs.Prelude.{◌≡◌, ℕ, ◌+◌, ◌<◌, true, Bool, List, [], ◌++◌, length, reverse, Option, Some, None}
+use Rattle.std.specs.Prelude.{◌≡◌, ℕ, ◌+◌, ◌<◌, true, Bool, List, [], ◌∷◌, ◌++◌, length, reverse, Option, Some, None}
 use Rattle.exi_bits.specs.Reading.{Cursor, Takes, ahead}
 use Rattle.exi_bits.specs.declared.span.SpanAt.{SpanAt}
 use Rattle.exi_schema.specs.declared.places.Place.{Place}
 use Rattle.exi_schema.specs.Schemas.{PlainSchema, is_within}
 use Rattle.exi_documents.specs.declared.refusal.Refusal.{Refusal}
-use Rattle.exi_documents.specs.Trees.{Tree, Event as TreeEvent, document_events}
+use Rattle.exi_documents.specs.Trees.{Tree, Event as TreeEvent, Value as TreeValue, Content, EndElement, document_events}
 use Rattle.exi_documents.specs.Values.{SpellsValue, most_entries}
 use Rattle.exi_documents.specs.Documents.{IsDocument}
 use Rattle.exi_documents.specs.Grammar.{Opened, Standing, Before, AtRoot, Inside, Behind, State, around, stands, Moves, Reaches}
@@ -86,3 +86,13 @@ HasTold r events =
 abbrev pub IsTold : PlainSchema → List TreeEvent → List ℕ → Type 0
 IsTold s events payload =
     (number : ℕ) × (tree : Tree) × (events ≡ reverse (document_events number tree)) × IsDocument s tree payload
+
+-- a value and the end of its element are taken, and told where the events up to there are
+pub record TakesValue (old new : Reading) (value : TreeValue) : Type 0 where
+  pub behind : Reading
+  pub same_schema : behind.schema ≡ old.schema
+  pub same_bits : behind.cursor.bits ≡ old.cursor.bits
+  pub content : IsNext old behind (Some (Content value))
+  pub told : (events : List TreeEvent) → HasTold old events → HasTold behind (Content value ∷ events)
+  pub end : IsNext behind new (Some EndElement)
+  pub told_end : (events : List TreeEvent) → HasTold behind events → HasTold new (EndElement ∷ events)

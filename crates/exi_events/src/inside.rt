@@ -1,19 +1,21 @@
 //! The next event inside the innermost element.
 
-ghost use Rattle.std.specs.Prelude.{◌≡◌, ℕ, ◌+◌, IfOk, IfErr, IsSome};
+ghost use Rattle.std.specs.Prelude.{◌≡◌, ℕ, ◌+◌, true, List, Some, IfOk, IfErr, IsSome};
 ghost use Rattle.exi_bits.specs.Reading.{Takes, ahead};
+ghost use Rattle.exi_schema.specs.Plain.{PlainKind};
+ghost use Rattle.exi_schema.specs.Schemas.{PlainSchema, is_datatype};
 ghost use Rattle.exi_schema.specs.Steps.{simple_at};
 ghost use Rattle.exi_documents.specs.Grammar.{around};
 ghost use Rattle.exi_documents.specs.Refusals.{RefusesFrom};
 ghost use Rattle.exi_documents.specs.Values.{most_entries};
 ghost use Rattle.exi_values.specs.Meaning.{texts_in, AreTexts, value_of, IsLent, IsLentEvent};
-ghost use Rattle.exi_events.specs.Inside.{AreOpen, HasTop, SpellsInside, SpellsValueOf, RefusesValueOf};
+ghost use Rattle.exi_events.specs.Inside.{AreOpen, HasTop, SpellsInside, SpellsValueOf, RefusesValueOf, TakesWhole, RefusesWhole};
 
 use crate::open::{OpenElement, OpenElements};
-use crate::step::take_step;
+use crate::step::{take_simple_step, take_step};
 use exi_documents::Refusal;
 use exi_reading::PayloadReader;
-use exi_schema::{Place, Places, Step};
+use exi_schema::{Datatype, Place, Places, Step};
 use exi_values::{Event, Table, Value};
 
 /// Takes a value of a simple kind of the schema.
@@ -88,4 +90,41 @@ pub(crate) fn take_inside<'a, P: Places>(
             Ok(Event::Value(value))
         }
     }
+}
+
+/// Takes the value and the end of the innermost element, which is `top`, of a simple kind of this datatype; nothing of it is taken yet.
+#[inline(always)]
+pub(crate) fn take_whole<'a>(
+    reader: &mut PayloadReader<'a>,
+    table: &mut Table,
+    elements: &mut OpenElements,
+    top: OpenElement,
+    datatype: Datatype,
+) -> Result<Value<'a>, Refusal>
+    requires top { HasTop elements.old top }
+    requires first { top.place.particle ≡ 0 }
+    requires datatype { is_datatype datatype ≡ true }
+    requires cap { table.old.cap ≡ most_entries }
+    requires texts { AreTexts reader.old.bits table.old.entries }
+    ensures ok { (s : PlainSchema) → simple_at s.kinds top.place.kind ≡ Some datatype
+        → IfOk result (λ v. TakesWhole s elements.old (texts_in reader.old.bits table.old.entries) v elements.new (texts_in reader.old.bits table.new.entries) reader.old reader.new) }
+    ensures lent { IfOk result (λ v. IsLent reader.old.bits v) }
+    ensures elements { (kinds : List PlainKind) → AreOpen kinds elements.old → AreOpen kinds elements.new }
+    ensures same { reader.new.bits ≡ reader.old.bits }
+    ensures texts { AreTexts reader.old.bits table.new.entries }
+    ensures cap { table.new.cap ≡ most_entries }
+    ensures refused { (s : PlainSchema) → simple_at s.kinds top.place.kind ≡ Some datatype
+        → IfErr result (RefusesWhole s elements.old (texts_in reader.old.bits table.old.entries) reader.old) }
+{
+    take_simple_step(reader, top.place)?;
+    let value = reader.take_value(datatype, top.name, table)?;
+    let behind = Place {
+        kind: top.place.kind,
+        particle: 1,
+        copies: 0,
+        attributes: 0,
+    };
+    take_simple_step(reader, behind)?;
+    elements.pop();
+    Ok(value)
 }

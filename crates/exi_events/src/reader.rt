@@ -1,17 +1,19 @@
 //! Events read from a payload.
 
-ghost use Rattle.std.specs.Prelude.{◌≡◌, ◌+◌, ◌%◌, ◌≤◌, ◌<◌, length, IfOk, IfErr};
+ghost use Rattle.std.specs.Prelude.{◌≡◌, ◌+◌, ◌%◌, ◌≤◌, ◌<◌, Bool, List, length, IfOk, IfErr};
+ghost use Rattle.exi_values.specs.Meaning.{IsLent, IsLentEvent};
 ghost use Rattle.exi_bits.specs.Reading.{ahead};
 ghost use Rattle.exi_documents.specs.declared.refusal.RefusalCause.TheVariants as cause;
 ghost use Rattle.exi_values.specs.declared.Event.TheVariants as event;
 
-use crate::inside::take_inside;
-use crate::open::OpenElements;
+use crate::inside::{take_inside, take_whole};
+use crate::open::{OpenElement, OpenElements};
+use crate::sequence::{ThreeChildren, ThreeValues, take_three};
 use crate::step::take_front;
 use exi_documents::{Refusal, RefusalCause};
 use exi_reading::PayloadReader;
-use exi_schema::{Place, Places};
-use exi_values::{Event, Table};
+use exi_schema::{Datatype, Place, Places};
+use exi_values::{Event, Table, Value};
 
 /// How far a document is.
 #[derive(Clone, Copy, Debug, PartialEq, Eq)]
@@ -22,6 +24,13 @@ pub(crate) enum Phase {
     AtRoot { name: u16, kind: u16 },
     /// The root has started.
     Inside,
+}
+
+/// The innermost element, which is of a simple kind and of which nothing is taken.
+#[derive(Clone, Copy, Debug)]
+struct SimpleElement {
+    top: OpenElement,
+    datatype: Datatype,
 }
 
 /// Reads the events of a payload, one after the other.
@@ -43,12 +52,19 @@ impl<'a, 'p, P: Places> EventReader<'a, 'p, P> {
     ghost use Rattle.std.specs.Prelude.{◌≡◌, ℕ, ◌≤◌, ◌<◌, ◌∷◌, [], List, length, Some, None, IfSome, IfOk, IfErr, Err};
     ghost use Rattle.exi_spec.specs.Bits.{bits_of};
     ghost use Rattle.exi_schema.specs.Offers.{IsPlace};
+    ghost use Rattle.exi_documents.specs.Documents.{first};
+    ghost use Rattle.exi_documents.specs.Grammar.{Opened, opened, Inside};
     ghost use Rattle.exi_documents.specs.Refusals.{IsRefused};
+    ghost use Rattle.exi_schema.specs.declared.tables.Datatype.{Datatype};
+    ghost use Rattle.exi_schema.specs.Steps.{simple_at};
+    ghost use Rattle.exi_events.specs.Inside.{HasTop};
+    ghost use Rattle.exi_events.specs.Sequence.{HoldsThree, TakesSequence, AreLent, values_of};
+    ghost use Rattle.exi_events.specs.declared.reader.Phase.TheVariants as phase;
     ghost use Rattle.exi_documents.specs.Trees.{Event as TreeEvent};
     ghost use Rattle.exi_documents.specs.Values.{most_entries};
-    ghost use Rattle.exi_values.specs.Meaning.{IsLentEvent, event_of};
+    ghost use Rattle.exi_values.specs.Meaning.{IsLent, IsLentEvent, event_of, value_of};
     ghost use Rattle.exi_values.specs.declared.Event.TheVariants as event;
-    ghost use Rattle.exi_events.specs.Reader.{innermost_place, reading_of, events_left, IsReady, IsNext, IsRefusedAt, HasTold, IsTold};
+    ghost use Rattle.exi_events.specs.Reader.{innermost_place, standing_of, reading_of, events_left, IsReady, IsNext, IsRefusedAt, HasTold, IsTold, TakesValue};
 
     /// A reader at the start of a payload of at most 65,536 bytes. The table is emptied; it has room for 8,192 entries.
     pub fn new(payload: &'a [u8], places: &'p P, table: &'p mut Table) -> EventReader<'a, 'p, P>
@@ -121,12 +137,207 @@ impl<'a, 'p, P: Places> EventReader<'a, 'p, P> {
         }
     }
 
+    /// The value of the innermost element and its end, where that is of a simple kind and nothing of it is taken: what two calls of
+    /// `next` tell. Anywhere else it is one call of `next`, of which the value is answered.
+    #[inline(always)]
+    pub fn value(&mut self) -> Result<Value<'a>, Refusal>
+        requires ready { IsReady P.schema self.old }
+        ensures ready { IsReady P.schema self.new }
+        ensures same_reference { self.new.table.ghost_name ≡ self.old.table.ghost_name }
+        ensures places { self.new.places.now ≡ self.old.places.now }
+        ensures payload { self.new.reader.bits ≡ self.old.reader.bits }
+        ensures lent { IfOk result (λ v. IsLent self.old.reader.bits v) }
+        ensures again { (r : _) → self.old.refused ≡ Some r → (result ≡ Err r) × (self.new.refused ≡ Some r) }
+        ensures open_still { IfOk result (λ _. (self.old.refused ≡ None) × (self.new.refused ≡ None)) }
+        ensures kept { self.old.refused ≡ None → IfErr result (λ r. self.new.refused ≡ Some r) }
+        ensures value { (name kind : ℕ) (above : List Opened) (d : Datatype) → standing_of self.old.phase self.old.elements ≡ Inside (opened name (first kind)) above
+            → simple_at (P.schema self.old.places.now).kinds kind ≡ Some d
+            → IfOk result (λ v. TakesValue (reading_of P.schema self.old) (reading_of P.schema self.new) (value_of v)) }
+        ensures told { (events : List TreeEvent) → HasTold (reading_of P.schema self.old) events
+            → IfOk result (λ _. (more : List TreeEvent) × HasTold (reading_of P.schema self.new) more) }
+        ensures refusal { (payload : List ℕ) (events : List TreeEvent) → bits_of payload ≡ self.old.reader.bits → self.old.refused ≡ None
+            → HasTold (reading_of P.schema self.old) events
+            → IfErr result (λ r. IsRefused (P.schema self.old.places.now) payload r.cause r.bit) }
+    {
+        if let Some(refusal) = self.refused {
+            return Err(refusal);
+        }
+        match self.whole_value() {
+            Ok(value) => Ok(value),
+            Err(refusal) => {
+                self.refused = Some(refusal);
+                Err(refusal)
+            }
+        }
+    }
+
+    /// The values of the innermost element and its end, where that is a sequence of three values and nothing of it is taken: what ten
+    /// calls of `next` tell. Anywhere else nothing is taken, and `None` is answered.
+    #[inline(always)]
+    pub fn three_values(&mut self) -> Result<Option<ThreeValues<'a>>, Refusal>
+        requires ready { IsReady P.schema self.old }
+        ensures ready { IsReady P.schema self.new }
+        ensures same_reference { self.new.table.ghost_name ≡ self.old.table.ghost_name }
+        ensures places { self.new.places.now ≡ self.old.places.now }
+        ensures payload { self.new.reader.bits ≡ self.old.reader.bits }
+        ensures lent { IfOk result (λ o. IfSome o (AreLent self.old.reader.bits)) }
+        ensures again { (r : _) → self.old.refused ≡ Some r → (result ≡ Err r) × (self.new.refused ≡ Some r) }
+        ensures open_still { IfOk result (λ _. (self.old.refused ≡ None) × (self.new.refused ≡ None)) }
+        ensures kept { self.old.refused ≡ None → IfErr result (λ r. self.new.refused ≡ Some r) }
+        ensures none { IfOk result (λ o. o ≡ None → reading_of P.schema self.new ≡ reading_of P.schema self.old) }
+        ensures values { IfOk result (λ o. IfSome o (λ three. TakesSequence (reading_of P.schema self.old) (reading_of P.schema self.new) (values_of three))) }
+        ensures told { (events : List TreeEvent) → HasTold (reading_of P.schema self.old) events
+            → IfOk result (λ _. (more : List TreeEvent) × HasTold (reading_of P.schema self.new) more) }
+        ensures refusal { (payload : List ℕ) (events : List TreeEvent) → bits_of payload ≡ self.old.reader.bits → self.old.refused ≡ None
+            → HasTold (reading_of P.schema self.old) events
+            → IfErr result (λ r. IsRefused (P.schema self.old.places.now) payload r.cause r.bit) }
+    {
+        if let Some(refusal) = self.refused {
+            return Err(refusal);
+        }
+        let Some(children) = self.three_children() else {
+            return Ok(None);
+        };
+        match self.take_sequence(children) {
+            Ok(values) => Ok(Some(values)),
+            Err(refusal) => {
+                self.refused = Some(refusal);
+                Err(refusal)
+            }
+        }
+    }
+
     /// Ends the reading, wherever it stands, and gives the table back.
     pub fn end(self) -> &'p mut Table
         ensures same_reference { result.ghost_name ≡ self.entry.table.ghost_name }
         ensures table { result.now ≡ self.entry.table.now }
     {
         self.table
+    }
+
+    /// The innermost element, where it is of a simple kind and nothing of it is taken.
+    #[inline(always)]
+    fn simple_element(&self) -> Option<SimpleElement>
+        requires ready { IsReady P.schema self.now }
+        ensures inside { IfSome result (λ _. self.now.phase ≡ phase.Inside) }
+        ensures top { IfSome result (λ it. HasTop self.now.elements it.top) }
+        ensures first { IfSome result (λ it. it.top.place.particle ≡ 0) }
+        ensures simple { IfSome result (λ it. simple_at (P.schema self.now.places.now).kinds it.top.place.kind ≡ Some it.datatype) }
+        ensures none { result ≡ None → (name kind : ℕ) (above : List Opened) (d : Datatype) → standing_of self.now.phase self.now.elements ≡ Inside (opened name (first kind)) above
+            → simple_at (P.schema self.now.places.now).kinds kind ≡ Some d → ⊥ }
+    {
+        let Phase::Inside = self.phase else {
+            return None;
+        };
+        let top = self.elements.innermost()?;
+        if top.place.particle != 0 {
+            return None;
+        }
+        let datatype = self.places.datatype(top.place.kind)?;
+        Some(SimpleElement { top, datatype })
+    }
+
+    /// The value of the innermost element and its end, where none was refused.
+    #[inline(always)]
+    fn whole_value(&mut self) -> Result<Value<'a>, Refusal>
+        requires ready { IsReady P.schema self.old }
+        ensures ready { IsReady P.schema self.new }
+        ensures same_reference { self.new.table.ghost_name ≡ self.old.table.ghost_name }
+        ensures places { self.new.places.now ≡ self.old.places.now }
+        ensures payload { self.new.reader.bits ≡ self.old.reader.bits }
+        ensures refusals { self.new.refused ≡ self.old.refused }
+        ensures lent { IfOk result (λ v. IsLent self.old.reader.bits v) }
+        ensures value { (name kind : ℕ) (above : List Opened) (d : Datatype) → standing_of self.old.phase self.old.elements ≡ Inside (opened name (first kind)) above
+            → simple_at (P.schema self.old.places.now).kinds kind ≡ Some d
+            → IfOk result (λ v. TakesValue (reading_of P.schema self.old) (reading_of P.schema self.new) (value_of v)) }
+        ensures told { (events : List TreeEvent) → HasTold (reading_of P.schema self.old) events
+            → IfOk result (λ _. (more : List TreeEvent) × HasTold (reading_of P.schema self.new) more) }
+        ensures refusal { (payload : List ℕ) (events : List TreeEvent) → bits_of payload ≡ self.old.reader.bits
+            → HasTold (reading_of P.schema self.old) events
+            → IfErr result (λ r. IsRefused (P.schema self.old.places.now) payload r.cause r.bit) }
+    {
+        match self.simple_element() {
+            Some(SimpleElement { top, datatype }) => {
+                take_whole(
+                    &mut self.reader,
+                    self.table,
+                    &mut self.elements,
+                    top,
+                    datatype,
+                )
+            }
+            None => self.other_value(),
+        }
+    }
+
+    /// The children of the innermost element, where that is a sequence of three values and nothing of it is taken.
+    #[inline(always)]
+    fn three_children(&self) -> Option<ThreeChildren>
+        requires ready { IsReady P.schema self.now }
+        ensures inside { IfSome result (λ _. self.now.phase ≡ phase.Inside) }
+        ensures sequence { IfSome result (HoldsThree (P.schema self.now.places.now) self.now.elements) }
+    {
+        let Phase::Inside = self.phase else {
+            return None;
+        };
+        let top = self.elements.innermost()?;
+        if top.place != Place::first(top.place.kind) {
+            return None;
+        }
+        match self.places.sequence(top.place.kind) {
+            [first, second, third] => {
+                Some(ThreeChildren {
+                    first: *first,
+                    second: *second,
+                    third: *third,
+                })
+            }
+            _ => None,
+        }
+    }
+
+    /// The values of the innermost element, which is a sequence of these children, and its end, where none was refused.
+    #[inline(always)]
+    fn take_sequence(&mut self, children: ThreeChildren) -> Result<ThreeValues<'a>, Refusal>
+        requires ready { IsReady P.schema self.old }
+        requires inside { self.old.phase ≡ phase.Inside }
+        requires sequence { HoldsThree (P.schema self.old.places.now) self.old.elements children }
+        ensures ready { IsReady P.schema self.new }
+        ensures same_reference { self.new.table.ghost_name ≡ self.old.table.ghost_name }
+        ensures places { self.new.places.now ≡ self.old.places.now }
+        ensures payload { self.new.reader.bits ≡ self.old.reader.bits }
+        ensures refusals { self.new.refused ≡ self.old.refused }
+        ensures lent { IfOk result (AreLent self.old.reader.bits) }
+        ensures values { IfOk result (λ three. TakesSequence (reading_of P.schema self.old) (reading_of P.schema self.new) (values_of three)) }
+        ensures told { (events : List TreeEvent) → HasTold (reading_of P.schema self.old) events
+            → IfOk result (λ _. (more : List TreeEvent) × HasTold (reading_of P.schema self.new) more) }
+        ensures refusal { (payload : List ℕ) (events : List TreeEvent) → bits_of payload ≡ self.old.reader.bits
+            → HasTold (reading_of P.schema self.old) events
+            → IfErr result (λ r. IsRefused (P.schema self.old.places.now) payload r.cause r.bit) }
+    {
+        let values = take_three(&mut self.reader, self.table, children)?;
+        self.elements.pop();
+        Ok(values)
+    }
+
+    /// The value of the next event, where none was refused.
+    #[inline(never)]
+    fn other_value(&mut self) -> Result<Value<'a>, Refusal>
+        requires ready { IsReady P.schema self.old }
+        ensures ready { IsReady P.schema self.new }
+        ensures same_reference { self.new.table.ghost_name ≡ self.old.table.ghost_name }
+        ensures places { self.new.places.now ≡ self.old.places.now }
+        ensures payload { self.new.reader.bits ≡ self.old.reader.bits }
+        ensures refusals { self.new.refused ≡ self.old.refused }
+        ensures lent { IfOk result (λ v. IsLent self.old.reader.bits v) }
+        ensures told { (events : List TreeEvent) → HasTold (reading_of P.schema self.old) events
+            → IfOk result (λ _. (more : List TreeEvent) × HasTold (reading_of P.schema self.new) more) }
+        ensures refusal { (payload : List ℕ) (events : List TreeEvent) → bits_of payload ≡ self.old.reader.bits
+            → HasTold (reading_of P.schema self.old) events
+            → IfErr result (λ r. IsRefused (P.schema self.old.places.now) payload r.cause r.bit) }
+    {
+        let event = self.step()?;
+        Ok(value_in(event))
     }
 
     /// The next event, where none was refused.
@@ -167,6 +378,16 @@ impl<'a, 'p, P: Places> EventReader<'a, 'p, P> {
                 None => take_end(&self.reader),
             },
         }
+    }
+}
+
+/// The value of an event, where it is one.
+fn value_in<'a>(event: Event<'a>) -> Value<'a>
+    ensures { (bits : List Bool) → IsLentEvent bits event.entry → IsLent bits result }
+{
+    match event {
+        Event::Value(value) => value,
+        _ => Value::Bool(false),
     }
 }
 

@@ -1,11 +1,13 @@
 //! Event codes, and the front of a document, taken from a payload.
 
-ghost use Rattle.std.specs.Prelude.{◌≡◌, ℕ, List, ◌+◌, ◌<◌, ◌≤◌, ◌==◌, if◌then◌else◌, length, Some, None, IfOk, IfErr, OnOk};
+ghost use Rattle.std.specs.Prelude.{◌≡◌, ℕ, List, [], ◌∷◌, OnOk, ◌+◌, ◌<◌, ◌≤◌, ◌==◌, if◌then◌else◌, length, Some, None, IfOk, IfErr, OnOk};
 ghost use Rattle.exi_spec.specs.Items.{SpellsNumber};
 ghost use Rattle.exi_bits.specs.Reading.{Takes, ahead};
+ghost use Rattle.exi_schema.specs.declared.places.Place.{Place as SchemaPlace};
 ghost use Rattle.exi_schema.specs.declared.places.Root.TheVariants.{Kind};
+ghost use Rattle.exi_schema.specs.declared.places.Step.{Step as SchemaStep};
 ghost use Rattle.exi_schema.specs.declared.tables.Datatype.{Datatype};
-ghost use Rattle.exi_schema.specs.Offers.{IsPlace, IsWidth, offers};
+ghost use Rattle.exi_schema.specs.Offers.{IsPlace, IsWidth, offers, simple_step as step_of_simple};
 ghost use Rattle.exi_schema.specs.Plain.{PlainKind};
 ghost use Rattle.exi_schema.specs.Steps.{IsStep, IsRoot, IsRootOf, simple_at};
 ghost use Rattle.exi_documents.specs.Documents.{SpellsStep};
@@ -33,9 +35,6 @@ pub(crate) fn take_step<P: Places>(
     ensures at { IfErr result (λ r. r.bit ≡ reader.old.place) }
     ensures same { reader.new.bits ≡ reader.old.bits }
 {
-    if let Some(_) = places.datatype(here.kind) {
-        return take_simple_step(reader, here);
-    }
     let bit = reader.place();
     let codes = places.codes(here);
     let offered = u32::from(codes.offered);
@@ -53,14 +52,12 @@ pub(crate) fn take_step<P: Places>(
     }
 }
 
-/// Takes the one event code at a place of a simple kind, which has one bit: its characters, or the end behind them.
-#[tactic(auto, using(crate::proofs::Simple::step_taken, crate::proofs::Simple::code_refused, crate::proofs::Simple::bits_refused, crate::proofs::Simple::step_of_schema))]
+/// Takes the one event code at a place where one thing alone is offered, which has one bit.
+#[tactic(auto, using(crate::proofs::Simple::step_taken, crate::proofs::Simple::code_refused, crate::proofs::Simple::bits_refused))]
 #[inline(always)]
-fn take_simple_step(reader: &mut PayloadReader, here: Place) -> Result<Step, Refusal>
-    ensures ok { (kinds : List PlainKind) (d : Datatype) → simple_at kinds here.kind ≡ Some d → IfOk result (λ step. Takes (SpellsStep kinds here step) reader.old reader.new) }
-    ensures taken { IfOk result (λ step. step_cause step ≡ None) }
-    ensures of_schema { (kinds : List PlainKind) (names : ℕ) (d : Datatype) → simple_at kinds here.kind ≡ Some d → IfOk result (λ step. IsStep kinds names here.kind step) }
-    ensures refused { (kinds : List PlainKind) (d : Datatype) → simple_at kinds here.kind ≡ Some d → IfErr result (λ r. RefusesStep kinds here (ahead reader.old) r.cause) }
+pub(crate) fn take_only(reader: &mut PayloadReader) -> Result<(), Refusal>
+    ensures ok { (kinds : List PlainKind) (here : SchemaPlace) (step : SchemaStep) → offers kinds here ≡ step ∷ [] → OnOk result (Takes (SpellsStep kinds here step) reader.old reader.new) }
+    ensures refused { (kinds : List PlainKind) (here : SchemaPlace) (step : SchemaStep) → offers kinds here ≡ step ∷ [] → IfErr result (λ r. RefusesStep kinds here (ahead reader.old) r.cause) }
     ensures at { IfErr result (λ r. r.bit ≡ reader.old.place) }
     ensures same { reader.new.bits ≡ reader.old.bits }
 {
@@ -72,6 +69,22 @@ fn take_simple_step(reader: &mut PayloadReader, here: Place) -> Result<Step, Ref
             bit,
         });
     }
+    Ok(())
+}
+
+/// Takes the one event code at a place of a simple kind: its characters, or the end behind them.
+#[tactic(auto, using(crate::proofs::Simple::offered, crate::proofs::Simple::step_of_schema))]
+#[inline(always)]
+pub(crate) fn take_simple_step(reader: &mut PayloadReader, here: Place) -> Result<Step, Refusal>
+    ensures only { IfOk result (λ step. step ≡ step_of_simple here) }
+    ensures ok { (kinds : List PlainKind) (d : Datatype) → simple_at kinds here.kind ≡ Some d → IfOk result (λ step. Takes (SpellsStep kinds here step) reader.old reader.new) }
+    ensures taken { IfOk result (λ step. step_cause step ≡ None) }
+    ensures of_schema { (kinds : List PlainKind) (names : ℕ) (d : Datatype) → simple_at kinds here.kind ≡ Some d → IfOk result (λ step. IsStep kinds names here.kind step) }
+    ensures refused { (kinds : List PlainKind) (d : Datatype) → simple_at kinds here.kind ≡ Some d → IfErr result (λ r. RefusesStep kinds here (ahead reader.old) r.cause) }
+    ensures at { IfErr result (λ r. r.bit ≡ reader.old.place) }
+    ensures same { reader.new.bits ≡ reader.old.bits }
+{
+    take_only(reader)?;
     Ok(simple_step(here))
 }
 

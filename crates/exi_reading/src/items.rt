@@ -24,6 +24,7 @@ pub(crate) fn refusal(fault: BitFault) -> Refusal
 }
 
 /// The least number of bits in which so many values differ.
+#[inline(always)]
 pub fn index_width(count: u32) -> u32
     ensures least { IsIndexWidth count result }
     ensures bound { result ≤ 32 }
@@ -44,6 +45,7 @@ pub(crate) fn take_number(cursor: &mut BitCursor, n: u32) -> Result<u32, Refusal
 }
 
 /// A Boolean (7.1.2).
+#[inline(always)]
 pub(crate) fn take_truth(cursor: &mut BitCursor) -> Result<bool, Refusal>
     ensures ok { IfOk result (λ truth. Takes (SpellsBool truth) cursor.old cursor.new) }
     ensures refused { IfErr result (λ r. RefusesItem (RefusesBits 1) (ahead cursor.old) r.cause) }
@@ -56,6 +58,7 @@ pub(crate) fn take_truth(cursor: &mut BitCursor) -> Result<bool, Refusal>
 /// One of `count` codes (7.1.9, 7.2).
 ///
 /// `NoSuchValue` for a code that isn't below `count`.
+#[inline(always)]
 pub(crate) fn take_code(cursor: &mut BitCursor, count: u32) -> Result<u32, Refusal>
     ensures ok { IfOk result (λ code. Takes (SpellsCode count code) cursor.old cursor.new) }
     ensures refused { IfErr result (λ r. RefusesCode count (ahead cursor.old) r.cause) }
@@ -74,6 +77,7 @@ pub(crate) fn take_code(cursor: &mut BitCursor, count: u32) -> Result<u32, Refus
 }
 
 /// One of `count` integers from `least` on (7.1.9).
+#[inline(always)]
 pub(crate) fn take_bounded(cursor: &mut BitCursor, least: i64, count: u32) -> Result<i128, Refusal>
     ensures ok { IfOk result (λ v. Takes (SpellsBounded least count v) cursor.old cursor.new) }
     ensures refused { IfErr result (λ r. RefusesCode count (ahead cursor.old) r.cause) }
@@ -109,6 +113,7 @@ pub(crate) fn take_at_most(
 /// An Integer (7.1.5) from `least` to `most`.
 ///
 /// `OutOfRange` at its sign bit.
+#[inline(always)]
 pub(crate) fn take_signed(cursor: &mut BitCursor, least: i64, most: i64) -> Result<i128, Refusal>
     ensures low { IfOk result (λ v. least ≤ℤ v) }
     ensures high { IfOk result (λ v. v ≤ℤ most) }
@@ -128,6 +133,7 @@ pub(crate) fn take_signed(cursor: &mut BitCursor, least: i64, most: i64) -> Resu
 }
 
 /// An Integer (7.1.5).
+#[inline(always)]
 fn take_integer(cursor: &mut BitCursor) -> Result<i128, Refusal>
     ensures ok { IfOk result (λ v. Takes (SpellsInteger v) cursor.old cursor.new) }
     ensures refused { IfErr result (λ r. (at : ℕ) × ((why : BitCause) × RefusesInteger (ahead cursor.old) why at
@@ -138,6 +144,7 @@ fn take_integer(cursor: &mut BitCursor) -> Result<i128, Refusal>
 }
 
 /// Whether an integer is from `least` to `most`.
+#[inline(always)]
 fn is_within(value: i128, least: i64, most: i64) -> bool
     ensures { IsTrue result ↔ ((least ≤ℤ value) × (value ≤ℤ most)) }
 {

@@ -83,6 +83,7 @@ impl<'a> PayloadReader<'a> {
     /// The first item that can't be taken decides, at its first bit, and leaves the table as it was: `ShortInput`,
     /// `WiderInteger`, `BadChar` and `NoSuchIndex` as in the bits, `NoSuchValue`, `OutOfRange` and `TooLong` after the
     /// datatype, and `TableFull` where the text would be one more than 8,192.
+    #[inline(always)]
     pub fn take_value(
         &mut self,
         datatype: Datatype,

@@ -1,5 +1,5 @@
 -- Schemas that declare the same are one.
-use Rattle.std.proofs.Common.{◌≡◌, ℕ, Bool, true, List, ap, subst, sym}
+use Rattle.std.proofs.Common.{◌≡◌, ℕ, true, List, ap, subst, sym}
 use Rattle.std.proofs.Math.Bool.{Bool-set}
 use Rattle.exi_schema.specs.declared.tables.RootOf.{RootOf}
 use Rattle.exi_schema.specs.Plain.{PlainKind}

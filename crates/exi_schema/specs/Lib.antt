@@ -4,3 +4,4 @@ pub mod Schemas
 pub mod Steps
 pub mod Counts
 pub mod Told
+pub mod Sequences

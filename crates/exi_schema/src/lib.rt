@@ -6,7 +6,7 @@ mod schema;
 mod tables;
 mod walk;
 
-pub use places::{Codes, Offer, Place, Places, Root, Sought, Step};
+pub use places::{Codes, Offer, Place, Places, Root, SequenceChild, Sought, Step};
 pub use schema::Schema;
 pub use tables::{AttributeOf, Datatype, Declaration, Member, MemberStanding, Particle, RootOf};
 pub use walk::{is_sought, root_in, simple_step, width_for};

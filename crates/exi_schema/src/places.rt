@@ -93,6 +93,15 @@ pub struct Offer {
     pub step: Step,
 }
 
+/// A child of a sequence of values.
+#[derive(Clone, Copy, Debug, PartialEq, Eq)]
+pub struct SequenceChild {
+    /// The number of its name.
+    pub name: u16,
+    /// The datatype of its value.
+    pub datatype: Datatype,
+}
+
 /// What a document number names.
 #[derive(Clone, Copy, Debug, PartialEq, Eq)]
 pub enum Root {
@@ -110,6 +119,7 @@ pub trait Places {
     ghost use Rattle.exi_schema.specs.declared.places.Step.{Step as SchemaStep};
     ghost use Rattle.exi_schema.specs.Offers.{IsPlace, IsWidth, offers};
     ghost use Rattle.exi_schema.specs.Schemas.{PlainSchema};
+    ghost use Rattle.exi_schema.specs.Sequences.{TellsSequence};
     ghost use Rattle.exi_schema.specs.Steps.{IsStep, IsSought, IsRoot, IsRootOf, simple_at};
 
     /// The schema that the value tells.
@@ -152,6 +162,15 @@ pub trait Places {
     fn datatype(&self, kind: u16) -> Option<Datatype>
         requires { kind < length (schema self.now).kinds }
         ensures { result ≡ simple_at (schema self.now).kinds kind };
+
+    /// The children of a kind of the schema that is a sequence of values: it has no attributes, and each child has to be there once, is of
+    /// a simple kind, and is the only one that may stand there. Empty for any other kind, and where the sequences are not kept.
+    fn sequence(&self, kind: u16) -> &[SequenceChild]
+        requires { kind < length (schema self.now).kinds }
+        ensures { TellsSequence (schema self.now).kinds (record { kind = kind; particle = 0; copies = 0; attributes = 0 }) result.now }
+    {
+        &[]
+    }
 
     /// How many bits a document number has.
     fn root_width(&self) -> u32

@@ -2,3 +2,4 @@ pub mod Offered
 pub mod Tables
 pub mod Counted
 pub mod Reading
+pub mod Sequenced

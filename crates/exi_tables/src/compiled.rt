@@ -6,7 +6,8 @@ ghost use Rattle.exi_schema.specs.Told.{schema_of};
 use crate::filling::{KindTable, Row, table_of_kind};
 use charge_world::NoMemory;
 use exi_schema::{
-    Codes, Datatype, Offer, Place, Places, Root, RootOf, Schema, Sought, Step, is_sought, root_in,
+    Codes, Datatype, Offer, Place, Places, Root, RootOf, Schema, SequenceChild, Sought, Step,
+    is_sought, root_in,
 };
 use std::alloc::Global;
 use std::marker::{Model, PhantomData};
@@ -125,6 +126,11 @@ impl<D: Declared> Places for Rows<D> {
 
     fn datatype(&self, kind: u16) -> Option<Datatype> {
         self.kinds[kind as usize].datatype
+    }
+
+    #[inline(always)]
+    fn sequence(&self, kind: u16) -> &[SequenceChild] {
+        self.kinds[kind as usize].sequence.as_slice()
     }
 
     fn root_width(&self) -> u32 {

@@ -4,6 +4,7 @@
 mod compiled;
 mod counts;
 mod filling;
+mod sequences;
 
 pub use charge_world::NoMemory;
 pub use compiled::{Declared, Rows, compile};

@@ -11,7 +11,7 @@ use exi_schema::Places;
 use iso_schema::names;
 use message_parts::{
     Binary, Choice, Descent, PutChoice, PutRecord, Record, Text, first_child, member,
-    optional_value, put_optional_value, put_record, put_value, value,
+    optional_value, put_optional_value, put_record, put_value, three_values, value,
 };
 
 /// PhysicalValue.
@@ -48,14 +48,11 @@ impl<'a> Record<'a> for PhysicalValue {
     ghost particles = { physical_value };
 
     fn read<P: Places>(descent: &mut Descent<'a, '_, P>) -> Result<PhysicalValue, Refusal> {
-        first_child(descent)?;
-        let multiplier = value(descent)?;
-        let unit = value(descent)?;
-        let value = value(descent)?;
+        let three = three_values(descent)?;
         Ok(PhysicalValue {
-            multiplier,
-            unit,
-            value,
+            multiplier: three.first,
+            unit: three.second,
+            value: three.third,
         })
     }
 }
@@ -94,14 +91,11 @@ impl<'a> Record<'a> for DcEvStatus {
     ghost particles = { dc_ev_status };
 
     fn read<P: Places>(descent: &mut Descent<'a, '_, P>) -> Result<DcEvStatus, Refusal> {
-        first_child(descent)?;
-        let ev_ready = value(descent)?;
-        let ev_error_code = value(descent)?;
-        let evress_soc = value(descent)?;
+        let three = three_values(descent)?;
         Ok(DcEvStatus {
-            ev_ready,
-            ev_error_code,
-            evress_soc,
+            ev_ready: three.first,
+            ev_error_code: three.second,
+            evress_soc: three.third,
         })
     }
 }
@@ -143,14 +137,11 @@ impl<'a> Record<'a> for AcEvseStatus {
     ghost particles = { ac_evse_status };
 
     fn read<P: Places>(descent: &mut Descent<'a, '_, P>) -> Result<AcEvseStatus, Refusal> {
-        first_child(descent)?;
-        let notification_max_delay = value(descent)?;
-        let evse_notification = value(descent)?;
-        let rcd = value(descent)?;
+        let three = three_values(descent)?;
         Ok(AcEvseStatus {
-            notification_max_delay,
-            evse_notification,
-            rcd,
+            notification_max_delay: three.first,
+            evse_notification: three.second,
+            rcd: three.third,
         })
     }
 }

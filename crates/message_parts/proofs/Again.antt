@@ -1,6 +1,6 @@
 -- A text or a Binary that is spelled somewhere can be taken there again.
 use Rattle.std.proofs.Common.{◌≡◌, ℕ, ◌*◌, Bool, true, false, List, drop, subst}
-use Rattle.exi_bits.specs.Lent.{Span, SpellsItems, Holds, IsSpan}
+use Rattle.exi_bits.specs.Lent.{Span, SpellsItems, IsSpan}
 use Rattle.exi_bits.specs.Reading.{Cursor, ahead}
 use Rattle.exi_spec.specs.declared.BitCause.{BitCause}
 use Rattle.exi_spec.specs.Items.{Begins, RefusesBits, RefusesChars}

@@ -1,7 +1,7 @@
 -- The attributes of an element, one after the other.
-use Rattle.std.proofs.Common.{◌≡◌, ℕ, zero, suc, ◌+◌, add-one, List, [], ◌∷◌, ◌++◌, length, drop, Option, Some, None, MatchOption, if◌then◌else◌, Bool, true, false, arith, refl, sym, ap, ap₂, subst, ◌∙◌}
+use Rattle.std.proofs.Common.{◌≡◌, ℕ, zero, suc, ◌+◌, add-one, List, [], ◌∷◌, ◌++◌, length, drop, Option, Some, None, MatchOption, if◌then◌else◌, Bool, true, false, arith, refl, sym, ap, subst, ◌∙◌}
 use Rattle.std.proofs.lemmas.List.{drop_all}
-use Rattle.std.specs.Prelude.{slice_get, ◌==◌, ◌||◌, ◌&&◌}
+use Rattle.std.specs.Prelude.{slice_get, ◌||◌}
 use Rattle.std.specs.List.{list_any}
 use Rattle.exi_schema.specs.declared.places.Place.{Place}
 use Rattle.exi_schema.specs.declared.places.Step.{Step}
@@ -9,10 +9,10 @@ use Rattle.exi_schema.specs.declared.places.Step.TheVariants as step
 use Rattle.exi_schema.specs.Schemas.{PlainSchema}
 use Rattle.exi_schema.specs.declared.tables.AttributeOf.{AttributeOf}
 use Rattle.exi_schema.specs.declared.tables.Datatype.{Datatype}
-use Rattle.exi_schema.specs.Offers.{offers, attribute_step, attribute_steps, through_required}
+use Rattle.exi_schema.specs.Offers.{offers, attribute_steps, through_required}
 use Rattle.exi_schema.specs.Schemas.{are_distinct}
 use Rattle.exi_schema.specs.Steps.{simple_at}
-use Rattle.exi_documents.specs.Documents.{SpellsStep, element, first}
+use Rattle.exi_documents.specs.Documents.{SpellsStep, element}
 use Rattle.exi_documents.specs.Grammar.{Standing, Inside, Behind, State, opened, MovesFrom}
 use Rattle.exi_documents.specs.Trees.{Event, Document, Start, Attribute, Content, EndElement, Value}
 use Rattle.exi_documents.specs.Values.{SpellsValue, Entries}
@@ -26,7 +26,7 @@ use Rattle.exi_schema.specs.Steps.{simple_at}
 use Rattle.document_laws.proofs.Offered.{each_of, one_taken}
 use Rattle.message_parts.specs.Contents.{started, attribute_value}
 use Rattle.message_parts.specs.Particles.{attribute_name, attribute_kind, attribute_at, is_must, is_may, is_last_may}
-use Rattle.message_parts.specs.Reading.{Frame, Seen, Goes, Enters, IsBetween, ReadsFrom, Reads, IsChild, StartsAt, before_children, names_in, at_particle}
+use Rattle.message_parts.specs.Reading.{Frame, Seen, Goes, Enters, IsBetween, Reads, IsChild, StartsAt, before_children, names_in}
 use Rattle.message_parts.specs.Values.{IsRead}
 use Rattle.message_parts.proofs.Distinct.{and_first, and_second, not_true, number_is}
 use Rattle.message_parts.proofs.Particles.{drop_at}

@@ -8,6 +8,7 @@ pub mod Particles
 pub mod Putting
 pub mod Repeated
 pub mod Rooted
+pub mod Sequence
 pub mod Singles
 pub mod Told
 pub mod Written

@@ -1,9 +1,10 @@
 -- What the next event is.
-use Rattle.std.proofs.Common.{◌≡◌, ℕ, pos, zero, suc, ◌+◌, List, [], ◌∷◌, ◌++◌, length, drop, map, nat_lt, Option, Some, None, if◌then◌else◌, Bool, arith, refl, sym, ap, subst, ◌∙◌}
+use Rattle.std.proofs.Common.{◌≡◌, ℕ, pos, ◌+◌, List, [], ◌∷◌, ◌++◌, length, drop, map, nat_lt, Option, Some, None, Result, Err, if◌then◌else◌, Bool, arith, refl, sym, ap, subst, ◌∙◌}
 use Rattle.std.proofs.lemmas.List.{drop_all}
 use Rattle.std.specs.Prelude.{slice_get}
 use Rattle.std.specs.List.{list_any}
-use Rattle.exi_bits.specs.Reading.{Cursor, Takes}
+use Rattle.exi_spec.specs.Bits.{bits_of}
+use Rattle.exi_bits.specs.Reading.{Cursor}
 use Rattle.exi_schema.specs.declared.places.Place.{Place}
 use Rattle.exi_schema.specs.declared.places.Step.{Step}
 use Rattle.exi_schema.specs.declared.places.Step.TheVariants as step
@@ -13,7 +14,7 @@ use Rattle.exi_schema.specs.declared.tables.Member.{Member}
 use Rattle.exi_schema.specs.Offers.{offers, attribute_steps, through_required, simple_step}
 use Rattle.exi_schema.specs.Steps.{simple_at}
 use Rattle.exi_documents.specs.Documents.{SpellsStep, element, first}
-use Rattle.exi_documents.specs.Grammar.{Opened, Standing, Inside, Behind, State, opened, around, stands, Moves, MovesFrom}
+use Rattle.exi_documents.specs.Grammar.{Opened, Standing, Inside, Behind, State, opened, MovesFrom}
 use Rattle.exi_documents.specs.Trees.{Event, Document, Start, Attribute, Content, EndElement, Value, Truth, Ordinal, Number, Bytes, Text}
 use Rattle.exi_documents.specs.Values.{SpellsValue, Entries}
 use Rattle.exi_values.specs.declared.Event.{Event as ReadEvent}
@@ -23,13 +24,20 @@ use Rattle.exi_values.specs.Meaning.{event_of, value_of}
 use Rattle.exi_schema.specs.declared.tables.Datatype.{Datatype}
 use Rattle.exi_schema.specs.declared.tables.Datatype.TheVariants as datatype
 use Rattle.message_parts.specs.Values.{IsRead}
-use Rattle.exi_events.specs.Reader.{reading, IsNext}
+use Rattle.exi_events.specs.Reader.{Reading, reading, IsNext, TakesValue}
 use Rattle.exi_schema.specs.Plain.{PlainKind, PlainParticle, containing}
 use Rattle.exi_schema.specs.Offers.{offers, offers_of, element_step, element_steps}
 use Rattle.exi_schema.specs.Steps.{simple_at, datatype_of}
 use Rattle.document_laws.proofs.Offered.{EachOf, each_of, each_of_both, each_of_some, one_taken, offers_simple}
 use Rattle.message_parts.specs.Contents.{started}
-use Rattle.message_parts.specs.Reading.{Frame, Seen, ToldUpTo, Goes, Enters, Leaves, HasValue, IsBetween, ReadsFrom, IsChild, IsRefusalKept, at_particle}
+use Rattle.exi_documents.specs.declared.refusal.Refusal.{Refusal}
+use Rattle.exi_documents.specs.Refusals.{IsRefused}
+use Rattle.message_parts.specs.Reading.{IsRefusal, Frame, Seen, ToldUpTo, Goes, Enters, Leaves, IsBetween, ReadsFrom, IsChild, IsRefusalKept, at_particle}
+
+-- inside an element of a simple kind, behind its value
+pub record HasValue (ks : List PlainKind) (F : Frame) (kind : ℕ) (told : List Event) (d : Seen) : Type 0 where
+  pub goes : Goes ks F told d
+  pub standing : d.state.standing ≡ Inside (opened F.name (record { kind = kind; particle = 1; copies = 0; attributes = 0 })) F.above
 
 -- an event is taken, or the document has ended
 abbrev pub Follows : Seen → Seen → Option Event → Type 0
@@ -254,3 +262,53 @@ module _ (ks : List PlainKind) (F : Frame) (kind : ℕ) (d : Datatype) (told : L
       let P : PlainSchema → Standing → Type 0 = λ s x. MovesFrom SpellsValue s x old.state.entries now next.0 new.state in
       let moves : P F.schema (Inside (opened F.name (behind_value kind)) F.above) = subst (λ x. P F.schema x) has.standing (subst (λ (s : PlainSchema). P s old.state.standing) has.goes.schema_is next.1) in
       end_by now old.state.entries next.0 has.goes.kinds_are (goes_on now old has.goes same bits open_still tells) moves
+
+pub tells : (old new : Seen) (now : Event) → ((events : List Event) → ToldUpTo old.schema events old.state old.cursor → ToldUpTo new.schema (now ∷ events) new.state new.cursor) → TellsMore old new (Some now)
+tells old new now told events has e is =
+    let same : Some now ≡ Some e = is in
+    let now_is : now ≡ e = cc in
+    subst (λ (x : Event). ToldUpTo new.schema (x ∷ events) new.state new.cursor) now_is (told events has)
+
+-- where a descent stands between a value and the end of its element
+abbrev between : Reading → Seen
+between r = record { schema = r.schema; state = r.state; cursor = r.cursor; refused = None; child = None }
+
+pub value_next : (ks : List PlainKind) (F : Frame) (kind : ℕ) (d : Datatype) (told : List Event) (v : ReadValue) (old new : Seen) → simple_at ks kind ≡ Some d → Enters ks F kind told old →
+    new.schema ≡ old.schema → new.cursor.bits ≡ old.cursor.bits → new.refused ≡ None →
+    TakesValue (reading old.schema old.state old.cursor) (reading new.schema new.state new.cursor) (value_of v) → IsRead d (value_of v) × Leaves ks F (Content (value_of v) ∷ told) new
+value_next ks F kind d told v old new simple enters same bits open_still took =
+    let mid = between took.behind in
+    let came = content_next ks F kind d told mid simple (read.Value v) (Some (Content (value_of v))) v old refl (λ x is. (let same : read.Value v ≡ read.Value x = is in cc)) enters
+    took.same_schema took.same_bits refl took.content (tells old mid (Content (value_of v)) took.told) in
+    (came.0, end_next ks F kind d (Content (value_of v) ∷ told) new simple (Some EndElement) mid came.1 (same ∙ sym took.same_schema) (bits ∙ sym took.same_bits) open_still took.end (tells mid new EndElement took.told_end))
+
+pub stays_open_by : (old new : Seen) → old.refused ≡ None → new.refused ≡ None → IsRefusalKept old old.refused →
+    ((events : List Event) → ToldUpTo old.schema events old.state old.cursor → (more : List Event) × ToldUpTo new.schema more new.state new.cursor) → IsRefusalKept new new.refused
+stays_open_by old new was is kept told =
+    let has = kept_by old old.refused was kept in kept_with new new.refused is (told has.0 has.1)
+
+-- ---- a refusal
+
+refusal_by : (d : Seen) (r : Refusal) (o : Option Refusal) → IsRefusalKept d o → ((q : Refusal) → o ≡ Some q → q ≡ r) →
+    ((payload : List ℕ) (events : List Event) → bits_of payload ≡ d.cursor.bits → o ≡ None → ToldUpTo d.schema events d.state d.cursor → IsRefused d.schema payload r.cause r.bit) → IsRefusal d r
+refusal_by d r None kept again refused = λ payload bits. refused payload kept.0 bits refl kept.1
+refusal_by d r (Some q) kept again refused = subst (λ (x : Refusal). IsRefusal d x) (again q refl) kept
+
+pub refusal_of : (d : Seen) (r : Refusal) → IsRefusalKept d d.refused → ((q : Refusal) → d.refused ≡ Some q → q ≡ r) →
+    ((payload : List ℕ) (events : List Event) → bits_of payload ≡ d.cursor.bits → d.refused ≡ None → ToldUpTo d.schema events d.state d.cursor → IsRefused d.schema payload r.cause r.bit) → IsRefusal d r
+refusal_of d r kept again refused = refusal_by d r d.refused kept again refused
+
+kept_if : (d : Seen) (r : Refusal) (o : Option Refusal) → o ≡ Some r → IsRefusal d r → IsRefusalKept d o
+kept_if d r None is refused = absurd cc
+kept_if d r (Some q) is refused = let same : Some q ≡ Some r = is in let q_is : r ≡ q = cc in subst (λ (x : Refusal). IsRefusal d x) q_is refused
+
+pub stays_refused : (old new : Seen) (r : Refusal) → new.schema ≡ old.schema → new.cursor.bits ≡ old.cursor.bits → new.refused ≡ Some r → IsRefusal old r → IsRefusalKept new new.refused
+stays_refused old new r same bits is refused =
+    kept_if new r new.refused is (λ payload there. subst (λ (s : PlainSchema). IsRefused s payload r.cause r.bit) (sym same) (refused payload (there ∙ bits)))
+
+pub refused_by : (old new : Option Refusal) (r : Refusal) → ((q : Refusal) → old ≡ Some q → (q ≡ r) × (new ≡ Some q)) → (old ≡ None → new ≡ Some r) → new ≡ Some r
+refused_by None new r again first = first refl
+refused_by (Some q) new r again first = let it = again q refl in it.1 ∙ ap (λ (x : Refusal). Some x) it.0
+
+pub one_error : {X : Type 0} (o : Result X Refusal) (q r : Refusal) → o ≡ Err q → o ≡ Err r → q ≡ r
+one_error {X} o q r one other = let same : Err q ≡ Err r = sym one ∙ other in cc

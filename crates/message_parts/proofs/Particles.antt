@@ -11,7 +11,7 @@ use Rattle.exi_schema.specs.declared.tables.Member.{Member}
 use Rattle.exi_schema.specs.declared.tables.MemberStanding.{MemberStanding}
 use Rattle.exi_schema.specs.declared.tables.MemberStanding.TheVariants.{Taken}
 use Rattle.exi_documents.specs.Documents.{element, first}
-use Rattle.exi_documents.specs.Grammar.{Inside, Opened, opened}
+use Rattle.exi_documents.specs.Grammar.{Inside, opened}
 use Rattle.exi_documents.specs.Trees.{Event, Start, EndElement}
 use Rattle.exi_schema.specs.Plain.{PlainKind, PlainParticle}
 use Rattle.exi_schema.specs.Offers.{element_step, element_steps}

@@ -1,5 +1,5 @@
 -- An event that is put where it is the next one.
-use Rattle.std.proofs.Common.{slice_index_or, drop, zero, suc, add-one, ◌≡◌, ◌≢◌, ℕ, ◌+◌, ◌*◌, ◌<◌, ◌≤◌, Bool, List, [], ◌∷◌, ◌++◌, length, length-append, append_assoc, Option, Some, None, Result, Ok, Err, IsErr, OnOk, OnErr, IfErr, ◌↔◌, ◌⊎◌, inl, inr, refl, sym, ap, subst, ◌∙◌, arith}
+use Rattle.std.proofs.Common.{slice_index_or, drop, zero, suc, add-one, ◌≡◌, ℕ, ◌+◌, ◌*◌, ◌<◌, ◌≤◌, Bool, List, [], ◌∷◌, ◌++◌, length, length-append, append_assoc, Option, Some, None, Result, Ok, Err, OnOk, inl, inr, refl, sym, ap, subst, ◌∙◌, arith}
 use Rattle.exi_bits.specs.declared.pen.Full.{Full}
 use Rattle.exi_schema.specs.Schemas.{PlainSchema}
 use Rattle.exi_documents.specs.Grammar.{State, Moves}

@@ -1,6 +1,6 @@
 -- Elements of one name, one after the other.
 use Rattle.std.proofs.Common.{◌≡◌, ℕ, suc, ◌+◌, ◌<◌, add-one, List, [], ◌∷◌, ◌++◌, length, map, drop, nat_lt, Option, Some, None, if◌then◌else◌, Bool, true, false, ◌⊎◌, inl, inr, arith, refl, sym, ap, subst, ◌∙◌}
-use Rattle.std.specs.Prelude.{slice_get, ◌==◌, ◌&&◌}
+use Rattle.std.specs.Prelude.{slice_get, ◌==◌}
 use Rattle.std.proofs.lemmas.Bool.Decides.{nat_tests}
 use Rattle.exi_schema.specs.Offers.{behind_copy, leaves_room}
 use Rattle.exi_schema.specs.declared.places.Place.{Place}
@@ -11,7 +11,7 @@ use Rattle.message_parts.specs.Contents.{Inside as Contents, told_one, told_each
 use Rattle.message_parts.specs.Particles.{alternatives, alternatives_of, alternatives_at, name_at, kind_at, kind_among, is_sole, accepts, has_room_for, is_repeated_at}
 use Rattle.message_parts.specs.Reading.{Frame, Seen, Enters, Leaves, IsBetween, ReadsFrom, Reads, at_particle}
 use Rattle.message_parts.proofs.Distinct.{and_first, and_second, number_is}
-use Rattle.message_parts.proofs.Particles.{frame_before, kind_of_child, IsOfIt, IsPassed, stands, between}
+use Rattle.message_parts.proofs.Particles.{frame_before, kind_of_child, IsOfIt, stands, between}
 use Rattle.message_parts.proofs.Singles.{sole_found, sole_there}
 
 -- so many elements are read; at the maximum the particle is left

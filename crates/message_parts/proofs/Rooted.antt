@@ -1,14 +1,10 @@
 -- The root of a document, and the end behind it.
-use Rattle.std.proofs.Common.{Result, Ok, Err, IfOk, ◌≡◌, ℕ, List, [], ◌∷◌, ◌++◌, length, Option, Some, None, Bool, true, if◌then◌else◌, refl, sym, ap, subst, ◌∙◌, zero, suc}
-use Rattle.std.specs.Prelude.{slice_get, ◌==◌, ◌&&◌}
-use Rattle.std.specs.List.{list_all}
-use Rattle.exi_bits.specs.Reading.{Cursor}
+use Rattle.std.proofs.Common.{Result, Ok, Err, IfOk, ◌≡◌, ℕ, List, [], ◌∷◌, Option, Some, None, Bool, true, refl, sym, ap, subst, ◌∙◌, zero, suc}
+use Rattle.std.specs.Prelude.{slice_get}
 use Rattle.exi_schema.specs.Schemas.{PlainSchema}
 use Rattle.exi_schema.specs.declared.tables.RootOf.{RootOf}
-use Rattle.exi_schema.specs.declared.places.Root.TheVariants.{Kind}
-use Rattle.exi_schema.specs.Steps.{IsRoot}
 use Rattle.exi_documents.specs.Documents.{first, IsDocument}
-use Rattle.exi_documents.specs.Grammar.{Standing, Before, AtRoot, Inside, Behind, State, opened, stands, around, Opened, Moves, MovesFrom}
+use Rattle.exi_documents.specs.Grammar.{Standing, Before, AtRoot, Inside, Behind, State, opened, MovesFrom}
 use Rattle.exi_documents.specs.Trees.{Event, Document, Start, Attribute, Content, EndElement}
 use Rattle.exi_documents.specs.Values.{SpellsValue, Entries}
 use Rattle.exi_events.specs.Reader.{IsTold}
@@ -18,7 +14,7 @@ use Rattle.exi_values.specs.Meaning.{event_of}
 use Rattle.exi_schema.specs.Plain.{PlainKind}
 use Rattle.message_parts.specs.Contents.{Inside as Contents, started, root_of, told_inside}
 use Rattle.message_parts.specs.Particles.{kind_among, is_kind, are_among}
-use Rattle.message_parts.specs.Reading.{Frame, Seen, ToldUpTo, Goes, Enters, Leaves, IsChosen, Begins, IsNumbered, IsAtRoot, root_frame}
+use Rattle.message_parts.specs.Reading.{Seen, ToldUpTo, Enters, IsChosen, Begins, IsNumbered, IsAtRoot, root_frame}
 use Rattle.message_parts.proofs.Distinct.{and_first, and_second, number_is}
 use Rattle.message_parts.proofs.Next.{TellsMore, Follows}
 use Rattle.message_parts.proofs.Told.{root_is}

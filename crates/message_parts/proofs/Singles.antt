@@ -1,6 +1,6 @@
 -- One element that has to be there or may be there, and one of several.
-use Rattle.std.proofs.Common.{◌≡◌, ℕ, suc, ◌+◌, add-one, List, [], ◌∷◌, length, nat_lt, not, Option, Some, None, if◌then◌else◌, Bool, true, false, ◌⊎◌, inl, inr, refl, sym, ap, subst, ◌∙◌, Result, Ok, Err, IfOk}
-use Rattle.std.specs.Prelude.{slice_get, ◌==◌, ◌&&◌, ◌||◌}
+use Rattle.std.proofs.Common.{◌≡◌, ℕ, suc, ◌+◌, add-one, List, [], ◌∷◌, length, nat_lt, Option, Some, None, if◌then◌else◌, Bool, true, false, ◌⊎◌, inl, inr, refl, sym, ap, subst, ◌∙◌, Result, Ok, Err, IfOk}
+use Rattle.std.specs.Prelude.{slice_get, ◌==◌, ◌||◌}
 use Rattle.std.specs.List.{list_any}
 use Rattle.exi_schema.specs.Offers.{behind_copy, leaves_room}
 use Rattle.exi_schema.specs.declared.places.Place.{Place}
@@ -11,7 +11,7 @@ use Rattle.exi_schema.specs.Plain.{PlainKind, PlainParticle}
 use Rattle.message_parts.specs.Particles.{alternatives, alternatives_of, alternatives_at, kind_among, first_name, first_kind, name_at, kind_at, is_sole, is_required, is_single, is_once_at, is_optional_at, is_left_out, is_none, is_child_among, names_among, takes_of}
 use Rattle.message_parts.specs.Reading.{Frame, Seen, Enters, Leaves, IsBetween, Reads, IsChosen, at_particle}
 use Rattle.message_parts.proofs.Distinct.{and_first, and_second, not_true, same_number, number_is}
-use Rattle.message_parts.proofs.Particles.{frame_before, kind_of_child, IsOfIt, IsPassed, stands, between}
+use Rattle.message_parts.proofs.Particles.{frame_before, kind_of_child, stands, between}
 
 pub taken : (takes : Datatype → Bool) (o : Option Datatype) → takes_of takes o ≡ true → (d : Datatype) × (o ≡ Some d) × (takes d ≡ true)
 taken takes None is = absurd cc

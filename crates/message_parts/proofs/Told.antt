@@ -1,5 +1,5 @@
 -- The events of a tree, the newest first and those to come.
-use Rattle.std.proofs.Common.{◌≡◌, ℕ, List, [], ◌∷◌, ◌++◌, map, reverse, refl, sym, ap, ◌∙◌, append_assoc}
+use Rattle.std.proofs.Common.{◌≡◌, ℕ, List, [], ◌∷◌, ◌++◌, reverse, refl, sym, ap, ◌∙◌, append_assoc}
 use Rattle.std.proofs.lemmas.List.{reverse-append}
 use Rattle.exi_documents.specs.Trees.{Value, Trees, none, simple, complex, Tree, Event, Document, Start, Attribute, Content, EndElement, attribute_events, events_of, document_events}
 use Rattle.document_laws.proofs.Apart.{documents_apart}

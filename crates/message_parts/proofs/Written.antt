@@ -1,17 +1,16 @@
 -- A whole document that is written.
-use Rattle.std.proofs.Common.{◌≡◌, ℕ, ◌+◌, ◌*◌, ◌<◌, ◌≤◌, Bool, List, [], ◌∷◌, ◌++◌, length, take, replicate, false, length-append, Option, Some, None, inl, inr, Result, Ok, Err, IsErr, OnOk, OnErr, IfErr, refl, sym, ap, subst, ◌∙◌, append-nil, arith}
+use Rattle.std.proofs.Common.{◌≡◌, ℕ, ◌*◌, ◌<◌, ◌≤◌, Bool, List, [], ◌∷◌, ◌++◌, length, Option, Some, None, inl, inr, Result, Ok, Err, IsErr, OnOk, OnErr, IfErr, refl, sym, ap, subst, ◌∙◌, append-nil, arith}
 use Rattle.exi_bits.specs.declared.pen.Full.{Full}
 use Rattle.exi_bits.specs.Written.{HoldsBits}
-use Rattle.exi_spec.specs.Bits.{bits_of}
 use Rattle.exi_schema.specs.Schemas.{PlainSchema}
 use Rattle.exi_documents.specs.Documents.{SpellsDocument, IsEncoding}
-use Rattle.exi_documents.specs.Grammar.{Behind, State, start, stands, Moves}
+use Rattle.exi_documents.specs.Grammar.{Behind, State, start, stands}
 use Rattle.exi_documents.specs.Trees.{Event, Document, Tree, document_events}
 use Rattle.exi_documents.specs.Values.{WritesValue}
 use Rattle.exi_events.specs.Writer.{Draft, IsPut}
 use Rattle.document_laws.proofs.Runs.{Runs, document_runs}
 use Rattle.message_parts.specs.Contents.{Inside, root_of, one_onto}
-use Rattle.message_parts.specs.Writing.{Target, Put, HasLeft, Writes, Leads, IsTooMuch}
+use Rattle.message_parts.specs.Writing.{Target, Put, Writes, Leads, IsTooMuch}
 use Rattle.message_parts.proofs.Told.{root_ahead}
 
 -- ---- what is to be written of a document

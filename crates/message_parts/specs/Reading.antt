@@ -68,11 +68,6 @@ pub record Leaves (ks : List PlainKind) (F : Frame) (told : List Event) (d : See
   pub goes : Goes ks F (EndElement ∷ told) d
   pub standing : d.state.standing ≡ around F.above
 
--- inside an element of a simple kind, behind its value
-pub record HasValue (ks : List PlainKind) (F : Frame) (kind : ℕ) (told : List Event) (d : Seen) : Type 0 where
-  pub goes : Goes ks F told d
-  pub standing : d.state.standing ≡ Inside (opened F.name (record { kind = kind; particle = 1; copies = 0; attributes = 0 })) F.above
-
 -- a refusal of the payload
 abbrev pub IsRefusal : Seen → Refusal → Type 0
 IsRefusal d r = (payload : List ℕ) → bits_of payload ≡ d.cursor.bits → IsRefused d.schema payload r.cause r.bit

@@ -9,6 +9,7 @@ ghost use Rattle.exi_schema.specs.Steps.{simple_at};
 ghost use Rattle.message_parts.specs.Contents.{Of, holding_with, mapped, told_one, told_perhaps, told_each, told_inside, told_maybe, told_choice};
 ghost use Rattle.message_parts.specs.Particles.{name_at, kind_at, alternatives_at, is_once_at, is_optional_at, is_repeated_at, is_required, is_single, is_left_out, is_must, is_last_may, attribute_at, takes_at, takes_attribute, kind_among};
 ghost use Rattle.message_parts.specs.Reading.{Frame, seen_of, IsOpen, Enters, Leaves, Reads, IsRefusal, IsChosen, StartsAt};
+ghost use Rattle.message_parts.specs.Sequence.{told_three};
 
 use crate::descent::Descent;
 use crate::part::{Choice, Group, LargeGroup, LargeRecord, Record, Simple};
@@ -31,8 +32,7 @@ fn simple_inside<'a, T: Simple<'a>, P: Places>(
         → simple_at ks kind ≡ Some d → T.takes d ≡ true
         → IfOk result (λ v. Leaves ks F (told_inside (Of (T.value v)) told) (seen_of P.schema descent.new)) }
 {
-    let value = descent.content()?;
-    descent.end_value()?;
+    let value = descent.value()?;
     Ok(T::of(value))
 }
 
@@ -177,6 +177,53 @@ pub fn values<'a, T: Simple<'a> + Default, P: Places, const N: usize>(
         descent.next_child()?;
     }
     Ok(items)
+}
+
+/// Three values, one behind the other.
+#[derive(Drop)]
+pub struct Three<A, B, C> {
+    /// The first.
+    pub first: A,
+    /// The second.
+    pub second: B,
+    /// The third.
+    pub third: C,
+}
+
+/// Three values that each have to be there, of an element that holds nothing else: up to where there is no more.
+pub fn three_values<'a, A: Simple<'a>, B: Simple<'a>, C: Simple<'a>, P: Places>(
+    descent: &mut Descent<'a, '_, P>,
+) -> Result<Three<A, B, C>, Refusal>
+    requires open { IsOpen P.schema descent.old }
+    ensures open { IsOpen P.schema descent.new }
+    ensures table { descent.new.reader.table.ghost_name ≡ descent.old.reader.table.ghost_name }
+    ensures places { descent.new.reader.places.now ≡ descent.old.reader.places.now }
+    ensures payload { descent.new.reader.reader.bits ≡ descent.old.reader.reader.bits }
+    ensures refused { IfErr result (λ r. IsRefusal (seen_of P.schema descent.old) r) }
+    ensures read { (ks : List PlainKind) (F : Frame) (declared : List PlainParticle) (told : List TreeEvent)
+        → StartsAt ks F [] declared 0 told (seen_of P.schema descent.old)
+        → is_once_at declared 0 ≡ true → takes_at A.takes ks declared 0 ≡ true
+        → is_once_at declared 1 ≡ true → takes_at B.takes ks declared 1 ≡ true
+        → is_once_at declared 2 ≡ true → takes_at C.takes ks declared 2 ≡ true
+        → IfOk result (λ v. Reads ks F [] declared 3
+        (told_three declared (A.value v.first) (B.value v.second) (C.value v.third) told) (seen_of P.schema descent.new)) }
+{
+    if let Some(values) = descent.three_values()? {
+        return Ok(Three {
+            first: A::of(values.first),
+            second: B::of(values.second),
+            third: C::of(values.third),
+        });
+    }
+    first_child(descent)?;
+    let first = value(descent)?;
+    let second = value(descent)?;
+    let third = value(descent)?;
+    Ok(Three {
+        first,
+        second,
+        third,
+    })
 }
 
 // ---- elements with attributes and children

@@ -7,7 +7,7 @@ ghost use Rattle.exi_values.specs.Meaning.{IsLentEvent, IsLent};
 ghost use Rattle.exi_values.specs.declared.Event.TheVariants as event_is;
 
 use exi_documents::Refusal;
-use exi_events::{Event, EventReader, Table, Value};
+use exi_events::{Event, EventReader, Table, ThreeValues, Value};
 use exi_schema::Places;
 
 /// Reads the children of one element after the other.
@@ -34,17 +34,6 @@ fn is_one_of(name: u16, names: &[u16]) -> bool
     names.iter().any(|n| *n == name)
 }
 
-/// The value of an event.
-fn value_in<'a>(event: Event<'a>) -> Value<'a>
-    ensures value { (v : _) → event.entry ≡ event_is.Value v → result ≡ v }
-    ensures lent { (bits : _) → IsLentEvent bits event.entry → IsLent bits result }
-{
-    match event {
-        Event::Value(value) => value,
-        _ => Value::Bool(false),
-    }
-}
-
 /// The value of an attribute.
 fn attribute_in<'a>(event: Event<'a>) -> Value<'a>
     ensures value { (name : _) (v : _) → event.entry ≡ event_is.Attribute name v → result ≡ v }
@@ -68,7 +57,7 @@ fn attribute_if<'a>(event: Event<'a>) -> Option<Value<'a>>
 }
 
 impl<'a, 'p, P: Places> Descent<'a, 'p, P> {
-    ghost use Rattle.std.specs.Prelude.{◌≡◌, ℕ, ◌∷◌, [], List, true, false, length, drop, Some, slice_get, IfOk, IfErr, IfSome, MatchOption, suc};
+    ghost use Rattle.std.specs.Prelude.{◌≡◌, ℕ, ◌∷◌, [], List, true, false, length, drop, Some, None, slice_get, IfOk, IfErr, IfSome, MatchOption, suc};
     ghost use Rattle.exi_documents.specs.Trees.{Event as TreeEvent, Content, Attribute, EndElement};
     ghost use Rattle.message_parts.specs.Values.{IsRead};
     ghost use Rattle.exi_schema.specs.declared.tables.Datatype.{Datatype};
@@ -78,12 +67,14 @@ impl<'a, 'p, P: Places> Descent<'a, 'p, P> {
     ghost use Rattle.exi_schema.specs.Plain.{PlainKind, PlainParticle, containing};
     ghost use Rattle.exi_schema.specs.Steps.{simple_at};
     ghost use Rattle.message_parts.specs.Particles.{is_must, is_last_may, attribute_kind, attribute_at, is_child_among};
-    ghost use Rattle.message_parts.specs.Reading.{Frame, seen_of, IsOpen, Enters, Leaves, Reads, IsRefusal, IsBetween, ReadsFrom, HasValue, StartsAt, Begins, IsNumbered, IsAtRoot};
+    ghost use Rattle.message_parts.specs.Reading.{Frame, seen_of, IsOpen, Enters, Leaves, Reads, IsRefusal, IsBetween, ReadsFrom, StartsAt, Begins, IsNumbered, IsAtRoot};
     ghost use Rattle.std.specs.Prelude.{◌≤◌, Bool};
     ghost use Rattle.exi_spec.specs.Bits.{bits_of};
     ghost use Rattle.exi_schema.specs.Schemas.{PlainSchema};
     ghost use Rattle.exi_documents.specs.Values.{most_entries};
     ghost use Rattle.exi_events.specs.Reader.{IsTold};
+    ghost use Rattle.exi_events.specs.Sequence.{AreLent};
+    ghost use Rattle.message_parts.specs.Sequence.{HoldsThree, AreRead, told_values};
 
     /// A descent at the start of a payload of at most 65,536 bytes. The table is emptied; it has room for 8,192 entries.
     pub fn new(payload: &'a [u8], places: &'p P, table: &'p mut Table) -> Descent<'a, 'p, P>
@@ -192,9 +183,9 @@ impl<'a, 'p, P: Places> Descent<'a, 'p, P> {
         }
     }
 
-    /// The value of the element that has started.
+    /// The value of the element that has started, and its end.
     #[inline(always)]
-    pub fn content(&mut self) -> Result<Value<'a>, Refusal>
+    pub fn value(&mut self) -> Result<Value<'a>, Refusal>
         requires open { IsOpen P.schema self.old }
         ensures open { IsOpen P.schema self.new }
         ensures table { self.new.reader.table.ghost_name ≡ self.old.reader.table.ghost_name }
@@ -202,12 +193,39 @@ impl<'a, 'p, P: Places> Descent<'a, 'p, P> {
         ensures payload { self.new.reader.reader.bits ≡ self.old.reader.reader.bits }
         ensures refused { IfErr result (λ r. IsRefusal (seen_of P.schema self.old) r) }
         ensures lent { IfOk result (λ v. IsLent self.old.reader.reader.bits v) }
-        ensures content { (ks : List PlainKind) (F : Frame) (kind : ℕ) (d : Datatype) (told : List TreeEvent) → simple_at ks kind ≡ Some d
+        ensures value { (ks : List PlainKind) (F : Frame) (kind : ℕ) (d : Datatype) (told : List TreeEvent) → simple_at ks kind ≡ Some d
             → Enters ks F kind told (seen_of P.schema self.old)
-            → IfOk result (λ v. IsRead d (value_of v) × HasValue ks F kind (Content (value_of v) ∷ told) (seen_of P.schema self.new)) }
+            → IfOk result (λ v. IsRead d (value_of v) × Leaves ks F (Content (value_of v) ∷ told) (seen_of P.schema self.new)) }
     {
-        let event = self.reader.next()?;
-        Ok(value_in(event))
+        let value = self.reader.value()?;
+        Ok(value)
+    }
+
+    /// The values of the element that has started, and its end, where it is a sequence of three values and nothing else. Anywhere else
+    /// nothing is taken, and `None` is answered.
+    #[inline(always)]
+    pub fn three_values(&mut self) -> Result<Option<ThreeValues<'a>>, Refusal>
+        requires open { IsOpen P.schema self.old }
+        ensures open { IsOpen P.schema self.new }
+        ensures table { self.new.reader.table.ghost_name ≡ self.old.reader.table.ghost_name }
+        ensures places { self.new.reader.places.now ≡ self.old.reader.places.now }
+        ensures payload { self.new.reader.reader.bits ≡ self.old.reader.reader.bits }
+        ensures refused { IfErr result (λ r. IsRefusal (seen_of P.schema self.old) r) }
+        ensures lent { IfOk result (λ o. IfSome o (AreLent self.old.reader.reader.bits)) }
+        ensures none { IfOk result (λ o. o ≡ None
+            → (ks : List PlainKind) (F : Frame) (attributes : List AttributeOf) (declared : List PlainParticle) (at : ℕ) (told : List TreeEvent)
+            → StartsAt ks F attributes declared at told (seen_of P.schema self.old)
+            → StartsAt ks F attributes declared at told (seen_of P.schema self.new)) }
+        ensures values { (ks : List PlainKind) (F : Frame) (declared : List PlainParticle) (told : List TreeEvent) (first second third : Datatype)
+            → StartsAt ks F [] declared 0 told (seen_of P.schema self.old) → HoldsThree ks declared first second third
+            → IfOk result (λ o. IfSome o (λ three. AreRead first second third three
+            × Reads ks F [] declared 3 (told_values declared three told) (seen_of P.schema self.new))) }
+    {
+        let Some(values) = self.reader.three_values()? else {
+            return Ok(None);
+        };
+        self.child = None;
+        Ok(Some(values))
     }
 
     /// An attribute of the element that has started, one that has to be there.
@@ -248,22 +266,5 @@ impl<'a, 'p, P: Places> Descent<'a, 'p, P> {
         let event = self.reader.next()?;
         self.child = child_of(&event);
         Ok(attribute_if(event))
-    }
-
-    /// The end of the element that had a value.
-    #[inline(always)]
-    pub fn end_value(&mut self) -> Result<(), Refusal>
-        requires open { IsOpen P.schema self.old }
-        ensures open { IsOpen P.schema self.new }
-        ensures table { self.new.reader.table.ghost_name ≡ self.old.reader.table.ghost_name }
-        ensures places { self.new.reader.places.now ≡ self.old.reader.places.now }
-        ensures payload { self.new.reader.reader.bits ≡ self.old.reader.reader.bits }
-        ensures refused { IfErr result (λ r. IsRefusal (seen_of P.schema self.old) r) }
-        ensures end { (ks : List PlainKind) (F : Frame) (kind : ℕ) (d : Datatype) (told : List TreeEvent) → simple_at ks kind ≡ Some d
-            → HasValue ks F kind told (seen_of P.schema self.old)
-            → IfOk result (λ _. Leaves ks F told (seen_of P.schema self.new)) }
-    {
-        let _end = self.reader.next()?;
-        Ok(())
     }
 }

@@ -11,9 +11,9 @@ mod texts;
 mod writer;
 
 pub use children::{
-    attribute, choice, first_child, last_attribute, left_out, member, member_here, member_value,
-    optional, optional_choice, optional_choice_here, optional_value, records, required,
-    required_here, value, values,
+    Three, attribute, choice, first_child, last_attribute, left_out, member, member_here,
+    member_value, optional, optional_choice, optional_choice_here, optional_value, records,
+    required, required_here, three_values, value, values,
 };
 pub use descent::Descent;
 pub use document::{read, read_here, write};

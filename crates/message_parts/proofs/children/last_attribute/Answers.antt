@@ -1,4 +1,4 @@
-use Rattle.std.proofs.Common.{suc, zero, sym, subst, refl, List, ◌∷◌, Option, Some, None, MatchOption, IfSome, ℕ, length, ◌∙◌, ap, ◌≡◌, arith}
+use Rattle.std.proofs.Common.{suc, sym, subst, refl, ◌∷◌, Option, MatchOption, IfSome, ℕ}
 use Rattle.exi_documents.specs.Trees.{Attribute, Value}
 use Rattle.exi_values.specs.declared.Value.{Value as ReadValue}
 use Rattle.exi_values.specs.Meaning.{IsLent, value_of}

@@ -1,11 +1,10 @@
-use Rattle.std.proofs.Common.{rules, ◌≡◌, suc, List, Some, ◌⊎◌, inl, inr, sym, ap, subst, ◌∙◌, ◌+◌, arith}
+use Rattle.std.proofs.Common.{rules, suc, List, Some, inl, inr, sym, ap, subst, ◌∙◌, ◌+◌, arith}
 use Rattle.std.proofs.lemmas.Bool.Decides.{nat_tests}
 use Rattle.exi_documents.specs.Trees.{Event}
 use Rattle.message_parts.specs.Contents.{holding_with}
 use Rattle.message_parts.specs.Particles.{name_at, kind_at}
 use Rattle.message_parts.specs.Reading.{seen_of, Reads, ReadsFrom}
 use Rattle.message_parts.proofs.Repeated.{goes_on, enters_more, told_pushed, stops, fills}
-use Rattle.message_parts.proofs.Singles.{taken}
 use Rattle.message_parts.proofs.children.records.Goals.{else-loop-test, then-loop-test+then-not-is_at}
 use Rattle.message_parts.proofs.children.records.Goals as goal
 

@@ -1,9 +1,9 @@
 use Rattle.std.proofs.Common.{◌≡◌, ℕ, Some, List, length, map, slice_get, true}
 use Rattle.exi_documents.specs.Trees.{Event}
 use Rattle.exi_schema.specs.declared.tables.AttributeOf.{AttributeOf}
-use Rattle.exi_schema.specs.Plain.{PlainKind, PlainParticle, containing}
+use Rattle.exi_schema.specs.Plain.{PlainParticle, containing}
 use Rattle.message_parts.specs.Contents.{holding_with, told_each}
-use Rattle.message_parts.specs.Particles.{name_at, kind_at, is_repeated_at, takes_at}
+use Rattle.message_parts.specs.Particles.{name_at, kind_at, is_repeated_at}
 use Rattle.message_parts.specs.Reading.{Frame, seen_of, IsOpen, Reads}
 use Rattle.message_parts.proofs.Repeated.{Repeats}
 use Rattle.message_parts.proofs.children.records.Given as goal

@@ -1,4 +1,4 @@
-use Rattle.std.proofs.Common.{rules, ◌≡◌, suc, List, Some, ◌⊎◌, inl, inr, sym, ap, subst, ◌∙◌, ◌+◌, arith}
+use Rattle.std.proofs.Common.{rules, suc, List, Some, inl, inr, sym, ap, subst, ◌∙◌, ◌+◌, arith}
 use Rattle.std.proofs.lemmas.Bool.Decides.{nat_tests}
 use Rattle.exi_documents.specs.Trees.{Event}
 use Rattle.message_parts.specs.Contents.{Of}

@@ -1,11 +1,8 @@
-use Rattle.std.proofs.Common.{ap, refl, ◌∙◌, ◌≡◌, ◌*◌, ◌<◌, ◌≤◌, length, Some, None, ℕ, List, Bool, ◌∷◌, []}
-use Rattle.exi_documents.specs.Documents.{SpellsDocument}
+use Rattle.std.proofs.Common.{ap, refl, ◌∙◌, ◌≡◌, ◌*◌, ◌<◌, ◌≤◌, length, Some, None, ℕ, []}
 use Rattle.exi_documents.specs.Trees.{Document}
-use Rattle.exi_documents.specs.Values.{WritesValue}
 use Rattle.exi_events.specs.Writer.{draft_of}
-use Rattle.message_parts.specs.Contents.{root_of}
 use Rattle.message_parts.specs.Writing.{put_of}
-use Rattle.message_parts.proofs.Written.{target, begun, behind_all, finished, no_room, needs}
+use Rattle.message_parts.proofs.Written.{begun, behind_all, finished, no_room, needs}
 use Rattle.message_parts.proofs.document.put_document.Goals as goal
 
 pub put-requires-clause-offered : goal.put-requires-clause-offered

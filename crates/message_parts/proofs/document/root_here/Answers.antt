@@ -1,4 +1,4 @@
-use Rattle.std.proofs.Common.{refl, subst, sym, ap, ℕ, IfOk}
+use Rattle.std.proofs.Common.{refl, subst, sym, ℕ, IfOk}
 use Rattle.exi_spec.specs.Bits.{bits_of}
 use Rattle.exi_documents.specs.Documents.{IsDocument}
 use Rattle.message_parts.specs.Contents.{root_of}

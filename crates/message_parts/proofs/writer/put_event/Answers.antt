@@ -1,5 +1,4 @@
-use Rattle.std.proofs.Common.{subst, ap, ◌≡◌, Option, Some, None, OnOk, Err}
-use Rattle.exi_bits.specs.declared.pen.Full.{Full}
+use Rattle.std.proofs.Common.{subst, ap, Option, OnOk}
 use Rattle.exi_documents.specs.Trees.{Event}
 use Rattle.exi_events.specs.Writer.{draft_of, IsPut, IsNeeded, IsOfferedAs}
 use Rattle.exi_events.proofs.Standings.{sound_stands}

@@ -1,4 +1,4 @@
-use Rattle.std.proofs.Common.{subst, Option}
+use Rattle.std.proofs.Common.{subst}
 use Rattle.message_parts.specs.Contents.{mapped, choice_onto}
 use Rattle.message_parts.specs.Writing.{Writes, put_of}
 use Rattle.message_parts.proofs.writer.put_optional_choice.Goals as goal

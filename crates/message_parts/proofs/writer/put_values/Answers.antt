@@ -1,8 +1,7 @@
-use Rattle.std.proofs.Common.{rules, List, map, drop, length, subst, ap, refl, sym, ◌∙◌, ◌+◌, arith}
+use Rattle.std.proofs.Common.{rules, map, subst, sym, arith}
 use Rattle.std.proofs.lemmas.List.{drop_all}
-use Rattle.exi_documents.specs.Trees.{Event}
 use Rattle.message_parts.specs.Contents.{Of, each_onto}
-use Rattle.message_parts.specs.Writing.{Target, Writes, put_of}
+use Rattle.message_parts.specs.Writing.{Writes, put_of}
 use Rattle.message_parts.proofs.Putting.{drop_next}
 use Rattle.message_parts.proofs.writer.put_values.Goals as goal
 

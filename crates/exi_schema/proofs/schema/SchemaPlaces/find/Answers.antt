@@ -1,4 +1,4 @@
-use Rattle.std.proofs.Common.{rules, IsTrue, subst, sym, arith}
+use Rattle.std.proofs.Common.{rules, IsTrue, arith}
 use Rattle.exi_schema.specs.Offers.{offers}
 use Rattle.exi_schema.specs.Told.{schema_of}
 use Rattle.exi_schema.proofs.Finding.{later_still, nowhere}

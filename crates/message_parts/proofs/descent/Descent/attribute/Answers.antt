@@ -1,4 +1,4 @@
-use Rattle.std.proofs.Common.{rules, ap, refl}
+use Rattle.std.proofs.Common.{ap}
 use Rattle.message_parts.proofs.Next.{stays_open}
 use Rattle.message_parts.proofs.Attributes.{given_next}
 use Rattle.message_parts.specs.Reading.{seen_of}

@@ -1,5 +1,4 @@
-use Rattle.std.proofs.Common.{rules, ap}
-use Rattle.exi_schema.specs.Schemas.{PlainSchema}
+use Rattle.std.proofs.Common.{ap}
 use Rattle.message_parts.proofs.Next.{stays_open, reads_next}
 use Rattle.message_parts.specs.Reading.{seen_of}
 use Rattle.message_parts.proofs.descent.Descent.next_child.Goals as goal

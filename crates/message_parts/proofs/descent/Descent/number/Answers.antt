@@ -1,4 +1,4 @@
-use Rattle.std.proofs.Common.{ap, subst, sym, ◌∙◌, refl, ◌≡◌, ◌∷◌, List}
+use Rattle.std.proofs.Common.{ap}
 use Rattle.message_parts.proofs.Next.{stays_open}
 use Rattle.message_parts.specs.Reading.{seen_of}
 use Rattle.message_parts.proofs.Rooted.{numbered}

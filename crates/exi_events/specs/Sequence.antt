@@ -1,0 +1,72 @@
+-- Own: the values of a sequence, which are read at once.
+use Rattle.std.specs.Prelude.{◌≡◌, ℕ, Bool, List, [], ◌∷◌, Some}
+use Rattle.exi_bits.specs.Reading.{Cursor}
+use Rattle.exi_bits.specs.declared.span.SpanAt.{SpanAt}
+use Rattle.exi_schema.specs.declared.places.Place.{Place}
+use Rattle.exi_schema.specs.declared.places.SequenceChild.{SequenceChild}
+use Rattle.exi_schema.specs.Schemas.{PlainSchema}
+use Rattle.exi_schema.specs.Offers.{offers}
+use Rattle.exi_schema.specs.Plain.{PlainKind}
+use Rattle.exi_schema.specs.Sequences.{IsSequence}
+use Rattle.exi_schema.specs.Steps.{simple_at}
+use Rattle.exi_documents.specs.Documents.{element}
+use Rattle.exi_documents.specs.Grammar.{Opened, Inside, opened, around, stands}
+use Rattle.exi_documents.specs.Trees.{Event as TreeEvent, Value as TreeValue, Start, EndElement}
+use Rattle.exi_values.specs.Meaning.{texts_in, value_of, IsLent}
+use Rattle.exi_events.specs.declared.sequence.ThreeChildren.{ThreeChildren}
+use Rattle.exi_events.specs.declared.sequence.ThreeValues.{ThreeValues}
+use Rattle.exi_events.specs.Reader.{Reading, reading, IsNext, HasTold, TakesValue}
+
+-- a child with a value is taken: its start, its value and its end
+pub record TakesChild (old new : Reading) (name : ℕ) (value : TreeValue) : Type 0 where
+  pub started : Reading
+  pub same_schema : started.schema ≡ old.schema
+  pub same_bits : started.cursor.bits ≡ old.cursor.bits
+  pub start : IsNext old started (Some (Start name))
+  pub told : (events : List TreeEvent) → HasTold old events → HasTold started (Start name ∷ events)
+  pub whole : TakesValue started new value
+
+-- the end of an element is taken
+pub record TakesEnd (old new : Reading) : Type 0 where
+  pub end : IsNext old new (Some EndElement)
+  pub told : (events : List TreeEvent) → HasTold old events → HasTold new (EndElement ∷ events)
+
+-- the children of an element, each with a value, and its end are taken
+abbrev pub TakesSequence : Reading → Reading → List TreeValue → Type 0
+TakesSequence old new [] = TakesEnd old new
+TakesSequence old new (value ∷ values) =
+    (name : ℕ) × (behind : Reading) × (behind.schema ≡ old.schema) × (behind.cursor.bits ≡ old.cursor.bits)
+    × TakesChild old behind name value × TakesSequence behind new values
+
+-- three values that are read, and that each is lent from these bits
+abbrev pub values_of : ThreeValues → List TreeValue
+values_of three = value_of three.first ∷ value_of three.second ∷ value_of three.third ∷ []
+
+pub record AreLent (bits : List Bool) (three : ThreeValues) : Type 0 where
+  pub first : IsLent bits three.first
+  pub second : IsLent bits three.second
+  pub third : IsLent bits three.third
+
+abbrev pub children_of : ThreeChildren → List SequenceChild
+children_of three = three.first ∷ three.second ∷ three.third ∷ []
+
+-- at a place inside an element, with the texts at these places
+abbrev pub inside_at : PlainSchema → ℕ → Place → List Opened → List Bool → List (ℕ × SpanAt) → Cursor → Reading
+inside_at s name here above bits entries cursor = reading s (stands (Inside (opened name here) above) (texts_in bits entries)) cursor
+
+-- behind an element
+abbrev pub behind_all : PlainSchema → List Opened → List Bool → List (ℕ × SpanAt) → Cursor → Reading
+behind_all s above bits entries cursor = reading s (stands (around above) (texts_in bits entries)) cursor
+
+-- a child with a value is the one thing that is offered at a place
+pub record OffersChild (kinds : List PlainKind) (here next : Place) (child : SequenceChild) : Type 0 where
+  pub kind : ℕ
+  pub offered : offers kinds here ≡ element child.name kind next ∷ []
+  pub simple : simple_at kinds kind ≡ Some child.datatype
+
+-- the innermost element is a sequence of three children, of which nothing is taken
+pub record HoldsThree (s : PlainSchema) (elements : List Opened) (three : ThreeChildren) : Type 0 where
+  pub top : Opened
+  pub above : List Opened
+  pub elements_are : elements ≡ top ∷ above
+  pub sequence : IsSequence s.kinds top.place (children_of three)

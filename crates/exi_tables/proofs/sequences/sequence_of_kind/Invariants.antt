@@ -1,0 +1,6 @@
+use Rattle.exi_schema.specs.Told.{schema_of}
+use Rattle.exi_tables.proofs.Sequenced.{LeadsTo}
+use Rattle.exi_tables.proofs.sequences.sequence_of_kind.Given as goal
+
+abbrev pub invariant-loop : goal.invariant-loop
+invariant-loop l = LeadsTo (schema_of l.schema).kinds (record { kind = l.kind; particle = 0; copies = 0; attributes = 0 }) l.children.items l.place

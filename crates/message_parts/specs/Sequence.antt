@@ -1,0 +1,31 @@
+-- Own: an element of three values, which are read at once.
+use Rattle.std.specs.Prelude.{◌≡◌, List, Some, true}
+use Rattle.exi_schema.specs.declared.tables.Datatype.{Datatype}
+use Rattle.exi_schema.specs.Plain.{PlainKind, PlainParticle}
+use Rattle.exi_schema.specs.Steps.{simple_at}
+use Rattle.exi_documents.specs.Trees.{Event, Value}
+use Rattle.exi_values.specs.Meaning.{value_of}
+use Rattle.exi_events.specs.declared.sequence.ThreeValues.{ThreeValues}
+use Rattle.message_parts.specs.Contents.{Of, told_one}
+use Rattle.message_parts.specs.Particles.{name_at, kind_at, is_once_at}
+use Rattle.message_parts.specs.Values.{IsRead}
+
+-- three values of these datatypes, each of which has to be there, and nothing else
+pub record HoldsThree (ks : List PlainKind) (declared : List PlainParticle) (first second third : Datatype) : Type 0 where
+  pub once : (is_once_at declared 0 ≡ true) × (is_once_at declared 1 ≡ true) × (is_once_at declared 2 ≡ true)
+  pub first_is : simple_at ks (kind_at declared 0) ≡ Some first
+  pub second_is : simple_at ks (kind_at declared 1) ≡ Some second
+  pub third_is : simple_at ks (kind_at declared 2) ≡ Some third
+
+-- three values that are read are of these datatypes
+abbrev pub AreRead : Datatype → Datatype → Datatype → ThreeValues → Type 0
+AreRead first second third three =
+    IsRead first (value_of three.first) × IsRead second (value_of three.second) × IsRead third (value_of three.third)
+
+-- their events, the newest first, behind those told before
+abbrev pub told_three : List PlainParticle → Value → Value → Value → List Event → List Event
+told_three declared first second third told =
+    told_one (name_at declared 2) (Of third) (told_one (name_at declared 1) (Of second) (told_one (name_at declared 0) (Of first) told))
+
+abbrev pub told_values : List PlainParticle → ThreeValues → List Event → List Event
+told_values declared three told = told_three declared (value_of three.first) (value_of three.second) (value_of three.third) told
