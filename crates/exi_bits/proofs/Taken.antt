@@ -12,7 +12,7 @@ pub took : (Spells : List Bool → Type 0) (bits : List Bool) (place n : ℕ) �
 took Spells bits place n item =
     (item.0, item.1, record { same = refl; moved = ap (λ (k : ℕ). place + k) (sym item.2.long); there = item.2.there })
 
-integer_of : (sign : Bool) (magnitude : ℕ) (bits : List Bool) → SpellsUnsigned magnitude bits → SpellsInteger (cond sign (negsuc magnitude) (pos magnitude)) (sign ∷ bits)
+pub integer_of : (sign : Bool) (magnitude : ℕ) (bits : List Bool) → SpellsUnsigned magnitude bits → SpellsInteger (cond sign (negsuc magnitude) (pos magnitude)) (sign ∷ bits)
 integer_of true magnitude bits s = (refl, s)
 integer_of false magnitude bits s = (refl, s)
 

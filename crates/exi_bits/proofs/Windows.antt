@@ -128,6 +128,13 @@ shifted_part bits bit read value part more p range fits there =
     subst (λ (v : ℕ). ReadParts bits bit (read + part) (v + more)) (sym (shl_whole value read part 32 p.range fits))
     (one_part_read bits bit read value part more p range there)
 
+-- two parts
+pub both_parts : (bits : List Bool) (bit n first rest high low : ℕ) → first + rest ≡ n → n ≤ 32 → high < 2 ^ first → drop bit bits ≡ number_bits first high ++ drop (bit + first) bits →
+    low < 2 ^ rest → drop (bit + first) bits ≡ number_bits rest low ++ drop (bit + first + rest) bits → ReadParts bits bit n (high * 2 ^ rest % 2 ^ 32 + low)
+both_parts bits bit n first rest high low whole fits high_range high_there low_range low_there =
+    subst (λ (k : ℕ). ReadParts bits bit k (high * 2 ^ rest % 2 ^ 32 + low)) whole
+    (shifted_part bits bit first high rest low (record { range = high_range; there = high_there }) low_range (let e : first + rest ≤ 32 = omega (arith, whole, fits) in e) low_there)
+
 -- ---- an octet
 
 pub whole_there : (bytes : List ℕ) (bit : ℕ) → bit % 8 ≡ 0 → bit + 8 ≤ 8 * length bytes → drop bit (bits_of bytes) ≡ number_bits 8 (get_or bytes (bit / 8) 0) ++ drop (bit + 8) (bits_of bytes)

@@ -1,12 +1,13 @@
 //! A place in a payload, from which items are taken.
 
-ghost use Rattle.std.specs.Prelude.{◌≡◌, ℕ, ◌+◌, ◌*◌, ◌≤◌, ◌/◌, ◌<◌, true, false, length, drop, pos, negsuc, if◌then◌else◌, IfOk, IfErr, OnErr};
+ghost use Rattle.std.specs.Prelude.{◌≡◌, ℕ, ◌+◌, ◌*◌, ◌≤◌, ◌/◌, ◌<◌, true, false, length, drop, pos, negsuc, if◌then◌else◌, IfOk, IfErr, IfSome, OnErr};
 ghost use Rattle.exi_spec.specs.Bits.{bits_of};
 ghost use Rattle.exi_spec.specs.Items.{SpellsBool, SpellsNumber, SpellsUnsigned, SpellsInteger, SpellsBytes, SpellsChars, RefusesBits, RefusesUnsigned, RefusesInteger, RefusesChars};
 ghost use Rattle.exi_bits.specs.Lent.{items_of, IsSpan};
 
 use crate::octets;
 use crate::span::BitSpan;
+use crate::window::BitWindow;
 use exi_spec::{BitCause, BitFault};
 use std::marker::Model;
 
@@ -58,6 +59,23 @@ impl<'a> BitCursor<'a> {
         ensures room { length self.now.bits ≤ 524288 }
     {
         self.place
+    }
+
+    /// The next bits, to take small items from; `None` where the payload has less than eight bytes, or at its end.
+    #[inline(always)]
+    pub fn window(&self) -> Option<BitWindow<'a>>
+        ensures { IfSome result (λ window. window ≡ self.now) }
+    {
+        BitWindow::at(self.payload, self.place)
+    }
+
+    /// Goes on behind what was taken from a window of the same bits.
+    #[inline(always)]
+    pub fn pass(&mut self, window: BitWindow<'a>)
+        requires { window.bits ≡ self.old.bits }
+        ensures { self.new ≡ window.entry }
+    {
+        self.place = window.place();
     }
 
     /// Takes a Boolean (7.1.2).
@@ -198,7 +216,7 @@ impl<'a> BitCursor<'a> {
 }
 
 /// The number of a sign bit and a magnitude: v, or -v - 1 (7.1.5).
-fn signed(negative: bool, magnitude: u64) -> i128
+pub(crate) fn signed(negative: bool, magnitude: u64) -> i128
     ensures { result ≡ (if negative then negsuc magnitude else pos magnitude) }
 {
     if negative {

@@ -10,6 +10,7 @@ mod octets;
 mod pen;
 mod room;
 mod span;
+mod window;
 
 pub use contents::Contents;
 pub use cursor::BitCursor;
@@ -18,3 +19,4 @@ pub use lengths::{integer_bits, unsigned_bits};
 pub use pen::{BitPen, Full};
 pub use room::{begun_bytes, chars_bits};
 pub use span::{BitSpan, SpanAt};
+pub use window::BitWindow;

@@ -48,9 +48,29 @@ pub fn number_at(payload: &[u8], bit: u32, n: u32) -> u32
 {
     if n > 0 && bit % 8 + n <= 8 {
         part_at(payload, bit, n)
+    } else if n > 0 && bit % 8 + n <= 16 {
+        pair_number_at(payload, bit, n)
     } else {
         spread_number_at(payload, bit, n)
     }
+}
+
+/// The number that n bits of two bytes spell.
+#[inline(always)]
+fn pair_number_at(payload: &[u8], bit: u32, n: u32) -> u32
+    requires small { n ≤ 32 }
+    requires both { 8 < bit % 8 + n }
+    requires two { bit % 8 + n ≤ 16 }
+    requires room { length payload.now ≤ 65536 }
+    requires within { bit + n ≤ 8 * length payload.now }
+    ensures range { result < 2 ^ n }
+    ensures there { drop bit (bits_of payload.now) ≡ number_bits n result ++ drop (bit + n) (bits_of payload.now) }
+{
+    let first = 8 - bit % 8;
+    let rest = n - first;
+    let high = part_at(payload, bit, first);
+    let low = part_at(payload, bit + first, rest);
+    (high << rest) + low
 }
 
 /// The number that n bits of several bytes spell, byte by byte.
@@ -110,8 +130,16 @@ pub fn unsigned_at(payload: &[u8], bit: u32) -> Result<(u64, u32), BitCause>
         (λ found. ItemAt (SpellsOctets 10 found.0) (bits_of payload.now) bit found.1)
         (λ cause. RefusesOctets 10 (drop bit (bits_of payload.now)) cause) }
 {
-    match octet_at(payload, bit) {
-        Some(octet) if octet < 128 => Ok((u64::from(octet), 8)),
+    let Some(first) = octet_at(payload, bit) else {
+        return Err(BitCause::ShortInput);
+    };
+    if first < 128 {
+        return Ok((u64::from(first), 8));
+    }
+    match octet_at(payload, bit + 8) {
+        Some(second) if second < 128 => {
+            Ok((u64::from(first - 128) + 128 * u64::from(second), 16))
+        }
         _ => octets_at(payload, bit, 10),
     }
 }

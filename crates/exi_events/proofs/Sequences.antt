@@ -1,8 +1,7 @@
 -- The children of a sequence, one behind the other, and the end of their element.
 use Rattle.std.proofs.Common.{◌≡◌, ℕ, ◌≤◌, ◌<◌, eqb, Bool, true, false, not, ◌&&◌, List, [], ◌∷◌, length, get_or, Some, refl, sym, ap, subst, ◌∙◌, inl, inr, arith}
 use Rattle.std.proofs.lemmas.Bool.Decides.{eqb_tells}
-use Rattle.exi_spec.specs.Bits.{bits_of}
-use Rattle.exi_bits.specs.Reading.{Cursor, Takes, ahead}
+use Rattle.exi_bits.specs.Reading.{Cursor, Takes}
 use Rattle.exi_bits.specs.declared.span.SpanAt.{SpanAt}
 use Rattle.exi_schema.specs.declared.places.Place.{Place}
 use Rattle.exi_schema.specs.declared.places.SequenceChild.{SequenceChild}
@@ -12,10 +11,8 @@ use Rattle.exi_schema.specs.Plain.{PlainKind}
 use Rattle.exi_schema.specs.Schemas.{PlainSchema}
 use Rattle.exi_schema.specs.Sequences.{IsSequence, TellsSequence}
 use Rattle.exi_schema.proofs.Conditions.{and-l, and-r}
-use Rattle.exi_documents.specs.declared.refusal.Refusal.{Refusal}
 use Rattle.exi_documents.specs.Documents.{SpellsStep, element, first}
 use Rattle.exi_documents.specs.Grammar.{Opened, Inside, opened, around, stands}
-use Rattle.exi_documents.specs.Refusals.{RefusesStep, IsRefused}
 use Rattle.exi_documents.specs.Trees.{Event as TreeEvent, Value as TreeValue, Start, Content, EndElement}
 use Rattle.exi_documents.specs.Values.{Entries, SpellsValue}
 use Rattle.exi_values.specs.declared.Event.TheVariants as event
@@ -25,27 +22,17 @@ use Rattle.exi_events.specs.declared.open.OpenElement.{OpenElement}
 use Rattle.exi_events.specs.declared.reader.Phase.{Phase}
 use Rattle.exi_events.specs.declared.reader.Phase.TheVariants as phase
 use Rattle.exi_events.specs.declared.sequence.ThreeChildren.{ThreeChildren}
-use Rattle.exi_events.specs.Inside.{AreOpen, HasTop, RefusesWhole}
+use Rattle.exi_events.specs.Inside.{AreOpen, HasTop}
 use Rattle.exi_events.specs.Open.{opened_of}
 use Rattle.exi_events.specs.Reader.{state_of, IsNext, HasTold, Reading, reading}
 use Rattle.exi_events.specs.Sequence.{TakesChild, TakesEnd, TakesSequence, OffersChild, HoldsThree, inside_at, behind_all}
-use Rattle.exi_events.proofs.Innermost.{step_refused}
-use Rattle.exi_events.proofs.Told.{told_more, told_refused}
-use Rattle.exi_events.proofs.Valued.{whole_taken, whole_refused}
+use Rattle.exi_events.proofs.Told.{told_more}
+use Rattle.exi_events.proofs.Valued.{whole_taken}
 use Rattle.exi_events.proofs.Whole.{behind_value, whole_took}
 
 abbrev rest_of : List Opened → List Opened
 rest_of [] = []
 rest_of (x ∷ xs) = xs
-
--- the code of a place of an element is refused
-pub place_refused : (s : PlainSchema) (name : ℕ) (here : Place) (above : List Opened) (entries : Entries) (old : Cursor) (r : Refusal) →
-    RefusesStep s.kinds here (ahead old) r.cause → r.bit ≡ old.place → (payload : List ℕ) (events : List TreeEvent) → bits_of payload ≡ old.bits →
-    HasTold (reading s (stands (Inside (opened name here) above) entries) old) events → IsRefused s payload r.cause r.bit
-place_refused s name here above entries old r refused at payload events bits_are has =
-    told_refused s (stands (Inside (opened name here) above) entries) old r
-    (step_refused s (opened name here ∷ above) (record { name = name; place = here }) entries (ahead old) r.cause r.bit old.place (above, refl) refused at)
-    payload events bits_are has
 
 -- the end of an element is taken
 pub end_took : (s : PlainSchema) (name : ℕ) (here : Place) (above : List Opened) (entries : Entries) (old new : Cursor) → Takes (SpellsStep s.kinds here End) old new →
@@ -91,13 +78,6 @@ module _ (s : PlainSchema) (name : ℕ) (here next : Place) (above : List Opened
             (simple_step (first is.kind)) (simple_step (behind_value is.kind)) (behind_value is.kind) refl content value refl refl end (λ t a same. ap rest_of same));
       }
 
-  -- an item of the child behind its start is refused
-  pub child_refused : (bits : List Bool) (before : List (ℕ × SpanAt)) (old one : Cursor) (r : Refusal) → Takes (SpellsStep s.kinds here (element child.name is.kind next)) old one →
-      RefusesWhole s inner (texts_in bits before) one r → (payload : List ℕ) (events : List TreeEvent) → bits_of payload ≡ old.bits →
-      HasTold (inside_at s name here above bits before old) events → IsRefused s payload r.cause r.bit
-  child_refused bits before old one r start refused payload events bits_are has =
-      whole_refused s inner (texts_in bits before) one r refused payload (Start child.name ∷ events) (bits_are ∙ sym start.2.same) (told_started (texts_in bits before) old one start events has)
-
 -- ---- several children
 
 pub first_offer : (kinds : List PlainKind) (here : Place) (child : SequenceChild) (rest : List SequenceChild) (is : IsSequence kinds here (child ∷ rest)) → OffersChild kinds here is.1 child
@@ -115,16 +95,6 @@ told_child name v events = EndElement ∷ Content v ∷ Start name ∷ events
 
 pub child_told : (old new : Reading) (name : ℕ) (v : TreeValue) → TakesChild old new name v → (events : List TreeEvent) → HasTold old events → HasTold new (told_child name v events)
 child_told old new name v took events has = took.whole.told_end (Content v ∷ Start name ∷ events) (took.whole.told (Start name ∷ events) (took.told events has))
-
--- what is told goes on behind a child
-abbrev pub Told : Reading → Type 0
-Told r = (events : List TreeEvent) × HasTold r events
-
-pub child_more : (s : PlainSchema) (name : ℕ) (here next : Place) (above : List Opened) (bits moved : List Bool) (before after : List (ℕ × SpanAt)) (old new : Cursor) (child : ℕ) (v : TreeValue) → moved ≡ bits →
-    TakesChild (inside_at s name here above bits before old) (inside_at s name next above bits after new) child v → Told (inside_at s name here above bits before old) → Told (inside_at s name next above moved after new)
-child_more s name here next above bits moved before after old new child v same took told =
-    let P : List Bool → Type 0 = λ x. Told (inside_at s name next above x after new) in
-    subst P (sym same) (told_child child v told.0, child_told (inside_at s name here above bits before old) (inside_at s name next above bits after new) child v took told.0 told.1)
 
 pub same_lent : (a b : List Bool) (v : Value) → a ≡ b → IsLent a v → IsLent b v
 same_lent a b v same lent = subst (λ x. IsLent x v) same lent
@@ -161,11 +131,6 @@ tells_three kinds here children a b c is (inr sequence) = subst (λ (l : List Se
 module _ (s : PlainSchema) (p : Phase) (elements : List Opened) (three : ThreeChildren) (holds : HoldsThree s elements three) (bits : List Bool) (before : List (ℕ × SpanAt)) (old : Cursor) (is : p ≡ phase.Inside) where
   abbrev Ahead : Phase → List Opened → Reading
   Ahead q es = reading s (state_of q es bits before) old
-
-  pub told_ahead : (events : List TreeEvent) → HasTold (Ahead p elements) events → HasTold (inside_at s holds.top.name holds.top.place holds.above bits before old) events
-  told_ahead events has =
-      let P : Phase → List Opened → Type 0 = λ q es. HasTold (Ahead q es) events in
-      subst (λ es. P phase.Inside es) holds.elements_are (subst (λ q. P q elements) is has)
 
   pub three_taken : (popped : List Opened) (moved : List Bool) (after : List (ℕ × SpanAt)) (new : Cursor) (values : List TreeValue) → popped ≡ holds.above → moved ≡ bits →
       TakesSequence (inside_at s holds.top.name holds.top.place holds.above bits before old) (behind_all s holds.above bits after new) values →

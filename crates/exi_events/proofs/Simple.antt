@@ -1,15 +1,14 @@
 -- The one step at a place of a simple kind.
-use Rattle.std.proofs.Common.{◌≡◌, ℕ, zero, suc, ◌≤◌, ◌^◌, Bool, true, false, if◌then◌else◌, List, [], ◌∷◌, Option, Some, None, refl, sym, ap, subst, ◌∙◌, inl, arith}
-use Rattle.std.specs.Prelude.{slice_get, ◌==◌, IsSome, length}
+use Rattle.std.proofs.Common.{◌≡◌, ℕ, zero, suc, ◌≤◌, ◌^◌, Bool, List, [], ◌∷◌, Option, Some, None, refl, sym, ap, subst, ◌∙◌, inl, arith}
+use Rattle.std.specs.Prelude.{slice_get, length}
 use Rattle.exi_spec.specs.Items.{SpellsNumber, RefusesBits}
 use Rattle.exi_bits.specs.Reading.{Cursor, Takes, ahead}
 use Rattle.exi_schema.specs.declared.places.Place.{Place}
 use Rattle.exi_schema.specs.declared.places.Step.{Step}
-use Rattle.exi_schema.specs.declared.places.Step.TheVariants.{Characters, End}
 use Rattle.exi_schema.specs.declared.tables.Datatype.{Datatype}
 use Rattle.exi_schema.specs.Plain.{PlainKind, valued, containing}
-use Rattle.exi_schema.specs.Offers.{offers, offers_of, simple_step, IsWidth, IsPlaceOf}
-use Rattle.exi_schema.specs.Steps.{IsStep, simple_at, datatype_of}
+use Rattle.exi_schema.specs.Offers.{offers, offers_of, simple_step, IsWidth}
+use Rattle.exi_schema.specs.Steps.{simple_at, datatype_of}
 use Rattle.exi_documents.specs.declared.refusal.RefusalCause.{RefusalCause}
 use Rattle.exi_documents.specs.Documents.{SpellsStep}
 use Rattle.exi_documents.specs.Refusals.{RefusesStep, code_cause}
@@ -58,16 +57,3 @@ code_refused kinds here step old new code why is more took cause =
 
 pub bits_refused : (kinds : List PlainKind) (here : Place) (step : Step) (bits : List Bool) (why : RefusalCause) → offers kinds here ≡ step ∷ [] → RefusesItem (RefusesBits 1) bits why → RefusesStep kinds here bits why
 bits_refused kinds here step bits why is short = record { width = 1; is_width = width_of kinds here step is; refused = inl short }
-
-place_of : (o : Option PlainKind) (d : Datatype) (kind : ℕ) → datatype_of o ≡ Some d → IsPlaceOf (record { kind = kind; particle = 1; copies = 0; attributes = 0 }) o
-place_of None d kind is = absurd cc
-place_of (Some (valued e)) d kind is = (refl, omega (arith), refl)
-place_of (Some (containing attributes particles)) d kind is = absurd cc
-
-step_by : (kinds : List PlainKind) (names : ℕ) (here : Place) (d : Datatype) (b : Bool) → simple_at kinds here.kind ≡ Some d →
-    IsStep kinds names here.kind (if b then Characters (record { kind = here.kind; particle = 1; copies = 0; attributes = 0 }) else End)
-step_by kinds names here d true is = (subst (λ (o : Option Datatype). IsSome o) (sym is) refl, place_of (slice_get kinds here.kind) d here.kind is)
-step_by kinds names here d false is = tt
-
-pub step_of_schema : (kinds : List PlainKind) (names : ℕ) (here : Place) (d : Datatype) (step : Step) → simple_at kinds here.kind ≡ Some d → step ≡ simple_step here → IsStep kinds names here.kind step
-step_of_schema kinds names here d step is step_is = subst (λ (s : Step). IsStep kinds names here.kind s) (sym step_is) (step_by kinds names here d (here.particle == 0) is)

@@ -12,7 +12,7 @@ ghost use Rattle.exi_values.specs.Meaning.{texts_in, AreTexts, value_of, IsLent,
 ghost use Rattle.exi_events.specs.Inside.{AreOpen, HasTop, SpellsInside, SpellsValueOf, RefusesValueOf, TakesWhole, RefusesWhole};
 
 use crate::open::{OpenElement, OpenElements};
-use crate::step::{take_simple_step, take_step};
+use crate::step::{take_only, take_step};
 use exi_documents::Refusal;
 use exi_reading::PayloadReader;
 use exi_schema::{Datatype, Place, Places, Step};
@@ -116,15 +116,9 @@ pub(crate) fn take_whole<'a>(
     ensures refused { (s : PlainSchema) → simple_at s.kinds top.place.kind ≡ Some datatype
         → IfErr result (RefusesWhole s elements.old (texts_in reader.old.bits table.old.entries) reader.old) }
 {
-    take_simple_step(reader, top.place)?;
+    take_only(reader)?;
     let value = reader.take_value(datatype, top.name, table)?;
-    let behind = Place {
-        kind: top.place.kind,
-        particle: 1,
-        copies: 0,
-        attributes: 0,
-    };
-    take_simple_step(reader, behind)?;
+    take_only(reader)?;
     elements.pop();
     Ok(value)
 }

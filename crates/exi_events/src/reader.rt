@@ -171,40 +171,28 @@ impl<'a, 'p, P: Places> EventReader<'a, 'p, P> {
         }
     }
 
-    /// The values of the innermost element and its end, where that is a sequence of three values and nothing of it is taken: what ten
-    /// calls of `next` tell. Anywhere else nothing is taken, and `None` is answered.
+    /// The values of the innermost element and its end, where that is a sequence of three values, nothing of it is taken, and they have
+    /// few bits: what ten calls of `next` tell. Anywhere else, and where one of them is refused, nothing is taken, and `None` is answered.
     #[inline(always)]
-    pub fn three_values(&mut self) -> Result<Option<ThreeValues<'a>>, Refusal>
+    pub fn three_values(&mut self) -> Option<ThreeValues<'a>>
         requires ready { IsReady P.schema self.old }
         ensures ready { IsReady P.schema self.new }
         ensures same_reference { self.new.table.ghost_name ≡ self.old.table.ghost_name }
         ensures places { self.new.places.now ≡ self.old.places.now }
         ensures payload { self.new.reader.bits ≡ self.old.reader.bits }
-        ensures lent { IfOk result (λ o. IfSome o (AreLent self.old.reader.bits)) }
-        ensures again { (r : _) → self.old.refused ≡ Some r → (result ≡ Err r) × (self.new.refused ≡ Some r) }
-        ensures open_still { IfOk result (λ _. (self.old.refused ≡ None) × (self.new.refused ≡ None)) }
-        ensures kept { self.old.refused ≡ None → IfErr result (λ r. self.new.refused ≡ Some r) }
-        ensures none { IfOk result (λ o. o ≡ None → reading_of P.schema self.new ≡ reading_of P.schema self.old) }
-        ensures values { IfOk result (λ o. IfSome o (λ three. TakesSequence (reading_of P.schema self.old) (reading_of P.schema self.new) (values_of three))) }
+        ensures refusals { self.new.refused ≡ self.old.refused }
+        ensures open_still { IfSome result (λ _. self.old.refused ≡ None) }
+        ensures lent { IfSome result (AreLent self.old.reader.bits) }
+        ensures none { result ≡ None → self.new ≡ self.old }
+        ensures values { IfSome result (λ three. TakesSequence (reading_of P.schema self.old) (reading_of P.schema self.new) (values_of three)) }
         ensures told { (events : List TreeEvent) → HasTold (reading_of P.schema self.old) events
-            → IfOk result (λ _. (more : List TreeEvent) × HasTold (reading_of P.schema self.new) more) }
-        ensures refusal { (payload : List ℕ) (events : List TreeEvent) → bits_of payload ≡ self.old.reader.bits → self.old.refused ≡ None
-            → HasTold (reading_of P.schema self.old) events
-            → IfErr result (λ r. IsRefused (P.schema self.old.places.now) payload r.cause r.bit) }
+            → (more : List TreeEvent) × HasTold (reading_of P.schema self.new) more }
     {
-        if let Some(refusal) = self.refused {
-            return Err(refusal);
+        if self.refused.is_some() {
+            return None;
         }
-        let Some(children) = self.three_children() else {
-            return Ok(None);
-        };
-        match self.take_sequence(children) {
-            Ok(values) => Ok(Some(values)),
-            Err(refusal) => {
-                self.refused = Some(refusal);
-                Err(refusal)
-            }
-        }
+        let children = self.three_children()?;
+        self.take_sequence(children)
     }
 
     /// Ends the reading, wherever it stands, and gives the table back.
@@ -296,9 +284,9 @@ impl<'a, 'p, P: Places> EventReader<'a, 'p, P> {
         }
     }
 
-    /// The values of the innermost element, which is a sequence of these children, and its end, where none was refused.
+    /// The values of the innermost element, which is a sequence of these children, and its end, where they have few bits and none is refused.
     #[inline(always)]
-    fn take_sequence(&mut self, children: ThreeChildren) -> Result<ThreeValues<'a>, Refusal>
+    fn take_sequence(&mut self, children: ThreeChildren) -> Option<ThreeValues<'a>>
         requires ready { IsReady P.schema self.old }
         requires inside { self.old.phase ≡ phase.Inside }
         requires sequence { HoldsThree (P.schema self.old.places.now) self.old.elements children }
@@ -307,17 +295,15 @@ impl<'a, 'p, P: Places> EventReader<'a, 'p, P> {
         ensures places { self.new.places.now ≡ self.old.places.now }
         ensures payload { self.new.reader.bits ≡ self.old.reader.bits }
         ensures refusals { self.new.refused ≡ self.old.refused }
-        ensures lent { IfOk result (AreLent self.old.reader.bits) }
-        ensures values { IfOk result (λ three. TakesSequence (reading_of P.schema self.old) (reading_of P.schema self.new) (values_of three)) }
+        ensures lent { IfSome result (AreLent self.old.reader.bits) }
+        ensures none { result ≡ None → self.new ≡ self.old }
+        ensures values { IfSome result (λ three. TakesSequence (reading_of P.schema self.old) (reading_of P.schema self.new) (values_of three)) }
         ensures told { (events : List TreeEvent) → HasTold (reading_of P.schema self.old) events
-            → IfOk result (λ _. (more : List TreeEvent) × HasTold (reading_of P.schema self.new) more) }
-        ensures refusal { (payload : List ℕ) (events : List TreeEvent) → bits_of payload ≡ self.old.reader.bits
-            → HasTold (reading_of P.schema self.old) events
-            → IfErr result (λ r. IsRefused (P.schema self.old.places.now) payload r.cause r.bit) }
+            → (more : List TreeEvent) × HasTold (reading_of P.schema self.new) more }
     {
-        let values = take_three(&mut self.reader, self.table, children)?;
+        let values = take_three(&mut self.reader, children)?;
         self.elements.pop();
-        Ok(values)
+        Some(values)
     }
 
     /// The value of the next event, where none was refused.

@@ -1,28 +1,22 @@
-//! The values of a sequence, and its end, taken at once.
+//! The values of a sequence, and its end, taken at once where they have few bits.
 
-ghost use Rattle.std.specs.Prelude.{◌≡◌, ℕ, true, [], ◌∷◌, List, IfOk, IfErr, OnOk};
-ghost use Rattle.exi_spec.specs.Bits.{bits_of};
-ghost use Rattle.exi_bits.specs.Reading.{Takes, ahead};
+ghost use Rattle.std.specs.Prelude.{◌≡◌, ℕ, [], ◌∷◌, List, None, IfSome, OnSome};
+ghost use Rattle.exi_bits.specs.Reading.{Takes};
+ghost use Rattle.exi_bits.specs.declared.span.SpanAt.{SpanAt};
 ghost use Rattle.exi_schema.specs.declared.places.Place.{Place as SchemaPlace};
 ghost use Rattle.exi_schema.specs.declared.places.Step.{Step as SchemaStep};
 ghost use Rattle.exi_schema.specs.Offers.{offers};
 ghost use Rattle.exi_schema.specs.Plain.{PlainKind};
-ghost use Rattle.exi_schema.specs.Schemas.{PlainSchema, is_datatype};
+ghost use Rattle.exi_schema.specs.Schemas.{PlainSchema};
 ghost use Rattle.exi_schema.specs.Sequences.{IsSequence};
 ghost use Rattle.exi_documents.specs.Documents.{SpellsStep};
 ghost use Rattle.exi_documents.specs.Grammar.{Opened};
-ghost use Rattle.exi_documents.specs.Refusals.{RefusesStep, IsRefused};
-ghost use Rattle.exi_documents.specs.Trees.{Event as TreeEvent};
-ghost use Rattle.exi_documents.specs.Values.{most_entries};
-ghost use Rattle.exi_values.specs.Meaning.{AreTexts, IsLent, value_of};
-ghost use Rattle.exi_events.specs.Reader.{HasTold};
+ghost use Rattle.exi_values.specs.Meaning.{IsLent, value_of};
 ghost use Rattle.exi_events.specs.Sequence.{TakesChild, TakesSequence, OffersChild, AreLent, values_of, children_of, inside_at, behind_all};
 
-use crate::step::take_only;
-use exi_documents::Refusal;
-use exi_reading::PayloadReader;
+use exi_reading::{BitWindow, PayloadReader, short_value};
 use exi_schema::SequenceChild;
-use exi_values::{Table, Value};
+use exi_values::Value;
 
 /// The values of a sequence of three children.
 #[derive(Drop)]
@@ -43,64 +37,65 @@ pub(crate) struct ThreeChildren {
     pub(crate) third: SequenceChild,
 }
 
-/// Takes the next child, which is the one thing that is offered: its start, its value and its end.
+/// Takes the one event code at a place where one thing alone is offered, where the window holds it.
 #[inline(always)]
-fn take_child<'a>(
-    reader: &mut PayloadReader<'a>,
-    table: &mut Table,
-    child: SequenceChild,
-) -> Result<Value<'a>, Refusal>
-    requires datatype { is_datatype child.datatype ≡ true }
-    requires cap { table.old.cap ≡ most_entries }
-    requires texts { AreTexts reader.old.bits table.old.entries }
-    ensures child { (s : PlainSchema) (name : ℕ) (here next : SchemaPlace) (above : List Opened) → OffersChild s.kinds here next child
-        → IfOk result (λ v. TakesChild (inside_at s name here above reader.old.bits table.old.entries reader.old) (inside_at s name next above reader.old.bits table.new.entries reader.new) child.name (value_of v)) }
-    ensures lent { IfOk result (λ v. IsLent reader.old.bits v) }
-    ensures same { reader.new.bits ≡ reader.old.bits }
-    ensures texts { AreTexts reader.old.bits table.new.entries }
-    ensures cap { table.new.cap ≡ most_entries }
-    ensures refused { (s : PlainSchema) (name : ℕ) (here next : SchemaPlace) (above : List Opened) → OffersChild s.kinds here next child
-        → (payload : List ℕ) (events : List TreeEvent) → bits_of payload ≡ reader.old.bits
-        → HasTold (inside_at s name here above reader.old.bits table.old.entries reader.old) events
-        → IfErr result (λ r. IsRefused s payload r.cause r.bit) }
+fn short_only(window: &mut BitWindow) -> Option<()>
+    ensures taken { (kinds : List PlainKind) (here : SchemaPlace) (step : SchemaStep) → offers kinds here ≡ step ∷ [] → OnSome result (Takes (SpellsStep kinds here step) window.old window.new) }
+    ensures same { window.new.bits ≡ window.old.bits }
 {
-    take_only(reader)?;
-    take_only(reader)?;
-    let value = reader.take_value(child.datatype, child.name, table)?;
-    take_only(reader)?;
-    Ok(value)
+    let code = window.take_bits(1)?;
+    if code == 0 { Some(()) } else { None }
 }
 
-/// Takes the children of a sequence, and the end of their element.
+/// Takes the next child, which is the one thing that is offered: its start, its value and its end, where the window holds them and none is
+/// refused.
 #[inline(always)]
-pub(crate) fn take_three<'a>(
-    reader: &mut PayloadReader<'a>,
-    table: &mut Table,
-    children: ThreeChildren,
-) -> Result<ThreeValues<'a>, Refusal>
-    requires first { is_datatype children.first.datatype ≡ true }
-    requires second { is_datatype children.second.datatype ≡ true }
-    requires third { is_datatype children.third.datatype ≡ true }
-    requires cap { table.old.cap ≡ most_entries }
-    requires texts { AreTexts reader.old.bits table.old.entries }
-    ensures values { (s : PlainSchema) (name : ℕ) (here : SchemaPlace) (above : List Opened) → IsSequence s.kinds here (children_of children)
-        → IfOk result (λ three. TakesSequence (inside_at s name here above reader.old.bits table.old.entries reader.old) (behind_all s above reader.old.bits table.new.entries reader.new) (values_of three)) }
-    ensures lent { IfOk result (AreLent reader.old.bits) }
-    ensures same { reader.new.bits ≡ reader.old.bits }
-    ensures texts { AreTexts reader.old.bits table.new.entries }
-    ensures cap { table.new.cap ≡ most_entries }
-    ensures refused { (s : PlainSchema) (name : ℕ) (here : SchemaPlace) (above : List Opened) → IsSequence s.kinds here (children_of children)
-        → (payload : List ℕ) (events : List TreeEvent) → bits_of payload ≡ reader.old.bits
-        → HasTold (inside_at s name here above reader.old.bits table.old.entries reader.old) events
-        → IfErr result (λ r. IsRefused s payload r.cause r.bit) }
+fn short_child<'a>(window: &mut BitWindow, child: SequenceChild) -> Option<Value<'a>>
+    ensures child { (s : PlainSchema) (name : ℕ) (here next : SchemaPlace) (above : List Opened) (entries : List (ℕ × SpanAt)) → OffersChild s.kinds here next child
+        → IfSome result (λ v. TakesChild (inside_at s name here above window.old.bits entries window.old) (inside_at s name next above window.old.bits entries window.new) child.name (value_of v)) }
+    ensures lent { IfSome result (λ v. IsLent window.old.bits v) }
+    ensures same { window.new.bits ≡ window.old.bits }
 {
-    let first = take_child(reader, table, children.first)?;
-    let second = take_child(reader, table, children.second)?;
-    let third = take_child(reader, table, children.third)?;
-    take_only(reader)?;
-    Ok(ThreeValues {
+    short_only(window)?;
+    short_only(window)?;
+    let value = short_value(window, child.datatype)?;
+    short_only(window)?;
+    Some(value)
+}
+
+/// Takes the children of a sequence and the end of their element, where the window holds all of it and nothing of it is refused.
+#[inline(always)]
+fn short_three<'a>(window: &mut BitWindow, children: ThreeChildren) -> Option<ThreeValues<'a>>
+    ensures values { (s : PlainSchema) (name : ℕ) (here : SchemaPlace) (above : List Opened) (entries : List (ℕ × SpanAt)) → IsSequence s.kinds here (children_of children)
+        → IfSome result (λ three. TakesSequence (inside_at s name here above window.old.bits entries window.old) (behind_all s above window.old.bits entries window.new) (values_of three)) }
+    ensures lent { IfSome result (AreLent window.old.bits) }
+    ensures same { window.new.bits ≡ window.old.bits }
+{
+    let first = short_child(window, children.first)?;
+    let second = short_child(window, children.second)?;
+    let third = short_child(window, children.third)?;
+    short_only(window)?;
+    Some(ThreeValues {
         first,
         second,
         third,
     })
+}
+
+/// Takes the children of a sequence and the end of their element, where they have few bits and none is refused; else nothing.
+#[inline(always)]
+pub(crate) fn take_three<'a>(
+    reader: &mut PayloadReader<'a>,
+    children: ThreeChildren,
+) -> Option<ThreeValues<'a>>
+    ensures values { (s : PlainSchema) (name : ℕ) (here : SchemaPlace) (above : List Opened) (entries : List (ℕ × SpanAt)) → IsSequence s.kinds here (children_of children)
+        → IfSome result (λ three. TakesSequence (inside_at s name here above reader.old.bits entries reader.old) (behind_all s above reader.old.bits entries reader.new) (values_of three)) }
+    ensures lent { IfSome result (AreLent reader.old.bits) }
+    ensures same { reader.new.bits ≡ reader.old.bits }
+    ensures none { result ≡ None → reader.new ≡ reader.old }
+{
+    let mut window = reader.window()?;
+    let values = short_three(&mut window, children)?;
+    reader.pass(window);
+    Some(values)
 }

@@ -6,10 +6,9 @@ ghost use Rattle.exi_bits.specs.Reading.{Takes, ahead};
 ghost use Rattle.exi_schema.specs.declared.places.Place.{Place as SchemaPlace};
 ghost use Rattle.exi_schema.specs.declared.places.Root.TheVariants.{Kind};
 ghost use Rattle.exi_schema.specs.declared.places.Step.{Step as SchemaStep};
-ghost use Rattle.exi_schema.specs.declared.tables.Datatype.{Datatype};
-ghost use Rattle.exi_schema.specs.Offers.{IsPlace, IsWidth, offers, simple_step as step_of_simple};
+ghost use Rattle.exi_schema.specs.Offers.{IsPlace, IsWidth, offers};
 ghost use Rattle.exi_schema.specs.Plain.{PlainKind};
-ghost use Rattle.exi_schema.specs.Steps.{IsStep, IsRoot, IsRootOf, simple_at};
+ghost use Rattle.exi_schema.specs.Steps.{IsStep, IsRoot, IsRootOf};
 ghost use Rattle.exi_documents.specs.Documents.{SpellsStep};
 ghost use Rattle.exi_documents.specs.Refusals.{RefusesStep, step_cause, RefusesFront, RefusesHeader, RefusesNumber};
 ghost use Rattle.exi_documents.specs.declared.refusal.RefusalCause.TheVariants as cause;
@@ -17,7 +16,7 @@ ghost use Rattle.exi_events.specs.Front.{SpellsHeader, SpellsFront};
 
 use exi_documents::{Refusal, RefusalCause};
 use exi_reading::PayloadReader;
-use exi_schema::{MemberStanding, Place, Places, Root, Step, simple_step};
+use exi_schema::{MemberStanding, Place, Places, Root, Step};
 
 /// Takes the event code at a place: what it means, where that may stand there.
 #[tactic(auto, using(crate::proofs::Codes::code_refused, crate::proofs::Codes::none_behind, crate::proofs::Limits::few_code_bits))]
@@ -39,13 +38,16 @@ pub(crate) fn take_step<P: Places>(
     let codes = places.codes(here);
     let offered = u32::from(codes.offered);
     let code = reader.take_number(codes.width)?;
-    if code >= offered {
-        return Err(Refusal {
-            cause: not_offered(code, offered),
-            bit,
-        });
-    }
-    let step = places.advance(here, code as u16);
+    let step = match codes.first {
+        Some(first) if code == 0 => first,
+        _ if code >= offered => {
+            return Err(Refusal {
+                cause: not_offered(code, offered),
+                bit,
+            });
+        }
+        _ => places.advance(here, code as u16),
+    };
     match wrong_with(&step) {
         None => Ok(step),
         Some(cause) => Err(Refusal { cause, bit }),
@@ -70,22 +72,6 @@ pub(crate) fn take_only(reader: &mut PayloadReader) -> Result<(), Refusal>
         });
     }
     Ok(())
-}
-
-/// Takes the one event code at a place of a simple kind: its characters, or the end behind them.
-#[tactic(auto, using(crate::proofs::Simple::offered, crate::proofs::Simple::step_of_schema))]
-#[inline(always)]
-pub(crate) fn take_simple_step(reader: &mut PayloadReader, here: Place) -> Result<Step, Refusal>
-    ensures only { IfOk result (λ step. step ≡ step_of_simple here) }
-    ensures ok { (kinds : List PlainKind) (d : Datatype) → simple_at kinds here.kind ≡ Some d → IfOk result (λ step. Takes (SpellsStep kinds here step) reader.old reader.new) }
-    ensures taken { IfOk result (λ step. step_cause step ≡ None) }
-    ensures of_schema { (kinds : List PlainKind) (names : ℕ) (d : Datatype) → simple_at kinds here.kind ≡ Some d → IfOk result (λ step. IsStep kinds names here.kind step) }
-    ensures refused { (kinds : List PlainKind) (d : Datatype) → simple_at kinds here.kind ≡ Some d → IfErr result (λ r. RefusesStep kinds here (ahead reader.old) r.cause) }
-    ensures at { IfErr result (λ r. r.bit ≡ reader.old.place) }
-    ensures same { reader.new.bits ≡ reader.old.bits }
-{
-    take_only(reader)?;
-    Ok(simple_step(here))
 }
 
 /// What is wrong with a code that is not offered: the first one is the escape.

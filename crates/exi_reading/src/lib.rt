@@ -5,7 +5,10 @@
 
 mod items;
 mod reader;
+mod short;
 mod texts;
 
+pub use exi_bits::BitWindow;
 pub use items::index_width;
 pub use reader::PayloadReader;
+pub use short::short_value;

@@ -1,6 +1,6 @@
 //! A payload, and the next bit of it.
 
-ghost use Rattle.std.specs.Prelude.{◌≡◌, ℕ, ◌+◌, ◌≤◌, true, length, IfOk, IfErr, OnErr};
+ghost use Rattle.std.specs.Prelude.{◌≡◌, ℕ, ◌+◌, ◌≤◌, true, length, IfOk, IfErr, IfSome, OnErr};
 ghost use Rattle.exi_spec.specs.Bits.{bits_of};
 ghost use Rattle.exi_spec.specs.Items.{SpellsNumber, RefusesBits};
 ghost use Rattle.exi_schema.specs.Schemas.{is_datatype};
@@ -8,7 +8,7 @@ ghost use Rattle.exi_documents.specs.Values.{most_entries, SpellsValue, RefusesI
 ghost use Rattle.exi_values.specs.Meaning.{AreTexts, IsLent, texts_in, value_of};
 
 use crate::{items, texts};
-use exi_bits::BitCursor;
+use exi_bits::{BitCursor, BitWindow};
 use exi_documents::{Refusal, RefusalCause};
 use exi_schema::Datatype;
 use exi_values::{Table, Value};
@@ -61,6 +61,23 @@ impl<'a> PayloadReader<'a> {
         ensures { result ≡ length (ahead self.now) }
     {
         8 * self.payload.len() as u32 - self.cursor.place()
+    }
+
+    /// The next bits, to take values of few bits from; `None` where the payload has less than eight bytes, or at its end.
+    #[inline(always)]
+    pub fn window(&self) -> Option<BitWindow<'a>>
+        ensures { IfSome result (λ window. window ≡ self.now) }
+    {
+        self.cursor.window()
+    }
+
+    /// Goes on behind what was taken from a window of the same bits.
+    #[inline(always)]
+    pub fn pass(&mut self, window: BitWindow<'a>)
+        requires { window.bits ≡ self.old.bits }
+        ensures { self.new ≡ window.entry }
+    {
+        self.cursor.pass(window);
     }
 
     /// Takes an n-bit Unsigned Integer (7.1.9), of at most 32 bits.

@@ -1,5 +1,5 @@
 -- Three values that are read at once, and the end of their element.
-use Rattle.std.proofs.Common.{◌≡◌, ℕ, suc, List, [], Bool, Option, Some, None, IfSome, true, refl, sym, subst, ◌∙◌}
+use Rattle.std.proofs.Common.{◌≡◌, ℕ, suc, List, [], Option, Some, None, true, refl, sym, ◌∙◌}
 use Rattle.exi_schema.specs.declared.tables.AttributeOf.{AttributeOf}
 use Rattle.exi_schema.specs.declared.tables.Datatype.{Datatype}
 use Rattle.exi_schema.specs.Plain.{PlainKind, PlainParticle}
@@ -9,7 +9,7 @@ use Rattle.exi_values.specs.declared.Event.TheVariants as read
 use Rattle.exi_values.specs.declared.Value.{Value as ReadValue}
 use Rattle.exi_values.specs.Meaning.{value_of}
 use Rattle.exi_events.specs.Reader.{Reading, reading}
-use Rattle.exi_events.specs.Sequence.{AreLent, TakesChild, TakesEnd, TakesSequence, values_of}
+use Rattle.exi_events.specs.Sequence.{TakesChild, TakesEnd, TakesSequence, values_of}
 use Rattle.exi_events.specs.declared.sequence.ThreeValues.{ThreeValues}
 use Rattle.message_parts.specs.Contents.{Of, told_one}
 use Rattle.message_parts.specs.Particles.{name_at, kind_at, is_once_at}
@@ -64,8 +64,3 @@ three_next ks F declared told first second third three old new h holds same bits
     let back_schema = same ∙ sym (took.5.5.2 ∙ took.5.2 ∙ took.2) in
     let back_bits = bits ∙ sym (took.5.5.3 ∙ took.5.3 ∙ took.3) in
     ((a.0, b.0, c.0), end_next ks F [] declared 3 _ all new c.1 back_schema back_bits open_still none took.5.5.5)
-
--- ---- as they are read
-
-pub lent_in : (bits : List Bool) (o : Option ThreeValues) (three : ThreeValues) → o ≡ Some three → IfSome o (AreLent bits) → AreLent bits three
-lent_in bits o three is lent = subst (λ (p : Option ThreeValues). IfSome p (AreLent bits)) is lent

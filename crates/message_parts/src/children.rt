@@ -208,7 +208,7 @@ pub fn three_values<'a, A: Simple<'a>, B: Simple<'a>, C: Simple<'a>, P: Places>(
         → IfOk result (λ v. Reads ks F [] declared 3
         (told_three declared (A.value v.first) (B.value v.second) (C.value v.third) told) (seen_of P.schema descent.new)) }
 {
-    if let Some(values) = descent.three_values()? {
+    if let Some(values) = descent.three_values() {
         return Ok(Three {
             first: A::of(values.first),
             second: B::of(values.second),

@@ -201,31 +201,25 @@ impl<'a, 'p, P: Places> Descent<'a, 'p, P> {
         Ok(value)
     }
 
-    /// The values of the element that has started, and its end, where it is a sequence of three values and nothing else. Anywhere else
-    /// nothing is taken, and `None` is answered.
+    /// The values of the element that has started, and its end, where it is a sequence of three values of few bits and nothing else.
+    /// Anywhere else nothing is taken, and `None` is answered.
     #[inline(always)]
-    pub fn three_values(&mut self) -> Result<Option<ThreeValues<'a>>, Refusal>
+    pub fn three_values(&mut self) -> Option<ThreeValues<'a>>
         requires open { IsOpen P.schema self.old }
         ensures open { IsOpen P.schema self.new }
         ensures table { self.new.reader.table.ghost_name ≡ self.old.reader.table.ghost_name }
         ensures places { self.new.reader.places.now ≡ self.old.reader.places.now }
         ensures payload { self.new.reader.reader.bits ≡ self.old.reader.reader.bits }
-        ensures refused { IfErr result (λ r. IsRefusal (seen_of P.schema self.old) r) }
-        ensures lent { IfOk result (λ o. IfSome o (AreLent self.old.reader.reader.bits)) }
-        ensures none { IfOk result (λ o. o ≡ None
-            → (ks : List PlainKind) (F : Frame) (attributes : List AttributeOf) (declared : List PlainParticle) (at : ℕ) (told : List TreeEvent)
-            → StartsAt ks F attributes declared at told (seen_of P.schema self.old)
-            → StartsAt ks F attributes declared at told (seen_of P.schema self.new)) }
+        ensures lent { IfSome result (AreLent self.old.reader.reader.bits) }
+        ensures none { result ≡ None → self.new ≡ self.old }
         ensures values { (ks : List PlainKind) (F : Frame) (declared : List PlainParticle) (told : List TreeEvent) (first second third : Datatype)
             → StartsAt ks F [] declared 0 told (seen_of P.schema self.old) → HoldsThree ks declared first second third
-            → IfOk result (λ o. IfSome o (λ three. AreRead first second third three
-            × Reads ks F [] declared 3 (told_values declared three told) (seen_of P.schema self.new))) }
+            → IfSome result (λ three. AreRead first second third three
+            × Reads ks F [] declared 3 (told_values declared three told) (seen_of P.schema self.new)) }
     {
-        let Some(values) = self.reader.three_values()? else {
-            return Ok(None);
-        };
+        let values = self.reader.three_values()?;
         self.child = None;
-        Ok(Some(values))
+        Some(values)
     }
 
     /// An attribute of the element that has started, one that has to be there.

@@ -1,4 +1,4 @@
-use Rattle.std.proofs.Common.{rules, ℕ, ◌≡◌, ◌∙◌, sym, subst, arith}
+use Rattle.std.proofs.Common.{rules, ℕ, ◌≡◌, subst, arith}
 use Rattle.exi_spec.specs.Bits.{bits_of}
 use Rattle.exi_spec.specs.Items.{SpellsUnsigned}
 use Rattle.exi_bits.specs.Reading.{ItemAt}

@@ -1,4 +1,4 @@
-use Rattle.std.proofs.Common.{Bool, ℕ, List, subst, sym, ap, ◌∙◌, arith}
+use Rattle.std.proofs.Common.{Bool, ℕ, List, subst, sym, ap, ◌∙◌}
 use Rattle.exi_spec.specs.Bits.{number_bits}
 use Rattle.exi_bits.specs.Written.{Extends}
 use Rattle.exi_bits.proofs.Windows.{number_bits-mod}

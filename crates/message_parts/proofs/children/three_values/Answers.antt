@@ -1,21 +1,19 @@
-use Rattle.std.proofs.Common.{refl, sym, subst, [], IfSome, Option}
+use Rattle.std.proofs.Common.{refl, sym, subst, []}
 use Rattle.exi_documents.specs.Trees.{Value}
-use Rattle.exi_events.specs.declared.sequence.ThreeValues.{ThreeValues}
 use Rattle.exi_values.specs.Meaning.{value_of}
 use Rattle.message_parts.specs.Reading.{Reads, seen_of}
-use Rattle.message_parts.specs.Sequence.{HoldsThree, AreRead, told_three, told_values}
-use Rattle.message_parts.proofs.Sequence.{lent_in}
+use Rattle.message_parts.specs.Sequence.{HoldsThree, told_three}
 use Rattle.message_parts.proofs.Singles.{taken}
 use Rattle.message_parts.proofs.children.three_values.Goals as goal
 
 pub of-requires : goal.of-requires
-of-requires g c κs = ((refl, tt), (c.args.descent.now.reader.reader.bits, (lent_in _ _ _ c.in-Some.is c.in_ok-values.ensures.lent).first))
+of-requires g c κs = ((refl, tt), (c.args.descent.now.reader.reader.bits, c.in-Some.ensures.lent.first))
 
 pub of-requires-in-Some : goal.of-requires-in-Some
-of-requires-in-Some g c κs = ((refl, tt), (c.args.descent.now.reader.reader.bits, (lent_in _ _ _ c.in-Some.is c.in_ok-values.ensures.lent).second))
+of-requires-in-Some g c κs = ((refl, tt), (c.args.descent.now.reader.reader.bits, c.in-Some.ensures.lent.second))
 
 pub of-requires-in-Some-2 : goal.of-requires-in-Some-2
-of-requires-in-Some-2 g c κs = ((refl, tt), (c.args.descent.now.reader.reader.bits, (lent_in _ _ _ c.in-Some.is c.in_ok-values.ensures.lent).third))
+of-requires-in-Some-2 g c κs = ((refl, tt), (c.args.descent.now.reader.reader.bits, c.in-Some.ensures.lent.third))
 
 pub returns-in-Some-clause-read : goal.returns-in-Some-clause-read
 returns-in-Some-clause-read g c = λ ks F declared told h once_first takes_first once_second takes_second once_third takes_third.
@@ -24,8 +22,7 @@ returns-in-Some-clause-read g c = λ ks F declared told h once_first takes_first
     let b = taken _ _ takes_second in
     let e = taken _ _ takes_third in
     let holds : HoldsThree ks declared a.0 b.0 e.0 = record { once = (once_first, once_second, once_third); first_is = a.1; second_is = b.1; third_is = e.1 } in
-    let both = subst (λ (o : Option ThreeValues). IfSome o (λ v. AreRead a.0 b.0 e.0 v × Reads ks F [] declared 3 (told_values declared v told) d)) c.in-Some.is
-    (c.in_ok-values.ensures.values ks F declared told a.0 b.0 e.0 h holds) in
+    let both = c.in-Some.ensures.values ks F declared told a.0 b.0 e.0 h holds in
     let first_is = sym (c.of.ensures a.0 a.2 both.0.0) in
     let second_is = sym (c.of-in-Some.ensures b.0 b.2 both.0.1) in
     let third_is = sym (c.of-in-Some-2.ensures e.0 e.2 both.0.2) in

@@ -1,41 +1,23 @@
-use Rattle.std.proofs.Common.{sym}
 use Rattle.exi_values.specs.Meaning.{value_of}
 use Rattle.exi_events.specs.Sequence.{values_of}
-use Rattle.std.proofs.lemmas.Result.{err_from_is_err_and}
-use Rattle.exi_events.proofs.Datatypes.{datatype_fits}
-use Rattle.exi_events.proofs.Sequences.{told_ahead, three_taken, sequence_told, open_behind}
+use Rattle.exi_events.proofs.Sequences.{three_taken, sequence_told, open_behind}
 use Rattle.exi_events.proofs.Valued.{stays_ready}
 use Rattle.exi_events.proofs.reader.EventReader.take_sequence.Goals as goal
 
-pub take_three-requires-clause-first : goal.take_three-requires-clause-first
-take_three-requires-clause-first g c = datatype_fits (g.P.Places.schema c.args.self.now.places.now) c.requires.sequence.sequence.0 _ (sym c.requires.sequence.sequence.3)
-
-pub take_three-requires-clause-second : goal.take_three-requires-clause-second
-take_three-requires-clause-second g c = datatype_fits (g.P.Places.schema c.args.self.now.places.now) c.requires.sequence.sequence.4.0 _ (sym c.requires.sequence.sequence.4.3)
-
-pub take_three-requires-clause-third : goal.take_three-requires-clause-third
-take_three-requires-clause-third g c = datatype_fits (g.P.Places.schema c.args.self.now.places.now) c.requires.sequence.sequence.4.4.0 _ (sym c.requires.sequence.sequence.4.4.3)
-
 pub returns-clause-values : goal.returns-clause-values
 returns-clause-values g c =
-    three_taken (g.P.Places.schema c.args.self.now.places.now) c.args.self.now.phase c.args.self.now.elements c.args.children c.requires.sequence c.args.self.now.reader.bits c.args.self.now.table.now.entries c.args.self.now.reader c.requires.inside c.pop.new.self c.take_three.new.reader.bits c.take_three.new.table.entries c.take_three.new.reader (values_of c.in_ok-values.values)
+    three_taken (g.P.Places.schema c.args.self.now.places.now) c.args.self.now.phase c.args.self.now.elements c.args.children c.requires.sequence c.args.self.now.reader.bits c.args.self.now.table.now.entries c.args.self.now.reader c.requires.inside c.pop.new.self c.take_three.new.reader.bits c.args.self.now.table.now.entries c.take_three.new.reader (values_of c.in_ok-values.values)
     (c.pop.ensures _ _ c.requires.sequence.elements_are) c.in_ok-values.ensures.same
-    (c.in_ok-values.ensures.values (g.P.Places.schema c.args.self.now.places.now) c.requires.sequence.top.name c.requires.sequence.top.place c.requires.sequence.above c.requires.sequence.sequence)
+    (c.in_ok-values.ensures.values (g.P.Places.schema c.args.self.now.places.now) c.requires.sequence.top.name c.requires.sequence.top.place c.requires.sequence.above c.args.self.now.table.now.entries c.requires.sequence.sequence)
 
 pub returns-clause-told : goal.returns-clause-told
 returns-clause-told g c = λ events has.
-    sequence_told _ _ (value_of c.in_ok-values.values.first) (value_of c.in_ok-values.values.second) (value_of c.in_ok-values.values.third) (three_taken (g.P.Places.schema c.args.self.now.places.now) c.args.self.now.phase c.args.self.now.elements c.args.children c.requires.sequence c.args.self.now.reader.bits c.args.self.now.table.now.entries c.args.self.now.reader c.requires.inside c.pop.new.self c.take_three.new.reader.bits c.take_three.new.table.entries c.take_three.new.reader (values_of c.in_ok-values.values)
+    sequence_told _ _ (value_of c.in_ok-values.values.first) (value_of c.in_ok-values.values.second) (value_of c.in_ok-values.values.third) (three_taken (g.P.Places.schema c.args.self.now.places.now) c.args.self.now.phase c.args.self.now.elements c.args.children c.requires.sequence c.args.self.now.reader.bits c.args.self.now.table.now.entries c.args.self.now.reader c.requires.inside c.pop.new.self c.take_three.new.reader.bits c.args.self.now.table.now.entries c.take_three.new.reader (values_of c.in_ok-values.values)
     (c.pop.ensures _ _ c.requires.sequence.elements_are) c.in_ok-values.ensures.same
-    (c.in_ok-values.ensures.values (g.P.Places.schema c.args.self.now.places.now) c.requires.sequence.top.name c.requires.sequence.top.place c.requires.sequence.above c.requires.sequence.sequence)) events has
+    (c.in_ok-values.ensures.values (g.P.Places.schema c.args.self.now.places.now) c.requires.sequence.top.name c.requires.sequence.top.place c.requires.sequence.above c.args.self.now.table.now.entries c.requires.sequence.sequence)) events has
 
 pub returns-clause-ready : goal.returns-clause-ready
 returns-clause-ready g c =
     stays_ready (g.P.Places.schema c.args.self.now.places.now) c.args.self.now.phase c.args.self.now.elements _ _ _ _ c.requires.inside c.in_ok-values.ensures.same c.requires.ready.sound
     (open_behind _ c.args.self.now.elements c.requires.sequence.above _ c.requires.sequence.top c.requires.sequence.elements_are (c.pop.ensures _ _ c.requires.sequence.elements_are))
-    c.in_ok-values.ensures.texts c.in_ok-values.ensures.cap
-
-pub returns-in_err-values-clause-refusal : goal.returns-in_err-values-clause-refusal
-returns-in_err-values-clause-refusal g c = λ payload events bits_are has.
-    let p = err_from_is_err_and c.from_residual.result c.from_residual.ensures.1 in
-    rw (p.1, p.2) (c.in_err-values.ensures.refused (g.P.Places.schema c.args.self.now.places.now) c.requires.sequence.top.name c.requires.sequence.top.place c.requires.sequence.above c.requires.sequence.sequence payload events bits_are
-    (told_ahead (g.P.Places.schema c.args.self.now.places.now) c.args.self.now.phase c.args.self.now.elements c.args.children c.requires.sequence c.args.self.now.reader.bits c.args.self.now.table.now.entries c.args.self.now.reader c.requires.inside events has))
+    c.requires.ready.texts c.requires.ready.cap

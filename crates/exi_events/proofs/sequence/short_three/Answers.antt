@@ -1,0 +1,44 @@
+use Rattle.std.proofs.Common.{refl, ◌∙◌}
+use Rattle.exi_schema.specs.declared.places.Step.TheVariants.{End}
+use Rattle.exi_events.proofs.Sequences.{offers_first, offers_second, offers_third, offers_end, same_child, same_lent, end_took}
+use Rattle.exi_events.proofs.sequence.short_three.Goals as goal
+
+pub returns-clause-values : goal.returns-clause-values
+returns-clause-values c = λ s name here above entries is.
+    let same1 = c.in_ok-first.ensures.same in
+    let same2 = c.in_ok-second.ensures.same in
+    let same3 = c.in_ok-third.ensures.same in
+    let first = c.in_ok-first.ensures.child s name here is.1 above entries (offers_first s name here above _ _ _ is) in
+    let second = same_child s name is.1 is.4.1 above _ _ _ _ _ _ _ _ same1 (c.in_ok-second.ensures.child s name is.1 is.4.1 above entries (offers_second s name here above _ _ _ is)) in
+    let third = same_child s name is.4.1 is.4.4.1 above _ _ _ _ _ _ _ _ (same2 ∙ same1) (c.in_ok-third.ensures.child s name is.4.1 is.4.4.1 above entries (offers_third s name here above _ _ _ is)) in (
+      _,
+      _,
+      refl,
+      same1,
+      first,
+      (
+        _,
+        _,
+        refl,
+        same2,
+        second,
+        (
+          _,
+          _,
+          refl,
+          same3,
+          third,
+          end_took s name is.4.4.1 above _ _ _ (c.in_ok-short_only.ensures.taken s.kinds is.4.4.1 End (offers_end s name here above _ _ _ is)),
+        ),
+      ),
+    )
+
+pub returns-clause-lent : goal.returns-clause-lent
+returns-clause-lent c =
+    let same1 = c.in_ok-first.ensures.same in
+    let same2 = c.in_ok-second.ensures.same in
+    record {
+      first = c.in_ok-first.ensures.lent;
+      second = same_lent _ _ _ same1 c.in_ok-second.ensures.lent;
+      third = same_lent _ _ _ (same2 ∙ same1) c.in_ok-third.ensures.lent;
+    }
