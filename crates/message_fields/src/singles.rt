@@ -1,0 +1,86 @@
+//! One child.
+
+ghost use Rattle.std.specs.Prelude.{◌≡◌, suc, true, Some, slice_get};
+ghost use Rattle.exi_schema.specs.Plain.{containing};
+ghost use Rattle.message_parts.specs.Contents.{Of, holding_with, mapped, told_one, told_perhaps};
+ghost use Rattle.message_parts.specs.Particles.{name_at, kind_at, is_once_at, is_optional_at, takes_at};
+
+use crate::tuples::Children;
+use exi_documents::Refusal;
+use exi_schema::Places;
+use message_parts::{Descent, Record, Simple, optional, optional_value, required, value};
+
+/// An element with attributes and children that has to be there.
+#[derive(Drop)]
+pub struct Required<T>(pub T);
+
+/// One of a name that may be there.
+#[derive(Drop)]
+pub struct Optional<T, const NAME: u16>(pub Option<T>);
+
+/// A value that has to be there.
+#[derive(Drop)]
+pub struct RequiredValue<T>(pub T);
+
+/// One of a name that may be there.
+#[derive(Drop)]
+pub struct OptionalValue<T, const NAME: u16>(pub Option<T>);
+
+impl<'a, T: Record<'a>> Children<'a> for Required<T> {
+    ghost stand = { λ ks declared at. (ks ≡ T.kinds) × (is_once_at declared at ≡ true) × (slice_get T.kinds (kind_at declared at) ≡ Some (containing T.attributes T.particles)) };
+
+    ghost behind = { λ at. suc at };
+
+    ghost told = { λ declared at v before. told_one (name_at declared at) (holding_with (T.given v.0) (T.parts v.0)) before };
+
+    #[inline(always)]
+    fn read_children<P: Places>(descent: &mut Descent<'a, '_, P>) -> Result<Required<T>, Refusal> {
+        Ok(Required(required(descent)?))
+    }
+}
+
+impl<'a, T: Record<'a>, const NAME: u16> Children<'a> for Optional<T, NAME> {
+    ghost stand = { λ ks declared at. (ks ≡ T.kinds) × (is_optional_at declared at ≡ true) × (NAME ≡ name_at declared at)
+        × (slice_get T.kinds (kind_at declared at) ≡ Some (containing T.attributes T.particles)) };
+
+    ghost behind = { λ at. suc at };
+
+    ghost told = { λ declared at v before. told_perhaps NAME (mapped (λ x. holding_with (T.given x) (T.parts x)) v.0) before };
+
+    #[inline(always)]
+    fn read_children<P: Places>(
+        descent: &mut Descent<'a, '_, P>,
+    ) -> Result<Optional<T, NAME>, Refusal> {
+        Ok(Optional(optional(descent, NAME)?))
+    }
+}
+
+impl<'a, T: Simple<'a>> Children<'a> for RequiredValue<T> {
+    ghost stand = { λ ks declared at. (is_once_at declared at ≡ true) × (takes_at T.takes ks declared at ≡ true) };
+
+    ghost behind = { λ at. suc at };
+
+    ghost told = { λ declared at v before. told_one (name_at declared at) (Of (T.value v.0)) before };
+
+    #[inline(always)]
+    fn read_children<P: Places>(
+        descent: &mut Descent<'a, '_, P>,
+    ) -> Result<RequiredValue<T>, Refusal> {
+        Ok(RequiredValue(value(descent)?))
+    }
+}
+
+impl<'a, T: Simple<'a>, const NAME: u16> Children<'a> for OptionalValue<T, NAME> {
+    ghost stand = { λ ks declared at. (is_optional_at declared at ≡ true) × (NAME ≡ name_at declared at) × (takes_at T.takes ks declared at ≡ true) };
+
+    ghost behind = { λ at. suc at };
+
+    ghost told = { λ declared at v before. told_perhaps NAME (mapped (λ x. Of (T.value x)) v.0) before };
+
+    #[inline(always)]
+    fn read_children<P: Places>(
+        descent: &mut Descent<'a, '_, P>,
+    ) -> Result<OptionalValue<T, NAME>, Refusal> {
+        Ok(OptionalValue(optional_value(descent, NAME)?))
+    }
+}
