@@ -4,5 +4,5 @@
 mod singles;
 mod tuples;
 
-pub use singles::{Optional, OptionalValue, Required, RequiredValue};
-pub use tuples::{Children, all_children};
+pub use singles::{AtMostOneOf, OneOf, Optional, OptionalValue, Required, RequiredValue};
+pub use tuples::{Children, first_children};

@@ -85,9 +85,9 @@ impl<'a, A: Children<'a>, B: Children<'a>, C: Children<'a>, D: Children<'a>> Chi
     }
 }
 
-/// All children of an element, behind its last attribute that has to be there.
+/// The first children of an element, behind its last attribute that has to be there.
 #[inline(always)]
-pub fn all_children<'a, T: Children<'a>, P: Places>(
+pub fn first_children<'a, T: Children<'a>, P: Places>(
     descent: &mut Descent<'a, '_, P>,
 ) -> Result<T, Refusal>
     requires open { IsOpen P.schema descent.old }

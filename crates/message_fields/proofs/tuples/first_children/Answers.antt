@@ -1,4 +1,4 @@
-use Rattle.message_fields.proofs.tuples.all_children.Goals as goal
+use Rattle.message_fields.proofs.tuples.first_children.Goals as goal
 
 pub returns-clause-read : goal.returns-clause-read
 returns-clause-read g c = λ ks F attributes declared before h stand.
