@@ -1,4 +1,5 @@
 """What is mechanical of the proofs of a dialect's types: which event a field tells and puts, field by field."""
+from message_shapes import in_groups
 from message_specs import kind_name
 
 
@@ -32,6 +33,12 @@ def read_three(t, kind):
     return answer("clause-read", "told", [f"    {fact}"])
 
 
+def stands(it):
+    """That a child of a tuple is declared where it stands."""
+    facts = ([] if it.simple else ["refl"]) + ["refl", "refl"] + (["refl"] if it.is_asked() else [])
+    return f"({', '.join(facts)})"
+
+
 def read_record(t, kind):
     if t.is_three(kind):
         return read_three(t, kind)
@@ -42,9 +49,14 @@ def read_record(t, kind):
     calls = iter(list(numbered(it.read() if it.large else "self" for it in fields if it.form != "out")))
     step = {it.field: next(calls) if kind in t.large else it.field for it in fields if it.form != "out"}
     steps = [(it.field, f"c.in_ok-{step[it.field]}.ensures.read kinds F {given} {low} {it.at} _ %s refl refl") for it in attributes]
-    if not any(it.optional for it in attributes):
+    together = t.together(kind, fields)
+    if together:
+        declared = ",\n        ".join(f"({', '.join(stands(it) for it in group)})" for group in in_groups(together))
+        declared = declared if len(together) <= 4 else f"(\n        {declared},\n    )"
+        steps.append(("first", f"c.in_ok-{step[together[0].field]}.ensures.read kinds F {given} {low} _ %s {declared}"))
+    elif not any(it.optional for it in attributes):
         steps.append(("first", f"c.in_ok-first_child.ensures.read kinds F {given} {low} _ %s"))
-    for it in fields:
+    for it in (it for it in fields if it not in together):
         if it.form == "out":
             steps.append((it.field, f"c.left_out.ensures.read kinds F {given} {low} {it.at} _ %s refl"))
         elif it.form != "attribute":

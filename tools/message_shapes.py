@@ -48,9 +48,23 @@ class Element:
             return "required_here"
         return ("optional_value" if self.optional else "value") if self.simple else "optional" if self.optional else "required"
 
+    def single(self):
+        """What it is as one of the children of a tuple."""
+        if self.form == "choice":
+            return "AtMostOneOf" if self.optional else "OneOf"
+        return ("Optional" if self.optional else "Required") + ("Value" if self.simple else "")
+
     def is_asked(self):
         """Whether reading it names it."""
         return self.form == "value" and bool(self.optional or self.most)
+
+
+def in_groups(members):
+    """The tuples, each of at most four, in which so many stand."""
+    count = -(-len(members) // 4)
+    least, more = divmod(len(members), count)
+    ends = [least * n + min(n, more) for n in range(count + 1)]
+    return [members[a:b] for a, b in zip(ends, ends[1:])]
 
 
 class Types:
@@ -186,6 +200,14 @@ class Types:
         """Whether it is a sequence of three values, which are read at once."""
         fields = self.fields(kind)
         return len(fields) == 3 and kind not in self.large and all(it.form == "value" and it.read() == "value" for it in fields)
+
+    def together(self, kind, fields):
+        """The first children of a type that are read as one tuple: the proof of a chain of single ones takes longer."""
+        children = [it for it in fields if it.form != "attribute"]
+        if kind in self.large or any(it.form == "attribute" and it.optional for it in fields):
+            return []
+        last = next((n for n, it in enumerate(children) if it.form == "out" or it.most or it.large), len(children))
+        return children[:last] if last > 1 else []
 
     def with_defaults(self):
         """The types that stand in lists or are large, with what they hold: room for them has to be filled with some value."""

@@ -14,7 +14,7 @@ import sys
 
 from message_proofs import proofs
 from message_readers import reader_files
-from message_shapes import Types
+from message_shapes import Types, in_groups
 from message_specs import definitions
 
 WORDS = [
@@ -23,6 +23,7 @@ WORDS = [
     "optional_value", "put_attribute", "put_choice", "put_optional", "put_optional_attribute", "put_optional_choice", "put_optional_value",
     "put_record", "put_records", "put_value", "put_values", "records", "required", "required_here", "three_values", "value", "values",
 ]
+CHILDREN = ["AtMostOneOf", "OneOf", "Optional", "OptionalValue", "Required", "RequiredValue", "first_children"]
 
 
 def enumeration(t, crate, file, kind):
@@ -89,12 +90,25 @@ def read_here(it):
     return f"{it.read()}(&mut self.{it.field}, descent)?;" if it.large else read(it).replace("let ", "self.")
 
 
+def pattern(it):
+    """What is read of a child in a tuple."""
+    return f"{it.single()}{f'::<_, {{ names::{it.name} }}>' if it.is_asked() else ''}({it.field})"
+
+
+def tuple_of(groups, written):
+    rows = [f"({', '.join(written(it) for it in group)})" for group in groups]
+    return rows[0] if len(rows) == 1 else f"({', '.join(rows)})"
+
+
 def part_by_part(t, kind):
     """Reads the attributes of a struct, and then its children."""
     fields, reads = t.fields(kind), read_here if kind in t.large else read
     attributes = [it for it in fields if it.form == "attribute"]
+    together = t.together(kind, fields)
     first = [] if any(it.optional for it in attributes) else ["first_child(descent)?;"]
-    return [*(reads(it) for it in attributes), *first, *(reads(it) for it in fields if it.form != "attribute")]
+    if together:
+        first = [f"let {tuple_of(in_groups(together), pattern)} = first_children(descent)?;"]
+    return [*(reads(it) for it in attributes), *first, *(reads(it) for it in fields if it.form != "attribute" and it not in together)]
 
 
 def written_struct(t, kind, name, kept):
@@ -299,6 +313,8 @@ use message_parts::Simple;
     lines += ["use arrayvec::ArrayVec;"] if "ArrayVec" in said else []
     words = [it for it in WORDS if re.search(rf"(?<![\w:.]){it}(?=[(<]| for)" if it[0].islower() else rf"(?<![\w:]){it}\b", said)]
     lines += [f"use message_parts::{{{', '.join(words)}}};"]
+    words = [it for it in CHILDREN if re.search(rf"(?<!\w){it}(?=[(:])", said)]
+    lines += [f"use message_fields::{{{', '.join(words)}}};"] if words else []
     ghost = "ghost use Rattle.std.specs.Prelude.{[]};\n\n" if "[]" in re.sub(r"&\[[^]]*\]", "", said) else ""
     for it in kinds:
         if it in t.large and it in t.choices:

@@ -9,9 +9,9 @@ use exi_events::EventWriter;
 use exi_schema::Places;
 use iso_parts::{EnergyTransferMode, EvseProcessing, ResponseCode};
 use iso_schema::names;
+use message_fields::{AtMostOneOf, OneOf, OptionalValue, RequiredValue, first_children};
 use message_parts::{
-    Descent, PutRecord, Record, choice, first_child, optional_choice, optional_value, put_choice,
-    put_optional_choice, put_optional_value, put_value, value,
+    Descent, PutRecord, Record, put_choice, put_optional_choice, put_optional_value, put_value,
 };
 
 /// ChargeParameterDiscoveryReq.
@@ -57,13 +57,13 @@ impl<'a> Record<'a> for ChargeParameterDiscoveryReq {
     fn read<P: Places>(
         descent: &mut Descent<'a, '_, P>,
     ) -> Result<ChargeParameterDiscoveryReq, Refusal> {
-        first_child(descent)?;
-        let max_entries_sa_schedule_tuple = optional_value(
-            descent,
-            names::MAX_ENTRIES_SA_SCHEDULE_TUPLE,
-        )?;
-        let requested_energy_transfer_mode = value(descent)?;
-        let ev_charge_parameter = choice(descent)?;
+        let (
+            OptionalValue::<_, { names::MAX_ENTRIES_SA_SCHEDULE_TUPLE }>(
+                max_entries_sa_schedule_tuple,
+            ),
+            RequiredValue(requested_energy_transfer_mode),
+            OneOf(ev_charge_parameter),
+        ) = first_children(descent)?;
         Ok(ChargeParameterDiscoveryReq {
             max_entries_sa_schedule_tuple,
             requested_energy_transfer_mode,
@@ -109,11 +109,12 @@ impl<'a> Record<'a> for ChargeParameterDiscoveryRes {
     fn read<P: Places>(
         descent: &mut Descent<'a, '_, P>,
     ) -> Result<ChargeParameterDiscoveryRes, Refusal> {
-        first_child(descent)?;
-        let response_code = value(descent)?;
-        let evse_processing = value(descent)?;
-        let sa_schedules = optional_choice(descent)?;
-        let evse_charge_parameter = choice(descent)?;
+        let (
+            RequiredValue(response_code),
+            RequiredValue(evse_processing),
+            AtMostOneOf(sa_schedules),
+            OneOf(evse_charge_parameter),
+        ) = first_children(descent)?;
         Ok(ChargeParameterDiscoveryRes {
             response_code,
             evse_processing,

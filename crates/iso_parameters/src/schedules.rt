@@ -8,10 +8,10 @@ use exi_events::EventWriter;
 use exi_schema::Places;
 use iso_parts::PhysicalValue;
 use iso_schema::names;
+use message_fields::{OneOf, OptionalValue, Required, RequiredValue, first_children};
 use message_parts::{
-    Choice, Descent, Group, PutChoice, PutRecord, Record, choice, first_child, left_out, member,
-    optional_value, put_choice, put_optional_value, put_record, put_records, put_value, records,
-    required, value,
+    Choice, Descent, Group, PutChoice, PutRecord, Record, first_child, left_out, member,
+    put_choice, put_optional_value, put_record, put_records, put_value, records,
 };
 
 /// RelativeTimeInterval.
@@ -47,9 +47,8 @@ impl<'a> Record<'a> for RelativeTimeInterval {
     ghost particles = { relative_time_interval };
 
     fn read<P: Places>(descent: &mut Descent<'a, '_, P>) -> Result<RelativeTimeInterval, Refusal> {
-        first_child(descent)?;
-        let start = value(descent)?;
-        let duration = optional_value(descent, names::DURATION)?;
+        let (RequiredValue(start), OptionalValue::<_, { names::DURATION }>(duration)) =
+            first_children(descent)?;
         Ok(RelativeTimeInterval { start, duration })
     }
 }
@@ -128,9 +127,7 @@ impl<'a> Record<'a> for PMaxScheduleEntry {
     ghost particles = { p_max_schedule_entry };
 
     fn read<P: Places>(descent: &mut Descent<'a, '_, P>) -> Result<PMaxScheduleEntry, Refusal> {
-        first_child(descent)?;
-        let time_interval = choice(descent)?;
-        let p_max = required(descent)?;
+        let (OneOf(time_interval), Required(p_max)) = first_children(descent)?;
         Ok(PMaxScheduleEntry {
             time_interval,
             p_max,
@@ -216,9 +213,9 @@ impl<'a> Record<'a> for SaScheduleTuple {
     ghost particles = { sa_schedule_tuple };
 
     fn read<P: Places>(descent: &mut Descent<'a, '_, P>) -> Result<SaScheduleTuple, Refusal> {
-        first_child(descent)?;
-        let sa_schedule_tuple_id = value(descent)?;
-        let p_max_schedule = required(descent)?;
+        let (RequiredValue(sa_schedule_tuple_id), Required(p_max_schedule)) = first_children(
+            descent,
+        )?;
         left_out(descent);
         Ok(SaScheduleTuple {
             sa_schedule_tuple_id,

@@ -7,9 +7,9 @@ use exi_documents::Refusal;
 use exi_events::EventWriter;
 use exi_schema::Places;
 use iso_schema::names;
+use message_fields::{Optional, OptionalValue, RequiredValue, first_children};
 use message_parts::{
-    Binary, Descent, PutRecord, Record, Text, first_child, left_out, optional, optional_value,
-    put_optional, put_optional_value, put_value, value,
+    Binary, Descent, PutRecord, Record, Text, left_out, put_optional, put_optional_value, put_value,
 };
 
 /// Notification.
@@ -44,9 +44,8 @@ impl<'a> Record<'a> for Notification<'a> {
     ghost particles = { notification };
 
     fn read<P: Places>(descent: &mut Descent<'a, '_, P>) -> Result<Notification<'a>, Refusal> {
-        first_child(descent)?;
-        let fault_code = value(descent)?;
-        let fault_msg = optional_value(descent, names::FAULT_MSG)?;
+        let (RequiredValue(fault_code), OptionalValue::<_, { names::FAULT_MSG }>(fault_msg)) =
+            first_children(descent)?;
         Ok(Notification {
             fault_code,
             fault_msg,
@@ -86,9 +85,8 @@ impl<'a> Record<'a> for Header<'a> {
     ghost particles = { header };
 
     fn read<P: Places>(descent: &mut Descent<'a, '_, P>) -> Result<Header<'a>, Refusal> {
-        first_child(descent)?;
-        let session_id = value(descent)?;
-        let notification = optional(descent, names::NOTIFICATION)?;
+        let (RequiredValue(session_id), Optional::<_, { names::NOTIFICATION }>(notification)) =
+            first_children(descent)?;
         left_out(descent);
         Ok(Header {
             session_id,

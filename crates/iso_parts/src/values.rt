@@ -9,9 +9,10 @@ use exi_documents::Refusal;
 use exi_events::EventWriter;
 use exi_schema::Places;
 use iso_schema::names;
+use message_fields::{OptionalValue, RequiredValue, first_children};
 use message_parts::{
-    Binary, Choice, Descent, PutChoice, PutRecord, Record, Text, first_child, member,
-    optional_value, put_optional_value, put_record, put_value, three_values, value,
+    Binary, Choice, Descent, PutChoice, PutRecord, Record, Text, member, put_optional_value,
+    put_record, put_value, three_values,
 };
 
 /// PhysicalValue.
@@ -189,11 +190,12 @@ impl<'a> Record<'a> for DcEvseStatus {
     ghost particles = { dc_evse_status };
 
     fn read<P: Places>(descent: &mut Descent<'a, '_, P>) -> Result<DcEvseStatus, Refusal> {
-        first_child(descent)?;
-        let notification_max_delay = value(descent)?;
-        let evse_notification = value(descent)?;
-        let evse_isolation_status = optional_value(descent, names::EVSE_ISOLATION_STATUS)?;
-        let evse_status_code = value(descent)?;
+        let (
+            RequiredValue(notification_max_delay),
+            RequiredValue(evse_notification),
+            OptionalValue::<_, { names::EVSE_ISOLATION_STATUS }>(evse_isolation_status),
+            RequiredValue(evse_status_code),
+        ) = first_children(descent)?;
         Ok(DcEvseStatus {
             notification_max_delay,
             evse_notification,
@@ -281,12 +283,17 @@ impl<'a> Record<'a> for MeterInfo<'a> {
     ghost particles = { meter_info };
 
     fn read<P: Places>(descent: &mut Descent<'a, '_, P>) -> Result<MeterInfo<'a>, Refusal> {
-        first_child(descent)?;
-        let meter_id = value(descent)?;
-        let meter_reading = optional_value(descent, names::METER_READING)?;
-        let sig_meter_reading = optional_value(descent, names::SIG_METER_READING)?;
-        let meter_status = optional_value(descent, names::METER_STATUS)?;
-        let t_meter = optional_value(descent, names::T_METER)?;
+        let (
+            (
+                RequiredValue(meter_id),
+                OptionalValue::<_, { names::METER_READING }>(meter_reading),
+                OptionalValue::<_, { names::SIG_METER_READING }>(sig_meter_reading),
+            ),
+            (
+                OptionalValue::<_, { names::METER_STATUS }>(meter_status),
+                OptionalValue::<_, { names::T_METER }>(t_meter),
+            ),
+        ) = first_children(descent)?;
         Ok(MeterInfo {
             meter_id,
             meter_reading,

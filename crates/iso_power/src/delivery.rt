@@ -10,10 +10,13 @@ use iso_parts::{
     AcEvseStatus, ChargeProgress, DcEvStatus, EvseStatus, MeterInfo, PhysicalValue, ResponseCode,
 };
 use iso_schema::names;
+use message_fields::{
+    AtMostOneOf, OneOf, Optional, OptionalValue, Required, RequiredValue, first_children,
+};
 use message_parts::{
-    Choice, Descent, Group, PutChoice, PutRecord, Record, Text, choice, first_child, member,
-    optional, optional_choice, optional_value, put_choice, put_optional, put_optional_choice,
-    put_optional_value, put_record, put_records, put_value, records, required, value,
+    Choice, Descent, Group, PutChoice, PutRecord, Record, Text, first_child, member, put_choice,
+    put_optional, put_optional_choice, put_optional_value, put_record, put_records, put_value,
+    records,
 };
 
 /// ProfileEntry.
@@ -62,13 +65,13 @@ impl<'a> Record<'a> for ProfileEntry {
     ghost particles = { profile_entry };
 
     fn read<P: Places>(descent: &mut Descent<'a, '_, P>) -> Result<ProfileEntry, Refusal> {
-        first_child(descent)?;
-        let charging_profile_entry_start = value(descent)?;
-        let charging_profile_entry_max_power = required(descent)?;
-        let charging_profile_entry_max_number_of_phases_in_use = optional_value(
-            descent,
-            names::CHARGING_PROFILE_ENTRY_MAX_NUMBER_OF_PHASES_IN_USE,
-        )?;
+        let (
+            RequiredValue(charging_profile_entry_start),
+            Required(charging_profile_entry_max_power),
+            OptionalValue::<_, { names::CHARGING_PROFILE_ENTRY_MAX_NUMBER_OF_PHASES_IN_USE }>(
+                charging_profile_entry_max_number_of_phases_in_use,
+            ),
+        ) = first_children(descent)?;
         Ok(ProfileEntry {
             charging_profile_entry_start,
             charging_profile_entry_max_power,
@@ -152,10 +155,11 @@ impl<'a> Record<'a> for DcEvPowerDeliveryParameter {
     fn read<P: Places>(
         descent: &mut Descent<'a, '_, P>,
     ) -> Result<DcEvPowerDeliveryParameter, Refusal> {
-        first_child(descent)?;
-        let dc_ev_status = required(descent)?;
-        let bulk_charging_complete = optional_value(descent, names::BULK_CHARGING_COMPLETE)?;
-        let charging_complete = value(descent)?;
+        let (
+            Required(dc_ev_status),
+            OptionalValue::<_, { names::BULK_CHARGING_COMPLETE }>(bulk_charging_complete),
+            RequiredValue(charging_complete),
+        ) = first_children(descent)?;
         Ok(DcEvPowerDeliveryParameter {
             dc_ev_status,
             bulk_charging_complete,
@@ -249,11 +253,12 @@ impl<'a> Record<'a> for PowerDeliveryReq {
     ghost particles = { power_delivery_req };
 
     fn read<P: Places>(descent: &mut Descent<'a, '_, P>) -> Result<PowerDeliveryReq, Refusal> {
-        first_child(descent)?;
-        let charge_progress = value(descent)?;
-        let sa_schedule_tuple_id = value(descent)?;
-        let charging_profile = optional(descent, names::CHARGING_PROFILE)?;
-        let ev_power_delivery_parameter = optional_choice(descent)?;
+        let (
+            RequiredValue(charge_progress),
+            RequiredValue(sa_schedule_tuple_id),
+            Optional::<_, { names::CHARGING_PROFILE }>(charging_profile),
+            AtMostOneOf(ev_power_delivery_parameter),
+        ) = first_children(descent)?;
         Ok(PowerDeliveryReq {
             charge_progress,
             sa_schedule_tuple_id,
@@ -294,9 +299,7 @@ impl<'a> Record<'a> for PowerDeliveryRes {
     ghost particles = { power_delivery_res };
 
     fn read<P: Places>(descent: &mut Descent<'a, '_, P>) -> Result<PowerDeliveryRes, Refusal> {
-        first_child(descent)?;
-        let response_code = value(descent)?;
-        let evse_status = choice(descent)?;
+        let (RequiredValue(response_code), OneOf(evse_status)) = first_children(descent)?;
         Ok(PowerDeliveryRes {
             response_code,
             evse_status,
@@ -378,14 +381,19 @@ impl<'a> Record<'a> for ChargingStatusRes<'a> {
     ghost particles = { charging_status_res };
 
     fn read<P: Places>(descent: &mut Descent<'a, '_, P>) -> Result<ChargingStatusRes<'a>, Refusal> {
-        first_child(descent)?;
-        let response_code = value(descent)?;
-        let evseid = value(descent)?;
-        let sa_schedule_tuple_id = value(descent)?;
-        let evse_max_current = optional(descent, names::EVSE_MAX_CURRENT)?;
-        let meter_info = optional(descent, names::METER_INFO)?;
-        let receipt_required = optional_value(descent, names::RECEIPT_REQUIRED)?;
-        let ac_evse_status = required(descent)?;
+        let (
+            (
+                RequiredValue(response_code),
+                RequiredValue(evseid),
+                RequiredValue(sa_schedule_tuple_id),
+                Optional::<_, { names::EVSE_MAX_CURRENT }>(evse_max_current),
+            ),
+            (
+                Optional::<_, { names::METER_INFO }>(meter_info),
+                OptionalValue::<_, { names::RECEIPT_REQUIRED }>(receipt_required),
+                Required(ac_evse_status),
+            ),
+        ) = first_children(descent)?;
         Ok(ChargingStatusRes {
             response_code,
             evseid,

@@ -8,10 +8,10 @@ use exi_events::EventWriter;
 use exi_schema::Places;
 use iso_parts::{EnergyTransferMode, PaymentOption, ResponseCode, ServiceCategory};
 use iso_schema::names;
+use message_fields::{Optional, OptionalValue, Required, RequiredValue, first_children};
 use message_parts::{
-    Descent, PutRecord, Record, Text, first_child, optional, optional_value, put_optional,
-    put_optional_value, put_record, put_records, put_value, put_values, records, required, value,
-    values,
+    Descent, PutRecord, Record, Text, first_child, put_optional, put_optional_value, put_record,
+    put_records, put_value, put_values, records, values,
 };
 
 /// Service.
@@ -53,12 +53,17 @@ impl<'a> Record<'a> for Service<'a> {
     ghost particles = { service };
 
     fn read<P: Places>(descent: &mut Descent<'a, '_, P>) -> Result<Service<'a>, Refusal> {
-        first_child(descent)?;
-        let service_id = value(descent)?;
-        let service_name = optional_value(descent, names::SERVICE_NAME)?;
-        let service_category = value(descent)?;
-        let service_scope = optional_value(descent, names::SERVICE_SCOPE)?;
-        let free_service = value(descent)?;
+        let (
+            (
+                RequiredValue(service_id),
+                OptionalValue::<_, { names::SERVICE_NAME }>(service_name),
+                RequiredValue(service_category),
+            ),
+            (
+                OptionalValue::<_, { names::SERVICE_SCOPE }>(service_scope),
+                RequiredValue(free_service),
+            ),
+        ) = first_children(descent)?;
         Ok(Service {
             service_id,
             service_name,
@@ -194,13 +199,18 @@ impl<'a> Record<'a> for ChargeService<'a> {
     ghost particles = { charge_service };
 
     fn read<P: Places>(descent: &mut Descent<'a, '_, P>) -> Result<ChargeService<'a>, Refusal> {
-        first_child(descent)?;
-        let service_id = value(descent)?;
-        let service_name = optional_value(descent, names::SERVICE_NAME)?;
-        let service_category = value(descent)?;
-        let service_scope = optional_value(descent, names::SERVICE_SCOPE)?;
-        let free_service = value(descent)?;
-        let supported_energy_transfer_mode = required(descent)?;
+        let (
+            (
+                RequiredValue(service_id),
+                OptionalValue::<_, { names::SERVICE_NAME }>(service_name),
+                RequiredValue(service_category),
+            ),
+            (
+                OptionalValue::<_, { names::SERVICE_SCOPE }>(service_scope),
+                RequiredValue(free_service),
+                Required(supported_energy_transfer_mode),
+            ),
+        ) = first_children(descent)?;
         Ok(ChargeService {
             service_id,
             service_name,
@@ -282,9 +292,10 @@ impl<'a> Record<'a> for ServiceDiscoveryReq<'a> {
     fn read<P: Places>(
         descent: &mut Descent<'a, '_, P>,
     ) -> Result<ServiceDiscoveryReq<'a>, Refusal> {
-        first_child(descent)?;
-        let service_scope = optional_value(descent, names::SERVICE_SCOPE)?;
-        let service_category = optional_value(descent, names::SERVICE_CATEGORY)?;
+        let (
+            OptionalValue::<_, { names::SERVICE_SCOPE }>(service_scope),
+            OptionalValue::<_, { names::SERVICE_CATEGORY }>(service_category),
+        ) = first_children(descent)?;
         Ok(ServiceDiscoveryReq {
             service_scope,
             service_category,
@@ -333,11 +344,12 @@ impl<'a> Record<'a> for ServiceDiscoveryRes<'a> {
     fn read<P: Places>(
         descent: &mut Descent<'a, '_, P>,
     ) -> Result<ServiceDiscoveryRes<'a>, Refusal> {
-        first_child(descent)?;
-        let response_code = value(descent)?;
-        let payment_option_list = required(descent)?;
-        let charge_service = required(descent)?;
-        let service_list = optional(descent, names::SERVICE_LIST)?;
+        let (
+            RequiredValue(response_code),
+            Required(payment_option_list),
+            Required(charge_service),
+            Optional::<_, { names::SERVICE_LIST }>(service_list),
+        ) = first_children(descent)?;
         Ok(ServiceDiscoveryRes {
             response_code,
             payment_option_list,

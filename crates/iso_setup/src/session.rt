@@ -7,6 +7,7 @@ use exi_events::EventWriter;
 use exi_schema::Places;
 use iso_parts::{ChargingSession, EvseProcessing, ResponseCode};
 use iso_schema::names;
+use message_fields::{OptionalValue, RequiredValue, first_children};
 use message_parts::{
     Binary, Descent, PutRecord, Record, Text, first_child, last_attribute, optional_value,
     put_optional_attribute, put_optional_value, put_value, value,
@@ -82,10 +83,11 @@ impl<'a> Record<'a> for SessionSetupRes<'a> {
     ghost particles = { session_setup_res };
 
     fn read<P: Places>(descent: &mut Descent<'a, '_, P>) -> Result<SessionSetupRes<'a>, Refusal> {
-        first_child(descent)?;
-        let response_code = value(descent)?;
-        let evseid = value(descent)?;
-        let evse_time_stamp = optional_value(descent, names::EVSE_TIME_STAMP)?;
+        let (
+            RequiredValue(response_code),
+            RequiredValue(evseid),
+            OptionalValue::<_, { names::EVSE_TIME_STAMP }>(evse_time_stamp),
+        ) = first_children(descent)?;
         Ok(SessionSetupRes {
             response_code,
             evseid,
@@ -165,9 +167,9 @@ impl<'a> Record<'a> for AuthorizationRes {
     ghost particles = { authorization_res };
 
     fn read<P: Places>(descent: &mut Descent<'a, '_, P>) -> Result<AuthorizationRes, Refusal> {
-        first_child(descent)?;
-        let response_code = value(descent)?;
-        let evse_processing = value(descent)?;
+        let (RequiredValue(response_code), RequiredValue(evse_processing)) = first_children(
+            descent,
+        )?;
         Ok(AuthorizationRes {
             response_code,
             evse_processing,

@@ -5,11 +5,7 @@ use Rattle.iso_power.proofs.delivery.ChargingStatusResRecord.read.Goals as goal
 
 pub returns-clause-read : goal.returns-clause-read
 returns-clause-read g c = λ F told h.
-    let at_first = c.in_ok-first_child.ensures.read kinds F [] charging_status_res _ h in
-    let at_response_code = c.in_ok-response_code.ensures.read kinds F [] charging_status_res 0 _ at_first refl refl in
-    let at_evseid = c.in_ok-evseid.ensures.read kinds F [] charging_status_res 1 _ at_response_code refl refl in
-    let at_sa_schedule_tuple_id = c.in_ok-sa_schedule_tuple_id.ensures.read kinds F [] charging_status_res 2 _ at_evseid refl refl in
-    let at_evse_max_current = c.in_ok-evse_max_current.ensures.read F [] charging_status_res 3 _ at_sa_schedule_tuple_id refl refl refl in
-    let at_meter_info = c.in_ok-meter_info.ensures.read F [] charging_status_res 4 _ at_evse_max_current refl refl refl in
-    let at_receipt_required = c.in_ok-receipt_required.ensures.read kinds F [] charging_status_res 5 _ at_meter_info refl refl refl in
-    c.in_ok-ac_evse_status.ensures.read F [] charging_status_res 6 _ at_receipt_required refl refl
+    c.in_ok-response_code.ensures.read kinds F [] charging_status_res _ h (
+      ((refl, refl), (refl, refl), (refl, refl), (refl, refl, refl, refl)),
+      ((refl, refl, refl, refl), (refl, refl, refl), (refl, refl, refl)),
+    )

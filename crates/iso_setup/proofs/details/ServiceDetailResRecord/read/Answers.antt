@@ -5,7 +5,4 @@ use Rattle.iso_setup.proofs.details.ServiceDetailResRecord.read.Goals as goal
 
 pub returns-clause-read : goal.returns-clause-read
 returns-clause-read g c = λ F told h.
-    let at_first = c.in_ok-first_child.ensures.read kinds F [] service_detail_res _ h in
-    let at_response_code = c.in_ok-response_code.ensures.read kinds F [] service_detail_res 0 _ at_first refl refl in
-    let at_service_id = c.in_ok-service_id.ensures.read kinds F [] service_detail_res 1 _ at_response_code refl refl in
-    c.in_ok-service_parameter_list.ensures.read F [] service_detail_res 2 _ at_service_id refl refl refl
+    c.in_ok-response_code.ensures.read kinds F [] service_detail_res _ h ((refl, refl), (refl, refl), (refl, refl, refl, refl))

@@ -5,9 +5,7 @@ use Rattle.iso_setup.proofs.services.ServiceRecord.read.Goals as goal
 
 pub returns-clause-read : goal.returns-clause-read
 returns-clause-read g c = λ F told h.
-    let at_first = c.in_ok-first_child.ensures.read kinds F [] service _ h in
-    let at_service_id = c.in_ok-service_id.ensures.read kinds F [] service 0 _ at_first refl refl in
-    let at_service_name = c.in_ok-service_name.ensures.read kinds F [] service 1 _ at_service_id refl refl refl in
-    let at_service_category = c.in_ok-service_category.ensures.read kinds F [] service 2 _ at_service_name refl refl in
-    let at_service_scope = c.in_ok-service_scope.ensures.read kinds F [] service 3 _ at_service_category refl refl refl in
-    c.in_ok-free_service.ensures.read kinds F [] service 4 _ at_service_scope refl refl
+    c.in_ok-service_id.ensures.read kinds F [] service _ h (
+      ((refl, refl), (refl, refl, refl), (refl, refl)),
+      ((refl, refl, refl), (refl, refl)),
+    )

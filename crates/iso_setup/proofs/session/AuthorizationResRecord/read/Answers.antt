@@ -5,6 +5,4 @@ use Rattle.iso_setup.proofs.session.AuthorizationResRecord.read.Goals as goal
 
 pub returns-clause-read : goal.returns-clause-read
 returns-clause-read g c = λ F told h.
-    let at_first = c.in_ok-first_child.ensures.read kinds F [] authorization_res _ h in
-    let at_response_code = c.in_ok-response_code.ensures.read kinds F [] authorization_res 0 _ at_first refl refl in
-    c.in_ok-evse_processing.ensures.read kinds F [] authorization_res 1 _ at_response_code refl refl
+    c.in_ok-response_code.ensures.read kinds F [] authorization_res _ h ((refl, refl), (refl, refl))

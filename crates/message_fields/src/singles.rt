@@ -1,0 +1,125 @@
+//! One child.
+
+ghost use Rattle.std.specs.Prelude.{◌≡◌, suc, true, Some, slice_get};
+ghost use Rattle.exi_schema.specs.Plain.{containing};
+ghost use Rattle.message_parts.specs.Contents.{Of, holding_with, mapped, told_choice, told_one, told_perhaps};
+ghost use Rattle.message_parts.specs.Particles.{alternatives_at, is_once_at, is_optional_at, is_required, is_single, kind_at, name_at, takes_at};
+
+use crate::tuples::Children;
+use exi_documents::Refusal;
+use exi_schema::Places;
+use message_parts::{
+    Choice, Descent, Group, Record, Simple, choice, optional, optional_choice, optional_value,
+    required, value,
+};
+
+/// An element with attributes and children that has to be there.
+#[derive(Drop)]
+pub struct Required<T>(pub T);
+
+/// One of a name that may be there.
+#[derive(Drop)]
+pub struct Optional<T, const NAME: u16>(pub Option<T>);
+
+/// A value that has to be there.
+#[derive(Drop)]
+pub struct RequiredValue<T>(pub T);
+
+/// One of a name that may be there.
+#[derive(Drop)]
+pub struct OptionalValue<T, const NAME: u16>(pub Option<T>);
+
+/// One of several elements that has to be there.
+#[derive(Drop)]
+pub struct OneOf<T>(pub T);
+
+/// One of several elements that may be there.
+#[derive(Drop)]
+pub struct AtMostOneOf<T>(pub Option<T>);
+
+impl<'a, T: Record<'a>> Children<'a> for Required<T> {
+    ghost stand = { λ ks declared at. (ks ≡ T.kinds) × (is_once_at declared at ≡ true) × (slice_get T.kinds (kind_at declared at) ≡ Some (containing T.attributes T.particles)) };
+
+    ghost behind = { λ at. suc at };
+
+    ghost told = { λ declared at v before. told_one (name_at declared at) (holding_with (T.given v.0) (T.parts v.0)) before };
+
+    #[inline(always)]
+    fn read_children<P: Places>(descent: &mut Descent<'a, '_, P>) -> Result<Required<T>, Refusal> {
+        Ok(Required(required(descent)?))
+    }
+}
+
+impl<'a, T: Record<'a>, const NAME: u16> Children<'a> for Optional<T, NAME> {
+    ghost stand = { λ ks declared at. (ks ≡ T.kinds) × (is_optional_at declared at ≡ true) × (NAME ≡ name_at declared at)
+        × (slice_get T.kinds (kind_at declared at) ≡ Some (containing T.attributes T.particles)) };
+
+    ghost behind = { λ at. suc at };
+
+    ghost told = { λ declared at v before. told_perhaps NAME (mapped (λ x. holding_with (T.given x) (T.parts x)) v.0) before };
+
+    #[inline(always)]
+    fn read_children<P: Places>(
+        descent: &mut Descent<'a, '_, P>,
+    ) -> Result<Optional<T, NAME>, Refusal> {
+        Ok(Optional(optional(descent, NAME)?))
+    }
+}
+
+impl<'a, T: Simple<'a>> Children<'a> for RequiredValue<T> {
+    ghost stand = { λ ks declared at. (is_once_at declared at ≡ true) × (takes_at T.takes ks declared at ≡ true) };
+
+    ghost behind = { λ at. suc at };
+
+    ghost told = { λ declared at v before. told_one (name_at declared at) (Of (T.value v.0)) before };
+
+    #[inline(always)]
+    fn read_children<P: Places>(
+        descent: &mut Descent<'a, '_, P>,
+    ) -> Result<RequiredValue<T>, Refusal> {
+        Ok(RequiredValue(value(descent)?))
+    }
+}
+
+impl<'a, T: Simple<'a>, const NAME: u16> Children<'a> for OptionalValue<T, NAME> {
+    ghost stand = { λ ks declared at. (is_optional_at declared at ≡ true) × (NAME ≡ name_at declared at) × (takes_at T.takes ks declared at ≡ true) };
+
+    ghost behind = { λ at. suc at };
+
+    ghost told = { λ declared at v before. told_perhaps NAME (mapped (λ x. Of (T.value x)) v.0) before };
+
+    #[inline(always)]
+    fn read_children<P: Places>(
+        descent: &mut Descent<'a, '_, P>,
+    ) -> Result<OptionalValue<T, NAME>, Refusal> {
+        Ok(OptionalValue(optional_value(descent, NAME)?))
+    }
+}
+
+impl<'a, T: Choice<'a>> Children<'a> for OneOf<T> {
+    ghost stand = { λ ks declared at. (ks ≡ T.kinds) × (is_required (slice_get declared at) ≡ true) × (alternatives_at declared at ≡ T.members) };
+
+    ghost behind = { λ at. suc at };
+
+    ghost told = { λ declared at v before. told_one (T.name v.0) (T.inside v.0) before };
+
+    #[inline(always)]
+    fn read_children<P: Places>(descent: &mut Descent<'a, '_, P>) -> Result<OneOf<T>, Refusal> {
+        Ok(OneOf(choice(descent)?))
+    }
+}
+
+impl<'a, T: Group<'a>> Children<'a> for AtMostOneOf<T> {
+    ghost stand = { λ ks declared at. (ks ≡ T.kinds) × (is_single (slice_get declared at) ≡ true) × (alternatives_at declared at ≡ T.members) };
+
+    ghost behind = { λ at. suc at };
+
+    ghost told = { λ declared at v before. told_choice (mapped (λ x. (T.name x, T.inside x)) v.0) before };
+
+    #[inline(always)]
+    fn read_children<P: Places>(
+        descent: &mut Descent<'a, '_, P>,
+    ) -> Result<AtMostOneOf<T>, Refusal> {
+        Ok(AtMostOneOf(optional_choice(descent)?))
+    }
+}
