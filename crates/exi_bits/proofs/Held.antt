@@ -156,22 +156,21 @@ passed_both old mid new first second a b =
       there = a.there ∙ ap (λ (l : List Bool). first ++ l) b.there ∙ sym (append_assoc first second (drop new.place new.bits));
     }
 
-octet_spelled : (most value : ℕ) (bits : List Bool) → 0 < most → value < 128 → SpellsNumber 8 value bits → SpellsOctets most value bits
-octet_spelled most value bits some low number =
-    subst (λ (l : List Bool). SpellsOctets most value l) (sym (number.spelled ∙ low_octet value low)) (only_octet most value some low)
+pub octet_taken : (most value : ℕ) (old new : Cursor) → 0 < most → value < 128 → Takes (SpellsNumber 8 value) old new → Takes (SpellsOctets most value) old new
+octet_taken most value old new some low taken = (
+  taken.0,
+  subst (λ (l : List Bool). SpellsOctets most value l) (sym (taken.1.spelled ∙ low_octet value low)) (only_octet most value some low),
+  taken.2,
+)
 
-pub octet_taken : (value : ℕ) (old new : Cursor) → value < 128 → Takes (SpellsNumber 8 value) old new → Takes (SpellsUnsigned value) old new
-octet_taken value old new low taken = (taken.0, octet_spelled 10 value taken.0 (omega arith) low taken.1, taken.2)
-
-pub octets_taken : (first second : ℕ) (old mid new : Cursor) → 128 ≤ first → second < 128 → Takes (SpellsNumber 8 first) old mid → Takes (SpellsNumber 8 second) mid new → Takes (SpellsUnsigned (first - 128 + 128 * second)) old new
-octets_taken first second old mid new high low a b =
+pub octets_taken : (most first rest : ℕ) (old mid new : Cursor) → 128 ≤ first → rest < 2 ^ 57 → Takes (SpellsNumber 8 first) old mid → Takes (SpellsOctets most rest) mid new → Takes (SpellsOctets (suc most) (first - 128 + 128 * rest)) old new
+octets_taken most first rest old mid new high fits a b =
     let range : first < 2 ^ 8 = a.1.range in
     let group : first - 128 < 128 = omega (arith, range) in
     let back : first ≡ first - 128 + 128 = omega (arith, high) in
     let front : a.0 ≡ octet true (first - 128) = a.1.spelled ∙ ap (number_bits 8) back ∙ high_octet (first - 128) group in (
       a.0 ++ b.0,
-      subst (λ (l : List Bool). SpellsOctets 10 (first - 128 + 128 * second) (l ++ b.0)) (sym front)
-          (more_octets 9 (first - 128) second b.0 group (omega (arith, low)) (octet_spelled 9 second b.0 (omega arith) low b.1)),
+      subst (λ (l : List Bool). SpellsOctets (suc most) (first - 128 + 128 * rest) (l ++ b.0)) (sym front) (more_octets most (first - 128) rest b.0 group (omega (arith, fits)) b.1),
       passed_both old mid new a.0 b.0 a.2 b.2,
     )
 

@@ -1,8 +1,8 @@
 //! The next bits of a payload, held in a number.
 
-ghost use Rattle.std.specs.Prelude.{◌≡◌, ℕ, ◌+◌, ◌*◌, ◌≤◌, length, take, drop, IfSome};
+ghost use Rattle.std.specs.Prelude.{◌≡◌, ℕ, ◌+◌, ◌*◌, ◌^◌, ◌<◌, ◌≤◌, length, take, drop, IfSome};
 ghost use Rattle.exi_spec.specs.Bits.{bits_of, number_bits};
-ghost use Rattle.exi_spec.specs.Items.{SpellsBool, SpellsNumber, SpellsUnsigned, SpellsInteger};
+ghost use Rattle.exi_spec.specs.Items.{SpellsBool, SpellsNumber, SpellsOctets, SpellsUnsigned, SpellsInteger};
 
 use crate::cursor::signed;
 use std::marker::Model;
@@ -112,10 +112,25 @@ impl<'a> BitWindow<'a> {
         Some(bit == 1)
     }
 
-    /// Takes an Unsigned Integer (7.1.6) of one octet or two.
+    /// Takes an Unsigned Integer (7.1.6) of at most three octets.
     #[inline(always)]
     pub fn take_unsigned(&mut self) -> Option<u64>
         ensures taken { IfSome result (λ value. Takes (SpellsUnsigned value) self.old self.new) }
+        ensures same { self.new.bits ≡ self.old.bits }
+    {
+        let first = self.take_bits(8)?;
+        if first < 128 {
+            return Some(u64::from(first));
+        }
+        let high = self.take_two_octets()?;
+        Some(u64::from(first - 128) + 128 * high)
+    }
+
+    /// Takes what at most two octets spell.
+    #[inline(always)]
+    fn take_two_octets(&mut self) -> Option<u64>
+        ensures few { IfSome result (λ value. value < 2 ^ 57) }
+        ensures taken { IfSome result (λ value. Takes (SpellsOctets 9 value) self.old self.new) }
         ensures same { self.new.bits ≡ self.old.bits }
     {
         let first = self.take_bits(8)?;
@@ -129,7 +144,7 @@ impl<'a> BitWindow<'a> {
         Some(u64::from(first - 128) + 128 * u64::from(second))
     }
 
-    /// Takes an Integer (7.1.5) whose magnitude has one octet or two.
+    /// Takes an Integer (7.1.5) whose magnitude has at most three octets.
     #[inline(always)]
     pub fn take_integer(&mut self) -> Option<i128>
         ensures taken { IfSome result (λ value. Takes (SpellsInteger value) self.old self.new) }

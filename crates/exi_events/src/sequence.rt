@@ -63,25 +63,6 @@ fn short_child<'a>(window: &mut BitWindow, child: SequenceChild) -> Option<Value
     Some(value)
 }
 
-/// Takes the children of a sequence and the end of their element, where the window holds all of it and nothing of it is refused.
-#[inline(always)]
-fn short_three<'a>(window: &mut BitWindow, children: ThreeChildren) -> Option<ThreeValues<'a>>
-    ensures values { (s : PlainSchema) (name : ℕ) (here : SchemaPlace) (above : List Opened) (entries : List (ℕ × SpanAt)) → IsSequence s.kinds here (children_of children)
-        → IfSome result (λ three. TakesSequence (inside_at s name here above window.old.bits entries window.old) (behind_all s above window.old.bits entries window.new) (values_of three)) }
-    ensures lent { IfSome result (AreLent window.old.bits) }
-    ensures same { window.new.bits ≡ window.old.bits }
-{
-    let first = short_child(window, children.first)?;
-    let second = short_child(window, children.second)?;
-    let third = short_child(window, children.third)?;
-    short_only(window)?;
-    Some(ThreeValues {
-        first,
-        second,
-        third,
-    })
-}
-
 /// Takes the children of a sequence and the end of their element, where they have few bits and none is refused; else nothing.
 #[inline(always)]
 pub(crate) fn take_three<'a>(
@@ -95,7 +76,14 @@ pub(crate) fn take_three<'a>(
     ensures none { result ≡ None → reader.new ≡ reader.old }
 {
     let mut window = reader.window()?;
-    let values = short_three(&mut window, children)?;
+    let first = short_child(&mut window, children.first)?;
+    let second = short_child(&mut window, children.second)?;
+    let third = short_child(&mut window, children.third)?;
+    short_only(&mut window)?;
     reader.pass(window);
-    Some(values)
+    Some(ThreeValues {
+        first,
+        second,
+        third,
+    })
 }

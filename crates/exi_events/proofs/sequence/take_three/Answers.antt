@@ -1,10 +1,32 @@
-use Rattle.std.proofs.Common.{sym, subst}
+use Rattle.std.proofs.Common.{refl, ap, sym, subst, ◌∙◌}
 use Rattle.exi_bits.specs.Reading.{Cursor}
-use Rattle.exi_events.specs.Sequence.{TakesSequence, values_of, inside_at, behind_all}
+use Rattle.exi_schema.specs.declared.places.Step.TheVariants.{End}
+use Rattle.exi_events.specs.Sequence.{TakesSequence, values_of, inside_at, behind_all, AreLent}
+use Rattle.exi_events.proofs.Sequences.{offers_first, offers_second, offers_third, offers_end, same_child, same_lent, end_took}
 use Rattle.exi_events.proofs.sequence.take_three.Goals as goal
 
 pub returns-clause-values : goal.returns-clause-values
 returns-clause-values c = λ s name here above entries is.
-    let P : Cursor → Cursor → Type 0 = λ old new. TakesSequence (inside_at s name here above old.bits entries old) (behind_all s above old.bits entries new) (values_of c.in_ok-values.values) in
+    let same1 = c.in_ok-first.ensures.same in
+    let same2 = c.in_ok-second.ensures.same in
+    let same3 = c.in_ok-third.ensures.same in
+    let first = c.in_ok-first.ensures.child s name here is.1 above entries (offers_first s name here above _ _ _ is) in
+    let second = same_child s name is.1 is.4.1 above _ _ _ _ _ _ _ _ same1 (c.in_ok-second.ensures.child s name is.1 is.4.1 above entries (offers_second s name here above _ _ _ is)) in
+    let third = same_child s name is.4.1 is.4.4.1 above _ _ _ _ _ _ _ _ (same2 ∙ same1) (c.in_ok-third.ensures.child s name is.4.1 is.4.4.1 above entries (offers_third s name here above _ _ _ is)) in
+    let end = end_took s name is.4.4.1 above _ _ _ (c.in_ok-short_only.ensures.taken s.kinds is.4.4.1 End (offers_end s name here above _ _ _ is)) in
+    let P : Cursor → Cursor → Type 0 = λ old new. TakesSequence (inside_at s name here above old.bits entries old) (behind_all s above old.bits entries new)
+    (values_of (record { first = c.in_ok-first.first; second = c.in_ok-second.second; third = c.in_ok-third.third })) in
     subst (λ (new : Cursor). P c.args.reader.now new) (sym c.pass.ensures)
-    (subst (λ (old : Cursor). P old c.short_three.new.window) c.in_ok-window.ensures (c.in_ok-values.ensures.values s name here above entries is))
+    (subst (λ (old : Cursor). P old c.short_only.new.window) c.in_ok-window.ensures
+    (_, _, refl, same1, first, (_, _, refl, same2, second, (_, _, refl, same3, third, end))))
+
+pub returns-clause-lent : goal.returns-clause-lent
+returns-clause-lent c =
+    let same0 = ap (λ (k : Cursor). k.bits) c.in_ok-window.ensures in
+    let same1 = c.in_ok-first.ensures.same in
+    let same2 = c.in_ok-second.ensures.same in
+    record {
+      first = same_lent _ _ _ same0 c.in_ok-first.ensures.lent;
+      second = same_lent _ _ _ (same1 ∙ same0) c.in_ok-second.ensures.lent;
+      third = same_lent _ _ _ (same2 ∙ same1 ∙ same0) c.in_ok-third.ensures.lent;
+    }

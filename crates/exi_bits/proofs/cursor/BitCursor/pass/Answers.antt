@@ -1,5 +1,4 @@
 use Rattle.std.proofs.Common.{◌≡◌, ◌*◌, length, ap, sym, ◌∙◌, arith}
-use Rattle.exi_spec.specs.Bits.{bits_of}
 use Rattle.exi_spec.proofs.BitLaws.{length-bits_of}
 use Rattle.exi_bits.specs.Reading.{Cursor}
 use Rattle.exi_bits.proofs.cursor.BitCursor.pass.Goals as goal
