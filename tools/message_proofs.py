@@ -145,6 +145,16 @@ def read_apart(t, kind, it):
     return "\npub returns-clause-read : goal.returns-clause-read\nreturns-clause-read g c = λ F told h here.\n" + "\n".join(lines) + "\n"
 
 
+def read_brief(file):
+    """The answers of the functions that read one of the brief members of a group."""
+    found = "(_, refl, it.0, it.1)"
+    weaker = f"IfOk-weaker c.read_member_here.result _ _ (λ _ it. {found})"
+    again = answer("in-Some-Brief-clause-read", "told", [f"    {weaker} (c.read_member_here.ensures.read F told h)"])
+    anew = answer("clause-read", "told", ["    let it = c.in_ok-read_member_here.ensures.read F told h in", f"    {found}"])
+    refl = "use Rattle.std.proofs.Common.{refl}\n"
+    return [(f"{file}/brief", refl + "use Rattle.std.proofs.lemmas.Result.{IfOk-weaker}\n", again), (f"{file}/brief_anew", refl, anew)]
+
+
 def read_choice(t, kind):
     members, text = t.choices[kind], ""
     for n, (it, call) in enumerate(zip(members, numbered(it.read() for it in members))):
@@ -220,4 +230,5 @@ def proofs(t, crate, file, kind):
     if kind in t.large and kind in t.choices:
         apart = [it for it in t.own(kind) if t.holds_list(it.kind)]
         places += [(f"{file}/{it.word}", "use Rattle.std.proofs.Common.{refl}\n", read_apart(t, kind, it)) for it in apart]
+        places += read_brief(file) if kind in t.brief else []
     return {place: with_uses(t, crate, place, head, body) for place, head, body in places}
