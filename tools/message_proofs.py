@@ -84,52 +84,87 @@ def put_only(t, kind):
 
 def put_choice(t, kind):
     low, text, seen = t.lower(kind), "", set()
-    for it in t.choices[kind]:
-        call = it.put() if it.put() not in seen else f"{it.put()}-in-{it.variant}"
-        seen.add(it.put())
-        fact = f"(subst (λ o. Writes F (one_onto ({low}_name o) ({low}_inside o) rest) (put_of c.args.writer.now)) c.in-{it.variant}.is h)"
-        text += answer(f"in-{it.variant}-clause-write", "rest", [f"    c.{call}.ensures.write F rest {fact}"])
+    puts = [("Brief", "write_member")] if kind in t.brief else []
+    for variant, put in [*puts, *((it.variant, it.put()) for it in t.own(kind))]:
+        call = put if put not in seen else f"{put}-in-{variant}"
+        seen.add(put)
+        fact = f"(subst (λ o. Writes F (one_onto ({low}_name o) ({low}_inside o) rest) (put_of c.args.writer.now)) c.in-{variant}.is h)"
+        text += answer(f"in-{variant}-clause-write", "rest", [f"    c.{call}.ensures.write F rest {fact}"])
     return text
+
+
+def tested(n):
+    """The names of the test of the member at n, and of its branch."""
+    return "c.is_at" if n == 0 else "c.is_at-else-is_at" + (f"-{n}" if n > 1 else ""), "c.if-is_at" + (f"-{n + 1}" if n else "")
+
+
+def is_here(n):
+    return "({}.ensures.here {}.true)".format(*tested(n))
+
+
+def pair(t, it):
+    return f"({it.name}, {kind_name(t, it)})"
+
+
+def pairs(t, members):
+    listed = " ∷ ".join([*(pair(t, it) for it in members), "[]"])
+    return f"({listed})" if members else listed
+
+
+def none_here(count):
+    """That the child is none of the members before."""
+    absent = "tt"
+    for k in reversed(range(count)):
+        test, branch = tested(k)
+        absent = f"({test}.ensures.absent {branch}.false, {absent})"
+    return absent
 
 
 def member_here(t, members, n):
     """That the child which has started is this member: by the test of its name, the last since no other is left."""
-    pair = lambda it: f"({it.name}, {kind_name(t, it)})"
-    test = lambda n: "c.is_at" if n == 0 else "c.is_at-else-is_at" + (f"-{n}" if n > 1 else "")
-    branch = lambda n: "c.if-is_at" + (f"-{n + 1}" if n else "")
     if n < len(members) - 1:
-        return f"({test(n)}.ensures.here {branch(n)}.true)"
-    others = " ∷ ".join([pair(other) for other in members[:-1]] + ["[]"])
-    absent = "tt"
-    for k in reversed(range(n)):
-        absent = f"({test(k)}.ensures.absent {branch(k)}.false, {absent})"
-    others = f"({others})" if n else "[]"
-    return f"(only_last {others} {pair(members[n])} _ F.name h.kind h.here h.among {absent})"
+        return is_here(n)
+    return f"(only_last {pairs(t, members[:n])} {pair(t, members[n])} _ F.name h.kind h.here h.among {none_here(n)})"
 
 
-def member_of(call, fact):
+def member_of(t, kind, call, fact):
     """A member that was read, as the one of its group that stands in the place."""
-    return [f"    let it = {call}.ensures.read F _ _ _ told h {fact} refl refl in", "    (_, refl, it.0, it.1)"]
+    read = f"{call}.ensures.read F _ _ _ told h {fact} refl refl"
+    return [f"    {read}"] if t.is_brief(kind) else [f"    let it = {read} in", "    (_, refl, it.0, it.1)"]
 
 
 def read_large_choice(t, kind):
-    members, text = t.choices[kind], ""
+    members, text = t.own(kind), ""
     calls = iter(list(numbered(it.read() for it in members if not t.holds_list(it.kind))))
     for n, it in enumerate(members):
-        fact = member_here(t, members, n)
+        fact = is_here(n) if kind in t.brief else member_here(t, members, n)
         if t.holds_list(it.kind):
-            last = n == len(members) - 1
+            last = n == len(members) - 1 and kind not in t.brief
             at = n if last else n + 1
             arm = f"{'else' if last else 'then'}-is_at" + (f"-{at}" if at > 1 else "")
             text += answer(f"{arm}-clause-read", "told", [f"    c.{it.word}.ensures.read F told h {fact}"])
         else:
             call = next(calls)
-            text += answer(f"in_ok-{call}-clause-read", "told", member_of(f"c.in_ok-{call}", fact))
+            text += answer(f"in_ok-{call}-clause-read", "told", member_of(t, kind, f"c.in_ok-{call}", fact))
+    if kind in t.brief:
+        rest = f"chosen_rest kinds F {t.lower(kind)}_members {pairs(t, members)} told _ h {none_here(len(members))}"
+        text += answer(f"else-is_at-{len(members)}-clause-read", "told", [f"    c.brief.ensures.read F told ({rest})"])
     return text
 
 
-def read_apart(it):
-    return "\npub returns-clause-read : goal.returns-clause-read\nreturns-clause-read g c = λ F told h here.\n" + "\n".join(member_of(f"c.in_ok-{it.read()}", "here")) + "\n"
+def read_apart(t, kind, it):
+    lines = member_of(t, kind, f"c.in_ok-{it.read()}", "here")
+    return "\npub returns-clause-read : goal.returns-clause-read\nreturns-clause-read g c = λ F told h here.\n" + "\n".join(lines) + "\n"
+
+
+def read_brief(file):
+    """The answers of the functions that read one of the brief members of a group."""
+    found = "(_, refl, it.0, it.1)"
+    weaker = f"IfOk-weaker c.read_member_here.result _ _ (λ _ it. {found})"
+    again = answer("in-Some-Brief-clause-read", "told", [f"    {weaker} (c.read_member_here.ensures.read F told h)"])
+    anew = answer("clause-read", "told", ["    let it = c.in_ok-read_member_here.ensures.read F told h in", f"    {found}"])
+    refl = "use Rattle.std.proofs.Common.{refl}\n"
+    return [(f"{file}/brief", refl + "use Rattle.std.proofs.lemmas.Result.{IfOk-weaker}\n", again), (f"{file}/brief_anew", refl, anew)]
 
 
 def read_choice(t, kind):
@@ -159,10 +194,13 @@ def put_choice_head(t, crate, file, kind):
     return head + f"use Rattle.{crate}.specs.{file.capitalize()}.{{{low}_name, {low}_inside}}\n"
 
 
-def read_choice_head(t, kind):
-    members = t.choices[kind]
+def read_choice_head(t, crate, file, kind):
+    members = t.own(kind)
     rules = "rules, " if any(t.is_signed(it.kind) for it in members) else ""
     head = f"use Rattle.std.proofs.Common.{{{rules}refl, []{', ◌∷◌' if len(members) > 1 else ''}}}\nuse Rattle.message_parts.proofs.Chosen.{{only_last}}\n"
+    if kind in t.brief:
+        head = f"use Rattle.std.proofs.Common.{{[], ◌∷◌}}\nuse Rattle.{crate}.proofs.Rest.{{chosen_rest}}\n"
+        head += f"use Rattle.{t.s.crate}.specs.Declarations.{{kinds}}\nuse Rattle.{crate}.specs.{file.capitalize()}.{{{t.lower(kind)}_members}}\n"
     head += f"use Rattle.{t.s.crate}.specs.declared.names.TheConstants.{{{', '.join(it.name for it in members)}}}\n"
     kinds = dict.fromkeys(kind_name(t, it) for it in members)
     return head + f"use Rattle.{t.s.crate}.specs.declared.kinds.TheConstants.{{{', '.join(kinds)}}}\n"
@@ -189,9 +227,10 @@ def proofs(t, crate, file, kind):
         put = put_choice if len(t.choices[kind]) > 1 else put_only
         found.append(("PutChoice/write_member", put_choice_head(t, crate, file, kind), put(t, kind)))
         if kind in t.large:
-            found.append(("LargeGroup/read_member_into", read_choice_head(t, kind), read_large_choice(t, kind)))
+            at = "LargeChoice/read_member_here" if t.is_brief(kind) else "LargeGroup/read_member_into"
+            found.append((at, read_choice_head(t, crate, file, kind), read_large_choice(t, kind)))
         else:
-            found.append(("Choice/read_member", read_choice_head(t, kind), read_choice(t, kind)))
+            found.append(("Choice/read_member", read_choice_head(t, crate, file, kind), read_choice(t, kind)))
     elif kind in t.s.content:
         found.append(("PutRecord/write", "", put_record(t, kind)))
         large = "LargeRecord/read_here" if kind in t.large else "Record/read"
@@ -201,6 +240,7 @@ def proofs(t, crate, file, kind):
         found.append(("Record/read", head, read_empty(t)))
     places = [(f"{file}/{name}{place}", head, body) for place, head, body in found]
     if kind in t.large and kind in t.choices:
-        apart = [it for it in t.choices[kind] if t.holds_list(it.kind)]
-        places += [(f"{file}/{it.word}", "use Rattle.std.proofs.Common.{refl}\n", read_apart(it)) for it in apart]
+        apart = [it for it in t.own(kind) if t.holds_list(it.kind)]
+        places += [(f"{file}/{it.word}", "use Rattle.std.proofs.Common.{refl}\n", read_apart(t, kind, it)) for it in apart]
+        places += read_brief(file) if kind in t.brief else []
     return {place: with_uses(t, crate, place, head, body) for place, head, body in places}

@@ -117,7 +117,7 @@ def choice_definitions(t, kind):
     low, name, members = t.lower(kind), t.camel(kind), t.choices[kind]
     lends = ("Lends → ", "l ") if t.lent(kind) else ("", "")
     text = ""
-    one = lambda it: f"option_map (λ inside. {low}.{it.variant} ({read_inside(t, it.kind, 'inside')})) (head (x {it.name}))"
+    one = lambda it: f"option_map (λ inside. {t.one_of(kind, it, '(' + read_inside(t, it.kind, 'inside') + ')')}) (head (x {it.name}))"
     used = {it.optional for of in t.places if of not in t.choices for it in t.inner(of) if it.form == "choice" and it.kind == kind}
     for optional in sorted(used):
         suffix, result, link = ("if", f"Option {name}", "or_next") if optional else ("in", name, "or_last")
@@ -130,7 +130,8 @@ def choice_definitions(t, kind):
         text += "    " + last + ")" * (len(listed) - 1) + "\n\n"
     if t.lent(kind):
         text += f"abbrev pub settled_{low} : Lends → {name} → {name}\n"
-        text += "".join(f"settled_{low} l ({low}.{it.variant} x) = {low}.{it.variant} {bracketed(settle(t, it.kind, 'x'))}\n" for it in members) + "\n"
+        text += f"settled_{low} l ({low}.Brief x) = {low}.Brief ({settle(t, t.brief[kind], 'x')})\n" if kind in t.brief else ""
+        text += "".join(f"settled_{low} l ({low}.{it.variant} x) = {low}.{it.variant} {bracketed(settle(t, it.kind, 'x'))}\n" for it in t.own(kind)) + "\n"
     return text
 
 
@@ -198,7 +199,7 @@ def member_at(t, it, m, at):
     if m is None:
         return "None"
     same = same_one(t, m.kind, at)
-    one = f"{t.lower(it.kind)}.{m.variant} " + (f"({same} i)" if same else bracketed(settle(t, m.kind, at)))
+    one = t.one_of(it.kind, m, f"({same} i)" if same else bracketed(settle(t, m.kind, at)))
     return f"Some ({one})" if it.optional else one
 
 
@@ -254,7 +255,7 @@ def record_proofs(t, kind):
                 rows.append(f"{it.field} = {field_at(t, it, it.field, low)}")
                 continue
             m, letter = case[it.field], next(letters)
-            one = f"{t.lower(it.kind)}.{m.variant} {letter}" if m else "None"
+            one = t.one_of(it.kind, m, letter) if m else "None"
             values.append("None" if m is None else f"(Some ({one}))" if it.optional else f"({one})")
             rows.append(f"{it.field} = {member_at(t, it, m, letter)}")
         text += f"{low}_at {l}{' '.join(values)} = " + between(rows)[1:-1].replace("\n      ", "\n  ").replace("\n    }", "\n}") + "\n"

@@ -1,4 +1,6 @@
 """The shapes of a dialect's types, read from the list of its declarations and from the list of its types."""
+import re
+
 from schema_tables import Schema
 
 NUMBERS = {
@@ -72,10 +74,13 @@ class Types:
         self.s = Schema(path)
         self.s.crate = schema
         self.renamed, self.files, self.file_sections, self.large = {}, [], {}, set()
+        self.long, self.brief = set(), {}
         for crate, file, section, kinds in listed_types(types):
             self.file_sections[crate, file] = section
             self.large |= {it.split("*")[0] for it in kinds if "*" in it}
-            kinds = [it.replace("*", "") for it in kinds]
+            self.long |= {it.removesuffix("!") for it in kinds if it.endswith("!")}
+            self.brief.update(it.split("*<")[::-1] for it in kinds if "<" in it)
+            kinds = [re.sub(r"[*!]|<.*", "", it) for it in kinds]
             self.renamed.update(it.split("=") for it in kinds if "=" in it)
             self.files.append((crate, file, [it.split("=")[0] for it in kinds]))
         self.kinds = {self.s.kind(it): it for it in self.s.kinds}
@@ -91,6 +96,7 @@ class Types:
             for it in particles:
                 if len(it.members) > 1:
                     self.choices[self.choice_of(kind, it)] = self.members(self.choice_of(kind, it), it)
+        self.choices.update({brief: [it for it in self.choices[group] if it.kind not in self.long] for group, brief in self.brief.items()})
         self.defaults = self.with_defaults()
 
     # ---- names
@@ -134,6 +140,19 @@ class Types:
             it.variant, it.word = "".join(word.capitalize() for word in short.split("_")), short.lower()
             made.append(it)
         return made
+
+    def is_brief(self, kind):
+        return kind in self.brief.values()
+
+    def own(self, choice):
+        """The members that are variants of the type itself, and not of that of the brief ones."""
+        return [it for it in self.choices[choice] if choice not in self.brief or it.kind in self.long]
+
+    def one_of(self, choice, it, value):
+        """A member as one of its choice, in definitions."""
+        if choice in self.brief and it.kind not in self.long:
+            return f"{self.lower(choice)}.Brief ({self.one_of(self.brief[choice], it, value)})"
+        return f"{self.lower(choice)}.{it.variant} {value}"
 
     def fields(self, kind):
         attributes, particles = self.s.content.get(kind, ([], []))

@@ -60,11 +60,14 @@ def record(t, kind):
 
 def choice(t, kind):
     low, name, members = t.lower(kind), t.camel(kind), t.choices[kind]
-    text = f"-- the elements of {kind} in the profile, with their kinds\nabbrev pub {low}_members : List (ℕ × ℕ)\n"
+    what = next((f"{group} that hold no long list" for group, it in t.brief.items() if it == kind), f"{kind} in the profile")
+    text = f"-- the elements of {what}, with their kinds\nabbrev pub {low}_members : List (ℕ × ℕ)\n"
     text += f"{low}_members =\n    {listed([f'({it.name}, {kind_name(t, it)})' for it in members])}\n\n"
-    text += f"abbrev pub {low}_name : {name} → ℕ\n" + "".join(f"{low}_name ({low}.{it.variant} x) = {it.name}\n" for it in members) + "\n"
-    text += f"abbrev pub {low}_inside : {name} → Inside\n"
-    return text + "".join(f"{low}_inside ({low}.{it.variant} x) = {inside(t, it.kind, 'x')}\n" for it in members) + "\n"
+    brief = lambda word: f"{low}_{word} ({low}.Brief x) = {t.lower(t.brief[kind])}_{word} x\n" if kind in t.brief else ""
+    text += f"abbrev pub {low}_name : {name} → ℕ\n{brief('name')}"
+    text += "".join(f"{low}_name ({low}.{it.variant} x) = {it.name}\n" for it in t.own(kind)) + "\n"
+    text += f"abbrev pub {low}_inside : {name} → Inside\n{brief('inside')}"
+    return text + "".join(f"{low}_inside ({low}.{it.variant} x) = {inside(t, it.kind, 'x')}\n" for it in t.own(kind)) + "\n"
 
 
 def ordinals(t, crate, file, kinds):

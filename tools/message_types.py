@@ -18,7 +18,7 @@ from message_shapes import Types, in_groups
 from message_specs import definitions
 
 WORDS = [
-    "Binary", "Choice", "Descent", "Group", "LargeGroup", "LargeRecord", "PutChoice", "PutRecord", "Record", "Text", "attribute", "choice",
+    "Binary", "Choice", "Descent", "Group", "LargeChoice", "LargeGroup", "LargeRecord", "PutChoice", "PutRecord", "Record", "Text", "attribute", "choice",
     "first_child", "last_attribute", "left_out", "member", "member_value", "optional", "optional_choice", "optional_choice_here",
     "optional_value", "put_attribute", "put_choice", "put_optional", "put_optional_attribute", "put_optional_choice", "put_optional_value",
     "put_record", "put_records", "put_value", "put_values", "records", "required", "required_here", "three_values", "value", "values",
@@ -172,56 +172,93 @@ def chain(t, name, members):
     return text
 
 
-def large_chain(t, name, members):
+def stored(t, kind, it):
+    """A member that is read, as it is stored."""
+    one = f"{t.camel(kind)}::{it.variant}({it.read()}(descent)?)"
+    return one if t.is_brief(kind) else f"Some({one})"
+
+
+def large_chain(t, kind):
     """Reads one of these members into a place, after its name; the last without a look at it."""
+    place = "self" if t.is_brief(kind) else "place"
+    steps = [(it.name, f"{it.word}({place}, descent)" if t.holds_list(it.kind) else f"*{place} = {stored(t, kind, it)};\n            Ok(())") for it in t.own(kind)]
+    steps += [("", "brief(place, descent)")] if kind in t.brief else []
     text = "        "
-    for n, it in enumerate(members):
-        stands = f"*place = Some({name}::{it.variant}({it.read()}(descent)?));\n            Ok(())"
-        head = f"if descent.is_at(names::{it.name}) " if n < len(members) - 1 else ""
-        text += f"{head}{{\n            {f'{it.word}(place, descent)' if t.holds_list(it.kind) else stands}\n        }}{' else ' if head else chr(10)}"
+    for n, (name, step) in enumerate(steps):
+        head = f"if descent.is_at(names::{name}) " if n < len(steps) - 1 else ""
+        text += f"{head}{{\n            {step}\n        }}{' else ' if head else chr(10)}"
     return text
 
 
-def apart(name, low, it):
-    """Reads a member that holds a list."""
-    return f"""/// {it.type.split("<")[0]}, which holds a list: apart from the others, so that they don't fill its room.
-#[inline(never)]
-fn {it.word}<'a, P: Places>(place: &mut Option<{name}<'a>>, descent: &mut Descent<'a, '_, P>) -> Result<(), Refusal>
+def into_place(t, kind, word, members, child, body):
+    """A function that reads a member into a place."""
+    name, low = t.camel(kind), t.lower(kind)
+    place, value = (f"{name}<'a>", "place.new") if t.is_brief(kind) else (f"Option<{name}<'a>>", "v")
+    found = "" if t.is_brief(kind) else f"(v : {name}) × (place.new ≡ Some v) × "
+    return f"""fn {word}<'a, P: Places>(place: &mut {place}, descent: &mut Descent<'a, '_, P>) -> Result<(), Refusal>
     requires open {{ IsOpen P.schema descent.old }}
     ensures open {{ IsOpen P.schema descent.new }}
     ensures table {{ descent.new.reader.table.ghost_name ≡ descent.old.reader.table.ghost_name }}
     ensures places {{ descent.new.reader.places.now ≡ descent.old.reader.places.now }}
     ensures payload {{ descent.new.reader.reader.bits ≡ descent.old.reader.reader.bits }}
     ensures refused {{ IfErr result (λ r. IsRefusal (seen_of P.schema descent.old) r) }}
-    ensures read {{ (F : Frame) (told : List TreeEvent) → IsChosen kinds F {low}_members told (seen_of P.schema descent.old) → descent.old.child ≡ Some {it.name}
-        → IfOk result (λ _. (v : {name}) × (place.new ≡ Some v) × ({low}_name v ≡ F.name) × Leaves kinds F (told_inside ({low}_inside v) told) (seen_of P.schema descent.new)) }}
+    ensures read {{ (F : Frame) (told : List TreeEvent) → IsChosen kinds F {members} told (seen_of P.schema descent.old){child}
+        → IfOk result (λ _. {found}({low}_name {value} ≡ F.name) × Leaves kinds F (told_inside ({low}_inside {value}) told) (seen_of P.schema descent.new)) }}
 {{
-    *place = Some({name}::{it.variant}({it.read()}(descent)?));
-    Ok(())
-}}
+{body}}}
 
 """
 
 
-def large_uses(t, crate, file, kind):
-    """What the clauses of a large group's own functions name."""
-    low, name = t.lower(kind), t.camel(kind)
-    names = ", ".join(it.name for it in t.choices[kind] if t.holds_list(it.kind))
+def apart(t, kind, it):
+    """Reads a member that holds a list."""
+    body = f"    *place = {stored(t, kind, it)};\n    Ok(())\n"
+    return f"""/// {it.type.split("<")[0]}, which holds a list: apart from the others, so that they don't fill its room.
+#[inline(never)]
+""" + into_place(t, kind, it.word, f"{t.lower(kind)}_members", f" → descent.old.child ≡ Some {it.name}", body)
+
+
+def brief_functions(t, kind):
+    """Read one of the brief members of a group."""
+    name, of_brief, members = t.camel(kind), t.brief[kind], f"{t.lower(t.brief[kind])}_members"
+    empty = next(it for it in t.choices[of_brief] if not t.inner(it.kind))
+    again = f"""    match place {{
+        Some({name}::Brief(brief)) => brief.read_member_here(descent),
+        _ => brief_anew(place, descent),
+    }}
+"""
+    anew = f"""    let mut brief = {t.camel(of_brief)}::{empty.variant}({empty.type});
+    brief.read_member_here(descent)?;
+    *place = Some({name}::Brief(brief));
+    Ok(())
+"""
+    return f"""/// One that holds no long list, over one that holds none either where such a one stands.
+{into_place(t, kind, "brief", members, "", again)}/// One that holds no long list, where another stands or none: this clears the room of the longest.
+#[inline(never)]
+{into_place(t, kind, "brief_anew", members, "", anew)}"""
+
+
+def large_uses(t, crate, file, kinds):
+    """What the clauses of the own functions of large groups name."""
+    names = ", ".join(it.name for it in t.choices[kinds[-1]] if t.holds_list(it.kind))
+    types = "".join(f"ghost use Rattle.{crate}.specs.declared.{file}.{t.camel(it)}.{{{t.camel(it)}}};\n" for it in kinds if not t.is_brief(it))
+    words = ", ".join(f"{t.lower(it)}_{word}" for it in kinds for word in ("members", "name", "inside"))
     return f"""ghost use Rattle.std.specs.Prelude.{{◌≡◌, [], List, Some, IfOk, IfErr}};
 ghost use Rattle.exi_documents.specs.Trees.{{Event as TreeEvent}};
 ghost use Rattle.message_parts.specs.Contents.{{told_inside}};
 ghost use Rattle.message_parts.specs.Reading.{{Frame, IsOpen, IsRefusal, IsChosen, Leaves, seen_of}};
 ghost use Rattle.{t.s.crate}.specs.Declarations.{{kinds}};
 ghost use Rattle.{t.s.crate}.specs.declared.names.TheConstants.{{{names}}};
-ghost use Rattle.{crate}.specs.declared.{file}.{name}.{{{name}}};
-ghost use Rattle.{crate}.specs.{file.capitalize()}.{{{low}_members, {low}_name, {low}_inside}};
+{types}ghost use Rattle.{crate}.specs.{file.capitalize()}.{{{words}}};
 """
 
 
 def choice(t, crate, file, kind):
     name, low, lent, members = t.camel(kind), t.lower(kind), t.lent(kind), t.choices[kind]
-    variants = "".join(f"    /// {it.bound}.\n    {it.variant}({it.type}),\n" if it.bound else f"    {it.variant}({it.type}),\n" for it in members)
-    puts = "".join(f"            {name}::{it.variant}({it.word}) => {it.put()}(writer, names::{it.name}, {it.word}),\n" for it in members)
+    variants = f"    Brief({t.type_of(t.brief[kind])}),\n" if kind in t.brief else ""
+    variants += "".join(f"    /// {it.bound}.\n    {it.variant}({it.type}),\n" if it.bound else f"    {it.variant}({it.type}),\n" for it in t.own(kind))
+    puts = f"            {name}::Brief(brief) => brief.write_member(writer),\n" if kind in t.brief else ""
+    puts += "".join(f"            {name}::{it.variant}({it.word}) => {it.put()}(writer, names::{it.name}, {it.word}),\n" for it in t.own(kind))
     listed = ", ".join(f"names::{it.name}" for it in members)
     # what the trait says of names has to be said again where the type borrows
     clause = f"\n        ensures {{ result.now ≡ names_among {low}_members }}\n   " if lent else ""
@@ -247,17 +284,20 @@ impl<'a> Group<'a> for {name}{"<'a>" if lent else ""} {{
 }}
 {group}"""
     if kind in t.large:
-        reading = "".join(apart(name, low, it) for it in members if t.holds_list(it.kind)) + f"""impl<'a> LargeGroup<'a> for {name}<'a> {{
+        functions = "".join(apart(t, kind, it) for it in t.own(kind) if t.holds_list(it.kind)) + (brief_functions(t, kind) if kind in t.brief else "")
+        own_use = f"    ghost use Rattle.{crate}.specs.{file.capitalize()}.{{{low}_members}};" if t.is_brief(kind) else uses.rstrip()
+        taken = "&mut self" if t.is_brief(kind) else f"place: &mut Option<{name}<'a>>"
+        reading = functions + f"""impl<'a> Large{"Choice" if t.is_brief(kind) else "Group"}<'a> for {name}<'a> {{
     ghost use Rattle.{t.s.crate}.specs.Declarations.{{kinds}};
-{uses.rstrip()}
+{own_use}
 
     ghost kinds = {{ kinds }};
 
     ghost members = {{ {low}_members }};
 
-{names}
-    fn read_member_into<P: Places>(place: &mut Option<{name}<'a>>, descent: &mut Descent<'a, '_, P>) -> Result<(), Refusal> {{
-{large_chain(t, name, members)}    }}
+{"" if t.is_brief(kind) else names}
+    fn read_member_{"here" if t.is_brief(kind) else "into"}<P: Places>({taken}, descent: &mut Descent<'a, '_, P>) -> Result<(), Refusal> {{
+{large_chain(t, kind)}    }}
 }}
 """
     default = f"""
@@ -268,6 +308,10 @@ impl{"<'a>" if lent else ""} Default for {name}{"<'a>" if lent else ""} {{
 }}
 """ if kind in t.defaults else ""
     what = f"One element of the substitution group {kind}" if kind in t.s.groups else f"One of the elements of {kind.removesuffix('Value')}"
+    if kind in t.brief:
+        what += ". The brief ones have a type of their own: one that is stored over\n/// another doesn't clear the room of the others"
+    if t.is_brief(kind):
+        what = f"One element of {next(group for group in t.brief if t.brief[group] == kind)} that holds no long list"
     return f"""
 /// {what}.
 {derived(t, kind)}
@@ -316,9 +360,8 @@ use message_parts::Simple;
     words = [it for it in CHILDREN if re.search(rf"(?<!\w){it}(?=[(:])", said)]
     lines += [f"use message_fields::{{{', '.join(words)}}};"] if words else []
     ghost = "ghost use Rattle.std.specs.Prelude.{[]};\n\n" if "[]" in re.sub(r"&\[[^]]*\]", "", said) else ""
-    for it in kinds:
-        if it in t.large and it in t.choices:
-            ghost = large_uses(t, crate, file, it) + "\n"
+    large = [it for it in kinds if it in t.large and it in t.choices]
+    ghost = large_uses(t, crate, file, large) + "\n" if large else ghost
     return f"//! Types of elements of {t.s.title}.\n\n{ghost}" + "\n".join(sorted(lines, key=order)) + "\n" + body
 
 

@@ -18,7 +18,7 @@ fn iso_word(tables: &IsoTables, payload: &[u8], table: &mut Table) -> Option<Wor
     ensures cap { table.new.cap ≡ most_entries }
     ensures read { iso_rules.Reads payload.now result }
 {
-    let mut message = IsoMessage::default();
+    let mut message = IsoMessage::unread();
     match read_iso(tables, payload, table, &mut message) {
         Ok(()) => Some(iso_words::to_word(&message)),
         Err(_) => None,

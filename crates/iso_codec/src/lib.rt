@@ -11,5 +11,5 @@ pub use charge_world::NoMemory;
 pub use codec::{read_iso, write_iso};
 pub use exi_documents::{Refusal, RefusalCause};
 pub use exi_events::{Full, Table};
-pub use message::{Body, BodyElement, IsoMessage};
+pub use message::{Body, BodyElement, BriefElement, IsoMessage};
 pub use tables::IsoTables;

@@ -7,7 +7,7 @@ ghost use Rattle.message_parts.specs.Reading.{Frame, IsOpen, IsRefusal, IsChosen
 ghost use Rattle.iso_schema.specs.Declarations.{kinds};
 ghost use Rattle.iso_schema.specs.declared.names.TheConstants.{CHARGE_PARAMETER_DISCOVERY_RES, PAYMENT_SERVICE_SELECTION_REQ, POWER_DELIVERY_REQ, SERVICE_DETAIL_RES, SERVICE_DISCOVERY_RES};
 ghost use Rattle.iso_codec.specs.declared.message.BodyElement.{BodyElement};
-ghost use Rattle.iso_codec.specs.Message.{body_element_members, body_element_name, body_element_inside};
+ghost use Rattle.iso_codec.specs.Message.{brief_element_members, brief_element_name, brief_element_inside, body_element_members, body_element_name, body_element_inside};
 
 use exi_documents::Refusal;
 use exi_events::EventWriter;
@@ -26,19 +26,18 @@ use iso_setup::{
     SessionSetupRes, SessionStopReq, SessionStopRes,
 };
 use message_parts::{
-    Descent, LargeGroup, LargeRecord, PutChoice, PutRecord, first_child, member,
+    Descent, LargeChoice, LargeGroup, LargeRecord, PutChoice, PutRecord, first_child, member,
     optional_choice_here, put_optional_choice, put_record, required, required_here,
 };
 
-/// One element of the substitution group BodyElement.
+/// One element of BodyElement that holds no long list.
 #[derive(Drop)]
-pub enum BodyElement<'a> {
+pub enum BriefElement<'a> {
     AuthorizationReq(AuthorizationReq<'a>),
     AuthorizationRes(AuthorizationRes),
     CableCheckReq(CableCheckReq),
     CableCheckRes(CableCheckRes),
     ChargeParameterDiscoveryReq(ChargeParameterDiscoveryReq),
-    ChargeParameterDiscoveryRes(ChargeParameterDiscoveryRes),
     ChargingStatusReq(ChargingStatusReq),
     ChargingStatusRes(ChargingStatusRes<'a>),
     CurrentDemandReq(CurrentDemandReq),
@@ -50,15 +49,272 @@ pub enum BodyElement<'a> {
     PreChargeReq(PreChargeReq),
     PreChargeRes(PreChargeRes),
     ServiceDetailReq(ServiceDetailReq),
-    ServiceDetailRes(ServiceDetailRes<'a>),
     ServiceDiscoveryReq(ServiceDiscoveryReq<'a>),
-    ServiceDiscoveryRes(ServiceDiscoveryRes<'a>),
     SessionSetupReq(SessionSetupReq<'a>),
     SessionSetupRes(SessionSetupRes<'a>),
     SessionStopReq(SessionStopReq),
     SessionStopRes(SessionStopRes),
     WeldingDetectionReq(WeldingDetectionReq),
     WeldingDetectionRes(WeldingDetectionRes),
+}
+
+impl PutChoice for BriefElement<'_> {
+    ghost use Rattle.iso_codec.specs.Message.{brief_element_name, brief_element_inside};
+
+    ghost name = { brief_element_name };
+
+    ghost inside = { brief_element_inside };
+
+    fn write_member<P: Places>(&self, writer: &mut EventWriter<'_, '_, P>) {
+        match self {
+            BriefElement::AuthorizationReq(authorization_req) => put_record(
+                writer,
+                names::AUTHORIZATION_REQ,
+                authorization_req,
+            ),
+            BriefElement::AuthorizationRes(authorization_res) => put_record(
+                writer,
+                names::AUTHORIZATION_RES,
+                authorization_res,
+            ),
+            BriefElement::CableCheckReq(cable_check_req) => put_record(
+                writer,
+                names::CABLE_CHECK_REQ,
+                cable_check_req,
+            ),
+            BriefElement::CableCheckRes(cable_check_res) => put_record(
+                writer,
+                names::CABLE_CHECK_RES,
+                cable_check_res,
+            ),
+            BriefElement::ChargeParameterDiscoveryReq(charge_parameter_discovery_req) => put_record(
+                writer,
+                names::CHARGE_PARAMETER_DISCOVERY_REQ,
+                charge_parameter_discovery_req,
+            ),
+            BriefElement::ChargingStatusReq(charging_status_req) => put_record(
+                writer,
+                names::CHARGING_STATUS_REQ,
+                charging_status_req,
+            ),
+            BriefElement::ChargingStatusRes(charging_status_res) => put_record(
+                writer,
+                names::CHARGING_STATUS_RES,
+                charging_status_res,
+            ),
+            BriefElement::CurrentDemandReq(current_demand_req) => put_record(
+                writer,
+                names::CURRENT_DEMAND_REQ,
+                current_demand_req,
+            ),
+            BriefElement::CurrentDemandRes(current_demand_res) => put_record(
+                writer,
+                names::CURRENT_DEMAND_RES,
+                current_demand_res,
+            ),
+            BriefElement::PaymentServiceSelectionReq(payment_service_selection_req) => put_record(
+                writer,
+                names::PAYMENT_SERVICE_SELECTION_REQ,
+                payment_service_selection_req,
+            ),
+            BriefElement::PaymentServiceSelectionRes(payment_service_selection_res) => put_record(
+                writer,
+                names::PAYMENT_SERVICE_SELECTION_RES,
+                payment_service_selection_res,
+            ),
+            BriefElement::PowerDeliveryReq(power_delivery_req) => put_record(
+                writer,
+                names::POWER_DELIVERY_REQ,
+                power_delivery_req,
+            ),
+            BriefElement::PowerDeliveryRes(power_delivery_res) => put_record(
+                writer,
+                names::POWER_DELIVERY_RES,
+                power_delivery_res,
+            ),
+            BriefElement::PreChargeReq(pre_charge_req) => put_record(
+                writer,
+                names::PRE_CHARGE_REQ,
+                pre_charge_req,
+            ),
+            BriefElement::PreChargeRes(pre_charge_res) => put_record(
+                writer,
+                names::PRE_CHARGE_RES,
+                pre_charge_res,
+            ),
+            BriefElement::ServiceDetailReq(service_detail_req) => put_record(
+                writer,
+                names::SERVICE_DETAIL_REQ,
+                service_detail_req,
+            ),
+            BriefElement::ServiceDiscoveryReq(service_discovery_req) => put_record(
+                writer,
+                names::SERVICE_DISCOVERY_REQ,
+                service_discovery_req,
+            ),
+            BriefElement::SessionSetupReq(session_setup_req) => put_record(
+                writer,
+                names::SESSION_SETUP_REQ,
+                session_setup_req,
+            ),
+            BriefElement::SessionSetupRes(session_setup_res) => put_record(
+                writer,
+                names::SESSION_SETUP_RES,
+                session_setup_res,
+            ),
+            BriefElement::SessionStopReq(session_stop_req) => put_record(
+                writer,
+                names::SESSION_STOP_REQ,
+                session_stop_req,
+            ),
+            BriefElement::SessionStopRes(session_stop_res) => put_record(
+                writer,
+                names::SESSION_STOP_RES,
+                session_stop_res,
+            ),
+            BriefElement::WeldingDetectionReq(welding_detection_req) => put_record(
+                writer,
+                names::WELDING_DETECTION_REQ,
+                welding_detection_req,
+            ),
+            BriefElement::WeldingDetectionRes(welding_detection_res) => put_record(
+                writer,
+                names::WELDING_DETECTION_RES,
+                welding_detection_res,
+            ),
+        }
+    }
+}
+
+/// PaymentServiceSelectionReq, which holds a list: apart from the others, so that they don't fill its room.
+#[inline(never)]
+fn payment_service_selection_req<'a, P: Places>(
+    place: &mut BriefElement<'a>,
+    descent: &mut Descent<'a, '_, P>,
+) -> Result<(), Refusal>
+    requires open { IsOpen P.schema descent.old }
+    ensures open { IsOpen P.schema descent.new }
+    ensures table { descent.new.reader.table.ghost_name ≡ descent.old.reader.table.ghost_name }
+    ensures places { descent.new.reader.places.now ≡ descent.old.reader.places.now }
+    ensures payload { descent.new.reader.reader.bits ≡ descent.old.reader.reader.bits }
+    ensures refused { IfErr result (λ r. IsRefusal (seen_of P.schema descent.old) r) }
+    ensures read { (F : Frame) (told : List TreeEvent) → IsChosen kinds F brief_element_members told (seen_of P.schema descent.old) → descent.old.child ≡ Some PAYMENT_SERVICE_SELECTION_REQ
+        → IfOk result (λ _. (brief_element_name place.new ≡ F.name) × Leaves kinds F (told_inside (brief_element_inside place.new) told) (seen_of P.schema descent.new)) }
+{
+    *place = BriefElement::PaymentServiceSelectionReq(member(descent)?);
+    Ok(())
+}
+
+/// PowerDeliveryReq, which holds a list: apart from the others, so that they don't fill its room.
+#[inline(never)]
+fn power_delivery_req<'a, P: Places>(
+    place: &mut BriefElement<'a>,
+    descent: &mut Descent<'a, '_, P>,
+) -> Result<(), Refusal>
+    requires open { IsOpen P.schema descent.old }
+    ensures open { IsOpen P.schema descent.new }
+    ensures table { descent.new.reader.table.ghost_name ≡ descent.old.reader.table.ghost_name }
+    ensures places { descent.new.reader.places.now ≡ descent.old.reader.places.now }
+    ensures payload { descent.new.reader.reader.bits ≡ descent.old.reader.reader.bits }
+    ensures refused { IfErr result (λ r. IsRefusal (seen_of P.schema descent.old) r) }
+    ensures read { (F : Frame) (told : List TreeEvent) → IsChosen kinds F brief_element_members told (seen_of P.schema descent.old) → descent.old.child ≡ Some POWER_DELIVERY_REQ
+        → IfOk result (λ _. (brief_element_name place.new ≡ F.name) × Leaves kinds F (told_inside (brief_element_inside place.new) told) (seen_of P.schema descent.new)) }
+{
+    *place = BriefElement::PowerDeliveryReq(member(descent)?);
+    Ok(())
+}
+
+impl<'a> LargeChoice<'a> for BriefElement<'a> {
+    ghost use Rattle.iso_schema.specs.Declarations.{kinds};
+    ghost use Rattle.iso_codec.specs.Message.{brief_element_members};
+
+    ghost kinds = { kinds };
+
+    ghost members = { brief_element_members };
+
+    fn read_member_here<P: Places>(
+        &mut self,
+        descent: &mut Descent<'a, '_, P>,
+    ) -> Result<(), Refusal> {
+        if descent.is_at(names::AUTHORIZATION_REQ) {
+            *self = BriefElement::AuthorizationReq(member(descent)?);
+            Ok(())
+        } else if descent.is_at(names::AUTHORIZATION_RES) {
+            *self = BriefElement::AuthorizationRes(member(descent)?);
+            Ok(())
+        } else if descent.is_at(names::CABLE_CHECK_REQ) {
+            *self = BriefElement::CableCheckReq(member(descent)?);
+            Ok(())
+        } else if descent.is_at(names::CABLE_CHECK_RES) {
+            *self = BriefElement::CableCheckRes(member(descent)?);
+            Ok(())
+        } else if descent.is_at(names::CHARGE_PARAMETER_DISCOVERY_REQ) {
+            *self = BriefElement::ChargeParameterDiscoveryReq(member(descent)?);
+            Ok(())
+        } else if descent.is_at(names::CHARGING_STATUS_REQ) {
+            *self = BriefElement::ChargingStatusReq(member(descent)?);
+            Ok(())
+        } else if descent.is_at(names::CHARGING_STATUS_RES) {
+            *self = BriefElement::ChargingStatusRes(member(descent)?);
+            Ok(())
+        } else if descent.is_at(names::CURRENT_DEMAND_REQ) {
+            *self = BriefElement::CurrentDemandReq(member(descent)?);
+            Ok(())
+        } else if descent.is_at(names::CURRENT_DEMAND_RES) {
+            *self = BriefElement::CurrentDemandRes(member(descent)?);
+            Ok(())
+        } else if descent.is_at(names::PAYMENT_SERVICE_SELECTION_REQ) {
+            payment_service_selection_req(self, descent)
+        } else if descent.is_at(names::PAYMENT_SERVICE_SELECTION_RES) {
+            *self = BriefElement::PaymentServiceSelectionRes(member(descent)?);
+            Ok(())
+        } else if descent.is_at(names::POWER_DELIVERY_REQ) {
+            power_delivery_req(self, descent)
+        } else if descent.is_at(names::POWER_DELIVERY_RES) {
+            *self = BriefElement::PowerDeliveryRes(member(descent)?);
+            Ok(())
+        } else if descent.is_at(names::PRE_CHARGE_REQ) {
+            *self = BriefElement::PreChargeReq(member(descent)?);
+            Ok(())
+        } else if descent.is_at(names::PRE_CHARGE_RES) {
+            *self = BriefElement::PreChargeRes(member(descent)?);
+            Ok(())
+        } else if descent.is_at(names::SERVICE_DETAIL_REQ) {
+            *self = BriefElement::ServiceDetailReq(member(descent)?);
+            Ok(())
+        } else if descent.is_at(names::SERVICE_DISCOVERY_REQ) {
+            *self = BriefElement::ServiceDiscoveryReq(member(descent)?);
+            Ok(())
+        } else if descent.is_at(names::SESSION_SETUP_REQ) {
+            *self = BriefElement::SessionSetupReq(member(descent)?);
+            Ok(())
+        } else if descent.is_at(names::SESSION_SETUP_RES) {
+            *self = BriefElement::SessionSetupRes(member(descent)?);
+            Ok(())
+        } else if descent.is_at(names::SESSION_STOP_REQ) {
+            *self = BriefElement::SessionStopReq(member(descent)?);
+            Ok(())
+        } else if descent.is_at(names::SESSION_STOP_RES) {
+            *self = BriefElement::SessionStopRes(member(descent)?);
+            Ok(())
+        } else if descent.is_at(names::WELDING_DETECTION_REQ) {
+            *self = BriefElement::WeldingDetectionReq(member(descent)?);
+            Ok(())
+        } else {
+            *self = BriefElement::WeldingDetectionRes(member(descent)?);
+            Ok(())
+        }
+    }
+}
+
+/// One element of the substitution group BodyElement. The brief ones have a type of their own: one that is stored over
+/// another doesn't clear the room of the others.
+#[derive(Drop)]
+pub enum BodyElement<'a> {
+    Brief(BriefElement<'a>),
+    ChargeParameterDiscoveryRes(ChargeParameterDiscoveryRes),
+    ServiceDetailRes(ServiceDetailRes<'a>),
+    ServiceDiscoveryRes(ServiceDiscoveryRes<'a>),
 }
 
 impl PutChoice for BodyElement<'_> {
@@ -70,135 +326,21 @@ impl PutChoice for BodyElement<'_> {
 
     fn write_member<P: Places>(&self, writer: &mut EventWriter<'_, '_, P>) {
         match self {
-            BodyElement::AuthorizationReq(authorization_req) => put_record(
-                writer,
-                names::AUTHORIZATION_REQ,
-                authorization_req,
-            ),
-            BodyElement::AuthorizationRes(authorization_res) => put_record(
-                writer,
-                names::AUTHORIZATION_RES,
-                authorization_res,
-            ),
-            BodyElement::CableCheckReq(cable_check_req) => put_record(
-                writer,
-                names::CABLE_CHECK_REQ,
-                cable_check_req,
-            ),
-            BodyElement::CableCheckRes(cable_check_res) => put_record(
-                writer,
-                names::CABLE_CHECK_RES,
-                cable_check_res,
-            ),
-            BodyElement::ChargeParameterDiscoveryReq(charge_parameter_discovery_req) => put_record(
-                writer,
-                names::CHARGE_PARAMETER_DISCOVERY_REQ,
-                charge_parameter_discovery_req,
-            ),
+            BodyElement::Brief(brief) => brief.write_member(writer),
             BodyElement::ChargeParameterDiscoveryRes(charge_parameter_discovery_res) => put_record(
                 writer,
                 names::CHARGE_PARAMETER_DISCOVERY_RES,
                 charge_parameter_discovery_res,
-            ),
-            BodyElement::ChargingStatusReq(charging_status_req) => put_record(
-                writer,
-                names::CHARGING_STATUS_REQ,
-                charging_status_req,
-            ),
-            BodyElement::ChargingStatusRes(charging_status_res) => put_record(
-                writer,
-                names::CHARGING_STATUS_RES,
-                charging_status_res,
-            ),
-            BodyElement::CurrentDemandReq(current_demand_req) => put_record(
-                writer,
-                names::CURRENT_DEMAND_REQ,
-                current_demand_req,
-            ),
-            BodyElement::CurrentDemandRes(current_demand_res) => put_record(
-                writer,
-                names::CURRENT_DEMAND_RES,
-                current_demand_res,
-            ),
-            BodyElement::PaymentServiceSelectionReq(payment_service_selection_req) => put_record(
-                writer,
-                names::PAYMENT_SERVICE_SELECTION_REQ,
-                payment_service_selection_req,
-            ),
-            BodyElement::PaymentServiceSelectionRes(payment_service_selection_res) => put_record(
-                writer,
-                names::PAYMENT_SERVICE_SELECTION_RES,
-                payment_service_selection_res,
-            ),
-            BodyElement::PowerDeliveryReq(power_delivery_req) => put_record(
-                writer,
-                names::POWER_DELIVERY_REQ,
-                power_delivery_req,
-            ),
-            BodyElement::PowerDeliveryRes(power_delivery_res) => put_record(
-                writer,
-                names::POWER_DELIVERY_RES,
-                power_delivery_res,
-            ),
-            BodyElement::PreChargeReq(pre_charge_req) => put_record(
-                writer,
-                names::PRE_CHARGE_REQ,
-                pre_charge_req,
-            ),
-            BodyElement::PreChargeRes(pre_charge_res) => put_record(
-                writer,
-                names::PRE_CHARGE_RES,
-                pre_charge_res,
-            ),
-            BodyElement::ServiceDetailReq(service_detail_req) => put_record(
-                writer,
-                names::SERVICE_DETAIL_REQ,
-                service_detail_req,
             ),
             BodyElement::ServiceDetailRes(service_detail_res) => put_record(
                 writer,
                 names::SERVICE_DETAIL_RES,
                 service_detail_res,
             ),
-            BodyElement::ServiceDiscoveryReq(service_discovery_req) => put_record(
-                writer,
-                names::SERVICE_DISCOVERY_REQ,
-                service_discovery_req,
-            ),
             BodyElement::ServiceDiscoveryRes(service_discovery_res) => put_record(
                 writer,
                 names::SERVICE_DISCOVERY_RES,
                 service_discovery_res,
-            ),
-            BodyElement::SessionSetupReq(session_setup_req) => put_record(
-                writer,
-                names::SESSION_SETUP_REQ,
-                session_setup_req,
-            ),
-            BodyElement::SessionSetupRes(session_setup_res) => put_record(
-                writer,
-                names::SESSION_SETUP_RES,
-                session_setup_res,
-            ),
-            BodyElement::SessionStopReq(session_stop_req) => put_record(
-                writer,
-                names::SESSION_STOP_REQ,
-                session_stop_req,
-            ),
-            BodyElement::SessionStopRes(session_stop_res) => put_record(
-                writer,
-                names::SESSION_STOP_RES,
-                session_stop_res,
-            ),
-            BodyElement::WeldingDetectionReq(welding_detection_req) => put_record(
-                writer,
-                names::WELDING_DETECTION_REQ,
-                welding_detection_req,
-            ),
-            BodyElement::WeldingDetectionRes(welding_detection_res) => put_record(
-                writer,
-                names::WELDING_DETECTION_RES,
-                welding_detection_res,
             ),
         }
     }
@@ -220,44 +362,6 @@ fn charge_parameter_discovery_res<'a, P: Places>(
         → IfOk result (λ _. (v : BodyElement) × (place.new ≡ Some v) × (body_element_name v ≡ F.name) × Leaves kinds F (told_inside (body_element_inside v) told) (seen_of P.schema descent.new)) }
 {
     *place = Some(BodyElement::ChargeParameterDiscoveryRes(member(descent)?));
-    Ok(())
-}
-
-/// PaymentServiceSelectionReq, which holds a list: apart from the others, so that they don't fill its room.
-#[inline(never)]
-fn payment_service_selection_req<'a, P: Places>(
-    place: &mut Option<BodyElement<'a>>,
-    descent: &mut Descent<'a, '_, P>,
-) -> Result<(), Refusal>
-    requires open { IsOpen P.schema descent.old }
-    ensures open { IsOpen P.schema descent.new }
-    ensures table { descent.new.reader.table.ghost_name ≡ descent.old.reader.table.ghost_name }
-    ensures places { descent.new.reader.places.now ≡ descent.old.reader.places.now }
-    ensures payload { descent.new.reader.reader.bits ≡ descent.old.reader.reader.bits }
-    ensures refused { IfErr result (λ r. IsRefusal (seen_of P.schema descent.old) r) }
-    ensures read { (F : Frame) (told : List TreeEvent) → IsChosen kinds F body_element_members told (seen_of P.schema descent.old) → descent.old.child ≡ Some PAYMENT_SERVICE_SELECTION_REQ
-        → IfOk result (λ _. (v : BodyElement) × (place.new ≡ Some v) × (body_element_name v ≡ F.name) × Leaves kinds F (told_inside (body_element_inside v) told) (seen_of P.schema descent.new)) }
-{
-    *place = Some(BodyElement::PaymentServiceSelectionReq(member(descent)?));
-    Ok(())
-}
-
-/// PowerDeliveryReq, which holds a list: apart from the others, so that they don't fill its room.
-#[inline(never)]
-fn power_delivery_req<'a, P: Places>(
-    place: &mut Option<BodyElement<'a>>,
-    descent: &mut Descent<'a, '_, P>,
-) -> Result<(), Refusal>
-    requires open { IsOpen P.schema descent.old }
-    ensures open { IsOpen P.schema descent.new }
-    ensures table { descent.new.reader.table.ghost_name ≡ descent.old.reader.table.ghost_name }
-    ensures places { descent.new.reader.places.now ≡ descent.old.reader.places.now }
-    ensures payload { descent.new.reader.reader.bits ≡ descent.old.reader.reader.bits }
-    ensures refused { IfErr result (λ r. IsRefusal (seen_of P.schema descent.old) r) }
-    ensures read { (F : Frame) (told : List TreeEvent) → IsChosen kinds F body_element_members told (seen_of P.schema descent.old) → descent.old.child ≡ Some POWER_DELIVERY_REQ
-        → IfOk result (λ _. (v : BodyElement) × (place.new ≡ Some v) × (body_element_name v ≡ F.name) × Leaves kinds F (told_inside (body_element_inside v) told) (seen_of P.schema descent.new)) }
-{
-    *place = Some(BodyElement::PowerDeliveryReq(member(descent)?));
     Ok(())
 }
 
@@ -296,6 +400,47 @@ fn service_discovery_res<'a, P: Places>(
         → IfOk result (λ _. (v : BodyElement) × (place.new ≡ Some v) × (body_element_name v ≡ F.name) × Leaves kinds F (told_inside (body_element_inside v) told) (seen_of P.schema descent.new)) }
 {
     *place = Some(BodyElement::ServiceDiscoveryRes(member(descent)?));
+    Ok(())
+}
+
+/// One that holds no long list, over one that holds none either where such a one stands.
+fn brief<'a, P: Places>(
+    place: &mut Option<BodyElement<'a>>,
+    descent: &mut Descent<'a, '_, P>,
+) -> Result<(), Refusal>
+    requires open { IsOpen P.schema descent.old }
+    ensures open { IsOpen P.schema descent.new }
+    ensures table { descent.new.reader.table.ghost_name ≡ descent.old.reader.table.ghost_name }
+    ensures places { descent.new.reader.places.now ≡ descent.old.reader.places.now }
+    ensures payload { descent.new.reader.reader.bits ≡ descent.old.reader.reader.bits }
+    ensures refused { IfErr result (λ r. IsRefusal (seen_of P.schema descent.old) r) }
+    ensures read { (F : Frame) (told : List TreeEvent) → IsChosen kinds F brief_element_members told (seen_of P.schema descent.old)
+        → IfOk result (λ _. (v : BodyElement) × (place.new ≡ Some v) × (body_element_name v ≡ F.name) × Leaves kinds F (told_inside (body_element_inside v) told) (seen_of P.schema descent.new)) }
+{
+    match place {
+        Some(BodyElement::Brief(brief)) => brief.read_member_here(descent),
+        _ => brief_anew(place, descent),
+    }
+}
+
+/// One that holds no long list, where another stands or none: this clears the room of the longest.
+#[inline(never)]
+fn brief_anew<'a, P: Places>(
+    place: &mut Option<BodyElement<'a>>,
+    descent: &mut Descent<'a, '_, P>,
+) -> Result<(), Refusal>
+    requires open { IsOpen P.schema descent.old }
+    ensures open { IsOpen P.schema descent.new }
+    ensures table { descent.new.reader.table.ghost_name ≡ descent.old.reader.table.ghost_name }
+    ensures places { descent.new.reader.places.now ≡ descent.old.reader.places.now }
+    ensures payload { descent.new.reader.reader.bits ≡ descent.old.reader.reader.bits }
+    ensures refused { IfErr result (λ r. IsRefusal (seen_of P.schema descent.old) r) }
+    ensures read { (F : Frame) (told : List TreeEvent) → IsChosen kinds F brief_element_members told (seen_of P.schema descent.old)
+        → IfOk result (λ _. (v : BodyElement) × (place.new ≡ Some v) × (body_element_name v ≡ F.name) × Leaves kinds F (told_inside (body_element_inside v) told) (seen_of P.schema descent.new)) }
+{
+    let mut brief = BriefElement::ChargingStatusReq(ChargingStatusReq);
+    brief.read_member_here(descent)?;
+    *place = Some(BodyElement::Brief(brief));
     Ok(())
 }
 
@@ -346,79 +491,14 @@ impl<'a> LargeGroup<'a> for BodyElement<'a> {
         place: &mut Option<BodyElement<'a>>,
         descent: &mut Descent<'a, '_, P>,
     ) -> Result<(), Refusal> {
-        if descent.is_at(names::AUTHORIZATION_REQ) {
-            *place = Some(BodyElement::AuthorizationReq(member(descent)?));
-            Ok(())
-        } else if descent.is_at(names::AUTHORIZATION_RES) {
-            *place = Some(BodyElement::AuthorizationRes(member(descent)?));
-            Ok(())
-        } else if descent.is_at(names::CABLE_CHECK_REQ) {
-            *place = Some(BodyElement::CableCheckReq(member(descent)?));
-            Ok(())
-        } else if descent.is_at(names::CABLE_CHECK_RES) {
-            *place = Some(BodyElement::CableCheckRes(member(descent)?));
-            Ok(())
-        } else if descent.is_at(names::CHARGE_PARAMETER_DISCOVERY_REQ) {
-            *place = Some(BodyElement::ChargeParameterDiscoveryReq(member(descent)?));
-            Ok(())
-        } else if descent.is_at(names::CHARGE_PARAMETER_DISCOVERY_RES) {
+        if descent.is_at(names::CHARGE_PARAMETER_DISCOVERY_RES) {
             charge_parameter_discovery_res(place, descent)
-        } else if descent.is_at(names::CHARGING_STATUS_REQ) {
-            *place = Some(BodyElement::ChargingStatusReq(member(descent)?));
-            Ok(())
-        } else if descent.is_at(names::CHARGING_STATUS_RES) {
-            *place = Some(BodyElement::ChargingStatusRes(member(descent)?));
-            Ok(())
-        } else if descent.is_at(names::CURRENT_DEMAND_REQ) {
-            *place = Some(BodyElement::CurrentDemandReq(member(descent)?));
-            Ok(())
-        } else if descent.is_at(names::CURRENT_DEMAND_RES) {
-            *place = Some(BodyElement::CurrentDemandRes(member(descent)?));
-            Ok(())
-        } else if descent.is_at(names::PAYMENT_SERVICE_SELECTION_REQ) {
-            payment_service_selection_req(place, descent)
-        } else if descent.is_at(names::PAYMENT_SERVICE_SELECTION_RES) {
-            *place = Some(BodyElement::PaymentServiceSelectionRes(member(descent)?));
-            Ok(())
-        } else if descent.is_at(names::POWER_DELIVERY_REQ) {
-            power_delivery_req(place, descent)
-        } else if descent.is_at(names::POWER_DELIVERY_RES) {
-            *place = Some(BodyElement::PowerDeliveryRes(member(descent)?));
-            Ok(())
-        } else if descent.is_at(names::PRE_CHARGE_REQ) {
-            *place = Some(BodyElement::PreChargeReq(member(descent)?));
-            Ok(())
-        } else if descent.is_at(names::PRE_CHARGE_RES) {
-            *place = Some(BodyElement::PreChargeRes(member(descent)?));
-            Ok(())
-        } else if descent.is_at(names::SERVICE_DETAIL_REQ) {
-            *place = Some(BodyElement::ServiceDetailReq(member(descent)?));
-            Ok(())
         } else if descent.is_at(names::SERVICE_DETAIL_RES) {
             service_detail_res(place, descent)
-        } else if descent.is_at(names::SERVICE_DISCOVERY_REQ) {
-            *place = Some(BodyElement::ServiceDiscoveryReq(member(descent)?));
-            Ok(())
         } else if descent.is_at(names::SERVICE_DISCOVERY_RES) {
             service_discovery_res(place, descent)
-        } else if descent.is_at(names::SESSION_SETUP_REQ) {
-            *place = Some(BodyElement::SessionSetupReq(member(descent)?));
-            Ok(())
-        } else if descent.is_at(names::SESSION_SETUP_RES) {
-            *place = Some(BodyElement::SessionSetupRes(member(descent)?));
-            Ok(())
-        } else if descent.is_at(names::SESSION_STOP_REQ) {
-            *place = Some(BodyElement::SessionStopReq(member(descent)?));
-            Ok(())
-        } else if descent.is_at(names::SESSION_STOP_RES) {
-            *place = Some(BodyElement::SessionStopRes(member(descent)?));
-            Ok(())
-        } else if descent.is_at(names::WELDING_DETECTION_REQ) {
-            *place = Some(BodyElement::WeldingDetectionReq(member(descent)?));
-            Ok(())
         } else {
-            *place = Some(BodyElement::WeldingDetectionRes(member(descent)?));
-            Ok(())
+            brief(place, descent)
         }
     }
 }

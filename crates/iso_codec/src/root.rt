@@ -1,11 +1,33 @@
 //! A message as the root of its document.
 
-use crate::message::IsoMessage;
+ghost use Rattle.std.specs.Prelude.{◌≡◌, Some};
+ghost use Rattle.iso_codec.specs.declared.message.BodyElement.TheVariants as elements;
+ghost use Rattle.iso_codec.specs.declared.message.BriefElement.TheVariants as briefs;
+
+use crate::message::{Body, BodyElement, BriefElement, IsoMessage};
 use exi_documents::Refusal;
 use exi_events::EventWriter;
 use exi_schema::Places;
+use iso_parts::Header;
+use iso_power::ChargingStatusReq;
 use iso_schema::names;
 use message_parts::{Descent, LargeChoice, PutChoice, Root, member_here, put_record};
+
+impl<'a> IsoMessage<'a> {
+    /// A message to read another into: reading a brief element over its own clears no room of the long ones.
+    pub fn unread() -> IsoMessage<'a>
+        ensures { result.body.element ≡ Some (elements.Brief (briefs.ChargingStatusReq (record {}))) }
+    {
+        IsoMessage {
+            header: Header::default(),
+            body: Body {
+                element: Some(BodyElement::Brief(BriefElement::ChargingStatusReq(
+                    ChargingStatusReq,
+                ))),
+            },
+        }
+    }
+}
 
 impl PutChoice for IsoMessage<'_> {
     ghost use Rattle.iso_codec.specs.Documents.{iso_inside};

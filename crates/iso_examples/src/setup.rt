@@ -6,7 +6,7 @@ ghost use Rattle.iso_codec.specs.Documents.{IsIso};
 
 use exi_documents::MOST_ENTRIES;
 use iso_codec::laws::messages_are_written;
-use iso_codec::{BodyElement, IsoMessage, IsoTables, Table, read_iso, write_iso};
+use iso_codec::{BodyElement, BriefElement, IsoMessage, IsoTables, Table, read_iso, write_iso};
 use message_parts::Binary;
 use std::test::*;
 
@@ -58,7 +58,8 @@ fn a_session_setup_is_read_and_written(rt: HostRuntime) -> Result<(), Fail> {
     };
     assert!(rt; is_bytes(&message.header.session_id, &[0; 8]));
     assert!(rt; message.header.notification.is_none());
-    let Some(BodyElement::SessionSetupReq(request)) = &message.body.element else {
+    let Some(BodyElement::Brief(BriefElement::SessionSetupReq(request))) = &message.body.element
+    else {
         return Err(Fail::from("another message"));
     };
     assert!(rt; is_bytes(&request.evccid, &[0, 1, 2, 3, 4, 5]));

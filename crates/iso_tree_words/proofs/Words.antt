@@ -10,9 +10,11 @@ use Rattle.iso_parts.specs.declared.codes.ResponseCode.{ResponseCode}
 use Rattle.iso_parts.specs.declared.frame.Header.{Header}
 use Rattle.iso_codec.specs.declared.message.BodyElement.{BodyElement}
 use Rattle.iso_codec.specs.declared.message.BodyElement.TheVariants as element
+use Rattle.iso_codec.specs.declared.message.BriefElement.{BriefElement}
+use Rattle.iso_codec.specs.declared.message.BriefElement.TheVariants as brief
 use Rattle.iso_codec.specs.declared.message.IsoMessage.{IsoMessage}
 use Rattle.iso_codec.specs.Documents.{iso_tree, IsIso}
-use Rattle.iso_codec.specs.Message.{body_element_name, body_element_inside}
+use Rattle.iso_codec.specs.Message.{brief_element_name, brief_element_inside, body_element_name, body_element_inside}
 use Rattle.iso_words.specs.Words as message
 use Rattle.tree_words.proofs.Held.{first_is}
 use Rattle.iso_tree_words.specs.Words as tree
@@ -28,34 +30,38 @@ said : (s : SessionId) (c : ResponseCode) {one other : Tell} → one ≡ other
     → message.told s (response_code_at (response_code_ordinal c)) one ≡ message.told s c other
 said s c same = ap₂ (message.told s) (response_code_back c) same
 
+brief_read : (s : SessionId) (e : BriefElement)
+    → tree.body_word s (Some (brief_element_name e, brief_element_inside e)) ≡ message.brief_word s e
+brief_read s (brief.SessionSetupReq x) = refl
+brief_read s (brief.SessionSetupRes x) = said s x.response_code refl
+brief_read s (brief.ServiceDiscoveryReq x) = refl
+brief_read s (brief.ServiceDetailReq x) = refl
+brief_read s (brief.PaymentServiceSelectionReq x) = ap (message.asked s) (selection_read x)
+brief_read s (brief.PaymentServiceSelectionRes x) = said s x.response_code refl
+brief_read s (brief.AuthorizationReq x) = refl
+brief_read s (brief.AuthorizationRes x) = said s x.response_code (authorization_read x)
+brief_read s (brief.ChargeParameterDiscoveryReq x) = ap (message.asked s) (parameters_asked x)
+brief_read s (brief.CableCheckReq x) = refl
+brief_read s (brief.CableCheckRes x) = said s x.response_code (cable_check_read x)
+brief_read s (brief.PreChargeReq x) = ap (message.asked s) (pre_charge_asked x)
+brief_read s (brief.PreChargeRes x) = said s x.response_code (pre_charge_told x)
+brief_read s (brief.PowerDeliveryReq x) = ap (message.asked s) (delivery_asked x)
+brief_read s (brief.PowerDeliveryRes x) = said s x.response_code (delivery_told x)
+brief_read s (brief.CurrentDemandReq x) = ap (message.asked s) (demand_asked x)
+brief_read s (brief.CurrentDemandRes x) = said s x.response_code (demand_told x)
+brief_read s (brief.ChargingStatusReq x) = refl
+brief_read s (brief.ChargingStatusRes x) = said s x.response_code (charging_told x)
+brief_read s (brief.WeldingDetectionReq x) = refl
+brief_read s (brief.WeldingDetectionRes x) = said s x.response_code (welding_told x)
+brief_read s (brief.SessionStopReq x) = ap (message.asked s) (stop_read x)
+brief_read s (brief.SessionStopRes x) = said s x.response_code refl
+
 element_read : (s : SessionId) (e : BodyElement)
     → tree.body_word s (Some (body_element_name e, body_element_inside e)) ≡ message.element_word s e
-element_read s (element.SessionSetupReq x) = refl
-element_read s (element.SessionSetupRes x) = said s x.response_code refl
-element_read s (element.ServiceDiscoveryReq x) = refl
+element_read s (element.Brief x) = brief_read s x
 element_read s (element.ServiceDiscoveryRes x) = said s x.response_code (discovery_read x)
-element_read s (element.ServiceDetailReq x) = refl
 element_read s (element.ServiceDetailRes x) = said s x.response_code refl
-element_read s (element.PaymentServiceSelectionReq x) = ap (message.asked s) (selection_read x)
-element_read s (element.PaymentServiceSelectionRes x) = said s x.response_code refl
-element_read s (element.AuthorizationReq x) = refl
-element_read s (element.AuthorizationRes x) = said s x.response_code (authorization_read x)
-element_read s (element.ChargeParameterDiscoveryReq x) = ap (message.asked s) (parameters_asked x)
 element_read s (element.ChargeParameterDiscoveryRes x) = said s x.response_code (parameters_told x)
-element_read s (element.CableCheckReq x) = refl
-element_read s (element.CableCheckRes x) = said s x.response_code (cable_check_read x)
-element_read s (element.PreChargeReq x) = ap (message.asked s) (pre_charge_asked x)
-element_read s (element.PreChargeRes x) = said s x.response_code (pre_charge_told x)
-element_read s (element.PowerDeliveryReq x) = ap (message.asked s) (delivery_asked x)
-element_read s (element.PowerDeliveryRes x) = said s x.response_code (delivery_told x)
-element_read s (element.CurrentDemandReq x) = ap (message.asked s) (demand_asked x)
-element_read s (element.CurrentDemandRes x) = said s x.response_code (demand_told x)
-element_read s (element.ChargingStatusReq x) = refl
-element_read s (element.ChargingStatusRes x) = said s x.response_code (charging_told x)
-element_read s (element.WeldingDetectionReq x) = refl
-element_read s (element.WeldingDetectionRes x) = said s x.response_code (welding_told x)
-element_read s (element.SessionStopReq x) = ap (message.asked s) (stop_read x)
-element_read s (element.SessionStopRes x) = said s x.response_code refl
 
 -- a message of this header and this element
 abbrev framed : Header → Option BodyElement → IsoMessage

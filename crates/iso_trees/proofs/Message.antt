@@ -2,6 +2,7 @@
 use Rattle.std.proofs.Common.{Option, Some, None, ◌≡◌, ◌∙◌}
 use Rattle.tree_words.specs.Lending.{Lends}
 use Rattle.tree_words.proofs.Held.{held, of_parts, by_parts}
+use Rattle.iso_codec.specs.declared.message.BriefElement.TheVariants as brief_element
 use Rattle.iso_codec.specs.declared.message.BodyElement.{BodyElement}
 use Rattle.iso_codec.specs.declared.message.BodyElement.TheVariants as body_element
 use Rattle.iso_codec.specs.declared.message.Body.{Body}
@@ -26,83 +27,83 @@ body_at : (l : Lends) (element : Option BodyElement)
 body_at l None = λ i. record {
   element = None;
 }
-body_at l (Some (body_element.AuthorizationReq y)) = λ i. record {
-  element = Some (body_element.AuthorizationReq (authorization_req_read l y i));
+body_at l (Some (body_element.Brief (brief_element.AuthorizationReq y))) = λ i. record {
+  element = Some (body_element.Brief (brief_element.AuthorizationReq (authorization_req_read l y i)));
 }
-body_at l (Some (body_element.AuthorizationRes y)) = λ i. record {
-  element = Some (body_element.AuthorizationRes (authorization_res_read y i));
+body_at l (Some (body_element.Brief (brief_element.AuthorizationRes y))) = λ i. record {
+  element = Some (body_element.Brief (brief_element.AuthorizationRes (authorization_res_read y i)));
 }
-body_at l (Some (body_element.CableCheckReq y)) = λ i. record {
-  element = Some (body_element.CableCheckReq (cable_check_req_read y i));
+body_at l (Some (body_element.Brief (brief_element.CableCheckReq y))) = λ i. record {
+  element = Some (body_element.Brief (brief_element.CableCheckReq (cable_check_req_read y i)));
 }
-body_at l (Some (body_element.CableCheckRes y)) = λ i. record {
-  element = Some (body_element.CableCheckRes (cable_check_res_read y i));
+body_at l (Some (body_element.Brief (brief_element.CableCheckRes y))) = λ i. record {
+  element = Some (body_element.Brief (brief_element.CableCheckRes (cable_check_res_read y i)));
 }
-body_at l (Some (body_element.ChargeParameterDiscoveryReq y)) = λ i. record {
-  element = Some (body_element.ChargeParameterDiscoveryReq (charge_parameter_discovery_req_read y i));
+body_at l (Some (body_element.Brief (brief_element.ChargeParameterDiscoveryReq y))) = λ i. record {
+  element = Some (body_element.Brief (brief_element.ChargeParameterDiscoveryReq (charge_parameter_discovery_req_read y i)));
 }
 body_at l (Some (body_element.ChargeParameterDiscoveryRes y)) = λ i. record {
   element = Some (body_element.ChargeParameterDiscoveryRes (charge_parameter_discovery_res_read y i));
 }
-body_at l (Some (body_element.ChargingStatusReq y)) = λ i. record {
-  element = Some (body_element.ChargingStatusReq y);
+body_at l (Some (body_element.Brief (brief_element.ChargingStatusReq y))) = λ i. record {
+  element = Some (body_element.Brief (brief_element.ChargingStatusReq y));
 }
-body_at l (Some (body_element.ChargingStatusRes y)) = λ i. record {
-  element = Some (body_element.ChargingStatusRes (charging_status_res_read l y i));
+body_at l (Some (body_element.Brief (brief_element.ChargingStatusRes y))) = λ i. record {
+  element = Some (body_element.Brief (brief_element.ChargingStatusRes (charging_status_res_read l y i)));
 }
-body_at l (Some (body_element.CurrentDemandReq y)) = λ i. record {
-  element = Some (body_element.CurrentDemandReq (current_demand_req_read y i));
+body_at l (Some (body_element.Brief (brief_element.CurrentDemandReq y))) = λ i. record {
+  element = Some (body_element.Brief (brief_element.CurrentDemandReq (current_demand_req_read y i)));
 }
-body_at l (Some (body_element.CurrentDemandRes y)) = λ i. record {
-  element = Some (body_element.CurrentDemandRes (current_demand_res_read l y i));
+body_at l (Some (body_element.Brief (brief_element.CurrentDemandRes y))) = λ i. record {
+  element = Some (body_element.Brief (brief_element.CurrentDemandRes (current_demand_res_read l y i)));
 }
-body_at l (Some (body_element.PaymentServiceSelectionReq y)) = λ i. record {
-  element = Some (body_element.PaymentServiceSelectionReq (payment_service_selection_req_read y i));
+body_at l (Some (body_element.Brief (brief_element.PaymentServiceSelectionReq y))) = λ i. record {
+  element = Some (body_element.Brief (brief_element.PaymentServiceSelectionReq (payment_service_selection_req_read y i)));
 }
-body_at l (Some (body_element.PaymentServiceSelectionRes y)) = λ i. record {
-  element = Some (body_element.PaymentServiceSelectionRes (payment_service_selection_res_read y i));
+body_at l (Some (body_element.Brief (brief_element.PaymentServiceSelectionRes y))) = λ i. record {
+  element = Some (body_element.Brief (brief_element.PaymentServiceSelectionRes (payment_service_selection_res_read y i)));
 }
-body_at l (Some (body_element.PowerDeliveryReq y)) = λ i. record {
-  element = Some (body_element.PowerDeliveryReq (power_delivery_req_read y i));
+body_at l (Some (body_element.Brief (brief_element.PowerDeliveryReq y))) = λ i. record {
+  element = Some (body_element.Brief (brief_element.PowerDeliveryReq (power_delivery_req_read y i)));
 }
-body_at l (Some (body_element.PowerDeliveryRes y)) = λ i. record {
-  element = Some (body_element.PowerDeliveryRes (power_delivery_res_read y i));
+body_at l (Some (body_element.Brief (brief_element.PowerDeliveryRes y))) = λ i. record {
+  element = Some (body_element.Brief (brief_element.PowerDeliveryRes (power_delivery_res_read y i)));
 }
-body_at l (Some (body_element.PreChargeReq y)) = λ i. record {
-  element = Some (body_element.PreChargeReq (pre_charge_req_read y i));
+body_at l (Some (body_element.Brief (brief_element.PreChargeReq y))) = λ i. record {
+  element = Some (body_element.Brief (brief_element.PreChargeReq (pre_charge_req_read y i)));
 }
-body_at l (Some (body_element.PreChargeRes y)) = λ i. record {
-  element = Some (body_element.PreChargeRes (pre_charge_res_read y i));
+body_at l (Some (body_element.Brief (brief_element.PreChargeRes y))) = λ i. record {
+  element = Some (body_element.Brief (brief_element.PreChargeRes (pre_charge_res_read y i)));
 }
-body_at l (Some (body_element.ServiceDetailReq y)) = λ i. record {
-  element = Some (body_element.ServiceDetailReq (service_detail_req_read y i));
+body_at l (Some (body_element.Brief (brief_element.ServiceDetailReq y))) = λ i. record {
+  element = Some (body_element.Brief (brief_element.ServiceDetailReq (service_detail_req_read y i)));
 }
 body_at l (Some (body_element.ServiceDetailRes y)) = λ i. record {
   element = Some (body_element.ServiceDetailRes (service_detail_res_read l y i));
 }
-body_at l (Some (body_element.ServiceDiscoveryReq y)) = λ i. record {
-  element = Some (body_element.ServiceDiscoveryReq (service_discovery_req_read l y i));
+body_at l (Some (body_element.Brief (brief_element.ServiceDiscoveryReq y))) = λ i. record {
+  element = Some (body_element.Brief (brief_element.ServiceDiscoveryReq (service_discovery_req_read l y i)));
 }
 body_at l (Some (body_element.ServiceDiscoveryRes y)) = λ i. record {
   element = Some (body_element.ServiceDiscoveryRes (service_discovery_res_read l y i));
 }
-body_at l (Some (body_element.SessionSetupReq y)) = λ i. record {
-  element = Some (body_element.SessionSetupReq (session_setup_req_read l y i));
+body_at l (Some (body_element.Brief (brief_element.SessionSetupReq y))) = λ i. record {
+  element = Some (body_element.Brief (brief_element.SessionSetupReq (session_setup_req_read l y i)));
 }
-body_at l (Some (body_element.SessionSetupRes y)) = λ i. record {
-  element = Some (body_element.SessionSetupRes (session_setup_res_read l y i));
+body_at l (Some (body_element.Brief (brief_element.SessionSetupRes y))) = λ i. record {
+  element = Some (body_element.Brief (brief_element.SessionSetupRes (session_setup_res_read l y i)));
 }
-body_at l (Some (body_element.SessionStopReq y)) = λ i. record {
-  element = Some (body_element.SessionStopReq (session_stop_req_read y i));
+body_at l (Some (body_element.Brief (brief_element.SessionStopReq y))) = λ i. record {
+  element = Some (body_element.Brief (brief_element.SessionStopReq (session_stop_req_read y i)));
 }
-body_at l (Some (body_element.SessionStopRes y)) = λ i. record {
-  element = Some (body_element.SessionStopRes (session_stop_res_read y i));
+body_at l (Some (body_element.Brief (brief_element.SessionStopRes y))) = λ i. record {
+  element = Some (body_element.Brief (brief_element.SessionStopRes (session_stop_res_read y i)));
 }
-body_at l (Some (body_element.WeldingDetectionReq y)) = λ i. record {
-  element = Some (body_element.WeldingDetectionReq (welding_detection_req_read y i));
+body_at l (Some (body_element.Brief (brief_element.WeldingDetectionReq y))) = λ i. record {
+  element = Some (body_element.Brief (brief_element.WeldingDetectionReq (welding_detection_req_read y i)));
 }
-body_at l (Some (body_element.WeldingDetectionRes y)) = λ i. record {
-  element = Some (body_element.WeldingDetectionRes (welding_detection_res_read y i));
+body_at l (Some (body_element.Brief (brief_element.WeldingDetectionRes y))) = λ i. record {
+  element = Some (body_element.Brief (brief_element.WeldingDetectionRes (welding_detection_res_read y i)));
 }
 
 pub body_read : (l : Lends) (v : Body) → body_in l (of_parts (body_parts v)) ≡ settled_body l v

@@ -4,6 +4,8 @@ use Rattle.std.specs.Option.{option_map}
 use Rattle.iso_schema.specs.declared.names.TheConstants.{HEADER, BODY, AUTHORIZATION_REQ, AUTHORIZATION_RES, CABLE_CHECK_REQ, CABLE_CHECK_RES, CHARGE_PARAMETER_DISCOVERY_REQ, CHARGE_PARAMETER_DISCOVERY_RES, CHARGING_STATUS_REQ, CHARGING_STATUS_RES, CURRENT_DEMAND_REQ, CURRENT_DEMAND_RES, PAYMENT_SERVICE_SELECTION_REQ, PAYMENT_SERVICE_SELECTION_RES, POWER_DELIVERY_REQ, POWER_DELIVERY_RES, PRE_CHARGE_REQ, PRE_CHARGE_RES, SERVICE_DETAIL_REQ, SERVICE_DETAIL_RES, SERVICE_DISCOVERY_REQ, SERVICE_DISCOVERY_RES, SESSION_SETUP_REQ, SESSION_SETUP_RES, SESSION_STOP_REQ, SESSION_STOP_RES, WELDING_DETECTION_REQ, WELDING_DETECTION_RES}
 use Rattle.tree_words.specs.Named.{Children, children, head, within}
 use Rattle.tree_words.specs.Lending.{Lends, given_in, or_next}
+use Rattle.iso_codec.specs.declared.message.BriefElement.{BriefElement}
+use Rattle.iso_codec.specs.declared.message.BriefElement.TheVariants as brief_element
 use Rattle.iso_codec.specs.declared.message.BodyElement.{BodyElement}
 use Rattle.iso_codec.specs.declared.message.BodyElement.TheVariants as body_element
 use Rattle.iso_codec.specs.declared.message.Body.{Body}
@@ -17,75 +19,94 @@ use Rattle.iso_trees.specs.Discovery.{charge_parameter_discovery_req_in, charge_
 use Rattle.iso_trees.specs.Charging.{cable_check_req_in, cable_check_res_in, pre_charge_req_in, pre_charge_res_in, current_demand_req_in, current_demand_res_in, settled_current_demand_res, welding_detection_req_in, welding_detection_res_in}
 use Rattle.iso_trees.specs.Delivery.{power_delivery_req_in, power_delivery_res_in, charging_status_res_in, settled_charging_status_res}
 
+abbrev pub settled_brief_element : Lends → BriefElement → BriefElement
+settled_brief_element l (brief_element.AuthorizationReq x) = brief_element.AuthorizationReq (settled_authorization_req l x)
+settled_brief_element l (brief_element.AuthorizationRes x) = brief_element.AuthorizationRes x
+settled_brief_element l (brief_element.CableCheckReq x) = brief_element.CableCheckReq x
+settled_brief_element l (brief_element.CableCheckRes x) = brief_element.CableCheckRes x
+settled_brief_element l (brief_element.ChargeParameterDiscoveryReq x) = brief_element.ChargeParameterDiscoveryReq x
+settled_brief_element l (brief_element.ChargingStatusReq x) = brief_element.ChargingStatusReq x
+settled_brief_element l (brief_element.ChargingStatusRes x) = brief_element.ChargingStatusRes (settled_charging_status_res l x)
+settled_brief_element l (brief_element.CurrentDemandReq x) = brief_element.CurrentDemandReq x
+settled_brief_element l (brief_element.CurrentDemandRes x) = brief_element.CurrentDemandRes (settled_current_demand_res l x)
+settled_brief_element l (brief_element.PaymentServiceSelectionReq x) = brief_element.PaymentServiceSelectionReq x
+settled_brief_element l (brief_element.PaymentServiceSelectionRes x) = brief_element.PaymentServiceSelectionRes x
+settled_brief_element l (brief_element.PowerDeliveryReq x) = brief_element.PowerDeliveryReq x
+settled_brief_element l (brief_element.PowerDeliveryRes x) = brief_element.PowerDeliveryRes x
+settled_brief_element l (brief_element.PreChargeReq x) = brief_element.PreChargeReq x
+settled_brief_element l (brief_element.PreChargeRes x) = brief_element.PreChargeRes x
+settled_brief_element l (brief_element.ServiceDetailReq x) = brief_element.ServiceDetailReq x
+settled_brief_element l (brief_element.ServiceDiscoveryReq x) = brief_element.ServiceDiscoveryReq (settled_service_discovery_req l x)
+settled_brief_element l (brief_element.SessionSetupReq x) = brief_element.SessionSetupReq (settled_session_setup_req l x)
+settled_brief_element l (brief_element.SessionSetupRes x) = brief_element.SessionSetupRes (settled_session_setup_res l x)
+settled_brief_element l (brief_element.SessionStopReq x) = brief_element.SessionStopReq x
+settled_brief_element l (brief_element.SessionStopRes x) = brief_element.SessionStopRes x
+settled_brief_element l (brief_element.WeldingDetectionReq x) = brief_element.WeldingDetectionReq x
+settled_brief_element l (brief_element.WeldingDetectionRes x) = brief_element.WeldingDetectionRes x
+
 abbrev pub body_element_if : Lends → Children → Option BodyElement
 body_element_if l x =
-    or_next (option_map (λ inside. body_element.AuthorizationReq (authorization_req_in l (given_in inside) (children inside)))
-    (head (x AUTHORIZATION_REQ))) (
-    or_next (option_map (λ inside. body_element.AuthorizationRes (authorization_res_in (children inside))) (head (x AUTHORIZATION_RES))) (
-    or_next (option_map (λ inside. body_element.CableCheckReq (cable_check_req_in (children inside))) (head (x CABLE_CHECK_REQ))) (
-    or_next (option_map (λ inside. body_element.CableCheckRes (cable_check_res_in (children inside))) (head (x CABLE_CHECK_RES))) (
-    or_next (option_map (λ inside. body_element.ChargeParameterDiscoveryReq (charge_parameter_discovery_req_in (children inside)))
+    or_next (option_map (λ inside. body_element.Brief
+    (brief_element.AuthorizationReq (authorization_req_in l (given_in inside) (children inside)))) (head (x AUTHORIZATION_REQ))) (
+    or_next (option_map (λ inside. body_element.Brief (brief_element.AuthorizationRes (authorization_res_in (children inside))))
+    (head (x AUTHORIZATION_RES))) (
+    or_next (option_map (λ inside. body_element.Brief (brief_element.CableCheckReq (cable_check_req_in (children inside))))
+    (head (x CABLE_CHECK_REQ))) (
+    or_next (option_map (λ inside. body_element.Brief (brief_element.CableCheckRes (cable_check_res_in (children inside))))
+    (head (x CABLE_CHECK_RES))) (
+    or_next (option_map (λ inside. body_element.Brief
+    (brief_element.ChargeParameterDiscoveryReq (charge_parameter_discovery_req_in (children inside))))
     (head (x CHARGE_PARAMETER_DISCOVERY_REQ))) (
     or_next (option_map (λ inside. body_element.ChargeParameterDiscoveryRes (charge_parameter_discovery_res_in (children inside)))
     (head (x CHARGE_PARAMETER_DISCOVERY_RES))) (
-    or_next (option_map (λ inside. body_element.ChargingStatusReq (record {})) (head (x CHARGING_STATUS_REQ))) (
-    or_next (option_map (λ inside. body_element.ChargingStatusRes (charging_status_res_in l (children inside)))
+    or_next (option_map (λ inside. body_element.Brief (brief_element.ChargingStatusReq (record {}))) (head (x CHARGING_STATUS_REQ))) (
+    or_next (option_map (λ inside. body_element.Brief (brief_element.ChargingStatusRes (charging_status_res_in l (children inside))))
     (head (x CHARGING_STATUS_RES))) (
-    or_next (option_map (λ inside. body_element.CurrentDemandReq (current_demand_req_in (children inside))) (head (x CURRENT_DEMAND_REQ))) (
-    or_next (option_map (λ inside. body_element.CurrentDemandRes (current_demand_res_in l (children inside)))
+    or_next (option_map (λ inside. body_element.Brief (brief_element.CurrentDemandReq (current_demand_req_in (children inside))))
+    (head (x CURRENT_DEMAND_REQ))) (
+    or_next (option_map (λ inside. body_element.Brief (brief_element.CurrentDemandRes (current_demand_res_in l (children inside))))
     (head (x CURRENT_DEMAND_RES))) (
-    or_next (option_map (λ inside. body_element.PaymentServiceSelectionReq (payment_service_selection_req_in (children inside)))
+    or_next (option_map (λ inside. body_element.Brief
+    (brief_element.PaymentServiceSelectionReq (payment_service_selection_req_in (children inside))))
     (head (x PAYMENT_SERVICE_SELECTION_REQ))) (
-    or_next (option_map (λ inside. body_element.PaymentServiceSelectionRes (payment_service_selection_res_in (children inside)))
+    or_next (option_map (λ inside. body_element.Brief
+    (brief_element.PaymentServiceSelectionRes (payment_service_selection_res_in (children inside))))
     (head (x PAYMENT_SERVICE_SELECTION_RES))) (
-    or_next (option_map (λ inside. body_element.PowerDeliveryReq (power_delivery_req_in (children inside))) (head (x POWER_DELIVERY_REQ))) (
-    or_next (option_map (λ inside. body_element.PowerDeliveryRes (power_delivery_res_in (children inside))) (head (x POWER_DELIVERY_RES))) (
-    or_next (option_map (λ inside. body_element.PreChargeReq (pre_charge_req_in (children inside))) (head (x PRE_CHARGE_REQ))) (
-    or_next (option_map (λ inside. body_element.PreChargeRes (pre_charge_res_in (children inside))) (head (x PRE_CHARGE_RES))) (
-    or_next (option_map (λ inside. body_element.ServiceDetailReq (service_detail_req_in (children inside))) (head (x SERVICE_DETAIL_REQ))) (
+    or_next (option_map (λ inside. body_element.Brief (brief_element.PowerDeliveryReq (power_delivery_req_in (children inside))))
+    (head (x POWER_DELIVERY_REQ))) (
+    or_next (option_map (λ inside. body_element.Brief (brief_element.PowerDeliveryRes (power_delivery_res_in (children inside))))
+    (head (x POWER_DELIVERY_RES))) (
+    or_next (option_map (λ inside. body_element.Brief (brief_element.PreChargeReq (pre_charge_req_in (children inside))))
+    (head (x PRE_CHARGE_REQ))) (
+    or_next (option_map (λ inside. body_element.Brief (brief_element.PreChargeRes (pre_charge_res_in (children inside))))
+    (head (x PRE_CHARGE_RES))) (
+    or_next (option_map (λ inside. body_element.Brief (brief_element.ServiceDetailReq (service_detail_req_in (children inside))))
+    (head (x SERVICE_DETAIL_REQ))) (
     or_next (option_map (λ inside. body_element.ServiceDetailRes (service_detail_res_in l (children inside)))
     (head (x SERVICE_DETAIL_RES))) (
-    or_next (option_map (λ inside. body_element.ServiceDiscoveryReq (service_discovery_req_in l (children inside)))
+    or_next (option_map (λ inside. body_element.Brief (brief_element.ServiceDiscoveryReq (service_discovery_req_in l (children inside))))
     (head (x SERVICE_DISCOVERY_REQ))) (
     or_next (option_map (λ inside. body_element.ServiceDiscoveryRes (service_discovery_res_in l (children inside)))
     (head (x SERVICE_DISCOVERY_RES))) (
-    or_next (option_map (λ inside. body_element.SessionSetupReq (session_setup_req_in l (children inside))) (head (x SESSION_SETUP_REQ))) (
-    or_next (option_map (λ inside. body_element.SessionSetupRes (session_setup_res_in l (children inside))) (head (x SESSION_SETUP_RES))) (
-    or_next (option_map (λ inside. body_element.SessionStopReq (session_stop_req_in (children inside))) (head (x SESSION_STOP_REQ))) (
-    or_next (option_map (λ inside. body_element.SessionStopRes (session_stop_res_in (children inside))) (head (x SESSION_STOP_RES))) (
-    or_next (option_map (λ inside. body_element.WeldingDetectionReq (welding_detection_req_in (children inside)))
+    or_next (option_map (λ inside. body_element.Brief (brief_element.SessionSetupReq (session_setup_req_in l (children inside))))
+    (head (x SESSION_SETUP_REQ))) (
+    or_next (option_map (λ inside. body_element.Brief (brief_element.SessionSetupRes (session_setup_res_in l (children inside))))
+    (head (x SESSION_SETUP_RES))) (
+    or_next (option_map (λ inside. body_element.Brief (brief_element.SessionStopReq (session_stop_req_in (children inside))))
+    (head (x SESSION_STOP_REQ))) (
+    or_next (option_map (λ inside. body_element.Brief (brief_element.SessionStopRes (session_stop_res_in (children inside))))
+    (head (x SESSION_STOP_RES))) (
+    or_next (option_map (λ inside. body_element.Brief (brief_element.WeldingDetectionReq (welding_detection_req_in (children inside))))
     (head (x WELDING_DETECTION_REQ))) (
-    or_next (option_map (λ inside. body_element.WeldingDetectionRes (welding_detection_res_in (children inside)))
+    or_next (option_map (λ inside. body_element.Brief (brief_element.WeldingDetectionRes (welding_detection_res_in (children inside))))
     (head (x WELDING_DETECTION_RES)))
     None)))))))))))))))))))))))))
 
 abbrev pub settled_body_element : Lends → BodyElement → BodyElement
-settled_body_element l (body_element.AuthorizationReq x) = body_element.AuthorizationReq (settled_authorization_req l x)
-settled_body_element l (body_element.AuthorizationRes x) = body_element.AuthorizationRes x
-settled_body_element l (body_element.CableCheckReq x) = body_element.CableCheckReq x
-settled_body_element l (body_element.CableCheckRes x) = body_element.CableCheckRes x
-settled_body_element l (body_element.ChargeParameterDiscoveryReq x) = body_element.ChargeParameterDiscoveryReq x
+settled_body_element l (body_element.Brief x) = body_element.Brief (settled_brief_element l x)
 settled_body_element l (body_element.ChargeParameterDiscoveryRes x) = body_element.ChargeParameterDiscoveryRes x
-settled_body_element l (body_element.ChargingStatusReq x) = body_element.ChargingStatusReq x
-settled_body_element l (body_element.ChargingStatusRes x) = body_element.ChargingStatusRes (settled_charging_status_res l x)
-settled_body_element l (body_element.CurrentDemandReq x) = body_element.CurrentDemandReq x
-settled_body_element l (body_element.CurrentDemandRes x) = body_element.CurrentDemandRes (settled_current_demand_res l x)
-settled_body_element l (body_element.PaymentServiceSelectionReq x) = body_element.PaymentServiceSelectionReq x
-settled_body_element l (body_element.PaymentServiceSelectionRes x) = body_element.PaymentServiceSelectionRes x
-settled_body_element l (body_element.PowerDeliveryReq x) = body_element.PowerDeliveryReq x
-settled_body_element l (body_element.PowerDeliveryRes x) = body_element.PowerDeliveryRes x
-settled_body_element l (body_element.PreChargeReq x) = body_element.PreChargeReq x
-settled_body_element l (body_element.PreChargeRes x) = body_element.PreChargeRes x
-settled_body_element l (body_element.ServiceDetailReq x) = body_element.ServiceDetailReq x
 settled_body_element l (body_element.ServiceDetailRes x) = body_element.ServiceDetailRes (settled_service_detail_res l x)
-settled_body_element l (body_element.ServiceDiscoveryReq x) = body_element.ServiceDiscoveryReq (settled_service_discovery_req l x)
 settled_body_element l (body_element.ServiceDiscoveryRes x) = body_element.ServiceDiscoveryRes (settled_service_discovery_res l x)
-settled_body_element l (body_element.SessionSetupReq x) = body_element.SessionSetupReq (settled_session_setup_req l x)
-settled_body_element l (body_element.SessionSetupRes x) = body_element.SessionSetupRes (settled_session_setup_res l x)
-settled_body_element l (body_element.SessionStopReq x) = body_element.SessionStopReq x
-settled_body_element l (body_element.SessionStopRes x) = body_element.SessionStopRes x
-settled_body_element l (body_element.WeldingDetectionReq x) = body_element.WeldingDetectionReq x
-settled_body_element l (body_element.WeldingDetectionRes x) = body_element.WeldingDetectionRes x
 
 abbrev pub body_in : Lends → Children → Body
 body_in l x = record { element = body_element_if l x }

@@ -20,6 +20,7 @@ use Rattle.iso_power.specs.declared.delivery.ChargingStatusReq.{ChargingStatusRe
 use Rattle.iso_setup.specs.declared.selection.PaymentServiceSelectionRes.{PaymentServiceSelectionRes}
 use Rattle.iso_codec.specs.declared.message.BodyElement.{BodyElement}
 use Rattle.iso_codec.specs.declared.message.BodyElement.TheVariants as element
+use Rattle.iso_codec.specs.declared.message.BriefElement.TheVariants as brief
 use Rattle.iso_codec.specs.declared.message.IsoMessage.{IsoMessage}
 use Rattle.iso_values.specs.Codes.{response_code}
 use Rattle.iso_words.specs.SetupMessages.{setup_req, setup_res, discovery_req, discovery_res, detail_req, detail_res, selection_req, authorization_req, authorization_res, stop_req}
@@ -56,37 +57,37 @@ LendsSession session lent = items_of lent.span ≡ session.bytes.items
 -- ---- messages
 
 abbrev pub request_element : Binary → Ask → BodyElement
-request_element l (ask.SessionSetup car) = element.SessionSetupReq (setup_req l)
-request_element l ask.ServiceDiscovery = element.ServiceDiscoveryReq discovery_req
-request_element l (ask.ServiceDetail service) = element.ServiceDetailReq (detail_req service)
-request_element l (ask.PaymentSelection external services) = element.PaymentServiceSelectionReq (selection_req external services.items)
-request_element l ask.Authorization = element.AuthorizationReq authorization_req
-request_element l (ask.ChargeParameters mode limits) = element.ChargeParameterDiscoveryReq (parameters_req mode limits)
-request_element l (ask.CableCheck ready soc) = element.CableCheckReq (cable_check_req ready soc)
-request_element l (ask.PreCharge ready soc voltage current) = element.PreChargeReq (pre_charge_req ready soc voltage current)
-request_element l (ask.PowerDelivery progress tuple profile) = element.PowerDeliveryReq (delivery_req progress tuple profile)
-request_element l (ask.CurrentDemand ready soc voltage current) = element.CurrentDemandReq (demand_req ready soc voltage current)
-request_element l ask.ChargingStatus = element.ChargingStatusReq (record {})
-request_element l (ask.WeldingDetection ready soc) = element.WeldingDetectionReq (welding_req ready soc)
-request_element l (ask.SessionStop pause) = element.SessionStopReq (stop_req pause)
+request_element l (ask.SessionSetup car) = element.Brief (brief.SessionSetupReq (setup_req l))
+request_element l ask.ServiceDiscovery = element.Brief (brief.ServiceDiscoveryReq discovery_req)
+request_element l (ask.ServiceDetail service) = element.Brief (brief.ServiceDetailReq (detail_req service))
+request_element l (ask.PaymentSelection external services) = element.Brief (brief.PaymentServiceSelectionReq (selection_req external services.items))
+request_element l ask.Authorization = element.Brief (brief.AuthorizationReq authorization_req)
+request_element l (ask.ChargeParameters mode limits) = element.Brief (brief.ChargeParameterDiscoveryReq (parameters_req mode limits))
+request_element l (ask.CableCheck ready soc) = element.Brief (brief.CableCheckReq (cable_check_req ready soc))
+request_element l (ask.PreCharge ready soc voltage current) = element.Brief (brief.PreChargeReq (pre_charge_req ready soc voltage current))
+request_element l (ask.PowerDelivery progress tuple profile) = element.Brief (brief.PowerDeliveryReq (delivery_req progress tuple profile))
+request_element l (ask.CurrentDemand ready soc voltage current) = element.Brief (brief.CurrentDemandReq (demand_req ready soc voltage current))
+request_element l ask.ChargingStatus = element.Brief (brief.ChargingStatusReq (record {}))
+request_element l (ask.WeldingDetection ready soc) = element.Brief (brief.WeldingDetectionReq (welding_req ready soc))
+request_element l (ask.SessionStop pause) = element.Brief (brief.SessionStopReq (stop_req pause))
 
 abbrev pub reply_element : Text → Code → Tell → BodyElement
-reply_element l code (tell.SessionSetup id) = element.SessionSetupRes (setup_res (response_code code) l)
+reply_element l code (tell.SessionSetup id) = element.Brief (brief.SessionSetupRes (setup_res (response_code code) l))
 reply_element l code (tell.ServiceDiscovery free modes) = element.ServiceDiscoveryRes (discovery_res (response_code code) free modes.items)
 reply_element l code (tell.ServiceDetail service) = element.ServiceDetailRes (detail_res (response_code code) service)
-reply_element l code tell.PaymentSelection = element.PaymentServiceSelectionRes (record { response_code = response_code code })
-reply_element l code (tell.Authorization processing) = element.AuthorizationRes (authorization_res (response_code code) processing)
+reply_element l code tell.PaymentSelection = element.Brief (brief.PaymentServiceSelectionRes (record { response_code = response_code code }))
+reply_element l code (tell.Authorization processing) = element.Brief (brief.AuthorizationRes (authorization_res (response_code code) processing))
 reply_element l code (tell.ChargeParameters processing schedule limits) =
     element.ChargeParameterDiscoveryRes (parameters_res (response_code code) processing schedule limits)
-reply_element l code (tell.CableCheck status processing) = element.CableCheckRes (cable_check_res (response_code code) status processing)
-reply_element l code (tell.PreCharge status voltage) = element.PreChargeRes (pre_charge_res (response_code code) status voltage)
-reply_element l code (tell.PowerDelivery status) = element.PowerDeliveryRes (delivery_res (response_code code) status)
+reply_element l code (tell.CableCheck status processing) = element.Brief (brief.CableCheckRes (cable_check_res (response_code code) status processing))
+reply_element l code (tell.PreCharge status voltage) = element.Brief (brief.PreChargeRes (pre_charge_res (response_code code) status voltage))
+reply_element l code (tell.PowerDelivery status) = element.Brief (brief.PowerDeliveryRes (delivery_res (response_code code) status))
 reply_element l code (tell.CurrentDemand status voltage current current_cut voltage_cut watts_cut most_voltage most_current most_watts id) =
-    element.CurrentDemandRes
-    (demand_res (response_code code) status voltage current current_cut voltage_cut watts_cut most_voltage most_current most_watts l)
-reply_element l code (tell.ChargingStatus notify id current) = element.ChargingStatusRes (charging_res (response_code code) notify l current)
-reply_element l code (tell.WeldingDetection status voltage) = element.WeldingDetectionRes (welding_res (response_code code) status voltage)
-reply_element l code tell.SessionStop = element.SessionStopRes (record { response_code = response_code code })
+    element.Brief (brief.CurrentDemandRes
+    (demand_res (response_code code) status voltage current current_cut voltage_cut watts_cut most_voltage most_current most_watts l))
+reply_element l code (tell.ChargingStatus notify id current) = element.Brief (brief.ChargingStatusRes (charging_res (response_code code) notify l current))
+reply_element l code (tell.WeldingDetection status voltage) = element.Brief (brief.WeldingDetectionRes (welding_res (response_code code) status voltage))
+reply_element l code tell.SessionStop = element.Brief (brief.SessionStopRes (record { response_code = response_code code }))
 
 -- the element of a request, and that of a reply
 pub record IsRequestElement (ask : Ask) (e : BodyElement) : Type 0 where

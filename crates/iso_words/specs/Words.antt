@@ -12,6 +12,8 @@ use Rattle.iso_parts.specs.declared.codes.ResponseCode.{ResponseCode}
 use Rattle.iso_parts.specs.declared.frame.Header.{Header}
 use Rattle.iso_codec.specs.declared.message.BodyElement.{BodyElement}
 use Rattle.iso_codec.specs.declared.message.BodyElement.TheVariants as element
+use Rattle.iso_codec.specs.declared.message.BriefElement.{BriefElement}
+use Rattle.iso_codec.specs.declared.message.BriefElement.TheVariants as brief
 use Rattle.iso_codec.specs.declared.message.IsoMessage.{IsoMessage}
 use Rattle.iso_values.specs.Codes.{code_of}
 use Rattle.word_values.specs.Items.{bytes_of}
@@ -28,34 +30,38 @@ asked session ask = word.Request (record { session = session; ask = ask })
 abbrev pub told : SessionId → ResponseCode → Tell → Word
 told session code tell = word.Reply (record { session = session; code = code_of code; tell = tell })
 
+-- the word of a brief element under this identifier
+abbrev pub brief_word : SessionId → BriefElement → Word
+brief_word s (brief.SessionSetupReq x) = asked s (setup_ask x)
+brief_word s (brief.SessionSetupRes x) = told s x.response_code (setup_tell x)
+brief_word s (brief.ServiceDiscoveryReq x) = asked s ask.ServiceDiscovery
+brief_word s (brief.ServiceDetailReq x) = asked s (detail_ask x)
+brief_word s (brief.PaymentServiceSelectionReq x) = asked s (selection_ask x)
+brief_word s (brief.PaymentServiceSelectionRes x) = told s x.response_code tell.PaymentSelection
+brief_word s (brief.AuthorizationReq x) = asked s ask.Authorization
+brief_word s (brief.AuthorizationRes x) = told s x.response_code (authorization_tell x)
+brief_word s (brief.ChargeParameterDiscoveryReq x) = asked s (parameters_ask x)
+brief_word s (brief.CableCheckReq x) = asked s (cable_check_ask x)
+brief_word s (brief.CableCheckRes x) = told s x.response_code (cable_check_tell x)
+brief_word s (brief.PreChargeReq x) = asked s (pre_charge_ask x)
+brief_word s (brief.PreChargeRes x) = told s x.response_code (pre_charge_tell x)
+brief_word s (brief.PowerDeliveryReq x) = asked s (delivery_ask x)
+brief_word s (brief.PowerDeliveryRes x) = told s x.response_code (delivery_tell x)
+brief_word s (brief.CurrentDemandReq x) = asked s (demand_ask x)
+brief_word s (brief.CurrentDemandRes x) = told s x.response_code (demand_tell x)
+brief_word s (brief.ChargingStatusReq x) = asked s ask.ChargingStatus
+brief_word s (brief.ChargingStatusRes x) = told s x.response_code (charging_tell x)
+brief_word s (brief.WeldingDetectionReq x) = asked s (welding_ask x)
+brief_word s (brief.WeldingDetectionRes x) = told s x.response_code (welding_tell x)
+brief_word s (brief.SessionStopReq x) = asked s (stop_ask x)
+brief_word s (brief.SessionStopRes x) = told s x.response_code tell.SessionStop
+
 -- the word of a body's element under this identifier
 abbrev pub element_word : SessionId → BodyElement → Word
-element_word s (element.SessionSetupReq x) = asked s (setup_ask x)
-element_word s (element.SessionSetupRes x) = told s x.response_code (setup_tell x)
-element_word s (element.ServiceDiscoveryReq x) = asked s ask.ServiceDiscovery
+element_word s (element.Brief x) = brief_word s x
 element_word s (element.ServiceDiscoveryRes x) = told s x.response_code (discovery_tell x)
-element_word s (element.ServiceDetailReq x) = asked s (detail_ask x)
 element_word s (element.ServiceDetailRes x) = told s x.response_code (detail_tell x)
-element_word s (element.PaymentServiceSelectionReq x) = asked s (selection_ask x)
-element_word s (element.PaymentServiceSelectionRes x) = told s x.response_code tell.PaymentSelection
-element_word s (element.AuthorizationReq x) = asked s ask.Authorization
-element_word s (element.AuthorizationRes x) = told s x.response_code (authorization_tell x)
-element_word s (element.ChargeParameterDiscoveryReq x) = asked s (parameters_ask x)
 element_word s (element.ChargeParameterDiscoveryRes x) = told s x.response_code (parameters_tell x)
-element_word s (element.CableCheckReq x) = asked s (cable_check_ask x)
-element_word s (element.CableCheckRes x) = told s x.response_code (cable_check_tell x)
-element_word s (element.PreChargeReq x) = asked s (pre_charge_ask x)
-element_word s (element.PreChargeRes x) = told s x.response_code (pre_charge_tell x)
-element_word s (element.PowerDeliveryReq x) = asked s (delivery_ask x)
-element_word s (element.PowerDeliveryRes x) = told s x.response_code (delivery_tell x)
-element_word s (element.CurrentDemandReq x) = asked s (demand_ask x)
-element_word s (element.CurrentDemandRes x) = told s x.response_code (demand_tell x)
-element_word s (element.ChargingStatusReq x) = asked s ask.ChargingStatus
-element_word s (element.ChargingStatusRes x) = told s x.response_code (charging_tell x)
-element_word s (element.WeldingDetectionReq x) = asked s (welding_ask x)
-element_word s (element.WeldingDetectionRes x) = told s x.response_code (welding_tell x)
-element_word s (element.SessionStopReq x) = asked s (stop_ask x)
-element_word s (element.SessionStopRes x) = told s x.response_code tell.SessionStop
 
 -- the word of a body under this identifier
 abbrev pub body_word : SessionId → Option BodyElement → Word

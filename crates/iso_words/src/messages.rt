@@ -2,6 +2,7 @@
 
 ghost use Rattle.std.specs.Prelude.{◌≡◌};
 ghost use Rattle.session_words.specs.declared.word.Word.TheVariants as words;
+ghost use Rattle.iso_codec.specs.declared.message.BodyElement.TheVariants as elements;
 ghost use Rattle.iso_words.specs.Messages.{LendsEvse, LendsIf, IsRequestElement, IsReplyElement, IsMessageOf, LendsSession, message_with as message_as};
 ghost use Rattle.iso_words.specs.Spellable.{CanAsk, CanTell, CanSpell};
 
@@ -14,7 +15,7 @@ use crate::setup_messages::{
     authorization_req, authorization_res, detail_req, detail_res, discovery_req, discovery_res,
     selection_req, setup_req, setup_res, stop_req,
 };
-use iso_codec::{Body, BodyElement, IsoMessage};
+use iso_codec::{Body, BodyElement, BriefElement, IsoMessage};
 use iso_parts::Header;
 use iso_power::ChargingStatusReq;
 use iso_setup::{PaymentServiceSelectionRes, SessionStopRes};
@@ -42,47 +43,49 @@ fn evse_text_if(id: &Option<EvseId>) -> Text<'_>
     }
 }
 
-/// The element of a request.
-fn request_element<'a>(ask: &'a Ask) -> BodyElement<'a>
+/// The element of a request, which is brief.
+fn request_element<'a>(ask: &'a Ask) -> BriefElement<'a>
     requires { CanAsk ask.now }
-    ensures { IsRequestElement ask.now result }
+    ensures { IsRequestElement ask.now (elements.Brief result) }
 {
     match ask {
         Ask::SessionSetup { car } => {
-            BodyElement::SessionSetupReq(setup_req(Binary::of_bytes(car.as_slice())))
+            BriefElement::SessionSetupReq(setup_req(Binary::of_bytes(car.as_slice())))
         }
-        Ask::ServiceDiscovery => BodyElement::ServiceDiscoveryReq(discovery_req()),
-        Ask::ServiceDetail { service } => BodyElement::ServiceDetailReq(detail_req(*service)),
+        Ask::ServiceDiscovery => BriefElement::ServiceDiscoveryReq(discovery_req()),
+        Ask::ServiceDetail { service } => BriefElement::ServiceDetailReq(detail_req(*service)),
         Ask::PaymentSelection { external, services } => {
-            BodyElement::PaymentServiceSelectionReq(selection_req(*external, services))
+            BriefElement::PaymentServiceSelectionReq(selection_req(*external, services))
         }
-        Ask::Authorization => BodyElement::AuthorizationReq(authorization_req()),
+        Ask::Authorization => BriefElement::AuthorizationReq(authorization_req()),
         Ask::ChargeParameters { mode, limits } => {
-            BodyElement::ChargeParameterDiscoveryReq(parameters_req(*mode, limits))
+            BriefElement::ChargeParameterDiscoveryReq(parameters_req(*mode, limits))
         }
-        Ask::CableCheck { ready, soc } => BodyElement::CableCheckReq(cable_check_req(*ready, *soc)),
+        Ask::CableCheck { ready, soc } => BriefElement::CableCheckReq(cable_check_req(
+            *ready, *soc,
+        )),
         Ask::PreCharge {
             ready,
             soc,
             voltage,
             current,
-        } => BodyElement::PreChargeReq(pre_charge_req(*ready, *soc, *voltage, *current)),
+        } => BriefElement::PreChargeReq(pre_charge_req(*ready, *soc, *voltage, *current)),
         Ask::PowerDelivery {
             progress,
             tuple,
             profile,
-        } => BodyElement::PowerDeliveryReq(delivery_req(*progress, *tuple, *profile)),
+        } => BriefElement::PowerDeliveryReq(delivery_req(*progress, *tuple, *profile)),
         Ask::CurrentDemand {
             ready,
             soc,
             voltage,
             current,
-        } => BodyElement::CurrentDemandReq(demand_req(*ready, *soc, *voltage, *current)),
-        Ask::ChargingStatus => BodyElement::ChargingStatusReq(ChargingStatusReq),
+        } => BriefElement::CurrentDemandReq(demand_req(*ready, *soc, *voltage, *current)),
+        Ask::ChargingStatus => BriefElement::ChargingStatusReq(ChargingStatusReq),
         Ask::WeldingDetection { ready, soc } => {
-            BodyElement::WeldingDetectionReq(welding_req(*ready, *soc))
+            BriefElement::WeldingDetectionReq(welding_req(*ready, *soc))
         }
-        Ask::SessionStop { pause } => BodyElement::SessionStopReq(stop_req(*pause)),
+        Ask::SessionStop { pause } => BriefElement::SessionStopReq(stop_req(*pause)),
     }
 }
 
@@ -93,10 +96,10 @@ fn reply_element<'a>(code: Code, tell: &'a Tell) -> BodyElement<'a>
 {
     let code = response_code(code);
     match tell {
-        Tell::SessionSetup { evse } => BodyElement::SessionSetupRes(setup_res(
+        Tell::SessionSetup { evse } => BodyElement::Brief(BriefElement::SessionSetupRes(setup_res(
             code,
             evse_text(evse),
-        )),
+        ))),
         Tell::ServiceDiscovery { free, modes } => {
             BodyElement::ServiceDiscoveryRes(discovery_res(code, *free, modes))
         }
@@ -104,12 +107,14 @@ fn reply_element<'a>(code: Code, tell: &'a Tell) -> BodyElement<'a>
             code, *service,
         )),
         Tell::PaymentSelection => {
-            BodyElement::PaymentServiceSelectionRes(PaymentServiceSelectionRes {
-                response_code: code,
-            })
+            BodyElement::Brief(BriefElement::PaymentServiceSelectionRes(
+                PaymentServiceSelectionRes {
+                    response_code: code,
+                },
+            ))
         }
         Tell::Authorization { processing } => {
-            BodyElement::AuthorizationRes(authorization_res(code, *processing))
+            BodyElement::Brief(BriefElement::AuthorizationRes(authorization_res(code, *processing)))
         }
         Tell::ChargeParameters {
             processing,
@@ -122,13 +127,17 @@ fn reply_element<'a>(code: Code, tell: &'a Tell) -> BodyElement<'a>
             limits,
         )),
         Tell::CableCheck { status, processing } => {
-            BodyElement::CableCheckRes(cable_check_res(code, *status, *processing))
+            BodyElement::Brief(BriefElement::CableCheckRes(cable_check_res(
+                code,
+                *status,
+                *processing,
+            )))
         }
         Tell::PreCharge { status, voltage } => {
-            BodyElement::PreChargeRes(pre_charge_res(code, *status, *voltage))
+            BodyElement::Brief(BriefElement::PreChargeRes(pre_charge_res(code, *status, *voltage)))
         }
-        Tell::PowerDelivery { status } => BodyElement::PowerDeliveryRes(delivery_res(
-            code, *status,
+        Tell::PowerDelivery { status } => BodyElement::Brief(BriefElement::PowerDeliveryRes(
+            delivery_res(code, *status),
         )),
         Tell::CurrentDemand {
             status,
@@ -141,7 +150,7 @@ fn reply_element<'a>(code: Code, tell: &'a Tell) -> BodyElement<'a>
             most_current,
             most_watts,
             evse,
-        } => BodyElement::CurrentDemandRes(demand_res(
+        } => BodyElement::Brief(BriefElement::CurrentDemandRes(demand_res(
             code,
             *status,
             *voltage,
@@ -153,18 +162,25 @@ fn reply_element<'a>(code: Code, tell: &'a Tell) -> BodyElement<'a>
             *most_current,
             *most_watts,
             evse_text_if(evse),
-        )),
+        ))),
         Tell::ChargingStatus {
             notify,
             evse,
             current,
-        } => BodyElement::ChargingStatusRes(charging_res(code, *notify, evse_text(evse), *current)),
+        } => BodyElement::Brief(BriefElement::ChargingStatusRes(charging_res(
+            code,
+            *notify,
+            evse_text(evse),
+            *current,
+        ))),
         Tell::WeldingDetection { status, voltage } => {
-            BodyElement::WeldingDetectionRes(welding_res(code, *status, *voltage))
+            BodyElement::Brief(BriefElement::WeldingDetectionRes(welding_res(
+                code, *status, *voltage,
+            )))
         }
-        Tell::SessionStop => BodyElement::SessionStopRes(SessionStopRes {
+        Tell::SessionStop => BodyElement::Brief(BriefElement::SessionStopRes(SessionStopRes {
             response_code: code,
-        }),
+        })),
     }
 }
 
@@ -199,7 +215,10 @@ pub fn of_word(word: &Word) -> IsoMessage<'_>
     ensures { IsMessageOf word.now result }
 {
     match word {
-        Word::Request(request) => message_with(&request.session, request_element(&request.ask)),
+        Word::Request(request) => message_with(
+            &request.session,
+            BodyElement::Brief(request_element(&request.ask)),
+        ),
         Word::Reply(reply) => of_reply(reply),
         Word::Nothing => IsoMessage {
             header: Header {

@@ -12,7 +12,7 @@ use crate::setup_words::{
     authorization_tell, detail_ask, detail_tell, discovery_tell, selection_ask, setup_ask,
     setup_tell, stop_ask,
 };
-use iso_codec::{BodyElement, IsoMessage};
+use iso_codec::{BodyElement, BriefElement, IsoMessage};
 use iso_parts::{Header, ResponseCode};
 use iso_values::codes::code_of;
 use session_words::{Ask, Reply, Request, SessionId, Tell, Word};
@@ -45,39 +45,48 @@ fn told(session: SessionId, code: ResponseCode, tell: Tell) -> Word
     })
 }
 
+/// The word of a brief element under this identifier.
+fn brief_word(s: SessionId, element: &BriefElement<'_>) -> Word
+    ensures { result ≡ rule.brief_word s element.now }
+{
+    match element {
+        BriefElement::SessionSetupReq(x) => asked(s, setup_ask(x)),
+        BriefElement::SessionSetupRes(x) => told(s, x.response_code, setup_tell(x)),
+        BriefElement::ServiceDiscoveryReq(_) => asked(s, Ask::ServiceDiscovery),
+        BriefElement::ServiceDetailReq(x) => asked(s, detail_ask(x)),
+        BriefElement::PaymentServiceSelectionReq(x) => asked(s, selection_ask(x)),
+        BriefElement::PaymentServiceSelectionRes(x) => {
+            told(s, x.response_code, Tell::PaymentSelection)
+        }
+        BriefElement::AuthorizationReq(_) => asked(s, Ask::Authorization),
+        BriefElement::AuthorizationRes(x) => told(s, x.response_code, authorization_tell(x)),
+        BriefElement::ChargeParameterDiscoveryReq(x) => asked(s, parameters_ask(x)),
+        BriefElement::CableCheckReq(x) => asked(s, cable_check_ask(x)),
+        BriefElement::CableCheckRes(x) => told(s, x.response_code, cable_check_tell(x)),
+        BriefElement::PreChargeReq(x) => asked(s, pre_charge_ask(x)),
+        BriefElement::PreChargeRes(x) => told(s, x.response_code, pre_charge_tell(x)),
+        BriefElement::PowerDeliveryReq(x) => asked(s, delivery_ask(x)),
+        BriefElement::PowerDeliveryRes(x) => told(s, x.response_code, delivery_tell(x)),
+        BriefElement::CurrentDemandReq(x) => asked(s, demand_ask(x)),
+        BriefElement::CurrentDemandRes(x) => told(s, x.response_code, demand_tell(x)),
+        BriefElement::ChargingStatusReq(_) => asked(s, Ask::ChargingStatus),
+        BriefElement::ChargingStatusRes(x) => told(s, x.response_code, charging_tell(x)),
+        BriefElement::WeldingDetectionReq(x) => asked(s, welding_ask(x)),
+        BriefElement::WeldingDetectionRes(x) => told(s, x.response_code, welding_tell(x)),
+        BriefElement::SessionStopReq(x) => asked(s, stop_ask(x)),
+        BriefElement::SessionStopRes(x) => told(s, x.response_code, Tell::SessionStop),
+    }
+}
+
 /// The word of a body's element under this identifier.
 fn element_word(s: SessionId, element: &BodyElement<'_>) -> Word
     ensures { result ≡ rule.element_word s element.now }
 {
     match element {
-        BodyElement::SessionSetupReq(x) => asked(s, setup_ask(x)),
-        BodyElement::SessionSetupRes(x) => told(s, x.response_code, setup_tell(x)),
-        BodyElement::ServiceDiscoveryReq(_) => asked(s, Ask::ServiceDiscovery),
+        BodyElement::Brief(brief) => brief_word(s, brief),
         BodyElement::ServiceDiscoveryRes(x) => told(s, x.response_code, discovery_tell(x)),
-        BodyElement::ServiceDetailReq(x) => asked(s, detail_ask(x)),
         BodyElement::ServiceDetailRes(x) => told(s, x.response_code, detail_tell(x)),
-        BodyElement::PaymentServiceSelectionReq(x) => asked(s, selection_ask(x)),
-        BodyElement::PaymentServiceSelectionRes(x) => {
-            told(s, x.response_code, Tell::PaymentSelection)
-        }
-        BodyElement::AuthorizationReq(_) => asked(s, Ask::Authorization),
-        BodyElement::AuthorizationRes(x) => told(s, x.response_code, authorization_tell(x)),
-        BodyElement::ChargeParameterDiscoveryReq(x) => asked(s, parameters_ask(x)),
         BodyElement::ChargeParameterDiscoveryRes(x) => told(s, x.response_code, parameters_tell(x)),
-        BodyElement::CableCheckReq(x) => asked(s, cable_check_ask(x)),
-        BodyElement::CableCheckRes(x) => told(s, x.response_code, cable_check_tell(x)),
-        BodyElement::PreChargeReq(x) => asked(s, pre_charge_ask(x)),
-        BodyElement::PreChargeRes(x) => told(s, x.response_code, pre_charge_tell(x)),
-        BodyElement::PowerDeliveryReq(x) => asked(s, delivery_ask(x)),
-        BodyElement::PowerDeliveryRes(x) => told(s, x.response_code, delivery_tell(x)),
-        BodyElement::CurrentDemandReq(x) => asked(s, demand_ask(x)),
-        BodyElement::CurrentDemandRes(x) => told(s, x.response_code, demand_tell(x)),
-        BodyElement::ChargingStatusReq(_) => asked(s, Ask::ChargingStatus),
-        BodyElement::ChargingStatusRes(x) => told(s, x.response_code, charging_tell(x)),
-        BodyElement::WeldingDetectionReq(x) => asked(s, welding_ask(x)),
-        BodyElement::WeldingDetectionRes(x) => told(s, x.response_code, welding_tell(x)),
-        BodyElement::SessionStopReq(x) => asked(s, stop_ask(x)),
-        BodyElement::SessionStopRes(x) => told(s, x.response_code, Tell::SessionStop),
     }
 }
 

@@ -1,11 +1,12 @@
 use Rattle.std.proofs.Common.{rules, refl}
+use Rattle.iso_codec.specs.declared.message.BodyElement.TheVariants as elements
 use Rattle.iso_words.proofs.messages.of_word.Goals as goal
 
 pub returns-in-Request : goal.returns-in-Request
 returns-in-Request c = rw c.in-Request.is (record {
   lent = c.message_with.result.header.session_id;
   lends = c.message_with.ensures.session;
-  element = c.request_element.result;
+  element = elements.Brief c.request_element.result;
   element_is = c.request_element.ensures;
   message_is = c.message_with.ensures.element;
 })
