@@ -221,11 +221,13 @@ class Types:
         return len(fields) == 3 and kind not in self.large and all(it.form == "value" and it.read() == "value" for it in fields)
 
     def together(self, kind, fields):
-        """The first children of a type that are read as one tuple: the proof of a chain of single ones takes longer."""
+        """The first children of a type that are read as one tuple: the proof of a chain of single ones takes longer. One that is long to move
+        ends them."""
         children = [it for it in fields if it.form != "attribute"]
         if kind in self.large or any(it.form == "attribute" and it.optional for it in fields):
             return []
-        last = next((n for n, it in enumerate(children) if it.form == "out" or it.most or it.large), len(children))
+        is_long = lambda it: it.most or not it.simple and (self.lent(it.kind) or self.holds_list(it.kind))
+        last = next((n for n, it in enumerate(children) if it.form == "out" or is_long(it)), len(children))
         return children[:last] if last > 1 else []
 
     def with_defaults(self):

@@ -7,9 +7,10 @@ use din_schema::names;
 use exi_documents::Refusal;
 use exi_events::EventWriter;
 use exi_schema::Places;
+use message_fields::{OptionalValue, RequiredValue, first_children};
 use message_parts::{
-    Binary, Descent, PutRecord, Record, Text, first_child, left_out, optional, optional_value,
-    put_optional, put_optional_value, put_value, value,
+    Binary, Descent, PutRecord, Record, Text, first_child, left_out, optional, put_optional,
+    put_optional_value, put_value, value,
 };
 
 /// Notification.
@@ -44,9 +45,8 @@ impl<'a> Record<'a> for Notification<'a> {
     ghost particles = { notification };
 
     fn read<P: Places>(descent: &mut Descent<'a, '_, P>) -> Result<Notification<'a>, Refusal> {
-        first_child(descent)?;
-        let fault_code = value(descent)?;
-        let fault_msg = optional_value(descent, names::FAULT_MSG)?;
+        let (RequiredValue(fault_code), OptionalValue::<_, { names::FAULT_MSG }>(fault_msg)) =
+            first_children(descent)?;
         Ok(Notification {
             fault_code,
             fault_msg,

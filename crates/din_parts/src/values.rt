@@ -9,9 +9,10 @@ use din_schema::names;
 use exi_documents::Refusal;
 use exi_events::EventWriter;
 use exi_schema::Places;
+use message_fields::{OptionalValue, RequiredValue, first_children};
 use message_parts::{
-    Choice, Descent, PutChoice, PutRecord, Record, first_child, member, optional_value,
-    put_optional_value, put_record, put_value, value,
+    Choice, Descent, PutChoice, PutRecord, Record, member, put_optional_value, put_record,
+    put_value,
 };
 
 /// PhysicalValue.
@@ -48,10 +49,11 @@ impl<'a> Record<'a> for PhysicalValue {
     ghost particles = { physical_value };
 
     fn read<P: Places>(descent: &mut Descent<'a, '_, P>) -> Result<PhysicalValue, Refusal> {
-        first_child(descent)?;
-        let multiplier = value(descent)?;
-        let unit = optional_value(descent, names::UNIT)?;
-        let value = value(descent)?;
+        let (
+            RequiredValue(multiplier),
+            OptionalValue::<_, { names::UNIT }>(unit),
+            RequiredValue(value),
+        ) = first_children(descent)?;
         Ok(PhysicalValue {
             multiplier,
             unit,
@@ -106,12 +108,14 @@ impl<'a> Record<'a> for DcEvStatus {
     ghost particles = { dc_ev_status };
 
     fn read<P: Places>(descent: &mut Descent<'a, '_, P>) -> Result<DcEvStatus, Refusal> {
-        first_child(descent)?;
-        let ev_ready = value(descent)?;
-        let ev_cabin_conditioning = optional_value(descent, names::EV_CABIN_CONDITIONING)?;
-        let evress_conditioning = optional_value(descent, names::EVRESS_CONDITIONING)?;
-        let ev_error_code = value(descent)?;
-        let evress_soc = value(descent)?;
+        let (
+            (
+                RequiredValue(ev_ready),
+                OptionalValue::<_, { names::EV_CABIN_CONDITIONING }>(ev_cabin_conditioning),
+                OptionalValue::<_, { names::EVRESS_CONDITIONING }>(evress_conditioning),
+            ),
+            (RequiredValue(ev_error_code), RequiredValue(evress_soc)),
+        ) = first_children(descent)?;
         Ok(DcEvStatus {
             ev_ready,
             ev_cabin_conditioning,
@@ -165,11 +169,12 @@ impl<'a> Record<'a> for DcEvseStatus {
     ghost particles = { dc_evse_status };
 
     fn read<P: Places>(descent: &mut Descent<'a, '_, P>) -> Result<DcEvseStatus, Refusal> {
-        first_child(descent)?;
-        let evse_isolation_status = optional_value(descent, names::EVSE_ISOLATION_STATUS)?;
-        let evse_status_code = value(descent)?;
-        let notification_max_delay = value(descent)?;
-        let evse_notification = value(descent)?;
+        let (
+            OptionalValue::<_, { names::EVSE_ISOLATION_STATUS }>(evse_isolation_status),
+            RequiredValue(evse_status_code),
+            RequiredValue(notification_max_delay),
+            RequiredValue(evse_notification),
+        ) = first_children(descent)?;
         Ok(DcEvseStatus {
             evse_isolation_status,
             evse_status_code,

@@ -7,9 +7,10 @@ use din_schema::names;
 use exi_documents::Refusal;
 use exi_events::EventWriter;
 use exi_schema::Places;
+use message_fields::{Optional, OptionalValue, Required, RequiredValue, first_children};
 use message_parts::{
-    Descent, PutRecord, Record, first_child, optional, optional_value, put_optional,
-    put_optional_value, put_record, put_value, required, value,
+    Descent, PutRecord, Record, first_child, put_optional, put_optional_value, put_record,
+    put_value, required,
 };
 
 /// CableCheckReq.
@@ -80,10 +81,11 @@ impl<'a> Record<'a> for CableCheckRes {
     ghost particles = { cable_check_res };
 
     fn read<P: Places>(descent: &mut Descent<'a, '_, P>) -> Result<CableCheckRes, Refusal> {
-        first_child(descent)?;
-        let response_code = value(descent)?;
-        let dc_evse_status = required(descent)?;
-        let evse_processing = value(descent)?;
+        let (
+            RequiredValue(response_code),
+            Required(dc_evse_status),
+            RequiredValue(evse_processing),
+        ) = first_children(descent)?;
         Ok(CableCheckRes {
             response_code,
             dc_evse_status,
@@ -125,10 +127,8 @@ impl<'a> Record<'a> for PreChargeReq {
     ghost particles = { pre_charge_req };
 
     fn read<P: Places>(descent: &mut Descent<'a, '_, P>) -> Result<PreChargeReq, Refusal> {
-        first_child(descent)?;
-        let dc_ev_status = required(descent)?;
-        let ev_target_voltage = required(descent)?;
-        let ev_target_current = required(descent)?;
+        let (Required(dc_ev_status), Required(ev_target_voltage), Required(ev_target_current)) =
+            first_children(descent)?;
         Ok(PreChargeReq {
             dc_ev_status,
             ev_target_voltage,
@@ -174,10 +174,11 @@ impl<'a> Record<'a> for PreChargeRes {
     ghost particles = { pre_charge_res };
 
     fn read<P: Places>(descent: &mut Descent<'a, '_, P>) -> Result<PreChargeRes, Refusal> {
-        first_child(descent)?;
-        let response_code = value(descent)?;
-        let dc_evse_status = required(descent)?;
-        let evse_present_voltage = required(descent)?;
+        let (
+            RequiredValue(response_code),
+            Required(dc_evse_status),
+            Required(evse_present_voltage),
+        ) = first_children(descent)?;
         Ok(PreChargeRes {
             response_code,
             dc_evse_status,
@@ -257,17 +258,24 @@ impl<'a> Record<'a> for CurrentDemandReq {
     ghost particles = { current_demand_req };
 
     fn read<P: Places>(descent: &mut Descent<'a, '_, P>) -> Result<CurrentDemandReq, Refusal> {
-        first_child(descent)?;
-        let dc_ev_status = required(descent)?;
-        let ev_target_current = required(descent)?;
-        let ev_maximum_voltage_limit = optional(descent, names::EV_MAXIMUM_VOLTAGE_LIMIT)?;
-        let ev_maximum_current_limit = optional(descent, names::EV_MAXIMUM_CURRENT_LIMIT)?;
-        let ev_maximum_power_limit = optional(descent, names::EV_MAXIMUM_POWER_LIMIT)?;
-        let bulk_charging_complete = optional_value(descent, names::BULK_CHARGING_COMPLETE)?;
-        let charging_complete = value(descent)?;
-        let remaining_time_to_full_so_c = optional(descent, names::REMAINING_TIME_TO_FULL_SO_C)?;
-        let remaining_time_to_bulk_so_c = optional(descent, names::REMAINING_TIME_TO_BULK_SO_C)?;
-        let ev_target_voltage = required(descent)?;
+        let (
+            (
+                Required(dc_ev_status),
+                Required(ev_target_current),
+                Optional::<_, { names::EV_MAXIMUM_VOLTAGE_LIMIT }>(ev_maximum_voltage_limit),
+                Optional::<_, { names::EV_MAXIMUM_CURRENT_LIMIT }>(ev_maximum_current_limit),
+            ),
+            (
+                Optional::<_, { names::EV_MAXIMUM_POWER_LIMIT }>(ev_maximum_power_limit),
+                OptionalValue::<_, { names::BULK_CHARGING_COMPLETE }>(bulk_charging_complete),
+                RequiredValue(charging_complete),
+            ),
+            (
+                Optional::<_, { names::REMAINING_TIME_TO_FULL_SO_C }>(remaining_time_to_full_so_c),
+                Optional::<_, { names::REMAINING_TIME_TO_BULK_SO_C }>(remaining_time_to_bulk_so_c),
+                Required(ev_target_voltage),
+            ),
+        ) = first_children(descent)?;
         Ok(CurrentDemandReq {
             dc_ev_status,
             ev_target_current,
@@ -362,17 +370,24 @@ impl<'a> Record<'a> for CurrentDemandRes {
     ghost particles = { current_demand_res };
 
     fn read<P: Places>(descent: &mut Descent<'a, '_, P>) -> Result<CurrentDemandRes, Refusal> {
-        first_child(descent)?;
-        let response_code = value(descent)?;
-        let dc_evse_status = required(descent)?;
-        let evse_present_voltage = required(descent)?;
-        let evse_present_current = required(descent)?;
-        let evse_current_limit_achieved = value(descent)?;
-        let evse_voltage_limit_achieved = value(descent)?;
-        let evse_power_limit_achieved = value(descent)?;
-        let evse_maximum_voltage_limit = optional(descent, names::EVSE_MAXIMUM_VOLTAGE_LIMIT)?;
-        let evse_maximum_current_limit = optional(descent, names::EVSE_MAXIMUM_CURRENT_LIMIT)?;
-        let evse_maximum_power_limit = optional(descent, names::EVSE_MAXIMUM_POWER_LIMIT)?;
+        let (
+            (
+                RequiredValue(response_code),
+                Required(dc_evse_status),
+                Required(evse_present_voltage),
+                Required(evse_present_current),
+            ),
+            (
+                RequiredValue(evse_current_limit_achieved),
+                RequiredValue(evse_voltage_limit_achieved),
+                RequiredValue(evse_power_limit_achieved),
+            ),
+            (
+                Optional::<_, { names::EVSE_MAXIMUM_VOLTAGE_LIMIT }>(evse_maximum_voltage_limit),
+                Optional::<_, { names::EVSE_MAXIMUM_CURRENT_LIMIT }>(evse_maximum_current_limit),
+                Optional::<_, { names::EVSE_MAXIMUM_POWER_LIMIT }>(evse_maximum_power_limit),
+            ),
+        ) = first_children(descent)?;
         Ok(CurrentDemandRes {
             response_code,
             dc_evse_status,
@@ -460,10 +475,11 @@ impl<'a> Record<'a> for WeldingDetectionRes {
     ghost particles = { welding_detection_res };
 
     fn read<P: Places>(descent: &mut Descent<'a, '_, P>) -> Result<WeldingDetectionRes, Refusal> {
-        first_child(descent)?;
-        let response_code = value(descent)?;
-        let dc_evse_status = required(descent)?;
-        let evse_present_voltage = required(descent)?;
+        let (
+            RequiredValue(response_code),
+            Required(dc_evse_status),
+            Required(evse_present_voltage),
+        ) = first_children(descent)?;
         Ok(WeldingDetectionRes {
             response_code,
             dc_evse_status,

@@ -8,10 +8,11 @@ use din_schema::names;
 use exi_documents::Refusal;
 use exi_events::EventWriter;
 use exi_schema::Places;
+use message_fields::{OneOf, OptionalValue, Required, RequiredValue, first_children};
 use message_parts::{
-    Choice, Descent, Group, PutChoice, PutRecord, Record, choice, first_child, member, optional,
-    optional_choice, optional_value, put_choice, put_optional, put_optional_choice,
-    put_optional_value, put_record, put_records, put_value, records, required, value,
+    Choice, Descent, Group, PutChoice, PutRecord, Record, first_child, member, optional,
+    optional_choice, put_choice, put_optional, put_optional_choice, put_optional_value, put_record,
+    put_records, put_value, records, value,
 };
 
 /// ProfileEntry.
@@ -53,9 +54,10 @@ impl<'a> Record<'a> for ProfileEntry {
     ghost particles = { profile_entry };
 
     fn read<P: Places>(descent: &mut Descent<'a, '_, P>) -> Result<ProfileEntry, Refusal> {
-        first_child(descent)?;
-        let charging_profile_entry_start = value(descent)?;
-        let charging_profile_entry_max_power = value(descent)?;
+        let (
+            RequiredValue(charging_profile_entry_start),
+            RequiredValue(charging_profile_entry_max_power),
+        ) = first_children(descent)?;
         Ok(ProfileEntry {
             charging_profile_entry_start,
             charging_profile_entry_max_power,
@@ -148,10 +150,11 @@ impl<'a> Record<'a> for DcEvPowerDeliveryParameter {
     fn read<P: Places>(
         descent: &mut Descent<'a, '_, P>,
     ) -> Result<DcEvPowerDeliveryParameter, Refusal> {
-        first_child(descent)?;
-        let dc_ev_status = required(descent)?;
-        let bulk_charging_complete = optional_value(descent, names::BULK_CHARGING_COMPLETE)?;
-        let charging_complete = value(descent)?;
+        let (
+            Required(dc_ev_status),
+            OptionalValue::<_, { names::BULK_CHARGING_COMPLETE }>(bulk_charging_complete),
+            RequiredValue(charging_complete),
+        ) = first_children(descent)?;
         Ok(DcEvPowerDeliveryParameter {
             dc_ev_status,
             bulk_charging_complete,
@@ -285,9 +288,7 @@ impl<'a> Record<'a> for PowerDeliveryRes {
     ghost particles = { power_delivery_res };
 
     fn read<P: Places>(descent: &mut Descent<'a, '_, P>) -> Result<PowerDeliveryRes, Refusal> {
-        first_child(descent)?;
-        let response_code = value(descent)?;
-        let evse_status = choice(descent)?;
+        let (RequiredValue(response_code), OneOf(evse_status)) = first_children(descent)?;
         Ok(PowerDeliveryRes {
             response_code,
             evse_status,

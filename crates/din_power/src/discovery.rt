@@ -9,9 +9,9 @@ use din_schema::names;
 use exi_documents::Refusal;
 use exi_events::EventWriter;
 use exi_schema::Places;
+use message_fields::{OneOf, RequiredValue, first_children};
 use message_parts::{
-    Descent, PutRecord, Record, choice, first_child, optional_choice, put_choice,
-    put_optional_choice, put_value, value,
+    Descent, PutRecord, Record, choice, optional_choice, put_choice, put_optional_choice, put_value,
 };
 
 /// ChargeParameterDiscoveryReq.
@@ -51,9 +51,8 @@ impl<'a> Record<'a> for ChargeParameterDiscoveryReq {
     fn read<P: Places>(
         descent: &mut Descent<'a, '_, P>,
     ) -> Result<ChargeParameterDiscoveryReq, Refusal> {
-        first_child(descent)?;
-        let ev_requested_energy_transfer_type = value(descent)?;
-        let ev_charge_parameter = choice(descent)?;
+        let (RequiredValue(ev_requested_energy_transfer_type), OneOf(ev_charge_parameter)) =
+            first_children(descent)?;
         Ok(ChargeParameterDiscoveryReq {
             ev_requested_energy_transfer_type,
             ev_charge_parameter,
@@ -98,9 +97,9 @@ impl<'a> Record<'a> for ChargeParameterDiscoveryRes {
     fn read<P: Places>(
         descent: &mut Descent<'a, '_, P>,
     ) -> Result<ChargeParameterDiscoveryRes, Refusal> {
-        first_child(descent)?;
-        let response_code = value(descent)?;
-        let evse_processing = value(descent)?;
+        let (RequiredValue(response_code), RequiredValue(evse_processing)) = first_children(
+            descent,
+        )?;
         let sa_schedules = optional_choice(descent)?;
         let evse_charge_parameter = choice(descent)?;
         Ok(ChargeParameterDiscoveryRes {

@@ -7,9 +7,10 @@ use din_schema::names;
 use exi_documents::Refusal;
 use exi_events::EventWriter;
 use exi_schema::Places;
+use message_fields::{Optional, OptionalValue, Required, first_children};
 use message_parts::{
-    Choice, Descent, PutChoice, PutRecord, Record, first_child, member, optional, optional_value,
-    put_optional, put_optional_value, put_record, required,
+    Choice, Descent, PutChoice, PutRecord, Record, member, put_optional, put_optional_value,
+    put_record,
 };
 
 /// DC_EVChargeParameter.
@@ -69,15 +70,20 @@ impl<'a> Record<'a> for DcEvChargeParameter {
     ghost particles = { dc_ev_charge_parameter };
 
     fn read<P: Places>(descent: &mut Descent<'a, '_, P>) -> Result<DcEvChargeParameter, Refusal> {
-        first_child(descent)?;
-        let dc_ev_status = required(descent)?;
-        let ev_maximum_current_limit = required(descent)?;
-        let ev_maximum_power_limit = optional(descent, names::EV_MAXIMUM_POWER_LIMIT)?;
-        let ev_maximum_voltage_limit = required(descent)?;
-        let ev_energy_capacity = optional(descent, names::EV_ENERGY_CAPACITY)?;
-        let ev_energy_request = optional(descent, names::EV_ENERGY_REQUEST)?;
-        let full_soc = optional_value(descent, names::FULL_SOC)?;
-        let bulk_soc = optional_value(descent, names::BULK_SOC)?;
+        let (
+            (
+                Required(dc_ev_status),
+                Required(ev_maximum_current_limit),
+                Optional::<_, { names::EV_MAXIMUM_POWER_LIMIT }>(ev_maximum_power_limit),
+                Required(ev_maximum_voltage_limit),
+            ),
+            (
+                Optional::<_, { names::EV_ENERGY_CAPACITY }>(ev_energy_capacity),
+                Optional::<_, { names::EV_ENERGY_REQUEST }>(ev_energy_request),
+                OptionalValue::<_, { names::FULL_SOC }>(full_soc),
+                OptionalValue::<_, { names::BULK_SOC }>(bulk_soc),
+            ),
+        ) = first_children(descent)?;
         Ok(DcEvChargeParameter {
             dc_ev_status,
             ev_maximum_current_limit,
@@ -203,19 +209,25 @@ impl<'a> Record<'a> for DcEvseChargeParameter {
     ghost particles = { dc_evse_charge_parameter };
 
     fn read<P: Places>(descent: &mut Descent<'a, '_, P>) -> Result<DcEvseChargeParameter, Refusal> {
-        first_child(descent)?;
-        let dc_evse_status = required(descent)?;
-        let evse_maximum_current_limit = required(descent)?;
-        let evse_maximum_power_limit = optional(descent, names::EVSE_MAXIMUM_POWER_LIMIT)?;
-        let evse_maximum_voltage_limit = required(descent)?;
-        let evse_minimum_current_limit = required(descent)?;
-        let evse_minimum_voltage_limit = required(descent)?;
-        let evse_current_regulation_tolerance = optional(
-            descent,
-            names::EVSE_CURRENT_REGULATION_TOLERANCE,
-        )?;
-        let evse_peak_current_ripple = required(descent)?;
-        let evse_energy_to_be_delivered = optional(descent, names::EVSE_ENERGY_TO_BE_DELIVERED)?;
+        let (
+            (
+                Required(dc_evse_status),
+                Required(evse_maximum_current_limit),
+                Optional::<_, { names::EVSE_MAXIMUM_POWER_LIMIT }>(evse_maximum_power_limit),
+            ),
+            (
+                Required(evse_maximum_voltage_limit),
+                Required(evse_minimum_current_limit),
+                Required(evse_minimum_voltage_limit),
+            ),
+            (
+                Optional::<_, { names::EVSE_CURRENT_REGULATION_TOLERANCE }>(
+                    evse_current_regulation_tolerance,
+                ),
+                Required(evse_peak_current_ripple),
+                Optional::<_, { names::EVSE_ENERGY_TO_BE_DELIVERED }>(evse_energy_to_be_delivered),
+            ),
+        ) = first_children(descent)?;
         Ok(DcEvseChargeParameter {
             dc_evse_status,
             evse_maximum_current_limit,

@@ -7,10 +7,10 @@ use din_schema::names;
 use exi_documents::Refusal;
 use exi_events::EventWriter;
 use exi_schema::Places;
+use message_fields::{OneOf, OptionalValue, RequiredValue, first_children};
 use message_parts::{
-    Choice, Descent, Group, PutChoice, PutRecord, Record, choice, first_child, left_out, member,
-    optional_value, put_choice, put_optional_value, put_record, put_records, put_value, records,
-    required, value,
+    Choice, Descent, Group, PutChoice, PutRecord, Record, first_child, left_out, member,
+    put_choice, put_optional_value, put_record, put_records, put_value, records, required, value,
 };
 
 /// RelativeTimeInterval.
@@ -44,9 +44,8 @@ impl<'a> Record<'a> for RelativeTimeInterval {
     ghost particles = { relative_time_interval };
 
     fn read<P: Places>(descent: &mut Descent<'a, '_, P>) -> Result<RelativeTimeInterval, Refusal> {
-        first_child(descent)?;
-        let start = value(descent)?;
-        let duration = optional_value(descent, names::DURATION)?;
+        let (RequiredValue(start), OptionalValue::<_, { names::DURATION }>(duration)) =
+            first_children(descent)?;
         Ok(RelativeTimeInterval { start, duration })
     }
 }
@@ -125,9 +124,7 @@ impl<'a> Record<'a> for PMaxScheduleEntry {
     ghost particles = { p_max_schedule_entry };
 
     fn read<P: Places>(descent: &mut Descent<'a, '_, P>) -> Result<PMaxScheduleEntry, Refusal> {
-        first_child(descent)?;
-        let time_interval = choice(descent)?;
-        let p_max = value(descent)?;
+        let (OneOf(time_interval), RequiredValue(p_max)) = first_children(descent)?;
         Ok(PMaxScheduleEntry {
             time_interval,
             p_max,

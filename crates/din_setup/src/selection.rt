@@ -8,9 +8,10 @@ use din_schema::names;
 use exi_documents::Refusal;
 use exi_events::EventWriter;
 use exi_schema::Places;
+use message_fields::{OptionalValue, RequiredValue, first_children};
 use message_parts::{
-    Descent, PutRecord, Record, first_child, optional_value, put_optional_value, put_record,
-    put_records, put_value, records, required, value,
+    Descent, PutRecord, Record, first_child, put_optional_value, put_record, put_records,
+    put_value, records, required, value,
 };
 
 /// SelectedService.
@@ -44,9 +45,10 @@ impl<'a> Record<'a> for SelectedService {
     ghost particles = { selected_service };
 
     fn read<P: Places>(descent: &mut Descent<'a, '_, P>) -> Result<SelectedService, Refusal> {
-        first_child(descent)?;
-        let service_id = value(descent)?;
-        let parameter_set_id = optional_value(descent, names::PARAMETER_SET_ID)?;
+        let (
+            RequiredValue(service_id),
+            OptionalValue::<_, { names::PARAMETER_SET_ID }>(parameter_set_id),
+        ) = first_children(descent)?;
         Ok(SelectedService {
             service_id,
             parameter_set_id,

@@ -8,10 +8,10 @@ use din_schema::names;
 use exi_documents::Refusal;
 use exi_events::EventWriter;
 use exi_schema::Places;
+use message_fields::{OptionalValue, RequiredValue, first_children};
 use message_parts::{
-    Descent, PutRecord, Record, Text, first_child, optional, optional_value, put_optional,
-    put_optional_value, put_record, put_records, put_value, put_values, records, required, value,
-    values,
+    Descent, PutRecord, Record, Text, first_child, optional, put_optional, put_optional_value,
+    put_record, put_records, put_value, put_values, records, required, value, values,
 };
 
 /// ServiceTag.
@@ -51,11 +51,12 @@ impl<'a> Record<'a> for ServiceTag<'a> {
     ghost particles = { service_tag };
 
     fn read<P: Places>(descent: &mut Descent<'a, '_, P>) -> Result<ServiceTag<'a>, Refusal> {
-        first_child(descent)?;
-        let service_id = value(descent)?;
-        let service_name = optional_value(descent, names::SERVICE_NAME)?;
-        let service_category = value(descent)?;
-        let service_scope = optional_value(descent, names::SERVICE_SCOPE)?;
+        let (
+            RequiredValue(service_id),
+            OptionalValue::<_, { names::SERVICE_NAME }>(service_name),
+            RequiredValue(service_category),
+            OptionalValue::<_, { names::SERVICE_SCOPE }>(service_scope),
+        ) = first_children(descent)?;
         Ok(ServiceTag {
             service_id,
             service_name,
@@ -261,9 +262,10 @@ impl<'a> Record<'a> for ServiceDiscoveryReq<'a> {
     fn read<P: Places>(
         descent: &mut Descent<'a, '_, P>,
     ) -> Result<ServiceDiscoveryReq<'a>, Refusal> {
-        first_child(descent)?;
-        let service_scope = optional_value(descent, names::SERVICE_SCOPE)?;
-        let service_category = optional_value(descent, names::SERVICE_CATEGORY)?;
+        let (
+            OptionalValue::<_, { names::SERVICE_SCOPE }>(service_scope),
+            OptionalValue::<_, { names::SERVICE_CATEGORY }>(service_category),
+        ) = first_children(descent)?;
         Ok(ServiceDiscoveryReq {
             service_scope,
             service_category,

@@ -7,6 +7,7 @@ use din_schema::names;
 use exi_documents::Refusal;
 use exi_events::EventWriter;
 use exi_schema::Places;
+use message_fields::{OptionalValue, RequiredValue, first_children};
 use message_parts::{
     Binary, Descent, PutRecord, Record, Text, first_child, last_attribute, optional_value,
     put_optional_attribute, put_optional_value, put_value, value,
@@ -82,10 +83,11 @@ impl<'a> Record<'a> for SessionSetupRes<'a> {
     ghost particles = { session_setup_res };
 
     fn read<P: Places>(descent: &mut Descent<'a, '_, P>) -> Result<SessionSetupRes<'a>, Refusal> {
-        first_child(descent)?;
-        let response_code = value(descent)?;
-        let evseid = value(descent)?;
-        let date_time_now = optional_value(descent, names::DATE_TIME_NOW)?;
+        let (
+            RequiredValue(response_code),
+            RequiredValue(evseid),
+            OptionalValue::<_, { names::DATE_TIME_NOW }>(date_time_now),
+        ) = first_children(descent)?;
         Ok(SessionSetupRes {
             response_code,
             evseid,
@@ -169,9 +171,9 @@ impl<'a> Record<'a> for ContractAuthenticationRes {
     fn read<P: Places>(
         descent: &mut Descent<'a, '_, P>,
     ) -> Result<ContractAuthenticationRes, Refusal> {
-        first_child(descent)?;
-        let response_code = value(descent)?;
-        let evse_processing = value(descent)?;
+        let (RequiredValue(response_code), RequiredValue(evse_processing)) = first_children(
+            descent,
+        )?;
         Ok(ContractAuthenticationRes {
             response_code,
             evse_processing,

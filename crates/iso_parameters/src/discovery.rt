@@ -9,9 +9,10 @@ use exi_events::EventWriter;
 use exi_schema::Places;
 use iso_parts::{EnergyTransferMode, EvseProcessing, ResponseCode};
 use iso_schema::names;
-use message_fields::{AtMostOneOf, OneOf, OptionalValue, RequiredValue, first_children};
+use message_fields::{OneOf, OptionalValue, RequiredValue, first_children};
 use message_parts::{
-    Descent, PutRecord, Record, put_choice, put_optional_choice, put_optional_value, put_value,
+    Descent, PutRecord, Record, choice, optional_choice, put_choice, put_optional_choice,
+    put_optional_value, put_value,
 };
 
 /// ChargeParameterDiscoveryReq.
@@ -109,12 +110,11 @@ impl<'a> Record<'a> for ChargeParameterDiscoveryRes {
     fn read<P: Places>(
         descent: &mut Descent<'a, '_, P>,
     ) -> Result<ChargeParameterDiscoveryRes, Refusal> {
-        let (
-            RequiredValue(response_code),
-            RequiredValue(evse_processing),
-            AtMostOneOf(sa_schedules),
-            OneOf(evse_charge_parameter),
-        ) = first_children(descent)?;
+        let (RequiredValue(response_code), RequiredValue(evse_processing)) = first_children(
+            descent,
+        )?;
+        let sa_schedules = optional_choice(descent)?;
+        let evse_charge_parameter = choice(descent)?;
         Ok(ChargeParameterDiscoveryRes {
             response_code,
             evse_processing,

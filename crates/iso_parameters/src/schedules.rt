@@ -11,7 +11,7 @@ use iso_schema::names;
 use message_fields::{OneOf, OptionalValue, Required, RequiredValue, first_children};
 use message_parts::{
     Choice, Descent, Group, PutChoice, PutRecord, Record, first_child, left_out, member,
-    put_choice, put_optional_value, put_record, put_records, put_value, records,
+    put_choice, put_optional_value, put_record, put_records, put_value, records, required, value,
 };
 
 /// RelativeTimeInterval.
@@ -213,9 +213,9 @@ impl<'a> Record<'a> for SaScheduleTuple {
     ghost particles = { sa_schedule_tuple };
 
     fn read<P: Places>(descent: &mut Descent<'a, '_, P>) -> Result<SaScheduleTuple, Refusal> {
-        let (RequiredValue(sa_schedule_tuple_id), Required(p_max_schedule)) = first_children(
-            descent,
-        )?;
+        first_child(descent)?;
+        let sa_schedule_tuple_id = value(descent)?;
+        let p_max_schedule = required(descent)?;
         left_out(descent);
         Ok(SaScheduleTuple {
             sa_schedule_tuple_id,

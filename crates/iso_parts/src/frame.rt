@@ -7,9 +7,10 @@ use exi_documents::Refusal;
 use exi_events::EventWriter;
 use exi_schema::Places;
 use iso_schema::names;
-use message_fields::{Optional, OptionalValue, RequiredValue, first_children};
+use message_fields::{OptionalValue, RequiredValue, first_children};
 use message_parts::{
-    Binary, Descent, PutRecord, Record, Text, left_out, put_optional, put_optional_value, put_value,
+    Binary, Descent, PutRecord, Record, Text, first_child, left_out, optional, put_optional,
+    put_optional_value, put_value, value,
 };
 
 /// Notification.
@@ -85,8 +86,9 @@ impl<'a> Record<'a> for Header<'a> {
     ghost particles = { header };
 
     fn read<P: Places>(descent: &mut Descent<'a, '_, P>) -> Result<Header<'a>, Refusal> {
-        let (RequiredValue(session_id), Optional::<_, { names::NOTIFICATION }>(notification)) =
-            first_children(descent)?;
+        first_child(descent)?;
+        let session_id = value(descent)?;
+        let notification = optional(descent, names::NOTIFICATION)?;
         left_out(descent);
         Ok(Header {
             session_id,

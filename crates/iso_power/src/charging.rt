@@ -9,8 +9,8 @@ use iso_parts::{DcEvStatus, DcEvseStatus, EvseProcessing, MeterInfo, PhysicalVal
 use iso_schema::names;
 use message_fields::{Optional, OptionalValue, Required, RequiredValue, first_children};
 use message_parts::{
-    Descent, PutRecord, Record, Text, first_child, put_optional, put_optional_value, put_record,
-    put_value, required,
+    Descent, PutRecord, Record, Text, first_child, optional, optional_value, put_optional,
+    put_optional_value, put_record, put_value, required,
 };
 
 /// CableCheckReq.
@@ -401,13 +401,11 @@ impl<'a> Record<'a> for CurrentDemandRes<'a> {
                 Optional::<_, { names::EVSE_MAXIMUM_CURRENT_LIMIT }>(evse_maximum_current_limit),
                 Optional::<_, { names::EVSE_MAXIMUM_POWER_LIMIT }>(evse_maximum_power_limit),
                 RequiredValue(evseid),
-            ),
-            (
                 RequiredValue(sa_schedule_tuple_id),
-                Optional::<_, { names::METER_INFO }>(meter_info),
-                OptionalValue::<_, { names::RECEIPT_REQUIRED }>(receipt_required),
             ),
         ) = first_children(descent)?;
+        let meter_info = optional(descent, names::METER_INFO)?;
+        let receipt_required = optional_value(descent, names::RECEIPT_REQUIRED)?;
         Ok(CurrentDemandRes {
             response_code,
             dc_evse_status,

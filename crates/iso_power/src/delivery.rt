@@ -10,13 +10,11 @@ use iso_parts::{
     AcEvseStatus, ChargeProgress, DcEvStatus, EvseStatus, MeterInfo, PhysicalValue, ResponseCode,
 };
 use iso_schema::names;
-use message_fields::{
-    AtMostOneOf, OneOf, Optional, OptionalValue, Required, RequiredValue, first_children,
-};
+use message_fields::{OneOf, Optional, OptionalValue, Required, RequiredValue, first_children};
 use message_parts::{
-    Choice, Descent, Group, PutChoice, PutRecord, Record, Text, first_child, member, put_choice,
-    put_optional, put_optional_choice, put_optional_value, put_record, put_records, put_value,
-    records,
+    Choice, Descent, Group, PutChoice, PutRecord, Record, Text, first_child, member, optional,
+    optional_choice, optional_value, put_choice, put_optional, put_optional_choice,
+    put_optional_value, put_record, put_records, put_value, records, required,
 };
 
 /// ProfileEntry.
@@ -253,12 +251,11 @@ impl<'a> Record<'a> for PowerDeliveryReq {
     ghost particles = { power_delivery_req };
 
     fn read<P: Places>(descent: &mut Descent<'a, '_, P>) -> Result<PowerDeliveryReq, Refusal> {
-        let (
-            RequiredValue(charge_progress),
-            RequiredValue(sa_schedule_tuple_id),
-            Optional::<_, { names::CHARGING_PROFILE }>(charging_profile),
-            AtMostOneOf(ev_power_delivery_parameter),
-        ) = first_children(descent)?;
+        let (RequiredValue(charge_progress), RequiredValue(sa_schedule_tuple_id)) = first_children(
+            descent,
+        )?;
+        let charging_profile = optional(descent, names::CHARGING_PROFILE)?;
+        let ev_power_delivery_parameter = optional_choice(descent)?;
         Ok(PowerDeliveryReq {
             charge_progress,
             sa_schedule_tuple_id,
@@ -382,18 +379,14 @@ impl<'a> Record<'a> for ChargingStatusRes<'a> {
 
     fn read<P: Places>(descent: &mut Descent<'a, '_, P>) -> Result<ChargingStatusRes<'a>, Refusal> {
         let (
-            (
-                RequiredValue(response_code),
-                RequiredValue(evseid),
-                RequiredValue(sa_schedule_tuple_id),
-                Optional::<_, { names::EVSE_MAX_CURRENT }>(evse_max_current),
-            ),
-            (
-                Optional::<_, { names::METER_INFO }>(meter_info),
-                OptionalValue::<_, { names::RECEIPT_REQUIRED }>(receipt_required),
-                Required(ac_evse_status),
-            ),
+            RequiredValue(response_code),
+            RequiredValue(evseid),
+            RequiredValue(sa_schedule_tuple_id),
+            Optional::<_, { names::EVSE_MAX_CURRENT }>(evse_max_current),
         ) = first_children(descent)?;
+        let meter_info = optional(descent, names::METER_INFO)?;
+        let receipt_required = optional_value(descent, names::RECEIPT_REQUIRED)?;
+        let ac_evse_status = required(descent)?;
         Ok(ChargingStatusRes {
             response_code,
             evseid,

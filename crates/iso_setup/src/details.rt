@@ -8,11 +8,11 @@ use exi_events::EventWriter;
 use exi_schema::Places;
 use iso_parts::{PhysicalValue, ResponseCode};
 use iso_schema::names;
-use message_fields::{Optional, RequiredValue, first_children};
+use message_fields::{RequiredValue, first_children};
 use message_parts::{
     Choice, Descent, PutChoice, PutRecord, Record, Text, attribute, choice, first_child, member,
-    member_value, put_attribute, put_choice, put_optional, put_record, put_records, put_value,
-    records, value,
+    member_value, optional, put_attribute, put_choice, put_optional, put_record, put_records,
+    put_value, records, value,
 };
 
 /// One of the elements of Parameter.
@@ -275,11 +275,8 @@ impl<'a> Record<'a> for ServiceDetailRes<'a> {
     ghost particles = { service_detail_res };
 
     fn read<P: Places>(descent: &mut Descent<'a, '_, P>) -> Result<ServiceDetailRes<'a>, Refusal> {
-        let (
-            RequiredValue(response_code),
-            RequiredValue(service_id),
-            Optional::<_, { names::SERVICE_PARAMETER_LIST }>(service_parameter_list),
-        ) = first_children(descent)?;
+        let (RequiredValue(response_code), RequiredValue(service_id)) = first_children(descent)?;
+        let service_parameter_list = optional(descent, names::SERVICE_PARAMETER_LIST)?;
         Ok(ServiceDetailRes {
             response_code,
             service_id,

@@ -8,10 +8,10 @@ use exi_events::EventWriter;
 use exi_schema::Places;
 use iso_parts::{PaymentOption, ResponseCode};
 use iso_schema::names;
-use message_fields::{OptionalValue, Required, RequiredValue, first_children};
+use message_fields::{OptionalValue, RequiredValue, first_children};
 use message_parts::{
     Descent, PutRecord, Record, first_child, put_optional_value, put_record, put_records,
-    put_value, records, value,
+    put_value, records, required, value,
 };
 
 /// SelectedService.
@@ -133,8 +133,9 @@ impl<'a> Record<'a> for PaymentServiceSelectionReq {
     fn read<P: Places>(
         descent: &mut Descent<'a, '_, P>,
     ) -> Result<PaymentServiceSelectionReq, Refusal> {
-        let (RequiredValue(selected_payment_option), Required(selected_service_list)) =
-            first_children(descent)?;
+        first_child(descent)?;
+        let selected_payment_option = value(descent)?;
+        let selected_service_list = required(descent)?;
         Ok(PaymentServiceSelectionReq {
             selected_payment_option,
             selected_service_list,

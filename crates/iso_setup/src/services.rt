@@ -8,10 +8,10 @@ use exi_events::EventWriter;
 use exi_schema::Places;
 use iso_parts::{EnergyTransferMode, PaymentOption, ResponseCode, ServiceCategory};
 use iso_schema::names;
-use message_fields::{Optional, OptionalValue, Required, RequiredValue, first_children};
+use message_fields::{OptionalValue, RequiredValue, first_children};
 use message_parts::{
-    Descent, PutRecord, Record, Text, first_child, put_optional, put_optional_value, put_record,
-    put_records, put_value, put_values, records, values,
+    Descent, PutRecord, Record, Text, first_child, optional, put_optional, put_optional_value,
+    put_record, put_records, put_value, put_values, records, required, value, values,
 };
 
 /// Service.
@@ -208,9 +208,9 @@ impl<'a> Record<'a> for ChargeService<'a> {
             (
                 OptionalValue::<_, { names::SERVICE_SCOPE }>(service_scope),
                 RequiredValue(free_service),
-                Required(supported_energy_transfer_mode),
             ),
         ) = first_children(descent)?;
+        let supported_energy_transfer_mode = required(descent)?;
         Ok(ChargeService {
             service_id,
             service_name,
@@ -344,12 +344,11 @@ impl<'a> Record<'a> for ServiceDiscoveryRes<'a> {
     fn read<P: Places>(
         descent: &mut Descent<'a, '_, P>,
     ) -> Result<ServiceDiscoveryRes<'a>, Refusal> {
-        let (
-            RequiredValue(response_code),
-            Required(payment_option_list),
-            Required(charge_service),
-            Optional::<_, { names::SERVICE_LIST }>(service_list),
-        ) = first_children(descent)?;
+        first_child(descent)?;
+        let response_code = value(descent)?;
+        let payment_option_list = required(descent)?;
+        let charge_service = required(descent)?;
+        let service_list = optional(descent, names::SERVICE_LIST)?;
         Ok(ServiceDiscoveryRes {
             response_code,
             payment_option_list,

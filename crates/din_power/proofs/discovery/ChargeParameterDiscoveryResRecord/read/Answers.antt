@@ -5,8 +5,6 @@ use Rattle.din_power.proofs.discovery.ChargeParameterDiscoveryResRecord.read.Goa
 
 pub returns-clause-read : goal.returns-clause-read
 returns-clause-read g c = λ F told h.
-    let at_first = c.in_ok-first_child.ensures.read kinds F [] charge_parameter_discovery_res _ h in
-    let at_response_code = c.in_ok-response_code.ensures.read kinds F [] charge_parameter_discovery_res 0 _ at_first refl refl in
-    let at_evse_processing = c.in_ok-evse_processing.ensures.read kinds F [] charge_parameter_discovery_res 1 _ at_response_code refl refl in
-    let at_sa_schedules = c.in_ok-sa_schedules.ensures.read F [] charge_parameter_discovery_res 2 _ at_evse_processing refl refl in
+    let at_first = c.in_ok-response_code.ensures.read kinds F [] charge_parameter_discovery_res _ h ((refl, refl), (refl, refl)) in
+    let at_sa_schedules = c.in_ok-sa_schedules.ensures.read F [] charge_parameter_discovery_res 2 _ at_first refl refl in
     c.in_ok-evse_charge_parameter.ensures.read F [] charge_parameter_discovery_res 3 _ at_sa_schedules refl refl

@@ -5,5 +5,7 @@ use Rattle.iso_parameters.proofs.schedules.SaScheduleTupleRecord.read.Goals as g
 
 pub returns-clause-read : goal.returns-clause-read
 returns-clause-read g c = λ F told h.
-    let at_first = c.in_ok-sa_schedule_tuple_id.ensures.read kinds F [] sa_schedule_tuple _ h ((refl, refl), (refl, refl, refl)) in
-    c.left_out.ensures.read kinds F [] sa_schedule_tuple 2 _ at_first refl
+    let at_first = c.in_ok-first_child.ensures.read kinds F [] sa_schedule_tuple _ h in
+    let at_sa_schedule_tuple_id = c.in_ok-sa_schedule_tuple_id.ensures.read kinds F [] sa_schedule_tuple 0 _ at_first refl refl in
+    let at_p_max_schedule = c.in_ok-p_max_schedule.ensures.read F [] sa_schedule_tuple 1 _ at_sa_schedule_tuple_id refl refl in
+    c.left_out.ensures.read kinds F [] sa_schedule_tuple 2 _ at_p_max_schedule refl
