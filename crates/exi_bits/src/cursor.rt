@@ -216,7 +216,7 @@ impl<'a> BitCursor<'a> {
 }
 
 /// The number of a sign bit and a magnitude: v, or -v - 1 (7.1.5).
-pub(crate) fn signed(negative: bool, magnitude: u64) -> i128
+fn signed(negative: bool, magnitude: u64) -> i128
     ensures { result ≡ (if negative then negsuc magnitude else pos magnitude) }
 {
     if negative {

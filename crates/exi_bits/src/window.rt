@@ -1,10 +1,9 @@
 //! The next bits of a payload, held in a number.
 
-ghost use Rattle.std.specs.Prelude.{◌≡◌, ℕ, ◌+◌, ◌*◌, ◌^◌, ◌<◌, ◌≤◌, length, take, drop, IfSome};
+ghost use Rattle.std.specs.Prelude.{◌≡◌, ℕ, ◌+◌, ◌*◌, ◌^◌, ◌<◌, ◌≤◌, pos, negsuc, if◌then◌else◌, length, take, drop, IfSome};
 ghost use Rattle.exi_spec.specs.Bits.{bits_of, number_bits};
 ghost use Rattle.exi_spec.specs.Items.{SpellsBool, SpellsNumber, SpellsOctets, SpellsUnsigned, SpellsInteger};
 
-use crate::cursor::signed;
 use std::marker::Model;
 
 /// How many bytes are held.
@@ -115,6 +114,7 @@ impl<'a> BitWindow<'a> {
     /// Takes an Unsigned Integer (7.1.6) of at most three octets.
     #[inline(always)]
     pub fn take_unsigned(&mut self) -> Option<u64>
+        ensures few { IfSome result (λ value. value < 2 ^ 21) }
         ensures taken { IfSome result (λ value. Takes (SpellsUnsigned value) self.old self.new) }
         ensures same { self.new.bits ≡ self.old.bits }
     {
@@ -129,7 +129,7 @@ impl<'a> BitWindow<'a> {
     /// Takes what at most two octets spell.
     #[inline(always)]
     fn take_two_octets(&mut self) -> Option<u64>
-        ensures few { IfSome result (λ value. value < 2 ^ 57) }
+        ensures few { IfSome result (λ value. value < 2 ^ 14) }
         ensures taken { IfSome result (λ value. Takes (SpellsOctets 9 value) self.old self.new) }
         ensures same { self.new.bits ≡ self.old.bits }
     {
@@ -146,12 +146,22 @@ impl<'a> BitWindow<'a> {
 
     /// Takes an Integer (7.1.5) whose magnitude has at most three octets.
     #[inline(always)]
-    pub fn take_integer(&mut self) -> Option<i128>
+    pub fn take_integer(&mut self) -> Option<i64>
         ensures taken { IfSome result (λ value. Takes (SpellsInteger value) self.old self.new) }
         ensures same { self.new.bits ≡ self.old.bits }
     {
         let negative = self.take_bit()?;
         let magnitude = self.take_unsigned()?;
-        Some(signed(negative, magnitude))
+        Some(small_integer(negative, magnitude))
     }
+}
+
+/// The number of a sign bit and a small magnitude: v, or -v - 1 (7.1.5).
+#[inline(always)]
+fn small_integer(negative: bool, magnitude: u64) -> i64
+    requires { magnitude < 2 ^ 21 }
+    ensures { result ≡ (if negative then negsuc magnitude else pos magnitude) }
+{
+    let magnitude = magnitude as i64;
+    if negative { -1 - magnitude } else { magnitude }
 }

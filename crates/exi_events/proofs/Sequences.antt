@@ -17,15 +17,18 @@ use Rattle.exi_documents.specs.Trees.{Event as TreeEvent, Value as TreeValue, St
 use Rattle.exi_documents.specs.Values.{Entries, SpellsValue}
 use Rattle.exi_values.specs.declared.Event.TheVariants as event
 use Rattle.exi_values.specs.declared.Value.{Value}
-use Rattle.exi_values.specs.Meaning.{value_of, texts_in, IsLent}
+use Rattle.exi_values.specs.declared.Value.TheVariants as value
+use Rattle.exi_reading.specs.Short.{tree_of}
+use Rattle.exi_reading.specs.declared.short.ShortValue.{ShortValue}
+use Rattle.exi_reading.specs.declared.short.ShortValue.TheVariants as short
+use Rattle.exi_values.specs.Meaning.{value_of, texts_in}
 use Rattle.exi_events.specs.declared.open.OpenElement.{OpenElement}
 use Rattle.exi_events.specs.declared.reader.Phase.{Phase}
 use Rattle.exi_events.specs.declared.reader.Phase.TheVariants as phase
-use Rattle.exi_events.specs.declared.sequence.ThreeChildren.{ThreeChildren}
 use Rattle.exi_events.specs.Inside.{AreOpen, HasTop}
 use Rattle.exi_events.specs.Open.{opened_of}
 use Rattle.exi_events.specs.Reader.{state_of, IsNext, HasTold, Reading, reading}
-use Rattle.exi_events.specs.Sequence.{TakesChild, TakesEnd, TakesSequence, OffersChild, HoldsThree, inside_at, behind_all}
+use Rattle.exi_events.specs.Sequence.{TakesChild, TakesEnd, TakesSequence, OffersChild, HoldsSequence, inside_at, behind_all}
 use Rattle.exi_events.proofs.Told.{told_more}
 use Rattle.exi_events.proofs.Valued.{whole_taken}
 use Rattle.exi_events.proofs.Whole.{behind_value, whole_took}
@@ -78,6 +81,16 @@ module _ (s : PlainSchema) (name : ℕ) (here next : Place) (above : List Opened
             (simple_step (first is.kind)) (simple_step (behind_value is.kind)) (behind_value is.kind) refl content value refl refl end (λ t a same. ap rest_of same));
       }
 
+  -- of a value of few bits
+  pub short_took : (bits : List Bool) (entries : List (ℕ × SpanAt)) (v : ShortValue) (old one two three new : Cursor) →
+      Takes (SpellsStep s.kinds here (element child.name is.kind next)) old one → Takes (SpellsStep s.kinds (first is.kind) (simple_step (first is.kind))) one two →
+      Takes (λ b. SpellsValue child.datatype (texts_in bits entries) child.name (tree_of v) b (texts_in bits entries)) two three →
+      Takes (SpellsStep s.kinds (behind_value is.kind) (simple_step (behind_value is.kind))) three new →
+      TakesChild (inside_at s name here above bits entries old) (inside_at s name next above bits entries new) child.name (tree_of v)
+  short_took bits entries (short.Bool v) = child_took bits entries entries (value.Bool v)
+  short_took bits entries (short.Ordinal v) = child_took bits entries entries (value.Ordinal v)
+  short_took bits entries (short.Number v) = child_took bits entries entries (value.Number v)
+
 -- ---- several children
 
 pub first_offer : (kinds : List PlainKind) (here : Place) (child : SequenceChild) (rest : List SequenceChild) (is : IsSequence kinds here (child ∷ rest)) → OffersChild kinds here is.1 child
@@ -95,9 +108,6 @@ told_child name v events = EndElement ∷ Content v ∷ Start name ∷ events
 
 pub child_told : (old new : Reading) (name : ℕ) (v : TreeValue) → TakesChild old new name v → (events : List TreeEvent) → HasTold old events → HasTold new (told_child name v events)
 child_told old new name v took events has = took.whole.told_end (Content v ∷ Start name ∷ events) (took.whole.told (Start name ∷ events) (took.told events has))
-
-pub same_lent : (a b : List Bool) (v : Value) → a ≡ b → IsLent a v → IsLent b v
-same_lent a b v same lent = subst (λ x. IsLent x v) same lent
 
 -- three children are offered one behind the other, and then the end
 module _ (s : PlainSchema) (name : ℕ) (here : Place) (above : List Opened) (first_one second_one third_one : SequenceChild) (is : IsSequence s.kinds here (first_one ∷ second_one ∷ third_one ∷ [])) where
@@ -128,7 +138,7 @@ pub tells_three : (kinds : List PlainKind) (here : Place) (children : List Seque
 tells_three kinds here children a b c is (inl none) = let wrong : a ∷ b ∷ c ∷ [] ≡ [] = sym is ∙ none in absurd cc
 tells_three kinds here children a b c is (inr sequence) = subst (λ (l : List SequenceChild). IsSequence kinds here l) is sequence
 
-module _ (s : PlainSchema) (p : Phase) (elements : List Opened) (three : ThreeChildren) (holds : HoldsThree s elements three) (bits : List Bool) (before : List (ℕ × SpanAt)) (old : Cursor) (is : p ≡ phase.Inside) where
+module _ (s : PlainSchema) (p : Phase) (elements : List Opened) (children : List SequenceChild) (holds : HoldsSequence s elements children) (bits : List Bool) (before : List (ℕ × SpanAt)) (old : Cursor) (is : p ≡ phase.Inside) where
   abbrev Ahead : Phase → List Opened → Reading
   Ahead q es = reading s (state_of q es bits before) old
 
@@ -187,21 +197,20 @@ same_place p q is =
     (eqb_is p.copies q.copies (and-l (eqb p.copies q.copies) (eqb p.attributes q.attributes) last))
     (eqb_is p.attributes q.attributes (and-r (eqb p.copies q.copies) (eqb p.attributes q.attributes) last))
 
-three_in : (l : List SequenceChild) (d : SequenceChild) → 3 ≤ length l → length l < 4 → l ≡ get_or l 0 d ∷ get_or l 1 d ∷ get_or l 2 d ∷ []
+pub three_in : (l : List SequenceChild) (d : SequenceChild) → 3 ≤ length l → length l < 4 → l ≡ get_or l 0 d ∷ get_or l 1 d ∷ get_or l 2 d ∷ []
 three_in [] d more less = absurd (omega (arith, more))
 three_in (a ∷ []) d more less = absurd (omega (arith, more))
 three_in (a ∷ b ∷ []) d more less = absurd (omega (arith, more))
 three_in (a ∷ b ∷ c ∷ []) d more less = refl
 three_in (a ∷ b ∷ c ∷ e ∷ l) d more less = absurd (omega (arith, less))
 
-pub holds_three : (s : PlainSchema) (elements : List Opened) (top : OpenElement) (q first_place : Place) (l : List SequenceChild) (d : SequenceChild) (ne : Bool) → HasTop elements top →
+pub holds_sequence : (s : PlainSchema) (elements : List Opened) (top : OpenElement) (q first_place : Place) (l : List SequenceChild) (ne : Bool) → HasTop elements top →
     ne ≡ not (eqb top.place.kind q.kind && (eqb top.place.particle q.particle && (eqb top.place.copies q.copies && eqb top.place.attributes q.attributes))) → ne ≡ false → q ≡ first_place →
-    TellsSequence s.kinds first_place l → 3 ≤ length l → length l < 4 → HoldsThree s elements (record { first = get_or l 0 d; second = get_or l 1 d; third = get_or l 2 d })
-holds_three s elements top q first_place l d ne has tested is begins tells more less =
+    TellsSequence s.kinds first_place l → HoldsSequence s elements l
+holds_sequence s elements top q first_place l ne has tested is begins tells =
     record {
       top = opened_of top;
       above = has.0;
       elements_are = has.1;
-      sequence = tells_three s.kinds top.place l (get_or l 0 d) (get_or l 1 d) (get_or l 2 d) (three_in l d more less)
-          (subst (λ (p : Place). TellsSequence s.kinds p l) (sym (same_place top.place q (sym is ∙ tested) ∙ begins)) tells);
+      tells = subst (λ (p : Place). TellsSequence s.kinds p l) (sym (same_place top.place q (sym is ∙ tested) ∙ begins)) tells;
     }

@@ -7,13 +7,13 @@ use Rattle.exi_schema.specs.declared.places.SequenceChild.{SequenceChild}
 use Rattle.exi_schema.specs.Schemas.{PlainSchema}
 use Rattle.exi_schema.specs.Offers.{offers}
 use Rattle.exi_schema.specs.Plain.{PlainKind}
-use Rattle.exi_schema.specs.Sequences.{IsSequence}
+use Rattle.exi_schema.specs.Sequences.{TellsSequence}
 use Rattle.exi_schema.specs.Steps.{simple_at}
 use Rattle.exi_documents.specs.Documents.{element}
 use Rattle.exi_documents.specs.Grammar.{Opened, Inside, opened, around, stands}
 use Rattle.exi_documents.specs.Trees.{Event as TreeEvent, Value as TreeValue, Start, EndElement}
-use Rattle.exi_values.specs.Meaning.{texts_in, value_of, IsLent}
-use Rattle.exi_events.specs.declared.sequence.ThreeChildren.{ThreeChildren}
+use Rattle.exi_values.specs.Meaning.{texts_in}
+use Rattle.exi_reading.specs.Short.{tree_of}
 use Rattle.exi_events.specs.declared.sequence.ThreeValues.{ThreeValues}
 use Rattle.exi_events.specs.Reader.{Reading, reading, IsNext, HasTold, TakesValue}
 
@@ -38,17 +38,9 @@ TakesSequence old new (value ∷ values) =
     (name : ℕ) × (behind : Reading) × (behind.schema ≡ old.schema) × (behind.cursor.bits ≡ old.cursor.bits)
     × TakesChild old behind name value × TakesSequence behind new values
 
--- three values that are read, and that each is lent from these bits
+-- three values that are read
 abbrev pub values_of : ThreeValues → List TreeValue
-values_of three = value_of three.first ∷ value_of three.second ∷ value_of three.third ∷ []
-
-pub record AreLent (bits : List Bool) (three : ThreeValues) : Type 0 where
-  pub first : IsLent bits three.first
-  pub second : IsLent bits three.second
-  pub third : IsLent bits three.third
-
-abbrev pub children_of : ThreeChildren → List SequenceChild
-children_of three = three.first ∷ three.second ∷ three.third ∷ []
+values_of three = tree_of three.first ∷ tree_of three.second ∷ tree_of three.third ∷ []
 
 -- at a place inside an element, with the texts at these places
 abbrev pub inside_at : PlainSchema → ℕ → Place → List Opened → List Bool → List (ℕ × SpanAt) → Cursor → Reading
@@ -64,9 +56,9 @@ pub record OffersChild (kinds : List PlainKind) (here next : Place) (child : Seq
   pub offered : offers kinds here ≡ element child.name kind next ∷ []
   pub simple : simple_at kinds kind ≡ Some child.datatype
 
--- the innermost element is a sequence of three children, of which nothing is taken
-pub record HoldsThree (s : PlainSchema) (elements : List Opened) (three : ThreeChildren) : Type 0 where
+-- the innermost element is a sequence of these children, of which nothing is taken, if there are any
+pub record HoldsSequence (s : PlainSchema) (elements : List Opened) (children : List SequenceChild) : Type 0 where
   pub top : Opened
   pub above : List Opened
   pub elements_are : elements ≡ top ∷ above
-  pub sequence : IsSequence s.kinds top.place (children_of three)
+  pub tells : TellsSequence s.kinds top.place children

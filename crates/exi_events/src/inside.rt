@@ -20,7 +20,7 @@ use exi_values::{Event, Table, Value};
 
 /// Takes a value of a simple kind of the schema.
 #[inline(never)]
-fn take_value<'a, P: Places>(
+fn take_value_of<'a, P: Places>(
     reader: &mut PayloadReader<'a>,
     places: &P,
     kind: u16,
@@ -41,6 +41,29 @@ fn take_value<'a, P: Places>(
         Some(datatype) => reader.take_value(datatype, name, table),
         None => unreachable!(),
     }
+}
+
+/// Takes a value of a simple kind of the schema. Only where one is taken the room of its answer is cleared, so this is inlined.
+#[inline(always)]
+fn take_value<'a, P: Places>(
+    reader: &mut PayloadReader<'a>,
+    places: &P,
+    kind: u16,
+    name: u16,
+    table: &mut Table,
+) -> Result<Value<'a>, Refusal>
+    requires simple { IsSome (simple_at (P.schema places.now).kinds kind) }
+    requires cap { table.old.cap ≡ most_entries }
+    requires texts { AreTexts reader.old.bits table.old.entries }
+    ensures ok { IfOk result (λ v. Takes (SpellsValueOf (P.schema places.now).kinds kind (texts_in reader.old.bits table.old.entries) name (value_of v) (texts_in reader.old.bits table.new.entries)) reader.old reader.new) }
+    ensures lent { IfOk result (λ v. IsLent reader.old.bits v) }
+    ensures same { reader.new.bits ≡ reader.old.bits }
+    ensures texts { AreTexts reader.old.bits table.new.entries }
+    ensures cap { table.new.cap ≡ most_entries }
+    ensures refused { IfErr result (λ r. (at : ℕ) × RefusesValueOf (P.schema places.now).kinds kind (texts_in reader.old.bits table.old.entries) name (ahead reader.old) r.cause at × (r.bit ≡ reader.old.place + at)) }
+{
+    let value = take_value_of(reader, places, kind, name, table)?;
+    Ok(value)
 }
 
 /// Takes the next event inside the innermost element, which is `top`.

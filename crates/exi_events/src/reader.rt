@@ -8,11 +8,11 @@ ghost use Rattle.exi_values.specs.declared.Event.TheVariants as event;
 
 use crate::inside::{take_inside, take_whole};
 use crate::open::{OpenElement, OpenElements};
-use crate::sequence::{ThreeChildren, ThreeValues, take_three};
+use crate::sequence::{ThreeValues, take_three};
 use crate::step::take_front;
 use exi_documents::{Refusal, RefusalCause};
 use exi_reading::PayloadReader;
-use exi_schema::{Datatype, Place, Places};
+use exi_schema::{Datatype, Place, Places, SequenceChild};
 use exi_values::{Event, Table, Value};
 
 /// How far a document is.
@@ -58,7 +58,7 @@ impl<'a, 'p, P: Places> EventReader<'a, 'p, P> {
     ghost use Rattle.exi_schema.specs.declared.tables.Datatype.{Datatype};
     ghost use Rattle.exi_schema.specs.Steps.{simple_at};
     ghost use Rattle.exi_events.specs.Inside.{HasTop};
-    ghost use Rattle.exi_events.specs.Sequence.{HoldsThree, TakesSequence, AreLent, values_of};
+    ghost use Rattle.exi_events.specs.Sequence.{HoldsSequence, TakesSequence, values_of};
     ghost use Rattle.exi_events.specs.declared.reader.Phase.TheVariants as phase;
     ghost use Rattle.exi_documents.specs.Trees.{Event as TreeEvent};
     ghost use Rattle.exi_documents.specs.Values.{most_entries};
@@ -171,10 +171,10 @@ impl<'a, 'p, P: Places> EventReader<'a, 'p, P> {
         }
     }
 
-    /// The values of the innermost element and its end, where that is a sequence of three values, nothing of it is taken, and they have
-    /// few bits: what ten calls of `next` tell. Anywhere else, and where one of them is refused, nothing is taken, and `None` is answered.
+    /// The values of the innermost element and its end, where that is a sequence of three values of few bits and nothing of it is
+    /// taken: what ten calls of `next` tell. Anywhere else, and where one of them is refused, nothing is taken, and `None` is answered.
     #[inline(always)]
-    pub fn three_values(&mut self) -> Option<ThreeValues<'a>>
+    pub fn three_values(&mut self) -> Option<ThreeValues>
         requires ready { IsReady P.schema self.old }
         ensures ready { IsReady P.schema self.new }
         ensures same_reference { self.new.table.ghost_name ≡ self.old.table.ghost_name }
@@ -182,7 +182,6 @@ impl<'a, 'p, P: Places> EventReader<'a, 'p, P> {
         ensures payload { self.new.reader.bits ≡ self.old.reader.bits }
         ensures refusals { self.new.refused ≡ self.old.refused }
         ensures open_still { IfSome result (λ _. self.old.refused ≡ None) }
-        ensures lent { IfSome result (AreLent self.old.reader.bits) }
         ensures none { result ≡ None → self.new ≡ self.old }
         ensures values { IfSome result (λ three. TakesSequence (reading_of P.schema self.old) (reading_of P.schema self.new) (values_of three)) }
         ensures told { (events : List TreeEvent) → HasTold (reading_of P.schema self.old) events
@@ -191,7 +190,7 @@ impl<'a, 'p, P: Places> EventReader<'a, 'p, P> {
         if self.refused.is_some() {
             return None;
         }
-        let children = self.three_children()?;
+        let children = self.sequence()?;
         self.take_sequence(children)
     }
 
@@ -258,12 +257,12 @@ impl<'a, 'p, P: Places> EventReader<'a, 'p, P> {
         }
     }
 
-    /// The children of the innermost element, where that is a sequence of three values and nothing of it is taken.
+    /// The children of the innermost element, if that is a sequence of values and nothing of it is taken.
     #[inline(always)]
-    fn three_children(&self) -> Option<ThreeChildren>
+    fn sequence(&self) -> Option<&'p [SequenceChild]>
         requires ready { IsReady P.schema self.now }
         ensures inside { IfSome result (λ _. self.now.phase ≡ phase.Inside) }
-        ensures sequence { IfSome result (HoldsThree (P.schema self.now.places.now) self.now.elements) }
+        ensures sequence { IfSome result (λ children. HoldsSequence (P.schema self.now.places.now) self.now.elements children.now) }
     {
         let Phase::Inside = self.phase else {
             return None;
@@ -272,30 +271,20 @@ impl<'a, 'p, P: Places> EventReader<'a, 'p, P> {
         if top.place != Place::first(top.place.kind) {
             return None;
         }
-        match self.places.sequence(top.place.kind) {
-            [first, second, third] => {
-                Some(ThreeChildren {
-                    first: *first,
-                    second: *second,
-                    third: *third,
-                })
-            }
-            _ => None,
-        }
+        Some(self.places.sequence(top.place.kind))
     }
 
     /// The values of the innermost element, which is a sequence of these children, and its end, where they have few bits and none is refused.
     #[inline(always)]
-    fn take_sequence(&mut self, children: ThreeChildren) -> Option<ThreeValues<'a>>
+    fn take_sequence(&mut self, children: &[SequenceChild]) -> Option<ThreeValues>
         requires ready { IsReady P.schema self.old }
         requires inside { self.old.phase ≡ phase.Inside }
-        requires sequence { HoldsThree (P.schema self.old.places.now) self.old.elements children }
+        requires sequence { HoldsSequence (P.schema self.old.places.now) self.old.elements children.now }
         ensures ready { IsReady P.schema self.new }
         ensures same_reference { self.new.table.ghost_name ≡ self.old.table.ghost_name }
         ensures places { self.new.places.now ≡ self.old.places.now }
         ensures payload { self.new.reader.bits ≡ self.old.reader.bits }
         ensures refusals { self.new.refused ≡ self.old.refused }
-        ensures lent { IfSome result (AreLent self.old.reader.bits) }
         ensures none { result ≡ None → self.new ≡ self.old }
         ensures values { IfSome result (λ three. TakesSequence (reading_of P.schema self.old) (reading_of P.schema self.new) (values_of three)) }
         ensures told { (events : List TreeEvent) → HasTold (reading_of P.schema self.old) events

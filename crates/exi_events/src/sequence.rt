@@ -8,33 +8,24 @@ ghost use Rattle.exi_schema.specs.declared.places.Step.{Step as SchemaStep};
 ghost use Rattle.exi_schema.specs.Offers.{offers};
 ghost use Rattle.exi_schema.specs.Plain.{PlainKind};
 ghost use Rattle.exi_schema.specs.Schemas.{PlainSchema};
-ghost use Rattle.exi_schema.specs.Sequences.{IsSequence};
+ghost use Rattle.exi_schema.specs.Sequences.{TellsSequence};
 ghost use Rattle.exi_documents.specs.Documents.{SpellsStep};
 ghost use Rattle.exi_documents.specs.Grammar.{Opened};
-ghost use Rattle.exi_values.specs.Meaning.{IsLent, value_of};
-ghost use Rattle.exi_events.specs.Sequence.{TakesChild, TakesSequence, OffersChild, AreLent, values_of, children_of, inside_at, behind_all};
+ghost use Rattle.exi_reading.specs.Short.{tree_of};
+ghost use Rattle.exi_events.specs.Sequence.{TakesChild, TakesSequence, OffersChild, values_of, inside_at, behind_all};
 
-use exi_reading::{BitWindow, PayloadReader, short_value};
+use exi_reading::{BitWindow, PayloadReader, ShortValue, short_value};
 use exi_schema::SequenceChild;
-use exi_values::Value;
 
-/// The values of a sequence of three children.
-#[derive(Drop)]
-pub struct ThreeValues<'a> {
-    /// That of the first child.
-    pub first: Value<'a>,
-    /// That of the second.
-    pub second: Value<'a>,
-    /// That of the third.
-    pub third: Value<'a>,
-}
-
-/// The children of such a sequence.
+/// The values of a sequence of three children, each of few bits.
 #[derive(Clone, Copy, Debug)]
-pub(crate) struct ThreeChildren {
-    pub(crate) first: SequenceChild,
-    pub(crate) second: SequenceChild,
-    pub(crate) third: SequenceChild,
+pub struct ThreeValues {
+    /// That of the first child.
+    pub first: ShortValue,
+    /// That of the second.
+    pub second: ShortValue,
+    /// That of the third.
+    pub third: ShortValue,
 }
 
 /// Takes the one event code at a place where one thing alone is offered, where the window holds it.
@@ -50,10 +41,9 @@ fn short_only(window: &mut BitWindow) -> Option<()>
 /// Takes the next child, which is the one thing that is offered: its start, its value and its end, where the window holds them and none is
 /// refused.
 #[inline(always)]
-fn short_child<'a>(window: &mut BitWindow, child: SequenceChild) -> Option<Value<'a>>
+fn short_child(window: &mut BitWindow, child: SequenceChild) -> Option<ShortValue>
     ensures child { (s : PlainSchema) (name : ℕ) (here next : SchemaPlace) (above : List Opened) (entries : List (ℕ × SpanAt)) → OffersChild s.kinds here next child
-        → IfSome result (λ v. TakesChild (inside_at s name here above window.old.bits entries window.old) (inside_at s name next above window.old.bits entries window.new) child.name (value_of v)) }
-    ensures lent { IfSome result (λ v. IsLent window.old.bits v) }
+        → IfSome result (λ v. TakesChild (inside_at s name here above window.old.bits entries window.old) (inside_at s name next above window.old.bits entries window.new) child.name (tree_of v)) }
     ensures same { window.new.bits ≡ window.old.bits }
 {
     short_only(window)?;
@@ -63,22 +53,25 @@ fn short_child<'a>(window: &mut BitWindow, child: SequenceChild) -> Option<Value
     Some(value)
 }
 
-/// Takes the children of a sequence and the end of their element, where they have few bits and none is refused; else nothing.
+/// Takes the children of a sequence and the end of their element, where there are three, they have few bits and none is refused; else
+/// nothing.
 #[inline(always)]
-pub(crate) fn take_three<'a>(
-    reader: &mut PayloadReader<'a>,
-    children: ThreeChildren,
-) -> Option<ThreeValues<'a>>
-    ensures values { (s : PlainSchema) (name : ℕ) (here : SchemaPlace) (above : List Opened) (entries : List (ℕ × SpanAt)) → IsSequence s.kinds here (children_of children)
+pub(crate) fn take_three(
+    reader: &mut PayloadReader,
+    children: &[SequenceChild],
+) -> Option<ThreeValues>
+    ensures values { (s : PlainSchema) (name : ℕ) (here : SchemaPlace) (above : List Opened) (entries : List (ℕ × SpanAt)) → TellsSequence s.kinds here children.now
         → IfSome result (λ three. TakesSequence (inside_at s name here above reader.old.bits entries reader.old) (behind_all s above reader.old.bits entries reader.new) (values_of three)) }
-    ensures lent { IfSome result (AreLent reader.old.bits) }
     ensures same { reader.new.bits ≡ reader.old.bits }
     ensures none { result ≡ None → reader.new ≡ reader.old }
 {
+    let [first, second, third] = children else {
+        return None;
+    };
     let mut window = reader.window()?;
-    let first = short_child(&mut window, children.first)?;
-    let second = short_child(&mut window, children.second)?;
-    let third = short_child(&mut window, children.third)?;
+    let first = short_child(&mut window, *first)?;
+    let second = short_child(&mut window, *second)?;
+    let third = short_child(&mut window, *third)?;
     short_only(&mut window)?;
     reader.pass(window);
     Some(ThreeValues {

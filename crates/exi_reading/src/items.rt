@@ -145,7 +145,7 @@ fn take_integer(cursor: &mut BitCursor) -> Result<i128, Refusal>
 
 /// Whether an integer is from `least` to `most`.
 #[inline(always)]
-pub(crate) fn is_within(value: i128, least: i64, most: i64) -> bool
+fn is_within(value: i128, least: i64, most: i64) -> bool
     ensures { IsTrue result ↔ ((least ≤ℤ value) × (value ≤ℤ most)) }
 {
     i128::from(least) <= value && value <= i128::from(most)

@@ -11,4 +11,4 @@ mod texts;
 pub use exi_bits::BitWindow;
 pub use items::index_width;
 pub use reader::PayloadReader;
-pub use short::short_value;
+pub use short::{ShortValue, short_value};

@@ -1,15 +1,42 @@
 //! Values of few bits, taken from a window.
 
-ghost use Rattle.std.specs.Prelude.{◌≡◌, ℕ, Bool, List, ◌≤ℤ◌, IfSome};
-ghost use Rattle.exi_spec.specs.Items.{SpellsUnsigned, SpellsInteger};
+ghost use Rattle.std.specs.Prelude.{◌≡◌, ℕ, Bool, List, IfSome};
 ghost use Rattle.exi_bits.specs.Reading.{Takes};
 ghost use Rattle.exi_documents.specs.Values.{Entries, SpellsCode, SpellsValue};
-ghost use Rattle.exi_values.specs.Meaning.{value_of, IsLent};
+ghost use Rattle.exi_reading.specs.Short.{tree_of};
 
-use crate::items::{index_width, is_within};
+use crate::items::index_width;
 use exi_bits::BitWindow;
 use exi_schema::Datatype;
 use exi_values::Value;
+
+/// A value of a datatype other than String and Binary that has few bits.
+#[derive(Clone, Copy, Debug, PartialEq, Eq)]
+pub enum ShortValue {
+    /// 7.1.2 Boolean.
+    Bool(bool),
+    /// 7.2 Enumerations: the place of a value in the list of its datatype, from 0.
+    Ordinal(u32),
+    /// 7.1.5, 7.1.6, 7.1.9: an integer.
+    Number(i64),
+}
+
+impl ShortValue {
+    ghost use Rattle.exi_values.specs.Meaning.{value_of, IsLent};
+
+    /// It as a value like any other.
+    #[inline(always)]
+    pub fn as_value<'a>(self) -> Value<'a>
+        ensures value { value_of result ≡ tree_of self }
+        ensures lent { (bits : List Bool) → IsLent bits result }
+    {
+        match self {
+            ShortValue::Bool(truth) => Value::Bool(truth),
+            ShortValue::Ordinal(ordinal) => Value::Ordinal(ordinal),
+            ShortValue::Number(number) => Value::Number(i128::from(number)),
+        }
+    }
+}
 
 /// One of `count` codes (7.1.9, 7.2).
 #[inline(always)]
@@ -25,38 +52,38 @@ fn short_code(window: &mut BitWindow, count: u32) -> Option<u32>
 ///
 /// `None` where it doesn't, for any other datatype, and where the value is refused: `take_value` tells why.
 #[inline(always)]
-pub fn short_value<'a>(window: &mut BitWindow, datatype: Datatype) -> Option<Value<'a>>
+pub fn short_value(window: &mut BitWindow, datatype: Datatype) -> Option<ShortValue>
     ensures taken { (entries : Entries) (name : ℕ)
-        → IfSome result (λ v. Takes (λ bits. SpellsValue datatype entries name (value_of v) bits entries) window.old window.new) }
-    ensures lent { (bits : List Bool) → IfSome result (λ v. IsLent bits v) }
+        → IfSome result (λ v. Takes (λ bits. SpellsValue datatype entries name (tree_of v) bits entries) window.old window.new) }
     ensures same { window.new.bits ≡ window.old.bits }
 {
     match datatype {
         Datatype::Bool => {
             let truth = window.take_bit()?;
-            Some(Value::Bool(truth))
+            Some(ShortValue::Bool(truth))
         }
         Datatype::Named { count } => {
             let code = short_code(window, count)?;
-            Some(Value::Ordinal(code))
+            Some(ShortValue::Ordinal(code))
         }
         Datatype::Bounded { least, count } => {
             let code = short_code(window, count)?;
-            Some(Value::Number(i128::from(least) + i128::from(code)))
+            let value = least.checked_add(i64::from(code))?;
+            Some(ShortValue::Number(value))
         }
         Datatype::Unsigned { most } => {
             let value = window.take_unsigned()?;
             if value > most {
                 return None;
             }
-            Some(Value::Number(i128::from(value)))
+            Some(ShortValue::Number(value as i64))
         }
         Datatype::Signed { least, most } => {
             let value = window.take_integer()?;
-            if !is_within(value, least, most) {
+            if value < least || value > most {
                 return None;
             }
-            Some(Value::Number(value))
+            Some(ShortValue::Number(value))
         }
         Datatype::Binary { .. } | Datatype::Text { .. } => None,
     }

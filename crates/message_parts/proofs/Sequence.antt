@@ -7,6 +7,10 @@ use Rattle.exi_schema.specs.Steps.{simple_at}
 use Rattle.exi_documents.specs.Trees.{Event, Start, EndElement}
 use Rattle.exi_values.specs.declared.Event.TheVariants as read
 use Rattle.exi_values.specs.declared.Value.{Value as ReadValue}
+use Rattle.exi_values.specs.declared.Value.TheVariants as read_value
+use Rattle.exi_reading.specs.Short.{tree_of}
+use Rattle.exi_reading.specs.declared.short.ShortValue.{ShortValue}
+use Rattle.exi_reading.specs.declared.short.ShortValue.TheVariants as short
 use Rattle.exi_values.specs.Meaning.{value_of}
 use Rattle.exi_events.specs.Reader.{Reading, reading}
 use Rattle.exi_events.specs.Sequence.{TakesChild, TakesEnd, TakesSequence, values_of}
@@ -43,6 +47,14 @@ module _ (ks : List PlainKind) (F : Frame) (attributes : List AttributeOf) (decl
       let took_value = value_next ks _ (kind_at declared at) d _ v mid new simple enters (same ∙ sym took.same_schema) (bits ∙ sym took.same_bits) open_still took.whole in
       (took_value.0, behind_once ks F attributes declared at told mid reads once (name_at declared at) _ new took_value.1)
 
+  -- of a value of few bits
+  pub short_next : (d : Datatype) (v : ShortValue) (name : ℕ) → is_once_at declared at ≡ true → simple_at ks (kind_at declared at) ≡ Some d →
+      TakesChild (reading_in old) (reading_in new) name (tree_of v) →
+      IsRead d (tree_of v) × IsBetween ks F attributes declared (suc at) 0 (told_one (name_at declared at) (Of (tree_of v)) told) new
+  short_next d (short.Bool v) = child_next d (read_value.Bool v)
+  short_next d (short.Ordinal v) = child_next d (read_value.Ordinal v)
+  short_next d (short.Number v) = child_next d (read_value.Number v)
+
   pub end_next : new.child ≡ None → TakesEnd (reading_in old) (reading_in new) → Reads ks F attributes declared at told new
   end_next none took =
       reads_next ks F attributes declared at 0 told read.EndElement old new h none same bits open_still took.end (tells old new EndElement took.told)
@@ -58,9 +70,9 @@ three_next ks F declared told first second third three old new h holds same bits
     let one = seen_at took.1 None in
     let two = seen_at took.5.1 None in
     let all = seen_at took.5.5.1 None in
-    let a = child_next ks F [] declared 0 told old one (begins ks F [] declared told old h) took.2 took.3 refl first three.first took.0 holds.once.0 holds.first_is took.4 in
-    let b = child_next ks F [] declared 1 _ one two a.1 took.5.2 took.5.3 refl second three.second took.5.0 holds.once.1 holds.second_is took.5.4 in
-    let c = child_next ks F [] declared 2 _ two all b.1 took.5.5.2 took.5.5.3 refl third three.third took.5.5.0 holds.once.2 holds.third_is took.5.5.4 in
+    let a = short_next ks F [] declared 0 told old one (begins ks F [] declared told old h) took.2 took.3 refl first three.first took.0 holds.once.0 holds.first_is took.4 in
+    let b = short_next ks F [] declared 1 _ one two a.1 took.5.2 took.5.3 refl second three.second took.5.0 holds.once.1 holds.second_is took.5.4 in
+    let c = short_next ks F [] declared 2 _ two all b.1 took.5.5.2 took.5.5.3 refl third three.third took.5.5.0 holds.once.2 holds.third_is took.5.5.4 in
     let back_schema = same ∙ sym (took.5.5.2 ∙ took.5.2 ∙ took.2) in
     let back_bits = bits ∙ sym (took.5.5.3 ∙ took.5.3 ∙ took.3) in
     ((a.0, b.0, c.0), end_next ks F [] declared 3 _ all new c.1 back_schema back_bits open_still none took.5.5.5)

@@ -4,7 +4,7 @@ use Rattle.exi_schema.specs.declared.tables.Datatype.{Datatype}
 use Rattle.exi_schema.specs.Plain.{PlainKind, PlainParticle}
 use Rattle.exi_schema.specs.Steps.{simple_at}
 use Rattle.exi_documents.specs.Trees.{Event, Value}
-use Rattle.exi_values.specs.Meaning.{value_of}
+use Rattle.exi_reading.specs.Short.{tree_of}
 use Rattle.exi_events.specs.declared.sequence.ThreeValues.{ThreeValues}
 use Rattle.message_parts.specs.Contents.{Of, told_one}
 use Rattle.message_parts.specs.Particles.{name_at, kind_at, is_once_at}
@@ -20,7 +20,7 @@ pub record HoldsThree (ks : List PlainKind) (declared : List PlainParticle) (fir
 -- three values that are read are of these datatypes
 abbrev pub AreRead : Datatype → Datatype → Datatype → ThreeValues → Type 0
 AreRead first second third three =
-    IsRead first (value_of three.first) × IsRead second (value_of three.second) × IsRead third (value_of three.third)
+    IsRead first (tree_of three.first) × IsRead second (tree_of three.second) × IsRead third (tree_of three.third)
 
 -- their events, the newest first, behind those told before
 abbrev pub told_three : List PlainParticle → Value → Value → Value → List Event → List Event
@@ -28,4 +28,4 @@ told_three declared first second third told =
     told_one (name_at declared 2) (Of third) (told_one (name_at declared 1) (Of second) (told_one (name_at declared 0) (Of first) told))
 
 abbrev pub told_values : List PlainParticle → ThreeValues → List Event → List Event
-told_values declared three told = told_three declared (value_of three.first) (value_of three.second) (value_of three.third) told
+told_values declared three told = told_three declared (tree_of three.first) (tree_of three.second) (tree_of three.third) told

@@ -208,13 +208,35 @@ pub fn three_values<'a, A: Simple<'a>, B: Simple<'a>, C: Simple<'a>, P: Places>(
         → IfOk result (λ v. Reads ks F [] declared 3
         (told_three declared (A.value v.first) (B.value v.second) (C.value v.third) told) (seen_of P.schema descent.new)) }
 {
-    if let Some(values) = descent.three_values() {
-        return Ok(Three {
-            first: A::of(values.first),
-            second: B::of(values.second),
-            third: C::of(values.third),
-        });
+    match descent.three_values() {
+        Some(values) => Ok(Three {
+            first: A::of(values.first.as_value()),
+            second: B::of(values.second.as_value()),
+            third: C::of(values.third.as_value()),
+        }),
+        None => each_of_three(descent),
     }
+}
+
+/// The same, one by one.
+#[inline(never)]
+fn each_of_three<'a, A: Simple<'a>, B: Simple<'a>, C: Simple<'a>, P: Places>(
+    descent: &mut Descent<'a, '_, P>,
+) -> Result<Three<A, B, C>, Refusal>
+    requires open { IsOpen P.schema descent.old }
+    ensures open { IsOpen P.schema descent.new }
+    ensures table { descent.new.reader.table.ghost_name ≡ descent.old.reader.table.ghost_name }
+    ensures places { descent.new.reader.places.now ≡ descent.old.reader.places.now }
+    ensures payload { descent.new.reader.reader.bits ≡ descent.old.reader.reader.bits }
+    ensures refused { IfErr result (λ r. IsRefusal (seen_of P.schema descent.old) r) }
+    ensures read { (ks : List PlainKind) (F : Frame) (declared : List PlainParticle) (told : List TreeEvent)
+        → StartsAt ks F [] declared 0 told (seen_of P.schema descent.old)
+        → is_once_at declared 0 ≡ true → takes_at A.takes ks declared 0 ≡ true
+        → is_once_at declared 1 ≡ true → takes_at B.takes ks declared 1 ≡ true
+        → is_once_at declared 2 ≡ true → takes_at C.takes ks declared 2 ≡ true
+        → IfOk result (λ v. Reads ks F [] declared 3
+        (told_three declared (A.value v.first) (B.value v.second) (C.value v.third) told) (seen_of P.schema descent.new)) }
+{
     first_child(descent)?;
     let first = value(descent)?;
     let second = value(descent)?;

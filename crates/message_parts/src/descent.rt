@@ -73,7 +73,6 @@ impl<'a, 'p, P: Places> Descent<'a, 'p, P> {
     ghost use Rattle.exi_schema.specs.Schemas.{PlainSchema};
     ghost use Rattle.exi_documents.specs.Values.{most_entries};
     ghost use Rattle.exi_events.specs.Reader.{IsTold};
-    ghost use Rattle.exi_events.specs.Sequence.{AreLent};
     ghost use Rattle.message_parts.specs.Sequence.{HoldsThree, AreRead, told_values};
 
     /// A descent at the start of a payload of at most 65,536 bytes. The table is emptied; it has room for 8,192 entries.
@@ -204,13 +203,12 @@ impl<'a, 'p, P: Places> Descent<'a, 'p, P> {
     /// The values of the element that has started, and its end, where it is a sequence of three values of few bits and nothing else.
     /// Anywhere else nothing is taken, and `None` is answered.
     #[inline(always)]
-    pub fn three_values(&mut self) -> Option<ThreeValues<'a>>
+    pub fn three_values(&mut self) -> Option<ThreeValues>
         requires open { IsOpen P.schema self.old }
         ensures open { IsOpen P.schema self.new }
         ensures table { self.new.reader.table.ghost_name ≡ self.old.reader.table.ghost_name }
         ensures places { self.new.reader.places.now ≡ self.old.reader.places.now }
         ensures payload { self.new.reader.reader.bits ≡ self.old.reader.reader.bits }
-        ensures lent { IfSome result (AreLent self.old.reader.reader.bits) }
         ensures none { result ≡ None → self.new ≡ self.old }
         ensures values { (ks : List PlainKind) (F : Frame) (declared : List PlainParticle) (told : List TreeEvent) (first second third : Datatype)
             → StartsAt ks F [] declared 0 told (seen_of P.schema self.old) → HoldsThree ks declared first second third

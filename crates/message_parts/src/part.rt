@@ -176,7 +176,7 @@ pub trait LargeGroup<'a>: PutChoice {
             → IfOk result (λ _. (v : Self) × (place.new ≡ Some v) × (Self.name v ≡ F.name) × Leaves kinds F (told_inside (Self.inside v) told) (seen_of P.schema descent.new)) };
 }
 
-/// What stands at the root of a document, as it is read into a place that the caller lends.
+/// One of several elements, or what stands at the root of a document, as it is read into a place that the caller lends.
 pub trait LargeChoice<'a>: PutChoice {
     /// The declarations of its schema.
     ghost kinds: { List PlainKind };

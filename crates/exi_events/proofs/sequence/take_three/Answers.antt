@@ -1,12 +1,13 @@
-use Rattle.std.proofs.Common.{refl, ap, sym, subst, ◌∙◌}
+use Rattle.std.proofs.Common.{refl, sym, subst, ◌∙◌}
 use Rattle.exi_bits.specs.Reading.{Cursor}
 use Rattle.exi_schema.specs.declared.places.Step.TheVariants.{End}
-use Rattle.exi_events.specs.Sequence.{TakesSequence, values_of, inside_at, behind_all, AreLent}
-use Rattle.exi_events.proofs.Sequences.{offers_first, offers_second, offers_third, offers_end, same_child, same_lent, end_took}
+use Rattle.exi_events.specs.Sequence.{TakesSequence, values_of, inside_at, behind_all}
+use Rattle.exi_events.proofs.Sequences.{offers_first, offers_second, offers_third, offers_end, same_child, end_took, tells_three, three_in}
 use Rattle.exi_events.proofs.sequence.take_three.Goals as goal
 
 pub returns-clause-values : goal.returns-clause-values
-returns-clause-values c = λ s name here above entries is.
+returns-clause-values c = λ s name here above entries tells.
+    let is = tells_three s.kinds here c.args.children.now _ _ _ (three_in c.args.children.now _ c.in-len3.len_at_least c.in-len3.len_below) tells in
     let same1 = c.in_ok-first.ensures.same in
     let same2 = c.in_ok-second.ensures.same in
     let same3 = c.in_ok-third.ensures.same in
@@ -19,14 +20,3 @@ returns-clause-values c = λ s name here above entries is.
     subst (λ (new : Cursor). P c.args.reader.now new) (sym c.pass.ensures)
     (subst (λ (old : Cursor). P old c.short_only.new.window) c.in_ok-window.ensures
     (_, _, refl, same1, first, (_, _, refl, same2, second, (_, _, refl, same3, third, end))))
-
-pub returns-clause-lent : goal.returns-clause-lent
-returns-clause-lent c =
-    let same0 = ap (λ (k : Cursor). k.bits) c.in_ok-window.ensures in
-    let same1 = c.in_ok-first.ensures.same in
-    let same2 = c.in_ok-second.ensures.same in
-    record {
-      first = same_lent _ _ _ same0 c.in_ok-first.ensures.lent;
-      second = same_lent _ _ _ (same1 ∙ same0) c.in_ok-second.ensures.lent;
-      third = same_lent _ _ _ (same2 ∙ same1 ∙ same0) c.in_ok-third.ensures.lent;
-    }

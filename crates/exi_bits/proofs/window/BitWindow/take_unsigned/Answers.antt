@@ -7,4 +7,4 @@ returns-then-first-lt128-clause-taken c = rw c.from.ensures (octet_taken 10 c.in
 
 pub returns-clause-taken : goal.returns-clause-taken
 returns-clause-taken c =
-    rw c.from-2.ensures (octets_taken 9 c.in_ok-first.first c.in_ok-high.high _ _ _ c.if-first-lt128.false c.in_ok-high.ensures.few c.in_ok-first.ensures.taken c.in_ok-high.ensures.taken)
+    rw c.from-2.ensures (octets_taken 9 c.in_ok-first.first c.in_ok-high.high _ _ _ c.if-first-lt128.false (omega (arith, c.in_ok-high.ensures.few)) c.in_ok-first.ensures.taken c.in_ok-high.ensures.taken)

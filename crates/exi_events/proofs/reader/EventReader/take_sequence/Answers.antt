@@ -1,4 +1,4 @@
-use Rattle.exi_values.specs.Meaning.{value_of}
+use Rattle.exi_reading.specs.Short.{tree_of}
 use Rattle.exi_events.specs.Sequence.{values_of}
 use Rattle.exi_events.proofs.Sequences.{three_taken, sequence_told, open_behind}
 use Rattle.exi_events.proofs.Valued.{stays_ready}
@@ -6,15 +6,15 @@ use Rattle.exi_events.proofs.reader.EventReader.take_sequence.Goals as goal
 
 pub returns-clause-values : goal.returns-clause-values
 returns-clause-values g c =
-    three_taken (g.P.Places.schema c.args.self.now.places.now) c.args.self.now.phase c.args.self.now.elements c.args.children c.requires.sequence c.args.self.now.reader.bits c.args.self.now.table.now.entries c.args.self.now.reader c.requires.inside c.pop.new.self c.take_three.new.reader.bits c.args.self.now.table.now.entries c.take_three.new.reader (values_of c.in_ok-values.values)
+    three_taken (g.P.Places.schema c.args.self.now.places.now) c.args.self.now.phase c.args.self.now.elements c.args.children.now c.requires.sequence c.args.self.now.reader.bits c.args.self.now.table.now.entries c.args.self.now.reader c.requires.inside c.pop.new.self c.take_three.new.reader.bits c.args.self.now.table.now.entries c.take_three.new.reader (values_of c.in_ok-values.values)
     (c.pop.ensures _ _ c.requires.sequence.elements_are) c.in_ok-values.ensures.same
-    (c.in_ok-values.ensures.values (g.P.Places.schema c.args.self.now.places.now) c.requires.sequence.top.name c.requires.sequence.top.place c.requires.sequence.above c.args.self.now.table.now.entries c.requires.sequence.sequence)
+    (c.in_ok-values.ensures.values (g.P.Places.schema c.args.self.now.places.now) c.requires.sequence.top.name c.requires.sequence.top.place c.requires.sequence.above c.args.self.now.table.now.entries c.requires.sequence.tells)
 
 pub returns-clause-told : goal.returns-clause-told
 returns-clause-told g c = λ events has.
-    sequence_told _ _ (value_of c.in_ok-values.values.first) (value_of c.in_ok-values.values.second) (value_of c.in_ok-values.values.third) (three_taken (g.P.Places.schema c.args.self.now.places.now) c.args.self.now.phase c.args.self.now.elements c.args.children c.requires.sequence c.args.self.now.reader.bits c.args.self.now.table.now.entries c.args.self.now.reader c.requires.inside c.pop.new.self c.take_three.new.reader.bits c.args.self.now.table.now.entries c.take_three.new.reader (values_of c.in_ok-values.values)
+    sequence_told _ _ (tree_of c.in_ok-values.values.first) (tree_of c.in_ok-values.values.second) (tree_of c.in_ok-values.values.third) (three_taken (g.P.Places.schema c.args.self.now.places.now) c.args.self.now.phase c.args.self.now.elements c.args.children.now c.requires.sequence c.args.self.now.reader.bits c.args.self.now.table.now.entries c.args.self.now.reader c.requires.inside c.pop.new.self c.take_three.new.reader.bits c.args.self.now.table.now.entries c.take_three.new.reader (values_of c.in_ok-values.values)
     (c.pop.ensures _ _ c.requires.sequence.elements_are) c.in_ok-values.ensures.same
-    (c.in_ok-values.ensures.values (g.P.Places.schema c.args.self.now.places.now) c.requires.sequence.top.name c.requires.sequence.top.place c.requires.sequence.above c.args.self.now.table.now.entries c.requires.sequence.sequence)) events has
+    (c.in_ok-values.ensures.values (g.P.Places.schema c.args.self.now.places.now) c.requires.sequence.top.name c.requires.sequence.top.place c.requires.sequence.above c.args.self.now.table.now.entries c.requires.sequence.tells)) events has
 
 pub returns-clause-ready : goal.returns-clause-ready
 returns-clause-ready g c =
