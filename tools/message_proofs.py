@@ -133,22 +133,23 @@ def member_of(t, kind, call, fact):
     return [f"    {read}"] if t.is_brief(kind) else [f"    let it = {read} in", "    (_, refl, it.0, it.1)"]
 
 
-def read_large_choice(t, kind):
-    members, text = t.own(kind), ""
+def read_large_choice(t, kind, n=0):
+    members, text = t.parts(kind)[n], ""
+    behind = "brief" if kind in t.brief else t.reader_of(kind, n + 1)
     calls = iter(list(numbered(it.read() for it in members if not t.holds_list(it.kind))))
-    for n, it in enumerate(members):
-        fact = is_here(n) if kind in t.brief else member_here(t, members, n)
+    for k, it in enumerate(members):
+        fact = is_here(k) if behind else member_here(t, members, k)
         if t.holds_list(it.kind):
-            last = n == len(members) - 1 and kind not in t.brief
-            at = n if last else n + 1
+            last = k == len(members) - 1 and not behind
+            at = k if last else k + 1
             arm = f"{'else' if last else 'then'}-is_at" + (f"-{at}" if at > 1 else "")
             text += answer(f"{arm}-clause-read", "told", [f"    c.{it.word}.ensures.read F told h {fact}"])
         else:
             call = next(calls)
             text += answer(f"in_ok-{call}-clause-read", "told", member_of(t, kind, f"c.in_ok-{call}", fact))
-    if kind in t.brief:
-        rest = f"chosen_rest kinds F {t.lower(kind)}_members {pairs(t, members)} told _ h {none_here(len(members))}"
-        text += answer(f"else-is_at-{len(members)}-clause-read", "told", [f"    c.brief.ensures.read F told ({rest})"])
+    if behind:
+        rest = f"chosen_rest kinds F {t.from_part(kind, n)} {pairs(t, members)} told _ h {none_here(len(members))}"
+        text += answer(f"else-is_at-{len(members)}-clause-read", "told", [f"    c.{behind}.ensures.read F told ({rest})"])
     return text
 
 
@@ -194,13 +195,16 @@ def put_choice_head(t, crate, file, kind):
     return head + f"use Rattle.{crate}.specs.{file.capitalize()}.{{{low}_name, {low}_inside}}\n"
 
 
-def read_choice_head(t, crate, file, kind):
-    members = t.own(kind)
+def read_choice_head(t, crate, file, kind, n=0):
+    members = t.parts(kind)[n]
     rules = "rules, " if any(t.is_signed(it.kind) for it in members) else ""
-    head = f"use Rattle.std.proofs.Common.{{{rules}refl, []{', ◌∷◌' if len(members) > 1 else ''}}}\nuse Rattle.message_parts.proofs.Chosen.{{only_last}}\n"
-    if kind in t.brief:
-        head = f"use Rattle.std.proofs.Common.{{[], ◌∷◌}}\nuse Rattle.{crate}.proofs.Rest.{{chosen_rest}}\n"
+    refl = "" if kind in t.brief else "refl, "
+    head = f"use Rattle.std.proofs.Common.{{{rules}{refl}[]{', ◌∷◌' if len(members) > 1 else ''}{', drop' if n and t.reader_of(kind, n + 1) else ''}}}\n"
+    if kind in t.brief or t.reader_of(kind, n + 1):
+        head += f"use Rattle.{crate}.proofs.Rest.{{chosen_rest}}\n"
         head += f"use Rattle.{t.s.crate}.specs.Declarations.{{kinds}}\nuse Rattle.{crate}.specs.{file.capitalize()}.{{{t.lower(kind)}_members}}\n"
+    else:
+        head += "use Rattle.message_parts.proofs.Chosen.{only_last}\n"
     head += f"use Rattle.{t.s.crate}.specs.declared.names.TheConstants.{{{', '.join(it.name for it in members)}}}\n"
     kinds = dict.fromkeys(kind_name(t, it) for it in members)
     return head + f"use Rattle.{t.s.crate}.specs.declared.kinds.TheConstants.{{{', '.join(kinds)}}}\n"
@@ -243,4 +247,5 @@ def proofs(t, crate, file, kind):
         apart = [it for it in t.own(kind) if t.holds_list(it.kind)]
         places += [(f"{file}/{it.word}", "use Rattle.std.proofs.Common.{refl}\n", read_apart(t, kind, it)) for it in apart]
         places += read_brief(file) if kind in t.brief else []
+        places += [(f"{file}/{t.reader_of(kind, n)}", read_choice_head(t, crate, file, kind, n), read_large_choice(t, kind, n)) for n in range(1, len(t.parts(kind)))]
     return {place: with_uses(t, crate, place, head, body) for place, head, body in places}

@@ -148,6 +148,20 @@ class Types:
         """The members that are variants of the type itself, and not of that of the brief ones."""
         return [it for it in self.choices[choice] if choice not in self.brief or it.kind in self.long]
 
+    def parts(self, choice):
+        """The own members in parts, each of which a function of its own reads: a long chain takes the prover long."""
+        members = self.own(choice)
+        return [members[n : n + 6] for n in range(0, len(members), 6)] if self.is_brief(choice) else [members]
+
+    def from_part(self, choice, n):
+        """The members from the nth part on."""
+        before = sum(len(it) for it in self.parts(choice)[:n])
+        return f"(drop {before} {self.lower(choice)}_members)" if n else f"{self.lower(choice)}_members"
+
+    def reader_of(self, choice, n):
+        """The function that reads one of the members from the nth part on, where there are any."""
+        return f"from_{self.parts(choice)[n][0].word}" if n < len(self.parts(choice)) else ""
+
     def one_of(self, choice, it, value):
         """A member as one of its choice, in definitions."""
         if choice in self.brief and it.kind not in self.long:

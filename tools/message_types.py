@@ -178,11 +178,12 @@ def stored(t, kind, it):
     return one if t.is_brief(kind) else f"Some({one})"
 
 
-def large_chain(t, kind):
-    """Reads one of these members into a place, after its name; the last without a look at it."""
-    place = "self" if t.is_brief(kind) else "place"
-    steps = [(it.name, f"{it.word}({place}, descent)" if t.holds_list(it.kind) else f"*{place} = {stored(t, kind, it)};\n            Ok(())") for it in t.own(kind)]
-    steps += [("", "brief(place, descent)")] if kind in t.brief else []
+def large_chain(t, kind, n=0):
+    """Reads one of the members from the nth part on into a place, after its name; the last without a look at it."""
+    place = "self" if t.is_brief(kind) and not n else "place"
+    steps = [(it.name, f"{it.word}({place}, descent)" if t.holds_list(it.kind) else f"*{place} = {stored(t, kind, it)};\n            Ok(())") for it in t.parts(kind)[n]]
+    behind = "brief" if kind in t.brief else t.reader_of(kind, n + 1)
+    steps += [("", f"{behind}({place}, descent)")] if behind else []
     text = "        "
     for n, (name, step) in enumerate(steps):
         head = f"if descent.is_at(names::{name}) " if n < len(steps) - 1 else ""
@@ -210,12 +211,19 @@ def into_place(t, kind, word, members, child, body):
 """
 
 
+def part_function(t, kind, n):
+    """Reads one of the members from the nth part on."""
+    return f"""/// One of the members from {t.parts(kind)[n][0].type.split("<")[0]} on.
+#[inline(always)]
+""" + into_place(t, kind, t.reader_of(kind, n), t.from_part(kind, n), "", large_chain(t, kind, n))
+
+
 def apart(t, kind, it):
     """Reads a member that holds a list."""
     body = f"    *place = {stored(t, kind, it)};\n    Ok(())\n"
     return f"""/// {it.type.split("<")[0]}, which holds a list: apart from the others, so that they don't fill its room.
 #[inline(never)]
-""" + into_place(t, kind, it.word, f"{t.lower(kind)}_members", f" → descent.old.child ≡ Some {it.name}", body)
+""" + into_place(t, kind, it.word, t.from_part(kind, next(n for n, part in enumerate(t.parts(kind)) if it in part)), f" → descent.old.child ≡ Some {it.name}", body)
 
 
 def brief_functions(t, kind):
@@ -243,7 +251,8 @@ def large_uses(t, crate, file, kinds):
     names = ", ".join(it.name for it in t.choices[kinds[-1]] if t.holds_list(it.kind))
     types = "".join(f"ghost use Rattle.{crate}.specs.declared.{file}.{t.camel(it)}.{{{t.camel(it)}}};\n" for it in kinds if not t.is_brief(it))
     words = ", ".join(f"{t.lower(it)}_{word}" for it in kinds for word in ("members", "name", "inside"))
-    return f"""ghost use Rattle.std.specs.Prelude.{{◌≡◌, [], List, Some, IfOk, IfErr}};
+    drop = ", drop" if any(len(t.parts(it)) > 1 for it in kinds) else ""
+    return f"""ghost use Rattle.std.specs.Prelude.{{◌≡◌, [], List, Some, IfOk, IfErr{drop}}};
 ghost use Rattle.exi_documents.specs.Trees.{{Event as TreeEvent}};
 ghost use Rattle.message_parts.specs.Contents.{{told_inside}};
 ghost use Rattle.message_parts.specs.Reading.{{Frame, IsOpen, IsRefusal, IsChosen, Leaves, seen_of}};
@@ -285,6 +294,7 @@ impl<'a> Group<'a> for {name}{"<'a>" if lent else ""} {{
 {group}"""
     if kind in t.large:
         functions = "".join(apart(t, kind, it) for it in t.own(kind) if t.holds_list(it.kind)) + (brief_functions(t, kind) if kind in t.brief else "")
+        functions += "".join(part_function(t, kind, n) for n in range(1, len(t.parts(kind))))
         own_use = f"    ghost use Rattle.{crate}.specs.{file.capitalize()}.{{{low}_members}};" if t.is_brief(kind) else uses.rstrip()
         taken = "&mut self" if t.is_brief(kind) else f"place: &mut Option<{name}<'a>>"
         reading = functions + f"""impl<'a> Large{"Choice" if t.is_brief(kind) else "Group"}<'a> for {name}<'a> {{

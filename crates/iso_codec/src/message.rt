@@ -1,6 +1,6 @@
 //! Types of elements of the messages of ISO 15118-2.
 
-ghost use Rattle.std.specs.Prelude.{◌≡◌, [], List, Some, IfOk, IfErr};
+ghost use Rattle.std.specs.Prelude.{◌≡◌, [], List, Some, IfOk, IfErr, drop};
 ghost use Rattle.exi_documents.specs.Trees.{Event as TreeEvent};
 ghost use Rattle.message_parts.specs.Contents.{told_inside};
 ghost use Rattle.message_parts.specs.Reading.{Frame, IsOpen, IsRefusal, IsChosen, Leaves, seen_of};
@@ -198,7 +198,7 @@ fn payment_service_selection_req<'a, P: Places>(
     ensures places { descent.new.reader.places.now ≡ descent.old.reader.places.now }
     ensures payload { descent.new.reader.reader.bits ≡ descent.old.reader.reader.bits }
     ensures refused { IfErr result (λ r. IsRefusal (seen_of P.schema descent.old) r) }
-    ensures read { (F : Frame) (told : List TreeEvent) → IsChosen kinds F brief_element_members told (seen_of P.schema descent.old) → descent.old.child ≡ Some PAYMENT_SERVICE_SELECTION_REQ
+    ensures read { (F : Frame) (told : List TreeEvent) → IsChosen kinds F (drop 6 brief_element_members) told (seen_of P.schema descent.old) → descent.old.child ≡ Some PAYMENT_SERVICE_SELECTION_REQ
         → IfOk result (λ _. (brief_element_name place.new ≡ F.name) × Leaves kinds F (told_inside (brief_element_inside place.new) told) (seen_of P.schema descent.new)) }
 {
     *place = BriefElement::PaymentServiceSelectionReq(member(descent)?);
@@ -217,11 +217,118 @@ fn power_delivery_req<'a, P: Places>(
     ensures places { descent.new.reader.places.now ≡ descent.old.reader.places.now }
     ensures payload { descent.new.reader.reader.bits ≡ descent.old.reader.reader.bits }
     ensures refused { IfErr result (λ r. IsRefusal (seen_of P.schema descent.old) r) }
-    ensures read { (F : Frame) (told : List TreeEvent) → IsChosen kinds F brief_element_members told (seen_of P.schema descent.old) → descent.old.child ≡ Some POWER_DELIVERY_REQ
+    ensures read { (F : Frame) (told : List TreeEvent) → IsChosen kinds F (drop 6 brief_element_members) told (seen_of P.schema descent.old) → descent.old.child ≡ Some POWER_DELIVERY_REQ
         → IfOk result (λ _. (brief_element_name place.new ≡ F.name) × Leaves kinds F (told_inside (brief_element_inside place.new) told) (seen_of P.schema descent.new)) }
 {
     *place = BriefElement::PowerDeliveryReq(member(descent)?);
     Ok(())
+}
+
+/// One of the members from ChargingStatusRes on.
+#[inline(always)]
+fn from_charging_status_res<'a, P: Places>(
+    place: &mut BriefElement<'a>,
+    descent: &mut Descent<'a, '_, P>,
+) -> Result<(), Refusal>
+    requires open { IsOpen P.schema descent.old }
+    ensures open { IsOpen P.schema descent.new }
+    ensures table { descent.new.reader.table.ghost_name ≡ descent.old.reader.table.ghost_name }
+    ensures places { descent.new.reader.places.now ≡ descent.old.reader.places.now }
+    ensures payload { descent.new.reader.reader.bits ≡ descent.old.reader.reader.bits }
+    ensures refused { IfErr result (λ r. IsRefusal (seen_of P.schema descent.old) r) }
+    ensures read { (F : Frame) (told : List TreeEvent) → IsChosen kinds F (drop 6 brief_element_members) told (seen_of P.schema descent.old)
+        → IfOk result (λ _. (brief_element_name place.new ≡ F.name) × Leaves kinds F (told_inside (brief_element_inside place.new) told) (seen_of P.schema descent.new)) }
+{
+    if descent.is_at(names::CHARGING_STATUS_RES) {
+        *place = BriefElement::ChargingStatusRes(member(descent)?);
+        Ok(())
+    } else if descent.is_at(names::CURRENT_DEMAND_REQ) {
+        *place = BriefElement::CurrentDemandReq(member(descent)?);
+        Ok(())
+    } else if descent.is_at(names::CURRENT_DEMAND_RES) {
+        *place = BriefElement::CurrentDemandRes(member(descent)?);
+        Ok(())
+    } else if descent.is_at(names::PAYMENT_SERVICE_SELECTION_REQ) {
+        payment_service_selection_req(place, descent)
+    } else if descent.is_at(names::PAYMENT_SERVICE_SELECTION_RES) {
+        *place = BriefElement::PaymentServiceSelectionRes(member(descent)?);
+        Ok(())
+    } else if descent.is_at(names::POWER_DELIVERY_REQ) {
+        power_delivery_req(place, descent)
+    } else {
+        from_power_delivery_res(place, descent)
+    }
+}
+
+/// One of the members from PowerDeliveryRes on.
+#[inline(always)]
+fn from_power_delivery_res<'a, P: Places>(
+    place: &mut BriefElement<'a>,
+    descent: &mut Descent<'a, '_, P>,
+) -> Result<(), Refusal>
+    requires open { IsOpen P.schema descent.old }
+    ensures open { IsOpen P.schema descent.new }
+    ensures table { descent.new.reader.table.ghost_name ≡ descent.old.reader.table.ghost_name }
+    ensures places { descent.new.reader.places.now ≡ descent.old.reader.places.now }
+    ensures payload { descent.new.reader.reader.bits ≡ descent.old.reader.reader.bits }
+    ensures refused { IfErr result (λ r. IsRefusal (seen_of P.schema descent.old) r) }
+    ensures read { (F : Frame) (told : List TreeEvent) → IsChosen kinds F (drop 12 brief_element_members) told (seen_of P.schema descent.old)
+        → IfOk result (λ _. (brief_element_name place.new ≡ F.name) × Leaves kinds F (told_inside (brief_element_inside place.new) told) (seen_of P.schema descent.new)) }
+{
+    if descent.is_at(names::POWER_DELIVERY_RES) {
+        *place = BriefElement::PowerDeliveryRes(member(descent)?);
+        Ok(())
+    } else if descent.is_at(names::PRE_CHARGE_REQ) {
+        *place = BriefElement::PreChargeReq(member(descent)?);
+        Ok(())
+    } else if descent.is_at(names::PRE_CHARGE_RES) {
+        *place = BriefElement::PreChargeRes(member(descent)?);
+        Ok(())
+    } else if descent.is_at(names::SERVICE_DETAIL_REQ) {
+        *place = BriefElement::ServiceDetailReq(member(descent)?);
+        Ok(())
+    } else if descent.is_at(names::SERVICE_DISCOVERY_REQ) {
+        *place = BriefElement::ServiceDiscoveryReq(member(descent)?);
+        Ok(())
+    } else if descent.is_at(names::SESSION_SETUP_REQ) {
+        *place = BriefElement::SessionSetupReq(member(descent)?);
+        Ok(())
+    } else {
+        from_session_setup_res(place, descent)
+    }
+}
+
+/// One of the members from SessionSetupRes on.
+#[inline(always)]
+fn from_session_setup_res<'a, P: Places>(
+    place: &mut BriefElement<'a>,
+    descent: &mut Descent<'a, '_, P>,
+) -> Result<(), Refusal>
+    requires open { IsOpen P.schema descent.old }
+    ensures open { IsOpen P.schema descent.new }
+    ensures table { descent.new.reader.table.ghost_name ≡ descent.old.reader.table.ghost_name }
+    ensures places { descent.new.reader.places.now ≡ descent.old.reader.places.now }
+    ensures payload { descent.new.reader.reader.bits ≡ descent.old.reader.reader.bits }
+    ensures refused { IfErr result (λ r. IsRefusal (seen_of P.schema descent.old) r) }
+    ensures read { (F : Frame) (told : List TreeEvent) → IsChosen kinds F (drop 18 brief_element_members) told (seen_of P.schema descent.old)
+        → IfOk result (λ _. (brief_element_name place.new ≡ F.name) × Leaves kinds F (told_inside (brief_element_inside place.new) told) (seen_of P.schema descent.new)) }
+{
+    if descent.is_at(names::SESSION_SETUP_RES) {
+        *place = BriefElement::SessionSetupRes(member(descent)?);
+        Ok(())
+    } else if descent.is_at(names::SESSION_STOP_REQ) {
+        *place = BriefElement::SessionStopReq(member(descent)?);
+        Ok(())
+    } else if descent.is_at(names::SESSION_STOP_RES) {
+        *place = BriefElement::SessionStopRes(member(descent)?);
+        Ok(())
+    } else if descent.is_at(names::WELDING_DETECTION_REQ) {
+        *place = BriefElement::WeldingDetectionReq(member(descent)?);
+        Ok(())
+    } else {
+        *place = BriefElement::WeldingDetectionRes(member(descent)?);
+        Ok(())
+    }
 }
 
 impl<'a> LargeChoice<'a> for BriefElement<'a> {
@@ -254,55 +361,8 @@ impl<'a> LargeChoice<'a> for BriefElement<'a> {
         } else if descent.is_at(names::CHARGING_STATUS_REQ) {
             *self = BriefElement::ChargingStatusReq(member(descent)?);
             Ok(())
-        } else if descent.is_at(names::CHARGING_STATUS_RES) {
-            *self = BriefElement::ChargingStatusRes(member(descent)?);
-            Ok(())
-        } else if descent.is_at(names::CURRENT_DEMAND_REQ) {
-            *self = BriefElement::CurrentDemandReq(member(descent)?);
-            Ok(())
-        } else if descent.is_at(names::CURRENT_DEMAND_RES) {
-            *self = BriefElement::CurrentDemandRes(member(descent)?);
-            Ok(())
-        } else if descent.is_at(names::PAYMENT_SERVICE_SELECTION_REQ) {
-            payment_service_selection_req(self, descent)
-        } else if descent.is_at(names::PAYMENT_SERVICE_SELECTION_RES) {
-            *self = BriefElement::PaymentServiceSelectionRes(member(descent)?);
-            Ok(())
-        } else if descent.is_at(names::POWER_DELIVERY_REQ) {
-            power_delivery_req(self, descent)
-        } else if descent.is_at(names::POWER_DELIVERY_RES) {
-            *self = BriefElement::PowerDeliveryRes(member(descent)?);
-            Ok(())
-        } else if descent.is_at(names::PRE_CHARGE_REQ) {
-            *self = BriefElement::PreChargeReq(member(descent)?);
-            Ok(())
-        } else if descent.is_at(names::PRE_CHARGE_RES) {
-            *self = BriefElement::PreChargeRes(member(descent)?);
-            Ok(())
-        } else if descent.is_at(names::SERVICE_DETAIL_REQ) {
-            *self = BriefElement::ServiceDetailReq(member(descent)?);
-            Ok(())
-        } else if descent.is_at(names::SERVICE_DISCOVERY_REQ) {
-            *self = BriefElement::ServiceDiscoveryReq(member(descent)?);
-            Ok(())
-        } else if descent.is_at(names::SESSION_SETUP_REQ) {
-            *self = BriefElement::SessionSetupReq(member(descent)?);
-            Ok(())
-        } else if descent.is_at(names::SESSION_SETUP_RES) {
-            *self = BriefElement::SessionSetupRes(member(descent)?);
-            Ok(())
-        } else if descent.is_at(names::SESSION_STOP_REQ) {
-            *self = BriefElement::SessionStopReq(member(descent)?);
-            Ok(())
-        } else if descent.is_at(names::SESSION_STOP_RES) {
-            *self = BriefElement::SessionStopRes(member(descent)?);
-            Ok(())
-        } else if descent.is_at(names::WELDING_DETECTION_REQ) {
-            *self = BriefElement::WeldingDetectionReq(member(descent)?);
-            Ok(())
         } else {
-            *self = BriefElement::WeldingDetectionRes(member(descent)?);
-            Ok(())
+            from_charging_status_res(self, descent)
         }
     }
 }
