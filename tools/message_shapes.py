@@ -235,8 +235,8 @@ class Types:
         return len(fields) == 3 and kind not in self.large and all(it.form == "value" and it.read() == "value" for it in fields)
 
     def together(self, kind, fields):
-        """The first children of a type that are read as one tuple: the proof of a chain of single ones takes longer. One that is long to move
-        ends them."""
+        """The first children of a type that are read as one tuple: the proof of a chain of single ones takes longer. A list, an element that
+        borrows or holds a list, and a part that is left out end them. None where the last attribute may be absent, or the type is large."""
         children = [it for it in fields if it.form != "attribute"]
         if kind in self.large or any(it.form == "attribute" and it.optional for it in fields):
             return []
