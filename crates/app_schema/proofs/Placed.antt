@@ -109,10 +109,3 @@ only_first first sought other (suc n) step is meant = absurd cc
 pub neither : (first second : Step) (sought : Sought) → (IsSought first sought → ⊥) → (IsSought second sought → ⊥) → (code : ℕ) (step : Step) → slice_get (first ∷ second ∷ []) code ≡ Some step → IsSought step sought → ⊥
 neither first second sought one two zero step is meant = only_first first sought one zero step is meant
 neither first second sought one two (suc code) step is meant = only_first second sought two code step is meant
-
--- ---- the first step of a row
-
-pub first_step_fits : (place : Place) (first : Option Step) → IsPlace kinds place → first ≡ slice_get (offers kinds place) 0 →
-    IfSome first (IsStep kinds (length negotiation_schema.names) place.kind)
-first_step_fits place None there is = tt
-first_step_fits place (Some step) there is = offer_fits place 0 step there is

@@ -55,12 +55,10 @@ impl Row {
     fn codes(self) -> Codes
         ensures offered { result.offered ≡ length (steps_of self) }
         ensures width { IsWidth (length (steps_of self)) result.width }
-        ensures first { result.first ≡ slice_get (steps_of self) 0 }
     {
         Codes {
             offered: self.count(),
             width: self.width(),
-            first: Some(self.first),
         }
     }
 

@@ -38,16 +38,13 @@ pub(crate) fn take_step<P: Places>(
     let codes = places.codes(here);
     let offered = u32::from(codes.offered);
     let code = reader.take_number(codes.width)?;
-    let step = match codes.first {
-        Some(first) if code == 0 => first,
-        _ if code >= offered => {
-            return Err(Refusal {
-                cause: not_offered(code, offered),
-                bit,
-            });
-        }
-        _ => places.advance(here, code as u16),
-    };
+    if code >= offered {
+        return Err(Refusal {
+            cause: not_offered(code, offered),
+            bit,
+        });
+    }
+    let step = places.advance(here, code as u16);
     match wrong_with(&step) {
         None => Ok(step),
         Some(cause) => Err(Refusal { cause, bit }),

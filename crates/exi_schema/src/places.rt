@@ -67,8 +67,6 @@ pub struct Codes {
     pub offered: u16,
     /// How many bits each has.
     pub width: u32,
-    /// What the first one means, if there is one.
-    pub first: Option<Step>,
 }
 
 /// What is looked for among the steps of a place.
@@ -136,9 +134,7 @@ pub trait Places {
     fn codes(&self, place: Place) -> Codes
         requires { IsPlace (schema self.now).kinds place }
         ensures offered { result.offered ≡ length (offers (schema self.now).kinds place) }
-        ensures width { IsWidth (length (offers (schema self.now).kinds place)) result.width }
-        ensures first { result.first ≡ slice_get (offers (schema self.now).kinds place) 0 }
-        ensures of_schema { IfSome result.first (IsStep (schema self.now).kinds (length (schema self.now).names) place.kind) };
+        ensures width { IsWidth (length (offers (schema self.now).kinds place)) result.width };
 
     /// The code of a step at a place of the schema, in one look-up; `None` exactly where it is not offered.
     fn find(&self, place: Place, sought: Sought) -> Option<Offer>

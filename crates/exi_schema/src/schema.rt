@@ -68,25 +68,19 @@ impl Places for Schema<'_> {
     fn codes(&self, place: Place) -> Codes {
         let offered = self.alternatives(place);
         let width = width_for(u32::from(offered));
-        let first = if offered > 0 {
-            Some(self.advance(place, 0))
-        } else {
-            None
-        };
-        Codes {
-            offered,
-            width,
-            first,
-        }
+        Codes { offered, width }
     }
 
     fn find(&self, place: Place, sought: Sought) -> Option<Offer> {
-        let offered = self.alternatives(place);
-        let width = width_for(u32::from(offered));
-        for code in 0..offered {
+        let codes = self.codes(place);
+        for code in 0..codes.offered {
             let step = self.advance(place, code);
             if is_sought(&step, sought) {
-                return Some(Offer { code, width, step });
+                return Some(Offer {
+                    code,
+                    width: codes.width,
+                    step,
+                });
             }
         }
         None

@@ -1,5 +1,5 @@
 -- What the conditions on a schema give of the offers at each place.
-use Rattle.std.proofs.Common.{◌≡◌, ℕ, ◌≤◌, List, length, Option, Some, None, IfSome, subst, sym, inl, inr, arith}
+use Rattle.std.proofs.Common.{◌≡◌, ℕ, ◌≤◌, List, length, Option, Some, subst, sym, inl, inr, arith}
 use Rattle.std.specs.Prelude.{slice_get}
 use Rattle.std.proofs.lemmas.Option.{slice_get_cases}
 use Rattle.exi_schema.specs.Schemas.{PlainSchema}
@@ -42,9 +42,3 @@ offer_fits s place code step at is =
     let found = declaration_at s.kinds place at in
     let P : Option PlainKind → Type 0 = λ o. EachStep s.kinds (length s.names) place.kind (offers_of place o) in
     each_get s.kinds (length s.names) place.kind (offers s.kinds place) code step (subst P (sym found.1) (each_in s place found.0 found.1 found.2)) is
-
--- the first one, if there is one
-pub first_fits : (s : PlainSchema) (place : Place) (first : Option Step) → IsPlace s.kinds place → first ≡ slice_get (offers s.kinds place) 0 →
-    IfSome first (IsStep s.kinds (length s.names) place.kind)
-first_fits s place None at is = tt
-first_fits s place (Some step) at is = offer_fits s place 0 step at is

@@ -96,7 +96,6 @@ impl<D: Declared> Places for Rows<D> {
         Codes {
             offered: row.steps.len() as u16,
             width: row.width,
-            first: row.steps.first().copied(),
         }
     }
 

@@ -11,4 +11,4 @@ loop-code-preserved c =
 
 pub returns-clause-none : goal.returns-clause-none
 returns-clause-none c = λ _ code step is meant.
-    nowhere (offers (schema_of c.args.self.now).kinds c.args.place) c.args.sought c.loop-code.code c.loop-code.invariant (omega (arith, c.alternatives-offered.ensures, c.loop-code-test.false)) code step is meant
+    nowhere (offers (schema_of c.args.self.now).kinds c.args.place) c.args.sought c.loop-code.code c.loop-code.invariant (omega (arith, c.codes-codes.ensures.offered, c.loop-code-test.false)) code step is meant
