@@ -14,9 +14,9 @@ use Rattle.exi_bits.proofs.Windows.{number_bits-add, number_bits-mod, number_bit
 
 -- ---- a number of bytes
 
-abbrev be : List ℕ → ℕ
-be [] = 0
-be (byte ∷ bytes) = byte * 2 ^ (8 * length bytes) + be bytes
+abbrev big_endian : List ℕ → ℕ
+big_endian [] = 0
+big_endian (byte ∷ bytes) = byte * 2 ^ (8 * length bytes) + big_endian bytes
 
 abbrev pub AreBytes : List ℕ → Type 0
 AreBytes bytes = (i : ℕ) → get_or bytes i 0 < 256
@@ -24,33 +24,33 @@ AreBytes bytes = (i : ℕ) → get_or bytes i 0 < 256
 power_more : (n : ℕ) → 2 ^ (8 * n) * 2 ^ 8 ≡ 2 ^ (8 * suc n)
 power_more n = sym (pow-add 2 (8 * n) 8) ∙ ap (λ (k : ℕ). 2 ^ k) (let e : 8 * n + 8 ≡ 8 * suc n = omega arith in e)
 
-be_fits : (bytes : List ℕ) → AreBytes bytes → be bytes < 2 ^ (8 * length bytes)
-be_fits [] are = omega arith
-be_fits (byte ∷ bytes) are =
-    subst (λ (k : ℕ). be (byte ∷ bytes) < k) (power_more (length bytes))
-    (mul-add-lt byte (2 ^ (8 * length bytes)) (be bytes) (2 ^ 8) (are 0) (be_fits bytes (λ i. are (suc i))))
+big_endian_fits : (bytes : List ℕ) → AreBytes bytes → big_endian bytes < 2 ^ (8 * length bytes)
+big_endian_fits [] are = omega arith
+big_endian_fits (byte ∷ bytes) are =
+    subst (λ (k : ℕ). big_endian (byte ∷ bytes) < k) (power_more (length bytes))
+    (mul-add-lt byte (2 ^ (8 * length bytes)) (big_endian bytes) (2 ^ 8) (are 0) (big_endian_fits bytes (λ i. are (suc i))))
 
-be_spelled : (bytes : List ℕ) → AreBytes bytes → number_bits (8 * length bytes) (be bytes) ≡ bits_of bytes
+big_endian_spelled : (bytes : List ℕ) → AreBytes bytes → number_bits (8 * length bytes) (big_endian bytes) ≡ bits_of bytes
 unfolding number_bits bits_of
-be_spelled [] are = refl
-be_spelled (byte ∷ bytes) are =
-    ap (λ (k : ℕ). number_bits k (be (byte ∷ bytes))) (let e : 8 * suc (length bytes) ≡ 8 + 8 * length bytes = omega arith in e)
-    ∙ number_bits-join 8 (8 * length bytes) byte (be bytes) (be_fits bytes (λ i. are (suc i)))
-    ∙ ap (λ (l : List Bool). number_bits 8 byte ++ l) (be_spelled bytes (λ i. are (suc i)))
+big_endian_spelled [] are = refl
+big_endian_spelled (byte ∷ bytes) are =
+    ap (λ (k : ℕ). number_bits k (big_endian (byte ∷ bytes))) (let e : 8 * suc (length bytes) ≡ 8 + 8 * length bytes = omega arith in e)
+    ∙ number_bits-join 8 (8 * length bytes) byte (big_endian bytes) (big_endian_fits bytes (λ i. are (suc i)))
+    ∙ ap (λ (l : List Bool). number_bits 8 byte ++ l) (big_endian_spelled bytes (λ i. are (suc i)))
 
-be_is : (bytes : List ℕ) → length bytes ≡ 8 → from_be_bytes w64 bytes ≡ be bytes
-be_is (a ∷ b ∷ c ∷ d ∷ e ∷ f ∷ g ∷ h ∷ []) long =
+big_endian_is : (bytes : List ℕ) → length bytes ≡ 8 → from_be_bytes w64 bytes ≡ big_endian bytes
+big_endian_is (a ∷ b ∷ c ∷ d ∷ e ∷ f ∷ g ∷ h ∷ []) long =
     let computed : from_be_bytes w64 (a ∷ b ∷ c ∷ d ∷ e ∷ f ∷ g ∷ h ∷ []) ≡ a * 256 ^ 7 + b * 256 ^ 6 + c * 256 ^ 5 + d * 256 ^ 4 + e * 256 ^ 3 + f * 256 ^ 2 + g * 256 ^ 1 + h = refl in
     omega (arith, computed)
-be_is [] long = absurd (omega (arith, long))
-be_is (a ∷ []) long = absurd (omega (arith, long))
-be_is (a ∷ b ∷ []) long = absurd (omega (arith, long))
-be_is (a ∷ b ∷ c ∷ []) long = absurd (omega (arith, long))
-be_is (a ∷ b ∷ c ∷ d ∷ []) long = absurd (omega (arith, long))
-be_is (a ∷ b ∷ c ∷ d ∷ e ∷ []) long = absurd (omega (arith, long))
-be_is (a ∷ b ∷ c ∷ d ∷ e ∷ f ∷ []) long = absurd (omega (arith, long))
-be_is (a ∷ b ∷ c ∷ d ∷ e ∷ f ∷ g ∷ []) long = absurd (omega (arith, long))
-be_is (a ∷ b ∷ c ∷ d ∷ e ∷ f ∷ g ∷ h ∷ i ∷ l) long = absurd (omega (arith, long))
+big_endian_is [] long = absurd (omega (arith, long))
+big_endian_is (a ∷ []) long = absurd (omega (arith, long))
+big_endian_is (a ∷ b ∷ []) long = absurd (omega (arith, long))
+big_endian_is (a ∷ b ∷ c ∷ []) long = absurd (omega (arith, long))
+big_endian_is (a ∷ b ∷ c ∷ d ∷ []) long = absurd (omega (arith, long))
+big_endian_is (a ∷ b ∷ c ∷ d ∷ e ∷ []) long = absurd (omega (arith, long))
+big_endian_is (a ∷ b ∷ c ∷ d ∷ e ∷ f ∷ []) long = absurd (omega (arith, long))
+big_endian_is (a ∷ b ∷ c ∷ d ∷ e ∷ f ∷ g ∷ []) long = absurd (omega (arith, long))
+big_endian_is (a ∷ b ∷ c ∷ d ∷ e ∷ f ∷ g ∷ h ∷ i ∷ l) long = absurd (omega (arith, long))
 
 bytes_taken : (n : ℕ) (bytes : List ℕ) → AreBytes bytes → AreBytes (take n bytes)
 bytes_taken zero bytes are i = omega arith
@@ -64,9 +64,9 @@ bytes_dropped n bytes are i = omega (arith, get_or-drop n bytes i 0, are (n + i)
 pub word_spelled : (bytes eight : List ℕ) (first word : ℕ) → AreBytes bytes → eight ≡ take 8 (drop first bytes) → length eight ≡ 8 → word ≡ from_be_bytes w64 eight → number_bits 64 word ≡ bits_of (take 8 (drop first bytes))
 word_spelled bytes eight first word are eight_is long word_is =
     let are_eight : AreBytes eight = subst AreBytes (sym eight_is) (bytes_taken 8 (drop first bytes) (bytes_dropped first bytes are)) in
-    ap (number_bits 64) (word_is ∙ be_is eight long)
-    ∙ ap (λ (k : ℕ). number_bits (8 * k) (be eight)) (sym long)
-    ∙ be_spelled eight are_eight
+    ap (number_bits 64) (word_is ∙ big_endian_is eight long)
+    ∙ ap (λ (k : ℕ). number_bits (8 * k) (big_endian eight)) (sym long)
+    ∙ big_endian_spelled eight are_eight
     ∙ ap bits_of eight_is
 
 -- ---- a number whose first bits are shifted out

@@ -32,7 +32,7 @@ bits_of-take k bytes h =
     ∙ take_at (bits_of (take k bytes)) (bits_of (drop k bytes)) (8 * k) long)
 
 -- the bytes begun so far hold what is written
-pub holds_begun : (room : List ℕ) (at : ℕ) → at ≤ 8 * length room → PadsZero room at → HoldsBits (take ((at + 7) / 8) room) (take at (bits_of room))
+holds_begun : (room : List ℕ) (at : ℕ) → at ≤ 8 * length room → PadsZero room at → HoldsBits (take ((at + 7) / 8) room) (take at (bits_of room))
 holds_begun room at h clean =
     let k = (at + 7) / 8 in
     let all = bits_of room in

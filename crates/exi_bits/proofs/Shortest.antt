@@ -48,13 +48,13 @@ shortest_long (suc more) v =
     ]
 
 -- what is left of a number behind its first octet
-pub record HasNext (more v : ℕ) : Type 0 where
+record HasNext (more v : ℕ) : Type 0 where
   pub next : ℕ
   pub bound : v / 128 < 128 ^ suc next
   pub fewer : more ≡ suc next
   pub split : shortest_within more v ≡ octet true (v % 128) ++ shortest_within next (v / 128)
 
-pub next_octet : (more v : ℕ) → 128 ≤ v → v < 128 ^ suc more → HasNext more v
+next_octet : (more v : ℕ) → 128 ≤ v → v < 128 ^ suc more → HasNext more v
 next_octet zero v high bound = absurd (omega (arith, bound, high))
 next_octet (suc more) v high bound =
     let power : 128 ^ suc (suc more) ≡ 128 ^ suc more * 128 = pow-suc 128 (suc more) in

@@ -16,7 +16,7 @@ item_first most v place bits m low there =
     (octet false v, only_octet most v m low, record { long = ap suc (length-number_bits 7 v); there = there ∙ ap (λ (l : List Bool). l ++ drop (place + 8) bits) (low_octet v low) })
 
 -- the octet says that more follow
-pub followed_there : (v place : ℕ) (bits : List Bool) → 128 ≤ v → v < 256 → drop place bits ≡ number_bits 8 v ++ drop (place + 8) bits → drop place bits ≡ octet true (v - 128) ++ drop (place + 8) bits
+followed_there : (v place : ℕ) (bits : List Bool) → 128 ≤ v → v < 256 → drop place bits ≡ number_bits 8 v ++ drop (place + 8) bits → drop place bits ≡ octet true (v - 128) ++ drop (place + 8) bits
 followed_there v place bits high range there =
     let back : v ≡ (v - 128) + 128 = omega arith in
     there
@@ -80,7 +80,7 @@ push_char (first ∷ chars) char front last s one =
 abbrev pub CharsAt : List Bool → ℕ → ℕ → ℕ → Type 0
 CharsAt bits bit n found = (chars : List ℕ) × (length chars ≡ n) × ItemAt (SpellsChars chars) bits bit found
 
-pub chars_none : (bits : List Bool) (bit : ℕ) → CharsAt bits bit 0 0
+chars_none : (bits : List Bool) (bit : ℕ) → CharsAt bits bit 0 0
 chars_none bits bit = ([], refl, ([], refl, record { long = refl; there = ap (λ (k : ℕ). drop k bits) (let e : bit ≡ bit + 0 = omega arith in e) }))
 
 pub chars_more : (bits : List Bool) (bit n found char more : ℕ) → CharsAt bits bit n found → ItemAt (SpellsChar char) bits (bit + found) more → CharsAt bits bit (n + 1) (found + more)

@@ -27,7 +27,7 @@ pub record WroteChars (old new : List ℕ) (at n : ℕ) (text rest : List ℕ) :
   pub split : shortest_chars (chars text) ≡ front ++ shortest_chars (chars rest)
   pub wrote : Extends old new at n front
 
-pub wrote_no_char : (room : List ℕ) (at : ℕ) (text : List ℕ) → PadsZero room at → WroteChars room room at 0 text text
+wrote_no_char : (room : List ℕ) (at : ℕ) (text : List ℕ) → PadsZero room at → WroteChars room room at 0 text text
 wrote_no_char room at text clean = record { front = []; split = refl; wrote = put_none room at clean }
 
 pub wrote_char : (old new next : List ℕ) (at n m c : ℕ) (text bytes rest : List ℕ) → IsUtf8 bytes → bytes ≡ encode_utf8 c ++ rest → WroteChars old new at n text bytes → Extends new next (at + n) m (shortest_unsigned c) → WroteChars old next at (n + m) text rest

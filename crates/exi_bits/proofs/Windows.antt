@@ -32,7 +32,7 @@ number_bits-join a b high low h =
 
 -- ---- a window of octets
 
-pub bits_of-drop : (k : ℕ) (bytes : List ℕ) → k ≤ length bytes → bits_of (drop k bytes) ≡ drop (8 * k) (bits_of bytes)
+bits_of-drop : (k : ℕ) (bytes : List ℕ) → k ≤ length bytes → bits_of (drop k bytes) ≡ drop (8 * k) (bits_of bytes)
 bits_of-drop k bytes h =
     let long : length (bits_of (take k bytes)) ≡ 8 * k = omega (arith, length-bits_of (take k bytes), length-take-le k bytes h) in
     sym (ap (λ (l : List ℕ). drop (8 * k) (bits_of l)) (sym (take-append-drop k bytes))

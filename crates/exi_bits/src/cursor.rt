@@ -1,6 +1,6 @@
 //! A place in a payload, from which items are taken.
 
-ghost use Rattle.std.specs.Prelude.{◌≡◌, ℕ, ◌+◌, ◌*◌, ◌≤◌, ◌/◌, ◌<◌, true, false, length, drop, pos, negsuc, if◌then◌else◌, IfOk, IfErr, IfSome, OnErr};
+ghost use Rattle.std.specs.Prelude.{◌≡◌, ℕ, ◌+◌, ◌*◌, ◌≤◌, ◌/◌, ◌<◌, true, false, length, IfOk, IfErr, IfSome, OnErr};
 ghost use Rattle.exi_spec.specs.Bits.{bits_of};
 ghost use Rattle.exi_spec.specs.Items.{SpellsBool, SpellsNumber, SpellsUnsigned, SpellsInteger, SpellsBytes, SpellsChars, RefusesBits, RefusesUnsigned, RefusesInteger, RefusesChars};
 ghost use Rattle.exi_bits.specs.Lent.{items_of, IsSpan};
@@ -152,7 +152,7 @@ impl<'a> BitCursor<'a> {
         match octets::unsigned_at(self.payload, self.place + 1) {
             Ok((magnitude, bits)) => {
                 self.place += 1 + bits;
-                Ok(signed(negative, magnitude))
+                Ok(octets::signed(negative, magnitude))
             }
             Err(cause) => Err(BitFault {
                 cause,
@@ -212,16 +212,5 @@ impl<'a> BitCursor<'a> {
             cause: BitCause::ShortInput,
             bit: self.place,
         }
-    }
-}
-
-/// The number of a sign bit and a magnitude: v, or -v - 1 (7.1.5).
-fn signed(negative: bool, magnitude: u64) -> i128
-    ensures { result ≡ (if negative then negsuc magnitude else pos magnitude) }
-{
-    if negative {
-        -1 - i128::from(magnitude)
-    } else {
-        i128::from(magnitude)
     }
 }

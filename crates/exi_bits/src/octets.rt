@@ -1,6 +1,6 @@
 //! Numbers at a bit of a payload.
 
-ghost use Rattle.std.specs.Prelude.{◌≡◌, ℕ, ◌+◌, ◌*◌, ◌%◌, ◌<◌, ◌≤◌, ◌^◌, List, Bool, ◌∷◌, ◌++◌, length, drop, MatchResult, MatchOption, IfOk, IfSome};
+ghost use Rattle.std.specs.Prelude.{◌≡◌, ℕ, ◌+◌, ◌-◌, ◌*◌, ◌%◌, ◌<◌, ◌≤◌, ◌^◌, List, ◌∷◌, ◌++◌, length, drop, pos, negsuc, if◌then◌else◌, MatchResult, MatchOption, IfOk, IfSome};
 ghost use Rattle.exi_spec.specs.Bits.{bits_of, number_bits};
 ghost use Rattle.exi_spec.specs.Items.{SpellsOctets, RefusesOctets, SpellsChar, RefusesChar, SpellsChars, RefusesChars};
 ghost use Rattle.exi_bits.specs.Reading.{ItemAt};
@@ -137,9 +137,7 @@ pub fn unsigned_at(payload: &[u8], bit: u32) -> Result<(u64, u32), BitCause>
         return Ok((u64::from(first), 8));
     }
     match octet_at(payload, bit + 8) {
-        Some(second) if second < 128 => {
-            Ok((u64::from(first - 128) + 128 * u64::from(second), 16))
-        }
+        Some(second) if second < 128 => { Ok((octets_value(first, u64::from(second)), 16)) }
         _ => octets_at(payload, bit, 10),
     }
 }
@@ -168,7 +166,30 @@ fn octets_at(payload: &[u8], bit: u32, most: u32) -> Result<(u64, u32), BitCause
     if high >= 1 << 57 {
         return Err(BitCause::WiderInteger);
     }
-    Ok((u64::from(octet - 128) + 128 * high, bits + 8))
+    Ok((octets_value(octet, high), bits + 8))
+}
+
+/// The number of an octet that says that more follow, and of those behind it.
+#[inline(always)]
+pub(crate) fn octets_value(first: u32, rest: u64) -> u64
+    requires more { 128 ≤ first }
+    requires octet { first < 256 }
+    requires small { rest < 2 ^ 57 }
+    ensures { result ≡ first - 128 + 128 * rest }
+{
+    u64::from(first - 128) + 128 * rest
+}
+
+/// The number of a sign bit and a magnitude: v, or -v - 1 (7.1.5).
+#[inline(always)]
+pub(crate) fn signed(negative: bool, magnitude: u64) -> i128
+    ensures { result ≡ (if negative then negsuc magnitude else pos magnitude) }
+{
+    if negative {
+        -1 - i128::from(magnitude)
+    } else {
+        i128::from(magnitude)
+    }
 }
 
 /// The code point at a bit, and how many bits spell it.

@@ -1,9 +1,10 @@
 //! The next bits of a payload, held in a number.
 
-ghost use Rattle.std.specs.Prelude.{◌≡◌, ℕ, ◌+◌, ◌*◌, ◌^◌, ◌<◌, ◌≤◌, pos, negsuc, if◌then◌else◌, length, take, drop, IfSome};
+ghost use Rattle.std.specs.Prelude.{◌≡◌, ◌+◌, ◌*◌, ◌^◌, ◌<◌, ◌≤◌, length, take, drop, IfSome};
 ghost use Rattle.exi_spec.specs.Bits.{bits_of, number_bits};
 ghost use Rattle.exi_spec.specs.Items.{SpellsBool, SpellsNumber, SpellsOctets, SpellsUnsigned, SpellsInteger};
 
+use crate::octets::{octets_value, signed};
 use std::marker::Model;
 
 /// How many bytes are held.
@@ -84,7 +85,7 @@ impl<'a> BitWindow<'a> {
         self.place
     }
 
-    /// Takes an n-bit Unsigned Integer (7.1.9), of 1 to 32 bits.
+    /// Takes an n-bit Unsigned Integer (7.1.9), of at most 32 bits. `None` where n is 0, which has no bit to take.
     #[inline(always)]
     pub fn take_bits(&mut self, n: u32) -> Option<u32>
         requires { n ≤ 32 }
@@ -123,7 +124,7 @@ impl<'a> BitWindow<'a> {
             return Some(u64::from(first));
         }
         let high = self.take_two_octets()?;
-        Some(u64::from(first - 128) + 128 * high)
+        Some(octets_value(first, high))
     }
 
     /// Takes what at most two octets spell.
@@ -141,7 +142,7 @@ impl<'a> BitWindow<'a> {
         if second >= 128 {
             return None;
         }
-        Some(u64::from(first - 128) + 128 * u64::from(second))
+        Some(octets_value(first, u64::from(second)))
     }
 
     /// Takes an Integer (7.1.5) whose magnitude has at most three octets.
@@ -152,16 +153,6 @@ impl<'a> BitWindow<'a> {
     {
         let negative = self.take_bit()?;
         let magnitude = self.take_unsigned()?;
-        Some(small_integer(negative, magnitude))
+        Some(signed(negative, magnitude) as i64)
     }
-}
-
-/// The number of a sign bit and a small magnitude: v, or -v - 1 (7.1.5).
-#[inline(always)]
-fn small_integer(negative: bool, magnitude: u64) -> i64
-    requires { magnitude < 2 ^ 21 }
-    ensures { result ≡ (if negative then negsuc magnitude else pos magnitude) }
-{
-    let magnitude = magnitude as i64;
-    if negative { -1 - magnitude } else { magnitude }
 }

@@ -38,7 +38,7 @@ impl ShortValue {
     }
 }
 
-/// One of `count` codes (7.1.9, 7.2).
+/// One of `count` codes (7.1.9, 7.2). `None` where there is one, which has no bits.
 #[inline(always)]
 fn short_code(window: &mut BitWindow, count: u32) -> Option<u32>
     ensures taken { IfSome result (λ code. Takes (SpellsCode count code) window.old window.new) }
@@ -50,7 +50,8 @@ fn short_code(window: &mut BitWindow, count: u32) -> Option<u32>
 
 /// A value of a datatype other than String and Binary, where the window holds it as a whole. No string table is asked.
 ///
-/// `None` where it doesn't, for any other datatype, and where the value is refused: `take_value` tells why.
+/// `None` where it doesn't, for any other datatype, where its one value has a code of no bits, and where the value is refused: `take_value`
+/// tells why.
 #[inline(always)]
 pub fn short_value(window: &mut BitWindow, datatype: Datatype) -> Option<ShortValue>
     ensures taken { (entries : Entries) (name : ℕ)

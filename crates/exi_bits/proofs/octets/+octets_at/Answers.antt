@@ -1,4 +1,4 @@
-use Rattle.std.proofs.Common.{ℕ, ◌+◌, ◌*◌, subst, sym, ap, arith}
+use Rattle.std.proofs.Common.{ℕ, ◌+◌, subst, sym, arith}
 use Rattle.std.proofs.lemmas.Result.{err_from_is_err_and}
 use Rattle.exi_spec.specs.Bits.{bits_of}
 use Rattle.exi_spec.specs.Items.{SpellsOctets}
@@ -32,6 +32,5 @@ returns-then-high-clause-found t c =
 
 pub returns-clause-found : goal.returns-clause-found
 returns-clause-found t c =
-    let value_is = ap (λ (w : ℕ). w + 128 * c.in_ok-high.high) (sym c.from-2.ensures) in
-    subst (λ (v : ℕ). ItemAt (SpellsOctets c.args.most v) (bits_of c.args.payload.now) c.args.bit (c.in_ok-high.bits + 8)) value_is
+    subst (λ (v : ℕ). ItemAt (SpellsOctets c.args.most v) (bits_of c.args.payload.now) c.args.bit (c.in_ok-high.bits + 8)) (sym c.octets_value.ensures)
     (item_more c.args.most c.in-Some.octet c.in_ok-high.high c.args.bit c.in_ok-high.bits (bits_of c.args.payload.now) c.requires.some c.if-octet-lt128.false c.in-Some.ensures.0 c.if-high.false c.in-Some.ensures.2 c.in_ok-high.ensures.found)

@@ -1,4 +1,4 @@
-use Rattle.std.proofs.Common.{ℕ, ◌+◌, ◌*◌, ◌<◌, sym, subst, ap, arith}
+use Rattle.std.proofs.Common.{ℕ, ◌+◌, ◌-◌, ◌*◌, ◌<◌, sym, subst, ap, arith, ◌∙◌}
 use Rattle.exi_spec.specs.Bits.{bits_of}
 use Rattle.exi_spec.specs.Items.{SpellsOctets}
 use Rattle.exi_spec.proofs.BitLaws.{length-bits_of}
@@ -19,9 +19,7 @@ returns-then-first-lt128-clause-found c =
 pub returns-in-Some-octet_at-clause-found : goal.returns-in-Some-octet_at-clause-found
 returns-in-Some-octet_at-clause-found c =
     let less : c.in-Some-octet_at.second < 128 = c.if-second-lt128.true in
-    let low = ap (λ (w : ℕ). w + 128 * c.in-Some-octet_at.second) (sym c.from-in-Some-octet_at.ensures) in
-    let high = ap (λ (w : ℕ). c.from-in-Some-octet_at.result + 128 * w) (sym c.from-in-Some-octet_at-2.ensures) in
-    subst (λ (v : ℕ). ItemAt (SpellsOctets 10 v) (bits_of c.args.payload.now) c.args.bit 16) high
-    (subst (λ (v : ℕ). ItemAt (SpellsOctets 10 v) (bits_of c.args.payload.now) c.args.bit 16) low
+    let value_is = ap (λ (w : ℕ). c.in-Some.first - 128 + 128 * w) (sym c.from-in-Some-octet_at.ensures) ∙ sym c.octets_value.ensures in
+    subst (λ (v : ℕ). ItemAt (SpellsOctets 10 v) (bits_of c.args.payload.now) c.args.bit 16) value_is
     (item_more 10 c.in-Some.first c.in-Some-octet_at.second c.args.bit 8 (bits_of c.args.payload.now) (omega arith) c.if-first-lt128.false c.in-Some.ensures.0 (omega (arith, less)) c.in-Some.ensures.2
-    (item_first 9 c.in-Some-octet_at.second (c.args.bit + 8) (bits_of c.args.payload.now) (omega arith) less c.in-Some-octet_at.ensures.2)))
+    (item_first 9 c.in-Some-octet_at.second (c.args.bit + 8) (bits_of c.args.payload.now) (omega arith) less c.in-Some-octet_at.ensures.2))

@@ -5,7 +5,10 @@ use Rattle.exi_bits.proofs.window.BitWindow.take_two_octets.Goals as goal
 pub returns-then-first-lt128-clause-taken : goal.returns-then-first-lt128-clause-taken
 returns-then-first-lt128-clause-taken c = rw c.from.ensures (octet_taken 9 c.in_ok-first.first _ _ (omega arith) c.if-first-lt128.true c.in_ok-first.ensures.taken)
 
+pub octets_value-requires-clause-octet : goal.octets_value-requires-clause-octet
+octets_value-requires-clause-octet c = c.in_ok-first.ensures.taken.1.range
+
 pub returns-clause-taken : goal.returns-clause-taken
 returns-clause-taken c =
-    rw (c.from-2.ensures, c.from-3.ensures) (octets_taken 8 c.in_ok-first.first c.in_ok-second.second _ _ _ c.if-first-lt128.false (omega (arith, c.if-second-ge128.false)) c.in_ok-first.ensures.taken
+    rw (c.octets_value.ensures, c.from-2.ensures) (octets_taken 8 c.in_ok-first.first c.in_ok-second.second _ _ _ c.if-first-lt128.false (omega (arith, c.if-second-ge128.false)) c.in_ok-first.ensures.taken
     (octet_taken 8 c.in_ok-second.second _ _ (omega arith) c.if-second-ge128.false c.in_ok-second.ensures.taken))
