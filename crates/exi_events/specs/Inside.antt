@@ -1,6 +1,7 @@
 -- Own: the open elements of a document of a schema, and events inside the innermost of them.
-use Rattle.std.specs.Prelude.{◌≡◌, ℕ, ◌+◌, ◌-◌, true, Bool, List, [], ◌∷◌, length, Some, ◌⊎◌}
+use Rattle.std.specs.Prelude.{◌≡◌, ℕ, ◌+◌, ◌-◌, true, Bool, List, [], ◌∷◌, length, Some, ◌⊎◌, Result, IfOk, IfErr}
 use Rattle.exi_bits.specs.Reading.{Cursor, Takes, ahead}
+use Rattle.exi_bits.specs.declared.span.SpanAt.{SpanAt}
 use Rattle.exi_schema.specs.declared.places.Place.{Place}
 use Rattle.exi_schema.specs.Schemas.{PlainSchema, is_within}
 use Rattle.exi_schema.specs.declared.tables.Datatype.{Datatype}
@@ -12,11 +13,12 @@ use Rattle.exi_documents.specs.declared.refusal.RefusalCause.{RefusalCause}
 use Rattle.exi_documents.specs.Refusals.{RefusesFrom}
 use Rattle.exi_documents.specs.Grammar.{Opened, MovesFrom, around, stands}
 use Rattle.exi_documents.specs.Trees.{Event as TreeEvent, Value as TreeValue}
-use Rattle.exi_documents.specs.Values.{Entries, SpellsValue, RefusesValue}
+use Rattle.exi_documents.specs.Values.{Entries, SpellsValue, RefusesValue, most_entries}
+use Rattle.exi_strings.specs.Table.{Table}
 use Rattle.exi_values.specs.declared.Event.{Event}
 use Rattle.exi_values.specs.declared.Event.TheVariants as event
 use Rattle.exi_values.specs.declared.Value.{Value}
-use Rattle.exi_values.specs.Meaning.{event_of}
+use Rattle.exi_values.specs.Meaning.{event_of, value_of, texts_in, AreTexts, IsLent}
 use Rattle.exi_events.specs.declared.open.OpenElement.{OpenElement}
 use Rattle.exi_events.specs.Open.{opened_of}
 
@@ -42,6 +44,15 @@ SpellsValueOf kinds kind entries name value after bits =
 abbrev pub RefusesValueOf : List PlainKind → ℕ → Entries → ℕ → List Bool → RefusalCause → ℕ → Type 0
 RefusesValueOf kinds kind entries name bits why at =
     (datatype : Datatype) × (simple_at kinds kind ≡ Some datatype) × RefusesValue datatype entries name bits why at
+
+-- a value of a simple kind is taken, with the table behind it, or the item of it that can't be taken is refused
+pub record TakesValueOf (kinds : List PlainKind) (kind name : ℕ) (old new : Cursor) (before after : Table SpanAt) (result : Result Value Refusal) : Type 0 where
+  pub ok : IfOk result (λ v. Takes (SpellsValueOf kinds kind (texts_in old.bits before.entries) name (value_of v) (texts_in old.bits after.entries)) old new)
+  pub lent : IfOk result (λ v. IsLent old.bits v)
+  pub same : new.bits ≡ old.bits
+  pub texts : AreTexts old.bits after.entries
+  pub cap : after.cap ≡ most_entries
+  pub refused : IfErr result (λ r. (at : ℕ) × RefusesValueOf kinds kind (texts_in old.bits before.entries) name (ahead old) r.cause at × (r.bit ≡ old.place + at))
 
 -- these bits spell an event inside the innermost element, with the open elements and the texts before and behind it
 abbrev pub SpellsInside : PlainSchema → List Opened → Entries → Event → List Opened → Entries → List Bool → Type 0

@@ -8,8 +8,8 @@ ghost use Rattle.exi_schema.specs.Steps.{simple_at};
 ghost use Rattle.exi_documents.specs.Grammar.{around};
 ghost use Rattle.exi_documents.specs.Refusals.{RefusesFrom};
 ghost use Rattle.exi_documents.specs.Values.{most_entries};
-ghost use Rattle.exi_values.specs.Meaning.{texts_in, AreTexts, value_of, IsLent, IsLentEvent};
-ghost use Rattle.exi_events.specs.Inside.{AreOpen, HasTop, SpellsInside, SpellsValueOf, RefusesValueOf, TakesWhole, RefusesWhole};
+ghost use Rattle.exi_values.specs.Meaning.{texts_in, AreTexts, IsLent, IsLentEvent};
+ghost use Rattle.exi_events.specs.Inside.{AreOpen, HasTop, SpellsInside, TakesValueOf, TakesWhole, RefusesWhole};
 
 use crate::open::{OpenElement, OpenElements};
 use crate::step::{take_only, take_step};
@@ -30,12 +30,7 @@ fn take_value_of<'a, P: Places>(
     requires simple { IsSome (simple_at (P.schema places.now).kinds kind) }
     requires cap { table.old.cap ≡ most_entries }
     requires texts { AreTexts reader.old.bits table.old.entries }
-    ensures ok { IfOk result (λ v. Takes (SpellsValueOf (P.schema places.now).kinds kind (texts_in reader.old.bits table.old.entries) name (value_of v) (texts_in reader.old.bits table.new.entries)) reader.old reader.new) }
-    ensures lent { IfOk result (λ v. IsLent reader.old.bits v) }
-    ensures same { reader.new.bits ≡ reader.old.bits }
-    ensures texts { AreTexts reader.old.bits table.new.entries }
-    ensures cap { table.new.cap ≡ most_entries }
-    ensures refused { IfErr result (λ r. (at : ℕ) × RefusesValueOf (P.schema places.now).kinds kind (texts_in reader.old.bits table.old.entries) name (ahead reader.old) r.cause at × (r.bit ≡ reader.old.place + at)) }
+    ensures { TakesValueOf (P.schema places.now).kinds kind name reader.old reader.new table.old table.new result }
 {
     match places.datatype(kind) {
         Some(datatype) => reader.take_value(datatype, name, table),
@@ -55,12 +50,7 @@ fn take_value<'a, P: Places>(
     requires simple { IsSome (simple_at (P.schema places.now).kinds kind) }
     requires cap { table.old.cap ≡ most_entries }
     requires texts { AreTexts reader.old.bits table.old.entries }
-    ensures ok { IfOk result (λ v. Takes (SpellsValueOf (P.schema places.now).kinds kind (texts_in reader.old.bits table.old.entries) name (value_of v) (texts_in reader.old.bits table.new.entries)) reader.old reader.new) }
-    ensures lent { IfOk result (λ v. IsLent reader.old.bits v) }
-    ensures same { reader.new.bits ≡ reader.old.bits }
-    ensures texts { AreTexts reader.old.bits table.new.entries }
-    ensures cap { table.new.cap ≡ most_entries }
-    ensures refused { IfErr result (λ r. (at : ℕ) × RefusesValueOf (P.schema places.now).kinds kind (texts_in reader.old.bits table.old.entries) name (ahead reader.old) r.cause at × (r.bit ≡ reader.old.place + at)) }
+    ensures { TakesValueOf (P.schema places.now).kinds kind name reader.old reader.new table.old table.new result }
 {
     let value = take_value_of(reader, places, kind, name, table)?;
     Ok(value)

@@ -1,6 +1,6 @@
 //! Events read from a payload.
 
-ghost use Rattle.std.specs.Prelude.{◌≡◌, ◌+◌, ◌%◌, ◌≤◌, ◌<◌, Bool, List, length, IfOk, IfErr};
+ghost use Rattle.std.specs.Prelude.{◌≡◌, ◌+◌, ◌%◌, ◌≤◌, ◌<◌, Bool, List, length, Some, IfOk, IfErr};
 ghost use Rattle.exi_values.specs.Meaning.{IsLent, IsLentEvent};
 ghost use Rattle.exi_bits.specs.Reading.{ahead};
 ghost use Rattle.exi_documents.specs.declared.refusal.RefusalCause.TheVariants as cause;
@@ -130,10 +130,7 @@ impl<'a, 'p, P: Places> EventReader<'a, 'p, P> {
         }
         match self.step() {
             Ok(event) => Ok(event),
-            Err(refusal) => {
-                self.refused = Some(refusal);
-                Err(refusal)
-            }
+            Err(refusal) => Err(kept(&mut self.refused, refusal)),
         }
     }
 
@@ -164,10 +161,7 @@ impl<'a, 'p, P: Places> EventReader<'a, 'p, P> {
         }
         match self.whole_value() {
             Ok(value) => Ok(value),
-            Err(refusal) => {
-                self.refused = Some(refusal);
-                Err(refusal)
-            }
+            Err(refusal) => Err(kept(&mut self.refused, refusal)),
         }
     }
 
@@ -354,6 +348,16 @@ impl<'a, 'p, P: Places> EventReader<'a, 'p, P> {
             },
         }
     }
+}
+
+/// A refusal, which is kept.
+#[inline(always)]
+fn kept(refused: &mut Option<Refusal>, refusal: Refusal) -> Refusal
+    ensures kept { refused.new ≡ Some refusal }
+    ensures same { result ≡ refusal }
+{
+    *refused = Some(refusal);
+    refusal
 }
 
 /// The value of an event, where it is one.

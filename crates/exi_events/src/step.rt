@@ -1,12 +1,12 @@
 //! Event codes, and the front of a document, taken from a payload.
 
-ghost use Rattle.std.specs.Prelude.{◌≡◌, ℕ, List, [], ◌∷◌, OnOk, ◌+◌, ◌<◌, ◌≤◌, ◌==◌, if◌then◌else◌, length, Some, None, IfOk, IfErr, OnOk};
+ghost use Rattle.std.specs.Prelude.{◌≡◌, ℕ, List, [], ◌∷◌, OnOk, ◌+◌, ◌<◌, ◌==◌, if◌then◌else◌, length, Some, None, IfOk, IfErr};
 ghost use Rattle.exi_spec.specs.Items.{SpellsNumber};
 ghost use Rattle.exi_bits.specs.Reading.{Takes, ahead};
 ghost use Rattle.exi_schema.specs.declared.places.Place.{Place as SchemaPlace};
 ghost use Rattle.exi_schema.specs.declared.places.Root.TheVariants.{Kind};
 ghost use Rattle.exi_schema.specs.declared.places.Step.{Step as SchemaStep};
-ghost use Rattle.exi_schema.specs.Offers.{IsPlace, IsWidth, offers};
+ghost use Rattle.exi_schema.specs.Offers.{IsPlace, offers};
 ghost use Rattle.exi_schema.specs.Plain.{PlainKind};
 ghost use Rattle.exi_schema.specs.Steps.{IsStep, IsRoot, IsRootOf};
 ghost use Rattle.exi_documents.specs.Documents.{SpellsStep};
