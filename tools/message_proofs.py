@@ -201,7 +201,7 @@ def read_choice_head(t, crate, file, kind, n=0):
     refl = "" if kind in t.brief else "refl, "
     head = f"use Rattle.std.proofs.Common.{{{rules}{refl}[]{', ◌∷◌' if len(members) > 1 else ''}{', drop' if n and t.reader_of(kind, n + 1) else ''}}}\n"
     if kind in t.brief or t.reader_of(kind, n + 1):
-        head += f"use Rattle.{crate}.proofs.Rest.{{chosen_rest}}\n"
+        head += "use Rattle.message_parts.proofs.Chosen.{chosen_rest}\n"
         head += f"use Rattle.{t.s.crate}.specs.Declarations.{{kinds}}\nuse Rattle.{crate}.specs.{file.capitalize()}.{{{t.lower(kind)}_members}}\n"
     else:
         head += "use Rattle.message_parts.proofs.Chosen.{only_last}\n"

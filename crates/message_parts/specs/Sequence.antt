@@ -1,13 +1,15 @@
 -- Own: an element of three values, which are read at once.
-use Rattle.std.specs.Prelude.{◌≡◌, List, Some, true}
+use Rattle.std.specs.Prelude.{◌≡◌, List, [], Bool, true, Some, Result, IfOk}
 use Rattle.exi_schema.specs.declared.tables.Datatype.{Datatype}
 use Rattle.exi_schema.specs.Plain.{PlainKind, PlainParticle}
 use Rattle.exi_schema.specs.Steps.{simple_at}
 use Rattle.exi_documents.specs.Trees.{Event, Value}
+use Rattle.exi_documents.specs.declared.refusal.Refusal.{Refusal}
 use Rattle.exi_reading.specs.Short.{tree_of}
 use Rattle.exi_events.specs.declared.sequence.ThreeValues.{ThreeValues}
 use Rattle.message_parts.specs.Contents.{Of, told_one}
-use Rattle.message_parts.specs.Particles.{name_at, kind_at, is_once_at}
+use Rattle.message_parts.specs.Particles.{name_at, kind_at, is_once_at, takes_at}
+use Rattle.message_parts.specs.Reading.{Frame, Seen, StartsAt, Reads}
 use Rattle.message_parts.specs.Values.{IsRead}
 
 -- three values of these datatypes, each of which has to be there, and nothing else
@@ -29,3 +31,12 @@ told_three declared first second third told =
 
 abbrev pub told_values : List PlainParticle → ThreeValues → List Event → List Event
 told_values declared three told = told_three declared (tree_of three.first) (tree_of three.second) (tree_of three.third) told
+
+-- where an element declares three values that each have to be there, of datatypes that these take, they are read up to where there is no more
+abbrev pub ReadsThree : {T : Type 0} → (Datatype → Bool) → (Datatype → Bool) → (Datatype → Bool) → (T → Value) → (T → Value) → (T → Value) → Seen → Seen → Result T Refusal → Type 0
+ReadsThree takes_first takes_second takes_third first second third old new result =
+    (ks : List PlainKind) (F : Frame) (declared : List PlainParticle) (told : List Event) → StartsAt ks F [] declared 0 told old
+    → is_once_at declared 0 ≡ true → takes_at takes_first ks declared 0 ≡ true
+    → is_once_at declared 1 ≡ true → takes_at takes_second ks declared 1 ≡ true
+    → is_once_at declared 2 ≡ true → takes_at takes_third ks declared 2 ≡ true
+    → IfOk result (λ v. Reads ks F [] declared 3 (told_three declared (first v) (second v) (third v) told) new)

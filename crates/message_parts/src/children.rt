@@ -1,6 +1,6 @@
 //! The children of an element, one after the other.
 
-ghost use Rattle.std.specs.Prelude.{◌≡◌, ℕ, suc, ◌∷◌, [], List, true, Some, None, IfOk, IfErr, slice_get, map, length};
+ghost use Rattle.std.specs.Prelude.{◌≡◌, ℕ, suc, ◌∷◌, List, true, Some, None, IfOk, IfErr, slice_get, map, length};
 ghost use Rattle.exi_documents.specs.Trees.{Event as TreeEvent, Attribute};
 ghost use Rattle.exi_schema.specs.declared.tables.AttributeOf.{AttributeOf};
 ghost use Rattle.exi_schema.specs.declared.tables.Datatype.{Datatype};
@@ -9,7 +9,7 @@ ghost use Rattle.exi_schema.specs.Steps.{simple_at};
 ghost use Rattle.message_parts.specs.Contents.{Of, holding_with, mapped, told_one, told_perhaps, told_each, told_inside, told_maybe, told_choice};
 ghost use Rattle.message_parts.specs.Particles.{name_at, kind_at, alternatives_at, is_once_at, is_optional_at, is_repeated_at, is_required, is_single, is_left_out, is_must, is_last_may, attribute_at, takes_at, takes_attribute, kind_among};
 ghost use Rattle.message_parts.specs.Reading.{Frame, seen_of, IsOpen, Enters, Leaves, Reads, IsRefusal, IsChosen, StartsAt};
-ghost use Rattle.message_parts.specs.Sequence.{told_three};
+ghost use Rattle.message_parts.specs.Sequence.{ReadsThree};
 
 use crate::descent::Descent;
 use crate::part::{Choice, Group, LargeGroup, LargeRecord, Record, Simple};
@@ -200,13 +200,8 @@ pub fn three_values<'a, A: Simple<'a>, B: Simple<'a>, C: Simple<'a>, P: Places>(
     ensures places { descent.new.reader.places.now ≡ descent.old.reader.places.now }
     ensures payload { descent.new.reader.reader.bits ≡ descent.old.reader.reader.bits }
     ensures refused { IfErr result (λ r. IsRefusal (seen_of P.schema descent.old) r) }
-    ensures read { (ks : List PlainKind) (F : Frame) (declared : List PlainParticle) (told : List TreeEvent)
-        → StartsAt ks F [] declared 0 told (seen_of P.schema descent.old)
-        → is_once_at declared 0 ≡ true → takes_at A.takes ks declared 0 ≡ true
-        → is_once_at declared 1 ≡ true → takes_at B.takes ks declared 1 ≡ true
-        → is_once_at declared 2 ≡ true → takes_at C.takes ks declared 2 ≡ true
-        → IfOk result (λ v. Reads ks F [] declared 3
-        (told_three declared (A.value v.first) (B.value v.second) (C.value v.third) told) (seen_of P.schema descent.new)) }
+    ensures read { ReadsThree A.takes B.takes C.takes (λ v. A.value v.first) (λ v. B.value v.second) (λ v. C.value v.third)
+        (seen_of P.schema descent.old) (seen_of P.schema descent.new) result }
 {
     match descent.three_values() {
         Some(values) => Ok(Three {
@@ -229,13 +224,8 @@ fn each_of_three<'a, A: Simple<'a>, B: Simple<'a>, C: Simple<'a>, P: Places>(
     ensures places { descent.new.reader.places.now ≡ descent.old.reader.places.now }
     ensures payload { descent.new.reader.reader.bits ≡ descent.old.reader.reader.bits }
     ensures refused { IfErr result (λ r. IsRefusal (seen_of P.schema descent.old) r) }
-    ensures read { (ks : List PlainKind) (F : Frame) (declared : List PlainParticle) (told : List TreeEvent)
-        → StartsAt ks F [] declared 0 told (seen_of P.schema descent.old)
-        → is_once_at declared 0 ≡ true → takes_at A.takes ks declared 0 ≡ true
-        → is_once_at declared 1 ≡ true → takes_at B.takes ks declared 1 ≡ true
-        → is_once_at declared 2 ≡ true → takes_at C.takes ks declared 2 ≡ true
-        → IfOk result (λ v. Reads ks F [] declared 3
-        (told_three declared (A.value v.first) (B.value v.second) (C.value v.third) told) (seen_of P.schema descent.new)) }
+    ensures read { ReadsThree A.takes B.takes C.takes (λ v. A.value v.first) (λ v. B.value v.second) (λ v. C.value v.third)
+        (seen_of P.schema descent.old) (seen_of P.schema descent.new) result }
 {
     first_child(descent)?;
     let first = value(descent)?;

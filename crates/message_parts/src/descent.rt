@@ -57,14 +57,13 @@ fn attribute_if<'a>(event: Event<'a>) -> Option<Value<'a>>
 }
 
 impl<'a, 'p, P: Places> Descent<'a, 'p, P> {
-    ghost use Rattle.std.specs.Prelude.{◌≡◌, ℕ, ◌∷◌, [], List, true, false, length, drop, Some, None, slice_get, IfOk, IfErr, IfSome, MatchOption, suc};
+    ghost use Rattle.std.specs.Prelude.{◌≡◌, ℕ, ◌∷◌, [], List, true, false, length, Some, None, slice_get, IfOk, IfErr, IfSome, MatchOption, suc};
     ghost use Rattle.exi_documents.specs.Trees.{Event as TreeEvent, Content, Attribute, EndElement};
     ghost use Rattle.message_parts.specs.Values.{IsRead};
     ghost use Rattle.exi_schema.specs.declared.tables.Datatype.{Datatype};
     ghost use Rattle.exi_values.specs.Meaning.{value_of, IsLent};
     ghost use Rattle.exi_schema.specs.declared.tables.AttributeOf.{AttributeOf};
-    ghost use Rattle.exi_schema.specs.Schemas.{are_distinct};
-    ghost use Rattle.exi_schema.specs.Plain.{PlainKind, PlainParticle, containing};
+    ghost use Rattle.exi_schema.specs.Plain.{PlainKind, PlainParticle};
     ghost use Rattle.exi_schema.specs.Steps.{simple_at};
     ghost use Rattle.message_parts.specs.Particles.{is_must, is_last_may, attribute_kind, attribute_at, is_child_among};
     ghost use Rattle.message_parts.specs.Reading.{Frame, seen_of, IsOpen, Enters, Leaves, Reads, IsRefusal, IsBetween, ReadsFrom, StartsAt, Begins, IsNumbered, IsAtRoot};

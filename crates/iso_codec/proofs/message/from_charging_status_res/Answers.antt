@@ -1,5 +1,5 @@
 use Rattle.std.proofs.Common.{refl, [], ◌∷◌, drop}
-use Rattle.iso_codec.proofs.Rest.{chosen_rest}
+use Rattle.message_parts.proofs.Chosen.{chosen_rest}
 use Rattle.iso_schema.specs.Declarations.{kinds}
 use Rattle.iso_codec.specs.Message.{brief_element_members}
 use Rattle.iso_schema.specs.declared.names.TheConstants.{CHARGING_STATUS_RES, CURRENT_DEMAND_REQ, CURRENT_DEMAND_RES, PAYMENT_SERVICE_SELECTION_REQ, PAYMENT_SERVICE_SELECTION_RES, POWER_DELIVERY_REQ}

@@ -1,5 +1,5 @@
 use Rattle.std.proofs.Common.{refl, [], ◌∷◌, drop}
-use Rattle.iso_codec.proofs.Rest.{chosen_rest}
+use Rattle.message_parts.proofs.Chosen.{chosen_rest}
 use Rattle.iso_schema.specs.Declarations.{kinds}
 use Rattle.iso_codec.specs.Message.{brief_element_members}
 use Rattle.iso_schema.specs.declared.names.TheConstants.{POWER_DELIVERY_RES, PRE_CHARGE_REQ, PRE_CHARGE_RES, SERVICE_DETAIL_REQ, SERVICE_DISCOVERY_REQ, SESSION_SETUP_REQ}

@@ -1,5 +1,5 @@
 use Rattle.std.proofs.Common.{[], ◌∷◌}
-use Rattle.iso_codec.proofs.Rest.{chosen_rest}
+use Rattle.message_parts.proofs.Chosen.{chosen_rest}
 use Rattle.iso_schema.specs.Declarations.{kinds}
 use Rattle.iso_codec.specs.Message.{body_element_members}
 use Rattle.iso_schema.specs.declared.names.TheConstants.{CHARGE_PARAMETER_DISCOVERY_RES, SERVICE_DETAIL_RES, SERVICE_DISCOVERY_RES}

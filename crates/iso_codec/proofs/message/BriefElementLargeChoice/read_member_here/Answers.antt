@@ -1,5 +1,5 @@
 use Rattle.std.proofs.Common.{refl, [], ◌∷◌}
-use Rattle.iso_codec.proofs.Rest.{chosen_rest}
+use Rattle.message_parts.proofs.Chosen.{chosen_rest}
 use Rattle.iso_schema.specs.Declarations.{kinds}
 use Rattle.iso_codec.specs.Message.{brief_element_members}
 use Rattle.iso_schema.specs.declared.names.TheConstants.{AUTHORIZATION_REQ, AUTHORIZATION_RES, CABLE_CHECK_REQ, CABLE_CHECK_RES, CHARGE_PARAMETER_DISCOVERY_REQ, CHARGING_STATUS_REQ}
