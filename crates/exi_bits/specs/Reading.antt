@@ -1,5 +1,5 @@
 -- Own: a place in the bits of a payload, and what a step from one place to a later one passes.
-use Rattle.std.specs.Prelude.{◌≡◌, ℕ, ◌+◌, Bool, List, ◌++◌, length, drop}
+use Rattle.std.specs.Prelude.{◌≡◌, ℕ, ◌+◌, ◌≤◌, Bool, List, ◌++◌, length, drop, ◌⊎◌}
 
 -- all bits, and the next one
 pub record Cursor : Type 0 where
@@ -28,3 +28,12 @@ Takes Spells old new = (front : List Bool) × Spells front × Passes old new fro
 -- an item that n bits spell stands at a place
 abbrev pub ItemAt : (List Bool → Type 0) → List Bool → ℕ → ℕ → Type 0
 ItemAt Spells bits place n = (front : List Bool) × Spells front × StandsAt bits place n front
+
+-- a cursor, and how many of the bits that are left can be taken at once
+pub record Window : Type 0 where
+  pub cursor : Cursor
+  pub held : ℕ
+
+-- at least 57 bits are held, or all that are left
+abbrev pub HoldsNext : Window → Type 0
+HoldsNext window = (57 ≤ window.held) ⊎ (window.cursor.place + window.held ≡ length window.cursor.bits)

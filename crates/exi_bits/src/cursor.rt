@@ -33,7 +33,8 @@ impl<'a> Model for BitCursor<'a> {
 }
 
 impl<'a> BitCursor<'a> {
-    ghost use Rattle.exi_bits.specs.Reading.{Cursor, Takes, ahead};
+    ghost use Rattle.std.specs.Prelude.{None, ◌⊎◌};
+    ghost use Rattle.exi_bits.specs.Reading.{Cursor, HoldsNext, Takes, ahead};
 
     /// The first bit of a payload of at most 65,536 bytes.
     pub fn new(payload: &'a [u8]) -> BitCursor<'a>
@@ -64,7 +65,9 @@ impl<'a> BitCursor<'a> {
     /// The next bits, to take small items from; `None` where the payload has less than eight bytes, or at its end.
     #[inline(always)]
     pub fn window(&self) -> Option<BitWindow<'a>>
-        ensures { IfSome result (λ window. window ≡ self.now) }
+        ensures cursor { IfSome result (λ window. window.cursor ≡ self.now) }
+        ensures held { IfSome result HoldsNext }
+        ensures none { result ≡ None → (length self.now.bits < 64) ⊎ (self.now.place ≡ length self.now.bits) }
     {
         BitWindow::at(self.payload, self.place)
     }
@@ -72,8 +75,8 @@ impl<'a> BitCursor<'a> {
     /// Goes on behind what was taken from a window of the same bits.
     #[inline(always)]
     pub fn pass(&mut self, window: BitWindow<'a>)
-        requires { window.bits ≡ self.old.bits }
-        ensures { self.new ≡ window.entry }
+        requires { window.cursor.bits ≡ self.old.bits }
+        ensures { self.new ≡ window.entry.cursor }
     {
         self.place = window.place();
     }

@@ -1,6 +1,6 @@
 //! The next bits of a payload, held in a number.
 
-ghost use Rattle.std.specs.Prelude.{◌≡◌, ◌+◌, ◌*◌, ◌^◌, ◌<◌, ◌≤◌, length, take, drop, IfSome};
+ghost use Rattle.std.specs.Prelude.{◌≡◌, ◌+◌, ◌*◌, ◌^◌, ◌<◌, ◌≤◌, length, take, drop, None, IfSome};
 ghost use Rattle.exi_spec.specs.Bits.{bits_of, number_bits};
 ghost use Rattle.exi_spec.specs.Items.{SpellsBool, SpellsNumber, SpellsOctets, SpellsUnsigned, SpellsInteger};
 
@@ -16,6 +16,7 @@ fn word_at(payload: &[u8], first: usize) -> Option<u64>
     requires room { length payload.now ≤ 65536 }
     requires within { first ≤ length payload.now }
     ensures within { IfSome result (λ _. first + 8 ≤ length payload.now) }
+    ensures none { result ≡ None → length payload.now < first + 8 }
     ensures spelled { IfSome result (λ word. number_bits 64 word ≡ bits_of (take 8 (drop first payload.now))) }
 {
     let front = payload.get(first..first + HELD_BYTES)?;
@@ -26,7 +27,7 @@ fn word_at(payload: &[u8], first: usize) -> Option<u64>
 }
 
 /// The next bits of a payload, of which up to 64 are held in a number: items of few bits are taken from it without a look at the payload.
-/// Contracts see what they see of a cursor.
+/// Contracts see a cursor, and how many bits are held.
 ///
 /// Where an item isn't held as a whole, or can't be taken, `None` is answered and the window is of no more use: a cursor tells why.
 #[derive(Drop)]
@@ -41,25 +42,28 @@ pub struct BitWindow<'a> {
 impl<'a> Model for BitWindow<'a> {
     ghost use Rattle.std.specs.Prelude.{◌≡◌, ◌+◌, ◌≤◌, ◌*◌, ◌++◌, length, take, drop};
     ghost use Rattle.exi_spec.specs.Bits.{bits_of, number_bits};
-    ghost use Rattle.exi_bits.specs.Reading.{Cursor};
+    ghost use Rattle.exi_bits.specs.Reading.{Window};
 
-    ghost Value = { Cursor };
+    ghost Value = { Window };
 
-    ghost view = { λ w. record { bits = bits_of w.payload.now; place = w.place } };
+    ghost view = { λ w. record { cursor = record { bits = bits_of w.payload.now; place = w.place }; held = w.held } };
 
     ghost invariant = { λ w. (length w.payload.now ≤ 65536) × (w.place + w.held ≤ 8 * length w.payload.now) × (w.held ≤ 64)
         × (drop w.place (bits_of w.payload.now) ≡ take w.held (number_bits 64 w.word) ++ drop (w.place + w.held) (bits_of w.payload.now)) };
 }
 
 impl<'a> BitWindow<'a> {
-    ghost use Rattle.exi_bits.specs.Reading.{Cursor, Takes};
+    ghost use Rattle.std.specs.Prelude.{None, OnSome, ◌⊎◌};
+    ghost use Rattle.exi_bits.specs.Reading.{HoldsNext, Takes};
 
     /// The bits from a place of a payload on. `None` where the payload has less than eight bytes, or at its end.
     #[inline(always)]
     pub(crate) fn at(payload: &'a [u8], place: u32) -> Option<BitWindow<'a>>
         requires room { length payload.now ≤ 65536 }
         requires within { place ≤ 8 * length payload.now }
-        ensures { IfSome result (λ w. w ≡ record { bits = bits_of payload.now; place = place }) }
+        ensures cursor { IfSome result (λ w. w.cursor ≡ record { bits = bits_of payload.now; place = place }) }
+        ensures held { IfSome result HoldsNext }
+        ensures none { result ≡ None → (length payload.now < 8) ⊎ (place ≡ 8 * length payload.now) }
     {
         let last = payload.len().checked_sub(HELD_BYTES)?;
         let first = (place as usize / 8).min(last);
@@ -78,19 +82,21 @@ impl<'a> BitWindow<'a> {
 
     /// The number of the next bit.
     pub(crate) fn place(&self) -> u32
-        ensures place { result ≡ self.now.place }
-        ensures within { result ≤ length self.now.bits }
-        ensures room { length self.now.bits ≤ 524288 }
+        ensures place { result ≡ self.now.cursor.place }
+        ensures within { result ≤ length self.now.cursor.bits }
+        ensures room { length self.now.cursor.bits ≤ 524288 }
     {
         self.place
     }
 
-    /// Takes an n-bit Unsigned Integer (7.1.9), of at most 32 bits. `None` where n is 0, which has no bit to take.
+    /// Takes an n-bit Unsigned Integer (7.1.9), of at most 32 bits. `None` where fewer are held, and where n is 0, which has no bit to take.
     #[inline(always)]
     pub fn take_bits(&mut self, n: u32) -> Option<u32>
         requires { n ≤ 32 }
-        ensures taken { IfSome result (λ value. Takes (SpellsNumber n value) self.old self.new) }
-        ensures same { self.new.bits ≡ self.old.bits }
+        ensures held { OnSome result (self.new.held + n ≡ self.old.held) }
+        ensures none { result ≡ None → 0 < n → self.old.held < n }
+        ensures taken { IfSome result (λ value. Takes (SpellsNumber n value) self.old.cursor self.new.cursor) }
+        ensures same { self.new.cursor.bits ≡ self.old.cursor.bits }
     {
         if n == 0 || self.held < n {
             return None;
@@ -102,11 +108,13 @@ impl<'a> BitWindow<'a> {
         Some(value)
     }
 
-    /// Takes a Boolean (7.1.2).
+    /// Takes a Boolean (7.1.2). `None` where no bit is held.
     #[inline(always)]
     pub fn take_bit(&mut self) -> Option<bool>
-        ensures taken { IfSome result (λ bit. Takes (SpellsBool bit) self.old self.new) }
-        ensures same { self.new.bits ≡ self.old.bits }
+        ensures held { OnSome result (self.new.held + 1 ≡ self.old.held) }
+        ensures none { result ≡ None → self.old.held ≡ 0 }
+        ensures taken { IfSome result (λ bit. Takes (SpellsBool bit) self.old.cursor self.new.cursor) }
+        ensures same { self.new.cursor.bits ≡ self.old.cursor.bits }
     {
         let bit = self.take_bits(1)?;
         Some(bit == 1)
@@ -116,8 +124,8 @@ impl<'a> BitWindow<'a> {
     #[inline(always)]
     pub fn take_unsigned(&mut self) -> Option<u64>
         ensures few { IfSome result (λ value. value < 2 ^ 21) }
-        ensures taken { IfSome result (λ value. Takes (SpellsUnsigned value) self.old self.new) }
-        ensures same { self.new.bits ≡ self.old.bits }
+        ensures taken { IfSome result (λ value. Takes (SpellsUnsigned value) self.old.cursor self.new.cursor) }
+        ensures same { self.new.cursor.bits ≡ self.old.cursor.bits }
     {
         let first = self.take_bits(8)?;
         if first < 128 {
@@ -131,8 +139,8 @@ impl<'a> BitWindow<'a> {
     #[inline(always)]
     fn take_two_octets(&mut self) -> Option<u64>
         ensures few { IfSome result (λ value. value < 2 ^ 14) }
-        ensures taken { IfSome result (λ value. Takes (SpellsOctets 9 value) self.old self.new) }
-        ensures same { self.new.bits ≡ self.old.bits }
+        ensures taken { IfSome result (λ value. Takes (SpellsOctets 9 value) self.old.cursor self.new.cursor) }
+        ensures same { self.new.cursor.bits ≡ self.old.cursor.bits }
     {
         let first = self.take_bits(8)?;
         if first < 128 {
@@ -148,8 +156,8 @@ impl<'a> BitWindow<'a> {
     /// Takes an Integer (7.1.5) whose magnitude has at most three octets.
     #[inline(always)]
     pub fn take_integer(&mut self) -> Option<i64>
-        ensures taken { IfSome result (λ value. Takes (SpellsInteger value) self.old self.new) }
-        ensures same { self.new.bits ≡ self.old.bits }
+        ensures taken { IfSome result (λ value. Takes (SpellsInteger value) self.old.cursor self.new.cursor) }
+        ensures same { self.new.cursor.bits ≡ self.old.cursor.bits }
     {
         let negative = self.take_bit()?;
         let magnitude = self.take_unsigned()?;

@@ -31,8 +31,8 @@ pub struct ThreeValues {
 /// Takes the one event code at a place where one thing alone is offered, where the window holds it.
 #[inline(always)]
 fn short_only(window: &mut BitWindow) -> Option<()>
-    ensures taken { (kinds : List PlainKind) (here : SchemaPlace) (step : SchemaStep) → offers kinds here ≡ step ∷ [] → OnSome result (Takes (SpellsStep kinds here step) window.old window.new) }
-    ensures same { window.new.bits ≡ window.old.bits }
+    ensures taken { (kinds : List PlainKind) (here : SchemaPlace) (step : SchemaStep) → offers kinds here ≡ step ∷ [] → OnSome result (Takes (SpellsStep kinds here step) window.old.cursor window.new.cursor) }
+    ensures same { window.new.cursor.bits ≡ window.old.cursor.bits }
 {
     let code = window.take_bits(1)?;
     if code == 0 { Some(()) } else { None }
@@ -43,8 +43,8 @@ fn short_only(window: &mut BitWindow) -> Option<()>
 #[inline(always)]
 fn short_child(window: &mut BitWindow, child: SequenceChild) -> Option<ShortValue>
     ensures child { (s : PlainSchema) (name : ℕ) (here next : SchemaPlace) (above : List Opened) (entries : List (ℕ × SpanAt)) → OffersChild s.kinds here next child
-        → IfSome result (λ v. TakesChild (inside_at s name here above window.old.bits entries window.old) (inside_at s name next above window.old.bits entries window.new) child.name (tree_of v)) }
-    ensures same { window.new.bits ≡ window.old.bits }
+        → IfSome result (λ v. TakesChild (inside_at s name here above window.old.cursor.bits entries window.old.cursor) (inside_at s name next above window.old.cursor.bits entries window.new.cursor) child.name (tree_of v)) }
+    ensures same { window.new.cursor.bits ≡ window.old.cursor.bits }
 {
     short_only(window)?;
     short_only(window)?;

@@ -1,6 +1,6 @@
 //! A payload, and the next bit of it.
 
-ghost use Rattle.std.specs.Prelude.{◌≡◌, ℕ, ◌+◌, ◌≤◌, true, length, IfOk, IfErr, IfSome, OnErr};
+ghost use Rattle.std.specs.Prelude.{◌≡◌, ℕ, ◌+◌, ◌≤◌, ◌<◌, true, length, None, IfOk, IfErr, IfSome, OnErr, ◌⊎◌};
 ghost use Rattle.exi_spec.specs.Bits.{bits_of};
 ghost use Rattle.exi_spec.specs.Items.{SpellsNumber, RefusesBits};
 ghost use Rattle.exi_schema.specs.Schemas.{is_datatype};
@@ -34,7 +34,7 @@ impl<'a> Model for PayloadReader<'a> {
 }
 
 impl<'a> PayloadReader<'a> {
-    ghost use Rattle.exi_bits.specs.Reading.{Cursor, Takes, ahead};
+    ghost use Rattle.exi_bits.specs.Reading.{Cursor, HoldsNext, Takes, ahead};
 
     /// The first bit of a payload of at most 65,536 bytes.
     pub fn new(payload: &'a [u8]) -> PayloadReader<'a>
@@ -66,7 +66,9 @@ impl<'a> PayloadReader<'a> {
     /// The next bits, to take values of few bits from; `None` where the payload has less than eight bytes, or at its end.
     #[inline(always)]
     pub fn window(&self) -> Option<BitWindow<'a>>
-        ensures { IfSome result (λ window. window ≡ self.now) }
+        ensures cursor { IfSome result (λ window. window.cursor ≡ self.now) }
+        ensures held { IfSome result HoldsNext }
+        ensures none { result ≡ None → (length self.now.bits < 64) ⊎ (self.now.place ≡ length self.now.bits) }
     {
         self.cursor.window()
     }
@@ -74,8 +76,8 @@ impl<'a> PayloadReader<'a> {
     /// Goes on behind what was taken from a window of the same bits.
     #[inline(always)]
     pub fn pass(&mut self, window: BitWindow<'a>)
-        requires { window.bits ≡ self.old.bits }
-        ensures { self.new ≡ window.entry }
+        requires { window.cursor.bits ≡ self.old.bits }
+        ensures { self.new ≡ window.entry.cursor }
     {
         self.cursor.pass(window);
     }

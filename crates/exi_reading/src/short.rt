@@ -41,8 +41,8 @@ impl ShortValue {
 /// One of `count` codes (7.1.9, 7.2). `None` where there is one, which has no bits.
 #[inline(always)]
 fn short_code(window: &mut BitWindow, count: u32) -> Option<u32>
-    ensures taken { IfSome result (λ code. Takes (SpellsCode count code) window.old window.new) }
-    ensures same { window.new.bits ≡ window.old.bits }
+    ensures taken { IfSome result (λ code. Takes (SpellsCode count code) window.old.cursor window.new.cursor) }
+    ensures same { window.new.cursor.bits ≡ window.old.cursor.bits }
 {
     let code = window.take_bits(index_width(count))?;
     if code < count { Some(code) } else { None }
@@ -55,8 +55,8 @@ fn short_code(window: &mut BitWindow, count: u32) -> Option<u32>
 #[inline(always)]
 pub fn short_value(window: &mut BitWindow, datatype: Datatype) -> Option<ShortValue>
     ensures taken { (entries : Entries) (name : ℕ)
-        → IfSome result (λ v. Takes (λ bits. SpellsValue datatype entries name (tree_of v) bits entries) window.old window.new) }
-    ensures same { window.new.bits ≡ window.old.bits }
+        → IfSome result (λ v. Takes (λ bits. SpellsValue datatype entries name (tree_of v) bits entries) window.old.cursor window.new.cursor) }
+    ensures same { window.new.cursor.bits ≡ window.old.cursor.bits }
 {
     match datatype {
         Datatype::Bool => {

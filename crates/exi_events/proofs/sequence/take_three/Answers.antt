@@ -18,5 +18,5 @@ returns-clause-values c = λ s name here above entries tells.
     let P : Cursor → Cursor → Type 0 = λ old new. TakesSequence (inside_at s name here above old.bits entries old) (behind_all s above old.bits entries new)
     (values_of (record { first = c.in_ok-first.first; second = c.in_ok-second.second; third = c.in_ok-third.third })) in
     subst (λ (new : Cursor). P c.args.reader.now new) (sym c.pass.ensures)
-    (subst (λ (old : Cursor). P old c.short_only.new.window) c.in_ok-window.ensures
+    (subst (λ (old : Cursor). P old c.short_only.new.window.cursor) c.in_ok-window.ensures.cursor
     (_, _, refl, same1, first, (_, _, refl, same2, second, (_, _, refl, same3, third, end))))

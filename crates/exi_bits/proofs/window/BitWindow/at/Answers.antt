@@ -1,4 +1,5 @@
 use Rattle.std.proofs.Common.{◌≡◌, ◌+◌, ◌-◌, ◌*◌, ◌<◌, arith}
+use Rattle.exi_spec.proofs.BitLaws.{length-bits_of}
 use Rattle.exi_bits.proofs.Held.{loaded}
 use Rattle.exi_bits.proofs.window.BitWindow.at.Goals as goal
 
@@ -11,3 +12,6 @@ invariant_of-result c =
       omega arith,
       loaded c.args.payload.now c.min-first.result c.in_ok-word.word c.args.place _ c.in_ok-word.ensures.within c.in_ok-word.ensures.spelled place_is passed,
     )
+
+pub returns-clause-held : goal.returns-clause-held
+returns-clause-held c = grind (arith, length-bits_of c.args.payload.now)
