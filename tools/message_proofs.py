@@ -1,5 +1,4 @@
 """What is mechanical of the proofs of a dialect's types: which event a field tells and puts, field by field."""
-from message_shapes import in_groups
 from message_specs import kind_name
 
 
@@ -26,51 +25,19 @@ def put_record(t, kind):
     return answer("clause-write", "rest", [*lines, line])
 
 
-def read_three(t, kind):
-    fact = f"c.in_ok-three.ensures.read kinds F {t.declared(kind)} _ h refl refl refl refl refl refl"
-    if any(t.is_signed(it.kind) for it in t.fields(kind)):
-        return answer("clause-read", "told", [f"    let three = {fact} in", "    search (rules, three)"])
-    return answer("clause-read", "told", [f"    {fact}"])
-
-
-def stands(it):
-    """That a child of a tuple is declared where it stands."""
-    facts = ([] if it.simple else ["refl"]) + ["refl", "refl"] + (["refl"] if it.is_asked() else [])
-    return f"({', '.join(facts)})"
-
-
-def read_record(t, kind):
-    if t.is_three(kind):
-        return read_three(t, kind)
-    low, fields = t.declared(kind), t.fields(kind)
-    attributes = [it for it in fields if it.form == "attribute"]
-    given = f"{t.lower(kind)}_attributes" if attributes else "[]"
-    # a large type sets its fields where they stand: what is read then has no name of its own
-    calls = iter(list(numbered(it.read() if it.large else "self" for it in fields if it.form != "out")))
-    step = {it.field: next(calls) if kind in t.large else it.field for it in fields if it.form != "out"}
-    steps = [(it.field, f"c.in_ok-{step[it.field]}.ensures.read kinds F {given} {low} {it.at} _ %s refl refl") for it in attributes]
-    together = t.together(kind, fields)
-    if together:
-        declared = ",\n        ".join(f"({', '.join(stands(it) for it in group)})" for group in in_groups(together))
-        declared = declared if len(together) <= 4 else f"(\n        {declared},\n    )"
-        steps.append(("first", f"c.in_ok-{step[together[0].field]}.ensures.read kinds F {given} {low} _ %s {declared}"))
-    elif not any(it.optional for it in attributes):
-        steps.append(("first", f"c.in_ok-first_child.ensures.read kinds F {given} {low} _ %s"))
-    for it in (it for it in fields if it not in together):
-        if it.form == "out":
-            steps.append((it.field, f"c.left_out.ensures.read kinds F {given} {low} {it.at} _ %s refl"))
-        elif it.form != "attribute":
-            kinds = "kinds " if it.simple else ""
-            steps.append((it.field, f"c.in_ok-{step[it.field]}.ensures.read {kinds}F {given} {low} {it.at} _ %s refl refl" + (" refl" if it.is_asked() else "")))
-    signed = any(t.is_signed(it.kind) for it in fields)
-    lines, last = [], "h"
-    for n, (word, fact) in enumerate(steps):
-        if n < len(steps) - 1 or signed:
-            lines.append(f"    let at_{word} = {fact % last} in")
-            last = f"at_{word}"
-        else:
-            lines.append(f"    {fact % last}")
-    return answer("clause-read", "told", lines + ([f"    search (rules, {last})"] if signed else []))
+def read_large_record(t, kind):
+    """The fields are set where they stand: what is read has no name of its own."""
+    low, last = t.declared(kind), "h"
+    lines = [f"    let at_first = c.in_ok-first_child.ensures.read kinds F [] {low} _ h in"]
+    fields = t.fields(kind)
+    calls = numbered(it.read() if it.large else "self" for it in fields)
+    last = "at_first"
+    for n, (it, call) in enumerate(zip(fields, calls)):
+        kinds = "kinds " if it.simple else ""
+        fact = f"c.in_ok-{call}.ensures.read {kinds}F [] {low} {it.at} _ {last} refl refl" + (" refl" if it.is_asked() else "")
+        last = f"at_{it.field}"
+        lines.append(f"    let {last} = {fact} in" if n < len(fields) - 1 else f"    {fact}")
+    return answer("clause-read", "told", lines)
 
 
 def put_only(t, kind):
@@ -210,18 +177,9 @@ def read_choice_head(t, crate, file, kind, n=0):
     return head + f"use Rattle.{t.s.crate}.specs.declared.kinds.TheConstants.{{{', '.join(kinds)}}}\n"
 
 
-def read_record_head(t, crate, file, kind):
-    low, fields = t.lower(kind), t.fields(kind)
-    attributes = any(it.form == "attribute" for it in fields)
-    words = ["rules"] if any(t.is_signed(it.kind) for it in fields) else []
-    words += ["refl"] + (["[]"] if (words or not attributes) and not t.is_three(kind) else [])
-    head = f"use Rattle.std.proofs.Common.{{{', '.join(words)}}}\n"
-    head += f"use Rattle.{t.s.crate}.specs.Declarations.{{kinds}}\nuse Rattle.{t.s.crate}.specs.{t.section(kind)}.{{{t.declared(kind)}}}\n"
-    return head + (f"use Rattle.{crate}.specs.{file.capitalize()}.{{{low}_attributes}}\n" if attributes else "")
-
-
-def read_empty(t):
-    return answer("clause-read", "told", ["    c.in_ok-first_child.ensures.read kinds F [] [] _ h"])
+def read_large_record_head(t, kind):
+    head = "use Rattle.std.proofs.Common.{refl, []}\n"
+    return head + f"use Rattle.{t.s.crate}.specs.Declarations.{{kinds}}\nuse Rattle.{t.s.crate}.specs.{t.section(kind)}.{{{t.declared(kind)}}}\n"
 
 
 def proofs(t, crate, file, kind):
@@ -237,11 +195,8 @@ def proofs(t, crate, file, kind):
             found.append(("Choice/read_member", read_choice_head(t, crate, file, kind), read_choice(t, kind)))
     elif kind in t.s.content:
         found.append(("PutRecord/write", "", put_record(t, kind)))
-        large = "LargeRecord/read_here" if kind in t.large else "Record/read"
-        found.append((large, read_record_head(t, crate, file, kind), read_record(t, kind)))
-    elif kind in t.s.empty:
-        head = f"use Rattle.std.proofs.Common.{{[]}}\nuse Rattle.{t.s.crate}.specs.Declarations.{{kinds}}\n"
-        found.append(("Record/read", head, read_empty(t)))
+        if kind in t.large:
+            found.append(("LargeRecord/read_here", read_large_record_head(t, kind), read_large_record(t, kind)))
     places = [(f"{file}/{name}{place}", head, body) for place, head, body in found]
     if kind in t.large and kind in t.choices:
         apart = [it for it in t.own(kind) if t.holds_list(it.kind)]

@@ -25,6 +25,7 @@ class Element:
         self.field, self.simple, self.large = name.lower(), t.is_simple(kind), kind in t.large
         self.bound = t.bound(kind) if self.simple else ""
         one = t.type_of(kind) if form != "out" else ""
+        self.one = one
         self.type = f"Option<{one}>" if optional else f"ArrayVec<{one}, {most}>" if most else one
         if most:
             self.bound = f"1 to {most}" + (f", each {self.bound[0].lower()}{self.bound[1:]}" if self.bound else "")
@@ -51,10 +52,19 @@ class Element:
         return ("optional_value" if self.optional else "value") if self.simple else "optional" if self.optional else "required"
 
     def single(self):
-        """What it is as one of the children of a tuple."""
+        """What it is among the children of which its type is made."""
         if self.form == "choice":
             return "AtMostOneOf" if self.optional else "OneOf"
-        return ("Optional" if self.optional else "Required") + ("Value" if self.simple else "")
+        if self.form == "out":
+            return "LeftOut"
+        return ("Several" if self.most else "Optional" if self.optional else "Required") + ("Values" * self.simple if self.most else "Value" * self.simple)
+
+    def child(self):
+        """The type of that."""
+        if self.form == "out":
+            return "LeftOut"
+        asked = ([str(self.most)] if self.most else []) + ([f"{{ names::{self.name} }}"] if self.is_asked() else [])
+        return f"{self.single()}<{', '.join([self.one, *asked])}>"
 
     def is_asked(self):
         """Whether reading it names it."""
@@ -233,16 +243,6 @@ class Types:
         """Whether it is a sequence of three values, which are read at once."""
         fields = self.fields(kind)
         return len(fields) == 3 and kind not in self.large and all(it.form == "value" and it.read() == "value" for it in fields)
-
-    def together(self, kind, fields):
-        """The first children of a type that are read as one tuple: the proof of a chain of single ones takes longer. A list, an element that
-        borrows or holds a list, and a part that is left out end them. None where the last attribute may be absent, or the type is large."""
-        children = [it for it in fields if it.form != "attribute"]
-        if kind in self.large or any(it.form == "attribute" and it.optional for it in fields):
-            return []
-        is_long = lambda it: it.most or not it.simple and (self.lent(it.kind) or self.holds_list(it.kind))
-        last = next((n for n, it in enumerate(children) if it.form == "out" or is_long(it)), len(children))
-        return children[:last] if last > 1 else []
 
     def with_defaults(self):
         """The types that stand in lists or are large, with what they hold: room for them has to be filled with some value."""

@@ -18,12 +18,15 @@ from message_shapes import Types, in_groups
 from message_specs import definitions
 
 WORDS = [
-    "Binary", "Choice", "Descent", "Group", "LargeChoice", "LargeGroup", "LargeRecord", "PutChoice", "PutRecord", "Record", "Text", "attribute", "choice",
+    "Binary", "Choice", "Descent", "Group", "LargeChoice", "LargeGroup", "LargeRecord", "PutChoice", "PutRecord", "Record", "Text", "Three", "attribute", "choice",
     "first_child", "last_attribute", "left_out", "member", "member_value", "optional", "optional_choice", "optional_choice_here",
     "optional_value", "put_attribute", "put_choice", "put_optional", "put_optional_attribute", "put_optional_choice", "put_optional_value",
-    "put_record", "put_records", "put_value", "put_values", "records", "required", "required_here", "three_values", "value", "values",
+    "put_record", "put_records", "put_value", "put_values", "records", "required", "required_here", "value", "values",
 ]
-CHILDREN = ["AtMostOneOf", "OneOf", "Optional", "OptionalValue", "Required", "RequiredValue", "first_children"]
+CHILDREN = [
+    "AtMostOneOf", "Elements", "LeftOut", "OneOf", "Optional", "OptionalValue", "Required", "RequiredValue", "Several", "SeveralValues", "WithAttribute",
+    "WithOptionalAttribute",
+]
 
 
 def enumeration(t, crate, file, kind):
@@ -78,43 +81,58 @@ def put(it):
     return f"{it.put()}(writer, names::{it.name}, &self.{it.field});"
 
 
-def read(it):
-    if it.form == "out":
-        return "left_out(descent);"
-    asked = f", names::{it.name}" if it.is_asked() else ""
-    return f"let {it.field} = {it.read()}(descent{asked})?;"
-
-
 def read_here(it):
     """Reads a field of a large type where it stands."""
-    return f"{it.read()}(&mut self.{it.field}, descent)?;" if it.large else read(it).replace("let ", "self.")
+    return f"{it.read()}(&mut self.{it.field}, descent)?;" if it.large else f"self.{it.field} = {it.read()}(descent)?;"
 
 
-def pattern(it):
-    """What is read of a child in a tuple."""
-    return f"{it.single()}{f'::<_, {{ names::{it.name} }}>' if it.is_asked() else ''}({it.field})"
+def tuple_of(words):
+    """These as one tuple, or as a tuple of such of at most four each."""
+    if len(words) > 4:
+        return f"({', '.join(tuple_of(it) for it in in_groups(words))})"
+    return words[0] if len(words) == 1 else f"({', '.join(words)})"
 
 
-def tuple_of(groups, written):
-    rows = [f"({', '.join(written(it) for it in group)})" for group in groups]
-    return rows[0] if len(rows) == 1 else f"({', '.join(rows)})"
+def holder(attributes):
+    return "Elements" if not attributes else "WithOptionalAttribute" if attributes[0].optional else "WithAttribute"
 
 
-def part_by_part(t, kind):
-    """Reads the attributes of a struct, and then its children."""
-    fields, reads = t.fields(kind), read_here if kind in t.large else read
-    attributes = [it for it in fields if it.form == "attribute"]
-    together = t.together(kind, fields)
-    first = [] if any(it.optional for it in attributes) else ["first_child(descent)?;"]
-    if together:
-        first = [f"let {tuple_of(in_groups(together), pattern)} = first_children(descent)?;"]
-    return [*(reads(it) for it in attributes), *first, *(reads(it) for it in fields if it.form != "attribute" and it not in together)]
-
-
-def written_struct(t, kind, name, kept):
+def made_of(t, kind):
+    """The type of that of which a struct is made, and how it is made of that."""
+    name, fields = t.camel(kind), t.fields(kind)
+    kept = [it.field for it in fields if it.form != "out"]
     if t.is_three(kind):
-        return f"{name} {{ {', '.join(f'{it.field}: three.{word}' for it, word in zip(kept, ('first', 'second', 'third')))} }}"
-    return f"{name} {{ {', '.join(it.field for it in kept)} }}" if kept else name
+        parts = ", ".join(f"{it}: made.{word}" for it, word in zip(kept, ("first", "second", "third")))
+        return f"Three<{', '.join(it.one for it in fields)}>", f"        {name} {{ {parts} }}\n"
+    attributes, children = [it for it in fields if it.form == "attribute"], [it for it in fields if it.form != "attribute"]
+    child = lambda it: "LeftOut" if it.form == "out" else f"{it.single()}({it.field})"
+    types = [*(it.one for it in attributes), tuple_of([it.child() for it in children])]
+    parts = [*(it.field for it in attributes), tuple_of([child(it) for it in children])]
+    taken = f"        let {holder(attributes)}({', '.join(parts)}) = made;\n"
+    return f"{holder(attributes)}<{', '.join(types)}>", f"{taken}        {name} {{ {', '.join(kept)} }}\n"
+
+
+def record(t, kind, lent):
+    name = t.camel(kind) + lifetime(lent)
+    made, body = made_of(t, kind) if kind in t.s.content else ("Elements<()>", f"        {name}\n")
+    taken = "made" if kind in t.s.content else "_made"
+    return f"""type Made = {made};
+
+    fn of({taken}: Self::Made) -> {name} {{
+{body}    }}
+
+    ghost declared = {{ Prim.search rules }};
+
+    ghost apart = {{ Prim.search rules }};"""
+
+
+def large_record(t, kind):
+    """Reads the children of a large struct where they stand."""
+    reads = "".join(f"        {read_here(it)}\n" for it in t.fields(kind))
+    return f"""{READ_HERE} {{
+        first_child(descent)?;
+{reads}        Ok(())
+    }}"""
 
 
 def struct(t, crate, file, kind):
@@ -124,7 +142,7 @@ def struct(t, crate, file, kind):
     attributes = any(it.form == "attribute" for it in kept)
     puts = "".join(f"        {put(it)}\n" for it in kept)
     large = kind in t.large
-    reads = "".join(f"        {it}\n" for it in (["let three = three_values(descent)?;"] if t.is_three(kind) else part_by_part(t, kind)))
+    rules = "" if large else "    ghost use Rattle.std.proofs.Common.{rules};\n"
     words = ([f"{low}_given"] if attributes else []) + ([f"{low}_parts"] if kept else [])
     uses = f"    ghost use Rattle.{crate}.specs.{file.capitalize()}.{{{', '.join(words)}}};\n\n" if words else ""
     declared = f"    ghost use Rattle.{crate}.specs.{file.capitalize()}.{{{low}_attributes}};\n" if attributes else ""
@@ -146,16 +164,14 @@ impl PutRecord for {name}{"<'_>" if lent else ""} {{
 
 impl<'a> {"Large" if large else ""}Record<'a> for {name}{"<'a>" if lent else ""} {{
     ghost use Rattle.{t.s.crate}.specs.Declarations.{{kinds}};
-{particles}{declared}
+{particles}{declared}{rules}
     ghost kinds = {{ kinds }};
 
     ghost attributes = {{ {f"{low}_attributes" if attributes else "[]"} }};
 
     ghost particles = {{ {t.declared(kind) if kept else "[]"} }};
 
-    {READ_HERE if large else f"fn read<P: Places>(descent: &mut Descent<'a, '_, P>) -> Result<{name}{lifetime(lent)}, Refusal>"} {{
-{reads}        Ok({"()" if large else written_struct(t, kind, name, kept)})
-    }}
+    {large_record(t, kind) if large else record(t, kind, lent)}
 }}
 """
 
@@ -362,12 +378,13 @@ use message_parts::Simple;
             place = f"crate::{t.places[it][1]}" if t.places[it][0] == crate else t.places[it][0]
             uses.setdefault(place, []).append(t.camel(it))
     lines = [f"use {it}::{{{', '.join(sorted(names))}}};" for it, names in uses.items()]
-    lines += ["use exi_documents::Refusal;", "use exi_events::EventWriter;", "use exi_schema::Places;"]
+    lines += ["use exi_documents::Refusal;"] if "Refusal" in said else []
+    lines += ["use exi_events::EventWriter;", "use exi_schema::Places;"]
     lines += [f"use {t.s.crate}::names;"] if "names::" in said else []
     lines += ["use arrayvec::ArrayVec;"] if "ArrayVec" in said else []
     words = [it for it in WORDS if re.search(rf"(?<![\w:.]){it}(?=[(<]| for)" if it[0].islower() else rf"(?<![\w:]){it}\b", said)]
     lines += [f"use message_parts::{{{', '.join(words)}}};"]
-    words = [it for it in CHILDREN if re.search(rf"(?<!\w){it}(?=[(:])", said)]
+    words = [it for it in CHILDREN if re.search(rf"(?<![\w:]){it}\b", said)]
     lines += [f"use message_fields::{{{', '.join(words)}}};"] if words else []
     ghost = "ghost use Rattle.std.specs.Prelude.{[]};\n\n" if "[]" in re.sub(r"&\[[^]]*\]", "", said) else ""
     large = [it for it in kinds if it in t.large and it in t.choices]

@@ -9,7 +9,7 @@ use din_schema::names;
 use exi_documents::Refusal;
 use exi_events::EventWriter;
 use exi_schema::Places;
-use message_fields::{OptionalValue, RequiredValue, first_children};
+use message_fields::{Elements, OptionalValue, RequiredValue};
 use message_parts::{
     Choice, Descent, PutChoice, PutRecord, Record, member, put_optional_value, put_record,
     put_value,
@@ -41,6 +41,7 @@ impl PutRecord for PhysicalValue {
 impl<'a> Record<'a> for PhysicalValue {
     ghost use Rattle.din_schema.specs.Declarations.{kinds};
     ghost use Rattle.din_schema.specs.Frame.{physical_value};
+    ghost use Rattle.std.proofs.Common.{rules};
 
     ghost kinds = { kinds };
 
@@ -48,18 +49,26 @@ impl<'a> Record<'a> for PhysicalValue {
 
     ghost particles = { physical_value };
 
-    fn read<P: Places>(descent: &mut Descent<'a, '_, P>) -> Result<PhysicalValue, Refusal> {
-        let (
-            RequiredValue(multiplier),
-            OptionalValue::<_, { names::UNIT }>(unit),
-            RequiredValue(value),
-        ) = first_children(descent)?;
-        Ok(PhysicalValue {
+    type Made = Elements<
+        (
+            RequiredValue<i8>,
+            OptionalValue<UnitSymbol, { names::UNIT }>,
+            RequiredValue<i16>,
+        ),
+    >;
+
+    fn of(made: Self::Made) -> PhysicalValue {
+        let Elements((RequiredValue(multiplier), OptionalValue(unit), RequiredValue(value))) = made;
+        PhysicalValue {
             multiplier,
             unit,
             value,
-        })
+        }
     }
+
+    ghost declared = { Prim.search rules };
+
+    ghost apart = { Prim.search rules };
 }
 
 /// DC_EVStatus.
@@ -100,6 +109,7 @@ impl PutRecord for DcEvStatus {
 impl<'a> Record<'a> for DcEvStatus {
     ghost use Rattle.din_schema.specs.Declarations.{kinds};
     ghost use Rattle.din_schema.specs.Frame.{dc_ev_status};
+    ghost use Rattle.std.proofs.Common.{rules};
 
     ghost kinds = { kinds };
 
@@ -107,23 +117,40 @@ impl<'a> Record<'a> for DcEvStatus {
 
     ghost particles = { dc_ev_status };
 
-    fn read<P: Places>(descent: &mut Descent<'a, '_, P>) -> Result<DcEvStatus, Refusal> {
-        let (
+    type Made = Elements<
+        (
             (
-                RequiredValue(ev_ready),
-                OptionalValue::<_, { names::EV_CABIN_CONDITIONING }>(ev_cabin_conditioning),
-                OptionalValue::<_, { names::EVRESS_CONDITIONING }>(evress_conditioning),
+                RequiredValue<bool>,
+                OptionalValue<bool, { names::EV_CABIN_CONDITIONING }>,
+                OptionalValue<bool, { names::EVRESS_CONDITIONING }>,
             ),
-            (RequiredValue(ev_error_code), RequiredValue(evress_soc)),
-        ) = first_children(descent)?;
-        Ok(DcEvStatus {
+            (RequiredValue<EvErrorCode>, RequiredValue<u8>),
+        ),
+    >;
+
+    fn of(made: Self::Made) -> DcEvStatus {
+        let Elements(
+            (
+                (
+                    RequiredValue(ev_ready),
+                    OptionalValue(ev_cabin_conditioning),
+                    OptionalValue(evress_conditioning),
+                ),
+                (RequiredValue(ev_error_code), RequiredValue(evress_soc)),
+            ),
+        ) = made;
+        DcEvStatus {
             ev_ready,
             ev_cabin_conditioning,
             evress_conditioning,
             ev_error_code,
             evress_soc,
-        })
+        }
     }
+
+    ghost declared = { Prim.search rules };
+
+    ghost apart = { Prim.search rules };
 }
 
 /// DC_EVSEStatus.
@@ -161,6 +188,7 @@ impl PutRecord for DcEvseStatus {
 impl<'a> Record<'a> for DcEvseStatus {
     ghost use Rattle.din_schema.specs.Declarations.{kinds};
     ghost use Rattle.din_schema.specs.Frame.{dc_evse_status};
+    ghost use Rattle.std.proofs.Common.{rules};
 
     ghost kinds = { kinds };
 
@@ -168,20 +196,35 @@ impl<'a> Record<'a> for DcEvseStatus {
 
     ghost particles = { dc_evse_status };
 
-    fn read<P: Places>(descent: &mut Descent<'a, '_, P>) -> Result<DcEvseStatus, Refusal> {
-        let (
-            OptionalValue::<_, { names::EVSE_ISOLATION_STATUS }>(evse_isolation_status),
-            RequiredValue(evse_status_code),
-            RequiredValue(notification_max_delay),
-            RequiredValue(evse_notification),
-        ) = first_children(descent)?;
-        Ok(DcEvseStatus {
+    type Made = Elements<
+        (
+            OptionalValue<IsolationLevel, { names::EVSE_ISOLATION_STATUS }>,
+            RequiredValue<EvseStatusCode>,
+            RequiredValue<u32>,
+            RequiredValue<EvseNotification>,
+        ),
+    >;
+
+    fn of(made: Self::Made) -> DcEvseStatus {
+        let Elements(
+            (
+                OptionalValue(evse_isolation_status),
+                RequiredValue(evse_status_code),
+                RequiredValue(notification_max_delay),
+                RequiredValue(evse_notification),
+            ),
+        ) = made;
+        DcEvseStatus {
             evse_isolation_status,
             evse_status_code,
             notification_max_delay,
             evse_notification,
-        })
+        }
     }
+
+    ghost declared = { Prim.search rules };
+
+    ghost apart = { Prim.search rules };
 }
 
 /// One element of the substitution group EVSEStatus.

@@ -4,14 +4,10 @@ ghost use Rattle.std.specs.Prelude.{[]};
 
 use din_parts::{DcEvStatus, DcEvseStatus, EvseProcessing, PhysicalValue, ResponseCode};
 use din_schema::names;
-use exi_documents::Refusal;
 use exi_events::EventWriter;
 use exi_schema::Places;
-use message_fields::{Optional, OptionalValue, Required, RequiredValue, first_children};
-use message_parts::{
-    Descent, PutRecord, Record, first_child, put_optional, put_optional_value, put_record,
-    put_value, required,
-};
+use message_fields::{Elements, Optional, OptionalValue, Required, RequiredValue};
+use message_parts::{PutRecord, Record, put_optional, put_optional_value, put_record, put_value};
 
 /// CableCheckReq.
 #[derive(Clone, Copy, Debug, PartialEq, Eq)]
@@ -34,6 +30,7 @@ impl PutRecord for CableCheckReq {
 impl<'a> Record<'a> for CableCheckReq {
     ghost use Rattle.din_schema.specs.Declarations.{kinds};
     ghost use Rattle.din_schema.specs.Charging.{cable_check_req};
+    ghost use Rattle.std.proofs.Common.{rules};
 
     ghost kinds = { kinds };
 
@@ -41,11 +38,16 @@ impl<'a> Record<'a> for CableCheckReq {
 
     ghost particles = { cable_check_req };
 
-    fn read<P: Places>(descent: &mut Descent<'a, '_, P>) -> Result<CableCheckReq, Refusal> {
-        first_child(descent)?;
-        let dc_ev_status = required(descent)?;
-        Ok(CableCheckReq { dc_ev_status })
+    type Made = Elements<Required<DcEvStatus>>;
+
+    fn of(made: Self::Made) -> CableCheckReq {
+        let Elements(Required(dc_ev_status)) = made;
+        CableCheckReq { dc_ev_status }
     }
+
+    ghost declared = { Prim.search rules };
+
+    ghost apart = { Prim.search rules };
 }
 
 /// CableCheckRes.
@@ -73,6 +75,7 @@ impl PutRecord for CableCheckRes {
 impl<'a> Record<'a> for CableCheckRes {
     ghost use Rattle.din_schema.specs.Declarations.{kinds};
     ghost use Rattle.din_schema.specs.Charging.{cable_check_res};
+    ghost use Rattle.std.proofs.Common.{rules};
 
     ghost kinds = { kinds };
 
@@ -80,18 +83,32 @@ impl<'a> Record<'a> for CableCheckRes {
 
     ghost particles = { cable_check_res };
 
-    fn read<P: Places>(descent: &mut Descent<'a, '_, P>) -> Result<CableCheckRes, Refusal> {
-        let (
-            RequiredValue(response_code),
-            Required(dc_evse_status),
-            RequiredValue(evse_processing),
-        ) = first_children(descent)?;
-        Ok(CableCheckRes {
+    type Made = Elements<
+        (
+            RequiredValue<ResponseCode>,
+            Required<DcEvseStatus>,
+            RequiredValue<EvseProcessing>,
+        ),
+    >;
+
+    fn of(made: Self::Made) -> CableCheckRes {
+        let Elements(
+            (
+                RequiredValue(response_code),
+                Required(dc_evse_status),
+                RequiredValue(evse_processing),
+            ),
+        ) = made;
+        CableCheckRes {
             response_code,
             dc_evse_status,
             evse_processing,
-        })
+        }
     }
+
+    ghost declared = { Prim.search rules };
+
+    ghost apart = { Prim.search rules };
 }
 
 /// PreChargeReq.
@@ -119,6 +136,7 @@ impl PutRecord for PreChargeReq {
 impl<'a> Record<'a> for PreChargeReq {
     ghost use Rattle.din_schema.specs.Declarations.{kinds};
     ghost use Rattle.din_schema.specs.Charging.{pre_charge_req};
+    ghost use Rattle.std.proofs.Common.{rules};
 
     ghost kinds = { kinds };
 
@@ -126,15 +144,28 @@ impl<'a> Record<'a> for PreChargeReq {
 
     ghost particles = { pre_charge_req };
 
-    fn read<P: Places>(descent: &mut Descent<'a, '_, P>) -> Result<PreChargeReq, Refusal> {
-        let (Required(dc_ev_status), Required(ev_target_voltage), Required(ev_target_current)) =
-            first_children(descent)?;
-        Ok(PreChargeReq {
+    type Made = Elements<
+        (
+            Required<DcEvStatus>,
+            Required<PhysicalValue>,
+            Required<PhysicalValue>,
+        ),
+    >;
+
+    fn of(made: Self::Made) -> PreChargeReq {
+        let Elements(
+            (Required(dc_ev_status), Required(ev_target_voltage), Required(ev_target_current)),
+        ) = made;
+        PreChargeReq {
             dc_ev_status,
             ev_target_voltage,
             ev_target_current,
-        })
+        }
     }
+
+    ghost declared = { Prim.search rules };
+
+    ghost apart = { Prim.search rules };
 }
 
 /// PreChargeRes.
@@ -166,6 +197,7 @@ impl PutRecord for PreChargeRes {
 impl<'a> Record<'a> for PreChargeRes {
     ghost use Rattle.din_schema.specs.Declarations.{kinds};
     ghost use Rattle.din_schema.specs.Charging.{pre_charge_res};
+    ghost use Rattle.std.proofs.Common.{rules};
 
     ghost kinds = { kinds };
 
@@ -173,18 +205,32 @@ impl<'a> Record<'a> for PreChargeRes {
 
     ghost particles = { pre_charge_res };
 
-    fn read<P: Places>(descent: &mut Descent<'a, '_, P>) -> Result<PreChargeRes, Refusal> {
-        let (
-            RequiredValue(response_code),
-            Required(dc_evse_status),
-            Required(evse_present_voltage),
-        ) = first_children(descent)?;
-        Ok(PreChargeRes {
+    type Made = Elements<
+        (
+            RequiredValue<ResponseCode>,
+            Required<DcEvseStatus>,
+            Required<PhysicalValue>,
+        ),
+    >;
+
+    fn of(made: Self::Made) -> PreChargeRes {
+        let Elements(
+            (
+                RequiredValue(response_code),
+                Required(dc_evse_status),
+                Required(evse_present_voltage),
+            ),
+        ) = made;
+        PreChargeRes {
             response_code,
             dc_evse_status,
             evse_present_voltage,
-        })
+        }
     }
+
+    ghost declared = { Prim.search rules };
+
+    ghost apart = { Prim.search rules };
 }
 
 /// CurrentDemandReq.
@@ -250,6 +296,7 @@ impl PutRecord for CurrentDemandReq {
 impl<'a> Record<'a> for CurrentDemandReq {
     ghost use Rattle.din_schema.specs.Declarations.{kinds};
     ghost use Rattle.din_schema.specs.Charging.{current_demand_req};
+    ghost use Rattle.std.proofs.Common.{rules};
 
     ghost kinds = { kinds };
 
@@ -257,26 +304,49 @@ impl<'a> Record<'a> for CurrentDemandReq {
 
     ghost particles = { current_demand_req };
 
-    fn read<P: Places>(descent: &mut Descent<'a, '_, P>) -> Result<CurrentDemandReq, Refusal> {
-        let (
+    type Made = Elements<
+        (
             (
-                Required(dc_ev_status),
-                Required(ev_target_current),
-                Optional::<_, { names::EV_MAXIMUM_VOLTAGE_LIMIT }>(ev_maximum_voltage_limit),
-                Optional::<_, { names::EV_MAXIMUM_CURRENT_LIMIT }>(ev_maximum_current_limit),
+                Required<DcEvStatus>,
+                Required<PhysicalValue>,
+                Optional<PhysicalValue, { names::EV_MAXIMUM_VOLTAGE_LIMIT }>,
+                Optional<PhysicalValue, { names::EV_MAXIMUM_CURRENT_LIMIT }>,
             ),
             (
-                Optional::<_, { names::EV_MAXIMUM_POWER_LIMIT }>(ev_maximum_power_limit),
-                OptionalValue::<_, { names::BULK_CHARGING_COMPLETE }>(bulk_charging_complete),
-                RequiredValue(charging_complete),
+                Optional<PhysicalValue, { names::EV_MAXIMUM_POWER_LIMIT }>,
+                OptionalValue<bool, { names::BULK_CHARGING_COMPLETE }>,
+                RequiredValue<bool>,
             ),
             (
-                Optional::<_, { names::REMAINING_TIME_TO_FULL_SO_C }>(remaining_time_to_full_so_c),
-                Optional::<_, { names::REMAINING_TIME_TO_BULK_SO_C }>(remaining_time_to_bulk_so_c),
-                Required(ev_target_voltage),
+                Optional<PhysicalValue, { names::REMAINING_TIME_TO_FULL_SO_C }>,
+                Optional<PhysicalValue, { names::REMAINING_TIME_TO_BULK_SO_C }>,
+                Required<PhysicalValue>,
             ),
-        ) = first_children(descent)?;
-        Ok(CurrentDemandReq {
+        ),
+    >;
+
+    fn of(made: Self::Made) -> CurrentDemandReq {
+        let Elements(
+            (
+                (
+                    Required(dc_ev_status),
+                    Required(ev_target_current),
+                    Optional(ev_maximum_voltage_limit),
+                    Optional(ev_maximum_current_limit),
+                ),
+                (
+                    Optional(ev_maximum_power_limit),
+                    OptionalValue(bulk_charging_complete),
+                    RequiredValue(charging_complete),
+                ),
+                (
+                    Optional(remaining_time_to_full_so_c),
+                    Optional(remaining_time_to_bulk_so_c),
+                    Required(ev_target_voltage),
+                ),
+            ),
+        ) = made;
+        CurrentDemandReq {
             dc_ev_status,
             ev_target_current,
             ev_maximum_voltage_limit,
@@ -287,8 +357,12 @@ impl<'a> Record<'a> for CurrentDemandReq {
             remaining_time_to_full_so_c,
             remaining_time_to_bulk_so_c,
             ev_target_voltage,
-        })
+        }
     }
+
+    ghost declared = { Prim.search rules };
+
+    ghost apart = { Prim.search rules };
 }
 
 /// CurrentDemandRes.
@@ -362,6 +436,7 @@ impl PutRecord for CurrentDemandRes {
 impl<'a> Record<'a> for CurrentDemandRes {
     ghost use Rattle.din_schema.specs.Declarations.{kinds};
     ghost use Rattle.din_schema.specs.Charging.{current_demand_res};
+    ghost use Rattle.std.proofs.Common.{rules};
 
     ghost kinds = { kinds };
 
@@ -369,26 +444,49 @@ impl<'a> Record<'a> for CurrentDemandRes {
 
     ghost particles = { current_demand_res };
 
-    fn read<P: Places>(descent: &mut Descent<'a, '_, P>) -> Result<CurrentDemandRes, Refusal> {
-        let (
+    type Made = Elements<
+        (
             (
-                RequiredValue(response_code),
-                Required(dc_evse_status),
-                Required(evse_present_voltage),
-                Required(evse_present_current),
+                RequiredValue<ResponseCode>,
+                Required<DcEvseStatus>,
+                Required<PhysicalValue>,
+                Required<PhysicalValue>,
             ),
             (
-                RequiredValue(evse_current_limit_achieved),
-                RequiredValue(evse_voltage_limit_achieved),
-                RequiredValue(evse_power_limit_achieved),
+                RequiredValue<bool>,
+                RequiredValue<bool>,
+                RequiredValue<bool>,
             ),
             (
-                Optional::<_, { names::EVSE_MAXIMUM_VOLTAGE_LIMIT }>(evse_maximum_voltage_limit),
-                Optional::<_, { names::EVSE_MAXIMUM_CURRENT_LIMIT }>(evse_maximum_current_limit),
-                Optional::<_, { names::EVSE_MAXIMUM_POWER_LIMIT }>(evse_maximum_power_limit),
+                Optional<PhysicalValue, { names::EVSE_MAXIMUM_VOLTAGE_LIMIT }>,
+                Optional<PhysicalValue, { names::EVSE_MAXIMUM_CURRENT_LIMIT }>,
+                Optional<PhysicalValue, { names::EVSE_MAXIMUM_POWER_LIMIT }>,
             ),
-        ) = first_children(descent)?;
-        Ok(CurrentDemandRes {
+        ),
+    >;
+
+    fn of(made: Self::Made) -> CurrentDemandRes {
+        let Elements(
+            (
+                (
+                    RequiredValue(response_code),
+                    Required(dc_evse_status),
+                    Required(evse_present_voltage),
+                    Required(evse_present_current),
+                ),
+                (
+                    RequiredValue(evse_current_limit_achieved),
+                    RequiredValue(evse_voltage_limit_achieved),
+                    RequiredValue(evse_power_limit_achieved),
+                ),
+                (
+                    Optional(evse_maximum_voltage_limit),
+                    Optional(evse_maximum_current_limit),
+                    Optional(evse_maximum_power_limit),
+                ),
+            ),
+        ) = made;
+        CurrentDemandRes {
             response_code,
             dc_evse_status,
             evse_present_voltage,
@@ -399,8 +497,12 @@ impl<'a> Record<'a> for CurrentDemandRes {
             evse_maximum_voltage_limit,
             evse_maximum_current_limit,
             evse_maximum_power_limit,
-        })
+        }
     }
+
+    ghost declared = { Prim.search rules };
+
+    ghost apart = { Prim.search rules };
 }
 
 /// WeldingDetectionReq.
@@ -424,6 +526,7 @@ impl PutRecord for WeldingDetectionReq {
 impl<'a> Record<'a> for WeldingDetectionReq {
     ghost use Rattle.din_schema.specs.Declarations.{kinds};
     ghost use Rattle.din_schema.specs.Charging.{welding_detection_req};
+    ghost use Rattle.std.proofs.Common.{rules};
 
     ghost kinds = { kinds };
 
@@ -431,11 +534,16 @@ impl<'a> Record<'a> for WeldingDetectionReq {
 
     ghost particles = { welding_detection_req };
 
-    fn read<P: Places>(descent: &mut Descent<'a, '_, P>) -> Result<WeldingDetectionReq, Refusal> {
-        first_child(descent)?;
-        let dc_ev_status = required(descent)?;
-        Ok(WeldingDetectionReq { dc_ev_status })
+    type Made = Elements<Required<DcEvStatus>>;
+
+    fn of(made: Self::Made) -> WeldingDetectionReq {
+        let Elements(Required(dc_ev_status)) = made;
+        WeldingDetectionReq { dc_ev_status }
     }
+
+    ghost declared = { Prim.search rules };
+
+    ghost apart = { Prim.search rules };
 }
 
 /// WeldingDetectionRes.
@@ -467,6 +575,7 @@ impl PutRecord for WeldingDetectionRes {
 impl<'a> Record<'a> for WeldingDetectionRes {
     ghost use Rattle.din_schema.specs.Declarations.{kinds};
     ghost use Rattle.din_schema.specs.Charging.{welding_detection_res};
+    ghost use Rattle.std.proofs.Common.{rules};
 
     ghost kinds = { kinds };
 
@@ -474,16 +583,30 @@ impl<'a> Record<'a> for WeldingDetectionRes {
 
     ghost particles = { welding_detection_res };
 
-    fn read<P: Places>(descent: &mut Descent<'a, '_, P>) -> Result<WeldingDetectionRes, Refusal> {
-        let (
-            RequiredValue(response_code),
-            Required(dc_evse_status),
-            Required(evse_present_voltage),
-        ) = first_children(descent)?;
-        Ok(WeldingDetectionRes {
+    type Made = Elements<
+        (
+            RequiredValue<ResponseCode>,
+            Required<DcEvseStatus>,
+            Required<PhysicalValue>,
+        ),
+    >;
+
+    fn of(made: Self::Made) -> WeldingDetectionRes {
+        let Elements(
+            (
+                RequiredValue(response_code),
+                Required(dc_evse_status),
+                Required(evse_present_voltage),
+            ),
+        ) = made;
+        WeldingDetectionRes {
             response_code,
             dc_evse_status,
             evse_present_voltage,
-        })
+        }
     }
+
+    ghost declared = { Prim.search rules };
+
+    ghost apart = { Prim.search rules };
 }

@@ -8,11 +8,12 @@ use din_schema::names;
 use exi_documents::Refusal;
 use exi_events::EventWriter;
 use exi_schema::Places;
-use message_fields::{OneOf, OptionalValue, Required, RequiredValue, first_children};
+use message_fields::{
+    AtMostOneOf, Elements, OneOf, Optional, OptionalValue, Required, RequiredValue, Several,
+};
 use message_parts::{
-    Choice, Descent, Group, PutChoice, PutRecord, Record, first_child, member, optional,
-    optional_choice, put_choice, put_optional, put_optional_choice, put_optional_value, put_record,
-    put_records, put_value, records, value,
+    Choice, Descent, Group, PutChoice, PutRecord, Record, member, put_choice, put_optional,
+    put_optional_choice, put_optional_value, put_record, put_records, put_value,
 };
 
 /// ProfileEntry.
@@ -46,6 +47,7 @@ impl PutRecord for ProfileEntry {
 impl<'a> Record<'a> for ProfileEntry {
     ghost use Rattle.din_schema.specs.Declarations.{kinds};
     ghost use Rattle.din_schema.specs.Parameters.{profile_entry};
+    ghost use Rattle.std.proofs.Common.{rules};
 
     ghost kinds = { kinds };
 
@@ -53,16 +55,24 @@ impl<'a> Record<'a> for ProfileEntry {
 
     ghost particles = { profile_entry };
 
-    fn read<P: Places>(descent: &mut Descent<'a, '_, P>) -> Result<ProfileEntry, Refusal> {
-        let (
-            RequiredValue(charging_profile_entry_start),
-            RequiredValue(charging_profile_entry_max_power),
-        ) = first_children(descent)?;
-        Ok(ProfileEntry {
+    type Made = Elements<(RequiredValue<u32>, RequiredValue<i16>)>;
+
+    fn of(made: Self::Made) -> ProfileEntry {
+        let Elements(
+            (
+                RequiredValue(charging_profile_entry_start),
+                RequiredValue(charging_profile_entry_max_power),
+            ),
+        ) = made;
+        ProfileEntry {
             charging_profile_entry_start,
             charging_profile_entry_max_power,
-        })
+        }
     }
+
+    ghost declared = { Prim.search rules };
+
+    ghost apart = { Prim.search rules };
 }
 
 /// ChargingProfile.
@@ -93,6 +103,7 @@ impl PutRecord for ChargingProfile {
 impl<'a> Record<'a> for ChargingProfile {
     ghost use Rattle.din_schema.specs.Declarations.{kinds};
     ghost use Rattle.din_schema.specs.Parameters.{charging_profile};
+    ghost use Rattle.std.proofs.Common.{rules};
 
     ghost kinds = { kinds };
 
@@ -100,15 +111,24 @@ impl<'a> Record<'a> for ChargingProfile {
 
     ghost particles = { charging_profile };
 
-    fn read<P: Places>(descent: &mut Descent<'a, '_, P>) -> Result<ChargingProfile, Refusal> {
-        first_child(descent)?;
-        let sa_schedule_tuple_id = value(descent)?;
-        let profile_entry = records(descent, names::PROFILE_ENTRY)?;
-        Ok(ChargingProfile {
+    type Made = Elements<
+        (
+            RequiredValue<i16>,
+            Several<ProfileEntry, 24, { names::PROFILE_ENTRY }>,
+        ),
+    >;
+
+    fn of(made: Self::Made) -> ChargingProfile {
+        let Elements((RequiredValue(sa_schedule_tuple_id), Several(profile_entry))) = made;
+        ChargingProfile {
             sa_schedule_tuple_id,
             profile_entry,
-        })
+        }
     }
+
+    ghost declared = { Prim.search rules };
+
+    ghost apart = { Prim.search rules };
 }
 
 /// DC_EVPowerDeliveryParameter.
@@ -140,6 +160,7 @@ impl PutRecord for DcEvPowerDeliveryParameter {
 impl<'a> Record<'a> for DcEvPowerDeliveryParameter {
     ghost use Rattle.din_schema.specs.Declarations.{kinds};
     ghost use Rattle.din_schema.specs.Parameters.{dc_ev_power_delivery_parameter};
+    ghost use Rattle.std.proofs.Common.{rules};
 
     ghost kinds = { kinds };
 
@@ -147,20 +168,32 @@ impl<'a> Record<'a> for DcEvPowerDeliveryParameter {
 
     ghost particles = { dc_ev_power_delivery_parameter };
 
-    fn read<P: Places>(
-        descent: &mut Descent<'a, '_, P>,
-    ) -> Result<DcEvPowerDeliveryParameter, Refusal> {
-        let (
-            Required(dc_ev_status),
-            OptionalValue::<_, { names::BULK_CHARGING_COMPLETE }>(bulk_charging_complete),
-            RequiredValue(charging_complete),
-        ) = first_children(descent)?;
-        Ok(DcEvPowerDeliveryParameter {
+    type Made = Elements<
+        (
+            Required<DcEvStatus>,
+            OptionalValue<bool, { names::BULK_CHARGING_COMPLETE }>,
+            RequiredValue<bool>,
+        ),
+    >;
+
+    fn of(made: Self::Made) -> DcEvPowerDeliveryParameter {
+        let Elements(
+            (
+                Required(dc_ev_status),
+                OptionalValue(bulk_charging_complete),
+                RequiredValue(charging_complete),
+            ),
+        ) = made;
+        DcEvPowerDeliveryParameter {
             dc_ev_status,
             bulk_charging_complete,
             charging_complete,
-        })
+        }
     }
+
+    ghost declared = { Prim.search rules };
+
+    ghost apart = { Prim.search rules };
 }
 
 /// One element of the substitution group EVPowerDeliveryParameter.
@@ -237,6 +270,7 @@ impl PutRecord for PowerDeliveryReq {
 impl<'a> Record<'a> for PowerDeliveryReq {
     ghost use Rattle.din_schema.specs.Declarations.{kinds};
     ghost use Rattle.din_schema.specs.Parameters.{power_delivery_req};
+    ghost use Rattle.std.proofs.Common.{rules};
 
     ghost kinds = { kinds };
 
@@ -244,17 +278,32 @@ impl<'a> Record<'a> for PowerDeliveryReq {
 
     ghost particles = { power_delivery_req };
 
-    fn read<P: Places>(descent: &mut Descent<'a, '_, P>) -> Result<PowerDeliveryReq, Refusal> {
-        first_child(descent)?;
-        let ready_to_charge_state = value(descent)?;
-        let charging_profile = optional(descent, names::CHARGING_PROFILE)?;
-        let ev_power_delivery_parameter = optional_choice(descent)?;
-        Ok(PowerDeliveryReq {
+    type Made = Elements<
+        (
+            RequiredValue<bool>,
+            Optional<ChargingProfile, { names::CHARGING_PROFILE }>,
+            AtMostOneOf<EvPowerDeliveryParameter>,
+        ),
+    >;
+
+    fn of(made: Self::Made) -> PowerDeliveryReq {
+        let Elements(
+            (
+                RequiredValue(ready_to_charge_state),
+                Optional(charging_profile),
+                AtMostOneOf(ev_power_delivery_parameter),
+            ),
+        ) = made;
+        PowerDeliveryReq {
             ready_to_charge_state,
             charging_profile,
             ev_power_delivery_parameter,
-        })
+        }
     }
+
+    ghost declared = { Prim.search rules };
+
+    ghost apart = { Prim.search rules };
 }
 
 /// PowerDeliveryRes.
@@ -280,6 +329,7 @@ impl PutRecord for PowerDeliveryRes {
 impl<'a> Record<'a> for PowerDeliveryRes {
     ghost use Rattle.din_schema.specs.Declarations.{kinds};
     ghost use Rattle.din_schema.specs.Parameters.{power_delivery_res};
+    ghost use Rattle.std.proofs.Common.{rules};
 
     ghost kinds = { kinds };
 
@@ -287,11 +337,17 @@ impl<'a> Record<'a> for PowerDeliveryRes {
 
     ghost particles = { power_delivery_res };
 
-    fn read<P: Places>(descent: &mut Descent<'a, '_, P>) -> Result<PowerDeliveryRes, Refusal> {
-        let (RequiredValue(response_code), OneOf(evse_status)) = first_children(descent)?;
-        Ok(PowerDeliveryRes {
+    type Made = Elements<(RequiredValue<ResponseCode>, OneOf<EvseStatus>)>;
+
+    fn of(made: Self::Made) -> PowerDeliveryRes {
+        let Elements((RequiredValue(response_code), OneOf(evse_status))) = made;
+        PowerDeliveryRes {
             response_code,
             evse_status,
-        })
+        }
     }
+
+    ghost declared = { Prim.search rules };
+
+    ghost apart = { Prim.search rules };
 }

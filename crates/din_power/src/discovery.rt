@@ -6,13 +6,10 @@ use crate::limits::{EvChargeParameter, EvseChargeParameter};
 use crate::schedules::SaSchedules;
 use din_parts::{EnergyTransferMode, EvseProcessing, ResponseCode};
 use din_schema::names;
-use exi_documents::Refusal;
 use exi_events::EventWriter;
 use exi_schema::Places;
-use message_fields::{OneOf, RequiredValue, first_children};
-use message_parts::{
-    Descent, PutRecord, Record, choice, optional_choice, put_choice, put_optional_choice, put_value,
-};
+use message_fields::{AtMostOneOf, Elements, OneOf, RequiredValue};
+use message_parts::{PutRecord, Record, put_choice, put_optional_choice, put_value};
 
 /// ChargeParameterDiscoveryReq.
 #[derive(Clone, Copy, Debug, PartialEq, Eq)]
@@ -41,6 +38,7 @@ impl PutRecord for ChargeParameterDiscoveryReq {
 impl<'a> Record<'a> for ChargeParameterDiscoveryReq {
     ghost use Rattle.din_schema.specs.Declarations.{kinds};
     ghost use Rattle.din_schema.specs.Parameters.{charge_parameter_discovery_req};
+    ghost use Rattle.std.proofs.Common.{rules};
 
     ghost kinds = { kinds };
 
@@ -48,16 +46,21 @@ impl<'a> Record<'a> for ChargeParameterDiscoveryReq {
 
     ghost particles = { charge_parameter_discovery_req };
 
-    fn read<P: Places>(
-        descent: &mut Descent<'a, '_, P>,
-    ) -> Result<ChargeParameterDiscoveryReq, Refusal> {
-        let (RequiredValue(ev_requested_energy_transfer_type), OneOf(ev_charge_parameter)) =
-            first_children(descent)?;
-        Ok(ChargeParameterDiscoveryReq {
+    type Made = Elements<(RequiredValue<EnergyTransferMode>, OneOf<EvChargeParameter>)>;
+
+    fn of(made: Self::Made) -> ChargeParameterDiscoveryReq {
+        let Elements(
+            (RequiredValue(ev_requested_energy_transfer_type), OneOf(ev_charge_parameter)),
+        ) = made;
+        ChargeParameterDiscoveryReq {
             ev_requested_energy_transfer_type,
             ev_charge_parameter,
-        })
+        }
     }
+
+    ghost declared = { Prim.search rules };
+
+    ghost apart = { Prim.search rules };
 }
 
 /// ChargeParameterDiscoveryRes.
@@ -87,6 +90,7 @@ impl PutRecord for ChargeParameterDiscoveryRes {
 impl<'a> Record<'a> for ChargeParameterDiscoveryRes {
     ghost use Rattle.din_schema.specs.Declarations.{kinds};
     ghost use Rattle.din_schema.specs.Parameters.{charge_parameter_discovery_res};
+    ghost use Rattle.std.proofs.Common.{rules};
 
     ghost kinds = { kinds };
 
@@ -94,19 +98,33 @@ impl<'a> Record<'a> for ChargeParameterDiscoveryRes {
 
     ghost particles = { charge_parameter_discovery_res };
 
-    fn read<P: Places>(
-        descent: &mut Descent<'a, '_, P>,
-    ) -> Result<ChargeParameterDiscoveryRes, Refusal> {
-        let (RequiredValue(response_code), RequiredValue(evse_processing)) = first_children(
-            descent,
-        )?;
-        let sa_schedules = optional_choice(descent)?;
-        let evse_charge_parameter = choice(descent)?;
-        Ok(ChargeParameterDiscoveryRes {
+    type Made = Elements<
+        (
+            RequiredValue<ResponseCode>,
+            RequiredValue<EvseProcessing>,
+            AtMostOneOf<SaSchedules>,
+            OneOf<EvseChargeParameter>,
+        ),
+    >;
+
+    fn of(made: Self::Made) -> ChargeParameterDiscoveryRes {
+        let Elements(
+            (
+                RequiredValue(response_code),
+                RequiredValue(evse_processing),
+                AtMostOneOf(sa_schedules),
+                OneOf(evse_charge_parameter),
+            ),
+        ) = made;
+        ChargeParameterDiscoveryRes {
             response_code,
             evse_processing,
             sa_schedules,
             evse_charge_parameter,
-        })
+        }
     }
+
+    ghost declared = { Prim.search rules };
+
+    ghost apart = { Prim.search rules };
 }

@@ -7,7 +7,7 @@ use din_schema::names;
 use exi_documents::Refusal;
 use exi_events::EventWriter;
 use exi_schema::Places;
-use message_fields::{Optional, OptionalValue, Required, first_children};
+use message_fields::{Elements, Optional, OptionalValue, Required};
 use message_parts::{
     Choice, Descent, PutChoice, PutRecord, Record, member, put_optional, put_optional_value,
     put_record,
@@ -62,6 +62,7 @@ impl PutRecord for DcEvChargeParameter {
 impl<'a> Record<'a> for DcEvChargeParameter {
     ghost use Rattle.din_schema.specs.Declarations.{kinds};
     ghost use Rattle.din_schema.specs.Parameters.{dc_ev_charge_parameter};
+    ghost use Rattle.std.proofs.Common.{rules};
 
     ghost kinds = { kinds };
 
@@ -69,22 +70,41 @@ impl<'a> Record<'a> for DcEvChargeParameter {
 
     ghost particles = { dc_ev_charge_parameter };
 
-    fn read<P: Places>(descent: &mut Descent<'a, '_, P>) -> Result<DcEvChargeParameter, Refusal> {
-        let (
+    type Made = Elements<
+        (
             (
-                Required(dc_ev_status),
-                Required(ev_maximum_current_limit),
-                Optional::<_, { names::EV_MAXIMUM_POWER_LIMIT }>(ev_maximum_power_limit),
-                Required(ev_maximum_voltage_limit),
+                Required<DcEvStatus>,
+                Required<PhysicalValue>,
+                Optional<PhysicalValue, { names::EV_MAXIMUM_POWER_LIMIT }>,
+                Required<PhysicalValue>,
             ),
             (
-                Optional::<_, { names::EV_ENERGY_CAPACITY }>(ev_energy_capacity),
-                Optional::<_, { names::EV_ENERGY_REQUEST }>(ev_energy_request),
-                OptionalValue::<_, { names::FULL_SOC }>(full_soc),
-                OptionalValue::<_, { names::BULK_SOC }>(bulk_soc),
+                Optional<PhysicalValue, { names::EV_ENERGY_CAPACITY }>,
+                Optional<PhysicalValue, { names::EV_ENERGY_REQUEST }>,
+                OptionalValue<u8, { names::FULL_SOC }>,
+                OptionalValue<u8, { names::BULK_SOC }>,
             ),
-        ) = first_children(descent)?;
-        Ok(DcEvChargeParameter {
+        ),
+    >;
+
+    fn of(made: Self::Made) -> DcEvChargeParameter {
+        let Elements(
+            (
+                (
+                    Required(dc_ev_status),
+                    Required(ev_maximum_current_limit),
+                    Optional(ev_maximum_power_limit),
+                    Required(ev_maximum_voltage_limit),
+                ),
+                (
+                    Optional(ev_energy_capacity),
+                    Optional(ev_energy_request),
+                    OptionalValue(full_soc),
+                    OptionalValue(bulk_soc),
+                ),
+            ),
+        ) = made;
+        DcEvChargeParameter {
             dc_ev_status,
             ev_maximum_current_limit,
             ev_maximum_power_limit,
@@ -93,8 +113,12 @@ impl<'a> Record<'a> for DcEvChargeParameter {
             ev_energy_request,
             full_soc,
             bulk_soc,
-        })
+        }
     }
+
+    ghost declared = { Prim.search rules };
+
+    ghost apart = { Prim.search rules };
 }
 
 /// One element of the substitution group EVChargeParameter.
@@ -201,6 +225,7 @@ impl PutRecord for DcEvseChargeParameter {
 impl<'a> Record<'a> for DcEvseChargeParameter {
     ghost use Rattle.din_schema.specs.Declarations.{kinds};
     ghost use Rattle.din_schema.specs.Parameters.{dc_evse_charge_parameter};
+    ghost use Rattle.std.proofs.Common.{rules};
 
     ghost kinds = { kinds };
 
@@ -208,27 +233,47 @@ impl<'a> Record<'a> for DcEvseChargeParameter {
 
     ghost particles = { dc_evse_charge_parameter };
 
-    fn read<P: Places>(descent: &mut Descent<'a, '_, P>) -> Result<DcEvseChargeParameter, Refusal> {
-        let (
+    type Made = Elements<
+        (
             (
-                Required(dc_evse_status),
-                Required(evse_maximum_current_limit),
-                Optional::<_, { names::EVSE_MAXIMUM_POWER_LIMIT }>(evse_maximum_power_limit),
+                Required<DcEvseStatus>,
+                Required<PhysicalValue>,
+                Optional<PhysicalValue, { names::EVSE_MAXIMUM_POWER_LIMIT }>,
             ),
             (
-                Required(evse_maximum_voltage_limit),
-                Required(evse_minimum_current_limit),
-                Required(evse_minimum_voltage_limit),
+                Required<PhysicalValue>,
+                Required<PhysicalValue>,
+                Required<PhysicalValue>,
             ),
             (
-                Optional::<_, { names::EVSE_CURRENT_REGULATION_TOLERANCE }>(
-                    evse_current_regulation_tolerance,
+                Optional<PhysicalValue, { names::EVSE_CURRENT_REGULATION_TOLERANCE }>,
+                Required<PhysicalValue>,
+                Optional<PhysicalValue, { names::EVSE_ENERGY_TO_BE_DELIVERED }>,
+            ),
+        ),
+    >;
+
+    fn of(made: Self::Made) -> DcEvseChargeParameter {
+        let Elements(
+            (
+                (
+                    Required(dc_evse_status),
+                    Required(evse_maximum_current_limit),
+                    Optional(evse_maximum_power_limit),
                 ),
-                Required(evse_peak_current_ripple),
-                Optional::<_, { names::EVSE_ENERGY_TO_BE_DELIVERED }>(evse_energy_to_be_delivered),
+                (
+                    Required(evse_maximum_voltage_limit),
+                    Required(evse_minimum_current_limit),
+                    Required(evse_minimum_voltage_limit),
+                ),
+                (
+                    Optional(evse_current_regulation_tolerance),
+                    Required(evse_peak_current_ripple),
+                    Optional(evse_energy_to_be_delivered),
+                ),
             ),
-        ) = first_children(descent)?;
-        Ok(DcEvseChargeParameter {
+        ) = made;
+        DcEvseChargeParameter {
             dc_evse_status,
             evse_maximum_current_limit,
             evse_maximum_power_limit,
@@ -238,8 +283,12 @@ impl<'a> Record<'a> for DcEvseChargeParameter {
             evse_current_regulation_tolerance,
             evse_peak_current_ripple,
             evse_energy_to_be_delivered,
-        })
+        }
     }
+
+    ghost declared = { Prim.search rules };
+
+    ghost apart = { Prim.search rules };
 }
 
 /// One element of the substitution group EVSEChargeParameter.

@@ -7,10 +7,10 @@ use din_schema::names;
 use exi_documents::Refusal;
 use exi_events::EventWriter;
 use exi_schema::Places;
-use message_fields::{OneOf, OptionalValue, RequiredValue, first_children};
+use message_fields::{Elements, LeftOut, OneOf, OptionalValue, Required, RequiredValue, Several};
 use message_parts::{
-    Choice, Descent, Group, PutChoice, PutRecord, Record, first_child, left_out, member,
-    put_choice, put_optional_value, put_record, put_records, put_value, records, required, value,
+    Choice, Descent, Group, PutChoice, PutRecord, Record, member, put_choice, put_optional_value,
+    put_record, put_records, put_value,
 };
 
 /// RelativeTimeInterval.
@@ -36,6 +36,7 @@ impl PutRecord for RelativeTimeInterval {
 impl<'a> Record<'a> for RelativeTimeInterval {
     ghost use Rattle.din_schema.specs.Declarations.{kinds};
     ghost use Rattle.din_schema.specs.Parameters.{relative_time_interval};
+    ghost use Rattle.std.proofs.Common.{rules};
 
     ghost kinds = { kinds };
 
@@ -43,11 +44,16 @@ impl<'a> Record<'a> for RelativeTimeInterval {
 
     ghost particles = { relative_time_interval };
 
-    fn read<P: Places>(descent: &mut Descent<'a, '_, P>) -> Result<RelativeTimeInterval, Refusal> {
-        let (RequiredValue(start), OptionalValue::<_, { names::DURATION }>(duration)) =
-            first_children(descent)?;
-        Ok(RelativeTimeInterval { start, duration })
+    type Made = Elements<(RequiredValue<u32>, OptionalValue<u32, { names::DURATION }>)>;
+
+    fn of(made: Self::Made) -> RelativeTimeInterval {
+        let Elements((RequiredValue(start), OptionalValue(duration))) = made;
+        RelativeTimeInterval { start, duration }
     }
+
+    ghost declared = { Prim.search rules };
+
+    ghost apart = { Prim.search rules };
 }
 
 /// One element of the substitution group TimeInterval.
@@ -116,6 +122,7 @@ impl PutRecord for PMaxScheduleEntry {
 impl<'a> Record<'a> for PMaxScheduleEntry {
     ghost use Rattle.din_schema.specs.Declarations.{kinds};
     ghost use Rattle.din_schema.specs.Parameters.{p_max_schedule_entry};
+    ghost use Rattle.std.proofs.Common.{rules};
 
     ghost kinds = { kinds };
 
@@ -123,13 +130,19 @@ impl<'a> Record<'a> for PMaxScheduleEntry {
 
     ghost particles = { p_max_schedule_entry };
 
-    fn read<P: Places>(descent: &mut Descent<'a, '_, P>) -> Result<PMaxScheduleEntry, Refusal> {
-        let (OneOf(time_interval), RequiredValue(p_max)) = first_children(descent)?;
-        Ok(PMaxScheduleEntry {
+    type Made = Elements<(OneOf<TimeInterval>, RequiredValue<i16>)>;
+
+    fn of(made: Self::Made) -> PMaxScheduleEntry {
+        let Elements((OneOf(time_interval), RequiredValue(p_max))) = made;
+        PMaxScheduleEntry {
             time_interval,
             p_max,
-        })
+        }
     }
+
+    ghost declared = { Prim.search rules };
+
+    ghost apart = { Prim.search rules };
 }
 
 /// PMaxSchedule.
@@ -160,6 +173,7 @@ impl PutRecord for PMaxSchedule {
 impl<'a> Record<'a> for PMaxSchedule {
     ghost use Rattle.din_schema.specs.Declarations.{kinds};
     ghost use Rattle.din_schema.specs.Parameters.{p_max_schedule};
+    ghost use Rattle.std.proofs.Common.{rules};
 
     ghost kinds = { kinds };
 
@@ -167,15 +181,24 @@ impl<'a> Record<'a> for PMaxSchedule {
 
     ghost particles = { p_max_schedule };
 
-    fn read<P: Places>(descent: &mut Descent<'a, '_, P>) -> Result<PMaxSchedule, Refusal> {
-        first_child(descent)?;
-        let p_max_schedule_id = value(descent)?;
-        let p_max_schedule_entry = records(descent, names::P_MAX_SCHEDULE_ENTRY)?;
-        Ok(PMaxSchedule {
+    type Made = Elements<
+        (
+            RequiredValue<i16>,
+            Several<PMaxScheduleEntry, 128, { names::P_MAX_SCHEDULE_ENTRY }>,
+        ),
+    >;
+
+    fn of(made: Self::Made) -> PMaxSchedule {
+        let Elements((RequiredValue(p_max_schedule_id), Several(p_max_schedule_entry))) = made;
+        PMaxSchedule {
             p_max_schedule_id,
             p_max_schedule_entry,
-        })
+        }
     }
+
+    ghost declared = { Prim.search rules };
+
+    ghost apart = { Prim.search rules };
 }
 
 /// SAScheduleTuple.
@@ -205,6 +228,7 @@ impl PutRecord for SaScheduleTuple {
 impl<'a> Record<'a> for SaScheduleTuple {
     ghost use Rattle.din_schema.specs.Declarations.{kinds};
     ghost use Rattle.din_schema.specs.Parameters.{sa_schedule_tuple};
+    ghost use Rattle.std.proofs.Common.{rules};
 
     ghost kinds = { kinds };
 
@@ -212,16 +236,20 @@ impl<'a> Record<'a> for SaScheduleTuple {
 
     ghost particles = { sa_schedule_tuple };
 
-    fn read<P: Places>(descent: &mut Descent<'a, '_, P>) -> Result<SaScheduleTuple, Refusal> {
-        first_child(descent)?;
-        let sa_schedule_tuple_id = value(descent)?;
-        let p_max_schedule = required(descent)?;
-        left_out(descent);
-        Ok(SaScheduleTuple {
+    type Made = Elements<(RequiredValue<i16>, Required<PMaxSchedule>, LeftOut)>;
+
+    fn of(made: Self::Made) -> SaScheduleTuple {
+        let Elements((RequiredValue(sa_schedule_tuple_id), Required(p_max_schedule), LeftOut)) =
+            made;
+        SaScheduleTuple {
             sa_schedule_tuple_id,
             p_max_schedule,
-        })
+        }
     }
+
+    ghost declared = { Prim.search rules };
+
+    ghost apart = { Prim.search rules };
 }
 
 /// SAScheduleList.
@@ -246,6 +274,7 @@ impl PutRecord for SaScheduleList {
 impl<'a> Record<'a> for SaScheduleList {
     ghost use Rattle.din_schema.specs.Declarations.{kinds};
     ghost use Rattle.din_schema.specs.Parameters.{sa_schedule_list};
+    ghost use Rattle.std.proofs.Common.{rules};
 
     ghost kinds = { kinds };
 
@@ -253,11 +282,16 @@ impl<'a> Record<'a> for SaScheduleList {
 
     ghost particles = { sa_schedule_list };
 
-    fn read<P: Places>(descent: &mut Descent<'a, '_, P>) -> Result<SaScheduleList, Refusal> {
-        first_child(descent)?;
-        let sa_schedule_tuple = records(descent, names::SA_SCHEDULE_TUPLE)?;
-        Ok(SaScheduleList { sa_schedule_tuple })
+    type Made = Elements<Several<SaScheduleTuple, 3, { names::SA_SCHEDULE_TUPLE }>>;
+
+    fn of(made: Self::Made) -> SaScheduleList {
+        let Elements(Several(sa_schedule_tuple)) = made;
+        SaScheduleList { sa_schedule_tuple }
     }
+
+    ghost declared = { Prim.search rules };
+
+    ghost apart = { Prim.search rules };
 }
 
 /// One element of the substitution group SASchedules.

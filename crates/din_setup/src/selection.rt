@@ -5,14 +5,10 @@ ghost use Rattle.std.specs.Prelude.{[]};
 use arrayvec::ArrayVec;
 use din_parts::{PaymentOption, ResponseCode};
 use din_schema::names;
-use exi_documents::Refusal;
 use exi_events::EventWriter;
 use exi_schema::Places;
-use message_fields::{OptionalValue, RequiredValue, first_children};
-use message_parts::{
-    Descent, PutRecord, Record, first_child, put_optional_value, put_record, put_records,
-    put_value, records, required, value,
-};
+use message_fields::{Elements, OptionalValue, Required, RequiredValue, Several};
+use message_parts::{PutRecord, Record, put_optional_value, put_record, put_records, put_value};
 
 /// SelectedService.
 #[derive(Clone, Copy, Debug, PartialEq, Eq, Default)]
@@ -37,6 +33,7 @@ impl PutRecord for SelectedService {
 impl<'a> Record<'a> for SelectedService {
     ghost use Rattle.din_schema.specs.Declarations.{kinds};
     ghost use Rattle.din_schema.specs.Setup.{selected_service};
+    ghost use Rattle.std.proofs.Common.{rules};
 
     ghost kinds = { kinds };
 
@@ -44,16 +41,24 @@ impl<'a> Record<'a> for SelectedService {
 
     ghost particles = { selected_service };
 
-    fn read<P: Places>(descent: &mut Descent<'a, '_, P>) -> Result<SelectedService, Refusal> {
-        let (
-            RequiredValue(service_id),
-            OptionalValue::<_, { names::PARAMETER_SET_ID }>(parameter_set_id),
-        ) = first_children(descent)?;
-        Ok(SelectedService {
+    type Made = Elements<
+        (
+            RequiredValue<u16>,
+            OptionalValue<i16, { names::PARAMETER_SET_ID }>,
+        ),
+    >;
+
+    fn of(made: Self::Made) -> SelectedService {
+        let Elements((RequiredValue(service_id), OptionalValue(parameter_set_id))) = made;
+        SelectedService {
             service_id,
             parameter_set_id,
-        })
+        }
     }
+
+    ghost declared = { Prim.search rules };
+
+    ghost apart = { Prim.search rules };
 }
 
 /// SelectedServiceList.
@@ -78,6 +83,7 @@ impl PutRecord for SelectedServiceList {
 impl<'a> Record<'a> for SelectedServiceList {
     ghost use Rattle.din_schema.specs.Declarations.{kinds};
     ghost use Rattle.din_schema.specs.Setup.{selected_service_list};
+    ghost use Rattle.std.proofs.Common.{rules};
 
     ghost kinds = { kinds };
 
@@ -85,11 +91,16 @@ impl<'a> Record<'a> for SelectedServiceList {
 
     ghost particles = { selected_service_list };
 
-    fn read<P: Places>(descent: &mut Descent<'a, '_, P>) -> Result<SelectedServiceList, Refusal> {
-        first_child(descent)?;
-        let selected_service = records(descent, names::SELECTED_SERVICE)?;
-        Ok(SelectedServiceList { selected_service })
+    type Made = Elements<Several<SelectedService, 16, { names::SELECTED_SERVICE }>>;
+
+    fn of(made: Self::Made) -> SelectedServiceList {
+        let Elements(Several(selected_service)) = made;
+        SelectedServiceList { selected_service }
     }
+
+    ghost declared = { Prim.search rules };
+
+    ghost apart = { Prim.search rules };
 }
 
 /// ServicePaymentSelectionReq.
@@ -123,6 +134,7 @@ impl PutRecord for ServicePaymentSelectionReq {
 impl<'a> Record<'a> for ServicePaymentSelectionReq {
     ghost use Rattle.din_schema.specs.Declarations.{kinds};
     ghost use Rattle.din_schema.specs.Setup.{service_payment_selection_req};
+    ghost use Rattle.std.proofs.Common.{rules};
 
     ghost kinds = { kinds };
 
@@ -130,17 +142,20 @@ impl<'a> Record<'a> for ServicePaymentSelectionReq {
 
     ghost particles = { service_payment_selection_req };
 
-    fn read<P: Places>(
-        descent: &mut Descent<'a, '_, P>,
-    ) -> Result<ServicePaymentSelectionReq, Refusal> {
-        first_child(descent)?;
-        let selected_payment_option = value(descent)?;
-        let selected_service_list = required(descent)?;
-        Ok(ServicePaymentSelectionReq {
+    type Made = Elements<(RequiredValue<PaymentOption>, Required<SelectedServiceList>)>;
+
+    fn of(made: Self::Made) -> ServicePaymentSelectionReq {
+        let Elements((RequiredValue(selected_payment_option), Required(selected_service_list))) =
+            made;
+        ServicePaymentSelectionReq {
             selected_payment_option,
             selected_service_list,
-        })
+        }
     }
+
+    ghost declared = { Prim.search rules };
+
+    ghost apart = { Prim.search rules };
 }
 
 /// ServicePaymentSelectionRes.
@@ -164,6 +179,7 @@ impl PutRecord for ServicePaymentSelectionRes {
 impl<'a> Record<'a> for ServicePaymentSelectionRes {
     ghost use Rattle.din_schema.specs.Declarations.{kinds};
     ghost use Rattle.din_schema.specs.Setup.{service_payment_selection_res};
+    ghost use Rattle.std.proofs.Common.{rules};
 
     ghost kinds = { kinds };
 
@@ -171,11 +187,14 @@ impl<'a> Record<'a> for ServicePaymentSelectionRes {
 
     ghost particles = { service_payment_selection_res };
 
-    fn read<P: Places>(
-        descent: &mut Descent<'a, '_, P>,
-    ) -> Result<ServicePaymentSelectionRes, Refusal> {
-        first_child(descent)?;
-        let response_code = value(descent)?;
-        Ok(ServicePaymentSelectionRes { response_code })
+    type Made = Elements<RequiredValue<ResponseCode>>;
+
+    fn of(made: Self::Made) -> ServicePaymentSelectionRes {
+        let Elements(RequiredValue(response_code)) = made;
+        ServicePaymentSelectionRes { response_code }
     }
+
+    ghost declared = { Prim.search rules };
+
+    ghost apart = { Prim.search rules };
 }

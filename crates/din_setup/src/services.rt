@@ -5,13 +5,14 @@ ghost use Rattle.std.specs.Prelude.{[]};
 use arrayvec::ArrayVec;
 use din_parts::{PaymentOption, ResponseCode, ServiceCategory, SupportedEnergyTransferType};
 use din_schema::names;
-use exi_documents::Refusal;
 use exi_events::EventWriter;
 use exi_schema::Places;
-use message_fields::{OptionalValue, RequiredValue, first_children};
+use message_fields::{
+    Elements, Optional, OptionalValue, Required, RequiredValue, Several, SeveralValues,
+};
 use message_parts::{
-    Descent, PutRecord, Record, Text, first_child, optional, put_optional, put_optional_value,
-    put_record, put_records, put_value, put_values, records, required, value, values,
+    PutRecord, Record, Text, put_optional, put_optional_value, put_record, put_records, put_value,
+    put_values,
 };
 
 /// ServiceTag.
@@ -43,6 +44,7 @@ impl PutRecord for ServiceTag<'_> {
 impl<'a> Record<'a> for ServiceTag<'a> {
     ghost use Rattle.din_schema.specs.Declarations.{kinds};
     ghost use Rattle.din_schema.specs.Setup.{service_tag};
+    ghost use Rattle.std.proofs.Common.{rules};
 
     ghost kinds = { kinds };
 
@@ -50,20 +52,35 @@ impl<'a> Record<'a> for ServiceTag<'a> {
 
     ghost particles = { service_tag };
 
-    fn read<P: Places>(descent: &mut Descent<'a, '_, P>) -> Result<ServiceTag<'a>, Refusal> {
-        let (
-            RequiredValue(service_id),
-            OptionalValue::<_, { names::SERVICE_NAME }>(service_name),
-            RequiredValue(service_category),
-            OptionalValue::<_, { names::SERVICE_SCOPE }>(service_scope),
-        ) = first_children(descent)?;
-        Ok(ServiceTag {
+    type Made = Elements<
+        (
+            RequiredValue<u16>,
+            OptionalValue<Text<'a>, { names::SERVICE_NAME }>,
+            RequiredValue<ServiceCategory>,
+            OptionalValue<Text<'a>, { names::SERVICE_SCOPE }>,
+        ),
+    >;
+
+    fn of(made: Self::Made) -> ServiceTag<'a> {
+        let Elements(
+            (
+                RequiredValue(service_id),
+                OptionalValue(service_name),
+                RequiredValue(service_category),
+                OptionalValue(service_scope),
+            ),
+        ) = made;
+        ServiceTag {
             service_id,
             service_name,
             service_category,
             service_scope,
-        })
+        }
     }
+
+    ghost declared = { Prim.search rules };
+
+    ghost apart = { Prim.search rules };
 }
 
 /// Service.
@@ -89,6 +106,7 @@ impl PutRecord for Service<'_> {
 impl<'a> Record<'a> for Service<'a> {
     ghost use Rattle.din_schema.specs.Declarations.{kinds};
     ghost use Rattle.din_schema.specs.Setup.{service};
+    ghost use Rattle.std.proofs.Common.{rules};
 
     ghost kinds = { kinds };
 
@@ -96,15 +114,19 @@ impl<'a> Record<'a> for Service<'a> {
 
     ghost particles = { service };
 
-    fn read<P: Places>(descent: &mut Descent<'a, '_, P>) -> Result<Service<'a>, Refusal> {
-        first_child(descent)?;
-        let service_tag = required(descent)?;
-        let free_service = value(descent)?;
-        Ok(Service {
+    type Made = Elements<(Required<ServiceTag<'a>>, RequiredValue<bool>)>;
+
+    fn of(made: Self::Made) -> Service<'a> {
+        let Elements((Required(service_tag), RequiredValue(free_service))) = made;
+        Service {
             service_tag,
             free_service,
-        })
+        }
     }
+
+    ghost declared = { Prim.search rules };
+
+    ghost apart = { Prim.search rules };
 }
 
 /// ServiceList.
@@ -129,6 +151,7 @@ impl PutRecord for ServiceList<'_> {
 impl<'a> Record<'a> for ServiceList<'a> {
     ghost use Rattle.din_schema.specs.Declarations.{kinds};
     ghost use Rattle.din_schema.specs.Setup.{service_list};
+    ghost use Rattle.std.proofs.Common.{rules};
 
     ghost kinds = { kinds };
 
@@ -136,11 +159,16 @@ impl<'a> Record<'a> for ServiceList<'a> {
 
     ghost particles = { service_list };
 
-    fn read<P: Places>(descent: &mut Descent<'a, '_, P>) -> Result<ServiceList<'a>, Refusal> {
-        first_child(descent)?;
-        let service = records(descent, names::SERVICE)?;
-        Ok(ServiceList { service })
+    type Made = Elements<Several<Service<'a>, 8, { names::SERVICE }>>;
+
+    fn of(made: Self::Made) -> ServiceList<'a> {
+        let Elements(Several(service)) = made;
+        ServiceList { service }
     }
+
+    ghost declared = { Prim.search rules };
+
+    ghost apart = { Prim.search rules };
 }
 
 /// ChargeService.
@@ -172,6 +200,7 @@ impl PutRecord for ChargeService<'_> {
 impl<'a> Record<'a> for ChargeService<'a> {
     ghost use Rattle.din_schema.specs.Declarations.{kinds};
     ghost use Rattle.din_schema.specs.Setup.{charge_service};
+    ghost use Rattle.std.proofs.Common.{rules};
 
     ghost kinds = { kinds };
 
@@ -179,17 +208,32 @@ impl<'a> Record<'a> for ChargeService<'a> {
 
     ghost particles = { charge_service };
 
-    fn read<P: Places>(descent: &mut Descent<'a, '_, P>) -> Result<ChargeService<'a>, Refusal> {
-        first_child(descent)?;
-        let service_tag = required(descent)?;
-        let free_service = value(descent)?;
-        let energy_transfer_type = value(descent)?;
-        Ok(ChargeService {
+    type Made = Elements<
+        (
+            Required<ServiceTag<'a>>,
+            RequiredValue<bool>,
+            RequiredValue<SupportedEnergyTransferType>,
+        ),
+    >;
+
+    fn of(made: Self::Made) -> ChargeService<'a> {
+        let Elements(
+            (
+                Required(service_tag),
+                RequiredValue(free_service),
+                RequiredValue(energy_transfer_type),
+            ),
+        ) = made;
+        ChargeService {
             service_tag,
             free_service,
             energy_transfer_type,
-        })
+        }
     }
+
+    ghost declared = { Prim.search rules };
+
+    ghost apart = { Prim.search rules };
 }
 
 /// PaymentOptions.
@@ -214,6 +258,7 @@ impl PutRecord for PaymentOptions {
 impl<'a> Record<'a> for PaymentOptions {
     ghost use Rattle.din_schema.specs.Declarations.{kinds};
     ghost use Rattle.din_schema.specs.Setup.{payment_options};
+    ghost use Rattle.std.proofs.Common.{rules};
 
     ghost kinds = { kinds };
 
@@ -221,11 +266,16 @@ impl<'a> Record<'a> for PaymentOptions {
 
     ghost particles = { payment_options };
 
-    fn read<P: Places>(descent: &mut Descent<'a, '_, P>) -> Result<PaymentOptions, Refusal> {
-        first_child(descent)?;
-        let payment_option = values(descent, names::PAYMENT_OPTION)?;
-        Ok(PaymentOptions { payment_option })
+    type Made = Elements<SeveralValues<PaymentOption, 2, { names::PAYMENT_OPTION }>>;
+
+    fn of(made: Self::Made) -> PaymentOptions {
+        let Elements(SeveralValues(payment_option)) = made;
+        PaymentOptions { payment_option }
     }
+
+    ghost declared = { Prim.search rules };
+
+    ghost apart = { Prim.search rules };
 }
 
 /// ServiceDiscoveryReq.
@@ -252,6 +302,7 @@ impl PutRecord for ServiceDiscoveryReq<'_> {
 impl<'a> Record<'a> for ServiceDiscoveryReq<'a> {
     ghost use Rattle.din_schema.specs.Declarations.{kinds};
     ghost use Rattle.din_schema.specs.Setup.{service_discovery_req};
+    ghost use Rattle.std.proofs.Common.{rules};
 
     ghost kinds = { kinds };
 
@@ -259,18 +310,24 @@ impl<'a> Record<'a> for ServiceDiscoveryReq<'a> {
 
     ghost particles = { service_discovery_req };
 
-    fn read<P: Places>(
-        descent: &mut Descent<'a, '_, P>,
-    ) -> Result<ServiceDiscoveryReq<'a>, Refusal> {
-        let (
-            OptionalValue::<_, { names::SERVICE_SCOPE }>(service_scope),
-            OptionalValue::<_, { names::SERVICE_CATEGORY }>(service_category),
-        ) = first_children(descent)?;
-        Ok(ServiceDiscoveryReq {
+    type Made = Elements<
+        (
+            OptionalValue<Text<'a>, { names::SERVICE_SCOPE }>,
+            OptionalValue<ServiceCategory, { names::SERVICE_CATEGORY }>,
+        ),
+    >;
+
+    fn of(made: Self::Made) -> ServiceDiscoveryReq<'a> {
+        let Elements((OptionalValue(service_scope), OptionalValue(service_category))) = made;
+        ServiceDiscoveryReq {
             service_scope,
             service_category,
-        })
+        }
     }
+
+    ghost declared = { Prim.search rules };
+
+    ghost apart = { Prim.search rules };
 }
 
 /// ServiceDiscoveryRes.
@@ -300,6 +357,7 @@ impl PutRecord for ServiceDiscoveryRes<'_> {
 impl<'a> Record<'a> for ServiceDiscoveryRes<'a> {
     ghost use Rattle.din_schema.specs.Declarations.{kinds};
     ghost use Rattle.din_schema.specs.Setup.{service_discovery_res};
+    ghost use Rattle.std.proofs.Common.{rules};
 
     ghost kinds = { kinds };
 
@@ -307,19 +365,33 @@ impl<'a> Record<'a> for ServiceDiscoveryRes<'a> {
 
     ghost particles = { service_discovery_res };
 
-    fn read<P: Places>(
-        descent: &mut Descent<'a, '_, P>,
-    ) -> Result<ServiceDiscoveryRes<'a>, Refusal> {
-        first_child(descent)?;
-        let response_code = value(descent)?;
-        let payment_options = required(descent)?;
-        let charge_service = required(descent)?;
-        let service_list = optional(descent, names::SERVICE_LIST)?;
-        Ok(ServiceDiscoveryRes {
+    type Made = Elements<
+        (
+            RequiredValue<ResponseCode>,
+            Required<PaymentOptions>,
+            Required<ChargeService<'a>>,
+            Optional<ServiceList<'a>, { names::SERVICE_LIST }>,
+        ),
+    >;
+
+    fn of(made: Self::Made) -> ServiceDiscoveryRes<'a> {
+        let Elements(
+            (
+                RequiredValue(response_code),
+                Required(payment_options),
+                Required(charge_service),
+                Optional(service_list),
+            ),
+        ) = made;
+        ServiceDiscoveryRes {
             response_code,
             payment_options,
             charge_service,
             service_list,
-        })
+        }
     }
+
+    ghost declared = { Prim.search rules };
+
+    ghost apart = { Prim.search rules };
 }

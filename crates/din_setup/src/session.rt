@@ -4,13 +4,11 @@ ghost use Rattle.std.specs.Prelude.{[]};
 
 use din_parts::{EvseProcessing, ResponseCode};
 use din_schema::names;
-use exi_documents::Refusal;
 use exi_events::EventWriter;
 use exi_schema::Places;
-use message_fields::{OptionalValue, RequiredValue, first_children};
+use message_fields::{Elements, OptionalValue, RequiredValue, WithOptionalAttribute};
 use message_parts::{
-    Binary, Descent, PutRecord, Record, Text, first_child, last_attribute, optional_value,
-    put_optional_attribute, put_optional_value, put_value, value,
+    Binary, PutRecord, Record, Text, put_optional_attribute, put_optional_value, put_value,
 };
 
 /// SessionSetupReq.
@@ -35,6 +33,7 @@ impl PutRecord for SessionSetupReq<'_> {
 impl<'a> Record<'a> for SessionSetupReq<'a> {
     ghost use Rattle.din_schema.specs.Declarations.{kinds};
     ghost use Rattle.din_schema.specs.Setup.{session_setup_req};
+    ghost use Rattle.std.proofs.Common.{rules};
 
     ghost kinds = { kinds };
 
@@ -42,11 +41,16 @@ impl<'a> Record<'a> for SessionSetupReq<'a> {
 
     ghost particles = { session_setup_req };
 
-    fn read<P: Places>(descent: &mut Descent<'a, '_, P>) -> Result<SessionSetupReq<'a>, Refusal> {
-        first_child(descent)?;
-        let evccid = value(descent)?;
-        Ok(SessionSetupReq { evccid })
+    type Made = Elements<RequiredValue<Binary<'a>>>;
+
+    fn of(made: Self::Made) -> SessionSetupReq<'a> {
+        let Elements(RequiredValue(evccid)) = made;
+        SessionSetupReq { evccid }
     }
+
+    ghost declared = { Prim.search rules };
+
+    ghost apart = { Prim.search rules };
 }
 
 /// SessionSetupRes.
@@ -75,6 +79,7 @@ impl PutRecord for SessionSetupRes<'_> {
 impl<'a> Record<'a> for SessionSetupRes<'a> {
     ghost use Rattle.din_schema.specs.Declarations.{kinds};
     ghost use Rattle.din_schema.specs.Setup.{session_setup_res};
+    ghost use Rattle.std.proofs.Common.{rules};
 
     ghost kinds = { kinds };
 
@@ -82,18 +87,28 @@ impl<'a> Record<'a> for SessionSetupRes<'a> {
 
     ghost particles = { session_setup_res };
 
-    fn read<P: Places>(descent: &mut Descent<'a, '_, P>) -> Result<SessionSetupRes<'a>, Refusal> {
-        let (
-            RequiredValue(response_code),
-            RequiredValue(evseid),
-            OptionalValue::<_, { names::DATE_TIME_NOW }>(date_time_now),
-        ) = first_children(descent)?;
-        Ok(SessionSetupRes {
+    type Made = Elements<
+        (
+            RequiredValue<ResponseCode>,
+            RequiredValue<Binary<'a>>,
+            OptionalValue<i64, { names::DATE_TIME_NOW }>,
+        ),
+    >;
+
+    fn of(made: Self::Made) -> SessionSetupRes<'a> {
+        let Elements(
+            (RequiredValue(response_code), RequiredValue(evseid), OptionalValue(date_time_now)),
+        ) = made;
+        SessionSetupRes {
             response_code,
             evseid,
             date_time_now,
-        })
+        }
     }
+
+    ghost declared = { Prim.search rules };
+
+    ghost apart = { Prim.search rules };
 }
 
 /// ContractAuthenticationReq.
@@ -122,6 +137,7 @@ impl<'a> Record<'a> for ContractAuthenticationReq<'a> {
     ghost use Rattle.din_schema.specs.Declarations.{kinds};
     ghost use Rattle.din_schema.specs.Setup.{contract_authentication_req};
     ghost use Rattle.din_setup.specs.Session.{contract_authentication_req_attributes};
+    ghost use Rattle.std.proofs.Common.{rules};
 
     ghost kinds = { kinds };
 
@@ -129,13 +145,16 @@ impl<'a> Record<'a> for ContractAuthenticationReq<'a> {
 
     ghost particles = { contract_authentication_req };
 
-    fn read<P: Places>(
-        descent: &mut Descent<'a, '_, P>,
-    ) -> Result<ContractAuthenticationReq<'a>, Refusal> {
-        let id = last_attribute(descent)?;
-        let gen_challenge = optional_value(descent, names::GEN_CHALLENGE)?;
-        Ok(ContractAuthenticationReq { id, gen_challenge })
+    type Made = WithOptionalAttribute<Text<'a>, OptionalValue<Text<'a>, { names::GEN_CHALLENGE }>>;
+
+    fn of(made: Self::Made) -> ContractAuthenticationReq<'a> {
+        let WithOptionalAttribute(id, OptionalValue(gen_challenge)) = made;
+        ContractAuthenticationReq { id, gen_challenge }
     }
+
+    ghost declared = { Prim.search rules };
+
+    ghost apart = { Prim.search rules };
 }
 
 /// ContractAuthenticationRes.
@@ -161,6 +180,7 @@ impl PutRecord for ContractAuthenticationRes {
 impl<'a> Record<'a> for ContractAuthenticationRes {
     ghost use Rattle.din_schema.specs.Declarations.{kinds};
     ghost use Rattle.din_schema.specs.Setup.{contract_authentication_res};
+    ghost use Rattle.std.proofs.Common.{rules};
 
     ghost kinds = { kinds };
 
@@ -168,17 +188,19 @@ impl<'a> Record<'a> for ContractAuthenticationRes {
 
     ghost particles = { contract_authentication_res };
 
-    fn read<P: Places>(
-        descent: &mut Descent<'a, '_, P>,
-    ) -> Result<ContractAuthenticationRes, Refusal> {
-        let (RequiredValue(response_code), RequiredValue(evse_processing)) = first_children(
-            descent,
-        )?;
-        Ok(ContractAuthenticationRes {
+    type Made = Elements<(RequiredValue<ResponseCode>, RequiredValue<EvseProcessing>)>;
+
+    fn of(made: Self::Made) -> ContractAuthenticationRes {
+        let Elements((RequiredValue(response_code), RequiredValue(evse_processing))) = made;
+        ContractAuthenticationRes {
             response_code,
             evse_processing,
-        })
+        }
     }
+
+    ghost declared = { Prim.search rules };
+
+    ghost apart = { Prim.search rules };
 }
 
 /// SessionStopReq.
@@ -195,6 +217,7 @@ impl PutRecord for SessionStopReq {
 
 impl<'a> Record<'a> for SessionStopReq {
     ghost use Rattle.din_schema.specs.Declarations.{kinds};
+    ghost use Rattle.std.proofs.Common.{rules};
 
     ghost kinds = { kinds };
 
@@ -202,10 +225,15 @@ impl<'a> Record<'a> for SessionStopReq {
 
     ghost particles = { [] };
 
-    fn read<P: Places>(descent: &mut Descent<'a, '_, P>) -> Result<SessionStopReq, Refusal> {
-        first_child(descent)?;
-        Ok(SessionStopReq)
+    type Made = Elements<()>;
+
+    fn of(_made: Self::Made) -> SessionStopReq {
+        SessionStopReq
     }
+
+    ghost declared = { Prim.search rules };
+
+    ghost apart = { Prim.search rules };
 }
 
 /// SessionStopRes.
@@ -229,6 +257,7 @@ impl PutRecord for SessionStopRes {
 impl<'a> Record<'a> for SessionStopRes {
     ghost use Rattle.din_schema.specs.Declarations.{kinds};
     ghost use Rattle.din_schema.specs.Setup.{session_stop_res};
+    ghost use Rattle.std.proofs.Common.{rules};
 
     ghost kinds = { kinds };
 
@@ -236,9 +265,14 @@ impl<'a> Record<'a> for SessionStopRes {
 
     ghost particles = { session_stop_res };
 
-    fn read<P: Places>(descent: &mut Descent<'a, '_, P>) -> Result<SessionStopRes, Refusal> {
-        first_child(descent)?;
-        let response_code = value(descent)?;
-        Ok(SessionStopRes { response_code })
+    type Made = Elements<RequiredValue<ResponseCode>>;
+
+    fn of(made: Self::Made) -> SessionStopRes {
+        let Elements(RequiredValue(response_code)) = made;
+        SessionStopRes { response_code }
     }
+
+    ghost declared = { Prim.search rules };
+
+    ghost apart = { Prim.search rules };
 }

@@ -4,15 +4,13 @@ ghost use Rattle.std.specs.Prelude.{[]};
 
 use crate::limits::{EvChargeParameter, EvseChargeParameter};
 use crate::schedules::SaSchedules;
-use exi_documents::Refusal;
 use exi_events::EventWriter;
 use exi_schema::Places;
 use iso_parts::{EnergyTransferMode, EvseProcessing, ResponseCode};
 use iso_schema::names;
-use message_fields::{OneOf, OptionalValue, RequiredValue, first_children};
+use message_fields::{AtMostOneOf, Elements, OneOf, OptionalValue, RequiredValue};
 use message_parts::{
-    Descent, PutRecord, Record, choice, optional_choice, put_choice, put_optional_choice,
-    put_optional_value, put_value,
+    PutRecord, Record, put_choice, put_optional_choice, put_optional_value, put_value,
 };
 
 /// ChargeParameterDiscoveryReq.
@@ -48,6 +46,7 @@ impl PutRecord for ChargeParameterDiscoveryReq {
 impl<'a> Record<'a> for ChargeParameterDiscoveryReq {
     ghost use Rattle.iso_schema.specs.Declarations.{kinds};
     ghost use Rattle.iso_schema.specs.Parameters.{charge_parameter_discovery_req};
+    ghost use Rattle.std.proofs.Common.{rules};
 
     ghost kinds = { kinds };
 
@@ -55,22 +54,32 @@ impl<'a> Record<'a> for ChargeParameterDiscoveryReq {
 
     ghost particles = { charge_parameter_discovery_req };
 
-    fn read<P: Places>(
-        descent: &mut Descent<'a, '_, P>,
-    ) -> Result<ChargeParameterDiscoveryReq, Refusal> {
-        let (
-            OptionalValue::<_, { names::MAX_ENTRIES_SA_SCHEDULE_TUPLE }>(
-                max_entries_sa_schedule_tuple,
+    type Made = Elements<
+        (
+            OptionalValue<u16, { names::MAX_ENTRIES_SA_SCHEDULE_TUPLE }>,
+            RequiredValue<EnergyTransferMode>,
+            OneOf<EvChargeParameter>,
+        ),
+    >;
+
+    fn of(made: Self::Made) -> ChargeParameterDiscoveryReq {
+        let Elements(
+            (
+                OptionalValue(max_entries_sa_schedule_tuple),
+                RequiredValue(requested_energy_transfer_mode),
+                OneOf(ev_charge_parameter),
             ),
-            RequiredValue(requested_energy_transfer_mode),
-            OneOf(ev_charge_parameter),
-        ) = first_children(descent)?;
-        Ok(ChargeParameterDiscoveryReq {
+        ) = made;
+        ChargeParameterDiscoveryReq {
             max_entries_sa_schedule_tuple,
             requested_energy_transfer_mode,
             ev_charge_parameter,
-        })
+        }
     }
+
+    ghost declared = { Prim.search rules };
+
+    ghost apart = { Prim.search rules };
 }
 
 /// ChargeParameterDiscoveryRes.
@@ -100,6 +109,7 @@ impl PutRecord for ChargeParameterDiscoveryRes {
 impl<'a> Record<'a> for ChargeParameterDiscoveryRes {
     ghost use Rattle.iso_schema.specs.Declarations.{kinds};
     ghost use Rattle.iso_schema.specs.Parameters.{charge_parameter_discovery_res};
+    ghost use Rattle.std.proofs.Common.{rules};
 
     ghost kinds = { kinds };
 
@@ -107,19 +117,33 @@ impl<'a> Record<'a> for ChargeParameterDiscoveryRes {
 
     ghost particles = { charge_parameter_discovery_res };
 
-    fn read<P: Places>(
-        descent: &mut Descent<'a, '_, P>,
-    ) -> Result<ChargeParameterDiscoveryRes, Refusal> {
-        let (RequiredValue(response_code), RequiredValue(evse_processing)) = first_children(
-            descent,
-        )?;
-        let sa_schedules = optional_choice(descent)?;
-        let evse_charge_parameter = choice(descent)?;
-        Ok(ChargeParameterDiscoveryRes {
+    type Made = Elements<
+        (
+            RequiredValue<ResponseCode>,
+            RequiredValue<EvseProcessing>,
+            AtMostOneOf<SaSchedules>,
+            OneOf<EvseChargeParameter>,
+        ),
+    >;
+
+    fn of(made: Self::Made) -> ChargeParameterDiscoveryRes {
+        let Elements(
+            (
+                RequiredValue(response_code),
+                RequiredValue(evse_processing),
+                AtMostOneOf(sa_schedules),
+                OneOf(evse_charge_parameter),
+            ),
+        ) = made;
+        ChargeParameterDiscoveryRes {
             response_code,
             evse_processing,
             sa_schedules,
             evse_charge_parameter,
-        })
+        }
     }
+
+    ghost declared = { Prim.search rules };
+
+    ghost apart = { Prim.search rules };
 }

@@ -7,7 +7,7 @@ use exi_events::EventWriter;
 use exi_schema::Places;
 use iso_parts::{AcEvseStatus, DcEvStatus, DcEvseStatus, PhysicalValue};
 use iso_schema::names;
-use message_fields::{Optional, OptionalValue, Required, first_children};
+use message_fields::{Elements, Optional, OptionalValue, Required};
 use message_parts::{
     Choice, Descent, PutChoice, PutRecord, Record, member, put_optional, put_optional_value,
     put_record,
@@ -42,6 +42,7 @@ impl PutRecord for AcEvChargeParameter {
 impl<'a> Record<'a> for AcEvChargeParameter {
     ghost use Rattle.iso_schema.specs.Declarations.{kinds};
     ghost use Rattle.iso_schema.specs.Parameters.{ac_ev_charge_parameter};
+    ghost use Rattle.std.proofs.Common.{rules};
 
     ghost kinds = { kinds };
 
@@ -49,23 +50,36 @@ impl<'a> Record<'a> for AcEvChargeParameter {
 
     ghost particles = { ac_ev_charge_parameter };
 
-    fn read<P: Places>(descent: &mut Descent<'a, '_, P>) -> Result<AcEvChargeParameter, Refusal> {
-        let (
+    type Made = Elements<
+        (
             (
-                OptionalValue::<_, { names::DEPARTURE_TIME }>(departure_time),
-                Required(e_amount),
-                Required(ev_max_voltage),
+                OptionalValue<u32, { names::DEPARTURE_TIME }>,
+                Required<PhysicalValue>,
+                Required<PhysicalValue>,
             ),
-            (Required(ev_max_current), Required(ev_min_current)),
-        ) = first_children(descent)?;
-        Ok(AcEvChargeParameter {
+            (Required<PhysicalValue>, Required<PhysicalValue>),
+        ),
+    >;
+
+    fn of(made: Self::Made) -> AcEvChargeParameter {
+        let Elements(
+            (
+                (OptionalValue(departure_time), Required(e_amount), Required(ev_max_voltage)),
+                (Required(ev_max_current), Required(ev_min_current)),
+            ),
+        ) = made;
+        AcEvChargeParameter {
             departure_time,
             e_amount,
             ev_max_voltage,
             ev_max_current,
             ev_min_current,
-        })
+        }
     }
+
+    ghost declared = { Prim.search rules };
+
+    ghost apart = { Prim.search rules };
 }
 
 /// DC_EVChargeParameter.
@@ -119,6 +133,7 @@ impl PutRecord for DcEvChargeParameter {
 impl<'a> Record<'a> for DcEvChargeParameter {
     ghost use Rattle.iso_schema.specs.Declarations.{kinds};
     ghost use Rattle.iso_schema.specs.Parameters.{dc_ev_charge_parameter};
+    ghost use Rattle.std.proofs.Common.{rules};
 
     ghost kinds = { kinds };
 
@@ -126,25 +141,43 @@ impl<'a> Record<'a> for DcEvChargeParameter {
 
     ghost particles = { dc_ev_charge_parameter };
 
-    fn read<P: Places>(descent: &mut Descent<'a, '_, P>) -> Result<DcEvChargeParameter, Refusal> {
-        let (
+    type Made = Elements<
+        (
             (
-                OptionalValue::<_, { names::DEPARTURE_TIME }>(departure_time),
-                Required(dc_ev_status),
-                Required(ev_maximum_current_limit),
+                OptionalValue<u32, { names::DEPARTURE_TIME }>,
+                Required<DcEvStatus>,
+                Required<PhysicalValue>,
             ),
             (
-                Optional::<_, { names::EV_MAXIMUM_POWER_LIMIT }>(ev_maximum_power_limit),
-                Required(ev_maximum_voltage_limit),
-                Optional::<_, { names::EV_ENERGY_CAPACITY }>(ev_energy_capacity),
+                Optional<PhysicalValue, { names::EV_MAXIMUM_POWER_LIMIT }>,
+                Required<PhysicalValue>,
+                Optional<PhysicalValue, { names::EV_ENERGY_CAPACITY }>,
             ),
             (
-                Optional::<_, { names::EV_ENERGY_REQUEST }>(ev_energy_request),
-                OptionalValue::<_, { names::FULL_SOC }>(full_soc),
-                OptionalValue::<_, { names::BULK_SOC }>(bulk_soc),
+                Optional<PhysicalValue, { names::EV_ENERGY_REQUEST }>,
+                OptionalValue<u8, { names::FULL_SOC }>,
+                OptionalValue<u8, { names::BULK_SOC }>,
             ),
-        ) = first_children(descent)?;
-        Ok(DcEvChargeParameter {
+        ),
+    >;
+
+    fn of(made: Self::Made) -> DcEvChargeParameter {
+        let Elements(
+            (
+                (
+                    OptionalValue(departure_time),
+                    Required(dc_ev_status),
+                    Required(ev_maximum_current_limit),
+                ),
+                (
+                    Optional(ev_maximum_power_limit),
+                    Required(ev_maximum_voltage_limit),
+                    Optional(ev_energy_capacity),
+                ),
+                (Optional(ev_energy_request), OptionalValue(full_soc), OptionalValue(bulk_soc)),
+            ),
+        ) = made;
+        DcEvChargeParameter {
             departure_time,
             dc_ev_status,
             ev_maximum_current_limit,
@@ -154,8 +187,12 @@ impl<'a> Record<'a> for DcEvChargeParameter {
             ev_energy_request,
             full_soc,
             bulk_soc,
-        })
+        }
     }
+
+    ghost declared = { Prim.search rules };
+
+    ghost apart = { Prim.search rules };
 }
 
 /// One element of the substitution group EVChargeParameter.
@@ -228,6 +265,7 @@ impl PutRecord for AcEvseChargeParameter {
 impl<'a> Record<'a> for AcEvseChargeParameter {
     ghost use Rattle.iso_schema.specs.Declarations.{kinds};
     ghost use Rattle.iso_schema.specs.Parameters.{ac_evse_charge_parameter};
+    ghost use Rattle.std.proofs.Common.{rules};
 
     ghost kinds = { kinds };
 
@@ -235,15 +273,28 @@ impl<'a> Record<'a> for AcEvseChargeParameter {
 
     ghost particles = { ac_evse_charge_parameter };
 
-    fn read<P: Places>(descent: &mut Descent<'a, '_, P>) -> Result<AcEvseChargeParameter, Refusal> {
-        let (Required(ac_evse_status), Required(evse_nominal_voltage), Required(evse_max_current)) =
-            first_children(descent)?;
-        Ok(AcEvseChargeParameter {
+    type Made = Elements<
+        (
+            Required<AcEvseStatus>,
+            Required<PhysicalValue>,
+            Required<PhysicalValue>,
+        ),
+    >;
+
+    fn of(made: Self::Made) -> AcEvseChargeParameter {
+        let Elements(
+            (Required(ac_evse_status), Required(evse_nominal_voltage), Required(evse_max_current)),
+        ) = made;
+        AcEvseChargeParameter {
             ac_evse_status,
             evse_nominal_voltage,
             evse_max_current,
-        })
+        }
     }
+
+    ghost declared = { Prim.search rules };
+
+    ghost apart = { Prim.search rules };
 }
 
 /// DC_EVSEChargeParameter.
@@ -315,6 +366,7 @@ impl PutRecord for DcEvseChargeParameter {
 impl<'a> Record<'a> for DcEvseChargeParameter {
     ghost use Rattle.iso_schema.specs.Declarations.{kinds};
     ghost use Rattle.iso_schema.specs.Parameters.{dc_evse_charge_parameter};
+    ghost use Rattle.std.proofs.Common.{rules};
 
     ghost kinds = { kinds };
 
@@ -322,27 +374,47 @@ impl<'a> Record<'a> for DcEvseChargeParameter {
 
     ghost particles = { dc_evse_charge_parameter };
 
-    fn read<P: Places>(descent: &mut Descent<'a, '_, P>) -> Result<DcEvseChargeParameter, Refusal> {
-        let (
+    type Made = Elements<
+        (
             (
-                Required(dc_evse_status),
-                Required(evse_maximum_current_limit),
-                Required(evse_maximum_power_limit),
+                Required<DcEvseStatus>,
+                Required<PhysicalValue>,
+                Required<PhysicalValue>,
             ),
             (
-                Required(evse_maximum_voltage_limit),
-                Required(evse_minimum_current_limit),
-                Required(evse_minimum_voltage_limit),
+                Required<PhysicalValue>,
+                Required<PhysicalValue>,
+                Required<PhysicalValue>,
             ),
             (
-                Optional::<_, { names::EVSE_CURRENT_REGULATION_TOLERANCE }>(
-                    evse_current_regulation_tolerance,
+                Optional<PhysicalValue, { names::EVSE_CURRENT_REGULATION_TOLERANCE }>,
+                Required<PhysicalValue>,
+                Optional<PhysicalValue, { names::EVSE_ENERGY_TO_BE_DELIVERED }>,
+            ),
+        ),
+    >;
+
+    fn of(made: Self::Made) -> DcEvseChargeParameter {
+        let Elements(
+            (
+                (
+                    Required(dc_evse_status),
+                    Required(evse_maximum_current_limit),
+                    Required(evse_maximum_power_limit),
                 ),
-                Required(evse_peak_current_ripple),
-                Optional::<_, { names::EVSE_ENERGY_TO_BE_DELIVERED }>(evse_energy_to_be_delivered),
+                (
+                    Required(evse_maximum_voltage_limit),
+                    Required(evse_minimum_current_limit),
+                    Required(evse_minimum_voltage_limit),
+                ),
+                (
+                    Optional(evse_current_regulation_tolerance),
+                    Required(evse_peak_current_ripple),
+                    Optional(evse_energy_to_be_delivered),
+                ),
             ),
-        ) = first_children(descent)?;
-        Ok(DcEvseChargeParameter {
+        ) = made;
+        DcEvseChargeParameter {
             dc_evse_status,
             evse_maximum_current_limit,
             evse_maximum_power_limit,
@@ -352,8 +424,12 @@ impl<'a> Record<'a> for DcEvseChargeParameter {
             evse_current_regulation_tolerance,
             evse_peak_current_ripple,
             evse_energy_to_be_delivered,
-        })
+        }
     }
+
+    ghost declared = { Prim.search rules };
+
+    ghost apart = { Prim.search rules };
 }
 
 /// One element of the substitution group EVSEChargeParameter.

@@ -8,10 +8,10 @@ use exi_events::EventWriter;
 use exi_schema::Places;
 use iso_parts::PhysicalValue;
 use iso_schema::names;
-use message_fields::{OneOf, OptionalValue, Required, RequiredValue, first_children};
+use message_fields::{Elements, LeftOut, OneOf, OptionalValue, Required, RequiredValue, Several};
 use message_parts::{
-    Choice, Descent, Group, PutChoice, PutRecord, Record, first_child, left_out, member,
-    put_choice, put_optional_value, put_record, put_records, put_value, records, required, value,
+    Choice, Descent, Group, PutChoice, PutRecord, Record, member, put_choice, put_optional_value,
+    put_record, put_records, put_value,
 };
 
 /// RelativeTimeInterval.
@@ -39,6 +39,7 @@ impl PutRecord for RelativeTimeInterval {
 impl<'a> Record<'a> for RelativeTimeInterval {
     ghost use Rattle.iso_schema.specs.Declarations.{kinds};
     ghost use Rattle.iso_schema.specs.Parameters.{relative_time_interval};
+    ghost use Rattle.std.proofs.Common.{rules};
 
     ghost kinds = { kinds };
 
@@ -46,11 +47,16 @@ impl<'a> Record<'a> for RelativeTimeInterval {
 
     ghost particles = { relative_time_interval };
 
-    fn read<P: Places>(descent: &mut Descent<'a, '_, P>) -> Result<RelativeTimeInterval, Refusal> {
-        let (RequiredValue(start), OptionalValue::<_, { names::DURATION }>(duration)) =
-            first_children(descent)?;
-        Ok(RelativeTimeInterval { start, duration })
+    type Made = Elements<(RequiredValue<u32>, OptionalValue<u32, { names::DURATION }>)>;
+
+    fn of(made: Self::Made) -> RelativeTimeInterval {
+        let Elements((RequiredValue(start), OptionalValue(duration))) = made;
+        RelativeTimeInterval { start, duration }
     }
+
+    ghost declared = { Prim.search rules };
+
+    ghost apart = { Prim.search rules };
 }
 
 /// One element of the substitution group TimeInterval.
@@ -119,6 +125,7 @@ impl PutRecord for PMaxScheduleEntry {
 impl<'a> Record<'a> for PMaxScheduleEntry {
     ghost use Rattle.iso_schema.specs.Declarations.{kinds};
     ghost use Rattle.iso_schema.specs.Parameters.{p_max_schedule_entry};
+    ghost use Rattle.std.proofs.Common.{rules};
 
     ghost kinds = { kinds };
 
@@ -126,13 +133,19 @@ impl<'a> Record<'a> for PMaxScheduleEntry {
 
     ghost particles = { p_max_schedule_entry };
 
-    fn read<P: Places>(descent: &mut Descent<'a, '_, P>) -> Result<PMaxScheduleEntry, Refusal> {
-        let (OneOf(time_interval), Required(p_max)) = first_children(descent)?;
-        Ok(PMaxScheduleEntry {
+    type Made = Elements<(OneOf<TimeInterval>, Required<PhysicalValue>)>;
+
+    fn of(made: Self::Made) -> PMaxScheduleEntry {
+        let Elements((OneOf(time_interval), Required(p_max))) = made;
+        PMaxScheduleEntry {
             time_interval,
             p_max,
-        })
+        }
     }
+
+    ghost declared = { Prim.search rules };
+
+    ghost apart = { Prim.search rules };
 }
 
 /// PMaxSchedule.
@@ -161,6 +174,7 @@ impl PutRecord for PMaxSchedule {
 impl<'a> Record<'a> for PMaxSchedule {
     ghost use Rattle.iso_schema.specs.Declarations.{kinds};
     ghost use Rattle.iso_schema.specs.Parameters.{p_max_schedule};
+    ghost use Rattle.std.proofs.Common.{rules};
 
     ghost kinds = { kinds };
 
@@ -168,13 +182,18 @@ impl<'a> Record<'a> for PMaxSchedule {
 
     ghost particles = { p_max_schedule };
 
-    fn read<P: Places>(descent: &mut Descent<'a, '_, P>) -> Result<PMaxSchedule, Refusal> {
-        first_child(descent)?;
-        let p_max_schedule_entry = records(descent, names::P_MAX_SCHEDULE_ENTRY)?;
-        Ok(PMaxSchedule {
+    type Made = Elements<Several<PMaxScheduleEntry, 128, { names::P_MAX_SCHEDULE_ENTRY }>>;
+
+    fn of(made: Self::Made) -> PMaxSchedule {
+        let Elements(Several(p_max_schedule_entry)) = made;
+        PMaxSchedule {
             p_max_schedule_entry,
-        })
+        }
     }
+
+    ghost declared = { Prim.search rules };
+
+    ghost apart = { Prim.search rules };
 }
 
 /// SAScheduleTuple.
@@ -205,6 +224,7 @@ impl PutRecord for SaScheduleTuple {
 impl<'a> Record<'a> for SaScheduleTuple {
     ghost use Rattle.iso_schema.specs.Declarations.{kinds};
     ghost use Rattle.iso_schema.specs.Parameters.{sa_schedule_tuple};
+    ghost use Rattle.std.proofs.Common.{rules};
 
     ghost kinds = { kinds };
 
@@ -212,16 +232,20 @@ impl<'a> Record<'a> for SaScheduleTuple {
 
     ghost particles = { sa_schedule_tuple };
 
-    fn read<P: Places>(descent: &mut Descent<'a, '_, P>) -> Result<SaScheduleTuple, Refusal> {
-        first_child(descent)?;
-        let sa_schedule_tuple_id = value(descent)?;
-        let p_max_schedule = required(descent)?;
-        left_out(descent);
-        Ok(SaScheduleTuple {
+    type Made = Elements<(RequiredValue<u8>, Required<PMaxSchedule>, LeftOut)>;
+
+    fn of(made: Self::Made) -> SaScheduleTuple {
+        let Elements((RequiredValue(sa_schedule_tuple_id), Required(p_max_schedule), LeftOut)) =
+            made;
+        SaScheduleTuple {
             sa_schedule_tuple_id,
             p_max_schedule,
-        })
+        }
     }
+
+    ghost declared = { Prim.search rules };
+
+    ghost apart = { Prim.search rules };
 }
 
 /// SAScheduleList.
@@ -246,6 +270,7 @@ impl PutRecord for SaScheduleList {
 impl<'a> Record<'a> for SaScheduleList {
     ghost use Rattle.iso_schema.specs.Declarations.{kinds};
     ghost use Rattle.iso_schema.specs.Parameters.{sa_schedule_list};
+    ghost use Rattle.std.proofs.Common.{rules};
 
     ghost kinds = { kinds };
 
@@ -253,11 +278,16 @@ impl<'a> Record<'a> for SaScheduleList {
 
     ghost particles = { sa_schedule_list };
 
-    fn read<P: Places>(descent: &mut Descent<'a, '_, P>) -> Result<SaScheduleList, Refusal> {
-        first_child(descent)?;
-        let sa_schedule_tuple = records(descent, names::SA_SCHEDULE_TUPLE)?;
-        Ok(SaScheduleList { sa_schedule_tuple })
+    type Made = Elements<Several<SaScheduleTuple, 3, { names::SA_SCHEDULE_TUPLE }>>;
+
+    fn of(made: Self::Made) -> SaScheduleList {
+        let Elements(Several(sa_schedule_tuple)) = made;
+        SaScheduleList { sa_schedule_tuple }
     }
+
+    ghost declared = { Prim.search rules };
+
+    ghost apart = { Prim.search rules };
 }
 
 /// One element of the substitution group SASchedules.

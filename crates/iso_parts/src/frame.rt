@@ -3,15 +3,11 @@
 ghost use Rattle.std.specs.Prelude.{[]};
 
 use crate::enumerations::FaultCode;
-use exi_documents::Refusal;
 use exi_events::EventWriter;
 use exi_schema::Places;
 use iso_schema::names;
-use message_fields::{OptionalValue, RequiredValue, first_children};
-use message_parts::{
-    Binary, Descent, PutRecord, Record, Text, first_child, left_out, optional, put_optional,
-    put_optional_value, put_value, value,
-};
+use message_fields::{Elements, LeftOut, Optional, OptionalValue, RequiredValue};
+use message_parts::{Binary, PutRecord, Record, Text, put_optional, put_optional_value, put_value};
 
 /// Notification.
 #[derive(Drop)]
@@ -37,6 +33,7 @@ impl PutRecord for Notification<'_> {
 impl<'a> Record<'a> for Notification<'a> {
     ghost use Rattle.iso_schema.specs.Declarations.{kinds};
     ghost use Rattle.iso_schema.specs.Frame.{notification};
+    ghost use Rattle.std.proofs.Common.{rules};
 
     ghost kinds = { kinds };
 
@@ -44,14 +41,24 @@ impl<'a> Record<'a> for Notification<'a> {
 
     ghost particles = { notification };
 
-    fn read<P: Places>(descent: &mut Descent<'a, '_, P>) -> Result<Notification<'a>, Refusal> {
-        let (RequiredValue(fault_code), OptionalValue::<_, { names::FAULT_MSG }>(fault_msg)) =
-            first_children(descent)?;
-        Ok(Notification {
+    type Made = Elements<
+        (
+            RequiredValue<FaultCode>,
+            OptionalValue<Text<'a>, { names::FAULT_MSG }>,
+        ),
+    >;
+
+    fn of(made: Self::Made) -> Notification<'a> {
+        let Elements((RequiredValue(fault_code), OptionalValue(fault_msg))) = made;
+        Notification {
             fault_code,
             fault_msg,
-        })
+        }
     }
+
+    ghost declared = { Prim.search rules };
+
+    ghost apart = { Prim.search rules };
 }
 
 /// Header.
@@ -78,6 +85,7 @@ impl PutRecord for Header<'_> {
 impl<'a> Record<'a> for Header<'a> {
     ghost use Rattle.iso_schema.specs.Declarations.{kinds};
     ghost use Rattle.iso_schema.specs.Frame.{header};
+    ghost use Rattle.std.proofs.Common.{rules};
 
     ghost kinds = { kinds };
 
@@ -85,14 +93,23 @@ impl<'a> Record<'a> for Header<'a> {
 
     ghost particles = { header };
 
-    fn read<P: Places>(descent: &mut Descent<'a, '_, P>) -> Result<Header<'a>, Refusal> {
-        first_child(descent)?;
-        let session_id = value(descent)?;
-        let notification = optional(descent, names::NOTIFICATION)?;
-        left_out(descent);
-        Ok(Header {
+    type Made = Elements<
+        (
+            RequiredValue<Binary<'a>>,
+            Optional<Notification<'a>, { names::NOTIFICATION }>,
+            LeftOut,
+        ),
+    >;
+
+    fn of(made: Self::Made) -> Header<'a> {
+        let Elements((RequiredValue(session_id), Optional(notification), LeftOut)) = made;
+        Header {
             session_id,
             notification,
-        })
+        }
     }
+
+    ghost declared = { Prim.search rules };
+
+    ghost apart = { Prim.search rules };
 }

@@ -9,10 +9,10 @@ use exi_documents::Refusal;
 use exi_events::EventWriter;
 use exi_schema::Places;
 use iso_schema::names;
-use message_fields::{OptionalValue, RequiredValue, first_children};
+use message_fields::{Elements, OptionalValue, RequiredValue};
 use message_parts::{
-    Binary, Choice, Descent, PutChoice, PutRecord, Record, Text, member, put_optional_value,
-    put_record, put_value, three_values,
+    Binary, Choice, Descent, PutChoice, PutRecord, Record, Text, Three, member, put_optional_value,
+    put_record, put_value,
 };
 
 /// PhysicalValue.
@@ -41,6 +41,7 @@ impl PutRecord for PhysicalValue {
 impl<'a> Record<'a> for PhysicalValue {
     ghost use Rattle.iso_schema.specs.Declarations.{kinds};
     ghost use Rattle.iso_schema.specs.Frame.{physical_value};
+    ghost use Rattle.std.proofs.Common.{rules};
 
     ghost kinds = { kinds };
 
@@ -48,14 +49,19 @@ impl<'a> Record<'a> for PhysicalValue {
 
     ghost particles = { physical_value };
 
-    fn read<P: Places>(descent: &mut Descent<'a, '_, P>) -> Result<PhysicalValue, Refusal> {
-        let three = three_values(descent)?;
-        Ok(PhysicalValue {
-            multiplier: three.first,
-            unit: three.second,
-            value: three.third,
-        })
+    type Made = Three<i8, UnitSymbol, i16>;
+
+    fn of(made: Self::Made) -> PhysicalValue {
+        PhysicalValue {
+            multiplier: made.first,
+            unit: made.second,
+            value: made.third,
+        }
     }
+
+    ghost declared = { Prim.search rules };
+
+    ghost apart = { Prim.search rules };
 }
 
 /// DC_EVStatus.
@@ -84,6 +90,7 @@ impl PutRecord for DcEvStatus {
 impl<'a> Record<'a> for DcEvStatus {
     ghost use Rattle.iso_schema.specs.Declarations.{kinds};
     ghost use Rattle.iso_schema.specs.Frame.{dc_ev_status};
+    ghost use Rattle.std.proofs.Common.{rules};
 
     ghost kinds = { kinds };
 
@@ -91,14 +98,19 @@ impl<'a> Record<'a> for DcEvStatus {
 
     ghost particles = { dc_ev_status };
 
-    fn read<P: Places>(descent: &mut Descent<'a, '_, P>) -> Result<DcEvStatus, Refusal> {
-        let three = three_values(descent)?;
-        Ok(DcEvStatus {
-            ev_ready: three.first,
-            ev_error_code: three.second,
-            evress_soc: three.third,
-        })
+    type Made = Three<bool, EvErrorCode, u8>;
+
+    fn of(made: Self::Made) -> DcEvStatus {
+        DcEvStatus {
+            ev_ready: made.first,
+            ev_error_code: made.second,
+            evress_soc: made.third,
+        }
     }
+
+    ghost declared = { Prim.search rules };
+
+    ghost apart = { Prim.search rules };
 }
 
 /// AC_EVSEStatus.
@@ -130,6 +142,7 @@ impl PutRecord for AcEvseStatus {
 impl<'a> Record<'a> for AcEvseStatus {
     ghost use Rattle.iso_schema.specs.Declarations.{kinds};
     ghost use Rattle.iso_schema.specs.Frame.{ac_evse_status};
+    ghost use Rattle.std.proofs.Common.{rules};
 
     ghost kinds = { kinds };
 
@@ -137,14 +150,19 @@ impl<'a> Record<'a> for AcEvseStatus {
 
     ghost particles = { ac_evse_status };
 
-    fn read<P: Places>(descent: &mut Descent<'a, '_, P>) -> Result<AcEvseStatus, Refusal> {
-        let three = three_values(descent)?;
-        Ok(AcEvseStatus {
-            notification_max_delay: three.first,
-            evse_notification: three.second,
-            rcd: three.third,
-        })
+    type Made = Three<u16, EvseNotification, bool>;
+
+    fn of(made: Self::Made) -> AcEvseStatus {
+        AcEvseStatus {
+            notification_max_delay: made.first,
+            evse_notification: made.second,
+            rcd: made.third,
+        }
     }
+
+    ghost declared = { Prim.search rules };
+
+    ghost apart = { Prim.search rules };
 }
 
 /// DC_EVSEStatus.
@@ -182,6 +200,7 @@ impl PutRecord for DcEvseStatus {
 impl<'a> Record<'a> for DcEvseStatus {
     ghost use Rattle.iso_schema.specs.Declarations.{kinds};
     ghost use Rattle.iso_schema.specs.Frame.{dc_evse_status};
+    ghost use Rattle.std.proofs.Common.{rules};
 
     ghost kinds = { kinds };
 
@@ -189,20 +208,35 @@ impl<'a> Record<'a> for DcEvseStatus {
 
     ghost particles = { dc_evse_status };
 
-    fn read<P: Places>(descent: &mut Descent<'a, '_, P>) -> Result<DcEvseStatus, Refusal> {
-        let (
-            RequiredValue(notification_max_delay),
-            RequiredValue(evse_notification),
-            OptionalValue::<_, { names::EVSE_ISOLATION_STATUS }>(evse_isolation_status),
-            RequiredValue(evse_status_code),
-        ) = first_children(descent)?;
-        Ok(DcEvseStatus {
+    type Made = Elements<
+        (
+            RequiredValue<u16>,
+            RequiredValue<EvseNotification>,
+            OptionalValue<IsolationLevel, { names::EVSE_ISOLATION_STATUS }>,
+            RequiredValue<EvseStatusCode>,
+        ),
+    >;
+
+    fn of(made: Self::Made) -> DcEvseStatus {
+        let Elements(
+            (
+                RequiredValue(notification_max_delay),
+                RequiredValue(evse_notification),
+                OptionalValue(evse_isolation_status),
+                RequiredValue(evse_status_code),
+            ),
+        ) = made;
+        DcEvseStatus {
             notification_max_delay,
             evse_notification,
             evse_isolation_status,
             evse_status_code,
-        })
+        }
     }
+
+    ghost declared = { Prim.search rules };
+
+    ghost apart = { Prim.search rules };
 }
 
 /// One element of the substitution group EVSEStatus.
@@ -275,6 +309,7 @@ impl PutRecord for MeterInfo<'_> {
 impl<'a> Record<'a> for MeterInfo<'a> {
     ghost use Rattle.iso_schema.specs.Declarations.{kinds};
     ghost use Rattle.iso_schema.specs.Frame.{meter_info};
+    ghost use Rattle.std.proofs.Common.{rules};
 
     ghost kinds = { kinds };
 
@@ -282,24 +317,41 @@ impl<'a> Record<'a> for MeterInfo<'a> {
 
     ghost particles = { meter_info };
 
-    fn read<P: Places>(descent: &mut Descent<'a, '_, P>) -> Result<MeterInfo<'a>, Refusal> {
-        let (
+    type Made = Elements<
+        (
             (
-                RequiredValue(meter_id),
-                OptionalValue::<_, { names::METER_READING }>(meter_reading),
-                OptionalValue::<_, { names::SIG_METER_READING }>(sig_meter_reading),
+                RequiredValue<Text<'a>>,
+                OptionalValue<u64, { names::METER_READING }>,
+                OptionalValue<Binary<'a>, { names::SIG_METER_READING }>,
             ),
             (
-                OptionalValue::<_, { names::METER_STATUS }>(meter_status),
-                OptionalValue::<_, { names::T_METER }>(t_meter),
+                OptionalValue<i16, { names::METER_STATUS }>,
+                OptionalValue<i64, { names::T_METER }>,
             ),
-        ) = first_children(descent)?;
-        Ok(MeterInfo {
+        ),
+    >;
+
+    fn of(made: Self::Made) -> MeterInfo<'a> {
+        let Elements(
+            (
+                (
+                    RequiredValue(meter_id),
+                    OptionalValue(meter_reading),
+                    OptionalValue(sig_meter_reading),
+                ),
+                (OptionalValue(meter_status), OptionalValue(t_meter)),
+            ),
+        ) = made;
+        MeterInfo {
             meter_id,
             meter_reading,
             sig_meter_reading,
             meter_status,
             t_meter,
-        })
+        }
     }
+
+    ghost declared = { Prim.search rules };
+
+    ghost apart = { Prim.search rules };
 }

@@ -10,11 +10,12 @@ use iso_parts::{
     AcEvseStatus, ChargeProgress, DcEvStatus, EvseStatus, MeterInfo, PhysicalValue, ResponseCode,
 };
 use iso_schema::names;
-use message_fields::{OneOf, Optional, OptionalValue, Required, RequiredValue, first_children};
+use message_fields::{
+    AtMostOneOf, Elements, OneOf, Optional, OptionalValue, Required, RequiredValue, Several,
+};
 use message_parts::{
-    Choice, Descent, Group, PutChoice, PutRecord, Record, Text, first_child, member, optional,
-    optional_choice, optional_value, put_choice, put_optional, put_optional_choice,
-    put_optional_value, put_record, put_records, put_value, records, required,
+    Choice, Descent, Group, PutChoice, PutRecord, Record, Text, member, put_choice, put_optional,
+    put_optional_choice, put_optional_value, put_record, put_records, put_value,
 };
 
 /// ProfileEntry.
@@ -55,6 +56,7 @@ impl PutRecord for ProfileEntry {
 impl<'a> Record<'a> for ProfileEntry {
     ghost use Rattle.iso_schema.specs.Declarations.{kinds};
     ghost use Rattle.iso_schema.specs.Parameters.{profile_entry};
+    ghost use Rattle.std.proofs.Common.{rules};
 
     ghost kinds = { kinds };
 
@@ -62,20 +64,32 @@ impl<'a> Record<'a> for ProfileEntry {
 
     ghost particles = { profile_entry };
 
-    fn read<P: Places>(descent: &mut Descent<'a, '_, P>) -> Result<ProfileEntry, Refusal> {
-        let (
-            RequiredValue(charging_profile_entry_start),
-            Required(charging_profile_entry_max_power),
-            OptionalValue::<_, { names::CHARGING_PROFILE_ENTRY_MAX_NUMBER_OF_PHASES_IN_USE }>(
-                charging_profile_entry_max_number_of_phases_in_use,
+    type Made = Elements<
+        (
+            RequiredValue<u32>,
+            Required<PhysicalValue>,
+            OptionalValue<u8, { names::CHARGING_PROFILE_ENTRY_MAX_NUMBER_OF_PHASES_IN_USE }>,
+        ),
+    >;
+
+    fn of(made: Self::Made) -> ProfileEntry {
+        let Elements(
+            (
+                RequiredValue(charging_profile_entry_start),
+                Required(charging_profile_entry_max_power),
+                OptionalValue(charging_profile_entry_max_number_of_phases_in_use),
             ),
-        ) = first_children(descent)?;
-        Ok(ProfileEntry {
+        ) = made;
+        ProfileEntry {
             charging_profile_entry_start,
             charging_profile_entry_max_power,
             charging_profile_entry_max_number_of_phases_in_use,
-        })
+        }
     }
+
+    ghost declared = { Prim.search rules };
+
+    ghost apart = { Prim.search rules };
 }
 
 /// ChargingProfile.
@@ -100,6 +114,7 @@ impl PutRecord for ChargingProfile {
 impl<'a> Record<'a> for ChargingProfile {
     ghost use Rattle.iso_schema.specs.Declarations.{kinds};
     ghost use Rattle.iso_schema.specs.Parameters.{charging_profile};
+    ghost use Rattle.std.proofs.Common.{rules};
 
     ghost kinds = { kinds };
 
@@ -107,11 +122,16 @@ impl<'a> Record<'a> for ChargingProfile {
 
     ghost particles = { charging_profile };
 
-    fn read<P: Places>(descent: &mut Descent<'a, '_, P>) -> Result<ChargingProfile, Refusal> {
-        first_child(descent)?;
-        let profile_entry = records(descent, names::PROFILE_ENTRY)?;
-        Ok(ChargingProfile { profile_entry })
+    type Made = Elements<Several<ProfileEntry, 24, { names::PROFILE_ENTRY }>>;
+
+    fn of(made: Self::Made) -> ChargingProfile {
+        let Elements(Several(profile_entry)) = made;
+        ChargingProfile { profile_entry }
     }
+
+    ghost declared = { Prim.search rules };
+
+    ghost apart = { Prim.search rules };
 }
 
 /// DC_EVPowerDeliveryParameter.
@@ -143,6 +163,7 @@ impl PutRecord for DcEvPowerDeliveryParameter {
 impl<'a> Record<'a> for DcEvPowerDeliveryParameter {
     ghost use Rattle.iso_schema.specs.Declarations.{kinds};
     ghost use Rattle.iso_schema.specs.Parameters.{dc_ev_power_delivery_parameter};
+    ghost use Rattle.std.proofs.Common.{rules};
 
     ghost kinds = { kinds };
 
@@ -150,20 +171,32 @@ impl<'a> Record<'a> for DcEvPowerDeliveryParameter {
 
     ghost particles = { dc_ev_power_delivery_parameter };
 
-    fn read<P: Places>(
-        descent: &mut Descent<'a, '_, P>,
-    ) -> Result<DcEvPowerDeliveryParameter, Refusal> {
-        let (
-            Required(dc_ev_status),
-            OptionalValue::<_, { names::BULK_CHARGING_COMPLETE }>(bulk_charging_complete),
-            RequiredValue(charging_complete),
-        ) = first_children(descent)?;
-        Ok(DcEvPowerDeliveryParameter {
+    type Made = Elements<
+        (
+            Required<DcEvStatus>,
+            OptionalValue<bool, { names::BULK_CHARGING_COMPLETE }>,
+            RequiredValue<bool>,
+        ),
+    >;
+
+    fn of(made: Self::Made) -> DcEvPowerDeliveryParameter {
+        let Elements(
+            (
+                Required(dc_ev_status),
+                OptionalValue(bulk_charging_complete),
+                RequiredValue(charging_complete),
+            ),
+        ) = made;
+        DcEvPowerDeliveryParameter {
             dc_ev_status,
             bulk_charging_complete,
             charging_complete,
-        })
+        }
     }
+
+    ghost declared = { Prim.search rules };
+
+    ghost apart = { Prim.search rules };
 }
 
 /// One element of the substitution group EVPowerDeliveryParameter.
@@ -243,6 +276,7 @@ impl PutRecord for PowerDeliveryReq {
 impl<'a> Record<'a> for PowerDeliveryReq {
     ghost use Rattle.iso_schema.specs.Declarations.{kinds};
     ghost use Rattle.iso_schema.specs.Parameters.{power_delivery_req};
+    ghost use Rattle.std.proofs.Common.{rules};
 
     ghost kinds = { kinds };
 
@@ -250,19 +284,35 @@ impl<'a> Record<'a> for PowerDeliveryReq {
 
     ghost particles = { power_delivery_req };
 
-    fn read<P: Places>(descent: &mut Descent<'a, '_, P>) -> Result<PowerDeliveryReq, Refusal> {
-        let (RequiredValue(charge_progress), RequiredValue(sa_schedule_tuple_id)) = first_children(
-            descent,
-        )?;
-        let charging_profile = optional(descent, names::CHARGING_PROFILE)?;
-        let ev_power_delivery_parameter = optional_choice(descent)?;
-        Ok(PowerDeliveryReq {
+    type Made = Elements<
+        (
+            RequiredValue<ChargeProgress>,
+            RequiredValue<u8>,
+            Optional<ChargingProfile, { names::CHARGING_PROFILE }>,
+            AtMostOneOf<EvPowerDeliveryParameter>,
+        ),
+    >;
+
+    fn of(made: Self::Made) -> PowerDeliveryReq {
+        let Elements(
+            (
+                RequiredValue(charge_progress),
+                RequiredValue(sa_schedule_tuple_id),
+                Optional(charging_profile),
+                AtMostOneOf(ev_power_delivery_parameter),
+            ),
+        ) = made;
+        PowerDeliveryReq {
             charge_progress,
             sa_schedule_tuple_id,
             charging_profile,
             ev_power_delivery_parameter,
-        })
+        }
     }
+
+    ghost declared = { Prim.search rules };
+
+    ghost apart = { Prim.search rules };
 }
 
 /// PowerDeliveryRes.
@@ -288,6 +338,7 @@ impl PutRecord for PowerDeliveryRes {
 impl<'a> Record<'a> for PowerDeliveryRes {
     ghost use Rattle.iso_schema.specs.Declarations.{kinds};
     ghost use Rattle.iso_schema.specs.Parameters.{power_delivery_res};
+    ghost use Rattle.std.proofs.Common.{rules};
 
     ghost kinds = { kinds };
 
@@ -295,13 +346,19 @@ impl<'a> Record<'a> for PowerDeliveryRes {
 
     ghost particles = { power_delivery_res };
 
-    fn read<P: Places>(descent: &mut Descent<'a, '_, P>) -> Result<PowerDeliveryRes, Refusal> {
-        let (RequiredValue(response_code), OneOf(evse_status)) = first_children(descent)?;
-        Ok(PowerDeliveryRes {
+    type Made = Elements<(RequiredValue<ResponseCode>, OneOf<EvseStatus>)>;
+
+    fn of(made: Self::Made) -> PowerDeliveryRes {
+        let Elements((RequiredValue(response_code), OneOf(evse_status))) = made;
+        PowerDeliveryRes {
             response_code,
             evse_status,
-        })
+        }
     }
+
+    ghost declared = { Prim.search rules };
+
+    ghost apart = { Prim.search rules };
 }
 
 /// ChargingStatusReq.
@@ -318,6 +375,7 @@ impl PutRecord for ChargingStatusReq {
 
 impl<'a> Record<'a> for ChargingStatusReq {
     ghost use Rattle.iso_schema.specs.Declarations.{kinds};
+    ghost use Rattle.std.proofs.Common.{rules};
 
     ghost kinds = { kinds };
 
@@ -325,10 +383,15 @@ impl<'a> Record<'a> for ChargingStatusReq {
 
     ghost particles = { [] };
 
-    fn read<P: Places>(descent: &mut Descent<'a, '_, P>) -> Result<ChargingStatusReq, Refusal> {
-        first_child(descent)?;
-        Ok(ChargingStatusReq)
+    type Made = Elements<()>;
+
+    fn of(_made: Self::Made) -> ChargingStatusReq {
+        ChargingStatusReq
     }
+
+    ghost declared = { Prim.search rules };
+
+    ghost apart = { Prim.search rules };
 }
 
 /// ChargingStatusRes.
@@ -370,6 +433,7 @@ impl PutRecord for ChargingStatusRes<'_> {
 impl<'a> Record<'a> for ChargingStatusRes<'a> {
     ghost use Rattle.iso_schema.specs.Declarations.{kinds};
     ghost use Rattle.iso_schema.specs.Parameters.{charging_status_res};
+    ghost use Rattle.std.proofs.Common.{rules};
 
     ghost kinds = { kinds };
 
@@ -377,17 +441,35 @@ impl<'a> Record<'a> for ChargingStatusRes<'a> {
 
     ghost particles = { charging_status_res };
 
-    fn read<P: Places>(descent: &mut Descent<'a, '_, P>) -> Result<ChargingStatusRes<'a>, Refusal> {
-        let (
-            RequiredValue(response_code),
-            RequiredValue(evseid),
-            RequiredValue(sa_schedule_tuple_id),
-            Optional::<_, { names::EVSE_MAX_CURRENT }>(evse_max_current),
-        ) = first_children(descent)?;
-        let meter_info = optional(descent, names::METER_INFO)?;
-        let receipt_required = optional_value(descent, names::RECEIPT_REQUIRED)?;
-        let ac_evse_status = required(descent)?;
-        Ok(ChargingStatusRes {
+    type Made = Elements<
+        (
+            (
+                RequiredValue<ResponseCode>,
+                RequiredValue<Text<'a>>,
+                RequiredValue<u8>,
+                Optional<PhysicalValue, { names::EVSE_MAX_CURRENT }>,
+            ),
+            (
+                Optional<MeterInfo<'a>, { names::METER_INFO }>,
+                OptionalValue<bool, { names::RECEIPT_REQUIRED }>,
+                Required<AcEvseStatus>,
+            ),
+        ),
+    >;
+
+    fn of(made: Self::Made) -> ChargingStatusRes<'a> {
+        let Elements(
+            (
+                (
+                    RequiredValue(response_code),
+                    RequiredValue(evseid),
+                    RequiredValue(sa_schedule_tuple_id),
+                    Optional(evse_max_current),
+                ),
+                (Optional(meter_info), OptionalValue(receipt_required), Required(ac_evse_status)),
+            ),
+        ) = made;
+        ChargingStatusRes {
             response_code,
             evseid,
             sa_schedule_tuple_id,
@@ -395,6 +477,10 @@ impl<'a> Record<'a> for ChargingStatusRes<'a> {
             meter_info,
             receipt_required,
             ac_evse_status,
-        })
+        }
     }
+
+    ghost declared = { Prim.search rules };
+
+    ghost apart = { Prim.search rules };
 }

@@ -8,11 +8,10 @@ use exi_events::EventWriter;
 use exi_schema::Places;
 use iso_parts::{PhysicalValue, ResponseCode};
 use iso_schema::names;
-use message_fields::{RequiredValue, first_children};
+use message_fields::{Elements, OneOf, Optional, RequiredValue, Several, WithAttribute};
 use message_parts::{
-    Choice, Descent, PutChoice, PutRecord, Record, Text, attribute, choice, first_child, member,
-    member_value, optional, put_attribute, put_choice, put_optional, put_record, put_records,
-    put_value, records, value,
+    Choice, Descent, PutChoice, PutRecord, Record, Text, member, member_value, put_attribute,
+    put_choice, put_optional, put_record, put_records, put_value,
 };
 
 /// One of the elements of Parameter.
@@ -108,6 +107,7 @@ impl<'a> Record<'a> for Parameter<'a> {
     ghost use Rattle.iso_schema.specs.Declarations.{kinds};
     ghost use Rattle.iso_schema.specs.Setup.{parameter};
     ghost use Rattle.iso_setup.specs.Details.{parameter_attributes};
+    ghost use Rattle.std.proofs.Common.{rules};
 
     ghost kinds = { kinds };
 
@@ -115,12 +115,16 @@ impl<'a> Record<'a> for Parameter<'a> {
 
     ghost particles = { parameter };
 
-    fn read<P: Places>(descent: &mut Descent<'a, '_, P>) -> Result<Parameter<'a>, Refusal> {
-        let name = attribute(descent)?;
-        first_child(descent)?;
-        let value = choice(descent)?;
-        Ok(Parameter { name, value })
+    type Made = WithAttribute<Text<'a>, OneOf<ParameterValue<'a>>>;
+
+    fn of(made: Self::Made) -> Parameter<'a> {
+        let WithAttribute(name, OneOf(value)) = made;
+        Parameter { name, value }
     }
+
+    ghost declared = { Prim.search rules };
+
+    ghost apart = { Prim.search rules };
 }
 
 /// ParameterSet.
@@ -147,6 +151,7 @@ impl PutRecord for ParameterSet<'_> {
 impl<'a> Record<'a> for ParameterSet<'a> {
     ghost use Rattle.iso_schema.specs.Declarations.{kinds};
     ghost use Rattle.iso_schema.specs.Setup.{parameter_set};
+    ghost use Rattle.std.proofs.Common.{rules};
 
     ghost kinds = { kinds };
 
@@ -154,15 +159,24 @@ impl<'a> Record<'a> for ParameterSet<'a> {
 
     ghost particles = { parameter_set };
 
-    fn read<P: Places>(descent: &mut Descent<'a, '_, P>) -> Result<ParameterSet<'a>, Refusal> {
-        first_child(descent)?;
-        let parameter_set_id = value(descent)?;
-        let parameter = records(descent, names::PARAMETER)?;
-        Ok(ParameterSet {
+    type Made = Elements<
+        (
+            RequiredValue<i16>,
+            Several<Parameter<'a>, 16, { names::PARAMETER }>,
+        ),
+    >;
+
+    fn of(made: Self::Made) -> ParameterSet<'a> {
+        let Elements((RequiredValue(parameter_set_id), Several(parameter))) = made;
+        ParameterSet {
             parameter_set_id,
             parameter,
-        })
+        }
     }
+
+    ghost declared = { Prim.search rules };
+
+    ghost apart = { Prim.search rules };
 }
 
 /// ServiceParameterList.
@@ -187,6 +201,7 @@ impl PutRecord for ServiceParameterList<'_> {
 impl<'a> Record<'a> for ServiceParameterList<'a> {
     ghost use Rattle.iso_schema.specs.Declarations.{kinds};
     ghost use Rattle.iso_schema.specs.Setup.{service_parameter_list};
+    ghost use Rattle.std.proofs.Common.{rules};
 
     ghost kinds = { kinds };
 
@@ -194,13 +209,16 @@ impl<'a> Record<'a> for ServiceParameterList<'a> {
 
     ghost particles = { service_parameter_list };
 
-    fn read<P: Places>(
-        descent: &mut Descent<'a, '_, P>,
-    ) -> Result<ServiceParameterList<'a>, Refusal> {
-        first_child(descent)?;
-        let parameter_set = records(descent, names::PARAMETER_SET)?;
-        Ok(ServiceParameterList { parameter_set })
+    type Made = Elements<Several<ParameterSet<'a>, 16, { names::PARAMETER_SET }>>;
+
+    fn of(made: Self::Made) -> ServiceParameterList<'a> {
+        let Elements(Several(parameter_set)) = made;
+        ServiceParameterList { parameter_set }
     }
+
+    ghost declared = { Prim.search rules };
+
+    ghost apart = { Prim.search rules };
 }
 
 /// ServiceDetailReq.
@@ -224,6 +242,7 @@ impl PutRecord for ServiceDetailReq {
 impl<'a> Record<'a> for ServiceDetailReq {
     ghost use Rattle.iso_schema.specs.Declarations.{kinds};
     ghost use Rattle.iso_schema.specs.Setup.{service_detail_req};
+    ghost use Rattle.std.proofs.Common.{rules};
 
     ghost kinds = { kinds };
 
@@ -231,11 +250,16 @@ impl<'a> Record<'a> for ServiceDetailReq {
 
     ghost particles = { service_detail_req };
 
-    fn read<P: Places>(descent: &mut Descent<'a, '_, P>) -> Result<ServiceDetailReq, Refusal> {
-        first_child(descent)?;
-        let service_id = value(descent)?;
-        Ok(ServiceDetailReq { service_id })
+    type Made = Elements<RequiredValue<u16>>;
+
+    fn of(made: Self::Made) -> ServiceDetailReq {
+        let Elements(RequiredValue(service_id)) = made;
+        ServiceDetailReq { service_id }
     }
+
+    ghost declared = { Prim.search rules };
+
+    ghost apart = { Prim.search rules };
 }
 
 /// ServiceDetailRes.
@@ -267,6 +291,7 @@ impl PutRecord for ServiceDetailRes<'_> {
 impl<'a> Record<'a> for ServiceDetailRes<'a> {
     ghost use Rattle.iso_schema.specs.Declarations.{kinds};
     ghost use Rattle.iso_schema.specs.Setup.{service_detail_res};
+    ghost use Rattle.std.proofs.Common.{rules};
 
     ghost kinds = { kinds };
 
@@ -274,13 +299,30 @@ impl<'a> Record<'a> for ServiceDetailRes<'a> {
 
     ghost particles = { service_detail_res };
 
-    fn read<P: Places>(descent: &mut Descent<'a, '_, P>) -> Result<ServiceDetailRes<'a>, Refusal> {
-        let (RequiredValue(response_code), RequiredValue(service_id)) = first_children(descent)?;
-        let service_parameter_list = optional(descent, names::SERVICE_PARAMETER_LIST)?;
-        Ok(ServiceDetailRes {
+    type Made = Elements<
+        (
+            RequiredValue<ResponseCode>,
+            RequiredValue<u16>,
+            Optional<ServiceParameterList<'a>, { names::SERVICE_PARAMETER_LIST }>,
+        ),
+    >;
+
+    fn of(made: Self::Made) -> ServiceDetailRes<'a> {
+        let Elements(
+            (
+                RequiredValue(response_code),
+                RequiredValue(service_id),
+                Optional(service_parameter_list),
+            ),
+        ) = made;
+        ServiceDetailRes {
             response_code,
             service_id,
             service_parameter_list,
-        })
+        }
     }
+
+    ghost declared = { Prim.search rules };
+
+    ghost apart = { Prim.search rules };
 }

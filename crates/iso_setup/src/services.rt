@@ -3,15 +3,16 @@
 ghost use Rattle.std.specs.Prelude.{[]};
 
 use arrayvec::ArrayVec;
-use exi_documents::Refusal;
 use exi_events::EventWriter;
 use exi_schema::Places;
 use iso_parts::{EnergyTransferMode, PaymentOption, ResponseCode, ServiceCategory};
 use iso_schema::names;
-use message_fields::{OptionalValue, RequiredValue, first_children};
+use message_fields::{
+    Elements, Optional, OptionalValue, Required, RequiredValue, Several, SeveralValues,
+};
 use message_parts::{
-    Descent, PutRecord, Record, Text, first_child, optional, put_optional, put_optional_value,
-    put_record, put_records, put_value, put_values, records, required, value, values,
+    PutRecord, Record, Text, put_optional, put_optional_value, put_record, put_records, put_value,
+    put_values,
 };
 
 /// Service.
@@ -45,6 +46,7 @@ impl PutRecord for Service<'_> {
 impl<'a> Record<'a> for Service<'a> {
     ghost use Rattle.iso_schema.specs.Declarations.{kinds};
     ghost use Rattle.iso_schema.specs.Setup.{service};
+    ghost use Rattle.std.proofs.Common.{rules};
 
     ghost kinds = { kinds };
 
@@ -52,26 +54,43 @@ impl<'a> Record<'a> for Service<'a> {
 
     ghost particles = { service };
 
-    fn read<P: Places>(descent: &mut Descent<'a, '_, P>) -> Result<Service<'a>, Refusal> {
-        let (
+    type Made = Elements<
+        (
             (
-                RequiredValue(service_id),
-                OptionalValue::<_, { names::SERVICE_NAME }>(service_name),
-                RequiredValue(service_category),
+                RequiredValue<u16>,
+                OptionalValue<Text<'a>, { names::SERVICE_NAME }>,
+                RequiredValue<ServiceCategory>,
             ),
             (
-                OptionalValue::<_, { names::SERVICE_SCOPE }>(service_scope),
-                RequiredValue(free_service),
+                OptionalValue<Text<'a>, { names::SERVICE_SCOPE }>,
+                RequiredValue<bool>,
             ),
-        ) = first_children(descent)?;
-        Ok(Service {
+        ),
+    >;
+
+    fn of(made: Self::Made) -> Service<'a> {
+        let Elements(
+            (
+                (
+                    RequiredValue(service_id),
+                    OptionalValue(service_name),
+                    RequiredValue(service_category),
+                ),
+                (OptionalValue(service_scope), RequiredValue(free_service)),
+            ),
+        ) = made;
+        Service {
             service_id,
             service_name,
             service_category,
             service_scope,
             free_service,
-        })
+        }
     }
+
+    ghost declared = { Prim.search rules };
+
+    ghost apart = { Prim.search rules };
 }
 
 /// ServiceList.
@@ -96,6 +115,7 @@ impl PutRecord for ServiceList<'_> {
 impl<'a> Record<'a> for ServiceList<'a> {
     ghost use Rattle.iso_schema.specs.Declarations.{kinds};
     ghost use Rattle.iso_schema.specs.Setup.{service_list};
+    ghost use Rattle.std.proofs.Common.{rules};
 
     ghost kinds = { kinds };
 
@@ -103,11 +123,16 @@ impl<'a> Record<'a> for ServiceList<'a> {
 
     ghost particles = { service_list };
 
-    fn read<P: Places>(descent: &mut Descent<'a, '_, P>) -> Result<ServiceList<'a>, Refusal> {
-        first_child(descent)?;
-        let service = records(descent, names::SERVICE)?;
-        Ok(ServiceList { service })
+    type Made = Elements<Several<Service<'a>, 8, { names::SERVICE }>>;
+
+    fn of(made: Self::Made) -> ServiceList<'a> {
+        let Elements(Several(service)) = made;
+        ServiceList { service }
     }
+
+    ghost declared = { Prim.search rules };
+
+    ghost apart = { Prim.search rules };
 }
 
 /// SupportedEnergyTransferMode.
@@ -136,6 +161,7 @@ impl PutRecord for SupportedEnergyTransferMode {
 impl<'a> Record<'a> for SupportedEnergyTransferMode {
     ghost use Rattle.iso_schema.specs.Declarations.{kinds};
     ghost use Rattle.iso_schema.specs.Setup.{supported_energy_transfer_mode};
+    ghost use Rattle.std.proofs.Common.{rules};
 
     ghost kinds = { kinds };
 
@@ -143,15 +169,18 @@ impl<'a> Record<'a> for SupportedEnergyTransferMode {
 
     ghost particles = { supported_energy_transfer_mode };
 
-    fn read<P: Places>(
-        descent: &mut Descent<'a, '_, P>,
-    ) -> Result<SupportedEnergyTransferMode, Refusal> {
-        first_child(descent)?;
-        let energy_transfer_mode = values(descent, names::ENERGY_TRANSFER_MODE)?;
-        Ok(SupportedEnergyTransferMode {
+    type Made = Elements<SeveralValues<EnergyTransferMode, 6, { names::ENERGY_TRANSFER_MODE }>>;
+
+    fn of(made: Self::Made) -> SupportedEnergyTransferMode {
+        let Elements(SeveralValues(energy_transfer_mode)) = made;
+        SupportedEnergyTransferMode {
             energy_transfer_mode,
-        })
+        }
     }
+
+    ghost declared = { Prim.search rules };
+
+    ghost apart = { Prim.search rules };
 }
 
 /// ChargeService.
@@ -191,6 +220,7 @@ impl PutRecord for ChargeService<'_> {
 impl<'a> Record<'a> for ChargeService<'a> {
     ghost use Rattle.iso_schema.specs.Declarations.{kinds};
     ghost use Rattle.iso_schema.specs.Setup.{charge_service};
+    ghost use Rattle.std.proofs.Common.{rules};
 
     ghost kinds = { kinds };
 
@@ -198,28 +228,49 @@ impl<'a> Record<'a> for ChargeService<'a> {
 
     ghost particles = { charge_service };
 
-    fn read<P: Places>(descent: &mut Descent<'a, '_, P>) -> Result<ChargeService<'a>, Refusal> {
-        let (
+    type Made = Elements<
+        (
             (
-                RequiredValue(service_id),
-                OptionalValue::<_, { names::SERVICE_NAME }>(service_name),
-                RequiredValue(service_category),
+                RequiredValue<u16>,
+                OptionalValue<Text<'a>, { names::SERVICE_NAME }>,
+                RequiredValue<ServiceCategory>,
             ),
             (
-                OptionalValue::<_, { names::SERVICE_SCOPE }>(service_scope),
-                RequiredValue(free_service),
+                OptionalValue<Text<'a>, { names::SERVICE_SCOPE }>,
+                RequiredValue<bool>,
+                Required<SupportedEnergyTransferMode>,
             ),
-        ) = first_children(descent)?;
-        let supported_energy_transfer_mode = required(descent)?;
-        Ok(ChargeService {
+        ),
+    >;
+
+    fn of(made: Self::Made) -> ChargeService<'a> {
+        let Elements(
+            (
+                (
+                    RequiredValue(service_id),
+                    OptionalValue(service_name),
+                    RequiredValue(service_category),
+                ),
+                (
+                    OptionalValue(service_scope),
+                    RequiredValue(free_service),
+                    Required(supported_energy_transfer_mode),
+                ),
+            ),
+        ) = made;
+        ChargeService {
             service_id,
             service_name,
             service_category,
             service_scope,
             free_service,
             supported_energy_transfer_mode,
-        })
+        }
     }
+
+    ghost declared = { Prim.search rules };
+
+    ghost apart = { Prim.search rules };
 }
 
 /// PaymentOptionList.
@@ -244,6 +295,7 @@ impl PutRecord for PaymentOptionList {
 impl<'a> Record<'a> for PaymentOptionList {
     ghost use Rattle.iso_schema.specs.Declarations.{kinds};
     ghost use Rattle.iso_schema.specs.Setup.{payment_option_list};
+    ghost use Rattle.std.proofs.Common.{rules};
 
     ghost kinds = { kinds };
 
@@ -251,11 +303,16 @@ impl<'a> Record<'a> for PaymentOptionList {
 
     ghost particles = { payment_option_list };
 
-    fn read<P: Places>(descent: &mut Descent<'a, '_, P>) -> Result<PaymentOptionList, Refusal> {
-        first_child(descent)?;
-        let payment_option = values(descent, names::PAYMENT_OPTION)?;
-        Ok(PaymentOptionList { payment_option })
+    type Made = Elements<SeveralValues<PaymentOption, 2, { names::PAYMENT_OPTION }>>;
+
+    fn of(made: Self::Made) -> PaymentOptionList {
+        let Elements(SeveralValues(payment_option)) = made;
+        PaymentOptionList { payment_option }
     }
+
+    ghost declared = { Prim.search rules };
+
+    ghost apart = { Prim.search rules };
 }
 
 /// ServiceDiscoveryReq.
@@ -282,6 +339,7 @@ impl PutRecord for ServiceDiscoveryReq<'_> {
 impl<'a> Record<'a> for ServiceDiscoveryReq<'a> {
     ghost use Rattle.iso_schema.specs.Declarations.{kinds};
     ghost use Rattle.iso_schema.specs.Setup.{service_discovery_req};
+    ghost use Rattle.std.proofs.Common.{rules};
 
     ghost kinds = { kinds };
 
@@ -289,18 +347,24 @@ impl<'a> Record<'a> for ServiceDiscoveryReq<'a> {
 
     ghost particles = { service_discovery_req };
 
-    fn read<P: Places>(
-        descent: &mut Descent<'a, '_, P>,
-    ) -> Result<ServiceDiscoveryReq<'a>, Refusal> {
-        let (
-            OptionalValue::<_, { names::SERVICE_SCOPE }>(service_scope),
-            OptionalValue::<_, { names::SERVICE_CATEGORY }>(service_category),
-        ) = first_children(descent)?;
-        Ok(ServiceDiscoveryReq {
+    type Made = Elements<
+        (
+            OptionalValue<Text<'a>, { names::SERVICE_SCOPE }>,
+            OptionalValue<ServiceCategory, { names::SERVICE_CATEGORY }>,
+        ),
+    >;
+
+    fn of(made: Self::Made) -> ServiceDiscoveryReq<'a> {
+        let Elements((OptionalValue(service_scope), OptionalValue(service_category))) = made;
+        ServiceDiscoveryReq {
             service_scope,
             service_category,
-        })
+        }
     }
+
+    ghost declared = { Prim.search rules };
+
+    ghost apart = { Prim.search rules };
 }
 
 /// ServiceDiscoveryRes.
@@ -334,6 +398,7 @@ impl PutRecord for ServiceDiscoveryRes<'_> {
 impl<'a> Record<'a> for ServiceDiscoveryRes<'a> {
     ghost use Rattle.iso_schema.specs.Declarations.{kinds};
     ghost use Rattle.iso_schema.specs.Setup.{service_discovery_res};
+    ghost use Rattle.std.proofs.Common.{rules};
 
     ghost kinds = { kinds };
 
@@ -341,19 +406,33 @@ impl<'a> Record<'a> for ServiceDiscoveryRes<'a> {
 
     ghost particles = { service_discovery_res };
 
-    fn read<P: Places>(
-        descent: &mut Descent<'a, '_, P>,
-    ) -> Result<ServiceDiscoveryRes<'a>, Refusal> {
-        first_child(descent)?;
-        let response_code = value(descent)?;
-        let payment_option_list = required(descent)?;
-        let charge_service = required(descent)?;
-        let service_list = optional(descent, names::SERVICE_LIST)?;
-        Ok(ServiceDiscoveryRes {
+    type Made = Elements<
+        (
+            RequiredValue<ResponseCode>,
+            Required<PaymentOptionList>,
+            Required<ChargeService<'a>>,
+            Optional<ServiceList<'a>, { names::SERVICE_LIST }>,
+        ),
+    >;
+
+    fn of(made: Self::Made) -> ServiceDiscoveryRes<'a> {
+        let Elements(
+            (
+                RequiredValue(response_code),
+                Required(payment_option_list),
+                Required(charge_service),
+                Optional(service_list),
+            ),
+        ) = made;
+        ServiceDiscoveryRes {
             response_code,
             payment_option_list,
             charge_service,
             service_list,
-        })
+        }
     }
+
+    ghost declared = { Prim.search rules };
+
+    ghost apart = { Prim.search rules };
 }

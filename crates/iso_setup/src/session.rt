@@ -2,15 +2,13 @@
 
 ghost use Rattle.std.specs.Prelude.{[]};
 
-use exi_documents::Refusal;
 use exi_events::EventWriter;
 use exi_schema::Places;
 use iso_parts::{ChargingSession, EvseProcessing, ResponseCode};
 use iso_schema::names;
-use message_fields::{OptionalValue, RequiredValue, first_children};
+use message_fields::{Elements, OptionalValue, RequiredValue, WithOptionalAttribute};
 use message_parts::{
-    Binary, Descent, PutRecord, Record, Text, first_child, last_attribute, optional_value,
-    put_optional_attribute, put_optional_value, put_value, value,
+    Binary, PutRecord, Record, Text, put_optional_attribute, put_optional_value, put_value,
 };
 
 /// SessionSetupReq.
@@ -35,6 +33,7 @@ impl PutRecord for SessionSetupReq<'_> {
 impl<'a> Record<'a> for SessionSetupReq<'a> {
     ghost use Rattle.iso_schema.specs.Declarations.{kinds};
     ghost use Rattle.iso_schema.specs.Setup.{session_setup_req};
+    ghost use Rattle.std.proofs.Common.{rules};
 
     ghost kinds = { kinds };
 
@@ -42,11 +41,16 @@ impl<'a> Record<'a> for SessionSetupReq<'a> {
 
     ghost particles = { session_setup_req };
 
-    fn read<P: Places>(descent: &mut Descent<'a, '_, P>) -> Result<SessionSetupReq<'a>, Refusal> {
-        first_child(descent)?;
-        let evccid = value(descent)?;
-        Ok(SessionSetupReq { evccid })
+    type Made = Elements<RequiredValue<Binary<'a>>>;
+
+    fn of(made: Self::Made) -> SessionSetupReq<'a> {
+        let Elements(RequiredValue(evccid)) = made;
+        SessionSetupReq { evccid }
     }
+
+    ghost declared = { Prim.search rules };
+
+    ghost apart = { Prim.search rules };
 }
 
 /// SessionSetupRes.
@@ -75,6 +79,7 @@ impl PutRecord for SessionSetupRes<'_> {
 impl<'a> Record<'a> for SessionSetupRes<'a> {
     ghost use Rattle.iso_schema.specs.Declarations.{kinds};
     ghost use Rattle.iso_schema.specs.Setup.{session_setup_res};
+    ghost use Rattle.std.proofs.Common.{rules};
 
     ghost kinds = { kinds };
 
@@ -82,18 +87,28 @@ impl<'a> Record<'a> for SessionSetupRes<'a> {
 
     ghost particles = { session_setup_res };
 
-    fn read<P: Places>(descent: &mut Descent<'a, '_, P>) -> Result<SessionSetupRes<'a>, Refusal> {
-        let (
-            RequiredValue(response_code),
-            RequiredValue(evseid),
-            OptionalValue::<_, { names::EVSE_TIME_STAMP }>(evse_time_stamp),
-        ) = first_children(descent)?;
-        Ok(SessionSetupRes {
+    type Made = Elements<
+        (
+            RequiredValue<ResponseCode>,
+            RequiredValue<Text<'a>>,
+            OptionalValue<i64, { names::EVSE_TIME_STAMP }>,
+        ),
+    >;
+
+    fn of(made: Self::Made) -> SessionSetupRes<'a> {
+        let Elements(
+            (RequiredValue(response_code), RequiredValue(evseid), OptionalValue(evse_time_stamp)),
+        ) = made;
+        SessionSetupRes {
             response_code,
             evseid,
             evse_time_stamp,
-        })
+        }
     }
+
+    ghost declared = { Prim.search rules };
+
+    ghost apart = { Prim.search rules };
 }
 
 /// AuthorizationReq.
@@ -122,6 +137,7 @@ impl<'a> Record<'a> for AuthorizationReq<'a> {
     ghost use Rattle.iso_schema.specs.Declarations.{kinds};
     ghost use Rattle.iso_schema.specs.Setup.{authorization_req};
     ghost use Rattle.iso_setup.specs.Session.{authorization_req_attributes};
+    ghost use Rattle.std.proofs.Common.{rules};
 
     ghost kinds = { kinds };
 
@@ -129,11 +145,19 @@ impl<'a> Record<'a> for AuthorizationReq<'a> {
 
     ghost particles = { authorization_req };
 
-    fn read<P: Places>(descent: &mut Descent<'a, '_, P>) -> Result<AuthorizationReq<'a>, Refusal> {
-        let id = last_attribute(descent)?;
-        let gen_challenge = optional_value(descent, names::GEN_CHALLENGE)?;
-        Ok(AuthorizationReq { id, gen_challenge })
+    type Made = WithOptionalAttribute<
+        Text<'a>,
+        OptionalValue<Binary<'a>, { names::GEN_CHALLENGE }>,
+    >;
+
+    fn of(made: Self::Made) -> AuthorizationReq<'a> {
+        let WithOptionalAttribute(id, OptionalValue(gen_challenge)) = made;
+        AuthorizationReq { id, gen_challenge }
     }
+
+    ghost declared = { Prim.search rules };
+
+    ghost apart = { Prim.search rules };
 }
 
 /// AuthorizationRes.
@@ -159,6 +183,7 @@ impl PutRecord for AuthorizationRes {
 impl<'a> Record<'a> for AuthorizationRes {
     ghost use Rattle.iso_schema.specs.Declarations.{kinds};
     ghost use Rattle.iso_schema.specs.Setup.{authorization_res};
+    ghost use Rattle.std.proofs.Common.{rules};
 
     ghost kinds = { kinds };
 
@@ -166,15 +191,19 @@ impl<'a> Record<'a> for AuthorizationRes {
 
     ghost particles = { authorization_res };
 
-    fn read<P: Places>(descent: &mut Descent<'a, '_, P>) -> Result<AuthorizationRes, Refusal> {
-        let (RequiredValue(response_code), RequiredValue(evse_processing)) = first_children(
-            descent,
-        )?;
-        Ok(AuthorizationRes {
+    type Made = Elements<(RequiredValue<ResponseCode>, RequiredValue<EvseProcessing>)>;
+
+    fn of(made: Self::Made) -> AuthorizationRes {
+        let Elements((RequiredValue(response_code), RequiredValue(evse_processing))) = made;
+        AuthorizationRes {
             response_code,
             evse_processing,
-        })
+        }
     }
+
+    ghost declared = { Prim.search rules };
+
+    ghost apart = { Prim.search rules };
 }
 
 /// SessionStopReq.
@@ -198,6 +227,7 @@ impl PutRecord for SessionStopReq {
 impl<'a> Record<'a> for SessionStopReq {
     ghost use Rattle.iso_schema.specs.Declarations.{kinds};
     ghost use Rattle.iso_schema.specs.Setup.{session_stop_req};
+    ghost use Rattle.std.proofs.Common.{rules};
 
     ghost kinds = { kinds };
 
@@ -205,11 +235,16 @@ impl<'a> Record<'a> for SessionStopReq {
 
     ghost particles = { session_stop_req };
 
-    fn read<P: Places>(descent: &mut Descent<'a, '_, P>) -> Result<SessionStopReq, Refusal> {
-        first_child(descent)?;
-        let charging_session = value(descent)?;
-        Ok(SessionStopReq { charging_session })
+    type Made = Elements<RequiredValue<ChargingSession>>;
+
+    fn of(made: Self::Made) -> SessionStopReq {
+        let Elements(RequiredValue(charging_session)) = made;
+        SessionStopReq { charging_session }
     }
+
+    ghost declared = { Prim.search rules };
+
+    ghost apart = { Prim.search rules };
 }
 
 /// SessionStopRes.
@@ -233,6 +268,7 @@ impl PutRecord for SessionStopRes {
 impl<'a> Record<'a> for SessionStopRes {
     ghost use Rattle.iso_schema.specs.Declarations.{kinds};
     ghost use Rattle.iso_schema.specs.Setup.{session_stop_res};
+    ghost use Rattle.std.proofs.Common.{rules};
 
     ghost kinds = { kinds };
 
@@ -240,9 +276,14 @@ impl<'a> Record<'a> for SessionStopRes {
 
     ghost particles = { session_stop_res };
 
-    fn read<P: Places>(descent: &mut Descent<'a, '_, P>) -> Result<SessionStopRes, Refusal> {
-        first_child(descent)?;
-        let response_code = value(descent)?;
-        Ok(SessionStopRes { response_code })
+    type Made = Elements<RequiredValue<ResponseCode>>;
+
+    fn of(made: Self::Made) -> SessionStopRes {
+        let Elements(RequiredValue(response_code)) = made;
+        SessionStopRes { response_code }
     }
+
+    ghost declared = { Prim.search rules };
+
+    ghost apart = { Prim.search rules };
 }

@@ -1,8 +1,13 @@
-//! Children of an element that stand one behind the other, read as one tuple.
+//! What a record is made of, its attributes and its children, read as one value.
 #![tactic(auto)]
 
+mod made;
 mod singles;
 mod tuples;
 
-pub use singles::{AtMostOneOf, OneOf, Optional, OptionalValue, Required, RequiredValue};
-pub use tuples::{Children, first_children};
+pub use made::{Elements, WithAttribute, WithOptionalAttribute};
+pub use singles::{
+    AtMostOneOf, LeftOut, OneOf, Optional, OptionalValue, Required, RequiredValue, Several,
+    SeveralValues,
+};
+pub use tuples::Children;

@@ -87,7 +87,7 @@ impl<'a, A: Children<'a>, B: Children<'a>, C: Children<'a>, D: Children<'a>> Chi
 
 /// The first children of an element, behind its last attribute that has to be there.
 #[inline(always)]
-pub fn first_children<'a, T: Children<'a>, P: Places>(
+pub(crate) fn first_children<'a, T: Children<'a>, P: Places>(
     descent: &mut Descent<'a, '_, P>,
 ) -> Result<T, Refusal>
     requires open { IsOpen P.schema descent.old }

@@ -1,5 +1,5 @@
 -- Own: an element of three values, which are read at once.
-use Rattle.std.specs.Prelude.{◌≡◌, List, [], Bool, true, Some, Result, IfOk}
+use Rattle.std.specs.Prelude.{◌≡◌, List, [], Bool, true, Some, Result, IfOk, length}
 use Rattle.exi_schema.specs.declared.tables.Datatype.{Datatype}
 use Rattle.exi_schema.specs.Plain.{PlainKind, PlainParticle}
 use Rattle.exi_schema.specs.Steps.{simple_at}
@@ -32,11 +32,19 @@ told_three declared first second third told =
 abbrev pub told_values : List PlainParticle → ThreeValues → List Event → List Event
 told_values declared three told = told_three declared (tree_of three.first) (tree_of three.second) (tree_of three.third) told
 
--- where an element declares three values that each have to be there, of datatypes that these take, they are read up to where there is no more
+-- an element declares three values that each have to be there, of datatypes that these take, and nothing else
+pub record HoldsValues (takes_first takes_second takes_third : Datatype → Bool) (ks : List PlainKind) (declared : List PlainParticle) : Type 0 where
+  pub all : 3 ≡ length declared
+  pub first_once : is_once_at declared 0 ≡ true
+  pub first_is : takes_at takes_first ks declared 0 ≡ true
+  pub second_once : is_once_at declared 1 ≡ true
+  pub second_is : takes_at takes_second ks declared 1 ≡ true
+  pub third_once : is_once_at declared 2 ≡ true
+  pub third_is : takes_at takes_third ks declared 2 ≡ true
+
+-- where an element declares such values, they are read up to where there is no more
 abbrev pub ReadsThree : {T : Type 0} → (Datatype → Bool) → (Datatype → Bool) → (Datatype → Bool) → (T → Value) → (T → Value) → (T → Value) → Seen → Seen → Result T Refusal → Type 0
 ReadsThree takes_first takes_second takes_third first second third old new result =
     (ks : List PlainKind) (F : Frame) (declared : List PlainParticle) (told : List Event) → StartsAt ks F [] declared 0 told old
-    → is_once_at declared 0 ≡ true → takes_at takes_first ks declared 0 ≡ true
-    → is_once_at declared 1 ≡ true → takes_at takes_second ks declared 1 ≡ true
-    → is_once_at declared 2 ≡ true → takes_at takes_third ks declared 2 ≡ true
+    → HoldsValues takes_first takes_second takes_third ks declared
     → IfOk result (λ v. Reads ks F [] declared 3 (told_three declared (first v) (second v) (third v) told) new)

@@ -1,18 +1,19 @@
 //! The children of an element, one after the other.
 
-ghost use Rattle.std.specs.Prelude.{◌≡◌, ℕ, suc, ◌∷◌, List, true, Some, None, IfOk, IfErr, slice_get, map, length};
+ghost use Rattle.std.specs.Prelude.{◌≡◌, ℕ, suc, [], ◌∷◌, List, true, Some, None, IfOk, IfErr, slice_get, map, length};
 ghost use Rattle.exi_documents.specs.Trees.{Event as TreeEvent, Attribute};
 ghost use Rattle.exi_schema.specs.declared.tables.AttributeOf.{AttributeOf};
 ghost use Rattle.exi_schema.specs.declared.tables.Datatype.{Datatype};
 ghost use Rattle.exi_schema.specs.Plain.{PlainKind, PlainParticle, containing};
+ghost use Rattle.exi_schema.specs.Schemas.{are_distinct};
 ghost use Rattle.exi_schema.specs.Steps.{simple_at};
-ghost use Rattle.message_parts.specs.Contents.{Of, holding_with, mapped, told_one, told_perhaps, told_each, told_inside, told_maybe, told_choice};
+ghost use Rattle.message_parts.specs.Contents.{Of, holding_with, mapped, told_one, told_perhaps, told_each, told_inside, told_maybe, told_choice, told_given, told_parts};
 ghost use Rattle.message_parts.specs.Particles.{name_at, kind_at, alternatives_at, is_once_at, is_optional_at, is_repeated_at, is_required, is_single, is_left_out, is_must, is_last_may, attribute_at, takes_at, takes_attribute, kind_among};
-ghost use Rattle.message_parts.specs.Reading.{Frame, seen_of, IsOpen, Enters, Leaves, Reads, IsRefusal, IsChosen, StartsAt};
-ghost use Rattle.message_parts.specs.Sequence.{ReadsThree};
+ghost use Rattle.message_parts.specs.Reading.{Frame, seen_of, IsOpen, Enters, Leaves, Reads, IsRefusal, IsChosen, StartsAt, names_in};
+ghost use Rattle.message_parts.specs.Sequence.{HoldsValues, ReadsThree, told_three};
 
 use crate::descent::Descent;
-use crate::part::{Choice, Group, LargeGroup, LargeRecord, Record, Simple};
+use crate::part::{Choice, Contents, Group, LargeGroup, LargeRecord, ReadContents, Record, Simple};
 use arrayvec::ArrayVec;
 use exi_documents::Refusal;
 use exi_schema::Places;
@@ -36,10 +37,27 @@ fn simple_inside<'a, T: Simple<'a>, P: Places>(
     Ok(T::of(value))
 }
 
+/// The attributes and the elements of a record, up to where there is no more.
+fn whole_record<'a, T: Record, P: Places>(descent: &mut Descent<'a, '_, P>) -> Result<T, Refusal>
+where
+    T::Made: ReadContents<'a>,
+    requires open { IsOpen P.schema descent.old }
+    ensures open { IsOpen P.schema descent.new }
+    ensures table { descent.new.reader.table.ghost_name ≡ descent.old.reader.table.ghost_name }
+    ensures places { descent.new.reader.places.now ≡ descent.old.reader.places.now }
+    ensures payload { descent.new.reader.reader.bits ≡ descent.old.reader.reader.bits }
+    ensures refused { IfErr result (λ r. IsRefusal (seen_of P.schema descent.old) r) }
+    ensures distinct { are_distinct (names_in T.particles) ≡ true }
+    ensures read { (F : Frame) (before : List TreeEvent) → StartsAt T.kinds F T.attributes T.particles 0 before (seen_of P.schema descent.old)
+        → IfOk result (λ v. Reads T.kinds F T.attributes T.particles (length T.particles) (told_parts (T.parts v) (told_given (T.given v) before)) (seen_of P.schema descent.new)) }
+{
+    Ok(T::of(T::Made::read(descent)?))
+}
+
 /// The rest of an element that has started and has attributes and children.
-fn record_inside<'a, T: Record<'a>, P: Places>(
-    descent: &mut Descent<'a, '_, P>,
-) -> Result<T, Refusal>
+fn record_inside<'a, T: Record, P: Places>(descent: &mut Descent<'a, '_, P>) -> Result<T, Refusal>
+where
+    T::Made: ReadContents<'a>,
     requires open { IsOpen P.schema descent.old }
     ensures open { IsOpen P.schema descent.new }
     ensures table { descent.new.reader.table.ghost_name ≡ descent.old.reader.table.ghost_name }
@@ -50,7 +68,7 @@ fn record_inside<'a, T: Record<'a>, P: Places>(
         → slice_get T.kinds kind ≡ Some (containing T.attributes T.particles)
         → IfOk result (λ v. Leaves T.kinds F (told_inside (holding_with (T.given v) (T.parts v)) told) (seen_of P.schema descent.new)) }
 {
-    T::read(descent)
+    whole_record(descent)
 }
 
 // ---- attributes
@@ -190,8 +208,21 @@ pub struct Three<A, B, C> {
     pub third: C,
 }
 
+impl<'a, A: Simple<'a>, B: Simple<'a>, C: Simple<'a>> Contents for Three<A, B, C> {
+    ghost stand = { λ ks attributes declared. (attributes ≡ []) × HoldsValues A.takes B.takes C.takes ks declared };
+
+    ghost told = { λ attributes declared v before. told_three declared (A.value v.first) (B.value v.second) (C.value v.third) before };
+}
+
+impl<'a, A: Simple<'a>, B: Simple<'a>, C: Simple<'a>> ReadContents<'a> for Three<A, B, C> {
+    #[inline(always)]
+    fn read<P: Places>(descent: &mut Descent<'a, '_, P>) -> Result<Three<A, B, C>, Refusal> {
+        three_values(descent)
+    }
+}
+
 /// Three values that each have to be there, of an element that holds nothing else: up to where there is no more.
-pub fn three_values<'a, A: Simple<'a>, B: Simple<'a>, C: Simple<'a>, P: Places>(
+fn three_values<'a, A: Simple<'a>, B: Simple<'a>, C: Simple<'a>, P: Places>(
     descent: &mut Descent<'a, '_, P>,
 ) -> Result<Three<A, B, C>, Refusal>
     requires open { IsOpen P.schema descent.old }
@@ -241,9 +272,9 @@ fn each_of_three<'a, A: Simple<'a>, B: Simple<'a>, C: Simple<'a>, P: Places>(
 // ---- elements with attributes and children
 
 /// An element with attributes and children that has to be there.
-pub fn required<'a, T: Record<'a>, P: Places>(
-    descent: &mut Descent<'a, '_, P>,
-) -> Result<T, Refusal>
+pub fn required<'a, T: Record, P: Places>(descent: &mut Descent<'a, '_, P>) -> Result<T, Refusal>
+where
+    T::Made: ReadContents<'a>,
     requires open { IsOpen P.schema descent.old }
     ensures open { IsOpen P.schema descent.new }
     ensures table { descent.new.reader.table.ghost_name ≡ descent.old.reader.table.ghost_name }
@@ -260,10 +291,12 @@ pub fn required<'a, T: Record<'a>, P: Places>(
 }
 
 /// One that may be there.
-pub fn optional<'a, T: Record<'a>, P: Places>(
+pub fn optional<'a, T: Record, P: Places>(
     descent: &mut Descent<'a, '_, P>,
     name: u16,
 ) -> Result<Option<T>, Refusal>
+where
+    T::Made: ReadContents<'a>,
     requires open { IsOpen P.schema descent.old }
     ensures open { IsOpen P.schema descent.new }
     ensures table { descent.new.reader.table.ghost_name ≡ descent.old.reader.table.ghost_name }
@@ -283,10 +316,12 @@ pub fn optional<'a, T: Record<'a>, P: Places>(
 }
 
 /// Those of one name, of which N are accepted.
-pub fn records<'a, T: Record<'a> + Default, P: Places, const N: usize>(
+pub fn records<'a, T: Record + Default, P: Places, const N: usize>(
     descent: &mut Descent<'a, '_, P>,
     name: u16,
 ) -> Result<ArrayVec<T, N>, Refusal>
+where
+    T::Made: ReadContents<'a>,
     requires open { IsOpen P.schema descent.old }
     ensures open { IsOpen P.schema descent.new }
     ensures table { descent.new.reader.table.ghost_name ≡ descent.old.reader.table.ghost_name }
@@ -369,7 +404,9 @@ pub fn member_value<'a, T: Simple<'a>, P: Places>(
 /// What a member with attributes and children contains, where the child that has started is this member. Each has a function of its own,
 /// so that a group of many members doesn't fill the room that one of them wants.
 #[inline(never)]
-pub fn member<'a, T: Record<'a>, P: Places>(descent: &mut Descent<'a, '_, P>) -> Result<T, Refusal>
+pub fn member<'a, T: Record, P: Places>(descent: &mut Descent<'a, '_, P>) -> Result<T, Refusal>
+where
+    T::Made: ReadContents<'a>,
     requires open { IsOpen P.schema descent.old }
     ensures open { IsOpen P.schema descent.new }
     ensures table { descent.new.reader.table.ghost_name ≡ descent.old.reader.table.ghost_name }

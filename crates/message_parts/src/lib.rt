@@ -13,13 +13,14 @@ mod writer;
 pub use children::{
     Three, attribute, choice, first_child, last_attribute, left_out, member, member_here,
     member_value, optional, optional_choice, optional_choice_here, optional_value, records,
-    required, required_here, three_values, value, values,
+    required, required_here, value, values,
 };
 pub use descent::Descent;
 pub use document::{read, read_here, write};
 pub use lent_text::LentText;
 pub use part::{
-    Choice, Group, LargeChoice, LargeGroup, LargeRecord, PutChoice, PutRecord, Record, Root, Simple,
+    Choice, Contents, Group, LargeChoice, LargeGroup, LargeRecord, PutChoice, PutRecord,
+    ReadContents, Record, Root, Simple,
 };
 pub use texts::{Binary, Text};
 pub use writer::{

@@ -55,8 +55,32 @@ pub trait PutRecord: Drop {
             → Writes F rest (put_of writer.new) };
 }
 
-/// What an element of a complex kind contains, as it is read.
-pub trait Record<'a>: PutRecord {
+/// Attributes and elements of which a record is made.
+pub trait Contents: Drop {
+    /// Whether they are what these attributes and particles declare.
+    ghost stand: { List PlainKind → List AttributeOf → List PlainParticle → Type 0 };
+
+    /// What is told with them, the newest first.
+    ghost told: { List AttributeOf → List PlainParticle → Self → List TreeEvent → List TreeEvent };
+}
+
+/// How they are read.
+pub trait ReadContents<'a>: Contents {
+    /// Reads them, up to where there is no more.
+    fn read<P: Places>(descent: &mut Descent<'a, '_, P>) -> Result<Self, Refusal>
+        requires open { IsOpen P.schema descent.old }
+        ensures open { IsOpen P.schema descent.new }
+        ensures table { descent.new.reader.table.ghost_name ≡ descent.old.reader.table.ghost_name }
+        ensures places { descent.new.reader.places.now ≡ descent.old.reader.places.now }
+        ensures payload { descent.new.reader.reader.bits ≡ descent.old.reader.reader.bits }
+        ensures refused { IfErr result (λ r. IsRefusal (seen_of P.schema descent.old) r) }
+        ensures read { (ks : List PlainKind) (F : Frame) (attributes : List AttributeOf) (declared : List PlainParticle) (before : List TreeEvent)
+            → StartsAt ks F attributes declared 0 before (seen_of P.schema descent.old) → Self.stand ks attributes declared
+            → IfOk result (λ v. Reads ks F attributes declared (length declared) (Self.told attributes declared v before) (seen_of P.schema descent.new)) };
+}
+
+/// What an element of a complex kind contains, and of what it is made.
+pub trait Record: PutRecord {
     /// The declarations of its schema.
     ghost kinds: { List PlainKind };
 
@@ -66,18 +90,18 @@ pub trait Record<'a>: PutRecord {
     /// Those of its elements.
     ghost particles: { List PlainParticle };
 
-    /// Reads the attributes and the elements, up to where there is no more.
-    fn read<P: Places>(descent: &mut Descent<'a, '_, P>) -> Result<Self, Refusal>
-        requires open { IsOpen P.schema descent.old }
-        ensures open { IsOpen P.schema descent.new }
-        ensures table { descent.new.reader.table.ghost_name ≡ descent.old.reader.table.ghost_name }
-        ensures places { descent.new.reader.places.now ≡ descent.old.reader.places.now }
-        ensures payload { descent.new.reader.reader.bits ≡ descent.old.reader.reader.bits }
-        ensures refused { IfErr result (λ r. IsRefusal (seen_of P.schema descent.old) r) }
-        // No two elements have one name.
-        ensures distinct { are_distinct (names_in particles) ≡ true }
-        ensures read { (F : Frame) (told : List TreeEvent) → StartsAt kinds F attributes particles 0 told (seen_of P.schema descent.old)
-            → IfOk result (λ v. Reads kinds F attributes particles (length particles) (told_parts (Self.parts v) (told_given (Self.given v) told)) (seen_of P.schema descent.new)) };
+    /// Of what it is made.
+    type Made: Contents;
+
+    /// It, made of that.
+    fn of(made: Self::Made) -> Self
+        ensures { (before : List TreeEvent) → Self.Made.told attributes particles made before ≡ told_parts (Self.parts result) (told_given (Self.given result) before) };
+
+    /// That is what is declared.
+    ghost declared: { Self.Made.stand kinds attributes particles };
+
+    /// No two elements have one name.
+    ghost apart: { are_distinct (names_in particles) ≡ true };
 }
 
 /// What an element of a complex kind contains, as it is read into a place that the caller lends: for types that are too large to move.

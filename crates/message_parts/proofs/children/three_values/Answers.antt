@@ -17,12 +17,12 @@ pub of-requires-in-Some-2 : goal.of-requires-in-Some-2
 of-requires-in-Some-2 g c κs = ((refl, tt), (c.args.descent.now.reader.reader.bits, c.as_value-in-Some-2.ensures.lent c.args.descent.now.reader.reader.bits))
 
 pub returns-in-Some-clause-read : goal.returns-in-Some-clause-read
-returns-in-Some-clause-read g c = λ ks F declared told h once_first takes_first once_second takes_second once_third takes_third.
+returns-in-Some-clause-read g c = λ ks F declared told h q.
     let d = seen_of g.P.Places.schema c.three_values.new.self in
-    let a = taken _ _ takes_first in
-    let b = taken _ _ takes_second in
-    let e = taken _ _ takes_third in
-    let holds : HoldsThree ks declared a.0 b.0 e.0 = record { once = (once_first, once_second, once_third); first_is = a.1; second_is = b.1; third_is = e.1 } in
+    let a = taken _ _ q.first_is in
+    let b = taken _ _ q.second_is in
+    let e = taken _ _ q.third_is in
+    let holds : HoldsThree ks declared a.0 b.0 e.0 = record { once = (q.first_once, q.second_once, q.third_once); first_is = a.1; second_is = b.1; third_is = e.1 } in
     let both = c.in-Some.ensures.values ks F declared told a.0 b.0 e.0 h holds in
     let first_read = subst (λ (x : Value). IsRead a.0 x) (sym c.as_value.ensures.value) both.0.0 in
     let second_read = subst (λ (x : Value). IsRead b.0 x) (sym c.as_value-in-Some.ensures.value) both.0.1 in
@@ -35,6 +35,6 @@ returns-in-Some-clause-read g c = λ ks F declared told h once_first takes_first
     (subst (λ (x : Value). Reads ks F [] declared 3 (told_three declared x (tree_of c.in-Some.values.second) (tree_of c.in-Some.values.third) told) d) first_is both.1))
 
 pub returns-in-None-clause-read : goal.returns-in-None-clause-read
-returns-in-None-clause-read g c = λ ks F declared told h once_first takes_first once_second takes_second once_third takes_third.
+returns-in-None-clause-read g c = λ ks F declared told h q.
     let begins : StartsAt ks F [] declared 0 told (seen_of g.P.Places.schema c.three_values.new.self) = rw (c.in-None.ensures.none refl) h in
-    c.each_of_three.ensures.read ks F declared told begins once_first takes_first once_second takes_second once_third takes_third
+    c.each_of_three.ensures.read ks F declared told begins q

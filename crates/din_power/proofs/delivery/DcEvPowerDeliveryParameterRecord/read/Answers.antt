@@ -1,8 +1,0 @@
-use Rattle.std.proofs.Common.{refl, []}
-use Rattle.din_schema.specs.Declarations.{kinds}
-use Rattle.din_schema.specs.Parameters.{dc_ev_power_delivery_parameter}
-use Rattle.din_power.proofs.delivery.DcEvPowerDeliveryParameterRecord.read.Goals as goal
-
-pub returns-clause-read : goal.returns-clause-read
-returns-clause-read g c = λ F told h.
-    c.in_ok-dc_ev_status.ensures.read kinds F [] dc_ev_power_delivery_parameter _ h ((refl, refl, refl), (refl, refl, refl), (refl, refl))

@@ -1,8 +1,0 @@
-use Rattle.std.proofs.Common.{refl, []}
-use Rattle.iso_schema.specs.Declarations.{kinds}
-use Rattle.iso_schema.specs.Frame.{dc_evse_status}
-use Rattle.iso_parts.proofs.values.DcEvseStatusRecord.read.Goals as goal
-
-pub returns-clause-read : goal.returns-clause-read
-returns-clause-read g c = λ F told h.
-    c.in_ok-notification_max_delay.ensures.read kinds F [] dc_evse_status _ h ((refl, refl), (refl, refl), (refl, refl, refl), (refl, refl))
