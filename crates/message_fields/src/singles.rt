@@ -10,8 +10,8 @@ use arrayvec::ArrayVec;
 use exi_documents::Refusal;
 use exi_schema::Places;
 use message_parts::{
-    Choice, Descent, Group, Record, Simple, choice, left_out, optional, optional_choice,
-    optional_value, records, required, value, values,
+    Choice, Descent, Group, ReadContents, Record, Simple, choice, left_out, optional,
+    optional_choice, optional_value, records, required, value, values,
 };
 
 /// An element with attributes and children that has to be there.
@@ -50,7 +50,10 @@ pub struct SeveralValues<T, const MOST: usize, const NAME: u16>(pub ArrayVec<T, 
 #[derive(Drop)]
 pub struct LeftOut;
 
-impl<'a, T: Record<'a>> Children<'a> for Required<T> {
+impl<'a, T: Record> Children<'a> for Required<T>
+where
+    T::Made: ReadContents<'a>,
+{
     ghost stand = { λ ks declared at. (ks ≡ T.kinds) × (is_once_at declared at ≡ true) × (slice_get T.kinds (kind_at declared at) ≡ Some (containing T.attributes T.particles)) };
 
     ghost behind = { λ at. suc at };
@@ -63,7 +66,10 @@ impl<'a, T: Record<'a>> Children<'a> for Required<T> {
     }
 }
 
-impl<'a, T: Record<'a>, const NAME: u16> Children<'a> for Optional<T, NAME> {
+impl<'a, T: Record, const NAME: u16> Children<'a> for Optional<T, NAME>
+where
+    T::Made: ReadContents<'a>,
+{
     ghost stand = { λ ks declared at. (ks ≡ T.kinds) × (is_optional_at declared at ≡ true) × (NAME ≡ name_at declared at)
         × (slice_get T.kinds (kind_at declared at) ≡ Some (containing T.attributes T.particles)) };
 
@@ -137,8 +143,11 @@ impl<'a, T: Group<'a>> Children<'a> for AtMostOneOf<T> {
     }
 }
 
-impl<'a, T: Record<'a> + Default, const MOST: usize, const NAME: u16> Children<'a>
-    for Several<T, MOST, NAME> {
+impl<'a, T: Record + Default, const MOST: usize, const NAME: u16> Children<'a>
+    for Several<T, MOST, NAME>
+where
+    T::Made: ReadContents<'a>,
+{
     ghost stand = { λ ks declared at. (ks ≡ T.kinds) × (is_repeated_at declared at MOST ≡ true) × (NAME ≡ name_at declared at)
         × (slice_get T.kinds (kind_at declared at) ≡ Some (containing T.attributes T.particles)) };
 
