@@ -162,7 +162,7 @@ impl PutRecord for {name}{"<'_>" if lent else ""} {{
 {puts}    }}
 }}
 
-impl<'a> {"Large" if large else ""}Record<'a> for {name}{"<'a>" if lent else ""} {{
+impl{"<'a> LargeRecord<'a>" if large else "<'a> Record" if lent else " Record"} for {name}{"<'a>" if lent else ""} {{
     ghost use Rattle.{t.s.crate}.specs.Declarations.{{kinds}};
 {particles}{declared}{rules}
     ghost kinds = {{ kinds }};

@@ -125,7 +125,7 @@ pub enum AppCode {
     Failed,
 }
 
-impl<'a> Simple<'a> for AppCode {
+impl Simple for AppCode {
     ghost takes = { is_named 3 };
 
     ghost value = { λ code. Ordinal (ordinal_of code) };
@@ -137,7 +137,9 @@ impl<'a> Simple<'a> for AppCode {
             AppCode::Failed => Value::Ordinal(2),
         }
     }
+}
 
+impl<'a> ReadSimple<'a> for AppCode {
     fn of(read: Value<'a>) -> AppCode {
         match read {
             Value::Ordinal(0) => AppCode::Successful,

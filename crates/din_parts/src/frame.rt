@@ -30,7 +30,7 @@ impl PutRecord for Notification<'_> {
     }
 }
 
-impl<'a> Record<'a> for Notification<'a> {
+impl<'a> Record for Notification<'a> {
     ghost use Rattle.din_schema.specs.Declarations.{kinds};
     ghost use Rattle.din_schema.specs.Frame.{notification};
     ghost use Rattle.std.proofs.Common.{rules};
@@ -82,7 +82,7 @@ impl PutRecord for Header<'_> {
     }
 }
 
-impl<'a> Record<'a> for Header<'a> {
+impl<'a> Record for Header<'a> {
     ghost use Rattle.din_schema.specs.Declarations.{kinds};
     ghost use Rattle.din_schema.specs.Frame.{header};
     ghost use Rattle.std.proofs.Common.{rules};

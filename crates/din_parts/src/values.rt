@@ -38,7 +38,7 @@ impl PutRecord for PhysicalValue {
     }
 }
 
-impl<'a> Record<'a> for PhysicalValue {
+impl Record for PhysicalValue {
     ghost use Rattle.din_schema.specs.Declarations.{kinds};
     ghost use Rattle.din_schema.specs.Frame.{physical_value};
     ghost use Rattle.std.proofs.Common.{rules};
@@ -106,7 +106,7 @@ impl PutRecord for DcEvStatus {
     }
 }
 
-impl<'a> Record<'a> for DcEvStatus {
+impl Record for DcEvStatus {
     ghost use Rattle.din_schema.specs.Declarations.{kinds};
     ghost use Rattle.din_schema.specs.Frame.{dc_ev_status};
     ghost use Rattle.std.proofs.Common.{rules};
@@ -185,7 +185,7 @@ impl PutRecord for DcEvseStatus {
     }
 }
 
-impl<'a> Record<'a> for DcEvseStatus {
+impl Record for DcEvseStatus {
     ghost use Rattle.din_schema.specs.Declarations.{kinds};
     ghost use Rattle.din_schema.specs.Frame.{dc_evse_status};
     ghost use Rattle.std.proofs.Common.{rules};

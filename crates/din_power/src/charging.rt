@@ -27,7 +27,7 @@ impl PutRecord for CableCheckReq {
     }
 }
 
-impl<'a> Record<'a> for CableCheckReq {
+impl Record for CableCheckReq {
     ghost use Rattle.din_schema.specs.Declarations.{kinds};
     ghost use Rattle.din_schema.specs.Charging.{cable_check_req};
     ghost use Rattle.std.proofs.Common.{rules};
@@ -72,7 +72,7 @@ impl PutRecord for CableCheckRes {
     }
 }
 
-impl<'a> Record<'a> for CableCheckRes {
+impl Record for CableCheckRes {
     ghost use Rattle.din_schema.specs.Declarations.{kinds};
     ghost use Rattle.din_schema.specs.Charging.{cable_check_res};
     ghost use Rattle.std.proofs.Common.{rules};
@@ -133,7 +133,7 @@ impl PutRecord for PreChargeReq {
     }
 }
 
-impl<'a> Record<'a> for PreChargeReq {
+impl Record for PreChargeReq {
     ghost use Rattle.din_schema.specs.Declarations.{kinds};
     ghost use Rattle.din_schema.specs.Charging.{pre_charge_req};
     ghost use Rattle.std.proofs.Common.{rules};
@@ -194,7 +194,7 @@ impl PutRecord for PreChargeRes {
     }
 }
 
-impl<'a> Record<'a> for PreChargeRes {
+impl Record for PreChargeRes {
     ghost use Rattle.din_schema.specs.Declarations.{kinds};
     ghost use Rattle.din_schema.specs.Charging.{pre_charge_res};
     ghost use Rattle.std.proofs.Common.{rules};
@@ -293,7 +293,7 @@ impl PutRecord for CurrentDemandReq {
     }
 }
 
-impl<'a> Record<'a> for CurrentDemandReq {
+impl Record for CurrentDemandReq {
     ghost use Rattle.din_schema.specs.Declarations.{kinds};
     ghost use Rattle.din_schema.specs.Charging.{current_demand_req};
     ghost use Rattle.std.proofs.Common.{rules};
@@ -433,7 +433,7 @@ impl PutRecord for CurrentDemandRes {
     }
 }
 
-impl<'a> Record<'a> for CurrentDemandRes {
+impl Record for CurrentDemandRes {
     ghost use Rattle.din_schema.specs.Declarations.{kinds};
     ghost use Rattle.din_schema.specs.Charging.{current_demand_res};
     ghost use Rattle.std.proofs.Common.{rules};
@@ -523,7 +523,7 @@ impl PutRecord for WeldingDetectionReq {
     }
 }
 
-impl<'a> Record<'a> for WeldingDetectionReq {
+impl Record for WeldingDetectionReq {
     ghost use Rattle.din_schema.specs.Declarations.{kinds};
     ghost use Rattle.din_schema.specs.Charging.{welding_detection_req};
     ghost use Rattle.std.proofs.Common.{rules};
@@ -572,7 +572,7 @@ impl PutRecord for WeldingDetectionRes {
     }
 }
 
-impl<'a> Record<'a> for WeldingDetectionRes {
+impl Record for WeldingDetectionRes {
     ghost use Rattle.din_schema.specs.Declarations.{kinds};
     ghost use Rattle.din_schema.specs.Charging.{welding_detection_res};
     ghost use Rattle.std.proofs.Common.{rules};

@@ -44,7 +44,7 @@ impl PutRecord for ProfileEntry {
     }
 }
 
-impl<'a> Record<'a> for ProfileEntry {
+impl Record for ProfileEntry {
     ghost use Rattle.din_schema.specs.Declarations.{kinds};
     ghost use Rattle.din_schema.specs.Parameters.{profile_entry};
     ghost use Rattle.std.proofs.Common.{rules};
@@ -100,7 +100,7 @@ impl PutRecord for ChargingProfile {
     }
 }
 
-impl<'a> Record<'a> for ChargingProfile {
+impl Record for ChargingProfile {
     ghost use Rattle.din_schema.specs.Declarations.{kinds};
     ghost use Rattle.din_schema.specs.Parameters.{charging_profile};
     ghost use Rattle.std.proofs.Common.{rules};
@@ -157,7 +157,7 @@ impl PutRecord for DcEvPowerDeliveryParameter {
     }
 }
 
-impl<'a> Record<'a> for DcEvPowerDeliveryParameter {
+impl Record for DcEvPowerDeliveryParameter {
     ghost use Rattle.din_schema.specs.Declarations.{kinds};
     ghost use Rattle.din_schema.specs.Parameters.{dc_ev_power_delivery_parameter};
     ghost use Rattle.std.proofs.Common.{rules};
@@ -267,7 +267,7 @@ impl PutRecord for PowerDeliveryReq {
     }
 }
 
-impl<'a> Record<'a> for PowerDeliveryReq {
+impl Record for PowerDeliveryReq {
     ghost use Rattle.din_schema.specs.Declarations.{kinds};
     ghost use Rattle.din_schema.specs.Parameters.{power_delivery_req};
     ghost use Rattle.std.proofs.Common.{rules};
@@ -326,7 +326,7 @@ impl PutRecord for PowerDeliveryRes {
     }
 }
 
-impl<'a> Record<'a> for PowerDeliveryRes {
+impl Record for PowerDeliveryRes {
     ghost use Rattle.din_schema.specs.Declarations.{kinds};
     ghost use Rattle.din_schema.specs.Parameters.{power_delivery_res};
     ghost use Rattle.std.proofs.Common.{rules};

@@ -35,7 +35,7 @@ impl PutRecord for ChargeParameterDiscoveryReq {
     }
 }
 
-impl<'a> Record<'a> for ChargeParameterDiscoveryReq {
+impl Record for ChargeParameterDiscoveryReq {
     ghost use Rattle.din_schema.specs.Declarations.{kinds};
     ghost use Rattle.din_schema.specs.Parameters.{charge_parameter_discovery_req};
     ghost use Rattle.std.proofs.Common.{rules};
@@ -87,7 +87,7 @@ impl PutRecord for ChargeParameterDiscoveryRes {
     }
 }
 
-impl<'a> Record<'a> for ChargeParameterDiscoveryRes {
+impl Record for ChargeParameterDiscoveryRes {
     ghost use Rattle.din_schema.specs.Declarations.{kinds};
     ghost use Rattle.din_schema.specs.Parameters.{charge_parameter_discovery_res};
     ghost use Rattle.std.proofs.Common.{rules};

@@ -59,7 +59,7 @@ impl PutRecord for DcEvChargeParameter {
     }
 }
 
-impl<'a> Record<'a> for DcEvChargeParameter {
+impl Record for DcEvChargeParameter {
     ghost use Rattle.din_schema.specs.Declarations.{kinds};
     ghost use Rattle.din_schema.specs.Parameters.{dc_ev_charge_parameter};
     ghost use Rattle.std.proofs.Common.{rules};
@@ -222,7 +222,7 @@ impl PutRecord for DcEvseChargeParameter {
     }
 }
 
-impl<'a> Record<'a> for DcEvseChargeParameter {
+impl Record for DcEvseChargeParameter {
     ghost use Rattle.din_schema.specs.Declarations.{kinds};
     ghost use Rattle.din_schema.specs.Parameters.{dc_evse_charge_parameter};
     ghost use Rattle.std.proofs.Common.{rules};

@@ -30,7 +30,7 @@ impl PutRecord for SelectedService {
     }
 }
 
-impl<'a> Record<'a> for SelectedService {
+impl Record for SelectedService {
     ghost use Rattle.din_schema.specs.Declarations.{kinds};
     ghost use Rattle.din_schema.specs.Setup.{selected_service};
     ghost use Rattle.std.proofs.Common.{rules};
@@ -80,7 +80,7 @@ impl PutRecord for SelectedServiceList {
     }
 }
 
-impl<'a> Record<'a> for SelectedServiceList {
+impl Record for SelectedServiceList {
     ghost use Rattle.din_schema.specs.Declarations.{kinds};
     ghost use Rattle.din_schema.specs.Setup.{selected_service_list};
     ghost use Rattle.std.proofs.Common.{rules};
@@ -131,7 +131,7 @@ impl PutRecord for ServicePaymentSelectionReq {
     }
 }
 
-impl<'a> Record<'a> for ServicePaymentSelectionReq {
+impl Record for ServicePaymentSelectionReq {
     ghost use Rattle.din_schema.specs.Declarations.{kinds};
     ghost use Rattle.din_schema.specs.Setup.{service_payment_selection_req};
     ghost use Rattle.std.proofs.Common.{rules};
@@ -176,7 +176,7 @@ impl PutRecord for ServicePaymentSelectionRes {
     }
 }
 
-impl<'a> Record<'a> for ServicePaymentSelectionRes {
+impl Record for ServicePaymentSelectionRes {
     ghost use Rattle.din_schema.specs.Declarations.{kinds};
     ghost use Rattle.din_schema.specs.Setup.{service_payment_selection_res};
     ghost use Rattle.std.proofs.Common.{rules};

@@ -41,7 +41,7 @@ impl PutRecord for ServiceTag<'_> {
     }
 }
 
-impl<'a> Record<'a> for ServiceTag<'a> {
+impl<'a> Record for ServiceTag<'a> {
     ghost use Rattle.din_schema.specs.Declarations.{kinds};
     ghost use Rattle.din_schema.specs.Setup.{service_tag};
     ghost use Rattle.std.proofs.Common.{rules};
@@ -103,7 +103,7 @@ impl PutRecord for Service<'_> {
     }
 }
 
-impl<'a> Record<'a> for Service<'a> {
+impl<'a> Record for Service<'a> {
     ghost use Rattle.din_schema.specs.Declarations.{kinds};
     ghost use Rattle.din_schema.specs.Setup.{service};
     ghost use Rattle.std.proofs.Common.{rules};
@@ -148,7 +148,7 @@ impl PutRecord for ServiceList<'_> {
     }
 }
 
-impl<'a> Record<'a> for ServiceList<'a> {
+impl<'a> Record for ServiceList<'a> {
     ghost use Rattle.din_schema.specs.Declarations.{kinds};
     ghost use Rattle.din_schema.specs.Setup.{service_list};
     ghost use Rattle.std.proofs.Common.{rules};
@@ -197,7 +197,7 @@ impl PutRecord for ChargeService<'_> {
     }
 }
 
-impl<'a> Record<'a> for ChargeService<'a> {
+impl<'a> Record for ChargeService<'a> {
     ghost use Rattle.din_schema.specs.Declarations.{kinds};
     ghost use Rattle.din_schema.specs.Setup.{charge_service};
     ghost use Rattle.std.proofs.Common.{rules};
@@ -255,7 +255,7 @@ impl PutRecord for PaymentOptions {
     }
 }
 
-impl<'a> Record<'a> for PaymentOptions {
+impl Record for PaymentOptions {
     ghost use Rattle.din_schema.specs.Declarations.{kinds};
     ghost use Rattle.din_schema.specs.Setup.{payment_options};
     ghost use Rattle.std.proofs.Common.{rules};
@@ -299,7 +299,7 @@ impl PutRecord for ServiceDiscoveryReq<'_> {
     }
 }
 
-impl<'a> Record<'a> for ServiceDiscoveryReq<'a> {
+impl<'a> Record for ServiceDiscoveryReq<'a> {
     ghost use Rattle.din_schema.specs.Declarations.{kinds};
     ghost use Rattle.din_schema.specs.Setup.{service_discovery_req};
     ghost use Rattle.std.proofs.Common.{rules};
@@ -354,7 +354,7 @@ impl PutRecord for ServiceDiscoveryRes<'_> {
     }
 }
 
-impl<'a> Record<'a> for ServiceDiscoveryRes<'a> {
+impl<'a> Record for ServiceDiscoveryRes<'a> {
     ghost use Rattle.din_schema.specs.Declarations.{kinds};
     ghost use Rattle.din_schema.specs.Setup.{service_discovery_res};
     ghost use Rattle.std.proofs.Common.{rules};

@@ -30,7 +30,7 @@ impl PutRecord for SessionSetupReq<'_> {
     }
 }
 
-impl<'a> Record<'a> for SessionSetupReq<'a> {
+impl<'a> Record for SessionSetupReq<'a> {
     ghost use Rattle.din_schema.specs.Declarations.{kinds};
     ghost use Rattle.din_schema.specs.Setup.{session_setup_req};
     ghost use Rattle.std.proofs.Common.{rules};
@@ -76,7 +76,7 @@ impl PutRecord for SessionSetupRes<'_> {
     }
 }
 
-impl<'a> Record<'a> for SessionSetupRes<'a> {
+impl<'a> Record for SessionSetupRes<'a> {
     ghost use Rattle.din_schema.specs.Declarations.{kinds};
     ghost use Rattle.din_schema.specs.Setup.{session_setup_res};
     ghost use Rattle.std.proofs.Common.{rules};
@@ -133,7 +133,7 @@ impl PutRecord for ContractAuthenticationReq<'_> {
     }
 }
 
-impl<'a> Record<'a> for ContractAuthenticationReq<'a> {
+impl<'a> Record for ContractAuthenticationReq<'a> {
     ghost use Rattle.din_schema.specs.Declarations.{kinds};
     ghost use Rattle.din_schema.specs.Setup.{contract_authentication_req};
     ghost use Rattle.din_setup.specs.Session.{contract_authentication_req_attributes};
@@ -177,7 +177,7 @@ impl PutRecord for ContractAuthenticationRes {
     }
 }
 
-impl<'a> Record<'a> for ContractAuthenticationRes {
+impl Record for ContractAuthenticationRes {
     ghost use Rattle.din_schema.specs.Declarations.{kinds};
     ghost use Rattle.din_schema.specs.Setup.{contract_authentication_res};
     ghost use Rattle.std.proofs.Common.{rules};
@@ -215,7 +215,7 @@ impl PutRecord for SessionStopReq {
     fn write<P: Places>(&self, _writer: &mut EventWriter<'_, '_, P>) {}
 }
 
-impl<'a> Record<'a> for SessionStopReq {
+impl Record for SessionStopReq {
     ghost use Rattle.din_schema.specs.Declarations.{kinds};
     ghost use Rattle.std.proofs.Common.{rules};
 
@@ -254,7 +254,7 @@ impl PutRecord for SessionStopRes {
     }
 }
 
-impl<'a> Record<'a> for SessionStopRes {
+impl Record for SessionStopRes {
     ghost use Rattle.din_schema.specs.Declarations.{kinds};
     ghost use Rattle.din_schema.specs.Setup.{session_stop_res};
     ghost use Rattle.std.proofs.Common.{rules};

@@ -39,7 +39,7 @@ impl PutRecord for AcEvChargeParameter {
     }
 }
 
-impl<'a> Record<'a> for AcEvChargeParameter {
+impl Record for AcEvChargeParameter {
     ghost use Rattle.iso_schema.specs.Declarations.{kinds};
     ghost use Rattle.iso_schema.specs.Parameters.{ac_ev_charge_parameter};
     ghost use Rattle.std.proofs.Common.{rules};
@@ -130,7 +130,7 @@ impl PutRecord for DcEvChargeParameter {
     }
 }
 
-impl<'a> Record<'a> for DcEvChargeParameter {
+impl Record for DcEvChargeParameter {
     ghost use Rattle.iso_schema.specs.Declarations.{kinds};
     ghost use Rattle.iso_schema.specs.Parameters.{dc_ev_charge_parameter};
     ghost use Rattle.std.proofs.Common.{rules};
@@ -262,7 +262,7 @@ impl PutRecord for AcEvseChargeParameter {
     }
 }
 
-impl<'a> Record<'a> for AcEvseChargeParameter {
+impl Record for AcEvseChargeParameter {
     ghost use Rattle.iso_schema.specs.Declarations.{kinds};
     ghost use Rattle.iso_schema.specs.Parameters.{ac_evse_charge_parameter};
     ghost use Rattle.std.proofs.Common.{rules};
@@ -363,7 +363,7 @@ impl PutRecord for DcEvseChargeParameter {
     }
 }
 
-impl<'a> Record<'a> for DcEvseChargeParameter {
+impl Record for DcEvseChargeParameter {
     ghost use Rattle.iso_schema.specs.Declarations.{kinds};
     ghost use Rattle.iso_schema.specs.Parameters.{dc_evse_charge_parameter};
     ghost use Rattle.std.proofs.Common.{rules};

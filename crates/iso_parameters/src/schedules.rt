@@ -36,7 +36,7 @@ impl PutRecord for RelativeTimeInterval {
     }
 }
 
-impl<'a> Record<'a> for RelativeTimeInterval {
+impl Record for RelativeTimeInterval {
     ghost use Rattle.iso_schema.specs.Declarations.{kinds};
     ghost use Rattle.iso_schema.specs.Parameters.{relative_time_interval};
     ghost use Rattle.std.proofs.Common.{rules};
@@ -122,7 +122,7 @@ impl PutRecord for PMaxScheduleEntry {
     }
 }
 
-impl<'a> Record<'a> for PMaxScheduleEntry {
+impl Record for PMaxScheduleEntry {
     ghost use Rattle.iso_schema.specs.Declarations.{kinds};
     ghost use Rattle.iso_schema.specs.Parameters.{p_max_schedule_entry};
     ghost use Rattle.std.proofs.Common.{rules};
@@ -171,7 +171,7 @@ impl PutRecord for PMaxSchedule {
     }
 }
 
-impl<'a> Record<'a> for PMaxSchedule {
+impl Record for PMaxSchedule {
     ghost use Rattle.iso_schema.specs.Declarations.{kinds};
     ghost use Rattle.iso_schema.specs.Parameters.{p_max_schedule};
     ghost use Rattle.std.proofs.Common.{rules};
@@ -221,7 +221,7 @@ impl PutRecord for SaScheduleTuple {
     }
 }
 
-impl<'a> Record<'a> for SaScheduleTuple {
+impl Record for SaScheduleTuple {
     ghost use Rattle.iso_schema.specs.Declarations.{kinds};
     ghost use Rattle.iso_schema.specs.Parameters.{sa_schedule_tuple};
     ghost use Rattle.std.proofs.Common.{rules};
@@ -267,7 +267,7 @@ impl PutRecord for SaScheduleList {
     }
 }
 
-impl<'a> Record<'a> for SaScheduleList {
+impl Record for SaScheduleList {
     ghost use Rattle.iso_schema.specs.Declarations.{kinds};
     ghost use Rattle.iso_schema.specs.Parameters.{sa_schedule_list};
     ghost use Rattle.std.proofs.Common.{rules};

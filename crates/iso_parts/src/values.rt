@@ -38,7 +38,7 @@ impl PutRecord for PhysicalValue {
     }
 }
 
-impl<'a> Record<'a> for PhysicalValue {
+impl Record for PhysicalValue {
     ghost use Rattle.iso_schema.specs.Declarations.{kinds};
     ghost use Rattle.iso_schema.specs.Frame.{physical_value};
     ghost use Rattle.std.proofs.Common.{rules};
@@ -87,7 +87,7 @@ impl PutRecord for DcEvStatus {
     }
 }
 
-impl<'a> Record<'a> for DcEvStatus {
+impl Record for DcEvStatus {
     ghost use Rattle.iso_schema.specs.Declarations.{kinds};
     ghost use Rattle.iso_schema.specs.Frame.{dc_ev_status};
     ghost use Rattle.std.proofs.Common.{rules};
@@ -139,7 +139,7 @@ impl PutRecord for AcEvseStatus {
     }
 }
 
-impl<'a> Record<'a> for AcEvseStatus {
+impl Record for AcEvseStatus {
     ghost use Rattle.iso_schema.specs.Declarations.{kinds};
     ghost use Rattle.iso_schema.specs.Frame.{ac_evse_status};
     ghost use Rattle.std.proofs.Common.{rules};
@@ -197,7 +197,7 @@ impl PutRecord for DcEvseStatus {
     }
 }
 
-impl<'a> Record<'a> for DcEvseStatus {
+impl Record for DcEvseStatus {
     ghost use Rattle.iso_schema.specs.Declarations.{kinds};
     ghost use Rattle.iso_schema.specs.Frame.{dc_evse_status};
     ghost use Rattle.std.proofs.Common.{rules};
@@ -306,7 +306,7 @@ impl PutRecord for MeterInfo<'_> {
     }
 }
 
-impl<'a> Record<'a> for MeterInfo<'a> {
+impl<'a> Record for MeterInfo<'a> {
     ghost use Rattle.iso_schema.specs.Declarations.{kinds};
     ghost use Rattle.iso_schema.specs.Frame.{meter_info};
     ghost use Rattle.std.proofs.Common.{rules};

@@ -29,7 +29,7 @@ impl PutRecord for CableCheckReq {
     }
 }
 
-impl<'a> Record<'a> for CableCheckReq {
+impl Record for CableCheckReq {
     ghost use Rattle.iso_schema.specs.Declarations.{kinds};
     ghost use Rattle.iso_schema.specs.Charging.{cable_check_req};
     ghost use Rattle.std.proofs.Common.{rules};
@@ -74,7 +74,7 @@ impl PutRecord for CableCheckRes {
     }
 }
 
-impl<'a> Record<'a> for CableCheckRes {
+impl Record for CableCheckRes {
     ghost use Rattle.iso_schema.specs.Declarations.{kinds};
     ghost use Rattle.iso_schema.specs.Charging.{cable_check_res};
     ghost use Rattle.std.proofs.Common.{rules};
@@ -135,7 +135,7 @@ impl PutRecord for PreChargeReq {
     }
 }
 
-impl<'a> Record<'a> for PreChargeReq {
+impl Record for PreChargeReq {
     ghost use Rattle.iso_schema.specs.Declarations.{kinds};
     ghost use Rattle.iso_schema.specs.Charging.{pre_charge_req};
     ghost use Rattle.std.proofs.Common.{rules};
@@ -196,7 +196,7 @@ impl PutRecord for PreChargeRes {
     }
 }
 
-impl<'a> Record<'a> for PreChargeRes {
+impl Record for PreChargeRes {
     ghost use Rattle.iso_schema.specs.Declarations.{kinds};
     ghost use Rattle.iso_schema.specs.Charging.{pre_charge_res};
     ghost use Rattle.std.proofs.Common.{rules};
@@ -295,7 +295,7 @@ impl PutRecord for CurrentDemandReq {
     }
 }
 
-impl<'a> Record<'a> for CurrentDemandReq {
+impl Record for CurrentDemandReq {
     ghost use Rattle.iso_schema.specs.Declarations.{kinds};
     ghost use Rattle.iso_schema.specs.Charging.{current_demand_req};
     ghost use Rattle.std.proofs.Common.{rules};
@@ -449,7 +449,7 @@ impl PutRecord for CurrentDemandRes<'_> {
     }
 }
 
-impl<'a> Record<'a> for CurrentDemandRes<'a> {
+impl<'a> Record for CurrentDemandRes<'a> {
     ghost use Rattle.iso_schema.specs.Declarations.{kinds};
     ghost use Rattle.iso_schema.specs.Charging.{current_demand_res};
     ghost use Rattle.std.proofs.Common.{rules};
@@ -555,7 +555,7 @@ impl PutRecord for WeldingDetectionReq {
     }
 }
 
-impl<'a> Record<'a> for WeldingDetectionReq {
+impl Record for WeldingDetectionReq {
     ghost use Rattle.iso_schema.specs.Declarations.{kinds};
     ghost use Rattle.iso_schema.specs.Charging.{welding_detection_req};
     ghost use Rattle.std.proofs.Common.{rules};
@@ -604,7 +604,7 @@ impl PutRecord for WeldingDetectionRes {
     }
 }
 
-impl<'a> Record<'a> for WeldingDetectionRes {
+impl Record for WeldingDetectionRes {
     ghost use Rattle.iso_schema.specs.Declarations.{kinds};
     ghost use Rattle.iso_schema.specs.Charging.{welding_detection_res};
     ghost use Rattle.std.proofs.Common.{rules};

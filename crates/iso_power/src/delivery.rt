@@ -53,7 +53,7 @@ impl PutRecord for ProfileEntry {
     }
 }
 
-impl<'a> Record<'a> for ProfileEntry {
+impl Record for ProfileEntry {
     ghost use Rattle.iso_schema.specs.Declarations.{kinds};
     ghost use Rattle.iso_schema.specs.Parameters.{profile_entry};
     ghost use Rattle.std.proofs.Common.{rules};
@@ -111,7 +111,7 @@ impl PutRecord for ChargingProfile {
     }
 }
 
-impl<'a> Record<'a> for ChargingProfile {
+impl Record for ChargingProfile {
     ghost use Rattle.iso_schema.specs.Declarations.{kinds};
     ghost use Rattle.iso_schema.specs.Parameters.{charging_profile};
     ghost use Rattle.std.proofs.Common.{rules};
@@ -160,7 +160,7 @@ impl PutRecord for DcEvPowerDeliveryParameter {
     }
 }
 
-impl<'a> Record<'a> for DcEvPowerDeliveryParameter {
+impl Record for DcEvPowerDeliveryParameter {
     ghost use Rattle.iso_schema.specs.Declarations.{kinds};
     ghost use Rattle.iso_schema.specs.Parameters.{dc_ev_power_delivery_parameter};
     ghost use Rattle.std.proofs.Common.{rules};
@@ -273,7 +273,7 @@ impl PutRecord for PowerDeliveryReq {
     }
 }
 
-impl<'a> Record<'a> for PowerDeliveryReq {
+impl Record for PowerDeliveryReq {
     ghost use Rattle.iso_schema.specs.Declarations.{kinds};
     ghost use Rattle.iso_schema.specs.Parameters.{power_delivery_req};
     ghost use Rattle.std.proofs.Common.{rules};
@@ -335,7 +335,7 @@ impl PutRecord for PowerDeliveryRes {
     }
 }
 
-impl<'a> Record<'a> for PowerDeliveryRes {
+impl Record for PowerDeliveryRes {
     ghost use Rattle.iso_schema.specs.Declarations.{kinds};
     ghost use Rattle.iso_schema.specs.Parameters.{power_delivery_res};
     ghost use Rattle.std.proofs.Common.{rules};
@@ -373,7 +373,7 @@ impl PutRecord for ChargingStatusReq {
     fn write<P: Places>(&self, _writer: &mut EventWriter<'_, '_, P>) {}
 }
 
-impl<'a> Record<'a> for ChargingStatusReq {
+impl Record for ChargingStatusReq {
     ghost use Rattle.iso_schema.specs.Declarations.{kinds};
     ghost use Rattle.std.proofs.Common.{rules};
 
@@ -430,7 +430,7 @@ impl PutRecord for ChargingStatusRes<'_> {
     }
 }
 
-impl<'a> Record<'a> for ChargingStatusRes<'a> {
+impl<'a> Record for ChargingStatusRes<'a> {
     ghost use Rattle.iso_schema.specs.Declarations.{kinds};
     ghost use Rattle.iso_schema.specs.Parameters.{charging_status_res};
     ghost use Rattle.std.proofs.Common.{rules};

@@ -103,7 +103,7 @@ impl PutRecord for Parameter<'_> {
     }
 }
 
-impl<'a> Record<'a> for Parameter<'a> {
+impl<'a> Record for Parameter<'a> {
     ghost use Rattle.iso_schema.specs.Declarations.{kinds};
     ghost use Rattle.iso_schema.specs.Setup.{parameter};
     ghost use Rattle.iso_setup.specs.Details.{parameter_attributes};
@@ -148,7 +148,7 @@ impl PutRecord for ParameterSet<'_> {
     }
 }
 
-impl<'a> Record<'a> for ParameterSet<'a> {
+impl<'a> Record for ParameterSet<'a> {
     ghost use Rattle.iso_schema.specs.Declarations.{kinds};
     ghost use Rattle.iso_schema.specs.Setup.{parameter_set};
     ghost use Rattle.std.proofs.Common.{rules};
@@ -198,7 +198,7 @@ impl PutRecord for ServiceParameterList<'_> {
     }
 }
 
-impl<'a> Record<'a> for ServiceParameterList<'a> {
+impl<'a> Record for ServiceParameterList<'a> {
     ghost use Rattle.iso_schema.specs.Declarations.{kinds};
     ghost use Rattle.iso_schema.specs.Setup.{service_parameter_list};
     ghost use Rattle.std.proofs.Common.{rules};
@@ -239,7 +239,7 @@ impl PutRecord for ServiceDetailReq {
     }
 }
 
-impl<'a> Record<'a> for ServiceDetailReq {
+impl Record for ServiceDetailReq {
     ghost use Rattle.iso_schema.specs.Declarations.{kinds};
     ghost use Rattle.iso_schema.specs.Setup.{service_detail_req};
     ghost use Rattle.std.proofs.Common.{rules};
@@ -288,7 +288,7 @@ impl PutRecord for ServiceDetailRes<'_> {
     }
 }
 
-impl<'a> Record<'a> for ServiceDetailRes<'a> {
+impl<'a> Record for ServiceDetailRes<'a> {
     ghost use Rattle.iso_schema.specs.Declarations.{kinds};
     ghost use Rattle.iso_schema.specs.Setup.{service_detail_res};
     ghost use Rattle.std.proofs.Common.{rules};

@@ -30,7 +30,7 @@ impl PutRecord for SelectedService {
     }
 }
 
-impl<'a> Record<'a> for SelectedService {
+impl Record for SelectedService {
     ghost use Rattle.iso_schema.specs.Declarations.{kinds};
     ghost use Rattle.iso_schema.specs.Setup.{selected_service};
     ghost use Rattle.std.proofs.Common.{rules};
@@ -80,7 +80,7 @@ impl PutRecord for SelectedServiceList {
     }
 }
 
-impl<'a> Record<'a> for SelectedServiceList {
+impl Record for SelectedServiceList {
     ghost use Rattle.iso_schema.specs.Declarations.{kinds};
     ghost use Rattle.iso_schema.specs.Setup.{selected_service_list};
     ghost use Rattle.std.proofs.Common.{rules};
@@ -131,7 +131,7 @@ impl PutRecord for PaymentServiceSelectionReq {
     }
 }
 
-impl<'a> Record<'a> for PaymentServiceSelectionReq {
+impl Record for PaymentServiceSelectionReq {
     ghost use Rattle.iso_schema.specs.Declarations.{kinds};
     ghost use Rattle.iso_schema.specs.Setup.{payment_service_selection_req};
     ghost use Rattle.std.proofs.Common.{rules};
@@ -176,7 +176,7 @@ impl PutRecord for PaymentServiceSelectionRes {
     }
 }
 
-impl<'a> Record<'a> for PaymentServiceSelectionRes {
+impl Record for PaymentServiceSelectionRes {
     ghost use Rattle.iso_schema.specs.Declarations.{kinds};
     ghost use Rattle.iso_schema.specs.Setup.{payment_service_selection_res};
     ghost use Rattle.std.proofs.Common.{rules};

@@ -43,7 +43,7 @@ impl PutRecord for Service<'_> {
     }
 }
 
-impl<'a> Record<'a> for Service<'a> {
+impl<'a> Record for Service<'a> {
     ghost use Rattle.iso_schema.specs.Declarations.{kinds};
     ghost use Rattle.iso_schema.specs.Setup.{service};
     ghost use Rattle.std.proofs.Common.{rules};
@@ -112,7 +112,7 @@ impl PutRecord for ServiceList<'_> {
     }
 }
 
-impl<'a> Record<'a> for ServiceList<'a> {
+impl<'a> Record for ServiceList<'a> {
     ghost use Rattle.iso_schema.specs.Declarations.{kinds};
     ghost use Rattle.iso_schema.specs.Setup.{service_list};
     ghost use Rattle.std.proofs.Common.{rules};
@@ -158,7 +158,7 @@ impl PutRecord for SupportedEnergyTransferMode {
     }
 }
 
-impl<'a> Record<'a> for SupportedEnergyTransferMode {
+impl Record for SupportedEnergyTransferMode {
     ghost use Rattle.iso_schema.specs.Declarations.{kinds};
     ghost use Rattle.iso_schema.specs.Setup.{supported_energy_transfer_mode};
     ghost use Rattle.std.proofs.Common.{rules};
@@ -217,7 +217,7 @@ impl PutRecord for ChargeService<'_> {
     }
 }
 
-impl<'a> Record<'a> for ChargeService<'a> {
+impl<'a> Record for ChargeService<'a> {
     ghost use Rattle.iso_schema.specs.Declarations.{kinds};
     ghost use Rattle.iso_schema.specs.Setup.{charge_service};
     ghost use Rattle.std.proofs.Common.{rules};
@@ -292,7 +292,7 @@ impl PutRecord for PaymentOptionList {
     }
 }
 
-impl<'a> Record<'a> for PaymentOptionList {
+impl Record for PaymentOptionList {
     ghost use Rattle.iso_schema.specs.Declarations.{kinds};
     ghost use Rattle.iso_schema.specs.Setup.{payment_option_list};
     ghost use Rattle.std.proofs.Common.{rules};
@@ -336,7 +336,7 @@ impl PutRecord for ServiceDiscoveryReq<'_> {
     }
 }
 
-impl<'a> Record<'a> for ServiceDiscoveryReq<'a> {
+impl<'a> Record for ServiceDiscoveryReq<'a> {
     ghost use Rattle.iso_schema.specs.Declarations.{kinds};
     ghost use Rattle.iso_schema.specs.Setup.{service_discovery_req};
     ghost use Rattle.std.proofs.Common.{rules};
@@ -395,7 +395,7 @@ impl PutRecord for ServiceDiscoveryRes<'_> {
     }
 }
 
-impl<'a> Record<'a> for ServiceDiscoveryRes<'a> {
+impl<'a> Record for ServiceDiscoveryRes<'a> {
     ghost use Rattle.iso_schema.specs.Declarations.{kinds};
     ghost use Rattle.iso_schema.specs.Setup.{service_discovery_res};
     ghost use Rattle.std.proofs.Common.{rules};

@@ -30,7 +30,7 @@ impl PutRecord for SessionSetupReq<'_> {
     }
 }
 
-impl<'a> Record<'a> for SessionSetupReq<'a> {
+impl<'a> Record for SessionSetupReq<'a> {
     ghost use Rattle.iso_schema.specs.Declarations.{kinds};
     ghost use Rattle.iso_schema.specs.Setup.{session_setup_req};
     ghost use Rattle.std.proofs.Common.{rules};
@@ -76,7 +76,7 @@ impl PutRecord for SessionSetupRes<'_> {
     }
 }
 
-impl<'a> Record<'a> for SessionSetupRes<'a> {
+impl<'a> Record for SessionSetupRes<'a> {
     ghost use Rattle.iso_schema.specs.Declarations.{kinds};
     ghost use Rattle.iso_schema.specs.Setup.{session_setup_res};
     ghost use Rattle.std.proofs.Common.{rules};
@@ -133,7 +133,7 @@ impl PutRecord for AuthorizationReq<'_> {
     }
 }
 
-impl<'a> Record<'a> for AuthorizationReq<'a> {
+impl<'a> Record for AuthorizationReq<'a> {
     ghost use Rattle.iso_schema.specs.Declarations.{kinds};
     ghost use Rattle.iso_schema.specs.Setup.{authorization_req};
     ghost use Rattle.iso_setup.specs.Session.{authorization_req_attributes};
@@ -180,7 +180,7 @@ impl PutRecord for AuthorizationRes {
     }
 }
 
-impl<'a> Record<'a> for AuthorizationRes {
+impl Record for AuthorizationRes {
     ghost use Rattle.iso_schema.specs.Declarations.{kinds};
     ghost use Rattle.iso_schema.specs.Setup.{authorization_res};
     ghost use Rattle.std.proofs.Common.{rules};
@@ -224,7 +224,7 @@ impl PutRecord for SessionStopReq {
     }
 }
 
-impl<'a> Record<'a> for SessionStopReq {
+impl Record for SessionStopReq {
     ghost use Rattle.iso_schema.specs.Declarations.{kinds};
     ghost use Rattle.iso_schema.specs.Setup.{session_stop_req};
     ghost use Rattle.std.proofs.Common.{rules};
@@ -265,7 +265,7 @@ impl PutRecord for SessionStopRes {
     }
 }
 
-impl<'a> Record<'a> for SessionStopRes {
+impl Record for SessionStopRes {
     ghost use Rattle.iso_schema.specs.Declarations.{kinds};
     ghost use Rattle.iso_schema.specs.Setup.{session_stop_res};
     ghost use Rattle.std.proofs.Common.{rules};

@@ -4,10 +4,10 @@ ghost use Rattle.std.specs.Prelude.{pos};
 ghost use Rattle.exi_documents.specs.Trees.{Number, Truth};
 ghost use Rattle.message_parts.specs.Values.{is_bool, is_signed, is_unsigned};
 
-use crate::part::Simple;
+use crate::part::{ReadSimple, Simple};
 use exi_events::Value;
 
-impl<'a> Simple<'a> for u8 {
+impl Simple for u8 {
     ghost takes = { is_unsigned 8 };
 
     ghost value = { λ x. Number (pos x) };
@@ -15,7 +15,9 @@ impl<'a> Simple<'a> for u8 {
     fn as_value(&self) -> Value<'_> {
         Value::Number(i128::from(*self))
     }
+}
 
+impl<'a> ReadSimple<'a> for u8 {
     fn of(read: Value<'a>) -> u8 {
         match read {
             Value::Number(number) => u8::try_from(number).unwrap_or(0),
@@ -24,7 +26,7 @@ impl<'a> Simple<'a> for u8 {
     }
 }
 
-impl<'a> Simple<'a> for u16 {
+impl Simple for u16 {
     ghost takes = { is_unsigned 16 };
 
     ghost value = { λ x. Number (pos x) };
@@ -32,7 +34,9 @@ impl<'a> Simple<'a> for u16 {
     fn as_value(&self) -> Value<'_> {
         Value::Number(i128::from(*self))
     }
+}
 
+impl<'a> ReadSimple<'a> for u16 {
     fn of(read: Value<'a>) -> u16 {
         match read {
             Value::Number(number) => u16::try_from(number).unwrap_or(0),
@@ -41,7 +45,7 @@ impl<'a> Simple<'a> for u16 {
     }
 }
 
-impl<'a> Simple<'a> for u32 {
+impl Simple for u32 {
     ghost takes = { is_unsigned 32 };
 
     ghost value = { λ x. Number (pos x) };
@@ -49,7 +53,9 @@ impl<'a> Simple<'a> for u32 {
     fn as_value(&self) -> Value<'_> {
         Value::Number(i128::from(*self))
     }
+}
 
+impl<'a> ReadSimple<'a> for u32 {
     fn of(read: Value<'a>) -> u32 {
         match read {
             Value::Number(number) => u32::try_from(number).unwrap_or(0),
@@ -58,7 +64,7 @@ impl<'a> Simple<'a> for u32 {
     }
 }
 
-impl<'a> Simple<'a> for u64 {
+impl Simple for u64 {
     ghost takes = { is_unsigned 64 };
 
     ghost value = { λ x. Number (pos x) };
@@ -66,7 +72,9 @@ impl<'a> Simple<'a> for u64 {
     fn as_value(&self) -> Value<'_> {
         Value::Number(i128::from(*self))
     }
+}
 
+impl<'a> ReadSimple<'a> for u64 {
     fn of(read: Value<'a>) -> u64 {
         match read {
             Value::Number(number) => u64::try_from(number).unwrap_or(0),
@@ -75,7 +83,7 @@ impl<'a> Simple<'a> for u64 {
     }
 }
 
-impl<'a> Simple<'a> for i8 {
+impl Simple for i8 {
     ghost takes = { is_signed 7 };
 
     ghost value = { λ x. Number x };
@@ -83,7 +91,9 @@ impl<'a> Simple<'a> for i8 {
     fn as_value(&self) -> Value<'_> {
         Value::Number(i128::from(*self))
     }
+}
 
+impl<'a> ReadSimple<'a> for i8 {
     fn of(read: Value<'a>) -> i8 {
         match read {
             Value::Number(number) => i8::try_from(number).unwrap_or(0),
@@ -92,7 +102,7 @@ impl<'a> Simple<'a> for i8 {
     }
 }
 
-impl<'a> Simple<'a> for i16 {
+impl Simple for i16 {
     ghost takes = { is_signed 15 };
 
     ghost value = { λ x. Number x };
@@ -100,7 +110,9 @@ impl<'a> Simple<'a> for i16 {
     fn as_value(&self) -> Value<'_> {
         Value::Number(i128::from(*self))
     }
+}
 
+impl<'a> ReadSimple<'a> for i16 {
     fn of(read: Value<'a>) -> i16 {
         match read {
             Value::Number(number) => i16::try_from(number).unwrap_or(0),
@@ -109,7 +121,7 @@ impl<'a> Simple<'a> for i16 {
     }
 }
 
-impl<'a> Simple<'a> for i32 {
+impl Simple for i32 {
     ghost takes = { is_signed 31 };
 
     ghost value = { λ x. Number x };
@@ -117,7 +129,9 @@ impl<'a> Simple<'a> for i32 {
     fn as_value(&self) -> Value<'_> {
         Value::Number(i128::from(*self))
     }
+}
 
+impl<'a> ReadSimple<'a> for i32 {
     fn of(read: Value<'a>) -> i32 {
         match read {
             Value::Number(number) => i32::try_from(number).unwrap_or(0),
@@ -126,7 +140,7 @@ impl<'a> Simple<'a> for i32 {
     }
 }
 
-impl<'a> Simple<'a> for i64 {
+impl Simple for i64 {
     ghost takes = { is_signed 63 };
 
     ghost value = { λ x. Number x };
@@ -134,7 +148,9 @@ impl<'a> Simple<'a> for i64 {
     fn as_value(&self) -> Value<'_> {
         Value::Number(i128::from(*self))
     }
+}
 
+impl<'a> ReadSimple<'a> for i64 {
     fn of(read: Value<'a>) -> i64 {
         match read {
             Value::Number(number) => i64::try_from(number).unwrap_or(0),
@@ -143,7 +159,7 @@ impl<'a> Simple<'a> for i64 {
     }
 }
 
-impl<'a> Simple<'a> for bool {
+impl Simple for bool {
     ghost takes = { is_bool };
 
     ghost value = { λ x. Truth x };
@@ -151,7 +167,9 @@ impl<'a> Simple<'a> for bool {
     fn as_value(&self) -> Value<'_> {
         Value::Bool(*self)
     }
+}
 
+impl<'a> ReadSimple<'a> for bool {
     fn of(read: Value<'a>) -> bool {
         match read {
             Value::Bool(truth) => truth,

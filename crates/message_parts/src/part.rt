@@ -19,8 +19,8 @@ use exi_documents::Refusal;
 use exi_events::{EventWriter, Value};
 use exi_schema::Places;
 
-/// A value of a simple kind.
-pub trait Simple<'a>: Drop {
+/// A value of a simple kind, and how it is put.
+pub trait Simple: Drop {
     /// The datatypes whose values it takes.
     ghost takes: { Datatype → Bool };
 
@@ -31,11 +31,14 @@ pub trait Simple<'a>: Drop {
     fn as_value(&self) -> Value<'_>
         ensures shaped { IsShaped result }
         ensures value { value_of result ≡ value self.now };
+}
 
+/// A value of a simple kind, as it is read.
+pub trait ReadSimple<'a>: Simple {
     /// What is read as a value of one of these datatypes.
     fn of(read: Value<'a>) -> Self
         requires lent { (bits : List Bool) × IsLent bits read }
-        ensures { (d : Datatype) → takes d ≡ true → IsRead d (value_of read.entry) → value result ≡ value_of read.entry };
+        ensures { (d : Datatype) → Self.takes d ≡ true → IsRead d (value_of read.entry) → Self.value result ≡ value_of read.entry };
 }
 
 /// What an element of a complex kind contains, attributes and then elements, and how it is put.
@@ -146,14 +149,17 @@ pub trait PutChoice: Drop {
             → Writes F rest (put_of writer.new) };
 }
 
-/// One of several elements, as it is read.
-pub trait Choice<'a>: PutChoice {
+/// One of several elements, and which may stand there.
+pub trait Alternatives: PutChoice {
     /// The declarations of its schema.
     ghost kinds: { List PlainKind };
 
     /// The names and kinds of the elements that may stand there.
     ghost members: { List (ℕ × ℕ) };
+}
 
+/// One of several elements, as it is read.
+pub trait Choice<'a>: Alternatives {
     /// Reads the rest of the element, which has started.
     fn read_member<P: Places>(descent: &mut Descent<'a, '_, P>) -> Result<Self, Refusal>
         requires open { IsOpen P.schema descent.old }
@@ -162,8 +168,8 @@ pub trait Choice<'a>: PutChoice {
         ensures places { descent.new.reader.places.now ≡ descent.old.reader.places.now }
         ensures payload { descent.new.reader.reader.bits ≡ descent.old.reader.reader.bits }
         ensures refused { IfErr result (λ r. IsRefusal (seen_of P.schema descent.old) r) }
-        ensures read { (F : Frame) (told : List TreeEvent) → IsChosen kinds F members told (seen_of P.schema descent.old)
-            → IfOk result (λ v. (Self.name v ≡ F.name) × Leaves kinds F (told_inside (Self.inside v) told) (seen_of P.schema descent.new)) };
+        ensures read { (F : Frame) (told : List TreeEvent) → IsChosen Self.kinds F Self.members told (seen_of P.schema descent.old)
+            → IfOk result (λ v. (Self.name v ≡ F.name) × Leaves Self.kinds F (told_inside (Self.inside v) told) (seen_of P.schema descent.new)) };
 }
 
 /// One of several elements where none may stand either.
@@ -174,16 +180,10 @@ pub trait Group<'a>: Choice<'a> {
 }
 
 /// One of several elements where none may stand either, as it is read into a place that the caller lends.
-pub trait LargeGroup<'a>: PutChoice {
-    /// The declarations of its schema.
-    ghost kinds: { List PlainKind };
-
-    /// The names and kinds of the elements that may stand there.
-    ghost members: { List (ℕ × ℕ) };
-
+pub trait LargeGroup<'a>: Alternatives {
     /// The names of the elements that may stand there.
     fn names() -> &'static [u16]
-        ensures { result.now ≡ names_among members };
+        ensures { result.now ≡ names_among Self.members };
 
     /// Reads the rest of the element, which has started. What stands in the place after a refusal is not told.
     fn read_member_into<P: Places>(
@@ -196,18 +196,12 @@ pub trait LargeGroup<'a>: PutChoice {
         ensures places { descent.new.reader.places.now ≡ descent.old.reader.places.now }
         ensures payload { descent.new.reader.reader.bits ≡ descent.old.reader.reader.bits }
         ensures refused { IfErr result (λ r. IsRefusal (seen_of P.schema descent.old) r) }
-        ensures read { (F : Frame) (told : List TreeEvent) → IsChosen kinds F members told (seen_of P.schema descent.old)
-            → IfOk result (λ _. (v : Self) × (place.new ≡ Some v) × (Self.name v ≡ F.name) × Leaves kinds F (told_inside (Self.inside v) told) (seen_of P.schema descent.new)) };
+        ensures read { (F : Frame) (told : List TreeEvent) → IsChosen Self.kinds F Self.members told (seen_of P.schema descent.old)
+            → IfOk result (λ _. (v : Self) × (place.new ≡ Some v) × (Self.name v ≡ F.name) × Leaves Self.kinds F (told_inside (Self.inside v) told) (seen_of P.schema descent.new)) };
 }
 
 /// One of several elements, or what stands at the root of a document, as it is read into a place that the caller lends.
-pub trait LargeChoice<'a>: PutChoice {
-    /// The declarations of its schema.
-    ghost kinds: { List PlainKind };
-
-    /// The names and kinds of the elements that may stand there.
-    ghost members: { List (ℕ × ℕ) };
-
+pub trait LargeChoice<'a>: Alternatives {
     /// Reads the rest of the element, which has started. What it is after a refusal is not told.
     fn read_member_here<P: Places>(
         &mut self,
@@ -219,8 +213,8 @@ pub trait LargeChoice<'a>: PutChoice {
         ensures places { descent.new.reader.places.now ≡ descent.old.reader.places.now }
         ensures payload { descent.new.reader.reader.bits ≡ descent.old.reader.reader.bits }
         ensures refused { IfErr result (λ r. IsRefusal (seen_of P.schema descent.old) r) }
-        ensures read { (F : Frame) (told : List TreeEvent) → IsChosen kinds F members told (seen_of P.schema descent.old)
-            → IfOk result (λ _. (Self.name self.new ≡ F.name) × Leaves kinds F (told_inside (Self.inside self.new) told) (seen_of P.schema descent.new)) };
+        ensures read { (F : Frame) (told : List TreeEvent) → IsChosen Self.kinds F Self.members told (seen_of P.schema descent.old)
+            → IfOk result (λ _. (Self.name self.new ≡ F.name) × Leaves Self.kinds F (told_inside (Self.inside self.new) told) (seen_of P.schema descent.new)) };
 }
 
 /// The root of a document.

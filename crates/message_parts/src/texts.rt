@@ -9,7 +9,7 @@ ghost use Rattle.message_parts.specs.Values.{is_text, is_binary};
 ghost use Rattle.message_parts.specs.Texts.{text_value};
 
 use crate::lent_text::LentText;
-use crate::part::Simple;
+use crate::part::{ReadSimple, Simple};
 use exi_bits::BitSpan;
 use exi_events::Value;
 
@@ -102,7 +102,7 @@ impl<'a> Binary<'a> {
     }
 }
 
-impl<'a> Simple<'a> for Text<'a> {
+impl Simple for Text<'_> {
     ghost takes = { is_text };
 
     ghost value = { text_value };
@@ -113,7 +113,9 @@ impl<'a> Simple<'a> for Text<'a> {
             Text::Written(text) => Value::Written(text),
         }
     }
+}
 
+impl<'a> ReadSimple<'a> for Text<'a> {
     fn of(read: Value<'a>) -> Text<'a> {
         match read {
             Value::Text(span) => Text::Lent(LentText { span }),
@@ -128,7 +130,7 @@ impl<'a> Default for Text<'a> {
     }
 }
 
-impl<'a> Simple<'a> for Binary<'a> {
+impl Simple for Binary<'_> {
     ghost takes = { is_binary };
 
     ghost value = { λ x. TreeBytes (items_of x.span) };
@@ -136,7 +138,9 @@ impl<'a> Simple<'a> for Binary<'a> {
     fn as_value(&self) -> Value<'_> {
         binary_again(&self.span)
     }
+}
 
+impl<'a> ReadSimple<'a> for Binary<'a> {
     fn of(read: Value<'a>) -> Binary<'a> {
         match read {
             Value::Binary(span) => Binary { span },

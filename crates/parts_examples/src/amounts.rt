@@ -19,7 +19,7 @@ pub enum State {
     Broken,
 }
 
-impl<'a> Simple<'a> for State {
+impl Simple for State {
     ghost use Rattle.exi_documents.specs.Trees.{Ordinal};
     ghost use Rattle.message_parts.specs.Values.{is_named};
     ghost use Rattle.parts_examples.specs.Parts.{state_ordinal};
@@ -35,7 +35,9 @@ impl<'a> Simple<'a> for State {
             State::Broken => 2,
         })
     }
+}
 
+impl<'a> ReadSimple<'a> for State {
     fn of(read: Value<'a>) -> State {
         match read {
             Value::Ordinal(0) => State::Free,
