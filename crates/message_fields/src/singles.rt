@@ -5,13 +5,13 @@ ghost use Rattle.exi_schema.specs.Plain.{containing};
 ghost use Rattle.message_parts.specs.Contents.{Of, holding_with, mapped, told_choice, told_each, told_one, told_perhaps};
 ghost use Rattle.message_parts.specs.Particles.{alternatives_at, is_left_out, is_once_at, is_optional_at, is_repeated_at, is_required, is_single, kind_at, name_at, takes_at};
 
-use crate::tuples::Children;
+use crate::tuples::{Children, ReadChildren};
 use arrayvec::ArrayVec;
 use exi_documents::Refusal;
 use exi_schema::Places;
 use message_parts::{
-    Choice, Descent, Group, ReadContents, Record, Simple, choice, left_out, optional,
-    optional_choice, optional_value, records, required, value, values,
+    Alternatives, Choice, Descent, Group, ReadContents, ReadSimple, Record, Simple, choice,
+    left_out, optional, optional_choice, optional_value, records, required, value, values,
 };
 
 /// An element with attributes and children that has to be there.
@@ -50,33 +50,37 @@ pub struct SeveralValues<T, const MOST: usize, const NAME: u16>(pub ArrayVec<T, 
 #[derive(Drop)]
 pub struct LeftOut;
 
-impl<'a, T: Record> Children<'a> for Required<T>
-where
-    T::Made: ReadContents<'a>,
-{
+impl<T: Record> Children for Required<T> {
     ghost stand = { λ ks declared at. (ks ≡ T.kinds) × (is_once_at declared at ≡ true) × (slice_get T.kinds (kind_at declared at) ≡ Some (containing T.attributes T.particles)) };
 
     ghost behind = { λ at. suc at };
 
     ghost told = { λ declared at v before. told_one (name_at declared at) (holding_with (T.given v.0) (T.parts v.0)) before };
+}
 
+impl<'a, T: Record> ReadChildren<'a> for Required<T>
+where
+    T::Made: ReadContents<'a>,
+{
     #[inline(always)]
     fn read_children<P: Places>(descent: &mut Descent<'a, '_, P>) -> Result<Required<T>, Refusal> {
         Ok(Required(required(descent)?))
     }
 }
 
-impl<'a, T: Record, const NAME: u16> Children<'a> for Optional<T, NAME>
-where
-    T::Made: ReadContents<'a>,
-{
+impl<T: Record, const NAME: u16> Children for Optional<T, NAME> {
     ghost stand = { λ ks declared at. (ks ≡ T.kinds) × (is_optional_at declared at ≡ true) × (NAME ≡ name_at declared at)
         × (slice_get T.kinds (kind_at declared at) ≡ Some (containing T.attributes T.particles)) };
 
     ghost behind = { λ at. suc at };
 
     ghost told = { λ declared at v before. told_perhaps NAME (mapped (λ x. holding_with (T.given x) (T.parts x)) v.0) before };
+}
 
+impl<'a, T: Record, const NAME: u16> ReadChildren<'a> for Optional<T, NAME>
+where
+    T::Made: ReadContents<'a>,
+{
     #[inline(always)]
     fn read_children<P: Places>(
         descent: &mut Descent<'a, '_, P>,
@@ -85,13 +89,15 @@ where
     }
 }
 
-impl<'a, T: Simple<'a>> Children<'a> for RequiredValue<T> {
+impl<T: Simple> Children for RequiredValue<T> {
     ghost stand = { λ ks declared at. (is_once_at declared at ≡ true) × (takes_at T.takes ks declared at ≡ true) };
 
     ghost behind = { λ at. suc at };
 
     ghost told = { λ declared at v before. told_one (name_at declared at) (Of (T.value v.0)) before };
+}
 
+impl<'a, T: ReadSimple<'a>> ReadChildren<'a> for RequiredValue<T> {
     #[inline(always)]
     fn read_children<P: Places>(
         descent: &mut Descent<'a, '_, P>,
@@ -100,13 +106,15 @@ impl<'a, T: Simple<'a>> Children<'a> for RequiredValue<T> {
     }
 }
 
-impl<'a, T: Simple<'a>, const NAME: u16> Children<'a> for OptionalValue<T, NAME> {
+impl<T: Simple, const NAME: u16> Children for OptionalValue<T, NAME> {
     ghost stand = { λ ks declared at. (is_optional_at declared at ≡ true) × (NAME ≡ name_at declared at) × (takes_at T.takes ks declared at ≡ true) };
 
     ghost behind = { λ at. suc at };
 
     ghost told = { λ declared at v before. told_perhaps NAME (mapped (λ x. Of (T.value x)) v.0) before };
+}
 
+impl<'a, T: ReadSimple<'a>, const NAME: u16> ReadChildren<'a> for OptionalValue<T, NAME> {
     #[inline(always)]
     fn read_children<P: Places>(
         descent: &mut Descent<'a, '_, P>,
@@ -115,26 +123,30 @@ impl<'a, T: Simple<'a>, const NAME: u16> Children<'a> for OptionalValue<T, NAME>
     }
 }
 
-impl<'a, T: Choice<'a>> Children<'a> for OneOf<T> {
+impl<T: Alternatives> Children for OneOf<T> {
     ghost stand = { λ ks declared at. (ks ≡ T.kinds) × (is_required (slice_get declared at) ≡ true) × (alternatives_at declared at ≡ T.members) };
 
     ghost behind = { λ at. suc at };
 
     ghost told = { λ declared at v before. told_one (T.name v.0) (T.inside v.0) before };
+}
 
+impl<'a, T: Choice<'a>> ReadChildren<'a> for OneOf<T> {
     #[inline(always)]
     fn read_children<P: Places>(descent: &mut Descent<'a, '_, P>) -> Result<OneOf<T>, Refusal> {
         Ok(OneOf(choice(descent)?))
     }
 }
 
-impl<'a, T: Group<'a>> Children<'a> for AtMostOneOf<T> {
+impl<T: Alternatives> Children for AtMostOneOf<T> {
     ghost stand = { λ ks declared at. (ks ≡ T.kinds) × (is_single (slice_get declared at) ≡ true) × (alternatives_at declared at ≡ T.members) };
 
     ghost behind = { λ at. suc at };
 
     ghost told = { λ declared at v before. told_choice (mapped (λ x. (T.name x, T.inside x)) v.0) before };
+}
 
+impl<'a, T: Group<'a>> ReadChildren<'a> for AtMostOneOf<T> {
     #[inline(always)]
     fn read_children<P: Places>(
         descent: &mut Descent<'a, '_, P>,
@@ -143,18 +155,20 @@ impl<'a, T: Group<'a>> Children<'a> for AtMostOneOf<T> {
     }
 }
 
-impl<'a, T: Record + Default, const MOST: usize, const NAME: u16> Children<'a>
-    for Several<T, MOST, NAME>
-where
-    T::Made: ReadContents<'a>,
-{
+impl<T: Record, const MOST: usize, const NAME: u16> Children for Several<T, MOST, NAME> {
     ghost stand = { λ ks declared at. (ks ≡ T.kinds) × (is_repeated_at declared at MOST ≡ true) × (NAME ≡ name_at declared at)
         × (slice_get T.kinds (kind_at declared at) ≡ Some (containing T.attributes T.particles)) };
 
     ghost behind = { λ at. suc at };
 
     ghost told = { λ declared at v before. told_each NAME (map (λ x. holding_with (T.given x) (T.parts x)) v.0.items) before };
+}
 
+impl<'a, T: Record + Default, const MOST: usize, const NAME: u16> ReadChildren<'a>
+    for Several<T, MOST, NAME>
+where
+    T::Made: ReadContents<'a>,
+{
     #[inline(always)]
     fn read_children<P: Places>(
         descent: &mut Descent<'a, '_, P>,
@@ -163,14 +177,16 @@ where
     }
 }
 
-impl<'a, T: Simple<'a> + Default, const MOST: usize, const NAME: u16> Children<'a>
-    for SeveralValues<T, MOST, NAME> {
+impl<T: Simple, const MOST: usize, const NAME: u16> Children for SeveralValues<T, MOST, NAME> {
     ghost stand = { λ ks declared at. (is_repeated_at declared at MOST ≡ true) × (NAME ≡ name_at declared at) × (takes_at T.takes ks declared at ≡ true) };
 
     ghost behind = { λ at. suc at };
 
     ghost told = { λ declared at v before. told_each NAME (map (λ x. Of (T.value x)) v.0.items) before };
+}
 
+impl<'a, T: ReadSimple<'a> + Default, const MOST: usize, const NAME: u16> ReadChildren<'a>
+    for SeveralValues<T, MOST, NAME> {
     #[inline(always)]
     fn read_children<P: Places>(
         descent: &mut Descent<'a, '_, P>,
@@ -179,13 +195,15 @@ impl<'a, T: Simple<'a> + Default, const MOST: usize, const NAME: u16> Children<'
     }
 }
 
-impl<'a> Children<'a> for LeftOut {
+impl Children for LeftOut {
     ghost stand = { λ ks declared at. is_left_out (slice_get declared at) ≡ true };
 
     ghost behind = { λ at. suc at };
 
     ghost told = { λ declared at v before. before };
+}
 
+impl<'a> ReadChildren<'a> for LeftOut {
     #[inline(always)]
     fn read_children<P: Places>(descent: &mut Descent<'a, '_, P>) -> Result<LeftOut, Refusal> {
         left_out(descent);
@@ -193,13 +211,15 @@ impl<'a> Children<'a> for LeftOut {
     }
 }
 
-impl<'a> Children<'a> for () {
+impl Children for () {
     ghost stand = { λ ks declared at. Unit {0} };
 
     ghost behind = { λ at. at };
 
     ghost told = { λ declared at v before. before };
+}
 
+impl<'a> ReadChildren<'a> for () {
     #[inline(always)]
     fn read_children<P: Places>(_descent: &mut Descent<'a, '_, P>) -> Result<(), Refusal> {
         Ok(())

@@ -10,8 +10,8 @@ use exi_documents::Refusal;
 use exi_schema::Places;
 use message_parts::{Descent, first_child};
 
-/// Some children of an element, one behind the other, as they are read.
-pub trait Children<'a>: Drop {
+/// Some children of an element, one behind the other.
+pub trait Children: Drop {
     /// Whether they are declared from this particle on.
     ghost stand: { List PlainKind → List PlainParticle → ℕ → Type 0 };
 
@@ -20,7 +20,10 @@ pub trait Children<'a>: Drop {
 
     /// What is told with them, the newest first.
     ghost told: { List PlainParticle → ℕ → Self → List TreeEvent → List TreeEvent };
+}
 
+/// How they are read.
+pub trait ReadChildren<'a>: Children {
     /// Reads them, up to the start of the next child.
     fn read_children<P: Places>(descent: &mut Descent<'a, '_, P>) -> Result<Self, Refusal>
         requires open { IsOpen P.schema descent.old }
@@ -30,17 +33,19 @@ pub trait Children<'a>: Drop {
         ensures payload { descent.new.reader.reader.bits ≡ descent.old.reader.reader.bits }
         ensures refused { IfErr result (λ r. IsRefusal (seen_of P.schema descent.old) r) }
         ensures read { (ks : List PlainKind) (F : Frame) (attributes : List AttributeOf) (declared : List PlainParticle) (at : ℕ) (before : List TreeEvent)
-            → Reads ks F attributes declared at before (seen_of P.schema descent.old) → stand ks declared at
-            → IfOk result (λ v. Reads ks F attributes declared (behind at) (told declared at v before) (seen_of P.schema descent.new)) };
+            → Reads ks F attributes declared at before (seen_of P.schema descent.old) → Self.stand ks declared at
+            → IfOk result (λ v. Reads ks F attributes declared (Self.behind at) (Self.told declared at v before) (seen_of P.schema descent.new)) };
 }
 
-impl<'a, A: Children<'a>, B: Children<'a>> Children<'a> for (A, B) {
+impl<A: Children, B: Children> Children for (A, B) {
     ghost stand = { λ ks declared at. A.stand ks declared at × B.stand ks declared (A.behind at) };
 
     ghost behind = { λ at. B.behind (A.behind at) };
 
     ghost told = { λ declared at v before. B.told declared (A.behind at) v.1 (A.told declared at v.0 before) };
+}
 
+impl<'a, A: ReadChildren<'a>, B: ReadChildren<'a>> ReadChildren<'a> for (A, B) {
     #[inline(always)]
     fn read_children<P: Places>(descent: &mut Descent<'a, '_, P>) -> Result<(A, B), Refusal> {
         let a = A::read_children(descent)?;
@@ -49,13 +54,16 @@ impl<'a, A: Children<'a>, B: Children<'a>> Children<'a> for (A, B) {
     }
 }
 
-impl<'a, A: Children<'a>, B: Children<'a>, C: Children<'a>> Children<'a> for (A, B, C) {
+impl<A: Children, B: Children, C: Children> Children for (A, B, C) {
     ghost stand = { λ ks declared at. A.stand ks declared at × B.stand ks declared (A.behind at) × C.stand ks declared (B.behind (A.behind at)) };
 
     ghost behind = { λ at. C.behind (B.behind (A.behind at)) };
 
     ghost told = { λ declared at v before. C.told declared (B.behind (A.behind at)) v.2 (B.told declared (A.behind at) v.1 (A.told declared at v.0 before)) };
+}
 
+impl<'a, A: ReadChildren<'a>, B: ReadChildren<'a>, C: ReadChildren<'a>> ReadChildren<'a>
+    for (A, B, C) {
     #[inline(always)]
     fn read_children<P: Places>(descent: &mut Descent<'a, '_, P>) -> Result<(A, B, C), Refusal> {
         let a = A::read_children(descent)?;
@@ -65,8 +73,7 @@ impl<'a, A: Children<'a>, B: Children<'a>, C: Children<'a>> Children<'a> for (A,
     }
 }
 
-impl<'a, A: Children<'a>, B: Children<'a>, C: Children<'a>, D: Children<'a>> Children<'a>
-    for (A, B, C, D) {
+impl<A: Children, B: Children, C: Children, D: Children> Children for (A, B, C, D) {
     ghost stand = { λ ks declared at. A.stand ks declared at × B.stand ks declared (A.behind at) × C.stand ks declared (B.behind (A.behind at))
         × D.stand ks declared (C.behind (B.behind (A.behind at))) };
 
@@ -74,7 +81,15 @@ impl<'a, A: Children<'a>, B: Children<'a>, C: Children<'a>, D: Children<'a>> Chi
 
     ghost told = { λ declared at v before. D.told declared (C.behind (B.behind (A.behind at))) v.3
         (C.told declared (B.behind (A.behind at)) v.2 (B.told declared (A.behind at) v.1 (A.told declared at v.0 before))) };
+}
 
+impl<
+    'a,
+    A: ReadChildren<'a>,
+    B: ReadChildren<'a>,
+    C: ReadChildren<'a>,
+    D: ReadChildren<'a>,
+> ReadChildren<'a> for (A, B, C, D) {
     #[inline(always)]
     fn read_children<P: Places>(descent: &mut Descent<'a, '_, P>) -> Result<(A, B, C, D), Refusal> {
         let a = A::read_children(descent)?;
@@ -87,7 +102,7 @@ impl<'a, A: Children<'a>, B: Children<'a>, C: Children<'a>, D: Children<'a>> Chi
 
 /// The first children of an element, behind its last attribute that has to be there.
 #[inline(always)]
-pub(crate) fn first_children<'a, T: Children<'a>, P: Places>(
+pub(crate) fn first_children<'a, T: ReadChildren<'a>, P: Places>(
     descent: &mut Descent<'a, '_, P>,
 ) -> Result<T, Refusal>
     requires open { IsOpen P.schema descent.old }
