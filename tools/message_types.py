@@ -18,7 +18,7 @@ from message_shapes import Types, in_groups
 from message_specs import definitions
 
 WORDS = [
-    "Binary", "Choice", "Descent", "Group", "LargeChoice", "LargeGroup", "LargeRecord", "PutChoice", "PutRecord", "Record", "Text", "Three", "attribute", "choice",
+    "Alternatives", "Binary", "Choice", "Descent", "Group", "LargeChoice", "LargeGroup", "LargeRecord", "PutChoice", "PutRecord", "Record", "Text", "Three", "attribute", "choice",
     "first_child", "last_attribute", "left_out", "member", "member_value", "optional", "optional_choice", "optional_choice_here",
     "optional_value", "put_attribute", "put_choice", "put_optional", "put_optional_attribute", "put_optional_choice", "put_optional_value",
     "put_record", "put_records", "put_value", "put_values", "records", "required", "required_here", "value", "values",
@@ -42,7 +42,7 @@ def enumeration(t, crate, file, kind):
 pub enum {name} {{
 {listed}}}
 
-impl<'a> Simple<'a> for {name} {{
+impl Simple for {name} {{
     ghost use Rattle.{crate}.specs.{file.capitalize()}.{{{ordinal}}};
 
     ghost takes = {{ is_named {len(variants)} }};
@@ -53,7 +53,9 @@ impl<'a> Simple<'a> for {name} {{
         Value::Ordinal(match self {{
 {arms}        }})
     }}
+}}
 
+impl<'a> ReadSimple<'a> for {name} {{
     fn of(read: Value<'a>) -> {name} {{
         match read {{
 {reads}            _ => {name}::{variants[-1]},
@@ -296,14 +298,17 @@ def choice(t, crate, file, kind):
 impl<'a> Group<'a> for {name}{"<'a>" if lent else ""} {{
 {uses}{names}}}
 """ if kind in t.optional_choices else ""
-    reading = f"""impl<'a> Choice<'a> for {name}{"<'a>" if lent else ""} {{
+    declared = f"""impl Alternatives for {name}{"<'_>" if lent else ""} {{
     ghost use Rattle.{t.s.crate}.specs.Declarations.{{kinds}};
     ghost use Rattle.{crate}.specs.{file.capitalize()}.{{{low}_members}};
 
     ghost kinds = {{ kinds }};
 
     ghost members = {{ {low}_members }};
-
+}}
+"""
+    reading = f"""{declared}
+impl<'a> Choice<'a> for {name}{"<'a>" if lent else ""} {{
     fn read_member<P: Places>(descent: &mut Descent<'a, '_, P>) -> Result<{name}{"<'a>" if lent else ""}, Refusal> {{
 {chain(t, name, members)}    }}
 }}
@@ -311,18 +316,10 @@ impl<'a> Group<'a> for {name}{"<'a>" if lent else ""} {{
     if kind in t.large:
         functions = "".join(apart(t, kind, it) for it in t.own(kind) if t.holds_list(it.kind)) + (brief_functions(t, kind) if kind in t.brief else "")
         functions += "".join(part_function(t, kind, n) for n in range(1, len(t.parts(kind))))
-        own_use = f"    ghost use Rattle.{crate}.specs.{file.capitalize()}.{{{low}_members}};" if t.is_brief(kind) else uses.rstrip()
         taken = "&mut self" if t.is_brief(kind) else f"place: &mut Option<{name}<'a>>"
-        reading = functions + f"""impl<'a> Large{"Choice" if t.is_brief(kind) else "Group"}<'a> for {name}<'a> {{
-    ghost use Rattle.{t.s.crate}.specs.Declarations.{{kinds}};
-{own_use}
-
-    ghost kinds = {{ kinds }};
-
-    ghost members = {{ {low}_members }};
-
-{"" if t.is_brief(kind) else names}
-    fn read_member_{"here" if t.is_brief(kind) else "into"}<P: Places>({taken}, descent: &mut Descent<'a, '_, P>) -> Result<(), Refusal> {{
+        reading = functions + f"""{declared}
+impl<'a> Large{"Choice" if t.is_brief(kind) else "Group"}<'a> for {name}<'a> {{
+{"" if t.is_brief(kind) else uses + names + chr(10)}    fn read_member_{"here" if t.is_brief(kind) else "into"}<P: Places>({taken}, descent: &mut Descent<'a, '_, P>) -> Result<(), Refusal> {{
 {large_chain(t, kind)}    }}
 }}
 """
@@ -368,7 +365,7 @@ ghost use Rattle.exi_documents.specs.Trees.{{Ordinal}};
 ghost use Rattle.message_parts.specs.Values.{{is_named}};
 
 use exi_events::Value;
-use message_parts::Simple;
+use message_parts::{{ReadSimple, Simple}};
 """ + "".join(enumeration(t, crate, file, it) for it in kinds)
     body = "".join(choice(t, crate, file, it) if it in t.choices else struct(t, crate, file, it) for it in kinds)
     said = re.sub(r"(?m)^ *//.*$", "", body)

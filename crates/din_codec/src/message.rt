@@ -25,7 +25,7 @@ use exi_documents::Refusal;
 use exi_events::EventWriter;
 use exi_schema::Places;
 use message_parts::{
-    Descent, LargeGroup, LargeRecord, PutChoice, PutRecord, first_child, member,
+    Alternatives, Descent, LargeGroup, LargeRecord, PutChoice, PutRecord, first_child, member,
     optional_choice_here, put_optional_choice, put_record, required, required_here,
 };
 
@@ -255,15 +255,19 @@ fn service_payment_selection_req<'a, P: Places>(
     Ok(())
 }
 
-impl<'a> LargeGroup<'a> for BodyElement<'a> {
+impl Alternatives for BodyElement<'_> {
     ghost use Rattle.din_schema.specs.Declarations.{kinds};
-    ghost use Rattle.std.specs.Prelude.{◌≡◌};
-    ghost use Rattle.message_parts.specs.Particles.{names_among};
     ghost use Rattle.din_codec.specs.Message.{body_element_members};
 
     ghost kinds = { kinds };
 
     ghost members = { body_element_members };
+}
+
+impl<'a> LargeGroup<'a> for BodyElement<'a> {
+    ghost use Rattle.std.specs.Prelude.{◌≡◌};
+    ghost use Rattle.message_parts.specs.Particles.{names_among};
+    ghost use Rattle.din_codec.specs.Message.{body_element_members};
 
     fn names() -> &'static [u16]
         ensures { result.now ≡ names_among body_element_members }

@@ -5,7 +5,7 @@ use din_schema::names;
 use exi_documents::Refusal;
 use exi_events::EventWriter;
 use exi_schema::Places;
-use message_parts::{Descent, LargeChoice, PutChoice, Root, member_here, put_record};
+use message_parts::{Alternatives, Descent, LargeChoice, PutChoice, Root, member_here, put_record};
 
 impl PutChoice for DinMessage<'_> {
     ghost use Rattle.din_codec.specs.Documents.{din_inside};
@@ -20,14 +20,16 @@ impl PutChoice for DinMessage<'_> {
     }
 }
 
-impl<'a> LargeChoice<'a> for DinMessage<'a> {
+impl Alternatives for DinMessage<'_> {
     ghost use Rattle.din_schema.specs.Declarations.{kinds};
     ghost use Rattle.din_codec.specs.Documents.{din_roots};
 
     ghost kinds = { kinds };
 
     ghost members = { din_roots };
+}
 
+impl<'a> LargeChoice<'a> for DinMessage<'a> {
     fn read_member_here<P: Places>(
         &mut self,
         descent: &mut Descent<'a, '_, P>,

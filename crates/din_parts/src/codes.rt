@@ -4,7 +4,7 @@ ghost use Rattle.exi_documents.specs.Trees.{Ordinal};
 ghost use Rattle.message_parts.specs.Values.{is_named};
 
 use exi_events::Value;
-use message_parts::Simple;
+use message_parts::{ReadSimple, Simple};
 
 /// ResponseCode, its values in order from 0.
 #[derive(Clone, Copy, Debug, PartialEq, Eq)]
@@ -57,7 +57,7 @@ pub enum ResponseCode {
     FailedWrongEnergyTransferType,
 }
 
-impl<'a> Simple<'a> for ResponseCode {
+impl Simple for ResponseCode {
     ghost use Rattle.din_parts.specs.Codes.{response_code_ordinal};
 
     ghost takes = { is_named 23 };
@@ -91,7 +91,9 @@ impl<'a> Simple<'a> for ResponseCode {
             ResponseCode::FailedWrongEnergyTransferType => 22,
         })
     }
+}
 
+impl<'a> ReadSimple<'a> for ResponseCode {
     fn of(read: Value<'a>) -> ResponseCode {
         match read {
             Value::Ordinal(0) => ResponseCode::Ok,
@@ -135,7 +137,7 @@ pub enum ServiceCategory {
     OtherCustom,
 }
 
-impl<'a> Simple<'a> for ServiceCategory {
+impl Simple for ServiceCategory {
     ghost use Rattle.din_parts.specs.Codes.{service_category_ordinal};
 
     ghost takes = { is_named 4 };
@@ -150,7 +152,9 @@ impl<'a> Simple<'a> for ServiceCategory {
             ServiceCategory::OtherCustom => 3,
         })
     }
+}
 
+impl<'a> ReadSimple<'a> for ServiceCategory {
     fn of(read: Value<'a>) -> ServiceCategory {
         match read {
             Value::Ordinal(0) => ServiceCategory::EvCharging,
@@ -171,7 +175,7 @@ pub enum PaymentOption {
     ExternalPayment,
 }
 
-impl<'a> Simple<'a> for PaymentOption {
+impl Simple for PaymentOption {
     ghost use Rattle.din_parts.specs.Codes.{payment_option_ordinal};
 
     ghost takes = { is_named 2 };
@@ -184,7 +188,9 @@ impl<'a> Simple<'a> for PaymentOption {
             PaymentOption::ExternalPayment => 1,
         })
     }
+}
 
+impl<'a> ReadSimple<'a> for PaymentOption {
     fn of(read: Value<'a>) -> PaymentOption {
         match read {
             Value::Ordinal(0) => PaymentOption::Contract,
@@ -210,7 +216,7 @@ pub enum EnergyTransferMode {
     DcUnique,
 }
 
-impl<'a> Simple<'a> for EnergyTransferMode {
+impl Simple for EnergyTransferMode {
     ghost use Rattle.din_parts.specs.Codes.{energy_transfer_mode_ordinal};
 
     ghost takes = { is_named 6 };
@@ -227,7 +233,9 @@ impl<'a> Simple<'a> for EnergyTransferMode {
             EnergyTransferMode::DcUnique => 5,
         })
     }
+}
 
+impl<'a> ReadSimple<'a> for EnergyTransferMode {
     fn of(read: Value<'a>) -> EnergyTransferMode {
         match read {
             Value::Ordinal(0) => EnergyTransferMode::AcSinglePhaseCore,
@@ -265,7 +273,7 @@ pub enum SupportedEnergyTransferType {
     AcCore3pDcExtended,
 }
 
-impl<'a> Simple<'a> for SupportedEnergyTransferType {
+impl Simple for SupportedEnergyTransferType {
     ghost use Rattle.din_parts.specs.Codes.{supported_energy_transfer_type_ordinal};
 
     ghost takes = { is_named 10 };
@@ -286,7 +294,9 @@ impl<'a> Simple<'a> for SupportedEnergyTransferType {
             SupportedEnergyTransferType::AcCore3pDcExtended => 9,
         })
     }
+}
 
+impl<'a> ReadSimple<'a> for SupportedEnergyTransferType {
     fn of(read: Value<'a>) -> SupportedEnergyTransferType {
         match read {
             Value::Ordinal(0) => SupportedEnergyTransferType::AcSinglePhaseCore,
@@ -312,7 +322,7 @@ pub enum EvseProcessing {
     Ongoing,
 }
 
-impl<'a> Simple<'a> for EvseProcessing {
+impl Simple for EvseProcessing {
     ghost use Rattle.din_parts.specs.Codes.{evse_processing_ordinal};
 
     ghost takes = { is_named 2 };
@@ -325,7 +335,9 @@ impl<'a> Simple<'a> for EvseProcessing {
             EvseProcessing::Ongoing => 1,
         })
     }
+}
 
+impl<'a> ReadSimple<'a> for EvseProcessing {
     fn of(read: Value<'a>) -> EvseProcessing {
         match read {
             Value::Ordinal(0) => EvseProcessing::Finished,

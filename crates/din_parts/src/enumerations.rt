@@ -4,7 +4,7 @@ ghost use Rattle.exi_documents.specs.Trees.{Ordinal};
 ghost use Rattle.message_parts.specs.Values.{is_named};
 
 use exi_events::Value;
-use message_parts::Simple;
+use message_parts::{ReadSimple, Simple};
 
 /// FaultCode, its values in order from 0.
 #[derive(Clone, Copy, Debug, PartialEq, Eq)]
@@ -17,7 +17,7 @@ pub enum FaultCode {
     UnknownError,
 }
 
-impl<'a> Simple<'a> for FaultCode {
+impl Simple for FaultCode {
     ghost use Rattle.din_parts.specs.Enumerations.{fault_code_ordinal};
 
     ghost takes = { is_named 3 };
@@ -31,7 +31,9 @@ impl<'a> Simple<'a> for FaultCode {
             FaultCode::UnknownError => 2,
         })
     }
+}
 
+impl<'a> ReadSimple<'a> for FaultCode {
     fn of(read: Value<'a>) -> FaultCode {
         match read {
             Value::Ordinal(0) => FaultCode::ParsingError,
@@ -66,7 +68,7 @@ pub enum UnitSymbol {
     Wh,
 }
 
-impl<'a> Simple<'a> for UnitSymbol {
+impl Simple for UnitSymbol {
     ghost use Rattle.din_parts.specs.Enumerations.{unit_symbol_ordinal};
 
     ghost takes = { is_named 10 };
@@ -87,7 +89,9 @@ impl<'a> Simple<'a> for UnitSymbol {
             UnitSymbol::Wh => 9,
         })
     }
+}
 
+impl<'a> ReadSimple<'a> for UnitSymbol {
     fn of(read: Value<'a>) -> UnitSymbol {
         match read {
             Value::Ordinal(0) => UnitSymbol::H,
@@ -133,7 +137,7 @@ pub enum EvErrorCode {
     NoData,
 }
 
-impl<'a> Simple<'a> for EvErrorCode {
+impl Simple for EvErrorCode {
     ghost use Rattle.din_parts.specs.Enumerations.{ev_error_code_ordinal};
 
     ghost takes = { is_named 12 };
@@ -156,7 +160,9 @@ impl<'a> Simple<'a> for EvErrorCode {
             EvErrorCode::NoData => 11,
         })
     }
+}
 
+impl<'a> ReadSimple<'a> for EvErrorCode {
     fn of(read: Value<'a>) -> EvErrorCode {
         match read {
             Value::Ordinal(0) => EvErrorCode::NoError,
@@ -186,7 +192,7 @@ pub enum EvseNotification {
     ReNegotiation,
 }
 
-impl<'a> Simple<'a> for EvseNotification {
+impl Simple for EvseNotification {
     ghost use Rattle.din_parts.specs.Enumerations.{evse_notification_ordinal};
 
     ghost takes = { is_named 3 };
@@ -200,7 +206,9 @@ impl<'a> Simple<'a> for EvseNotification {
             EvseNotification::ReNegotiation => 2,
         })
     }
+}
 
+impl<'a> ReadSimple<'a> for EvseNotification {
     fn of(read: Value<'a>) -> EvseNotification {
         match read {
             Value::Ordinal(0) => EvseNotification::None,
@@ -223,7 +231,7 @@ pub enum IsolationLevel {
     Fault,
 }
 
-impl<'a> Simple<'a> for IsolationLevel {
+impl Simple for IsolationLevel {
     ghost use Rattle.din_parts.specs.Enumerations.{isolation_level_ordinal};
 
     ghost takes = { is_named 4 };
@@ -238,7 +246,9 @@ impl<'a> Simple<'a> for IsolationLevel {
             IsolationLevel::Fault => 3,
         })
     }
+}
 
+impl<'a> ReadSimple<'a> for IsolationLevel {
     fn of(read: Value<'a>) -> IsolationLevel {
         match read {
             Value::Ordinal(0) => IsolationLevel::Invalid,
@@ -278,7 +288,7 @@ pub enum EvseStatusCode {
     ReservedC,
 }
 
-impl<'a> Simple<'a> for EvseStatusCode {
+impl Simple for EvseStatusCode {
     ghost use Rattle.din_parts.specs.Enumerations.{evse_status_code_ordinal};
 
     ghost takes = { is_named 12 };
@@ -301,7 +311,9 @@ impl<'a> Simple<'a> for EvseStatusCode {
             EvseStatusCode::ReservedC => 11,
         })
     }
+}
 
+impl<'a> ReadSimple<'a> for EvseStatusCode {
     fn of(read: Value<'a>) -> EvseStatusCode {
         match read {
             Value::Ordinal(0) => EvseStatusCode::EvseNotReady,

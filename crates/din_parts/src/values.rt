@@ -11,8 +11,8 @@ use exi_events::EventWriter;
 use exi_schema::Places;
 use message_fields::{Elements, OptionalValue, RequiredValue};
 use message_parts::{
-    Choice, Descent, PutChoice, PutRecord, Record, member, put_optional_value, put_record,
-    put_value,
+    Alternatives, Choice, Descent, PutChoice, PutRecord, Record, member, put_optional_value,
+    put_record, put_value,
 };
 
 /// PhysicalValue.
@@ -247,14 +247,16 @@ impl PutChoice for EvseStatus {
     }
 }
 
-impl<'a> Choice<'a> for EvseStatus {
+impl Alternatives for EvseStatus {
     ghost use Rattle.din_schema.specs.Declarations.{kinds};
     ghost use Rattle.din_parts.specs.Values.{evse_status_members};
 
     ghost kinds = { kinds };
 
     ghost members = { evse_status_members };
+}
 
+impl<'a> Choice<'a> for EvseStatus {
     fn read_member<P: Places>(descent: &mut Descent<'a, '_, P>) -> Result<EvseStatus, Refusal> {
         Ok(EvseStatus::Dc(member(descent)?))
     }

@@ -12,8 +12,8 @@ use message_fields::{
     AtMostOneOf, Elements, OneOf, Optional, OptionalValue, Required, RequiredValue, Several,
 };
 use message_parts::{
-    Choice, Descent, Group, PutChoice, PutRecord, Record, member, put_choice, put_optional,
-    put_optional_choice, put_optional_value, put_record, put_records, put_value,
+    Alternatives, Choice, Descent, Group, PutChoice, PutRecord, Record, member, put_choice,
+    put_optional, put_optional_choice, put_optional_value, put_record, put_records, put_value,
 };
 
 /// ProfileEntry.
@@ -220,14 +220,16 @@ impl PutChoice for EvPowerDeliveryParameter {
     }
 }
 
-impl<'a> Choice<'a> for EvPowerDeliveryParameter {
+impl Alternatives for EvPowerDeliveryParameter {
     ghost use Rattle.din_schema.specs.Declarations.{kinds};
     ghost use Rattle.din_power.specs.Delivery.{ev_power_delivery_parameter_members};
 
     ghost kinds = { kinds };
 
     ghost members = { ev_power_delivery_parameter_members };
+}
 
+impl<'a> Choice<'a> for EvPowerDeliveryParameter {
     fn read_member<P: Places>(
         descent: &mut Descent<'a, '_, P>,
     ) -> Result<EvPowerDeliveryParameter, Refusal> {

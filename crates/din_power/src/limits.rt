@@ -9,8 +9,8 @@ use exi_events::EventWriter;
 use exi_schema::Places;
 use message_fields::{Elements, Optional, OptionalValue, Required};
 use message_parts::{
-    Choice, Descent, PutChoice, PutRecord, Record, member, put_optional, put_optional_value,
-    put_record,
+    Alternatives, Choice, Descent, PutChoice, PutRecord, Record, member, put_optional,
+    put_optional_value, put_record,
 };
 
 /// DC_EVChargeParameter.
@@ -141,14 +141,16 @@ impl PutChoice for EvChargeParameter {
     }
 }
 
-impl<'a> Choice<'a> for EvChargeParameter {
+impl Alternatives for EvChargeParameter {
     ghost use Rattle.din_schema.specs.Declarations.{kinds};
     ghost use Rattle.din_power.specs.Limits.{ev_charge_parameter_members};
 
     ghost kinds = { kinds };
 
     ghost members = { ev_charge_parameter_members };
+}
 
+impl<'a> Choice<'a> for EvChargeParameter {
     fn read_member<P: Places>(
         descent: &mut Descent<'a, '_, P>,
     ) -> Result<EvChargeParameter, Refusal> {
@@ -311,14 +313,16 @@ impl PutChoice for EvseChargeParameter {
     }
 }
 
-impl<'a> Choice<'a> for EvseChargeParameter {
+impl Alternatives for EvseChargeParameter {
     ghost use Rattle.din_schema.specs.Declarations.{kinds};
     ghost use Rattle.din_power.specs.Limits.{evse_charge_parameter_members};
 
     ghost kinds = { kinds };
 
     ghost members = { evse_charge_parameter_members };
+}
 
+impl<'a> Choice<'a> for EvseChargeParameter {
     fn read_member<P: Places>(
         descent: &mut Descent<'a, '_, P>,
     ) -> Result<EvseChargeParameter, Refusal> {

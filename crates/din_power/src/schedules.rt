@@ -9,8 +9,8 @@ use exi_events::EventWriter;
 use exi_schema::Places;
 use message_fields::{Elements, LeftOut, OneOf, OptionalValue, Required, RequiredValue, Several};
 use message_parts::{
-    Choice, Descent, Group, PutChoice, PutRecord, Record, member, put_choice, put_optional_value,
-    put_record, put_records, put_value,
+    Alternatives, Choice, Descent, Group, PutChoice, PutRecord, Record, member, put_choice,
+    put_optional_value, put_record, put_records, put_value,
 };
 
 /// RelativeTimeInterval.
@@ -86,14 +86,16 @@ impl PutChoice for TimeInterval {
     }
 }
 
-impl<'a> Choice<'a> for TimeInterval {
+impl Alternatives for TimeInterval {
     ghost use Rattle.din_schema.specs.Declarations.{kinds};
     ghost use Rattle.din_power.specs.Schedules.{time_interval_members};
 
     ghost kinds = { kinds };
 
     ghost members = { time_interval_members };
+}
 
+impl<'a> Choice<'a> for TimeInterval {
     fn read_member<P: Places>(descent: &mut Descent<'a, '_, P>) -> Result<TimeInterval, Refusal> {
         Ok(TimeInterval::Relative(member(descent)?))
     }
@@ -318,14 +320,16 @@ impl PutChoice for SaSchedules {
     }
 }
 
-impl<'a> Choice<'a> for SaSchedules {
+impl Alternatives for SaSchedules {
     ghost use Rattle.din_schema.specs.Declarations.{kinds};
     ghost use Rattle.din_power.specs.Schedules.{sa_schedules_members};
 
     ghost kinds = { kinds };
 
     ghost members = { sa_schedules_members };
+}
 
+impl<'a> Choice<'a> for SaSchedules {
     fn read_member<P: Places>(descent: &mut Descent<'a, '_, P>) -> Result<SaSchedules, Refusal> {
         Ok(SaSchedules::SaScheduleList(member(descent)?))
     }

@@ -26,8 +26,8 @@ use iso_setup::{
     SessionSetupRes, SessionStopReq, SessionStopRes,
 };
 use message_parts::{
-    Descent, LargeChoice, LargeGroup, LargeRecord, PutChoice, PutRecord, first_child, member,
-    optional_choice_here, put_optional_choice, put_record, required, required_here,
+    Alternatives, Descent, LargeChoice, LargeGroup, LargeRecord, PutChoice, PutRecord, first_child,
+    member, optional_choice_here, put_optional_choice, put_record, required, required_here,
 };
 
 /// One element of BodyElement that holds no long list.
@@ -331,14 +331,16 @@ fn from_session_setup_res<'a, P: Places>(
     }
 }
 
-impl<'a> LargeChoice<'a> for BriefElement<'a> {
+impl Alternatives for BriefElement<'_> {
     ghost use Rattle.iso_schema.specs.Declarations.{kinds};
     ghost use Rattle.iso_codec.specs.Message.{brief_element_members};
 
     ghost kinds = { kinds };
 
     ghost members = { brief_element_members };
+}
 
+impl<'a> LargeChoice<'a> for BriefElement<'a> {
     fn read_member_here<P: Places>(
         &mut self,
         descent: &mut Descent<'a, '_, P>,
@@ -504,15 +506,19 @@ fn brief_anew<'a, P: Places>(
     Ok(())
 }
 
-impl<'a> LargeGroup<'a> for BodyElement<'a> {
+impl Alternatives for BodyElement<'_> {
     ghost use Rattle.iso_schema.specs.Declarations.{kinds};
-    ghost use Rattle.std.specs.Prelude.{◌≡◌};
-    ghost use Rattle.message_parts.specs.Particles.{names_among};
     ghost use Rattle.iso_codec.specs.Message.{body_element_members};
 
     ghost kinds = { kinds };
 
     ghost members = { body_element_members };
+}
+
+impl<'a> LargeGroup<'a> for BodyElement<'a> {
+    ghost use Rattle.std.specs.Prelude.{◌≡◌};
+    ghost use Rattle.message_parts.specs.Particles.{names_among};
+    ghost use Rattle.iso_codec.specs.Message.{body_element_members};
 
     fn names() -> &'static [u16]
         ensures { result.now ≡ names_among body_element_members }

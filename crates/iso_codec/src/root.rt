@@ -11,7 +11,7 @@ use exi_schema::Places;
 use iso_parts::Header;
 use iso_power::ChargingStatusReq;
 use iso_schema::names;
-use message_parts::{Descent, LargeChoice, PutChoice, Root, member_here, put_record};
+use message_parts::{Alternatives, Descent, LargeChoice, PutChoice, Root, member_here, put_record};
 
 impl<'a> IsoMessage<'a> {
     /// A message to read another into: reading a brief element over its own clears no room of the long ones.
@@ -42,14 +42,16 @@ impl PutChoice for IsoMessage<'_> {
     }
 }
 
-impl<'a> LargeChoice<'a> for IsoMessage<'a> {
+impl Alternatives for IsoMessage<'_> {
     ghost use Rattle.iso_schema.specs.Declarations.{kinds};
     ghost use Rattle.iso_codec.specs.Documents.{iso_roots};
 
     ghost kinds = { kinds };
 
     ghost members = { iso_roots };
+}
 
+impl<'a> LargeChoice<'a> for IsoMessage<'a> {
     fn read_member_here<P: Places>(
         &mut self,
         descent: &mut Descent<'a, '_, P>,

@@ -9,8 +9,8 @@ use iso_parts::{AcEvseStatus, DcEvStatus, DcEvseStatus, PhysicalValue};
 use iso_schema::names;
 use message_fields::{Elements, Optional, OptionalValue, Required};
 use message_parts::{
-    Choice, Descent, PutChoice, PutRecord, Record, member, put_optional, put_optional_value,
-    put_record,
+    Alternatives, Choice, Descent, PutChoice, PutRecord, Record, member, put_optional,
+    put_optional_value, put_record,
 };
 
 /// AC_EVChargeParameter.
@@ -217,14 +217,16 @@ impl PutChoice for EvChargeParameter {
     }
 }
 
-impl<'a> Choice<'a> for EvChargeParameter {
+impl Alternatives for EvChargeParameter {
     ghost use Rattle.iso_schema.specs.Declarations.{kinds};
     ghost use Rattle.iso_parameters.specs.Limits.{ev_charge_parameter_members};
 
     ghost kinds = { kinds };
 
     ghost members = { ev_charge_parameter_members };
+}
 
+impl<'a> Choice<'a> for EvChargeParameter {
     fn read_member<P: Places>(
         descent: &mut Descent<'a, '_, P>,
     ) -> Result<EvChargeParameter, Refusal> {
@@ -454,14 +456,16 @@ impl PutChoice for EvseChargeParameter {
     }
 }
 
-impl<'a> Choice<'a> for EvseChargeParameter {
+impl Alternatives for EvseChargeParameter {
     ghost use Rattle.iso_schema.specs.Declarations.{kinds};
     ghost use Rattle.iso_parameters.specs.Limits.{evse_charge_parameter_members};
 
     ghost kinds = { kinds };
 
     ghost members = { evse_charge_parameter_members };
+}
 
+impl<'a> Choice<'a> for EvseChargeParameter {
     fn read_member<P: Places>(
         descent: &mut Descent<'a, '_, P>,
     ) -> Result<EvseChargeParameter, Refusal> {

@@ -10,8 +10,8 @@ use iso_parts::PhysicalValue;
 use iso_schema::names;
 use message_fields::{Elements, LeftOut, OneOf, OptionalValue, Required, RequiredValue, Several};
 use message_parts::{
-    Choice, Descent, Group, PutChoice, PutRecord, Record, member, put_choice, put_optional_value,
-    put_record, put_records, put_value,
+    Alternatives, Choice, Descent, Group, PutChoice, PutRecord, Record, member, put_choice,
+    put_optional_value, put_record, put_records, put_value,
 };
 
 /// RelativeTimeInterval.
@@ -89,14 +89,16 @@ impl PutChoice for TimeInterval {
     }
 }
 
-impl<'a> Choice<'a> for TimeInterval {
+impl Alternatives for TimeInterval {
     ghost use Rattle.iso_schema.specs.Declarations.{kinds};
     ghost use Rattle.iso_parameters.specs.Schedules.{time_interval_members};
 
     ghost kinds = { kinds };
 
     ghost members = { time_interval_members };
+}
 
+impl<'a> Choice<'a> for TimeInterval {
     fn read_member<P: Places>(descent: &mut Descent<'a, '_, P>) -> Result<TimeInterval, Refusal> {
         Ok(TimeInterval::Relative(member(descent)?))
     }
@@ -314,14 +316,16 @@ impl PutChoice for SaSchedules {
     }
 }
 
-impl<'a> Choice<'a> for SaSchedules {
+impl Alternatives for SaSchedules {
     ghost use Rattle.iso_schema.specs.Declarations.{kinds};
     ghost use Rattle.iso_parameters.specs.Schedules.{sa_schedules_members};
 
     ghost kinds = { kinds };
 
     ghost members = { sa_schedules_members };
+}
 
+impl<'a> Choice<'a> for SaSchedules {
     fn read_member<P: Places>(descent: &mut Descent<'a, '_, P>) -> Result<SaSchedules, Refusal> {
         Ok(SaSchedules::SaScheduleList(member(descent)?))
     }

@@ -4,7 +4,7 @@ ghost use Rattle.exi_documents.specs.Trees.{Ordinal};
 ghost use Rattle.message_parts.specs.Values.{is_named};
 
 use exi_events::Value;
-use message_parts::Simple;
+use message_parts::{ReadSimple, Simple};
 
 /// ResponseCode, its values in order from 0.
 #[derive(Clone, Copy, Debug, PartialEq, Eq)]
@@ -63,7 +63,7 @@ pub enum ResponseCode {
     FailedCertificateRevoked,
 }
 
-impl<'a> Simple<'a> for ResponseCode {
+impl Simple for ResponseCode {
     ghost use Rattle.iso_parts.specs.Codes.{response_code_ordinal};
 
     ghost takes = { is_named 26 };
@@ -100,7 +100,9 @@ impl<'a> Simple<'a> for ResponseCode {
             ResponseCode::FailedCertificateRevoked => 25,
         })
     }
+}
 
+impl<'a> ReadSimple<'a> for ResponseCode {
     fn of(read: Value<'a>) -> ResponseCode {
         match read {
             Value::Ordinal(0) => ResponseCode::Ok,
@@ -147,7 +149,7 @@ pub enum ServiceCategory {
     OtherCustom,
 }
 
-impl<'a> Simple<'a> for ServiceCategory {
+impl Simple for ServiceCategory {
     ghost use Rattle.iso_parts.specs.Codes.{service_category_ordinal};
 
     ghost takes = { is_named 4 };
@@ -162,7 +164,9 @@ impl<'a> Simple<'a> for ServiceCategory {
             ServiceCategory::OtherCustom => 3,
         })
     }
+}
 
+impl<'a> ReadSimple<'a> for ServiceCategory {
     fn of(read: Value<'a>) -> ServiceCategory {
         match read {
             Value::Ordinal(0) => ServiceCategory::EvCharging,
@@ -183,7 +187,7 @@ pub enum PaymentOption {
     ExternalPayment,
 }
 
-impl<'a> Simple<'a> for PaymentOption {
+impl Simple for PaymentOption {
     ghost use Rattle.iso_parts.specs.Codes.{payment_option_ordinal};
 
     ghost takes = { is_named 2 };
@@ -196,7 +200,9 @@ impl<'a> Simple<'a> for PaymentOption {
             PaymentOption::ExternalPayment => 1,
         })
     }
+}
 
+impl<'a> ReadSimple<'a> for PaymentOption {
     fn of(read: Value<'a>) -> PaymentOption {
         match read {
             Value::Ordinal(0) => PaymentOption::Contract,
@@ -223,7 +229,7 @@ pub enum EnergyTransferMode {
     DcUnique,
 }
 
-impl<'a> Simple<'a> for EnergyTransferMode {
+impl Simple for EnergyTransferMode {
     ghost use Rattle.iso_parts.specs.Codes.{energy_transfer_mode_ordinal};
 
     ghost takes = { is_named 6 };
@@ -240,7 +246,9 @@ impl<'a> Simple<'a> for EnergyTransferMode {
             EnergyTransferMode::DcUnique => 5,
         })
     }
+}
 
+impl<'a> ReadSimple<'a> for EnergyTransferMode {
     fn of(read: Value<'a>) -> EnergyTransferMode {
         match read {
             Value::Ordinal(0) => EnergyTransferMode::AcSinglePhaseCore,
@@ -264,7 +272,7 @@ pub enum EvseProcessing {
     OngoingWaitingForCustomerInteraction,
 }
 
-impl<'a> Simple<'a> for EvseProcessing {
+impl Simple for EvseProcessing {
     ghost use Rattle.iso_parts.specs.Codes.{evse_processing_ordinal};
 
     ghost takes = { is_named 3 };
@@ -278,7 +286,9 @@ impl<'a> Simple<'a> for EvseProcessing {
             EvseProcessing::OngoingWaitingForCustomerInteraction => 2,
         })
     }
+}
 
+impl<'a> ReadSimple<'a> for EvseProcessing {
     fn of(read: Value<'a>) -> EvseProcessing {
         match read {
             Value::Ordinal(0) => EvseProcessing::Finished,
@@ -297,7 +307,7 @@ pub enum ChargingSession {
     Pause,
 }
 
-impl<'a> Simple<'a> for ChargingSession {
+impl Simple for ChargingSession {
     ghost use Rattle.iso_parts.specs.Codes.{charging_session_ordinal};
 
     ghost takes = { is_named 2 };
@@ -310,7 +320,9 @@ impl<'a> Simple<'a> for ChargingSession {
             ChargingSession::Pause => 1,
         })
     }
+}
 
+impl<'a> ReadSimple<'a> for ChargingSession {
     fn of(read: Value<'a>) -> ChargingSession {
         match read {
             Value::Ordinal(0) => ChargingSession::Terminate,
@@ -330,7 +342,7 @@ pub enum ChargeProgress {
     Renegotiate,
 }
 
-impl<'a> Simple<'a> for ChargeProgress {
+impl Simple for ChargeProgress {
     ghost use Rattle.iso_parts.specs.Codes.{charge_progress_ordinal};
 
     ghost takes = { is_named 3 };
@@ -344,7 +356,9 @@ impl<'a> Simple<'a> for ChargeProgress {
             ChargeProgress::Renegotiate => 2,
         })
     }
+}
 
+impl<'a> ReadSimple<'a> for ChargeProgress {
     fn of(read: Value<'a>) -> ChargeProgress {
         match read {
             Value::Ordinal(0) => ChargeProgress::Start,

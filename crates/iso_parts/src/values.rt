@@ -11,8 +11,8 @@ use exi_schema::Places;
 use iso_schema::names;
 use message_fields::{Elements, OptionalValue, RequiredValue};
 use message_parts::{
-    Binary, Choice, Descent, PutChoice, PutRecord, Record, Text, Three, member, put_optional_value,
-    put_record, put_value,
+    Alternatives, Binary, Choice, Descent, PutChoice, PutRecord, Record, Text, Three, member,
+    put_optional_value, put_record, put_value,
 };
 
 /// PhysicalValue.
@@ -261,14 +261,16 @@ impl PutChoice for EvseStatus {
     }
 }
 
-impl<'a> Choice<'a> for EvseStatus {
+impl Alternatives for EvseStatus {
     ghost use Rattle.iso_schema.specs.Declarations.{kinds};
     ghost use Rattle.iso_parts.specs.Values.{evse_status_members};
 
     ghost kinds = { kinds };
 
     ghost members = { evse_status_members };
+}
 
+impl<'a> Choice<'a> for EvseStatus {
     fn read_member<P: Places>(descent: &mut Descent<'a, '_, P>) -> Result<EvseStatus, Refusal> {
         if descent.is_at(names::AC_EVSE_STATUS) {
             Ok(EvseStatus::Ac(member(descent)?))

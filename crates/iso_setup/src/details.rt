@@ -10,8 +10,8 @@ use iso_parts::{PhysicalValue, ResponseCode};
 use iso_schema::names;
 use message_fields::{Elements, OneOf, Optional, RequiredValue, Several, WithAttribute};
 use message_parts::{
-    Choice, Descent, PutChoice, PutRecord, Record, Text, member, member_value, put_attribute,
-    put_choice, put_optional, put_record, put_records, put_value,
+    Alternatives, Choice, Descent, PutChoice, PutRecord, Record, Text, member, member_value,
+    put_attribute, put_choice, put_optional, put_record, put_records, put_value,
 };
 
 /// One of the elements of Parameter.
@@ -55,14 +55,16 @@ impl PutChoice for ParameterValue<'_> {
     }
 }
 
-impl<'a> Choice<'a> for ParameterValue<'a> {
+impl Alternatives for ParameterValue<'_> {
     ghost use Rattle.iso_schema.specs.Declarations.{kinds};
     ghost use Rattle.iso_setup.specs.Details.{parameter_value_members};
 
     ghost kinds = { kinds };
 
     ghost members = { parameter_value_members };
+}
 
+impl<'a> Choice<'a> for ParameterValue<'a> {
     fn read_member<P: Places>(
         descent: &mut Descent<'a, '_, P>,
     ) -> Result<ParameterValue<'a>, Refusal> {
