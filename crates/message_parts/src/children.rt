@@ -14,7 +14,8 @@ ghost use Rattle.message_parts.specs.Sequence.{HoldsValues, ReadsThree, told_thr
 
 use crate::descent::Descent;
 use crate::part::{
-    Choice, Contents, Group, LargeGroup, LargeRecord, ReadContents, ReadSimple, Record, Simple,
+    Choice, Contents, Group, LargeGroup, LargeRecord, ReadContents, ReadRecord, ReadSimple, Record,
+    Simple,
 };
 use arrayvec::ArrayVec;
 use exi_documents::Refusal;
@@ -40,7 +41,9 @@ fn simple_inside<'a, T: ReadSimple<'a>, P: Places>(
 }
 
 /// The attributes and the elements of a record, up to where there is no more.
-fn whole_record<'a, T: Record, P: Places>(descent: &mut Descent<'a, '_, P>) -> Result<T, Refusal>
+pub fn whole_record<'a, T: Record, P: Places>(
+    descent: &mut Descent<'a, '_, P>,
+) -> Result<T, Refusal>
 where
     T::Made: ReadContents<'a>,
     requires open { IsOpen P.schema descent.old }
@@ -57,7 +60,24 @@ where
 }
 
 /// The rest of an element that has started and has attributes and children.
-fn record_inside<'a, T: Record, P: Places>(descent: &mut Descent<'a, '_, P>) -> Result<T, Refusal>
+fn record_inside<'a, T: ReadRecord<'a>, P: Places>(
+    descent: &mut Descent<'a, '_, P>,
+) -> Result<T, Refusal>
+    requires open { IsOpen P.schema descent.old }
+    ensures open { IsOpen P.schema descent.new }
+    ensures table { descent.new.reader.table.ghost_name ≡ descent.old.reader.table.ghost_name }
+    ensures places { descent.new.reader.places.now ≡ descent.old.reader.places.now }
+    ensures payload { descent.new.reader.reader.bits ≡ descent.old.reader.reader.bits }
+    ensures refused { IfErr result (λ r. IsRefusal (seen_of P.schema descent.old) r) }
+    ensures read { (F : Frame) (kind : ℕ) (told : List TreeEvent) → Enters T.kinds F kind told (seen_of P.schema descent.old)
+        → slice_get T.kinds kind ≡ Some (containing T.attributes T.particles)
+        → IfOk result (λ v. Leaves T.kinds F (told_inside (holding_with (T.given v) (T.parts v)) told) (seen_of P.schema descent.new)) }
+{
+    T::read(descent)
+}
+
+/// The same of a record that no function of its own reads.
+fn made_inside<'a, T: Record, P: Places>(descent: &mut Descent<'a, '_, P>) -> Result<T, Refusal>
 where
     T::Made: ReadContents<'a>,
     requires open { IsOpen P.schema descent.old }
@@ -277,9 +297,9 @@ fn each_of_three<'a, A: ReadSimple<'a>, B: ReadSimple<'a>, C: ReadSimple<'a>, P:
 // ---- elements with attributes and children
 
 /// An element with attributes and children that has to be there.
-pub fn required<'a, T: Record, P: Places>(descent: &mut Descent<'a, '_, P>) -> Result<T, Refusal>
-where
-    T::Made: ReadContents<'a>,
+pub fn required<'a, T: ReadRecord<'a>, P: Places>(
+    descent: &mut Descent<'a, '_, P>,
+) -> Result<T, Refusal>
     requires open { IsOpen P.schema descent.old }
     ensures open { IsOpen P.schema descent.new }
     ensures table { descent.new.reader.table.ghost_name ≡ descent.old.reader.table.ghost_name }
@@ -296,12 +316,10 @@ where
 }
 
 /// One that may be there.
-pub fn optional<'a, T: Record, P: Places>(
+pub fn optional<'a, T: ReadRecord<'a>, P: Places>(
     descent: &mut Descent<'a, '_, P>,
     name: u16,
 ) -> Result<Option<T>, Refusal>
-where
-    T::Made: ReadContents<'a>,
     requires open { IsOpen P.schema descent.old }
     ensures open { IsOpen P.schema descent.new }
     ensures table { descent.new.reader.table.ghost_name ≡ descent.old.reader.table.ghost_name }
@@ -321,12 +339,10 @@ where
 }
 
 /// Those of one name, of which N are accepted.
-pub fn records<'a, T: Record + Default, P: Places, const N: usize>(
+pub fn records<'a, T: ReadRecord<'a> + Default, P: Places, const N: usize>(
     descent: &mut Descent<'a, '_, P>,
     name: u16,
 ) -> Result<ArrayVec<T, N>, Refusal>
-where
-    T::Made: ReadContents<'a>,
     requires open { IsOpen P.schema descent.old }
     ensures open { IsOpen P.schema descent.new }
     ensures table { descent.new.reader.table.ghost_name ≡ descent.old.reader.table.ghost_name }
@@ -422,7 +438,7 @@ where
         → descent.old.child ≡ Some name → kind_among members name ≡ Some kind → slice_get T.kinds kind ≡ Some (containing T.attributes T.particles)
         → IfOk result (λ v. (name ≡ F.name) × Leaves T.kinds F (told_inside (holding_with (T.given v) (T.parts v)) told) (seen_of P.schema descent.new)) }
 {
-    record_inside(descent)
+    made_inside(descent)
 }
 
 /// What is left out of the profile: nothing of it stands there.

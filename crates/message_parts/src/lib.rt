@@ -13,14 +13,14 @@ mod writer;
 pub use children::{
     Three, attribute, choice, first_child, last_attribute, left_out, member, member_here,
     member_value, optional, optional_choice, optional_choice_here, optional_value, records,
-    required, required_here, value, values,
+    required, required_here, value, values, whole_record,
 };
 pub use descent::Descent;
 pub use document::{read, read_here, write};
 pub use lent_text::LentText;
 pub use part::{
     Alternatives, Choice, Contents, Group, LargeChoice, LargeGroup, LargeRecord, PutChoice,
-    PutRecord, ReadContents, ReadSimple, Record, Root, Simple,
+    PutRecord, ReadContents, ReadRecord, ReadSimple, Record, Root, Simple,
 };
 pub use texts::{Binary, Text};
 pub use writer::{

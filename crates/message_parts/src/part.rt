@@ -107,6 +107,21 @@ pub trait Record: PutRecord {
     ghost apart: { are_distinct (names_in particles) ≡ true };
 }
 
+/// A record that others hold: a function of its own reads it, so that what reads the others names no more than that.
+pub trait ReadRecord<'a>: Record {
+    /// Reads the attributes and the elements, up to where there is no more.
+    fn read<P: Places>(descent: &mut Descent<'a, '_, P>) -> Result<Self, Refusal>
+        requires open { IsOpen P.schema descent.old }
+        ensures open { IsOpen P.schema descent.new }
+        ensures table { descent.new.reader.table.ghost_name ≡ descent.old.reader.table.ghost_name }
+        ensures places { descent.new.reader.places.now ≡ descent.old.reader.places.now }
+        ensures payload { descent.new.reader.reader.bits ≡ descent.old.reader.reader.bits }
+        ensures refused { IfErr result (λ r. IsRefusal (seen_of P.schema descent.old) r) }
+        ensures distinct { are_distinct (names_in Self.particles) ≡ true }
+        ensures read { (F : Frame) (before : List TreeEvent) → StartsAt Self.kinds F Self.attributes Self.particles 0 before (seen_of P.schema descent.old)
+            → IfOk result (λ v. Reads Self.kinds F Self.attributes Self.particles (length Self.particles) (told_parts (Self.parts v) (told_given (Self.given v) before)) (seen_of P.schema descent.new)) };
+}
+
 /// What an element of a complex kind contains, as it is read into a place that the caller lends: for types that are too large to move.
 pub trait LargeRecord<'a>: PutRecord {
     /// The declarations of its schema.
