@@ -18,10 +18,10 @@ from message_shapes import Types, in_groups
 from message_specs import definitions
 
 WORDS = [
-    "Alternatives", "Binary", "Choice", "Descent", "Group", "LargeChoice", "LargeGroup", "LargeRecord", "PutChoice", "PutRecord", "Record", "Text", "Three", "attribute", "choice",
+    "Alternatives", "Binary", "Choice", "Descent", "Group", "LargeChoice", "LargeGroup", "LargeRecord", "PutChoice", "PutRecord", "ReadRecord", "ReadSimple", "Record", "Text", "Three", "attribute", "choice",
     "first_child", "last_attribute", "left_out", "member", "member_value", "optional", "optional_choice", "optional_choice_here",
     "optional_value", "put_attribute", "put_choice", "put_optional", "put_optional_attribute", "put_optional_choice", "put_optional_value",
-    "put_record", "put_records", "put_value", "put_values", "records", "required", "required_here", "value", "values",
+    "put_record", "put_records", "put_value", "put_values", "records", "required", "required_here", "value", "values", "whole_record",
 ]
 CHILDREN = [
     "AtMostOneOf", "Elements", "LeftOut", "OneOf", "Optional", "OptionalValue", "Required", "RequiredValue", "Several", "SeveralValues", "WithAttribute",
@@ -128,6 +128,18 @@ def record(t, kind, lent):
     ghost apart = {{ Prim.search rules }};"""
 
 
+def read_record(t, kind, lent):
+    """A struct that others hold is read by a function of its own."""
+    name = t.camel(kind) + lifetime(lent)
+    return f"""
+impl<'a> ReadRecord<'a> for {name} {{
+    fn read<P: Places>(descent: &mut Descent<'a, '_, P>) -> Result<{name}, Refusal> {{
+        whole_record(descent)
+    }}
+}}
+""" if t.is_held(kind) and kind not in t.large else ""
+
+
 def large_record(t, kind):
     """Reads the children of a large struct where they stand."""
     reads = "".join(f"        {read_here(it)}\n" for it in t.fields(kind))
@@ -175,7 +187,7 @@ impl{"<'a> LargeRecord<'a>" if large else "<'a> Record" if lent else " Record"} 
 
     {large_record(t, kind) if large else record(t, kind, lent)}
 }}
-"""
+{read_record(t, kind, lent)}"""
 
 
 def chain(t, name, members):

@@ -11,8 +11,8 @@ use exi_events::EventWriter;
 use exi_schema::Places;
 use message_fields::{Elements, OptionalValue, RequiredValue};
 use message_parts::{
-    Alternatives, Choice, Descent, PutChoice, PutRecord, Record, member, put_optional_value,
-    put_record, put_value,
+    Alternatives, Choice, Descent, PutChoice, PutRecord, ReadRecord, Record, member,
+    put_optional_value, put_record, put_value, whole_record,
 };
 
 /// PhysicalValue.
@@ -69,6 +69,12 @@ impl Record for PhysicalValue {
     ghost declared = { Prim.search rules };
 
     ghost apart = { Prim.search rules };
+}
+
+impl<'a> ReadRecord<'a> for PhysicalValue {
+    fn read<P: Places>(descent: &mut Descent<'a, '_, P>) -> Result<PhysicalValue, Refusal> {
+        whole_record(descent)
+    }
 }
 
 /// DC_EVStatus.
@@ -153,6 +159,12 @@ impl Record for DcEvStatus {
     ghost apart = { Prim.search rules };
 }
 
+impl<'a> ReadRecord<'a> for DcEvStatus {
+    fn read<P: Places>(descent: &mut Descent<'a, '_, P>) -> Result<DcEvStatus, Refusal> {
+        whole_record(descent)
+    }
+}
+
 /// DC_EVSEStatus.
 #[derive(Clone, Copy, Debug, PartialEq, Eq)]
 pub struct DcEvseStatus {
@@ -225,6 +237,12 @@ impl Record for DcEvseStatus {
     ghost declared = { Prim.search rules };
 
     ghost apart = { Prim.search rules };
+}
+
+impl<'a> ReadRecord<'a> for DcEvseStatus {
+    fn read<P: Places>(descent: &mut Descent<'a, '_, P>) -> Result<DcEvseStatus, Refusal> {
+        whole_record(descent)
+    }
 }
 
 /// One element of the substitution group EVSEStatus.

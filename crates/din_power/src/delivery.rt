@@ -12,8 +12,9 @@ use message_fields::{
     AtMostOneOf, Elements, OneOf, Optional, OptionalValue, Required, RequiredValue, Several,
 };
 use message_parts::{
-    Alternatives, Choice, Descent, Group, PutChoice, PutRecord, Record, member, put_choice,
-    put_optional, put_optional_choice, put_optional_value, put_record, put_records, put_value,
+    Alternatives, Choice, Descent, Group, PutChoice, PutRecord, ReadRecord, Record, member,
+    put_choice, put_optional, put_optional_choice, put_optional_value, put_record, put_records,
+    put_value, whole_record,
 };
 
 /// ProfileEntry.
@@ -75,6 +76,12 @@ impl Record for ProfileEntry {
     ghost apart = { Prim.search rules };
 }
 
+impl<'a> ReadRecord<'a> for ProfileEntry {
+    fn read<P: Places>(descent: &mut Descent<'a, '_, P>) -> Result<ProfileEntry, Refusal> {
+        whole_record(descent)
+    }
+}
+
 /// ChargingProfile.
 #[derive(Drop)]
 pub struct ChargingProfile {
@@ -129,6 +136,12 @@ impl Record for ChargingProfile {
     ghost declared = { Prim.search rules };
 
     ghost apart = { Prim.search rules };
+}
+
+impl<'a> ReadRecord<'a> for ChargingProfile {
+    fn read<P: Places>(descent: &mut Descent<'a, '_, P>) -> Result<ChargingProfile, Refusal> {
+        whole_record(descent)
+    }
 }
 
 /// DC_EVPowerDeliveryParameter.

@@ -9,8 +9,8 @@ use exi_events::EventWriter;
 use exi_schema::Places;
 use message_fields::{Elements, LeftOut, OneOf, OptionalValue, Required, RequiredValue, Several};
 use message_parts::{
-    Alternatives, Choice, Descent, Group, PutChoice, PutRecord, Record, member, put_choice,
-    put_optional_value, put_record, put_records, put_value,
+    Alternatives, Choice, Descent, Group, PutChoice, PutRecord, ReadRecord, Record, member,
+    put_choice, put_optional_value, put_record, put_records, put_value, whole_record,
 };
 
 /// RelativeTimeInterval.
@@ -147,6 +147,12 @@ impl Record for PMaxScheduleEntry {
     ghost apart = { Prim.search rules };
 }
 
+impl<'a> ReadRecord<'a> for PMaxScheduleEntry {
+    fn read<P: Places>(descent: &mut Descent<'a, '_, P>) -> Result<PMaxScheduleEntry, Refusal> {
+        whole_record(descent)
+    }
+}
+
 /// PMaxSchedule.
 #[derive(Drop, Default)]
 pub struct PMaxSchedule {
@@ -203,6 +209,12 @@ impl Record for PMaxSchedule {
     ghost apart = { Prim.search rules };
 }
 
+impl<'a> ReadRecord<'a> for PMaxSchedule {
+    fn read<P: Places>(descent: &mut Descent<'a, '_, P>) -> Result<PMaxSchedule, Refusal> {
+        whole_record(descent)
+    }
+}
+
 /// SAScheduleTuple.
 #[derive(Drop, Default)]
 pub struct SaScheduleTuple {
@@ -252,6 +264,12 @@ impl Record for SaScheduleTuple {
     ghost declared = { Prim.search rules };
 
     ghost apart = { Prim.search rules };
+}
+
+impl<'a> ReadRecord<'a> for SaScheduleTuple {
+    fn read<P: Places>(descent: &mut Descent<'a, '_, P>) -> Result<SaScheduleTuple, Refusal> {
+        whole_record(descent)
+    }
 }
 
 /// SAScheduleList.

@@ -5,14 +5,15 @@ ghost use Rattle.std.specs.Prelude.{[]};
 use arrayvec::ArrayVec;
 use din_parts::{PaymentOption, ResponseCode, ServiceCategory, SupportedEnergyTransferType};
 use din_schema::names;
+use exi_documents::Refusal;
 use exi_events::EventWriter;
 use exi_schema::Places;
 use message_fields::{
     Elements, Optional, OptionalValue, Required, RequiredValue, Several, SeveralValues,
 };
 use message_parts::{
-    PutRecord, Record, Text, put_optional, put_optional_value, put_record, put_records, put_value,
-    put_values,
+    Descent, PutRecord, ReadRecord, Record, Text, put_optional, put_optional_value, put_record,
+    put_records, put_value, put_values, whole_record,
 };
 
 /// ServiceTag.
@@ -83,6 +84,12 @@ impl<'a> Record for ServiceTag<'a> {
     ghost apart = { Prim.search rules };
 }
 
+impl<'a> ReadRecord<'a> for ServiceTag<'a> {
+    fn read<P: Places>(descent: &mut Descent<'a, '_, P>) -> Result<ServiceTag<'a>, Refusal> {
+        whole_record(descent)
+    }
+}
+
 /// Service.
 #[derive(Drop, Default)]
 pub struct Service<'a> {
@@ -129,6 +136,12 @@ impl<'a> Record for Service<'a> {
     ghost apart = { Prim.search rules };
 }
 
+impl<'a> ReadRecord<'a> for Service<'a> {
+    fn read<P: Places>(descent: &mut Descent<'a, '_, P>) -> Result<Service<'a>, Refusal> {
+        whole_record(descent)
+    }
+}
+
 /// ServiceList.
 #[derive(Drop)]
 pub struct ServiceList<'a> {
@@ -169,6 +182,12 @@ impl<'a> Record for ServiceList<'a> {
     ghost declared = { Prim.search rules };
 
     ghost apart = { Prim.search rules };
+}
+
+impl<'a> ReadRecord<'a> for ServiceList<'a> {
+    fn read<P: Places>(descent: &mut Descent<'a, '_, P>) -> Result<ServiceList<'a>, Refusal> {
+        whole_record(descent)
+    }
 }
 
 /// ChargeService.
@@ -236,6 +255,12 @@ impl<'a> Record for ChargeService<'a> {
     ghost apart = { Prim.search rules };
 }
 
+impl<'a> ReadRecord<'a> for ChargeService<'a> {
+    fn read<P: Places>(descent: &mut Descent<'a, '_, P>) -> Result<ChargeService<'a>, Refusal> {
+        whole_record(descent)
+    }
+}
+
 /// PaymentOptions.
 #[derive(Drop)]
 pub struct PaymentOptions {
@@ -276,6 +301,12 @@ impl Record for PaymentOptions {
     ghost declared = { Prim.search rules };
 
     ghost apart = { Prim.search rules };
+}
+
+impl<'a> ReadRecord<'a> for PaymentOptions {
+    fn read<P: Places>(descent: &mut Descent<'a, '_, P>) -> Result<PaymentOptions, Refusal> {
+        whole_record(descent)
+    }
 }
 
 /// ServiceDiscoveryReq.

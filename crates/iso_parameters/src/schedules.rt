@@ -10,8 +10,8 @@ use iso_parts::PhysicalValue;
 use iso_schema::names;
 use message_fields::{Elements, LeftOut, OneOf, OptionalValue, Required, RequiredValue, Several};
 use message_parts::{
-    Alternatives, Choice, Descent, Group, PutChoice, PutRecord, Record, member, put_choice,
-    put_optional_value, put_record, put_records, put_value,
+    Alternatives, Choice, Descent, Group, PutChoice, PutRecord, ReadRecord, Record, member,
+    put_choice, put_optional_value, put_record, put_records, put_value, whole_record,
 };
 
 /// RelativeTimeInterval.
@@ -150,6 +150,12 @@ impl Record for PMaxScheduleEntry {
     ghost apart = { Prim.search rules };
 }
 
+impl<'a> ReadRecord<'a> for PMaxScheduleEntry {
+    fn read<P: Places>(descent: &mut Descent<'a, '_, P>) -> Result<PMaxScheduleEntry, Refusal> {
+        whole_record(descent)
+    }
+}
+
 /// PMaxSchedule.
 #[derive(Drop, Default)]
 pub struct PMaxSchedule {
@@ -196,6 +202,12 @@ impl Record for PMaxSchedule {
     ghost declared = { Prim.search rules };
 
     ghost apart = { Prim.search rules };
+}
+
+impl<'a> ReadRecord<'a> for PMaxSchedule {
+    fn read<P: Places>(descent: &mut Descent<'a, '_, P>) -> Result<PMaxSchedule, Refusal> {
+        whole_record(descent)
+    }
 }
 
 /// SAScheduleTuple.
@@ -248,6 +260,12 @@ impl Record for SaScheduleTuple {
     ghost declared = { Prim.search rules };
 
     ghost apart = { Prim.search rules };
+}
+
+impl<'a> ReadRecord<'a> for SaScheduleTuple {
+    fn read<P: Places>(descent: &mut Descent<'a, '_, P>) -> Result<SaScheduleTuple, Refusal> {
+        whole_record(descent)
+    }
 }
 
 /// SAScheduleList.

@@ -3,11 +3,15 @@
 ghost use Rattle.std.specs.Prelude.{[]};
 
 use crate::enumerations::FaultCode;
+use exi_documents::Refusal;
 use exi_events::EventWriter;
 use exi_schema::Places;
 use iso_schema::names;
 use message_fields::{Elements, LeftOut, Optional, OptionalValue, RequiredValue};
-use message_parts::{Binary, PutRecord, Record, Text, put_optional, put_optional_value, put_value};
+use message_parts::{
+    Binary, Descent, PutRecord, ReadRecord, Record, Text, put_optional, put_optional_value,
+    put_value, whole_record,
+};
 
 /// Notification.
 #[derive(Drop)]
@@ -61,6 +65,12 @@ impl<'a> Record for Notification<'a> {
     ghost apart = { Prim.search rules };
 }
 
+impl<'a> ReadRecord<'a> for Notification<'a> {
+    fn read<P: Places>(descent: &mut Descent<'a, '_, P>) -> Result<Notification<'a>, Refusal> {
+        whole_record(descent)
+    }
+}
+
 /// Header.
 #[derive(Drop, Default)]
 pub struct Header<'a> {
@@ -112,4 +122,10 @@ impl<'a> Record for Header<'a> {
     ghost declared = { Prim.search rules };
 
     ghost apart = { Prim.search rules };
+}
+
+impl<'a> ReadRecord<'a> for Header<'a> {
+    fn read<P: Places>(descent: &mut Descent<'a, '_, P>) -> Result<Header<'a>, Refusal> {
+        whole_record(descent)
+    }
 }

@@ -11,8 +11,8 @@ use exi_schema::Places;
 use iso_schema::names;
 use message_fields::{Elements, OptionalValue, RequiredValue};
 use message_parts::{
-    Alternatives, Binary, Choice, Descent, PutChoice, PutRecord, Record, Text, Three, member,
-    put_optional_value, put_record, put_value,
+    Alternatives, Binary, Choice, Descent, PutChoice, PutRecord, ReadRecord, Record, Text, Three,
+    member, put_optional_value, put_record, put_value, whole_record,
 };
 
 /// PhysicalValue.
@@ -64,6 +64,12 @@ impl Record for PhysicalValue {
     ghost apart = { Prim.search rules };
 }
 
+impl<'a> ReadRecord<'a> for PhysicalValue {
+    fn read<P: Places>(descent: &mut Descent<'a, '_, P>) -> Result<PhysicalValue, Refusal> {
+        whole_record(descent)
+    }
+}
+
 /// DC_EVStatus.
 #[derive(Clone, Copy, Debug, PartialEq, Eq)]
 pub struct DcEvStatus {
@@ -111,6 +117,12 @@ impl Record for DcEvStatus {
     ghost declared = { Prim.search rules };
 
     ghost apart = { Prim.search rules };
+}
+
+impl<'a> ReadRecord<'a> for DcEvStatus {
+    fn read<P: Places>(descent: &mut Descent<'a, '_, P>) -> Result<DcEvStatus, Refusal> {
+        whole_record(descent)
+    }
 }
 
 /// AC_EVSEStatus.
@@ -163,6 +175,12 @@ impl Record for AcEvseStatus {
     ghost declared = { Prim.search rules };
 
     ghost apart = { Prim.search rules };
+}
+
+impl<'a> ReadRecord<'a> for AcEvseStatus {
+    fn read<P: Places>(descent: &mut Descent<'a, '_, P>) -> Result<AcEvseStatus, Refusal> {
+        whole_record(descent)
+    }
 }
 
 /// DC_EVSEStatus.
@@ -237,6 +255,12 @@ impl Record for DcEvseStatus {
     ghost declared = { Prim.search rules };
 
     ghost apart = { Prim.search rules };
+}
+
+impl<'a> ReadRecord<'a> for DcEvseStatus {
+    fn read<P: Places>(descent: &mut Descent<'a, '_, P>) -> Result<DcEvseStatus, Refusal> {
+        whole_record(descent)
+    }
 }
 
 /// One element of the substitution group EVSEStatus.
@@ -356,4 +380,10 @@ impl<'a> Record for MeterInfo<'a> {
     ghost declared = { Prim.search rules };
 
     ghost apart = { Prim.search rules };
+}
+
+impl<'a> ReadRecord<'a> for MeterInfo<'a> {
+    fn read<P: Places>(descent: &mut Descent<'a, '_, P>) -> Result<MeterInfo<'a>, Refusal> {
+        whole_record(descent)
+    }
 }

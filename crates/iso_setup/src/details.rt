@@ -10,8 +10,9 @@ use iso_parts::{PhysicalValue, ResponseCode};
 use iso_schema::names;
 use message_fields::{Elements, OneOf, Optional, RequiredValue, Several, WithAttribute};
 use message_parts::{
-    Alternatives, Choice, Descent, PutChoice, PutRecord, Record, Text, member, member_value,
-    put_attribute, put_choice, put_optional, put_record, put_records, put_value,
+    Alternatives, Choice, Descent, PutChoice, PutRecord, ReadRecord, Record, Text, member,
+    member_value, put_attribute, put_choice, put_optional, put_record, put_records, put_value,
+    whole_record,
 };
 
 /// One of the elements of Parameter.
@@ -129,6 +130,12 @@ impl<'a> Record for Parameter<'a> {
     ghost apart = { Prim.search rules };
 }
 
+impl<'a> ReadRecord<'a> for Parameter<'a> {
+    fn read<P: Places>(descent: &mut Descent<'a, '_, P>) -> Result<Parameter<'a>, Refusal> {
+        whole_record(descent)
+    }
+}
+
 /// ParameterSet.
 #[derive(Drop, Default)]
 pub struct ParameterSet<'a> {
@@ -181,6 +188,12 @@ impl<'a> Record for ParameterSet<'a> {
     ghost apart = { Prim.search rules };
 }
 
+impl<'a> ReadRecord<'a> for ParameterSet<'a> {
+    fn read<P: Places>(descent: &mut Descent<'a, '_, P>) -> Result<ParameterSet<'a>, Refusal> {
+        whole_record(descent)
+    }
+}
+
 /// ServiceParameterList.
 #[derive(Drop)]
 pub struct ServiceParameterList<'a> {
@@ -221,6 +234,14 @@ impl<'a> Record for ServiceParameterList<'a> {
     ghost declared = { Prim.search rules };
 
     ghost apart = { Prim.search rules };
+}
+
+impl<'a> ReadRecord<'a> for ServiceParameterList<'a> {
+    fn read<P: Places>(
+        descent: &mut Descent<'a, '_, P>,
+    ) -> Result<ServiceParameterList<'a>, Refusal> {
+        whole_record(descent)
+    }
 }
 
 /// ServiceDetailReq.

@@ -3,12 +3,16 @@
 ghost use Rattle.std.specs.Prelude.{[]};
 
 use arrayvec::ArrayVec;
+use exi_documents::Refusal;
 use exi_events::EventWriter;
 use exi_schema::Places;
 use iso_parts::{PaymentOption, ResponseCode};
 use iso_schema::names;
 use message_fields::{Elements, OptionalValue, Required, RequiredValue, Several};
-use message_parts::{PutRecord, Record, put_optional_value, put_record, put_records, put_value};
+use message_parts::{
+    Descent, PutRecord, ReadRecord, Record, put_optional_value, put_record, put_records, put_value,
+    whole_record,
+};
 
 /// SelectedService.
 #[derive(Clone, Copy, Debug, PartialEq, Eq, Default)]
@@ -61,6 +65,12 @@ impl Record for SelectedService {
     ghost apart = { Prim.search rules };
 }
 
+impl<'a> ReadRecord<'a> for SelectedService {
+    fn read<P: Places>(descent: &mut Descent<'a, '_, P>) -> Result<SelectedService, Refusal> {
+        whole_record(descent)
+    }
+}
+
 /// SelectedServiceList.
 #[derive(Drop)]
 pub struct SelectedServiceList {
@@ -101,6 +111,12 @@ impl Record for SelectedServiceList {
     ghost declared = { Prim.search rules };
 
     ghost apart = { Prim.search rules };
+}
+
+impl<'a> ReadRecord<'a> for SelectedServiceList {
+    fn read<P: Places>(descent: &mut Descent<'a, '_, P>) -> Result<SelectedServiceList, Refusal> {
+        whole_record(descent)
+    }
 }
 
 /// PaymentServiceSelectionReq.

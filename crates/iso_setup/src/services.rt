@@ -3,6 +3,7 @@
 ghost use Rattle.std.specs.Prelude.{[]};
 
 use arrayvec::ArrayVec;
+use exi_documents::Refusal;
 use exi_events::EventWriter;
 use exi_schema::Places;
 use iso_parts::{EnergyTransferMode, PaymentOption, ResponseCode, ServiceCategory};
@@ -11,8 +12,8 @@ use message_fields::{
     Elements, Optional, OptionalValue, Required, RequiredValue, Several, SeveralValues,
 };
 use message_parts::{
-    PutRecord, Record, Text, put_optional, put_optional_value, put_record, put_records, put_value,
-    put_values,
+    Descent, PutRecord, ReadRecord, Record, Text, put_optional, put_optional_value, put_record,
+    put_records, put_value, put_values, whole_record,
 };
 
 /// Service.
@@ -93,6 +94,12 @@ impl<'a> Record for Service<'a> {
     ghost apart = { Prim.search rules };
 }
 
+impl<'a> ReadRecord<'a> for Service<'a> {
+    fn read<P: Places>(descent: &mut Descent<'a, '_, P>) -> Result<Service<'a>, Refusal> {
+        whole_record(descent)
+    }
+}
+
 /// ServiceList.
 #[derive(Drop)]
 pub struct ServiceList<'a> {
@@ -133,6 +140,12 @@ impl<'a> Record for ServiceList<'a> {
     ghost declared = { Prim.search rules };
 
     ghost apart = { Prim.search rules };
+}
+
+impl<'a> ReadRecord<'a> for ServiceList<'a> {
+    fn read<P: Places>(descent: &mut Descent<'a, '_, P>) -> Result<ServiceList<'a>, Refusal> {
+        whole_record(descent)
+    }
 }
 
 /// SupportedEnergyTransferMode.
@@ -181,6 +194,14 @@ impl Record for SupportedEnergyTransferMode {
     ghost declared = { Prim.search rules };
 
     ghost apart = { Prim.search rules };
+}
+
+impl<'a> ReadRecord<'a> for SupportedEnergyTransferMode {
+    fn read<P: Places>(
+        descent: &mut Descent<'a, '_, P>,
+    ) -> Result<SupportedEnergyTransferMode, Refusal> {
+        whole_record(descent)
+    }
 }
 
 /// ChargeService.
@@ -273,6 +294,12 @@ impl<'a> Record for ChargeService<'a> {
     ghost apart = { Prim.search rules };
 }
 
+impl<'a> ReadRecord<'a> for ChargeService<'a> {
+    fn read<P: Places>(descent: &mut Descent<'a, '_, P>) -> Result<ChargeService<'a>, Refusal> {
+        whole_record(descent)
+    }
+}
+
 /// PaymentOptionList.
 #[derive(Drop)]
 pub struct PaymentOptionList {
@@ -313,6 +340,12 @@ impl Record for PaymentOptionList {
     ghost declared = { Prim.search rules };
 
     ghost apart = { Prim.search rules };
+}
+
+impl<'a> ReadRecord<'a> for PaymentOptionList {
+    fn read<P: Places>(descent: &mut Descent<'a, '_, P>) -> Result<PaymentOptionList, Refusal> {
+        whole_record(descent)
+    }
 }
 
 /// ServiceDiscoveryReq.

@@ -10,8 +10,8 @@ use arrayvec::ArrayVec;
 use exi_documents::Refusal;
 use exi_schema::Places;
 use message_parts::{
-    Alternatives, Choice, Descent, Group, ReadContents, ReadSimple, Record, Simple, choice,
-    left_out, optional, optional_choice, optional_value, records, required, value, values,
+    Alternatives, Choice, Descent, Group, ReadRecord, ReadSimple, Record, Simple, choice, left_out,
+    optional, optional_choice, optional_value, records, required, value, values,
 };
 
 /// An element with attributes and children that has to be there.
@@ -58,10 +58,7 @@ impl<T: Record> Children for Required<T> {
     ghost told = { λ declared at v before. told_one (name_at declared at) (holding_with (T.given v.0) (T.parts v.0)) before };
 }
 
-impl<'a, T: Record> ReadChildren<'a> for Required<T>
-where
-    T::Made: ReadContents<'a>,
-{
+impl<'a, T: ReadRecord<'a>> ReadChildren<'a> for Required<T> {
     #[inline(always)]
     fn read_children<P: Places>(descent: &mut Descent<'a, '_, P>) -> Result<Required<T>, Refusal> {
         Ok(Required(required(descent)?))
@@ -77,10 +74,7 @@ impl<T: Record, const NAME: u16> Children for Optional<T, NAME> {
     ghost told = { λ declared at v before. told_perhaps NAME (mapped (λ x. holding_with (T.given x) (T.parts x)) v.0) before };
 }
 
-impl<'a, T: Record, const NAME: u16> ReadChildren<'a> for Optional<T, NAME>
-where
-    T::Made: ReadContents<'a>,
-{
+impl<'a, T: ReadRecord<'a>, const NAME: u16> ReadChildren<'a> for Optional<T, NAME> {
     #[inline(always)]
     fn read_children<P: Places>(
         descent: &mut Descent<'a, '_, P>,
@@ -164,11 +158,8 @@ impl<T: Record, const MOST: usize, const NAME: u16> Children for Several<T, MOST
     ghost told = { λ declared at v before. told_each NAME (map (λ x. holding_with (T.given x) (T.parts x)) v.0.items) before };
 }
 
-impl<'a, T: Record + Default, const MOST: usize, const NAME: u16> ReadChildren<'a>
-    for Several<T, MOST, NAME>
-where
-    T::Made: ReadContents<'a>,
-{
+impl<'a, T: ReadRecord<'a> + Default, const MOST: usize, const NAME: u16> ReadChildren<'a>
+    for Several<T, MOST, NAME> {
     #[inline(always)]
     fn read_children<P: Places>(
         descent: &mut Descent<'a, '_, P>,
