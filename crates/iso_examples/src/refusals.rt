@@ -4,7 +4,19 @@ use crate::setup::SETUP;
 use exi_documents::MOST_ENTRIES;
 use iso_codec::{IsoMessage, IsoTables, Refusal, RefusalCause, Table, read_iso};
 use iso_schema::names;
+use std::alloc::Global;
 use std::test::*;
+
+/// How a payload is refused, told in hexadecimal.
+fn refusal_of(alloc: Global, tables: &IsoTables, text: &str) -> Result<Option<Refusal>, Fail> {
+    let payload = hex::decode(alloc, text)?;
+    if payload.len() > 65536 {
+        return Err(Fail::from("a long payload"));
+    }
+    let mut table = Table::make(alloc, MOST_ENTRIES)?;
+    let mut message = IsoMessage::default();
+    Ok(read_iso(tables, payload.as_slice(), &mut table, &mut message).err())
+}
 
 #[test]
 fn payloads_are_refused_exactly(rt: HostRuntime) -> Result<(), Fail> {
@@ -33,14 +45,8 @@ fn payloads_are_refused_exactly(rt: HostRuntime) -> Result<(), Fail> {
         ("80980200000000000000001240", RefusalCause::Deviation, 94),
     ];
     for (hex, cause, bit) in table {
-        let payload = hex::decode(rt.alloc(), hex)?;
-        assert!(rt; payload.len() <= 65536);
-        let mut room = Table::make(rt.alloc(), MOST_ENTRIES)?;
-        let mut message = IsoMessage::default();
-        assert_eq!(rt;
-            read_iso(&tables, payload.as_slice(), &mut room, &mut message).err(),
-            Some(Refusal { cause, bit })
-        );
+        let wanted = Refusal { cause, bit };
+        assert_eq!(rt; refusal_of(rt.alloc(), &tables, hex)?, Some(wanted));
     }
     Ok(())
 }
@@ -88,18 +94,11 @@ const ESCAPES: [(&'static str, u32); 13] = [
 fn an_escape_in_place_of_an_event_is_a_deviation(rt: HostRuntime) -> Result<(), Fail> {
     let tables = IsoTables::make(rt.alloc())?;
     for (hex, bit) in ESCAPES {
-        let payload = hex::decode(rt.alloc(), hex)?;
-        assert!(rt; payload.len() <= 65536);
-        let mut room = Table::make(rt.alloc(), MOST_ENTRIES)?;
         let wanted = Refusal {
             cause: RefusalCause::Deviation,
             bit,
         };
-        let mut message = IsoMessage::default();
-        assert_eq!(rt;
-            read_iso(&tables, payload.as_slice(), &mut room, &mut message).err(),
-            Some(wanted)
-        );
+        assert_eq!(rt; refusal_of(rt.alloc(), &tables, hex)?, Some(wanted));
     }
     Ok(())
 }
