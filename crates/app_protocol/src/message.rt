@@ -1,8 +1,9 @@
 //! The messages of the negotiation, and how they are read and put.
 
-ghost use Rattle.std.specs.Prelude.{[]};
+ghost use Rattle.std.specs.Prelude.{◌≡◌, []};
 ghost use Rattle.std.proofs.Common.{rules};
 ghost use Rattle.exi_documents.specs.Trees.{Ordinal};
+ghost use Rattle.message_parts.specs.Contents.{told_parts};
 ghost use Rattle.message_parts.specs.Values.{is_named};
 ghost use Rattle.app_schema.specs.Declarations.{kinds as all_kinds, protocol_particles, request_particles, response_particles};
 ghost use Rattle.app_protocol.specs.Messages.{ordinal_of, protocol_parts, parts_of_request, parts_of_response, root_name, root_inside, root_number};
@@ -14,10 +15,11 @@ use arrayvec::ArrayVec;
 use exi_documents::Refusal;
 use exi_events::{EventWriter, Value};
 use exi_schema::Places;
-use message_fields::{Elements, OptionalValue, RequiredValue, Several};
+use message_fields::{Elements, OptionalValue, RequiredValue};
 use message_parts::{
-    Alternatives, Choice, Descent, PutChoice, PutRecord, ReadSimple, Record, Root, Simple, Text,
-    member, put_optional_value, put_record, put_records, put_value,
+    Alternatives, Choice, Contents, Descent, PutChoice, PutRecord, ReadContents, ReadSimple,
+    Record, Root, Simple, Text, first_child, member, put_optional_value, put_record, put_records,
+    put_value, records,
 };
 
 /// One protocol that a car offers.
@@ -117,6 +119,22 @@ impl<'a> PutRecord for AppReq<'a> {
     }
 }
 
+/// The offers are too long to move: so a request is made of itself, and tells how it is read.
+impl Contents for AppReq<'_> {
+    ghost stand = { λ ks attributes declared. (ks ≡ all_kinds) × (attributes ≡ []) × (declared ≡ request_particles) };
+
+    ghost told = { λ attributes declared v before. told_parts (parts_of_request v) before };
+}
+
+impl<'a> ReadContents<'a> for AppReq<'a> {
+    #[inline(always)]
+    fn read<P: Places>(descent: &mut Descent<'a, '_, P>) -> Result<AppReq<'a>, Refusal> {
+        first_child(descent)?;
+        let protocols = records(descent, APP_PROTOCOL)?;
+        Ok(AppReq { protocols })
+    }
+}
+
 impl<'a> Record for AppReq<'a> {
     ghost kinds = { all_kinds };
 
@@ -124,11 +142,11 @@ impl<'a> Record for AppReq<'a> {
 
     ghost particles = { request_particles };
 
-    type Made = Elements<Several<AppProtocol<'a>, 20, { APP_PROTOCOL }>>;
+    type Made = AppReq<'a>;
 
+    #[inline(always)]
     fn of(made: Self::Made) -> AppReq<'a> {
-        let Elements(Several(protocols)) = made;
-        AppReq { protocols }
+        made
     }
 
     ghost declared = { Prim.search rules };
