@@ -1,7 +1,9 @@
 //! The messages of the negotiation, and how they are read and put.
 
-ghost use Rattle.std.specs.Prelude.{[]};
+ghost use Rattle.std.specs.Prelude.{◌≡◌, []};
+ghost use Rattle.std.proofs.Common.{rules};
 ghost use Rattle.exi_documents.specs.Trees.{Ordinal};
+ghost use Rattle.message_parts.specs.Contents.{told_parts};
 ghost use Rattle.message_parts.specs.Values.{is_named};
 ghost use Rattle.app_schema.specs.Declarations.{kinds as all_kinds, protocol_particles, request_particles, response_particles};
 ghost use Rattle.app_protocol.specs.Messages.{ordinal_of, protocol_parts, parts_of_request, parts_of_response, root_name, root_inside, root_number};
@@ -13,9 +15,11 @@ use arrayvec::ArrayVec;
 use exi_documents::Refusal;
 use exi_events::{EventWriter, Value};
 use exi_schema::Places;
+use message_fields::{Elements, OptionalValue, RequiredValue};
 use message_parts::{
-    Choice, Descent, PutChoice, PutRecord, Record, Root, Simple, Text, first_child, member,
-    optional_value, put_optional_value, put_record, put_records, put_value, records, value,
+    Alternatives, Choice, Contents, Descent, PutChoice, PutRecord, ReadContents, ReadSimple,
+    Record, Root, Simple, Text, first_child, member, put_optional_value, put_record, put_records,
+    put_value, records,
 };
 
 /// One protocol that a car offers.
@@ -59,28 +63,43 @@ impl<'a> PutRecord for AppProtocol<'a> {
     }
 }
 
-impl<'a> Record<'a> for AppProtocol<'a> {
+impl<'a> Record for AppProtocol<'a> {
     ghost kinds = { all_kinds };
 
     ghost attributes = { [] };
 
     ghost particles = { protocol_particles };
 
-    fn read<P: Places>(descent: &mut Descent<'a, '_, P>) -> Result<AppProtocol<'a>, Refusal> {
-        first_child(descent)?;
-        let namespace = value(descent)?;
-        let major = value(descent)?;
-        let minor = value(descent)?;
-        let schema = value(descent)?;
-        let priority = value(descent)?;
-        Ok(AppProtocol {
+    type Made = Elements<
+        (
+            (
+                RequiredValue<Text<'a>>,
+                RequiredValue<u32>,
+                RequiredValue<u32>,
+            ),
+            (RequiredValue<u8>, RequiredValue<u8>),
+        ),
+    >;
+
+    fn of(made: Self::Made) -> AppProtocol<'a> {
+        let Elements(
+            (
+                (RequiredValue(namespace), RequiredValue(major), RequiredValue(minor)),
+                (RequiredValue(schema), RequiredValue(priority)),
+            ),
+        ) = made;
+        AppProtocol {
             namespace,
             major,
             minor,
             schema,
             priority,
-        })
+        }
     }
+
+    ghost declared = { Prim.search rules };
+
+    ghost apart = { Prim.search rules };
 }
 
 /// A car's request: what it offers, 1 to 20 protocols.
@@ -100,18 +119,39 @@ impl<'a> PutRecord for AppReq<'a> {
     }
 }
 
-impl<'a> Record<'a> for AppReq<'a> {
+/// The offers are too long to move: so a request is made of itself, and tells how it is read.
+impl Contents for AppReq<'_> {
+    ghost stand = { λ ks attributes declared. (ks ≡ all_kinds) × (attributes ≡ []) × (declared ≡ request_particles) };
+
+    ghost told = { λ attributes declared v before. told_parts (parts_of_request v) before };
+}
+
+impl<'a> ReadContents<'a> for AppReq<'a> {
+    #[inline(always)]
+    fn read<P: Places>(descent: &mut Descent<'a, '_, P>) -> Result<AppReq<'a>, Refusal> {
+        first_child(descent)?;
+        let protocols = records(descent, APP_PROTOCOL)?;
+        Ok(AppReq { protocols })
+    }
+}
+
+impl<'a> Record for AppReq<'a> {
     ghost kinds = { all_kinds };
 
     ghost attributes = { [] };
 
     ghost particles = { request_particles };
 
-    fn read<P: Places>(descent: &mut Descent<'a, '_, P>) -> Result<AppReq<'a>, Refusal> {
-        first_child(descent)?;
-        let protocols = records(descent, APP_PROTOCOL)?;
-        Ok(AppReq { protocols })
+    type Made = AppReq<'a>;
+
+    #[inline(always)]
+    fn of(made: Self::Made) -> AppReq<'a> {
+        made
     }
+
+    ghost declared = { Prim.search rules };
+
+    ghost apart = { Prim.search rules };
 }
 
 /// The response code.
@@ -169,19 +209,23 @@ impl PutRecord for AppRes {
     }
 }
 
-impl<'a> Record<'a> for AppRes {
+impl Record for AppRes {
     ghost kinds = { all_kinds };
 
     ghost attributes = { [] };
 
     ghost particles = { response_particles };
 
-    fn read<P: Places>(descent: &mut Descent<'a, '_, P>) -> Result<AppRes, Refusal> {
-        first_child(descent)?;
-        let code = value(descent)?;
-        let schema = optional_value(descent, SCHEMA_ID)?;
-        Ok(AppRes { code, schema })
+    type Made = Elements<(RequiredValue<AppCode>, OptionalValue<u8, { SCHEMA_ID }>)>;
+
+    fn of(made: Self::Made) -> AppRes {
+        let Elements((RequiredValue(code), OptionalValue(schema))) = made;
+        AppRes { code, schema }
     }
+
+    ghost declared = { Prim.search rules };
+
+    ghost apart = { Prim.search rules };
 }
 
 /// A message of the negotiation.
@@ -206,13 +250,15 @@ impl<'a> PutChoice for AppMessage<'a> {
     }
 }
 
-impl<'a> Choice<'a> for AppMessage<'a> {
+impl Alternatives for AppMessage<'_> {
     ghost use Rattle.app_protocol.specs.Messages.{root_members};
 
     ghost kinds = { all_kinds };
 
     ghost members = { root_members };
+}
 
+impl<'a> Choice<'a> for AppMessage<'a> {
     fn read_member<P: Places>(descent: &mut Descent<'a, '_, P>) -> Result<AppMessage<'a>, Refusal> {
         if descent.is_at(REQUEST) {
             let request = member(descent)?;

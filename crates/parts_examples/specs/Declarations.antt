@@ -1,10 +1,9 @@
 -- Own: the declarations of a report, which has each shape that a message may have.
-use Rattle.std.specs.Prelude.{ℕ, pos, negsuc, true, false, List, [], ◌∷◌, codes, refl}
+use Rattle.std.specs.Prelude.{ℕ, pos, negsuc, List, [], ◌∷◌, codes, refl}
 use Rattle.exi_schema.specs.declared.tables.AttributeOf.{AttributeOf}
 use Rattle.exi_schema.specs.declared.tables.Datatype.TheVariants.{Bool as BoolType, Named, Bounded, Unsigned, Signed, Binary, Text}
 use Rattle.exi_schema.specs.declared.tables.Member.{Member}
 use Rattle.exi_schema.specs.declared.tables.MemberStanding.TheVariants.{Abstract, OutOfProfile}
-use Rattle.exi_schema.specs.declared.tables.RootOf.{RootOf}
 use Rattle.exi_schema.specs.Plain.{PlainKind, PlainParticle, valued, containing, one_of, standing, once, perhaps, up_to, at_least_one, choice, perhaps_choice}
 use Rattle.exi_schema.specs.Schemas.{PlainSchema}
 use Rattle.message_parts.specs.Particles.{must, may}

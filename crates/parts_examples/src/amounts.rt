@@ -6,9 +6,10 @@ use crate::names;
 use exi_documents::Refusal;
 use exi_events::{EventWriter, Value};
 use exi_schema::Places;
+use message_fields::{Elements, OptionalValue, RequiredValue};
 use message_parts::{
-    Choice, Descent, Group, PutChoice, PutRecord, Record, Simple, Text, first_child, member,
-    member_value, optional_value, put_optional_value, put_record, put_value, value,
+    Alternatives, Choice, Descent, Group, PutChoice, PutRecord, ReadSimple, Record, Simple, Text,
+    member, member_value, put_optional_value, put_record, put_value,
 };
 
 /// How a post is.
@@ -67,8 +68,9 @@ impl PutRecord for Reading {
     }
 }
 
-impl<'a> Record<'a> for Reading {
+impl Record for Reading {
     ghost use Rattle.parts_examples.specs.Declarations.{kinds, reading};
+    ghost use Rattle.std.proofs.Common.{rules};
 
     ghost kinds = { kinds };
 
@@ -76,12 +78,16 @@ impl<'a> Record<'a> for Reading {
 
     ghost particles = { reading };
 
-    fn read<P: Places>(descent: &mut Descent<'a, '_, P>) -> Result<Reading, Refusal> {
-        first_child(descent)?;
-        let scale = value(descent)?;
-        let value = value(descent)?;
-        Ok(Reading { scale, value })
+    type Made = Elements<(RequiredValue<i8>, RequiredValue<i16>)>;
+
+    fn of(made: Self::Made) -> Reading {
+        let Elements((RequiredValue(scale), RequiredValue(value))) = made;
+        Reading { scale, value }
     }
+
+    ghost declared = { Prim.search rules };
+
+    ghost apart = { Prim.search rules };
 }
 
 /// An amount of one of six kinds.
@@ -114,14 +120,16 @@ impl PutChoice for Amount<'_> {
     }
 }
 
-impl<'a> Choice<'a> for Amount<'a> {
+impl Alternatives for Amount<'_> {
     ghost use Rattle.message_parts.specs.Particles.{alternatives};
     ghost use Rattle.parts_examples.specs.Declarations.{kinds, amounts};
 
     ghost kinds = { kinds };
 
     ghost members = { alternatives amounts };
+}
 
+impl<'a> Choice<'a> for Amount<'a> {
     fn read_member<P: Places>(descent: &mut Descent<'a, '_, P>) -> Result<Amount<'a>, Refusal> {
         if descent.is_at(names::FLAG) {
             Ok(Amount::Flag(member_value(descent)?))
@@ -158,8 +166,9 @@ impl PutRecord for AcSupply {
     }
 }
 
-impl<'a> Record<'a> for AcSupply {
+impl Record for AcSupply {
     ghost use Rattle.parts_examples.specs.Declarations.{kinds, ac_supply};
+    ghost use Rattle.std.proofs.Common.{rules};
 
     ghost kinds = { kinds };
 
@@ -167,11 +176,16 @@ impl<'a> Record<'a> for AcSupply {
 
     ghost particles = { ac_supply };
 
-    fn read<P: Places>(descent: &mut Descent<'a, '_, P>) -> Result<AcSupply, Refusal> {
-        first_child(descent)?;
-        let phase = value(descent)?;
-        Ok(AcSupply { phase })
+    type Made = Elements<RequiredValue<u8>>;
+
+    fn of(made: Self::Made) -> AcSupply {
+        let Elements(RequiredValue(phase)) = made;
+        AcSupply { phase }
     }
+
+    ghost declared = { Prim.search rules };
+
+    ghost apart = { Prim.search rules };
 }
 
 /// Direct current.
@@ -196,8 +210,9 @@ impl PutRecord for DcSupply {
     }
 }
 
-impl<'a> Record<'a> for DcSupply {
+impl Record for DcSupply {
     ghost use Rattle.parts_examples.specs.Declarations.{kinds, dc_supply};
+    ghost use Rattle.std.proofs.Common.{rules};
 
     ghost kinds = { kinds };
 
@@ -205,12 +220,16 @@ impl<'a> Record<'a> for DcSupply {
 
     ghost particles = { dc_supply };
 
-    fn read<P: Places>(descent: &mut Descent<'a, '_, P>) -> Result<DcSupply, Refusal> {
-        first_child(descent)?;
-        let voltage = value(descent)?;
-        let current = optional_value(descent, names::CURRENT)?;
-        Ok(DcSupply { voltage, current })
+    type Made = Elements<(RequiredValue<u16>, OptionalValue<u16, { names::CURRENT }>)>;
+
+    fn of(made: Self::Made) -> DcSupply {
+        let Elements((RequiredValue(voltage), OptionalValue(current))) = made;
+        DcSupply { voltage, current }
     }
+
+    ghost declared = { Prim.search rules };
+
+    ghost apart = { Prim.search rules };
 }
 
 /// What a post supplies: the members of the profile.
@@ -235,14 +254,16 @@ impl PutChoice for Supply {
     }
 }
 
-impl<'a> Choice<'a> for Supply {
+impl Alternatives for Supply {
     ghost use Rattle.message_parts.specs.Particles.{alternatives};
     ghost use Rattle.parts_examples.specs.Declarations.{kinds, supplies};
 
     ghost kinds = { kinds };
 
     ghost members = { alternatives supplies };
+}
 
+impl<'a> Choice<'a> for Supply {
     fn read_member<P: Places>(descent: &mut Descent<'a, '_, P>) -> Result<Supply, Refusal> {
         if descent.is_at(names::AC_SUPPLY) {
             Ok(Supply::Ac(member(descent)?))
@@ -270,8 +291,9 @@ impl PutRecord for Stopped {
     }
 }
 
-impl<'a> Record<'a> for Stopped {
+impl Record for Stopped {
     ghost use Rattle.parts_examples.specs.Declarations.{kinds, stopped};
+    ghost use Rattle.std.proofs.Common.{rules};
 
     ghost kinds = { kinds };
 
@@ -279,11 +301,16 @@ impl<'a> Record<'a> for Stopped {
 
     ghost particles = { stopped };
 
-    fn read<P: Places>(descent: &mut Descent<'a, '_, P>) -> Result<Stopped, Refusal> {
-        first_child(descent)?;
-        let state = value(descent)?;
-        Ok(Stopped { state })
+    type Made = Elements<RequiredValue<State>>;
+
+    fn of(made: Self::Made) -> Stopped {
+        let Elements(RequiredValue(state)) = made;
+        Stopped { state }
     }
+
+    ghost declared = { Prim.search rules };
+
+    ghost apart = { Prim.search rules };
 }
 
 /// Why a session is over.
@@ -309,14 +336,16 @@ impl PutChoice for Cause {
     }
 }
 
-impl<'a> Choice<'a> for Cause {
+impl Alternatives for Cause {
     ghost use Rattle.message_parts.specs.Particles.{alternatives};
     ghost use Rattle.parts_examples.specs.Declarations.{kinds, causes};
 
     ghost kinds = { kinds };
 
     ghost members = { alternatives causes };
+}
 
+impl<'a> Choice<'a> for Cause {
     fn read_member<P: Places>(descent: &mut Descent<'a, '_, P>) -> Result<Cause, Refusal> {
         if descent.is_at(names::ENDED) {
             Ok(Cause::Ended(member_value(descent)?))

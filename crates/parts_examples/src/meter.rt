@@ -3,12 +3,10 @@
 ghost use Rattle.std.specs.Prelude.{[]};
 
 use crate::names;
-use exi_documents::Refusal;
 use exi_events::EventWriter;
 use exi_schema::Places;
-use message_parts::{
-    Descent, PutRecord, Record, first_child, optional_value, put_optional_value, put_value, value,
-};
+use message_fields::{Elements, OptionalValue, RequiredValue};
+use message_parts::{PutRecord, Record, put_optional_value, put_value};
 
 /// What a meter reads.
 #[derive(Clone, Copy, Debug, PartialEq, Eq)]
@@ -55,8 +53,9 @@ impl PutRecord for Meter {
     }
 }
 
-impl<'a> Record<'a> for Meter {
+impl Record for Meter {
     ghost use Rattle.parts_examples.specs.Declarations.{kinds, meter};
+    ghost use Rattle.std.proofs.Common.{rules};
 
     ghost kinds = { kinds };
 
@@ -64,19 +63,43 @@ impl<'a> Record<'a> for Meter {
 
     ghost particles = { meter };
 
-    fn read<P: Places>(descent: &mut Descent<'a, '_, P>) -> Result<Meter, Refusal> {
-        first_child(descent)?;
-        let phase = value(descent)?;
-        let pulses = value(descent)?;
-        let energy = value(descent)?;
-        let total = value(descent)?;
-        let offset = value(descent)?;
-        let power = value(descent)?;
-        let reactive = value(descent)?;
-        let time = value(descent)?;
-        let valid = value(descent)?;
-        let load = optional_value(descent, names::LOAD)?;
-        Ok(Meter {
+    type Made = Elements<
+        (
+            (
+                RequiredValue<u8>,
+                RequiredValue<u16>,
+                RequiredValue<u32>,
+                RequiredValue<u64>,
+            ),
+            (
+                RequiredValue<i8>,
+                RequiredValue<i16>,
+                RequiredValue<i32>,
+                RequiredValue<i64>,
+            ),
+            (RequiredValue<bool>, OptionalValue<u8, { names::LOAD }>),
+        ),
+    >;
+
+    fn of(made: Self::Made) -> Meter {
+        let Elements(
+            (
+                (
+                    RequiredValue(phase),
+                    RequiredValue(pulses),
+                    RequiredValue(energy),
+                    RequiredValue(total),
+                ),
+                (
+                    RequiredValue(offset),
+                    RequiredValue(power),
+                    RequiredValue(reactive),
+                    RequiredValue(time),
+                ),
+                (RequiredValue(valid), OptionalValue(load)),
+            ),
+        ) = made;
+        Meter {
             phase,
             pulses,
             energy,
@@ -87,6 +110,10 @@ impl<'a> Record<'a> for Meter {
             time,
             valid,
             load,
-        })
+        }
     }
+
+    ghost declared = { Prim.search rules };
+
+    ghost apart = { Prim.search rules };
 }

@@ -15,11 +15,12 @@ use arrayvec::ArrayVec;
 use exi_documents::Refusal;
 use exi_events::{EventWriter, Full, Table};
 use exi_schema::Places;
+use message_fields::{Elements, SeveralValues};
 use message_parts::{
-    Binary, Choice, Descent, PutChoice, PutRecord, Record, Root, Text, attribute, choice,
-    first_child, last_attribute, member, optional_choice, optional_value, put_attribute,
-    put_choice, put_optional_attribute, put_optional_choice, put_optional_value, put_record,
-    put_records, put_value, put_values, read, records, required, value, values, write,
+    Alternatives, Binary, Choice, Contents, Descent, PutChoice, PutRecord, ReadContents, Record,
+    Root, Text, attribute, choice, last_attribute, member, optional_choice, optional_value,
+    put_attribute, put_choice, put_optional_attribute, put_optional_choice, put_optional_value,
+    put_record, put_records, put_value, put_values, read, records, required, value, write,
 };
 
 /// The readings of a day.
@@ -41,8 +42,9 @@ impl PutRecord for Day {
     }
 }
 
-impl<'a> Record<'a> for Day {
+impl Record for Day {
     ghost use Rattle.parts_examples.specs.Declarations.{kinds, day};
+    ghost use Rattle.std.proofs.Common.{rules};
 
     ghost kinds = { kinds };
 
@@ -50,11 +52,16 @@ impl<'a> Record<'a> for Day {
 
     ghost particles = { day };
 
-    fn read<P: Places>(descent: &mut Descent<'a, '_, P>) -> Result<Day, Refusal> {
-        first_child(descent)?;
-        let hours = values(descent, names::HOUR)?;
-        Ok(Day { hours })
+    type Made = Elements<SeveralValues<u8, 2, { names::HOUR }>>;
+
+    fn of(made: Self::Made) -> Day {
+        let Elements(SeveralValues(hours)) = made;
+        Day { hours }
     }
+
+    ghost declared = { Prim.search rules };
+
+    ghost apart = { Prim.search rules };
 }
 
 /// An empty element.
@@ -69,8 +76,9 @@ impl PutRecord for Closed {
     fn write<P: Places>(&self, _writer: &mut EventWriter<'_, '_, P>) {}
 }
 
-impl<'a> Record<'a> for Closed {
+impl Record for Closed {
     ghost use Rattle.parts_examples.specs.Declarations.{kinds};
+    ghost use Rattle.std.proofs.Common.{rules};
 
     ghost kinds = { kinds };
 
@@ -78,10 +86,15 @@ impl<'a> Record<'a> for Closed {
 
     ghost particles = { [] };
 
-    fn read<P: Places>(descent: &mut Descent<'a, '_, P>) -> Result<Closed, Refusal> {
-        first_child(descent)?;
-        Ok(Closed)
+    type Made = Elements<()>;
+
+    fn of(_made: Self::Made) -> Closed {
+        Closed
     }
+
+    ghost declared = { Prim.search rules };
+
+    ghost apart = { Prim.search rules };
 }
 
 /// What a post reports of a session.
@@ -125,15 +138,18 @@ impl PutRecord for Report<'_> {
     }
 }
 
-impl<'a> Record<'a> for Report<'a> {
+/// A report has two attributes, which no type of `message_fields` has: so it is made of itself, and tells how it is read.
+impl Contents for Report<'_> {
+    ghost use Rattle.message_parts.specs.Contents.{told_given, told_parts};
     ghost use Rattle.parts_examples.specs.Declarations.{kinds, report, report_attributes};
+    ghost use Rattle.parts_examples.specs.Parts.{report_given, report_parts};
 
-    ghost kinds = { kinds };
+    ghost stand = { λ ks attributes declared. (ks ≡ kinds) × (attributes ≡ report_attributes) × (declared ≡ report) };
 
-    ghost attributes = { report_attributes };
+    ghost told = { λ attributes declared v before. told_parts (report_parts v) (told_given (report_given v) before) };
+}
 
-    ghost particles = { report };
-
+impl<'a> ReadContents<'a> for Report<'a> {
     fn read<P: Places>(descent: &mut Descent<'a, '_, P>) -> Result<Report<'a>, Refusal> {
         let number = attribute(descent)?;
         let revision = last_attribute(descent)?;
@@ -164,6 +180,27 @@ impl<'a> Record<'a> for Report<'a> {
     }
 }
 
+impl<'a> Record for Report<'a> {
+    ghost use Rattle.parts_examples.specs.Declarations.{kinds, report, report_attributes};
+    ghost use Rattle.std.proofs.Common.{rules};
+
+    ghost kinds = { kinds };
+
+    ghost attributes = { report_attributes };
+
+    ghost particles = { report };
+
+    type Made = Report<'a>;
+
+    fn of(made: Self::Made) -> Report<'a> {
+        made
+    }
+
+    ghost declared = { Prim.search rules };
+
+    ghost apart = { Prim.search rules };
+}
+
 impl PutChoice for Report<'_> {
     ghost use Rattle.parts_examples.specs.Parts.{report_inside};
     ghost use Rattle.parts_examples.specs.declared.names.TheConstants.{REPORT};
@@ -177,13 +214,15 @@ impl PutChoice for Report<'_> {
     }
 }
 
-impl<'a> Choice<'a> for Report<'a> {
+impl Alternatives for Report<'_> {
     ghost use Rattle.parts_examples.specs.Declarations.{kinds, report_roots};
 
     ghost kinds = { kinds };
 
     ghost members = { report_roots };
+}
 
+impl<'a> Choice<'a> for Report<'a> {
     fn read_member<P: Places>(descent: &mut Descent<'a, '_, P>) -> Result<Report<'a>, Refusal> {
         member(descent)
     }

@@ -1,9 +1,7 @@
-use Rattle.std.proofs.Common.{refl, ap, subst, sym, IfOk, IfErr, true, ◌≡◌}
+use Rattle.std.proofs.Common.{subst, IfOk, IfErr}
 use Rattle.exi_schema.specs.Schemas.{PlainSchema}
 use Rattle.exi_documents.specs.Documents.{IsDocument}
 use Rattle.exi_documents.specs.Refusals.{IsRefused}
-use Rattle.message_parts.specs.Particles.{are_among}
-use Rattle.parts_examples.specs.Declarations.{report_roots}
 use Rattle.parts_examples.specs.Parts.{report_tree}
 use Rattle.parts_examples.proofs.report.read_report.Goals as goal
 
