@@ -17,9 +17,9 @@ use exi_events::{EventWriter, Value};
 use exi_schema::Places;
 use message_fields::{Elements, OptionalValue, RequiredValue};
 use message_parts::{
-    Alternatives, Choice, Contents, Descent, PutChoice, PutRecord, ReadContents, ReadSimple,
-    Record, Root, Simple, Text, first_child, member, put_optional_value, put_record, put_records,
-    put_value, records,
+    Alternatives, Choice, Contents, Descent, PutChoice, PutRecord, ReadContents, ReadRecord,
+    ReadSimple, Record, Root, Simple, Text, first_child, member, put_optional_value, put_record,
+    put_records, put_value, records, whole_record,
 };
 
 /// One protocol that a car offers.
@@ -100,6 +100,12 @@ impl<'a> Record for AppProtocol<'a> {
     ghost declared = { Prim.search rules };
 
     ghost apart = { Prim.search rules };
+}
+
+impl<'a> ReadRecord<'a> for AppProtocol<'a> {
+    fn read<P: Places>(descent: &mut Descent<'a, '_, P>) -> Result<AppProtocol<'a>, Refusal> {
+        whole_record(descent)
+    }
 }
 
 /// A car's request: what it offers, 1 to 20 protocols.

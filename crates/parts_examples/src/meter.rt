@@ -3,10 +3,13 @@
 ghost use Rattle.std.specs.Prelude.{[]};
 
 use crate::names;
+use exi_documents::Refusal;
 use exi_events::EventWriter;
 use exi_schema::Places;
 use message_fields::{Elements, OptionalValue, RequiredValue};
-use message_parts::{PutRecord, Record, put_optional_value, put_value};
+use message_parts::{
+    Descent, PutRecord, ReadRecord, Record, put_optional_value, put_value, whole_record,
+};
 
 /// What a meter reads.
 #[derive(Clone, Copy, Debug, PartialEq, Eq)]
@@ -116,4 +119,10 @@ impl Record for Meter {
     ghost declared = { Prim.search rules };
 
     ghost apart = { Prim.search rules };
+}
+
+impl<'a> ReadRecord<'a> for Meter {
+    fn read<P: Places>(descent: &mut Descent<'a, '_, P>) -> Result<Meter, Refusal> {
+        whole_record(descent)
+    }
 }

@@ -17,10 +17,11 @@ use exi_events::{EventWriter, Full, Table};
 use exi_schema::Places;
 use message_fields::{Elements, SeveralValues};
 use message_parts::{
-    Alternatives, Binary, Choice, Contents, Descent, PutChoice, PutRecord, ReadContents, Record,
-    Root, Text, attribute, choice, last_attribute, member, optional_choice, optional_value,
-    put_attribute, put_choice, put_optional_attribute, put_optional_choice, put_optional_value,
-    put_record, put_records, put_value, put_values, read, records, required, value, write,
+    Alternatives, Binary, Choice, Contents, Descent, PutChoice, PutRecord, ReadContents,
+    ReadRecord, Record, Root, Text, attribute, choice, last_attribute, member, optional_choice,
+    optional_value, put_attribute, put_choice, put_optional_attribute, put_optional_choice,
+    put_optional_value, put_record, put_records, put_value, put_values, read, records, required,
+    value, whole_record, write,
 };
 
 /// The readings of a day.
@@ -64,6 +65,12 @@ impl Record for Day {
     ghost apart = { Prim.search rules };
 }
 
+impl<'a> ReadRecord<'a> for Day {
+    fn read<P: Places>(descent: &mut Descent<'a, '_, P>) -> Result<Day, Refusal> {
+        whole_record(descent)
+    }
+}
+
 /// An empty element.
 #[derive(Clone, Copy, Debug, PartialEq, Eq)]
 pub struct Closed;
@@ -95,6 +102,12 @@ impl Record for Closed {
     ghost declared = { Prim.search rules };
 
     ghost apart = { Prim.search rules };
+}
+
+impl<'a> ReadRecord<'a> for Closed {
+    fn read<P: Places>(descent: &mut Descent<'a, '_, P>) -> Result<Closed, Refusal> {
+        whole_record(descent)
+    }
 }
 
 /// What a post reports of a session.
