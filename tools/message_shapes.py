@@ -39,8 +39,7 @@ class Element:
         return f"put_{what}s" if self.most else f"put_{what}"
 
     def read(self):
-        if self.form == "attribute":
-            return "last_attribute" if self.optional else "attribute"
+        """The function that reads it as a member, or as a child of a large type."""
         if self.form == "choice":
             return ("optional_choice_here" if self.large else "optional_choice") if self.optional else "choice"
         if self.form == "member":

@@ -18,10 +18,11 @@ from message_shapes import Types, in_groups
 from message_specs import definitions
 
 WORDS = [
-    "Alternatives", "Binary", "Choice", "Descent", "Group", "LargeChoice", "LargeGroup", "LargeRecord", "PutChoice", "PutRecord", "ReadRecord", "ReadSimple", "Record", "Text", "Three", "attribute", "choice",
-    "first_child", "last_attribute", "left_out", "member", "member_value", "optional", "optional_choice", "optional_choice_here",
-    "optional_value", "put_attribute", "put_choice", "put_optional", "put_optional_attribute", "put_optional_choice", "put_optional_value",
-    "put_record", "put_records", "put_value", "put_values", "records", "required", "required_here", "value", "values", "whole_record",
+    "Alternatives", "Binary", "Choice", "Descent", "Group", "LargeChoice", "LargeGroup", "LargeRecord", "PutChoice", "PutRecord", "ReadRecord",
+    "ReadSimple", "Record", "Text", "Three", "attribute", "choice", "first_child", "last_attribute", "left_out", "member", "member_value",
+    "optional", "optional_choice", "optional_choice_here", "optional_value", "put_attribute", "put_choice", "put_optional",
+    "put_optional_attribute", "put_optional_choice", "put_optional_value", "put_record", "put_records", "put_value", "put_values", "records",
+    "required", "required_here", "value", "values", "whole_record",
 ]
 CHILDREN = [
     "AtMostOneOf", "Elements", "LeftOut", "OneOf", "Optional", "OptionalValue", "Required", "RequiredValue", "Several", "SeveralValues", "WithAttribute",
