@@ -11,34 +11,45 @@ use message_trees::{MessageDialect, scan_text};
 use std::alloc::Global;
 use std::test::*;
 
-/// A response with three schedules of so many entries, whose starts and powers count from 1.
-fn response(alloc: Global, entries: u32) -> Result<String, Fail> {
-    let mut text = String::from_str(
-        alloc,
-        "V2G_Message{Header{SessionID=00} Body{ChargeParameterDiscoveryRes{ResponseCode=OK EVSEProcessing=Finished SAScheduleList{",
-    )?;
-    for tuple in 1..4 {
-        write!(
-            text,
-            "{}SAScheduleTuple{{SAScheduleTupleID={tuple} PMaxSchedule{{",
-            if tuple > 1 { " " } else { "" }
-        )?;
-        for entry in 0..entries {
-            write!(
-                text,
-                "{}PMaxScheduleEntry{{RelativeTimeInterval{{start={entry}}} ",
-                if entry > 0 { " " } else { "" }
-            )?;
-            write!(text, "PMax{{Multiplier=0 Unit=W Value={entry}}}}}")?;
-        }
+/// The text of so many entries, whose starts and powers count from 0.
+fn put_entries(text: &mut String, entries: u32) -> Result<(), Fail> {
+    for entry in 0..entries {
+        text.push_str(if entry > 0 { " " } else { "" })?;
+        text.push_str("PMaxScheduleEntry{RelativeTimeInterval{start=")?;
+        write!(text, "{entry}")?;
+        text.push_str("} PMax{Multiplier=0 Unit=W Value=")?;
+        write!(text, "{entry}")?;
         text.push_str("}}")?;
     }
-    text.push_str(
-        "} AC_EVSEChargeParameter{AC_EVSEStatus{NotificationMaxDelay=0 EVSENotification=None RCD=false} ",
-    )?;
-    text.push_str(
-        "EVSENominalVoltage{Multiplier=0 Unit=V Value=230} EVSEMaxCurrent{Multiplier=0 Unit=A Value=16}}}}}",
-    )?;
+    Ok(())
+}
+
+/// The text of three schedules of so many entries.
+fn put_schedules(text: &mut String, entries: u32) -> Result<(), Fail> {
+    for tuple in 1..4 {
+        let between = if tuple > 1 { " " } else { "" };
+        write!(
+            text,
+            "{between}SAScheduleTuple{{SAScheduleTupleID={tuple} PMaxSchedule{{"
+        )?;
+        put_entries(text, entries)?;
+        text.push_str("}}")?;
+    }
+    Ok(())
+}
+
+/// What stands before the schedules of a response, and behind them.
+const BEFORE: &'static str =
+    "V2G_Message{Header{SessionID=00} Body{ChargeParameterDiscoveryRes{ResponseCode=OK EVSEProcessing=Finished SAScheduleList{";
+
+const BEHIND: &'static str =
+    "} AC_EVSEChargeParameter{AC_EVSEStatus{NotificationMaxDelay=0 EVSENotification=None RCD=false} EVSENominalVoltage{Multiplier=0 Unit=V Value=230} EVSEMaxCurrent{Multiplier=0 Unit=A Value=16}}}}}";
+
+/// A response with three schedules of so many entries.
+fn response(alloc: Global, entries: u32) -> Result<String, Fail> {
+    let mut text = String::from_str(alloc, BEFORE)?;
+    put_schedules(&mut text, entries)?;
+    text.push_str(BEHIND)?;
     Ok(text)
 }
 

@@ -1,6 +1,6 @@
 //! A session is set up (ISO 15118-2:2014, 8.4.3.2).
 
-ghost use Rattle.std.specs.Prelude.{◌≡◌, length};
+ghost use Rattle.std.specs.Prelude.{◌≡◌, ◌≤◌, length};
 ghost use Rattle.exi_documents.specs.Values.{most_entries};
 ghost use Rattle.iso_codec.specs.Documents.{IsIso};
 
@@ -17,14 +17,10 @@ pub(crate) const SETUP: [u8; 21] = [
 ];
 
 /// Whether a Binary is these bytes.
-fn is_bytes(binary: &Binary<'_>, bytes: &[u8]) -> bool {
-    let mut contents = binary.span().contents();
-    for byte in bytes {
-        if contents.next() != Some(u32::from(*byte)) {
-            return false;
-        }
-    }
-    contents.next().is_none()
+fn is_bytes(binary: &Binary<'_>, bytes: &[u8]) -> bool
+    requires { length bytes.now ≤ 65536 }
+{
+    binary.span().same(Binary::of_bytes(bytes).span())
 }
 
 /// A message is what the session setup spells: it is written as its bytes, and into no room that is shorter.
