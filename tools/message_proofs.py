@@ -27,14 +27,13 @@ def put_record(t, kind):
 
 def read_large_record(t, kind):
     """The fields are set where they stand: what is read has no name of its own."""
-    low, last = t.declared(kind), "h"
+    low = t.declared(kind)
     lines = [f"    let at_first = c.in_ok-first_child.ensures.read kinds F [] {low} _ h in"]
     fields = t.fields(kind)
     calls = numbered(it.read() if it.large else "self" for it in fields)
     last = "at_first"
     for n, (it, call) in enumerate(zip(fields, calls)):
-        kinds = "kinds " if it.simple else ""
-        fact = f"c.in_ok-{call}.ensures.read {kinds}F [] {low} {it.at} _ {last} refl refl" + (" refl" if it.is_asked() else "")
+        fact = f"c.in_ok-{call}.ensures.read F [] {low} {it.at} _ {last} refl refl"
         last = f"at_{it.field}"
         lines.append(f"    let {last} = {fact} in" if n < len(fields) - 1 else f"    {fact}")
     return answer("clause-read", "told", lines)

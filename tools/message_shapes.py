@@ -40,22 +40,16 @@ class Element:
 
     def read(self):
         """The function that reads it as a member, or as a child of a large type."""
-        if self.form == "choice":
-            return ("optional_choice_here" if self.large else "optional_choice") if self.optional else "choice"
         if self.form == "member":
             return "member_value" if self.simple else "member"
-        if self.most:
-            return "values" if self.simple else "records"
-        if self.large:
-            return "required_here"
-        return ("optional_value" if self.optional else "value") if self.simple else "optional" if self.optional else "required"
+        if self.form == "choice":
+            return "optional_choice_here"
+        return "required_here" if self.large else "required"
 
     def single(self):
         """What it is among the children of which its type is made."""
         if self.form == "choice":
             return "AtMostOneOf" if self.optional else "OneOf"
-        if self.form == "out":
-            return "LeftOut"
         return ("Several" if self.most else "Optional" if self.optional else "Required") + ("Values" * self.simple if self.most else "Value" * self.simple)
 
     def child(self):
@@ -241,7 +235,7 @@ class Types:
     def is_three(self, kind):
         """Whether it is a sequence of three values, which are read at once."""
         fields = self.fields(kind)
-        return len(fields) == 3 and kind not in self.large and all(it.form == "value" and it.read() == "value" for it in fields)
+        return len(fields) == 3 and kind not in self.large and all(it.form == "value" and it.simple and not it.is_asked() for it in fields)
 
     def is_held(self, kind):
         """Whether it is a child of another struct, and not only of a group or choice."""

@@ -19,10 +19,9 @@ from message_specs import definitions
 
 WORDS = [
     "Alternatives", "Binary", "Choice", "Descent", "Group", "LargeChoice", "LargeGroup", "LargeRecord", "PutChoice", "PutRecord", "ReadRecord",
-    "ReadSimple", "Record", "Text", "Three", "attribute", "choice", "first_child", "last_attribute", "left_out", "member", "member_value",
-    "optional", "optional_choice", "optional_choice_here", "optional_value", "put_attribute", "put_choice", "put_optional",
-    "put_optional_attribute", "put_optional_choice", "put_optional_value", "put_record", "put_records", "put_value", "put_values", "records",
-    "required", "required_here", "value", "values", "whole_record",
+    "ReadSimple", "Record", "Text", "Three", "first_child", "member", "member_value", "optional_choice_here", "put_attribute", "put_choice",
+    "put_optional", "put_optional_attribute", "put_optional_choice", "put_optional_value", "put_record", "put_records", "put_value",
+    "put_values", "required", "required_here", "whole_record",
 ]
 CHILDREN = [
     "AtMostOneOf", "Elements", "LeftOut", "OneOf", "Optional", "OptionalValue", "Required", "RequiredValue", "Several", "SeveralValues", "WithAttribute",
@@ -90,13 +89,14 @@ def read_here(it):
 
 
 def tuple_of(words):
-    """These as one tuple, or as a tuple of such of at most four each."""
+    """These, at most sixteen, as one tuple, or as a tuple of such of at most four each."""
     if len(words) > 4:
         return f"({', '.join(tuple_of(it) for it in in_groups(words))})"
     return words[0] if len(words) == 1 else f"({', '.join(words)})"
 
 
 def holder(attributes):
+    """What holds the children, with the attribute if there is one: at most one."""
     return "Elements" if not attributes else "WithOptionalAttribute" if attributes[0].optional else "WithAttribute"
 
 
@@ -152,7 +152,7 @@ def large_record(t, kind):
 
 def struct(t, crate, file, kind):
     name, low, lent, kept = t.camel(kind), t.lower(kind), t.lent(kind), [it for it in t.fields(kind) if it.form != "out"]
-    members = "".join(("".join(f"    /// {it.bound}.\n" if it.bound else "")) + f"    pub {it.field}: {it.type},\n" for it in kept)
+    members = "".join((f"    /// {it.bound}.\n" if it.bound else "") + f"    pub {it.field}: {it.type},\n" for it in kept)
     body = f" {{\n{members}}}" if kept else ";"
     attributes = any(it.form == "attribute" for it in kept)
     puts = "".join(f"        {put(it)}\n" for it in kept)
@@ -392,7 +392,7 @@ use message_parts::{{ReadSimple, Simple}};
     lines += ["use exi_events::EventWriter;", "use exi_schema::Places;"]
     lines += [f"use {t.s.crate}::names;"] if "names::" in said else []
     lines += ["use arrayvec::ArrayVec;"] if "ArrayVec" in said else []
-    words = [it for it in WORDS if re.search(rf"(?<![\w:.]){it}(?=[(<]| for)" if it[0].islower() else rf"(?<![\w:]){it}\b", said)]
+    words = [it for it in WORDS if re.search(rf"(?<![\w:.]){it}(?=\()" if it[0].islower() else rf"(?<![\w:]){it}\b", said)]
     lines += [f"use message_parts::{{{', '.join(words)}}};"]
     words = [it for it in CHILDREN if re.search(rf"(?<![\w:]){it}\b", said)]
     lines += [f"use message_fields::{{{', '.join(words)}}};"] if words else []
