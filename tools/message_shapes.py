@@ -237,10 +237,6 @@ class Types:
         fields = self.fields(kind)
         return len(fields) == 3 and kind not in self.large and all(it.form == "value" and it.simple and not it.is_asked() for it in fields)
 
-    def is_held(self, kind):
-        """Whether it is a child of another struct, and not only of a group or choice."""
-        return any(it.form == "value" and it.kind == kind for of in self.s.content for it in self.fields(of))
-
     def with_defaults(self):
         """The types that stand in lists or are large, with what they hold: room for them has to be filled with some value."""
         found, left = set(), [it.kind for kind in self.places for it in (self.inner(kind) if kind not in self.choices else []) if it.most]

@@ -130,7 +130,7 @@ def record(t, kind, lent):
 
 
 def read_record(t, kind, lent):
-    """A struct that others hold is read by a function of its own."""
+    """A struct is read by a function of its own."""
     name = t.camel(kind) + lifetime(lent)
     return f"""
 impl<'a> ReadRecord<'a> for {name} {{
@@ -138,7 +138,7 @@ impl<'a> ReadRecord<'a> for {name} {{
         whole_record(descent)
     }}
 }}
-""" if t.is_held(kind) and kind not in t.large else ""
+""" if kind not in t.large else ""
 
 
 def large_record(t, kind):

@@ -160,6 +160,12 @@ impl<'a> Record for AppReq<'a> {
     ghost apart = { Prim.search rules };
 }
 
+impl<'a> ReadRecord<'a> for AppReq<'a> {
+    fn read<P: Places>(descent: &mut Descent<'a, '_, P>) -> Result<AppReq<'a>, Refusal> {
+        whole_record(descent)
+    }
+}
+
 /// The response code.
 #[derive(Clone, Copy, Debug, PartialEq, Eq, Drop)]
 pub enum AppCode {
@@ -232,6 +238,12 @@ impl Record for AppRes {
     ghost declared = { Prim.search rules };
 
     ghost apart = { Prim.search rules };
+}
+
+impl<'a> ReadRecord<'a> for AppRes {
+    fn read<P: Places>(descent: &mut Descent<'a, '_, P>) -> Result<AppRes, Refusal> {
+        whole_record(descent)
+    }
 }
 
 /// A message of the negotiation.

@@ -4,10 +4,14 @@ ghost use Rattle.std.specs.Prelude.{[]};
 
 use din_parts::{DcEvStatus, DcEvseStatus, EvseProcessing, PhysicalValue, ResponseCode};
 use din_schema::names;
+use exi_documents::Refusal;
 use exi_events::EventWriter;
 use exi_schema::Places;
 use message_fields::{Elements, Optional, OptionalValue, Required, RequiredValue};
-use message_parts::{PutRecord, Record, put_optional, put_optional_value, put_record, put_value};
+use message_parts::{
+    Descent, PutRecord, ReadRecord, Record, put_optional, put_optional_value, put_record,
+    put_value, whole_record,
+};
 
 /// CableCheckReq.
 #[derive(Clone, Copy, Debug, PartialEq, Eq)]
@@ -48,6 +52,12 @@ impl Record for CableCheckReq {
     ghost declared = { Prim.search rules };
 
     ghost apart = { Prim.search rules };
+}
+
+impl<'a> ReadRecord<'a> for CableCheckReq {
+    fn read<P: Places>(descent: &mut Descent<'a, '_, P>) -> Result<CableCheckReq, Refusal> {
+        whole_record(descent)
+    }
 }
 
 /// CableCheckRes.
@@ -111,6 +121,12 @@ impl Record for CableCheckRes {
     ghost apart = { Prim.search rules };
 }
 
+impl<'a> ReadRecord<'a> for CableCheckRes {
+    fn read<P: Places>(descent: &mut Descent<'a, '_, P>) -> Result<CableCheckRes, Refusal> {
+        whole_record(descent)
+    }
+}
+
 /// PreChargeReq.
 #[derive(Clone, Copy, Debug, PartialEq, Eq)]
 pub struct PreChargeReq {
@@ -166,6 +182,12 @@ impl Record for PreChargeReq {
     ghost declared = { Prim.search rules };
 
     ghost apart = { Prim.search rules };
+}
+
+impl<'a> ReadRecord<'a> for PreChargeReq {
+    fn read<P: Places>(descent: &mut Descent<'a, '_, P>) -> Result<PreChargeReq, Refusal> {
+        whole_record(descent)
+    }
 }
 
 /// PreChargeRes.
@@ -231,6 +253,12 @@ impl Record for PreChargeRes {
     ghost declared = { Prim.search rules };
 
     ghost apart = { Prim.search rules };
+}
+
+impl<'a> ReadRecord<'a> for PreChargeRes {
+    fn read<P: Places>(descent: &mut Descent<'a, '_, P>) -> Result<PreChargeRes, Refusal> {
+        whole_record(descent)
+    }
 }
 
 /// CurrentDemandReq.
@@ -363,6 +391,12 @@ impl Record for CurrentDemandReq {
     ghost declared = { Prim.search rules };
 
     ghost apart = { Prim.search rules };
+}
+
+impl<'a> ReadRecord<'a> for CurrentDemandReq {
+    fn read<P: Places>(descent: &mut Descent<'a, '_, P>) -> Result<CurrentDemandReq, Refusal> {
+        whole_record(descent)
+    }
 }
 
 /// CurrentDemandRes.
@@ -505,6 +539,12 @@ impl Record for CurrentDemandRes {
     ghost apart = { Prim.search rules };
 }
 
+impl<'a> ReadRecord<'a> for CurrentDemandRes {
+    fn read<P: Places>(descent: &mut Descent<'a, '_, P>) -> Result<CurrentDemandRes, Refusal> {
+        whole_record(descent)
+    }
+}
+
 /// WeldingDetectionReq.
 #[derive(Clone, Copy, Debug, PartialEq, Eq)]
 pub struct WeldingDetectionReq {
@@ -544,6 +584,12 @@ impl Record for WeldingDetectionReq {
     ghost declared = { Prim.search rules };
 
     ghost apart = { Prim.search rules };
+}
+
+impl<'a> ReadRecord<'a> for WeldingDetectionReq {
+    fn read<P: Places>(descent: &mut Descent<'a, '_, P>) -> Result<WeldingDetectionReq, Refusal> {
+        whole_record(descent)
+    }
 }
 
 /// WeldingDetectionRes.
@@ -609,4 +655,10 @@ impl Record for WeldingDetectionRes {
     ghost declared = { Prim.search rules };
 
     ghost apart = { Prim.search rules };
+}
+
+impl<'a> ReadRecord<'a> for WeldingDetectionRes {
+    fn read<P: Places>(descent: &mut Descent<'a, '_, P>) -> Result<WeldingDetectionRes, Refusal> {
+        whole_record(descent)
+    }
 }

@@ -209,6 +209,14 @@ impl Record for DcEvPowerDeliveryParameter {
     ghost apart = { Prim.search rules };
 }
 
+impl<'a> ReadRecord<'a> for DcEvPowerDeliveryParameter {
+    fn read<P: Places>(
+        descent: &mut Descent<'a, '_, P>,
+    ) -> Result<DcEvPowerDeliveryParameter, Refusal> {
+        whole_record(descent)
+    }
+}
+
 /// One element of the substitution group EVPowerDeliveryParameter.
 #[derive(Clone, Copy, Debug, PartialEq, Eq)]
 pub enum EvPowerDeliveryParameter {
@@ -321,6 +329,12 @@ impl Record for PowerDeliveryReq {
     ghost apart = { Prim.search rules };
 }
 
+impl<'a> ReadRecord<'a> for PowerDeliveryReq {
+    fn read<P: Places>(descent: &mut Descent<'a, '_, P>) -> Result<PowerDeliveryReq, Refusal> {
+        whole_record(descent)
+    }
+}
+
 /// PowerDeliveryRes.
 #[derive(Clone, Copy, Debug, PartialEq, Eq)]
 pub struct PowerDeliveryRes {
@@ -365,4 +379,10 @@ impl Record for PowerDeliveryRes {
     ghost declared = { Prim.search rules };
 
     ghost apart = { Prim.search rules };
+}
+
+impl<'a> ReadRecord<'a> for PowerDeliveryRes {
+    fn read<P: Places>(descent: &mut Descent<'a, '_, P>) -> Result<PowerDeliveryRes, Refusal> {
+        whole_record(descent)
+    }
 }

@@ -6,10 +6,14 @@ use crate::limits::{EvChargeParameter, EvseChargeParameter};
 use crate::schedules::SaSchedules;
 use din_parts::{EnergyTransferMode, EvseProcessing, ResponseCode};
 use din_schema::names;
+use exi_documents::Refusal;
 use exi_events::EventWriter;
 use exi_schema::Places;
 use message_fields::{AtMostOneOf, Elements, OneOf, RequiredValue};
-use message_parts::{PutRecord, Record, put_choice, put_optional_choice, put_value};
+use message_parts::{
+    Descent, PutRecord, ReadRecord, Record, put_choice, put_optional_choice, put_value,
+    whole_record,
+};
 
 /// ChargeParameterDiscoveryReq.
 #[derive(Clone, Copy, Debug, PartialEq, Eq)]
@@ -61,6 +65,14 @@ impl Record for ChargeParameterDiscoveryReq {
     ghost declared = { Prim.search rules };
 
     ghost apart = { Prim.search rules };
+}
+
+impl<'a> ReadRecord<'a> for ChargeParameterDiscoveryReq {
+    fn read<P: Places>(
+        descent: &mut Descent<'a, '_, P>,
+    ) -> Result<ChargeParameterDiscoveryReq, Refusal> {
+        whole_record(descent)
+    }
 }
 
 /// ChargeParameterDiscoveryRes.
@@ -127,4 +139,12 @@ impl Record for ChargeParameterDiscoveryRes {
     ghost declared = { Prim.search rules };
 
     ghost apart = { Prim.search rules };
+}
+
+impl<'a> ReadRecord<'a> for ChargeParameterDiscoveryRes {
+    fn read<P: Places>(
+        descent: &mut Descent<'a, '_, P>,
+    ) -> Result<ChargeParameterDiscoveryRes, Refusal> {
+        whole_record(descent)
+    }
 }

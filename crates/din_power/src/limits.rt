@@ -9,8 +9,8 @@ use exi_events::EventWriter;
 use exi_schema::Places;
 use message_fields::{Elements, Optional, OptionalValue, Required};
 use message_parts::{
-    Alternatives, Choice, Descent, PutChoice, PutRecord, Record, member, put_optional,
-    put_optional_value, put_record,
+    Alternatives, Choice, Descent, PutChoice, PutRecord, ReadRecord, Record, member, put_optional,
+    put_optional_value, put_record, whole_record,
 };
 
 /// DC_EVChargeParameter.
@@ -119,6 +119,12 @@ impl Record for DcEvChargeParameter {
     ghost declared = { Prim.search rules };
 
     ghost apart = { Prim.search rules };
+}
+
+impl<'a> ReadRecord<'a> for DcEvChargeParameter {
+    fn read<P: Places>(descent: &mut Descent<'a, '_, P>) -> Result<DcEvChargeParameter, Refusal> {
+        whole_record(descent)
+    }
 }
 
 /// One element of the substitution group EVChargeParameter.
@@ -291,6 +297,12 @@ impl Record for DcEvseChargeParameter {
     ghost declared = { Prim.search rules };
 
     ghost apart = { Prim.search rules };
+}
+
+impl<'a> ReadRecord<'a> for DcEvseChargeParameter {
+    fn read<P: Places>(descent: &mut Descent<'a, '_, P>) -> Result<DcEvseChargeParameter, Refusal> {
+        whole_record(descent)
+    }
 }
 
 /// One element of the substitution group EVSEChargeParameter.

@@ -56,6 +56,12 @@ impl Record for RelativeTimeInterval {
     ghost apart = { Prim.search rules };
 }
 
+impl<'a> ReadRecord<'a> for RelativeTimeInterval {
+    fn read<P: Places>(descent: &mut Descent<'a, '_, P>) -> Result<RelativeTimeInterval, Refusal> {
+        whole_record(descent)
+    }
+}
+
 /// One element of the substitution group TimeInterval.
 #[derive(Clone, Copy, Debug, PartialEq, Eq)]
 pub enum TimeInterval {
@@ -312,6 +318,12 @@ impl Record for SaScheduleList {
     ghost declared = { Prim.search rules };
 
     ghost apart = { Prim.search rules };
+}
+
+impl<'a> ReadRecord<'a> for SaScheduleList {
+    fn read<P: Places>(descent: &mut Descent<'a, '_, P>) -> Result<SaScheduleList, Refusal> {
+        whole_record(descent)
+    }
 }
 
 /// One element of the substitution group SASchedules.

@@ -174,6 +174,14 @@ impl Record for ServicePaymentSelectionReq {
     ghost apart = { Prim.search rules };
 }
 
+impl<'a> ReadRecord<'a> for ServicePaymentSelectionReq {
+    fn read<P: Places>(
+        descent: &mut Descent<'a, '_, P>,
+    ) -> Result<ServicePaymentSelectionReq, Refusal> {
+        whole_record(descent)
+    }
+}
+
 /// ServicePaymentSelectionRes.
 #[derive(Clone, Copy, Debug, PartialEq, Eq)]
 pub struct ServicePaymentSelectionRes {
@@ -213,4 +221,12 @@ impl Record for ServicePaymentSelectionRes {
     ghost declared = { Prim.search rules };
 
     ghost apart = { Prim.search rules };
+}
+
+impl<'a> ReadRecord<'a> for ServicePaymentSelectionRes {
+    fn read<P: Places>(
+        descent: &mut Descent<'a, '_, P>,
+    ) -> Result<ServicePaymentSelectionRes, Refusal> {
+        whole_record(descent)
+    }
 }

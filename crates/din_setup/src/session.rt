@@ -4,11 +4,13 @@ ghost use Rattle.std.specs.Prelude.{[]};
 
 use din_parts::{EvseProcessing, ResponseCode};
 use din_schema::names;
+use exi_documents::Refusal;
 use exi_events::EventWriter;
 use exi_schema::Places;
 use message_fields::{Elements, OptionalValue, RequiredValue, WithOptionalAttribute};
 use message_parts::{
-    Binary, PutRecord, Record, Text, put_optional_attribute, put_optional_value, put_value,
+    Binary, Descent, PutRecord, ReadRecord, Record, Text, put_optional_attribute,
+    put_optional_value, put_value, whole_record,
 };
 
 /// SessionSetupReq.
@@ -51,6 +53,12 @@ impl<'a> Record for SessionSetupReq<'a> {
     ghost declared = { Prim.search rules };
 
     ghost apart = { Prim.search rules };
+}
+
+impl<'a> ReadRecord<'a> for SessionSetupReq<'a> {
+    fn read<P: Places>(descent: &mut Descent<'a, '_, P>) -> Result<SessionSetupReq<'a>, Refusal> {
+        whole_record(descent)
+    }
 }
 
 /// SessionSetupRes.
@@ -111,6 +119,12 @@ impl<'a> Record for SessionSetupRes<'a> {
     ghost apart = { Prim.search rules };
 }
 
+impl<'a> ReadRecord<'a> for SessionSetupRes<'a> {
+    fn read<P: Places>(descent: &mut Descent<'a, '_, P>) -> Result<SessionSetupRes<'a>, Refusal> {
+        whole_record(descent)
+    }
+}
+
 /// ContractAuthenticationReq.
 #[derive(Drop)]
 pub struct ContractAuthenticationReq<'a> {
@@ -155,6 +169,14 @@ impl<'a> Record for ContractAuthenticationReq<'a> {
     ghost declared = { Prim.search rules };
 
     ghost apart = { Prim.search rules };
+}
+
+impl<'a> ReadRecord<'a> for ContractAuthenticationReq<'a> {
+    fn read<P: Places>(
+        descent: &mut Descent<'a, '_, P>,
+    ) -> Result<ContractAuthenticationReq<'a>, Refusal> {
+        whole_record(descent)
+    }
 }
 
 /// ContractAuthenticationRes.
@@ -203,6 +225,14 @@ impl Record for ContractAuthenticationRes {
     ghost apart = { Prim.search rules };
 }
 
+impl<'a> ReadRecord<'a> for ContractAuthenticationRes {
+    fn read<P: Places>(
+        descent: &mut Descent<'a, '_, P>,
+    ) -> Result<ContractAuthenticationRes, Refusal> {
+        whole_record(descent)
+    }
+}
+
 /// SessionStopReq.
 #[derive(Clone, Copy, Debug, PartialEq, Eq)]
 pub struct SessionStopReq;
@@ -234,6 +264,12 @@ impl Record for SessionStopReq {
     ghost declared = { Prim.search rules };
 
     ghost apart = { Prim.search rules };
+}
+
+impl<'a> ReadRecord<'a> for SessionStopReq {
+    fn read<P: Places>(descent: &mut Descent<'a, '_, P>) -> Result<SessionStopReq, Refusal> {
+        whole_record(descent)
+    }
 }
 
 /// SessionStopRes.
@@ -275,4 +311,10 @@ impl Record for SessionStopRes {
     ghost declared = { Prim.search rules };
 
     ghost apart = { Prim.search rules };
+}
+
+impl<'a> ReadRecord<'a> for SessionStopRes {
+    fn read<P: Places>(descent: &mut Descent<'a, '_, P>) -> Result<SessionStopRes, Refusal> {
+        whole_record(descent)
+    }
 }

@@ -4,13 +4,15 @@ ghost use Rattle.std.specs.Prelude.{[]};
 
 use crate::limits::{EvChargeParameter, EvseChargeParameter};
 use crate::schedules::SaSchedules;
+use exi_documents::Refusal;
 use exi_events::EventWriter;
 use exi_schema::Places;
 use iso_parts::{EnergyTransferMode, EvseProcessing, ResponseCode};
 use iso_schema::names;
 use message_fields::{AtMostOneOf, Elements, OneOf, OptionalValue, RequiredValue};
 use message_parts::{
-    PutRecord, Record, put_choice, put_optional_choice, put_optional_value, put_value,
+    Descent, PutRecord, ReadRecord, Record, put_choice, put_optional_choice, put_optional_value,
+    put_value, whole_record,
 };
 
 /// ChargeParameterDiscoveryReq.
@@ -82,6 +84,14 @@ impl Record for ChargeParameterDiscoveryReq {
     ghost apart = { Prim.search rules };
 }
 
+impl<'a> ReadRecord<'a> for ChargeParameterDiscoveryReq {
+    fn read<P: Places>(
+        descent: &mut Descent<'a, '_, P>,
+    ) -> Result<ChargeParameterDiscoveryReq, Refusal> {
+        whole_record(descent)
+    }
+}
+
 /// ChargeParameterDiscoveryRes.
 #[derive(Drop)]
 pub struct ChargeParameterDiscoveryRes {
@@ -146,4 +156,12 @@ impl Record for ChargeParameterDiscoveryRes {
     ghost declared = { Prim.search rules };
 
     ghost apart = { Prim.search rules };
+}
+
+impl<'a> ReadRecord<'a> for ChargeParameterDiscoveryRes {
+    fn read<P: Places>(
+        descent: &mut Descent<'a, '_, P>,
+    ) -> Result<ChargeParameterDiscoveryRes, Refusal> {
+        whole_record(descent)
+    }
 }

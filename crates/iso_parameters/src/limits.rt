@@ -9,8 +9,8 @@ use iso_parts::{AcEvseStatus, DcEvStatus, DcEvseStatus, PhysicalValue};
 use iso_schema::names;
 use message_fields::{Elements, Optional, OptionalValue, Required};
 use message_parts::{
-    Alternatives, Choice, Descent, PutChoice, PutRecord, Record, member, put_optional,
-    put_optional_value, put_record,
+    Alternatives, Choice, Descent, PutChoice, PutRecord, ReadRecord, Record, member, put_optional,
+    put_optional_value, put_record, whole_record,
 };
 
 /// AC_EVChargeParameter.
@@ -80,6 +80,12 @@ impl Record for AcEvChargeParameter {
     ghost declared = { Prim.search rules };
 
     ghost apart = { Prim.search rules };
+}
+
+impl<'a> ReadRecord<'a> for AcEvChargeParameter {
+    fn read<P: Places>(descent: &mut Descent<'a, '_, P>) -> Result<AcEvChargeParameter, Refusal> {
+        whole_record(descent)
+    }
 }
 
 /// DC_EVChargeParameter.
@@ -195,6 +201,12 @@ impl Record for DcEvChargeParameter {
     ghost apart = { Prim.search rules };
 }
 
+impl<'a> ReadRecord<'a> for DcEvChargeParameter {
+    fn read<P: Places>(descent: &mut Descent<'a, '_, P>) -> Result<DcEvChargeParameter, Refusal> {
+        whole_record(descent)
+    }
+}
+
 /// One element of the substitution group EVChargeParameter.
 #[derive(Clone, Copy, Debug, PartialEq, Eq)]
 pub enum EvChargeParameter {
@@ -297,6 +309,12 @@ impl Record for AcEvseChargeParameter {
     ghost declared = { Prim.search rules };
 
     ghost apart = { Prim.search rules };
+}
+
+impl<'a> ReadRecord<'a> for AcEvseChargeParameter {
+    fn read<P: Places>(descent: &mut Descent<'a, '_, P>) -> Result<AcEvseChargeParameter, Refusal> {
+        whole_record(descent)
+    }
 }
 
 /// DC_EVSEChargeParameter.
@@ -432,6 +450,12 @@ impl Record for DcEvseChargeParameter {
     ghost declared = { Prim.search rules };
 
     ghost apart = { Prim.search rules };
+}
+
+impl<'a> ReadRecord<'a> for DcEvseChargeParameter {
+    fn read<P: Places>(descent: &mut Descent<'a, '_, P>) -> Result<DcEvseChargeParameter, Refusal> {
+        whole_record(descent)
+    }
 }
 
 /// One element of the substitution group EVSEChargeParameter.

@@ -2,13 +2,15 @@
 
 ghost use Rattle.std.specs.Prelude.{[]};
 
+use exi_documents::Refusal;
 use exi_events::EventWriter;
 use exi_schema::Places;
 use iso_parts::{DcEvStatus, DcEvseStatus, EvseProcessing, MeterInfo, PhysicalValue, ResponseCode};
 use iso_schema::names;
 use message_fields::{Elements, Optional, OptionalValue, Required, RequiredValue};
 use message_parts::{
-    PutRecord, Record, Text, put_optional, put_optional_value, put_record, put_value,
+    Descent, PutRecord, ReadRecord, Record, Text, put_optional, put_optional_value, put_record,
+    put_value, whole_record,
 };
 
 /// CableCheckReq.
@@ -50,6 +52,12 @@ impl Record for CableCheckReq {
     ghost declared = { Prim.search rules };
 
     ghost apart = { Prim.search rules };
+}
+
+impl<'a> ReadRecord<'a> for CableCheckReq {
+    fn read<P: Places>(descent: &mut Descent<'a, '_, P>) -> Result<CableCheckReq, Refusal> {
+        whole_record(descent)
+    }
 }
 
 /// CableCheckRes.
@@ -113,6 +121,12 @@ impl Record for CableCheckRes {
     ghost apart = { Prim.search rules };
 }
 
+impl<'a> ReadRecord<'a> for CableCheckRes {
+    fn read<P: Places>(descent: &mut Descent<'a, '_, P>) -> Result<CableCheckRes, Refusal> {
+        whole_record(descent)
+    }
+}
+
 /// PreChargeReq.
 #[derive(Clone, Copy, Debug, PartialEq, Eq)]
 pub struct PreChargeReq {
@@ -168,6 +182,12 @@ impl Record for PreChargeReq {
     ghost declared = { Prim.search rules };
 
     ghost apart = { Prim.search rules };
+}
+
+impl<'a> ReadRecord<'a> for PreChargeReq {
+    fn read<P: Places>(descent: &mut Descent<'a, '_, P>) -> Result<PreChargeReq, Refusal> {
+        whole_record(descent)
+    }
 }
 
 /// PreChargeRes.
@@ -233,6 +253,12 @@ impl Record for PreChargeRes {
     ghost declared = { Prim.search rules };
 
     ghost apart = { Prim.search rules };
+}
+
+impl<'a> ReadRecord<'a> for PreChargeRes {
+    fn read<P: Places>(descent: &mut Descent<'a, '_, P>) -> Result<PreChargeRes, Refusal> {
+        whole_record(descent)
+    }
 }
 
 /// CurrentDemandReq.
@@ -365,6 +391,12 @@ impl Record for CurrentDemandReq {
     ghost declared = { Prim.search rules };
 
     ghost apart = { Prim.search rules };
+}
+
+impl<'a> ReadRecord<'a> for CurrentDemandReq {
+    fn read<P: Places>(descent: &mut Descent<'a, '_, P>) -> Result<CurrentDemandReq, Refusal> {
+        whole_record(descent)
+    }
 }
 
 /// CurrentDemandRes.
@@ -537,6 +569,12 @@ impl<'a> Record for CurrentDemandRes<'a> {
     ghost apart = { Prim.search rules };
 }
 
+impl<'a> ReadRecord<'a> for CurrentDemandRes<'a> {
+    fn read<P: Places>(descent: &mut Descent<'a, '_, P>) -> Result<CurrentDemandRes<'a>, Refusal> {
+        whole_record(descent)
+    }
+}
+
 /// WeldingDetectionReq.
 #[derive(Clone, Copy, Debug, PartialEq, Eq)]
 pub struct WeldingDetectionReq {
@@ -576,6 +614,12 @@ impl Record for WeldingDetectionReq {
     ghost declared = { Prim.search rules };
 
     ghost apart = { Prim.search rules };
+}
+
+impl<'a> ReadRecord<'a> for WeldingDetectionReq {
+    fn read<P: Places>(descent: &mut Descent<'a, '_, P>) -> Result<WeldingDetectionReq, Refusal> {
+        whole_record(descent)
+    }
 }
 
 /// WeldingDetectionRes.
@@ -641,4 +685,10 @@ impl Record for WeldingDetectionRes {
     ghost declared = { Prim.search rules };
 
     ghost apart = { Prim.search rules };
+}
+
+impl<'a> ReadRecord<'a> for WeldingDetectionRes {
+    fn read<P: Places>(descent: &mut Descent<'a, '_, P>) -> Result<WeldingDetectionRes, Refusal> {
+        whole_record(descent)
+    }
 }

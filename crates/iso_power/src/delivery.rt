@@ -212,6 +212,14 @@ impl Record for DcEvPowerDeliveryParameter {
     ghost apart = { Prim.search rules };
 }
 
+impl<'a> ReadRecord<'a> for DcEvPowerDeliveryParameter {
+    fn read<P: Places>(
+        descent: &mut Descent<'a, '_, P>,
+    ) -> Result<DcEvPowerDeliveryParameter, Refusal> {
+        whole_record(descent)
+    }
+}
+
 /// One element of the substitution group EVPowerDeliveryParameter.
 #[derive(Clone, Copy, Debug, PartialEq, Eq)]
 pub enum EvPowerDeliveryParameter {
@@ -330,6 +338,12 @@ impl Record for PowerDeliveryReq {
     ghost apart = { Prim.search rules };
 }
 
+impl<'a> ReadRecord<'a> for PowerDeliveryReq {
+    fn read<P: Places>(descent: &mut Descent<'a, '_, P>) -> Result<PowerDeliveryReq, Refusal> {
+        whole_record(descent)
+    }
+}
+
 /// PowerDeliveryRes.
 #[derive(Clone, Copy, Debug, PartialEq, Eq)]
 pub struct PowerDeliveryRes {
@@ -376,6 +390,12 @@ impl Record for PowerDeliveryRes {
     ghost apart = { Prim.search rules };
 }
 
+impl<'a> ReadRecord<'a> for PowerDeliveryRes {
+    fn read<P: Places>(descent: &mut Descent<'a, '_, P>) -> Result<PowerDeliveryRes, Refusal> {
+        whole_record(descent)
+    }
+}
+
 /// ChargingStatusReq.
 #[derive(Clone, Copy, Debug, PartialEq, Eq)]
 pub struct ChargingStatusReq;
@@ -407,6 +427,12 @@ impl Record for ChargingStatusReq {
     ghost declared = { Prim.search rules };
 
     ghost apart = { Prim.search rules };
+}
+
+impl<'a> ReadRecord<'a> for ChargingStatusReq {
+    fn read<P: Places>(descent: &mut Descent<'a, '_, P>) -> Result<ChargingStatusReq, Refusal> {
+        whole_record(descent)
+    }
 }
 
 /// ChargingStatusRes.
@@ -498,4 +524,10 @@ impl<'a> Record for ChargingStatusRes<'a> {
     ghost declared = { Prim.search rules };
 
     ghost apart = { Prim.search rules };
+}
+
+impl<'a> ReadRecord<'a> for ChargingStatusRes<'a> {
+    fn read<P: Places>(descent: &mut Descent<'a, '_, P>) -> Result<ChargingStatusRes<'a>, Refusal> {
+        whole_record(descent)
+    }
 }

@@ -285,6 +285,12 @@ impl Record for ServiceDetailReq {
     ghost apart = { Prim.search rules };
 }
 
+impl<'a> ReadRecord<'a> for ServiceDetailReq {
+    fn read<P: Places>(descent: &mut Descent<'a, '_, P>) -> Result<ServiceDetailReq, Refusal> {
+        whole_record(descent)
+    }
+}
+
 /// ServiceDetailRes.
 #[derive(Drop)]
 pub struct ServiceDetailRes<'a> {
@@ -348,4 +354,10 @@ impl<'a> Record for ServiceDetailRes<'a> {
     ghost declared = { Prim.search rules };
 
     ghost apart = { Prim.search rules };
+}
+
+impl<'a> ReadRecord<'a> for ServiceDetailRes<'a> {
+    fn read<P: Places>(descent: &mut Descent<'a, '_, P>) -> Result<ServiceDetailRes<'a>, Refusal> {
+        whole_record(descent)
+    }
 }

@@ -174,6 +174,14 @@ impl Record for PaymentServiceSelectionReq {
     ghost apart = { Prim.search rules };
 }
 
+impl<'a> ReadRecord<'a> for PaymentServiceSelectionReq {
+    fn read<P: Places>(
+        descent: &mut Descent<'a, '_, P>,
+    ) -> Result<PaymentServiceSelectionReq, Refusal> {
+        whole_record(descent)
+    }
+}
+
 /// PaymentServiceSelectionRes.
 #[derive(Clone, Copy, Debug, PartialEq, Eq)]
 pub struct PaymentServiceSelectionRes {
@@ -213,4 +221,12 @@ impl Record for PaymentServiceSelectionRes {
     ghost declared = { Prim.search rules };
 
     ghost apart = { Prim.search rules };
+}
+
+impl<'a> ReadRecord<'a> for PaymentServiceSelectionRes {
+    fn read<P: Places>(
+        descent: &mut Descent<'a, '_, P>,
+    ) -> Result<PaymentServiceSelectionRes, Refusal> {
+        whole_record(descent)
+    }
 }

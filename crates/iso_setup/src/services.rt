@@ -400,6 +400,14 @@ impl<'a> Record for ServiceDiscoveryReq<'a> {
     ghost apart = { Prim.search rules };
 }
 
+impl<'a> ReadRecord<'a> for ServiceDiscoveryReq<'a> {
+    fn read<P: Places>(
+        descent: &mut Descent<'a, '_, P>,
+    ) -> Result<ServiceDiscoveryReq<'a>, Refusal> {
+        whole_record(descent)
+    }
+}
+
 /// ServiceDiscoveryRes.
 #[derive(Drop)]
 pub struct ServiceDiscoveryRes<'a> {
@@ -468,4 +476,12 @@ impl<'a> Record for ServiceDiscoveryRes<'a> {
     ghost declared = { Prim.search rules };
 
     ghost apart = { Prim.search rules };
+}
+
+impl<'a> ReadRecord<'a> for ServiceDiscoveryRes<'a> {
+    fn read<P: Places>(
+        descent: &mut Descent<'a, '_, P>,
+    ) -> Result<ServiceDiscoveryRes<'a>, Refusal> {
+        whole_record(descent)
+    }
 }

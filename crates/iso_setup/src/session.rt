@@ -2,13 +2,15 @@
 
 ghost use Rattle.std.specs.Prelude.{[]};
 
+use exi_documents::Refusal;
 use exi_events::EventWriter;
 use exi_schema::Places;
 use iso_parts::{ChargingSession, EvseProcessing, ResponseCode};
 use iso_schema::names;
 use message_fields::{Elements, OptionalValue, RequiredValue, WithOptionalAttribute};
 use message_parts::{
-    Binary, PutRecord, Record, Text, put_optional_attribute, put_optional_value, put_value,
+    Binary, Descent, PutRecord, ReadRecord, Record, Text, put_optional_attribute,
+    put_optional_value, put_value, whole_record,
 };
 
 /// SessionSetupReq.
@@ -51,6 +53,12 @@ impl<'a> Record for SessionSetupReq<'a> {
     ghost declared = { Prim.search rules };
 
     ghost apart = { Prim.search rules };
+}
+
+impl<'a> ReadRecord<'a> for SessionSetupReq<'a> {
+    fn read<P: Places>(descent: &mut Descent<'a, '_, P>) -> Result<SessionSetupReq<'a>, Refusal> {
+        whole_record(descent)
+    }
 }
 
 /// SessionSetupRes.
@@ -111,6 +119,12 @@ impl<'a> Record for SessionSetupRes<'a> {
     ghost apart = { Prim.search rules };
 }
 
+impl<'a> ReadRecord<'a> for SessionSetupRes<'a> {
+    fn read<P: Places>(descent: &mut Descent<'a, '_, P>) -> Result<SessionSetupRes<'a>, Refusal> {
+        whole_record(descent)
+    }
+}
+
 /// AuthorizationReq.
 #[derive(Drop)]
 pub struct AuthorizationReq<'a> {
@@ -160,6 +174,12 @@ impl<'a> Record for AuthorizationReq<'a> {
     ghost apart = { Prim.search rules };
 }
 
+impl<'a> ReadRecord<'a> for AuthorizationReq<'a> {
+    fn read<P: Places>(descent: &mut Descent<'a, '_, P>) -> Result<AuthorizationReq<'a>, Refusal> {
+        whole_record(descent)
+    }
+}
+
 /// AuthorizationRes.
 #[derive(Clone, Copy, Debug, PartialEq, Eq)]
 pub struct AuthorizationRes {
@@ -206,6 +226,12 @@ impl Record for AuthorizationRes {
     ghost apart = { Prim.search rules };
 }
 
+impl<'a> ReadRecord<'a> for AuthorizationRes {
+    fn read<P: Places>(descent: &mut Descent<'a, '_, P>) -> Result<AuthorizationRes, Refusal> {
+        whole_record(descent)
+    }
+}
+
 /// SessionStopReq.
 #[derive(Clone, Copy, Debug, PartialEq, Eq)]
 pub struct SessionStopReq {
@@ -247,6 +273,12 @@ impl Record for SessionStopReq {
     ghost apart = { Prim.search rules };
 }
 
+impl<'a> ReadRecord<'a> for SessionStopReq {
+    fn read<P: Places>(descent: &mut Descent<'a, '_, P>) -> Result<SessionStopReq, Refusal> {
+        whole_record(descent)
+    }
+}
+
 /// SessionStopRes.
 #[derive(Clone, Copy, Debug, PartialEq, Eq)]
 pub struct SessionStopRes {
@@ -286,4 +318,10 @@ impl Record for SessionStopRes {
     ghost declared = { Prim.search rules };
 
     ghost apart = { Prim.search rules };
+}
+
+impl<'a> ReadRecord<'a> for SessionStopRes {
+    fn read<P: Places>(descent: &mut Descent<'a, '_, P>) -> Result<SessionStopRes, Refusal> {
+        whole_record(descent)
+    }
 }

@@ -76,23 +76,6 @@ fn record_inside<'a, T: ReadRecord<'a>, P: Places>(
     T::read(descent)
 }
 
-/// The same of a record that no function of its own reads.
-fn made_inside<'a, T: Record, P: Places>(descent: &mut Descent<'a, '_, P>) -> Result<T, Refusal>
-where
-    T::Made: ReadContents<'a>,
-    requires open { IsOpen P.schema descent.old }
-    ensures open { IsOpen P.schema descent.new }
-    ensures table { descent.new.reader.table.ghost_name ≡ descent.old.reader.table.ghost_name }
-    ensures places { descent.new.reader.places.now ≡ descent.old.reader.places.now }
-    ensures payload { descent.new.reader.reader.bits ≡ descent.old.reader.reader.bits }
-    ensures refused { IfErr result (λ r. IsRefusal (seen_of P.schema descent.old) r) }
-    ensures read { (F : Frame) (kind : ℕ) (told : List TreeEvent) → Enters T.kinds F kind told (seen_of P.schema descent.old)
-        → slice_get T.kinds kind ≡ Some (containing T.attributes T.particles)
-        → IfOk result (λ v. Leaves T.kinds F (told_inside (holding_with (T.given v) (T.parts v)) told) (seen_of P.schema descent.new)) }
-{
-    whole_record(descent)
-}
-
 // ---- attributes
 
 /// An attribute that has to be there.
@@ -425,9 +408,9 @@ pub fn member_value<'a, T: ReadSimple<'a>, P: Places>(
 /// What a member with attributes and children contains, where the child that has started is this member. Each has a function of its own,
 /// so that a group of many members doesn't fill the room that one of them wants.
 #[inline(never)]
-pub fn member<'a, T: Record, P: Places>(descent: &mut Descent<'a, '_, P>) -> Result<T, Refusal>
-where
-    T::Made: ReadContents<'a>,
+pub fn member<'a, T: ReadRecord<'a>, P: Places>(
+    descent: &mut Descent<'a, '_, P>,
+) -> Result<T, Refusal>
     requires open { IsOpen P.schema descent.old }
     ensures open { IsOpen P.schema descent.new }
     ensures table { descent.new.reader.table.ghost_name ≡ descent.old.reader.table.ghost_name }
@@ -438,7 +421,7 @@ where
         → descent.old.child ≡ Some name → kind_among members name ≡ Some kind → slice_get T.kinds kind ≡ Some (containing T.attributes T.particles)
         → IfOk result (λ v. (name ≡ F.name) × Leaves T.kinds F (told_inside (holding_with (T.given v) (T.parts v)) told) (seen_of P.schema descent.new)) }
 {
-    made_inside(descent)
+    record_inside(descent)
 }
 
 /// What is left out of the profile: nothing of it stands there.

@@ -8,8 +8,8 @@ use exi_events::{EventWriter, Value};
 use exi_schema::Places;
 use message_fields::{Elements, OptionalValue, RequiredValue};
 use message_parts::{
-    Alternatives, Choice, Descent, Group, PutChoice, PutRecord, ReadSimple, Record, Simple, Text,
-    member, member_value, put_optional_value, put_record, put_value,
+    Alternatives, Choice, Descent, Group, PutChoice, PutRecord, ReadRecord, ReadSimple, Record,
+    Simple, Text, member, member_value, put_optional_value, put_record, put_value, whole_record,
 };
 
 /// How a post is.
@@ -88,6 +88,12 @@ impl Record for Reading {
     ghost declared = { Prim.search rules };
 
     ghost apart = { Prim.search rules };
+}
+
+impl<'a> ReadRecord<'a> for Reading {
+    fn read<P: Places>(descent: &mut Descent<'a, '_, P>) -> Result<Reading, Refusal> {
+        whole_record(descent)
+    }
 }
 
 /// An amount of one of six kinds.
@@ -188,6 +194,12 @@ impl Record for AcSupply {
     ghost apart = { Prim.search rules };
 }
 
+impl<'a> ReadRecord<'a> for AcSupply {
+    fn read<P: Places>(descent: &mut Descent<'a, '_, P>) -> Result<AcSupply, Refusal> {
+        whole_record(descent)
+    }
+}
+
 /// Direct current.
 #[derive(Clone, Copy, Debug, PartialEq, Eq)]
 pub struct DcSupply {
@@ -230,6 +242,12 @@ impl Record for DcSupply {
     ghost declared = { Prim.search rules };
 
     ghost apart = { Prim.search rules };
+}
+
+impl<'a> ReadRecord<'a> for DcSupply {
+    fn read<P: Places>(descent: &mut Descent<'a, '_, P>) -> Result<DcSupply, Refusal> {
+        whole_record(descent)
+    }
 }
 
 /// What a post supplies: the members of the profile.
@@ -311,6 +329,12 @@ impl Record for Stopped {
     ghost declared = { Prim.search rules };
 
     ghost apart = { Prim.search rules };
+}
+
+impl<'a> ReadRecord<'a> for Stopped {
+    fn read<P: Places>(descent: &mut Descent<'a, '_, P>) -> Result<Stopped, Refusal> {
+        whole_record(descent)
+    }
 }
 
 /// Why a session is over.

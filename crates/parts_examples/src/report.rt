@@ -214,6 +214,12 @@ impl<'a> Record for Report<'a> {
     ghost apart = { Prim.search rules };
 }
 
+impl<'a> ReadRecord<'a> for Report<'a> {
+    fn read<P: Places>(descent: &mut Descent<'a, '_, P>) -> Result<Report<'a>, Refusal> {
+        whole_record(descent)
+    }
+}
+
 impl PutChoice for Report<'_> {
     ghost use Rattle.parts_examples.specs.Parts.{report_inside};
     ghost use Rattle.parts_examples.specs.declared.names.TheConstants.{REPORT};

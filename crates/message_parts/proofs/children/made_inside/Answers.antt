@@ -1,7 +1,0 @@
-use Rattle.message_parts.proofs.Attributes.{starts}
-use Rattle.message_parts.proofs.Ended.{all_read}
-use Rattle.message_parts.proofs.children.made_inside.Goals as goal
-
-pub returns-clause-read : goal.returns-clause-read
-returns-clause-read g c = λ F kind told h is.
-    all_read c.whole_record.result g.T.PutRecord.given g.T.PutRecord.parts _ F _ _ told _ (c.whole_record.ensures.read F told (starts _ F kind _ _ told _ h is c.whole_record.ensures.distinct))
