@@ -18,7 +18,7 @@ from message_shapes import Types, in_groups
 from message_specs import definitions
 
 WORDS = [
-    "Alternatives", "Binary", "Choice", "Descent", "Group", "LargeChoice", "LargeGroup", "LargeRecord", "PutChoice", "PutRecord", "ReadRecord",
+    "Alternatives", "Binary", "Choice", "Declared", "Descent", "Group", "LargeChoice", "LargeGroup", "LargeRecord", "PutChoice", "PutRecord", "ReadRecord",
     "ReadSimple", "Record", "Text", "Three", "first_child", "member", "member_value", "optional_choice_here", "put_attribute", "put_choice",
     "put_optional", "put_optional_attribute", "put_optional_choice", "put_optional_value", "put_record", "put_records", "put_value",
     "put_values", "required", "required_here", "whole_record",
@@ -116,38 +116,41 @@ def made_of(t, kind):
 
 
 def record(t, kind, lent):
+    """Of what a struct is made, and how it is read, by a function of its own."""
     name = t.camel(kind) + lifetime(lent)
     made, body = made_of(t, kind) if kind in t.s.content else ("Elements<()>", f"        {name}\n")
     taken = "made" if kind in t.s.content else "_made"
-    return f"""type Made = {made};
+    return f"""impl<'a> Record<'a> for {name} {{
+    ghost use Rattle.std.proofs.Common.{{rules}};
+
+    type Made = {made};
 
     fn of({taken}: Self::Made) -> {name} {{
 {body}    }}
 
     ghost declared = {{ Prim.search rules }};
 
-    ghost apart = {{ Prim.search rules }};"""
+    ghost apart = {{ Prim.search rules }};
+}}
 
-
-def read_record(t, kind, lent):
-    """A struct is read by a function of its own."""
-    name = t.camel(kind) + lifetime(lent)
-    return f"""
 impl<'a> ReadRecord<'a> for {name} {{
     fn read<P: Places>(descent: &mut Descent<'a, '_, P>) -> Result<{name}, Refusal> {{
         whole_record(descent)
     }}
 }}
-""" if kind not in t.large else ""
+"""
 
 
-def large_record(t, kind):
+def large_record(t, kind, lent):
     """Reads the children of a large struct where they stand."""
     reads = "".join(f"        {read_here(it)}\n" for it in t.fields(kind))
-    return f"""{READ_HERE} {{
+    return f"""impl<'a> LargeRecord<'a> for {t.camel(kind) + lifetime(lent)} {{
+    {READ_HERE} {{
         first_child(descent)?;
 {reads}        Ok(())
-    }}"""
+    }}
+}}
+"""
 
 
 def struct(t, crate, file, kind):
@@ -156,8 +159,6 @@ def struct(t, crate, file, kind):
     body = f" {{\n{members}}}" if kept else ";"
     attributes = any(it.form == "attribute" for it in kept)
     puts = "".join(f"        {put(it)}\n" for it in kept)
-    large = kind in t.large
-    rules = "" if large else "    ghost use Rattle.std.proofs.Common.{rules};\n"
     words = ([f"{low}_given"] if attributes else []) + ([f"{low}_parts"] if kept else [])
     uses = f"    ghost use Rattle.{crate}.specs.{file.capitalize()}.{{{', '.join(words)}}};\n\n" if words else ""
     declared = f"    ghost use Rattle.{crate}.specs.{file.capitalize()}.{{{low}_attributes}};\n" if attributes else ""
@@ -177,18 +178,17 @@ impl PutRecord for {name}{"<'_>" if lent else ""} {{
 {puts}    }}
 }}
 
-impl{"<'a> LargeRecord<'a>" if large else "<'a> Record" if lent else " Record"} for {name}{"<'a>" if lent else ""} {{
+impl Declared for {name}{"<'_>" if lent else ""} {{
     ghost use Rattle.{t.s.crate}.specs.Declarations.{{kinds}};
-{particles}{declared}{rules}
+{particles}{declared}
     ghost kinds = {{ kinds }};
 
     ghost attributes = {{ {f"{low}_attributes" if attributes else "[]"} }};
 
     ghost particles = {{ {t.declared(kind) if kept else "[]"} }};
-
-    {large_record(t, kind) if large else record(t, kind, lent)}
 }}
-{read_record(t, kind, lent)}"""
+
+{(large_record if kind in t.large else record)(t, kind, lent)}"""
 
 
 def chain(t, name, members):

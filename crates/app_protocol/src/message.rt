@@ -17,9 +17,9 @@ use exi_events::{EventWriter, Value};
 use exi_schema::Places;
 use message_fields::{Elements, OptionalValue, RequiredValue};
 use message_parts::{
-    Alternatives, Choice, Contents, Descent, PutChoice, PutRecord, ReadContents, ReadRecord,
-    ReadSimple, Record, Root, Simple, Text, first_child, member, put_optional_value, put_record,
-    put_records, put_value, records, whole_record,
+    Alternatives, Choice, Declared, Descent, PutChoice, PutRecord, ReadRecord, ReadSimple, Record,
+    Root, Simple, Text, first_child, member, put_optional_value, put_record, put_records,
+    put_value, records, whole_record,
 };
 
 /// One protocol that a car offers.
@@ -63,13 +63,15 @@ impl<'a> PutRecord for AppProtocol<'a> {
     }
 }
 
-impl<'a> Record for AppProtocol<'a> {
+impl Declared for AppProtocol<'_> {
     ghost kinds = { all_kinds };
 
     ghost attributes = { [] };
 
     ghost particles = { protocol_particles };
+}
 
+impl<'a> Record<'a> for AppProtocol<'a> {
     type Made = Elements<
         (
             (
@@ -125,44 +127,19 @@ impl<'a> PutRecord for AppReq<'a> {
     }
 }
 
-/// The offers are too long to move: so a request is made of itself, and tells how it is read.
-impl Contents for AppReq<'_> {
-    ghost stand = { λ ks attributes declared. (ks ≡ all_kinds) × (attributes ≡ []) × (declared ≡ request_particles) };
-
-    ghost told = { λ attributes declared v before. told_parts (parts_of_request v) before };
-}
-
-impl<'a> ReadContents<'a> for AppReq<'a> {
-    #[inline(always)]
-    fn read<P: Places>(descent: &mut Descent<'a, '_, P>) -> Result<AppReq<'a>, Refusal> {
-        first_child(descent)?;
-        let protocols = records(descent, APP_PROTOCOL)?;
-        Ok(AppReq { protocols })
-    }
-}
-
-impl<'a> Record for AppReq<'a> {
+impl Declared for AppReq<'_> {
     ghost kinds = { all_kinds };
 
     ghost attributes = { [] };
 
     ghost particles = { request_particles };
-
-    type Made = AppReq<'a>;
-
-    #[inline(always)]
-    fn of(made: Self::Made) -> AppReq<'a> {
-        made
-    }
-
-    ghost declared = { Prim.search rules };
-
-    ghost apart = { Prim.search rules };
 }
 
 impl<'a> ReadRecord<'a> for AppReq<'a> {
     fn read<P: Places>(descent: &mut Descent<'a, '_, P>) -> Result<AppReq<'a>, Refusal> {
-        whole_record(descent)
+        first_child(descent)?;
+        let protocols = records(descent, APP_PROTOCOL)?;
+        Ok(AppReq { protocols })
     }
 }
 
@@ -221,13 +198,15 @@ impl PutRecord for AppRes {
     }
 }
 
-impl Record for AppRes {
+impl Declared for AppRes {
     ghost kinds = { all_kinds };
 
     ghost attributes = { [] };
 
     ghost particles = { response_particles };
+}
 
+impl<'a> Record<'a> for AppRes {
     type Made = Elements<(RequiredValue<AppCode>, OptionalValue<u8, { SCHEMA_ID }>)>;
 
     fn of(made: Self::Made) -> AppRes {

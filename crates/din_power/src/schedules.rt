@@ -8,10 +8,7 @@ use exi_documents::Refusal;
 use exi_events::EventWriter;
 use exi_schema::Places;
 use message_fields::{Elements, LeftOut, OneOf, OptionalValue, Required, RequiredValue, Several};
-use message_parts::{
-    Alternatives, Choice, Descent, Group, PutChoice, PutRecord, ReadRecord, Record, member,
-    put_choice, put_optional_value, put_record, put_records, put_value, whole_record,
-};
+use message_parts::{Alternatives, Choice, Declared, Descent, Group, PutChoice, PutRecord, ReadRecord, Record, member, put_choice, put_optional_value, put_record, put_records, put_value, whole_record};
 
 /// RelativeTimeInterval.
 #[derive(Clone, Copy, Debug, PartialEq, Eq, Default)]
@@ -33,16 +30,19 @@ impl PutRecord for RelativeTimeInterval {
     }
 }
 
-impl Record for RelativeTimeInterval {
+impl Declared for RelativeTimeInterval {
     ghost use Rattle.din_schema.specs.Declarations.{kinds};
     ghost use Rattle.din_schema.specs.Parameters.{relative_time_interval};
-    ghost use Rattle.std.proofs.Common.{rules};
 
     ghost kinds = { kinds };
 
     ghost attributes = { [] };
 
     ghost particles = { relative_time_interval };
+}
+
+impl<'a> Record<'a> for RelativeTimeInterval {
+    ghost use Rattle.std.proofs.Common.{rules};
 
     type Made = Elements<(RequiredValue<u32>, OptionalValue<u32, { names::DURATION }>)>;
 
@@ -83,11 +83,7 @@ impl PutChoice for TimeInterval {
 
     fn write_member<P: Places>(&self, writer: &mut EventWriter<'_, '_, P>) {
         match self {
-            TimeInterval::Relative(relative) => put_record(
-                writer,
-                names::RELATIVE_TIME_INTERVAL,
-                relative,
-            ),
+            TimeInterval::Relative(relative) => put_record(writer, names::RELATIVE_TIME_INTERVAL, relative),
         }
     }
 }
@@ -127,25 +123,25 @@ impl PutRecord for PMaxScheduleEntry {
     }
 }
 
-impl Record for PMaxScheduleEntry {
+impl Declared for PMaxScheduleEntry {
     ghost use Rattle.din_schema.specs.Declarations.{kinds};
     ghost use Rattle.din_schema.specs.Parameters.{p_max_schedule_entry};
-    ghost use Rattle.std.proofs.Common.{rules};
 
     ghost kinds = { kinds };
 
     ghost attributes = { [] };
 
     ghost particles = { p_max_schedule_entry };
+}
+
+impl<'a> Record<'a> for PMaxScheduleEntry {
+    ghost use Rattle.std.proofs.Common.{rules};
 
     type Made = Elements<(OneOf<TimeInterval>, RequiredValue<i16>)>;
 
     fn of(made: Self::Made) -> PMaxScheduleEntry {
         let Elements((OneOf(time_interval), RequiredValue(p_max))) = made;
-        PMaxScheduleEntry {
-            time_interval,
-            p_max,
-        }
+        PMaxScheduleEntry { time_interval, p_max }
     }
 
     ghost declared = { Prim.search rules };
@@ -176,38 +172,29 @@ impl PutRecord for PMaxSchedule {
 
     fn write<P: Places>(&self, writer: &mut EventWriter<'_, '_, P>) {
         put_value(writer, names::P_MAX_SCHEDULE_ID, &self.p_max_schedule_id);
-        put_records(
-            writer,
-            names::P_MAX_SCHEDULE_ENTRY,
-            &self.p_max_schedule_entry,
-        );
+        put_records(writer, names::P_MAX_SCHEDULE_ENTRY, &self.p_max_schedule_entry);
     }
 }
 
-impl Record for PMaxSchedule {
+impl Declared for PMaxSchedule {
     ghost use Rattle.din_schema.specs.Declarations.{kinds};
     ghost use Rattle.din_schema.specs.Parameters.{p_max_schedule};
-    ghost use Rattle.std.proofs.Common.{rules};
 
     ghost kinds = { kinds };
 
     ghost attributes = { [] };
 
     ghost particles = { p_max_schedule };
+}
 
-    type Made = Elements<
-        (
-            RequiredValue<i16>,
-            Several<PMaxScheduleEntry, 128, { names::P_MAX_SCHEDULE_ENTRY }>,
-        ),
-    >;
+impl<'a> Record<'a> for PMaxSchedule {
+    ghost use Rattle.std.proofs.Common.{rules};
+
+    type Made = Elements<(RequiredValue<i16>, Several<PMaxScheduleEntry, 128, { names::P_MAX_SCHEDULE_ENTRY }>)>;
 
     fn of(made: Self::Made) -> PMaxSchedule {
         let Elements((RequiredValue(p_max_schedule_id), Several(p_max_schedule_entry))) = made;
-        PMaxSchedule {
-            p_max_schedule_id,
-            p_max_schedule_entry,
-        }
+        PMaxSchedule { p_max_schedule_id, p_max_schedule_entry }
     }
 
     ghost declared = { Prim.search rules };
@@ -236,35 +223,30 @@ impl PutRecord for SaScheduleTuple {
     ghost parts = { sa_schedule_tuple_parts };
 
     fn write<P: Places>(&self, writer: &mut EventWriter<'_, '_, P>) {
-        put_value(
-            writer,
-            names::SA_SCHEDULE_TUPLE_ID,
-            &self.sa_schedule_tuple_id,
-        );
+        put_value(writer, names::SA_SCHEDULE_TUPLE_ID, &self.sa_schedule_tuple_id);
         put_record(writer, names::P_MAX_SCHEDULE, &self.p_max_schedule);
     }
 }
 
-impl Record for SaScheduleTuple {
+impl Declared for SaScheduleTuple {
     ghost use Rattle.din_schema.specs.Declarations.{kinds};
     ghost use Rattle.din_schema.specs.Parameters.{sa_schedule_tuple};
-    ghost use Rattle.std.proofs.Common.{rules};
 
     ghost kinds = { kinds };
 
     ghost attributes = { [] };
 
     ghost particles = { sa_schedule_tuple };
+}
+
+impl<'a> Record<'a> for SaScheduleTuple {
+    ghost use Rattle.std.proofs.Common.{rules};
 
     type Made = Elements<(RequiredValue<i16>, Required<PMaxSchedule>, LeftOut)>;
 
     fn of(made: Self::Made) -> SaScheduleTuple {
-        let Elements((RequiredValue(sa_schedule_tuple_id), Required(p_max_schedule), LeftOut)) =
-            made;
-        SaScheduleTuple {
-            sa_schedule_tuple_id,
-            p_max_schedule,
-        }
+        let Elements((RequiredValue(sa_schedule_tuple_id), Required(p_max_schedule), LeftOut)) = made;
+        SaScheduleTuple { sa_schedule_tuple_id, p_max_schedule }
     }
 
     ghost declared = { Prim.search rules };
@@ -297,16 +279,19 @@ impl PutRecord for SaScheduleList {
     }
 }
 
-impl Record for SaScheduleList {
+impl Declared for SaScheduleList {
     ghost use Rattle.din_schema.specs.Declarations.{kinds};
     ghost use Rattle.din_schema.specs.Parameters.{sa_schedule_list};
-    ghost use Rattle.std.proofs.Common.{rules};
 
     ghost kinds = { kinds };
 
     ghost attributes = { [] };
 
     ghost particles = { sa_schedule_list };
+}
+
+impl<'a> Record<'a> for SaScheduleList {
+    ghost use Rattle.std.proofs.Common.{rules};
 
     type Made = Elements<Several<SaScheduleTuple, 3, { names::SA_SCHEDULE_TUPLE }>>;
 
@@ -341,11 +326,7 @@ impl PutChoice for SaSchedules {
 
     fn write_member<P: Places>(&self, writer: &mut EventWriter<'_, '_, P>) {
         match self {
-            SaSchedules::SaScheduleList(sa_schedule_list) => put_record(
-                writer,
-                names::SA_SCHEDULE_LIST,
-                sa_schedule_list,
-            ),
+            SaSchedules::SaScheduleList(sa_schedule_list) => put_record(writer, names::SA_SCHEDULE_LIST, sa_schedule_list),
         }
     }
 }

@@ -8,13 +8,8 @@ use din_schema::names;
 use exi_documents::Refusal;
 use exi_events::EventWriter;
 use exi_schema::Places;
-use message_fields::{
-    Elements, Optional, OptionalValue, Required, RequiredValue, Several, SeveralValues,
-};
-use message_parts::{
-    Descent, PutRecord, ReadRecord, Record, Text, put_optional, put_optional_value, put_record,
-    put_records, put_value, put_values, whole_record,
-};
+use message_fields::{Elements, Optional, OptionalValue, Required, RequiredValue, Several, SeveralValues};
+use message_parts::{Declared, Descent, PutRecord, ReadRecord, Record, Text, put_optional, put_optional_value, put_record, put_records, put_value, put_values, whole_record};
 
 /// ServiceTag.
 #[derive(Drop, Default)]
@@ -42,41 +37,25 @@ impl PutRecord for ServiceTag<'_> {
     }
 }
 
-impl<'a> Record for ServiceTag<'a> {
+impl Declared for ServiceTag<'_> {
     ghost use Rattle.din_schema.specs.Declarations.{kinds};
     ghost use Rattle.din_schema.specs.Setup.{service_tag};
-    ghost use Rattle.std.proofs.Common.{rules};
 
     ghost kinds = { kinds };
 
     ghost attributes = { [] };
 
     ghost particles = { service_tag };
+}
 
-    type Made = Elements<
-        (
-            RequiredValue<u16>,
-            OptionalValue<Text<'a>, { names::SERVICE_NAME }>,
-            RequiredValue<ServiceCategory>,
-            OptionalValue<Text<'a>, { names::SERVICE_SCOPE }>,
-        ),
-    >;
+impl<'a> Record<'a> for ServiceTag<'a> {
+    ghost use Rattle.std.proofs.Common.{rules};
+
+    type Made = Elements<(RequiredValue<u16>, OptionalValue<Text<'a>, { names::SERVICE_NAME }>, RequiredValue<ServiceCategory>, OptionalValue<Text<'a>, { names::SERVICE_SCOPE }>)>;
 
     fn of(made: Self::Made) -> ServiceTag<'a> {
-        let Elements(
-            (
-                RequiredValue(service_id),
-                OptionalValue(service_name),
-                RequiredValue(service_category),
-                OptionalValue(service_scope),
-            ),
-        ) = made;
-        ServiceTag {
-            service_id,
-            service_name,
-            service_category,
-            service_scope,
-        }
+        let Elements((RequiredValue(service_id), OptionalValue(service_name), RequiredValue(service_category), OptionalValue(service_scope))) = made;
+        ServiceTag { service_id, service_name, service_category, service_scope }
     }
 
     ghost declared = { Prim.search rules };
@@ -110,25 +89,25 @@ impl PutRecord for Service<'_> {
     }
 }
 
-impl<'a> Record for Service<'a> {
+impl Declared for Service<'_> {
     ghost use Rattle.din_schema.specs.Declarations.{kinds};
     ghost use Rattle.din_schema.specs.Setup.{service};
-    ghost use Rattle.std.proofs.Common.{rules};
 
     ghost kinds = { kinds };
 
     ghost attributes = { [] };
 
     ghost particles = { service };
+}
+
+impl<'a> Record<'a> for Service<'a> {
+    ghost use Rattle.std.proofs.Common.{rules};
 
     type Made = Elements<(Required<ServiceTag<'a>>, RequiredValue<bool>)>;
 
     fn of(made: Self::Made) -> Service<'a> {
         let Elements((Required(service_tag), RequiredValue(free_service))) = made;
-        Service {
-            service_tag,
-            free_service,
-        }
+        Service { service_tag, free_service }
     }
 
     ghost declared = { Prim.search rules };
@@ -161,16 +140,19 @@ impl PutRecord for ServiceList<'_> {
     }
 }
 
-impl<'a> Record for ServiceList<'a> {
+impl Declared for ServiceList<'_> {
     ghost use Rattle.din_schema.specs.Declarations.{kinds};
     ghost use Rattle.din_schema.specs.Setup.{service_list};
-    ghost use Rattle.std.proofs.Common.{rules};
 
     ghost kinds = { kinds };
 
     ghost attributes = { [] };
 
     ghost particles = { service_list };
+}
+
+impl<'a> Record<'a> for ServiceList<'a> {
+    ghost use Rattle.std.proofs.Common.{rules};
 
     type Made = Elements<Several<Service<'a>, 8, { names::SERVICE }>>;
 
@@ -208,46 +190,29 @@ impl PutRecord for ChargeService<'_> {
     fn write<P: Places>(&self, writer: &mut EventWriter<'_, '_, P>) {
         put_record(writer, names::SERVICE_TAG, &self.service_tag);
         put_value(writer, names::FREE_SERVICE, &self.free_service);
-        put_value(
-            writer,
-            names::ENERGY_TRANSFER_TYPE,
-            &self.energy_transfer_type,
-        );
+        put_value(writer, names::ENERGY_TRANSFER_TYPE, &self.energy_transfer_type);
     }
 }
 
-impl<'a> Record for ChargeService<'a> {
+impl Declared for ChargeService<'_> {
     ghost use Rattle.din_schema.specs.Declarations.{kinds};
     ghost use Rattle.din_schema.specs.Setup.{charge_service};
-    ghost use Rattle.std.proofs.Common.{rules};
 
     ghost kinds = { kinds };
 
     ghost attributes = { [] };
 
     ghost particles = { charge_service };
+}
 
-    type Made = Elements<
-        (
-            Required<ServiceTag<'a>>,
-            RequiredValue<bool>,
-            RequiredValue<SupportedEnergyTransferType>,
-        ),
-    >;
+impl<'a> Record<'a> for ChargeService<'a> {
+    ghost use Rattle.std.proofs.Common.{rules};
+
+    type Made = Elements<(Required<ServiceTag<'a>>, RequiredValue<bool>, RequiredValue<SupportedEnergyTransferType>)>;
 
     fn of(made: Self::Made) -> ChargeService<'a> {
-        let Elements(
-            (
-                Required(service_tag),
-                RequiredValue(free_service),
-                RequiredValue(energy_transfer_type),
-            ),
-        ) = made;
-        ChargeService {
-            service_tag,
-            free_service,
-            energy_transfer_type,
-        }
+        let Elements((Required(service_tag), RequiredValue(free_service), RequiredValue(energy_transfer_type))) = made;
+        ChargeService { service_tag, free_service, energy_transfer_type }
     }
 
     ghost declared = { Prim.search rules };
@@ -280,16 +245,19 @@ impl PutRecord for PaymentOptions {
     }
 }
 
-impl Record for PaymentOptions {
+impl Declared for PaymentOptions {
     ghost use Rattle.din_schema.specs.Declarations.{kinds};
     ghost use Rattle.din_schema.specs.Setup.{payment_options};
-    ghost use Rattle.std.proofs.Common.{rules};
 
     ghost kinds = { kinds };
 
     ghost attributes = { [] };
 
     ghost particles = { payment_options };
+}
+
+impl<'a> Record<'a> for PaymentOptions {
+    ghost use Rattle.std.proofs.Common.{rules};
 
     type Made = Elements<SeveralValues<PaymentOption, 2, { names::PAYMENT_OPTION }>>;
 
@@ -330,30 +298,25 @@ impl PutRecord for ServiceDiscoveryReq<'_> {
     }
 }
 
-impl<'a> Record for ServiceDiscoveryReq<'a> {
+impl Declared for ServiceDiscoveryReq<'_> {
     ghost use Rattle.din_schema.specs.Declarations.{kinds};
     ghost use Rattle.din_schema.specs.Setup.{service_discovery_req};
-    ghost use Rattle.std.proofs.Common.{rules};
 
     ghost kinds = { kinds };
 
     ghost attributes = { [] };
 
     ghost particles = { service_discovery_req };
+}
 
-    type Made = Elements<
-        (
-            OptionalValue<Text<'a>, { names::SERVICE_SCOPE }>,
-            OptionalValue<ServiceCategory, { names::SERVICE_CATEGORY }>,
-        ),
-    >;
+impl<'a> Record<'a> for ServiceDiscoveryReq<'a> {
+    ghost use Rattle.std.proofs.Common.{rules};
+
+    type Made = Elements<(OptionalValue<Text<'a>, { names::SERVICE_SCOPE }>, OptionalValue<ServiceCategory, { names::SERVICE_CATEGORY }>)>;
 
     fn of(made: Self::Made) -> ServiceDiscoveryReq<'a> {
         let Elements((OptionalValue(service_scope), OptionalValue(service_category))) = made;
-        ServiceDiscoveryReq {
-            service_scope,
-            service_category,
-        }
+        ServiceDiscoveryReq { service_scope, service_category }
     }
 
     ghost declared = { Prim.search rules };
@@ -362,9 +325,7 @@ impl<'a> Record for ServiceDiscoveryReq<'a> {
 }
 
 impl<'a> ReadRecord<'a> for ServiceDiscoveryReq<'a> {
-    fn read<P: Places>(
-        descent: &mut Descent<'a, '_, P>,
-    ) -> Result<ServiceDiscoveryReq<'a>, Refusal> {
+    fn read<P: Places>(descent: &mut Descent<'a, '_, P>) -> Result<ServiceDiscoveryReq<'a>, Refusal> {
         whole_record(descent)
     }
 }
@@ -393,41 +354,25 @@ impl PutRecord for ServiceDiscoveryRes<'_> {
     }
 }
 
-impl<'a> Record for ServiceDiscoveryRes<'a> {
+impl Declared for ServiceDiscoveryRes<'_> {
     ghost use Rattle.din_schema.specs.Declarations.{kinds};
     ghost use Rattle.din_schema.specs.Setup.{service_discovery_res};
-    ghost use Rattle.std.proofs.Common.{rules};
 
     ghost kinds = { kinds };
 
     ghost attributes = { [] };
 
     ghost particles = { service_discovery_res };
+}
 
-    type Made = Elements<
-        (
-            RequiredValue<ResponseCode>,
-            Required<PaymentOptions>,
-            Required<ChargeService<'a>>,
-            Optional<ServiceList<'a>, { names::SERVICE_LIST }>,
-        ),
-    >;
+impl<'a> Record<'a> for ServiceDiscoveryRes<'a> {
+    ghost use Rattle.std.proofs.Common.{rules};
+
+    type Made = Elements<(RequiredValue<ResponseCode>, Required<PaymentOptions>, Required<ChargeService<'a>>, Optional<ServiceList<'a>, { names::SERVICE_LIST }>)>;
 
     fn of(made: Self::Made) -> ServiceDiscoveryRes<'a> {
-        let Elements(
-            (
-                RequiredValue(response_code),
-                Required(payment_options),
-                Required(charge_service),
-                Optional(service_list),
-            ),
-        ) = made;
-        ServiceDiscoveryRes {
-            response_code,
-            payment_options,
-            charge_service,
-            service_list,
-        }
+        let Elements((RequiredValue(response_code), Required(payment_options), Required(charge_service), Optional(service_list))) = made;
+        ServiceDiscoveryRes { response_code, payment_options, charge_service, service_list }
     }
 
     ghost declared = { Prim.search rules };
@@ -436,9 +381,7 @@ impl<'a> Record for ServiceDiscoveryRes<'a> {
 }
 
 impl<'a> ReadRecord<'a> for ServiceDiscoveryRes<'a> {
-    fn read<P: Places>(
-        descent: &mut Descent<'a, '_, P>,
-    ) -> Result<ServiceDiscoveryRes<'a>, Refusal> {
+    fn read<P: Places>(descent: &mut Descent<'a, '_, P>) -> Result<ServiceDiscoveryRes<'a>, Refusal> {
         whole_record(descent)
     }
 }

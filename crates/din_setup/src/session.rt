@@ -8,10 +8,7 @@ use exi_documents::Refusal;
 use exi_events::EventWriter;
 use exi_schema::Places;
 use message_fields::{Elements, OptionalValue, RequiredValue, WithOptionalAttribute};
-use message_parts::{
-    Binary, Descent, PutRecord, ReadRecord, Record, Text, put_optional_attribute,
-    put_optional_value, put_value, whole_record,
-};
+use message_parts::{Binary, Declared, Descent, PutRecord, ReadRecord, Record, Text, put_optional_attribute, put_optional_value, put_value, whole_record};
 
 /// SessionSetupReq.
 #[derive(Drop)]
@@ -32,16 +29,19 @@ impl PutRecord for SessionSetupReq<'_> {
     }
 }
 
-impl<'a> Record for SessionSetupReq<'a> {
+impl Declared for SessionSetupReq<'_> {
     ghost use Rattle.din_schema.specs.Declarations.{kinds};
     ghost use Rattle.din_schema.specs.Setup.{session_setup_req};
-    ghost use Rattle.std.proofs.Common.{rules};
 
     ghost kinds = { kinds };
 
     ghost attributes = { [] };
 
     ghost particles = { session_setup_req };
+}
+
+impl<'a> Record<'a> for SessionSetupReq<'a> {
+    ghost use Rattle.std.proofs.Common.{rules};
 
     type Made = Elements<RequiredValue<Binary<'a>>>;
 
@@ -84,34 +84,25 @@ impl PutRecord for SessionSetupRes<'_> {
     }
 }
 
-impl<'a> Record for SessionSetupRes<'a> {
+impl Declared for SessionSetupRes<'_> {
     ghost use Rattle.din_schema.specs.Declarations.{kinds};
     ghost use Rattle.din_schema.specs.Setup.{session_setup_res};
-    ghost use Rattle.std.proofs.Common.{rules};
 
     ghost kinds = { kinds };
 
     ghost attributes = { [] };
 
     ghost particles = { session_setup_res };
+}
 
-    type Made = Elements<
-        (
-            RequiredValue<ResponseCode>,
-            RequiredValue<Binary<'a>>,
-            OptionalValue<i64, { names::DATE_TIME_NOW }>,
-        ),
-    >;
+impl<'a> Record<'a> for SessionSetupRes<'a> {
+    ghost use Rattle.std.proofs.Common.{rules};
+
+    type Made = Elements<(RequiredValue<ResponseCode>, RequiredValue<Binary<'a>>, OptionalValue<i64, { names::DATE_TIME_NOW }>)>;
 
     fn of(made: Self::Made) -> SessionSetupRes<'a> {
-        let Elements(
-            (RequiredValue(response_code), RequiredValue(evseid), OptionalValue(date_time_now)),
-        ) = made;
-        SessionSetupRes {
-            response_code,
-            evseid,
-            date_time_now,
-        }
+        let Elements((RequiredValue(response_code), RequiredValue(evseid), OptionalValue(date_time_now))) = made;
+        SessionSetupRes { response_code, evseid, date_time_now }
     }
 
     ghost declared = { Prim.search rules };
@@ -147,17 +138,20 @@ impl PutRecord for ContractAuthenticationReq<'_> {
     }
 }
 
-impl<'a> Record for ContractAuthenticationReq<'a> {
+impl Declared for ContractAuthenticationReq<'_> {
     ghost use Rattle.din_schema.specs.Declarations.{kinds};
     ghost use Rattle.din_schema.specs.Setup.{contract_authentication_req};
     ghost use Rattle.din_setup.specs.Session.{contract_authentication_req_attributes};
-    ghost use Rattle.std.proofs.Common.{rules};
 
     ghost kinds = { kinds };
 
     ghost attributes = { contract_authentication_req_attributes };
 
     ghost particles = { contract_authentication_req };
+}
+
+impl<'a> Record<'a> for ContractAuthenticationReq<'a> {
+    ghost use Rattle.std.proofs.Common.{rules};
 
     type Made = WithOptionalAttribute<Text<'a>, OptionalValue<Text<'a>, { names::GEN_CHALLENGE }>>;
 
@@ -172,9 +166,7 @@ impl<'a> Record for ContractAuthenticationReq<'a> {
 }
 
 impl<'a> ReadRecord<'a> for ContractAuthenticationReq<'a> {
-    fn read<P: Places>(
-        descent: &mut Descent<'a, '_, P>,
-    ) -> Result<ContractAuthenticationReq<'a>, Refusal> {
+    fn read<P: Places>(descent: &mut Descent<'a, '_, P>) -> Result<ContractAuthenticationReq<'a>, Refusal> {
         whole_record(descent)
     }
 }
@@ -199,25 +191,25 @@ impl PutRecord for ContractAuthenticationRes {
     }
 }
 
-impl Record for ContractAuthenticationRes {
+impl Declared for ContractAuthenticationRes {
     ghost use Rattle.din_schema.specs.Declarations.{kinds};
     ghost use Rattle.din_schema.specs.Setup.{contract_authentication_res};
-    ghost use Rattle.std.proofs.Common.{rules};
 
     ghost kinds = { kinds };
 
     ghost attributes = { [] };
 
     ghost particles = { contract_authentication_res };
+}
+
+impl<'a> Record<'a> for ContractAuthenticationRes {
+    ghost use Rattle.std.proofs.Common.{rules};
 
     type Made = Elements<(RequiredValue<ResponseCode>, RequiredValue<EvseProcessing>)>;
 
     fn of(made: Self::Made) -> ContractAuthenticationRes {
         let Elements((RequiredValue(response_code), RequiredValue(evse_processing))) = made;
-        ContractAuthenticationRes {
-            response_code,
-            evse_processing,
-        }
+        ContractAuthenticationRes { response_code, evse_processing }
     }
 
     ghost declared = { Prim.search rules };
@@ -226,9 +218,7 @@ impl Record for ContractAuthenticationRes {
 }
 
 impl<'a> ReadRecord<'a> for ContractAuthenticationRes {
-    fn read<P: Places>(
-        descent: &mut Descent<'a, '_, P>,
-    ) -> Result<ContractAuthenticationRes, Refusal> {
+    fn read<P: Places>(descent: &mut Descent<'a, '_, P>) -> Result<ContractAuthenticationRes, Refusal> {
         whole_record(descent)
     }
 }
@@ -242,18 +232,22 @@ impl PutRecord for SessionStopReq {
 
     ghost parts = { λ v. [] };
 
-    fn write<P: Places>(&self, _writer: &mut EventWriter<'_, '_, P>) {}
+    fn write<P: Places>(&self, _writer: &mut EventWriter<'_, '_, P>) {
+    }
 }
 
-impl Record for SessionStopReq {
+impl Declared for SessionStopReq {
     ghost use Rattle.din_schema.specs.Declarations.{kinds};
-    ghost use Rattle.std.proofs.Common.{rules};
 
     ghost kinds = { kinds };
 
     ghost attributes = { [] };
 
     ghost particles = { [] };
+}
+
+impl<'a> Record<'a> for SessionStopReq {
+    ghost use Rattle.std.proofs.Common.{rules};
 
     type Made = Elements<()>;
 
@@ -290,16 +284,19 @@ impl PutRecord for SessionStopRes {
     }
 }
 
-impl Record for SessionStopRes {
+impl Declared for SessionStopRes {
     ghost use Rattle.din_schema.specs.Declarations.{kinds};
     ghost use Rattle.din_schema.specs.Setup.{session_stop_res};
-    ghost use Rattle.std.proofs.Common.{rules};
 
     ghost kinds = { kinds };
 
     ghost attributes = { [] };
 
     ghost particles = { session_stop_res };
+}
+
+impl<'a> Record<'a> for SessionStopRes {
+    ghost use Rattle.std.proofs.Common.{rules};
 
     type Made = Elements<RequiredValue<ResponseCode>>;
 

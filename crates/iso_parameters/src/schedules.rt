@@ -6,13 +6,10 @@ use arrayvec::ArrayVec;
 use exi_documents::Refusal;
 use exi_events::EventWriter;
 use exi_schema::Places;
-use iso_parts::PhysicalValue;
+use iso_parts::{PhysicalValue};
 use iso_schema::names;
 use message_fields::{Elements, LeftOut, OneOf, OptionalValue, Required, RequiredValue, Several};
-use message_parts::{
-    Alternatives, Choice, Descent, Group, PutChoice, PutRecord, ReadRecord, Record, member,
-    put_choice, put_optional_value, put_record, put_records, put_value, whole_record,
-};
+use message_parts::{Alternatives, Choice, Declared, Descent, Group, PutChoice, PutRecord, ReadRecord, Record, member, put_choice, put_optional_value, put_record, put_records, put_value, whole_record};
 
 /// RelativeTimeInterval.
 #[derive(Clone, Copy, Debug, PartialEq, Eq, Default)]
@@ -36,16 +33,19 @@ impl PutRecord for RelativeTimeInterval {
     }
 }
 
-impl Record for RelativeTimeInterval {
+impl Declared for RelativeTimeInterval {
     ghost use Rattle.iso_schema.specs.Declarations.{kinds};
     ghost use Rattle.iso_schema.specs.Parameters.{relative_time_interval};
-    ghost use Rattle.std.proofs.Common.{rules};
 
     ghost kinds = { kinds };
 
     ghost attributes = { [] };
 
     ghost particles = { relative_time_interval };
+}
+
+impl<'a> Record<'a> for RelativeTimeInterval {
+    ghost use Rattle.std.proofs.Common.{rules};
 
     type Made = Elements<(RequiredValue<u32>, OptionalValue<u32, { names::DURATION }>)>;
 
@@ -86,11 +86,7 @@ impl PutChoice for TimeInterval {
 
     fn write_member<P: Places>(&self, writer: &mut EventWriter<'_, '_, P>) {
         match self {
-            TimeInterval::Relative(relative) => put_record(
-                writer,
-                names::RELATIVE_TIME_INTERVAL,
-                relative,
-            ),
+            TimeInterval::Relative(relative) => put_record(writer, names::RELATIVE_TIME_INTERVAL, relative),
         }
     }
 }
@@ -130,25 +126,25 @@ impl PutRecord for PMaxScheduleEntry {
     }
 }
 
-impl Record for PMaxScheduleEntry {
+impl Declared for PMaxScheduleEntry {
     ghost use Rattle.iso_schema.specs.Declarations.{kinds};
     ghost use Rattle.iso_schema.specs.Parameters.{p_max_schedule_entry};
-    ghost use Rattle.std.proofs.Common.{rules};
 
     ghost kinds = { kinds };
 
     ghost attributes = { [] };
 
     ghost particles = { p_max_schedule_entry };
+}
+
+impl<'a> Record<'a> for PMaxScheduleEntry {
+    ghost use Rattle.std.proofs.Common.{rules};
 
     type Made = Elements<(OneOf<TimeInterval>, Required<PhysicalValue>)>;
 
     fn of(made: Self::Made) -> PMaxScheduleEntry {
         let Elements((OneOf(time_interval), Required(p_max))) = made;
-        PMaxScheduleEntry {
-            time_interval,
-            p_max,
-        }
+        PMaxScheduleEntry { time_interval, p_max }
     }
 
     ghost declared = { Prim.search rules };
@@ -177,32 +173,29 @@ impl PutRecord for PMaxSchedule {
     ghost parts = { p_max_schedule_parts };
 
     fn write<P: Places>(&self, writer: &mut EventWriter<'_, '_, P>) {
-        put_records(
-            writer,
-            names::P_MAX_SCHEDULE_ENTRY,
-            &self.p_max_schedule_entry,
-        );
+        put_records(writer, names::P_MAX_SCHEDULE_ENTRY, &self.p_max_schedule_entry);
     }
 }
 
-impl Record for PMaxSchedule {
+impl Declared for PMaxSchedule {
     ghost use Rattle.iso_schema.specs.Declarations.{kinds};
     ghost use Rattle.iso_schema.specs.Parameters.{p_max_schedule};
-    ghost use Rattle.std.proofs.Common.{rules};
 
     ghost kinds = { kinds };
 
     ghost attributes = { [] };
 
     ghost particles = { p_max_schedule };
+}
+
+impl<'a> Record<'a> for PMaxSchedule {
+    ghost use Rattle.std.proofs.Common.{rules};
 
     type Made = Elements<Several<PMaxScheduleEntry, 128, { names::P_MAX_SCHEDULE_ENTRY }>>;
 
     fn of(made: Self::Made) -> PMaxSchedule {
         let Elements(Several(p_max_schedule_entry)) = made;
-        PMaxSchedule {
-            p_max_schedule_entry,
-        }
+        PMaxSchedule { p_max_schedule_entry }
     }
 
     ghost declared = { Prim.search rules };
@@ -232,35 +225,30 @@ impl PutRecord for SaScheduleTuple {
     ghost parts = { sa_schedule_tuple_parts };
 
     fn write<P: Places>(&self, writer: &mut EventWriter<'_, '_, P>) {
-        put_value(
-            writer,
-            names::SA_SCHEDULE_TUPLE_ID,
-            &self.sa_schedule_tuple_id,
-        );
+        put_value(writer, names::SA_SCHEDULE_TUPLE_ID, &self.sa_schedule_tuple_id);
         put_record(writer, names::P_MAX_SCHEDULE, &self.p_max_schedule);
     }
 }
 
-impl Record for SaScheduleTuple {
+impl Declared for SaScheduleTuple {
     ghost use Rattle.iso_schema.specs.Declarations.{kinds};
     ghost use Rattle.iso_schema.specs.Parameters.{sa_schedule_tuple};
-    ghost use Rattle.std.proofs.Common.{rules};
 
     ghost kinds = { kinds };
 
     ghost attributes = { [] };
 
     ghost particles = { sa_schedule_tuple };
+}
+
+impl<'a> Record<'a> for SaScheduleTuple {
+    ghost use Rattle.std.proofs.Common.{rules};
 
     type Made = Elements<(RequiredValue<u8>, Required<PMaxSchedule>, LeftOut)>;
 
     fn of(made: Self::Made) -> SaScheduleTuple {
-        let Elements((RequiredValue(sa_schedule_tuple_id), Required(p_max_schedule), LeftOut)) =
-            made;
-        SaScheduleTuple {
-            sa_schedule_tuple_id,
-            p_max_schedule,
-        }
+        let Elements((RequiredValue(sa_schedule_tuple_id), Required(p_max_schedule), LeftOut)) = made;
+        SaScheduleTuple { sa_schedule_tuple_id, p_max_schedule }
     }
 
     ghost declared = { Prim.search rules };
@@ -293,16 +281,19 @@ impl PutRecord for SaScheduleList {
     }
 }
 
-impl Record for SaScheduleList {
+impl Declared for SaScheduleList {
     ghost use Rattle.iso_schema.specs.Declarations.{kinds};
     ghost use Rattle.iso_schema.specs.Parameters.{sa_schedule_list};
-    ghost use Rattle.std.proofs.Common.{rules};
 
     ghost kinds = { kinds };
 
     ghost attributes = { [] };
 
     ghost particles = { sa_schedule_list };
+}
+
+impl<'a> Record<'a> for SaScheduleList {
+    ghost use Rattle.std.proofs.Common.{rules};
 
     type Made = Elements<Several<SaScheduleTuple, 3, { names::SA_SCHEDULE_TUPLE }>>;
 
@@ -337,11 +328,7 @@ impl PutChoice for SaSchedules {
 
     fn write_member<P: Places>(&self, writer: &mut EventWriter<'_, '_, P>) {
         match self {
-            SaSchedules::SaScheduleList(sa_schedule_list) => put_record(
-                writer,
-                names::SA_SCHEDULE_LIST,
-                sa_schedule_list,
-            ),
+            SaSchedules::SaScheduleList(sa_schedule_list) => put_record(writer, names::SA_SCHEDULE_LIST, sa_schedule_list),
         }
     }
 }

@@ -2,18 +2,13 @@
 
 ghost use Rattle.std.specs.Prelude.{[]};
 
-use crate::enumerations::{
-    EvErrorCode, EvseNotification, EvseStatusCode, IsolationLevel, UnitSymbol,
-};
+use crate::enumerations::{EvErrorCode, EvseNotification, EvseStatusCode, IsolationLevel, UnitSymbol};
 use exi_documents::Refusal;
 use exi_events::EventWriter;
 use exi_schema::Places;
 use iso_schema::names;
 use message_fields::{Elements, OptionalValue, RequiredValue};
-use message_parts::{
-    Alternatives, Binary, Choice, Descent, PutChoice, PutRecord, ReadRecord, Record, Text, Three,
-    member, put_optional_value, put_record, put_value, whole_record,
-};
+use message_parts::{Alternatives, Binary, Choice, Declared, Descent, PutChoice, PutRecord, ReadRecord, Record, Text, Three, member, put_optional_value, put_record, put_value, whole_record};
 
 /// PhysicalValue.
 #[derive(Clone, Copy, Debug, PartialEq, Eq, Default)]
@@ -38,25 +33,24 @@ impl PutRecord for PhysicalValue {
     }
 }
 
-impl Record for PhysicalValue {
+impl Declared for PhysicalValue {
     ghost use Rattle.iso_schema.specs.Declarations.{kinds};
     ghost use Rattle.iso_schema.specs.Frame.{physical_value};
-    ghost use Rattle.std.proofs.Common.{rules};
 
     ghost kinds = { kinds };
 
     ghost attributes = { [] };
 
     ghost particles = { physical_value };
+}
+
+impl<'a> Record<'a> for PhysicalValue {
+    ghost use Rattle.std.proofs.Common.{rules};
 
     type Made = Three<i8, UnitSymbol, i16>;
 
     fn of(made: Self::Made) -> PhysicalValue {
-        PhysicalValue {
-            multiplier: made.first,
-            unit: made.second,
-            value: made.third,
-        }
+        PhysicalValue { multiplier: made.first, unit: made.second, value: made.third }
     }
 
     ghost declared = { Prim.search rules };
@@ -93,25 +87,24 @@ impl PutRecord for DcEvStatus {
     }
 }
 
-impl Record for DcEvStatus {
+impl Declared for DcEvStatus {
     ghost use Rattle.iso_schema.specs.Declarations.{kinds};
     ghost use Rattle.iso_schema.specs.Frame.{dc_ev_status};
-    ghost use Rattle.std.proofs.Common.{rules};
 
     ghost kinds = { kinds };
 
     ghost attributes = { [] };
 
     ghost particles = { dc_ev_status };
+}
+
+impl<'a> Record<'a> for DcEvStatus {
+    ghost use Rattle.std.proofs.Common.{rules};
 
     type Made = Three<bool, EvErrorCode, u8>;
 
     fn of(made: Self::Made) -> DcEvStatus {
-        DcEvStatus {
-            ev_ready: made.first,
-            ev_error_code: made.second,
-            evress_soc: made.third,
-        }
+        DcEvStatus { ev_ready: made.first, ev_error_code: made.second, evress_soc: made.third }
     }
 
     ghost declared = { Prim.search rules };
@@ -141,35 +134,30 @@ impl PutRecord for AcEvseStatus {
     ghost parts = { ac_evse_status_parts };
 
     fn write<P: Places>(&self, writer: &mut EventWriter<'_, '_, P>) {
-        put_value(
-            writer,
-            names::NOTIFICATION_MAX_DELAY,
-            &self.notification_max_delay,
-        );
+        put_value(writer, names::NOTIFICATION_MAX_DELAY, &self.notification_max_delay);
         put_value(writer, names::EVSE_NOTIFICATION, &self.evse_notification);
         put_value(writer, names::RCD, &self.rcd);
     }
 }
 
-impl Record for AcEvseStatus {
+impl Declared for AcEvseStatus {
     ghost use Rattle.iso_schema.specs.Declarations.{kinds};
     ghost use Rattle.iso_schema.specs.Frame.{ac_evse_status};
-    ghost use Rattle.std.proofs.Common.{rules};
 
     ghost kinds = { kinds };
 
     ghost attributes = { [] };
 
     ghost particles = { ac_evse_status };
+}
+
+impl<'a> Record<'a> for AcEvseStatus {
+    ghost use Rattle.std.proofs.Common.{rules};
 
     type Made = Three<u16, EvseNotification, bool>;
 
     fn of(made: Self::Made) -> AcEvseStatus {
-        AcEvseStatus {
-            notification_max_delay: made.first,
-            evse_notification: made.second,
-            rcd: made.third,
-        }
+        AcEvseStatus { notification_max_delay: made.first, evse_notification: made.second, rcd: made.third }
     }
 
     ghost declared = { Prim.search rules };
@@ -200,56 +188,32 @@ impl PutRecord for DcEvseStatus {
     ghost parts = { dc_evse_status_parts };
 
     fn write<P: Places>(&self, writer: &mut EventWriter<'_, '_, P>) {
-        put_value(
-            writer,
-            names::NOTIFICATION_MAX_DELAY,
-            &self.notification_max_delay,
-        );
+        put_value(writer, names::NOTIFICATION_MAX_DELAY, &self.notification_max_delay);
         put_value(writer, names::EVSE_NOTIFICATION, &self.evse_notification);
-        put_optional_value(
-            writer,
-            names::EVSE_ISOLATION_STATUS,
-            &self.evse_isolation_status,
-        );
+        put_optional_value(writer, names::EVSE_ISOLATION_STATUS, &self.evse_isolation_status);
         put_value(writer, names::EVSE_STATUS_CODE, &self.evse_status_code);
     }
 }
 
-impl Record for DcEvseStatus {
+impl Declared for DcEvseStatus {
     ghost use Rattle.iso_schema.specs.Declarations.{kinds};
     ghost use Rattle.iso_schema.specs.Frame.{dc_evse_status};
-    ghost use Rattle.std.proofs.Common.{rules};
 
     ghost kinds = { kinds };
 
     ghost attributes = { [] };
 
     ghost particles = { dc_evse_status };
+}
 
-    type Made = Elements<
-        (
-            RequiredValue<u16>,
-            RequiredValue<EvseNotification>,
-            OptionalValue<IsolationLevel, { names::EVSE_ISOLATION_STATUS }>,
-            RequiredValue<EvseStatusCode>,
-        ),
-    >;
+impl<'a> Record<'a> for DcEvseStatus {
+    ghost use Rattle.std.proofs.Common.{rules};
+
+    type Made = Elements<(RequiredValue<u16>, RequiredValue<EvseNotification>, OptionalValue<IsolationLevel, { names::EVSE_ISOLATION_STATUS }>, RequiredValue<EvseStatusCode>)>;
 
     fn of(made: Self::Made) -> DcEvseStatus {
-        let Elements(
-            (
-                RequiredValue(notification_max_delay),
-                RequiredValue(evse_notification),
-                OptionalValue(evse_isolation_status),
-                RequiredValue(evse_status_code),
-            ),
-        ) = made;
-        DcEvseStatus {
-            notification_max_delay,
-            evse_notification,
-            evse_isolation_status,
-            evse_status_code,
-        }
+        let Elements((RequiredValue(notification_max_delay), RequiredValue(evse_notification), OptionalValue(evse_isolation_status), RequiredValue(evse_status_code))) = made;
+        DcEvseStatus { notification_max_delay, evse_notification, evse_isolation_status, evse_status_code }
     }
 
     ghost declared = { Prim.search rules };
@@ -332,49 +296,25 @@ impl PutRecord for MeterInfo<'_> {
     }
 }
 
-impl<'a> Record for MeterInfo<'a> {
+impl Declared for MeterInfo<'_> {
     ghost use Rattle.iso_schema.specs.Declarations.{kinds};
     ghost use Rattle.iso_schema.specs.Frame.{meter_info};
-    ghost use Rattle.std.proofs.Common.{rules};
 
     ghost kinds = { kinds };
 
     ghost attributes = { [] };
 
     ghost particles = { meter_info };
+}
 
-    type Made = Elements<
-        (
-            (
-                RequiredValue<Text<'a>>,
-                OptionalValue<u64, { names::METER_READING }>,
-                OptionalValue<Binary<'a>, { names::SIG_METER_READING }>,
-            ),
-            (
-                OptionalValue<i16, { names::METER_STATUS }>,
-                OptionalValue<i64, { names::T_METER }>,
-            ),
-        ),
-    >;
+impl<'a> Record<'a> for MeterInfo<'a> {
+    ghost use Rattle.std.proofs.Common.{rules};
+
+    type Made = Elements<((RequiredValue<Text<'a>>, OptionalValue<u64, { names::METER_READING }>, OptionalValue<Binary<'a>, { names::SIG_METER_READING }>), (OptionalValue<i16, { names::METER_STATUS }>, OptionalValue<i64, { names::T_METER }>))>;
 
     fn of(made: Self::Made) -> MeterInfo<'a> {
-        let Elements(
-            (
-                (
-                    RequiredValue(meter_id),
-                    OptionalValue(meter_reading),
-                    OptionalValue(sig_meter_reading),
-                ),
-                (OptionalValue(meter_status), OptionalValue(t_meter)),
-            ),
-        ) = made;
-        MeterInfo {
-            meter_id,
-            meter_reading,
-            sig_meter_reading,
-            meter_status,
-            t_meter,
-        }
+        let Elements(((RequiredValue(meter_id), OptionalValue(meter_reading), OptionalValue(sig_meter_reading)), (OptionalValue(meter_status), OptionalValue(t_meter)))) = made;
+        MeterInfo { meter_id, meter_reading, sig_meter_reading, meter_status, t_meter }
     }
 
     ghost declared = { Prim.search rules };

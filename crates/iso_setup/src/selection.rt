@@ -9,10 +9,7 @@ use exi_schema::Places;
 use iso_parts::{PaymentOption, ResponseCode};
 use iso_schema::names;
 use message_fields::{Elements, OptionalValue, Required, RequiredValue, Several};
-use message_parts::{
-    Descent, PutRecord, ReadRecord, Record, put_optional_value, put_record, put_records, put_value,
-    whole_record,
-};
+use message_parts::{Declared, Descent, PutRecord, ReadRecord, Record, put_optional_value, put_record, put_records, put_value, whole_record};
 
 /// SelectedService.
 #[derive(Clone, Copy, Debug, PartialEq, Eq, Default)]
@@ -34,30 +31,25 @@ impl PutRecord for SelectedService {
     }
 }
 
-impl Record for SelectedService {
+impl Declared for SelectedService {
     ghost use Rattle.iso_schema.specs.Declarations.{kinds};
     ghost use Rattle.iso_schema.specs.Setup.{selected_service};
-    ghost use Rattle.std.proofs.Common.{rules};
 
     ghost kinds = { kinds };
 
     ghost attributes = { [] };
 
     ghost particles = { selected_service };
+}
 
-    type Made = Elements<
-        (
-            RequiredValue<u16>,
-            OptionalValue<i16, { names::PARAMETER_SET_ID }>,
-        ),
-    >;
+impl<'a> Record<'a> for SelectedService {
+    ghost use Rattle.std.proofs.Common.{rules};
+
+    type Made = Elements<(RequiredValue<u16>, OptionalValue<i16, { names::PARAMETER_SET_ID }>)>;
 
     fn of(made: Self::Made) -> SelectedService {
         let Elements((RequiredValue(service_id), OptionalValue(parameter_set_id))) = made;
-        SelectedService {
-            service_id,
-            parameter_set_id,
-        }
+        SelectedService { service_id, parameter_set_id }
     }
 
     ghost declared = { Prim.search rules };
@@ -90,16 +82,19 @@ impl PutRecord for SelectedServiceList {
     }
 }
 
-impl Record for SelectedServiceList {
+impl Declared for SelectedServiceList {
     ghost use Rattle.iso_schema.specs.Declarations.{kinds};
     ghost use Rattle.iso_schema.specs.Setup.{selected_service_list};
-    ghost use Rattle.std.proofs.Common.{rules};
 
     ghost kinds = { kinds };
 
     ghost attributes = { [] };
 
     ghost particles = { selected_service_list };
+}
+
+impl<'a> Record<'a> for SelectedServiceList {
+    ghost use Rattle.std.proofs.Common.{rules};
 
     type Made = Elements<Several<SelectedService, 16, { names::SELECTED_SERVICE }>>;
 
@@ -134,39 +129,30 @@ impl PutRecord for PaymentServiceSelectionReq {
     ghost parts = { payment_service_selection_req_parts };
 
     fn write<P: Places>(&self, writer: &mut EventWriter<'_, '_, P>) {
-        put_value(
-            writer,
-            names::SELECTED_PAYMENT_OPTION,
-            &self.selected_payment_option,
-        );
-        put_record(
-            writer,
-            names::SELECTED_SERVICE_LIST,
-            &self.selected_service_list,
-        );
+        put_value(writer, names::SELECTED_PAYMENT_OPTION, &self.selected_payment_option);
+        put_record(writer, names::SELECTED_SERVICE_LIST, &self.selected_service_list);
     }
 }
 
-impl Record for PaymentServiceSelectionReq {
+impl Declared for PaymentServiceSelectionReq {
     ghost use Rattle.iso_schema.specs.Declarations.{kinds};
     ghost use Rattle.iso_schema.specs.Setup.{payment_service_selection_req};
-    ghost use Rattle.std.proofs.Common.{rules};
 
     ghost kinds = { kinds };
 
     ghost attributes = { [] };
 
     ghost particles = { payment_service_selection_req };
+}
+
+impl<'a> Record<'a> for PaymentServiceSelectionReq {
+    ghost use Rattle.std.proofs.Common.{rules};
 
     type Made = Elements<(RequiredValue<PaymentOption>, Required<SelectedServiceList>)>;
 
     fn of(made: Self::Made) -> PaymentServiceSelectionReq {
-        let Elements((RequiredValue(selected_payment_option), Required(selected_service_list))) =
-            made;
-        PaymentServiceSelectionReq {
-            selected_payment_option,
-            selected_service_list,
-        }
+        let Elements((RequiredValue(selected_payment_option), Required(selected_service_list))) = made;
+        PaymentServiceSelectionReq { selected_payment_option, selected_service_list }
     }
 
     ghost declared = { Prim.search rules };
@@ -175,9 +161,7 @@ impl Record for PaymentServiceSelectionReq {
 }
 
 impl<'a> ReadRecord<'a> for PaymentServiceSelectionReq {
-    fn read<P: Places>(
-        descent: &mut Descent<'a, '_, P>,
-    ) -> Result<PaymentServiceSelectionReq, Refusal> {
+    fn read<P: Places>(descent: &mut Descent<'a, '_, P>) -> Result<PaymentServiceSelectionReq, Refusal> {
         whole_record(descent)
     }
 }
@@ -200,16 +184,19 @@ impl PutRecord for PaymentServiceSelectionRes {
     }
 }
 
-impl Record for PaymentServiceSelectionRes {
+impl Declared for PaymentServiceSelectionRes {
     ghost use Rattle.iso_schema.specs.Declarations.{kinds};
     ghost use Rattle.iso_schema.specs.Setup.{payment_service_selection_res};
-    ghost use Rattle.std.proofs.Common.{rules};
 
     ghost kinds = { kinds };
 
     ghost attributes = { [] };
 
     ghost particles = { payment_service_selection_res };
+}
+
+impl<'a> Record<'a> for PaymentServiceSelectionRes {
+    ghost use Rattle.std.proofs.Common.{rules};
 
     type Made = Elements<RequiredValue<ResponseCode>>;
 
@@ -224,9 +211,7 @@ impl Record for PaymentServiceSelectionRes {
 }
 
 impl<'a> ReadRecord<'a> for PaymentServiceSelectionRes {
-    fn read<P: Places>(
-        descent: &mut Descent<'a, '_, P>,
-    ) -> Result<PaymentServiceSelectionRes, Refusal> {
+    fn read<P: Places>(descent: &mut Descent<'a, '_, P>) -> Result<PaymentServiceSelectionRes, Refusal> {
         whole_record(descent)
     }
 }

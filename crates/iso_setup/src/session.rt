@@ -8,10 +8,7 @@ use exi_schema::Places;
 use iso_parts::{ChargingSession, EvseProcessing, ResponseCode};
 use iso_schema::names;
 use message_fields::{Elements, OptionalValue, RequiredValue, WithOptionalAttribute};
-use message_parts::{
-    Binary, Descent, PutRecord, ReadRecord, Record, Text, put_optional_attribute,
-    put_optional_value, put_value, whole_record,
-};
+use message_parts::{Binary, Declared, Descent, PutRecord, ReadRecord, Record, Text, put_optional_attribute, put_optional_value, put_value, whole_record};
 
 /// SessionSetupReq.
 #[derive(Drop)]
@@ -32,16 +29,19 @@ impl PutRecord for SessionSetupReq<'_> {
     }
 }
 
-impl<'a> Record for SessionSetupReq<'a> {
+impl Declared for SessionSetupReq<'_> {
     ghost use Rattle.iso_schema.specs.Declarations.{kinds};
     ghost use Rattle.iso_schema.specs.Setup.{session_setup_req};
-    ghost use Rattle.std.proofs.Common.{rules};
 
     ghost kinds = { kinds };
 
     ghost attributes = { [] };
 
     ghost particles = { session_setup_req };
+}
+
+impl<'a> Record<'a> for SessionSetupReq<'a> {
+    ghost use Rattle.std.proofs.Common.{rules};
 
     type Made = Elements<RequiredValue<Binary<'a>>>;
 
@@ -84,34 +84,25 @@ impl PutRecord for SessionSetupRes<'_> {
     }
 }
 
-impl<'a> Record for SessionSetupRes<'a> {
+impl Declared for SessionSetupRes<'_> {
     ghost use Rattle.iso_schema.specs.Declarations.{kinds};
     ghost use Rattle.iso_schema.specs.Setup.{session_setup_res};
-    ghost use Rattle.std.proofs.Common.{rules};
 
     ghost kinds = { kinds };
 
     ghost attributes = { [] };
 
     ghost particles = { session_setup_res };
+}
 
-    type Made = Elements<
-        (
-            RequiredValue<ResponseCode>,
-            RequiredValue<Text<'a>>,
-            OptionalValue<i64, { names::EVSE_TIME_STAMP }>,
-        ),
-    >;
+impl<'a> Record<'a> for SessionSetupRes<'a> {
+    ghost use Rattle.std.proofs.Common.{rules};
+
+    type Made = Elements<(RequiredValue<ResponseCode>, RequiredValue<Text<'a>>, OptionalValue<i64, { names::EVSE_TIME_STAMP }>)>;
 
     fn of(made: Self::Made) -> SessionSetupRes<'a> {
-        let Elements(
-            (RequiredValue(response_code), RequiredValue(evseid), OptionalValue(evse_time_stamp)),
-        ) = made;
-        SessionSetupRes {
-            response_code,
-            evseid,
-            evse_time_stamp,
-        }
+        let Elements((RequiredValue(response_code), RequiredValue(evseid), OptionalValue(evse_time_stamp))) = made;
+        SessionSetupRes { response_code, evseid, evse_time_stamp }
     }
 
     ghost declared = { Prim.search rules };
@@ -147,22 +138,22 @@ impl PutRecord for AuthorizationReq<'_> {
     }
 }
 
-impl<'a> Record for AuthorizationReq<'a> {
+impl Declared for AuthorizationReq<'_> {
     ghost use Rattle.iso_schema.specs.Declarations.{kinds};
     ghost use Rattle.iso_schema.specs.Setup.{authorization_req};
     ghost use Rattle.iso_setup.specs.Session.{authorization_req_attributes};
-    ghost use Rattle.std.proofs.Common.{rules};
 
     ghost kinds = { kinds };
 
     ghost attributes = { authorization_req_attributes };
 
     ghost particles = { authorization_req };
+}
 
-    type Made = WithOptionalAttribute<
-        Text<'a>,
-        OptionalValue<Binary<'a>, { names::GEN_CHALLENGE }>,
-    >;
+impl<'a> Record<'a> for AuthorizationReq<'a> {
+    ghost use Rattle.std.proofs.Common.{rules};
+
+    type Made = WithOptionalAttribute<Text<'a>, OptionalValue<Binary<'a>, { names::GEN_CHALLENGE }>>;
 
     fn of(made: Self::Made) -> AuthorizationReq<'a> {
         let WithOptionalAttribute(id, OptionalValue(gen_challenge)) = made;
@@ -200,25 +191,25 @@ impl PutRecord for AuthorizationRes {
     }
 }
 
-impl Record for AuthorizationRes {
+impl Declared for AuthorizationRes {
     ghost use Rattle.iso_schema.specs.Declarations.{kinds};
     ghost use Rattle.iso_schema.specs.Setup.{authorization_res};
-    ghost use Rattle.std.proofs.Common.{rules};
 
     ghost kinds = { kinds };
 
     ghost attributes = { [] };
 
     ghost particles = { authorization_res };
+}
+
+impl<'a> Record<'a> for AuthorizationRes {
+    ghost use Rattle.std.proofs.Common.{rules};
 
     type Made = Elements<(RequiredValue<ResponseCode>, RequiredValue<EvseProcessing>)>;
 
     fn of(made: Self::Made) -> AuthorizationRes {
         let Elements((RequiredValue(response_code), RequiredValue(evse_processing))) = made;
-        AuthorizationRes {
-            response_code,
-            evse_processing,
-        }
+        AuthorizationRes { response_code, evse_processing }
     }
 
     ghost declared = { Prim.search rules };
@@ -250,16 +241,19 @@ impl PutRecord for SessionStopReq {
     }
 }
 
-impl Record for SessionStopReq {
+impl Declared for SessionStopReq {
     ghost use Rattle.iso_schema.specs.Declarations.{kinds};
     ghost use Rattle.iso_schema.specs.Setup.{session_stop_req};
-    ghost use Rattle.std.proofs.Common.{rules};
 
     ghost kinds = { kinds };
 
     ghost attributes = { [] };
 
     ghost particles = { session_stop_req };
+}
+
+impl<'a> Record<'a> for SessionStopReq {
+    ghost use Rattle.std.proofs.Common.{rules};
 
     type Made = Elements<RequiredValue<ChargingSession>>;
 
@@ -297,16 +291,19 @@ impl PutRecord for SessionStopRes {
     }
 }
 
-impl Record for SessionStopRes {
+impl Declared for SessionStopRes {
     ghost use Rattle.iso_schema.specs.Declarations.{kinds};
     ghost use Rattle.iso_schema.specs.Setup.{session_stop_res};
-    ghost use Rattle.std.proofs.Common.{rules};
 
     ghost kinds = { kinds };
 
     ghost attributes = { [] };
 
     ghost particles = { session_stop_res };
+}
+
+impl<'a> Record<'a> for SessionStopRes {
+    ghost use Rattle.std.proofs.Common.{rules};
 
     type Made = Elements<RequiredValue<ResponseCode>>;
 

@@ -10,4 +10,4 @@ pub use singles::{
     AtMostOneOf, LeftOut, OneOf, Optional, OptionalValue, Required, RequiredValue, Several,
     SeveralValues,
 };
-pub use tuples::{Children, ReadChildren};
+pub use tuples::Children;

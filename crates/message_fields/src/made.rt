@@ -5,12 +5,10 @@ ghost use Rattle.exi_documents.specs.Trees.{Attribute};
 ghost use Rattle.message_parts.specs.Contents.{mapped, told_maybe};
 ghost use Rattle.message_parts.specs.Particles.{attribute_at, is_last_may, is_must, takes_attribute};
 
-use crate::tuples::{Children, ReadChildren, first_children};
+use crate::tuples::{Children, first_children};
 use exi_documents::Refusal;
 use exi_schema::Places;
-use message_parts::{
-    Contents, Descent, ReadContents, ReadSimple, Simple, attribute, last_attribute,
-};
+use message_parts::{Contents, Descent, ReadSimple, attribute, last_attribute};
 
 /// Children alone.
 #[derive(Drop)]
@@ -24,27 +22,23 @@ pub struct WithAttribute<T, C>(pub T, pub C);
 #[derive(Drop)]
 pub struct WithOptionalAttribute<T, C>(pub Option<T>, pub C);
 
-impl<C: Children> Contents for Elements<C> {
+impl<'a, C: Children<'a>> Contents<'a> for Elements<C> {
     ghost stand = { λ ks attributes declared. (0 ≡ length attributes) × (C.behind 0 ≡ length declared) × C.stand ks declared 0 };
 
     ghost told = { λ attributes declared v before. C.told declared 0 v.0 before };
-}
 
-impl<'a, C: ReadChildren<'a>> ReadContents<'a> for Elements<C> {
     #[inline(always)]
     fn read<P: Places>(descent: &mut Descent<'a, '_, P>) -> Result<Elements<C>, Refusal> {
         Ok(Elements(first_children(descent)?))
     }
 }
 
-impl<T: Simple, C: Children> Contents for WithAttribute<T, C> {
+impl<'a, T: ReadSimple<'a>, C: Children<'a>> Contents<'a> for WithAttribute<T, C> {
     ghost stand = { λ ks attributes declared. (1 ≡ length attributes) × (is_must (slice_get attributes 0) ≡ true) × (takes_attribute T.takes ks attributes 0 ≡ true)
         × (C.behind 0 ≡ length declared) × C.stand ks declared 0 };
 
     ghost told = { λ attributes declared v before. C.told declared 0 v.1 (Attribute (attribute_at attributes 0) (T.value v.0) ∷ before) };
-}
 
-impl<'a, T: ReadSimple<'a>, C: ReadChildren<'a>> ReadContents<'a> for WithAttribute<T, C> {
     #[inline(always)]
     fn read<P: Places>(descent: &mut Descent<'a, '_, P>) -> Result<WithAttribute<T, C>, Refusal> {
         let value = attribute(descent)?;
@@ -52,14 +46,12 @@ impl<'a, T: ReadSimple<'a>, C: ReadChildren<'a>> ReadContents<'a> for WithAttrib
     }
 }
 
-impl<T: Simple, C: Children> Contents for WithOptionalAttribute<T, C> {
+impl<'a, T: ReadSimple<'a>, C: Children<'a>> Contents<'a> for WithOptionalAttribute<T, C> {
     ghost stand = { λ ks attributes declared. (is_last_may attributes 0 ≡ true) × (takes_attribute T.takes ks attributes 0 ≡ true)
         × (C.behind 0 ≡ length declared) × C.stand ks declared 0 };
 
     ghost told = { λ attributes declared v before. C.told declared 0 v.1 (told_maybe (attribute_at attributes 0) (mapped T.value v.0) before) };
-}
 
-impl<'a, T: ReadSimple<'a>, C: ReadChildren<'a>> ReadContents<'a> for WithOptionalAttribute<T, C> {
     #[inline(always)]
     fn read<P: Places>(
         descent: &mut Descent<'a, '_, P>,

@@ -5,13 +5,13 @@ ghost use Rattle.exi_schema.specs.Plain.{containing};
 ghost use Rattle.message_parts.specs.Contents.{Of, holding_with, mapped, told_choice, told_each, told_one, told_perhaps};
 ghost use Rattle.message_parts.specs.Particles.{alternatives_at, is_left_out, is_once_at, is_optional_at, is_repeated_at, is_required, is_single, kind_at, name_at, takes_at};
 
-use crate::tuples::{Children, ReadChildren};
+use crate::tuples::Children;
 use arrayvec::ArrayVec;
 use exi_documents::Refusal;
 use exi_schema::Places;
 use message_parts::{
-    Alternatives, Choice, Descent, Group, ReadRecord, ReadSimple, Record, Simple, choice, left_out,
-    optional, optional_choice, optional_value, records, required, value, values,
+    Choice, Descent, Group, ReadRecord, ReadSimple, choice, left_out, optional, optional_choice,
+    optional_value, records, required, value, values,
 };
 
 /// An element with attributes and children that has to be there.
@@ -50,31 +50,27 @@ pub struct SeveralValues<T, const MOST: usize, const NAME: u16>(pub ArrayVec<T, 
 #[derive(Drop)]
 pub struct LeftOut;
 
-impl<T: Record> Children for Required<T> {
+impl<'a, T: ReadRecord<'a>> Children<'a> for Required<T> {
     ghost stand = { λ ks declared at. (ks ≡ T.kinds) × (is_once_at declared at ≡ true) × (slice_get T.kinds (kind_at declared at) ≡ Some (containing T.attributes T.particles)) };
 
     ghost behind = { λ at. suc at };
 
     ghost told = { λ declared at v before. told_one (name_at declared at) (holding_with (T.given v.0) (T.parts v.0)) before };
-}
 
-impl<'a, T: ReadRecord<'a>> ReadChildren<'a> for Required<T> {
     #[inline(always)]
     fn read_children<P: Places>(descent: &mut Descent<'a, '_, P>) -> Result<Required<T>, Refusal> {
         Ok(Required(required(descent)?))
     }
 }
 
-impl<T: Record, const NAME: u16> Children for Optional<T, NAME> {
+impl<'a, T: ReadRecord<'a>, const NAME: u16> Children<'a> for Optional<T, NAME> {
     ghost stand = { λ ks declared at. (ks ≡ T.kinds) × (is_optional_at declared at ≡ true) × (NAME ≡ name_at declared at)
         × (slice_get T.kinds (kind_at declared at) ≡ Some (containing T.attributes T.particles)) };
 
     ghost behind = { λ at. suc at };
 
     ghost told = { λ declared at v before. told_perhaps NAME (mapped (λ x. holding_with (T.given x) (T.parts x)) v.0) before };
-}
 
-impl<'a, T: ReadRecord<'a>, const NAME: u16> ReadChildren<'a> for Optional<T, NAME> {
     #[inline(always)]
     fn read_children<P: Places>(
         descent: &mut Descent<'a, '_, P>,
@@ -83,15 +79,13 @@ impl<'a, T: ReadRecord<'a>, const NAME: u16> ReadChildren<'a> for Optional<T, NA
     }
 }
 
-impl<T: Simple> Children for RequiredValue<T> {
+impl<'a, T: ReadSimple<'a>> Children<'a> for RequiredValue<T> {
     ghost stand = { λ ks declared at. (is_once_at declared at ≡ true) × (takes_at T.takes ks declared at ≡ true) };
 
     ghost behind = { λ at. suc at };
 
     ghost told = { λ declared at v before. told_one (name_at declared at) (Of (T.value v.0)) before };
-}
 
-impl<'a, T: ReadSimple<'a>> ReadChildren<'a> for RequiredValue<T> {
     #[inline(always)]
     fn read_children<P: Places>(
         descent: &mut Descent<'a, '_, P>,
@@ -100,15 +94,13 @@ impl<'a, T: ReadSimple<'a>> ReadChildren<'a> for RequiredValue<T> {
     }
 }
 
-impl<T: Simple, const NAME: u16> Children for OptionalValue<T, NAME> {
+impl<'a, T: ReadSimple<'a>, const NAME: u16> Children<'a> for OptionalValue<T, NAME> {
     ghost stand = { λ ks declared at. (is_optional_at declared at ≡ true) × (NAME ≡ name_at declared at) × (takes_at T.takes ks declared at ≡ true) };
 
     ghost behind = { λ at. suc at };
 
     ghost told = { λ declared at v before. told_perhaps NAME (mapped (λ x. Of (T.value x)) v.0) before };
-}
 
-impl<'a, T: ReadSimple<'a>, const NAME: u16> ReadChildren<'a> for OptionalValue<T, NAME> {
     #[inline(always)]
     fn read_children<P: Places>(
         descent: &mut Descent<'a, '_, P>,
@@ -117,30 +109,26 @@ impl<'a, T: ReadSimple<'a>, const NAME: u16> ReadChildren<'a> for OptionalValue<
     }
 }
 
-impl<T: Alternatives> Children for OneOf<T> {
+impl<'a, T: Choice<'a>> Children<'a> for OneOf<T> {
     ghost stand = { λ ks declared at. (ks ≡ T.kinds) × (is_required (slice_get declared at) ≡ true) × (alternatives_at declared at ≡ T.members) };
 
     ghost behind = { λ at. suc at };
 
     ghost told = { λ declared at v before. told_one (T.name v.0) (T.inside v.0) before };
-}
 
-impl<'a, T: Choice<'a>> ReadChildren<'a> for OneOf<T> {
     #[inline(always)]
     fn read_children<P: Places>(descent: &mut Descent<'a, '_, P>) -> Result<OneOf<T>, Refusal> {
         Ok(OneOf(choice(descent)?))
     }
 }
 
-impl<T: Alternatives> Children for AtMostOneOf<T> {
+impl<'a, T: Group<'a>> Children<'a> for AtMostOneOf<T> {
     ghost stand = { λ ks declared at. (ks ≡ T.kinds) × (is_single (slice_get declared at) ≡ true) × (alternatives_at declared at ≡ T.members) };
 
     ghost behind = { λ at. suc at };
 
     ghost told = { λ declared at v before. told_choice (mapped (λ x. (T.name x, T.inside x)) v.0) before };
-}
 
-impl<'a, T: Group<'a>> ReadChildren<'a> for AtMostOneOf<T> {
     #[inline(always)]
     fn read_children<P: Places>(
         descent: &mut Descent<'a, '_, P>,
@@ -149,17 +137,15 @@ impl<'a, T: Group<'a>> ReadChildren<'a> for AtMostOneOf<T> {
     }
 }
 
-impl<T: Record, const MOST: usize, const NAME: u16> Children for Several<T, MOST, NAME> {
+impl<'a, T: ReadRecord<'a> + Default, const MOST: usize, const NAME: u16> Children<'a>
+    for Several<T, MOST, NAME> {
     ghost stand = { λ ks declared at. (ks ≡ T.kinds) × (is_repeated_at declared at MOST ≡ true) × (NAME ≡ name_at declared at)
         × (slice_get T.kinds (kind_at declared at) ≡ Some (containing T.attributes T.particles)) };
 
     ghost behind = { λ at. suc at };
 
     ghost told = { λ declared at v before. told_each NAME (map (λ x. holding_with (T.given x) (T.parts x)) v.0.items) before };
-}
 
-impl<'a, T: ReadRecord<'a> + Default, const MOST: usize, const NAME: u16> ReadChildren<'a>
-    for Several<T, MOST, NAME> {
     #[inline(always)]
     fn read_children<P: Places>(
         descent: &mut Descent<'a, '_, P>,
@@ -168,16 +154,14 @@ impl<'a, T: ReadRecord<'a> + Default, const MOST: usize, const NAME: u16> ReadCh
     }
 }
 
-impl<T: Simple, const MOST: usize, const NAME: u16> Children for SeveralValues<T, MOST, NAME> {
+impl<'a, T: ReadSimple<'a> + Default, const MOST: usize, const NAME: u16> Children<'a>
+    for SeveralValues<T, MOST, NAME> {
     ghost stand = { λ ks declared at. (is_repeated_at declared at MOST ≡ true) × (NAME ≡ name_at declared at) × (takes_at T.takes ks declared at ≡ true) };
 
     ghost behind = { λ at. suc at };
 
     ghost told = { λ declared at v before. told_each NAME (map (λ x. Of (T.value x)) v.0.items) before };
-}
 
-impl<'a, T: ReadSimple<'a> + Default, const MOST: usize, const NAME: u16> ReadChildren<'a>
-    for SeveralValues<T, MOST, NAME> {
     #[inline(always)]
     fn read_children<P: Places>(
         descent: &mut Descent<'a, '_, P>,
@@ -186,15 +170,13 @@ impl<'a, T: ReadSimple<'a> + Default, const MOST: usize, const NAME: u16> ReadCh
     }
 }
 
-impl Children for LeftOut {
+impl<'a> Children<'a> for LeftOut {
     ghost stand = { λ ks declared at. is_left_out (slice_get declared at) ≡ true };
 
     ghost behind = { λ at. suc at };
 
     ghost told = { λ declared at v before. before };
-}
 
-impl<'a> ReadChildren<'a> for LeftOut {
     #[inline(always)]
     fn read_children<P: Places>(descent: &mut Descent<'a, '_, P>) -> Result<LeftOut, Refusal> {
         left_out(descent);
@@ -202,15 +184,13 @@ impl<'a> ReadChildren<'a> for LeftOut {
     }
 }
 
-impl Children for () {
+impl<'a> Children<'a> for () {
     ghost stand = { λ ks declared at. Unit {0} };
 
     ghost behind = { λ at. at };
 
     ghost told = { λ declared at v before. before };
-}
 
-impl<'a> ReadChildren<'a> for () {
     #[inline(always)]
     fn read_children<P: Places>(_descent: &mut Descent<'a, '_, P>) -> Result<(), Refusal> {
         Ok(())

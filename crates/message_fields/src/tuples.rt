@@ -11,7 +11,7 @@ use exi_schema::Places;
 use message_parts::{Descent, first_child};
 
 /// Some children of an element, one behind the other.
-pub trait Children: Drop {
+pub trait Children<'a>: Drop {
     /// Whether they are declared from this particle on.
     ghost stand: { List PlainKind → List PlainParticle → ℕ → Type 0 };
 
@@ -20,10 +20,7 @@ pub trait Children: Drop {
 
     /// What is told with them, the newest first.
     ghost told: { List PlainParticle → ℕ → Self → List TreeEvent → List TreeEvent };
-}
 
-/// How they are read.
-pub trait ReadChildren<'a>: Children {
     /// Reads them, up to the start of the next child.
     fn read_children<P: Places>(descent: &mut Descent<'a, '_, P>) -> Result<Self, Refusal>
         requires open { IsOpen P.schema descent.old }
@@ -33,19 +30,17 @@ pub trait ReadChildren<'a>: Children {
         ensures payload { descent.new.reader.reader.bits ≡ descent.old.reader.reader.bits }
         ensures refused { IfErr result (λ r. IsRefusal (seen_of P.schema descent.old) r) }
         ensures read { (ks : List PlainKind) (F : Frame) (attributes : List AttributeOf) (declared : List PlainParticle) (at : ℕ) (before : List TreeEvent)
-            → Reads ks F attributes declared at before (seen_of P.schema descent.old) → Self.stand ks declared at
-            → IfOk result (λ v. Reads ks F attributes declared (Self.behind at) (Self.told declared at v before) (seen_of P.schema descent.new)) };
+            → Reads ks F attributes declared at before (seen_of P.schema descent.old) → stand ks declared at
+            → IfOk result (λ v. Reads ks F attributes declared (behind at) (told declared at v before) (seen_of P.schema descent.new)) };
 }
 
-impl<A: Children, B: Children> Children for (A, B) {
+impl<'a, A: Children<'a>, B: Children<'a>> Children<'a> for (A, B) {
     ghost stand = { λ ks declared at. A.stand ks declared at × B.stand ks declared (A.behind at) };
 
     ghost behind = { λ at. B.behind (A.behind at) };
 
     ghost told = { λ declared at v before. B.told declared (A.behind at) v.1 (A.told declared at v.0 before) };
-}
 
-impl<'a, A: ReadChildren<'a>, B: ReadChildren<'a>> ReadChildren<'a> for (A, B) {
     #[inline(always)]
     fn read_children<P: Places>(descent: &mut Descent<'a, '_, P>) -> Result<(A, B), Refusal> {
         let a = A::read_children(descent)?;
@@ -54,16 +49,13 @@ impl<'a, A: ReadChildren<'a>, B: ReadChildren<'a>> ReadChildren<'a> for (A, B) {
     }
 }
 
-impl<A: Children, B: Children, C: Children> Children for (A, B, C) {
+impl<'a, A: Children<'a>, B: Children<'a>, C: Children<'a>> Children<'a> for (A, B, C) {
     ghost stand = { λ ks declared at. A.stand ks declared at × B.stand ks declared (A.behind at) × C.stand ks declared (B.behind (A.behind at)) };
 
     ghost behind = { λ at. C.behind (B.behind (A.behind at)) };
 
     ghost told = { λ declared at v before. C.told declared (B.behind (A.behind at)) v.2 (B.told declared (A.behind at) v.1 (A.told declared at v.0 before)) };
-}
 
-impl<'a, A: ReadChildren<'a>, B: ReadChildren<'a>, C: ReadChildren<'a>> ReadChildren<'a>
-    for (A, B, C) {
     #[inline(always)]
     fn read_children<P: Places>(descent: &mut Descent<'a, '_, P>) -> Result<(A, B, C), Refusal> {
         let a = A::read_children(descent)?;
@@ -73,7 +65,8 @@ impl<'a, A: ReadChildren<'a>, B: ReadChildren<'a>, C: ReadChildren<'a>> ReadChil
     }
 }
 
-impl<A: Children, B: Children, C: Children, D: Children> Children for (A, B, C, D) {
+impl<'a, A: Children<'a>, B: Children<'a>, C: Children<'a>, D: Children<'a>> Children<'a>
+    for (A, B, C, D) {
     ghost stand = { λ ks declared at. A.stand ks declared at × B.stand ks declared (A.behind at) × C.stand ks declared (B.behind (A.behind at))
         × D.stand ks declared (C.behind (B.behind (A.behind at))) };
 
@@ -81,15 +74,7 @@ impl<A: Children, B: Children, C: Children, D: Children> Children for (A, B, C, 
 
     ghost told = { λ declared at v before. D.told declared (C.behind (B.behind (A.behind at))) v.3
         (C.told declared (B.behind (A.behind at)) v.2 (B.told declared (A.behind at) v.1 (A.told declared at v.0 before))) };
-}
 
-impl<
-    'a,
-    A: ReadChildren<'a>,
-    B: ReadChildren<'a>,
-    C: ReadChildren<'a>,
-    D: ReadChildren<'a>,
-> ReadChildren<'a> for (A, B, C, D) {
     #[inline(always)]
     fn read_children<P: Places>(descent: &mut Descent<'a, '_, P>) -> Result<(A, B, C, D), Refusal> {
         let a = A::read_children(descent)?;
@@ -102,7 +87,7 @@ impl<
 
 /// The first children of an element, behind its last attribute that has to be there.
 #[inline(always)]
-pub(crate) fn first_children<'a, T: ReadChildren<'a>, P: Places>(
+pub(crate) fn first_children<'a, T: Children<'a>, P: Places>(
     descent: &mut Descent<'a, '_, P>,
 ) -> Result<T, Refusal>
     requires open { IsOpen P.schema descent.old }

@@ -14,8 +14,7 @@ ghost use Rattle.message_parts.specs.Sequence.{HoldsValues, ReadsThree, told_thr
 
 use crate::descent::Descent;
 use crate::part::{
-    Choice, Contents, Group, LargeGroup, LargeRecord, ReadContents, ReadRecord, ReadSimple, Record,
-    Simple,
+    Choice, Contents, Group, LargeGroup, LargeRecord, ReadRecord, ReadSimple, Record,
 };
 use arrayvec::ArrayVec;
 use exi_documents::Refusal;
@@ -41,11 +40,9 @@ fn simple_inside<'a, T: ReadSimple<'a>, P: Places>(
 }
 
 /// The attributes and the elements of a record, up to where there is no more.
-pub fn whole_record<'a, T: Record, P: Places>(
+pub fn whole_record<'a, T: Record<'a>, P: Places>(
     descent: &mut Descent<'a, '_, P>,
 ) -> Result<T, Refusal>
-where
-    T::Made: ReadContents<'a>,
     requires open { IsOpen P.schema descent.old }
     ensures open { IsOpen P.schema descent.new }
     ensures table { descent.new.reader.table.ghost_name ≡ descent.old.reader.table.ghost_name }
@@ -215,14 +212,11 @@ pub struct Three<A, B, C> {
     pub third: C,
 }
 
-impl<A: Simple, B: Simple, C: Simple> Contents for Three<A, B, C> {
+impl<'a, A: ReadSimple<'a>, B: ReadSimple<'a>, C: ReadSimple<'a>> Contents<'a> for Three<A, B, C> {
     ghost stand = { λ ks attributes declared. (attributes ≡ []) × HoldsValues A.takes B.takes C.takes ks declared };
 
     ghost told = { λ attributes declared v before. told_three declared (A.value v.first) (B.value v.second) (C.value v.third) before };
-}
 
-impl<'a, A: ReadSimple<'a>, B: ReadSimple<'a>, C: ReadSimple<'a>> ReadContents<'a>
-    for Three<A, B, C> {
     #[inline(always)]
     fn read<P: Places>(descent: &mut Descent<'a, '_, P>) -> Result<Three<A, B, C>, Refusal> {
         three_values(descent)

@@ -59,16 +59,13 @@ pub trait PutRecord: Drop {
 }
 
 /// Attributes and elements of which a record is made.
-pub trait Contents: Drop {
+pub trait Contents<'a>: Drop {
     /// Whether they are what these attributes and particles declare.
     ghost stand: { List PlainKind → List AttributeOf → List PlainParticle → Type 0 };
 
     /// What is told with them, the newest first.
     ghost told: { List AttributeOf → List PlainParticle → Self → List TreeEvent → List TreeEvent };
-}
 
-/// How they are read.
-pub trait ReadContents<'a>: Contents {
     /// Reads them, up to where there is no more.
     fn read<P: Places>(descent: &mut Descent<'a, '_, P>) -> Result<Self, Refusal>
         requires open { IsOpen P.schema descent.old }
@@ -78,12 +75,12 @@ pub trait ReadContents<'a>: Contents {
         ensures payload { descent.new.reader.reader.bits ≡ descent.old.reader.reader.bits }
         ensures refused { IfErr result (λ r. IsRefusal (seen_of P.schema descent.old) r) }
         ensures read { (ks : List PlainKind) (F : Frame) (attributes : List AttributeOf) (declared : List PlainParticle) (before : List TreeEvent)
-            → StartsAt ks F attributes declared 0 before (seen_of P.schema descent.old) → Self.stand ks attributes declared
-            → IfOk result (λ v. Reads ks F attributes declared (length declared) (Self.told attributes declared v before) (seen_of P.schema descent.new)) };
+            → StartsAt ks F attributes declared 0 before (seen_of P.schema descent.old) → stand ks attributes declared
+            → IfOk result (λ v. Reads ks F attributes declared (length declared) (told attributes declared v before) (seen_of P.schema descent.new)) };
 }
 
-/// What an element of a complex kind contains, and of what it is made.
-pub trait Record: PutRecord {
+/// What an element of a complex kind contains, and how it is declared.
+pub trait Declared: PutRecord {
     /// The declarations of its schema.
     ghost kinds: { List PlainKind };
 
@@ -92,23 +89,26 @@ pub trait Record: PutRecord {
 
     /// Those of its elements.
     ghost particles: { List PlainParticle };
+}
 
+/// What an element of a complex kind contains, and of what it is made.
+pub trait Record<'a>: Declared {
     /// Of what it is made.
-    type Made: Contents;
+    type Made: Contents<'a>;
 
     /// It, made of that.
     fn of(made: Self::Made) -> Self
-        ensures { (before : List TreeEvent) → Self.Made.told attributes particles made before ≡ told_parts (Self.parts result) (told_given (Self.given result) before) };
+        ensures { (before : List TreeEvent) → Self.Made.told Self.attributes Self.particles made before ≡ told_parts (Self.parts result) (told_given (Self.given result) before) };
 
     /// That is what is declared.
-    ghost declared: { Self.Made.stand kinds attributes particles };
+    ghost declared: { Self.Made.stand Self.kinds Self.attributes Self.particles };
 
     /// No two elements have one name.
-    ghost apart: { are_distinct (names_in particles) ≡ true };
+    ghost apart: { are_distinct (names_in Self.particles) ≡ true };
 }
 
-/// A record that others hold: a function of its own reads it, so that what reads the others names no more than that.
-pub trait ReadRecord<'a>: Record {
+/// What an element of a complex kind contains, as it is read.
+pub trait ReadRecord<'a>: Declared {
     /// Reads the attributes and the elements, up to where there is no more.
     fn read<P: Places>(descent: &mut Descent<'a, '_, P>) -> Result<Self, Refusal>
         requires open { IsOpen P.schema descent.old }
@@ -123,17 +123,8 @@ pub trait ReadRecord<'a>: Record {
 }
 
 /// What an element of a complex kind contains, as it is read into a place that the caller lends: for types that are too large to move.
-pub trait LargeRecord<'a>: PutRecord {
-    /// The declarations of its schema.
-    ghost kinds: { List PlainKind };
-
-    /// Those of its attributes.
-    ghost attributes: { List AttributeOf };
-
-    /// Those of its elements.
-    ghost particles: { List PlainParticle };
-
-    /// Reads the attributes and the elements, up to where there is no more. What it is after a refusal is not told.
+pub trait LargeRecord<'a>: Declared {
+    /// Reads the attributes and the elements. What it is after a refusal is not told.
     fn read_here<P: Places>(&mut self, descent: &mut Descent<'a, '_, P>) -> Result<(), Refusal>
         requires open { IsOpen P.schema descent.old }
         ensures open { IsOpen P.schema descent.new }
@@ -142,9 +133,9 @@ pub trait LargeRecord<'a>: PutRecord {
         ensures payload { descent.new.reader.reader.bits ≡ descent.old.reader.reader.bits }
         ensures refused { IfErr result (λ r. IsRefusal (seen_of P.schema descent.old) r) }
         // No two elements have one name.
-        ensures distinct { are_distinct (names_in particles) ≡ true }
-        ensures read { (F : Frame) (told : List TreeEvent) → StartsAt kinds F attributes particles 0 told (seen_of P.schema descent.old)
-            → IfOk result (λ _. Reads kinds F attributes particles (length particles) (told_parts (Self.parts self.new) (told_given (Self.given self.new) told)) (seen_of P.schema descent.new)) };
+        ensures distinct { are_distinct (names_in Self.particles) ≡ true }
+        ensures read { (F : Frame) (told : List TreeEvent) → StartsAt Self.kinds F Self.attributes Self.particles 0 told (seen_of P.schema descent.old)
+            → IfOk result (λ _. Reads Self.kinds F Self.attributes Self.particles (length Self.particles) (told_parts (Self.parts self.new) (told_given (Self.given self.new) told)) (seen_of P.schema descent.new)) };
 }
 
 /// One of several elements, of a choice or of a substitution group, and how it is put.

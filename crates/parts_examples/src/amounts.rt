@@ -8,8 +8,9 @@ use exi_events::{EventWriter, Value};
 use exi_schema::Places;
 use message_fields::{Elements, OptionalValue, RequiredValue};
 use message_parts::{
-    Alternatives, Choice, Descent, Group, PutChoice, PutRecord, ReadRecord, ReadSimple, Record,
-    Simple, Text, member, member_value, put_optional_value, put_record, put_value, whole_record,
+    Alternatives, Choice, Declared, Descent, Group, PutChoice, PutRecord, ReadRecord, ReadSimple,
+    Record, Simple, Text, member, member_value, put_optional_value, put_record, put_value,
+    whole_record,
 };
 
 /// How a post is.
@@ -68,15 +69,18 @@ impl PutRecord for Reading {
     }
 }
 
-impl Record for Reading {
+impl Declared for Reading {
     ghost use Rattle.parts_examples.specs.Declarations.{kinds, reading};
-    ghost use Rattle.std.proofs.Common.{rules};
 
     ghost kinds = { kinds };
 
     ghost attributes = { [] };
 
     ghost particles = { reading };
+}
+
+impl<'a> Record<'a> for Reading {
+    ghost use Rattle.std.proofs.Common.{rules};
 
     type Made = Elements<(RequiredValue<i8>, RequiredValue<i16>)>;
 
@@ -172,15 +176,18 @@ impl PutRecord for AcSupply {
     }
 }
 
-impl Record for AcSupply {
+impl Declared for AcSupply {
     ghost use Rattle.parts_examples.specs.Declarations.{kinds, ac_supply};
-    ghost use Rattle.std.proofs.Common.{rules};
 
     ghost kinds = { kinds };
 
     ghost attributes = { [] };
 
     ghost particles = { ac_supply };
+}
+
+impl<'a> Record<'a> for AcSupply {
+    ghost use Rattle.std.proofs.Common.{rules};
 
     type Made = Elements<RequiredValue<u8>>;
 
@@ -222,15 +229,18 @@ impl PutRecord for DcSupply {
     }
 }
 
-impl Record for DcSupply {
+impl Declared for DcSupply {
     ghost use Rattle.parts_examples.specs.Declarations.{kinds, dc_supply};
-    ghost use Rattle.std.proofs.Common.{rules};
 
     ghost kinds = { kinds };
 
     ghost attributes = { [] };
 
     ghost particles = { dc_supply };
+}
+
+impl<'a> Record<'a> for DcSupply {
+    ghost use Rattle.std.proofs.Common.{rules};
 
     type Made = Elements<(RequiredValue<u16>, OptionalValue<u16, { names::CURRENT }>)>;
 
@@ -309,15 +319,18 @@ impl PutRecord for Stopped {
     }
 }
 
-impl Record for Stopped {
+impl Declared for Stopped {
     ghost use Rattle.parts_examples.specs.Declarations.{kinds, stopped};
-    ghost use Rattle.std.proofs.Common.{rules};
 
     ghost kinds = { kinds };
 
     ghost attributes = { [] };
 
     ghost particles = { stopped };
+}
+
+impl<'a> Record<'a> for Stopped {
+    ghost use Rattle.std.proofs.Common.{rules};
 
     type Made = Elements<RequiredValue<State>>;
 

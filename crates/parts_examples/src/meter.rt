@@ -8,7 +8,7 @@ use exi_events::EventWriter;
 use exi_schema::Places;
 use message_fields::{Elements, OptionalValue, RequiredValue};
 use message_parts::{
-    Descent, PutRecord, ReadRecord, Record, put_optional_value, put_value, whole_record,
+    Declared, Descent, PutRecord, ReadRecord, Record, put_optional_value, put_value, whole_record,
 };
 
 /// What a meter reads.
@@ -56,15 +56,18 @@ impl PutRecord for Meter {
     }
 }
 
-impl Record for Meter {
+impl Declared for Meter {
     ghost use Rattle.parts_examples.specs.Declarations.{kinds, meter};
-    ghost use Rattle.std.proofs.Common.{rules};
 
     ghost kinds = { kinds };
 
     ghost attributes = { [] };
 
     ghost particles = { meter };
+}
+
+impl<'a> Record<'a> for Meter {
+    ghost use Rattle.std.proofs.Common.{rules};
 
     type Made = Elements<
         (

@@ -17,11 +17,11 @@ use exi_events::{EventWriter, Full, Table};
 use exi_schema::Places;
 use message_fields::{Elements, SeveralValues};
 use message_parts::{
-    Alternatives, Binary, Choice, Contents, Descent, PutChoice, PutRecord, ReadContents,
-    ReadRecord, Record, Root, Text, attribute, choice, last_attribute, member, optional_choice,
-    optional_value, put_attribute, put_choice, put_optional_attribute, put_optional_choice,
-    put_optional_value, put_record, put_records, put_value, put_values, read, records, required,
-    value, whole_record, write,
+    Alternatives, Binary, Choice, Declared, Descent, PutChoice, PutRecord, ReadRecord, Record,
+    Root, Text, attribute, choice, last_attribute, member, optional_choice, optional_value,
+    put_attribute, put_choice, put_optional_attribute, put_optional_choice, put_optional_value,
+    put_record, put_records, put_value, put_values, read, records, required, value, whole_record,
+    write,
 };
 
 /// The readings of a day.
@@ -43,15 +43,18 @@ impl PutRecord for Day {
     }
 }
 
-impl Record for Day {
+impl Declared for Day {
     ghost use Rattle.parts_examples.specs.Declarations.{kinds, day};
-    ghost use Rattle.std.proofs.Common.{rules};
 
     ghost kinds = { kinds };
 
     ghost attributes = { [] };
 
     ghost particles = { day };
+}
+
+impl<'a> Record<'a> for Day {
+    ghost use Rattle.std.proofs.Common.{rules};
 
     type Made = Elements<SeveralValues<u8, 2, { names::HOUR }>>;
 
@@ -83,15 +86,18 @@ impl PutRecord for Closed {
     fn write<P: Places>(&self, _writer: &mut EventWriter<'_, '_, P>) {}
 }
 
-impl Record for Closed {
+impl Declared for Closed {
     ghost use Rattle.parts_examples.specs.Declarations.{kinds};
-    ghost use Rattle.std.proofs.Common.{rules};
 
     ghost kinds = { kinds };
 
     ghost attributes = { [] };
 
     ghost particles = { [] };
+}
+
+impl<'a> Record<'a> for Closed {
+    ghost use Rattle.std.proofs.Common.{rules};
 
     type Made = Elements<()>;
 
@@ -151,18 +157,18 @@ impl PutRecord for Report<'_> {
     }
 }
 
-/// A report has two attributes, which no type of `message_fields` has: so it is made of itself, and tells how it is read.
-impl Contents for Report<'_> {
-    ghost use Rattle.message_parts.specs.Contents.{told_given, told_parts};
+impl Declared for Report<'_> {
     ghost use Rattle.parts_examples.specs.Declarations.{kinds, report, report_attributes};
-    ghost use Rattle.parts_examples.specs.Parts.{report_given, report_parts};
 
-    ghost stand = { λ ks attributes declared. (ks ≡ kinds) × (attributes ≡ report_attributes) × (declared ≡ report) };
+    ghost kinds = { kinds };
 
-    ghost told = { λ attributes declared v before. told_parts (report_parts v) (told_given (report_given v) before) };
+    ghost attributes = { report_attributes };
+
+    ghost particles = { report };
 }
 
-impl<'a> ReadContents<'a> for Report<'a> {
+/// A report has two attributes, which no type of `message_fields` has: so it is read child by child.
+impl<'a> ReadRecord<'a> for Report<'a> {
     fn read<P: Places>(descent: &mut Descent<'a, '_, P>) -> Result<Report<'a>, Refusal> {
         let number = attribute(descent)?;
         let revision = last_attribute(descent)?;
@@ -190,33 +196,6 @@ impl<'a> ReadContents<'a> for Report<'a> {
             days,
             closed,
         })
-    }
-}
-
-impl<'a> Record for Report<'a> {
-    ghost use Rattle.parts_examples.specs.Declarations.{kinds, report, report_attributes};
-    ghost use Rattle.std.proofs.Common.{rules};
-
-    ghost kinds = { kinds };
-
-    ghost attributes = { report_attributes };
-
-    ghost particles = { report };
-
-    type Made = Report<'a>;
-
-    fn of(made: Self::Made) -> Report<'a> {
-        made
-    }
-
-    ghost declared = { Prim.search rules };
-
-    ghost apart = { Prim.search rules };
-}
-
-impl<'a> ReadRecord<'a> for Report<'a> {
-    fn read<P: Places>(descent: &mut Descent<'a, '_, P>) -> Result<Report<'a>, Refusal> {
-        whole_record(descent)
     }
 }
 

@@ -1,6 +1,6 @@
 use Rattle.std.proofs.Common.{ℕ, subst}
 use Rattle.message_parts.specs.Reading.{Reads, StartsAt, seen_of}
-use Rattle.message_fields.proofs.made.ElementsReadContents.read.Goals as goal
+use Rattle.message_fields.proofs.made.ElementsContents.read.Goals as goal
 
 pub returns-clause-read : goal.returns-clause-read
 returns-clause-read g c = λ ks F attributes declared before h stand.

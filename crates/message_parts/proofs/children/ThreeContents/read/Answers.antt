@@ -2,7 +2,7 @@ use Rattle.std.proofs.Common.{ℕ, List, [], IfOk, length, sym, subst}
 use Rattle.exi_schema.specs.declared.tables.AttributeOf.{AttributeOf}
 use Rattle.message_parts.specs.Reading.{Reads, StartsAt, seen_of}
 use Rattle.message_parts.specs.Sequence.{told_three}
-use Rattle.message_parts.proofs.children.ThreeReadContents.read.Goals as goal
+use Rattle.message_parts.proofs.children.ThreeContents.read.Goals as goal
 
 pub returns-clause-read : goal.returns-clause-read
 returns-clause-read g c = λ ks F attributes declared before h holds.

@@ -2,7 +2,7 @@ use Rattle.std.proofs.Common.{ℕ, subst}
 use Rattle.message_parts.specs.Contents.{mapped, told_maybe}
 use Rattle.message_parts.specs.Particles.{attribute_at}
 use Rattle.message_parts.specs.Reading.{Reads, seen_of}
-use Rattle.message_fields.proofs.made.WithOptionalAttributeReadContents.read.Goals as goal
+use Rattle.message_fields.proofs.made.WithOptionalAttributeContents.read.Goals as goal
 
 pub returns-clause-read : goal.returns-clause-read
 returns-clause-read g c = λ ks F attributes declared before h stand.
