@@ -2,13 +2,18 @@
 
 ghost use Rattle.std.specs.Prelude.{[]};
 
-use crate::enumerations::{EvErrorCode, EvseNotification, EvseStatusCode, IsolationLevel, UnitSymbol};
+use crate::enumerations::{
+    EvErrorCode, EvseNotification, EvseStatusCode, IsolationLevel, UnitSymbol,
+};
 use din_schema::names;
 use exi_documents::Refusal;
 use exi_events::EventWriter;
 use exi_schema::Places;
 use message_fields::{Elements, OptionalValue, RequiredValue};
-use message_parts::{Alternatives, Choice, Declared, Descent, PutChoice, PutRecord, ReadRecord, Record, member, put_optional_value, put_record, put_value, whole_record};
+use message_parts::{
+    Alternatives, Choice, Declared, Descent, PutChoice, PutRecord, ReadRecord, Record, member,
+    put_optional_value, put_record, put_value, whole_record,
+};
 
 /// PhysicalValue.
 #[derive(Clone, Copy, Debug, PartialEq, Eq)]
@@ -47,11 +52,21 @@ impl Declared for PhysicalValue {
 impl<'a> Record<'a> for PhysicalValue {
     ghost use Rattle.std.proofs.Common.{rules};
 
-    type Made = Elements<(RequiredValue<i8>, OptionalValue<UnitSymbol, { names::UNIT }>, RequiredValue<i16>)>;
+    type Made = Elements<
+        (
+            RequiredValue<i8>,
+            OptionalValue<UnitSymbol, { names::UNIT }>,
+            RequiredValue<i16>,
+        ),
+    >;
 
     fn of(made: Self::Made) -> PhysicalValue {
         let Elements((RequiredValue(multiplier), OptionalValue(unit), RequiredValue(value))) = made;
-        PhysicalValue { multiplier, unit, value }
+        PhysicalValue {
+            multiplier,
+            unit,
+            value,
+        }
     }
 
     ghost declared = { Prim.search rules };
@@ -85,8 +100,16 @@ impl PutRecord for DcEvStatus {
 
     fn write<P: Places>(&self, writer: &mut EventWriter<'_, '_, P>) {
         put_value(writer, names::EV_READY, &self.ev_ready);
-        put_optional_value(writer, names::EV_CABIN_CONDITIONING, &self.ev_cabin_conditioning);
-        put_optional_value(writer, names::EVRESS_CONDITIONING, &self.evress_conditioning);
+        put_optional_value(
+            writer,
+            names::EV_CABIN_CONDITIONING,
+            &self.ev_cabin_conditioning,
+        );
+        put_optional_value(
+            writer,
+            names::EVRESS_CONDITIONING,
+            &self.evress_conditioning,
+        );
         put_value(writer, names::EV_ERROR_CODE, &self.ev_error_code);
         put_value(writer, names::EVRESS_SOC, &self.evress_soc);
     }
@@ -106,11 +129,35 @@ impl Declared for DcEvStatus {
 impl<'a> Record<'a> for DcEvStatus {
     ghost use Rattle.std.proofs.Common.{rules};
 
-    type Made = Elements<((RequiredValue<bool>, OptionalValue<bool, { names::EV_CABIN_CONDITIONING }>, OptionalValue<bool, { names::EVRESS_CONDITIONING }>), (RequiredValue<EvErrorCode>, RequiredValue<u8>))>;
+    type Made = Elements<
+        (
+            (
+                RequiredValue<bool>,
+                OptionalValue<bool, { names::EV_CABIN_CONDITIONING }>,
+                OptionalValue<bool, { names::EVRESS_CONDITIONING }>,
+            ),
+            (RequiredValue<EvErrorCode>, RequiredValue<u8>),
+        ),
+    >;
 
     fn of(made: Self::Made) -> DcEvStatus {
-        let Elements(((RequiredValue(ev_ready), OptionalValue(ev_cabin_conditioning), OptionalValue(evress_conditioning)), (RequiredValue(ev_error_code), RequiredValue(evress_soc)))) = made;
-        DcEvStatus { ev_ready, ev_cabin_conditioning, evress_conditioning, ev_error_code, evress_soc }
+        let Elements(
+            (
+                (
+                    RequiredValue(ev_ready),
+                    OptionalValue(ev_cabin_conditioning),
+                    OptionalValue(evress_conditioning),
+                ),
+                (RequiredValue(ev_error_code), RequiredValue(evress_soc)),
+            ),
+        ) = made;
+        DcEvStatus {
+            ev_ready,
+            ev_cabin_conditioning,
+            evress_conditioning,
+            ev_error_code,
+            evress_soc,
+        }
     }
 
     ghost declared = { Prim.search rules };
@@ -141,9 +188,17 @@ impl PutRecord for DcEvseStatus {
     ghost parts = { dc_evse_status_parts };
 
     fn write<P: Places>(&self, writer: &mut EventWriter<'_, '_, P>) {
-        put_optional_value(writer, names::EVSE_ISOLATION_STATUS, &self.evse_isolation_status);
+        put_optional_value(
+            writer,
+            names::EVSE_ISOLATION_STATUS,
+            &self.evse_isolation_status,
+        );
         put_value(writer, names::EVSE_STATUS_CODE, &self.evse_status_code);
-        put_value(writer, names::NOTIFICATION_MAX_DELAY, &self.notification_max_delay);
+        put_value(
+            writer,
+            names::NOTIFICATION_MAX_DELAY,
+            &self.notification_max_delay,
+        );
         put_value(writer, names::EVSE_NOTIFICATION, &self.evse_notification);
     }
 }
@@ -162,11 +217,30 @@ impl Declared for DcEvseStatus {
 impl<'a> Record<'a> for DcEvseStatus {
     ghost use Rattle.std.proofs.Common.{rules};
 
-    type Made = Elements<(OptionalValue<IsolationLevel, { names::EVSE_ISOLATION_STATUS }>, RequiredValue<EvseStatusCode>, RequiredValue<u32>, RequiredValue<EvseNotification>)>;
+    type Made = Elements<
+        (
+            OptionalValue<IsolationLevel, { names::EVSE_ISOLATION_STATUS }>,
+            RequiredValue<EvseStatusCode>,
+            RequiredValue<u32>,
+            RequiredValue<EvseNotification>,
+        ),
+    >;
 
     fn of(made: Self::Made) -> DcEvseStatus {
-        let Elements((OptionalValue(evse_isolation_status), RequiredValue(evse_status_code), RequiredValue(notification_max_delay), RequiredValue(evse_notification))) = made;
-        DcEvseStatus { evse_isolation_status, evse_status_code, notification_max_delay, evse_notification }
+        let Elements(
+            (
+                OptionalValue(evse_isolation_status),
+                RequiredValue(evse_status_code),
+                RequiredValue(notification_max_delay),
+                RequiredValue(evse_notification),
+            ),
+        ) = made;
+        DcEvseStatus {
+            evse_isolation_status,
+            evse_status_code,
+            notification_max_delay,
+            evse_notification,
+        }
     }
 
     ghost declared = { Prim.search rules };

@@ -8,7 +8,10 @@ use exi_documents::Refusal;
 use exi_events::EventWriter;
 use exi_schema::Places;
 use message_fields::{Elements, Optional, OptionalValue, Required, RequiredValue};
-use message_parts::{Declared, Descent, PutRecord, ReadRecord, Record, put_optional, put_optional_value, put_record, put_value, whole_record};
+use message_parts::{
+    Declared, Descent, PutRecord, ReadRecord, Record, put_optional, put_optional_value, put_record,
+    put_value, whole_record,
+};
 
 /// CableCheckReq.
 #[derive(Clone, Copy, Debug, PartialEq, Eq)]
@@ -96,11 +99,27 @@ impl Declared for CableCheckRes {
 impl<'a> Record<'a> for CableCheckRes {
     ghost use Rattle.std.proofs.Common.{rules};
 
-    type Made = Elements<(RequiredValue<ResponseCode>, Required<DcEvseStatus>, RequiredValue<EvseProcessing>)>;
+    type Made = Elements<
+        (
+            RequiredValue<ResponseCode>,
+            Required<DcEvseStatus>,
+            RequiredValue<EvseProcessing>,
+        ),
+    >;
 
     fn of(made: Self::Made) -> CableCheckRes {
-        let Elements((RequiredValue(response_code), Required(dc_evse_status), RequiredValue(evse_processing))) = made;
-        CableCheckRes { response_code, dc_evse_status, evse_processing }
+        let Elements(
+            (
+                RequiredValue(response_code),
+                Required(dc_evse_status),
+                RequiredValue(evse_processing),
+            ),
+        ) = made;
+        CableCheckRes {
+            response_code,
+            dc_evse_status,
+            evse_processing,
+        }
     }
 
     ghost declared = { Prim.search rules };
@@ -150,11 +169,23 @@ impl Declared for PreChargeReq {
 impl<'a> Record<'a> for PreChargeReq {
     ghost use Rattle.std.proofs.Common.{rules};
 
-    type Made = Elements<(Required<DcEvStatus>, Required<PhysicalValue>, Required<PhysicalValue>)>;
+    type Made = Elements<
+        (
+            Required<DcEvStatus>,
+            Required<PhysicalValue>,
+            Required<PhysicalValue>,
+        ),
+    >;
 
     fn of(made: Self::Made) -> PreChargeReq {
-        let Elements((Required(dc_ev_status), Required(ev_target_voltage), Required(ev_target_current))) = made;
-        PreChargeReq { dc_ev_status, ev_target_voltage, ev_target_current }
+        let Elements(
+            (Required(dc_ev_status), Required(ev_target_voltage), Required(ev_target_current)),
+        ) = made;
+        PreChargeReq {
+            dc_ev_status,
+            ev_target_voltage,
+            ev_target_current,
+        }
     }
 
     ghost declared = { Prim.search rules };
@@ -186,7 +217,11 @@ impl PutRecord for PreChargeRes {
     fn write<P: Places>(&self, writer: &mut EventWriter<'_, '_, P>) {
         put_value(writer, names::RESPONSE_CODE, &self.response_code);
         put_record(writer, names::DC_EVSE_STATUS, &self.dc_evse_status);
-        put_record(writer, names::EVSE_PRESENT_VOLTAGE, &self.evse_present_voltage);
+        put_record(
+            writer,
+            names::EVSE_PRESENT_VOLTAGE,
+            &self.evse_present_voltage,
+        );
     }
 }
 
@@ -204,11 +239,27 @@ impl Declared for PreChargeRes {
 impl<'a> Record<'a> for PreChargeRes {
     ghost use Rattle.std.proofs.Common.{rules};
 
-    type Made = Elements<(RequiredValue<ResponseCode>, Required<DcEvseStatus>, Required<PhysicalValue>)>;
+    type Made = Elements<
+        (
+            RequiredValue<ResponseCode>,
+            Required<DcEvseStatus>,
+            Required<PhysicalValue>,
+        ),
+    >;
 
     fn of(made: Self::Made) -> PreChargeRes {
-        let Elements((RequiredValue(response_code), Required(dc_evse_status), Required(evse_present_voltage))) = made;
-        PreChargeRes { response_code, dc_evse_status, evse_present_voltage }
+        let Elements(
+            (
+                RequiredValue(response_code),
+                Required(dc_evse_status),
+                Required(evse_present_voltage),
+            ),
+        ) = made;
+        PreChargeRes {
+            response_code,
+            dc_evse_status,
+            evse_present_voltage,
+        }
     }
 
     ghost declared = { Prim.search rules };
@@ -247,13 +298,37 @@ impl PutRecord for CurrentDemandReq {
     fn write<P: Places>(&self, writer: &mut EventWriter<'_, '_, P>) {
         put_record(writer, names::DC_EV_STATUS, &self.dc_ev_status);
         put_record(writer, names::EV_TARGET_CURRENT, &self.ev_target_current);
-        put_optional(writer, names::EV_MAXIMUM_VOLTAGE_LIMIT, &self.ev_maximum_voltage_limit);
-        put_optional(writer, names::EV_MAXIMUM_CURRENT_LIMIT, &self.ev_maximum_current_limit);
-        put_optional(writer, names::EV_MAXIMUM_POWER_LIMIT, &self.ev_maximum_power_limit);
-        put_optional_value(writer, names::BULK_CHARGING_COMPLETE, &self.bulk_charging_complete);
+        put_optional(
+            writer,
+            names::EV_MAXIMUM_VOLTAGE_LIMIT,
+            &self.ev_maximum_voltage_limit,
+        );
+        put_optional(
+            writer,
+            names::EV_MAXIMUM_CURRENT_LIMIT,
+            &self.ev_maximum_current_limit,
+        );
+        put_optional(
+            writer,
+            names::EV_MAXIMUM_POWER_LIMIT,
+            &self.ev_maximum_power_limit,
+        );
+        put_optional_value(
+            writer,
+            names::BULK_CHARGING_COMPLETE,
+            &self.bulk_charging_complete,
+        );
         put_value(writer, names::CHARGING_COMPLETE, &self.charging_complete);
-        put_optional(writer, names::REMAINING_TIME_TO_FULL_SO_C, &self.remaining_time_to_full_so_c);
-        put_optional(writer, names::REMAINING_TIME_TO_BULK_SO_C, &self.remaining_time_to_bulk_so_c);
+        put_optional(
+            writer,
+            names::REMAINING_TIME_TO_FULL_SO_C,
+            &self.remaining_time_to_full_so_c,
+        );
+        put_optional(
+            writer,
+            names::REMAINING_TIME_TO_BULK_SO_C,
+            &self.remaining_time_to_bulk_so_c,
+        );
         put_record(writer, names::EV_TARGET_VOLTAGE, &self.ev_target_voltage);
     }
 }
@@ -272,11 +347,60 @@ impl Declared for CurrentDemandReq {
 impl<'a> Record<'a> for CurrentDemandReq {
     ghost use Rattle.std.proofs.Common.{rules};
 
-    type Made = Elements<((Required<DcEvStatus>, Required<PhysicalValue>, Optional<PhysicalValue, { names::EV_MAXIMUM_VOLTAGE_LIMIT }>, Optional<PhysicalValue, { names::EV_MAXIMUM_CURRENT_LIMIT }>), (Optional<PhysicalValue, { names::EV_MAXIMUM_POWER_LIMIT }>, OptionalValue<bool, { names::BULK_CHARGING_COMPLETE }>, RequiredValue<bool>), (Optional<PhysicalValue, { names::REMAINING_TIME_TO_FULL_SO_C }>, Optional<PhysicalValue, { names::REMAINING_TIME_TO_BULK_SO_C }>, Required<PhysicalValue>))>;
+    type Made = Elements<
+        (
+            (
+                Required<DcEvStatus>,
+                Required<PhysicalValue>,
+                Optional<PhysicalValue, { names::EV_MAXIMUM_VOLTAGE_LIMIT }>,
+                Optional<PhysicalValue, { names::EV_MAXIMUM_CURRENT_LIMIT }>,
+            ),
+            (
+                Optional<PhysicalValue, { names::EV_MAXIMUM_POWER_LIMIT }>,
+                OptionalValue<bool, { names::BULK_CHARGING_COMPLETE }>,
+                RequiredValue<bool>,
+            ),
+            (
+                Optional<PhysicalValue, { names::REMAINING_TIME_TO_FULL_SO_C }>,
+                Optional<PhysicalValue, { names::REMAINING_TIME_TO_BULK_SO_C }>,
+                Required<PhysicalValue>,
+            ),
+        ),
+    >;
 
     fn of(made: Self::Made) -> CurrentDemandReq {
-        let Elements(((Required(dc_ev_status), Required(ev_target_current), Optional(ev_maximum_voltage_limit), Optional(ev_maximum_current_limit)), (Optional(ev_maximum_power_limit), OptionalValue(bulk_charging_complete), RequiredValue(charging_complete)), (Optional(remaining_time_to_full_so_c), Optional(remaining_time_to_bulk_so_c), Required(ev_target_voltage)))) = made;
-        CurrentDemandReq { dc_ev_status, ev_target_current, ev_maximum_voltage_limit, ev_maximum_current_limit, ev_maximum_power_limit, bulk_charging_complete, charging_complete, remaining_time_to_full_so_c, remaining_time_to_bulk_so_c, ev_target_voltage }
+        let Elements(
+            (
+                (
+                    Required(dc_ev_status),
+                    Required(ev_target_current),
+                    Optional(ev_maximum_voltage_limit),
+                    Optional(ev_maximum_current_limit),
+                ),
+                (
+                    Optional(ev_maximum_power_limit),
+                    OptionalValue(bulk_charging_complete),
+                    RequiredValue(charging_complete),
+                ),
+                (
+                    Optional(remaining_time_to_full_so_c),
+                    Optional(remaining_time_to_bulk_so_c),
+                    Required(ev_target_voltage),
+                ),
+            ),
+        ) = made;
+        CurrentDemandReq {
+            dc_ev_status,
+            ev_target_current,
+            ev_maximum_voltage_limit,
+            ev_maximum_current_limit,
+            ev_maximum_power_limit,
+            bulk_charging_complete,
+            charging_complete,
+            remaining_time_to_full_so_c,
+            remaining_time_to_bulk_so_c,
+            ev_target_voltage,
+        }
     }
 
     ghost declared = { Prim.search rules };
@@ -315,14 +439,46 @@ impl PutRecord for CurrentDemandRes {
     fn write<P: Places>(&self, writer: &mut EventWriter<'_, '_, P>) {
         put_value(writer, names::RESPONSE_CODE, &self.response_code);
         put_record(writer, names::DC_EVSE_STATUS, &self.dc_evse_status);
-        put_record(writer, names::EVSE_PRESENT_VOLTAGE, &self.evse_present_voltage);
-        put_record(writer, names::EVSE_PRESENT_CURRENT, &self.evse_present_current);
-        put_value(writer, names::EVSE_CURRENT_LIMIT_ACHIEVED, &self.evse_current_limit_achieved);
-        put_value(writer, names::EVSE_VOLTAGE_LIMIT_ACHIEVED, &self.evse_voltage_limit_achieved);
-        put_value(writer, names::EVSE_POWER_LIMIT_ACHIEVED, &self.evse_power_limit_achieved);
-        put_optional(writer, names::EVSE_MAXIMUM_VOLTAGE_LIMIT, &self.evse_maximum_voltage_limit);
-        put_optional(writer, names::EVSE_MAXIMUM_CURRENT_LIMIT, &self.evse_maximum_current_limit);
-        put_optional(writer, names::EVSE_MAXIMUM_POWER_LIMIT, &self.evse_maximum_power_limit);
+        put_record(
+            writer,
+            names::EVSE_PRESENT_VOLTAGE,
+            &self.evse_present_voltage,
+        );
+        put_record(
+            writer,
+            names::EVSE_PRESENT_CURRENT,
+            &self.evse_present_current,
+        );
+        put_value(
+            writer,
+            names::EVSE_CURRENT_LIMIT_ACHIEVED,
+            &self.evse_current_limit_achieved,
+        );
+        put_value(
+            writer,
+            names::EVSE_VOLTAGE_LIMIT_ACHIEVED,
+            &self.evse_voltage_limit_achieved,
+        );
+        put_value(
+            writer,
+            names::EVSE_POWER_LIMIT_ACHIEVED,
+            &self.evse_power_limit_achieved,
+        );
+        put_optional(
+            writer,
+            names::EVSE_MAXIMUM_VOLTAGE_LIMIT,
+            &self.evse_maximum_voltage_limit,
+        );
+        put_optional(
+            writer,
+            names::EVSE_MAXIMUM_CURRENT_LIMIT,
+            &self.evse_maximum_current_limit,
+        );
+        put_optional(
+            writer,
+            names::EVSE_MAXIMUM_POWER_LIMIT,
+            &self.evse_maximum_power_limit,
+        );
     }
 }
 
@@ -340,11 +496,60 @@ impl Declared for CurrentDemandRes {
 impl<'a> Record<'a> for CurrentDemandRes {
     ghost use Rattle.std.proofs.Common.{rules};
 
-    type Made = Elements<((RequiredValue<ResponseCode>, Required<DcEvseStatus>, Required<PhysicalValue>, Required<PhysicalValue>), (RequiredValue<bool>, RequiredValue<bool>, RequiredValue<bool>), (Optional<PhysicalValue, { names::EVSE_MAXIMUM_VOLTAGE_LIMIT }>, Optional<PhysicalValue, { names::EVSE_MAXIMUM_CURRENT_LIMIT }>, Optional<PhysicalValue, { names::EVSE_MAXIMUM_POWER_LIMIT }>))>;
+    type Made = Elements<
+        (
+            (
+                RequiredValue<ResponseCode>,
+                Required<DcEvseStatus>,
+                Required<PhysicalValue>,
+                Required<PhysicalValue>,
+            ),
+            (
+                RequiredValue<bool>,
+                RequiredValue<bool>,
+                RequiredValue<bool>,
+            ),
+            (
+                Optional<PhysicalValue, { names::EVSE_MAXIMUM_VOLTAGE_LIMIT }>,
+                Optional<PhysicalValue, { names::EVSE_MAXIMUM_CURRENT_LIMIT }>,
+                Optional<PhysicalValue, { names::EVSE_MAXIMUM_POWER_LIMIT }>,
+            ),
+        ),
+    >;
 
     fn of(made: Self::Made) -> CurrentDemandRes {
-        let Elements(((RequiredValue(response_code), Required(dc_evse_status), Required(evse_present_voltage), Required(evse_present_current)), (RequiredValue(evse_current_limit_achieved), RequiredValue(evse_voltage_limit_achieved), RequiredValue(evse_power_limit_achieved)), (Optional(evse_maximum_voltage_limit), Optional(evse_maximum_current_limit), Optional(evse_maximum_power_limit)))) = made;
-        CurrentDemandRes { response_code, dc_evse_status, evse_present_voltage, evse_present_current, evse_current_limit_achieved, evse_voltage_limit_achieved, evse_power_limit_achieved, evse_maximum_voltage_limit, evse_maximum_current_limit, evse_maximum_power_limit }
+        let Elements(
+            (
+                (
+                    RequiredValue(response_code),
+                    Required(dc_evse_status),
+                    Required(evse_present_voltage),
+                    Required(evse_present_current),
+                ),
+                (
+                    RequiredValue(evse_current_limit_achieved),
+                    RequiredValue(evse_voltage_limit_achieved),
+                    RequiredValue(evse_power_limit_achieved),
+                ),
+                (
+                    Optional(evse_maximum_voltage_limit),
+                    Optional(evse_maximum_current_limit),
+                    Optional(evse_maximum_power_limit),
+                ),
+            ),
+        ) = made;
+        CurrentDemandRes {
+            response_code,
+            dc_evse_status,
+            evse_present_voltage,
+            evse_present_current,
+            evse_current_limit_achieved,
+            evse_voltage_limit_achieved,
+            evse_power_limit_achieved,
+            evse_maximum_voltage_limit,
+            evse_maximum_current_limit,
+            evse_maximum_power_limit,
+        }
     }
 
     ghost declared = { Prim.search rules };
@@ -426,7 +631,11 @@ impl PutRecord for WeldingDetectionRes {
     fn write<P: Places>(&self, writer: &mut EventWriter<'_, '_, P>) {
         put_value(writer, names::RESPONSE_CODE, &self.response_code);
         put_record(writer, names::DC_EVSE_STATUS, &self.dc_evse_status);
-        put_record(writer, names::EVSE_PRESENT_VOLTAGE, &self.evse_present_voltage);
+        put_record(
+            writer,
+            names::EVSE_PRESENT_VOLTAGE,
+            &self.evse_present_voltage,
+        );
     }
 }
 
@@ -444,11 +653,27 @@ impl Declared for WeldingDetectionRes {
 impl<'a> Record<'a> for WeldingDetectionRes {
     ghost use Rattle.std.proofs.Common.{rules};
 
-    type Made = Elements<(RequiredValue<ResponseCode>, Required<DcEvseStatus>, Required<PhysicalValue>)>;
+    type Made = Elements<
+        (
+            RequiredValue<ResponseCode>,
+            Required<DcEvseStatus>,
+            Required<PhysicalValue>,
+        ),
+    >;
 
     fn of(made: Self::Made) -> WeldingDetectionRes {
-        let Elements((RequiredValue(response_code), Required(dc_evse_status), Required(evse_present_voltage))) = made;
-        WeldingDetectionRes { response_code, dc_evse_status, evse_present_voltage }
+        let Elements(
+            (
+                RequiredValue(response_code),
+                Required(dc_evse_status),
+                Required(evse_present_voltage),
+            ),
+        ) = made;
+        WeldingDetectionRes {
+            response_code,
+            dc_evse_status,
+            evse_present_voltage,
+        }
     }
 
     ghost declared = { Prim.search rules };

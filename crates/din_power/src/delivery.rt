@@ -8,8 +8,14 @@ use din_schema::names;
 use exi_documents::Refusal;
 use exi_events::EventWriter;
 use exi_schema::Places;
-use message_fields::{AtMostOneOf, Elements, OneOf, Optional, OptionalValue, Required, RequiredValue, Several};
-use message_parts::{Alternatives, Choice, Declared, Descent, Group, PutChoice, PutRecord, ReadRecord, Record, member, put_choice, put_optional, put_optional_choice, put_optional_value, put_record, put_records, put_value, whole_record};
+use message_fields::{
+    AtMostOneOf, Elements, OneOf, Optional, OptionalValue, Required, RequiredValue, Several,
+};
+use message_parts::{
+    Alternatives, Choice, Declared, Descent, Group, PutChoice, PutRecord, ReadRecord, Record,
+    member, put_choice, put_optional, put_optional_choice, put_optional_value, put_record,
+    put_records, put_value, whole_record,
+};
 
 /// ProfileEntry.
 #[derive(Clone, Copy, Debug, PartialEq, Eq, Default)]
@@ -26,8 +32,16 @@ impl PutRecord for ProfileEntry {
     ghost parts = { profile_entry_parts };
 
     fn write<P: Places>(&self, writer: &mut EventWriter<'_, '_, P>) {
-        put_value(writer, names::CHARGING_PROFILE_ENTRY_START, &self.charging_profile_entry_start);
-        put_value(writer, names::CHARGING_PROFILE_ENTRY_MAX_POWER, &self.charging_profile_entry_max_power);
+        put_value(
+            writer,
+            names::CHARGING_PROFILE_ENTRY_START,
+            &self.charging_profile_entry_start,
+        );
+        put_value(
+            writer,
+            names::CHARGING_PROFILE_ENTRY_MAX_POWER,
+            &self.charging_profile_entry_max_power,
+        );
     }
 }
 
@@ -48,8 +62,16 @@ impl<'a> Record<'a> for ProfileEntry {
     type Made = Elements<(RequiredValue<u32>, RequiredValue<i16>)>;
 
     fn of(made: Self::Made) -> ProfileEntry {
-        let Elements((RequiredValue(charging_profile_entry_start), RequiredValue(charging_profile_entry_max_power))) = made;
-        ProfileEntry { charging_profile_entry_start, charging_profile_entry_max_power }
+        let Elements(
+            (
+                RequiredValue(charging_profile_entry_start),
+                RequiredValue(charging_profile_entry_max_power),
+            ),
+        ) = made;
+        ProfileEntry {
+            charging_profile_entry_start,
+            charging_profile_entry_max_power,
+        }
     }
 
     ghost declared = { Prim.search rules };
@@ -79,7 +101,11 @@ impl PutRecord for ChargingProfile {
     ghost parts = { charging_profile_parts };
 
     fn write<P: Places>(&self, writer: &mut EventWriter<'_, '_, P>) {
-        put_value(writer, names::SA_SCHEDULE_TUPLE_ID, &self.sa_schedule_tuple_id);
+        put_value(
+            writer,
+            names::SA_SCHEDULE_TUPLE_ID,
+            &self.sa_schedule_tuple_id,
+        );
         put_records(writer, names::PROFILE_ENTRY, &self.profile_entry);
     }
 }
@@ -98,11 +124,19 @@ impl Declared for ChargingProfile {
 impl<'a> Record<'a> for ChargingProfile {
     ghost use Rattle.std.proofs.Common.{rules};
 
-    type Made = Elements<(RequiredValue<i16>, Several<ProfileEntry, 24, { names::PROFILE_ENTRY }>)>;
+    type Made = Elements<
+        (
+            RequiredValue<i16>,
+            Several<ProfileEntry, 24, { names::PROFILE_ENTRY }>,
+        ),
+    >;
 
     fn of(made: Self::Made) -> ChargingProfile {
         let Elements((RequiredValue(sa_schedule_tuple_id), Several(profile_entry))) = made;
-        ChargingProfile { sa_schedule_tuple_id, profile_entry }
+        ChargingProfile {
+            sa_schedule_tuple_id,
+            profile_entry,
+        }
     }
 
     ghost declared = { Prim.search rules };
@@ -133,7 +167,11 @@ impl PutRecord for DcEvPowerDeliveryParameter {
 
     fn write<P: Places>(&self, writer: &mut EventWriter<'_, '_, P>) {
         put_record(writer, names::DC_EV_STATUS, &self.dc_ev_status);
-        put_optional_value(writer, names::BULK_CHARGING_COMPLETE, &self.bulk_charging_complete);
+        put_optional_value(
+            writer,
+            names::BULK_CHARGING_COMPLETE,
+            &self.bulk_charging_complete,
+        );
         put_value(writer, names::CHARGING_COMPLETE, &self.charging_complete);
     }
 }
@@ -152,11 +190,27 @@ impl Declared for DcEvPowerDeliveryParameter {
 impl<'a> Record<'a> for DcEvPowerDeliveryParameter {
     ghost use Rattle.std.proofs.Common.{rules};
 
-    type Made = Elements<(Required<DcEvStatus>, OptionalValue<bool, { names::BULK_CHARGING_COMPLETE }>, RequiredValue<bool>)>;
+    type Made = Elements<
+        (
+            Required<DcEvStatus>,
+            OptionalValue<bool, { names::BULK_CHARGING_COMPLETE }>,
+            RequiredValue<bool>,
+        ),
+    >;
 
     fn of(made: Self::Made) -> DcEvPowerDeliveryParameter {
-        let Elements((Required(dc_ev_status), OptionalValue(bulk_charging_complete), RequiredValue(charging_complete))) = made;
-        DcEvPowerDeliveryParameter { dc_ev_status, bulk_charging_complete, charging_complete }
+        let Elements(
+            (
+                Required(dc_ev_status),
+                OptionalValue(bulk_charging_complete),
+                RequiredValue(charging_complete),
+            ),
+        ) = made;
+        DcEvPowerDeliveryParameter {
+            dc_ev_status,
+            bulk_charging_complete,
+            charging_complete,
+        }
     }
 
     ghost declared = { Prim.search rules };
@@ -165,7 +219,9 @@ impl<'a> Record<'a> for DcEvPowerDeliveryParameter {
 }
 
 impl<'a> ReadRecord<'a> for DcEvPowerDeliveryParameter {
-    fn read<P: Places>(descent: &mut Descent<'a, '_, P>) -> Result<DcEvPowerDeliveryParameter, Refusal> {
+    fn read<P: Places>(
+        descent: &mut Descent<'a, '_, P>,
+    ) -> Result<DcEvPowerDeliveryParameter, Refusal> {
         whole_record(descent)
     }
 }
@@ -185,7 +241,11 @@ impl PutChoice for EvPowerDeliveryParameter {
 
     fn write_member<P: Places>(&self, writer: &mut EventWriter<'_, '_, P>) {
         match self {
-            EvPowerDeliveryParameter::Dc(dc) => put_record(writer, names::DC_EV_POWER_DELIVERY_PARAMETER, dc),
+            EvPowerDeliveryParameter::Dc(dc) => put_record(
+                writer,
+                names::DC_EV_POWER_DELIVERY_PARAMETER,
+                dc,
+            ),
         }
     }
 }
@@ -200,7 +260,9 @@ impl Alternatives for EvPowerDeliveryParameter {
 }
 
 impl<'a> Choice<'a> for EvPowerDeliveryParameter {
-    fn read_member<P: Places>(descent: &mut Descent<'a, '_, P>) -> Result<EvPowerDeliveryParameter, Refusal> {
+    fn read_member<P: Places>(
+        descent: &mut Descent<'a, '_, P>,
+    ) -> Result<EvPowerDeliveryParameter, Refusal> {
         Ok(EvPowerDeliveryParameter::Dc(member(descent)?))
     }
 }
@@ -227,7 +289,11 @@ impl PutRecord for PowerDeliveryReq {
     ghost parts = { power_delivery_req_parts };
 
     fn write<P: Places>(&self, writer: &mut EventWriter<'_, '_, P>) {
-        put_value(writer, names::READY_TO_CHARGE_STATE, &self.ready_to_charge_state);
+        put_value(
+            writer,
+            names::READY_TO_CHARGE_STATE,
+            &self.ready_to_charge_state,
+        );
         put_optional(writer, names::CHARGING_PROFILE, &self.charging_profile);
         put_optional_choice(writer, &self.ev_power_delivery_parameter);
     }
@@ -247,11 +313,27 @@ impl Declared for PowerDeliveryReq {
 impl<'a> Record<'a> for PowerDeliveryReq {
     ghost use Rattle.std.proofs.Common.{rules};
 
-    type Made = Elements<(RequiredValue<bool>, Optional<ChargingProfile, { names::CHARGING_PROFILE }>, AtMostOneOf<EvPowerDeliveryParameter>)>;
+    type Made = Elements<
+        (
+            RequiredValue<bool>,
+            Optional<ChargingProfile, { names::CHARGING_PROFILE }>,
+            AtMostOneOf<EvPowerDeliveryParameter>,
+        ),
+    >;
 
     fn of(made: Self::Made) -> PowerDeliveryReq {
-        let Elements((RequiredValue(ready_to_charge_state), Optional(charging_profile), AtMostOneOf(ev_power_delivery_parameter))) = made;
-        PowerDeliveryReq { ready_to_charge_state, charging_profile, ev_power_delivery_parameter }
+        let Elements(
+            (
+                RequiredValue(ready_to_charge_state),
+                Optional(charging_profile),
+                AtMostOneOf(ev_power_delivery_parameter),
+            ),
+        ) = made;
+        PowerDeliveryReq {
+            ready_to_charge_state,
+            charging_profile,
+            ev_power_delivery_parameter,
+        }
     }
 
     ghost declared = { Prim.search rules };
@@ -303,7 +385,10 @@ impl<'a> Record<'a> for PowerDeliveryRes {
 
     fn of(made: Self::Made) -> PowerDeliveryRes {
         let Elements((RequiredValue(response_code), OneOf(evse_status))) = made;
-        PowerDeliveryRes { response_code, evse_status }
+        PowerDeliveryRes {
+            response_code,
+            evse_status,
+        }
     }
 
     ghost declared = { Prim.search rules };

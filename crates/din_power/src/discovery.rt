@@ -3,14 +3,17 @@
 ghost use Rattle.std.specs.Prelude.{[]};
 
 use crate::limits::{EvChargeParameter, EvseChargeParameter};
-use crate::schedules::{SaSchedules};
+use crate::schedules::SaSchedules;
 use din_parts::{EnergyTransferMode, EvseProcessing, ResponseCode};
 use din_schema::names;
 use exi_documents::Refusal;
 use exi_events::EventWriter;
 use exi_schema::Places;
 use message_fields::{AtMostOneOf, Elements, OneOf, RequiredValue};
-use message_parts::{Declared, Descent, PutRecord, ReadRecord, Record, put_choice, put_optional_choice, put_value, whole_record};
+use message_parts::{
+    Declared, Descent, PutRecord, ReadRecord, Record, put_choice, put_optional_choice, put_value,
+    whole_record,
+};
 
 /// ChargeParameterDiscoveryReq.
 #[derive(Clone, Copy, Debug, PartialEq, Eq)]
@@ -27,7 +30,11 @@ impl PutRecord for ChargeParameterDiscoveryReq {
     ghost parts = { charge_parameter_discovery_req_parts };
 
     fn write<P: Places>(&self, writer: &mut EventWriter<'_, '_, P>) {
-        put_value(writer, names::EV_REQUESTED_ENERGY_TRANSFER_TYPE, &self.ev_requested_energy_transfer_type);
+        put_value(
+            writer,
+            names::EV_REQUESTED_ENERGY_TRANSFER_TYPE,
+            &self.ev_requested_energy_transfer_type,
+        );
         put_choice(writer, &self.ev_charge_parameter);
     }
 }
@@ -49,8 +56,13 @@ impl<'a> Record<'a> for ChargeParameterDiscoveryReq {
     type Made = Elements<(RequiredValue<EnergyTransferMode>, OneOf<EvChargeParameter>)>;
 
     fn of(made: Self::Made) -> ChargeParameterDiscoveryReq {
-        let Elements((RequiredValue(ev_requested_energy_transfer_type), OneOf(ev_charge_parameter))) = made;
-        ChargeParameterDiscoveryReq { ev_requested_energy_transfer_type, ev_charge_parameter }
+        let Elements(
+            (RequiredValue(ev_requested_energy_transfer_type), OneOf(ev_charge_parameter)),
+        ) = made;
+        ChargeParameterDiscoveryReq {
+            ev_requested_energy_transfer_type,
+            ev_charge_parameter,
+        }
     }
 
     ghost declared = { Prim.search rules };
@@ -59,7 +71,9 @@ impl<'a> Record<'a> for ChargeParameterDiscoveryReq {
 }
 
 impl<'a> ReadRecord<'a> for ChargeParameterDiscoveryReq {
-    fn read<P: Places>(descent: &mut Descent<'a, '_, P>) -> Result<ChargeParameterDiscoveryReq, Refusal> {
+    fn read<P: Places>(
+        descent: &mut Descent<'a, '_, P>,
+    ) -> Result<ChargeParameterDiscoveryReq, Refusal> {
         whole_record(descent)
     }
 }
@@ -102,11 +116,30 @@ impl Declared for ChargeParameterDiscoveryRes {
 impl<'a> Record<'a> for ChargeParameterDiscoveryRes {
     ghost use Rattle.std.proofs.Common.{rules};
 
-    type Made = Elements<(RequiredValue<ResponseCode>, RequiredValue<EvseProcessing>, AtMostOneOf<SaSchedules>, OneOf<EvseChargeParameter>)>;
+    type Made = Elements<
+        (
+            RequiredValue<ResponseCode>,
+            RequiredValue<EvseProcessing>,
+            AtMostOneOf<SaSchedules>,
+            OneOf<EvseChargeParameter>,
+        ),
+    >;
 
     fn of(made: Self::Made) -> ChargeParameterDiscoveryRes {
-        let Elements((RequiredValue(response_code), RequiredValue(evse_processing), AtMostOneOf(sa_schedules), OneOf(evse_charge_parameter))) = made;
-        ChargeParameterDiscoveryRes { response_code, evse_processing, sa_schedules, evse_charge_parameter }
+        let Elements(
+            (
+                RequiredValue(response_code),
+                RequiredValue(evse_processing),
+                AtMostOneOf(sa_schedules),
+                OneOf(evse_charge_parameter),
+            ),
+        ) = made;
+        ChargeParameterDiscoveryRes {
+            response_code,
+            evse_processing,
+            sa_schedules,
+            evse_charge_parameter,
+        }
     }
 
     ghost declared = { Prim.search rules };
@@ -115,7 +148,9 @@ impl<'a> Record<'a> for ChargeParameterDiscoveryRes {
 }
 
 impl<'a> ReadRecord<'a> for ChargeParameterDiscoveryRes {
-    fn read<P: Places>(descent: &mut Descent<'a, '_, P>) -> Result<ChargeParameterDiscoveryRes, Refusal> {
+    fn read<P: Places>(
+        descent: &mut Descent<'a, '_, P>,
+    ) -> Result<ChargeParameterDiscoveryRes, Refusal> {
         whole_record(descent)
     }
 }

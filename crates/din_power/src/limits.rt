@@ -8,7 +8,10 @@ use exi_documents::Refusal;
 use exi_events::EventWriter;
 use exi_schema::Places;
 use message_fields::{Elements, Optional, OptionalValue, Required};
-use message_parts::{Alternatives, Choice, Declared, Descent, PutChoice, PutRecord, ReadRecord, Record, member, put_optional, put_optional_value, put_record, whole_record};
+use message_parts::{
+    Alternatives, Choice, Declared, Descent, PutChoice, PutRecord, ReadRecord, Record, member,
+    put_optional, put_optional_value, put_record, whole_record,
+};
 
 /// DC_EVChargeParameter.
 #[derive(Clone, Copy, Debug, PartialEq, Eq)]
@@ -34,9 +37,21 @@ impl PutRecord for DcEvChargeParameter {
 
     fn write<P: Places>(&self, writer: &mut EventWriter<'_, '_, P>) {
         put_record(writer, names::DC_EV_STATUS, &self.dc_ev_status);
-        put_record(writer, names::EV_MAXIMUM_CURRENT_LIMIT, &self.ev_maximum_current_limit);
-        put_optional(writer, names::EV_MAXIMUM_POWER_LIMIT, &self.ev_maximum_power_limit);
-        put_record(writer, names::EV_MAXIMUM_VOLTAGE_LIMIT, &self.ev_maximum_voltage_limit);
+        put_record(
+            writer,
+            names::EV_MAXIMUM_CURRENT_LIMIT,
+            &self.ev_maximum_current_limit,
+        );
+        put_optional(
+            writer,
+            names::EV_MAXIMUM_POWER_LIMIT,
+            &self.ev_maximum_power_limit,
+        );
+        put_record(
+            writer,
+            names::EV_MAXIMUM_VOLTAGE_LIMIT,
+            &self.ev_maximum_voltage_limit,
+        );
         put_optional(writer, names::EV_ENERGY_CAPACITY, &self.ev_energy_capacity);
         put_optional(writer, names::EV_ENERGY_REQUEST, &self.ev_energy_request);
         put_optional_value(writer, names::FULL_SOC, &self.full_soc);
@@ -58,11 +73,50 @@ impl Declared for DcEvChargeParameter {
 impl<'a> Record<'a> for DcEvChargeParameter {
     ghost use Rattle.std.proofs.Common.{rules};
 
-    type Made = Elements<((Required<DcEvStatus>, Required<PhysicalValue>, Optional<PhysicalValue, { names::EV_MAXIMUM_POWER_LIMIT }>, Required<PhysicalValue>), (Optional<PhysicalValue, { names::EV_ENERGY_CAPACITY }>, Optional<PhysicalValue, { names::EV_ENERGY_REQUEST }>, OptionalValue<u8, { names::FULL_SOC }>, OptionalValue<u8, { names::BULK_SOC }>))>;
+    type Made = Elements<
+        (
+            (
+                Required<DcEvStatus>,
+                Required<PhysicalValue>,
+                Optional<PhysicalValue, { names::EV_MAXIMUM_POWER_LIMIT }>,
+                Required<PhysicalValue>,
+            ),
+            (
+                Optional<PhysicalValue, { names::EV_ENERGY_CAPACITY }>,
+                Optional<PhysicalValue, { names::EV_ENERGY_REQUEST }>,
+                OptionalValue<u8, { names::FULL_SOC }>,
+                OptionalValue<u8, { names::BULK_SOC }>,
+            ),
+        ),
+    >;
 
     fn of(made: Self::Made) -> DcEvChargeParameter {
-        let Elements(((Required(dc_ev_status), Required(ev_maximum_current_limit), Optional(ev_maximum_power_limit), Required(ev_maximum_voltage_limit)), (Optional(ev_energy_capacity), Optional(ev_energy_request), OptionalValue(full_soc), OptionalValue(bulk_soc)))) = made;
-        DcEvChargeParameter { dc_ev_status, ev_maximum_current_limit, ev_maximum_power_limit, ev_maximum_voltage_limit, ev_energy_capacity, ev_energy_request, full_soc, bulk_soc }
+        let Elements(
+            (
+                (
+                    Required(dc_ev_status),
+                    Required(ev_maximum_current_limit),
+                    Optional(ev_maximum_power_limit),
+                    Required(ev_maximum_voltage_limit),
+                ),
+                (
+                    Optional(ev_energy_capacity),
+                    Optional(ev_energy_request),
+                    OptionalValue(full_soc),
+                    OptionalValue(bulk_soc),
+                ),
+            ),
+        ) = made;
+        DcEvChargeParameter {
+            dc_ev_status,
+            ev_maximum_current_limit,
+            ev_maximum_power_limit,
+            ev_maximum_voltage_limit,
+            ev_energy_capacity,
+            ev_energy_request,
+            full_soc,
+            bulk_soc,
+        }
     }
 
     ghost declared = { Prim.search rules };
@@ -106,7 +160,9 @@ impl Alternatives for EvChargeParameter {
 }
 
 impl<'a> Choice<'a> for EvChargeParameter {
-    fn read_member<P: Places>(descent: &mut Descent<'a, '_, P>) -> Result<EvChargeParameter, Refusal> {
+    fn read_member<P: Places>(
+        descent: &mut Descent<'a, '_, P>,
+    ) -> Result<EvChargeParameter, Refusal> {
         Ok(EvChargeParameter::Dc(member(descent)?))
     }
 }
@@ -134,14 +190,46 @@ impl PutRecord for DcEvseChargeParameter {
 
     fn write<P: Places>(&self, writer: &mut EventWriter<'_, '_, P>) {
         put_record(writer, names::DC_EVSE_STATUS, &self.dc_evse_status);
-        put_record(writer, names::EVSE_MAXIMUM_CURRENT_LIMIT, &self.evse_maximum_current_limit);
-        put_optional(writer, names::EVSE_MAXIMUM_POWER_LIMIT, &self.evse_maximum_power_limit);
-        put_record(writer, names::EVSE_MAXIMUM_VOLTAGE_LIMIT, &self.evse_maximum_voltage_limit);
-        put_record(writer, names::EVSE_MINIMUM_CURRENT_LIMIT, &self.evse_minimum_current_limit);
-        put_record(writer, names::EVSE_MINIMUM_VOLTAGE_LIMIT, &self.evse_minimum_voltage_limit);
-        put_optional(writer, names::EVSE_CURRENT_REGULATION_TOLERANCE, &self.evse_current_regulation_tolerance);
-        put_record(writer, names::EVSE_PEAK_CURRENT_RIPPLE, &self.evse_peak_current_ripple);
-        put_optional(writer, names::EVSE_ENERGY_TO_BE_DELIVERED, &self.evse_energy_to_be_delivered);
+        put_record(
+            writer,
+            names::EVSE_MAXIMUM_CURRENT_LIMIT,
+            &self.evse_maximum_current_limit,
+        );
+        put_optional(
+            writer,
+            names::EVSE_MAXIMUM_POWER_LIMIT,
+            &self.evse_maximum_power_limit,
+        );
+        put_record(
+            writer,
+            names::EVSE_MAXIMUM_VOLTAGE_LIMIT,
+            &self.evse_maximum_voltage_limit,
+        );
+        put_record(
+            writer,
+            names::EVSE_MINIMUM_CURRENT_LIMIT,
+            &self.evse_minimum_current_limit,
+        );
+        put_record(
+            writer,
+            names::EVSE_MINIMUM_VOLTAGE_LIMIT,
+            &self.evse_minimum_voltage_limit,
+        );
+        put_optional(
+            writer,
+            names::EVSE_CURRENT_REGULATION_TOLERANCE,
+            &self.evse_current_regulation_tolerance,
+        );
+        put_record(
+            writer,
+            names::EVSE_PEAK_CURRENT_RIPPLE,
+            &self.evse_peak_current_ripple,
+        );
+        put_optional(
+            writer,
+            names::EVSE_ENERGY_TO_BE_DELIVERED,
+            &self.evse_energy_to_be_delivered,
+        );
     }
 }
 
@@ -159,11 +247,57 @@ impl Declared for DcEvseChargeParameter {
 impl<'a> Record<'a> for DcEvseChargeParameter {
     ghost use Rattle.std.proofs.Common.{rules};
 
-    type Made = Elements<((Required<DcEvseStatus>, Required<PhysicalValue>, Optional<PhysicalValue, { names::EVSE_MAXIMUM_POWER_LIMIT }>), (Required<PhysicalValue>, Required<PhysicalValue>, Required<PhysicalValue>), (Optional<PhysicalValue, { names::EVSE_CURRENT_REGULATION_TOLERANCE }>, Required<PhysicalValue>, Optional<PhysicalValue, { names::EVSE_ENERGY_TO_BE_DELIVERED }>))>;
+    type Made = Elements<
+        (
+            (
+                Required<DcEvseStatus>,
+                Required<PhysicalValue>,
+                Optional<PhysicalValue, { names::EVSE_MAXIMUM_POWER_LIMIT }>,
+            ),
+            (
+                Required<PhysicalValue>,
+                Required<PhysicalValue>,
+                Required<PhysicalValue>,
+            ),
+            (
+                Optional<PhysicalValue, { names::EVSE_CURRENT_REGULATION_TOLERANCE }>,
+                Required<PhysicalValue>,
+                Optional<PhysicalValue, { names::EVSE_ENERGY_TO_BE_DELIVERED }>,
+            ),
+        ),
+    >;
 
     fn of(made: Self::Made) -> DcEvseChargeParameter {
-        let Elements(((Required(dc_evse_status), Required(evse_maximum_current_limit), Optional(evse_maximum_power_limit)), (Required(evse_maximum_voltage_limit), Required(evse_minimum_current_limit), Required(evse_minimum_voltage_limit)), (Optional(evse_current_regulation_tolerance), Required(evse_peak_current_ripple), Optional(evse_energy_to_be_delivered)))) = made;
-        DcEvseChargeParameter { dc_evse_status, evse_maximum_current_limit, evse_maximum_power_limit, evse_maximum_voltage_limit, evse_minimum_current_limit, evse_minimum_voltage_limit, evse_current_regulation_tolerance, evse_peak_current_ripple, evse_energy_to_be_delivered }
+        let Elements(
+            (
+                (
+                    Required(dc_evse_status),
+                    Required(evse_maximum_current_limit),
+                    Optional(evse_maximum_power_limit),
+                ),
+                (
+                    Required(evse_maximum_voltage_limit),
+                    Required(evse_minimum_current_limit),
+                    Required(evse_minimum_voltage_limit),
+                ),
+                (
+                    Optional(evse_current_regulation_tolerance),
+                    Required(evse_peak_current_ripple),
+                    Optional(evse_energy_to_be_delivered),
+                ),
+            ),
+        ) = made;
+        DcEvseChargeParameter {
+            dc_evse_status,
+            evse_maximum_current_limit,
+            evse_maximum_power_limit,
+            evse_maximum_voltage_limit,
+            evse_minimum_current_limit,
+            evse_minimum_voltage_limit,
+            evse_current_regulation_tolerance,
+            evse_peak_current_ripple,
+            evse_energy_to_be_delivered,
+        }
     }
 
     ghost declared = { Prim.search rules };
@@ -207,7 +341,9 @@ impl Alternatives for EvseChargeParameter {
 }
 
 impl<'a> Choice<'a> for EvseChargeParameter {
-    fn read_member<P: Places>(descent: &mut Descent<'a, '_, P>) -> Result<EvseChargeParameter, Refusal> {
+    fn read_member<P: Places>(
+        descent: &mut Descent<'a, '_, P>,
+    ) -> Result<EvseChargeParameter, Refusal> {
         Ok(EvseChargeParameter::Dc(member(descent)?))
     }
 }

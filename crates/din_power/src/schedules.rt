@@ -8,7 +8,10 @@ use exi_documents::Refusal;
 use exi_events::EventWriter;
 use exi_schema::Places;
 use message_fields::{Elements, LeftOut, OneOf, OptionalValue, Required, RequiredValue, Several};
-use message_parts::{Alternatives, Choice, Declared, Descent, Group, PutChoice, PutRecord, ReadRecord, Record, member, put_choice, put_optional_value, put_record, put_records, put_value, whole_record};
+use message_parts::{
+    Alternatives, Choice, Declared, Descent, Group, PutChoice, PutRecord, ReadRecord, Record,
+    member, put_choice, put_optional_value, put_record, put_records, put_value, whole_record,
+};
 
 /// RelativeTimeInterval.
 #[derive(Clone, Copy, Debug, PartialEq, Eq, Default)]
@@ -83,7 +86,11 @@ impl PutChoice for TimeInterval {
 
     fn write_member<P: Places>(&self, writer: &mut EventWriter<'_, '_, P>) {
         match self {
-            TimeInterval::Relative(relative) => put_record(writer, names::RELATIVE_TIME_INTERVAL, relative),
+            TimeInterval::Relative(relative) => put_record(
+                writer,
+                names::RELATIVE_TIME_INTERVAL,
+                relative,
+            ),
         }
     }
 }
@@ -141,7 +148,10 @@ impl<'a> Record<'a> for PMaxScheduleEntry {
 
     fn of(made: Self::Made) -> PMaxScheduleEntry {
         let Elements((OneOf(time_interval), RequiredValue(p_max))) = made;
-        PMaxScheduleEntry { time_interval, p_max }
+        PMaxScheduleEntry {
+            time_interval,
+            p_max,
+        }
     }
 
     ghost declared = { Prim.search rules };
@@ -172,7 +182,11 @@ impl PutRecord for PMaxSchedule {
 
     fn write<P: Places>(&self, writer: &mut EventWriter<'_, '_, P>) {
         put_value(writer, names::P_MAX_SCHEDULE_ID, &self.p_max_schedule_id);
-        put_records(writer, names::P_MAX_SCHEDULE_ENTRY, &self.p_max_schedule_entry);
+        put_records(
+            writer,
+            names::P_MAX_SCHEDULE_ENTRY,
+            &self.p_max_schedule_entry,
+        );
     }
 }
 
@@ -190,11 +204,19 @@ impl Declared for PMaxSchedule {
 impl<'a> Record<'a> for PMaxSchedule {
     ghost use Rattle.std.proofs.Common.{rules};
 
-    type Made = Elements<(RequiredValue<i16>, Several<PMaxScheduleEntry, 128, { names::P_MAX_SCHEDULE_ENTRY }>)>;
+    type Made = Elements<
+        (
+            RequiredValue<i16>,
+            Several<PMaxScheduleEntry, 128, { names::P_MAX_SCHEDULE_ENTRY }>,
+        ),
+    >;
 
     fn of(made: Self::Made) -> PMaxSchedule {
         let Elements((RequiredValue(p_max_schedule_id), Several(p_max_schedule_entry))) = made;
-        PMaxSchedule { p_max_schedule_id, p_max_schedule_entry }
+        PMaxSchedule {
+            p_max_schedule_id,
+            p_max_schedule_entry,
+        }
     }
 
     ghost declared = { Prim.search rules };
@@ -223,7 +245,11 @@ impl PutRecord for SaScheduleTuple {
     ghost parts = { sa_schedule_tuple_parts };
 
     fn write<P: Places>(&self, writer: &mut EventWriter<'_, '_, P>) {
-        put_value(writer, names::SA_SCHEDULE_TUPLE_ID, &self.sa_schedule_tuple_id);
+        put_value(
+            writer,
+            names::SA_SCHEDULE_TUPLE_ID,
+            &self.sa_schedule_tuple_id,
+        );
         put_record(writer, names::P_MAX_SCHEDULE, &self.p_max_schedule);
     }
 }
@@ -245,8 +271,12 @@ impl<'a> Record<'a> for SaScheduleTuple {
     type Made = Elements<(RequiredValue<i16>, Required<PMaxSchedule>, LeftOut)>;
 
     fn of(made: Self::Made) -> SaScheduleTuple {
-        let Elements((RequiredValue(sa_schedule_tuple_id), Required(p_max_schedule), LeftOut)) = made;
-        SaScheduleTuple { sa_schedule_tuple_id, p_max_schedule }
+        let Elements((RequiredValue(sa_schedule_tuple_id), Required(p_max_schedule), LeftOut)) =
+            made;
+        SaScheduleTuple {
+            sa_schedule_tuple_id,
+            p_max_schedule,
+        }
     }
 
     ghost declared = { Prim.search rules };
@@ -326,7 +356,11 @@ impl PutChoice for SaSchedules {
 
     fn write_member<P: Places>(&self, writer: &mut EventWriter<'_, '_, P>) {
         match self {
-            SaSchedules::SaScheduleList(sa_schedule_list) => put_record(writer, names::SA_SCHEDULE_LIST, sa_schedule_list),
+            SaSchedules::SaScheduleList(sa_schedule_list) => put_record(
+                writer,
+                names::SA_SCHEDULE_LIST,
+                sa_schedule_list,
+            ),
         }
     }
 }

@@ -9,7 +9,10 @@ use exi_documents::Refusal;
 use exi_events::EventWriter;
 use exi_schema::Places;
 use message_fields::{Elements, OptionalValue, Required, RequiredValue, Several};
-use message_parts::{Declared, Descent, PutRecord, ReadRecord, Record, put_optional_value, put_record, put_records, put_value, whole_record};
+use message_parts::{
+    Declared, Descent, PutRecord, ReadRecord, Record, put_optional_value, put_record, put_records,
+    put_value, whole_record,
+};
 
 /// SelectedService.
 #[derive(Clone, Copy, Debug, PartialEq, Eq, Default)]
@@ -45,11 +48,19 @@ impl Declared for SelectedService {
 impl<'a> Record<'a> for SelectedService {
     ghost use Rattle.std.proofs.Common.{rules};
 
-    type Made = Elements<(RequiredValue<u16>, OptionalValue<i16, { names::PARAMETER_SET_ID }>)>;
+    type Made = Elements<
+        (
+            RequiredValue<u16>,
+            OptionalValue<i16, { names::PARAMETER_SET_ID }>,
+        ),
+    >;
 
     fn of(made: Self::Made) -> SelectedService {
         let Elements((RequiredValue(service_id), OptionalValue(parameter_set_id))) = made;
-        SelectedService { service_id, parameter_set_id }
+        SelectedService {
+            service_id,
+            parameter_set_id,
+        }
     }
 
     ghost declared = { Prim.search rules };
@@ -129,8 +140,16 @@ impl PutRecord for ServicePaymentSelectionReq {
     ghost parts = { service_payment_selection_req_parts };
 
     fn write<P: Places>(&self, writer: &mut EventWriter<'_, '_, P>) {
-        put_value(writer, names::SELECTED_PAYMENT_OPTION, &self.selected_payment_option);
-        put_record(writer, names::SELECTED_SERVICE_LIST, &self.selected_service_list);
+        put_value(
+            writer,
+            names::SELECTED_PAYMENT_OPTION,
+            &self.selected_payment_option,
+        );
+        put_record(
+            writer,
+            names::SELECTED_SERVICE_LIST,
+            &self.selected_service_list,
+        );
     }
 }
 
@@ -151,8 +170,12 @@ impl<'a> Record<'a> for ServicePaymentSelectionReq {
     type Made = Elements<(RequiredValue<PaymentOption>, Required<SelectedServiceList>)>;
 
     fn of(made: Self::Made) -> ServicePaymentSelectionReq {
-        let Elements((RequiredValue(selected_payment_option), Required(selected_service_list))) = made;
-        ServicePaymentSelectionReq { selected_payment_option, selected_service_list }
+        let Elements((RequiredValue(selected_payment_option), Required(selected_service_list))) =
+            made;
+        ServicePaymentSelectionReq {
+            selected_payment_option,
+            selected_service_list,
+        }
     }
 
     ghost declared = { Prim.search rules };
@@ -161,7 +184,9 @@ impl<'a> Record<'a> for ServicePaymentSelectionReq {
 }
 
 impl<'a> ReadRecord<'a> for ServicePaymentSelectionReq {
-    fn read<P: Places>(descent: &mut Descent<'a, '_, P>) -> Result<ServicePaymentSelectionReq, Refusal> {
+    fn read<P: Places>(
+        descent: &mut Descent<'a, '_, P>,
+    ) -> Result<ServicePaymentSelectionReq, Refusal> {
         whole_record(descent)
     }
 }
@@ -211,7 +236,9 @@ impl<'a> Record<'a> for ServicePaymentSelectionRes {
 }
 
 impl<'a> ReadRecord<'a> for ServicePaymentSelectionRes {
-    fn read<P: Places>(descent: &mut Descent<'a, '_, P>) -> Result<ServicePaymentSelectionRes, Refusal> {
+    fn read<P: Places>(
+        descent: &mut Descent<'a, '_, P>,
+    ) -> Result<ServicePaymentSelectionRes, Refusal> {
         whole_record(descent)
     }
 }

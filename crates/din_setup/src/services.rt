@@ -8,8 +8,13 @@ use din_schema::names;
 use exi_documents::Refusal;
 use exi_events::EventWriter;
 use exi_schema::Places;
-use message_fields::{Elements, Optional, OptionalValue, Required, RequiredValue, Several, SeveralValues};
-use message_parts::{Declared, Descent, PutRecord, ReadRecord, Record, Text, put_optional, put_optional_value, put_record, put_records, put_value, put_values, whole_record};
+use message_fields::{
+    Elements, Optional, OptionalValue, Required, RequiredValue, Several, SeveralValues,
+};
+use message_parts::{
+    Declared, Descent, PutRecord, ReadRecord, Record, Text, put_optional, put_optional_value,
+    put_record, put_records, put_value, put_values, whole_record,
+};
 
 /// ServiceTag.
 #[derive(Drop, Default)]
@@ -51,11 +56,30 @@ impl Declared for ServiceTag<'_> {
 impl<'a> Record<'a> for ServiceTag<'a> {
     ghost use Rattle.std.proofs.Common.{rules};
 
-    type Made = Elements<(RequiredValue<u16>, OptionalValue<Text<'a>, { names::SERVICE_NAME }>, RequiredValue<ServiceCategory>, OptionalValue<Text<'a>, { names::SERVICE_SCOPE }>)>;
+    type Made = Elements<
+        (
+            RequiredValue<u16>,
+            OptionalValue<Text<'a>, { names::SERVICE_NAME }>,
+            RequiredValue<ServiceCategory>,
+            OptionalValue<Text<'a>, { names::SERVICE_SCOPE }>,
+        ),
+    >;
 
     fn of(made: Self::Made) -> ServiceTag<'a> {
-        let Elements((RequiredValue(service_id), OptionalValue(service_name), RequiredValue(service_category), OptionalValue(service_scope))) = made;
-        ServiceTag { service_id, service_name, service_category, service_scope }
+        let Elements(
+            (
+                RequiredValue(service_id),
+                OptionalValue(service_name),
+                RequiredValue(service_category),
+                OptionalValue(service_scope),
+            ),
+        ) = made;
+        ServiceTag {
+            service_id,
+            service_name,
+            service_category,
+            service_scope,
+        }
     }
 
     ghost declared = { Prim.search rules };
@@ -107,7 +131,10 @@ impl<'a> Record<'a> for Service<'a> {
 
     fn of(made: Self::Made) -> Service<'a> {
         let Elements((Required(service_tag), RequiredValue(free_service))) = made;
-        Service { service_tag, free_service }
+        Service {
+            service_tag,
+            free_service,
+        }
     }
 
     ghost declared = { Prim.search rules };
@@ -190,7 +217,11 @@ impl PutRecord for ChargeService<'_> {
     fn write<P: Places>(&self, writer: &mut EventWriter<'_, '_, P>) {
         put_record(writer, names::SERVICE_TAG, &self.service_tag);
         put_value(writer, names::FREE_SERVICE, &self.free_service);
-        put_value(writer, names::ENERGY_TRANSFER_TYPE, &self.energy_transfer_type);
+        put_value(
+            writer,
+            names::ENERGY_TRANSFER_TYPE,
+            &self.energy_transfer_type,
+        );
     }
 }
 
@@ -208,11 +239,27 @@ impl Declared for ChargeService<'_> {
 impl<'a> Record<'a> for ChargeService<'a> {
     ghost use Rattle.std.proofs.Common.{rules};
 
-    type Made = Elements<(Required<ServiceTag<'a>>, RequiredValue<bool>, RequiredValue<SupportedEnergyTransferType>)>;
+    type Made = Elements<
+        (
+            Required<ServiceTag<'a>>,
+            RequiredValue<bool>,
+            RequiredValue<SupportedEnergyTransferType>,
+        ),
+    >;
 
     fn of(made: Self::Made) -> ChargeService<'a> {
-        let Elements((Required(service_tag), RequiredValue(free_service), RequiredValue(energy_transfer_type))) = made;
-        ChargeService { service_tag, free_service, energy_transfer_type }
+        let Elements(
+            (
+                Required(service_tag),
+                RequiredValue(free_service),
+                RequiredValue(energy_transfer_type),
+            ),
+        ) = made;
+        ChargeService {
+            service_tag,
+            free_service,
+            energy_transfer_type,
+        }
     }
 
     ghost declared = { Prim.search rules };
@@ -312,11 +359,19 @@ impl Declared for ServiceDiscoveryReq<'_> {
 impl<'a> Record<'a> for ServiceDiscoveryReq<'a> {
     ghost use Rattle.std.proofs.Common.{rules};
 
-    type Made = Elements<(OptionalValue<Text<'a>, { names::SERVICE_SCOPE }>, OptionalValue<ServiceCategory, { names::SERVICE_CATEGORY }>)>;
+    type Made = Elements<
+        (
+            OptionalValue<Text<'a>, { names::SERVICE_SCOPE }>,
+            OptionalValue<ServiceCategory, { names::SERVICE_CATEGORY }>,
+        ),
+    >;
 
     fn of(made: Self::Made) -> ServiceDiscoveryReq<'a> {
         let Elements((OptionalValue(service_scope), OptionalValue(service_category))) = made;
-        ServiceDiscoveryReq { service_scope, service_category }
+        ServiceDiscoveryReq {
+            service_scope,
+            service_category,
+        }
     }
 
     ghost declared = { Prim.search rules };
@@ -325,7 +380,9 @@ impl<'a> Record<'a> for ServiceDiscoveryReq<'a> {
 }
 
 impl<'a> ReadRecord<'a> for ServiceDiscoveryReq<'a> {
-    fn read<P: Places>(descent: &mut Descent<'a, '_, P>) -> Result<ServiceDiscoveryReq<'a>, Refusal> {
+    fn read<P: Places>(
+        descent: &mut Descent<'a, '_, P>,
+    ) -> Result<ServiceDiscoveryReq<'a>, Refusal> {
         whole_record(descent)
     }
 }
@@ -368,11 +425,30 @@ impl Declared for ServiceDiscoveryRes<'_> {
 impl<'a> Record<'a> for ServiceDiscoveryRes<'a> {
     ghost use Rattle.std.proofs.Common.{rules};
 
-    type Made = Elements<(RequiredValue<ResponseCode>, Required<PaymentOptions>, Required<ChargeService<'a>>, Optional<ServiceList<'a>, { names::SERVICE_LIST }>)>;
+    type Made = Elements<
+        (
+            RequiredValue<ResponseCode>,
+            Required<PaymentOptions>,
+            Required<ChargeService<'a>>,
+            Optional<ServiceList<'a>, { names::SERVICE_LIST }>,
+        ),
+    >;
 
     fn of(made: Self::Made) -> ServiceDiscoveryRes<'a> {
-        let Elements((RequiredValue(response_code), Required(payment_options), Required(charge_service), Optional(service_list))) = made;
-        ServiceDiscoveryRes { response_code, payment_options, charge_service, service_list }
+        let Elements(
+            (
+                RequiredValue(response_code),
+                Required(payment_options),
+                Required(charge_service),
+                Optional(service_list),
+            ),
+        ) = made;
+        ServiceDiscoveryRes {
+            response_code,
+            payment_options,
+            charge_service,
+            service_list,
+        }
     }
 
     ghost declared = { Prim.search rules };
@@ -381,7 +457,9 @@ impl<'a> Record<'a> for ServiceDiscoveryRes<'a> {
 }
 
 impl<'a> ReadRecord<'a> for ServiceDiscoveryRes<'a> {
-    fn read<P: Places>(descent: &mut Descent<'a, '_, P>) -> Result<ServiceDiscoveryRes<'a>, Refusal> {
+    fn read<P: Places>(
+        descent: &mut Descent<'a, '_, P>,
+    ) -> Result<ServiceDiscoveryRes<'a>, Refusal> {
         whole_record(descent)
     }
 }

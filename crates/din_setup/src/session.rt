@@ -8,7 +8,10 @@ use exi_documents::Refusal;
 use exi_events::EventWriter;
 use exi_schema::Places;
 use message_fields::{Elements, OptionalValue, RequiredValue, WithOptionalAttribute};
-use message_parts::{Binary, Declared, Descent, PutRecord, ReadRecord, Record, Text, put_optional_attribute, put_optional_value, put_value, whole_record};
+use message_parts::{
+    Binary, Declared, Descent, PutRecord, ReadRecord, Record, Text, put_optional_attribute,
+    put_optional_value, put_value, whole_record,
+};
 
 /// SessionSetupReq.
 #[derive(Drop)]
@@ -98,11 +101,23 @@ impl Declared for SessionSetupRes<'_> {
 impl<'a> Record<'a> for SessionSetupRes<'a> {
     ghost use Rattle.std.proofs.Common.{rules};
 
-    type Made = Elements<(RequiredValue<ResponseCode>, RequiredValue<Binary<'a>>, OptionalValue<i64, { names::DATE_TIME_NOW }>)>;
+    type Made = Elements<
+        (
+            RequiredValue<ResponseCode>,
+            RequiredValue<Binary<'a>>,
+            OptionalValue<i64, { names::DATE_TIME_NOW }>,
+        ),
+    >;
 
     fn of(made: Self::Made) -> SessionSetupRes<'a> {
-        let Elements((RequiredValue(response_code), RequiredValue(evseid), OptionalValue(date_time_now))) = made;
-        SessionSetupRes { response_code, evseid, date_time_now }
+        let Elements(
+            (RequiredValue(response_code), RequiredValue(evseid), OptionalValue(date_time_now)),
+        ) = made;
+        SessionSetupRes {
+            response_code,
+            evseid,
+            date_time_now,
+        }
     }
 
     ghost declared = { Prim.search rules };
@@ -166,7 +181,9 @@ impl<'a> Record<'a> for ContractAuthenticationReq<'a> {
 }
 
 impl<'a> ReadRecord<'a> for ContractAuthenticationReq<'a> {
-    fn read<P: Places>(descent: &mut Descent<'a, '_, P>) -> Result<ContractAuthenticationReq<'a>, Refusal> {
+    fn read<P: Places>(
+        descent: &mut Descent<'a, '_, P>,
+    ) -> Result<ContractAuthenticationReq<'a>, Refusal> {
         whole_record(descent)
     }
 }
@@ -209,7 +226,10 @@ impl<'a> Record<'a> for ContractAuthenticationRes {
 
     fn of(made: Self::Made) -> ContractAuthenticationRes {
         let Elements((RequiredValue(response_code), RequiredValue(evse_processing))) = made;
-        ContractAuthenticationRes { response_code, evse_processing }
+        ContractAuthenticationRes {
+            response_code,
+            evse_processing,
+        }
     }
 
     ghost declared = { Prim.search rules };
@@ -218,7 +238,9 @@ impl<'a> Record<'a> for ContractAuthenticationRes {
 }
 
 impl<'a> ReadRecord<'a> for ContractAuthenticationRes {
-    fn read<P: Places>(descent: &mut Descent<'a, '_, P>) -> Result<ContractAuthenticationRes, Refusal> {
+    fn read<P: Places>(
+        descent: &mut Descent<'a, '_, P>,
+    ) -> Result<ContractAuthenticationRes, Refusal> {
         whole_record(descent)
     }
 }
@@ -232,8 +254,7 @@ impl PutRecord for SessionStopReq {
 
     ghost parts = { λ v. [] };
 
-    fn write<P: Places>(&self, _writer: &mut EventWriter<'_, '_, P>) {
-    }
+    fn write<P: Places>(&self, _writer: &mut EventWriter<'_, '_, P>) {}
 }
 
 impl Declared for SessionStopReq {

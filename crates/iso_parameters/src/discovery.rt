@@ -3,14 +3,17 @@
 ghost use Rattle.std.specs.Prelude.{[]};
 
 use crate::limits::{EvChargeParameter, EvseChargeParameter};
-use crate::schedules::{SaSchedules};
+use crate::schedules::SaSchedules;
 use exi_documents::Refusal;
 use exi_events::EventWriter;
 use exi_schema::Places;
 use iso_parts::{EnergyTransferMode, EvseProcessing, ResponseCode};
 use iso_schema::names;
 use message_fields::{AtMostOneOf, Elements, OneOf, OptionalValue, RequiredValue};
-use message_parts::{Declared, Descent, PutRecord, ReadRecord, Record, put_choice, put_optional_choice, put_optional_value, put_value, whole_record};
+use message_parts::{
+    Declared, Descent, PutRecord, ReadRecord, Record, put_choice, put_optional_choice,
+    put_optional_value, put_value, whole_record,
+};
 
 /// ChargeParameterDiscoveryReq.
 #[derive(Clone, Copy, Debug, PartialEq, Eq)]
@@ -28,8 +31,16 @@ impl PutRecord for ChargeParameterDiscoveryReq {
     ghost parts = { charge_parameter_discovery_req_parts };
 
     fn write<P: Places>(&self, writer: &mut EventWriter<'_, '_, P>) {
-        put_optional_value(writer, names::MAX_ENTRIES_SA_SCHEDULE_TUPLE, &self.max_entries_sa_schedule_tuple);
-        put_value(writer, names::REQUESTED_ENERGY_TRANSFER_MODE, &self.requested_energy_transfer_mode);
+        put_optional_value(
+            writer,
+            names::MAX_ENTRIES_SA_SCHEDULE_TUPLE,
+            &self.max_entries_sa_schedule_tuple,
+        );
+        put_value(
+            writer,
+            names::REQUESTED_ENERGY_TRANSFER_MODE,
+            &self.requested_energy_transfer_mode,
+        );
         put_choice(writer, &self.ev_charge_parameter);
     }
 }
@@ -48,11 +59,27 @@ impl Declared for ChargeParameterDiscoveryReq {
 impl<'a> Record<'a> for ChargeParameterDiscoveryReq {
     ghost use Rattle.std.proofs.Common.{rules};
 
-    type Made = Elements<(OptionalValue<u16, { names::MAX_ENTRIES_SA_SCHEDULE_TUPLE }>, RequiredValue<EnergyTransferMode>, OneOf<EvChargeParameter>)>;
+    type Made = Elements<
+        (
+            OptionalValue<u16, { names::MAX_ENTRIES_SA_SCHEDULE_TUPLE }>,
+            RequiredValue<EnergyTransferMode>,
+            OneOf<EvChargeParameter>,
+        ),
+    >;
 
     fn of(made: Self::Made) -> ChargeParameterDiscoveryReq {
-        let Elements((OptionalValue(max_entries_sa_schedule_tuple), RequiredValue(requested_energy_transfer_mode), OneOf(ev_charge_parameter))) = made;
-        ChargeParameterDiscoveryReq { max_entries_sa_schedule_tuple, requested_energy_transfer_mode, ev_charge_parameter }
+        let Elements(
+            (
+                OptionalValue(max_entries_sa_schedule_tuple),
+                RequiredValue(requested_energy_transfer_mode),
+                OneOf(ev_charge_parameter),
+            ),
+        ) = made;
+        ChargeParameterDiscoveryReq {
+            max_entries_sa_schedule_tuple,
+            requested_energy_transfer_mode,
+            ev_charge_parameter,
+        }
     }
 
     ghost declared = { Prim.search rules };
@@ -61,7 +88,9 @@ impl<'a> Record<'a> for ChargeParameterDiscoveryReq {
 }
 
 impl<'a> ReadRecord<'a> for ChargeParameterDiscoveryReq {
-    fn read<P: Places>(descent: &mut Descent<'a, '_, P>) -> Result<ChargeParameterDiscoveryReq, Refusal> {
+    fn read<P: Places>(
+        descent: &mut Descent<'a, '_, P>,
+    ) -> Result<ChargeParameterDiscoveryReq, Refusal> {
         whole_record(descent)
     }
 }
@@ -104,11 +133,30 @@ impl Declared for ChargeParameterDiscoveryRes {
 impl<'a> Record<'a> for ChargeParameterDiscoveryRes {
     ghost use Rattle.std.proofs.Common.{rules};
 
-    type Made = Elements<(RequiredValue<ResponseCode>, RequiredValue<EvseProcessing>, AtMostOneOf<SaSchedules>, OneOf<EvseChargeParameter>)>;
+    type Made = Elements<
+        (
+            RequiredValue<ResponseCode>,
+            RequiredValue<EvseProcessing>,
+            AtMostOneOf<SaSchedules>,
+            OneOf<EvseChargeParameter>,
+        ),
+    >;
 
     fn of(made: Self::Made) -> ChargeParameterDiscoveryRes {
-        let Elements((RequiredValue(response_code), RequiredValue(evse_processing), AtMostOneOf(sa_schedules), OneOf(evse_charge_parameter))) = made;
-        ChargeParameterDiscoveryRes { response_code, evse_processing, sa_schedules, evse_charge_parameter }
+        let Elements(
+            (
+                RequiredValue(response_code),
+                RequiredValue(evse_processing),
+                AtMostOneOf(sa_schedules),
+                OneOf(evse_charge_parameter),
+            ),
+        ) = made;
+        ChargeParameterDiscoveryRes {
+            response_code,
+            evse_processing,
+            sa_schedules,
+            evse_charge_parameter,
+        }
     }
 
     ghost declared = { Prim.search rules };
@@ -117,7 +165,9 @@ impl<'a> Record<'a> for ChargeParameterDiscoveryRes {
 }
 
 impl<'a> ReadRecord<'a> for ChargeParameterDiscoveryRes {
-    fn read<P: Places>(descent: &mut Descent<'a, '_, P>) -> Result<ChargeParameterDiscoveryRes, Refusal> {
+    fn read<P: Places>(
+        descent: &mut Descent<'a, '_, P>,
+    ) -> Result<ChargeParameterDiscoveryRes, Refusal> {
         whole_record(descent)
     }
 }

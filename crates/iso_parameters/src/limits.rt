@@ -8,7 +8,10 @@ use exi_schema::Places;
 use iso_parts::{AcEvseStatus, DcEvStatus, DcEvseStatus, PhysicalValue};
 use iso_schema::names;
 use message_fields::{Elements, Optional, OptionalValue, Required};
-use message_parts::{Alternatives, Choice, Declared, Descent, PutChoice, PutRecord, ReadRecord, Record, member, put_optional, put_optional_value, put_record, whole_record};
+use message_parts::{
+    Alternatives, Choice, Declared, Descent, PutChoice, PutRecord, ReadRecord, Record, member,
+    put_optional, put_optional_value, put_record, whole_record,
+};
 
 /// AC_EVChargeParameter.
 #[derive(Clone, Copy, Debug, PartialEq, Eq)]
@@ -50,11 +53,31 @@ impl Declared for AcEvChargeParameter {
 impl<'a> Record<'a> for AcEvChargeParameter {
     ghost use Rattle.std.proofs.Common.{rules};
 
-    type Made = Elements<((OptionalValue<u32, { names::DEPARTURE_TIME }>, Required<PhysicalValue>, Required<PhysicalValue>), (Required<PhysicalValue>, Required<PhysicalValue>))>;
+    type Made = Elements<
+        (
+            (
+                OptionalValue<u32, { names::DEPARTURE_TIME }>,
+                Required<PhysicalValue>,
+                Required<PhysicalValue>,
+            ),
+            (Required<PhysicalValue>, Required<PhysicalValue>),
+        ),
+    >;
 
     fn of(made: Self::Made) -> AcEvChargeParameter {
-        let Elements(((OptionalValue(departure_time), Required(e_amount), Required(ev_max_voltage)), (Required(ev_max_current), Required(ev_min_current)))) = made;
-        AcEvChargeParameter { departure_time, e_amount, ev_max_voltage, ev_max_current, ev_min_current }
+        let Elements(
+            (
+                (OptionalValue(departure_time), Required(e_amount), Required(ev_max_voltage)),
+                (Required(ev_max_current), Required(ev_min_current)),
+            ),
+        ) = made;
+        AcEvChargeParameter {
+            departure_time,
+            e_amount,
+            ev_max_voltage,
+            ev_max_current,
+            ev_min_current,
+        }
     }
 
     ghost declared = { Prim.search rules };
@@ -94,9 +117,21 @@ impl PutRecord for DcEvChargeParameter {
     fn write<P: Places>(&self, writer: &mut EventWriter<'_, '_, P>) {
         put_optional_value(writer, names::DEPARTURE_TIME, &self.departure_time);
         put_record(writer, names::DC_EV_STATUS, &self.dc_ev_status);
-        put_record(writer, names::EV_MAXIMUM_CURRENT_LIMIT, &self.ev_maximum_current_limit);
-        put_optional(writer, names::EV_MAXIMUM_POWER_LIMIT, &self.ev_maximum_power_limit);
-        put_record(writer, names::EV_MAXIMUM_VOLTAGE_LIMIT, &self.ev_maximum_voltage_limit);
+        put_record(
+            writer,
+            names::EV_MAXIMUM_CURRENT_LIMIT,
+            &self.ev_maximum_current_limit,
+        );
+        put_optional(
+            writer,
+            names::EV_MAXIMUM_POWER_LIMIT,
+            &self.ev_maximum_power_limit,
+        );
+        put_record(
+            writer,
+            names::EV_MAXIMUM_VOLTAGE_LIMIT,
+            &self.ev_maximum_voltage_limit,
+        );
         put_optional(writer, names::EV_ENERGY_CAPACITY, &self.ev_energy_capacity);
         put_optional(writer, names::EV_ENERGY_REQUEST, &self.ev_energy_request);
         put_optional_value(writer, names::FULL_SOC, &self.full_soc);
@@ -118,11 +153,53 @@ impl Declared for DcEvChargeParameter {
 impl<'a> Record<'a> for DcEvChargeParameter {
     ghost use Rattle.std.proofs.Common.{rules};
 
-    type Made = Elements<((OptionalValue<u32, { names::DEPARTURE_TIME }>, Required<DcEvStatus>, Required<PhysicalValue>), (Optional<PhysicalValue, { names::EV_MAXIMUM_POWER_LIMIT }>, Required<PhysicalValue>, Optional<PhysicalValue, { names::EV_ENERGY_CAPACITY }>), (Optional<PhysicalValue, { names::EV_ENERGY_REQUEST }>, OptionalValue<u8, { names::FULL_SOC }>, OptionalValue<u8, { names::BULK_SOC }>))>;
+    type Made = Elements<
+        (
+            (
+                OptionalValue<u32, { names::DEPARTURE_TIME }>,
+                Required<DcEvStatus>,
+                Required<PhysicalValue>,
+            ),
+            (
+                Optional<PhysicalValue, { names::EV_MAXIMUM_POWER_LIMIT }>,
+                Required<PhysicalValue>,
+                Optional<PhysicalValue, { names::EV_ENERGY_CAPACITY }>,
+            ),
+            (
+                Optional<PhysicalValue, { names::EV_ENERGY_REQUEST }>,
+                OptionalValue<u8, { names::FULL_SOC }>,
+                OptionalValue<u8, { names::BULK_SOC }>,
+            ),
+        ),
+    >;
 
     fn of(made: Self::Made) -> DcEvChargeParameter {
-        let Elements(((OptionalValue(departure_time), Required(dc_ev_status), Required(ev_maximum_current_limit)), (Optional(ev_maximum_power_limit), Required(ev_maximum_voltage_limit), Optional(ev_energy_capacity)), (Optional(ev_energy_request), OptionalValue(full_soc), OptionalValue(bulk_soc)))) = made;
-        DcEvChargeParameter { departure_time, dc_ev_status, ev_maximum_current_limit, ev_maximum_power_limit, ev_maximum_voltage_limit, ev_energy_capacity, ev_energy_request, full_soc, bulk_soc }
+        let Elements(
+            (
+                (
+                    OptionalValue(departure_time),
+                    Required(dc_ev_status),
+                    Required(ev_maximum_current_limit),
+                ),
+                (
+                    Optional(ev_maximum_power_limit),
+                    Required(ev_maximum_voltage_limit),
+                    Optional(ev_energy_capacity),
+                ),
+                (Optional(ev_energy_request), OptionalValue(full_soc), OptionalValue(bulk_soc)),
+            ),
+        ) = made;
+        DcEvChargeParameter {
+            departure_time,
+            dc_ev_status,
+            ev_maximum_current_limit,
+            ev_maximum_power_limit,
+            ev_maximum_voltage_limit,
+            ev_energy_capacity,
+            ev_energy_request,
+            full_soc,
+            bulk_soc,
+        }
     }
 
     ghost declared = { Prim.search rules };
@@ -168,7 +245,9 @@ impl Alternatives for EvChargeParameter {
 }
 
 impl<'a> Choice<'a> for EvChargeParameter {
-    fn read_member<P: Places>(descent: &mut Descent<'a, '_, P>) -> Result<EvChargeParameter, Refusal> {
+    fn read_member<P: Places>(
+        descent: &mut Descent<'a, '_, P>,
+    ) -> Result<EvChargeParameter, Refusal> {
         if descent.is_at(names::AC_EV_CHARGE_PARAMETER) {
             Ok(EvChargeParameter::Ac(member(descent)?))
         } else {
@@ -194,7 +273,11 @@ impl PutRecord for AcEvseChargeParameter {
 
     fn write<P: Places>(&self, writer: &mut EventWriter<'_, '_, P>) {
         put_record(writer, names::AC_EVSE_STATUS, &self.ac_evse_status);
-        put_record(writer, names::EVSE_NOMINAL_VOLTAGE, &self.evse_nominal_voltage);
+        put_record(
+            writer,
+            names::EVSE_NOMINAL_VOLTAGE,
+            &self.evse_nominal_voltage,
+        );
         put_record(writer, names::EVSE_MAX_CURRENT, &self.evse_max_current);
     }
 }
@@ -213,11 +296,23 @@ impl Declared for AcEvseChargeParameter {
 impl<'a> Record<'a> for AcEvseChargeParameter {
     ghost use Rattle.std.proofs.Common.{rules};
 
-    type Made = Elements<(Required<AcEvseStatus>, Required<PhysicalValue>, Required<PhysicalValue>)>;
+    type Made = Elements<
+        (
+            Required<AcEvseStatus>,
+            Required<PhysicalValue>,
+            Required<PhysicalValue>,
+        ),
+    >;
 
     fn of(made: Self::Made) -> AcEvseChargeParameter {
-        let Elements((Required(ac_evse_status), Required(evse_nominal_voltage), Required(evse_max_current))) = made;
-        AcEvseChargeParameter { ac_evse_status, evse_nominal_voltage, evse_max_current }
+        let Elements(
+            (Required(ac_evse_status), Required(evse_nominal_voltage), Required(evse_max_current)),
+        ) = made;
+        AcEvseChargeParameter {
+            ac_evse_status,
+            evse_nominal_voltage,
+            evse_max_current,
+        }
     }
 
     ghost declared = { Prim.search rules };
@@ -254,14 +349,46 @@ impl PutRecord for DcEvseChargeParameter {
 
     fn write<P: Places>(&self, writer: &mut EventWriter<'_, '_, P>) {
         put_record(writer, names::DC_EVSE_STATUS, &self.dc_evse_status);
-        put_record(writer, names::EVSE_MAXIMUM_CURRENT_LIMIT, &self.evse_maximum_current_limit);
-        put_record(writer, names::EVSE_MAXIMUM_POWER_LIMIT, &self.evse_maximum_power_limit);
-        put_record(writer, names::EVSE_MAXIMUM_VOLTAGE_LIMIT, &self.evse_maximum_voltage_limit);
-        put_record(writer, names::EVSE_MINIMUM_CURRENT_LIMIT, &self.evse_minimum_current_limit);
-        put_record(writer, names::EVSE_MINIMUM_VOLTAGE_LIMIT, &self.evse_minimum_voltage_limit);
-        put_optional(writer, names::EVSE_CURRENT_REGULATION_TOLERANCE, &self.evse_current_regulation_tolerance);
-        put_record(writer, names::EVSE_PEAK_CURRENT_RIPPLE, &self.evse_peak_current_ripple);
-        put_optional(writer, names::EVSE_ENERGY_TO_BE_DELIVERED, &self.evse_energy_to_be_delivered);
+        put_record(
+            writer,
+            names::EVSE_MAXIMUM_CURRENT_LIMIT,
+            &self.evse_maximum_current_limit,
+        );
+        put_record(
+            writer,
+            names::EVSE_MAXIMUM_POWER_LIMIT,
+            &self.evse_maximum_power_limit,
+        );
+        put_record(
+            writer,
+            names::EVSE_MAXIMUM_VOLTAGE_LIMIT,
+            &self.evse_maximum_voltage_limit,
+        );
+        put_record(
+            writer,
+            names::EVSE_MINIMUM_CURRENT_LIMIT,
+            &self.evse_minimum_current_limit,
+        );
+        put_record(
+            writer,
+            names::EVSE_MINIMUM_VOLTAGE_LIMIT,
+            &self.evse_minimum_voltage_limit,
+        );
+        put_optional(
+            writer,
+            names::EVSE_CURRENT_REGULATION_TOLERANCE,
+            &self.evse_current_regulation_tolerance,
+        );
+        put_record(
+            writer,
+            names::EVSE_PEAK_CURRENT_RIPPLE,
+            &self.evse_peak_current_ripple,
+        );
+        put_optional(
+            writer,
+            names::EVSE_ENERGY_TO_BE_DELIVERED,
+            &self.evse_energy_to_be_delivered,
+        );
     }
 }
 
@@ -279,11 +406,57 @@ impl Declared for DcEvseChargeParameter {
 impl<'a> Record<'a> for DcEvseChargeParameter {
     ghost use Rattle.std.proofs.Common.{rules};
 
-    type Made = Elements<((Required<DcEvseStatus>, Required<PhysicalValue>, Required<PhysicalValue>), (Required<PhysicalValue>, Required<PhysicalValue>, Required<PhysicalValue>), (Optional<PhysicalValue, { names::EVSE_CURRENT_REGULATION_TOLERANCE }>, Required<PhysicalValue>, Optional<PhysicalValue, { names::EVSE_ENERGY_TO_BE_DELIVERED }>))>;
+    type Made = Elements<
+        (
+            (
+                Required<DcEvseStatus>,
+                Required<PhysicalValue>,
+                Required<PhysicalValue>,
+            ),
+            (
+                Required<PhysicalValue>,
+                Required<PhysicalValue>,
+                Required<PhysicalValue>,
+            ),
+            (
+                Optional<PhysicalValue, { names::EVSE_CURRENT_REGULATION_TOLERANCE }>,
+                Required<PhysicalValue>,
+                Optional<PhysicalValue, { names::EVSE_ENERGY_TO_BE_DELIVERED }>,
+            ),
+        ),
+    >;
 
     fn of(made: Self::Made) -> DcEvseChargeParameter {
-        let Elements(((Required(dc_evse_status), Required(evse_maximum_current_limit), Required(evse_maximum_power_limit)), (Required(evse_maximum_voltage_limit), Required(evse_minimum_current_limit), Required(evse_minimum_voltage_limit)), (Optional(evse_current_regulation_tolerance), Required(evse_peak_current_ripple), Optional(evse_energy_to_be_delivered)))) = made;
-        DcEvseChargeParameter { dc_evse_status, evse_maximum_current_limit, evse_maximum_power_limit, evse_maximum_voltage_limit, evse_minimum_current_limit, evse_minimum_voltage_limit, evse_current_regulation_tolerance, evse_peak_current_ripple, evse_energy_to_be_delivered }
+        let Elements(
+            (
+                (
+                    Required(dc_evse_status),
+                    Required(evse_maximum_current_limit),
+                    Required(evse_maximum_power_limit),
+                ),
+                (
+                    Required(evse_maximum_voltage_limit),
+                    Required(evse_minimum_current_limit),
+                    Required(evse_minimum_voltage_limit),
+                ),
+                (
+                    Optional(evse_current_regulation_tolerance),
+                    Required(evse_peak_current_ripple),
+                    Optional(evse_energy_to_be_delivered),
+                ),
+            ),
+        ) = made;
+        DcEvseChargeParameter {
+            dc_evse_status,
+            evse_maximum_current_limit,
+            evse_maximum_power_limit,
+            evse_maximum_voltage_limit,
+            evse_minimum_current_limit,
+            evse_minimum_voltage_limit,
+            evse_current_regulation_tolerance,
+            evse_peak_current_ripple,
+            evse_energy_to_be_delivered,
+        }
     }
 
     ghost declared = { Prim.search rules };
@@ -329,7 +502,9 @@ impl Alternatives for EvseChargeParameter {
 }
 
 impl<'a> Choice<'a> for EvseChargeParameter {
-    fn read_member<P: Places>(descent: &mut Descent<'a, '_, P>) -> Result<EvseChargeParameter, Refusal> {
+    fn read_member<P: Places>(
+        descent: &mut Descent<'a, '_, P>,
+    ) -> Result<EvseChargeParameter, Refusal> {
         if descent.is_at(names::AC_EVSE_CHARGE_PARAMETER) {
             Ok(EvseChargeParameter::Ac(member(descent)?))
         } else {

@@ -2,13 +2,16 @@
 
 ghost use Rattle.std.specs.Prelude.{[]};
 
-use crate::enumerations::{FaultCode};
+use crate::enumerations::FaultCode;
 use exi_documents::Refusal;
 use exi_events::EventWriter;
 use exi_schema::Places;
 use iso_schema::names;
 use message_fields::{Elements, LeftOut, Optional, OptionalValue, RequiredValue};
-use message_parts::{Binary, Declared, Descent, PutRecord, ReadRecord, Record, Text, put_optional, put_optional_value, put_value, whole_record};
+use message_parts::{
+    Binary, Declared, Descent, PutRecord, ReadRecord, Record, Text, put_optional,
+    put_optional_value, put_value, whole_record,
+};
 
 /// Notification.
 #[derive(Drop)]
@@ -45,11 +48,19 @@ impl Declared for Notification<'_> {
 impl<'a> Record<'a> for Notification<'a> {
     ghost use Rattle.std.proofs.Common.{rules};
 
-    type Made = Elements<(RequiredValue<FaultCode>, OptionalValue<Text<'a>, { names::FAULT_MSG }>)>;
+    type Made = Elements<
+        (
+            RequiredValue<FaultCode>,
+            OptionalValue<Text<'a>, { names::FAULT_MSG }>,
+        ),
+    >;
 
     fn of(made: Self::Made) -> Notification<'a> {
         let Elements((RequiredValue(fault_code), OptionalValue(fault_msg))) = made;
-        Notification { fault_code, fault_msg }
+        Notification {
+            fault_code,
+            fault_msg,
+        }
     }
 
     ghost declared = { Prim.search rules };
@@ -98,11 +109,20 @@ impl Declared for Header<'_> {
 impl<'a> Record<'a> for Header<'a> {
     ghost use Rattle.std.proofs.Common.{rules};
 
-    type Made = Elements<(RequiredValue<Binary<'a>>, Optional<Notification<'a>, { names::NOTIFICATION }>, LeftOut)>;
+    type Made = Elements<
+        (
+            RequiredValue<Binary<'a>>,
+            Optional<Notification<'a>, { names::NOTIFICATION }>,
+            LeftOut,
+        ),
+    >;
 
     fn of(made: Self::Made) -> Header<'a> {
         let Elements((RequiredValue(session_id), Optional(notification), LeftOut)) = made;
-        Header { session_id, notification }
+        Header {
+            session_id,
+            notification,
+        }
     }
 
     ghost declared = { Prim.search rules };

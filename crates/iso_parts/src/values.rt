@@ -2,13 +2,18 @@
 
 ghost use Rattle.std.specs.Prelude.{[]};
 
-use crate::enumerations::{EvErrorCode, EvseNotification, EvseStatusCode, IsolationLevel, UnitSymbol};
+use crate::enumerations::{
+    EvErrorCode, EvseNotification, EvseStatusCode, IsolationLevel, UnitSymbol,
+};
 use exi_documents::Refusal;
 use exi_events::EventWriter;
 use exi_schema::Places;
 use iso_schema::names;
 use message_fields::{Elements, OptionalValue, RequiredValue};
-use message_parts::{Alternatives, Binary, Choice, Declared, Descent, PutChoice, PutRecord, ReadRecord, Record, Text, Three, member, put_optional_value, put_record, put_value, whole_record};
+use message_parts::{
+    Alternatives, Binary, Choice, Declared, Descent, PutChoice, PutRecord, ReadRecord, Record,
+    Text, Three, member, put_optional_value, put_record, put_value, whole_record,
+};
 
 /// PhysicalValue.
 #[derive(Clone, Copy, Debug, PartialEq, Eq, Default)]
@@ -50,7 +55,11 @@ impl<'a> Record<'a> for PhysicalValue {
     type Made = Three<i8, UnitSymbol, i16>;
 
     fn of(made: Self::Made) -> PhysicalValue {
-        PhysicalValue { multiplier: made.first, unit: made.second, value: made.third }
+        PhysicalValue {
+            multiplier: made.first,
+            unit: made.second,
+            value: made.third,
+        }
     }
 
     ghost declared = { Prim.search rules };
@@ -104,7 +113,11 @@ impl<'a> Record<'a> for DcEvStatus {
     type Made = Three<bool, EvErrorCode, u8>;
 
     fn of(made: Self::Made) -> DcEvStatus {
-        DcEvStatus { ev_ready: made.first, ev_error_code: made.second, evress_soc: made.third }
+        DcEvStatus {
+            ev_ready: made.first,
+            ev_error_code: made.second,
+            evress_soc: made.third,
+        }
     }
 
     ghost declared = { Prim.search rules };
@@ -134,7 +147,11 @@ impl PutRecord for AcEvseStatus {
     ghost parts = { ac_evse_status_parts };
 
     fn write<P: Places>(&self, writer: &mut EventWriter<'_, '_, P>) {
-        put_value(writer, names::NOTIFICATION_MAX_DELAY, &self.notification_max_delay);
+        put_value(
+            writer,
+            names::NOTIFICATION_MAX_DELAY,
+            &self.notification_max_delay,
+        );
         put_value(writer, names::EVSE_NOTIFICATION, &self.evse_notification);
         put_value(writer, names::RCD, &self.rcd);
     }
@@ -157,7 +174,11 @@ impl<'a> Record<'a> for AcEvseStatus {
     type Made = Three<u16, EvseNotification, bool>;
 
     fn of(made: Self::Made) -> AcEvseStatus {
-        AcEvseStatus { notification_max_delay: made.first, evse_notification: made.second, rcd: made.third }
+        AcEvseStatus {
+            notification_max_delay: made.first,
+            evse_notification: made.second,
+            rcd: made.third,
+        }
     }
 
     ghost declared = { Prim.search rules };
@@ -188,9 +209,17 @@ impl PutRecord for DcEvseStatus {
     ghost parts = { dc_evse_status_parts };
 
     fn write<P: Places>(&self, writer: &mut EventWriter<'_, '_, P>) {
-        put_value(writer, names::NOTIFICATION_MAX_DELAY, &self.notification_max_delay);
+        put_value(
+            writer,
+            names::NOTIFICATION_MAX_DELAY,
+            &self.notification_max_delay,
+        );
         put_value(writer, names::EVSE_NOTIFICATION, &self.evse_notification);
-        put_optional_value(writer, names::EVSE_ISOLATION_STATUS, &self.evse_isolation_status);
+        put_optional_value(
+            writer,
+            names::EVSE_ISOLATION_STATUS,
+            &self.evse_isolation_status,
+        );
         put_value(writer, names::EVSE_STATUS_CODE, &self.evse_status_code);
     }
 }
@@ -209,11 +238,30 @@ impl Declared for DcEvseStatus {
 impl<'a> Record<'a> for DcEvseStatus {
     ghost use Rattle.std.proofs.Common.{rules};
 
-    type Made = Elements<(RequiredValue<u16>, RequiredValue<EvseNotification>, OptionalValue<IsolationLevel, { names::EVSE_ISOLATION_STATUS }>, RequiredValue<EvseStatusCode>)>;
+    type Made = Elements<
+        (
+            RequiredValue<u16>,
+            RequiredValue<EvseNotification>,
+            OptionalValue<IsolationLevel, { names::EVSE_ISOLATION_STATUS }>,
+            RequiredValue<EvseStatusCode>,
+        ),
+    >;
 
     fn of(made: Self::Made) -> DcEvseStatus {
-        let Elements((RequiredValue(notification_max_delay), RequiredValue(evse_notification), OptionalValue(evse_isolation_status), RequiredValue(evse_status_code))) = made;
-        DcEvseStatus { notification_max_delay, evse_notification, evse_isolation_status, evse_status_code }
+        let Elements(
+            (
+                RequiredValue(notification_max_delay),
+                RequiredValue(evse_notification),
+                OptionalValue(evse_isolation_status),
+                RequiredValue(evse_status_code),
+            ),
+        ) = made;
+        DcEvseStatus {
+            notification_max_delay,
+            evse_notification,
+            evse_isolation_status,
+            evse_status_code,
+        }
     }
 
     ghost declared = { Prim.search rules };
@@ -310,11 +358,38 @@ impl Declared for MeterInfo<'_> {
 impl<'a> Record<'a> for MeterInfo<'a> {
     ghost use Rattle.std.proofs.Common.{rules};
 
-    type Made = Elements<((RequiredValue<Text<'a>>, OptionalValue<u64, { names::METER_READING }>, OptionalValue<Binary<'a>, { names::SIG_METER_READING }>), (OptionalValue<i16, { names::METER_STATUS }>, OptionalValue<i64, { names::T_METER }>))>;
+    type Made = Elements<
+        (
+            (
+                RequiredValue<Text<'a>>,
+                OptionalValue<u64, { names::METER_READING }>,
+                OptionalValue<Binary<'a>, { names::SIG_METER_READING }>,
+            ),
+            (
+                OptionalValue<i16, { names::METER_STATUS }>,
+                OptionalValue<i64, { names::T_METER }>,
+            ),
+        ),
+    >;
 
     fn of(made: Self::Made) -> MeterInfo<'a> {
-        let Elements(((RequiredValue(meter_id), OptionalValue(meter_reading), OptionalValue(sig_meter_reading)), (OptionalValue(meter_status), OptionalValue(t_meter)))) = made;
-        MeterInfo { meter_id, meter_reading, sig_meter_reading, meter_status, t_meter }
+        let Elements(
+            (
+                (
+                    RequiredValue(meter_id),
+                    OptionalValue(meter_reading),
+                    OptionalValue(sig_meter_reading),
+                ),
+                (OptionalValue(meter_status), OptionalValue(t_meter)),
+            ),
+        ) = made;
+        MeterInfo {
+            meter_id,
+            meter_reading,
+            sig_meter_reading,
+            meter_status,
+            t_meter,
+        }
     }
 
     ghost declared = { Prim.search rules };

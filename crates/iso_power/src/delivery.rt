@@ -6,10 +6,18 @@ use arrayvec::ArrayVec;
 use exi_documents::Refusal;
 use exi_events::EventWriter;
 use exi_schema::Places;
-use iso_parts::{AcEvseStatus, ChargeProgress, DcEvStatus, EvseStatus, MeterInfo, PhysicalValue, ResponseCode};
+use iso_parts::{
+    AcEvseStatus, ChargeProgress, DcEvStatus, EvseStatus, MeterInfo, PhysicalValue, ResponseCode,
+};
 use iso_schema::names;
-use message_fields::{AtMostOneOf, Elements, OneOf, Optional, OptionalValue, Required, RequiredValue, Several};
-use message_parts::{Alternatives, Choice, Declared, Descent, Group, PutChoice, PutRecord, ReadRecord, Record, Text, member, put_choice, put_optional, put_optional_choice, put_optional_value, put_record, put_records, put_value, whole_record};
+use message_fields::{
+    AtMostOneOf, Elements, OneOf, Optional, OptionalValue, Required, RequiredValue, Several,
+};
+use message_parts::{
+    Alternatives, Choice, Declared, Descent, Group, PutChoice, PutRecord, ReadRecord, Record, Text,
+    member, put_choice, put_optional, put_optional_choice, put_optional_value, put_record,
+    put_records, put_value, whole_record,
+};
 
 /// ProfileEntry.
 #[derive(Clone, Copy, Debug, PartialEq, Eq, Default)]
@@ -28,9 +36,21 @@ impl PutRecord for ProfileEntry {
     ghost parts = { profile_entry_parts };
 
     fn write<P: Places>(&self, writer: &mut EventWriter<'_, '_, P>) {
-        put_value(writer, names::CHARGING_PROFILE_ENTRY_START, &self.charging_profile_entry_start);
-        put_record(writer, names::CHARGING_PROFILE_ENTRY_MAX_POWER, &self.charging_profile_entry_max_power);
-        put_optional_value(writer, names::CHARGING_PROFILE_ENTRY_MAX_NUMBER_OF_PHASES_IN_USE, &self.charging_profile_entry_max_number_of_phases_in_use);
+        put_value(
+            writer,
+            names::CHARGING_PROFILE_ENTRY_START,
+            &self.charging_profile_entry_start,
+        );
+        put_record(
+            writer,
+            names::CHARGING_PROFILE_ENTRY_MAX_POWER,
+            &self.charging_profile_entry_max_power,
+        );
+        put_optional_value(
+            writer,
+            names::CHARGING_PROFILE_ENTRY_MAX_NUMBER_OF_PHASES_IN_USE,
+            &self.charging_profile_entry_max_number_of_phases_in_use,
+        );
     }
 }
 
@@ -48,11 +68,27 @@ impl Declared for ProfileEntry {
 impl<'a> Record<'a> for ProfileEntry {
     ghost use Rattle.std.proofs.Common.{rules};
 
-    type Made = Elements<(RequiredValue<u32>, Required<PhysicalValue>, OptionalValue<u8, { names::CHARGING_PROFILE_ENTRY_MAX_NUMBER_OF_PHASES_IN_USE }>)>;
+    type Made = Elements<
+        (
+            RequiredValue<u32>,
+            Required<PhysicalValue>,
+            OptionalValue<u8, { names::CHARGING_PROFILE_ENTRY_MAX_NUMBER_OF_PHASES_IN_USE }>,
+        ),
+    >;
 
     fn of(made: Self::Made) -> ProfileEntry {
-        let Elements((RequiredValue(charging_profile_entry_start), Required(charging_profile_entry_max_power), OptionalValue(charging_profile_entry_max_number_of_phases_in_use))) = made;
-        ProfileEntry { charging_profile_entry_start, charging_profile_entry_max_power, charging_profile_entry_max_number_of_phases_in_use }
+        let Elements(
+            (
+                RequiredValue(charging_profile_entry_start),
+                Required(charging_profile_entry_max_power),
+                OptionalValue(charging_profile_entry_max_number_of_phases_in_use),
+            ),
+        ) = made;
+        ProfileEntry {
+            charging_profile_entry_start,
+            charging_profile_entry_max_power,
+            charging_profile_entry_max_number_of_phases_in_use,
+        }
     }
 
     ghost declared = { Prim.search rules };
@@ -134,7 +170,11 @@ impl PutRecord for DcEvPowerDeliveryParameter {
 
     fn write<P: Places>(&self, writer: &mut EventWriter<'_, '_, P>) {
         put_record(writer, names::DC_EV_STATUS, &self.dc_ev_status);
-        put_optional_value(writer, names::BULK_CHARGING_COMPLETE, &self.bulk_charging_complete);
+        put_optional_value(
+            writer,
+            names::BULK_CHARGING_COMPLETE,
+            &self.bulk_charging_complete,
+        );
         put_value(writer, names::CHARGING_COMPLETE, &self.charging_complete);
     }
 }
@@ -153,11 +193,27 @@ impl Declared for DcEvPowerDeliveryParameter {
 impl<'a> Record<'a> for DcEvPowerDeliveryParameter {
     ghost use Rattle.std.proofs.Common.{rules};
 
-    type Made = Elements<(Required<DcEvStatus>, OptionalValue<bool, { names::BULK_CHARGING_COMPLETE }>, RequiredValue<bool>)>;
+    type Made = Elements<
+        (
+            Required<DcEvStatus>,
+            OptionalValue<bool, { names::BULK_CHARGING_COMPLETE }>,
+            RequiredValue<bool>,
+        ),
+    >;
 
     fn of(made: Self::Made) -> DcEvPowerDeliveryParameter {
-        let Elements((Required(dc_ev_status), OptionalValue(bulk_charging_complete), RequiredValue(charging_complete))) = made;
-        DcEvPowerDeliveryParameter { dc_ev_status, bulk_charging_complete, charging_complete }
+        let Elements(
+            (
+                Required(dc_ev_status),
+                OptionalValue(bulk_charging_complete),
+                RequiredValue(charging_complete),
+            ),
+        ) = made;
+        DcEvPowerDeliveryParameter {
+            dc_ev_status,
+            bulk_charging_complete,
+            charging_complete,
+        }
     }
 
     ghost declared = { Prim.search rules };
@@ -166,7 +222,9 @@ impl<'a> Record<'a> for DcEvPowerDeliveryParameter {
 }
 
 impl<'a> ReadRecord<'a> for DcEvPowerDeliveryParameter {
-    fn read<P: Places>(descent: &mut Descent<'a, '_, P>) -> Result<DcEvPowerDeliveryParameter, Refusal> {
+    fn read<P: Places>(
+        descent: &mut Descent<'a, '_, P>,
+    ) -> Result<DcEvPowerDeliveryParameter, Refusal> {
         whole_record(descent)
     }
 }
@@ -186,7 +244,11 @@ impl PutChoice for EvPowerDeliveryParameter {
 
     fn write_member<P: Places>(&self, writer: &mut EventWriter<'_, '_, P>) {
         match self {
-            EvPowerDeliveryParameter::Dc(dc) => put_record(writer, names::DC_EV_POWER_DELIVERY_PARAMETER, dc),
+            EvPowerDeliveryParameter::Dc(dc) => put_record(
+                writer,
+                names::DC_EV_POWER_DELIVERY_PARAMETER,
+                dc,
+            ),
         }
     }
 }
@@ -201,7 +263,9 @@ impl Alternatives for EvPowerDeliveryParameter {
 }
 
 impl<'a> Choice<'a> for EvPowerDeliveryParameter {
-    fn read_member<P: Places>(descent: &mut Descent<'a, '_, P>) -> Result<EvPowerDeliveryParameter, Refusal> {
+    fn read_member<P: Places>(
+        descent: &mut Descent<'a, '_, P>,
+    ) -> Result<EvPowerDeliveryParameter, Refusal> {
         Ok(EvPowerDeliveryParameter::Dc(member(descent)?))
     }
 }
@@ -231,7 +295,11 @@ impl PutRecord for PowerDeliveryReq {
 
     fn write<P: Places>(&self, writer: &mut EventWriter<'_, '_, P>) {
         put_value(writer, names::CHARGE_PROGRESS, &self.charge_progress);
-        put_value(writer, names::SA_SCHEDULE_TUPLE_ID, &self.sa_schedule_tuple_id);
+        put_value(
+            writer,
+            names::SA_SCHEDULE_TUPLE_ID,
+            &self.sa_schedule_tuple_id,
+        );
         put_optional(writer, names::CHARGING_PROFILE, &self.charging_profile);
         put_optional_choice(writer, &self.ev_power_delivery_parameter);
     }
@@ -251,11 +319,30 @@ impl Declared for PowerDeliveryReq {
 impl<'a> Record<'a> for PowerDeliveryReq {
     ghost use Rattle.std.proofs.Common.{rules};
 
-    type Made = Elements<(RequiredValue<ChargeProgress>, RequiredValue<u8>, Optional<ChargingProfile, { names::CHARGING_PROFILE }>, AtMostOneOf<EvPowerDeliveryParameter>)>;
+    type Made = Elements<
+        (
+            RequiredValue<ChargeProgress>,
+            RequiredValue<u8>,
+            Optional<ChargingProfile, { names::CHARGING_PROFILE }>,
+            AtMostOneOf<EvPowerDeliveryParameter>,
+        ),
+    >;
 
     fn of(made: Self::Made) -> PowerDeliveryReq {
-        let Elements((RequiredValue(charge_progress), RequiredValue(sa_schedule_tuple_id), Optional(charging_profile), AtMostOneOf(ev_power_delivery_parameter))) = made;
-        PowerDeliveryReq { charge_progress, sa_schedule_tuple_id, charging_profile, ev_power_delivery_parameter }
+        let Elements(
+            (
+                RequiredValue(charge_progress),
+                RequiredValue(sa_schedule_tuple_id),
+                Optional(charging_profile),
+                AtMostOneOf(ev_power_delivery_parameter),
+            ),
+        ) = made;
+        PowerDeliveryReq {
+            charge_progress,
+            sa_schedule_tuple_id,
+            charging_profile,
+            ev_power_delivery_parameter,
+        }
     }
 
     ghost declared = { Prim.search rules };
@@ -307,7 +394,10 @@ impl<'a> Record<'a> for PowerDeliveryRes {
 
     fn of(made: Self::Made) -> PowerDeliveryRes {
         let Elements((RequiredValue(response_code), OneOf(evse_status))) = made;
-        PowerDeliveryRes { response_code, evse_status }
+        PowerDeliveryRes {
+            response_code,
+            evse_status,
+        }
     }
 
     ghost declared = { Prim.search rules };
@@ -330,8 +420,7 @@ impl PutRecord for ChargingStatusReq {
 
     ghost parts = { λ v. [] };
 
-    fn write<P: Places>(&self, _writer: &mut EventWriter<'_, '_, P>) {
-    }
+    fn write<P: Places>(&self, _writer: &mut EventWriter<'_, '_, P>) {}
 }
 
 impl Declared for ChargingStatusReq {
@@ -388,7 +477,11 @@ impl PutRecord for ChargingStatusRes<'_> {
     fn write<P: Places>(&self, writer: &mut EventWriter<'_, '_, P>) {
         put_value(writer, names::RESPONSE_CODE, &self.response_code);
         put_value(writer, names::EVSEID, &self.evseid);
-        put_value(writer, names::SA_SCHEDULE_TUPLE_ID, &self.sa_schedule_tuple_id);
+        put_value(
+            writer,
+            names::SA_SCHEDULE_TUPLE_ID,
+            &self.sa_schedule_tuple_id,
+        );
         put_optional(writer, names::EVSE_MAX_CURRENT, &self.evse_max_current);
         put_optional(writer, names::METER_INFO, &self.meter_info);
         put_optional_value(writer, names::RECEIPT_REQUIRED, &self.receipt_required);
@@ -410,11 +503,43 @@ impl Declared for ChargingStatusRes<'_> {
 impl<'a> Record<'a> for ChargingStatusRes<'a> {
     ghost use Rattle.std.proofs.Common.{rules};
 
-    type Made = Elements<((RequiredValue<ResponseCode>, RequiredValue<Text<'a>>, RequiredValue<u8>, Optional<PhysicalValue, { names::EVSE_MAX_CURRENT }>), (Optional<MeterInfo<'a>, { names::METER_INFO }>, OptionalValue<bool, { names::RECEIPT_REQUIRED }>, Required<AcEvseStatus>))>;
+    type Made = Elements<
+        (
+            (
+                RequiredValue<ResponseCode>,
+                RequiredValue<Text<'a>>,
+                RequiredValue<u8>,
+                Optional<PhysicalValue, { names::EVSE_MAX_CURRENT }>,
+            ),
+            (
+                Optional<MeterInfo<'a>, { names::METER_INFO }>,
+                OptionalValue<bool, { names::RECEIPT_REQUIRED }>,
+                Required<AcEvseStatus>,
+            ),
+        ),
+    >;
 
     fn of(made: Self::Made) -> ChargingStatusRes<'a> {
-        let Elements(((RequiredValue(response_code), RequiredValue(evseid), RequiredValue(sa_schedule_tuple_id), Optional(evse_max_current)), (Optional(meter_info), OptionalValue(receipt_required), Required(ac_evse_status)))) = made;
-        ChargingStatusRes { response_code, evseid, sa_schedule_tuple_id, evse_max_current, meter_info, receipt_required, ac_evse_status }
+        let Elements(
+            (
+                (
+                    RequiredValue(response_code),
+                    RequiredValue(evseid),
+                    RequiredValue(sa_schedule_tuple_id),
+                    Optional(evse_max_current),
+                ),
+                (Optional(meter_info), OptionalValue(receipt_required), Required(ac_evse_status)),
+            ),
+        ) = made;
+        ChargingStatusRes {
+            response_code,
+            evseid,
+            sa_schedule_tuple_id,
+            evse_max_current,
+            meter_info,
+            receipt_required,
+            ac_evse_status,
+        }
     }
 
     ghost declared = { Prim.search rules };

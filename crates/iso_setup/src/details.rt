@@ -9,7 +9,11 @@ use exi_schema::Places;
 use iso_parts::{PhysicalValue, ResponseCode};
 use iso_schema::names;
 use message_fields::{Elements, OneOf, Optional, RequiredValue, Several, WithAttribute};
-use message_parts::{Alternatives, Choice, Declared, Descent, PutChoice, PutRecord, ReadRecord, Record, Text, member, member_value, put_attribute, put_choice, put_optional, put_record, put_records, put_value, whole_record};
+use message_parts::{
+    Alternatives, Choice, Declared, Descent, PutChoice, PutRecord, ReadRecord, Record, Text,
+    member, member_value, put_attribute, put_choice, put_optional, put_record, put_records,
+    put_value, whole_record,
+};
 
 /// One of the elements of Parameter.
 #[derive(Drop)]
@@ -42,7 +46,11 @@ impl PutChoice for ParameterValue<'_> {
             ParameterValue::Byte(byte) => put_value(writer, names::BYTE_VALUE, byte),
             ParameterValue::Short(short) => put_value(writer, names::SHORT_VALUE, short),
             ParameterValue::Int(int) => put_value(writer, names::INT_VALUE, int),
-            ParameterValue::Physical(physical) => put_record(writer, names::PHYSICAL_VALUE, physical),
+            ParameterValue::Physical(physical) => put_record(
+                writer,
+                names::PHYSICAL_VALUE,
+                physical,
+            ),
             ParameterValue::String(string) => put_value(writer, names::STRING_VALUE, string),
         }
     }
@@ -58,7 +66,9 @@ impl Alternatives for ParameterValue<'_> {
 }
 
 impl<'a> Choice<'a> for ParameterValue<'a> {
-    fn read_member<P: Places>(descent: &mut Descent<'a, '_, P>) -> Result<ParameterValue<'a>, Refusal> {
+    fn read_member<P: Places>(
+        descent: &mut Descent<'a, '_, P>,
+    ) -> Result<ParameterValue<'a>, Refusal> {
         if descent.is_at(names::BOOL_VALUE) {
             Ok(ParameterValue::Bool(member_value(descent)?))
         } else if descent.is_at(names::BYTE_VALUE) {
@@ -164,11 +174,19 @@ impl Declared for ParameterSet<'_> {
 impl<'a> Record<'a> for ParameterSet<'a> {
     ghost use Rattle.std.proofs.Common.{rules};
 
-    type Made = Elements<(RequiredValue<i16>, Several<Parameter<'a>, 16, { names::PARAMETER }>)>;
+    type Made = Elements<
+        (
+            RequiredValue<i16>,
+            Several<Parameter<'a>, 16, { names::PARAMETER }>,
+        ),
+    >;
 
     fn of(made: Self::Made) -> ParameterSet<'a> {
         let Elements((RequiredValue(parameter_set_id), Several(parameter))) = made;
-        ParameterSet { parameter_set_id, parameter }
+        ParameterSet {
+            parameter_set_id,
+            parameter,
+        }
     }
 
     ghost declared = { Prim.search rules };
@@ -228,7 +246,9 @@ impl<'a> Record<'a> for ServiceParameterList<'a> {
 }
 
 impl<'a> ReadRecord<'a> for ServiceParameterList<'a> {
-    fn read<P: Places>(descent: &mut Descent<'a, '_, P>) -> Result<ServiceParameterList<'a>, Refusal> {
+    fn read<P: Places>(
+        descent: &mut Descent<'a, '_, P>,
+    ) -> Result<ServiceParameterList<'a>, Refusal> {
         whole_record(descent)
     }
 }
@@ -301,7 +321,11 @@ impl PutRecord for ServiceDetailRes<'_> {
     fn write<P: Places>(&self, writer: &mut EventWriter<'_, '_, P>) {
         put_value(writer, names::RESPONSE_CODE, &self.response_code);
         put_value(writer, names::SERVICE_ID, &self.service_id);
-        put_optional(writer, names::SERVICE_PARAMETER_LIST, &self.service_parameter_list);
+        put_optional(
+            writer,
+            names::SERVICE_PARAMETER_LIST,
+            &self.service_parameter_list,
+        );
     }
 }
 
@@ -319,11 +343,27 @@ impl Declared for ServiceDetailRes<'_> {
 impl<'a> Record<'a> for ServiceDetailRes<'a> {
     ghost use Rattle.std.proofs.Common.{rules};
 
-    type Made = Elements<(RequiredValue<ResponseCode>, RequiredValue<u16>, Optional<ServiceParameterList<'a>, { names::SERVICE_PARAMETER_LIST }>)>;
+    type Made = Elements<
+        (
+            RequiredValue<ResponseCode>,
+            RequiredValue<u16>,
+            Optional<ServiceParameterList<'a>, { names::SERVICE_PARAMETER_LIST }>,
+        ),
+    >;
 
     fn of(made: Self::Made) -> ServiceDetailRes<'a> {
-        let Elements((RequiredValue(response_code), RequiredValue(service_id), Optional(service_parameter_list))) = made;
-        ServiceDetailRes { response_code, service_id, service_parameter_list }
+        let Elements(
+            (
+                RequiredValue(response_code),
+                RequiredValue(service_id),
+                Optional(service_parameter_list),
+            ),
+        ) = made;
+        ServiceDetailRes {
+            response_code,
+            service_id,
+            service_parameter_list,
+        }
     }
 
     ghost declared = { Prim.search rules };

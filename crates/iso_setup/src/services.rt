@@ -8,8 +8,13 @@ use exi_events::EventWriter;
 use exi_schema::Places;
 use iso_parts::{EnergyTransferMode, PaymentOption, ResponseCode, ServiceCategory};
 use iso_schema::names;
-use message_fields::{Elements, Optional, OptionalValue, Required, RequiredValue, Several, SeveralValues};
-use message_parts::{Declared, Descent, PutRecord, ReadRecord, Record, Text, put_optional, put_optional_value, put_record, put_records, put_value, put_values, whole_record};
+use message_fields::{
+    Elements, Optional, OptionalValue, Required, RequiredValue, Several, SeveralValues,
+};
+use message_parts::{
+    Declared, Descent, PutRecord, ReadRecord, Record, Text, put_optional, put_optional_value,
+    put_record, put_records, put_value, put_values, whole_record,
+};
 
 /// Service.
 #[derive(Drop, Default)]
@@ -53,11 +58,38 @@ impl Declared for Service<'_> {
 impl<'a> Record<'a> for Service<'a> {
     ghost use Rattle.std.proofs.Common.{rules};
 
-    type Made = Elements<((RequiredValue<u16>, OptionalValue<Text<'a>, { names::SERVICE_NAME }>, RequiredValue<ServiceCategory>), (OptionalValue<Text<'a>, { names::SERVICE_SCOPE }>, RequiredValue<bool>))>;
+    type Made = Elements<
+        (
+            (
+                RequiredValue<u16>,
+                OptionalValue<Text<'a>, { names::SERVICE_NAME }>,
+                RequiredValue<ServiceCategory>,
+            ),
+            (
+                OptionalValue<Text<'a>, { names::SERVICE_SCOPE }>,
+                RequiredValue<bool>,
+            ),
+        ),
+    >;
 
     fn of(made: Self::Made) -> Service<'a> {
-        let Elements(((RequiredValue(service_id), OptionalValue(service_name), RequiredValue(service_category)), (OptionalValue(service_scope), RequiredValue(free_service)))) = made;
-        Service { service_id, service_name, service_category, service_scope, free_service }
+        let Elements(
+            (
+                (
+                    RequiredValue(service_id),
+                    OptionalValue(service_name),
+                    RequiredValue(service_category),
+                ),
+                (OptionalValue(service_scope), RequiredValue(free_service)),
+            ),
+        ) = made;
+        Service {
+            service_id,
+            service_name,
+            service_category,
+            service_scope,
+            free_service,
+        }
     }
 
     ghost declared = { Prim.search rules };
@@ -137,7 +169,11 @@ impl PutRecord for SupportedEnergyTransferMode {
     ghost parts = { supported_energy_transfer_mode_parts };
 
     fn write<P: Places>(&self, writer: &mut EventWriter<'_, '_, P>) {
-        put_values(writer, names::ENERGY_TRANSFER_MODE, &self.energy_transfer_mode);
+        put_values(
+            writer,
+            names::ENERGY_TRANSFER_MODE,
+            &self.energy_transfer_mode,
+        );
     }
 }
 
@@ -159,7 +195,9 @@ impl<'a> Record<'a> for SupportedEnergyTransferMode {
 
     fn of(made: Self::Made) -> SupportedEnergyTransferMode {
         let Elements(SeveralValues(energy_transfer_mode)) = made;
-        SupportedEnergyTransferMode { energy_transfer_mode }
+        SupportedEnergyTransferMode {
+            energy_transfer_mode,
+        }
     }
 
     ghost declared = { Prim.search rules };
@@ -168,7 +206,9 @@ impl<'a> Record<'a> for SupportedEnergyTransferMode {
 }
 
 impl<'a> ReadRecord<'a> for SupportedEnergyTransferMode {
-    fn read<P: Places>(descent: &mut Descent<'a, '_, P>) -> Result<SupportedEnergyTransferMode, Refusal> {
+    fn read<P: Places>(
+        descent: &mut Descent<'a, '_, P>,
+    ) -> Result<SupportedEnergyTransferMode, Refusal> {
         whole_record(descent)
     }
 }
@@ -199,7 +239,11 @@ impl PutRecord for ChargeService<'_> {
         put_value(writer, names::SERVICE_CATEGORY, &self.service_category);
         put_optional_value(writer, names::SERVICE_SCOPE, &self.service_scope);
         put_value(writer, names::FREE_SERVICE, &self.free_service);
-        put_record(writer, names::SUPPORTED_ENERGY_TRANSFER_MODE, &self.supported_energy_transfer_mode);
+        put_record(
+            writer,
+            names::SUPPORTED_ENERGY_TRANSFER_MODE,
+            &self.supported_energy_transfer_mode,
+        );
     }
 }
 
@@ -217,11 +261,44 @@ impl Declared for ChargeService<'_> {
 impl<'a> Record<'a> for ChargeService<'a> {
     ghost use Rattle.std.proofs.Common.{rules};
 
-    type Made = Elements<((RequiredValue<u16>, OptionalValue<Text<'a>, { names::SERVICE_NAME }>, RequiredValue<ServiceCategory>), (OptionalValue<Text<'a>, { names::SERVICE_SCOPE }>, RequiredValue<bool>, Required<SupportedEnergyTransferMode>))>;
+    type Made = Elements<
+        (
+            (
+                RequiredValue<u16>,
+                OptionalValue<Text<'a>, { names::SERVICE_NAME }>,
+                RequiredValue<ServiceCategory>,
+            ),
+            (
+                OptionalValue<Text<'a>, { names::SERVICE_SCOPE }>,
+                RequiredValue<bool>,
+                Required<SupportedEnergyTransferMode>,
+            ),
+        ),
+    >;
 
     fn of(made: Self::Made) -> ChargeService<'a> {
-        let Elements(((RequiredValue(service_id), OptionalValue(service_name), RequiredValue(service_category)), (OptionalValue(service_scope), RequiredValue(free_service), Required(supported_energy_transfer_mode)))) = made;
-        ChargeService { service_id, service_name, service_category, service_scope, free_service, supported_energy_transfer_mode }
+        let Elements(
+            (
+                (
+                    RequiredValue(service_id),
+                    OptionalValue(service_name),
+                    RequiredValue(service_category),
+                ),
+                (
+                    OptionalValue(service_scope),
+                    RequiredValue(free_service),
+                    Required(supported_energy_transfer_mode),
+                ),
+            ),
+        ) = made;
+        ChargeService {
+            service_id,
+            service_name,
+            service_category,
+            service_scope,
+            free_service,
+            supported_energy_transfer_mode,
+        }
     }
 
     ghost declared = { Prim.search rules };
@@ -321,11 +398,19 @@ impl Declared for ServiceDiscoveryReq<'_> {
 impl<'a> Record<'a> for ServiceDiscoveryReq<'a> {
     ghost use Rattle.std.proofs.Common.{rules};
 
-    type Made = Elements<(OptionalValue<Text<'a>, { names::SERVICE_SCOPE }>, OptionalValue<ServiceCategory, { names::SERVICE_CATEGORY }>)>;
+    type Made = Elements<
+        (
+            OptionalValue<Text<'a>, { names::SERVICE_SCOPE }>,
+            OptionalValue<ServiceCategory, { names::SERVICE_CATEGORY }>,
+        ),
+    >;
 
     fn of(made: Self::Made) -> ServiceDiscoveryReq<'a> {
         let Elements((OptionalValue(service_scope), OptionalValue(service_category))) = made;
-        ServiceDiscoveryReq { service_scope, service_category }
+        ServiceDiscoveryReq {
+            service_scope,
+            service_category,
+        }
     }
 
     ghost declared = { Prim.search rules };
@@ -334,7 +419,9 @@ impl<'a> Record<'a> for ServiceDiscoveryReq<'a> {
 }
 
 impl<'a> ReadRecord<'a> for ServiceDiscoveryReq<'a> {
-    fn read<P: Places>(descent: &mut Descent<'a, '_, P>) -> Result<ServiceDiscoveryReq<'a>, Refusal> {
+    fn read<P: Places>(
+        descent: &mut Descent<'a, '_, P>,
+    ) -> Result<ServiceDiscoveryReq<'a>, Refusal> {
         whole_record(descent)
     }
 }
@@ -357,7 +444,11 @@ impl PutRecord for ServiceDiscoveryRes<'_> {
 
     fn write<P: Places>(&self, writer: &mut EventWriter<'_, '_, P>) {
         put_value(writer, names::RESPONSE_CODE, &self.response_code);
-        put_record(writer, names::PAYMENT_OPTION_LIST, &self.payment_option_list);
+        put_record(
+            writer,
+            names::PAYMENT_OPTION_LIST,
+            &self.payment_option_list,
+        );
         put_record(writer, names::CHARGE_SERVICE, &self.charge_service);
         put_optional(writer, names::SERVICE_LIST, &self.service_list);
     }
@@ -377,11 +468,30 @@ impl Declared for ServiceDiscoveryRes<'_> {
 impl<'a> Record<'a> for ServiceDiscoveryRes<'a> {
     ghost use Rattle.std.proofs.Common.{rules};
 
-    type Made = Elements<(RequiredValue<ResponseCode>, Required<PaymentOptionList>, Required<ChargeService<'a>>, Optional<ServiceList<'a>, { names::SERVICE_LIST }>)>;
+    type Made = Elements<
+        (
+            RequiredValue<ResponseCode>,
+            Required<PaymentOptionList>,
+            Required<ChargeService<'a>>,
+            Optional<ServiceList<'a>, { names::SERVICE_LIST }>,
+        ),
+    >;
 
     fn of(made: Self::Made) -> ServiceDiscoveryRes<'a> {
-        let Elements((RequiredValue(response_code), Required(payment_option_list), Required(charge_service), Optional(service_list))) = made;
-        ServiceDiscoveryRes { response_code, payment_option_list, charge_service, service_list }
+        let Elements(
+            (
+                RequiredValue(response_code),
+                Required(payment_option_list),
+                Required(charge_service),
+                Optional(service_list),
+            ),
+        ) = made;
+        ServiceDiscoveryRes {
+            response_code,
+            payment_option_list,
+            charge_service,
+            service_list,
+        }
     }
 
     ghost declared = { Prim.search rules };
@@ -390,7 +500,9 @@ impl<'a> Record<'a> for ServiceDiscoveryRes<'a> {
 }
 
 impl<'a> ReadRecord<'a> for ServiceDiscoveryRes<'a> {
-    fn read<P: Places>(descent: &mut Descent<'a, '_, P>) -> Result<ServiceDiscoveryRes<'a>, Refusal> {
+    fn read<P: Places>(
+        descent: &mut Descent<'a, '_, P>,
+    ) -> Result<ServiceDiscoveryRes<'a>, Refusal> {
         whole_record(descent)
     }
 }

@@ -8,7 +8,10 @@ use exi_schema::Places;
 use iso_parts::{ChargingSession, EvseProcessing, ResponseCode};
 use iso_schema::names;
 use message_fields::{Elements, OptionalValue, RequiredValue, WithOptionalAttribute};
-use message_parts::{Binary, Declared, Descent, PutRecord, ReadRecord, Record, Text, put_optional_attribute, put_optional_value, put_value, whole_record};
+use message_parts::{
+    Binary, Declared, Descent, PutRecord, ReadRecord, Record, Text, put_optional_attribute,
+    put_optional_value, put_value, whole_record,
+};
 
 /// SessionSetupReq.
 #[derive(Drop)]
@@ -98,11 +101,23 @@ impl Declared for SessionSetupRes<'_> {
 impl<'a> Record<'a> for SessionSetupRes<'a> {
     ghost use Rattle.std.proofs.Common.{rules};
 
-    type Made = Elements<(RequiredValue<ResponseCode>, RequiredValue<Text<'a>>, OptionalValue<i64, { names::EVSE_TIME_STAMP }>)>;
+    type Made = Elements<
+        (
+            RequiredValue<ResponseCode>,
+            RequiredValue<Text<'a>>,
+            OptionalValue<i64, { names::EVSE_TIME_STAMP }>,
+        ),
+    >;
 
     fn of(made: Self::Made) -> SessionSetupRes<'a> {
-        let Elements((RequiredValue(response_code), RequiredValue(evseid), OptionalValue(evse_time_stamp))) = made;
-        SessionSetupRes { response_code, evseid, evse_time_stamp }
+        let Elements(
+            (RequiredValue(response_code), RequiredValue(evseid), OptionalValue(evse_time_stamp)),
+        ) = made;
+        SessionSetupRes {
+            response_code,
+            evseid,
+            evse_time_stamp,
+        }
     }
 
     ghost declared = { Prim.search rules };
@@ -153,7 +168,10 @@ impl Declared for AuthorizationReq<'_> {
 impl<'a> Record<'a> for AuthorizationReq<'a> {
     ghost use Rattle.std.proofs.Common.{rules};
 
-    type Made = WithOptionalAttribute<Text<'a>, OptionalValue<Binary<'a>, { names::GEN_CHALLENGE }>>;
+    type Made = WithOptionalAttribute<
+        Text<'a>,
+        OptionalValue<Binary<'a>, { names::GEN_CHALLENGE }>,
+    >;
 
     fn of(made: Self::Made) -> AuthorizationReq<'a> {
         let WithOptionalAttribute(id, OptionalValue(gen_challenge)) = made;
@@ -209,7 +227,10 @@ impl<'a> Record<'a> for AuthorizationRes {
 
     fn of(made: Self::Made) -> AuthorizationRes {
         let Elements((RequiredValue(response_code), RequiredValue(evse_processing))) = made;
-        AuthorizationRes { response_code, evse_processing }
+        AuthorizationRes {
+            response_code,
+            evse_processing,
+        }
     }
 
     ghost declared = { Prim.search rules };
