@@ -9,14 +9,25 @@ ghost use Rattle.din_schema.specs.declared.names.TheConstants.{CHARGE_PARAMETER_
 ghost use Rattle.din_codec.specs.declared.message.BodyElement.{BodyElement};
 ghost use Rattle.din_codec.specs.Message.{body_element_members, body_element_name, body_element_inside};
 
-use din_parts::{Header};
-use din_power::{CableCheckReq, CableCheckRes, ChargeParameterDiscoveryReq, ChargeParameterDiscoveryRes, CurrentDemandReq, CurrentDemandRes, PowerDeliveryReq, PowerDeliveryRes, PreChargeReq, PreChargeRes, WeldingDetectionReq, WeldingDetectionRes};
+use din_parts::Header;
+use din_power::{
+    CableCheckReq, CableCheckRes, ChargeParameterDiscoveryReq, ChargeParameterDiscoveryRes,
+    CurrentDemandReq, CurrentDemandRes, PowerDeliveryReq, PowerDeliveryRes, PreChargeReq,
+    PreChargeRes, WeldingDetectionReq, WeldingDetectionRes,
+};
 use din_schema::names;
-use din_setup::{ContractAuthenticationReq, ContractAuthenticationRes, ServiceDiscoveryReq, ServiceDiscoveryRes, ServicePaymentSelectionReq, ServicePaymentSelectionRes, SessionSetupReq, SessionSetupRes, SessionStopReq, SessionStopRes};
+use din_setup::{
+    ContractAuthenticationReq, ContractAuthenticationRes, ServiceDiscoveryReq, ServiceDiscoveryRes,
+    ServicePaymentSelectionReq, ServicePaymentSelectionRes, SessionSetupReq, SessionSetupRes,
+    SessionStopReq, SessionStopRes,
+};
 use exi_documents::Refusal;
 use exi_events::EventWriter;
 use exi_schema::Places;
-use message_parts::{Alternatives, Declared, Descent, LargeGroup, LargeRecord, PutChoice, PutRecord, first_child, member, optional_choice_here, put_optional_choice, put_record, required, required_here};
+use message_parts::{
+    Alternatives, Declared, Descent, LargeGroup, LargeRecord, PutChoice, PutRecord, first_child,
+    member, optional_choice_here, put_optional_choice, put_record, required, required_here,
+};
 
 /// One element of the substitution group BodyElement.
 #[derive(Drop)]
@@ -54,35 +65,126 @@ impl PutChoice for BodyElement<'_> {
 
     fn write_member<P: Places>(&self, writer: &mut EventWriter<'_, '_, P>) {
         match self {
-            BodyElement::CableCheckReq(cable_check_req) => put_record(writer, names::CABLE_CHECK_REQ, cable_check_req),
-            BodyElement::CableCheckRes(cable_check_res) => put_record(writer, names::CABLE_CHECK_RES, cable_check_res),
-            BodyElement::ChargeParameterDiscoveryReq(charge_parameter_discovery_req) => put_record(writer, names::CHARGE_PARAMETER_DISCOVERY_REQ, charge_parameter_discovery_req),
-            BodyElement::ChargeParameterDiscoveryRes(charge_parameter_discovery_res) => put_record(writer, names::CHARGE_PARAMETER_DISCOVERY_RES, charge_parameter_discovery_res),
-            BodyElement::ContractAuthenticationReq(contract_authentication_req) => put_record(writer, names::CONTRACT_AUTHENTICATION_REQ, contract_authentication_req),
-            BodyElement::ContractAuthenticationRes(contract_authentication_res) => put_record(writer, names::CONTRACT_AUTHENTICATION_RES, contract_authentication_res),
-            BodyElement::CurrentDemandReq(current_demand_req) => put_record(writer, names::CURRENT_DEMAND_REQ, current_demand_req),
-            BodyElement::CurrentDemandRes(current_demand_res) => put_record(writer, names::CURRENT_DEMAND_RES, current_demand_res),
-            BodyElement::PowerDeliveryReq(power_delivery_req) => put_record(writer, names::POWER_DELIVERY_REQ, power_delivery_req),
-            BodyElement::PowerDeliveryRes(power_delivery_res) => put_record(writer, names::POWER_DELIVERY_RES, power_delivery_res),
-            BodyElement::PreChargeReq(pre_charge_req) => put_record(writer, names::PRE_CHARGE_REQ, pre_charge_req),
-            BodyElement::PreChargeRes(pre_charge_res) => put_record(writer, names::PRE_CHARGE_RES, pre_charge_res),
-            BodyElement::ServiceDiscoveryReq(service_discovery_req) => put_record(writer, names::SERVICE_DISCOVERY_REQ, service_discovery_req),
-            BodyElement::ServiceDiscoveryRes(service_discovery_res) => put_record(writer, names::SERVICE_DISCOVERY_RES, service_discovery_res),
-            BodyElement::ServicePaymentSelectionReq(service_payment_selection_req) => put_record(writer, names::SERVICE_PAYMENT_SELECTION_REQ, service_payment_selection_req),
-            BodyElement::ServicePaymentSelectionRes(service_payment_selection_res) => put_record(writer, names::SERVICE_PAYMENT_SELECTION_RES, service_payment_selection_res),
-            BodyElement::SessionSetupReq(session_setup_req) => put_record(writer, names::SESSION_SETUP_REQ, session_setup_req),
-            BodyElement::SessionSetupRes(session_setup_res) => put_record(writer, names::SESSION_SETUP_RES, session_setup_res),
-            BodyElement::SessionStopReq(session_stop_req) => put_record(writer, names::SESSION_STOP_REQ, session_stop_req),
-            BodyElement::SessionStopRes(session_stop_res) => put_record(writer, names::SESSION_STOP_RES, session_stop_res),
-            BodyElement::WeldingDetectionReq(welding_detection_req) => put_record(writer, names::WELDING_DETECTION_REQ, welding_detection_req),
-            BodyElement::WeldingDetectionRes(welding_detection_res) => put_record(writer, names::WELDING_DETECTION_RES, welding_detection_res),
+            BodyElement::CableCheckReq(cable_check_req) => put_record(
+                writer,
+                names::CABLE_CHECK_REQ,
+                cable_check_req,
+            ),
+            BodyElement::CableCheckRes(cable_check_res) => put_record(
+                writer,
+                names::CABLE_CHECK_RES,
+                cable_check_res,
+            ),
+            BodyElement::ChargeParameterDiscoveryReq(charge_parameter_discovery_req) => put_record(
+                writer,
+                names::CHARGE_PARAMETER_DISCOVERY_REQ,
+                charge_parameter_discovery_req,
+            ),
+            BodyElement::ChargeParameterDiscoveryRes(charge_parameter_discovery_res) => put_record(
+                writer,
+                names::CHARGE_PARAMETER_DISCOVERY_RES,
+                charge_parameter_discovery_res,
+            ),
+            BodyElement::ContractAuthenticationReq(contract_authentication_req) => put_record(
+                writer,
+                names::CONTRACT_AUTHENTICATION_REQ,
+                contract_authentication_req,
+            ),
+            BodyElement::ContractAuthenticationRes(contract_authentication_res) => put_record(
+                writer,
+                names::CONTRACT_AUTHENTICATION_RES,
+                contract_authentication_res,
+            ),
+            BodyElement::CurrentDemandReq(current_demand_req) => put_record(
+                writer,
+                names::CURRENT_DEMAND_REQ,
+                current_demand_req,
+            ),
+            BodyElement::CurrentDemandRes(current_demand_res) => put_record(
+                writer,
+                names::CURRENT_DEMAND_RES,
+                current_demand_res,
+            ),
+            BodyElement::PowerDeliveryReq(power_delivery_req) => put_record(
+                writer,
+                names::POWER_DELIVERY_REQ,
+                power_delivery_req,
+            ),
+            BodyElement::PowerDeliveryRes(power_delivery_res) => put_record(
+                writer,
+                names::POWER_DELIVERY_RES,
+                power_delivery_res,
+            ),
+            BodyElement::PreChargeReq(pre_charge_req) => put_record(
+                writer,
+                names::PRE_CHARGE_REQ,
+                pre_charge_req,
+            ),
+            BodyElement::PreChargeRes(pre_charge_res) => put_record(
+                writer,
+                names::PRE_CHARGE_RES,
+                pre_charge_res,
+            ),
+            BodyElement::ServiceDiscoveryReq(service_discovery_req) => put_record(
+                writer,
+                names::SERVICE_DISCOVERY_REQ,
+                service_discovery_req,
+            ),
+            BodyElement::ServiceDiscoveryRes(service_discovery_res) => put_record(
+                writer,
+                names::SERVICE_DISCOVERY_RES,
+                service_discovery_res,
+            ),
+            BodyElement::ServicePaymentSelectionReq(service_payment_selection_req) => put_record(
+                writer,
+                names::SERVICE_PAYMENT_SELECTION_REQ,
+                service_payment_selection_req,
+            ),
+            BodyElement::ServicePaymentSelectionRes(service_payment_selection_res) => put_record(
+                writer,
+                names::SERVICE_PAYMENT_SELECTION_RES,
+                service_payment_selection_res,
+            ),
+            BodyElement::SessionSetupReq(session_setup_req) => put_record(
+                writer,
+                names::SESSION_SETUP_REQ,
+                session_setup_req,
+            ),
+            BodyElement::SessionSetupRes(session_setup_res) => put_record(
+                writer,
+                names::SESSION_SETUP_RES,
+                session_setup_res,
+            ),
+            BodyElement::SessionStopReq(session_stop_req) => put_record(
+                writer,
+                names::SESSION_STOP_REQ,
+                session_stop_req,
+            ),
+            BodyElement::SessionStopRes(session_stop_res) => put_record(
+                writer,
+                names::SESSION_STOP_RES,
+                session_stop_res,
+            ),
+            BodyElement::WeldingDetectionReq(welding_detection_req) => put_record(
+                writer,
+                names::WELDING_DETECTION_REQ,
+                welding_detection_req,
+            ),
+            BodyElement::WeldingDetectionRes(welding_detection_res) => put_record(
+                writer,
+                names::WELDING_DETECTION_RES,
+                welding_detection_res,
+            ),
         }
     }
 }
 
 /// ChargeParameterDiscoveryRes, which holds a list: apart from the others, so that they don't fill its room.
 #[inline(never)]
-fn charge_parameter_discovery_res<'a, P: Places>(place: &mut Option<BodyElement<'a>>, descent: &mut Descent<'a, '_, P>) -> Result<(), Refusal>
+fn charge_parameter_discovery_res<'a, P: Places>(
+    place: &mut Option<BodyElement<'a>>,
+    descent: &mut Descent<'a, '_, P>,
+) -> Result<(), Refusal>
     requires open { IsOpen P.schema descent.old }
     ensures open { IsOpen P.schema descent.new }
     ensures table { descent.new.reader.table.ghost_name ≡ descent.old.reader.table.ghost_name }
@@ -98,7 +200,10 @@ fn charge_parameter_discovery_res<'a, P: Places>(place: &mut Option<BodyElement<
 
 /// PowerDeliveryReq, which holds a list: apart from the others, so that they don't fill its room.
 #[inline(never)]
-fn power_delivery_req<'a, P: Places>(place: &mut Option<BodyElement<'a>>, descent: &mut Descent<'a, '_, P>) -> Result<(), Refusal>
+fn power_delivery_req<'a, P: Places>(
+    place: &mut Option<BodyElement<'a>>,
+    descent: &mut Descent<'a, '_, P>,
+) -> Result<(), Refusal>
     requires open { IsOpen P.schema descent.old }
     ensures open { IsOpen P.schema descent.new }
     ensures table { descent.new.reader.table.ghost_name ≡ descent.old.reader.table.ghost_name }
@@ -114,7 +219,10 @@ fn power_delivery_req<'a, P: Places>(place: &mut Option<BodyElement<'a>>, descen
 
 /// ServiceDiscoveryRes, which holds a list: apart from the others, so that they don't fill its room.
 #[inline(never)]
-fn service_discovery_res<'a, P: Places>(place: &mut Option<BodyElement<'a>>, descent: &mut Descent<'a, '_, P>) -> Result<(), Refusal>
+fn service_discovery_res<'a, P: Places>(
+    place: &mut Option<BodyElement<'a>>,
+    descent: &mut Descent<'a, '_, P>,
+) -> Result<(), Refusal>
     requires open { IsOpen P.schema descent.old }
     ensures open { IsOpen P.schema descent.new }
     ensures table { descent.new.reader.table.ghost_name ≡ descent.old.reader.table.ghost_name }
@@ -130,7 +238,10 @@ fn service_discovery_res<'a, P: Places>(place: &mut Option<BodyElement<'a>>, des
 
 /// ServicePaymentSelectionReq, which holds a list: apart from the others, so that they don't fill its room.
 #[inline(never)]
-fn service_payment_selection_req<'a, P: Places>(place: &mut Option<BodyElement<'a>>, descent: &mut Descent<'a, '_, P>) -> Result<(), Refusal>
+fn service_payment_selection_req<'a, P: Places>(
+    place: &mut Option<BodyElement<'a>>,
+    descent: &mut Descent<'a, '_, P>,
+) -> Result<(), Refusal>
     requires open { IsOpen P.schema descent.old }
     ensures open { IsOpen P.schema descent.new }
     ensures table { descent.new.reader.table.ghost_name ≡ descent.old.reader.table.ghost_name }
@@ -161,10 +272,36 @@ impl<'a> LargeGroup<'a> for BodyElement<'a> {
     fn names() -> &'static [u16]
         ensures { result.now ≡ names_among body_element_members }
     {
-        &[names::CABLE_CHECK_REQ, names::CABLE_CHECK_RES, names::CHARGE_PARAMETER_DISCOVERY_REQ, names::CHARGE_PARAMETER_DISCOVERY_RES, names::CONTRACT_AUTHENTICATION_REQ, names::CONTRACT_AUTHENTICATION_RES, names::CURRENT_DEMAND_REQ, names::CURRENT_DEMAND_RES, names::POWER_DELIVERY_REQ, names::POWER_DELIVERY_RES, names::PRE_CHARGE_REQ, names::PRE_CHARGE_RES, names::SERVICE_DISCOVERY_REQ, names::SERVICE_DISCOVERY_RES, names::SERVICE_PAYMENT_SELECTION_REQ, names::SERVICE_PAYMENT_SELECTION_RES, names::SESSION_SETUP_REQ, names::SESSION_SETUP_RES, names::SESSION_STOP_REQ, names::SESSION_STOP_RES, names::WELDING_DETECTION_REQ, names::WELDING_DETECTION_RES]
+        &[
+            names::CABLE_CHECK_REQ,
+            names::CABLE_CHECK_RES,
+            names::CHARGE_PARAMETER_DISCOVERY_REQ,
+            names::CHARGE_PARAMETER_DISCOVERY_RES,
+            names::CONTRACT_AUTHENTICATION_REQ,
+            names::CONTRACT_AUTHENTICATION_RES,
+            names::CURRENT_DEMAND_REQ,
+            names::CURRENT_DEMAND_RES,
+            names::POWER_DELIVERY_REQ,
+            names::POWER_DELIVERY_RES,
+            names::PRE_CHARGE_REQ,
+            names::PRE_CHARGE_RES,
+            names::SERVICE_DISCOVERY_REQ,
+            names::SERVICE_DISCOVERY_RES,
+            names::SERVICE_PAYMENT_SELECTION_REQ,
+            names::SERVICE_PAYMENT_SELECTION_RES,
+            names::SESSION_SETUP_REQ,
+            names::SESSION_SETUP_RES,
+            names::SESSION_STOP_REQ,
+            names::SESSION_STOP_RES,
+            names::WELDING_DETECTION_REQ,
+            names::WELDING_DETECTION_RES,
+        ]
     }
 
-    fn read_member_into<P: Places>(place: &mut Option<BodyElement<'a>>, descent: &mut Descent<'a, '_, P>) -> Result<(), Refusal> {
+    fn read_member_into<P: Places>(
+        place: &mut Option<BodyElement<'a>>,
+        descent: &mut Descent<'a, '_, P>,
+    ) -> Result<(), Refusal> {
         if descent.is_at(names::CABLE_CHECK_REQ) {
             *place = Some(BodyElement::CableCheckReq(member(descent)?));
             Ok(())

@@ -13,11 +13,23 @@ use exi_documents::Refusal;
 use exi_events::EventWriter;
 use exi_schema::Places;
 use iso_parameters::{ChargeParameterDiscoveryReq, ChargeParameterDiscoveryRes};
-use iso_parts::{Header};
-use iso_power::{CableCheckReq, CableCheckRes, ChargingStatusReq, ChargingStatusRes, CurrentDemandReq, CurrentDemandRes, PowerDeliveryReq, PowerDeliveryRes, PreChargeReq, PreChargeRes, WeldingDetectionReq, WeldingDetectionRes};
+use iso_parts::Header;
+use iso_power::{
+    CableCheckReq, CableCheckRes, ChargingStatusReq, ChargingStatusRes, CurrentDemandReq,
+    CurrentDemandRes, PowerDeliveryReq, PowerDeliveryRes, PreChargeReq, PreChargeRes,
+    WeldingDetectionReq, WeldingDetectionRes,
+};
 use iso_schema::names;
-use iso_setup::{AuthorizationReq, AuthorizationRes, PaymentServiceSelectionReq, PaymentServiceSelectionRes, ServiceDetailReq, ServiceDetailRes, ServiceDiscoveryReq, ServiceDiscoveryRes, SessionSetupReq, SessionSetupRes, SessionStopReq, SessionStopRes};
-use message_parts::{Alternatives, Declared, Descent, LargeChoice, LargeGroup, LargeRecord, PutChoice, PutRecord, first_child, member, optional_choice_here, put_optional_choice, put_record, required, required_here};
+use iso_setup::{
+    AuthorizationReq, AuthorizationRes, PaymentServiceSelectionReq, PaymentServiceSelectionRes,
+    ServiceDetailReq, ServiceDetailRes, ServiceDiscoveryReq, ServiceDiscoveryRes, SessionSetupReq,
+    SessionSetupRes, SessionStopReq, SessionStopRes,
+};
+use message_parts::{
+    Alternatives, Declared, Descent, LargeChoice, LargeGroup, LargeRecord, PutChoice, PutRecord,
+    first_child, member, optional_choice_here, put_optional_choice, put_record, required,
+    required_here,
+};
 
 /// One element of BodyElement that holds no long list.
 #[derive(Drop)]
@@ -56,36 +68,131 @@ impl PutChoice for BriefElement<'_> {
 
     fn write_member<P: Places>(&self, writer: &mut EventWriter<'_, '_, P>) {
         match self {
-            BriefElement::AuthorizationReq(authorization_req) => put_record(writer, names::AUTHORIZATION_REQ, authorization_req),
-            BriefElement::AuthorizationRes(authorization_res) => put_record(writer, names::AUTHORIZATION_RES, authorization_res),
-            BriefElement::CableCheckReq(cable_check_req) => put_record(writer, names::CABLE_CHECK_REQ, cable_check_req),
-            BriefElement::CableCheckRes(cable_check_res) => put_record(writer, names::CABLE_CHECK_RES, cable_check_res),
-            BriefElement::ChargeParameterDiscoveryReq(charge_parameter_discovery_req) => put_record(writer, names::CHARGE_PARAMETER_DISCOVERY_REQ, charge_parameter_discovery_req),
-            BriefElement::ChargingStatusReq(charging_status_req) => put_record(writer, names::CHARGING_STATUS_REQ, charging_status_req),
-            BriefElement::ChargingStatusRes(charging_status_res) => put_record(writer, names::CHARGING_STATUS_RES, charging_status_res),
-            BriefElement::CurrentDemandReq(current_demand_req) => put_record(writer, names::CURRENT_DEMAND_REQ, current_demand_req),
-            BriefElement::CurrentDemandRes(current_demand_res) => put_record(writer, names::CURRENT_DEMAND_RES, current_demand_res),
-            BriefElement::PaymentServiceSelectionReq(payment_service_selection_req) => put_record(writer, names::PAYMENT_SERVICE_SELECTION_REQ, payment_service_selection_req),
-            BriefElement::PaymentServiceSelectionRes(payment_service_selection_res) => put_record(writer, names::PAYMENT_SERVICE_SELECTION_RES, payment_service_selection_res),
-            BriefElement::PowerDeliveryReq(power_delivery_req) => put_record(writer, names::POWER_DELIVERY_REQ, power_delivery_req),
-            BriefElement::PowerDeliveryRes(power_delivery_res) => put_record(writer, names::POWER_DELIVERY_RES, power_delivery_res),
-            BriefElement::PreChargeReq(pre_charge_req) => put_record(writer, names::PRE_CHARGE_REQ, pre_charge_req),
-            BriefElement::PreChargeRes(pre_charge_res) => put_record(writer, names::PRE_CHARGE_RES, pre_charge_res),
-            BriefElement::ServiceDetailReq(service_detail_req) => put_record(writer, names::SERVICE_DETAIL_REQ, service_detail_req),
-            BriefElement::ServiceDiscoveryReq(service_discovery_req) => put_record(writer, names::SERVICE_DISCOVERY_REQ, service_discovery_req),
-            BriefElement::SessionSetupReq(session_setup_req) => put_record(writer, names::SESSION_SETUP_REQ, session_setup_req),
-            BriefElement::SessionSetupRes(session_setup_res) => put_record(writer, names::SESSION_SETUP_RES, session_setup_res),
-            BriefElement::SessionStopReq(session_stop_req) => put_record(writer, names::SESSION_STOP_REQ, session_stop_req),
-            BriefElement::SessionStopRes(session_stop_res) => put_record(writer, names::SESSION_STOP_RES, session_stop_res),
-            BriefElement::WeldingDetectionReq(welding_detection_req) => put_record(writer, names::WELDING_DETECTION_REQ, welding_detection_req),
-            BriefElement::WeldingDetectionRes(welding_detection_res) => put_record(writer, names::WELDING_DETECTION_RES, welding_detection_res),
+            BriefElement::AuthorizationReq(authorization_req) => put_record(
+                writer,
+                names::AUTHORIZATION_REQ,
+                authorization_req,
+            ),
+            BriefElement::AuthorizationRes(authorization_res) => put_record(
+                writer,
+                names::AUTHORIZATION_RES,
+                authorization_res,
+            ),
+            BriefElement::CableCheckReq(cable_check_req) => put_record(
+                writer,
+                names::CABLE_CHECK_REQ,
+                cable_check_req,
+            ),
+            BriefElement::CableCheckRes(cable_check_res) => put_record(
+                writer,
+                names::CABLE_CHECK_RES,
+                cable_check_res,
+            ),
+            BriefElement::ChargeParameterDiscoveryReq(charge_parameter_discovery_req) => put_record(
+                writer,
+                names::CHARGE_PARAMETER_DISCOVERY_REQ,
+                charge_parameter_discovery_req,
+            ),
+            BriefElement::ChargingStatusReq(charging_status_req) => put_record(
+                writer,
+                names::CHARGING_STATUS_REQ,
+                charging_status_req,
+            ),
+            BriefElement::ChargingStatusRes(charging_status_res) => put_record(
+                writer,
+                names::CHARGING_STATUS_RES,
+                charging_status_res,
+            ),
+            BriefElement::CurrentDemandReq(current_demand_req) => put_record(
+                writer,
+                names::CURRENT_DEMAND_REQ,
+                current_demand_req,
+            ),
+            BriefElement::CurrentDemandRes(current_demand_res) => put_record(
+                writer,
+                names::CURRENT_DEMAND_RES,
+                current_demand_res,
+            ),
+            BriefElement::PaymentServiceSelectionReq(payment_service_selection_req) => put_record(
+                writer,
+                names::PAYMENT_SERVICE_SELECTION_REQ,
+                payment_service_selection_req,
+            ),
+            BriefElement::PaymentServiceSelectionRes(payment_service_selection_res) => put_record(
+                writer,
+                names::PAYMENT_SERVICE_SELECTION_RES,
+                payment_service_selection_res,
+            ),
+            BriefElement::PowerDeliveryReq(power_delivery_req) => put_record(
+                writer,
+                names::POWER_DELIVERY_REQ,
+                power_delivery_req,
+            ),
+            BriefElement::PowerDeliveryRes(power_delivery_res) => put_record(
+                writer,
+                names::POWER_DELIVERY_RES,
+                power_delivery_res,
+            ),
+            BriefElement::PreChargeReq(pre_charge_req) => put_record(
+                writer,
+                names::PRE_CHARGE_REQ,
+                pre_charge_req,
+            ),
+            BriefElement::PreChargeRes(pre_charge_res) => put_record(
+                writer,
+                names::PRE_CHARGE_RES,
+                pre_charge_res,
+            ),
+            BriefElement::ServiceDetailReq(service_detail_req) => put_record(
+                writer,
+                names::SERVICE_DETAIL_REQ,
+                service_detail_req,
+            ),
+            BriefElement::ServiceDiscoveryReq(service_discovery_req) => put_record(
+                writer,
+                names::SERVICE_DISCOVERY_REQ,
+                service_discovery_req,
+            ),
+            BriefElement::SessionSetupReq(session_setup_req) => put_record(
+                writer,
+                names::SESSION_SETUP_REQ,
+                session_setup_req,
+            ),
+            BriefElement::SessionSetupRes(session_setup_res) => put_record(
+                writer,
+                names::SESSION_SETUP_RES,
+                session_setup_res,
+            ),
+            BriefElement::SessionStopReq(session_stop_req) => put_record(
+                writer,
+                names::SESSION_STOP_REQ,
+                session_stop_req,
+            ),
+            BriefElement::SessionStopRes(session_stop_res) => put_record(
+                writer,
+                names::SESSION_STOP_RES,
+                session_stop_res,
+            ),
+            BriefElement::WeldingDetectionReq(welding_detection_req) => put_record(
+                writer,
+                names::WELDING_DETECTION_REQ,
+                welding_detection_req,
+            ),
+            BriefElement::WeldingDetectionRes(welding_detection_res) => put_record(
+                writer,
+                names::WELDING_DETECTION_RES,
+                welding_detection_res,
+            ),
         }
     }
 }
 
 /// PaymentServiceSelectionReq, which holds a list: apart from the others, so that they don't fill its room.
 #[inline(never)]
-fn payment_service_selection_req<'a, P: Places>(place: &mut BriefElement<'a>, descent: &mut Descent<'a, '_, P>) -> Result<(), Refusal>
+fn payment_service_selection_req<'a, P: Places>(
+    place: &mut BriefElement<'a>,
+    descent: &mut Descent<'a, '_, P>,
+) -> Result<(), Refusal>
     requires open { IsOpen P.schema descent.old }
     ensures open { IsOpen P.schema descent.new }
     ensures table { descent.new.reader.table.ghost_name ≡ descent.old.reader.table.ghost_name }
@@ -101,7 +208,10 @@ fn payment_service_selection_req<'a, P: Places>(place: &mut BriefElement<'a>, de
 
 /// PowerDeliveryReq, which holds a list: apart from the others, so that they don't fill its room.
 #[inline(never)]
-fn power_delivery_req<'a, P: Places>(place: &mut BriefElement<'a>, descent: &mut Descent<'a, '_, P>) -> Result<(), Refusal>
+fn power_delivery_req<'a, P: Places>(
+    place: &mut BriefElement<'a>,
+    descent: &mut Descent<'a, '_, P>,
+) -> Result<(), Refusal>
     requires open { IsOpen P.schema descent.old }
     ensures open { IsOpen P.schema descent.new }
     ensures table { descent.new.reader.table.ghost_name ≡ descent.old.reader.table.ghost_name }
@@ -117,7 +227,10 @@ fn power_delivery_req<'a, P: Places>(place: &mut BriefElement<'a>, descent: &mut
 
 /// One of the members from ChargingStatusRes on.
 #[inline(always)]
-fn from_charging_status_res<'a, P: Places>(place: &mut BriefElement<'a>, descent: &mut Descent<'a, '_, P>) -> Result<(), Refusal>
+fn from_charging_status_res<'a, P: Places>(
+    place: &mut BriefElement<'a>,
+    descent: &mut Descent<'a, '_, P>,
+) -> Result<(), Refusal>
     requires open { IsOpen P.schema descent.old }
     ensures open { IsOpen P.schema descent.new }
     ensures table { descent.new.reader.table.ghost_name ≡ descent.old.reader.table.ghost_name }
@@ -127,30 +240,33 @@ fn from_charging_status_res<'a, P: Places>(place: &mut BriefElement<'a>, descent
     ensures read { (F : Frame) (told : List TreeEvent) → IsChosen kinds F (drop 6 brief_element_members) told (seen_of P.schema descent.old)
         → IfOk result (λ _. (brief_element_name place.new ≡ F.name) × Leaves kinds F (told_inside (brief_element_inside place.new) told) (seen_of P.schema descent.new)) }
 {
-        if descent.is_at(names::CHARGING_STATUS_RES) {
-            *place = BriefElement::ChargingStatusRes(member(descent)?);
-            Ok(())
-        } else if descent.is_at(names::CURRENT_DEMAND_REQ) {
-            *place = BriefElement::CurrentDemandReq(member(descent)?);
-            Ok(())
-        } else if descent.is_at(names::CURRENT_DEMAND_RES) {
-            *place = BriefElement::CurrentDemandRes(member(descent)?);
-            Ok(())
-        } else if descent.is_at(names::PAYMENT_SERVICE_SELECTION_REQ) {
-            payment_service_selection_req(place, descent)
-        } else if descent.is_at(names::PAYMENT_SERVICE_SELECTION_RES) {
-            *place = BriefElement::PaymentServiceSelectionRes(member(descent)?);
-            Ok(())
-        } else if descent.is_at(names::POWER_DELIVERY_REQ) {
-            power_delivery_req(place, descent)
-        } else {
-            from_power_delivery_res(place, descent)
-        }
+    if descent.is_at(names::CHARGING_STATUS_RES) {
+        *place = BriefElement::ChargingStatusRes(member(descent)?);
+        Ok(())
+    } else if descent.is_at(names::CURRENT_DEMAND_REQ) {
+        *place = BriefElement::CurrentDemandReq(member(descent)?);
+        Ok(())
+    } else if descent.is_at(names::CURRENT_DEMAND_RES) {
+        *place = BriefElement::CurrentDemandRes(member(descent)?);
+        Ok(())
+    } else if descent.is_at(names::PAYMENT_SERVICE_SELECTION_REQ) {
+        payment_service_selection_req(place, descent)
+    } else if descent.is_at(names::PAYMENT_SERVICE_SELECTION_RES) {
+        *place = BriefElement::PaymentServiceSelectionRes(member(descent)?);
+        Ok(())
+    } else if descent.is_at(names::POWER_DELIVERY_REQ) {
+        power_delivery_req(place, descent)
+    } else {
+        from_power_delivery_res(place, descent)
+    }
 }
 
 /// One of the members from PowerDeliveryRes on.
 #[inline(always)]
-fn from_power_delivery_res<'a, P: Places>(place: &mut BriefElement<'a>, descent: &mut Descent<'a, '_, P>) -> Result<(), Refusal>
+fn from_power_delivery_res<'a, P: Places>(
+    place: &mut BriefElement<'a>,
+    descent: &mut Descent<'a, '_, P>,
+) -> Result<(), Refusal>
     requires open { IsOpen P.schema descent.old }
     ensures open { IsOpen P.schema descent.new }
     ensures table { descent.new.reader.table.ghost_name ≡ descent.old.reader.table.ghost_name }
@@ -160,32 +276,35 @@ fn from_power_delivery_res<'a, P: Places>(place: &mut BriefElement<'a>, descent:
     ensures read { (F : Frame) (told : List TreeEvent) → IsChosen kinds F (drop 12 brief_element_members) told (seen_of P.schema descent.old)
         → IfOk result (λ _. (brief_element_name place.new ≡ F.name) × Leaves kinds F (told_inside (brief_element_inside place.new) told) (seen_of P.schema descent.new)) }
 {
-        if descent.is_at(names::POWER_DELIVERY_RES) {
-            *place = BriefElement::PowerDeliveryRes(member(descent)?);
-            Ok(())
-        } else if descent.is_at(names::PRE_CHARGE_REQ) {
-            *place = BriefElement::PreChargeReq(member(descent)?);
-            Ok(())
-        } else if descent.is_at(names::PRE_CHARGE_RES) {
-            *place = BriefElement::PreChargeRes(member(descent)?);
-            Ok(())
-        } else if descent.is_at(names::SERVICE_DETAIL_REQ) {
-            *place = BriefElement::ServiceDetailReq(member(descent)?);
-            Ok(())
-        } else if descent.is_at(names::SERVICE_DISCOVERY_REQ) {
-            *place = BriefElement::ServiceDiscoveryReq(member(descent)?);
-            Ok(())
-        } else if descent.is_at(names::SESSION_SETUP_REQ) {
-            *place = BriefElement::SessionSetupReq(member(descent)?);
-            Ok(())
-        } else {
-            from_session_setup_res(place, descent)
-        }
+    if descent.is_at(names::POWER_DELIVERY_RES) {
+        *place = BriefElement::PowerDeliveryRes(member(descent)?);
+        Ok(())
+    } else if descent.is_at(names::PRE_CHARGE_REQ) {
+        *place = BriefElement::PreChargeReq(member(descent)?);
+        Ok(())
+    } else if descent.is_at(names::PRE_CHARGE_RES) {
+        *place = BriefElement::PreChargeRes(member(descent)?);
+        Ok(())
+    } else if descent.is_at(names::SERVICE_DETAIL_REQ) {
+        *place = BriefElement::ServiceDetailReq(member(descent)?);
+        Ok(())
+    } else if descent.is_at(names::SERVICE_DISCOVERY_REQ) {
+        *place = BriefElement::ServiceDiscoveryReq(member(descent)?);
+        Ok(())
+    } else if descent.is_at(names::SESSION_SETUP_REQ) {
+        *place = BriefElement::SessionSetupReq(member(descent)?);
+        Ok(())
+    } else {
+        from_session_setup_res(place, descent)
+    }
 }
 
 /// One of the members from SessionSetupRes on.
 #[inline(always)]
-fn from_session_setup_res<'a, P: Places>(place: &mut BriefElement<'a>, descent: &mut Descent<'a, '_, P>) -> Result<(), Refusal>
+fn from_session_setup_res<'a, P: Places>(
+    place: &mut BriefElement<'a>,
+    descent: &mut Descent<'a, '_, P>,
+) -> Result<(), Refusal>
     requires open { IsOpen P.schema descent.old }
     ensures open { IsOpen P.schema descent.new }
     ensures table { descent.new.reader.table.ghost_name ≡ descent.old.reader.table.ghost_name }
@@ -195,22 +314,22 @@ fn from_session_setup_res<'a, P: Places>(place: &mut BriefElement<'a>, descent: 
     ensures read { (F : Frame) (told : List TreeEvent) → IsChosen kinds F (drop 18 brief_element_members) told (seen_of P.schema descent.old)
         → IfOk result (λ _. (brief_element_name place.new ≡ F.name) × Leaves kinds F (told_inside (brief_element_inside place.new) told) (seen_of P.schema descent.new)) }
 {
-        if descent.is_at(names::SESSION_SETUP_RES) {
-            *place = BriefElement::SessionSetupRes(member(descent)?);
-            Ok(())
-        } else if descent.is_at(names::SESSION_STOP_REQ) {
-            *place = BriefElement::SessionStopReq(member(descent)?);
-            Ok(())
-        } else if descent.is_at(names::SESSION_STOP_RES) {
-            *place = BriefElement::SessionStopRes(member(descent)?);
-            Ok(())
-        } else if descent.is_at(names::WELDING_DETECTION_REQ) {
-            *place = BriefElement::WeldingDetectionReq(member(descent)?);
-            Ok(())
-        } else {
-            *place = BriefElement::WeldingDetectionRes(member(descent)?);
-            Ok(())
-        }
+    if descent.is_at(names::SESSION_SETUP_RES) {
+        *place = BriefElement::SessionSetupRes(member(descent)?);
+        Ok(())
+    } else if descent.is_at(names::SESSION_STOP_REQ) {
+        *place = BriefElement::SessionStopReq(member(descent)?);
+        Ok(())
+    } else if descent.is_at(names::SESSION_STOP_RES) {
+        *place = BriefElement::SessionStopRes(member(descent)?);
+        Ok(())
+    } else if descent.is_at(names::WELDING_DETECTION_REQ) {
+        *place = BriefElement::WeldingDetectionReq(member(descent)?);
+        Ok(())
+    } else {
+        *place = BriefElement::WeldingDetectionRes(member(descent)?);
+        Ok(())
+    }
 }
 
 impl Alternatives for BriefElement<'_> {
@@ -223,7 +342,10 @@ impl Alternatives for BriefElement<'_> {
 }
 
 impl<'a> LargeChoice<'a> for BriefElement<'a> {
-    fn read_member_here<P: Places>(&mut self, descent: &mut Descent<'a, '_, P>) -> Result<(), Refusal> {
+    fn read_member_here<P: Places>(
+        &mut self,
+        descent: &mut Descent<'a, '_, P>,
+    ) -> Result<(), Refusal> {
         if descent.is_at(names::AUTHORIZATION_REQ) {
             *self = BriefElement::AuthorizationReq(member(descent)?);
             Ok(())
@@ -268,16 +390,31 @@ impl PutChoice for BodyElement<'_> {
     fn write_member<P: Places>(&self, writer: &mut EventWriter<'_, '_, P>) {
         match self {
             BodyElement::Brief(brief) => brief.write_member(writer),
-            BodyElement::ChargeParameterDiscoveryRes(charge_parameter_discovery_res) => put_record(writer, names::CHARGE_PARAMETER_DISCOVERY_RES, charge_parameter_discovery_res),
-            BodyElement::ServiceDetailRes(service_detail_res) => put_record(writer, names::SERVICE_DETAIL_RES, service_detail_res),
-            BodyElement::ServiceDiscoveryRes(service_discovery_res) => put_record(writer, names::SERVICE_DISCOVERY_RES, service_discovery_res),
+            BodyElement::ChargeParameterDiscoveryRes(charge_parameter_discovery_res) => put_record(
+                writer,
+                names::CHARGE_PARAMETER_DISCOVERY_RES,
+                charge_parameter_discovery_res,
+            ),
+            BodyElement::ServiceDetailRes(service_detail_res) => put_record(
+                writer,
+                names::SERVICE_DETAIL_RES,
+                service_detail_res,
+            ),
+            BodyElement::ServiceDiscoveryRes(service_discovery_res) => put_record(
+                writer,
+                names::SERVICE_DISCOVERY_RES,
+                service_discovery_res,
+            ),
         }
     }
 }
 
 /// ChargeParameterDiscoveryRes, which holds a list: apart from the others, so that they don't fill its room.
 #[inline(never)]
-fn charge_parameter_discovery_res<'a, P: Places>(place: &mut Option<BodyElement<'a>>, descent: &mut Descent<'a, '_, P>) -> Result<(), Refusal>
+fn charge_parameter_discovery_res<'a, P: Places>(
+    place: &mut Option<BodyElement<'a>>,
+    descent: &mut Descent<'a, '_, P>,
+) -> Result<(), Refusal>
     requires open { IsOpen P.schema descent.old }
     ensures open { IsOpen P.schema descent.new }
     ensures table { descent.new.reader.table.ghost_name ≡ descent.old.reader.table.ghost_name }
@@ -293,7 +430,10 @@ fn charge_parameter_discovery_res<'a, P: Places>(place: &mut Option<BodyElement<
 
 /// ServiceDetailRes, which holds a list: apart from the others, so that they don't fill its room.
 #[inline(never)]
-fn service_detail_res<'a, P: Places>(place: &mut Option<BodyElement<'a>>, descent: &mut Descent<'a, '_, P>) -> Result<(), Refusal>
+fn service_detail_res<'a, P: Places>(
+    place: &mut Option<BodyElement<'a>>,
+    descent: &mut Descent<'a, '_, P>,
+) -> Result<(), Refusal>
     requires open { IsOpen P.schema descent.old }
     ensures open { IsOpen P.schema descent.new }
     ensures table { descent.new.reader.table.ghost_name ≡ descent.old.reader.table.ghost_name }
@@ -309,7 +449,10 @@ fn service_detail_res<'a, P: Places>(place: &mut Option<BodyElement<'a>>, descen
 
 /// ServiceDiscoveryRes, which holds a list: apart from the others, so that they don't fill its room.
 #[inline(never)]
-fn service_discovery_res<'a, P: Places>(place: &mut Option<BodyElement<'a>>, descent: &mut Descent<'a, '_, P>) -> Result<(), Refusal>
+fn service_discovery_res<'a, P: Places>(
+    place: &mut Option<BodyElement<'a>>,
+    descent: &mut Descent<'a, '_, P>,
+) -> Result<(), Refusal>
     requires open { IsOpen P.schema descent.old }
     ensures open { IsOpen P.schema descent.new }
     ensures table { descent.new.reader.table.ghost_name ≡ descent.old.reader.table.ghost_name }
@@ -324,7 +467,10 @@ fn service_discovery_res<'a, P: Places>(place: &mut Option<BodyElement<'a>>, des
 }
 
 /// One that holds no long list, over one that holds none either where such a one stands.
-fn brief<'a, P: Places>(place: &mut Option<BodyElement<'a>>, descent: &mut Descent<'a, '_, P>) -> Result<(), Refusal>
+fn brief<'a, P: Places>(
+    place: &mut Option<BodyElement<'a>>,
+    descent: &mut Descent<'a, '_, P>,
+) -> Result<(), Refusal>
     requires open { IsOpen P.schema descent.old }
     ensures open { IsOpen P.schema descent.new }
     ensures table { descent.new.reader.table.ghost_name ≡ descent.old.reader.table.ghost_name }
@@ -342,7 +488,10 @@ fn brief<'a, P: Places>(place: &mut Option<BodyElement<'a>>, descent: &mut Desce
 
 /// One that holds no long list, where another stands or none: this clears the room of the longest.
 #[inline(never)]
-fn brief_anew<'a, P: Places>(place: &mut Option<BodyElement<'a>>, descent: &mut Descent<'a, '_, P>) -> Result<(), Refusal>
+fn brief_anew<'a, P: Places>(
+    place: &mut Option<BodyElement<'a>>,
+    descent: &mut Descent<'a, '_, P>,
+) -> Result<(), Refusal>
     requires open { IsOpen P.schema descent.old }
     ensures open { IsOpen P.schema descent.new }
     ensures table { descent.new.reader.table.ghost_name ≡ descent.old.reader.table.ghost_name }
@@ -375,10 +524,40 @@ impl<'a> LargeGroup<'a> for BodyElement<'a> {
     fn names() -> &'static [u16]
         ensures { result.now ≡ names_among body_element_members }
     {
-        &[names::AUTHORIZATION_REQ, names::AUTHORIZATION_RES, names::CABLE_CHECK_REQ, names::CABLE_CHECK_RES, names::CHARGE_PARAMETER_DISCOVERY_REQ, names::CHARGE_PARAMETER_DISCOVERY_RES, names::CHARGING_STATUS_REQ, names::CHARGING_STATUS_RES, names::CURRENT_DEMAND_REQ, names::CURRENT_DEMAND_RES, names::PAYMENT_SERVICE_SELECTION_REQ, names::PAYMENT_SERVICE_SELECTION_RES, names::POWER_DELIVERY_REQ, names::POWER_DELIVERY_RES, names::PRE_CHARGE_REQ, names::PRE_CHARGE_RES, names::SERVICE_DETAIL_REQ, names::SERVICE_DETAIL_RES, names::SERVICE_DISCOVERY_REQ, names::SERVICE_DISCOVERY_RES, names::SESSION_SETUP_REQ, names::SESSION_SETUP_RES, names::SESSION_STOP_REQ, names::SESSION_STOP_RES, names::WELDING_DETECTION_REQ, names::WELDING_DETECTION_RES]
+        &[
+            names::AUTHORIZATION_REQ,
+            names::AUTHORIZATION_RES,
+            names::CABLE_CHECK_REQ,
+            names::CABLE_CHECK_RES,
+            names::CHARGE_PARAMETER_DISCOVERY_REQ,
+            names::CHARGE_PARAMETER_DISCOVERY_RES,
+            names::CHARGING_STATUS_REQ,
+            names::CHARGING_STATUS_RES,
+            names::CURRENT_DEMAND_REQ,
+            names::CURRENT_DEMAND_RES,
+            names::PAYMENT_SERVICE_SELECTION_REQ,
+            names::PAYMENT_SERVICE_SELECTION_RES,
+            names::POWER_DELIVERY_REQ,
+            names::POWER_DELIVERY_RES,
+            names::PRE_CHARGE_REQ,
+            names::PRE_CHARGE_RES,
+            names::SERVICE_DETAIL_REQ,
+            names::SERVICE_DETAIL_RES,
+            names::SERVICE_DISCOVERY_REQ,
+            names::SERVICE_DISCOVERY_RES,
+            names::SESSION_SETUP_REQ,
+            names::SESSION_SETUP_RES,
+            names::SESSION_STOP_REQ,
+            names::SESSION_STOP_RES,
+            names::WELDING_DETECTION_REQ,
+            names::WELDING_DETECTION_RES,
+        ]
     }
 
-    fn read_member_into<P: Places>(place: &mut Option<BodyElement<'a>>, descent: &mut Descent<'a, '_, P>) -> Result<(), Refusal> {
+    fn read_member_into<P: Places>(
+        place: &mut Option<BodyElement<'a>>,
+        descent: &mut Descent<'a, '_, P>,
+    ) -> Result<(), Refusal> {
         if descent.is_at(names::CHARGE_PARAMETER_DISCOVERY_RES) {
             charge_parameter_discovery_res(place, descent)
         } else if descent.is_at(names::SERVICE_DETAIL_RES) {
