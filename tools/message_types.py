@@ -18,7 +18,7 @@ from message_shapes import Types, in_groups
 from message_specs import definitions
 
 WORDS = [
-    "Alternatives", "Binary", "Choice", "Declared", "Descent", "Group", "LargeChoice", "LargeGroup", "LargeRecord", "PutChoice", "PutRecord", "ReadRecord",
+    "Alternatives", "Binary", "Choice", "DeclaredRecord", "Descent", "Group", "LargeChoice", "LargeGroup", "LargeRecord", "PutChoice", "PutRecord", "ReadRecord",
     "ReadSimple", "Record", "Text", "Three", "first_child", "member", "member_value", "optional_choice_here", "put_attribute", "put_choice",
     "put_optional", "put_optional_attribute", "put_optional_choice", "put_optional_value", "put_record", "put_records", "put_value",
     "put_values", "required", "required_here", "whole_record",
@@ -129,8 +129,6 @@ def record(t, kind, lent):
 {body}    }}
 
     ghost declared = {{ Prim.search rules }};
-
-    ghost apart = {{ Prim.search rules }};
 }}
 
 impl<'a> ReadRecord<'a> for {name} {{
@@ -178,7 +176,8 @@ impl PutRecord for {name}{"<'_>" if lent else ""} {{
 {puts}    }}
 }}
 
-impl Declared for {name}{"<'_>" if lent else ""} {{
+impl DeclaredRecord for {name}{"<'_>" if lent else ""} {{
+    ghost use Rattle.std.proofs.Common.{{rules}};
     ghost use Rattle.{t.s.crate}.specs.Declarations.{{kinds}};
 {particles}{declared}
     ghost kinds = {{ kinds }};
@@ -186,6 +185,8 @@ impl Declared for {name}{"<'_>" if lent else ""} {{
     ghost attributes = {{ {f"{low}_attributes" if attributes else "[]"} }};
 
     ghost particles = {{ {t.declared(kind) if kept else "[]"} }};
+
+    ghost apart = {{ Prim.search rules }};
 }}
 
 {(large_record if kind in t.large else record)(t, kind, lent)}"""

@@ -17,8 +17,8 @@ use exi_events::{EventWriter, Value};
 use exi_schema::Places;
 use message_fields::{Elements, OptionalValue, RequiredValue};
 use message_parts::{
-    Alternatives, Choice, Declared, Descent, PutChoice, PutRecord, ReadRecord, ReadSimple, Record,
-    Root, Simple, Text, first_child, member, put_optional_value, put_record, put_records,
+    Alternatives, Choice, DeclaredRecord, Descent, PutChoice, PutRecord, ReadRecord, ReadSimple,
+    Record, Root, Simple, Text, first_child, member, put_optional_value, put_record, put_records,
     put_value, records, whole_record,
 };
 
@@ -63,12 +63,16 @@ impl<'a> PutRecord for AppProtocol<'a> {
     }
 }
 
-impl Declared for AppProtocol<'_> {
+impl DeclaredRecord for AppProtocol<'_> {
+    ghost use Rattle.std.proofs.Common.{rules};
+
     ghost kinds = { all_kinds };
 
     ghost attributes = { [] };
 
     ghost particles = { protocol_particles };
+
+    ghost apart = { Prim.search rules };
 }
 
 impl<'a> Record<'a> for AppProtocol<'a> {
@@ -100,8 +104,6 @@ impl<'a> Record<'a> for AppProtocol<'a> {
     }
 
     ghost declared = { Prim.search rules };
-
-    ghost apart = { Prim.search rules };
 }
 
 impl<'a> ReadRecord<'a> for AppProtocol<'a> {
@@ -127,12 +129,16 @@ impl<'a> PutRecord for AppReq<'a> {
     }
 }
 
-impl Declared for AppReq<'_> {
+impl DeclaredRecord for AppReq<'_> {
+    ghost use Rattle.std.proofs.Common.{rules};
+
     ghost kinds = { all_kinds };
 
     ghost attributes = { [] };
 
     ghost particles = { request_particles };
+
+    ghost apart = { Prim.search rules };
 }
 
 impl<'a> ReadRecord<'a> for AppReq<'a> {
@@ -198,12 +204,16 @@ impl PutRecord for AppRes {
     }
 }
 
-impl Declared for AppRes {
+impl DeclaredRecord for AppRes {
+    ghost use Rattle.std.proofs.Common.{rules};
+
     ghost kinds = { all_kinds };
 
     ghost attributes = { [] };
 
     ghost particles = { response_particles };
+
+    ghost apart = { Prim.search rules };
 }
 
 impl<'a> Record<'a> for AppRes {
@@ -215,8 +225,6 @@ impl<'a> Record<'a> for AppRes {
     }
 
     ghost declared = { Prim.search rules };
-
-    ghost apart = { Prim.search rules };
 }
 
 impl<'a> ReadRecord<'a> for AppRes {

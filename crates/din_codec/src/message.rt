@@ -25,8 +25,9 @@ use exi_documents::Refusal;
 use exi_events::EventWriter;
 use exi_schema::Places;
 use message_parts::{
-    Alternatives, Declared, Descent, LargeGroup, LargeRecord, PutChoice, PutRecord, first_child,
-    member, optional_choice_here, put_optional_choice, put_record, required, required_here,
+    Alternatives, DeclaredRecord, Descent, LargeGroup, LargeRecord, PutChoice, PutRecord,
+    first_child, member, optional_choice_here, put_optional_choice, put_record, required,
+    required_here,
 };
 
 /// One element of the substitution group BodyElement.
@@ -386,7 +387,8 @@ impl PutRecord for Body<'_> {
     }
 }
 
-impl Declared for Body<'_> {
+impl DeclaredRecord for Body<'_> {
+    ghost use Rattle.std.proofs.Common.{rules};
     ghost use Rattle.din_schema.specs.Declarations.{kinds};
     ghost use Rattle.din_schema.specs.Frame.{body};
 
@@ -395,6 +397,8 @@ impl Declared for Body<'_> {
     ghost attributes = { [] };
 
     ghost particles = { body };
+
+    ghost apart = { Prim.search rules };
 }
 
 impl<'a> LargeRecord<'a> for Body<'a> {
@@ -425,7 +429,8 @@ impl PutRecord for DinMessage<'_> {
     }
 }
 
-impl Declared for DinMessage<'_> {
+impl DeclaredRecord for DinMessage<'_> {
+    ghost use Rattle.std.proofs.Common.{rules};
     ghost use Rattle.din_schema.specs.Declarations.{kinds};
     ghost use Rattle.din_schema.specs.Frame.{v2g_message};
 
@@ -434,6 +439,8 @@ impl Declared for DinMessage<'_> {
     ghost attributes = { [] };
 
     ghost particles = { v2g_message };
+
+    ghost apart = { Prim.search rules };
 }
 
 impl<'a> LargeRecord<'a> for DinMessage<'a> {

@@ -9,7 +9,7 @@ use exi_events::EventWriter;
 use exi_schema::Places;
 use message_fields::{Elements, LeftOut, Optional, OptionalValue, RequiredValue};
 use message_parts::{
-    Binary, Declared, Descent, PutRecord, ReadRecord, Record, Text, put_optional,
+    Binary, DeclaredRecord, Descent, PutRecord, ReadRecord, Record, Text, put_optional,
     put_optional_value, put_value, whole_record,
 };
 
@@ -34,7 +34,8 @@ impl PutRecord for Notification<'_> {
     }
 }
 
-impl Declared for Notification<'_> {
+impl DeclaredRecord for Notification<'_> {
+    ghost use Rattle.std.proofs.Common.{rules};
     ghost use Rattle.din_schema.specs.Declarations.{kinds};
     ghost use Rattle.din_schema.specs.Frame.{notification};
 
@@ -43,6 +44,8 @@ impl Declared for Notification<'_> {
     ghost attributes = { [] };
 
     ghost particles = { notification };
+
+    ghost apart = { Prim.search rules };
 }
 
 impl<'a> Record<'a> for Notification<'a> {
@@ -64,8 +67,6 @@ impl<'a> Record<'a> for Notification<'a> {
     }
 
     ghost declared = { Prim.search rules };
-
-    ghost apart = { Prim.search rules };
 }
 
 impl<'a> ReadRecord<'a> for Notification<'a> {
@@ -95,7 +96,8 @@ impl PutRecord for Header<'_> {
     }
 }
 
-impl Declared for Header<'_> {
+impl DeclaredRecord for Header<'_> {
+    ghost use Rattle.std.proofs.Common.{rules};
     ghost use Rattle.din_schema.specs.Declarations.{kinds};
     ghost use Rattle.din_schema.specs.Frame.{header};
 
@@ -104,6 +106,8 @@ impl Declared for Header<'_> {
     ghost attributes = { [] };
 
     ghost particles = { header };
+
+    ghost apart = { Prim.search rules };
 }
 
 impl<'a> Record<'a> for Header<'a> {
@@ -126,8 +130,6 @@ impl<'a> Record<'a> for Header<'a> {
     }
 
     ghost declared = { Prim.search rules };
-
-    ghost apart = { Prim.search rules };
 }
 
 impl<'a> ReadRecord<'a> for Header<'a> {

@@ -11,8 +11,8 @@ use exi_events::EventWriter;
 use exi_schema::Places;
 use message_fields::{Elements, OptionalValue, RequiredValue};
 use message_parts::{
-    Alternatives, Choice, Declared, Descent, PutChoice, PutRecord, ReadRecord, Record, member,
-    put_optional_value, put_record, put_value, whole_record,
+    Alternatives, Choice, DeclaredRecord, Descent, PutChoice, PutRecord, ReadRecord, Record,
+    member, put_optional_value, put_record, put_value, whole_record,
 };
 
 /// PhysicalValue.
@@ -38,7 +38,8 @@ impl PutRecord for PhysicalValue {
     }
 }
 
-impl Declared for PhysicalValue {
+impl DeclaredRecord for PhysicalValue {
+    ghost use Rattle.std.proofs.Common.{rules};
     ghost use Rattle.din_schema.specs.Declarations.{kinds};
     ghost use Rattle.din_schema.specs.Frame.{physical_value};
 
@@ -47,6 +48,8 @@ impl Declared for PhysicalValue {
     ghost attributes = { [] };
 
     ghost particles = { physical_value };
+
+    ghost apart = { Prim.search rules };
 }
 
 impl<'a> Record<'a> for PhysicalValue {
@@ -70,8 +73,6 @@ impl<'a> Record<'a> for PhysicalValue {
     }
 
     ghost declared = { Prim.search rules };
-
-    ghost apart = { Prim.search rules };
 }
 
 impl<'a> ReadRecord<'a> for PhysicalValue {
@@ -115,7 +116,8 @@ impl PutRecord for DcEvStatus {
     }
 }
 
-impl Declared for DcEvStatus {
+impl DeclaredRecord for DcEvStatus {
+    ghost use Rattle.std.proofs.Common.{rules};
     ghost use Rattle.din_schema.specs.Declarations.{kinds};
     ghost use Rattle.din_schema.specs.Frame.{dc_ev_status};
 
@@ -124,6 +126,8 @@ impl Declared for DcEvStatus {
     ghost attributes = { [] };
 
     ghost particles = { dc_ev_status };
+
+    ghost apart = { Prim.search rules };
 }
 
 impl<'a> Record<'a> for DcEvStatus {
@@ -161,8 +165,6 @@ impl<'a> Record<'a> for DcEvStatus {
     }
 
     ghost declared = { Prim.search rules };
-
-    ghost apart = { Prim.search rules };
 }
 
 impl<'a> ReadRecord<'a> for DcEvStatus {
@@ -203,7 +205,8 @@ impl PutRecord for DcEvseStatus {
     }
 }
 
-impl Declared for DcEvseStatus {
+impl DeclaredRecord for DcEvseStatus {
+    ghost use Rattle.std.proofs.Common.{rules};
     ghost use Rattle.din_schema.specs.Declarations.{kinds};
     ghost use Rattle.din_schema.specs.Frame.{dc_evse_status};
 
@@ -212,6 +215,8 @@ impl Declared for DcEvseStatus {
     ghost attributes = { [] };
 
     ghost particles = { dc_evse_status };
+
+    ghost apart = { Prim.search rules };
 }
 
 impl<'a> Record<'a> for DcEvseStatus {
@@ -244,8 +249,6 @@ impl<'a> Record<'a> for DcEvseStatus {
     }
 
     ghost declared = { Prim.search rules };
-
-    ghost apart = { Prim.search rules };
 }
 
 impl<'a> ReadRecord<'a> for DcEvseStatus {

@@ -12,7 +12,7 @@ use message_fields::{
     AtMostOneOf, Elements, OneOf, Optional, OptionalValue, Required, RequiredValue, Several,
 };
 use message_parts::{
-    Alternatives, Choice, Declared, Descent, Group, PutChoice, PutRecord, ReadRecord, Record,
+    Alternatives, Choice, DeclaredRecord, Descent, Group, PutChoice, PutRecord, ReadRecord, Record,
     member, put_choice, put_optional, put_optional_choice, put_optional_value, put_record,
     put_records, put_value, whole_record,
 };
@@ -45,7 +45,8 @@ impl PutRecord for ProfileEntry {
     }
 }
 
-impl Declared for ProfileEntry {
+impl DeclaredRecord for ProfileEntry {
+    ghost use Rattle.std.proofs.Common.{rules};
     ghost use Rattle.din_schema.specs.Declarations.{kinds};
     ghost use Rattle.din_schema.specs.Parameters.{profile_entry};
 
@@ -54,6 +55,8 @@ impl Declared for ProfileEntry {
     ghost attributes = { [] };
 
     ghost particles = { profile_entry };
+
+    ghost apart = { Prim.search rules };
 }
 
 impl<'a> Record<'a> for ProfileEntry {
@@ -75,8 +78,6 @@ impl<'a> Record<'a> for ProfileEntry {
     }
 
     ghost declared = { Prim.search rules };
-
-    ghost apart = { Prim.search rules };
 }
 
 impl<'a> ReadRecord<'a> for ProfileEntry {
@@ -110,7 +111,8 @@ impl PutRecord for ChargingProfile {
     }
 }
 
-impl Declared for ChargingProfile {
+impl DeclaredRecord for ChargingProfile {
+    ghost use Rattle.std.proofs.Common.{rules};
     ghost use Rattle.din_schema.specs.Declarations.{kinds};
     ghost use Rattle.din_schema.specs.Parameters.{charging_profile};
 
@@ -119,6 +121,8 @@ impl Declared for ChargingProfile {
     ghost attributes = { [] };
 
     ghost particles = { charging_profile };
+
+    ghost apart = { Prim.search rules };
 }
 
 impl<'a> Record<'a> for ChargingProfile {
@@ -140,8 +144,6 @@ impl<'a> Record<'a> for ChargingProfile {
     }
 
     ghost declared = { Prim.search rules };
-
-    ghost apart = { Prim.search rules };
 }
 
 impl<'a> ReadRecord<'a> for ChargingProfile {
@@ -176,7 +178,8 @@ impl PutRecord for DcEvPowerDeliveryParameter {
     }
 }
 
-impl Declared for DcEvPowerDeliveryParameter {
+impl DeclaredRecord for DcEvPowerDeliveryParameter {
+    ghost use Rattle.std.proofs.Common.{rules};
     ghost use Rattle.din_schema.specs.Declarations.{kinds};
     ghost use Rattle.din_schema.specs.Parameters.{dc_ev_power_delivery_parameter};
 
@@ -185,6 +188,8 @@ impl Declared for DcEvPowerDeliveryParameter {
     ghost attributes = { [] };
 
     ghost particles = { dc_ev_power_delivery_parameter };
+
+    ghost apart = { Prim.search rules };
 }
 
 impl<'a> Record<'a> for DcEvPowerDeliveryParameter {
@@ -214,8 +219,6 @@ impl<'a> Record<'a> for DcEvPowerDeliveryParameter {
     }
 
     ghost declared = { Prim.search rules };
-
-    ghost apart = { Prim.search rules };
 }
 
 impl<'a> ReadRecord<'a> for DcEvPowerDeliveryParameter {
@@ -299,7 +302,8 @@ impl PutRecord for PowerDeliveryReq {
     }
 }
 
-impl Declared for PowerDeliveryReq {
+impl DeclaredRecord for PowerDeliveryReq {
+    ghost use Rattle.std.proofs.Common.{rules};
     ghost use Rattle.din_schema.specs.Declarations.{kinds};
     ghost use Rattle.din_schema.specs.Parameters.{power_delivery_req};
 
@@ -308,6 +312,8 @@ impl Declared for PowerDeliveryReq {
     ghost attributes = { [] };
 
     ghost particles = { power_delivery_req };
+
+    ghost apart = { Prim.search rules };
 }
 
 impl<'a> Record<'a> for PowerDeliveryReq {
@@ -337,8 +343,6 @@ impl<'a> Record<'a> for PowerDeliveryReq {
     }
 
     ghost declared = { Prim.search rules };
-
-    ghost apart = { Prim.search rules };
 }
 
 impl<'a> ReadRecord<'a> for PowerDeliveryReq {
@@ -367,7 +371,8 @@ impl PutRecord for PowerDeliveryRes {
     }
 }
 
-impl Declared for PowerDeliveryRes {
+impl DeclaredRecord for PowerDeliveryRes {
+    ghost use Rattle.std.proofs.Common.{rules};
     ghost use Rattle.din_schema.specs.Declarations.{kinds};
     ghost use Rattle.din_schema.specs.Parameters.{power_delivery_res};
 
@@ -376,6 +381,8 @@ impl Declared for PowerDeliveryRes {
     ghost attributes = { [] };
 
     ghost particles = { power_delivery_res };
+
+    ghost apart = { Prim.search rules };
 }
 
 impl<'a> Record<'a> for PowerDeliveryRes {
@@ -392,8 +399,6 @@ impl<'a> Record<'a> for PowerDeliveryRes {
     }
 
     ghost declared = { Prim.search rules };
-
-    ghost apart = { Prim.search rules };
 }
 
 impl<'a> ReadRecord<'a> for PowerDeliveryRes {

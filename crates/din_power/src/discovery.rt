@@ -11,8 +11,8 @@ use exi_events::EventWriter;
 use exi_schema::Places;
 use message_fields::{AtMostOneOf, Elements, OneOf, RequiredValue};
 use message_parts::{
-    Declared, Descent, PutRecord, ReadRecord, Record, put_choice, put_optional_choice, put_value,
-    whole_record,
+    DeclaredRecord, Descent, PutRecord, ReadRecord, Record, put_choice, put_optional_choice,
+    put_value, whole_record,
 };
 
 /// ChargeParameterDiscoveryReq.
@@ -39,7 +39,8 @@ impl PutRecord for ChargeParameterDiscoveryReq {
     }
 }
 
-impl Declared for ChargeParameterDiscoveryReq {
+impl DeclaredRecord for ChargeParameterDiscoveryReq {
+    ghost use Rattle.std.proofs.Common.{rules};
     ghost use Rattle.din_schema.specs.Declarations.{kinds};
     ghost use Rattle.din_schema.specs.Parameters.{charge_parameter_discovery_req};
 
@@ -48,6 +49,8 @@ impl Declared for ChargeParameterDiscoveryReq {
     ghost attributes = { [] };
 
     ghost particles = { charge_parameter_discovery_req };
+
+    ghost apart = { Prim.search rules };
 }
 
 impl<'a> Record<'a> for ChargeParameterDiscoveryReq {
@@ -66,8 +69,6 @@ impl<'a> Record<'a> for ChargeParameterDiscoveryReq {
     }
 
     ghost declared = { Prim.search rules };
-
-    ghost apart = { Prim.search rules };
 }
 
 impl<'a> ReadRecord<'a> for ChargeParameterDiscoveryReq {
@@ -102,7 +103,8 @@ impl PutRecord for ChargeParameterDiscoveryRes {
     }
 }
 
-impl Declared for ChargeParameterDiscoveryRes {
+impl DeclaredRecord for ChargeParameterDiscoveryRes {
+    ghost use Rattle.std.proofs.Common.{rules};
     ghost use Rattle.din_schema.specs.Declarations.{kinds};
     ghost use Rattle.din_schema.specs.Parameters.{charge_parameter_discovery_res};
 
@@ -111,6 +113,8 @@ impl Declared for ChargeParameterDiscoveryRes {
     ghost attributes = { [] };
 
     ghost particles = { charge_parameter_discovery_res };
+
+    ghost apart = { Prim.search rules };
 }
 
 impl<'a> Record<'a> for ChargeParameterDiscoveryRes {
@@ -143,8 +147,6 @@ impl<'a> Record<'a> for ChargeParameterDiscoveryRes {
     }
 
     ghost declared = { Prim.search rules };
-
-    ghost apart = { Prim.search rules };
 }
 
 impl<'a> ReadRecord<'a> for ChargeParameterDiscoveryRes {

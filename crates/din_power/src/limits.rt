@@ -9,8 +9,8 @@ use exi_events::EventWriter;
 use exi_schema::Places;
 use message_fields::{Elements, Optional, OptionalValue, Required};
 use message_parts::{
-    Alternatives, Choice, Declared, Descent, PutChoice, PutRecord, ReadRecord, Record, member,
-    put_optional, put_optional_value, put_record, whole_record,
+    Alternatives, Choice, DeclaredRecord, Descent, PutChoice, PutRecord, ReadRecord, Record,
+    member, put_optional, put_optional_value, put_record, whole_record,
 };
 
 /// DC_EVChargeParameter.
@@ -59,7 +59,8 @@ impl PutRecord for DcEvChargeParameter {
     }
 }
 
-impl Declared for DcEvChargeParameter {
+impl DeclaredRecord for DcEvChargeParameter {
+    ghost use Rattle.std.proofs.Common.{rules};
     ghost use Rattle.din_schema.specs.Declarations.{kinds};
     ghost use Rattle.din_schema.specs.Parameters.{dc_ev_charge_parameter};
 
@@ -68,6 +69,8 @@ impl Declared for DcEvChargeParameter {
     ghost attributes = { [] };
 
     ghost particles = { dc_ev_charge_parameter };
+
+    ghost apart = { Prim.search rules };
 }
 
 impl<'a> Record<'a> for DcEvChargeParameter {
@@ -120,8 +123,6 @@ impl<'a> Record<'a> for DcEvChargeParameter {
     }
 
     ghost declared = { Prim.search rules };
-
-    ghost apart = { Prim.search rules };
 }
 
 impl<'a> ReadRecord<'a> for DcEvChargeParameter {
@@ -233,7 +234,8 @@ impl PutRecord for DcEvseChargeParameter {
     }
 }
 
-impl Declared for DcEvseChargeParameter {
+impl DeclaredRecord for DcEvseChargeParameter {
+    ghost use Rattle.std.proofs.Common.{rules};
     ghost use Rattle.din_schema.specs.Declarations.{kinds};
     ghost use Rattle.din_schema.specs.Parameters.{dc_evse_charge_parameter};
 
@@ -242,6 +244,8 @@ impl Declared for DcEvseChargeParameter {
     ghost attributes = { [] };
 
     ghost particles = { dc_evse_charge_parameter };
+
+    ghost apart = { Prim.search rules };
 }
 
 impl<'a> Record<'a> for DcEvseChargeParameter {
@@ -301,8 +305,6 @@ impl<'a> Record<'a> for DcEvseChargeParameter {
     }
 
     ghost declared = { Prim.search rules };
-
-    ghost apart = { Prim.search rules };
 }
 
 impl<'a> ReadRecord<'a> for DcEvseChargeParameter {

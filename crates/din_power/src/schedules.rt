@@ -9,7 +9,7 @@ use exi_events::EventWriter;
 use exi_schema::Places;
 use message_fields::{Elements, LeftOut, OneOf, OptionalValue, Required, RequiredValue, Several};
 use message_parts::{
-    Alternatives, Choice, Declared, Descent, Group, PutChoice, PutRecord, ReadRecord, Record,
+    Alternatives, Choice, DeclaredRecord, Descent, Group, PutChoice, PutRecord, ReadRecord, Record,
     member, put_choice, put_optional_value, put_record, put_records, put_value, whole_record,
 };
 
@@ -33,7 +33,8 @@ impl PutRecord for RelativeTimeInterval {
     }
 }
 
-impl Declared for RelativeTimeInterval {
+impl DeclaredRecord for RelativeTimeInterval {
+    ghost use Rattle.std.proofs.Common.{rules};
     ghost use Rattle.din_schema.specs.Declarations.{kinds};
     ghost use Rattle.din_schema.specs.Parameters.{relative_time_interval};
 
@@ -42,6 +43,8 @@ impl Declared for RelativeTimeInterval {
     ghost attributes = { [] };
 
     ghost particles = { relative_time_interval };
+
+    ghost apart = { Prim.search rules };
 }
 
 impl<'a> Record<'a> for RelativeTimeInterval {
@@ -55,8 +58,6 @@ impl<'a> Record<'a> for RelativeTimeInterval {
     }
 
     ghost declared = { Prim.search rules };
-
-    ghost apart = { Prim.search rules };
 }
 
 impl<'a> ReadRecord<'a> for RelativeTimeInterval {
@@ -130,7 +131,8 @@ impl PutRecord for PMaxScheduleEntry {
     }
 }
 
-impl Declared for PMaxScheduleEntry {
+impl DeclaredRecord for PMaxScheduleEntry {
+    ghost use Rattle.std.proofs.Common.{rules};
     ghost use Rattle.din_schema.specs.Declarations.{kinds};
     ghost use Rattle.din_schema.specs.Parameters.{p_max_schedule_entry};
 
@@ -139,6 +141,8 @@ impl Declared for PMaxScheduleEntry {
     ghost attributes = { [] };
 
     ghost particles = { p_max_schedule_entry };
+
+    ghost apart = { Prim.search rules };
 }
 
 impl<'a> Record<'a> for PMaxScheduleEntry {
@@ -155,8 +159,6 @@ impl<'a> Record<'a> for PMaxScheduleEntry {
     }
 
     ghost declared = { Prim.search rules };
-
-    ghost apart = { Prim.search rules };
 }
 
 impl<'a> ReadRecord<'a> for PMaxScheduleEntry {
@@ -190,7 +192,8 @@ impl PutRecord for PMaxSchedule {
     }
 }
 
-impl Declared for PMaxSchedule {
+impl DeclaredRecord for PMaxSchedule {
+    ghost use Rattle.std.proofs.Common.{rules};
     ghost use Rattle.din_schema.specs.Declarations.{kinds};
     ghost use Rattle.din_schema.specs.Parameters.{p_max_schedule};
 
@@ -199,6 +202,8 @@ impl Declared for PMaxSchedule {
     ghost attributes = { [] };
 
     ghost particles = { p_max_schedule };
+
+    ghost apart = { Prim.search rules };
 }
 
 impl<'a> Record<'a> for PMaxSchedule {
@@ -220,8 +225,6 @@ impl<'a> Record<'a> for PMaxSchedule {
     }
 
     ghost declared = { Prim.search rules };
-
-    ghost apart = { Prim.search rules };
 }
 
 impl<'a> ReadRecord<'a> for PMaxSchedule {
@@ -254,7 +257,8 @@ impl PutRecord for SaScheduleTuple {
     }
 }
 
-impl Declared for SaScheduleTuple {
+impl DeclaredRecord for SaScheduleTuple {
+    ghost use Rattle.std.proofs.Common.{rules};
     ghost use Rattle.din_schema.specs.Declarations.{kinds};
     ghost use Rattle.din_schema.specs.Parameters.{sa_schedule_tuple};
 
@@ -263,6 +267,8 @@ impl Declared for SaScheduleTuple {
     ghost attributes = { [] };
 
     ghost particles = { sa_schedule_tuple };
+
+    ghost apart = { Prim.search rules };
 }
 
 impl<'a> Record<'a> for SaScheduleTuple {
@@ -280,8 +286,6 @@ impl<'a> Record<'a> for SaScheduleTuple {
     }
 
     ghost declared = { Prim.search rules };
-
-    ghost apart = { Prim.search rules };
 }
 
 impl<'a> ReadRecord<'a> for SaScheduleTuple {
@@ -309,7 +313,8 @@ impl PutRecord for SaScheduleList {
     }
 }
 
-impl Declared for SaScheduleList {
+impl DeclaredRecord for SaScheduleList {
+    ghost use Rattle.std.proofs.Common.{rules};
     ghost use Rattle.din_schema.specs.Declarations.{kinds};
     ghost use Rattle.din_schema.specs.Parameters.{sa_schedule_list};
 
@@ -318,6 +323,8 @@ impl Declared for SaScheduleList {
     ghost attributes = { [] };
 
     ghost particles = { sa_schedule_list };
+
+    ghost apart = { Prim.search rules };
 }
 
 impl<'a> Record<'a> for SaScheduleList {
@@ -331,8 +338,6 @@ impl<'a> Record<'a> for SaScheduleList {
     }
 
     ghost declared = { Prim.search rules };
-
-    ghost apart = { Prim.search rules };
 }
 
 impl<'a> ReadRecord<'a> for SaScheduleList {

@@ -10,8 +10,8 @@ use exi_events::EventWriter;
 use exi_schema::Places;
 use message_fields::{Elements, OptionalValue, Required, RequiredValue, Several};
 use message_parts::{
-    Declared, Descent, PutRecord, ReadRecord, Record, put_optional_value, put_record, put_records,
-    put_value, whole_record,
+    DeclaredRecord, Descent, PutRecord, ReadRecord, Record, put_optional_value, put_record,
+    put_records, put_value, whole_record,
 };
 
 /// SelectedService.
@@ -34,7 +34,8 @@ impl PutRecord for SelectedService {
     }
 }
 
-impl Declared for SelectedService {
+impl DeclaredRecord for SelectedService {
+    ghost use Rattle.std.proofs.Common.{rules};
     ghost use Rattle.din_schema.specs.Declarations.{kinds};
     ghost use Rattle.din_schema.specs.Setup.{selected_service};
 
@@ -43,6 +44,8 @@ impl Declared for SelectedService {
     ghost attributes = { [] };
 
     ghost particles = { selected_service };
+
+    ghost apart = { Prim.search rules };
 }
 
 impl<'a> Record<'a> for SelectedService {
@@ -64,8 +67,6 @@ impl<'a> Record<'a> for SelectedService {
     }
 
     ghost declared = { Prim.search rules };
-
-    ghost apart = { Prim.search rules };
 }
 
 impl<'a> ReadRecord<'a> for SelectedService {
@@ -93,7 +94,8 @@ impl PutRecord for SelectedServiceList {
     }
 }
 
-impl Declared for SelectedServiceList {
+impl DeclaredRecord for SelectedServiceList {
+    ghost use Rattle.std.proofs.Common.{rules};
     ghost use Rattle.din_schema.specs.Declarations.{kinds};
     ghost use Rattle.din_schema.specs.Setup.{selected_service_list};
 
@@ -102,6 +104,8 @@ impl Declared for SelectedServiceList {
     ghost attributes = { [] };
 
     ghost particles = { selected_service_list };
+
+    ghost apart = { Prim.search rules };
 }
 
 impl<'a> Record<'a> for SelectedServiceList {
@@ -115,8 +119,6 @@ impl<'a> Record<'a> for SelectedServiceList {
     }
 
     ghost declared = { Prim.search rules };
-
-    ghost apart = { Prim.search rules };
 }
 
 impl<'a> ReadRecord<'a> for SelectedServiceList {
@@ -153,7 +155,8 @@ impl PutRecord for ServicePaymentSelectionReq {
     }
 }
 
-impl Declared for ServicePaymentSelectionReq {
+impl DeclaredRecord for ServicePaymentSelectionReq {
+    ghost use Rattle.std.proofs.Common.{rules};
     ghost use Rattle.din_schema.specs.Declarations.{kinds};
     ghost use Rattle.din_schema.specs.Setup.{service_payment_selection_req};
 
@@ -162,6 +165,8 @@ impl Declared for ServicePaymentSelectionReq {
     ghost attributes = { [] };
 
     ghost particles = { service_payment_selection_req };
+
+    ghost apart = { Prim.search rules };
 }
 
 impl<'a> Record<'a> for ServicePaymentSelectionReq {
@@ -179,8 +184,6 @@ impl<'a> Record<'a> for ServicePaymentSelectionReq {
     }
 
     ghost declared = { Prim.search rules };
-
-    ghost apart = { Prim.search rules };
 }
 
 impl<'a> ReadRecord<'a> for ServicePaymentSelectionReq {
@@ -209,7 +212,8 @@ impl PutRecord for ServicePaymentSelectionRes {
     }
 }
 
-impl Declared for ServicePaymentSelectionRes {
+impl DeclaredRecord for ServicePaymentSelectionRes {
+    ghost use Rattle.std.proofs.Common.{rules};
     ghost use Rattle.din_schema.specs.Declarations.{kinds};
     ghost use Rattle.din_schema.specs.Setup.{service_payment_selection_res};
 
@@ -218,6 +222,8 @@ impl Declared for ServicePaymentSelectionRes {
     ghost attributes = { [] };
 
     ghost particles = { service_payment_selection_res };
+
+    ghost apart = { Prim.search rules };
 }
 
 impl<'a> Record<'a> for ServicePaymentSelectionRes {
@@ -231,8 +237,6 @@ impl<'a> Record<'a> for ServicePaymentSelectionRes {
     }
 
     ghost declared = { Prim.search rules };
-
-    ghost apart = { Prim.search rules };
 }
 
 impl<'a> ReadRecord<'a> for ServicePaymentSelectionRes {

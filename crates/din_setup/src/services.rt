@@ -12,7 +12,7 @@ use message_fields::{
     Elements, Optional, OptionalValue, Required, RequiredValue, Several, SeveralValues,
 };
 use message_parts::{
-    Declared, Descent, PutRecord, ReadRecord, Record, Text, put_optional, put_optional_value,
+    DeclaredRecord, Descent, PutRecord, ReadRecord, Record, Text, put_optional, put_optional_value,
     put_record, put_records, put_value, put_values, whole_record,
 };
 
@@ -42,7 +42,8 @@ impl PutRecord for ServiceTag<'_> {
     }
 }
 
-impl Declared for ServiceTag<'_> {
+impl DeclaredRecord for ServiceTag<'_> {
+    ghost use Rattle.std.proofs.Common.{rules};
     ghost use Rattle.din_schema.specs.Declarations.{kinds};
     ghost use Rattle.din_schema.specs.Setup.{service_tag};
 
@@ -51,6 +52,8 @@ impl Declared for ServiceTag<'_> {
     ghost attributes = { [] };
 
     ghost particles = { service_tag };
+
+    ghost apart = { Prim.search rules };
 }
 
 impl<'a> Record<'a> for ServiceTag<'a> {
@@ -83,8 +86,6 @@ impl<'a> Record<'a> for ServiceTag<'a> {
     }
 
     ghost declared = { Prim.search rules };
-
-    ghost apart = { Prim.search rules };
 }
 
 impl<'a> ReadRecord<'a> for ServiceTag<'a> {
@@ -113,7 +114,8 @@ impl PutRecord for Service<'_> {
     }
 }
 
-impl Declared for Service<'_> {
+impl DeclaredRecord for Service<'_> {
+    ghost use Rattle.std.proofs.Common.{rules};
     ghost use Rattle.din_schema.specs.Declarations.{kinds};
     ghost use Rattle.din_schema.specs.Setup.{service};
 
@@ -122,6 +124,8 @@ impl Declared for Service<'_> {
     ghost attributes = { [] };
 
     ghost particles = { service };
+
+    ghost apart = { Prim.search rules };
 }
 
 impl<'a> Record<'a> for Service<'a> {
@@ -138,8 +142,6 @@ impl<'a> Record<'a> for Service<'a> {
     }
 
     ghost declared = { Prim.search rules };
-
-    ghost apart = { Prim.search rules };
 }
 
 impl<'a> ReadRecord<'a> for Service<'a> {
@@ -167,7 +169,8 @@ impl PutRecord for ServiceList<'_> {
     }
 }
 
-impl Declared for ServiceList<'_> {
+impl DeclaredRecord for ServiceList<'_> {
+    ghost use Rattle.std.proofs.Common.{rules};
     ghost use Rattle.din_schema.specs.Declarations.{kinds};
     ghost use Rattle.din_schema.specs.Setup.{service_list};
 
@@ -176,6 +179,8 @@ impl Declared for ServiceList<'_> {
     ghost attributes = { [] };
 
     ghost particles = { service_list };
+
+    ghost apart = { Prim.search rules };
 }
 
 impl<'a> Record<'a> for ServiceList<'a> {
@@ -189,8 +194,6 @@ impl<'a> Record<'a> for ServiceList<'a> {
     }
 
     ghost declared = { Prim.search rules };
-
-    ghost apart = { Prim.search rules };
 }
 
 impl<'a> ReadRecord<'a> for ServiceList<'a> {
@@ -225,7 +228,8 @@ impl PutRecord for ChargeService<'_> {
     }
 }
 
-impl Declared for ChargeService<'_> {
+impl DeclaredRecord for ChargeService<'_> {
+    ghost use Rattle.std.proofs.Common.{rules};
     ghost use Rattle.din_schema.specs.Declarations.{kinds};
     ghost use Rattle.din_schema.specs.Setup.{charge_service};
 
@@ -234,6 +238,8 @@ impl Declared for ChargeService<'_> {
     ghost attributes = { [] };
 
     ghost particles = { charge_service };
+
+    ghost apart = { Prim.search rules };
 }
 
 impl<'a> Record<'a> for ChargeService<'a> {
@@ -263,8 +269,6 @@ impl<'a> Record<'a> for ChargeService<'a> {
     }
 
     ghost declared = { Prim.search rules };
-
-    ghost apart = { Prim.search rules };
 }
 
 impl<'a> ReadRecord<'a> for ChargeService<'a> {
@@ -292,7 +296,8 @@ impl PutRecord for PaymentOptions {
     }
 }
 
-impl Declared for PaymentOptions {
+impl DeclaredRecord for PaymentOptions {
+    ghost use Rattle.std.proofs.Common.{rules};
     ghost use Rattle.din_schema.specs.Declarations.{kinds};
     ghost use Rattle.din_schema.specs.Setup.{payment_options};
 
@@ -301,6 +306,8 @@ impl Declared for PaymentOptions {
     ghost attributes = { [] };
 
     ghost particles = { payment_options };
+
+    ghost apart = { Prim.search rules };
 }
 
 impl<'a> Record<'a> for PaymentOptions {
@@ -314,8 +321,6 @@ impl<'a> Record<'a> for PaymentOptions {
     }
 
     ghost declared = { Prim.search rules };
-
-    ghost apart = { Prim.search rules };
 }
 
 impl<'a> ReadRecord<'a> for PaymentOptions {
@@ -345,7 +350,8 @@ impl PutRecord for ServiceDiscoveryReq<'_> {
     }
 }
 
-impl Declared for ServiceDiscoveryReq<'_> {
+impl DeclaredRecord for ServiceDiscoveryReq<'_> {
+    ghost use Rattle.std.proofs.Common.{rules};
     ghost use Rattle.din_schema.specs.Declarations.{kinds};
     ghost use Rattle.din_schema.specs.Setup.{service_discovery_req};
 
@@ -354,6 +360,8 @@ impl Declared for ServiceDiscoveryReq<'_> {
     ghost attributes = { [] };
 
     ghost particles = { service_discovery_req };
+
+    ghost apart = { Prim.search rules };
 }
 
 impl<'a> Record<'a> for ServiceDiscoveryReq<'a> {
@@ -375,8 +383,6 @@ impl<'a> Record<'a> for ServiceDiscoveryReq<'a> {
     }
 
     ghost declared = { Prim.search rules };
-
-    ghost apart = { Prim.search rules };
 }
 
 impl<'a> ReadRecord<'a> for ServiceDiscoveryReq<'a> {
@@ -411,7 +417,8 @@ impl PutRecord for ServiceDiscoveryRes<'_> {
     }
 }
 
-impl Declared for ServiceDiscoveryRes<'_> {
+impl DeclaredRecord for ServiceDiscoveryRes<'_> {
+    ghost use Rattle.std.proofs.Common.{rules};
     ghost use Rattle.din_schema.specs.Declarations.{kinds};
     ghost use Rattle.din_schema.specs.Setup.{service_discovery_res};
 
@@ -420,6 +427,8 @@ impl Declared for ServiceDiscoveryRes<'_> {
     ghost attributes = { [] };
 
     ghost particles = { service_discovery_res };
+
+    ghost apart = { Prim.search rules };
 }
 
 impl<'a> Record<'a> for ServiceDiscoveryRes<'a> {
@@ -452,8 +461,6 @@ impl<'a> Record<'a> for ServiceDiscoveryRes<'a> {
     }
 
     ghost declared = { Prim.search rules };
-
-    ghost apart = { Prim.search rules };
 }
 
 impl<'a> ReadRecord<'a> for ServiceDiscoveryRes<'a> {

@@ -9,7 +9,7 @@ use exi_events::EventWriter;
 use exi_schema::Places;
 use message_fields::{Elements, OptionalValue, RequiredValue, WithOptionalAttribute};
 use message_parts::{
-    Binary, Declared, Descent, PutRecord, ReadRecord, Record, Text, put_optional_attribute,
+    Binary, DeclaredRecord, Descent, PutRecord, ReadRecord, Record, Text, put_optional_attribute,
     put_optional_value, put_value, whole_record,
 };
 
@@ -32,7 +32,8 @@ impl PutRecord for SessionSetupReq<'_> {
     }
 }
 
-impl Declared for SessionSetupReq<'_> {
+impl DeclaredRecord for SessionSetupReq<'_> {
+    ghost use Rattle.std.proofs.Common.{rules};
     ghost use Rattle.din_schema.specs.Declarations.{kinds};
     ghost use Rattle.din_schema.specs.Setup.{session_setup_req};
 
@@ -41,6 +42,8 @@ impl Declared for SessionSetupReq<'_> {
     ghost attributes = { [] };
 
     ghost particles = { session_setup_req };
+
+    ghost apart = { Prim.search rules };
 }
 
 impl<'a> Record<'a> for SessionSetupReq<'a> {
@@ -54,8 +57,6 @@ impl<'a> Record<'a> for SessionSetupReq<'a> {
     }
 
     ghost declared = { Prim.search rules };
-
-    ghost apart = { Prim.search rules };
 }
 
 impl<'a> ReadRecord<'a> for SessionSetupReq<'a> {
@@ -87,7 +88,8 @@ impl PutRecord for SessionSetupRes<'_> {
     }
 }
 
-impl Declared for SessionSetupRes<'_> {
+impl DeclaredRecord for SessionSetupRes<'_> {
+    ghost use Rattle.std.proofs.Common.{rules};
     ghost use Rattle.din_schema.specs.Declarations.{kinds};
     ghost use Rattle.din_schema.specs.Setup.{session_setup_res};
 
@@ -96,6 +98,8 @@ impl Declared for SessionSetupRes<'_> {
     ghost attributes = { [] };
 
     ghost particles = { session_setup_res };
+
+    ghost apart = { Prim.search rules };
 }
 
 impl<'a> Record<'a> for SessionSetupRes<'a> {
@@ -121,8 +125,6 @@ impl<'a> Record<'a> for SessionSetupRes<'a> {
     }
 
     ghost declared = { Prim.search rules };
-
-    ghost apart = { Prim.search rules };
 }
 
 impl<'a> ReadRecord<'a> for SessionSetupRes<'a> {
@@ -153,7 +155,8 @@ impl PutRecord for ContractAuthenticationReq<'_> {
     }
 }
 
-impl Declared for ContractAuthenticationReq<'_> {
+impl DeclaredRecord for ContractAuthenticationReq<'_> {
+    ghost use Rattle.std.proofs.Common.{rules};
     ghost use Rattle.din_schema.specs.Declarations.{kinds};
     ghost use Rattle.din_schema.specs.Setup.{contract_authentication_req};
     ghost use Rattle.din_setup.specs.Session.{contract_authentication_req_attributes};
@@ -163,6 +166,8 @@ impl Declared for ContractAuthenticationReq<'_> {
     ghost attributes = { contract_authentication_req_attributes };
 
     ghost particles = { contract_authentication_req };
+
+    ghost apart = { Prim.search rules };
 }
 
 impl<'a> Record<'a> for ContractAuthenticationReq<'a> {
@@ -176,8 +181,6 @@ impl<'a> Record<'a> for ContractAuthenticationReq<'a> {
     }
 
     ghost declared = { Prim.search rules };
-
-    ghost apart = { Prim.search rules };
 }
 
 impl<'a> ReadRecord<'a> for ContractAuthenticationReq<'a> {
@@ -208,7 +211,8 @@ impl PutRecord for ContractAuthenticationRes {
     }
 }
 
-impl Declared for ContractAuthenticationRes {
+impl DeclaredRecord for ContractAuthenticationRes {
+    ghost use Rattle.std.proofs.Common.{rules};
     ghost use Rattle.din_schema.specs.Declarations.{kinds};
     ghost use Rattle.din_schema.specs.Setup.{contract_authentication_res};
 
@@ -217,6 +221,8 @@ impl Declared for ContractAuthenticationRes {
     ghost attributes = { [] };
 
     ghost particles = { contract_authentication_res };
+
+    ghost apart = { Prim.search rules };
 }
 
 impl<'a> Record<'a> for ContractAuthenticationRes {
@@ -233,8 +239,6 @@ impl<'a> Record<'a> for ContractAuthenticationRes {
     }
 
     ghost declared = { Prim.search rules };
-
-    ghost apart = { Prim.search rules };
 }
 
 impl<'a> ReadRecord<'a> for ContractAuthenticationRes {
@@ -257,7 +261,8 @@ impl PutRecord for SessionStopReq {
     fn write<P: Places>(&self, _writer: &mut EventWriter<'_, '_, P>) {}
 }
 
-impl Declared for SessionStopReq {
+impl DeclaredRecord for SessionStopReq {
+    ghost use Rattle.std.proofs.Common.{rules};
     ghost use Rattle.din_schema.specs.Declarations.{kinds};
 
     ghost kinds = { kinds };
@@ -265,6 +270,8 @@ impl Declared for SessionStopReq {
     ghost attributes = { [] };
 
     ghost particles = { [] };
+
+    ghost apart = { Prim.search rules };
 }
 
 impl<'a> Record<'a> for SessionStopReq {
@@ -277,8 +284,6 @@ impl<'a> Record<'a> for SessionStopReq {
     }
 
     ghost declared = { Prim.search rules };
-
-    ghost apart = { Prim.search rules };
 }
 
 impl<'a> ReadRecord<'a> for SessionStopReq {
@@ -305,7 +310,8 @@ impl PutRecord for SessionStopRes {
     }
 }
 
-impl Declared for SessionStopRes {
+impl DeclaredRecord for SessionStopRes {
+    ghost use Rattle.std.proofs.Common.{rules};
     ghost use Rattle.din_schema.specs.Declarations.{kinds};
     ghost use Rattle.din_schema.specs.Setup.{session_stop_res};
 
@@ -314,6 +320,8 @@ impl Declared for SessionStopRes {
     ghost attributes = { [] };
 
     ghost particles = { session_stop_res };
+
+    ghost apart = { Prim.search rules };
 }
 
 impl<'a> Record<'a> for SessionStopRes {
@@ -327,8 +335,6 @@ impl<'a> Record<'a> for SessionStopRes {
     }
 
     ghost declared = { Prim.search rules };
-
-    ghost apart = { Prim.search rules };
 }
 
 impl<'a> ReadRecord<'a> for SessionStopRes {

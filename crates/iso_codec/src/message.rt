@@ -26,9 +26,9 @@ use iso_setup::{
     SessionSetupRes, SessionStopReq, SessionStopRes,
 };
 use message_parts::{
-    Alternatives, Declared, Descent, LargeChoice, LargeGroup, LargeRecord, PutChoice, PutRecord,
-    first_child, member, optional_choice_here, put_optional_choice, put_record, required,
-    required_here,
+    Alternatives, DeclaredRecord, Descent, LargeChoice, LargeGroup, LargeRecord, PutChoice,
+    PutRecord, first_child, member, optional_choice_here, put_optional_choice, put_record,
+    required, required_here,
 };
 
 /// One element of BodyElement that holds no long list.
@@ -588,7 +588,8 @@ impl PutRecord for Body<'_> {
     }
 }
 
-impl Declared for Body<'_> {
+impl DeclaredRecord for Body<'_> {
+    ghost use Rattle.std.proofs.Common.{rules};
     ghost use Rattle.iso_schema.specs.Declarations.{kinds};
     ghost use Rattle.iso_schema.specs.Frame.{body};
 
@@ -597,6 +598,8 @@ impl Declared for Body<'_> {
     ghost attributes = { [] };
 
     ghost particles = { body };
+
+    ghost apart = { Prim.search rules };
 }
 
 impl<'a> LargeRecord<'a> for Body<'a> {
@@ -627,7 +630,8 @@ impl PutRecord for IsoMessage<'_> {
     }
 }
 
-impl Declared for IsoMessage<'_> {
+impl DeclaredRecord for IsoMessage<'_> {
+    ghost use Rattle.std.proofs.Common.{rules};
     ghost use Rattle.iso_schema.specs.Declarations.{kinds};
     ghost use Rattle.iso_schema.specs.Frame.{v2g_message};
 
@@ -636,6 +640,8 @@ impl Declared for IsoMessage<'_> {
     ghost attributes = { [] };
 
     ghost particles = { v2g_message };
+
+    ghost apart = { Prim.search rules };
 }
 
 impl<'a> LargeRecord<'a> for IsoMessage<'a> {

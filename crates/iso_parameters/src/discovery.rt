@@ -11,7 +11,7 @@ use iso_parts::{EnergyTransferMode, EvseProcessing, ResponseCode};
 use iso_schema::names;
 use message_fields::{AtMostOneOf, Elements, OneOf, OptionalValue, RequiredValue};
 use message_parts::{
-    Declared, Descent, PutRecord, ReadRecord, Record, put_choice, put_optional_choice,
+    DeclaredRecord, Descent, PutRecord, ReadRecord, Record, put_choice, put_optional_choice,
     put_optional_value, put_value, whole_record,
 };
 
@@ -45,7 +45,8 @@ impl PutRecord for ChargeParameterDiscoveryReq {
     }
 }
 
-impl Declared for ChargeParameterDiscoveryReq {
+impl DeclaredRecord for ChargeParameterDiscoveryReq {
+    ghost use Rattle.std.proofs.Common.{rules};
     ghost use Rattle.iso_schema.specs.Declarations.{kinds};
     ghost use Rattle.iso_schema.specs.Parameters.{charge_parameter_discovery_req};
 
@@ -54,6 +55,8 @@ impl Declared for ChargeParameterDiscoveryReq {
     ghost attributes = { [] };
 
     ghost particles = { charge_parameter_discovery_req };
+
+    ghost apart = { Prim.search rules };
 }
 
 impl<'a> Record<'a> for ChargeParameterDiscoveryReq {
@@ -83,8 +86,6 @@ impl<'a> Record<'a> for ChargeParameterDiscoveryReq {
     }
 
     ghost declared = { Prim.search rules };
-
-    ghost apart = { Prim.search rules };
 }
 
 impl<'a> ReadRecord<'a> for ChargeParameterDiscoveryReq {
@@ -119,7 +120,8 @@ impl PutRecord for ChargeParameterDiscoveryRes {
     }
 }
 
-impl Declared for ChargeParameterDiscoveryRes {
+impl DeclaredRecord for ChargeParameterDiscoveryRes {
+    ghost use Rattle.std.proofs.Common.{rules};
     ghost use Rattle.iso_schema.specs.Declarations.{kinds};
     ghost use Rattle.iso_schema.specs.Parameters.{charge_parameter_discovery_res};
 
@@ -128,6 +130,8 @@ impl Declared for ChargeParameterDiscoveryRes {
     ghost attributes = { [] };
 
     ghost particles = { charge_parameter_discovery_res };
+
+    ghost apart = { Prim.search rules };
 }
 
 impl<'a> Record<'a> for ChargeParameterDiscoveryRes {
@@ -160,8 +164,6 @@ impl<'a> Record<'a> for ChargeParameterDiscoveryRes {
     }
 
     ghost declared = { Prim.search rules };
-
-    ghost apart = { Prim.search rules };
 }
 
 impl<'a> ReadRecord<'a> for ChargeParameterDiscoveryRes {

@@ -9,8 +9,8 @@ use iso_parts::{AcEvseStatus, DcEvStatus, DcEvseStatus, PhysicalValue};
 use iso_schema::names;
 use message_fields::{Elements, Optional, OptionalValue, Required};
 use message_parts::{
-    Alternatives, Choice, Declared, Descent, PutChoice, PutRecord, ReadRecord, Record, member,
-    put_optional, put_optional_value, put_record, whole_record,
+    Alternatives, Choice, DeclaredRecord, Descent, PutChoice, PutRecord, ReadRecord, Record,
+    member, put_optional, put_optional_value, put_record, whole_record,
 };
 
 /// AC_EVChargeParameter.
@@ -39,7 +39,8 @@ impl PutRecord for AcEvChargeParameter {
     }
 }
 
-impl Declared for AcEvChargeParameter {
+impl DeclaredRecord for AcEvChargeParameter {
+    ghost use Rattle.std.proofs.Common.{rules};
     ghost use Rattle.iso_schema.specs.Declarations.{kinds};
     ghost use Rattle.iso_schema.specs.Parameters.{ac_ev_charge_parameter};
 
@@ -48,6 +49,8 @@ impl Declared for AcEvChargeParameter {
     ghost attributes = { [] };
 
     ghost particles = { ac_ev_charge_parameter };
+
+    ghost apart = { Prim.search rules };
 }
 
 impl<'a> Record<'a> for AcEvChargeParameter {
@@ -81,8 +84,6 @@ impl<'a> Record<'a> for AcEvChargeParameter {
     }
 
     ghost declared = { Prim.search rules };
-
-    ghost apart = { Prim.search rules };
 }
 
 impl<'a> ReadRecord<'a> for AcEvChargeParameter {
@@ -139,7 +140,8 @@ impl PutRecord for DcEvChargeParameter {
     }
 }
 
-impl Declared for DcEvChargeParameter {
+impl DeclaredRecord for DcEvChargeParameter {
+    ghost use Rattle.std.proofs.Common.{rules};
     ghost use Rattle.iso_schema.specs.Declarations.{kinds};
     ghost use Rattle.iso_schema.specs.Parameters.{dc_ev_charge_parameter};
 
@@ -148,6 +150,8 @@ impl Declared for DcEvChargeParameter {
     ghost attributes = { [] };
 
     ghost particles = { dc_ev_charge_parameter };
+
+    ghost apart = { Prim.search rules };
 }
 
 impl<'a> Record<'a> for DcEvChargeParameter {
@@ -203,8 +207,6 @@ impl<'a> Record<'a> for DcEvChargeParameter {
     }
 
     ghost declared = { Prim.search rules };
-
-    ghost apart = { Prim.search rules };
 }
 
 impl<'a> ReadRecord<'a> for DcEvChargeParameter {
@@ -282,7 +284,8 @@ impl PutRecord for AcEvseChargeParameter {
     }
 }
 
-impl Declared for AcEvseChargeParameter {
+impl DeclaredRecord for AcEvseChargeParameter {
+    ghost use Rattle.std.proofs.Common.{rules};
     ghost use Rattle.iso_schema.specs.Declarations.{kinds};
     ghost use Rattle.iso_schema.specs.Parameters.{ac_evse_charge_parameter};
 
@@ -291,6 +294,8 @@ impl Declared for AcEvseChargeParameter {
     ghost attributes = { [] };
 
     ghost particles = { ac_evse_charge_parameter };
+
+    ghost apart = { Prim.search rules };
 }
 
 impl<'a> Record<'a> for AcEvseChargeParameter {
@@ -316,8 +321,6 @@ impl<'a> Record<'a> for AcEvseChargeParameter {
     }
 
     ghost declared = { Prim.search rules };
-
-    ghost apart = { Prim.search rules };
 }
 
 impl<'a> ReadRecord<'a> for AcEvseChargeParameter {
@@ -392,7 +395,8 @@ impl PutRecord for DcEvseChargeParameter {
     }
 }
 
-impl Declared for DcEvseChargeParameter {
+impl DeclaredRecord for DcEvseChargeParameter {
+    ghost use Rattle.std.proofs.Common.{rules};
     ghost use Rattle.iso_schema.specs.Declarations.{kinds};
     ghost use Rattle.iso_schema.specs.Parameters.{dc_evse_charge_parameter};
 
@@ -401,6 +405,8 @@ impl Declared for DcEvseChargeParameter {
     ghost attributes = { [] };
 
     ghost particles = { dc_evse_charge_parameter };
+
+    ghost apart = { Prim.search rules };
 }
 
 impl<'a> Record<'a> for DcEvseChargeParameter {
@@ -460,8 +466,6 @@ impl<'a> Record<'a> for DcEvseChargeParameter {
     }
 
     ghost declared = { Prim.search rules };
-
-    ghost apart = { Prim.search rules };
 }
 
 impl<'a> ReadRecord<'a> for DcEvseChargeParameter {

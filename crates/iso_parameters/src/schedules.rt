@@ -10,7 +10,7 @@ use iso_parts::PhysicalValue;
 use iso_schema::names;
 use message_fields::{Elements, LeftOut, OneOf, OptionalValue, Required, RequiredValue, Several};
 use message_parts::{
-    Alternatives, Choice, Declared, Descent, Group, PutChoice, PutRecord, ReadRecord, Record,
+    Alternatives, Choice, DeclaredRecord, Descent, Group, PutChoice, PutRecord, ReadRecord, Record,
     member, put_choice, put_optional_value, put_record, put_records, put_value, whole_record,
 };
 
@@ -36,7 +36,8 @@ impl PutRecord for RelativeTimeInterval {
     }
 }
 
-impl Declared for RelativeTimeInterval {
+impl DeclaredRecord for RelativeTimeInterval {
+    ghost use Rattle.std.proofs.Common.{rules};
     ghost use Rattle.iso_schema.specs.Declarations.{kinds};
     ghost use Rattle.iso_schema.specs.Parameters.{relative_time_interval};
 
@@ -45,6 +46,8 @@ impl Declared for RelativeTimeInterval {
     ghost attributes = { [] };
 
     ghost particles = { relative_time_interval };
+
+    ghost apart = { Prim.search rules };
 }
 
 impl<'a> Record<'a> for RelativeTimeInterval {
@@ -58,8 +61,6 @@ impl<'a> Record<'a> for RelativeTimeInterval {
     }
 
     ghost declared = { Prim.search rules };
-
-    ghost apart = { Prim.search rules };
 }
 
 impl<'a> ReadRecord<'a> for RelativeTimeInterval {
@@ -133,7 +134,8 @@ impl PutRecord for PMaxScheduleEntry {
     }
 }
 
-impl Declared for PMaxScheduleEntry {
+impl DeclaredRecord for PMaxScheduleEntry {
+    ghost use Rattle.std.proofs.Common.{rules};
     ghost use Rattle.iso_schema.specs.Declarations.{kinds};
     ghost use Rattle.iso_schema.specs.Parameters.{p_max_schedule_entry};
 
@@ -142,6 +144,8 @@ impl Declared for PMaxScheduleEntry {
     ghost attributes = { [] };
 
     ghost particles = { p_max_schedule_entry };
+
+    ghost apart = { Prim.search rules };
 }
 
 impl<'a> Record<'a> for PMaxScheduleEntry {
@@ -158,8 +162,6 @@ impl<'a> Record<'a> for PMaxScheduleEntry {
     }
 
     ghost declared = { Prim.search rules };
-
-    ghost apart = { Prim.search rules };
 }
 
 impl<'a> ReadRecord<'a> for PMaxScheduleEntry {
@@ -191,7 +193,8 @@ impl PutRecord for PMaxSchedule {
     }
 }
 
-impl Declared for PMaxSchedule {
+impl DeclaredRecord for PMaxSchedule {
+    ghost use Rattle.std.proofs.Common.{rules};
     ghost use Rattle.iso_schema.specs.Declarations.{kinds};
     ghost use Rattle.iso_schema.specs.Parameters.{p_max_schedule};
 
@@ -200,6 +203,8 @@ impl Declared for PMaxSchedule {
     ghost attributes = { [] };
 
     ghost particles = { p_max_schedule };
+
+    ghost apart = { Prim.search rules };
 }
 
 impl<'a> Record<'a> for PMaxSchedule {
@@ -215,8 +220,6 @@ impl<'a> Record<'a> for PMaxSchedule {
     }
 
     ghost declared = { Prim.search rules };
-
-    ghost apart = { Prim.search rules };
 }
 
 impl<'a> ReadRecord<'a> for PMaxSchedule {
@@ -250,7 +253,8 @@ impl PutRecord for SaScheduleTuple {
     }
 }
 
-impl Declared for SaScheduleTuple {
+impl DeclaredRecord for SaScheduleTuple {
+    ghost use Rattle.std.proofs.Common.{rules};
     ghost use Rattle.iso_schema.specs.Declarations.{kinds};
     ghost use Rattle.iso_schema.specs.Parameters.{sa_schedule_tuple};
 
@@ -259,6 +263,8 @@ impl Declared for SaScheduleTuple {
     ghost attributes = { [] };
 
     ghost particles = { sa_schedule_tuple };
+
+    ghost apart = { Prim.search rules };
 }
 
 impl<'a> Record<'a> for SaScheduleTuple {
@@ -276,8 +282,6 @@ impl<'a> Record<'a> for SaScheduleTuple {
     }
 
     ghost declared = { Prim.search rules };
-
-    ghost apart = { Prim.search rules };
 }
 
 impl<'a> ReadRecord<'a> for SaScheduleTuple {
@@ -305,7 +309,8 @@ impl PutRecord for SaScheduleList {
     }
 }
 
-impl Declared for SaScheduleList {
+impl DeclaredRecord for SaScheduleList {
+    ghost use Rattle.std.proofs.Common.{rules};
     ghost use Rattle.iso_schema.specs.Declarations.{kinds};
     ghost use Rattle.iso_schema.specs.Parameters.{sa_schedule_list};
 
@@ -314,6 +319,8 @@ impl Declared for SaScheduleList {
     ghost attributes = { [] };
 
     ghost particles = { sa_schedule_list };
+
+    ghost apart = { Prim.search rules };
 }
 
 impl<'a> Record<'a> for SaScheduleList {
@@ -327,8 +334,6 @@ impl<'a> Record<'a> for SaScheduleList {
     }
 
     ghost declared = { Prim.search rules };
-
-    ghost apart = { Prim.search rules };
 }
 
 impl<'a> ReadRecord<'a> for SaScheduleList {

@@ -11,8 +11,8 @@ use exi_schema::Places;
 use iso_schema::names;
 use message_fields::{Elements, OptionalValue, RequiredValue};
 use message_parts::{
-    Alternatives, Binary, Choice, Declared, Descent, PutChoice, PutRecord, ReadRecord, Record,
-    Text, Three, member, put_optional_value, put_record, put_value, whole_record,
+    Alternatives, Binary, Choice, DeclaredRecord, Descent, PutChoice, PutRecord, ReadRecord,
+    Record, Text, Three, member, put_optional_value, put_record, put_value, whole_record,
 };
 
 /// PhysicalValue.
@@ -38,7 +38,8 @@ impl PutRecord for PhysicalValue {
     }
 }
 
-impl Declared for PhysicalValue {
+impl DeclaredRecord for PhysicalValue {
+    ghost use Rattle.std.proofs.Common.{rules};
     ghost use Rattle.iso_schema.specs.Declarations.{kinds};
     ghost use Rattle.iso_schema.specs.Frame.{physical_value};
 
@@ -47,6 +48,8 @@ impl Declared for PhysicalValue {
     ghost attributes = { [] };
 
     ghost particles = { physical_value };
+
+    ghost apart = { Prim.search rules };
 }
 
 impl<'a> Record<'a> for PhysicalValue {
@@ -63,8 +66,6 @@ impl<'a> Record<'a> for PhysicalValue {
     }
 
     ghost declared = { Prim.search rules };
-
-    ghost apart = { Prim.search rules };
 }
 
 impl<'a> ReadRecord<'a> for PhysicalValue {
@@ -96,7 +97,8 @@ impl PutRecord for DcEvStatus {
     }
 }
 
-impl Declared for DcEvStatus {
+impl DeclaredRecord for DcEvStatus {
+    ghost use Rattle.std.proofs.Common.{rules};
     ghost use Rattle.iso_schema.specs.Declarations.{kinds};
     ghost use Rattle.iso_schema.specs.Frame.{dc_ev_status};
 
@@ -105,6 +107,8 @@ impl Declared for DcEvStatus {
     ghost attributes = { [] };
 
     ghost particles = { dc_ev_status };
+
+    ghost apart = { Prim.search rules };
 }
 
 impl<'a> Record<'a> for DcEvStatus {
@@ -121,8 +125,6 @@ impl<'a> Record<'a> for DcEvStatus {
     }
 
     ghost declared = { Prim.search rules };
-
-    ghost apart = { Prim.search rules };
 }
 
 impl<'a> ReadRecord<'a> for DcEvStatus {
@@ -157,7 +159,8 @@ impl PutRecord for AcEvseStatus {
     }
 }
 
-impl Declared for AcEvseStatus {
+impl DeclaredRecord for AcEvseStatus {
+    ghost use Rattle.std.proofs.Common.{rules};
     ghost use Rattle.iso_schema.specs.Declarations.{kinds};
     ghost use Rattle.iso_schema.specs.Frame.{ac_evse_status};
 
@@ -166,6 +169,8 @@ impl Declared for AcEvseStatus {
     ghost attributes = { [] };
 
     ghost particles = { ac_evse_status };
+
+    ghost apart = { Prim.search rules };
 }
 
 impl<'a> Record<'a> for AcEvseStatus {
@@ -182,8 +187,6 @@ impl<'a> Record<'a> for AcEvseStatus {
     }
 
     ghost declared = { Prim.search rules };
-
-    ghost apart = { Prim.search rules };
 }
 
 impl<'a> ReadRecord<'a> for AcEvseStatus {
@@ -224,7 +227,8 @@ impl PutRecord for DcEvseStatus {
     }
 }
 
-impl Declared for DcEvseStatus {
+impl DeclaredRecord for DcEvseStatus {
+    ghost use Rattle.std.proofs.Common.{rules};
     ghost use Rattle.iso_schema.specs.Declarations.{kinds};
     ghost use Rattle.iso_schema.specs.Frame.{dc_evse_status};
 
@@ -233,6 +237,8 @@ impl Declared for DcEvseStatus {
     ghost attributes = { [] };
 
     ghost particles = { dc_evse_status };
+
+    ghost apart = { Prim.search rules };
 }
 
 impl<'a> Record<'a> for DcEvseStatus {
@@ -265,8 +271,6 @@ impl<'a> Record<'a> for DcEvseStatus {
     }
 
     ghost declared = { Prim.search rules };
-
-    ghost apart = { Prim.search rules };
 }
 
 impl<'a> ReadRecord<'a> for DcEvseStatus {
@@ -344,7 +348,8 @@ impl PutRecord for MeterInfo<'_> {
     }
 }
 
-impl Declared for MeterInfo<'_> {
+impl DeclaredRecord for MeterInfo<'_> {
+    ghost use Rattle.std.proofs.Common.{rules};
     ghost use Rattle.iso_schema.specs.Declarations.{kinds};
     ghost use Rattle.iso_schema.specs.Frame.{meter_info};
 
@@ -353,6 +358,8 @@ impl Declared for MeterInfo<'_> {
     ghost attributes = { [] };
 
     ghost particles = { meter_info };
+
+    ghost apart = { Prim.search rules };
 }
 
 impl<'a> Record<'a> for MeterInfo<'a> {
@@ -393,8 +400,6 @@ impl<'a> Record<'a> for MeterInfo<'a> {
     }
 
     ghost declared = { Prim.search rules };
-
-    ghost apart = { Prim.search rules };
 }
 
 impl<'a> ReadRecord<'a> for MeterInfo<'a> {

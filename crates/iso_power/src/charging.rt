@@ -9,7 +9,7 @@ use iso_parts::{DcEvStatus, DcEvseStatus, EvseProcessing, MeterInfo, PhysicalVal
 use iso_schema::names;
 use message_fields::{Elements, Optional, OptionalValue, Required, RequiredValue};
 use message_parts::{
-    Declared, Descent, PutRecord, ReadRecord, Record, Text, put_optional, put_optional_value,
+    DeclaredRecord, Descent, PutRecord, ReadRecord, Record, Text, put_optional, put_optional_value,
     put_record, put_value, whole_record,
 };
 
@@ -31,7 +31,8 @@ impl PutRecord for CableCheckReq {
     }
 }
 
-impl Declared for CableCheckReq {
+impl DeclaredRecord for CableCheckReq {
+    ghost use Rattle.std.proofs.Common.{rules};
     ghost use Rattle.iso_schema.specs.Declarations.{kinds};
     ghost use Rattle.iso_schema.specs.Charging.{cable_check_req};
 
@@ -40,6 +41,8 @@ impl Declared for CableCheckReq {
     ghost attributes = { [] };
 
     ghost particles = { cable_check_req };
+
+    ghost apart = { Prim.search rules };
 }
 
 impl<'a> Record<'a> for CableCheckReq {
@@ -53,8 +56,6 @@ impl<'a> Record<'a> for CableCheckReq {
     }
 
     ghost declared = { Prim.search rules };
-
-    ghost apart = { Prim.search rules };
 }
 
 impl<'a> ReadRecord<'a> for CableCheckReq {
@@ -85,7 +86,8 @@ impl PutRecord for CableCheckRes {
     }
 }
 
-impl Declared for CableCheckRes {
+impl DeclaredRecord for CableCheckRes {
+    ghost use Rattle.std.proofs.Common.{rules};
     ghost use Rattle.iso_schema.specs.Declarations.{kinds};
     ghost use Rattle.iso_schema.specs.Charging.{cable_check_res};
 
@@ -94,6 +96,8 @@ impl Declared for CableCheckRes {
     ghost attributes = { [] };
 
     ghost particles = { cable_check_res };
+
+    ghost apart = { Prim.search rules };
 }
 
 impl<'a> Record<'a> for CableCheckRes {
@@ -123,8 +127,6 @@ impl<'a> Record<'a> for CableCheckRes {
     }
 
     ghost declared = { Prim.search rules };
-
-    ghost apart = { Prim.search rules };
 }
 
 impl<'a> ReadRecord<'a> for CableCheckRes {
@@ -155,7 +157,8 @@ impl PutRecord for PreChargeReq {
     }
 }
 
-impl Declared for PreChargeReq {
+impl DeclaredRecord for PreChargeReq {
+    ghost use Rattle.std.proofs.Common.{rules};
     ghost use Rattle.iso_schema.specs.Declarations.{kinds};
     ghost use Rattle.iso_schema.specs.Charging.{pre_charge_req};
 
@@ -164,6 +167,8 @@ impl Declared for PreChargeReq {
     ghost attributes = { [] };
 
     ghost particles = { pre_charge_req };
+
+    ghost apart = { Prim.search rules };
 }
 
 impl<'a> Record<'a> for PreChargeReq {
@@ -189,8 +194,6 @@ impl<'a> Record<'a> for PreChargeReq {
     }
 
     ghost declared = { Prim.search rules };
-
-    ghost apart = { Prim.search rules };
 }
 
 impl<'a> ReadRecord<'a> for PreChargeReq {
@@ -225,7 +228,8 @@ impl PutRecord for PreChargeRes {
     }
 }
 
-impl Declared for PreChargeRes {
+impl DeclaredRecord for PreChargeRes {
+    ghost use Rattle.std.proofs.Common.{rules};
     ghost use Rattle.iso_schema.specs.Declarations.{kinds};
     ghost use Rattle.iso_schema.specs.Charging.{pre_charge_res};
 
@@ -234,6 +238,8 @@ impl Declared for PreChargeRes {
     ghost attributes = { [] };
 
     ghost particles = { pre_charge_res };
+
+    ghost apart = { Prim.search rules };
 }
 
 impl<'a> Record<'a> for PreChargeRes {
@@ -263,8 +269,6 @@ impl<'a> Record<'a> for PreChargeRes {
     }
 
     ghost declared = { Prim.search rules };
-
-    ghost apart = { Prim.search rules };
 }
 
 impl<'a> ReadRecord<'a> for PreChargeRes {
@@ -333,7 +337,8 @@ impl PutRecord for CurrentDemandReq {
     }
 }
 
-impl Declared for CurrentDemandReq {
+impl DeclaredRecord for CurrentDemandReq {
+    ghost use Rattle.std.proofs.Common.{rules};
     ghost use Rattle.iso_schema.specs.Declarations.{kinds};
     ghost use Rattle.iso_schema.specs.Charging.{current_demand_req};
 
@@ -342,6 +347,8 @@ impl Declared for CurrentDemandReq {
     ghost attributes = { [] };
 
     ghost particles = { current_demand_req };
+
+    ghost apart = { Prim.search rules };
 }
 
 impl<'a> Record<'a> for CurrentDemandReq {
@@ -404,8 +411,6 @@ impl<'a> Record<'a> for CurrentDemandReq {
     }
 
     ghost declared = { Prim.search rules };
-
-    ghost apart = { Prim.search rules };
 }
 
 impl<'a> ReadRecord<'a> for CurrentDemandReq {
@@ -496,7 +501,8 @@ impl PutRecord for CurrentDemandRes<'_> {
     }
 }
 
-impl Declared for CurrentDemandRes<'_> {
+impl DeclaredRecord for CurrentDemandRes<'_> {
+    ghost use Rattle.std.proofs.Common.{rules};
     ghost use Rattle.iso_schema.specs.Declarations.{kinds};
     ghost use Rattle.iso_schema.specs.Charging.{current_demand_res};
 
@@ -505,6 +511,8 @@ impl Declared for CurrentDemandRes<'_> {
     ghost attributes = { [] };
 
     ghost particles = { current_demand_res };
+
+    ghost apart = { Prim.search rules };
 }
 
 impl<'a> Record<'a> for CurrentDemandRes<'a> {
@@ -583,8 +591,6 @@ impl<'a> Record<'a> for CurrentDemandRes<'a> {
     }
 
     ghost declared = { Prim.search rules };
-
-    ghost apart = { Prim.search rules };
 }
 
 impl<'a> ReadRecord<'a> for CurrentDemandRes<'a> {
@@ -611,7 +617,8 @@ impl PutRecord for WeldingDetectionReq {
     }
 }
 
-impl Declared for WeldingDetectionReq {
+impl DeclaredRecord for WeldingDetectionReq {
+    ghost use Rattle.std.proofs.Common.{rules};
     ghost use Rattle.iso_schema.specs.Declarations.{kinds};
     ghost use Rattle.iso_schema.specs.Charging.{welding_detection_req};
 
@@ -620,6 +627,8 @@ impl Declared for WeldingDetectionReq {
     ghost attributes = { [] };
 
     ghost particles = { welding_detection_req };
+
+    ghost apart = { Prim.search rules };
 }
 
 impl<'a> Record<'a> for WeldingDetectionReq {
@@ -633,8 +642,6 @@ impl<'a> Record<'a> for WeldingDetectionReq {
     }
 
     ghost declared = { Prim.search rules };
-
-    ghost apart = { Prim.search rules };
 }
 
 impl<'a> ReadRecord<'a> for WeldingDetectionReq {
@@ -669,7 +676,8 @@ impl PutRecord for WeldingDetectionRes {
     }
 }
 
-impl Declared for WeldingDetectionRes {
+impl DeclaredRecord for WeldingDetectionRes {
+    ghost use Rattle.std.proofs.Common.{rules};
     ghost use Rattle.iso_schema.specs.Declarations.{kinds};
     ghost use Rattle.iso_schema.specs.Charging.{welding_detection_res};
 
@@ -678,6 +686,8 @@ impl Declared for WeldingDetectionRes {
     ghost attributes = { [] };
 
     ghost particles = { welding_detection_res };
+
+    ghost apart = { Prim.search rules };
 }
 
 impl<'a> Record<'a> for WeldingDetectionRes {
@@ -707,8 +717,6 @@ impl<'a> Record<'a> for WeldingDetectionRes {
     }
 
     ghost declared = { Prim.search rules };
-
-    ghost apart = { Prim.search rules };
 }
 
 impl<'a> ReadRecord<'a> for WeldingDetectionRes {

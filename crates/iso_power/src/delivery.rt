@@ -14,8 +14,8 @@ use message_fields::{
     AtMostOneOf, Elements, OneOf, Optional, OptionalValue, Required, RequiredValue, Several,
 };
 use message_parts::{
-    Alternatives, Choice, Declared, Descent, Group, PutChoice, PutRecord, ReadRecord, Record, Text,
-    member, put_choice, put_optional, put_optional_choice, put_optional_value, put_record,
+    Alternatives, Choice, DeclaredRecord, Descent, Group, PutChoice, PutRecord, ReadRecord, Record,
+    Text, member, put_choice, put_optional, put_optional_choice, put_optional_value, put_record,
     put_records, put_value, whole_record,
 };
 
@@ -54,7 +54,8 @@ impl PutRecord for ProfileEntry {
     }
 }
 
-impl Declared for ProfileEntry {
+impl DeclaredRecord for ProfileEntry {
+    ghost use Rattle.std.proofs.Common.{rules};
     ghost use Rattle.iso_schema.specs.Declarations.{kinds};
     ghost use Rattle.iso_schema.specs.Parameters.{profile_entry};
 
@@ -63,6 +64,8 @@ impl Declared for ProfileEntry {
     ghost attributes = { [] };
 
     ghost particles = { profile_entry };
+
+    ghost apart = { Prim.search rules };
 }
 
 impl<'a> Record<'a> for ProfileEntry {
@@ -92,8 +95,6 @@ impl<'a> Record<'a> for ProfileEntry {
     }
 
     ghost declared = { Prim.search rules };
-
-    ghost apart = { Prim.search rules };
 }
 
 impl<'a> ReadRecord<'a> for ProfileEntry {
@@ -121,7 +122,8 @@ impl PutRecord for ChargingProfile {
     }
 }
 
-impl Declared for ChargingProfile {
+impl DeclaredRecord for ChargingProfile {
+    ghost use Rattle.std.proofs.Common.{rules};
     ghost use Rattle.iso_schema.specs.Declarations.{kinds};
     ghost use Rattle.iso_schema.specs.Parameters.{charging_profile};
 
@@ -130,6 +132,8 @@ impl Declared for ChargingProfile {
     ghost attributes = { [] };
 
     ghost particles = { charging_profile };
+
+    ghost apart = { Prim.search rules };
 }
 
 impl<'a> Record<'a> for ChargingProfile {
@@ -143,8 +147,6 @@ impl<'a> Record<'a> for ChargingProfile {
     }
 
     ghost declared = { Prim.search rules };
-
-    ghost apart = { Prim.search rules };
 }
 
 impl<'a> ReadRecord<'a> for ChargingProfile {
@@ -179,7 +181,8 @@ impl PutRecord for DcEvPowerDeliveryParameter {
     }
 }
 
-impl Declared for DcEvPowerDeliveryParameter {
+impl DeclaredRecord for DcEvPowerDeliveryParameter {
+    ghost use Rattle.std.proofs.Common.{rules};
     ghost use Rattle.iso_schema.specs.Declarations.{kinds};
     ghost use Rattle.iso_schema.specs.Parameters.{dc_ev_power_delivery_parameter};
 
@@ -188,6 +191,8 @@ impl Declared for DcEvPowerDeliveryParameter {
     ghost attributes = { [] };
 
     ghost particles = { dc_ev_power_delivery_parameter };
+
+    ghost apart = { Prim.search rules };
 }
 
 impl<'a> Record<'a> for DcEvPowerDeliveryParameter {
@@ -217,8 +222,6 @@ impl<'a> Record<'a> for DcEvPowerDeliveryParameter {
     }
 
     ghost declared = { Prim.search rules };
-
-    ghost apart = { Prim.search rules };
 }
 
 impl<'a> ReadRecord<'a> for DcEvPowerDeliveryParameter {
@@ -305,7 +308,8 @@ impl PutRecord for PowerDeliveryReq {
     }
 }
 
-impl Declared for PowerDeliveryReq {
+impl DeclaredRecord for PowerDeliveryReq {
+    ghost use Rattle.std.proofs.Common.{rules};
     ghost use Rattle.iso_schema.specs.Declarations.{kinds};
     ghost use Rattle.iso_schema.specs.Parameters.{power_delivery_req};
 
@@ -314,6 +318,8 @@ impl Declared for PowerDeliveryReq {
     ghost attributes = { [] };
 
     ghost particles = { power_delivery_req };
+
+    ghost apart = { Prim.search rules };
 }
 
 impl<'a> Record<'a> for PowerDeliveryReq {
@@ -346,8 +352,6 @@ impl<'a> Record<'a> for PowerDeliveryReq {
     }
 
     ghost declared = { Prim.search rules };
-
-    ghost apart = { Prim.search rules };
 }
 
 impl<'a> ReadRecord<'a> for PowerDeliveryReq {
@@ -376,7 +380,8 @@ impl PutRecord for PowerDeliveryRes {
     }
 }
 
-impl Declared for PowerDeliveryRes {
+impl DeclaredRecord for PowerDeliveryRes {
+    ghost use Rattle.std.proofs.Common.{rules};
     ghost use Rattle.iso_schema.specs.Declarations.{kinds};
     ghost use Rattle.iso_schema.specs.Parameters.{power_delivery_res};
 
@@ -385,6 +390,8 @@ impl Declared for PowerDeliveryRes {
     ghost attributes = { [] };
 
     ghost particles = { power_delivery_res };
+
+    ghost apart = { Prim.search rules };
 }
 
 impl<'a> Record<'a> for PowerDeliveryRes {
@@ -401,8 +408,6 @@ impl<'a> Record<'a> for PowerDeliveryRes {
     }
 
     ghost declared = { Prim.search rules };
-
-    ghost apart = { Prim.search rules };
 }
 
 impl<'a> ReadRecord<'a> for PowerDeliveryRes {
@@ -423,7 +428,8 @@ impl PutRecord for ChargingStatusReq {
     fn write<P: Places>(&self, _writer: &mut EventWriter<'_, '_, P>) {}
 }
 
-impl Declared for ChargingStatusReq {
+impl DeclaredRecord for ChargingStatusReq {
+    ghost use Rattle.std.proofs.Common.{rules};
     ghost use Rattle.iso_schema.specs.Declarations.{kinds};
 
     ghost kinds = { kinds };
@@ -431,6 +437,8 @@ impl Declared for ChargingStatusReq {
     ghost attributes = { [] };
 
     ghost particles = { [] };
+
+    ghost apart = { Prim.search rules };
 }
 
 impl<'a> Record<'a> for ChargingStatusReq {
@@ -443,8 +451,6 @@ impl<'a> Record<'a> for ChargingStatusReq {
     }
 
     ghost declared = { Prim.search rules };
-
-    ghost apart = { Prim.search rules };
 }
 
 impl<'a> ReadRecord<'a> for ChargingStatusReq {
@@ -489,7 +495,8 @@ impl PutRecord for ChargingStatusRes<'_> {
     }
 }
 
-impl Declared for ChargingStatusRes<'_> {
+impl DeclaredRecord for ChargingStatusRes<'_> {
+    ghost use Rattle.std.proofs.Common.{rules};
     ghost use Rattle.iso_schema.specs.Declarations.{kinds};
     ghost use Rattle.iso_schema.specs.Parameters.{charging_status_res};
 
@@ -498,6 +505,8 @@ impl Declared for ChargingStatusRes<'_> {
     ghost attributes = { [] };
 
     ghost particles = { charging_status_res };
+
+    ghost apart = { Prim.search rules };
 }
 
 impl<'a> Record<'a> for ChargingStatusRes<'a> {
@@ -543,8 +552,6 @@ impl<'a> Record<'a> for ChargingStatusRes<'a> {
     }
 
     ghost declared = { Prim.search rules };
-
-    ghost apart = { Prim.search rules };
 }
 
 impl<'a> ReadRecord<'a> for ChargingStatusRes<'a> {

@@ -10,7 +10,7 @@ use iso_parts::{PhysicalValue, ResponseCode};
 use iso_schema::names;
 use message_fields::{Elements, OneOf, Optional, RequiredValue, Several, WithAttribute};
 use message_parts::{
-    Alternatives, Choice, Declared, Descent, PutChoice, PutRecord, ReadRecord, Record, Text,
+    Alternatives, Choice, DeclaredRecord, Descent, PutChoice, PutRecord, ReadRecord, Record, Text,
     member, member_value, put_attribute, put_choice, put_optional, put_record, put_records,
     put_value, whole_record,
 };
@@ -106,7 +106,8 @@ impl PutRecord for Parameter<'_> {
     }
 }
 
-impl Declared for Parameter<'_> {
+impl DeclaredRecord for Parameter<'_> {
+    ghost use Rattle.std.proofs.Common.{rules};
     ghost use Rattle.iso_schema.specs.Declarations.{kinds};
     ghost use Rattle.iso_schema.specs.Setup.{parameter};
     ghost use Rattle.iso_setup.specs.Details.{parameter_attributes};
@@ -116,6 +117,8 @@ impl Declared for Parameter<'_> {
     ghost attributes = { parameter_attributes };
 
     ghost particles = { parameter };
+
+    ghost apart = { Prim.search rules };
 }
 
 impl<'a> Record<'a> for Parameter<'a> {
@@ -129,8 +132,6 @@ impl<'a> Record<'a> for Parameter<'a> {
     }
 
     ghost declared = { Prim.search rules };
-
-    ghost apart = { Prim.search rules };
 }
 
 impl<'a> ReadRecord<'a> for Parameter<'a> {
@@ -160,7 +161,8 @@ impl PutRecord for ParameterSet<'_> {
     }
 }
 
-impl Declared for ParameterSet<'_> {
+impl DeclaredRecord for ParameterSet<'_> {
+    ghost use Rattle.std.proofs.Common.{rules};
     ghost use Rattle.iso_schema.specs.Declarations.{kinds};
     ghost use Rattle.iso_schema.specs.Setup.{parameter_set};
 
@@ -169,6 +171,8 @@ impl Declared for ParameterSet<'_> {
     ghost attributes = { [] };
 
     ghost particles = { parameter_set };
+
+    ghost apart = { Prim.search rules };
 }
 
 impl<'a> Record<'a> for ParameterSet<'a> {
@@ -190,8 +194,6 @@ impl<'a> Record<'a> for ParameterSet<'a> {
     }
 
     ghost declared = { Prim.search rules };
-
-    ghost apart = { Prim.search rules };
 }
 
 impl<'a> ReadRecord<'a> for ParameterSet<'a> {
@@ -219,7 +221,8 @@ impl PutRecord for ServiceParameterList<'_> {
     }
 }
 
-impl Declared for ServiceParameterList<'_> {
+impl DeclaredRecord for ServiceParameterList<'_> {
+    ghost use Rattle.std.proofs.Common.{rules};
     ghost use Rattle.iso_schema.specs.Declarations.{kinds};
     ghost use Rattle.iso_schema.specs.Setup.{service_parameter_list};
 
@@ -228,6 +231,8 @@ impl Declared for ServiceParameterList<'_> {
     ghost attributes = { [] };
 
     ghost particles = { service_parameter_list };
+
+    ghost apart = { Prim.search rules };
 }
 
 impl<'a> Record<'a> for ServiceParameterList<'a> {
@@ -241,8 +246,6 @@ impl<'a> Record<'a> for ServiceParameterList<'a> {
     }
 
     ghost declared = { Prim.search rules };
-
-    ghost apart = { Prim.search rules };
 }
 
 impl<'a> ReadRecord<'a> for ServiceParameterList<'a> {
@@ -271,7 +274,8 @@ impl PutRecord for ServiceDetailReq {
     }
 }
 
-impl Declared for ServiceDetailReq {
+impl DeclaredRecord for ServiceDetailReq {
+    ghost use Rattle.std.proofs.Common.{rules};
     ghost use Rattle.iso_schema.specs.Declarations.{kinds};
     ghost use Rattle.iso_schema.specs.Setup.{service_detail_req};
 
@@ -280,6 +284,8 @@ impl Declared for ServiceDetailReq {
     ghost attributes = { [] };
 
     ghost particles = { service_detail_req };
+
+    ghost apart = { Prim.search rules };
 }
 
 impl<'a> Record<'a> for ServiceDetailReq {
@@ -293,8 +299,6 @@ impl<'a> Record<'a> for ServiceDetailReq {
     }
 
     ghost declared = { Prim.search rules };
-
-    ghost apart = { Prim.search rules };
 }
 
 impl<'a> ReadRecord<'a> for ServiceDetailReq {
@@ -329,7 +333,8 @@ impl PutRecord for ServiceDetailRes<'_> {
     }
 }
 
-impl Declared for ServiceDetailRes<'_> {
+impl DeclaredRecord for ServiceDetailRes<'_> {
+    ghost use Rattle.std.proofs.Common.{rules};
     ghost use Rattle.iso_schema.specs.Declarations.{kinds};
     ghost use Rattle.iso_schema.specs.Setup.{service_detail_res};
 
@@ -338,6 +343,8 @@ impl Declared for ServiceDetailRes<'_> {
     ghost attributes = { [] };
 
     ghost particles = { service_detail_res };
+
+    ghost apart = { Prim.search rules };
 }
 
 impl<'a> Record<'a> for ServiceDetailRes<'a> {
@@ -367,8 +374,6 @@ impl<'a> Record<'a> for ServiceDetailRes<'a> {
     }
 
     ghost declared = { Prim.search rules };
-
-    ghost apart = { Prim.search rules };
 }
 
 impl<'a> ReadRecord<'a> for ServiceDetailRes<'a> {

@@ -10,8 +10,8 @@ use iso_parts::{PaymentOption, ResponseCode};
 use iso_schema::names;
 use message_fields::{Elements, OptionalValue, Required, RequiredValue, Several};
 use message_parts::{
-    Declared, Descent, PutRecord, ReadRecord, Record, put_optional_value, put_record, put_records,
-    put_value, whole_record,
+    DeclaredRecord, Descent, PutRecord, ReadRecord, Record, put_optional_value, put_record,
+    put_records, put_value, whole_record,
 };
 
 /// SelectedService.
@@ -34,7 +34,8 @@ impl PutRecord for SelectedService {
     }
 }
 
-impl Declared for SelectedService {
+impl DeclaredRecord for SelectedService {
+    ghost use Rattle.std.proofs.Common.{rules};
     ghost use Rattle.iso_schema.specs.Declarations.{kinds};
     ghost use Rattle.iso_schema.specs.Setup.{selected_service};
 
@@ -43,6 +44,8 @@ impl Declared for SelectedService {
     ghost attributes = { [] };
 
     ghost particles = { selected_service };
+
+    ghost apart = { Prim.search rules };
 }
 
 impl<'a> Record<'a> for SelectedService {
@@ -64,8 +67,6 @@ impl<'a> Record<'a> for SelectedService {
     }
 
     ghost declared = { Prim.search rules };
-
-    ghost apart = { Prim.search rules };
 }
 
 impl<'a> ReadRecord<'a> for SelectedService {
@@ -93,7 +94,8 @@ impl PutRecord for SelectedServiceList {
     }
 }
 
-impl Declared for SelectedServiceList {
+impl DeclaredRecord for SelectedServiceList {
+    ghost use Rattle.std.proofs.Common.{rules};
     ghost use Rattle.iso_schema.specs.Declarations.{kinds};
     ghost use Rattle.iso_schema.specs.Setup.{selected_service_list};
 
@@ -102,6 +104,8 @@ impl Declared for SelectedServiceList {
     ghost attributes = { [] };
 
     ghost particles = { selected_service_list };
+
+    ghost apart = { Prim.search rules };
 }
 
 impl<'a> Record<'a> for SelectedServiceList {
@@ -115,8 +119,6 @@ impl<'a> Record<'a> for SelectedServiceList {
     }
 
     ghost declared = { Prim.search rules };
-
-    ghost apart = { Prim.search rules };
 }
 
 impl<'a> ReadRecord<'a> for SelectedServiceList {
@@ -153,7 +155,8 @@ impl PutRecord for PaymentServiceSelectionReq {
     }
 }
 
-impl Declared for PaymentServiceSelectionReq {
+impl DeclaredRecord for PaymentServiceSelectionReq {
+    ghost use Rattle.std.proofs.Common.{rules};
     ghost use Rattle.iso_schema.specs.Declarations.{kinds};
     ghost use Rattle.iso_schema.specs.Setup.{payment_service_selection_req};
 
@@ -162,6 +165,8 @@ impl Declared for PaymentServiceSelectionReq {
     ghost attributes = { [] };
 
     ghost particles = { payment_service_selection_req };
+
+    ghost apart = { Prim.search rules };
 }
 
 impl<'a> Record<'a> for PaymentServiceSelectionReq {
@@ -179,8 +184,6 @@ impl<'a> Record<'a> for PaymentServiceSelectionReq {
     }
 
     ghost declared = { Prim.search rules };
-
-    ghost apart = { Prim.search rules };
 }
 
 impl<'a> ReadRecord<'a> for PaymentServiceSelectionReq {
@@ -209,7 +212,8 @@ impl PutRecord for PaymentServiceSelectionRes {
     }
 }
 
-impl Declared for PaymentServiceSelectionRes {
+impl DeclaredRecord for PaymentServiceSelectionRes {
+    ghost use Rattle.std.proofs.Common.{rules};
     ghost use Rattle.iso_schema.specs.Declarations.{kinds};
     ghost use Rattle.iso_schema.specs.Setup.{payment_service_selection_res};
 
@@ -218,6 +222,8 @@ impl Declared for PaymentServiceSelectionRes {
     ghost attributes = { [] };
 
     ghost particles = { payment_service_selection_res };
+
+    ghost apart = { Prim.search rules };
 }
 
 impl<'a> Record<'a> for PaymentServiceSelectionRes {
@@ -231,8 +237,6 @@ impl<'a> Record<'a> for PaymentServiceSelectionRes {
     }
 
     ghost declared = { Prim.search rules };
-
-    ghost apart = { Prim.search rules };
 }
 
 impl<'a> ReadRecord<'a> for PaymentServiceSelectionRes {

@@ -12,7 +12,7 @@ use message_fields::{
     Elements, Optional, OptionalValue, Required, RequiredValue, Several, SeveralValues,
 };
 use message_parts::{
-    Declared, Descent, PutRecord, ReadRecord, Record, Text, put_optional, put_optional_value,
+    DeclaredRecord, Descent, PutRecord, ReadRecord, Record, Text, put_optional, put_optional_value,
     put_record, put_records, put_value, put_values, whole_record,
 };
 
@@ -44,7 +44,8 @@ impl PutRecord for Service<'_> {
     }
 }
 
-impl Declared for Service<'_> {
+impl DeclaredRecord for Service<'_> {
+    ghost use Rattle.std.proofs.Common.{rules};
     ghost use Rattle.iso_schema.specs.Declarations.{kinds};
     ghost use Rattle.iso_schema.specs.Setup.{service};
 
@@ -53,6 +54,8 @@ impl Declared for Service<'_> {
     ghost attributes = { [] };
 
     ghost particles = { service };
+
+    ghost apart = { Prim.search rules };
 }
 
 impl<'a> Record<'a> for Service<'a> {
@@ -93,8 +96,6 @@ impl<'a> Record<'a> for Service<'a> {
     }
 
     ghost declared = { Prim.search rules };
-
-    ghost apart = { Prim.search rules };
 }
 
 impl<'a> ReadRecord<'a> for Service<'a> {
@@ -122,7 +123,8 @@ impl PutRecord for ServiceList<'_> {
     }
 }
 
-impl Declared for ServiceList<'_> {
+impl DeclaredRecord for ServiceList<'_> {
+    ghost use Rattle.std.proofs.Common.{rules};
     ghost use Rattle.iso_schema.specs.Declarations.{kinds};
     ghost use Rattle.iso_schema.specs.Setup.{service_list};
 
@@ -131,6 +133,8 @@ impl Declared for ServiceList<'_> {
     ghost attributes = { [] };
 
     ghost particles = { service_list };
+
+    ghost apart = { Prim.search rules };
 }
 
 impl<'a> Record<'a> for ServiceList<'a> {
@@ -144,8 +148,6 @@ impl<'a> Record<'a> for ServiceList<'a> {
     }
 
     ghost declared = { Prim.search rules };
-
-    ghost apart = { Prim.search rules };
 }
 
 impl<'a> ReadRecord<'a> for ServiceList<'a> {
@@ -177,7 +179,8 @@ impl PutRecord for SupportedEnergyTransferMode {
     }
 }
 
-impl Declared for SupportedEnergyTransferMode {
+impl DeclaredRecord for SupportedEnergyTransferMode {
+    ghost use Rattle.std.proofs.Common.{rules};
     ghost use Rattle.iso_schema.specs.Declarations.{kinds};
     ghost use Rattle.iso_schema.specs.Setup.{supported_energy_transfer_mode};
 
@@ -186,6 +189,8 @@ impl Declared for SupportedEnergyTransferMode {
     ghost attributes = { [] };
 
     ghost particles = { supported_energy_transfer_mode };
+
+    ghost apart = { Prim.search rules };
 }
 
 impl<'a> Record<'a> for SupportedEnergyTransferMode {
@@ -201,8 +206,6 @@ impl<'a> Record<'a> for SupportedEnergyTransferMode {
     }
 
     ghost declared = { Prim.search rules };
-
-    ghost apart = { Prim.search rules };
 }
 
 impl<'a> ReadRecord<'a> for SupportedEnergyTransferMode {
@@ -247,7 +250,8 @@ impl PutRecord for ChargeService<'_> {
     }
 }
 
-impl Declared for ChargeService<'_> {
+impl DeclaredRecord for ChargeService<'_> {
+    ghost use Rattle.std.proofs.Common.{rules};
     ghost use Rattle.iso_schema.specs.Declarations.{kinds};
     ghost use Rattle.iso_schema.specs.Setup.{charge_service};
 
@@ -256,6 +260,8 @@ impl Declared for ChargeService<'_> {
     ghost attributes = { [] };
 
     ghost particles = { charge_service };
+
+    ghost apart = { Prim.search rules };
 }
 
 impl<'a> Record<'a> for ChargeService<'a> {
@@ -302,8 +308,6 @@ impl<'a> Record<'a> for ChargeService<'a> {
     }
 
     ghost declared = { Prim.search rules };
-
-    ghost apart = { Prim.search rules };
 }
 
 impl<'a> ReadRecord<'a> for ChargeService<'a> {
@@ -331,7 +335,8 @@ impl PutRecord for PaymentOptionList {
     }
 }
 
-impl Declared for PaymentOptionList {
+impl DeclaredRecord for PaymentOptionList {
+    ghost use Rattle.std.proofs.Common.{rules};
     ghost use Rattle.iso_schema.specs.Declarations.{kinds};
     ghost use Rattle.iso_schema.specs.Setup.{payment_option_list};
 
@@ -340,6 +345,8 @@ impl Declared for PaymentOptionList {
     ghost attributes = { [] };
 
     ghost particles = { payment_option_list };
+
+    ghost apart = { Prim.search rules };
 }
 
 impl<'a> Record<'a> for PaymentOptionList {
@@ -353,8 +360,6 @@ impl<'a> Record<'a> for PaymentOptionList {
     }
 
     ghost declared = { Prim.search rules };
-
-    ghost apart = { Prim.search rules };
 }
 
 impl<'a> ReadRecord<'a> for PaymentOptionList {
@@ -384,7 +389,8 @@ impl PutRecord for ServiceDiscoveryReq<'_> {
     }
 }
 
-impl Declared for ServiceDiscoveryReq<'_> {
+impl DeclaredRecord for ServiceDiscoveryReq<'_> {
+    ghost use Rattle.std.proofs.Common.{rules};
     ghost use Rattle.iso_schema.specs.Declarations.{kinds};
     ghost use Rattle.iso_schema.specs.Setup.{service_discovery_req};
 
@@ -393,6 +399,8 @@ impl Declared for ServiceDiscoveryReq<'_> {
     ghost attributes = { [] };
 
     ghost particles = { service_discovery_req };
+
+    ghost apart = { Prim.search rules };
 }
 
 impl<'a> Record<'a> for ServiceDiscoveryReq<'a> {
@@ -414,8 +422,6 @@ impl<'a> Record<'a> for ServiceDiscoveryReq<'a> {
     }
 
     ghost declared = { Prim.search rules };
-
-    ghost apart = { Prim.search rules };
 }
 
 impl<'a> ReadRecord<'a> for ServiceDiscoveryReq<'a> {
@@ -454,7 +460,8 @@ impl PutRecord for ServiceDiscoveryRes<'_> {
     }
 }
 
-impl Declared for ServiceDiscoveryRes<'_> {
+impl DeclaredRecord for ServiceDiscoveryRes<'_> {
+    ghost use Rattle.std.proofs.Common.{rules};
     ghost use Rattle.iso_schema.specs.Declarations.{kinds};
     ghost use Rattle.iso_schema.specs.Setup.{service_discovery_res};
 
@@ -463,6 +470,8 @@ impl Declared for ServiceDiscoveryRes<'_> {
     ghost attributes = { [] };
 
     ghost particles = { service_discovery_res };
+
+    ghost apart = { Prim.search rules };
 }
 
 impl<'a> Record<'a> for ServiceDiscoveryRes<'a> {
@@ -495,8 +504,6 @@ impl<'a> Record<'a> for ServiceDiscoveryRes<'a> {
     }
 
     ghost declared = { Prim.search rules };
-
-    ghost apart = { Prim.search rules };
 }
 
 impl<'a> ReadRecord<'a> for ServiceDiscoveryRes<'a> {

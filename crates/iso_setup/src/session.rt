@@ -9,7 +9,7 @@ use iso_parts::{ChargingSession, EvseProcessing, ResponseCode};
 use iso_schema::names;
 use message_fields::{Elements, OptionalValue, RequiredValue, WithOptionalAttribute};
 use message_parts::{
-    Binary, Declared, Descent, PutRecord, ReadRecord, Record, Text, put_optional_attribute,
+    Binary, DeclaredRecord, Descent, PutRecord, ReadRecord, Record, Text, put_optional_attribute,
     put_optional_value, put_value, whole_record,
 };
 
@@ -32,7 +32,8 @@ impl PutRecord for SessionSetupReq<'_> {
     }
 }
 
-impl Declared for SessionSetupReq<'_> {
+impl DeclaredRecord for SessionSetupReq<'_> {
+    ghost use Rattle.std.proofs.Common.{rules};
     ghost use Rattle.iso_schema.specs.Declarations.{kinds};
     ghost use Rattle.iso_schema.specs.Setup.{session_setup_req};
 
@@ -41,6 +42,8 @@ impl Declared for SessionSetupReq<'_> {
     ghost attributes = { [] };
 
     ghost particles = { session_setup_req };
+
+    ghost apart = { Prim.search rules };
 }
 
 impl<'a> Record<'a> for SessionSetupReq<'a> {
@@ -54,8 +57,6 @@ impl<'a> Record<'a> for SessionSetupReq<'a> {
     }
 
     ghost declared = { Prim.search rules };
-
-    ghost apart = { Prim.search rules };
 }
 
 impl<'a> ReadRecord<'a> for SessionSetupReq<'a> {
@@ -87,7 +88,8 @@ impl PutRecord for SessionSetupRes<'_> {
     }
 }
 
-impl Declared for SessionSetupRes<'_> {
+impl DeclaredRecord for SessionSetupRes<'_> {
+    ghost use Rattle.std.proofs.Common.{rules};
     ghost use Rattle.iso_schema.specs.Declarations.{kinds};
     ghost use Rattle.iso_schema.specs.Setup.{session_setup_res};
 
@@ -96,6 +98,8 @@ impl Declared for SessionSetupRes<'_> {
     ghost attributes = { [] };
 
     ghost particles = { session_setup_res };
+
+    ghost apart = { Prim.search rules };
 }
 
 impl<'a> Record<'a> for SessionSetupRes<'a> {
@@ -121,8 +125,6 @@ impl<'a> Record<'a> for SessionSetupRes<'a> {
     }
 
     ghost declared = { Prim.search rules };
-
-    ghost apart = { Prim.search rules };
 }
 
 impl<'a> ReadRecord<'a> for SessionSetupRes<'a> {
@@ -153,7 +155,8 @@ impl PutRecord for AuthorizationReq<'_> {
     }
 }
 
-impl Declared for AuthorizationReq<'_> {
+impl DeclaredRecord for AuthorizationReq<'_> {
+    ghost use Rattle.std.proofs.Common.{rules};
     ghost use Rattle.iso_schema.specs.Declarations.{kinds};
     ghost use Rattle.iso_schema.specs.Setup.{authorization_req};
     ghost use Rattle.iso_setup.specs.Session.{authorization_req_attributes};
@@ -163,6 +166,8 @@ impl Declared for AuthorizationReq<'_> {
     ghost attributes = { authorization_req_attributes };
 
     ghost particles = { authorization_req };
+
+    ghost apart = { Prim.search rules };
 }
 
 impl<'a> Record<'a> for AuthorizationReq<'a> {
@@ -179,8 +184,6 @@ impl<'a> Record<'a> for AuthorizationReq<'a> {
     }
 
     ghost declared = { Prim.search rules };
-
-    ghost apart = { Prim.search rules };
 }
 
 impl<'a> ReadRecord<'a> for AuthorizationReq<'a> {
@@ -209,7 +212,8 @@ impl PutRecord for AuthorizationRes {
     }
 }
 
-impl Declared for AuthorizationRes {
+impl DeclaredRecord for AuthorizationRes {
+    ghost use Rattle.std.proofs.Common.{rules};
     ghost use Rattle.iso_schema.specs.Declarations.{kinds};
     ghost use Rattle.iso_schema.specs.Setup.{authorization_res};
 
@@ -218,6 +222,8 @@ impl Declared for AuthorizationRes {
     ghost attributes = { [] };
 
     ghost particles = { authorization_res };
+
+    ghost apart = { Prim.search rules };
 }
 
 impl<'a> Record<'a> for AuthorizationRes {
@@ -234,8 +240,6 @@ impl<'a> Record<'a> for AuthorizationRes {
     }
 
     ghost declared = { Prim.search rules };
-
-    ghost apart = { Prim.search rules };
 }
 
 impl<'a> ReadRecord<'a> for AuthorizationRes {
@@ -262,7 +266,8 @@ impl PutRecord for SessionStopReq {
     }
 }
 
-impl Declared for SessionStopReq {
+impl DeclaredRecord for SessionStopReq {
+    ghost use Rattle.std.proofs.Common.{rules};
     ghost use Rattle.iso_schema.specs.Declarations.{kinds};
     ghost use Rattle.iso_schema.specs.Setup.{session_stop_req};
 
@@ -271,6 +276,8 @@ impl Declared for SessionStopReq {
     ghost attributes = { [] };
 
     ghost particles = { session_stop_req };
+
+    ghost apart = { Prim.search rules };
 }
 
 impl<'a> Record<'a> for SessionStopReq {
@@ -284,8 +291,6 @@ impl<'a> Record<'a> for SessionStopReq {
     }
 
     ghost declared = { Prim.search rules };
-
-    ghost apart = { Prim.search rules };
 }
 
 impl<'a> ReadRecord<'a> for SessionStopReq {
@@ -312,7 +317,8 @@ impl PutRecord for SessionStopRes {
     }
 }
 
-impl Declared for SessionStopRes {
+impl DeclaredRecord for SessionStopRes {
+    ghost use Rattle.std.proofs.Common.{rules};
     ghost use Rattle.iso_schema.specs.Declarations.{kinds};
     ghost use Rattle.iso_schema.specs.Setup.{session_stop_res};
 
@@ -321,6 +327,8 @@ impl Declared for SessionStopRes {
     ghost attributes = { [] };
 
     ghost particles = { session_stop_res };
+
+    ghost apart = { Prim.search rules };
 }
 
 impl<'a> Record<'a> for SessionStopRes {
@@ -334,8 +342,6 @@ impl<'a> Record<'a> for SessionStopRes {
     }
 
     ghost declared = { Prim.search rules };
-
-    ghost apart = { Prim.search rules };
 }
 
 impl<'a> ReadRecord<'a> for SessionStopRes {

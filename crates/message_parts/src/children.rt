@@ -5,11 +5,10 @@ ghost use Rattle.exi_documents.specs.Trees.{Event as TreeEvent, Attribute};
 ghost use Rattle.exi_schema.specs.declared.tables.AttributeOf.{AttributeOf};
 ghost use Rattle.exi_schema.specs.declared.tables.Datatype.{Datatype};
 ghost use Rattle.exi_schema.specs.Plain.{PlainKind, PlainParticle, containing};
-ghost use Rattle.exi_schema.specs.Schemas.{are_distinct};
 ghost use Rattle.exi_schema.specs.Steps.{simple_at};
 ghost use Rattle.message_parts.specs.Contents.{Of, holding_with, mapped, told_one, told_perhaps, told_each, told_inside, told_maybe, told_choice, told_given, told_parts};
 ghost use Rattle.message_parts.specs.Particles.{name_at, kind_at, alternatives_at, is_once_at, is_optional_at, is_repeated_at, is_required, is_single, is_left_out, is_must, is_last_may, attribute_at, takes_at, takes_attribute, kind_among};
-ghost use Rattle.message_parts.specs.Reading.{Frame, seen_of, IsOpen, Enters, Leaves, Reads, IsRefusal, IsChosen, StartsAt, names_in};
+ghost use Rattle.message_parts.specs.Reading.{Frame, seen_of, IsOpen, Enters, Leaves, Reads, IsRefusal, IsChosen, StartsAt};
 ghost use Rattle.message_parts.specs.Sequence.{HoldsValues, ReadsThree, told_three};
 
 use crate::descent::Descent;
@@ -49,7 +48,6 @@ pub fn whole_record<'a, T: Record<'a>, P: Places>(
     ensures places { descent.new.reader.places.now ≡ descent.old.reader.places.now }
     ensures payload { descent.new.reader.reader.bits ≡ descent.old.reader.reader.bits }
     ensures refused { IfErr result (λ r. IsRefusal (seen_of P.schema descent.old) r) }
-    ensures distinct { are_distinct (names_in T.particles) ≡ true }
     ensures read { (F : Frame) (before : List TreeEvent) → StartsAt T.kinds F T.attributes T.particles 0 before (seen_of P.schema descent.old)
         → IfOk result (λ v. Reads T.kinds F T.attributes T.particles (length T.particles) (told_parts (T.parts v) (told_given (T.given v) before)) (seen_of P.schema descent.new)) }
 {

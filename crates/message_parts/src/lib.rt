@@ -19,7 +19,7 @@ pub use descent::Descent;
 pub use document::{read, read_here, write};
 pub use lent_text::LentText;
 pub use part::{
-    Alternatives, Choice, Contents, Declared, Group, LargeChoice, LargeGroup, LargeRecord,
+    Alternatives, Choice, Contents, DeclaredRecord, Group, LargeChoice, LargeGroup, LargeRecord,
     PutChoice, PutRecord, ReadRecord, ReadSimple, Record, Root, Simple,
 };
 pub use texts::{Binary, Text};

@@ -80,7 +80,7 @@ pub trait Contents<'a>: Drop {
 }
 
 /// What an element of a complex kind contains, and how it is declared.
-pub trait Declared: PutRecord {
+pub trait DeclaredRecord: PutRecord {
     /// The declarations of its schema.
     ghost kinds: { List PlainKind };
 
@@ -89,10 +89,13 @@ pub trait Declared: PutRecord {
 
     /// Those of its elements.
     ghost particles: { List PlainParticle };
+
+    /// No two elements have one name.
+    ghost apart: { are_distinct (names_in particles) ≡ true };
 }
 
 /// What an element of a complex kind contains, and of what it is made.
-pub trait Record<'a>: Declared {
+pub trait Record<'a>: DeclaredRecord {
     /// Of what it is made.
     type Made: Contents<'a>;
 
@@ -102,13 +105,10 @@ pub trait Record<'a>: Declared {
 
     /// That is what is declared.
     ghost declared: { Self.Made.stand Self.kinds Self.attributes Self.particles };
-
-    /// No two elements have one name.
-    ghost apart: { are_distinct (names_in Self.particles) ≡ true };
 }
 
 /// What an element of a complex kind contains, as it is read.
-pub trait ReadRecord<'a>: Declared {
+pub trait ReadRecord<'a>: DeclaredRecord {
     /// Reads the attributes and the elements, up to where there is no more.
     fn read<P: Places>(descent: &mut Descent<'a, '_, P>) -> Result<Self, Refusal>
         requires open { IsOpen P.schema descent.old }
@@ -117,14 +117,13 @@ pub trait ReadRecord<'a>: Declared {
         ensures places { descent.new.reader.places.now ≡ descent.old.reader.places.now }
         ensures payload { descent.new.reader.reader.bits ≡ descent.old.reader.reader.bits }
         ensures refused { IfErr result (λ r. IsRefusal (seen_of P.schema descent.old) r) }
-        ensures distinct { are_distinct (names_in Self.particles) ≡ true }
         ensures read { (F : Frame) (before : List TreeEvent) → StartsAt Self.kinds F Self.attributes Self.particles 0 before (seen_of P.schema descent.old)
             → IfOk result (λ v. Reads Self.kinds F Self.attributes Self.particles (length Self.particles) (told_parts (Self.parts v) (told_given (Self.given v) before)) (seen_of P.schema descent.new)) };
 }
 
 /// What an element of a complex kind contains, as it is read into a place that the caller lends: for types that are too large to move.
-pub trait LargeRecord<'a>: Declared {
-    /// Reads the attributes and the elements. What it is after a refusal is not told.
+pub trait LargeRecord<'a>: DeclaredRecord {
+    /// Reads the attributes and the elements, up to where there is no more. What it is after a refusal is not told.
     fn read_here<P: Places>(&mut self, descent: &mut Descent<'a, '_, P>) -> Result<(), Refusal>
         requires open { IsOpen P.schema descent.old }
         ensures open { IsOpen P.schema descent.new }
@@ -132,8 +131,6 @@ pub trait LargeRecord<'a>: Declared {
         ensures places { descent.new.reader.places.now ≡ descent.old.reader.places.now }
         ensures payload { descent.new.reader.reader.bits ≡ descent.old.reader.reader.bits }
         ensures refused { IfErr result (λ r. IsRefusal (seen_of P.schema descent.old) r) }
-        // No two elements have one name.
-        ensures distinct { are_distinct (names_in Self.particles) ≡ true }
         ensures read { (F : Frame) (told : List TreeEvent) → StartsAt Self.kinds F Self.attributes Self.particles 0 told (seen_of P.schema descent.old)
             → IfOk result (λ _. Reads Self.kinds F Self.attributes Self.particles (length Self.particles) (told_parts (Self.parts self.new) (told_given (Self.given self.new) told)) (seen_of P.schema descent.new)) };
 }

@@ -8,9 +8,9 @@ use exi_events::{EventWriter, Value};
 use exi_schema::Places;
 use message_fields::{Elements, OptionalValue, RequiredValue};
 use message_parts::{
-    Alternatives, Choice, Declared, Descent, Group, PutChoice, PutRecord, ReadRecord, ReadSimple,
-    Record, Simple, Text, member, member_value, put_optional_value, put_record, put_value,
-    whole_record,
+    Alternatives, Choice, DeclaredRecord, Descent, Group, PutChoice, PutRecord, ReadRecord,
+    ReadSimple, Record, Simple, Text, member, member_value, put_optional_value, put_record,
+    put_value, whole_record,
 };
 
 /// How a post is.
@@ -69,7 +69,8 @@ impl PutRecord for Reading {
     }
 }
 
-impl Declared for Reading {
+impl DeclaredRecord for Reading {
+    ghost use Rattle.std.proofs.Common.{rules};
     ghost use Rattle.parts_examples.specs.Declarations.{kinds, reading};
 
     ghost kinds = { kinds };
@@ -77,6 +78,8 @@ impl Declared for Reading {
     ghost attributes = { [] };
 
     ghost particles = { reading };
+
+    ghost apart = { Prim.search rules };
 }
 
 impl<'a> Record<'a> for Reading {
@@ -90,8 +93,6 @@ impl<'a> Record<'a> for Reading {
     }
 
     ghost declared = { Prim.search rules };
-
-    ghost apart = { Prim.search rules };
 }
 
 impl<'a> ReadRecord<'a> for Reading {
@@ -176,7 +177,8 @@ impl PutRecord for AcSupply {
     }
 }
 
-impl Declared for AcSupply {
+impl DeclaredRecord for AcSupply {
+    ghost use Rattle.std.proofs.Common.{rules};
     ghost use Rattle.parts_examples.specs.Declarations.{kinds, ac_supply};
 
     ghost kinds = { kinds };
@@ -184,6 +186,8 @@ impl Declared for AcSupply {
     ghost attributes = { [] };
 
     ghost particles = { ac_supply };
+
+    ghost apart = { Prim.search rules };
 }
 
 impl<'a> Record<'a> for AcSupply {
@@ -197,8 +201,6 @@ impl<'a> Record<'a> for AcSupply {
     }
 
     ghost declared = { Prim.search rules };
-
-    ghost apart = { Prim.search rules };
 }
 
 impl<'a> ReadRecord<'a> for AcSupply {
@@ -229,7 +231,8 @@ impl PutRecord for DcSupply {
     }
 }
 
-impl Declared for DcSupply {
+impl DeclaredRecord for DcSupply {
+    ghost use Rattle.std.proofs.Common.{rules};
     ghost use Rattle.parts_examples.specs.Declarations.{kinds, dc_supply};
 
     ghost kinds = { kinds };
@@ -237,6 +240,8 @@ impl Declared for DcSupply {
     ghost attributes = { [] };
 
     ghost particles = { dc_supply };
+
+    ghost apart = { Prim.search rules };
 }
 
 impl<'a> Record<'a> for DcSupply {
@@ -250,8 +255,6 @@ impl<'a> Record<'a> for DcSupply {
     }
 
     ghost declared = { Prim.search rules };
-
-    ghost apart = { Prim.search rules };
 }
 
 impl<'a> ReadRecord<'a> for DcSupply {
@@ -319,7 +322,8 @@ impl PutRecord for Stopped {
     }
 }
 
-impl Declared for Stopped {
+impl DeclaredRecord for Stopped {
+    ghost use Rattle.std.proofs.Common.{rules};
     ghost use Rattle.parts_examples.specs.Declarations.{kinds, stopped};
 
     ghost kinds = { kinds };
@@ -327,6 +331,8 @@ impl Declared for Stopped {
     ghost attributes = { [] };
 
     ghost particles = { stopped };
+
+    ghost apart = { Prim.search rules };
 }
 
 impl<'a> Record<'a> for Stopped {
@@ -340,8 +346,6 @@ impl<'a> Record<'a> for Stopped {
     }
 
     ghost declared = { Prim.search rules };
-
-    ghost apart = { Prim.search rules };
 }
 
 impl<'a> ReadRecord<'a> for Stopped {

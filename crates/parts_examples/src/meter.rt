@@ -8,7 +8,8 @@ use exi_events::EventWriter;
 use exi_schema::Places;
 use message_fields::{Elements, OptionalValue, RequiredValue};
 use message_parts::{
-    Declared, Descent, PutRecord, ReadRecord, Record, put_optional_value, put_value, whole_record,
+    DeclaredRecord, Descent, PutRecord, ReadRecord, Record, put_optional_value, put_value,
+    whole_record,
 };
 
 /// What a meter reads.
@@ -56,7 +57,8 @@ impl PutRecord for Meter {
     }
 }
 
-impl Declared for Meter {
+impl DeclaredRecord for Meter {
+    ghost use Rattle.std.proofs.Common.{rules};
     ghost use Rattle.parts_examples.specs.Declarations.{kinds, meter};
 
     ghost kinds = { kinds };
@@ -64,6 +66,8 @@ impl Declared for Meter {
     ghost attributes = { [] };
 
     ghost particles = { meter };
+
+    ghost apart = { Prim.search rules };
 }
 
 impl<'a> Record<'a> for Meter {
@@ -120,8 +124,6 @@ impl<'a> Record<'a> for Meter {
     }
 
     ghost declared = { Prim.search rules };
-
-    ghost apart = { Prim.search rules };
 }
 
 impl<'a> ReadRecord<'a> for Meter {

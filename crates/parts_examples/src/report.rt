@@ -17,8 +17,8 @@ use exi_events::{EventWriter, Full, Table};
 use exi_schema::Places;
 use message_fields::{Elements, SeveralValues};
 use message_parts::{
-    Alternatives, Binary, Choice, Declared, Descent, PutChoice, PutRecord, ReadRecord, Record,
-    Root, Text, attribute, choice, last_attribute, member, optional_choice, optional_value,
+    Alternatives, Binary, Choice, DeclaredRecord, Descent, PutChoice, PutRecord, ReadRecord,
+    Record, Root, Text, attribute, choice, last_attribute, member, optional_choice, optional_value,
     put_attribute, put_choice, put_optional_attribute, put_optional_choice, put_optional_value,
     put_record, put_records, put_value, put_values, read, records, required, value, whole_record,
     write,
@@ -43,7 +43,8 @@ impl PutRecord for Day {
     }
 }
 
-impl Declared for Day {
+impl DeclaredRecord for Day {
+    ghost use Rattle.std.proofs.Common.{rules};
     ghost use Rattle.parts_examples.specs.Declarations.{kinds, day};
 
     ghost kinds = { kinds };
@@ -51,6 +52,8 @@ impl Declared for Day {
     ghost attributes = { [] };
 
     ghost particles = { day };
+
+    ghost apart = { Prim.search rules };
 }
 
 impl<'a> Record<'a> for Day {
@@ -64,8 +67,6 @@ impl<'a> Record<'a> for Day {
     }
 
     ghost declared = { Prim.search rules };
-
-    ghost apart = { Prim.search rules };
 }
 
 impl<'a> ReadRecord<'a> for Day {
@@ -86,7 +87,8 @@ impl PutRecord for Closed {
     fn write<P: Places>(&self, _writer: &mut EventWriter<'_, '_, P>) {}
 }
 
-impl Declared for Closed {
+impl DeclaredRecord for Closed {
+    ghost use Rattle.std.proofs.Common.{rules};
     ghost use Rattle.parts_examples.specs.Declarations.{kinds};
 
     ghost kinds = { kinds };
@@ -94,6 +96,8 @@ impl Declared for Closed {
     ghost attributes = { [] };
 
     ghost particles = { [] };
+
+    ghost apart = { Prim.search rules };
 }
 
 impl<'a> Record<'a> for Closed {
@@ -106,8 +110,6 @@ impl<'a> Record<'a> for Closed {
     }
 
     ghost declared = { Prim.search rules };
-
-    ghost apart = { Prim.search rules };
 }
 
 impl<'a> ReadRecord<'a> for Closed {
@@ -157,7 +159,8 @@ impl PutRecord for Report<'_> {
     }
 }
 
-impl Declared for Report<'_> {
+impl DeclaredRecord for Report<'_> {
+    ghost use Rattle.std.proofs.Common.{rules};
     ghost use Rattle.parts_examples.specs.Declarations.{kinds, report, report_attributes};
 
     ghost kinds = { kinds };
@@ -165,6 +168,8 @@ impl Declared for Report<'_> {
     ghost attributes = { report_attributes };
 
     ghost particles = { report };
+
+    ghost apart = { Prim.search rules };
 }
 
 /// A report has two attributes, which no type of `message_fields` has: so it is read child by child.
