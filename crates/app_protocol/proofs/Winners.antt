@@ -1,11 +1,11 @@
 -- The winner among the entries so far, one entry on.
 use Rattle.std.proofs.Common.{◌≡◌, ◌<◌, List, [], ◌∷◌, ◌++◌, All, Option, Some, None, refl, ap, ◌∙◌, append_assoc, arith}
-use Rattle.std.proofs.lemmas.List.Elements.{All-push, All-append, All-weaker, All-cons, All-nil, All-contains}
+use Rattle.std.proofs.lemmas.List.Elements.{All-push, All-append, All-weaker, All-cons, All-nil}
 use Rattle.charge_world.specs.declared.offer.Dialect.{Dialect}
 use Rattle.app_protocol.specs.declared.negotiation.Winner.{Winner}
 use Rattle.app_protocol.specs.Messages.{Protocol}
 use Rattle.app_protocol.specs.Winning.{IsWinner, Won}
-use Rattle.app_protocol.specs.Negotiation.{Names, Matches, NoMatch, IsAbove, IsFrom, code_for}
+use Rattle.app_protocol.specs.Negotiation.{Matches, NoMatch, IsAbove, IsFrom, code_for}
 
 -- an entry behind, whose Priority isn't below the winner's where it matches
 pub stays : (offer : List Dialect) (taken : List Protocol) (w : Winner) (p : Protocol) → IsFrom offer w.priority p → IsWinner offer taken w → IsWinner offer (taken ++ p ∷ []) w
@@ -70,7 +70,3 @@ lower offer taken old w p won lt m pr re =
       priority = pr;
       response = re;
     }
-
--- none of the offer's dialects is named
-pub no_match : (offer : List Dialect) (p : Protocol) → All (λ d. Names p d → ⊥) offer → NoMatch offer p
-no_match offer p none d m = All-contains (λ e. Names p e → ⊥) offer d none m.offered m.named

@@ -34,15 +34,6 @@ pub next_word : (c : Codecs) (plan : CarPlan) (s d new : State) (room : List ℕ
 next_word c plan s d new room e h r =
     (subst (λ (t : State). first t.agenda ≡ None) e (prepared_none c plan (first d.agenda) room h), subst (λ (t : State). ReadsNext c plan t new) e r)
 
-pub next_rest : (c : Codecs) (plan : CarPlan) (s d new : State) (room : List ℕ) → d ≡ decided plan s → Prepares c plan (first d.agenda) room None → wanted d ≡ None → new ≡ d → Nexts c plan s room next.Rest new
-next_rest c plan s d new room e h w n = (
-  record {
-    none = subst (λ (t : State). first t.agenda ≡ None) e (prepared_none c plan (first d.agenda) room h);
-    no_word = subst (λ (t : State). wanted t ≡ None) e w;
-  },
-  n ∙ e,
-)
-
 -- a word is read where one is wanted
 pub reads_some : (c : Codecs) (plan : CarPlan) (s new : State) (w : Option Payload) (j : Judged) → wanted s ≡ w → JudgesFor c plan.dialects.items w (Some j) → new ≡ read plan s j → ReadsSo c plan s true new
 reads_some c plan s new None j e h n = absurd h

@@ -79,14 +79,6 @@ outgoing n (does.Give o) taken = omega arith
 outgoing n (does.Say spoken bytes) taken = omega arith
 outgoing n (does.End number) taken = omega arith
 
--- whatever is said, the entry of a deed is the same
-pub entry_same : (room : List ℕ) (a b : Spoken) (deed : Deed) (taken : Bool) → entry_of (act_of room a deed) taken ≡ entry_of (act_of room b deed) taken
-entry_same room a b (Dial port) taken = refl
-entry_same room a b (Give order) taken = refl
-entry_same room a b (Say n) taken = refl
-entry_same room a b (Finish cause) taken = refl
-entry_same room a b Seek taken = refl
-
 -- ---- the report
 
 stage_cycles : (plan : CarPlan) (steps : List Step) (o : Option CarStage) (sent : Option ℕ) → StageReads plan steps o sent → cycles_in o ≡ cycles steps

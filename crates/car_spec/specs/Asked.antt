@@ -3,7 +3,7 @@
 use Rattle.std.specs.Prelude.{ℕ, Bool, true, if◌then◌else◌, List, [], ◌∷◌, Option, Some, None}
 use Rattle.session_words.specs.declared.word.Ask.{Ask}
 use Rattle.session_words.specs.declared.word.Request.{Request}
-use Rattle.post_spec.specs.Kinds.{asks_cable_check, asks_pre_charge, asks_authorization, asks_parameters, asks_renegotiation}
+use Rattle.post_spec.specs.Kinds.{asks_renegotiation}
 use Rattle.car_spec.specs.Steps.{Asked, Act, Say, Step, Hears, Loses, Reads, Does}
 
 -- now: the greatest moment heard so far
@@ -62,16 +62,3 @@ first_of kind (Hears at event ∷ steps) = first_of kind steps
 first_of kind (Loses ∷ steps) = first_of kind steps
 first_of kind (Reads word ∷ steps) = first_of kind steps
 first_of kind (Does act taken ∷ steps) = first_with kind (request_in act taken) (now steps) (first_of kind steps)
-
--- when the first one of a round was asked
-abbrev pub first_authorization : List Step → Option ℕ
-first_authorization = first_of asks_authorization
-
-abbrev pub first_parameters : List Step → Option ℕ
-first_parameters = first_of asks_parameters
-
-abbrev pub first_cable_check : List Step → Option ℕ
-first_cable_check = first_of asks_cable_check
-
-abbrev pub first_pre_charge : List Step → Option ℕ
-first_pre_charge = first_of asks_pre_charge

@@ -3,25 +3,9 @@ use Rattle.std.proofs.Common.{◌≡◌, ℕ, List, Option, Some, None, Ok, refl
 use Rattle.message_dialects.specs.declared.dialect.MessageDialect.{MessageDialect}
 use Rattle.message_trees.specs.Texts.{IsRefusedIn, IsUnscanned}
 use Rattle.message_trees.proofs.Decided.{apart, scanned_apart}
-use Rattle.charge_run.specs.Runs.{Answers, Prints, Refuses, HasFault, Decodes, IsDecodedLine, IsDecodeFault, Encodes, IsEncodedLine}
-use Rattle.charge_run.specs.declared.fault.InputFault.{InputFault}
-use Rattle.charge_run.specs.declared.fault.InputFault.TheVariants.{Place, Memory}
+use Rattle.charge_run.specs.Runs.{Answers, Decodes, IsDecodedLine, IsDecodeFault, Encodes, IsEncodedLine}
 use Rattle.command_status.specs.declared.status.Status.{Status}
 use Rattle.command_status.specs.declared.status.Status.TheVariants as status
-
-pub answers_line : (IsLine : List ℕ → Type 0) (IsFaultAt : ℕ → Type 0) (line : List ℕ) (s : Status) (before after : Option (List ℕ)) (n m : ℕ) →
-    IsLine line → Prints line s before after → Answers IsLine IsFaultAt s before after n m
-answers_line IsLine IsFaultAt line s before after n m is (inl h) =
-    subst (λ (s : Status). Answers IsLine IsFaultAt s before after n m) (sym h.0) (line, is, h.1)
-answers_line IsLine IsFaultAt line s before after n m is (inr h) =
-    subst (λ (s : Status). Answers IsLine IsFaultAt s before after n m) (sym h.0) (line, is, h.1)
-
-pub answers_fault : (IsLine : List ℕ → Type 0) (IsFaultAt : ℕ → Type 0) (fault : InputFault) (s : Status) (before after : Option (List ℕ)) (n m : ℕ) →
-    HasFault IsFaultAt fault → Refuses fault s before after n m → Answers IsLine IsFaultAt s before after n m
-answers_fault IsLine IsFaultAt (Place place) s before after n m is h =
-    subst (λ (s : Status). Answers IsLine IsFaultAt s before after n m) (sym h.0) (place, is, h.1)
-answers_fault IsLine IsFaultAt Memory s before after n m is h =
-    subst (λ (s : Status). Answers IsLine IsFaultAt s before after n m) (sym h.0) h.1
 
 -- a text that is refused gives no line
 no_line : (dialect : MessageDialect) (hex line : List ℕ) (place : ℕ) → IsDecodedLine dialect hex line → IsDecodeFault dialect hex place → ⊥

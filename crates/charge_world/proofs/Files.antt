@@ -1,5 +1,5 @@
 -- Files by their places and names.
-use Rattle.std.proofs.Common.{◌≡◌, ℕ, zero, suc, ◌+◌, ◌-◌, ◌<◌, ◌≤◌, true, false, List, [], ◌∷◌, ◌++◌, length, take, drop, get_or, refl, sym, ap, ◌∙◌, arith}
+use Rattle.std.proofs.Common.{◌≡◌, ℕ, zero, suc, ◌+◌, ◌-◌, ◌<◌, ◌≤◌, true, List, [], ◌∷◌, ◌++◌, length, take, drop, get_or, refl, sym, ap, ◌∙◌, arith}
 use Rattle.std.proofs.lemmas.List.{drop-drop, drop_all, take-append-drop, take_at, length-take, length-drop, drop_more}
 use Rattle.std.specs.Str.{bytes_eq}
 use Rattle.charge_world.specs.declared.memory_source.NamedFile.{NamedFile}
@@ -28,12 +28,6 @@ named_here files i f name h is eq same =
     let split : drop i files ≡ f ∷ drop (i + 1) files = drop_more files i f h ∙ ap (λ (x : NamedFile). x ∷ drop (i + 1) files) (sym is) in
     let here : bytes_named (drop i files) name ≡ f.bytes = rw (split, eq) refl in
     place_at files i f h ∙ ap (λ (x : NamedFile). x.bytes) (sym is) ∙ sym here ∙ same
-
-pub named_later : (files : List NamedFile) (i : ℕ) (f : NamedFile) (name : List ℕ) → i < length files → f ≡ get_or files i f → bytes_eq f.name name ≡ false → bytes_named (drop i files) name ≡ bytes_named files name → bytes_named (drop (i + 1) files) name ≡ bytes_named files name
-named_later files i f name h is eq same =
-    let split : drop i files ≡ f ∷ drop (i + 1) files = drop_more files i f h ∙ ap (λ (x : NamedFile). x ∷ drop (i + 1) files) (sym is) in
-    let here : bytes_named (drop i files) name ≡ bytes_named (drop (i + 1) files) name = rw (split, eq) refl in
-    sym here ∙ same
 
 pub named_nowhere : (files : List NamedFile) (i : ℕ) (name : List ℕ) → length files ≤ i → bytes_named (drop i files) name ≡ bytes_named files name → at_place files (length files) ≡ bytes_named files name
 named_nowhere files i name h same = place_past files (length files) (omega arith) ∙ sym (ap (λ (fs : List NamedFile). bytes_named fs name) (drop_all i files h)) ∙ same

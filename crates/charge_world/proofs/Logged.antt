@@ -29,12 +29,6 @@ fit_push : (bytes : List ℕ) (kept : List Kept) (k : Kept) → AllFit bytes kep
 fit_push bytes [] k fits here = (here, tt)
 fit_push bytes (j ∷ kept) k fits here = (fits.0, fit_push bytes kept k fits.1 here)
 
-pub all_fit : (bytes more : List ℕ) (kept : List Kept) (k : Kept) → k.from ≡ length bytes → k.len ≡ length more → AllFit bytes kept → AllFit (bytes ++ more) (kept ++ k ∷ [])
-all_fit bytes more kept k from len fits = fit_push (bytes ++ more) kept k (fit_more bytes more kept fits) (omega (arith, from, len, length-append bytes more))
-
-pub all_fit_more : (bytes more : List ℕ) (kept : List Kept) → AllFit bytes kept → AllFit (bytes ++ more) kept
-all_fit_more = fit_more
-
 pub logged : (bytes more : List ℕ) (kept : List Kept) (k : Kept) → k.from ≡ length bytes → k.len ≡ length more → AllFit bytes kept
     → reverse (map (entry_of (bytes ++ more)) (kept ++ k ∷ [])) ≡ entry_with k.note more ∷ reverse (map (entry_of bytes) kept)
 logged bytes more kept k from len fits =

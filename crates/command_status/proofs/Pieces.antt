@@ -1,6 +1,5 @@
 -- Bytes that are written piece by piece.
-use Rattle.std.proofs.Common.{ℕ, List, [], ◌++◌, Option, Some, None, Result, Ok, Err, OnErr, sym, ap, ◌∙◌, append_assoc}
-use Rattle.std.proofs.lemmas.List.{append-nil}
+use Rattle.std.proofs.Common.{ℕ, List, ◌++◌, Option, Some, None, Result, Ok, Err, OnErr, sym, ap, ◌∙◌, append_assoc}
 use Rattle.charge_world.specs.Outside.{Appends, AppendsSome}
 
 -- one piece and then one more
@@ -28,12 +27,6 @@ appends_first before None p q h = tt
 appends_first None (Some new) p q h = absurd h
 appends_first (Some old) (Some new) p q (front, rest, split, now) =
     (front, rest ++ q, ap (λ (xs : List ℕ). xs ++ q) split ∙ append_assoc front rest q, now)
-
--- a whole piece is a front of itself
-pub appends_whole : (before after : Option (List ℕ)) (p : List ℕ) → Appends before after p → AppendsSome before after p
-appends_whole before None p h = tt
-appends_whole None (Some new) p h = absurd h
-appends_whole (Some old) (Some new) p h = (p, [], sym (append-nil p), h)
 
 -- where a call failed
 pub on_err : {T E : Type 0} (r : Result T E) (P : Type 0) → P → OnErr r P

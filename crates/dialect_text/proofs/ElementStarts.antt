@@ -1,5 +1,5 @@
 -- The starts of elements inside an element of a complex kind.
-use Rattle.std.proofs.Common.{◌≡◌, ℕ, zero, suc, ◌-◌, ◌<◌, inl, true, false, List, [], ◌∷◌, length, Option, Some, None, slice_get, refl, sym, ap, subst, ◌∙◌, arith, get_or}
+use Rattle.std.proofs.Common.{◌≡◌, ℕ, zero, suc, ◌-◌, ◌<◌, true, false, List, ◌∷◌, length, Option, Some, None, slice_get, refl, sym, ap, subst, ◌∙◌, arith, get_or}
 use Rattle.std.specs.List.{list_all, AllByRecursion}
 use Rattle.std.specs.Str.{encode_utf8_all}
 use Rattle.std.proofs.lemmas.Option.{slice_get_within, slice_get-get_or}
@@ -14,7 +14,6 @@ use Rattle.value_text.specs.Scanning.{IsAwaitedText, IsAnyAwaited, MissesAt}
 use Rattle.dialect_text.specs.declared.elements.Filling.TheVariants as fills
 use Rattle.dialect_text.specs.declared.elements.OpenElement.{OpenElement}
 use Rattle.value_text.specs.declared.fault.ScanFault.{ScanFault}
-use Rattle.value_text.specs.declared.fault.ScanFault.TheVariants as fault
 use Rattle.dialect_text.specs.Dialect.{Within, element, element_in, element_of, element_named, mark, gap, IsStartText}
 use Rattle.dialect_text.specs.Languages.{Completes, Leads}
 use Rattle.dialect_text.specs.Scanning.{IsSound}
@@ -146,22 +145,6 @@ element_stalls s top above particles awaited items a f sound fit of_kind only ea
     let there = each q.name q.kind (sym (of_kind q.name) ∙ q.declared) in
     (q.front, q.rest, (there.0, record { name = q.name; end = mark s q.kind }, ap (λ (xs : List Awaited). slice_get xs there.0) same ∙ there.1, start_awaited s q.name q.kind q.front q.starts), q.text_is))
     p
-
--- where no element may stand, none follows
-pub element_none : (s : PlainSchema) (top : OpenElement) (above : List OpenElement) (particles : List PlainParticle) (items : List Awaited) (a : TextCursor) → ((name : ℕ) → element_of s top.kind name ≡ element_named particles name) → HasElements s particles items →
-    length items ≡ 0 → StallsAt (StartsElement s top above) a (fault.Place a.place)
-element_none s top above particles items a of_kind each none = (
-  [],
-  record {
-    more = a.rest.now;
-    stands = refl;
-    begins = inl refl;
-    none_further = λ text shares q.
-        let there = each q.name q.kind (sym (of_kind q.name) ∙ q.declared) in
-        let low = slice_get_within items there.0 (record { name = q.name; end = mark s q.kind }) there.1 in omega (arith, low, none);
-  },
-  omega arith,
-)
 
 pub taken_within : (s : PlainSchema) (awaited items : List Awaited) (i : ℕ) (a b : TextCursor) → awaited ≡ items → NameTaken s awaited a b i → i < length items
 taken_within s awaited items i a b same p = slice_get_within items i p.1 (ap (λ (xs : List Awaited). slice_get xs i) (sym same) ∙ p.3)

@@ -41,9 +41,6 @@ starts_read s text cursor whole start = record {
   place = start;
 }
 
-pub starts_said : (s : PlainSchema) (text : List ℕ) (cursor : TextCursor) → cursor.rest.now ≡ text → cursor.place ≡ 0 → HasSaid s text [] Before cursor
-starts_said s text cursor whole start = record { front = []; says = (refl, refl); stands = sym whole; place = start }
-
 -- ---- what is said and read
 
 pub said_on : (s : PlainSchema) (text : List ℕ) (events : List Event) (old new : Standing) (a b : TextCursor) (event : Event) → HasSaid s text events old a → TakesNext s [] (Completes s old) old a event new b → HasSaid s text (event ∷ events) new b

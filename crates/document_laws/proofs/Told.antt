@@ -25,12 +25,6 @@ standing_of state = state.standing
 abbrev entries_of : State → Entries
 entries_of state = state.entries
 
-abbrev IsInside : Standing → Type 0
-IsInside Before = ⊥
-IsInside (AtRoot name kind) = ⊥
-IsInside (Inside top above) = Unit {0}
-IsInside Behind = ⊥
-
 abbrev IsBehind : Standing → Type 0
 IsBehind Before = ⊥
 IsBehind (AtRoot name kind) = ⊥

@@ -90,9 +90,6 @@ code_once : (count code : ℕ) (a b : List Bool) → SpellsCode count code a →
 code_once count code a b p q =
     p.spelled ∙ ap (λ (w : ℕ). number_bits w code) (same_index_width count p.width q.width p.is_width q.is_width) ∙ sym q.spelled
 
-once_by : (a b : List Bool) (entries after other : Entries) → a ≡ b → after ≡ entries → other ≡ entries → (a ≡ b) × (after ≡ other)
-once_by a b entries after other e p q = (e, p ∙ sym q)
-
 first_once : (partition : List (List ℕ)) (text : List ℕ) (i j : ℕ) → IsFirstAt partition text i → IsFirstAt partition text j → i ≡ j
 first_once partition text i j p q =
     elim (cases_lt i j) [

@@ -80,9 +80,6 @@ push_char (first ∷ chars) char front last s one =
 abbrev pub CharsAt : List Bool → ℕ → ℕ → ℕ → Type 0
 CharsAt bits bit n found = (chars : List ℕ) × (length chars ≡ n) × ItemAt (SpellsChars chars) bits bit found
 
-chars_none : (bits : List Bool) (bit : ℕ) → CharsAt bits bit 0 0
-chars_none bits bit = ([], refl, ([], refl, record { long = refl; there = ap (λ (k : ℕ). drop k bits) (let e : bit ≡ bit + 0 = omega arith in e) }))
-
 pub chars_more : (bits : List Bool) (bit n found char more : ℕ) → CharsAt bits bit n found → ItemAt (SpellsChar char) bits (bit + found) more → CharsAt bits bit (n + 1) (found + more)
 chars_more bits bit n found char more c one =
     let item = c.2 in

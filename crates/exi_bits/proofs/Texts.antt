@@ -9,9 +9,8 @@ use Rattle.std.proofs.lemmas.Str.{chars_past_char, chars-nil, length-encode}
 use Rattle.std.specs.Char.{len_utf8}
 use Rattle.std.specs.Prelude.{encode_utf8}
 use Rattle.exi_spec.specs.Items.{shortest_unsigned, shortest_chars}
-use Rattle.exi_bits.specs.Written.{PadsZero, Extends}
+use Rattle.exi_bits.specs.Written.{Extends}
 use Rattle.exi_bits.proofs.Pushed.{extended}
-use Rattle.exi_bits.proofs.Shortest.{put_none}
 
 pub next_char : (bytes rest : List ℕ) (c : ℕ) → IsUtf8 bytes → bytes ≡ encode_utf8 c ++ rest → shortest_chars (chars bytes) ≡ shortest_unsigned c ++ shortest_chars (chars rest)
 next_char bytes rest c u e = ap shortest_chars (chars_past_char bytes rest c u e)
@@ -26,9 +25,6 @@ pub record WroteChars (old new : List ℕ) (at n : ℕ) (text rest : List ℕ) :
   pub front : List Bool
   pub split : shortest_chars (chars text) ≡ front ++ shortest_chars (chars rest)
   pub wrote : Extends old new at n front
-
-wrote_no_char : (room : List ℕ) (at : ℕ) (text : List ℕ) → PadsZero room at → WroteChars room room at 0 text text
-wrote_no_char room at text clean = record { front = []; split = refl; wrote = put_none room at clean }
 
 pub wrote_char : (old new next : List ℕ) (at n m c : ℕ) (text bytes rest : List ℕ) → IsUtf8 bytes → bytes ≡ encode_utf8 c ++ rest → WroteChars old new at n text bytes → Extends new next (at + n) m (shortest_unsigned c) → WroteChars old next at (n + m) text rest
 wrote_char old new next at n m c text bytes rest u e p q =

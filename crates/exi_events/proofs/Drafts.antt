@@ -1,6 +1,6 @@
 -- A document as far as it is written, by a pen and by a writer.
-use Rattle.std.proofs.Common.{◌≡◌, ℕ, ◌*◌, ◌≤◌, Bool, false, List, [], ◌∷◌, ◌++◌, length, take, replicate, append_assoc, arith, refl, Result, sym, ap, ap₂, subst, ◌∙◌, Option, Some, OnOk}
-use Rattle.std.proofs.lemmas.List.{append-nil, length-append, length-take}
+use Rattle.std.proofs.Common.{◌≡◌, ℕ, ◌*◌, ◌≤◌, Bool, false, List, ◌∷◌, length, take, replicate, arith, Result, sym, ap, ap₂, subst, ◌∙◌, Option, Some, OnOk}
+use Rattle.std.proofs.lemmas.List.{length-take}
 use Rattle.std.proofs.lemmas.Result.{IfOk-weaker}
 use Rattle.exi_spec.specs.Bits.{bits_of}
 use Rattle.exi_spec.proofs.BitLaws.{length-bits_of}
@@ -13,32 +13,14 @@ use Rattle.exi_schema.specs.Schemas.{PlainSchema}
 use Rattle.exi_documents.specs.Grammar.{Opened, State}
 use Rattle.exi_documents.specs.Trees.{Event as TreeEvent}
 use Rattle.exi_values.specs.Meaning.{texts_in, AreTexts}
-use Rattle.exi_writing.specs.Writing.{WritesMore}
 use Rattle.exi_writing.proofs.Stays.{are_texts_behind, texts_behind}
 use Rattle.exi_events.specs.declared.reader.Phase.{Phase}
 use Rattle.exi_events.specs.declared.writer.EventWriter.{EventWriter}
 use Rattle.exi_events.specs.Reader.{state_of}
-use Rattle.exi_events.specs.Writer.{Draft, drafted, draft_of, KeepsLent, Adds, AddsSome, NeedsMore, HasPut, IsPut}
+use Rattle.exi_events.specs.Writer.{Draft, drafted, draft_of, KeepsLent, Adds, HasPut, IsPut}
 
 pub adds : (old new : BitPen) (before after : State) (bits : List Bool) → Writes old new bits → Adds (drafted old before) (drafted new after) bits
 adds old new before after bits w = record { written = w.written; room = w.room }
-
-pub adds_some : (old new : BitPen) (before after : State) → WritesMore old new → AddsSome (drafted old before) (drafted new after)
-adds_some old new before after more = (more.0, adds old new before after more.0 more.1)
-
-pub adds_none : (draft : Draft) → Adds draft draft []
-adds_none draft = record { written = sym (append-nil draft.bits); room = refl }
-
-pub adds_both : (a b c : Draft) (x y : List Bool) → Adds a b x → Adds b c y → Adds a c (x ++ y)
-adds_both a b c x y p q =
-    record {
-      written = q.written ∙ ap (λ (l : List Bool). l ++ y) p.written ∙ append_assoc a.bits x y;
-      room = q.room ∙ p.room;
-    }
-
--- the room is too small for what comes behind
-pub more_behind : (a b : Draft) (x y : List Bool) → Adds a b x → NeedsMore b (length y) → NeedsMore a (length (x ++ y))
-more_behind a b x y p n = omega (arith, n, p.room, ap length p.written, length-append a.bits x, length-append x y)
 
 -- ---- between two calls
 

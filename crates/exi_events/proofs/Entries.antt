@@ -8,7 +8,7 @@ use Rattle.exi_bits.specs.Lent.{Span, items_of, text_at}
 use Rattle.exi_bits.specs.declared.span.SpanAt.{SpanAt}
 use Rattle.exi_strings.specs.Table.{global_of, local_of}
 use Rattle.exi_strings.specs.Texts.{IsAbsent}
-use Rattle.exi_documents.specs.Trees.{Value as TreeValue, Truth, Ordinal, Number, Bytes, Text}
+use Rattle.exi_documents.specs.Trees.{Value as TreeValue, Text}
 use Rattle.exi_documents.specs.Values.{Entries, most_entries}
 use Rattle.exi_values.specs.declared.Value.{Value}
 use Rattle.exi_values.specs.declared.Value.TheVariants as value
@@ -52,14 +52,6 @@ pub absent_locally : (name : ℕ) (entries : Entries) (text : List ℕ) → IsAb
 absent_locally name entries text absent i found = let there = local_there name entries i text found in absent there.0 there.1
 
 -- ---- room
-
-pub room_below : (entries : Entries) (name : ℕ) (v : TreeValue) → length entries < most_entries → HasEntryFor entries name v
-room_below entries name (Truth truth) few = tt
-room_below entries name (Ordinal ordinal) few = tt
-room_below entries name (Number v) few = tt
-room_below entries name (Bytes bytes) few = tt
-room_below entries name (Text []) few = tt
-room_below entries name (Text (char ∷ chars)) few = λ local global. few
 
 pub room_none : (entries : Entries) (name : ℕ) (v : TreeValue) (text : List ℕ) → v ≡ Text text → length text ≡ 0 → HasEntryFor entries name v
 room_none entries name v text is none = subst (λ (w : TreeValue). HasEntryFor entries name w) (sym is) (of_text text none)

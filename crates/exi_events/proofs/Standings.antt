@@ -70,11 +70,6 @@ iff_both p q = ((λ a. q.0 (p.0 a)), (λ c. p.1 (q.1 c)))
 
 -- ---- what is found of an event inside an element
 
-pub found_inside : (s : PlainSchema) (p : Phase) (elements : List Opened) (top : OpenElement) (f : Found) (e : Event) → p ≡ phase.Inside → HasTop elements top → IsFoundAt s (standing_of p elements) f e → IsFoundIn s top.place f e
-found_inside s p elements top f e is has h =
-    let P : Phase → List Opened → Type 0 = λ q es. IsFoundAt s (standing_of q es) f e in
-    subst (λ (es : List Opened). P phase.Inside es) has.1 (subst (λ (q : Phase). P q elements) is h)
-
 pub inside_found : (s : PlainSchema) (p : Phase) (elements : List Opened) (top : OpenElement) (f : Found) (e : Event) → p ≡ phase.Inside → HasTop elements top → IsFoundIn s top.place f e → IsFoundAt s (standing_of p elements) f e
 inside_found s p elements top f e is has h =
     let P : Phase → List Opened → Type 0 = λ q es. IsFoundAt s (standing_of q es) f e in
@@ -89,10 +84,6 @@ found_before s p elements f e is = subst (λ (q : Phase). IsFoundAt s (standing_
 
 pub found_at_root : (s : PlainSchema) (p : Phase) (elements : List Opened) (f : Found) (e : Event) (name kind : ℕ) → p ≡ phase.AtRoot name kind → IsFoundAt s (standing_of p elements) f e
 found_at_root s p elements f e name kind is = subst (λ (q : Phase). IsFoundAt s (standing_of q elements) f e) (sym is) tt
-
-pub found_behind : (s : PlainSchema) (p : Phase) (elements : List Opened) (f : Found) (e : Event) → p ≡ phase.Inside → elements ≡ [] → IsFoundAt s (standing_of p elements) f e
-found_behind s p elements f e is none =
-    subst (λ (q : Phase). IsFoundAt s (standing_of q elements) f e) (sym is) (subst (λ (es : List Opened). IsFoundAt s (around es) f e) (sym none) tt)
 
 -- the code that is found inside
 pub found_by_offer : (s : PlainSchema) (p : Phase) (elements : List Opened) (top : OpenElement) (offer : Option Offer) (r : Option Found) (e : Event) → p ≡ phase.Inside → HasTop elements top →

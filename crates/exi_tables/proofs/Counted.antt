@@ -1,5 +1,5 @@
 -- The places of a declaration are those that the counts tell, and each count fits 16 bits.
-use Rattle.std.proofs.Common.{◌≡◌, ℕ, ◌+◌, ◌<◌, ◌≤◌, true, ◌&&◌, nat_lt, nat_le, List, [], ◌∷◌, length, drop, Option, Some, None, get_or, zero, suc, refl, ap, subst, sym, ◌∙◌, arith}
+use Rattle.std.proofs.Common.{◌≡◌, ℕ, ◌<◌, ◌≤◌, true, ◌&&◌, nat_lt, nat_le, List, [], ◌∷◌, length, drop, Option, Some, None, get_or, zero, suc, refl, ap, subst, sym, ◌∙◌, arith}
 use Rattle.std.specs.Prelude.{slice_get}
 use Rattle.std.specs.List.{list_all}
 use Rattle.std.proofs.lemmas.Bool.{ltb-true}
@@ -11,7 +11,7 @@ use Rattle.exi_schema.specs.declared.tables.Declaration.{Declaration}
 use Rattle.exi_schema.specs.declared.tables.Declaration.TheVariants.{Complex}
 use Rattle.exi_schema.specs.declared.tables.Particle.{Particle}
 use Rattle.exi_schema.specs.declared.places.Place.{Place}
-use Rattle.exi_schema.specs.Offers.{FitsCopies, FitsParticles, IsPlaceIn, IsPlaceOf, IsPlace}
+use Rattle.exi_schema.specs.Offers.{FitsCopies, FitsParticles, IsPlaceIn}
 use Rattle.exi_schema.proofs.Conditions.{and-l, and-r, complex_in}
 use Rattle.exi_schema.proofs.Fitting.{fit_drop}
 use Rattle.exi_tables.specs.Counts.{attribute_places, particle_places, copies_within, copies_before, copy_places}
@@ -38,27 +38,6 @@ place_counted place (valued datatype) at =
 place_counted place (containing attributes particles) at =
     let low : place.attributes ≤ length attributes = at.0 in let in_them : place.particle ≤ length particles = at.1 in
     record { attributes = omega (arith, low); particle = omega (arith, in_them); copies = before_counted place.copies (drop place.particle particles) at.2 }
-
-copies_fit : (copies profile : ℕ) (most : Option ℕ) → copies < copies_within profile most → FitsCopies copies profile most
-copies_fit copies profile None less = omega (arith, less)
-copies_fit copies profile (Some most) less = less
-
-before_fit : (copies : ℕ) (particles : List PlainParticle) → copies < copies_before particles → FitsParticles copies particles
-before_fit copies [] less = omega (arith, less)
-before_fit copies (particle ∷ particles) less = copies_fit copies particle.profile particle.most less
-
-counted_in : (place : Place) (d : PlainKind) → IsCounted d place → IsPlaceIn place d
-counted_in place (valued datatype) is =
-    let a : place.attributes < 1 = is.attributes in let p : place.particle < 2 = is.particle in let c : place.copies < 1 = is.copies in
-    let none : place.attributes ≡ 0 = omega (arith, a) in let low : place.particle ≤ 1 = omega (arith, p) in let first : place.copies ≡ 0 = omega (arith, c) in
-    (none, low, first)
-counted_in place (containing attributes particles) is =
-    let a : place.attributes < length attributes + 1 = is.attributes in let p : place.particle < length particles + 1 = is.particle in
-    let low : place.attributes ≤ length attributes = omega (arith, a) in let in_them : place.particle ≤ length particles = omega (arith, p) in
-    (low, in_them, before_fit place.copies (drop place.particle particles) is.copies)
-
-pub counted_place : (kinds : List PlainKind) (place : Place) (d : PlainKind) → slice_get kinds place.kind ≡ Some d → IsCounted d place → IsPlace kinds place
-counted_place kinds place d there is = let P : Option PlainKind → Type 0 = λ o. IsPlaceOf place o in subst P (sym there) (counted_in place d is)
 
 -- ---- no count is above 2 ^ 16
 

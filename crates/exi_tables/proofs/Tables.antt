@@ -1,5 +1,5 @@
 -- How a table grows by an item, and is read; and how a list of steps grows.
-use Rattle.std.proofs.Common.{◌≡◌, ℕ, zero, suc, ◌+◌, ◌<◌, List, [], ◌∷◌, ◌++◌, length, take, get_or, Some, refl, ap, subst, sym, arith, length-append, add-one}
+use Rattle.std.proofs.Common.{◌≡◌, ℕ, zero, suc, ◌+◌, ◌<◌, List, [], ◌∷◌, ◌++◌, length, take, get_or, Some, ap, subst, sym, arith, length-append, add-one}
 use Rattle.std.specs.Prelude.{slice_get}
 use Rattle.std.proofs.lemmas.Option.{slice_get_read}
 use Rattle.exi_tables.specs.Filled.{IsTable}
@@ -10,10 +10,6 @@ each_push {X} P [] x all last zero y is = let same : Some x ≡ Some y = is in l
 each_push P [] x all last (suc i) y is = absurd cc
 each_push P (z ∷ zs) x all last zero y is = all zero y is
 each_push P (z ∷ zs) x all last (suc i) y is = each_push (λ k. P (suc k)) zs x (λ k. all (suc k)) last i y is
-
-pub table_none : {X : Type 0} (P : ℕ → X → Type 0) (xs : List X) → xs ≡ [] → IsTable 0 P xs
-table_none {X} P xs none =
-    let Q : List X → Type 0 = λ l. IsTable 0 P l in subst Q (sym none) (record { whole = refl; each = λ i item is. absurd cc })
 
 pub table_push : {X : Type 0} (n : ℕ) (P : ℕ → X → Type 0) (xs : List X) (x : X) → IsTable n P xs → P n x → IsTable (n + 1) P (xs ++ x ∷ [])
 table_push {X} n P xs x is last =

@@ -1,10 +1,10 @@
 -- A text that is looked for in a partition.
-use Rattle.std.proofs.Common.{◌≡◌, ◌≢◌, ℕ, ◌+◌, ◌<◌, ◌≤◌, Bool, true, false, List, length, map, sym, ap, ◌∙◌, arith, Some, None, inl, inr, ◌↔◌, IsTrue}
+use Rattle.std.proofs.Common.{◌≡◌, ◌≢◌, ℕ, ◌+◌, ◌<◌, ◌≤◌, Bool, true, false, List, length, map, sym, ap, ◌∙◌, arith, Some, None, ◌↔◌, IsTrue}
 use Rattle.std.specs.Prelude.{slice_get, option_map}
 use borrow.Author.Count.{below_more}
 use Rattle.std.proofs.lemmas.Bool.{false≢true}
 use Rattle.std.proofs.lemmas.List.{length-map}
-use Rattle.std.proofs.lemmas.Option.{slice_get-map, slice_get_cases, slice_get_within}
+use Rattle.std.proofs.lemmas.Option.{slice_get-map, slice_get_within}
 use Rattle.exi_bits.specs.Lent.{IsSpan, text_at}
 use Rattle.exi_bits.specs.declared.span.SpanAt.{SpanAt}
 use Rattle.exi_bits.proofs.Spans.{items_of-held}
@@ -26,13 +26,6 @@ no_text bits texts places i same none =
 -- a partition of texts has as many as that of their places
 pub same_count : (bits : List Bool) (texts : List (List ℕ)) (places : List SpanAt) (count : ℕ) → texts ≡ map (text_of bits) places → count ≡ length places → count ≡ length texts
 same_count bits texts places count same long = long ∙ sym (ap length same ∙ length-map places (text_of bits))
-
-pub is_there : (count i : ℕ) (places : List SpanAt) → count ≡ length places → i < count → None ≡ slice_get places i → ⊥
-is_there count i places long less none =
-    elim (slice_get_cases places i).1 [
-      | inl h ↦ let clash : None ≡ Some h.0 = none ∙ h.2 in absurd cc
-      | inr h ↦ absurd (omega (arith, h.0, long, less))
-    ]
 
 pub first_there : (bits : List Bool) (texts : List (List ℕ)) (places : List SpanAt) (i : ℕ) (at : SpanAt) (text : List ℕ) (b : Bool) → texts ≡ map (text_of bits) places → Some at ≡ slice_get places i → (IsTrue b ↔ (text_of bits at ≡ text)) → b ≡ true → NotBefore texts text i → IsFirstAt texts text i
 first_there bits texts places i at text b same found is_same passes before =

@@ -33,9 +33,6 @@ hit_long announced count index first width n below is_width first_is is =
     let code = code_long count index width below is_width in
     (shortest_unsigned announced ++ code.0, (code.0, code.1, refl), omega (arith, is, first_is, code.2, length-append (shortest_unsigned announced) code.0))
 
-pub length_too : (P Q : List Bool → Type 0) (n : ℕ) → ((bits : List Bool) → P bits → Q bits) → HasLength P n → HasLength Q n
-length_too P Q n more p = (p.0, more p.0 p.1, p.2)
-
 pub ordinal_long : (datatype : Datatype) (count ordinal width : ℕ) → datatype ≡ Named count → IsValue datatype (Ordinal ordinal) → IsIndexWidth count width → HasLength (WritesPlain datatype (Ordinal ordinal)) width
 ordinal_long datatype count ordinal width is value is_width =
     let code = code_long count ordinal width (subst (λ (d : Datatype). IsValue d (Ordinal ordinal)) is value) is_width in

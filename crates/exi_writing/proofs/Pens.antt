@@ -4,9 +4,8 @@ use Rattle.std.proofs.lemmas.List.{length-append, append-nil}
 use Rattle.std.specs.Result.{IsErr, OnOk, OnErr}
 use Rattle.exi_bits.specs.Pens.{written_bits, Writes, Needs, SamePen}
 use Rattle.exi_bits.specs.declared.pen.BitPen.{BitPen}
-use Rattle.exi_bits.specs.declared.pen.Full.{Full}
 use Rattle.exi_bits.proofs.Penned.{length-written}
-use Rattle.exi_writing.specs.Writing.{Puts, WritesMore, PassesRoom}
+use Rattle.exi_writing.specs.Writing.{Puts, WritesMore}
 
 pub writes_none : (pen : BitPen) → Writes pen pen []
 writes_none pen = record { written = sym (append-nil (written_bits pen)); room = refl; lent = refl }
@@ -29,9 +28,6 @@ needs_more pen x y n = omega (arith, n, length-append x y)
 pub needs_behind : (a b : BitPen) (x y : List Bool) → Writes a b x → Needs b (length y) → Needs a (length (x ++ y))
 needs_behind a b x y p n = omega (arith, n, p.room, ap length p.written, length-append (written_bits a) x, length-append x y)
 
-pub passes_behind : (a b : BitPen) (x : List Bool) (full : Full) → Writes a b x → PassesRoom b full → PassesRoom a full
-passes_behind a b x full p n = omega (arith, n, p.room)
-
 -- what is written had room
 pub had_room : (old new : BitPen) (bits : List Bool) → Writes old new bits → Needs old (length bits) → ⊥
 had_room old new bits p n =
@@ -44,9 +40,6 @@ pub record Copied (Spell : List ℕ → List Bool) (items left : List ℕ) (old 
   pub front : List Bool
   pub split : Spell items ≡ front ++ Spell left
   pub wrote : Writes old new front
-
-pub copied_none : (Spell : List ℕ → List Bool) (items : List ℕ) (pen : BitPen) → Copied Spell items items pen pen
-copied_none Spell items pen = record { front = []; split = refl; wrote = writes_none pen }
 
 pub copied_more : (Spell : List ℕ → List Bool) (items left rest : List ℕ) (item : ℕ) (bits : List Bool) (old mid new : BitPen) → left ≡ item ∷ rest → Spell (item ∷ rest) ≡ bits ++ Spell rest → Copied Spell items left old mid → Writes mid new bits → Copied Spell items rest old new
 copied_more Spell items left rest item bits old mid new is spelled p q =

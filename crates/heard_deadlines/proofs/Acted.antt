@@ -192,9 +192,6 @@ act_is (Send bytes) taken es = inr refl
 act_is (Answer bytes) taken es = inl (record { waits_is = refl; came_is = refl; replied_is = refl; closed_is = refl })
 act_is (End cause) taken es = inl (record { waits_is = refl; came_is = refl; replied_is = refl; closed_is = refl })
 
-came_same : (a : Act) (taken : Bool) (es : List Seen) → came_at (Did a taken ∷ es) ≡ came_at es
-came_same a taken es = refl
-
 span_some : (k : Timeout) → 1 ≤ span_of k
 span_some Setup = let x : 1 ≤ 18000 = omega arith in x
 span_some Sequence = let x : 1 ≤ 60000 = omega arith in x

@@ -239,11 +239,6 @@ chosen_as ks F members told d chosen name kind here among =
     let kind_is : chosen.kind ≡ kind = cc in
     (name_is, subst (λ (k : ℕ). Enters ks F k told d) kind_is chosen.enters)
 
--- no other alternative is there
-pub chosen_among : (ks : List PlainKind) (F : Frame) (members : List (ℕ × ℕ)) (told : List Event) (d : Seen) → IsChosen ks F members told d → (o : Option ℕ) → d.child ≡ o → kind_of_child members o ≡ None → ⊥
-chosen_among ks F members told d chosen o is none =
-    let both_kinds : None ≡ Some chosen.kind = sym none ∙ ap (λ (x : Option ℕ). kind_of_child members x) (sym is ∙ chosen.here) ∙ chosen.among in cc
-
 pub both : {V E : Type 0} (r : Result V E) (A : Type 0) (B : V → Type 0) → A → IfOk r (λ v. B v) → IfOk r (λ v. A × B v)
 both {V} {E} (Ok v) A B a b = (a, b)
 both {V} {E} (Err e) A B a b = tt

@@ -16,12 +16,6 @@ use Rattle.exi_schema.specs.Steps.{simple_at}
 abbrev pub repeated : ℕ → ℕ → ℕ → Option ℕ → ℕ → PlainParticle
 repeated name kind least most n = record { members = one_of name kind ∷ []; least = least; most = most; profile = n }
 
-abbrev pub one_among : List Member → PlainParticle
-one_among members = record { members = members; least = 1; most = Some 1; profile = 1 }
-
-abbrev pub at_most_one_among : List Member → PlainParticle
-at_most_one_among members = record { members = members; least = 0; most = Some 1; profile = 1 }
-
 -- ---- what may stand at a particle
 
 -- the names and kinds of the members in the profile

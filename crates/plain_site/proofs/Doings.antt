@@ -10,7 +10,6 @@ use Rattle.station_spec.specs.Judging.{wanted, read, IsRead}
 use Rattle.station_spec.specs.Next.{IsDone}
 use Rattle.station_spec.specs.Runs.{entry_of}
 use Rattle.plain_site.specs.declared.seats.Seat.{Seat}
-use Rattle.plain_site.specs.Seats.{seat_acted}
 use Rattle.plain_site.specs.Doing.{IsShared, MayBe, IsFirst, IsStuck, Does, HasDone, HaveDone}
 use Rattle.plain_site.proofs.Splits.{same_split}
 use Rattle.plain_site.proofs.Once.{share_once, read_once, done_once, may_be, some_todo}
@@ -25,18 +24,6 @@ may_true (Give order) = tt
 may_true (Send bytes) = tt
 may_true (Answer bytes) = tt
 may_true (End cause) = refl
-
-pub has_done : (c : Codecs) (limit : ℕ) (before behind : List Seat) (k : ℕ) (e : Entry) (seat later : Seat) (r : Option Reading) (a : Act) (taken : Bool)
-    → IsRead c seat.plan (IsShared limit before behind) seat.post (wanted seat.post) r → IsFirst c (read seat.plan seat.post r).agenda a → MayBe a taken → e ≡ entry_of k a taken
-    → later ≡ seat_acted r a taken seat → HasDone c limit before behind k e seat later
-has_done c limit before behind k e seat later r a taken reads f may is l = record {
-  reading = r;
-  act = a;
-  taken = taken;
-  does = record { read_so = reads; todo = f.todo; stands = f.stands; done = f.done taken may };
-  entry_is = is;
-  later_is = l;
-}
 
 -- nothing is read, nothing can be done, or another entry is there
 pub not_read : (c : Codecs) (limit : ℕ) (before behind : List Seat) (k : ℕ) (e : Entry) (seat : Seat) → ((r : Option Reading) → IsRead c seat.plan (IsShared limit before behind) seat.post (wanted seat.post) r → ⊥)
@@ -59,11 +46,6 @@ not_there c limit before behind k e seat r a reads f never one later h =
     let m : MayBe h.act h.taken = may_be c f.todo h.act h.taken d in
     let b : h.act ≡ a = done_once c one f.todo h.act a h.taken true d (f.done true (may_true a)) in
     never h.taken (subst (λ (x : Act). MayBe x h.taken) b m) (h.entry_is ∙ ap (λ (x : Act). entry_of k x h.taken) b)
-
--- of all posts
-pub have_done : (c : Codecs) (limit k : ℕ) (e : Entry) (seats later : List Seat) (before : List Seat) (seat after : Seat) (behind : List Seat) → seats ≡ before ++ seat ∷ behind → length before ≡ k
-    → HasDone c limit before behind (k + 1) e seat after → later ≡ before ++ after ∷ behind → HaveDone c limit k e seats later
-have_done c limit k e seats later before seat after behind s p d l = record { before = before; seat = seat; behind = behind; after = after; seats_are = s; place = p; done = d; later_is = l }
 
 pub have_not : (c : Codecs) (limit k : ℕ) (e : Entry) (seats before : List Seat) (seat : Seat) (behind : List Seat) → seats ≡ before ++ seat ∷ behind → length before ≡ k
     → ((later : Seat) → HasDone c limit before behind (k + 1) e seat later → ⊥) → (later : List Seat) → HaveDone c limit k e seats later → ⊥

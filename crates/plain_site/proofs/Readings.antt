@@ -3,7 +3,6 @@ use Rattle.std.proofs.Common.{◌≡◌, ℕ, Bool, true, false, if◌then◌els
 use Rattle.charge_world.specs.declared.offer.Dialect.{Dialect}
 use Rattle.session_words.specs.declared.plan.PostPlan.{PostPlan}
 use Rattle.post_spec.specs.Codecs.{Judged, Negotiated, Asked, WrongSide, Refused, Codecs, Judges}
-use Rattle.post_spec.specs.Steps.{Reading}
 use Rattle.station_spec.specs.States.{Session, State}
 use Rattle.station_spec.specs.Judging.{Payload, wanted, shows, asked_behind, IsShown, IsRead}
 use Rattle.plain_station.specs.declared.hearing.Judged as plain
@@ -29,13 +28,6 @@ pub reads_some : (c : Codecs) (plan : PostPlan) (S : ℕ → ℕ → Type 0) (s 
     → MatchOption (share_in plan s s.session j) (n ≡ 0) (λ a. S a n) → IsRead c plan S s (wanted s) (Some (record { judged = j; shown = n }))
 reads_some c plan S s p j n w is shown =
     subst (λ (x : Option Payload). IsRead c plan S s x (Some (record { judged = j; shown = n }))) (sym w) (is, shown_by S plan s s.session j n shown)
-
-unread_at : (c : Codecs) (plan : PostPlan) (S : ℕ → ℕ → Type 0) (s : State) (p : Payload) (r : Option Reading) → ((j : Judged) → Judges c plan.dialects.items p.dialect p.bytes j → ⊥) → IsRead c plan S s (Some p) r → ⊥
-unread_at c plan S s p None never h = h
-unread_at c plan S s p (Some r) never h = never r.judged h.0
-
-pub reads_nothing : (c : Codecs) (plan : PostPlan) (S : ℕ → ℕ → Type 0) (s : State) (p : Payload) (r : Option Reading) → wanted s ≡ Some p → ((j : Judged) → Judges c plan.dialects.items p.dialect p.bytes j → ⊥) → IsRead c plan S s (wanted s) r → ⊥
-reads_nothing c plan S s p r w never h = unread_at c plan S s p r never (subst (λ (x : Option Payload). IsRead c plan S s x r) w h)
 
 pub found_some : (P : Judged → Type 0) (f : Option plain.Judged) (j : plain.Judged) → f ≡ Some j → Finds P f → P (judged_of j)
 found_some P f j e h = subst (Finds P) e h

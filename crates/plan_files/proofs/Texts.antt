@@ -1,13 +1,9 @@
 -- What the first bytes of a text say of the whole text as a plan.
-use Rattle.std.proofs.Common.{◌≡◌, ◌⊎◌, inr, ℕ, ◌<◌, nat_lt, true, false, Bool, List, [], ◌++◌, length, Option, Some, None, Result, refl, sym, ap, ◌∙◌, subst, arith, length-append, append-nil}
+use Rattle.std.proofs.Common.{◌≡◌, ℕ, ◌<◌, nat_lt, true, false, Bool, List, [], ◌++◌, length, Option, Some, None, refl, sym, ap, ◌∙◌, arith, length-append, append-nil}
 use Rattle.std.proofs.lemmas.Bool.{lt-ltb, ltb-true, ltb-false}
-use Rattle.plan_keys.specs.Faults.{text_says, told, Tells}
-use Rattle.plan_keys.specs.declared.fault.PlanFault.{PlanFault}
-use Rattle.plan_keys.specs.declared.fault.PlanFault.TheVariants.{Memory}
-use Rattle.toml.specs.Data.{Members}
-use Rattle.session_words.specs.declared.plan.CarPlan.{CarPlan}
+use Rattle.plan_keys.specs.Faults.{text_says}
 use Rattle.session_words.specs.declared.plan.SitePlan.{SitePlan}
-use Rattle.site_plan.specs.Plans.{IsSitePlanOf, IsCarPlanOf, site_told, car_told, site_fault, car_fault}
+use Rattle.site_plan.specs.Plans.{IsSitePlanOf}
 use Rattle.plan_files.specs.FileTexts.{IsBeginning, Told}
 
 -- a text above the limit says the same as any other
@@ -28,26 +24,8 @@ same_said text bytes h = said text bytes _ refl h
 pub same_plan : (text bytes : List ℕ) (plan : SitePlan) → IsBeginning text bytes 65537 → IsSitePlanOf bytes plan → IsSitePlanOf text plan
 same_plan text bytes plan h is = (is.0, sym (same_said text bytes h) ∙ is.1, is.2, is.3)
 
-pub same_told : (text bytes : List ℕ) (fault : PlanFault) → IsBeginning text bytes 65537 → Tells fault (site_told bytes) → Tells fault (site_told text)
-same_told text bytes fault h tells =
-    subst (λ (said : Result Members PlanFault). Tells fault (told site_fault said)) (same_said text bytes h) tells
-
--- the same of a car's
-pub same_car_plan : (text bytes : List ℕ) (plan : CarPlan) → IsBeginning text bytes 65537 → IsCarPlanOf bytes plan → IsCarPlanOf text plan
-same_car_plan text bytes plan h is = (is.0, sym (same_said text bytes h) ∙ is.1, is.2, is.3)
-
-pub same_car_told : (text bytes : List ℕ) (fault : PlanFault) → IsBeginning text bytes 65537 → Tells fault (car_told bytes) → Tells fault (car_told text)
-same_car_told text bytes fault h tells =
-    subst (λ (said : Result Members PlanFault). Tells fault (told car_fault said)) (same_said text bytes h) tells
-
 -- of what is told of a file
 pub told_weaker : (left text : Option (List ℕ)) (P Q : List ℕ → Type 0) → ((t : List ℕ) → P t → Q t) → Told left text P → Told left text Q
 told_weaker None text P Q f h = tt
 told_weaker (Some l) None P Q f h = absurd h
 told_weaker (Some l) (Some t) P Q f h = f t h
-
-pub told_fault : (first : List ℕ → Option PlanFault) (left text : Option (List ℕ)) (P : List ℕ → Type 0) (fault : PlanFault)
-    → ((t : List ℕ) → P t → Tells fault (first t)) → Told left text P → (fault ≡ Memory) ⊎ Told left text (λ t. first t ≡ Some fault)
-told_fault first None text P fault f h = inr tt
-told_fault first (Some l) None P fault f h = absurd h
-told_fault first (Some l) (Some t) P fault f h = f t h

@@ -7,9 +7,6 @@ pub has_more : (kinds : List (Exchange → Bool)) (x : Exchange) (xs : List Exch
 has_more [] x xs h = tt
 has_more (kind ∷ kinds) x xs h = inr h
 
-pub has_add : (kind : Exchange → Bool) (kinds : List (Exchange → Bool)) (x : Exchange) (xs : List Exchange) → kind x ≡ true → Has kinds xs → Has (kind ∷ kinds) (x ∷ xs)
-has_add kind kinds x xs e h = inl (e, h)
-
 pub has_drop : (kind : Exchange → Bool) (kinds : List (Exchange → Bool)) (xs : List Exchange) → Has (kind ∷ kinds) xs → Has kinds xs
 has_drop kind kinds [] h = absurd h
 has_drop kind kinds (x ∷ xs) (inl h) = has_more kinds x xs h.1

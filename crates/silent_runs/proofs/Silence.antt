@@ -204,9 +204,6 @@ steps_idle plan (Does r a taken ∷ steps) = acted_idle a taken (filled plan r (
 
 -- So a reply and an end are of a session.
 
-abbrev HasWork : Agenda → Type 0
-HasWork a = (a.reply ≡ None) × (a.ending ≡ None) → ⊥
-
 say_work : (d : Option (List ℕ)) (o : Option Order) (r : Option Spoken) (e : Option EndCause) (x : Spoken) → first_of d o r e ≡ Some (states.Say x) → r ≡ None → ⊥
 say_work (Some d) o r e x h n = cc
 say_work None (Some o) r e x h n = cc

@@ -69,13 +69,6 @@ text_to (Some old) (Some new) s None P Q R step h = tt
 text_to (Some old) (Some new) None (Some now) P Q R step h = absurd h
 text_to (Some old) (Some new) (Some start) (Some now) P Q R step h = λ p. step new now (h p)
 
-pub text_from : (a b : Option (List Entry)) (s t : Option (List ℕ)) (O P Q : List Entry → List ℕ → Type 0) → ((past : List Entry) (text : List ℕ) → O past text → P past text) → CarriesText a b s t P Q → CarriesText a b s t O Q
-text_from a None s t O P Q step h = tt
-text_from None (Some new) s t O P Q step h = absurd h
-text_from (Some old) (Some new) s None O P Q step h = tt
-text_from (Some old) (Some new) None (Some now) O P Q step h = absurd h
-text_from (Some old) (Some new) (Some start) (Some now) O P Q step h = λ o. h (step old start o)
-
 -- one line more
 traced_one : (n m : ℕ) (e : Entry) (past : List Entry) (text : List ℕ) → (if is_hearing e then 1 else 0) + n ≡ m → IsTraced n past text → IsTraced m (e ∷ past) (text ++ numbered_line_of m e)
 traced_one n m e past text number t =

@@ -3,7 +3,7 @@ use Rattle.std.proofs.Common.{◌≡◌, ◌<◌, ◌≤◌, ℕ, ◌+◌, Bool,
 use Rattle.std.proofs.Math.Seq.{take-append_seam}
 use Rattle.std.specs.List.{All, AllWithin}
 use Rattle.std.proofs.lemmas.List.{get_or-set_same, set-get_or, get_or_default}
-use Rattle.std.proofs.lemmas.List.Elements.{All-set, AllWithin-more, AllWithin-kept, at_read}
+use Rattle.std.proofs.lemmas.List.Elements.{All-set, AllWithin-more, at_read}
 use Rattle.post_spec.specs.Codecs.{Codecs}
 use Rattle.post_spec.specs.Steps.{Act, Reading}
 use Rattle.post_spec.specs.Steps as steps
@@ -149,9 +149,6 @@ at_same places i within = get_or_default places i no_place (at places i) within
 pub rests_more : (places new : List Place) (i : ℕ) → i < length places → new ≡ places → RestsAt (at places i) → AllWithin RestsAt places 0 i → AllWithin RestsAt new 0 (i + 1)
 rests_more places new i within e rests quiet =
     subst (λ (ps : List Place). AllWithin RestsAt ps 0 (i + 1)) (sym e) (AllWithin-more RestsAt places 0 i quiet (at_read places RestsAt i (at places i) within (at_same places i within) rests))
-
-pub rests_kept : (places : List Place) (i : ℕ) (x : Place) → i < length places → AllWithin RestsAt places 0 i → AllWithin RestsAt (set places i x) 0 i
-rests_kept places i x within quiet = AllWithin-kept places i x within RestsAt quiet
 
 -- a post keeps what a deed did
 pub kept_answer : (room : List ℕ) (deed : Deed) (x : List ℕ) (new old : Place) (taken : Bool) → deed ≡ Answer x → ((bytes : List ℕ) → new ≡ done_place (steps.Answer bytes) taken old) → new ≡ done_place (act_of room deed) taken old

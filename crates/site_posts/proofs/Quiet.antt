@@ -43,6 +43,3 @@ from_none plan Wording s h = wording_none s h
 same_if : (plan : PostPlan) (s : State) (b : Bool) → is_done s.agenda ≡ b → first (decided plan s).agenda ≡ None → decided plan s ≡ s
 same_if plan s true e h = let g : first (from_part plan s.part s).agenda ≡ None = rw e at h in rw e (from_none plan s.part s g)
 same_if plan s false e h = rw e
-
-pub decided_same : (plan : PostPlan) (s : State) → first (decided plan s).agenda ≡ None → decided plan s ≡ s
-decided_same plan s h = same_if plan s (is_done s.agenda) refl h

@@ -1,5 +1,5 @@
 -- A count of faults rises exactly where a call fails.
-use Rattle.std.proofs.Common.{◌≡◌, ◌<◌, ◌≤◌, ℕ, true, false, List, Option, Some, None, Result, Ok, Err, refl, sym, subst, arith, inl, inr}
+use Rattle.std.proofs.Common.{◌≡◌, ◌<◌, ◌≤◌, ℕ, true, false, List, Option, Some, None, Result, Ok, refl, sym, subst, arith, inl, inr}
 use Rattle.std.proofs.Math.Nat.{eq-or-lt_of_le}
 use Rattle.std.specs.Prelude.{IsSome}
 use Rattle.charge_world.specs.declared.entry.Entry.{Entry}
@@ -11,9 +11,6 @@ fault_ok a b x f = elim (eq-or-lt_of_le f.later) [ inl e ↦ sym e | inr l ↦ a
 
 pub fault_none : {T E : Type 0} (a b : ℕ) (x : T) → b ≡ a → IsFault {T = T} {E = E} a b (Ok x)
 fault_none a b x e = record { later = omega (arith, e); risen = (λ t. cc, λ l. absurd (omega (arith, e, l))) }
-
-pub fault_err : {T U E F : Type 0} (a b : ℕ) (e : E) (f : F) → IsFault {T = T} {E = E} a b (Err e) → IsFault {T = U} {E = F} a b (Err f)
-fault_err a b e f h = record { later = h.later; risen = (λ t. h.risen.0 refl, λ l. refl) }
 
 pub fault_behind : {T E : Type 0} (a m b : ℕ) (r : Result T E) → m ≡ a → IsFault m b r → IsFault a b r
 fault_behind a m b r e h = subst (λ (k : ℕ). IsFault k b r) e h

@@ -1,8 +1,8 @@
 -- Before anything was heard.
-use Rattle.std.proofs.Common.{◌≡◌, ◌<◌, ◌≤◌, ℕ, zero, suc, ◌+◌, false, List, [], ◌∷◌, ◌++◌, length, map, Option, Some, None, refl, sym, ap, subst, ◌∙◌, arith, inl, inr}
+use Rattle.std.proofs.Common.{◌≡◌, ◌<◌, ℕ, zero, suc, ◌+◌, false, List, [], ◌∷◌, ◌++◌, map, Option, Some, None, refl, sym, ap, subst, ◌∙◌, inl, inr}
 use Rattle.std.specs.Prelude.{IsSome}
 use Rattle.std.specs.List.{All}
-use Rattle.std.proofs.lemmas.List.{append-nil, length-map}
+use Rattle.std.proofs.lemmas.List.{append-nil}
 use Rattle.charge_world.specs.declared.entry.Entry.{Entry}
 use Rattle.charge_world.specs.declared.offer.Dialect.{Dialect}
 use Rattle.charge_world.specs.Outside.{Appends, AppendsSome}
@@ -14,7 +14,7 @@ use Rattle.station_laws.specs.PostRuns.{RunsArePostRuns}
 use Rattle.station_spec.specs.Runs.{unheard, IsCutRun}
 use Rattle.word_codec.specs.Replies.{IsPlan}
 use Rattle.site_posts.specs.declared.place.Place.{Place}
-use Rattle.site_posts.specs.Places.{place_of, RestsAt}
+use Rattle.site_posts.specs.Places.{RestsAt}
 use Rattle.site_acts.specs.Serving.{IsReady}
 use Rattle.site_acts.specs.Telling.{Carries, CarriesText, HasClosing, IsTraced}
 use Rattle.site_acts.proofs.Carry.{carries_from}
@@ -34,14 +34,6 @@ first_ready Reads plan places limit turns m = subst (All (IsReady Reads)) (sym m
 
 pub first_rest : (plan : SitePlan) (places : List Place) (limit turns : ℕ) → AreMadeOf plan places limit turns → All RestsAt places
 first_rest plan places limit turns m = subst (All RestsAt) (sym m.places_are) (made_rest plan.post.items)
-
-pub first_few : (plan : SitePlan) (places : List Place) (limit turns : ℕ) → AreMadeOf plan places limit turns → length places ≤ 8
-first_few plan places limit turns m =
-    let count : length places ≡ length plan.post.items = ap length m.places_are ∙ length-map (map unheard plan.post.items) place_of ∙ length-map plan.post.items unheard in
-    omega (arith, count, m.rules.posts.1)
-
-pub first_turns : (plan : SitePlan) (places : List Place) (limit turns : ℕ) → AreMadeOf plan places limit turns → turns ≤ 4294967296
-first_turns plan places limit turns m = omega (arith, m.turns_is, m.rules.turns.1)
 
 pub waits_first : (c : Codecs) (plan : SitePlan) (places : List Place) (limit turns : ℕ) (so_far : SoFar) (told : List ℕ) (past : List Entry) → so_far ≡ record { moment = 0; hearing = 0 } → AreMadeOf plan places limit turns → past ≡ [] → Waits c plan so_far told told places past
 waits_first c plan places limit turns so_far told past none m e = record {

@@ -4,18 +4,15 @@ use Rattle.std.specs.Prelude.{fold}
 use Rattle.std.specs.List.{All}
 use Rattle.std.proofs.lemmas.List.{length-take}
 use Rattle.charge_world.specs.declared.entry.Entry.{Entry}
-use Rattle.charge_world.specs.declared.entry.Entry.TheVariants as entry
 use Rattle.charge_world.specs.declared.heard.Heard.{Heard}
 use Rattle.charge_world.specs.declared.heard.What.{What}
 use Rattle.charge_world.specs.declared.heard.What.TheVariants as what
 use Rattle.charge_world.specs.declared.offer.Dialect.{Dialect}
-use Rattle.charge_world.specs.Outside.{GrowsByOne, HasCount, IsOfPosts, bytes_of}
-use Rattle.charge_world.specs.Outside as outside
+use Rattle.charge_world.specs.Outside.{IsOfPosts}
 use Rattle.session_words.specs.declared.plan.PostPlan.{PostPlan}
 use Rattle.session_words.specs.declared.plan.SitePlan.{SitePlan}
 use Rattle.session_words.specs.declared.word.Word.{Word}
 use Rattle.session_timers.specs.Due.{never}
-use Rattle.trace_text.specs.TraceText.{IsPost, HasBytes}
 use Rattle.post_spec.specs.Codecs.{Codecs}
 use Rattle.post_spec.specs.Steps.{event_at}
 use Rattle.post_spec.specs.Steps as steps
@@ -29,7 +26,7 @@ use Rattle.site_posts.specs.Places.{place_of, heard_place, HeardAll, due_at, Res
 use Rattle.site_posts.proofs.Sound.{IsEvent, fresh_sound, heard_sound}
 use Rattle.site_acts.specs.Serving.{IsReady, Known, InBlock}
 use Rattle.site_acts.specs.Telling.{Carries}
-use Rattle.site_acts.proofs.Carry.{carries_none, carries_one}
+use Rattle.site_acts.proofs.Carry.{carries_none}
 use Rattle.site_acts.proofs.Frame.{heard_one}
 use Rattle.site_turns.specs.Hearing.{Hears, known_behind}
 
@@ -73,25 +70,8 @@ made_rest [] k d less = absurd (let f : k < 0 = less in omega arith)
 made_rest (p ∷ plans) zero d less = record { none = refl; no_word = refl }
 made_rest (p ∷ plans) (suc k) d less = made_rest plans k d (omega (arith, less))
 
--- the line of a hearing is short
-post_few : (n k : ℕ) → n ≤ 8 → outside.IsPost n k → IsPost k
-post_few n k few is = (is.0, omega (arith, is.1, few))
-
 few_of : (room : List ℕ) (n : ℕ) → length room ≡ 4096 → n ≤ 4096 → n ≡ length (take n room)
 few_of room n len most = omega (arith, length-take n room, len, most)
-
-pub line_short : (n : ℕ) (w : What) (room : List ℕ) → n ≤ 8 → length room ≡ 4096 → HasCount w → IsOfPosts n w → HasBytes w (bytes_of w room)
-line_short n (what.Came post token) room few len count of = (post_few n post few of, refl)
-line_short n (what.Bytes post m) room few len count of = (post_few n post few of, few_of room m len count.1, count.0, count.1)
-line_short n (what.Gone post) room few len count of = (post_few n post few of, refl)
-line_short n (what.Datagram post m) room few len count of = (post_few n post few of, few_of room m len count, count)
-line_short n (what.Plant post event) room few len count of = (post_few n post few of, refl)
-line_short n what.Tick room few len count of = refl
-line_short n what.Over room few len count of = refl
-
--- what was heard next, and all posts hear it
-pub heard_next : (a b : Option (List Entry)) (c : Codecs) (plan : SitePlan) (k : Known) (h : Heard) (bytes : List ℕ) (places : List Place) → GrowsByOne a b (entry.Heard h bytes) → Carries a b (InBlock c plan k places) (Hears c plan k h bytes places)
-heard_next a b c plan k h bytes places grows = carries_one a b (entry.Heard h bytes) (InBlock c plan k places) (Hears c plan k h bytes places) grows (λ past i. record { earlier = past; past_is = refl; block = i })
 
 pub heard_by : (a : Option (List Entry)) (c : Codecs) (plan : SitePlan) (k : Known) (places new : List Place) (h : Heard) (bytes : List ℕ) (now wait : ℕ) → k.last ≡ false → k.heard < plan.turns → All RestsAt places → IsOfPosts (length places) h.what → IsHearing h bytes
     → length new ≡ length places → max k.clock h.at ≡ now → HeardAll now h.what bytes places new → wait ≡ fold min never (map due_at places) → Carries a a (Hears c plan k h bytes places) (InBlock c plan (known_behind k h bytes wait) new)

@@ -1,6 +1,6 @@
 -- The lines of a site's posts.
 use Rattle.std.proofs.Common.{◌≡◌, ℕ, suc, ◌+◌, ◌<◌, ◌≤◌, true, false, List, [], ◌∷◌, ◌++◌, length, take, drop, Option, Ok, refl, sym, ap, ◌∙◌, subst, arith, append_assoc}
-use Rattle.std.proofs.lemmas.List.{append-nil, take-append-drop, map-append, length-take-le, drop_more, take_all, take_more}
+use Rattle.std.proofs.lemmas.List.{append-nil, take-append-drop, map-append, length-take-le, drop_more, take_more}
 use Rattle.charge_world.specs.declared.entry.Entry.{Entry}
 use Rattle.charge_world.specs.declared.failed.Failed.{Failed}
 use Rattle.charge_world.specs.Outside.{IsFault, Appends, AppendsSome}
@@ -75,12 +75,6 @@ one_cut places i before then after line within is earlier now =
     subst (λ (lines : List ℕ). AppendsSome before after lines) (sym (lines_of_all places i within))
     (appends_front before then after _ _ earlier
     (appends_first then after (report_line (i + 1) (at places i).report) _ (subst (λ (l : List ℕ). AppendsSome then after l) is now)))
-
--- all lines
-pub all_lines : (places : List Place) (n : ℕ) (before after : Option (List ℕ)) → length places ≤ n
-    → Appends before after (report_lines 1 (reports_of (take n places))) → Appends before after (report_lines 1 (reports_of places))
-all_lines places n before after whole h =
-    subst (λ (ps : List Place). Appends before after (report_lines 1 (reports_of ps))) (take_all n places whole) h
 
 -- reports that count a past, each by its place
 pub counts_from : (places : List Place) (k : ℕ) (past : List Entry) → ((i : ℕ) → i < length places → Counts (k + i) (at places i).report past)

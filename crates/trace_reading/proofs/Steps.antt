@@ -123,10 +123,6 @@ good_tail Numbered posts past e good =
     let fewer : hearing_number past ≤ hearing_number (e ∷ past) = omega arith in
     record { trace = (good.trace.0.1, good.trace.1.1, omega (arith, fewer, good.trace.2)); all_of = good.all_of.1 }
 
-pub good_none : (f : Format) (posts : ℕ) → IsGood f posts []
-good_none Plain posts = record { trace = (tt, tt); all_of = tt }
-good_none Numbered posts = record { trace = (tt, tt, omega arith); all_of = tt }
-
 -- ---- one entry for each line
 
 pub one_entry : (f : Format) (n : ℕ) (d e : Entry) → n < 2 ^ 63 → IsLineIn f d → IsLineIn f e → line_behind f n d ≡ line_behind f n e → d ≡ e
@@ -136,10 +132,6 @@ one_entry Numbered n d e small x y said =
     both.1
 
 -- ---- reading line by line
-
-pub reading_none : (f : Format) (posts : ℕ) (lines : List ℕ) (s : Standing) → Stands f posts [] s → IsReading f posts lines [] s lines
-reading_none Plain posts lines s st = record { read = record { good = good_none Plain posts; whole = refl }; stands = st }
-reading_none Numbered posts lines s st = record { read = record { good = good_none Numbered posts; whole = refl }; stands = st }
 
 pub reading_more : (f : Format) (posts : ℕ) (lines : List ℕ) (past : List Entry) (s s' : Standing) (rest line more : List ℕ) (e : Entry) → IsReading f posts lines past s rest → IsCut rest line more
     → hearing_number past < 2 ^ 63 → IsNext s e → line ≡ line_behind s.format s.hearings e → Stands f posts (e ∷ past) s' → IsReading f posts lines (e ∷ past) s' more

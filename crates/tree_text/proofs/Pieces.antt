@@ -1,9 +1,8 @@
 -- The text of a value, piece by piece.
 use Rattle.std.proofs.Common.{◌≡◌, ℕ, ◌/◌, ◌%◌, ◌<◌, List, [], ◌∷◌, ◌++◌, sym, ap, subst, ◌∙◌, append_assoc, append-nil}
-use Rattle.std.specs.List.{AllByRecursion, flat_map}
+use Rattle.std.specs.List.{AllByRecursion}
 use Rattle.std.specs.Prelude.{slice_index, encode_utf8}
 use Rattle.hex.specs.Hex.{encode_with, encode_lower, lower_digits}
-use Rattle.tree_text.specs.TreeText.{character_text}
 
 pub all_behind : (bytes rest : List ℕ) (byte : ℕ) → bytes ≡ byte ∷ rest → AllByRecursion (λ b. b < 256) bytes → AllByRecursion (λ b. b < 256) rest
 all_behind bytes rest byte are all = (subst (λ (l : List ℕ). AllByRecursion (λ b. b < 256) l) are all).1
@@ -28,10 +27,3 @@ byte_more before one both bytes rest byte are first second =
 pub no_bytes : (text whole bytes : List ℕ) → bytes ≡ [] → text ++ encode_lower bytes ≡ whole → text ≡ whole
 unfolding encode_with
 no_bytes text whole bytes none is = sym (append-nil text) ∙ ap (λ (l : List ℕ). text ++ encode_lower l) (sym none) ∙ is
-
--- a character behind a text
-pub character_more : (before after chars rest : List ℕ) (c : ℕ) → chars ≡ c ∷ rest → after ≡ before ++ character_text c →
-    after ++ flat_map character_text rest ≡ before ++ flat_map character_text chars
-character_more before after chars rest c are is =
-    ap (λ (l : List ℕ). l ++ flat_map character_text rest) is ∙ append_assoc before (character_text c) (flat_map character_text rest)
-    ∙ ap (λ (l : List ℕ). before ++ flat_map character_text l) (sym are)

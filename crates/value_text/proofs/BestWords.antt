@@ -1,10 +1,10 @@
 -- The longest front of a text that begins one of some words.
-use Rattle.std.proofs.Common.{◌≡◌, ℕ, zero, suc, ◌+◌, ◌<◌, ◌≤◌, Bool, true, false, List, [], ◌∷◌, ◌++◌, length, get_or, map, take, drop, ◌⊎◌, inl, inr, Result, IfOk, IfErr, refl, sym, ap, ap₂, subst, ◌∙◌, append_assoc, arith}
+use Rattle.std.proofs.Common.{◌≡◌, ℕ, zero, suc, ◌+◌, ◌<◌, ◌≤◌, Bool, false, List, [], ◌∷◌, ◌++◌, length, get_or, map, take, drop, ◌⊎◌, inl, inr, Result, IfOk, IfErr, refl, sym, ap, ap₂, subst, ◌∙◌, append_assoc, arith}
 use Rattle.std.specs.Prelude.{◌==◌, encode_utf8, Some, None, Option, slice_get, slice_index}
 use Rattle.std.specs.Str.{encode_utf8_all, IsAscii}
 use Rattle.std.proofs.lemmas.Bool.{cases_lt}
 use Rattle.std.proofs.lemmas.Bool.Decides.{nat_tests}
-use Rattle.std.proofs.lemmas.List.{length-append, length-take-le, take-append-drop, take-take, take_all, take_at, take-append-le, take_more_same, get_or_at, get_or-take, append_cancel_left}
+use Rattle.std.proofs.lemmas.List.{length-append, length-take-le, take-append-drop, take-take, take_all, take_at, take-append-le, get_or_at, append_cancel_left}
 use Rattle.std.proofs.lemmas.Str.{encodes-IsAscii, IsAscii-take, encode_ascii, length-encode, len_utf8_bounds}
 use Rattle.value_text.specs.declared.cursor.TextCursor.{TextCursor}
 use Rattle.value_text.specs.Forms.{AgreesTo, AgreesMost, IsBest, IsOneOf, AreAscii, awaited_text}
@@ -14,21 +14,6 @@ use Rattle.value_text.proofs.Outcomes.{ok_to, err_to}
 use Rattle.value_text.proofs.FrontLaws.{Stops, longest_where_it_stops, takes_where_it_stops}
 
 -- ---- bytes in common
-
-pub agrees_no_more : (text word : List ℕ) (count more : ℕ) → (get_or text count 0 ≡ get_or word count 0 → ⊥) → AgreesTo text word more → more ≤ count
-agrees_no_more text word count more differs h =
-    elim (cases_lt count more) [
-      | inl lt ↦ absurd (differs (sym (get_or-take more text count 0 lt) ∙ ap (λ (bs : List ℕ). get_or bs count 0) h.2 ∙ get_or-take more word count 0 lt))
-      | inr le ↦ le
-    ]
-
-pub none_best : (words : List (List ℕ)) (text : List ℕ) → IsBest words 0 text 0 None
-none_best words text = record {
-  within = omega arith;
-  begins = inl refl;
-  most = λ i word more lt found h. absurd (omega (arith, lt));
-  is = λ i lt found. absurd (omega (arith, lt));
-}
 
 one_word : (words : List (List ℕ)) (i j : ℕ) (a b : List ℕ) → i ≡ j → slice_get words i ≡ Some a → slice_get words j ≡ Some b → a ≡ b
 one_word words i j a b same p q = let is : Some a ≡ Some b = sym p ∙ ap (slice_get words) same ∙ q in cc
@@ -55,46 +40,11 @@ length_of_front text word count within is = ap length is ∙ length-take-le coun
 front_agrees : (text : List ℕ) (count : ℕ) → count ≤ length text → AgreesTo text (take count text) count
 front_agrees text count within = (within, omega (arith, length-take-le count text within), sym (take-take count count text (omega arith)))
 
-length_test : (n m : ℕ) → (n == m) ≡ true → n ≡ m
-length_test n m h = grind (arith, nat_tests)
-
 length_tested : (n m : ℕ) → n ≡ m → (n == m) ≡ false → ⊥
 length_tested n m e h = grind (arith, nat_tests)
 
 abbrev pub Comes : List (List ℕ) → ℕ → List ℕ → List ℕ → ℕ → Bool → Type 0
 Comes words n text word count flag = (slice_get words n ≡ Some word) × AgreesMost text word count × (flag ≡ (length word == count))
-
--- more of this word than of those before
-pub longer_whole : (words : List (List ℕ)) (n : ℕ) (text word : List ℕ) (old count : ℕ) (flag : Bool) (whole : Option ℕ) → Comes words n text word count flag → IsBest words n text old whole
-    → old < count → flag ≡ true → IsBest words (n + 1) text count (Some n)
-longer_whole words n text word old count flag whole comes best lt is = record {
-  within = comes.1.0.0;
-  begins = inr (n, word, comes.0, comes.1.0);
-  most = most_with words n text word old count count comes.0 comes.1 (omega (arith, lt)) (omega arith) best.most;
-  is = comes.0 ∙ ap (λ (w : List ℕ). Some w) (whole_is text word count comes.1.0 (length_test (length word) count (sym comes.2 ∙ is)));
-}
-
-pub longer_part : (words : List (List ℕ)) (n : ℕ) (text word : List ℕ) (old count : ℕ) (flag : Bool) (whole : Option ℕ) → Comes words n text word count flag → IsBest words n text old whole
-    → old < count → flag ≡ false → IsBest words (n + 1) text count None
-longer_part words n text word old count flag whole comes best lt is = record {
-  within = comes.1.0.0;
-  begins = inr (n, word, comes.0, comes.1.0);
-  most = most_with words n text word old count count comes.0 comes.1 (omega (arith, lt)) (omega arith) best.most;
-  is = λ i below found. elim (up_to n i below) [
-    | inl before ↦ omega (arith, lt, best.most i (take count text) count before found (front_agrees text count comes.1.0.0))
-    | inr same ↦ length_tested (length word) count (length_of_front text word count comes.1.0.0 (one_word words n i word (take count text) (sym same) comes.0 found)) (sym comes.2 ∙ is)
-  ];
-}
-
--- as much of this word
-pub tied_whole : (words : List (List ℕ)) (n : ℕ) (text word : List ℕ) (old count : ℕ) (flag : Bool) (whole : Option ℕ) → Comes words n text word count flag → IsBest words n text old whole
-    → old ≡ count → flag ≡ true → IsBest words (n + 1) text count (Some n)
-tied_whole words n text word old count flag whole comes best same is = record {
-  within = comes.1.0.0;
-  begins = inr (n, word, comes.0, comes.1.0);
-  most = most_with words n text word old count count comes.0 comes.1 (omega (arith, same)) (omega arith) best.most;
-  is = comes.0 ∙ ap (λ (w : List ℕ). Some w) (whole_is text word count comes.1.0 (length_test (length word) count (sym comes.2 ∙ is)));
-}
 
 -- no more of this word
 pub stays_some : (words : List (List ℕ)) (n : ℕ) (text word : List ℕ) (old count j : ℕ) (flag : Bool) → Comes words n text word count flag → IsBest words n text old (Some j)
@@ -257,9 +207,6 @@ front_agreed text name end k h = (h.0, omega (arith, h.1, length-append name end
 one_byte : (c : ℕ) → c < 128 → length (encode_utf8 c) ≡ 1
 one_byte c small = ap length (encode_ascii c small)
 
-awaited_length : (name : List ℕ) (end : ℕ) → end < 128 → length (awaited_text name end) ≡ length name + 1
-awaited_length name end small = length-append name (encode_utf8 end) ∙ ap (λ (k : ℕ). length name + k) (one_byte end small)
-
 pub agreed_inside : (text name : List ℕ) (end count : ℕ) → end < 128 → AgreesMost text name count → count < length name → AgreesMost text (awaited_text name end) count
 agreed_inside text name end count small h lt = (
   front_agreed text name (encode_utf8 end) count h.0,
@@ -269,30 +216,5 @@ agreed_inside text name end count small h lt = (
   ],
 )
 
-pub not_whole : (name : List ℕ) (end count : ℕ) → end < 128 → count ≤ length name → false ≡ (length (awaited_text name end) == count)
-not_whole name end count small le = let long = awaited_length name end small in grind (arith, nat_tests)
-
-pub agreed_at_end : (text name : List ℕ) (end count : ℕ) → AgreesMost text name count → count ≡ length text → AgreesMost text (awaited_text name end) count
-agreed_at_end text name end count h all = (front_agreed text name (encode_utf8 end) count h.0, λ more agrees. omega (arith, agrees.0, all))
-
 end_at : (name : List ℕ) (end count : ℕ) → end < 128 → count ≡ length name → get_or (awaited_text name end) count 0 ≡ end
 end_at name end count small is = rw is (ap (λ (bs : List ℕ). get_or (name ++ bs) (length name) 0) (encode_ascii end small) ∙ get_or_at name end [] 0 (length name) refl)
-
-pub agreed_but_end : (text name : List ℕ) (end count : ℕ) → end < 128 → AgreesMost text name count → count ≡ length name → (get_or text count 0 ≡ end → ⊥) → AgreesMost text (awaited_text name end) count
-agreed_but_end text name end count small h is differs = (
-  front_agreed text name (encode_utf8 end) count h.0,
-  λ more agrees. agrees_no_more text (awaited_text name end) count more (λ same. differs (same ∙ end_at name end count small is)) agrees,
-)
-
-pub agreed_whole : (text name : List ℕ) (end count : ℕ) → end < 128 → AgreesMost text name count → count ≡ length name → count < length text → get_or text count 0 ≡ end → AgreesMost text (awaited_text name end) (count + 1)
-agreed_whole text name end count small h is lt same = (
-  (
-    omega (arith, lt),
-    omega (arith, awaited_length name end small, is),
-    take_more_same text (awaited_text name end) count 0 lt (omega (arith, awaited_length name end small, is)) (front_agreed text name (encode_utf8 end) count h.0).2 (same ∙ sym (end_at name end count small is)),
-  ),
-  λ more agrees. omega (arith, agrees.1, awaited_length name end small, is),
-)
-
-pub is_all : (name : List ℕ) (end count : ℕ) → end < 128 → count ≡ length name → true ≡ (length (awaited_text name end) == count + 1)
-is_all name end count small is = let long = awaited_length name end small in grind (arith, nat_tests)

@@ -85,11 +85,6 @@ escaped_cases c text (inl p) = inl p
 escaped_cases c text (inr (inl p)) = inr (inl p)
 escaped_cases c text (inr (inr p)) = inr (inr (p.1.0, p.1.1, p.2 ∙ ap (λ (bs : List ℕ). 117 ∷ bs) p.1.2))
 
-from_cases : (c : ℕ) (text : List ℕ) → Cases c text → IsEscaped c text
-from_cases c text (inl p) = inl p
-from_cases c text (inr (inl p)) = inr (inl p)
-from_cases c text (inr (inr p)) = inr (inr (123 ∷ p.0, (p.0, p.1, refl), p.2))
-
 joined : (a b x y s t : List ℕ) → a ++ x ≡ b ++ y → a ≡ s → b ≡ t → s ++ x ≡ t ++ y
 joined a b x y s t e p q = ap (λ (bs : List ℕ). bs ++ x) (sym p) ∙ e ∙ ap (λ (bs : List ℕ). bs ++ y) q
 

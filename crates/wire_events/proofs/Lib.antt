@@ -1,3 +1,2 @@
-pub mod KindPlaces
 pub mod Waits
 pub mod Closer

@@ -60,9 +60,6 @@ text_fits most id all few =
     let Fits : List ℕ → Type 0 = λ cs. IsValue (TextType most) (Text cs) in
     subst Fits (sym same) (few, scalars id all)
 
-pub no_text_fits : (most : ℕ) → IsValue (TextType most) (Text [])
-no_text_fits most = (omega arith, tt)
-
 -- ---- the number of a schedule tuple
 
 below : (n : ℕ) → 1 ≤ n → n ≤ 255 → IsValue (Bounded (pos 1) 255) (Number (pos n))
