@@ -177,7 +177,7 @@ impl PutRecord for {name}{"<'_>" if lent else ""} {{
 }}
 
 impl DeclaredRecord for {name}{"<'_>" if lent else ""} {{
-    ghost use Rattle.std.proofs.Common.{{rules}};
+    ghost use Rattle.std.specs.Prelude.{{refl}};
     ghost use Rattle.{t.s.crate}.specs.Declarations.{{kinds}};
 {particles}{declared}
     ghost kinds = {{ kinds }};
@@ -186,7 +186,7 @@ impl DeclaredRecord for {name}{"<'_>" if lent else ""} {{
 
     ghost particles = {{ {t.declared(kind) if kept else "[]"} }};
 
-    ghost apart = {{ Prim.search rules }};
+    ghost apart = {{ refl }};
 }}
 
 {(large_record if kind in t.large else record)(t, kind, lent)}"""

@@ -64,7 +64,7 @@ impl<'a> PutRecord for AppProtocol<'a> {
 }
 
 impl DeclaredRecord for AppProtocol<'_> {
-    ghost use Rattle.std.proofs.Common.{rules};
+    ghost use Rattle.std.specs.Prelude.{refl};
 
     ghost kinds = { all_kinds };
 
@@ -72,7 +72,7 @@ impl DeclaredRecord for AppProtocol<'_> {
 
     ghost particles = { protocol_particles };
 
-    ghost apart = { Prim.search rules };
+    ghost apart = { refl };
 }
 
 impl<'a> Record<'a> for AppProtocol<'a> {
@@ -130,7 +130,7 @@ impl<'a> PutRecord for AppReq<'a> {
 }
 
 impl DeclaredRecord for AppReq<'_> {
-    ghost use Rattle.std.proofs.Common.{rules};
+    ghost use Rattle.std.specs.Prelude.{refl};
 
     ghost kinds = { all_kinds };
 
@@ -138,7 +138,7 @@ impl DeclaredRecord for AppReq<'_> {
 
     ghost particles = { request_particles };
 
-    ghost apart = { Prim.search rules };
+    ghost apart = { refl };
 }
 
 impl<'a> ReadRecord<'a> for AppReq<'a> {
@@ -205,7 +205,7 @@ impl PutRecord for AppRes {
 }
 
 impl DeclaredRecord for AppRes {
-    ghost use Rattle.std.proofs.Common.{rules};
+    ghost use Rattle.std.specs.Prelude.{refl};
 
     ghost kinds = { all_kinds };
 
@@ -213,7 +213,7 @@ impl DeclaredRecord for AppRes {
 
     ghost particles = { response_particles };
 
-    ghost apart = { Prim.search rules };
+    ghost apart = { refl };
 }
 
 impl<'a> Record<'a> for AppRes {

@@ -388,7 +388,7 @@ impl PutRecord for Body<'_> {
 }
 
 impl DeclaredRecord for Body<'_> {
-    ghost use Rattle.std.proofs.Common.{rules};
+    ghost use Rattle.std.specs.Prelude.{refl};
     ghost use Rattle.din_schema.specs.Declarations.{kinds};
     ghost use Rattle.din_schema.specs.Frame.{body};
 
@@ -398,7 +398,7 @@ impl DeclaredRecord for Body<'_> {
 
     ghost particles = { body };
 
-    ghost apart = { Prim.search rules };
+    ghost apart = { refl };
 }
 
 impl<'a> LargeRecord<'a> for Body<'a> {
@@ -430,7 +430,7 @@ impl PutRecord for DinMessage<'_> {
 }
 
 impl DeclaredRecord for DinMessage<'_> {
-    ghost use Rattle.std.proofs.Common.{rules};
+    ghost use Rattle.std.specs.Prelude.{refl};
     ghost use Rattle.din_schema.specs.Declarations.{kinds};
     ghost use Rattle.din_schema.specs.Frame.{v2g_message};
 
@@ -440,7 +440,7 @@ impl DeclaredRecord for DinMessage<'_> {
 
     ghost particles = { v2g_message };
 
-    ghost apart = { Prim.search rules };
+    ghost apart = { refl };
 }
 
 impl<'a> LargeRecord<'a> for DinMessage<'a> {

@@ -35,7 +35,7 @@ impl PutRecord for Notification<'_> {
 }
 
 impl DeclaredRecord for Notification<'_> {
-    ghost use Rattle.std.proofs.Common.{rules};
+    ghost use Rattle.std.specs.Prelude.{refl};
     ghost use Rattle.din_schema.specs.Declarations.{kinds};
     ghost use Rattle.din_schema.specs.Frame.{notification};
 
@@ -45,7 +45,7 @@ impl DeclaredRecord for Notification<'_> {
 
     ghost particles = { notification };
 
-    ghost apart = { Prim.search rules };
+    ghost apart = { refl };
 }
 
 impl<'a> Record<'a> for Notification<'a> {
@@ -97,7 +97,7 @@ impl PutRecord for Header<'_> {
 }
 
 impl DeclaredRecord for Header<'_> {
-    ghost use Rattle.std.proofs.Common.{rules};
+    ghost use Rattle.std.specs.Prelude.{refl};
     ghost use Rattle.din_schema.specs.Declarations.{kinds};
     ghost use Rattle.din_schema.specs.Frame.{header};
 
@@ -107,7 +107,7 @@ impl DeclaredRecord for Header<'_> {
 
     ghost particles = { header };
 
-    ghost apart = { Prim.search rules };
+    ghost apart = { refl };
 }
 
 impl<'a> Record<'a> for Header<'a> {

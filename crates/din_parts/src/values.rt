@@ -39,7 +39,7 @@ impl PutRecord for PhysicalValue {
 }
 
 impl DeclaredRecord for PhysicalValue {
-    ghost use Rattle.std.proofs.Common.{rules};
+    ghost use Rattle.std.specs.Prelude.{refl};
     ghost use Rattle.din_schema.specs.Declarations.{kinds};
     ghost use Rattle.din_schema.specs.Frame.{physical_value};
 
@@ -49,7 +49,7 @@ impl DeclaredRecord for PhysicalValue {
 
     ghost particles = { physical_value };
 
-    ghost apart = { Prim.search rules };
+    ghost apart = { refl };
 }
 
 impl<'a> Record<'a> for PhysicalValue {
@@ -117,7 +117,7 @@ impl PutRecord for DcEvStatus {
 }
 
 impl DeclaredRecord for DcEvStatus {
-    ghost use Rattle.std.proofs.Common.{rules};
+    ghost use Rattle.std.specs.Prelude.{refl};
     ghost use Rattle.din_schema.specs.Declarations.{kinds};
     ghost use Rattle.din_schema.specs.Frame.{dc_ev_status};
 
@@ -127,7 +127,7 @@ impl DeclaredRecord for DcEvStatus {
 
     ghost particles = { dc_ev_status };
 
-    ghost apart = { Prim.search rules };
+    ghost apart = { refl };
 }
 
 impl<'a> Record<'a> for DcEvStatus {
@@ -206,7 +206,7 @@ impl PutRecord for DcEvseStatus {
 }
 
 impl DeclaredRecord for DcEvseStatus {
-    ghost use Rattle.std.proofs.Common.{rules};
+    ghost use Rattle.std.specs.Prelude.{refl};
     ghost use Rattle.din_schema.specs.Declarations.{kinds};
     ghost use Rattle.din_schema.specs.Frame.{dc_evse_status};
 
@@ -216,7 +216,7 @@ impl DeclaredRecord for DcEvseStatus {
 
     ghost particles = { dc_evse_status };
 
-    ghost apart = { Prim.search rules };
+    ghost apart = { refl };
 }
 
 impl<'a> Record<'a> for DcEvseStatus {

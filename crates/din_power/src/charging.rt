@@ -32,7 +32,7 @@ impl PutRecord for CableCheckReq {
 }
 
 impl DeclaredRecord for CableCheckReq {
-    ghost use Rattle.std.proofs.Common.{rules};
+    ghost use Rattle.std.specs.Prelude.{refl};
     ghost use Rattle.din_schema.specs.Declarations.{kinds};
     ghost use Rattle.din_schema.specs.Charging.{cable_check_req};
 
@@ -42,7 +42,7 @@ impl DeclaredRecord for CableCheckReq {
 
     ghost particles = { cable_check_req };
 
-    ghost apart = { Prim.search rules };
+    ghost apart = { refl };
 }
 
 impl<'a> Record<'a> for CableCheckReq {
@@ -87,7 +87,7 @@ impl PutRecord for CableCheckRes {
 }
 
 impl DeclaredRecord for CableCheckRes {
-    ghost use Rattle.std.proofs.Common.{rules};
+    ghost use Rattle.std.specs.Prelude.{refl};
     ghost use Rattle.din_schema.specs.Declarations.{kinds};
     ghost use Rattle.din_schema.specs.Charging.{cable_check_res};
 
@@ -97,7 +97,7 @@ impl DeclaredRecord for CableCheckRes {
 
     ghost particles = { cable_check_res };
 
-    ghost apart = { Prim.search rules };
+    ghost apart = { refl };
 }
 
 impl<'a> Record<'a> for CableCheckRes {
@@ -158,7 +158,7 @@ impl PutRecord for PreChargeReq {
 }
 
 impl DeclaredRecord for PreChargeReq {
-    ghost use Rattle.std.proofs.Common.{rules};
+    ghost use Rattle.std.specs.Prelude.{refl};
     ghost use Rattle.din_schema.specs.Declarations.{kinds};
     ghost use Rattle.din_schema.specs.Charging.{pre_charge_req};
 
@@ -168,7 +168,7 @@ impl DeclaredRecord for PreChargeReq {
 
     ghost particles = { pre_charge_req };
 
-    ghost apart = { Prim.search rules };
+    ghost apart = { refl };
 }
 
 impl<'a> Record<'a> for PreChargeReq {
@@ -229,7 +229,7 @@ impl PutRecord for PreChargeRes {
 }
 
 impl DeclaredRecord for PreChargeRes {
-    ghost use Rattle.std.proofs.Common.{rules};
+    ghost use Rattle.std.specs.Prelude.{refl};
     ghost use Rattle.din_schema.specs.Declarations.{kinds};
     ghost use Rattle.din_schema.specs.Charging.{pre_charge_res};
 
@@ -239,7 +239,7 @@ impl DeclaredRecord for PreChargeRes {
 
     ghost particles = { pre_charge_res };
 
-    ghost apart = { Prim.search rules };
+    ghost apart = { refl };
 }
 
 impl<'a> Record<'a> for PreChargeRes {
@@ -338,7 +338,7 @@ impl PutRecord for CurrentDemandReq {
 }
 
 impl DeclaredRecord for CurrentDemandReq {
-    ghost use Rattle.std.proofs.Common.{rules};
+    ghost use Rattle.std.specs.Prelude.{refl};
     ghost use Rattle.din_schema.specs.Declarations.{kinds};
     ghost use Rattle.din_schema.specs.Charging.{current_demand_req};
 
@@ -348,7 +348,7 @@ impl DeclaredRecord for CurrentDemandReq {
 
     ghost particles = { current_demand_req };
 
-    ghost apart = { Prim.search rules };
+    ghost apart = { refl };
 }
 
 impl<'a> Record<'a> for CurrentDemandReq {
@@ -488,7 +488,7 @@ impl PutRecord for CurrentDemandRes {
 }
 
 impl DeclaredRecord for CurrentDemandRes {
-    ghost use Rattle.std.proofs.Common.{rules};
+    ghost use Rattle.std.specs.Prelude.{refl};
     ghost use Rattle.din_schema.specs.Declarations.{kinds};
     ghost use Rattle.din_schema.specs.Charging.{current_demand_res};
 
@@ -498,7 +498,7 @@ impl DeclaredRecord for CurrentDemandRes {
 
     ghost particles = { current_demand_res };
 
-    ghost apart = { Prim.search rules };
+    ghost apart = { refl };
 }
 
 impl<'a> Record<'a> for CurrentDemandRes {
@@ -588,7 +588,7 @@ impl PutRecord for WeldingDetectionReq {
 }
 
 impl DeclaredRecord for WeldingDetectionReq {
-    ghost use Rattle.std.proofs.Common.{rules};
+    ghost use Rattle.std.specs.Prelude.{refl};
     ghost use Rattle.din_schema.specs.Declarations.{kinds};
     ghost use Rattle.din_schema.specs.Charging.{welding_detection_req};
 
@@ -598,7 +598,7 @@ impl DeclaredRecord for WeldingDetectionReq {
 
     ghost particles = { welding_detection_req };
 
-    ghost apart = { Prim.search rules };
+    ghost apart = { refl };
 }
 
 impl<'a> Record<'a> for WeldingDetectionReq {
@@ -647,7 +647,7 @@ impl PutRecord for WeldingDetectionRes {
 }
 
 impl DeclaredRecord for WeldingDetectionRes {
-    ghost use Rattle.std.proofs.Common.{rules};
+    ghost use Rattle.std.specs.Prelude.{refl};
     ghost use Rattle.din_schema.specs.Declarations.{kinds};
     ghost use Rattle.din_schema.specs.Charging.{welding_detection_res};
 
@@ -657,7 +657,7 @@ impl DeclaredRecord for WeldingDetectionRes {
 
     ghost particles = { welding_detection_res };
 
-    ghost apart = { Prim.search rules };
+    ghost apart = { refl };
 }
 
 impl<'a> Record<'a> for WeldingDetectionRes {

@@ -46,7 +46,7 @@ impl PutRecord for ProfileEntry {
 }
 
 impl DeclaredRecord for ProfileEntry {
-    ghost use Rattle.std.proofs.Common.{rules};
+    ghost use Rattle.std.specs.Prelude.{refl};
     ghost use Rattle.din_schema.specs.Declarations.{kinds};
     ghost use Rattle.din_schema.specs.Parameters.{profile_entry};
 
@@ -56,7 +56,7 @@ impl DeclaredRecord for ProfileEntry {
 
     ghost particles = { profile_entry };
 
-    ghost apart = { Prim.search rules };
+    ghost apart = { refl };
 }
 
 impl<'a> Record<'a> for ProfileEntry {
@@ -112,7 +112,7 @@ impl PutRecord for ChargingProfile {
 }
 
 impl DeclaredRecord for ChargingProfile {
-    ghost use Rattle.std.proofs.Common.{rules};
+    ghost use Rattle.std.specs.Prelude.{refl};
     ghost use Rattle.din_schema.specs.Declarations.{kinds};
     ghost use Rattle.din_schema.specs.Parameters.{charging_profile};
 
@@ -122,7 +122,7 @@ impl DeclaredRecord for ChargingProfile {
 
     ghost particles = { charging_profile };
 
-    ghost apart = { Prim.search rules };
+    ghost apart = { refl };
 }
 
 impl<'a> Record<'a> for ChargingProfile {
@@ -179,7 +179,7 @@ impl PutRecord for DcEvPowerDeliveryParameter {
 }
 
 impl DeclaredRecord for DcEvPowerDeliveryParameter {
-    ghost use Rattle.std.proofs.Common.{rules};
+    ghost use Rattle.std.specs.Prelude.{refl};
     ghost use Rattle.din_schema.specs.Declarations.{kinds};
     ghost use Rattle.din_schema.specs.Parameters.{dc_ev_power_delivery_parameter};
 
@@ -189,7 +189,7 @@ impl DeclaredRecord for DcEvPowerDeliveryParameter {
 
     ghost particles = { dc_ev_power_delivery_parameter };
 
-    ghost apart = { Prim.search rules };
+    ghost apart = { refl };
 }
 
 impl<'a> Record<'a> for DcEvPowerDeliveryParameter {
@@ -303,7 +303,7 @@ impl PutRecord for PowerDeliveryReq {
 }
 
 impl DeclaredRecord for PowerDeliveryReq {
-    ghost use Rattle.std.proofs.Common.{rules};
+    ghost use Rattle.std.specs.Prelude.{refl};
     ghost use Rattle.din_schema.specs.Declarations.{kinds};
     ghost use Rattle.din_schema.specs.Parameters.{power_delivery_req};
 
@@ -313,7 +313,7 @@ impl DeclaredRecord for PowerDeliveryReq {
 
     ghost particles = { power_delivery_req };
 
-    ghost apart = { Prim.search rules };
+    ghost apart = { refl };
 }
 
 impl<'a> Record<'a> for PowerDeliveryReq {
@@ -372,7 +372,7 @@ impl PutRecord for PowerDeliveryRes {
 }
 
 impl DeclaredRecord for PowerDeliveryRes {
-    ghost use Rattle.std.proofs.Common.{rules};
+    ghost use Rattle.std.specs.Prelude.{refl};
     ghost use Rattle.din_schema.specs.Declarations.{kinds};
     ghost use Rattle.din_schema.specs.Parameters.{power_delivery_res};
 
@@ -382,7 +382,7 @@ impl DeclaredRecord for PowerDeliveryRes {
 
     ghost particles = { power_delivery_res };
 
-    ghost apart = { Prim.search rules };
+    ghost apart = { refl };
 }
 
 impl<'a> Record<'a> for PowerDeliveryRes {

@@ -40,7 +40,7 @@ impl PutRecord for ChargeParameterDiscoveryReq {
 }
 
 impl DeclaredRecord for ChargeParameterDiscoveryReq {
-    ghost use Rattle.std.proofs.Common.{rules};
+    ghost use Rattle.std.specs.Prelude.{refl};
     ghost use Rattle.din_schema.specs.Declarations.{kinds};
     ghost use Rattle.din_schema.specs.Parameters.{charge_parameter_discovery_req};
 
@@ -50,7 +50,7 @@ impl DeclaredRecord for ChargeParameterDiscoveryReq {
 
     ghost particles = { charge_parameter_discovery_req };
 
-    ghost apart = { Prim.search rules };
+    ghost apart = { refl };
 }
 
 impl<'a> Record<'a> for ChargeParameterDiscoveryReq {
@@ -104,7 +104,7 @@ impl PutRecord for ChargeParameterDiscoveryRes {
 }
 
 impl DeclaredRecord for ChargeParameterDiscoveryRes {
-    ghost use Rattle.std.proofs.Common.{rules};
+    ghost use Rattle.std.specs.Prelude.{refl};
     ghost use Rattle.din_schema.specs.Declarations.{kinds};
     ghost use Rattle.din_schema.specs.Parameters.{charge_parameter_discovery_res};
 
@@ -114,7 +114,7 @@ impl DeclaredRecord for ChargeParameterDiscoveryRes {
 
     ghost particles = { charge_parameter_discovery_res };
 
-    ghost apart = { Prim.search rules };
+    ghost apart = { refl };
 }
 
 impl<'a> Record<'a> for ChargeParameterDiscoveryRes {

@@ -60,7 +60,7 @@ impl PutRecord for DcEvChargeParameter {
 }
 
 impl DeclaredRecord for DcEvChargeParameter {
-    ghost use Rattle.std.proofs.Common.{rules};
+    ghost use Rattle.std.specs.Prelude.{refl};
     ghost use Rattle.din_schema.specs.Declarations.{kinds};
     ghost use Rattle.din_schema.specs.Parameters.{dc_ev_charge_parameter};
 
@@ -70,7 +70,7 @@ impl DeclaredRecord for DcEvChargeParameter {
 
     ghost particles = { dc_ev_charge_parameter };
 
-    ghost apart = { Prim.search rules };
+    ghost apart = { refl };
 }
 
 impl<'a> Record<'a> for DcEvChargeParameter {
@@ -235,7 +235,7 @@ impl PutRecord for DcEvseChargeParameter {
 }
 
 impl DeclaredRecord for DcEvseChargeParameter {
-    ghost use Rattle.std.proofs.Common.{rules};
+    ghost use Rattle.std.specs.Prelude.{refl};
     ghost use Rattle.din_schema.specs.Declarations.{kinds};
     ghost use Rattle.din_schema.specs.Parameters.{dc_evse_charge_parameter};
 
@@ -245,7 +245,7 @@ impl DeclaredRecord for DcEvseChargeParameter {
 
     ghost particles = { dc_evse_charge_parameter };
 
-    ghost apart = { Prim.search rules };
+    ghost apart = { refl };
 }
 
 impl<'a> Record<'a> for DcEvseChargeParameter {

@@ -34,7 +34,7 @@ impl PutRecord for RelativeTimeInterval {
 }
 
 impl DeclaredRecord for RelativeTimeInterval {
-    ghost use Rattle.std.proofs.Common.{rules};
+    ghost use Rattle.std.specs.Prelude.{refl};
     ghost use Rattle.din_schema.specs.Declarations.{kinds};
     ghost use Rattle.din_schema.specs.Parameters.{relative_time_interval};
 
@@ -44,7 +44,7 @@ impl DeclaredRecord for RelativeTimeInterval {
 
     ghost particles = { relative_time_interval };
 
-    ghost apart = { Prim.search rules };
+    ghost apart = { refl };
 }
 
 impl<'a> Record<'a> for RelativeTimeInterval {
@@ -132,7 +132,7 @@ impl PutRecord for PMaxScheduleEntry {
 }
 
 impl DeclaredRecord for PMaxScheduleEntry {
-    ghost use Rattle.std.proofs.Common.{rules};
+    ghost use Rattle.std.specs.Prelude.{refl};
     ghost use Rattle.din_schema.specs.Declarations.{kinds};
     ghost use Rattle.din_schema.specs.Parameters.{p_max_schedule_entry};
 
@@ -142,7 +142,7 @@ impl DeclaredRecord for PMaxScheduleEntry {
 
     ghost particles = { p_max_schedule_entry };
 
-    ghost apart = { Prim.search rules };
+    ghost apart = { refl };
 }
 
 impl<'a> Record<'a> for PMaxScheduleEntry {
@@ -193,7 +193,7 @@ impl PutRecord for PMaxSchedule {
 }
 
 impl DeclaredRecord for PMaxSchedule {
-    ghost use Rattle.std.proofs.Common.{rules};
+    ghost use Rattle.std.specs.Prelude.{refl};
     ghost use Rattle.din_schema.specs.Declarations.{kinds};
     ghost use Rattle.din_schema.specs.Parameters.{p_max_schedule};
 
@@ -203,7 +203,7 @@ impl DeclaredRecord for PMaxSchedule {
 
     ghost particles = { p_max_schedule };
 
-    ghost apart = { Prim.search rules };
+    ghost apart = { refl };
 }
 
 impl<'a> Record<'a> for PMaxSchedule {
@@ -258,7 +258,7 @@ impl PutRecord for SaScheduleTuple {
 }
 
 impl DeclaredRecord for SaScheduleTuple {
-    ghost use Rattle.std.proofs.Common.{rules};
+    ghost use Rattle.std.specs.Prelude.{refl};
     ghost use Rattle.din_schema.specs.Declarations.{kinds};
     ghost use Rattle.din_schema.specs.Parameters.{sa_schedule_tuple};
 
@@ -268,7 +268,7 @@ impl DeclaredRecord for SaScheduleTuple {
 
     ghost particles = { sa_schedule_tuple };
 
-    ghost apart = { Prim.search rules };
+    ghost apart = { refl };
 }
 
 impl<'a> Record<'a> for SaScheduleTuple {
@@ -314,7 +314,7 @@ impl PutRecord for SaScheduleList {
 }
 
 impl DeclaredRecord for SaScheduleList {
-    ghost use Rattle.std.proofs.Common.{rules};
+    ghost use Rattle.std.specs.Prelude.{refl};
     ghost use Rattle.din_schema.specs.Declarations.{kinds};
     ghost use Rattle.din_schema.specs.Parameters.{sa_schedule_list};
 
@@ -324,7 +324,7 @@ impl DeclaredRecord for SaScheduleList {
 
     ghost particles = { sa_schedule_list };
 
-    ghost apart = { Prim.search rules };
+    ghost apart = { refl };
 }
 
 impl<'a> Record<'a> for SaScheduleList {

@@ -43,7 +43,7 @@ impl PutRecord for ServiceTag<'_> {
 }
 
 impl DeclaredRecord for ServiceTag<'_> {
-    ghost use Rattle.std.proofs.Common.{rules};
+    ghost use Rattle.std.specs.Prelude.{refl};
     ghost use Rattle.din_schema.specs.Declarations.{kinds};
     ghost use Rattle.din_schema.specs.Setup.{service_tag};
 
@@ -53,7 +53,7 @@ impl DeclaredRecord for ServiceTag<'_> {
 
     ghost particles = { service_tag };
 
-    ghost apart = { Prim.search rules };
+    ghost apart = { refl };
 }
 
 impl<'a> Record<'a> for ServiceTag<'a> {
@@ -115,7 +115,7 @@ impl PutRecord for Service<'_> {
 }
 
 impl DeclaredRecord for Service<'_> {
-    ghost use Rattle.std.proofs.Common.{rules};
+    ghost use Rattle.std.specs.Prelude.{refl};
     ghost use Rattle.din_schema.specs.Declarations.{kinds};
     ghost use Rattle.din_schema.specs.Setup.{service};
 
@@ -125,7 +125,7 @@ impl DeclaredRecord for Service<'_> {
 
     ghost particles = { service };
 
-    ghost apart = { Prim.search rules };
+    ghost apart = { refl };
 }
 
 impl<'a> Record<'a> for Service<'a> {
@@ -170,7 +170,7 @@ impl PutRecord for ServiceList<'_> {
 }
 
 impl DeclaredRecord for ServiceList<'_> {
-    ghost use Rattle.std.proofs.Common.{rules};
+    ghost use Rattle.std.specs.Prelude.{refl};
     ghost use Rattle.din_schema.specs.Declarations.{kinds};
     ghost use Rattle.din_schema.specs.Setup.{service_list};
 
@@ -180,7 +180,7 @@ impl DeclaredRecord for ServiceList<'_> {
 
     ghost particles = { service_list };
 
-    ghost apart = { Prim.search rules };
+    ghost apart = { refl };
 }
 
 impl<'a> Record<'a> for ServiceList<'a> {
@@ -229,7 +229,7 @@ impl PutRecord for ChargeService<'_> {
 }
 
 impl DeclaredRecord for ChargeService<'_> {
-    ghost use Rattle.std.proofs.Common.{rules};
+    ghost use Rattle.std.specs.Prelude.{refl};
     ghost use Rattle.din_schema.specs.Declarations.{kinds};
     ghost use Rattle.din_schema.specs.Setup.{charge_service};
 
@@ -239,7 +239,7 @@ impl DeclaredRecord for ChargeService<'_> {
 
     ghost particles = { charge_service };
 
-    ghost apart = { Prim.search rules };
+    ghost apart = { refl };
 }
 
 impl<'a> Record<'a> for ChargeService<'a> {
@@ -297,7 +297,7 @@ impl PutRecord for PaymentOptions {
 }
 
 impl DeclaredRecord for PaymentOptions {
-    ghost use Rattle.std.proofs.Common.{rules};
+    ghost use Rattle.std.specs.Prelude.{refl};
     ghost use Rattle.din_schema.specs.Declarations.{kinds};
     ghost use Rattle.din_schema.specs.Setup.{payment_options};
 
@@ -307,7 +307,7 @@ impl DeclaredRecord for PaymentOptions {
 
     ghost particles = { payment_options };
 
-    ghost apart = { Prim.search rules };
+    ghost apart = { refl };
 }
 
 impl<'a> Record<'a> for PaymentOptions {
@@ -351,7 +351,7 @@ impl PutRecord for ServiceDiscoveryReq<'_> {
 }
 
 impl DeclaredRecord for ServiceDiscoveryReq<'_> {
-    ghost use Rattle.std.proofs.Common.{rules};
+    ghost use Rattle.std.specs.Prelude.{refl};
     ghost use Rattle.din_schema.specs.Declarations.{kinds};
     ghost use Rattle.din_schema.specs.Setup.{service_discovery_req};
 
@@ -361,7 +361,7 @@ impl DeclaredRecord for ServiceDiscoveryReq<'_> {
 
     ghost particles = { service_discovery_req };
 
-    ghost apart = { Prim.search rules };
+    ghost apart = { refl };
 }
 
 impl<'a> Record<'a> for ServiceDiscoveryReq<'a> {
@@ -418,7 +418,7 @@ impl PutRecord for ServiceDiscoveryRes<'_> {
 }
 
 impl DeclaredRecord for ServiceDiscoveryRes<'_> {
-    ghost use Rattle.std.proofs.Common.{rules};
+    ghost use Rattle.std.specs.Prelude.{refl};
     ghost use Rattle.din_schema.specs.Declarations.{kinds};
     ghost use Rattle.din_schema.specs.Setup.{service_discovery_res};
 
@@ -428,7 +428,7 @@ impl DeclaredRecord for ServiceDiscoveryRes<'_> {
 
     ghost particles = { service_discovery_res };
 
-    ghost apart = { Prim.search rules };
+    ghost apart = { refl };
 }
 
 impl<'a> Record<'a> for ServiceDiscoveryRes<'a> {

@@ -33,7 +33,7 @@ impl PutRecord for SessionSetupReq<'_> {
 }
 
 impl DeclaredRecord for SessionSetupReq<'_> {
-    ghost use Rattle.std.proofs.Common.{rules};
+    ghost use Rattle.std.specs.Prelude.{refl};
     ghost use Rattle.din_schema.specs.Declarations.{kinds};
     ghost use Rattle.din_schema.specs.Setup.{session_setup_req};
 
@@ -43,7 +43,7 @@ impl DeclaredRecord for SessionSetupReq<'_> {
 
     ghost particles = { session_setup_req };
 
-    ghost apart = { Prim.search rules };
+    ghost apart = { refl };
 }
 
 impl<'a> Record<'a> for SessionSetupReq<'a> {
@@ -89,7 +89,7 @@ impl PutRecord for SessionSetupRes<'_> {
 }
 
 impl DeclaredRecord for SessionSetupRes<'_> {
-    ghost use Rattle.std.proofs.Common.{rules};
+    ghost use Rattle.std.specs.Prelude.{refl};
     ghost use Rattle.din_schema.specs.Declarations.{kinds};
     ghost use Rattle.din_schema.specs.Setup.{session_setup_res};
 
@@ -99,7 +99,7 @@ impl DeclaredRecord for SessionSetupRes<'_> {
 
     ghost particles = { session_setup_res };
 
-    ghost apart = { Prim.search rules };
+    ghost apart = { refl };
 }
 
 impl<'a> Record<'a> for SessionSetupRes<'a> {
@@ -156,7 +156,7 @@ impl PutRecord for ContractAuthenticationReq<'_> {
 }
 
 impl DeclaredRecord for ContractAuthenticationReq<'_> {
-    ghost use Rattle.std.proofs.Common.{rules};
+    ghost use Rattle.std.specs.Prelude.{refl};
     ghost use Rattle.din_schema.specs.Declarations.{kinds};
     ghost use Rattle.din_schema.specs.Setup.{contract_authentication_req};
     ghost use Rattle.din_setup.specs.Session.{contract_authentication_req_attributes};
@@ -167,7 +167,7 @@ impl DeclaredRecord for ContractAuthenticationReq<'_> {
 
     ghost particles = { contract_authentication_req };
 
-    ghost apart = { Prim.search rules };
+    ghost apart = { refl };
 }
 
 impl<'a> Record<'a> for ContractAuthenticationReq<'a> {
@@ -212,7 +212,7 @@ impl PutRecord for ContractAuthenticationRes {
 }
 
 impl DeclaredRecord for ContractAuthenticationRes {
-    ghost use Rattle.std.proofs.Common.{rules};
+    ghost use Rattle.std.specs.Prelude.{refl};
     ghost use Rattle.din_schema.specs.Declarations.{kinds};
     ghost use Rattle.din_schema.specs.Setup.{contract_authentication_res};
 
@@ -222,7 +222,7 @@ impl DeclaredRecord for ContractAuthenticationRes {
 
     ghost particles = { contract_authentication_res };
 
-    ghost apart = { Prim.search rules };
+    ghost apart = { refl };
 }
 
 impl<'a> Record<'a> for ContractAuthenticationRes {
@@ -262,7 +262,7 @@ impl PutRecord for SessionStopReq {
 }
 
 impl DeclaredRecord for SessionStopReq {
-    ghost use Rattle.std.proofs.Common.{rules};
+    ghost use Rattle.std.specs.Prelude.{refl};
     ghost use Rattle.din_schema.specs.Declarations.{kinds};
 
     ghost kinds = { kinds };
@@ -271,7 +271,7 @@ impl DeclaredRecord for SessionStopReq {
 
     ghost particles = { [] };
 
-    ghost apart = { Prim.search rules };
+    ghost apart = { refl };
 }
 
 impl<'a> Record<'a> for SessionStopReq {
@@ -311,7 +311,7 @@ impl PutRecord for SessionStopRes {
 }
 
 impl DeclaredRecord for SessionStopRes {
-    ghost use Rattle.std.proofs.Common.{rules};
+    ghost use Rattle.std.specs.Prelude.{refl};
     ghost use Rattle.din_schema.specs.Declarations.{kinds};
     ghost use Rattle.din_schema.specs.Setup.{session_stop_res};
 
@@ -321,7 +321,7 @@ impl DeclaredRecord for SessionStopRes {
 
     ghost particles = { session_stop_res };
 
-    ghost apart = { Prim.search rules };
+    ghost apart = { refl };
 }
 
 impl<'a> Record<'a> for SessionStopRes {

@@ -589,7 +589,7 @@ impl PutRecord for Body<'_> {
 }
 
 impl DeclaredRecord for Body<'_> {
-    ghost use Rattle.std.proofs.Common.{rules};
+    ghost use Rattle.std.specs.Prelude.{refl};
     ghost use Rattle.iso_schema.specs.Declarations.{kinds};
     ghost use Rattle.iso_schema.specs.Frame.{body};
 
@@ -599,7 +599,7 @@ impl DeclaredRecord for Body<'_> {
 
     ghost particles = { body };
 
-    ghost apart = { Prim.search rules };
+    ghost apart = { refl };
 }
 
 impl<'a> LargeRecord<'a> for Body<'a> {
@@ -631,7 +631,7 @@ impl PutRecord for IsoMessage<'_> {
 }
 
 impl DeclaredRecord for IsoMessage<'_> {
-    ghost use Rattle.std.proofs.Common.{rules};
+    ghost use Rattle.std.specs.Prelude.{refl};
     ghost use Rattle.iso_schema.specs.Declarations.{kinds};
     ghost use Rattle.iso_schema.specs.Frame.{v2g_message};
 
@@ -641,7 +641,7 @@ impl DeclaredRecord for IsoMessage<'_> {
 
     ghost particles = { v2g_message };
 
-    ghost apart = { Prim.search rules };
+    ghost apart = { refl };
 }
 
 impl<'a> LargeRecord<'a> for IsoMessage<'a> {

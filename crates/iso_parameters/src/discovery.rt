@@ -46,7 +46,7 @@ impl PutRecord for ChargeParameterDiscoveryReq {
 }
 
 impl DeclaredRecord for ChargeParameterDiscoveryReq {
-    ghost use Rattle.std.proofs.Common.{rules};
+    ghost use Rattle.std.specs.Prelude.{refl};
     ghost use Rattle.iso_schema.specs.Declarations.{kinds};
     ghost use Rattle.iso_schema.specs.Parameters.{charge_parameter_discovery_req};
 
@@ -56,7 +56,7 @@ impl DeclaredRecord for ChargeParameterDiscoveryReq {
 
     ghost particles = { charge_parameter_discovery_req };
 
-    ghost apart = { Prim.search rules };
+    ghost apart = { refl };
 }
 
 impl<'a> Record<'a> for ChargeParameterDiscoveryReq {
@@ -121,7 +121,7 @@ impl PutRecord for ChargeParameterDiscoveryRes {
 }
 
 impl DeclaredRecord for ChargeParameterDiscoveryRes {
-    ghost use Rattle.std.proofs.Common.{rules};
+    ghost use Rattle.std.specs.Prelude.{refl};
     ghost use Rattle.iso_schema.specs.Declarations.{kinds};
     ghost use Rattle.iso_schema.specs.Parameters.{charge_parameter_discovery_res};
 
@@ -131,7 +131,7 @@ impl DeclaredRecord for ChargeParameterDiscoveryRes {
 
     ghost particles = { charge_parameter_discovery_res };
 
-    ghost apart = { Prim.search rules };
+    ghost apart = { refl };
 }
 
 impl<'a> Record<'a> for ChargeParameterDiscoveryRes {

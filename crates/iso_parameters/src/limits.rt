@@ -40,7 +40,7 @@ impl PutRecord for AcEvChargeParameter {
 }
 
 impl DeclaredRecord for AcEvChargeParameter {
-    ghost use Rattle.std.proofs.Common.{rules};
+    ghost use Rattle.std.specs.Prelude.{refl};
     ghost use Rattle.iso_schema.specs.Declarations.{kinds};
     ghost use Rattle.iso_schema.specs.Parameters.{ac_ev_charge_parameter};
 
@@ -50,7 +50,7 @@ impl DeclaredRecord for AcEvChargeParameter {
 
     ghost particles = { ac_ev_charge_parameter };
 
-    ghost apart = { Prim.search rules };
+    ghost apart = { refl };
 }
 
 impl<'a> Record<'a> for AcEvChargeParameter {
@@ -141,7 +141,7 @@ impl PutRecord for DcEvChargeParameter {
 }
 
 impl DeclaredRecord for DcEvChargeParameter {
-    ghost use Rattle.std.proofs.Common.{rules};
+    ghost use Rattle.std.specs.Prelude.{refl};
     ghost use Rattle.iso_schema.specs.Declarations.{kinds};
     ghost use Rattle.iso_schema.specs.Parameters.{dc_ev_charge_parameter};
 
@@ -151,7 +151,7 @@ impl DeclaredRecord for DcEvChargeParameter {
 
     ghost particles = { dc_ev_charge_parameter };
 
-    ghost apart = { Prim.search rules };
+    ghost apart = { refl };
 }
 
 impl<'a> Record<'a> for DcEvChargeParameter {
@@ -285,7 +285,7 @@ impl PutRecord for AcEvseChargeParameter {
 }
 
 impl DeclaredRecord for AcEvseChargeParameter {
-    ghost use Rattle.std.proofs.Common.{rules};
+    ghost use Rattle.std.specs.Prelude.{refl};
     ghost use Rattle.iso_schema.specs.Declarations.{kinds};
     ghost use Rattle.iso_schema.specs.Parameters.{ac_evse_charge_parameter};
 
@@ -295,7 +295,7 @@ impl DeclaredRecord for AcEvseChargeParameter {
 
     ghost particles = { ac_evse_charge_parameter };
 
-    ghost apart = { Prim.search rules };
+    ghost apart = { refl };
 }
 
 impl<'a> Record<'a> for AcEvseChargeParameter {
@@ -396,7 +396,7 @@ impl PutRecord for DcEvseChargeParameter {
 }
 
 impl DeclaredRecord for DcEvseChargeParameter {
-    ghost use Rattle.std.proofs.Common.{rules};
+    ghost use Rattle.std.specs.Prelude.{refl};
     ghost use Rattle.iso_schema.specs.Declarations.{kinds};
     ghost use Rattle.iso_schema.specs.Parameters.{dc_evse_charge_parameter};
 
@@ -406,7 +406,7 @@ impl DeclaredRecord for DcEvseChargeParameter {
 
     ghost particles = { dc_evse_charge_parameter };
 
-    ghost apart = { Prim.search rules };
+    ghost apart = { refl };
 }
 
 impl<'a> Record<'a> for DcEvseChargeParameter {

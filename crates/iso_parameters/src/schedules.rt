@@ -37,7 +37,7 @@ impl PutRecord for RelativeTimeInterval {
 }
 
 impl DeclaredRecord for RelativeTimeInterval {
-    ghost use Rattle.std.proofs.Common.{rules};
+    ghost use Rattle.std.specs.Prelude.{refl};
     ghost use Rattle.iso_schema.specs.Declarations.{kinds};
     ghost use Rattle.iso_schema.specs.Parameters.{relative_time_interval};
 
@@ -47,7 +47,7 @@ impl DeclaredRecord for RelativeTimeInterval {
 
     ghost particles = { relative_time_interval };
 
-    ghost apart = { Prim.search rules };
+    ghost apart = { refl };
 }
 
 impl<'a> Record<'a> for RelativeTimeInterval {
@@ -135,7 +135,7 @@ impl PutRecord for PMaxScheduleEntry {
 }
 
 impl DeclaredRecord for PMaxScheduleEntry {
-    ghost use Rattle.std.proofs.Common.{rules};
+    ghost use Rattle.std.specs.Prelude.{refl};
     ghost use Rattle.iso_schema.specs.Declarations.{kinds};
     ghost use Rattle.iso_schema.specs.Parameters.{p_max_schedule_entry};
 
@@ -145,7 +145,7 @@ impl DeclaredRecord for PMaxScheduleEntry {
 
     ghost particles = { p_max_schedule_entry };
 
-    ghost apart = { Prim.search rules };
+    ghost apart = { refl };
 }
 
 impl<'a> Record<'a> for PMaxScheduleEntry {
@@ -194,7 +194,7 @@ impl PutRecord for PMaxSchedule {
 }
 
 impl DeclaredRecord for PMaxSchedule {
-    ghost use Rattle.std.proofs.Common.{rules};
+    ghost use Rattle.std.specs.Prelude.{refl};
     ghost use Rattle.iso_schema.specs.Declarations.{kinds};
     ghost use Rattle.iso_schema.specs.Parameters.{p_max_schedule};
 
@@ -204,7 +204,7 @@ impl DeclaredRecord for PMaxSchedule {
 
     ghost particles = { p_max_schedule };
 
-    ghost apart = { Prim.search rules };
+    ghost apart = { refl };
 }
 
 impl<'a> Record<'a> for PMaxSchedule {
@@ -254,7 +254,7 @@ impl PutRecord for SaScheduleTuple {
 }
 
 impl DeclaredRecord for SaScheduleTuple {
-    ghost use Rattle.std.proofs.Common.{rules};
+    ghost use Rattle.std.specs.Prelude.{refl};
     ghost use Rattle.iso_schema.specs.Declarations.{kinds};
     ghost use Rattle.iso_schema.specs.Parameters.{sa_schedule_tuple};
 
@@ -264,7 +264,7 @@ impl DeclaredRecord for SaScheduleTuple {
 
     ghost particles = { sa_schedule_tuple };
 
-    ghost apart = { Prim.search rules };
+    ghost apart = { refl };
 }
 
 impl<'a> Record<'a> for SaScheduleTuple {
@@ -310,7 +310,7 @@ impl PutRecord for SaScheduleList {
 }
 
 impl DeclaredRecord for SaScheduleList {
-    ghost use Rattle.std.proofs.Common.{rules};
+    ghost use Rattle.std.specs.Prelude.{refl};
     ghost use Rattle.iso_schema.specs.Declarations.{kinds};
     ghost use Rattle.iso_schema.specs.Parameters.{sa_schedule_list};
 
@@ -320,7 +320,7 @@ impl DeclaredRecord for SaScheduleList {
 
     ghost particles = { sa_schedule_list };
 
-    ghost apart = { Prim.search rules };
+    ghost apart = { refl };
 }
 
 impl<'a> Record<'a> for SaScheduleList {

@@ -39,7 +39,7 @@ impl PutRecord for PhysicalValue {
 }
 
 impl DeclaredRecord for PhysicalValue {
-    ghost use Rattle.std.proofs.Common.{rules};
+    ghost use Rattle.std.specs.Prelude.{refl};
     ghost use Rattle.iso_schema.specs.Declarations.{kinds};
     ghost use Rattle.iso_schema.specs.Frame.{physical_value};
 
@@ -49,7 +49,7 @@ impl DeclaredRecord for PhysicalValue {
 
     ghost particles = { physical_value };
 
-    ghost apart = { Prim.search rules };
+    ghost apart = { refl };
 }
 
 impl<'a> Record<'a> for PhysicalValue {
@@ -98,7 +98,7 @@ impl PutRecord for DcEvStatus {
 }
 
 impl DeclaredRecord for DcEvStatus {
-    ghost use Rattle.std.proofs.Common.{rules};
+    ghost use Rattle.std.specs.Prelude.{refl};
     ghost use Rattle.iso_schema.specs.Declarations.{kinds};
     ghost use Rattle.iso_schema.specs.Frame.{dc_ev_status};
 
@@ -108,7 +108,7 @@ impl DeclaredRecord for DcEvStatus {
 
     ghost particles = { dc_ev_status };
 
-    ghost apart = { Prim.search rules };
+    ghost apart = { refl };
 }
 
 impl<'a> Record<'a> for DcEvStatus {
@@ -160,7 +160,7 @@ impl PutRecord for AcEvseStatus {
 }
 
 impl DeclaredRecord for AcEvseStatus {
-    ghost use Rattle.std.proofs.Common.{rules};
+    ghost use Rattle.std.specs.Prelude.{refl};
     ghost use Rattle.iso_schema.specs.Declarations.{kinds};
     ghost use Rattle.iso_schema.specs.Frame.{ac_evse_status};
 
@@ -170,7 +170,7 @@ impl DeclaredRecord for AcEvseStatus {
 
     ghost particles = { ac_evse_status };
 
-    ghost apart = { Prim.search rules };
+    ghost apart = { refl };
 }
 
 impl<'a> Record<'a> for AcEvseStatus {
@@ -228,7 +228,7 @@ impl PutRecord for DcEvseStatus {
 }
 
 impl DeclaredRecord for DcEvseStatus {
-    ghost use Rattle.std.proofs.Common.{rules};
+    ghost use Rattle.std.specs.Prelude.{refl};
     ghost use Rattle.iso_schema.specs.Declarations.{kinds};
     ghost use Rattle.iso_schema.specs.Frame.{dc_evse_status};
 
@@ -238,7 +238,7 @@ impl DeclaredRecord for DcEvseStatus {
 
     ghost particles = { dc_evse_status };
 
-    ghost apart = { Prim.search rules };
+    ghost apart = { refl };
 }
 
 impl<'a> Record<'a> for DcEvseStatus {
@@ -349,7 +349,7 @@ impl PutRecord for MeterInfo<'_> {
 }
 
 impl DeclaredRecord for MeterInfo<'_> {
-    ghost use Rattle.std.proofs.Common.{rules};
+    ghost use Rattle.std.specs.Prelude.{refl};
     ghost use Rattle.iso_schema.specs.Declarations.{kinds};
     ghost use Rattle.iso_schema.specs.Frame.{meter_info};
 
@@ -359,7 +359,7 @@ impl DeclaredRecord for MeterInfo<'_> {
 
     ghost particles = { meter_info };
 
-    ghost apart = { Prim.search rules };
+    ghost apart = { refl };
 }
 
 impl<'a> Record<'a> for MeterInfo<'a> {

@@ -55,7 +55,7 @@ impl PutRecord for ProfileEntry {
 }
 
 impl DeclaredRecord for ProfileEntry {
-    ghost use Rattle.std.proofs.Common.{rules};
+    ghost use Rattle.std.specs.Prelude.{refl};
     ghost use Rattle.iso_schema.specs.Declarations.{kinds};
     ghost use Rattle.iso_schema.specs.Parameters.{profile_entry};
 
@@ -65,7 +65,7 @@ impl DeclaredRecord for ProfileEntry {
 
     ghost particles = { profile_entry };
 
-    ghost apart = { Prim.search rules };
+    ghost apart = { refl };
 }
 
 impl<'a> Record<'a> for ProfileEntry {
@@ -123,7 +123,7 @@ impl PutRecord for ChargingProfile {
 }
 
 impl DeclaredRecord for ChargingProfile {
-    ghost use Rattle.std.proofs.Common.{rules};
+    ghost use Rattle.std.specs.Prelude.{refl};
     ghost use Rattle.iso_schema.specs.Declarations.{kinds};
     ghost use Rattle.iso_schema.specs.Parameters.{charging_profile};
 
@@ -133,7 +133,7 @@ impl DeclaredRecord for ChargingProfile {
 
     ghost particles = { charging_profile };
 
-    ghost apart = { Prim.search rules };
+    ghost apart = { refl };
 }
 
 impl<'a> Record<'a> for ChargingProfile {
@@ -182,7 +182,7 @@ impl PutRecord for DcEvPowerDeliveryParameter {
 }
 
 impl DeclaredRecord for DcEvPowerDeliveryParameter {
-    ghost use Rattle.std.proofs.Common.{rules};
+    ghost use Rattle.std.specs.Prelude.{refl};
     ghost use Rattle.iso_schema.specs.Declarations.{kinds};
     ghost use Rattle.iso_schema.specs.Parameters.{dc_ev_power_delivery_parameter};
 
@@ -192,7 +192,7 @@ impl DeclaredRecord for DcEvPowerDeliveryParameter {
 
     ghost particles = { dc_ev_power_delivery_parameter };
 
-    ghost apart = { Prim.search rules };
+    ghost apart = { refl };
 }
 
 impl<'a> Record<'a> for DcEvPowerDeliveryParameter {
@@ -309,7 +309,7 @@ impl PutRecord for PowerDeliveryReq {
 }
 
 impl DeclaredRecord for PowerDeliveryReq {
-    ghost use Rattle.std.proofs.Common.{rules};
+    ghost use Rattle.std.specs.Prelude.{refl};
     ghost use Rattle.iso_schema.specs.Declarations.{kinds};
     ghost use Rattle.iso_schema.specs.Parameters.{power_delivery_req};
 
@@ -319,7 +319,7 @@ impl DeclaredRecord for PowerDeliveryReq {
 
     ghost particles = { power_delivery_req };
 
-    ghost apart = { Prim.search rules };
+    ghost apart = { refl };
 }
 
 impl<'a> Record<'a> for PowerDeliveryReq {
@@ -381,7 +381,7 @@ impl PutRecord for PowerDeliveryRes {
 }
 
 impl DeclaredRecord for PowerDeliveryRes {
-    ghost use Rattle.std.proofs.Common.{rules};
+    ghost use Rattle.std.specs.Prelude.{refl};
     ghost use Rattle.iso_schema.specs.Declarations.{kinds};
     ghost use Rattle.iso_schema.specs.Parameters.{power_delivery_res};
 
@@ -391,7 +391,7 @@ impl DeclaredRecord for PowerDeliveryRes {
 
     ghost particles = { power_delivery_res };
 
-    ghost apart = { Prim.search rules };
+    ghost apart = { refl };
 }
 
 impl<'a> Record<'a> for PowerDeliveryRes {
@@ -429,7 +429,7 @@ impl PutRecord for ChargingStatusReq {
 }
 
 impl DeclaredRecord for ChargingStatusReq {
-    ghost use Rattle.std.proofs.Common.{rules};
+    ghost use Rattle.std.specs.Prelude.{refl};
     ghost use Rattle.iso_schema.specs.Declarations.{kinds};
 
     ghost kinds = { kinds };
@@ -438,7 +438,7 @@ impl DeclaredRecord for ChargingStatusReq {
 
     ghost particles = { [] };
 
-    ghost apart = { Prim.search rules };
+    ghost apart = { refl };
 }
 
 impl<'a> Record<'a> for ChargingStatusReq {
@@ -496,7 +496,7 @@ impl PutRecord for ChargingStatusRes<'_> {
 }
 
 impl DeclaredRecord for ChargingStatusRes<'_> {
-    ghost use Rattle.std.proofs.Common.{rules};
+    ghost use Rattle.std.specs.Prelude.{refl};
     ghost use Rattle.iso_schema.specs.Declarations.{kinds};
     ghost use Rattle.iso_schema.specs.Parameters.{charging_status_res};
 
@@ -506,7 +506,7 @@ impl DeclaredRecord for ChargingStatusRes<'_> {
 
     ghost particles = { charging_status_res };
 
-    ghost apart = { Prim.search rules };
+    ghost apart = { refl };
 }
 
 impl<'a> Record<'a> for ChargingStatusRes<'a> {

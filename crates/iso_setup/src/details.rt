@@ -107,7 +107,7 @@ impl PutRecord for Parameter<'_> {
 }
 
 impl DeclaredRecord for Parameter<'_> {
-    ghost use Rattle.std.proofs.Common.{rules};
+    ghost use Rattle.std.specs.Prelude.{refl};
     ghost use Rattle.iso_schema.specs.Declarations.{kinds};
     ghost use Rattle.iso_schema.specs.Setup.{parameter};
     ghost use Rattle.iso_setup.specs.Details.{parameter_attributes};
@@ -118,7 +118,7 @@ impl DeclaredRecord for Parameter<'_> {
 
     ghost particles = { parameter };
 
-    ghost apart = { Prim.search rules };
+    ghost apart = { refl };
 }
 
 impl<'a> Record<'a> for Parameter<'a> {
@@ -162,7 +162,7 @@ impl PutRecord for ParameterSet<'_> {
 }
 
 impl DeclaredRecord for ParameterSet<'_> {
-    ghost use Rattle.std.proofs.Common.{rules};
+    ghost use Rattle.std.specs.Prelude.{refl};
     ghost use Rattle.iso_schema.specs.Declarations.{kinds};
     ghost use Rattle.iso_schema.specs.Setup.{parameter_set};
 
@@ -172,7 +172,7 @@ impl DeclaredRecord for ParameterSet<'_> {
 
     ghost particles = { parameter_set };
 
-    ghost apart = { Prim.search rules };
+    ghost apart = { refl };
 }
 
 impl<'a> Record<'a> for ParameterSet<'a> {
@@ -222,7 +222,7 @@ impl PutRecord for ServiceParameterList<'_> {
 }
 
 impl DeclaredRecord for ServiceParameterList<'_> {
-    ghost use Rattle.std.proofs.Common.{rules};
+    ghost use Rattle.std.specs.Prelude.{refl};
     ghost use Rattle.iso_schema.specs.Declarations.{kinds};
     ghost use Rattle.iso_schema.specs.Setup.{service_parameter_list};
 
@@ -232,7 +232,7 @@ impl DeclaredRecord for ServiceParameterList<'_> {
 
     ghost particles = { service_parameter_list };
 
-    ghost apart = { Prim.search rules };
+    ghost apart = { refl };
 }
 
 impl<'a> Record<'a> for ServiceParameterList<'a> {
@@ -275,7 +275,7 @@ impl PutRecord for ServiceDetailReq {
 }
 
 impl DeclaredRecord for ServiceDetailReq {
-    ghost use Rattle.std.proofs.Common.{rules};
+    ghost use Rattle.std.specs.Prelude.{refl};
     ghost use Rattle.iso_schema.specs.Declarations.{kinds};
     ghost use Rattle.iso_schema.specs.Setup.{service_detail_req};
 
@@ -285,7 +285,7 @@ impl DeclaredRecord for ServiceDetailReq {
 
     ghost particles = { service_detail_req };
 
-    ghost apart = { Prim.search rules };
+    ghost apart = { refl };
 }
 
 impl<'a> Record<'a> for ServiceDetailReq {
@@ -334,7 +334,7 @@ impl PutRecord for ServiceDetailRes<'_> {
 }
 
 impl DeclaredRecord for ServiceDetailRes<'_> {
-    ghost use Rattle.std.proofs.Common.{rules};
+    ghost use Rattle.std.specs.Prelude.{refl};
     ghost use Rattle.iso_schema.specs.Declarations.{kinds};
     ghost use Rattle.iso_schema.specs.Setup.{service_detail_res};
 
@@ -344,7 +344,7 @@ impl DeclaredRecord for ServiceDetailRes<'_> {
 
     ghost particles = { service_detail_res };
 
-    ghost apart = { Prim.search rules };
+    ghost apart = { refl };
 }
 
 impl<'a> Record<'a> for ServiceDetailRes<'a> {

@@ -35,7 +35,7 @@ impl PutRecord for SelectedService {
 }
 
 impl DeclaredRecord for SelectedService {
-    ghost use Rattle.std.proofs.Common.{rules};
+    ghost use Rattle.std.specs.Prelude.{refl};
     ghost use Rattle.iso_schema.specs.Declarations.{kinds};
     ghost use Rattle.iso_schema.specs.Setup.{selected_service};
 
@@ -45,7 +45,7 @@ impl DeclaredRecord for SelectedService {
 
     ghost particles = { selected_service };
 
-    ghost apart = { Prim.search rules };
+    ghost apart = { refl };
 }
 
 impl<'a> Record<'a> for SelectedService {
@@ -95,7 +95,7 @@ impl PutRecord for SelectedServiceList {
 }
 
 impl DeclaredRecord for SelectedServiceList {
-    ghost use Rattle.std.proofs.Common.{rules};
+    ghost use Rattle.std.specs.Prelude.{refl};
     ghost use Rattle.iso_schema.specs.Declarations.{kinds};
     ghost use Rattle.iso_schema.specs.Setup.{selected_service_list};
 
@@ -105,7 +105,7 @@ impl DeclaredRecord for SelectedServiceList {
 
     ghost particles = { selected_service_list };
 
-    ghost apart = { Prim.search rules };
+    ghost apart = { refl };
 }
 
 impl<'a> Record<'a> for SelectedServiceList {
@@ -156,7 +156,7 @@ impl PutRecord for PaymentServiceSelectionReq {
 }
 
 impl DeclaredRecord for PaymentServiceSelectionReq {
-    ghost use Rattle.std.proofs.Common.{rules};
+    ghost use Rattle.std.specs.Prelude.{refl};
     ghost use Rattle.iso_schema.specs.Declarations.{kinds};
     ghost use Rattle.iso_schema.specs.Setup.{payment_service_selection_req};
 
@@ -166,7 +166,7 @@ impl DeclaredRecord for PaymentServiceSelectionReq {
 
     ghost particles = { payment_service_selection_req };
 
-    ghost apart = { Prim.search rules };
+    ghost apart = { refl };
 }
 
 impl<'a> Record<'a> for PaymentServiceSelectionReq {
@@ -213,7 +213,7 @@ impl PutRecord for PaymentServiceSelectionRes {
 }
 
 impl DeclaredRecord for PaymentServiceSelectionRes {
-    ghost use Rattle.std.proofs.Common.{rules};
+    ghost use Rattle.std.specs.Prelude.{refl};
     ghost use Rattle.iso_schema.specs.Declarations.{kinds};
     ghost use Rattle.iso_schema.specs.Setup.{payment_service_selection_res};
 
@@ -223,7 +223,7 @@ impl DeclaredRecord for PaymentServiceSelectionRes {
 
     ghost particles = { payment_service_selection_res };
 
-    ghost apart = { Prim.search rules };
+    ghost apart = { refl };
 }
 
 impl<'a> Record<'a> for PaymentServiceSelectionRes {

@@ -45,7 +45,7 @@ impl PutRecord for Service<'_> {
 }
 
 impl DeclaredRecord for Service<'_> {
-    ghost use Rattle.std.proofs.Common.{rules};
+    ghost use Rattle.std.specs.Prelude.{refl};
     ghost use Rattle.iso_schema.specs.Declarations.{kinds};
     ghost use Rattle.iso_schema.specs.Setup.{service};
 
@@ -55,7 +55,7 @@ impl DeclaredRecord for Service<'_> {
 
     ghost particles = { service };
 
-    ghost apart = { Prim.search rules };
+    ghost apart = { refl };
 }
 
 impl<'a> Record<'a> for Service<'a> {
@@ -124,7 +124,7 @@ impl PutRecord for ServiceList<'_> {
 }
 
 impl DeclaredRecord for ServiceList<'_> {
-    ghost use Rattle.std.proofs.Common.{rules};
+    ghost use Rattle.std.specs.Prelude.{refl};
     ghost use Rattle.iso_schema.specs.Declarations.{kinds};
     ghost use Rattle.iso_schema.specs.Setup.{service_list};
 
@@ -134,7 +134,7 @@ impl DeclaredRecord for ServiceList<'_> {
 
     ghost particles = { service_list };
 
-    ghost apart = { Prim.search rules };
+    ghost apart = { refl };
 }
 
 impl<'a> Record<'a> for ServiceList<'a> {
@@ -180,7 +180,7 @@ impl PutRecord for SupportedEnergyTransferMode {
 }
 
 impl DeclaredRecord for SupportedEnergyTransferMode {
-    ghost use Rattle.std.proofs.Common.{rules};
+    ghost use Rattle.std.specs.Prelude.{refl};
     ghost use Rattle.iso_schema.specs.Declarations.{kinds};
     ghost use Rattle.iso_schema.specs.Setup.{supported_energy_transfer_mode};
 
@@ -190,7 +190,7 @@ impl DeclaredRecord for SupportedEnergyTransferMode {
 
     ghost particles = { supported_energy_transfer_mode };
 
-    ghost apart = { Prim.search rules };
+    ghost apart = { refl };
 }
 
 impl<'a> Record<'a> for SupportedEnergyTransferMode {
@@ -251,7 +251,7 @@ impl PutRecord for ChargeService<'_> {
 }
 
 impl DeclaredRecord for ChargeService<'_> {
-    ghost use Rattle.std.proofs.Common.{rules};
+    ghost use Rattle.std.specs.Prelude.{refl};
     ghost use Rattle.iso_schema.specs.Declarations.{kinds};
     ghost use Rattle.iso_schema.specs.Setup.{charge_service};
 
@@ -261,7 +261,7 @@ impl DeclaredRecord for ChargeService<'_> {
 
     ghost particles = { charge_service };
 
-    ghost apart = { Prim.search rules };
+    ghost apart = { refl };
 }
 
 impl<'a> Record<'a> for ChargeService<'a> {
@@ -336,7 +336,7 @@ impl PutRecord for PaymentOptionList {
 }
 
 impl DeclaredRecord for PaymentOptionList {
-    ghost use Rattle.std.proofs.Common.{rules};
+    ghost use Rattle.std.specs.Prelude.{refl};
     ghost use Rattle.iso_schema.specs.Declarations.{kinds};
     ghost use Rattle.iso_schema.specs.Setup.{payment_option_list};
 
@@ -346,7 +346,7 @@ impl DeclaredRecord for PaymentOptionList {
 
     ghost particles = { payment_option_list };
 
-    ghost apart = { Prim.search rules };
+    ghost apart = { refl };
 }
 
 impl<'a> Record<'a> for PaymentOptionList {
@@ -390,7 +390,7 @@ impl PutRecord for ServiceDiscoveryReq<'_> {
 }
 
 impl DeclaredRecord for ServiceDiscoveryReq<'_> {
-    ghost use Rattle.std.proofs.Common.{rules};
+    ghost use Rattle.std.specs.Prelude.{refl};
     ghost use Rattle.iso_schema.specs.Declarations.{kinds};
     ghost use Rattle.iso_schema.specs.Setup.{service_discovery_req};
 
@@ -400,7 +400,7 @@ impl DeclaredRecord for ServiceDiscoveryReq<'_> {
 
     ghost particles = { service_discovery_req };
 
-    ghost apart = { Prim.search rules };
+    ghost apart = { refl };
 }
 
 impl<'a> Record<'a> for ServiceDiscoveryReq<'a> {
@@ -461,7 +461,7 @@ impl PutRecord for ServiceDiscoveryRes<'_> {
 }
 
 impl DeclaredRecord for ServiceDiscoveryRes<'_> {
-    ghost use Rattle.std.proofs.Common.{rules};
+    ghost use Rattle.std.specs.Prelude.{refl};
     ghost use Rattle.iso_schema.specs.Declarations.{kinds};
     ghost use Rattle.iso_schema.specs.Setup.{service_discovery_res};
 
@@ -471,7 +471,7 @@ impl DeclaredRecord for ServiceDiscoveryRes<'_> {
 
     ghost particles = { service_discovery_res };
 
-    ghost apart = { Prim.search rules };
+    ghost apart = { refl };
 }
 
 impl<'a> Record<'a> for ServiceDiscoveryRes<'a> {

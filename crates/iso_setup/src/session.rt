@@ -33,7 +33,7 @@ impl PutRecord for SessionSetupReq<'_> {
 }
 
 impl DeclaredRecord for SessionSetupReq<'_> {
-    ghost use Rattle.std.proofs.Common.{rules};
+    ghost use Rattle.std.specs.Prelude.{refl};
     ghost use Rattle.iso_schema.specs.Declarations.{kinds};
     ghost use Rattle.iso_schema.specs.Setup.{session_setup_req};
 
@@ -43,7 +43,7 @@ impl DeclaredRecord for SessionSetupReq<'_> {
 
     ghost particles = { session_setup_req };
 
-    ghost apart = { Prim.search rules };
+    ghost apart = { refl };
 }
 
 impl<'a> Record<'a> for SessionSetupReq<'a> {
@@ -89,7 +89,7 @@ impl PutRecord for SessionSetupRes<'_> {
 }
 
 impl DeclaredRecord for SessionSetupRes<'_> {
-    ghost use Rattle.std.proofs.Common.{rules};
+    ghost use Rattle.std.specs.Prelude.{refl};
     ghost use Rattle.iso_schema.specs.Declarations.{kinds};
     ghost use Rattle.iso_schema.specs.Setup.{session_setup_res};
 
@@ -99,7 +99,7 @@ impl DeclaredRecord for SessionSetupRes<'_> {
 
     ghost particles = { session_setup_res };
 
-    ghost apart = { Prim.search rules };
+    ghost apart = { refl };
 }
 
 impl<'a> Record<'a> for SessionSetupRes<'a> {
@@ -156,7 +156,7 @@ impl PutRecord for AuthorizationReq<'_> {
 }
 
 impl DeclaredRecord for AuthorizationReq<'_> {
-    ghost use Rattle.std.proofs.Common.{rules};
+    ghost use Rattle.std.specs.Prelude.{refl};
     ghost use Rattle.iso_schema.specs.Declarations.{kinds};
     ghost use Rattle.iso_schema.specs.Setup.{authorization_req};
     ghost use Rattle.iso_setup.specs.Session.{authorization_req_attributes};
@@ -167,7 +167,7 @@ impl DeclaredRecord for AuthorizationReq<'_> {
 
     ghost particles = { authorization_req };
 
-    ghost apart = { Prim.search rules };
+    ghost apart = { refl };
 }
 
 impl<'a> Record<'a> for AuthorizationReq<'a> {
@@ -213,7 +213,7 @@ impl PutRecord for AuthorizationRes {
 }
 
 impl DeclaredRecord for AuthorizationRes {
-    ghost use Rattle.std.proofs.Common.{rules};
+    ghost use Rattle.std.specs.Prelude.{refl};
     ghost use Rattle.iso_schema.specs.Declarations.{kinds};
     ghost use Rattle.iso_schema.specs.Setup.{authorization_res};
 
@@ -223,7 +223,7 @@ impl DeclaredRecord for AuthorizationRes {
 
     ghost particles = { authorization_res };
 
-    ghost apart = { Prim.search rules };
+    ghost apart = { refl };
 }
 
 impl<'a> Record<'a> for AuthorizationRes {
@@ -267,7 +267,7 @@ impl PutRecord for SessionStopReq {
 }
 
 impl DeclaredRecord for SessionStopReq {
-    ghost use Rattle.std.proofs.Common.{rules};
+    ghost use Rattle.std.specs.Prelude.{refl};
     ghost use Rattle.iso_schema.specs.Declarations.{kinds};
     ghost use Rattle.iso_schema.specs.Setup.{session_stop_req};
 
@@ -277,7 +277,7 @@ impl DeclaredRecord for SessionStopReq {
 
     ghost particles = { session_stop_req };
 
-    ghost apart = { Prim.search rules };
+    ghost apart = { refl };
 }
 
 impl<'a> Record<'a> for SessionStopReq {
@@ -318,7 +318,7 @@ impl PutRecord for SessionStopRes {
 }
 
 impl DeclaredRecord for SessionStopRes {
-    ghost use Rattle.std.proofs.Common.{rules};
+    ghost use Rattle.std.specs.Prelude.{refl};
     ghost use Rattle.iso_schema.specs.Declarations.{kinds};
     ghost use Rattle.iso_schema.specs.Setup.{session_stop_res};
 
@@ -328,7 +328,7 @@ impl DeclaredRecord for SessionStopRes {
 
     ghost particles = { session_stop_res };
 
-    ghost apart = { Prim.search rules };
+    ghost apart = { refl };
 }
 
 impl<'a> Record<'a> for SessionStopRes {

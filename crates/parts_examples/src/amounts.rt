@@ -70,7 +70,7 @@ impl PutRecord for Reading {
 }
 
 impl DeclaredRecord for Reading {
-    ghost use Rattle.std.proofs.Common.{rules};
+    ghost use Rattle.std.specs.Prelude.{refl};
     ghost use Rattle.parts_examples.specs.Declarations.{kinds, reading};
 
     ghost kinds = { kinds };
@@ -79,7 +79,7 @@ impl DeclaredRecord for Reading {
 
     ghost particles = { reading };
 
-    ghost apart = { Prim.search rules };
+    ghost apart = { refl };
 }
 
 impl<'a> Record<'a> for Reading {
@@ -178,7 +178,7 @@ impl PutRecord for AcSupply {
 }
 
 impl DeclaredRecord for AcSupply {
-    ghost use Rattle.std.proofs.Common.{rules};
+    ghost use Rattle.std.specs.Prelude.{refl};
     ghost use Rattle.parts_examples.specs.Declarations.{kinds, ac_supply};
 
     ghost kinds = { kinds };
@@ -187,7 +187,7 @@ impl DeclaredRecord for AcSupply {
 
     ghost particles = { ac_supply };
 
-    ghost apart = { Prim.search rules };
+    ghost apart = { refl };
 }
 
 impl<'a> Record<'a> for AcSupply {
@@ -232,7 +232,7 @@ impl PutRecord for DcSupply {
 }
 
 impl DeclaredRecord for DcSupply {
-    ghost use Rattle.std.proofs.Common.{rules};
+    ghost use Rattle.std.specs.Prelude.{refl};
     ghost use Rattle.parts_examples.specs.Declarations.{kinds, dc_supply};
 
     ghost kinds = { kinds };
@@ -241,7 +241,7 @@ impl DeclaredRecord for DcSupply {
 
     ghost particles = { dc_supply };
 
-    ghost apart = { Prim.search rules };
+    ghost apart = { refl };
 }
 
 impl<'a> Record<'a> for DcSupply {
@@ -323,7 +323,7 @@ impl PutRecord for Stopped {
 }
 
 impl DeclaredRecord for Stopped {
-    ghost use Rattle.std.proofs.Common.{rules};
+    ghost use Rattle.std.specs.Prelude.{refl};
     ghost use Rattle.parts_examples.specs.Declarations.{kinds, stopped};
 
     ghost kinds = { kinds };
@@ -332,7 +332,7 @@ impl DeclaredRecord for Stopped {
 
     ghost particles = { stopped };
 
-    ghost apart = { Prim.search rules };
+    ghost apart = { refl };
 }
 
 impl<'a> Record<'a> for Stopped {

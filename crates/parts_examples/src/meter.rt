@@ -58,7 +58,7 @@ impl PutRecord for Meter {
 }
 
 impl DeclaredRecord for Meter {
-    ghost use Rattle.std.proofs.Common.{rules};
+    ghost use Rattle.std.specs.Prelude.{refl};
     ghost use Rattle.parts_examples.specs.Declarations.{kinds, meter};
 
     ghost kinds = { kinds };
@@ -67,7 +67,7 @@ impl DeclaredRecord for Meter {
 
     ghost particles = { meter };
 
-    ghost apart = { Prim.search rules };
+    ghost apart = { refl };
 }
 
 impl<'a> Record<'a> for Meter {

@@ -44,7 +44,7 @@ impl PutRecord for Day {
 }
 
 impl DeclaredRecord for Day {
-    ghost use Rattle.std.proofs.Common.{rules};
+    ghost use Rattle.std.specs.Prelude.{refl};
     ghost use Rattle.parts_examples.specs.Declarations.{kinds, day};
 
     ghost kinds = { kinds };
@@ -53,7 +53,7 @@ impl DeclaredRecord for Day {
 
     ghost particles = { day };
 
-    ghost apart = { Prim.search rules };
+    ghost apart = { refl };
 }
 
 impl<'a> Record<'a> for Day {
@@ -88,7 +88,7 @@ impl PutRecord for Closed {
 }
 
 impl DeclaredRecord for Closed {
-    ghost use Rattle.std.proofs.Common.{rules};
+    ghost use Rattle.std.specs.Prelude.{refl};
     ghost use Rattle.parts_examples.specs.Declarations.{kinds};
 
     ghost kinds = { kinds };
@@ -97,7 +97,7 @@ impl DeclaredRecord for Closed {
 
     ghost particles = { [] };
 
-    ghost apart = { Prim.search rules };
+    ghost apart = { refl };
 }
 
 impl<'a> Record<'a> for Closed {
@@ -160,7 +160,7 @@ impl PutRecord for Report<'_> {
 }
 
 impl DeclaredRecord for Report<'_> {
-    ghost use Rattle.std.proofs.Common.{rules};
+    ghost use Rattle.std.specs.Prelude.{refl};
     ghost use Rattle.parts_examples.specs.Declarations.{kinds, report, report_attributes};
 
     ghost kinds = { kinds };
@@ -169,7 +169,7 @@ impl DeclaredRecord for Report<'_> {
 
     ghost particles = { report };
 
-    ghost apart = { Prim.search rules };
+    ghost apart = { refl };
 }
 
 /// A report has two attributes, which no type of `message_fields` has: so it is read child by child.
