@@ -7,7 +7,7 @@ ghost use Rattle.din_words.specs.Spellable.{CanSpell};
 ghost use Rattle.car_codec_rules.specs.Din.{Encodes};
 ghost use Rattle.car_codec_rules.specs.Profiles.{HasNoProfile};
 
-use crate::copies::word_of;
+use crate::words::word_of;
 use din_codec::{DinTables, write_din};
 use din_words::of_word;
 use exi_events::Table;

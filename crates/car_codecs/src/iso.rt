@@ -7,7 +7,7 @@ ghost use Rattle.iso_words.specs.Spellable.{CanSpell};
 ghost use Rattle.car_codec_rules.specs.Iso.{Encodes};
 ghost use Rattle.car_codec_rules.specs.Profiles.{HasNoProfile};
 
-use crate::copies::word_of;
+use crate::words::word_of;
 use exi_events::Table;
 use iso_codec::{IsoTables, write_iso};
 use iso_words::of_word;

@@ -3,11 +3,11 @@
 #![tactic(auto)]
 
 mod codecs;
-mod copies;
 mod din;
 mod iso;
 mod negotiating;
 mod typed;
+mod words;
 
 pub use car_codec::{CarCodec, REQUEST_ROOM};
 pub use charge_world::{Dialect, NoMemory};

@@ -9,10 +9,10 @@ ghost use Rattle.plain_site.specs.Tables as lines;
 use crate::NoMemory;
 use crate::codec::Codec;
 use crate::hearing::copied;
-use arrayvec::ArrayVec;
 use charge_world::{Dialect, Piece};
+use copied_requests::copied_request;
 use plain_station::Judged;
-use session_words::{Ask, Reply, Request, Word};
+use session_words::{Reply, Word};
 use std::alloc::Global;
 
 /// What a first payload is judged as, whatever a post offers: tables are for posts that offer the same.
@@ -71,79 +71,6 @@ pub struct Tables {
     pub first: Vec<FirstWord>,
     pub later: Vec<LaterWord>,
     pub replies: Vec<Encoding>,
-}
-
-/// The same question once more.
-fn copied_ask(ask: &Ask) -> Ask
-    ensures { result ≡ ask.now }
-{
-    match ask {
-        Ask::SessionSetup { car } => Ask::SessionSetup {
-            car: ArrayVec::try_from(car.as_slice()).unwrap(),
-        },
-        Ask::ServiceDiscovery => Ask::ServiceDiscovery,
-        Ask::ServiceDetail { service } => Ask::ServiceDetail { service: *service },
-        Ask::PaymentSelection { external, services } => Ask::PaymentSelection {
-            external: *external,
-            services: ArrayVec::try_from(services.as_slice()).unwrap(),
-        },
-        Ask::Authorization => Ask::Authorization,
-        Ask::ChargeParameters { mode, limits } => Ask::ChargeParameters {
-            mode: *mode,
-            limits: *limits,
-        },
-        Ask::CableCheck { ready, soc } => Ask::CableCheck {
-            ready: *ready,
-            soc: *soc,
-        },
-        Ask::PreCharge {
-            ready,
-            soc,
-            voltage,
-            current,
-        } => Ask::PreCharge {
-            ready: *ready,
-            soc: *soc,
-            voltage: *voltage,
-            current: *current,
-        },
-        Ask::PowerDelivery {
-            progress,
-            tuple,
-            profile,
-        } => Ask::PowerDelivery {
-            progress: *progress,
-            tuple: *tuple,
-            profile: *profile,
-        },
-        Ask::CurrentDemand {
-            ready,
-            soc,
-            voltage,
-            current,
-        } => Ask::CurrentDemand {
-            ready: *ready,
-            soc: *soc,
-            voltage: *voltage,
-            current: *current,
-        },
-        Ask::ChargingStatus => Ask::ChargingStatus,
-        Ask::WeldingDetection { ready, soc } => Ask::WeldingDetection {
-            ready: *ready,
-            soc: *soc,
-        },
-        Ask::SessionStop { pause } => Ask::SessionStop { pause: *pause },
-    }
-}
-
-/// The same request once more.
-pub fn copied_request(request: &Request) -> Request
-    ensures { result ≡ request.now }
-{
-    Request {
-        session: request.session.copied(),
-        ask: copied_ask(&request.ask),
-    }
 }
 
 /// The same judgement once more.

@@ -1,10 +1,20 @@
-//! A request that is lent, as a word.
+//! A request that is lent, once more.
+#![tactic(auto)]
 
 ghost use Rattle.std.specs.Prelude.{◌≡◌};
-ghost use Rattle.session_words.specs.declared.word.Word.TheVariants as words;
 
 use arrayvec::ArrayVec;
-use session_words::{Ask, Request, Word};
+pub use session_words::{Ask, Request};
+
+/// The same request once more.
+pub fn copied_request(request: &Request) -> Request
+    ensures { result ≡ request.now }
+{
+    Request {
+        session: request.session.copied(),
+        ask: copied_ask(&request.ask),
+    }
+}
 
 /// What a request asks, once more.
 fn copied_ask(ask: &Ask) -> Ask
@@ -67,14 +77,4 @@ fn copied_ask(ask: &Ask) -> Ask
         },
         Ask::SessionStop { pause } => Ask::SessionStop { pause: *pause },
     }
-}
-
-/// The word of a request.
-pub(crate) fn word_of(request: &Request) -> Word
-    ensures { result ≡ words.Request request.now }
-{
-    Word::Request(Request {
-        session: request.session.copied(),
-        ask: copied_ask(&request.ask),
-    })
 }
