@@ -86,18 +86,11 @@ def none_here(count):
     return absent
 
 
-def rest_behind(t, members, n, listed):
-    """That the child is one of those behind the first n of these."""
-    return f"chosen_rest kinds F {listed} {pairs(t, members[:n])} told _ h {none_here(n)}"
-
-
-def member_here(t, members, n, listed):
-    """That the child which has started is this member: by the test of its name, the last since no other is left. What is left is made first, as
-    the comparison of both lists takes long where the names of the members stand in it."""
+def member_here(t, members, n):
+    """That the child which has started is this member: by the test of its name, the last since no other is left."""
     if n < len(members) - 1:
         return is_here(n)
-    last = f"only_last [] {pair(t, members[n])} _ F.name"
-    return f"(let r = {rest_behind(t, members, n, listed)} in {last} r.kind r.here r.among tt)" if n else f"({last} h.kind h.here h.among tt)"
+    return f"(only_last {pairs(t, members[:n])} {pair(t, members[n])} _ F.name h.kind h.here h.among {none_here(n)})"
 
 
 def member_of(t, kind, call, fact):
@@ -111,7 +104,7 @@ def read_large_choice(t, kind, n=0):
     behind = "brief" if kind in t.brief else t.reader_of(kind, n + 1)
     calls = iter(list(numbered(it.read() for it in members if not t.holds_list(it.kind))))
     for k, it in enumerate(members):
-        fact = is_here(k) if behind else member_here(t, members, k, t.from_part(kind, n))
+        fact = is_here(k) if behind else member_here(t, members, k)
         if t.holds_list(it.kind):
             last = k == len(members) - 1 and not behind
             at = k if last else k + 1
@@ -121,7 +114,7 @@ def read_large_choice(t, kind, n=0):
             call = next(calls)
             text += answer(f"in_ok-{call}-clause-read", "told", member_of(t, kind, f"c.in_ok-{call}", fact))
     if behind:
-        rest = rest_behind(t, members, len(members), t.from_part(kind, n))
+        rest = f"chosen_rest kinds F {t.from_part(kind, n)} {pairs(t, members)} told _ h {none_here(len(members))}"
         text += answer(f"else-is_at-{len(members)}-clause-read", "told", [f"    c.{behind}.ensures.read F told ({rest})"])
     return text
 
@@ -145,7 +138,7 @@ def read_choice(t, kind):
     members, text = t.choices[kind], ""
     for n, (it, call) in enumerate(zip(members, numbered(it.read() for it in members))):
         head = f"c.in_ok-{call}.ensures.read {'_ F _ _ _ _' if it.simple else 'F _ _ _'} told h"
-        fact = member_here(t, members, n, f"{t.lower(kind)}_members")
+        fact = member_here(t, members, n)
         whole = f"{head} {fact} refl refl" + (" refl" if it.simple else "")
         goal = f"in_ok-{call}-clause-read" if len(members) > 1 else "clause-read"
         text += answer(goal, "told", [f"    search (rules, {whole})" if t.is_signed(it.kind) else f"    {whole}"])
@@ -172,12 +165,12 @@ def read_choice_head(t, crate, file, kind, n=0):
     members = t.parts(kind)[n]
     rules = "rules, " if any(t.is_signed(it.kind) for it in members) else ""
     refl = "" if kind in t.brief else "refl, "
-    head = f"use Rattle.std.proofs.Common.{{{rules}{refl}[]{', ◌∷◌' if len(members) > 1 else ''}{', drop' if n else ''}}}\n"
-    is_last = not (kind in t.brief or t.reader_of(kind, n + 1))
-    words = [*(["chosen_rest"] if len(members) > 1 or not is_last else []), *(["only_last"] if is_last else [])]
-    head += f"use Rattle.message_parts.proofs.Chosen.{{{', '.join(words)}}}\n"
-    if "chosen_rest" in words:
+    head = f"use Rattle.std.proofs.Common.{{{rules}{refl}[]{', ◌∷◌' if len(members) > 1 else ''}{', drop' if n and t.reader_of(kind, n + 1) else ''}}}\n"
+    if kind in t.brief or t.reader_of(kind, n + 1):
+        head += "use Rattle.message_parts.proofs.Chosen.{chosen_rest}\n"
         head += f"use Rattle.{t.s.crate}.specs.Declarations.{{kinds}}\nuse Rattle.{crate}.specs.{file.capitalize()}.{{{t.lower(kind)}_members}}\n"
+    else:
+        head += "use Rattle.message_parts.proofs.Chosen.{only_last}\n"
     head += f"use Rattle.{t.s.crate}.specs.declared.names.TheConstants.{{{', '.join(it.name for it in members)}}}\n"
     kinds = dict.fromkeys(kind_name(t, it) for it in members)
     return head + f"use Rattle.{t.s.crate}.specs.declared.kinds.TheConstants.{{{', '.join(kinds)}}}\n"

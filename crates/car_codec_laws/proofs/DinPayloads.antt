@@ -8,7 +8,7 @@ use Rattle.session_words.specs.declared.word.Request.{Request}
 use Rattle.session_words.specs.declared.word.Word.{Word}
 use Rattle.session_words.specs.declared.word.Word.TheVariants as word
 use Rattle.din_schema.specs.Declarations.{schema}
-use Rattle.din_codec.specs.Documents.{din_tree}
+use Rattle.din_message.specs.Documents.{din_tree}
 use Rattle.din_word_laws.proofs.Words.{reads_as_written}
 use Rattle.din_requests.proofs.Trees.{requests_have_one_tree}
 use Rattle.codec_rules.specs.Din.{Reads}

@@ -8,7 +8,7 @@ use Rattle.session_words.specs.declared.word.Request.{Request}
 use Rattle.session_words.specs.declared.word.Word.{Word}
 use Rattle.session_words.specs.declared.word.Word.TheVariants as word
 use Rattle.iso_schema.specs.Declarations.{schema}
-use Rattle.iso_codec.specs.Documents.{iso_tree}
+use Rattle.iso_message.specs.Documents.{iso_tree}
 use Rattle.iso_word_laws.proofs.Words.{reads_as_written}
 use Rattle.iso_requests.proofs.Trees.{requests_have_one_tree}
 use Rattle.codec_rules.specs.Iso.{Reads}

@@ -3,8 +3,8 @@ use Rattle.std.specs.Prelude.{ℕ, List}
 use Rattle.document_laws.specs.Laws.{AreBytes}
 use Rattle.session_words.specs.declared.word.Request.{Request}
 use Rattle.session_words.specs.declared.word.Word.TheVariants as word
-use Rattle.din_codec.specs.declared.message.DinMessage.{DinMessage}
-use Rattle.din_codec.specs.Documents.{IsDinEncoding}
+use Rattle.din_message.specs.declared.message.DinMessage.{DinMessage}
+use Rattle.din_message.specs.Documents.{IsDinEncoding}
 use Rattle.din_words.specs.Messages.{IsMessageOf}
 use Rattle.din_words.specs.Spellable.{CanSpell}
 use Rattle.car_codec_rules.specs.Profiles.{HasNoProfile}

@@ -3,8 +3,8 @@ use Rattle.std.specs.Prelude.{ℕ, List}
 use Rattle.document_laws.specs.Laws.{AreBytes}
 use Rattle.session_words.specs.declared.word.Request.{Request}
 use Rattle.session_words.specs.declared.word.Word.TheVariants as word
-use Rattle.iso_codec.specs.declared.message.IsoMessage.{IsoMessage}
-use Rattle.iso_codec.specs.Documents.{IsIsoEncoding}
+use Rattle.iso_message.specs.declared.message.IsoMessage.{IsoMessage}
+use Rattle.iso_message.specs.Documents.{IsIsoEncoding}
 use Rattle.iso_words.specs.Messages.{IsMessageOf}
 use Rattle.iso_words.specs.Spellable.{CanSpell}
 use Rattle.car_codec_rules.specs.Profiles.{HasNoProfile}

@@ -9,7 +9,7 @@ use Rattle.session_words.specs.declared.word.Word.{Word}
 use Rattle.session_words.specs.declared.word.Word.TheVariants as word
 use Rattle.post_spec.specs.Spelled.{read_back}
 use Rattle.iso_schema.specs.Declarations.{schema}
-use Rattle.iso_codec.specs.Documents.{iso_tree}
+use Rattle.iso_message.specs.Documents.{iso_tree}
 use Rattle.iso_word_laws.proofs.Words.{reads_as_written}
 use Rattle.iso_replies.proofs.Trees.{replies_have_one_tree}
 use Rattle.iso_tree_words.proofs.Words.{one_payload_word}

@@ -6,8 +6,8 @@ use Rattle.session_words.specs.declared.word.Ask.TheVariants as ask
 use Rattle.session_words.specs.declared.word.Request.{Request}
 use Rattle.session_words.specs.declared.word.Word.{Word}
 use Rattle.session_words.specs.declared.word.Word.TheVariants as word
-use Rattle.din_codec.specs.declared.message.BodyElement.{BodyElement}
-use Rattle.din_codec.specs.declared.message.BodyElement.TheVariants as element
+use Rattle.din_message.specs.declared.message.BodyElement.{BodyElement}
+use Rattle.din_message.specs.declared.message.BodyElement.TheVariants as element
 use Rattle.din_words.specs.Words.{body_word}
 use Rattle.din_word_laws.specs.Posts.{IsSpoken}
 

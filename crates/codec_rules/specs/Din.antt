@@ -5,8 +5,8 @@ use Rattle.document_laws.specs.Laws.{AreBytes}
 use Rattle.session_words.specs.declared.word.Reply.{Reply}
 use Rattle.session_words.specs.declared.word.Word.{Word}
 use Rattle.session_words.specs.declared.word.Word.TheVariants as word
-use Rattle.din_codec.specs.declared.message.DinMessage.{DinMessage}
-use Rattle.din_codec.specs.Documents.{IsDin, IsDinRefused, IsDinEncoding}
+use Rattle.din_message.specs.declared.message.DinMessage.{DinMessage}
+use Rattle.din_message.specs.Documents.{IsDin, IsDinRefused, IsDinEncoding}
 use Rattle.din_words.specs.Messages.{IsMessageOf}
 use Rattle.din_words.specs.Spellable.{CanSpell}
 use Rattle.din_words.specs.Words.{word_of}

@@ -14,9 +14,9 @@ use Rattle.din_schema.specs.declared.kinds.TheConstants.{V2G_MESSAGE_KIND}
 use Rattle.din_schema.specs.declared.names.TheConstants.{V2G_MESSAGE}
 use Rattle.din_schema.specs.Declarations.{kinds, schema}
 use Rattle.din_schema.specs.Frame.{v2g_message}
-use Rattle.din_codec.specs.Message.{din_message_parts}
-use Rattle.din_codec.specs.declared.message.DinMessage.{DinMessage}
-use Rattle.din_codec.specs.Documents.{din_inside, din_tree, IsDin, IsDinMessage, IsWithin}
+use Rattle.din_message.specs.Message.{din_message_parts}
+use Rattle.din_message.specs.declared.message.DinMessage.{DinMessage}
+use Rattle.din_message.specs.Documents.{din_inside, din_tree, IsDin, IsDinMessage, IsWithin}
 
 abbrev number_of : Option RootOf → ℕ
 number_of None = 0

@@ -2,10 +2,10 @@
 
 ghost use Rattle.std.specs.Prelude.{◌≡◌, ◌*◌, ◌<◌, ◌≤◌, ◌↔◌, length, take, IfOk, IfErr, IsErr};
 ghost use Rattle.exi_documents.specs.Values.{most_entries};
-ghost use Rattle.din_codec.specs.Documents.{IsDin, IsDinRefused, IsDinMessage, IsDinEncoding, PassesBytes, TellsBits};
+ghost use Rattle.din_message.specs.Documents.{IsDin, IsDinRefused, IsDinMessage, IsDinEncoding, PassesBytes, TellsBits};
 
-use crate::message::DinMessage;
 use crate::tables::DinTables;
+use din_message::DinMessage;
 use exi_documents::Refusal;
 use exi_events::{Full, Table};
 

@@ -3,8 +3,8 @@
 ghost use Rattle.std.specs.Prelude.{◌≡◌, ℕ, List};
 ghost use Rattle.exi_documents.specs.declared.refusal.RefusalCause.{RefusalCause};
 ghost use Rattle.document_laws.specs.Laws.{AreBytes};
-ghost use Rattle.din_codec.specs.declared.message.DinMessage.{DinMessage};
-ghost use Rattle.din_codec.specs.Documents.{din_tree, IsDin, IsDinRefused, IsDinMessage, IsDinEncoding, IsWithin};
+ghost use Rattle.din_message.specs.declared.message.DinMessage.{DinMessage};
+ghost use Rattle.din_message.specs.Documents.{din_tree, IsDin, IsDinRefused, IsDinMessage, IsDinEncoding, IsWithin};
 
 /// A payload that spells a message has no refusal, and another one has one at most.
 pub fn messages_and_refusals()

@@ -3,13 +3,11 @@
 
 mod codec;
 pub mod laws;
-mod message;
-mod root;
 mod tables;
 
 pub use charge_world::NoMemory;
 pub use codec::{read_din, write_din};
+pub use din_message::{Body, BodyElement, DinMessage};
 pub use exi_documents::{Refusal, RefusalCause};
 pub use exi_events::{Full, Table};
-pub use message::{Body, BodyElement, DinMessage};
 pub use tables::DinTables;

@@ -19,9 +19,9 @@ use Rattle.din_schema.specs.Frame.{header, body}
 use Rattle.din_schema.specs.declared.kinds.TheConstants.{BINARY8_KIND, HEADER_KIND, BODY_KIND, SESSION_SETUP_RES_KIND, SERVICE_DISCOVERY_RES_KIND, SERVICE_PAYMENT_SELECTION_RES_KIND, CONTRACT_AUTHENTICATION_RES_KIND, SESSION_STOP_RES_KIND, CHARGE_PARAMETER_DISCOVERY_RES_KIND, POWER_DELIVERY_RES_KIND, CABLE_CHECK_RES_KIND, PRE_CHARGE_RES_KIND, CURRENT_DEMAND_RES_KIND, WELDING_DETECTION_RES_KIND}
 use Rattle.din_parts.specs.Frame.{header_parts}
 use Rattle.din_power.specs.declared.limits.EvseChargeParameter.{EvseChargeParameter}
-use Rattle.din_codec.specs.Documents.{IsWithin}
-use Rattle.din_codec.specs.Message.{body_parts}
-use Rattle.din_codec.specs.declared.message.BodyElement.{BodyElement}
+use Rattle.din_message.specs.Documents.{IsWithin}
+use Rattle.din_message.specs.Message.{body_parts}
+use Rattle.din_message.specs.declared.message.BodyElement.{BodyElement}
 use Rattle.din_values.specs.Codes.{response_code}
 use Rattle.din_words.specs.Messages.{LendsTell, LendsSession, delivery_reply, parameter_if, parameters_reply, reply_element, message_with}
 use Rattle.din_words.specs.Spellable.{CanSession, CanTuples, CanTell}

@@ -10,9 +10,9 @@ use Rattle.session_words.specs.declared.limits.EvseId.TheVariants as evse
 use Rattle.session_words.specs.declared.word.Tell.{Tell}
 use Rattle.session_words.specs.declared.word.Tell.TheVariants as tell
 use Rattle.din_schema.specs.declared.names.TheConstants.{V2G_MESSAGE, HEADER, BODY, SESSION_ID}
-use Rattle.din_codec.specs.Documents.{din_tree}
-use Rattle.din_codec.specs.Message.{body_parts}
-use Rattle.din_codec.specs.declared.message.BodyElement.{BodyElement}
+use Rattle.din_message.specs.Documents.{din_tree}
+use Rattle.din_message.specs.Message.{body_parts}
+use Rattle.din_message.specs.declared.message.BodyElement.{BodyElement}
 use Rattle.din_words.specs.Messages.{LendsEvse, LendsTell, reply_element, message_with}
 use Rattle.din_replies.specs.Replies.{RepliesHaveOneTree}
 

@@ -20,10 +20,10 @@ use Rattle.session_words.specs.declared.word.Word.TheVariants as word
 use Rattle.din_schema.specs.Declarations.{schema}
 use Rattle.din_schema.specs.declared.names.TheConstants.{V2G_MESSAGE}
 use Rattle.din_power.specs.declared.limits.EvseChargeParameter.{EvseChargeParameter}
-use Rattle.din_codec.specs.Documents.{din_inside, din_tree, din_number}
-use Rattle.din_codec.specs.Message.{body_element_inside, body_parts, din_message_parts}
-use Rattle.din_codec.specs.declared.message.BodyElement.{BodyElement}
-use Rattle.din_codec.specs.declared.message.DinMessage.{DinMessage}
+use Rattle.din_message.specs.Documents.{din_inside, din_tree, din_number}
+use Rattle.din_message.specs.Message.{body_element_inside, body_parts, din_message_parts}
+use Rattle.din_message.specs.declared.message.BodyElement.{BodyElement}
+use Rattle.din_message.specs.declared.message.DinMessage.{DinMessage}
 use Rattle.din_values.specs.Codes.{response_code}
 use Rattle.din_words.specs.Messages.{LendsTell, LendsSession, delivery_reply, parameter_if, parameters_reply, reply_element, message_with, IsMessageOf}
 use Rattle.din_words.specs.Spellable.{CanSession, CanTuple, CanTuples, CanTell, CanSpell}

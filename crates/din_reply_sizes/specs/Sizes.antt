@@ -1,8 +1,8 @@
 -- Own: how many bytes the encoding of each reply in DIN SPEC 70121:2014 has at most.
 use Rattle.session_words.specs.declared.word.Reply.{Reply}
 use Rattle.session_words.specs.declared.word.Word.TheVariants as word
-use Rattle.din_codec.specs.declared.message.DinMessage.{DinMessage}
-use Rattle.din_codec.specs.Documents.{PassesBytes}
+use Rattle.din_message.specs.declared.message.DinMessage.{DinMessage}
+use Rattle.din_message.specs.Documents.{PassesBytes}
 use Rattle.din_words.specs.Messages.{IsMessageOf}
 use Rattle.din_words.specs.Spellable.{CanSpell}
 use Rattle.written_sizes.specs.Entries.{HasEntries}

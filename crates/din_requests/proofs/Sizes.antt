@@ -20,8 +20,8 @@ use Rattle.din_setup.specs.declared.selection.SelectedServiceList.{SelectedServi
 use Rattle.din_power.specs.Discovery.{charge_parameter_discovery_req_parts}
 use Rattle.din_power.specs.Limits.{dc_ev_charge_parameter_parts, ev_charge_parameter_inside}
 use Rattle.din_power.specs.Delivery.{charging_profile_parts, power_delivery_req_parts}
-use Rattle.din_codec.specs.Documents.{din_tree, din_number}
-use Rattle.din_codec.specs.declared.message.DinMessage.{DinMessage}
+use Rattle.din_message.specs.Documents.{din_tree, din_number}
+use Rattle.din_message.specs.declared.message.DinMessage.{DinMessage}
 use Rattle.din_values.specs.Physical.{tenths_of}
 use Rattle.din_words.specs.Messages.{LendsAsk, parameters_request, request_element}
 use Rattle.din_words.specs.ParameterMessages.{ev_parameter, parameters_req}

@@ -2,8 +2,8 @@
 use Rattle.std.specs.Prelude.{◌≡◌}
 use Rattle.session_words.specs.declared.word.Request.{Request}
 use Rattle.session_words.specs.declared.word.Word.TheVariants as word
-use Rattle.din_codec.specs.declared.message.DinMessage.{DinMessage}
-use Rattle.din_codec.specs.Documents.{din_tree, IsWithin, PassesBytes}
+use Rattle.din_message.specs.declared.message.DinMessage.{DinMessage}
+use Rattle.din_message.specs.Documents.{din_tree, IsWithin, PassesBytes}
 use Rattle.din_words.specs.Messages.{IsMessageOf}
 use Rattle.din_words.specs.Spellable.{CanSpell}
 

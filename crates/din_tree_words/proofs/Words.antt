@@ -8,11 +8,11 @@ use Rattle.session_words.specs.declared.word.Tell.{Tell}
 use Rattle.din_schema.specs.Declarations.{schema}
 use Rattle.din_parts.specs.declared.codes.ResponseCode.{ResponseCode}
 use Rattle.din_parts.specs.declared.frame.Header.{Header}
-use Rattle.din_codec.specs.declared.message.BodyElement.{BodyElement}
-use Rattle.din_codec.specs.declared.message.BodyElement.TheVariants as element
-use Rattle.din_codec.specs.declared.message.DinMessage.{DinMessage}
-use Rattle.din_codec.specs.Documents.{din_tree, IsDin}
-use Rattle.din_codec.specs.Message.{body_element_name, body_element_inside}
+use Rattle.din_message.specs.declared.message.BodyElement.{BodyElement}
+use Rattle.din_message.specs.declared.message.BodyElement.TheVariants as element
+use Rattle.din_message.specs.declared.message.DinMessage.{DinMessage}
+use Rattle.din_message.specs.Documents.{din_tree, IsDin}
+use Rattle.din_message.specs.Message.{body_element_name, body_element_inside}
 use Rattle.din_words.specs.Words as message
 use Rattle.tree_words.proofs.Held.{first_is}
 use Rattle.din_tree_words.specs.Words as tree

@@ -6,8 +6,8 @@ ghost use Rattle.std.specs.Prelude.{◌≡◌, ℕ, List};
 ghost use Rattle.exi_documents.specs.Documents.{IsDocument};
 ghost use Rattle.exi_documents.specs.Trees.{Tree};
 ghost use Rattle.din_schema.specs.Declarations.{schema};
-ghost use Rattle.din_codec.specs.declared.message.DinMessage.{DinMessage};
-ghost use Rattle.din_codec.specs.Documents.{din_tree, IsDin};
+ghost use Rattle.din_message.specs.declared.message.DinMessage.{DinMessage};
+ghost use Rattle.din_message.specs.Documents.{din_tree, IsDin};
 ghost use Rattle.din_words.specs.Words.{word_of};
 ghost use Rattle.din_tree_words.specs.Words.{tree_word};
 

@@ -2,10 +2,10 @@
 use Rattle.std.proofs.Common.{Option, Some, None, ◌≡◌, ◌∙◌}
 use Rattle.tree_words.specs.Lending.{Lends}
 use Rattle.tree_words.proofs.Held.{held, of_parts, by_parts}
-use Rattle.din_codec.specs.declared.message.BodyElement.{BodyElement}
-use Rattle.din_codec.specs.declared.message.BodyElement.TheVariants as body_element
-use Rattle.din_codec.specs.declared.message.Body.{Body}
-use Rattle.din_codec.specs.declared.message.DinMessage.{DinMessage}
+use Rattle.din_message.specs.declared.message.BodyElement.{BodyElement}
+use Rattle.din_message.specs.declared.message.BodyElement.TheVariants as body_element
+use Rattle.din_message.specs.declared.message.Body.{Body}
+use Rattle.din_message.specs.declared.message.DinMessage.{DinMessage}
 use Rattle.din_trees.proofs.Frame.{header_read}
 use Rattle.din_trees.proofs.Session.{session_setup_req_read, session_setup_res_read, contract_authentication_req_read, contract_authentication_res_read, session_stop_res_read}
 use Rattle.din_trees.proofs.Services.{service_discovery_req_read, service_discovery_res_read}
@@ -13,7 +13,7 @@ use Rattle.din_trees.proofs.Selection.{service_payment_selection_req_read, servi
 use Rattle.din_trees.proofs.Discovery.{charge_parameter_discovery_req_read, charge_parameter_discovery_res_read}
 use Rattle.din_trees.proofs.Charging.{cable_check_req_read, cable_check_res_read, pre_charge_req_read, pre_charge_res_read, current_demand_req_read, current_demand_res_read, welding_detection_req_read, welding_detection_res_read}
 use Rattle.din_trees.proofs.Delivery.{power_delivery_req_read, power_delivery_res_read}
-use Rattle.din_codec.specs.Message.{body_parts, din_message_parts}
+use Rattle.din_message.specs.Message.{body_parts, din_message_parts}
 use Rattle.din_trees.specs.Message.{body_in, settled_body, din_message_in, settled_din_message}
 
 abbrev body_of : Option BodyElement → Body

@@ -5,8 +5,8 @@ use Rattle.exi_documents.specs.Documents.{IsDocument}
 use Rattle.exi_documents.specs.Trees.{Tree}
 use Rattle.tree_words.specs.Lending.{Lends}
 use Rattle.din_schema.specs.Declarations.{schema}
-use Rattle.din_codec.specs.declared.message.DinMessage.{DinMessage}
-use Rattle.din_codec.specs.Documents.{din_tree, IsDin}
+use Rattle.din_message.specs.declared.message.DinMessage.{DinMessage}
+use Rattle.din_message.specs.Documents.{din_tree, IsDin}
 use Rattle.din_trees.specs.Message.{settled_din_message}
 use Rattle.din_trees.specs.Trees.{message_in}
 use Rattle.din_trees.proofs.Message.{din_message_read}

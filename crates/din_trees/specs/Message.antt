@@ -4,10 +4,10 @@ use Rattle.std.specs.Option.{option_map}
 use Rattle.din_schema.specs.declared.names.TheConstants.{HEADER, BODY, CABLE_CHECK_REQ, CABLE_CHECK_RES, CHARGE_PARAMETER_DISCOVERY_REQ, CHARGE_PARAMETER_DISCOVERY_RES, CONTRACT_AUTHENTICATION_REQ, CONTRACT_AUTHENTICATION_RES, CURRENT_DEMAND_REQ, CURRENT_DEMAND_RES, POWER_DELIVERY_REQ, POWER_DELIVERY_RES, PRE_CHARGE_REQ, PRE_CHARGE_RES, SERVICE_DISCOVERY_REQ, SERVICE_DISCOVERY_RES, SERVICE_PAYMENT_SELECTION_REQ, SERVICE_PAYMENT_SELECTION_RES, SESSION_SETUP_REQ, SESSION_SETUP_RES, SESSION_STOP_REQ, SESSION_STOP_RES, WELDING_DETECTION_REQ, WELDING_DETECTION_RES}
 use Rattle.tree_words.specs.Named.{Children, children, head, within}
 use Rattle.tree_words.specs.Lending.{Lends, given_in, or_next}
-use Rattle.din_codec.specs.declared.message.BodyElement.{BodyElement}
-use Rattle.din_codec.specs.declared.message.BodyElement.TheVariants as body_element
-use Rattle.din_codec.specs.declared.message.Body.{Body}
-use Rattle.din_codec.specs.declared.message.DinMessage.{DinMessage}
+use Rattle.din_message.specs.declared.message.BodyElement.{BodyElement}
+use Rattle.din_message.specs.declared.message.BodyElement.TheVariants as body_element
+use Rattle.din_message.specs.declared.message.Body.{Body}
+use Rattle.din_message.specs.declared.message.DinMessage.{DinMessage}
 use Rattle.din_trees.specs.Frame.{header_in, settled_header}
 use Rattle.din_trees.specs.Session.{session_setup_req_in, settled_session_setup_req, session_setup_res_in, settled_session_setup_res, contract_authentication_req_in, settled_contract_authentication_req, contract_authentication_res_in, session_stop_res_in}
 use Rattle.din_trees.specs.Services.{service_discovery_req_in, settled_service_discovery_req, service_discovery_res_in, settled_service_discovery_res}

@@ -2,7 +2,7 @@
 use Rattle.exi_documents.specs.Trees.{Tree}
 use Rattle.tree_words.specs.Lending.{Lends}
 use Rattle.tree_words.specs.Named.{root_children}
-use Rattle.din_codec.specs.declared.message.DinMessage.{DinMessage}
+use Rattle.din_message.specs.declared.message.DinMessage.{DinMessage}
 use Rattle.din_trees.specs.Message.{din_message_in}
 
 -- each field from the element of its name, and its texts and Binaries lent

@@ -7,8 +7,8 @@ ghost use Rattle.exi_documents.specs.Documents.{IsDocument};
 ghost use Rattle.exi_documents.specs.Trees.{Tree};
 ghost use Rattle.tree_words.specs.Lending.{Lends};
 ghost use Rattle.din_schema.specs.Declarations.{schema};
-ghost use Rattle.din_codec.specs.declared.message.DinMessage.{DinMessage};
-ghost use Rattle.din_codec.specs.Documents.{din_tree, IsDin};
+ghost use Rattle.din_message.specs.declared.message.DinMessage.{DinMessage};
+ghost use Rattle.din_message.specs.Documents.{din_tree, IsDin};
 ghost use Rattle.din_trees.specs.Message.{settled_din_message};
 ghost use Rattle.din_trees.specs.Trees.{message_in};
 

@@ -21,7 +21,7 @@ use Rattle.session_words.specs.declared.word.Tell.{Tell}
 use Rattle.session_words.specs.declared.word.Tell.TheVariants as tell
 use Rattle.session_words.specs.declared.word.Word.{Word}
 use Rattle.session_words.specs.declared.word.Word.TheVariants as word
-use Rattle.din_codec.specs.declared.message.BodyElement.{BodyElement}
+use Rattle.din_message.specs.declared.message.BodyElement.{BodyElement}
 use Rattle.din_values.specs.Codes.{code_of, response_code, is_din_code}
 use Rattle.din_values.specs.Physical.{voltage_in, tenths_of, tenths_if, current_in, power_in, power_if}
 use Rattle.din_values.specs.States.{processing_of, evse_processing}

@@ -13,7 +13,7 @@ use Rattle.session_words.specs.declared.mode.Mode.{Mode}
 use Rattle.session_words.specs.declared.session.SessionId.{SessionId}
 use Rattle.session_words.specs.declared.word.Ask.{Ask}
 use Rattle.session_words.specs.declared.word.Ask.TheVariants as ask
-use Rattle.din_codec.specs.declared.message.BodyElement.{BodyElement}
+use Rattle.din_message.specs.declared.message.BodyElement.{BodyElement}
 use Rattle.din_values.specs.Physical.{voltage_in, tenths_of, power_in, power_if}
 use Rattle.din_words.specs.Messages.{request_element, LendsAsk}
 use Rattle.din_words.specs.ParameterMessages.{ev_parameter}

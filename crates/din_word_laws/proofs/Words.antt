@@ -6,7 +6,7 @@ use Rattle.message_parts.specs.declared.texts.Binary.{Binary}
 use Rattle.session_words.specs.declared.session.SessionId.{SessionId}
 use Rattle.session_words.specs.declared.word.Word.{Word}
 use Rattle.session_words.specs.declared.word.Word.TheVariants as word
-use Rattle.din_codec.specs.declared.message.BodyElement.{BodyElement}
+use Rattle.din_message.specs.declared.message.BodyElement.{BodyElement}
 use Rattle.din_words.specs.Messages.{LendsSession, message_with}
 use Rattle.din_words.specs.Spellable.{CanSession}
 use Rattle.din_words.specs.Words.{word_of, element_word}

@@ -2,7 +2,7 @@
 use Rattle.std.specs.Prelude.{◌≡◌}
 use Rattle.session_words.specs.declared.word.Word.{Word}
 use Rattle.written_words.specs.Back.{word_back}
-use Rattle.din_codec.specs.declared.message.DinMessage.{DinMessage}
+use Rattle.din_message.specs.declared.message.DinMessage.{DinMessage}
 use Rattle.din_words.specs.Messages.{IsMessageOf}
 use Rattle.din_words.specs.Spellable.{CanSpell}
 use Rattle.din_words.specs.Words.{word_of}

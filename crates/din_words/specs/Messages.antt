@@ -24,9 +24,9 @@ use Rattle.arrayvec.specs.ArrayVec.{ArrayVec}
 use Rattle.session_words.specs.declared.code.Processing.{Processing}
 use Rattle.session_words.specs.declared.limits.Tuple.{Tuple}
 use Rattle.din_power.specs.declared.limits.EvseChargeParameter.{EvseChargeParameter}
-use Rattle.din_codec.specs.declared.message.BodyElement.{BodyElement}
-use Rattle.din_codec.specs.declared.message.BodyElement.TheVariants as element
-use Rattle.din_codec.specs.declared.message.DinMessage.{DinMessage}
+use Rattle.din_message.specs.declared.message.BodyElement.{BodyElement}
+use Rattle.din_message.specs.declared.message.BodyElement.TheVariants as element
+use Rattle.din_message.specs.declared.message.DinMessage.{DinMessage}
 use Rattle.din_values.specs.Codes.{response_code}
 use Rattle.din_words.specs.SetupMessages.{setup_req, setup_res, discovery_req, discovery_res, selection_req, authorization_req, authorization_res}
 use Rattle.din_words.specs.ParameterMessages.{ev_parameter, parameters_req, evse_parameter, parameters_res}

@@ -9,9 +9,9 @@ use Rattle.session_words.specs.declared.word.Word.{Word}
 use Rattle.session_words.specs.declared.word.Word.TheVariants as word
 use Rattle.din_parts.specs.declared.codes.ResponseCode.{ResponseCode}
 use Rattle.din_parts.specs.declared.frame.Header.{Header}
-use Rattle.din_codec.specs.declared.message.BodyElement.{BodyElement}
-use Rattle.din_codec.specs.declared.message.BodyElement.TheVariants as element
-use Rattle.din_codec.specs.declared.message.DinMessage.{DinMessage}
+use Rattle.din_message.specs.declared.message.BodyElement.{BodyElement}
+use Rattle.din_message.specs.declared.message.BodyElement.TheVariants as element
+use Rattle.din_message.specs.declared.message.DinMessage.{DinMessage}
 use Rattle.din_values.specs.Codes.{code_of}
 use Rattle.word_values.specs.Items.{bytes_of}
 use Rattle.din_words.specs.SetupWords.{setup_ask, setup_tell, discovery_tell, selection_ask, authorization_tell}

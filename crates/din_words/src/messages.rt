@@ -14,7 +14,7 @@ use crate::setup_messages::{
     authorization_req, authorization_res, discovery_req, discovery_res, selection_req, setup_req,
     setup_res,
 };
-use din_codec::{Body, BodyElement, DinMessage};
+use din_message::{Body, BodyElement, DinMessage};
 use din_parts::{Header, ResponseCode};
 use din_power::EvseChargeParameter;
 use din_setup::{ServicePaymentSelectionRes, SessionStopReq, SessionStopRes};

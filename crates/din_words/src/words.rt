@@ -11,7 +11,7 @@ use crate::power_words::{
 use crate::setup_words::{
     authorization_tell, discovery_tell, selection_ask, setup_ask, setup_tell,
 };
-use din_codec::{BodyElement, DinMessage};
+use din_message::{BodyElement, DinMessage};
 use din_parts::{Header, ResponseCode};
 use din_values::codes::code_of;
 use session_words::{Ask, Reply, Request, SessionId, Tell, Word};

@@ -14,9 +14,9 @@ use Rattle.iso_schema.specs.declared.kinds.TheConstants.{V2G_MESSAGE_KIND}
 use Rattle.iso_schema.specs.declared.names.TheConstants.{V2G_MESSAGE}
 use Rattle.iso_schema.specs.Declarations.{kinds, schema}
 use Rattle.iso_schema.specs.Frame.{v2g_message}
-use Rattle.iso_codec.specs.Message.{iso_message_parts}
-use Rattle.iso_codec.specs.declared.message.IsoMessage.{IsoMessage}
-use Rattle.iso_codec.specs.Documents.{iso_inside, iso_tree, IsIso, IsIsoMessage, IsWithin}
+use Rattle.iso_message.specs.Message.{iso_message_parts}
+use Rattle.iso_message.specs.declared.message.IsoMessage.{IsoMessage}
+use Rattle.iso_message.specs.Documents.{iso_inside, iso_tree, IsIso, IsIsoMessage, IsWithin}
 
 abbrev number_of : Option RootOf → ℕ
 number_of None = 0

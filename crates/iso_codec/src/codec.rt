@@ -2,12 +2,12 @@
 
 ghost use Rattle.std.specs.Prelude.{◌≡◌, ◌*◌, ◌<◌, ◌≤◌, ◌↔◌, length, take, IfOk, IfErr, IsErr};
 ghost use Rattle.exi_documents.specs.Values.{most_entries};
-ghost use Rattle.iso_codec.specs.Documents.{IsIso, IsIsoRefused, IsIsoMessage, IsIsoEncoding, PassesBytes, TellsBits};
+ghost use Rattle.iso_message.specs.Documents.{IsIso, IsIsoRefused, IsIsoMessage, IsIsoEncoding, PassesBytes, TellsBits};
 
-use crate::message::IsoMessage;
 use crate::tables::IsoTables;
 use exi_documents::Refusal;
 use exi_events::{Full, Table};
+use iso_message::IsoMessage;
 
 /// Reads a message from a payload of at most 65,536 bytes (ISO 15118-2:2014, 8.3 to 8.5). The table, which has room for 8,192 entries,
 /// is emptied. Its texts and Binaries are lent from the payload.

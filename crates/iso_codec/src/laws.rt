@@ -3,8 +3,8 @@
 ghost use Rattle.std.specs.Prelude.{◌≡◌, ℕ, List};
 ghost use Rattle.exi_documents.specs.declared.refusal.RefusalCause.{RefusalCause};
 ghost use Rattle.document_laws.specs.Laws.{AreBytes};
-ghost use Rattle.iso_codec.specs.declared.message.IsoMessage.{IsoMessage};
-ghost use Rattle.iso_codec.specs.Documents.{iso_tree, IsIso, IsIsoRefused, IsIsoMessage, IsIsoEncoding, IsWithin};
+ghost use Rattle.iso_message.specs.declared.message.IsoMessage.{IsoMessage};
+ghost use Rattle.iso_message.specs.Documents.{iso_tree, IsIso, IsIsoRefused, IsIsoMessage, IsIsoEncoding, IsWithin};
 
 /// A payload that spells a message has no refusal, and another one has one at most.
 pub fn messages_and_refusals()

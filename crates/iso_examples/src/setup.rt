@@ -2,7 +2,7 @@
 
 ghost use Rattle.std.specs.Prelude.{◌≡◌, ◌≤◌, length};
 ghost use Rattle.exi_documents.specs.Values.{most_entries};
-ghost use Rattle.iso_codec.specs.Documents.{IsIso};
+ghost use Rattle.iso_message.specs.Documents.{IsIso};
 
 use exi_documents::MOST_ENTRIES;
 use iso_codec::laws::messages_are_written;

@@ -13,9 +13,9 @@ use Rattle.iso_schema.specs.Declarations.{kinds}
 use Rattle.iso_schema.specs.Frame.{header, body}
 use Rattle.iso_schema.specs.declared.kinds.TheConstants.{BINARY8_KIND, HEADER_KIND, BODY_KIND, SESSION_SETUP_RES_KIND, SERVICE_DISCOVERY_RES_KIND, SERVICE_DETAIL_RES_KIND, PAYMENT_SERVICE_SELECTION_RES_KIND, AUTHORIZATION_RES_KIND, SESSION_STOP_RES_KIND, CHARGE_PARAMETER_DISCOVERY_RES_KIND, POWER_DELIVERY_RES_KIND, CHARGING_STATUS_RES_KIND, CABLE_CHECK_RES_KIND, PRE_CHARGE_RES_KIND, CURRENT_DEMAND_RES_KIND, WELDING_DETECTION_RES_KIND}
 use Rattle.iso_parts.specs.Frame.{header_parts}
-use Rattle.iso_codec.specs.Documents.{IsWithin}
-use Rattle.iso_codec.specs.Message.{body_parts}
-use Rattle.iso_codec.specs.declared.message.BodyElement.{BodyElement}
+use Rattle.iso_message.specs.Documents.{IsWithin}
+use Rattle.iso_message.specs.Message.{body_parts}
+use Rattle.iso_message.specs.declared.message.BodyElement.{BodyElement}
 use Rattle.iso_values.specs.Codes.{response_code}
 use Rattle.iso_words.specs.Messages.{LendsTell, LendsSession, reply_element, message_with}
 use Rattle.iso_words.specs.Spellable.{CanSession, CanTell}

@@ -12,9 +12,9 @@ use Rattle.session_words.specs.declared.limits.EvseId.TheVariants as evse
 use Rattle.session_words.specs.declared.word.Tell.{Tell}
 use Rattle.session_words.specs.declared.word.Tell.TheVariants as tell
 use Rattle.iso_schema.specs.declared.names.TheConstants.{V2G_MESSAGE, HEADER, BODY, SESSION_ID}
-use Rattle.iso_codec.specs.Documents.{iso_tree}
-use Rattle.iso_codec.specs.Message.{body_parts}
-use Rattle.iso_codec.specs.declared.message.BodyElement.{BodyElement}
+use Rattle.iso_message.specs.Documents.{iso_tree}
+use Rattle.iso_message.specs.Message.{body_parts}
+use Rattle.iso_message.specs.declared.message.BodyElement.{BodyElement}
 use Rattle.iso_words.specs.Messages.{LendsEvse, LendsIf, LendsTell, reply_element, message_with}
 use Rattle.iso_replies.specs.Replies.{RepliesHaveOneTree}
 

@@ -17,10 +17,10 @@ use Rattle.session_words.specs.declared.word.Tell.TheVariants as tell
 use Rattle.session_words.specs.declared.word.Word.TheVariants as word
 use Rattle.iso_schema.specs.Declarations.{schema}
 use Rattle.iso_schema.specs.declared.names.TheConstants.{V2G_MESSAGE}
-use Rattle.iso_codec.specs.Documents.{iso_inside, iso_tree, iso_number}
-use Rattle.iso_codec.specs.Message.{body_element_inside, body_parts, iso_message_parts}
-use Rattle.iso_codec.specs.declared.message.BodyElement.{BodyElement}
-use Rattle.iso_codec.specs.declared.message.IsoMessage.{IsoMessage}
+use Rattle.iso_message.specs.Documents.{iso_inside, iso_tree, iso_number}
+use Rattle.iso_message.specs.Message.{body_element_inside, body_parts, iso_message_parts}
+use Rattle.iso_message.specs.declared.message.BodyElement.{BodyElement}
+use Rattle.iso_message.specs.declared.message.IsoMessage.{IsoMessage}
 use Rattle.iso_values.specs.Codes.{response_code}
 use Rattle.iso_words.specs.Messages.{LendsTell, LendsSession, reply_element, message_with, IsMessageOf}
 use Rattle.iso_words.specs.Spellable.{CanSession, CanTuple, CanTuples, CanTell, CanSpell}

@@ -1,8 +1,8 @@
 -- Own: how many bytes the encoding of each reply in ISO 15118-2:2014 has at most.
 use Rattle.session_words.specs.declared.word.Reply.{Reply}
 use Rattle.session_words.specs.declared.word.Word.TheVariants as word
-use Rattle.iso_codec.specs.declared.message.IsoMessage.{IsoMessage}
-use Rattle.iso_codec.specs.Documents.{PassesBytes}
+use Rattle.iso_message.specs.declared.message.IsoMessage.{IsoMessage}
+use Rattle.iso_message.specs.Documents.{PassesBytes}
 use Rattle.iso_words.specs.Messages.{IsMessageOf}
 use Rattle.iso_words.specs.Spellable.{CanSpell}
 use Rattle.written_sizes.specs.Entries.{HasEntries}

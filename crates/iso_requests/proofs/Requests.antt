@@ -4,7 +4,7 @@ use Rattle.message_parts.specs.declared.texts.Binary.{Binary}
 use Rattle.session_words.specs.declared.word.Ask.{Ask}
 use Rattle.session_words.specs.declared.word.Ask.TheVariants as ask
 use Rattle.iso_schema.specs.declared.kinds.TheConstants.{EMPTY_KIND, SESSION_SETUP_REQ_KIND, SERVICE_DISCOVERY_REQ_KIND, SERVICE_DETAIL_REQ_KIND, PAYMENT_SERVICE_SELECTION_REQ_KIND, AUTHORIZATION_REQ_KIND, SESSION_STOP_REQ_KIND, CHARGE_PARAMETER_DISCOVERY_REQ_KIND, POWER_DELIVERY_REQ_KIND, CABLE_CHECK_REQ_KIND, PRE_CHARGE_REQ_KIND, CURRENT_DEMAND_REQ_KIND, WELDING_DETECTION_REQ_KIND}
-use Rattle.iso_codec.specs.Documents.{IsWithin}
+use Rattle.iso_message.specs.Documents.{IsWithin}
 use Rattle.iso_words.specs.Messages.{LendsAsk, request_element}
 use Rattle.iso_words.specs.Spellable.{CanAsk}
 use Rattle.iso_replies.proofs.Replies.{FitsBody, message_fits}

@@ -20,8 +20,8 @@ use Rattle.iso_setup.specs.declared.selection.SelectedServiceList.{SelectedServi
 use Rattle.iso_parameters.specs.Discovery.{charge_parameter_discovery_req_parts}
 use Rattle.iso_parameters.specs.Limits.{dc_ev_charge_parameter_parts, ev_charge_parameter_inside}
 use Rattle.iso_power.specs.Delivery.{charging_profile_parts, power_delivery_req_parts}
-use Rattle.iso_codec.specs.Documents.{iso_tree, iso_number}
-use Rattle.iso_codec.specs.declared.message.IsoMessage.{IsoMessage}
+use Rattle.iso_message.specs.Documents.{iso_tree, iso_number}
+use Rattle.iso_message.specs.declared.message.IsoMessage.{IsoMessage}
 use Rattle.iso_words.specs.Messages.{LendsAsk, request_element}
 use Rattle.iso_words.specs.ParameterMessages.{ev_parameter, parameters_req}
 use Rattle.iso_words.specs.PowerMessages.{profile_of, profile_if, delivery_req}

@@ -2,8 +2,8 @@
 use Rattle.std.specs.Prelude.{◌≡◌}
 use Rattle.session_words.specs.declared.word.Request.{Request}
 use Rattle.session_words.specs.declared.word.Word.TheVariants as word
-use Rattle.iso_codec.specs.declared.message.IsoMessage.{IsoMessage}
-use Rattle.iso_codec.specs.Documents.{iso_tree, IsWithin, PassesBytes}
+use Rattle.iso_message.specs.declared.message.IsoMessage.{IsoMessage}
+use Rattle.iso_message.specs.Documents.{iso_tree, IsWithin, PassesBytes}
 use Rattle.iso_words.specs.Messages.{IsMessageOf}
 use Rattle.iso_words.specs.Spellable.{CanSpell}
 

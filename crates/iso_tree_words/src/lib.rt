@@ -6,8 +6,8 @@ ghost use Rattle.std.specs.Prelude.{◌≡◌, ℕ, List};
 ghost use Rattle.exi_documents.specs.Documents.{IsDocument};
 ghost use Rattle.exi_documents.specs.Trees.{Tree};
 ghost use Rattle.iso_schema.specs.Declarations.{schema};
-ghost use Rattle.iso_codec.specs.declared.message.IsoMessage.{IsoMessage};
-ghost use Rattle.iso_codec.specs.Documents.{iso_tree, IsIso};
+ghost use Rattle.iso_message.specs.declared.message.IsoMessage.{IsoMessage};
+ghost use Rattle.iso_message.specs.Documents.{iso_tree, IsIso};
 ghost use Rattle.iso_words.specs.Words.{word_of};
 ghost use Rattle.iso_tree_words.specs.Words.{tree_word};
 

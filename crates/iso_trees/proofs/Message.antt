@@ -2,11 +2,11 @@
 use Rattle.std.proofs.Common.{Option, Some, None, ◌≡◌, ◌∙◌}
 use Rattle.tree_words.specs.Lending.{Lends}
 use Rattle.tree_words.proofs.Held.{held, of_parts, by_parts}
-use Rattle.iso_codec.specs.declared.message.BriefElement.TheVariants as brief_element
-use Rattle.iso_codec.specs.declared.message.BodyElement.{BodyElement}
-use Rattle.iso_codec.specs.declared.message.BodyElement.TheVariants as body_element
-use Rattle.iso_codec.specs.declared.message.Body.{Body}
-use Rattle.iso_codec.specs.declared.message.IsoMessage.{IsoMessage}
+use Rattle.iso_message.specs.declared.message.BriefElement.TheVariants as brief_element
+use Rattle.iso_message.specs.declared.message.BodyElement.{BodyElement}
+use Rattle.iso_message.specs.declared.message.BodyElement.TheVariants as body_element
+use Rattle.iso_message.specs.declared.message.Body.{Body}
+use Rattle.iso_message.specs.declared.message.IsoMessage.{IsoMessage}
 use Rattle.iso_trees.proofs.Frame.{header_read}
 use Rattle.iso_trees.proofs.Session.{session_setup_req_read, session_setup_res_read, authorization_req_read, authorization_res_read, session_stop_req_read, session_stop_res_read}
 use Rattle.iso_trees.proofs.Services.{service_discovery_req_read, service_discovery_res_read}
@@ -15,7 +15,7 @@ use Rattle.iso_trees.proofs.Selection.{payment_service_selection_req_read, payme
 use Rattle.iso_trees.proofs.Discovery.{charge_parameter_discovery_req_read, charge_parameter_discovery_res_read}
 use Rattle.iso_trees.proofs.Charging.{cable_check_req_read, cable_check_res_read, pre_charge_req_read, pre_charge_res_read, current_demand_req_read, current_demand_res_read, welding_detection_req_read, welding_detection_res_read}
 use Rattle.iso_trees.proofs.Delivery.{power_delivery_req_read, power_delivery_res_read, charging_status_res_read}
-use Rattle.iso_codec.specs.Message.{body_parts, iso_message_parts}
+use Rattle.iso_message.specs.Message.{body_parts, iso_message_parts}
 use Rattle.iso_trees.specs.Message.{body_in, settled_body, iso_message_in, settled_iso_message}
 
 abbrev body_of : Option BodyElement → Body

@@ -5,8 +5,8 @@ use Rattle.exi_documents.specs.Documents.{IsDocument}
 use Rattle.exi_documents.specs.Trees.{Tree}
 use Rattle.tree_words.specs.Lending.{Lends}
 use Rattle.iso_schema.specs.Declarations.{schema}
-use Rattle.iso_codec.specs.declared.message.IsoMessage.{IsoMessage}
-use Rattle.iso_codec.specs.Documents.{iso_tree, IsIso}
+use Rattle.iso_message.specs.declared.message.IsoMessage.{IsoMessage}
+use Rattle.iso_message.specs.Documents.{iso_tree, IsIso}
 use Rattle.iso_trees.specs.Message.{settled_iso_message}
 use Rattle.iso_trees.specs.Trees.{message_in}
 use Rattle.iso_trees.proofs.Message.{iso_message_read}

@@ -4,12 +4,12 @@ use Rattle.std.specs.Option.{option_map}
 use Rattle.iso_schema.specs.declared.names.TheConstants.{HEADER, BODY, AUTHORIZATION_REQ, AUTHORIZATION_RES, CABLE_CHECK_REQ, CABLE_CHECK_RES, CHARGE_PARAMETER_DISCOVERY_REQ, CHARGE_PARAMETER_DISCOVERY_RES, CHARGING_STATUS_REQ, CHARGING_STATUS_RES, CURRENT_DEMAND_REQ, CURRENT_DEMAND_RES, PAYMENT_SERVICE_SELECTION_REQ, PAYMENT_SERVICE_SELECTION_RES, POWER_DELIVERY_REQ, POWER_DELIVERY_RES, PRE_CHARGE_REQ, PRE_CHARGE_RES, SERVICE_DETAIL_REQ, SERVICE_DETAIL_RES, SERVICE_DISCOVERY_REQ, SERVICE_DISCOVERY_RES, SESSION_SETUP_REQ, SESSION_SETUP_RES, SESSION_STOP_REQ, SESSION_STOP_RES, WELDING_DETECTION_REQ, WELDING_DETECTION_RES}
 use Rattle.tree_words.specs.Named.{Children, children, head, within}
 use Rattle.tree_words.specs.Lending.{Lends, given_in, or_next}
-use Rattle.iso_codec.specs.declared.message.BriefElement.{BriefElement}
-use Rattle.iso_codec.specs.declared.message.BriefElement.TheVariants as brief_element
-use Rattle.iso_codec.specs.declared.message.BodyElement.{BodyElement}
-use Rattle.iso_codec.specs.declared.message.BodyElement.TheVariants as body_element
-use Rattle.iso_codec.specs.declared.message.Body.{Body}
-use Rattle.iso_codec.specs.declared.message.IsoMessage.{IsoMessage}
+use Rattle.iso_message.specs.declared.message.BriefElement.{BriefElement}
+use Rattle.iso_message.specs.declared.message.BriefElement.TheVariants as brief_element
+use Rattle.iso_message.specs.declared.message.BodyElement.{BodyElement}
+use Rattle.iso_message.specs.declared.message.BodyElement.TheVariants as body_element
+use Rattle.iso_message.specs.declared.message.Body.{Body}
+use Rattle.iso_message.specs.declared.message.IsoMessage.{IsoMessage}
 use Rattle.iso_trees.specs.Frame.{header_in, settled_header}
 use Rattle.iso_trees.specs.Session.{session_setup_req_in, settled_session_setup_req, session_setup_res_in, settled_session_setup_res, authorization_req_in, settled_authorization_req, authorization_res_in, session_stop_req_in, session_stop_res_in}
 use Rattle.iso_trees.specs.Services.{service_discovery_req_in, settled_service_discovery_req, service_discovery_res_in, settled_service_discovery_res}

@@ -2,7 +2,7 @@
 use Rattle.exi_documents.specs.Trees.{Tree}
 use Rattle.tree_words.specs.Lending.{Lends}
 use Rattle.tree_words.specs.Named.{root_children}
-use Rattle.iso_codec.specs.declared.message.IsoMessage.{IsoMessage}
+use Rattle.iso_message.specs.declared.message.IsoMessage.{IsoMessage}
 use Rattle.iso_trees.specs.Message.{iso_message_in}
 
 -- each field from the element of its name, and its texts and Binaries lent

@@ -7,8 +7,8 @@ ghost use Rattle.exi_documents.specs.Documents.{IsDocument};
 ghost use Rattle.exi_documents.specs.Trees.{Tree};
 ghost use Rattle.tree_words.specs.Lending.{Lends};
 ghost use Rattle.iso_schema.specs.Declarations.{schema};
-ghost use Rattle.iso_codec.specs.declared.message.IsoMessage.{IsoMessage};
-ghost use Rattle.iso_codec.specs.Documents.{iso_tree, IsIso};
+ghost use Rattle.iso_message.specs.declared.message.IsoMessage.{IsoMessage};
+ghost use Rattle.iso_message.specs.Documents.{iso_tree, IsIso};
 ghost use Rattle.iso_trees.specs.Message.{settled_iso_message};
 ghost use Rattle.iso_trees.specs.Trees.{message_in};
 

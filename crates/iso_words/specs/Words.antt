@@ -10,11 +10,11 @@ use Rattle.session_words.specs.declared.word.Word.{Word}
 use Rattle.session_words.specs.declared.word.Word.TheVariants as word
 use Rattle.iso_parts.specs.declared.codes.ResponseCode.{ResponseCode}
 use Rattle.iso_parts.specs.declared.frame.Header.{Header}
-use Rattle.iso_codec.specs.declared.message.BodyElement.{BodyElement}
-use Rattle.iso_codec.specs.declared.message.BodyElement.TheVariants as element
-use Rattle.iso_codec.specs.declared.message.BriefElement.{BriefElement}
-use Rattle.iso_codec.specs.declared.message.BriefElement.TheVariants as brief
-use Rattle.iso_codec.specs.declared.message.IsoMessage.{IsoMessage}
+use Rattle.iso_message.specs.declared.message.BodyElement.{BodyElement}
+use Rattle.iso_message.specs.declared.message.BodyElement.TheVariants as element
+use Rattle.iso_message.specs.declared.message.BriefElement.{BriefElement}
+use Rattle.iso_message.specs.declared.message.BriefElement.TheVariants as brief
+use Rattle.iso_message.specs.declared.message.IsoMessage.{IsoMessage}
 use Rattle.iso_values.specs.Codes.{code_of}
 use Rattle.word_values.specs.Items.{bytes_of}
 use Rattle.iso_words.specs.SetupWords.{setup_ask, setup_tell, discovery_tell, detail_ask, detail_tell, selection_ask, authorization_tell, stop_ask}

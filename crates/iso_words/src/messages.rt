@@ -2,7 +2,7 @@
 
 ghost use Rattle.std.specs.Prelude.{◌≡◌};
 ghost use Rattle.session_words.specs.declared.word.Word.TheVariants as words;
-ghost use Rattle.iso_codec.specs.declared.message.BodyElement.TheVariants as elements;
+ghost use Rattle.iso_message.specs.declared.message.BodyElement.TheVariants as elements;
 ghost use Rattle.iso_words.specs.Messages.{LendsEvse, LendsIf, IsRequestElement, IsReplyElement, IsMessageOf, LendsSession, message_with as message_as};
 ghost use Rattle.iso_words.specs.Spellable.{CanAsk, CanTell, CanSpell};
 
@@ -15,7 +15,7 @@ use crate::setup_messages::{
     authorization_req, authorization_res, detail_req, detail_res, discovery_req, discovery_res,
     selection_req, setup_req, setup_res, stop_req,
 };
-use iso_codec::{Body, BodyElement, BriefElement, IsoMessage};
+use iso_message::{Body, BodyElement, BriefElement, IsoMessage};
 use iso_parts::Header;
 use iso_power::ChargingStatusReq;
 use iso_setup::{PaymentServiceSelectionRes, SessionStopRes};

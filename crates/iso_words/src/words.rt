@@ -12,7 +12,7 @@ use crate::setup_words::{
     authorization_tell, detail_ask, detail_tell, discovery_tell, selection_ask, setup_ask,
     setup_tell, stop_ask,
 };
-use iso_codec::{BodyElement, BriefElement, IsoMessage};
+use iso_message::{BodyElement, BriefElement, IsoMessage};
 use iso_parts::{Header, ResponseCode};
 use iso_values::codes::code_of;
 use session_words::{Ask, Reply, Request, SessionId, Tell, Word};

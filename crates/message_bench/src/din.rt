@@ -2,7 +2,7 @@
 
 ghost use Rattle.std.specs.Prelude.{◌≡◌, ◌≤◌, length};
 ghost use Rattle.exi_documents.specs.Values.{most_entries};
-ghost use Rattle.din_codec.specs.Documents.{IsDinMessage};
+ghost use Rattle.din_message.specs.Documents.{IsDinMessage};
 
 use crate::Task;
 use anyhow::Result;

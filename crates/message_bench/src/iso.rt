@@ -2,7 +2,7 @@
 
 ghost use Rattle.std.specs.Prelude.{◌≡◌, ◌≤◌, length};
 ghost use Rattle.exi_documents.specs.Values.{most_entries};
-ghost use Rattle.iso_codec.specs.Documents.{IsIsoMessage};
+ghost use Rattle.iso_message.specs.Documents.{IsIsoMessage};
 
 use crate::Task;
 use anyhow::Result;

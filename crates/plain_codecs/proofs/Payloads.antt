@@ -3,12 +3,12 @@ use Rattle.std.proofs.Common.{◌≡◌, ℕ, List, Result, Ok, Err, IfOk, sym, 
 use Rattle.document_laws.specs.Laws.{AreBytes}
 use Rattle.session_words.specs.declared.word.Reply.{Reply}
 use Rattle.session_words.specs.declared.word.Word.TheVariants as words
-use Rattle.iso_codec.specs.declared.message.IsoMessage.{IsoMessage}
-use Rattle.iso_codec.specs.Documents.{IsIsoEncoding}
+use Rattle.iso_message.specs.declared.message.IsoMessage.{IsoMessage}
+use Rattle.iso_message.specs.Documents.{IsIsoEncoding}
 use Rattle.iso_words.specs.Messages as iso_words
 use Rattle.iso_words.specs.Spellable as iso_spellable
-use Rattle.din_codec.specs.declared.message.DinMessage.{DinMessage}
-use Rattle.din_codec.specs.Documents.{IsDinEncoding}
+use Rattle.din_message.specs.declared.message.DinMessage.{DinMessage}
+use Rattle.din_message.specs.Documents.{IsDinEncoding}
 use Rattle.din_words.specs.Messages as din_words
 use Rattle.din_words.specs.Spellable as din_spellable
 use Rattle.codec_rules.specs.Iso as iso

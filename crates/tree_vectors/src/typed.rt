@@ -2,8 +2,8 @@
 
 ghost use Rattle.std.specs.Prelude.{◌≡◌, ◌≤◌, length};
 ghost use Rattle.exi_documents.specs.Values.{most_entries};
-ghost use Rattle.din_codec.specs.Documents.{IsDin};
-ghost use Rattle.iso_codec.specs.Documents.{IsIso};
+ghost use Rattle.din_message.specs.Documents.{IsDin};
+ghost use Rattle.iso_message.specs.Documents.{IsIso};
 
 use anyhow::Result;
 use din_codec::{DinMessage, DinTables, read_din, write_din};

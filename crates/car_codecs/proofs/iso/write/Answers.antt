@@ -1,7 +1,7 @@
 use Rattle.std.proofs.Common.{ℕ, rules, arith, sym, subst}
 use Rattle.session_words.specs.declared.word.Word.{Word}
 use Rattle.session_words.specs.declared.word.Word.TheVariants as word
-use Rattle.iso_codec.specs.Documents.{PassesBytes}
+use Rattle.iso_message.specs.Documents.{PassesBytes}
 use Rattle.iso_words.specs.Messages.{IsMessageOf}
 use Rattle.iso_words.specs.Spellable.{CanSpell}
 use Rattle.car_codecs.proofs.Bytes.{front_bytes}

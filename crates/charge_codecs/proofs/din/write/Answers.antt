@@ -1,5 +1,5 @@
 use Rattle.std.proofs.Common.{ℕ, rules, arith, subst}
-use Rattle.din_codec.specs.Documents.{PassesBytes}
+use Rattle.din_message.specs.Documents.{PassesBytes}
 use Rattle.charge_codecs.proofs.Bytes.{front_bytes}
 use Rattle.charge_codecs.proofs.Results.{is_ok}
 use Rattle.charge_codecs.proofs.din.write.Goals as goal

@@ -1,5 +1,5 @@
 use Rattle.std.proofs.Common.{ℕ, rules, arith, subst}
-use Rattle.iso_codec.specs.Documents.{PassesBytes}
+use Rattle.iso_message.specs.Documents.{PassesBytes}
 use Rattle.charge_codecs.proofs.Bytes.{front_bytes}
 use Rattle.charge_codecs.proofs.Results.{is_ok}
 use Rattle.charge_codecs.proofs.iso.write.Goals as goal

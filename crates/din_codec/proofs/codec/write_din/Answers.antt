@@ -2,7 +2,7 @@ use Rattle.std.proofs.Common.{take}
 use Rattle.std.proofs.lemmas.Result.{IfOk-weaker}
 use Rattle.document_laws.proofs.Encodings.{encoding_spelled}
 use Rattle.din_schema.specs.Declarations.{schema}
-use Rattle.din_codec.specs.Documents.{din_tree}
+use Rattle.din_message.specs.Documents.{din_tree}
 use Rattle.din_codec.proofs.codec.write_din.Goals as goal
 
 pub returns-clause-read : goal.returns-clause-read

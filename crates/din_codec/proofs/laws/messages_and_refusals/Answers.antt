@@ -1,6 +1,6 @@
 use Rattle.document_laws.proofs.Payloads.{payload_decided}
 use Rattle.din_schema.specs.Declarations.{schema}
-use Rattle.din_codec.specs.Documents.{din_tree}
+use Rattle.din_message.specs.Documents.{din_tree}
 use Rattle.din_codec.proofs.laws.messages_and_refusals.Goals as goal
 
 pub returns-clause-apart : goal.returns-clause-apart

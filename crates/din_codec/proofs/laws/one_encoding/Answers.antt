@@ -3,7 +3,7 @@ use Rattle.exi_documents.specs.Documents.{IsEncoding}
 use Rattle.exi_documents.specs.Trees.{Tree}
 use Rattle.document_laws.proofs.Encodings as encodings
 use Rattle.din_schema.specs.Declarations.{schema}
-use Rattle.din_codec.specs.Documents.{din_tree}
+use Rattle.din_message.specs.Documents.{din_tree}
 use Rattle.din_codec.proofs.laws.one_encoding.Goals as goal
 
 pub returns : goal.returns

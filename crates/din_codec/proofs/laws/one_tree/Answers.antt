@@ -1,6 +1,6 @@
 use Rattle.document_laws.proofs.Payloads.{payload_decided}
 use Rattle.din_schema.specs.Declarations.{schema}
-use Rattle.din_codec.specs.Documents.{din_tree}
+use Rattle.din_message.specs.Documents.{din_tree}
 use Rattle.din_codec.proofs.laws.one_tree.Goals as goal
 
 pub returns : goal.returns

@@ -2,7 +2,7 @@ use Rattle.std.proofs.Common.{take}
 use Rattle.std.proofs.lemmas.Result.{IfOk-weaker}
 use Rattle.document_laws.proofs.Encodings.{encoding_spelled}
 use Rattle.iso_schema.specs.Declarations.{schema}
-use Rattle.iso_codec.specs.Documents.{iso_tree}
+use Rattle.iso_message.specs.Documents.{iso_tree}
 use Rattle.iso_codec.proofs.codec.write_iso.Goals as goal
 
 pub returns-clause-read : goal.returns-clause-read

@@ -1,6 +1,6 @@
 use Rattle.document_laws.proofs.Payloads.{payload_decided}
 use Rattle.iso_schema.specs.Declarations.{schema}
-use Rattle.iso_codec.specs.Documents.{iso_tree}
+use Rattle.iso_message.specs.Documents.{iso_tree}
 use Rattle.iso_codec.proofs.laws.messages_and_refusals.Goals as goal
 
 pub returns-clause-apart : goal.returns-clause-apart

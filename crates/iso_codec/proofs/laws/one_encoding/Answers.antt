@@ -3,7 +3,7 @@ use Rattle.exi_documents.specs.Documents.{IsEncoding}
 use Rattle.exi_documents.specs.Trees.{Tree}
 use Rattle.document_laws.proofs.Encodings as encodings
 use Rattle.iso_schema.specs.Declarations.{schema}
-use Rattle.iso_codec.specs.Documents.{iso_tree}
+use Rattle.iso_message.specs.Documents.{iso_tree}
 use Rattle.iso_codec.proofs.laws.one_encoding.Goals as goal
 
 pub returns : goal.returns

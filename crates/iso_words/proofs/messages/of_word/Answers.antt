@@ -1,5 +1,5 @@
 use Rattle.std.proofs.Common.{rules, refl}
-use Rattle.iso_codec.specs.declared.message.BodyElement.TheVariants as elements
+use Rattle.iso_message.specs.declared.message.BodyElement.TheVariants as elements
 use Rattle.iso_words.proofs.messages.of_word.Goals as goal
 
 pub returns-in-Request : goal.returns-in-Request

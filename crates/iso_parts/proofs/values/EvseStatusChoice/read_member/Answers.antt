@@ -1,7 +1,5 @@
 use Rattle.std.proofs.Common.{refl, [], ◌∷◌}
-use Rattle.message_parts.proofs.Chosen.{chosen_rest, only_last}
-use Rattle.iso_schema.specs.Declarations.{kinds}
-use Rattle.iso_parts.specs.Values.{evse_status_members}
+use Rattle.message_parts.proofs.Chosen.{only_last}
 use Rattle.iso_schema.specs.declared.names.TheConstants.{AC_EVSE_STATUS, DC_EVSE_STATUS}
 use Rattle.iso_schema.specs.declared.kinds.TheConstants.{AC_EVSE_STATUS_KIND, DC_EVSE_STATUS_KIND}
 use Rattle.iso_parts.proofs.values.EvseStatusChoice.read_member.Goals as goal
@@ -12,4 +10,4 @@ returns-in_ok-member-clause-read g c = λ F told h.
 
 pub returns-in_ok-member-2-clause-read : goal.returns-in_ok-member-2-clause-read
 returns-in_ok-member-2-clause-read g c = λ F told h.
-    c.in_ok-member-2.ensures.read F _ _ _ told h (let r = chosen_rest kinds F evse_status_members ((AC_EVSE_STATUS, AC_EVSE_STATUS_KIND) ∷ []) told _ h (c.is_at.ensures.absent c.if-is_at.false, tt) in only_last [] (DC_EVSE_STATUS, DC_EVSE_STATUS_KIND) _ F.name r.kind r.here r.among tt) refl refl
+    c.in_ok-member-2.ensures.read F _ _ _ told h (only_last ((AC_EVSE_STATUS, AC_EVSE_STATUS_KIND) ∷ []) (DC_EVSE_STATUS, DC_EVSE_STATUS_KIND) _ F.name h.kind h.here h.among (c.is_at.ensures.absent c.if-is_at.false, tt)) refl refl

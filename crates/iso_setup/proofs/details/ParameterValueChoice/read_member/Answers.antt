@@ -1,7 +1,5 @@
 use Rattle.std.proofs.Common.{rules, refl, [], ◌∷◌}
-use Rattle.message_parts.proofs.Chosen.{chosen_rest, only_last}
-use Rattle.iso_schema.specs.Declarations.{kinds}
-use Rattle.iso_setup.specs.Details.{parameter_value_members}
+use Rattle.message_parts.proofs.Chosen.{only_last}
 use Rattle.iso_schema.specs.declared.names.TheConstants.{BOOL_VALUE, BYTE_VALUE, SHORT_VALUE, INT_VALUE, PHYSICAL_VALUE, STRING_VALUE}
 use Rattle.iso_schema.specs.declared.kinds.TheConstants.{BOOLEAN_KIND, BYTE_KIND, SHORT_KIND, INT_KIND, PHYSICAL_VALUE_KIND, TEXT64_KIND}
 use Rattle.iso_setup.proofs.details.ParameterValueChoice.read_member.Goals as goal
@@ -28,4 +26,4 @@ returns-in_ok-member-clause-read g c = λ F told h.
 
 pub returns-in_ok-member_value-5-clause-read : goal.returns-in_ok-member_value-5-clause-read
 returns-in_ok-member_value-5-clause-read g c = λ F told h.
-    c.in_ok-member_value-5.ensures.read _ F _ _ _ _ told h (let r = chosen_rest kinds F parameter_value_members ((BOOL_VALUE, BOOLEAN_KIND) ∷ (BYTE_VALUE, BYTE_KIND) ∷ (SHORT_VALUE, SHORT_KIND) ∷ (INT_VALUE, INT_KIND) ∷ (PHYSICAL_VALUE, PHYSICAL_VALUE_KIND) ∷ []) told _ h (c.is_at.ensures.absent c.if-is_at.false, (c.is_at-else-is_at.ensures.absent c.if-is_at-2.false, (c.is_at-else-is_at-2.ensures.absent c.if-is_at-3.false, (c.is_at-else-is_at-3.ensures.absent c.if-is_at-4.false, (c.is_at-else-is_at-4.ensures.absent c.if-is_at-5.false, tt))))) in only_last [] (STRING_VALUE, TEXT64_KIND) _ F.name r.kind r.here r.among tt) refl refl refl
+    c.in_ok-member_value-5.ensures.read _ F _ _ _ _ told h (only_last ((BOOL_VALUE, BOOLEAN_KIND) ∷ (BYTE_VALUE, BYTE_KIND) ∷ (SHORT_VALUE, SHORT_KIND) ∷ (INT_VALUE, INT_KIND) ∷ (PHYSICAL_VALUE, PHYSICAL_VALUE_KIND) ∷ []) (STRING_VALUE, TEXT64_KIND) _ F.name h.kind h.here h.among (c.is_at.ensures.absent c.if-is_at.false, (c.is_at-else-is_at.ensures.absent c.if-is_at-2.false, (c.is_at-else-is_at-2.ensures.absent c.if-is_at-3.false, (c.is_at-else-is_at-3.ensures.absent c.if-is_at-4.false, (c.is_at-else-is_at-4.ensures.absent c.if-is_at-5.false, tt)))))) refl refl refl

@@ -1,7 +1,0 @@
-use Rattle.std.proofs.Common.{refl}
-use Rattle.din_codec.proofs.message.charge_parameter_discovery_res.Goals as goal
-
-pub returns-clause-read : goal.returns-clause-read
-returns-clause-read g c = λ F told h here.
-    let it = c.in_ok-member.ensures.read F _ _ _ told h here refl refl in
-    (_, refl, it.0, it.1)

@@ -1,0 +1,4 @@
+use Rattle.din_message.proofs.root.DinMessagePutChoice.write_member.Goals as goal
+
+pub returns-clause-write : goal.returns-clause-write
+returns-clause-write g c = λ F rest h. c.put_record.ensures.write F rest h

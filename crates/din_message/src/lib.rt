@@ -1,0 +1,7 @@
+//! The messages of DIN SPEC 70121:2014 in the profile as one type, and the payloads that spell them.
+#![tactic(auto)]
+
+mod message;
+mod root;
+
+pub use message::{Body, BodyElement, DinMessage};
