@@ -18,8 +18,8 @@ from message_shapes import Types, in_groups
 from message_specs import definitions
 
 WORDS = [
-    "Alternatives", "Binary", "Choice", "DeclaredRecord", "Descent", "Group", "LargeChoice", "LargeGroup", "LargeRecord", "PutChoice", "PutRecord", "ReadRecord",
-    "ReadSimple", "Record", "Text", "Three", "first_child", "member", "member_value", "optional_choice_here", "put_attribute", "put_choice",
+    "Binary", "Choice", "Descent", "Group", "LargeChoice", "LargeGroup", "LargeRecord", "PutChoice", "PutRecord", "ReadRecord",
+    "Record", "Text", "Three", "first_child", "member", "member_value", "optional_choice_here", "put_attribute", "put_choice",
     "put_optional", "put_optional_attribute", "put_optional_choice", "put_optional_value", "put_record", "put_records", "put_value",
     "put_values", "required", "required_here", "whole_record",
 ]
@@ -42,7 +42,7 @@ def enumeration(t, crate, file, kind):
 pub enum {name} {{
 {listed}}}
 
-impl Simple for {name} {{
+impl<'a> Simple<'a> for {name} {{
     ghost use Rattle.{crate}.specs.{file.capitalize()}.{{{ordinal}}};
 
     ghost takes = {{ is_named {len(variants)} }};
@@ -53,9 +53,7 @@ impl Simple for {name} {{
         Value::Ordinal(match self {{
 {arms}        }})
     }}
-}}
 
-impl<'a> ReadSimple<'a> for {name} {{
     fn of(read: Value<'a>) -> {name} {{
         match read {{
 {reads}            _ => {name}::{variants[-1]},
@@ -66,7 +64,7 @@ impl<'a> ReadSimple<'a> for {name} {{
 
 
 def derived(t, kind):
-    plain = "Clone, Copy, Debug, PartialEq, Eq" if t.is_plain(kind) else "Drop"
+    plain = "Clone, Copy" if t.is_plain(kind) else "Drop"
     return f"#[derive({plain}{', Default' if kind in t.defaults and kind not in t.choices else ''})]"
 
 
@@ -158,8 +156,8 @@ def struct(t, crate, file, kind):
     attributes = any(it.form == "attribute" for it in kept)
     puts = "".join(f"        {put(it)}\n" for it in kept)
     words = ([f"{low}_given"] if attributes else []) + ([f"{low}_parts"] if kept else [])
-    uses = f"    ghost use Rattle.{crate}.specs.{file.capitalize()}.{{{', '.join(words)}}};\n\n" if words else ""
-    declared = f"    ghost use Rattle.{crate}.specs.{file.capitalize()}.{{{low}_attributes}};\n" if attributes else ""
+    words += [f"{low}_attributes"] if attributes else []
+    uses = f"    ghost use Rattle.{crate}.specs.{file.capitalize()}.{{{', '.join(words)}}};\n" if words else ""
     particles = f"    ghost use Rattle.{t.s.crate}.specs.{t.section(kind)}.{{{t.declared(kind)}}};\n" if kept else ""
     writer = "writer" if puts else "_writer"
     return f"""
@@ -168,18 +166,9 @@ def struct(t, crate, file, kind):
 pub struct {name}{"<'a>" if lent else ""}{body}
 
 impl PutRecord for {name}{"<'_>" if lent else ""} {{
-{uses}    ghost given = {{ {f"{low}_given" if attributes else "λ v. []"} }};
-
-    ghost parts = {{ {f"{low}_parts" if kept else "λ v. []"} }};
-
-    fn write<P: Places>(&self, {writer}: &mut EventWriter<'_, '_, P>) {{
-{puts}    }}
-}}
-
-impl DeclaredRecord for {name}{"<'_>" if lent else ""} {{
     ghost use Rattle.std.specs.Prelude.{{refl}};
     ghost use Rattle.{t.s.crate}.specs.Declarations.{{kinds}};
-{particles}{declared}
+{particles}{uses}
     ghost kinds = {{ kinds }};
 
     ghost attributes = {{ {f"{low}_attributes" if attributes else "[]"} }};
@@ -187,6 +176,13 @@ impl DeclaredRecord for {name}{"<'_>" if lent else ""} {{
     ghost particles = {{ {t.declared(kind) if kept else "[]"} }};
 
     ghost apart = {{ refl }};
+
+    ghost given = {{ {f"{low}_given" if attributes else "λ v. []"} }};
+
+    ghost parts = {{ {f"{low}_parts" if kept else "λ v. []"} }};
+
+    fn write<P: Places>(&self, {writer}: &mut EventWriter<'_, '_, P>) {{
+{puts}    }}
 }}
 
 {(large_record if kind in t.large else record)(t, kind, lent)}"""
@@ -312,17 +308,7 @@ def choice(t, crate, file, kind):
 impl<'a> Group<'a> for {name}{"<'a>" if lent else ""} {{
 {uses}{names}}}
 """ if kind in t.optional_choices else ""
-    declared = f"""impl Alternatives for {name}{"<'_>" if lent else ""} {{
-    ghost use Rattle.{t.s.crate}.specs.Declarations.{{kinds}};
-    ghost use Rattle.{crate}.specs.{file.capitalize()}.{{{low}_members}};
-
-    ghost kinds = {{ kinds }};
-
-    ghost members = {{ {low}_members }};
-}}
-"""
-    reading = f"""{declared}
-impl<'a> Choice<'a> for {name}{"<'a>" if lent else ""} {{
+    reading = f"""impl<'a> Choice<'a> for {name}{"<'a>" if lent else ""} {{
     fn read_member<P: Places>(descent: &mut Descent<'a, '_, P>) -> Result<{name}{"<'a>" if lent else ""}, Refusal> {{
 {chain(t, name, members)}    }}
 }}
@@ -331,8 +317,7 @@ impl<'a> Choice<'a> for {name}{"<'a>" if lent else ""} {{
         functions = "".join(apart(t, kind, it) for it in t.own(kind) if t.holds_list(it.kind)) + (brief_functions(t, kind) if kind in t.brief else "")
         functions += "".join(part_function(t, kind, n) for n in range(1, len(t.parts(kind))))
         taken = "&mut self" if t.is_brief(kind) else f"place: &mut Option<{name}<'a>>"
-        reading = functions + f"""{declared}
-impl<'a> Large{"Choice" if t.is_brief(kind) else "Group"}<'a> for {name}<'a> {{
+        reading = functions + f"""impl<'a> Large{"Choice" if t.is_brief(kind) else "Group"}<'a> for {name}<'a> {{
 {"" if t.is_brief(kind) else uses + names + chr(10)}    fn read_member_{"here" if t.is_brief(kind) else "into"}<P: Places>({taken}, descent: &mut Descent<'a, '_, P>) -> Result<(), Refusal> {{
 {large_chain(t, kind)}    }}
 }}
@@ -356,7 +341,12 @@ pub enum {name}{"<'a>" if lent else ""} {{
 {variants}}}
 {default}
 impl PutChoice for {name}{"<'_>" if lent else ""} {{
-    ghost use Rattle.{crate}.specs.{file.capitalize()}.{{{low}_name, {low}_inside}};
+    ghost use Rattle.{t.s.crate}.specs.Declarations.{{kinds}};
+    ghost use Rattle.{crate}.specs.{file.capitalize()}.{{{low}_members, {low}_name, {low}_inside}};
+
+    ghost kinds = {{ kinds }};
+
+    ghost members = {{ {low}_members }};
 
     ghost name = {{ {low}_name }};
 
@@ -379,7 +369,7 @@ ghost use Rattle.exi_documents.specs.Trees.{{Ordinal}};
 ghost use Rattle.message_parts.specs.Values.{{is_named}};
 
 use exi_events::Value;
-use message_parts::{{ReadSimple, Simple}};
+use message_parts::Simple;
 """ + "".join(enumeration(t, crate, file, it) for it in kinds)
     body = "".join(choice(t, crate, file, it) if it in t.choices else struct(t, crate, file, it) for it in kinds)
     said = re.sub(r"(?m)^ *//.*$", "", body)

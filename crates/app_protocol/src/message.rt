@@ -17,9 +17,8 @@ use exi_events::{EventWriter, Value};
 use exi_schema::Places;
 use message_fields::{Elements, OptionalValue, RequiredValue};
 use message_parts::{
-    Alternatives, Choice, DeclaredRecord, Descent, PutChoice, PutRecord, ReadRecord, ReadSimple,
-    Record, Root, Simple, Text, first_child, member, put_optional_value, put_record, put_records,
-    put_value, records, whole_record,
+    Choice, Descent, PutChoice, PutRecord, ReadRecord, Record, Root, Simple, Text, first_child,
+    member, put_optional_value, put_record, put_records, put_value, records, whole_record,
 };
 
 /// One protocol that a car offers.
@@ -50,6 +49,16 @@ impl<'a> Default for AppProtocol<'a> {
 }
 
 impl<'a> PutRecord for AppProtocol<'a> {
+    ghost use Rattle.std.specs.Prelude.{refl};
+
+    ghost kinds = { all_kinds };
+
+    ghost attributes = { [] };
+
+    ghost particles = { protocol_particles };
+
+    ghost apart = { refl };
+
     ghost given = { λ _. [] };
 
     ghost parts = { protocol_parts };
@@ -61,18 +70,6 @@ impl<'a> PutRecord for AppProtocol<'a> {
         put_value(writer, SCHEMA_ID, &self.schema);
         put_value(writer, PRIORITY, &self.priority);
     }
-}
-
-impl DeclaredRecord for AppProtocol<'_> {
-    ghost use Rattle.std.specs.Prelude.{refl};
-
-    ghost kinds = { all_kinds };
-
-    ghost attributes = { [] };
-
-    ghost particles = { protocol_particles };
-
-    ghost apart = { refl };
 }
 
 impl<'a> Record<'a> for AppProtocol<'a> {
@@ -120,16 +117,6 @@ pub struct AppReq<'a> {
 }
 
 impl<'a> PutRecord for AppReq<'a> {
-    ghost given = { λ _. [] };
-
-    ghost parts = { parts_of_request };
-
-    fn write<P: Places>(&self, writer: &mut EventWriter<'_, '_, P>) {
-        put_records(writer, APP_PROTOCOL, &self.protocols);
-    }
-}
-
-impl DeclaredRecord for AppReq<'_> {
     ghost use Rattle.std.specs.Prelude.{refl};
 
     ghost kinds = { all_kinds };
@@ -139,6 +126,14 @@ impl DeclaredRecord for AppReq<'_> {
     ghost particles = { request_particles };
 
     ghost apart = { refl };
+
+    ghost given = { λ _. [] };
+
+    ghost parts = { parts_of_request };
+
+    fn write<P: Places>(&self, writer: &mut EventWriter<'_, '_, P>) {
+        put_records(writer, APP_PROTOCOL, &self.protocols);
+    }
 }
 
 impl<'a> ReadRecord<'a> for AppReq<'a> {
@@ -160,7 +155,7 @@ pub enum AppCode {
     Failed,
 }
 
-impl Simple for AppCode {
+impl<'a> Simple<'a> for AppCode {
     ghost takes = { is_named 3 };
 
     ghost value = { λ code. Ordinal (ordinal_of code) };
@@ -172,9 +167,7 @@ impl Simple for AppCode {
             AppCode::Failed => Value::Ordinal(2),
         }
     }
-}
 
-impl<'a> ReadSimple<'a> for AppCode {
     fn of(read: Value<'a>) -> AppCode {
         match read {
             Value::Ordinal(0) => AppCode::Successful,
@@ -194,17 +187,6 @@ pub struct AppRes {
 }
 
 impl PutRecord for AppRes {
-    ghost given = { λ _. [] };
-
-    ghost parts = { parts_of_response };
-
-    fn write<P: Places>(&self, writer: &mut EventWriter<'_, '_, P>) {
-        put_value(writer, RESPONSE_CODE, &self.code);
-        put_optional_value(writer, SCHEMA_ID, &self.schema);
-    }
-}
-
-impl DeclaredRecord for AppRes {
     ghost use Rattle.std.specs.Prelude.{refl};
 
     ghost kinds = { all_kinds };
@@ -214,6 +196,15 @@ impl DeclaredRecord for AppRes {
     ghost particles = { response_particles };
 
     ghost apart = { refl };
+
+    ghost given = { λ _. [] };
+
+    ghost parts = { parts_of_response };
+
+    fn write<P: Places>(&self, writer: &mut EventWriter<'_, '_, P>) {
+        put_value(writer, RESPONSE_CODE, &self.code);
+        put_optional_value(writer, SCHEMA_ID, &self.schema);
+    }
 }
 
 impl<'a> Record<'a> for AppRes {
@@ -243,6 +234,12 @@ pub enum AppMessage<'a> {
 }
 
 impl<'a> PutChoice for AppMessage<'a> {
+    ghost use Rattle.app_protocol.specs.Messages.{root_members};
+
+    ghost kinds = { all_kinds };
+
+    ghost members = { root_members };
+
     ghost name = { root_name };
 
     ghost inside = { root_inside };
@@ -253,14 +250,6 @@ impl<'a> PutChoice for AppMessage<'a> {
             AppMessage::Res(response) => put_record(writer, RESPONSE, response),
         }
     }
-}
-
-impl Alternatives for AppMessage<'_> {
-    ghost use Rattle.app_protocol.specs.Messages.{root_members};
-
-    ghost kinds = { all_kinds };
-
-    ghost members = { root_members };
 }
 
 impl<'a> Choice<'a> for AppMessage<'a> {

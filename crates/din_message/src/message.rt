@@ -25,9 +25,8 @@ use exi_documents::Refusal;
 use exi_events::EventWriter;
 use exi_schema::Places;
 use message_parts::{
-    Alternatives, DeclaredRecord, Descent, LargeGroup, LargeRecord, PutChoice, PutRecord,
-    first_child, member, optional_choice_here, put_optional_choice, put_record, required,
-    required_here,
+    Descent, LargeGroup, LargeRecord, PutChoice, PutRecord, first_child, member,
+    optional_choice_here, put_optional_choice, put_record, required, required_here,
 };
 
 /// One element of the substitution group BodyElement.
@@ -58,7 +57,12 @@ pub enum BodyElement<'a> {
 }
 
 impl PutChoice for BodyElement<'_> {
-    ghost use Rattle.din_message.specs.Message.{body_element_name, body_element_inside};
+    ghost use Rattle.din_schema.specs.Declarations.{kinds};
+    ghost use Rattle.din_message.specs.Message.{body_element_members, body_element_name, body_element_inside};
+
+    ghost kinds = { kinds };
+
+    ghost members = { body_element_members };
 
     ghost name = { body_element_name };
 
@@ -256,15 +260,6 @@ fn service_payment_selection_req<'a, P: Places>(
     Ok(())
 }
 
-impl Alternatives for BodyElement<'_> {
-    ghost use Rattle.din_schema.specs.Declarations.{kinds};
-    ghost use Rattle.din_message.specs.Message.{body_element_members};
-
-    ghost kinds = { kinds };
-
-    ghost members = { body_element_members };
-}
-
 impl<'a> LargeGroup<'a> for BodyElement<'a> {
     ghost use Rattle.std.specs.Prelude.{◌≡◌};
     ghost use Rattle.message_parts.specs.Particles.{names_among};
@@ -376,21 +371,10 @@ pub struct Body<'a> {
 }
 
 impl PutRecord for Body<'_> {
-    ghost use Rattle.din_message.specs.Message.{body_parts};
-
-    ghost given = { λ v. [] };
-
-    ghost parts = { body_parts };
-
-    fn write<P: Places>(&self, writer: &mut EventWriter<'_, '_, P>) {
-        put_optional_choice(writer, &self.element);
-    }
-}
-
-impl DeclaredRecord for Body<'_> {
     ghost use Rattle.std.specs.Prelude.{refl};
     ghost use Rattle.din_schema.specs.Declarations.{kinds};
     ghost use Rattle.din_schema.specs.Frame.{body};
+    ghost use Rattle.din_message.specs.Message.{body_parts};
 
     ghost kinds = { kinds };
 
@@ -399,6 +383,14 @@ impl DeclaredRecord for Body<'_> {
     ghost particles = { body };
 
     ghost apart = { refl };
+
+    ghost given = { λ v. [] };
+
+    ghost parts = { body_parts };
+
+    fn write<P: Places>(&self, writer: &mut EventWriter<'_, '_, P>) {
+        put_optional_choice(writer, &self.element);
+    }
 }
 
 impl<'a> LargeRecord<'a> for Body<'a> {
@@ -417,7 +409,18 @@ pub struct DinMessage<'a> {
 }
 
 impl PutRecord for DinMessage<'_> {
+    ghost use Rattle.std.specs.Prelude.{refl};
+    ghost use Rattle.din_schema.specs.Declarations.{kinds};
+    ghost use Rattle.din_schema.specs.Frame.{v2g_message};
     ghost use Rattle.din_message.specs.Message.{din_message_parts};
+
+    ghost kinds = { kinds };
+
+    ghost attributes = { [] };
+
+    ghost particles = { v2g_message };
+
+    ghost apart = { refl };
 
     ghost given = { λ v. [] };
 
@@ -427,20 +430,6 @@ impl PutRecord for DinMessage<'_> {
         put_record(writer, names::HEADER, &self.header);
         put_record(writer, names::BODY, &self.body);
     }
-}
-
-impl DeclaredRecord for DinMessage<'_> {
-    ghost use Rattle.std.specs.Prelude.{refl};
-    ghost use Rattle.din_schema.specs.Declarations.{kinds};
-    ghost use Rattle.din_schema.specs.Frame.{v2g_message};
-
-    ghost kinds = { kinds };
-
-    ghost attributes = { [] };
-
-    ghost particles = { v2g_message };
-
-    ghost apart = { refl };
 }
 
 impl<'a> LargeRecord<'a> for DinMessage<'a> {

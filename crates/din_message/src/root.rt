@@ -5,11 +5,17 @@ use din_schema::names;
 use exi_documents::Refusal;
 use exi_events::EventWriter;
 use exi_schema::Places;
-use message_parts::{Alternatives, Descent, LargeChoice, PutChoice, Root, member_here, put_record};
+use message_parts::{Descent, LargeChoice, PutChoice, Root, member_here, put_record};
 
 impl PutChoice for DinMessage<'_> {
+    ghost use Rattle.din_schema.specs.Declarations.{kinds};
+    ghost use Rattle.din_message.specs.Documents.{din_roots};
     ghost use Rattle.din_message.specs.Documents.{din_inside};
     ghost use Rattle.din_schema.specs.declared.names.TheConstants.{V2G_MESSAGE};
+
+    ghost kinds = { kinds };
+
+    ghost members = { din_roots };
 
     ghost name = { λ v. V2G_MESSAGE };
 
@@ -18,15 +24,6 @@ impl PutChoice for DinMessage<'_> {
     fn write_member<P: Places>(&self, writer: &mut EventWriter<'_, '_, P>) {
         put_record(writer, names::V2G_MESSAGE, self);
     }
-}
-
-impl Alternatives for DinMessage<'_> {
-    ghost use Rattle.din_schema.specs.Declarations.{kinds};
-    ghost use Rattle.din_message.specs.Documents.{din_roots};
-
-    ghost kinds = { kinds };
-
-    ghost members = { din_roots };
 }
 
 impl<'a> LargeChoice<'a> for DinMessage<'a> {

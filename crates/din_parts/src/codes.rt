@@ -4,7 +4,7 @@ ghost use Rattle.exi_documents.specs.Trees.{Ordinal};
 ghost use Rattle.message_parts.specs.Values.{is_named};
 
 use exi_events::Value;
-use message_parts::{ReadSimple, Simple};
+use message_parts::Simple;
 
 /// ResponseCode, its values in order from 0.
 #[derive(Clone, Copy, Debug, PartialEq, Eq)]
@@ -57,7 +57,7 @@ pub enum ResponseCode {
     FailedWrongEnergyTransferType,
 }
 
-impl Simple for ResponseCode {
+impl<'a> Simple<'a> for ResponseCode {
     ghost use Rattle.din_parts.specs.Codes.{response_code_ordinal};
 
     ghost takes = { is_named 23 };
@@ -91,9 +91,7 @@ impl Simple for ResponseCode {
             ResponseCode::FailedWrongEnergyTransferType => 22,
         })
     }
-}
 
-impl<'a> ReadSimple<'a> for ResponseCode {
     fn of(read: Value<'a>) -> ResponseCode {
         match read {
             Value::Ordinal(0) => ResponseCode::Ok,
@@ -137,7 +135,7 @@ pub enum ServiceCategory {
     OtherCustom,
 }
 
-impl Simple for ServiceCategory {
+impl<'a> Simple<'a> for ServiceCategory {
     ghost use Rattle.din_parts.specs.Codes.{service_category_ordinal};
 
     ghost takes = { is_named 4 };
@@ -152,9 +150,7 @@ impl Simple for ServiceCategory {
             ServiceCategory::OtherCustom => 3,
         })
     }
-}
 
-impl<'a> ReadSimple<'a> for ServiceCategory {
     fn of(read: Value<'a>) -> ServiceCategory {
         match read {
             Value::Ordinal(0) => ServiceCategory::EvCharging,
@@ -175,7 +171,7 @@ pub enum PaymentOption {
     ExternalPayment,
 }
 
-impl Simple for PaymentOption {
+impl<'a> Simple<'a> for PaymentOption {
     ghost use Rattle.din_parts.specs.Codes.{payment_option_ordinal};
 
     ghost takes = { is_named 2 };
@@ -188,9 +184,7 @@ impl Simple for PaymentOption {
             PaymentOption::ExternalPayment => 1,
         })
     }
-}
 
-impl<'a> ReadSimple<'a> for PaymentOption {
     fn of(read: Value<'a>) -> PaymentOption {
         match read {
             Value::Ordinal(0) => PaymentOption::Contract,
@@ -216,7 +210,7 @@ pub enum EnergyTransferMode {
     DcUnique,
 }
 
-impl Simple for EnergyTransferMode {
+impl<'a> Simple<'a> for EnergyTransferMode {
     ghost use Rattle.din_parts.specs.Codes.{energy_transfer_mode_ordinal};
 
     ghost takes = { is_named 6 };
@@ -233,9 +227,7 @@ impl Simple for EnergyTransferMode {
             EnergyTransferMode::DcUnique => 5,
         })
     }
-}
 
-impl<'a> ReadSimple<'a> for EnergyTransferMode {
     fn of(read: Value<'a>) -> EnergyTransferMode {
         match read {
             Value::Ordinal(0) => EnergyTransferMode::AcSinglePhaseCore,
@@ -273,7 +265,7 @@ pub enum SupportedEnergyTransferType {
     AcCore3pDcExtended,
 }
 
-impl Simple for SupportedEnergyTransferType {
+impl<'a> Simple<'a> for SupportedEnergyTransferType {
     ghost use Rattle.din_parts.specs.Codes.{supported_energy_transfer_type_ordinal};
 
     ghost takes = { is_named 10 };
@@ -294,9 +286,7 @@ impl Simple for SupportedEnergyTransferType {
             SupportedEnergyTransferType::AcCore3pDcExtended => 9,
         })
     }
-}
 
-impl<'a> ReadSimple<'a> for SupportedEnergyTransferType {
     fn of(read: Value<'a>) -> SupportedEnergyTransferType {
         match read {
             Value::Ordinal(0) => SupportedEnergyTransferType::AcSinglePhaseCore,
@@ -322,7 +312,7 @@ pub enum EvseProcessing {
     Ongoing,
 }
 
-impl Simple for EvseProcessing {
+impl<'a> Simple<'a> for EvseProcessing {
     ghost use Rattle.din_parts.specs.Codes.{evse_processing_ordinal};
 
     ghost takes = { is_named 2 };
@@ -335,9 +325,7 @@ impl Simple for EvseProcessing {
             EvseProcessing::Ongoing => 1,
         })
     }
-}
 
-impl<'a> ReadSimple<'a> for EvseProcessing {
     fn of(read: Value<'a>) -> EvseProcessing {
         match read {
             Value::Ordinal(0) => EvseProcessing::Finished,

@@ -4,7 +4,7 @@ ghost use Rattle.exi_documents.specs.Trees.{Ordinal};
 ghost use Rattle.message_parts.specs.Values.{is_named};
 
 use exi_events::Value;
-use message_parts::{ReadSimple, Simple};
+use message_parts::Simple;
 
 /// FaultCode, its values in order from 0.
 #[derive(Clone, Copy, Debug, PartialEq, Eq)]
@@ -17,7 +17,7 @@ pub enum FaultCode {
     UnknownError,
 }
 
-impl Simple for FaultCode {
+impl<'a> Simple<'a> for FaultCode {
     ghost use Rattle.din_parts.specs.Enumerations.{fault_code_ordinal};
 
     ghost takes = { is_named 3 };
@@ -31,9 +31,7 @@ impl Simple for FaultCode {
             FaultCode::UnknownError => 2,
         })
     }
-}
 
-impl<'a> ReadSimple<'a> for FaultCode {
     fn of(read: Value<'a>) -> FaultCode {
         match read {
             Value::Ordinal(0) => FaultCode::ParsingError,
@@ -68,7 +66,7 @@ pub enum UnitSymbol {
     Wh,
 }
 
-impl Simple for UnitSymbol {
+impl<'a> Simple<'a> for UnitSymbol {
     ghost use Rattle.din_parts.specs.Enumerations.{unit_symbol_ordinal};
 
     ghost takes = { is_named 10 };
@@ -89,9 +87,7 @@ impl Simple for UnitSymbol {
             UnitSymbol::Wh => 9,
         })
     }
-}
 
-impl<'a> ReadSimple<'a> for UnitSymbol {
     fn of(read: Value<'a>) -> UnitSymbol {
         match read {
             Value::Ordinal(0) => UnitSymbol::H,
@@ -137,7 +133,7 @@ pub enum EvErrorCode {
     NoData,
 }
 
-impl Simple for EvErrorCode {
+impl<'a> Simple<'a> for EvErrorCode {
     ghost use Rattle.din_parts.specs.Enumerations.{ev_error_code_ordinal};
 
     ghost takes = { is_named 12 };
@@ -160,9 +156,7 @@ impl Simple for EvErrorCode {
             EvErrorCode::NoData => 11,
         })
     }
-}
 
-impl<'a> ReadSimple<'a> for EvErrorCode {
     fn of(read: Value<'a>) -> EvErrorCode {
         match read {
             Value::Ordinal(0) => EvErrorCode::NoError,
@@ -192,7 +186,7 @@ pub enum EvseNotification {
     ReNegotiation,
 }
 
-impl Simple for EvseNotification {
+impl<'a> Simple<'a> for EvseNotification {
     ghost use Rattle.din_parts.specs.Enumerations.{evse_notification_ordinal};
 
     ghost takes = { is_named 3 };
@@ -206,9 +200,7 @@ impl Simple for EvseNotification {
             EvseNotification::ReNegotiation => 2,
         })
     }
-}
 
-impl<'a> ReadSimple<'a> for EvseNotification {
     fn of(read: Value<'a>) -> EvseNotification {
         match read {
             Value::Ordinal(0) => EvseNotification::None,
@@ -231,7 +223,7 @@ pub enum IsolationLevel {
     Fault,
 }
 
-impl Simple for IsolationLevel {
+impl<'a> Simple<'a> for IsolationLevel {
     ghost use Rattle.din_parts.specs.Enumerations.{isolation_level_ordinal};
 
     ghost takes = { is_named 4 };
@@ -246,9 +238,7 @@ impl Simple for IsolationLevel {
             IsolationLevel::Fault => 3,
         })
     }
-}
 
-impl<'a> ReadSimple<'a> for IsolationLevel {
     fn of(read: Value<'a>) -> IsolationLevel {
         match read {
             Value::Ordinal(0) => IsolationLevel::Invalid,
@@ -288,7 +278,7 @@ pub enum EvseStatusCode {
     ReservedC,
 }
 
-impl Simple for EvseStatusCode {
+impl<'a> Simple<'a> for EvseStatusCode {
     ghost use Rattle.din_parts.specs.Enumerations.{evse_status_code_ordinal};
 
     ghost takes = { is_named 12 };
@@ -311,9 +301,7 @@ impl Simple for EvseStatusCode {
             EvseStatusCode::ReservedC => 11,
         })
     }
-}
 
-impl<'a> ReadSimple<'a> for EvseStatusCode {
     fn of(read: Value<'a>) -> EvseStatusCode {
         match read {
             Value::Ordinal(0) => EvseStatusCode::EvseNotReady,

@@ -11,12 +11,12 @@ use exi_events::EventWriter;
 use exi_schema::Places;
 use message_fields::{Elements, OptionalValue, RequiredValue};
 use message_parts::{
-    Alternatives, Choice, DeclaredRecord, Descent, PutChoice, PutRecord, ReadRecord, Record,
-    member, put_optional_value, put_record, put_value, whole_record,
+    Choice, Descent, PutChoice, PutRecord, ReadRecord, Record, member, put_optional_value,
+    put_record, put_value, whole_record,
 };
 
 /// PhysicalValue.
-#[derive(Clone, Copy, Debug, PartialEq, Eq)]
+#[derive(Clone, Copy)]
 pub struct PhysicalValue {
     /// -3 to 3.
     pub multiplier: i8,
@@ -25,7 +25,18 @@ pub struct PhysicalValue {
 }
 
 impl PutRecord for PhysicalValue {
+    ghost use Rattle.std.specs.Prelude.{refl};
+    ghost use Rattle.din_schema.specs.Declarations.{kinds};
+    ghost use Rattle.din_schema.specs.Frame.{physical_value};
     ghost use Rattle.din_parts.specs.Values.{physical_value_parts};
+
+    ghost kinds = { kinds };
+
+    ghost attributes = { [] };
+
+    ghost particles = { physical_value };
+
+    ghost apart = { refl };
 
     ghost given = { λ v. [] };
 
@@ -36,20 +47,6 @@ impl PutRecord for PhysicalValue {
         put_optional_value(writer, names::UNIT, &self.unit);
         put_value(writer, names::VALUE, &self.value);
     }
-}
-
-impl DeclaredRecord for PhysicalValue {
-    ghost use Rattle.std.specs.Prelude.{refl};
-    ghost use Rattle.din_schema.specs.Declarations.{kinds};
-    ghost use Rattle.din_schema.specs.Frame.{physical_value};
-
-    ghost kinds = { kinds };
-
-    ghost attributes = { [] };
-
-    ghost particles = { physical_value };
-
-    ghost apart = { refl };
 }
 
 impl<'a> Record<'a> for PhysicalValue {
@@ -82,7 +79,7 @@ impl<'a> ReadRecord<'a> for PhysicalValue {
 }
 
 /// DC_EVStatus.
-#[derive(Clone, Copy, Debug, PartialEq, Eq)]
+#[derive(Clone, Copy)]
 pub struct DcEvStatus {
     pub ev_ready: bool,
     pub ev_cabin_conditioning: Option<bool>,
@@ -93,7 +90,18 @@ pub struct DcEvStatus {
 }
 
 impl PutRecord for DcEvStatus {
+    ghost use Rattle.std.specs.Prelude.{refl};
+    ghost use Rattle.din_schema.specs.Declarations.{kinds};
+    ghost use Rattle.din_schema.specs.Frame.{dc_ev_status};
     ghost use Rattle.din_parts.specs.Values.{dc_ev_status_parts};
+
+    ghost kinds = { kinds };
+
+    ghost attributes = { [] };
+
+    ghost particles = { dc_ev_status };
+
+    ghost apart = { refl };
 
     ghost given = { λ v. [] };
 
@@ -114,20 +122,6 @@ impl PutRecord for DcEvStatus {
         put_value(writer, names::EV_ERROR_CODE, &self.ev_error_code);
         put_value(writer, names::EVRESS_SOC, &self.evress_soc);
     }
-}
-
-impl DeclaredRecord for DcEvStatus {
-    ghost use Rattle.std.specs.Prelude.{refl};
-    ghost use Rattle.din_schema.specs.Declarations.{kinds};
-    ghost use Rattle.din_schema.specs.Frame.{dc_ev_status};
-
-    ghost kinds = { kinds };
-
-    ghost attributes = { [] };
-
-    ghost particles = { dc_ev_status };
-
-    ghost apart = { refl };
 }
 
 impl<'a> Record<'a> for DcEvStatus {
@@ -174,7 +168,7 @@ impl<'a> ReadRecord<'a> for DcEvStatus {
 }
 
 /// DC_EVSEStatus.
-#[derive(Clone, Copy, Debug, PartialEq, Eq)]
+#[derive(Clone, Copy)]
 pub struct DcEvseStatus {
     pub evse_isolation_status: Option<IsolationLevel>,
     pub evse_status_code: EvseStatusCode,
@@ -183,7 +177,18 @@ pub struct DcEvseStatus {
 }
 
 impl PutRecord for DcEvseStatus {
+    ghost use Rattle.std.specs.Prelude.{refl};
+    ghost use Rattle.din_schema.specs.Declarations.{kinds};
+    ghost use Rattle.din_schema.specs.Frame.{dc_evse_status};
     ghost use Rattle.din_parts.specs.Values.{dc_evse_status_parts};
+
+    ghost kinds = { kinds };
+
+    ghost attributes = { [] };
+
+    ghost particles = { dc_evse_status };
+
+    ghost apart = { refl };
 
     ghost given = { λ v. [] };
 
@@ -203,20 +208,6 @@ impl PutRecord for DcEvseStatus {
         );
         put_value(writer, names::EVSE_NOTIFICATION, &self.evse_notification);
     }
-}
-
-impl DeclaredRecord for DcEvseStatus {
-    ghost use Rattle.std.specs.Prelude.{refl};
-    ghost use Rattle.din_schema.specs.Declarations.{kinds};
-    ghost use Rattle.din_schema.specs.Frame.{dc_evse_status};
-
-    ghost kinds = { kinds };
-
-    ghost attributes = { [] };
-
-    ghost particles = { dc_evse_status };
-
-    ghost apart = { refl };
 }
 
 impl<'a> Record<'a> for DcEvseStatus {
@@ -258,13 +249,18 @@ impl<'a> ReadRecord<'a> for DcEvseStatus {
 }
 
 /// One element of the substitution group EVSEStatus.
-#[derive(Clone, Copy, Debug, PartialEq, Eq)]
+#[derive(Clone, Copy)]
 pub enum EvseStatus {
     Dc(DcEvseStatus),
 }
 
 impl PutChoice for EvseStatus {
-    ghost use Rattle.din_parts.specs.Values.{evse_status_name, evse_status_inside};
+    ghost use Rattle.din_schema.specs.Declarations.{kinds};
+    ghost use Rattle.din_parts.specs.Values.{evse_status_members, evse_status_name, evse_status_inside};
+
+    ghost kinds = { kinds };
+
+    ghost members = { evse_status_members };
 
     ghost name = { evse_status_name };
 
@@ -275,15 +271,6 @@ impl PutChoice for EvseStatus {
             EvseStatus::Dc(dc) => put_record(writer, names::DC_EVSE_STATUS, dc),
         }
     }
-}
-
-impl Alternatives for EvseStatus {
-    ghost use Rattle.din_schema.specs.Declarations.{kinds};
-    ghost use Rattle.din_parts.specs.Values.{evse_status_members};
-
-    ghost kinds = { kinds };
-
-    ghost members = { evse_status_members };
 }
 
 impl<'a> Choice<'a> for EvseStatus {

@@ -9,32 +9,21 @@ use exi_events::EventWriter;
 use exi_schema::Places;
 use message_fields::{Elements, Optional, OptionalValue, Required, RequiredValue};
 use message_parts::{
-    DeclaredRecord, Descent, PutRecord, ReadRecord, Record, put_optional, put_optional_value,
-    put_record, put_value, whole_record,
+    Descent, PutRecord, ReadRecord, Record, put_optional, put_optional_value, put_record,
+    put_value, whole_record,
 };
 
 /// CableCheckReq.
-#[derive(Clone, Copy, Debug, PartialEq, Eq)]
+#[derive(Clone, Copy)]
 pub struct CableCheckReq {
     pub dc_ev_status: DcEvStatus,
 }
 
 impl PutRecord for CableCheckReq {
-    ghost use Rattle.din_power.specs.Charging.{cable_check_req_parts};
-
-    ghost given = { λ v. [] };
-
-    ghost parts = { cable_check_req_parts };
-
-    fn write<P: Places>(&self, writer: &mut EventWriter<'_, '_, P>) {
-        put_record(writer, names::DC_EV_STATUS, &self.dc_ev_status);
-    }
-}
-
-impl DeclaredRecord for CableCheckReq {
     ghost use Rattle.std.specs.Prelude.{refl};
     ghost use Rattle.din_schema.specs.Declarations.{kinds};
     ghost use Rattle.din_schema.specs.Charging.{cable_check_req};
+    ghost use Rattle.din_power.specs.Charging.{cable_check_req_parts};
 
     ghost kinds = { kinds };
 
@@ -43,6 +32,14 @@ impl DeclaredRecord for CableCheckReq {
     ghost particles = { cable_check_req };
 
     ghost apart = { refl };
+
+    ghost given = { λ v. [] };
+
+    ghost parts = { cable_check_req_parts };
+
+    fn write<P: Places>(&self, writer: &mut EventWriter<'_, '_, P>) {
+        put_record(writer, names::DC_EV_STATUS, &self.dc_ev_status);
+    }
 }
 
 impl<'a> Record<'a> for CableCheckReq {
@@ -65,7 +62,7 @@ impl<'a> ReadRecord<'a> for CableCheckReq {
 }
 
 /// CableCheckRes.
-#[derive(Clone, Copy, Debug, PartialEq, Eq)]
+#[derive(Clone, Copy)]
 pub struct CableCheckRes {
     pub response_code: ResponseCode,
     pub dc_evse_status: DcEvseStatus,
@@ -73,7 +70,18 @@ pub struct CableCheckRes {
 }
 
 impl PutRecord for CableCheckRes {
+    ghost use Rattle.std.specs.Prelude.{refl};
+    ghost use Rattle.din_schema.specs.Declarations.{kinds};
+    ghost use Rattle.din_schema.specs.Charging.{cable_check_res};
     ghost use Rattle.din_power.specs.Charging.{cable_check_res_parts};
+
+    ghost kinds = { kinds };
+
+    ghost attributes = { [] };
+
+    ghost particles = { cable_check_res };
+
+    ghost apart = { refl };
 
     ghost given = { λ v. [] };
 
@@ -84,20 +92,6 @@ impl PutRecord for CableCheckRes {
         put_record(writer, names::DC_EVSE_STATUS, &self.dc_evse_status);
         put_value(writer, names::EVSE_PROCESSING, &self.evse_processing);
     }
-}
-
-impl DeclaredRecord for CableCheckRes {
-    ghost use Rattle.std.specs.Prelude.{refl};
-    ghost use Rattle.din_schema.specs.Declarations.{kinds};
-    ghost use Rattle.din_schema.specs.Charging.{cable_check_res};
-
-    ghost kinds = { kinds };
-
-    ghost attributes = { [] };
-
-    ghost particles = { cable_check_res };
-
-    ghost apart = { refl };
 }
 
 impl<'a> Record<'a> for CableCheckRes {
@@ -136,7 +130,7 @@ impl<'a> ReadRecord<'a> for CableCheckRes {
 }
 
 /// PreChargeReq.
-#[derive(Clone, Copy, Debug, PartialEq, Eq)]
+#[derive(Clone, Copy)]
 pub struct PreChargeReq {
     pub dc_ev_status: DcEvStatus,
     pub ev_target_voltage: PhysicalValue,
@@ -144,7 +138,18 @@ pub struct PreChargeReq {
 }
 
 impl PutRecord for PreChargeReq {
+    ghost use Rattle.std.specs.Prelude.{refl};
+    ghost use Rattle.din_schema.specs.Declarations.{kinds};
+    ghost use Rattle.din_schema.specs.Charging.{pre_charge_req};
     ghost use Rattle.din_power.specs.Charging.{pre_charge_req_parts};
+
+    ghost kinds = { kinds };
+
+    ghost attributes = { [] };
+
+    ghost particles = { pre_charge_req };
+
+    ghost apart = { refl };
 
     ghost given = { λ v. [] };
 
@@ -155,20 +160,6 @@ impl PutRecord for PreChargeReq {
         put_record(writer, names::EV_TARGET_VOLTAGE, &self.ev_target_voltage);
         put_record(writer, names::EV_TARGET_CURRENT, &self.ev_target_current);
     }
-}
-
-impl DeclaredRecord for PreChargeReq {
-    ghost use Rattle.std.specs.Prelude.{refl};
-    ghost use Rattle.din_schema.specs.Declarations.{kinds};
-    ghost use Rattle.din_schema.specs.Charging.{pre_charge_req};
-
-    ghost kinds = { kinds };
-
-    ghost attributes = { [] };
-
-    ghost particles = { pre_charge_req };
-
-    ghost apart = { refl };
 }
 
 impl<'a> Record<'a> for PreChargeReq {
@@ -203,7 +194,7 @@ impl<'a> ReadRecord<'a> for PreChargeReq {
 }
 
 /// PreChargeRes.
-#[derive(Clone, Copy, Debug, PartialEq, Eq)]
+#[derive(Clone, Copy)]
 pub struct PreChargeRes {
     pub response_code: ResponseCode,
     pub dc_evse_status: DcEvseStatus,
@@ -211,7 +202,18 @@ pub struct PreChargeRes {
 }
 
 impl PutRecord for PreChargeRes {
+    ghost use Rattle.std.specs.Prelude.{refl};
+    ghost use Rattle.din_schema.specs.Declarations.{kinds};
+    ghost use Rattle.din_schema.specs.Charging.{pre_charge_res};
     ghost use Rattle.din_power.specs.Charging.{pre_charge_res_parts};
+
+    ghost kinds = { kinds };
+
+    ghost attributes = { [] };
+
+    ghost particles = { pre_charge_res };
+
+    ghost apart = { refl };
 
     ghost given = { λ v. [] };
 
@@ -226,20 +228,6 @@ impl PutRecord for PreChargeRes {
             &self.evse_present_voltage,
         );
     }
-}
-
-impl DeclaredRecord for PreChargeRes {
-    ghost use Rattle.std.specs.Prelude.{refl};
-    ghost use Rattle.din_schema.specs.Declarations.{kinds};
-    ghost use Rattle.din_schema.specs.Charging.{pre_charge_res};
-
-    ghost kinds = { kinds };
-
-    ghost attributes = { [] };
-
-    ghost particles = { pre_charge_res };
-
-    ghost apart = { refl };
 }
 
 impl<'a> Record<'a> for PreChargeRes {
@@ -278,7 +266,7 @@ impl<'a> ReadRecord<'a> for PreChargeRes {
 }
 
 /// CurrentDemandReq.
-#[derive(Clone, Copy, Debug, PartialEq, Eq)]
+#[derive(Clone, Copy)]
 pub struct CurrentDemandReq {
     pub dc_ev_status: DcEvStatus,
     pub ev_target_current: PhysicalValue,
@@ -293,7 +281,18 @@ pub struct CurrentDemandReq {
 }
 
 impl PutRecord for CurrentDemandReq {
+    ghost use Rattle.std.specs.Prelude.{refl};
+    ghost use Rattle.din_schema.specs.Declarations.{kinds};
+    ghost use Rattle.din_schema.specs.Charging.{current_demand_req};
     ghost use Rattle.din_power.specs.Charging.{current_demand_req_parts};
+
+    ghost kinds = { kinds };
+
+    ghost attributes = { [] };
+
+    ghost particles = { current_demand_req };
+
+    ghost apart = { refl };
 
     ghost given = { λ v. [] };
 
@@ -335,20 +334,6 @@ impl PutRecord for CurrentDemandReq {
         );
         put_record(writer, names::EV_TARGET_VOLTAGE, &self.ev_target_voltage);
     }
-}
-
-impl DeclaredRecord for CurrentDemandReq {
-    ghost use Rattle.std.specs.Prelude.{refl};
-    ghost use Rattle.din_schema.specs.Declarations.{kinds};
-    ghost use Rattle.din_schema.specs.Charging.{current_demand_req};
-
-    ghost kinds = { kinds };
-
-    ghost attributes = { [] };
-
-    ghost particles = { current_demand_req };
-
-    ghost apart = { refl };
 }
 
 impl<'a> Record<'a> for CurrentDemandReq {
@@ -420,7 +405,7 @@ impl<'a> ReadRecord<'a> for CurrentDemandReq {
 }
 
 /// CurrentDemandRes.
-#[derive(Clone, Copy, Debug, PartialEq, Eq)]
+#[derive(Clone, Copy)]
 pub struct CurrentDemandRes {
     pub response_code: ResponseCode,
     pub dc_evse_status: DcEvseStatus,
@@ -435,7 +420,18 @@ pub struct CurrentDemandRes {
 }
 
 impl PutRecord for CurrentDemandRes {
+    ghost use Rattle.std.specs.Prelude.{refl};
+    ghost use Rattle.din_schema.specs.Declarations.{kinds};
+    ghost use Rattle.din_schema.specs.Charging.{current_demand_res};
     ghost use Rattle.din_power.specs.Charging.{current_demand_res_parts};
+
+    ghost kinds = { kinds };
+
+    ghost attributes = { [] };
+
+    ghost particles = { current_demand_res };
+
+    ghost apart = { refl };
 
     ghost given = { λ v. [] };
 
@@ -485,20 +481,6 @@ impl PutRecord for CurrentDemandRes {
             &self.evse_maximum_power_limit,
         );
     }
-}
-
-impl DeclaredRecord for CurrentDemandRes {
-    ghost use Rattle.std.specs.Prelude.{refl};
-    ghost use Rattle.din_schema.specs.Declarations.{kinds};
-    ghost use Rattle.din_schema.specs.Charging.{current_demand_res};
-
-    ghost kinds = { kinds };
-
-    ghost attributes = { [] };
-
-    ghost particles = { current_demand_res };
-
-    ghost apart = { refl };
 }
 
 impl<'a> Record<'a> for CurrentDemandRes {
@@ -570,27 +552,16 @@ impl<'a> ReadRecord<'a> for CurrentDemandRes {
 }
 
 /// WeldingDetectionReq.
-#[derive(Clone, Copy, Debug, PartialEq, Eq)]
+#[derive(Clone, Copy)]
 pub struct WeldingDetectionReq {
     pub dc_ev_status: DcEvStatus,
 }
 
 impl PutRecord for WeldingDetectionReq {
-    ghost use Rattle.din_power.specs.Charging.{welding_detection_req_parts};
-
-    ghost given = { λ v. [] };
-
-    ghost parts = { welding_detection_req_parts };
-
-    fn write<P: Places>(&self, writer: &mut EventWriter<'_, '_, P>) {
-        put_record(writer, names::DC_EV_STATUS, &self.dc_ev_status);
-    }
-}
-
-impl DeclaredRecord for WeldingDetectionReq {
     ghost use Rattle.std.specs.Prelude.{refl};
     ghost use Rattle.din_schema.specs.Declarations.{kinds};
     ghost use Rattle.din_schema.specs.Charging.{welding_detection_req};
+    ghost use Rattle.din_power.specs.Charging.{welding_detection_req_parts};
 
     ghost kinds = { kinds };
 
@@ -599,6 +570,14 @@ impl DeclaredRecord for WeldingDetectionReq {
     ghost particles = { welding_detection_req };
 
     ghost apart = { refl };
+
+    ghost given = { λ v. [] };
+
+    ghost parts = { welding_detection_req_parts };
+
+    fn write<P: Places>(&self, writer: &mut EventWriter<'_, '_, P>) {
+        put_record(writer, names::DC_EV_STATUS, &self.dc_ev_status);
+    }
 }
 
 impl<'a> Record<'a> for WeldingDetectionReq {
@@ -621,7 +600,7 @@ impl<'a> ReadRecord<'a> for WeldingDetectionReq {
 }
 
 /// WeldingDetectionRes.
-#[derive(Clone, Copy, Debug, PartialEq, Eq)]
+#[derive(Clone, Copy)]
 pub struct WeldingDetectionRes {
     pub response_code: ResponseCode,
     pub dc_evse_status: DcEvseStatus,
@@ -629,7 +608,18 @@ pub struct WeldingDetectionRes {
 }
 
 impl PutRecord for WeldingDetectionRes {
+    ghost use Rattle.std.specs.Prelude.{refl};
+    ghost use Rattle.din_schema.specs.Declarations.{kinds};
+    ghost use Rattle.din_schema.specs.Charging.{welding_detection_res};
     ghost use Rattle.din_power.specs.Charging.{welding_detection_res_parts};
+
+    ghost kinds = { kinds };
+
+    ghost attributes = { [] };
+
+    ghost particles = { welding_detection_res };
+
+    ghost apart = { refl };
 
     ghost given = { λ v. [] };
 
@@ -644,20 +634,6 @@ impl PutRecord for WeldingDetectionRes {
             &self.evse_present_voltage,
         );
     }
-}
-
-impl DeclaredRecord for WeldingDetectionRes {
-    ghost use Rattle.std.specs.Prelude.{refl};
-    ghost use Rattle.din_schema.specs.Declarations.{kinds};
-    ghost use Rattle.din_schema.specs.Charging.{welding_detection_res};
-
-    ghost kinds = { kinds };
-
-    ghost attributes = { [] };
-
-    ghost particles = { welding_detection_res };
-
-    ghost apart = { refl };
 }
 
 impl<'a> Record<'a> for WeldingDetectionRes {

@@ -12,20 +12,31 @@ use message_fields::{
     AtMostOneOf, Elements, OneOf, Optional, OptionalValue, Required, RequiredValue, Several,
 };
 use message_parts::{
-    Alternatives, Choice, DeclaredRecord, Descent, Group, PutChoice, PutRecord, ReadRecord, Record,
-    member, put_choice, put_optional, put_optional_choice, put_optional_value, put_record,
-    put_records, put_value, whole_record,
+    Choice, Descent, Group, PutChoice, PutRecord, ReadRecord, Record, member, put_choice,
+    put_optional, put_optional_choice, put_optional_value, put_record, put_records, put_value,
+    whole_record,
 };
 
 /// ProfileEntry.
-#[derive(Clone, Copy, Debug, PartialEq, Eq, Default)]
+#[derive(Clone, Copy, Default)]
 pub struct ProfileEntry {
     pub charging_profile_entry_start: u32,
     pub charging_profile_entry_max_power: i16,
 }
 
 impl PutRecord for ProfileEntry {
+    ghost use Rattle.std.specs.Prelude.{refl};
+    ghost use Rattle.din_schema.specs.Declarations.{kinds};
+    ghost use Rattle.din_schema.specs.Parameters.{profile_entry};
     ghost use Rattle.din_power.specs.Delivery.{profile_entry_parts};
+
+    ghost kinds = { kinds };
+
+    ghost attributes = { [] };
+
+    ghost particles = { profile_entry };
+
+    ghost apart = { refl };
 
     ghost given = { λ v. [] };
 
@@ -43,20 +54,6 @@ impl PutRecord for ProfileEntry {
             &self.charging_profile_entry_max_power,
         );
     }
-}
-
-impl DeclaredRecord for ProfileEntry {
-    ghost use Rattle.std.specs.Prelude.{refl};
-    ghost use Rattle.din_schema.specs.Declarations.{kinds};
-    ghost use Rattle.din_schema.specs.Parameters.{profile_entry};
-
-    ghost kinds = { kinds };
-
-    ghost attributes = { [] };
-
-    ghost particles = { profile_entry };
-
-    ghost apart = { refl };
 }
 
 impl<'a> Record<'a> for ProfileEntry {
@@ -95,7 +92,18 @@ pub struct ChargingProfile {
 }
 
 impl PutRecord for ChargingProfile {
+    ghost use Rattle.std.specs.Prelude.{refl};
+    ghost use Rattle.din_schema.specs.Declarations.{kinds};
+    ghost use Rattle.din_schema.specs.Parameters.{charging_profile};
     ghost use Rattle.din_power.specs.Delivery.{charging_profile_parts};
+
+    ghost kinds = { kinds };
+
+    ghost attributes = { [] };
+
+    ghost particles = { charging_profile };
+
+    ghost apart = { refl };
 
     ghost given = { λ v. [] };
 
@@ -109,20 +117,6 @@ impl PutRecord for ChargingProfile {
         );
         put_records(writer, names::PROFILE_ENTRY, &self.profile_entry);
     }
-}
-
-impl DeclaredRecord for ChargingProfile {
-    ghost use Rattle.std.specs.Prelude.{refl};
-    ghost use Rattle.din_schema.specs.Declarations.{kinds};
-    ghost use Rattle.din_schema.specs.Parameters.{charging_profile};
-
-    ghost kinds = { kinds };
-
-    ghost attributes = { [] };
-
-    ghost particles = { charging_profile };
-
-    ghost apart = { refl };
 }
 
 impl<'a> Record<'a> for ChargingProfile {
@@ -153,7 +147,7 @@ impl<'a> ReadRecord<'a> for ChargingProfile {
 }
 
 /// DC_EVPowerDeliveryParameter.
-#[derive(Clone, Copy, Debug, PartialEq, Eq)]
+#[derive(Clone, Copy)]
 pub struct DcEvPowerDeliveryParameter {
     pub dc_ev_status: DcEvStatus,
     pub bulk_charging_complete: Option<bool>,
@@ -161,7 +155,18 @@ pub struct DcEvPowerDeliveryParameter {
 }
 
 impl PutRecord for DcEvPowerDeliveryParameter {
+    ghost use Rattle.std.specs.Prelude.{refl};
+    ghost use Rattle.din_schema.specs.Declarations.{kinds};
+    ghost use Rattle.din_schema.specs.Parameters.{dc_ev_power_delivery_parameter};
     ghost use Rattle.din_power.specs.Delivery.{dc_ev_power_delivery_parameter_parts};
+
+    ghost kinds = { kinds };
+
+    ghost attributes = { [] };
+
+    ghost particles = { dc_ev_power_delivery_parameter };
+
+    ghost apart = { refl };
 
     ghost given = { λ v. [] };
 
@@ -176,20 +181,6 @@ impl PutRecord for DcEvPowerDeliveryParameter {
         );
         put_value(writer, names::CHARGING_COMPLETE, &self.charging_complete);
     }
-}
-
-impl DeclaredRecord for DcEvPowerDeliveryParameter {
-    ghost use Rattle.std.specs.Prelude.{refl};
-    ghost use Rattle.din_schema.specs.Declarations.{kinds};
-    ghost use Rattle.din_schema.specs.Parameters.{dc_ev_power_delivery_parameter};
-
-    ghost kinds = { kinds };
-
-    ghost attributes = { [] };
-
-    ghost particles = { dc_ev_power_delivery_parameter };
-
-    ghost apart = { refl };
 }
 
 impl<'a> Record<'a> for DcEvPowerDeliveryParameter {
@@ -230,13 +221,18 @@ impl<'a> ReadRecord<'a> for DcEvPowerDeliveryParameter {
 }
 
 /// One element of the substitution group EVPowerDeliveryParameter.
-#[derive(Clone, Copy, Debug, PartialEq, Eq)]
+#[derive(Clone, Copy)]
 pub enum EvPowerDeliveryParameter {
     Dc(DcEvPowerDeliveryParameter),
 }
 
 impl PutChoice for EvPowerDeliveryParameter {
-    ghost use Rattle.din_power.specs.Delivery.{ev_power_delivery_parameter_name, ev_power_delivery_parameter_inside};
+    ghost use Rattle.din_schema.specs.Declarations.{kinds};
+    ghost use Rattle.din_power.specs.Delivery.{ev_power_delivery_parameter_members, ev_power_delivery_parameter_name, ev_power_delivery_parameter_inside};
+
+    ghost kinds = { kinds };
+
+    ghost members = { ev_power_delivery_parameter_members };
 
     ghost name = { ev_power_delivery_parameter_name };
 
@@ -251,15 +247,6 @@ impl PutChoice for EvPowerDeliveryParameter {
             ),
         }
     }
-}
-
-impl Alternatives for EvPowerDeliveryParameter {
-    ghost use Rattle.din_schema.specs.Declarations.{kinds};
-    ghost use Rattle.din_power.specs.Delivery.{ev_power_delivery_parameter_members};
-
-    ghost kinds = { kinds };
-
-    ghost members = { ev_power_delivery_parameter_members };
 }
 
 impl<'a> Choice<'a> for EvPowerDeliveryParameter {
@@ -285,7 +272,18 @@ pub struct PowerDeliveryReq {
 }
 
 impl PutRecord for PowerDeliveryReq {
+    ghost use Rattle.std.specs.Prelude.{refl};
+    ghost use Rattle.din_schema.specs.Declarations.{kinds};
+    ghost use Rattle.din_schema.specs.Parameters.{power_delivery_req};
     ghost use Rattle.din_power.specs.Delivery.{power_delivery_req_parts};
+
+    ghost kinds = { kinds };
+
+    ghost attributes = { [] };
+
+    ghost particles = { power_delivery_req };
+
+    ghost apart = { refl };
 
     ghost given = { λ v. [] };
 
@@ -300,20 +298,6 @@ impl PutRecord for PowerDeliveryReq {
         put_optional(writer, names::CHARGING_PROFILE, &self.charging_profile);
         put_optional_choice(writer, &self.ev_power_delivery_parameter);
     }
-}
-
-impl DeclaredRecord for PowerDeliveryReq {
-    ghost use Rattle.std.specs.Prelude.{refl};
-    ghost use Rattle.din_schema.specs.Declarations.{kinds};
-    ghost use Rattle.din_schema.specs.Parameters.{power_delivery_req};
-
-    ghost kinds = { kinds };
-
-    ghost attributes = { [] };
-
-    ghost particles = { power_delivery_req };
-
-    ghost apart = { refl };
 }
 
 impl<'a> Record<'a> for PowerDeliveryReq {
@@ -352,14 +336,25 @@ impl<'a> ReadRecord<'a> for PowerDeliveryReq {
 }
 
 /// PowerDeliveryRes.
-#[derive(Clone, Copy, Debug, PartialEq, Eq)]
+#[derive(Clone, Copy)]
 pub struct PowerDeliveryRes {
     pub response_code: ResponseCode,
     pub evse_status: EvseStatus,
 }
 
 impl PutRecord for PowerDeliveryRes {
+    ghost use Rattle.std.specs.Prelude.{refl};
+    ghost use Rattle.din_schema.specs.Declarations.{kinds};
+    ghost use Rattle.din_schema.specs.Parameters.{power_delivery_res};
     ghost use Rattle.din_power.specs.Delivery.{power_delivery_res_parts};
+
+    ghost kinds = { kinds };
+
+    ghost attributes = { [] };
+
+    ghost particles = { power_delivery_res };
+
+    ghost apart = { refl };
 
     ghost given = { λ v. [] };
 
@@ -369,20 +364,6 @@ impl PutRecord for PowerDeliveryRes {
         put_value(writer, names::RESPONSE_CODE, &self.response_code);
         put_choice(writer, &self.evse_status);
     }
-}
-
-impl DeclaredRecord for PowerDeliveryRes {
-    ghost use Rattle.std.specs.Prelude.{refl};
-    ghost use Rattle.din_schema.specs.Declarations.{kinds};
-    ghost use Rattle.din_schema.specs.Parameters.{power_delivery_res};
-
-    ghost kinds = { kinds };
-
-    ghost attributes = { [] };
-
-    ghost particles = { power_delivery_res };
-
-    ghost apart = { refl };
 }
 
 impl<'a> Record<'a> for PowerDeliveryRes {

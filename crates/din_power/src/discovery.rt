@@ -11,19 +11,30 @@ use exi_events::EventWriter;
 use exi_schema::Places;
 use message_fields::{AtMostOneOf, Elements, OneOf, RequiredValue};
 use message_parts::{
-    DeclaredRecord, Descent, PutRecord, ReadRecord, Record, put_choice, put_optional_choice,
-    put_value, whole_record,
+    Descent, PutRecord, ReadRecord, Record, put_choice, put_optional_choice, put_value,
+    whole_record,
 };
 
 /// ChargeParameterDiscoveryReq.
-#[derive(Clone, Copy, Debug, PartialEq, Eq)]
+#[derive(Clone, Copy)]
 pub struct ChargeParameterDiscoveryReq {
     pub ev_requested_energy_transfer_type: EnergyTransferMode,
     pub ev_charge_parameter: EvChargeParameter,
 }
 
 impl PutRecord for ChargeParameterDiscoveryReq {
+    ghost use Rattle.std.specs.Prelude.{refl};
+    ghost use Rattle.din_schema.specs.Declarations.{kinds};
+    ghost use Rattle.din_schema.specs.Parameters.{charge_parameter_discovery_req};
     ghost use Rattle.din_power.specs.Discovery.{charge_parameter_discovery_req_parts};
+
+    ghost kinds = { kinds };
+
+    ghost attributes = { [] };
+
+    ghost particles = { charge_parameter_discovery_req };
+
+    ghost apart = { refl };
 
     ghost given = { λ v. [] };
 
@@ -37,20 +48,6 @@ impl PutRecord for ChargeParameterDiscoveryReq {
         );
         put_choice(writer, &self.ev_charge_parameter);
     }
-}
-
-impl DeclaredRecord for ChargeParameterDiscoveryReq {
-    ghost use Rattle.std.specs.Prelude.{refl};
-    ghost use Rattle.din_schema.specs.Declarations.{kinds};
-    ghost use Rattle.din_schema.specs.Parameters.{charge_parameter_discovery_req};
-
-    ghost kinds = { kinds };
-
-    ghost attributes = { [] };
-
-    ghost particles = { charge_parameter_discovery_req };
-
-    ghost apart = { refl };
 }
 
 impl<'a> Record<'a> for ChargeParameterDiscoveryReq {
@@ -89,7 +86,18 @@ pub struct ChargeParameterDiscoveryRes {
 }
 
 impl PutRecord for ChargeParameterDiscoveryRes {
+    ghost use Rattle.std.specs.Prelude.{refl};
+    ghost use Rattle.din_schema.specs.Declarations.{kinds};
+    ghost use Rattle.din_schema.specs.Parameters.{charge_parameter_discovery_res};
     ghost use Rattle.din_power.specs.Discovery.{charge_parameter_discovery_res_parts};
+
+    ghost kinds = { kinds };
+
+    ghost attributes = { [] };
+
+    ghost particles = { charge_parameter_discovery_res };
+
+    ghost apart = { refl };
 
     ghost given = { λ v. [] };
 
@@ -101,20 +109,6 @@ impl PutRecord for ChargeParameterDiscoveryRes {
         put_optional_choice(writer, &self.sa_schedules);
         put_choice(writer, &self.evse_charge_parameter);
     }
-}
-
-impl DeclaredRecord for ChargeParameterDiscoveryRes {
-    ghost use Rattle.std.specs.Prelude.{refl};
-    ghost use Rattle.din_schema.specs.Declarations.{kinds};
-    ghost use Rattle.din_schema.specs.Parameters.{charge_parameter_discovery_res};
-
-    ghost kinds = { kinds };
-
-    ghost attributes = { [] };
-
-    ghost particles = { charge_parameter_discovery_res };
-
-    ghost apart = { refl };
 }
 
 impl<'a> Record<'a> for ChargeParameterDiscoveryRes {

@@ -9,12 +9,12 @@ use exi_events::EventWriter;
 use exi_schema::Places;
 use message_fields::{Elements, Optional, OptionalValue, Required};
 use message_parts::{
-    Alternatives, Choice, DeclaredRecord, Descent, PutChoice, PutRecord, ReadRecord, Record,
-    member, put_optional, put_optional_value, put_record, whole_record,
+    Choice, Descent, PutChoice, PutRecord, ReadRecord, Record, member, put_optional,
+    put_optional_value, put_record, whole_record,
 };
 
 /// DC_EVChargeParameter.
-#[derive(Clone, Copy, Debug, PartialEq, Eq)]
+#[derive(Clone, Copy)]
 pub struct DcEvChargeParameter {
     pub dc_ev_status: DcEvStatus,
     pub ev_maximum_current_limit: PhysicalValue,
@@ -29,7 +29,18 @@ pub struct DcEvChargeParameter {
 }
 
 impl PutRecord for DcEvChargeParameter {
+    ghost use Rattle.std.specs.Prelude.{refl};
+    ghost use Rattle.din_schema.specs.Declarations.{kinds};
+    ghost use Rattle.din_schema.specs.Parameters.{dc_ev_charge_parameter};
     ghost use Rattle.din_power.specs.Limits.{dc_ev_charge_parameter_parts};
+
+    ghost kinds = { kinds };
+
+    ghost attributes = { [] };
+
+    ghost particles = { dc_ev_charge_parameter };
+
+    ghost apart = { refl };
 
     ghost given = { λ v. [] };
 
@@ -57,20 +68,6 @@ impl PutRecord for DcEvChargeParameter {
         put_optional_value(writer, names::FULL_SOC, &self.full_soc);
         put_optional_value(writer, names::BULK_SOC, &self.bulk_soc);
     }
-}
-
-impl DeclaredRecord for DcEvChargeParameter {
-    ghost use Rattle.std.specs.Prelude.{refl};
-    ghost use Rattle.din_schema.specs.Declarations.{kinds};
-    ghost use Rattle.din_schema.specs.Parameters.{dc_ev_charge_parameter};
-
-    ghost kinds = { kinds };
-
-    ghost attributes = { [] };
-
-    ghost particles = { dc_ev_charge_parameter };
-
-    ghost apart = { refl };
 }
 
 impl<'a> Record<'a> for DcEvChargeParameter {
@@ -132,13 +129,18 @@ impl<'a> ReadRecord<'a> for DcEvChargeParameter {
 }
 
 /// One element of the substitution group EVChargeParameter.
-#[derive(Clone, Copy, Debug, PartialEq, Eq)]
+#[derive(Clone, Copy)]
 pub enum EvChargeParameter {
     Dc(DcEvChargeParameter),
 }
 
 impl PutChoice for EvChargeParameter {
-    ghost use Rattle.din_power.specs.Limits.{ev_charge_parameter_name, ev_charge_parameter_inside};
+    ghost use Rattle.din_schema.specs.Declarations.{kinds};
+    ghost use Rattle.din_power.specs.Limits.{ev_charge_parameter_members, ev_charge_parameter_name, ev_charge_parameter_inside};
+
+    ghost kinds = { kinds };
+
+    ghost members = { ev_charge_parameter_members };
 
     ghost name = { ev_charge_parameter_name };
 
@@ -151,15 +153,6 @@ impl PutChoice for EvChargeParameter {
     }
 }
 
-impl Alternatives for EvChargeParameter {
-    ghost use Rattle.din_schema.specs.Declarations.{kinds};
-    ghost use Rattle.din_power.specs.Limits.{ev_charge_parameter_members};
-
-    ghost kinds = { kinds };
-
-    ghost members = { ev_charge_parameter_members };
-}
-
 impl<'a> Choice<'a> for EvChargeParameter {
     fn read_member<P: Places>(
         descent: &mut Descent<'a, '_, P>,
@@ -169,7 +162,7 @@ impl<'a> Choice<'a> for EvChargeParameter {
 }
 
 /// DC_EVSEChargeParameter.
-#[derive(Clone, Copy, Debug, PartialEq, Eq)]
+#[derive(Clone, Copy)]
 pub struct DcEvseChargeParameter {
     pub dc_evse_status: DcEvseStatus,
     pub evse_maximum_current_limit: PhysicalValue,
@@ -183,7 +176,18 @@ pub struct DcEvseChargeParameter {
 }
 
 impl PutRecord for DcEvseChargeParameter {
+    ghost use Rattle.std.specs.Prelude.{refl};
+    ghost use Rattle.din_schema.specs.Declarations.{kinds};
+    ghost use Rattle.din_schema.specs.Parameters.{dc_evse_charge_parameter};
     ghost use Rattle.din_power.specs.Limits.{dc_evse_charge_parameter_parts};
+
+    ghost kinds = { kinds };
+
+    ghost attributes = { [] };
+
+    ghost particles = { dc_evse_charge_parameter };
+
+    ghost apart = { refl };
 
     ghost given = { λ v. [] };
 
@@ -232,20 +236,6 @@ impl PutRecord for DcEvseChargeParameter {
             &self.evse_energy_to_be_delivered,
         );
     }
-}
-
-impl DeclaredRecord for DcEvseChargeParameter {
-    ghost use Rattle.std.specs.Prelude.{refl};
-    ghost use Rattle.din_schema.specs.Declarations.{kinds};
-    ghost use Rattle.din_schema.specs.Parameters.{dc_evse_charge_parameter};
-
-    ghost kinds = { kinds };
-
-    ghost attributes = { [] };
-
-    ghost particles = { dc_evse_charge_parameter };
-
-    ghost apart = { refl };
 }
 
 impl<'a> Record<'a> for DcEvseChargeParameter {
@@ -314,13 +304,18 @@ impl<'a> ReadRecord<'a> for DcEvseChargeParameter {
 }
 
 /// One element of the substitution group EVSEChargeParameter.
-#[derive(Clone, Copy, Debug, PartialEq, Eq)]
+#[derive(Clone, Copy)]
 pub enum EvseChargeParameter {
     Dc(DcEvseChargeParameter),
 }
 
 impl PutChoice for EvseChargeParameter {
-    ghost use Rattle.din_power.specs.Limits.{evse_charge_parameter_name, evse_charge_parameter_inside};
+    ghost use Rattle.din_schema.specs.Declarations.{kinds};
+    ghost use Rattle.din_power.specs.Limits.{evse_charge_parameter_members, evse_charge_parameter_name, evse_charge_parameter_inside};
+
+    ghost kinds = { kinds };
+
+    ghost members = { evse_charge_parameter_members };
 
     ghost name = { evse_charge_parameter_name };
 
@@ -331,15 +326,6 @@ impl PutChoice for EvseChargeParameter {
             EvseChargeParameter::Dc(dc) => put_record(writer, names::DC_EVSE_CHARGE_PARAMETER, dc),
         }
     }
-}
-
-impl Alternatives for EvseChargeParameter {
-    ghost use Rattle.din_schema.specs.Declarations.{kinds};
-    ghost use Rattle.din_power.specs.Limits.{evse_charge_parameter_members};
-
-    ghost kinds = { kinds };
-
-    ghost members = { evse_charge_parameter_members };
 }
 
 impl<'a> Choice<'a> for EvseChargeParameter {

@@ -9,19 +9,30 @@ use exi_events::EventWriter;
 use exi_schema::Places;
 use message_fields::{Elements, LeftOut, OneOf, OptionalValue, Required, RequiredValue, Several};
 use message_parts::{
-    Alternatives, Choice, DeclaredRecord, Descent, Group, PutChoice, PutRecord, ReadRecord, Record,
-    member, put_choice, put_optional_value, put_record, put_records, put_value, whole_record,
+    Choice, Descent, Group, PutChoice, PutRecord, ReadRecord, Record, member, put_choice,
+    put_optional_value, put_record, put_records, put_value, whole_record,
 };
 
 /// RelativeTimeInterval.
-#[derive(Clone, Copy, Debug, PartialEq, Eq, Default)]
+#[derive(Clone, Copy, Default)]
 pub struct RelativeTimeInterval {
     pub start: u32,
     pub duration: Option<u32>,
 }
 
 impl PutRecord for RelativeTimeInterval {
+    ghost use Rattle.std.specs.Prelude.{refl};
+    ghost use Rattle.din_schema.specs.Declarations.{kinds};
+    ghost use Rattle.din_schema.specs.Parameters.{relative_time_interval};
     ghost use Rattle.din_power.specs.Schedules.{relative_time_interval_parts};
+
+    ghost kinds = { kinds };
+
+    ghost attributes = { [] };
+
+    ghost particles = { relative_time_interval };
+
+    ghost apart = { refl };
 
     ghost given = { λ v. [] };
 
@@ -31,20 +42,6 @@ impl PutRecord for RelativeTimeInterval {
         put_value(writer, names::START, &self.start);
         put_optional_value(writer, names::DURATION, &self.duration);
     }
-}
-
-impl DeclaredRecord for RelativeTimeInterval {
-    ghost use Rattle.std.specs.Prelude.{refl};
-    ghost use Rattle.din_schema.specs.Declarations.{kinds};
-    ghost use Rattle.din_schema.specs.Parameters.{relative_time_interval};
-
-    ghost kinds = { kinds };
-
-    ghost attributes = { [] };
-
-    ghost particles = { relative_time_interval };
-
-    ghost apart = { refl };
 }
 
 impl<'a> Record<'a> for RelativeTimeInterval {
@@ -67,7 +64,7 @@ impl<'a> ReadRecord<'a> for RelativeTimeInterval {
 }
 
 /// One element of the substitution group TimeInterval.
-#[derive(Clone, Copy, Debug, PartialEq, Eq)]
+#[derive(Clone, Copy)]
 pub enum TimeInterval {
     Relative(RelativeTimeInterval),
 }
@@ -79,7 +76,12 @@ impl Default for TimeInterval {
 }
 
 impl PutChoice for TimeInterval {
-    ghost use Rattle.din_power.specs.Schedules.{time_interval_name, time_interval_inside};
+    ghost use Rattle.din_schema.specs.Declarations.{kinds};
+    ghost use Rattle.din_power.specs.Schedules.{time_interval_members, time_interval_name, time_interval_inside};
+
+    ghost kinds = { kinds };
+
+    ghost members = { time_interval_members };
 
     ghost name = { time_interval_name };
 
@@ -96,15 +98,6 @@ impl PutChoice for TimeInterval {
     }
 }
 
-impl Alternatives for TimeInterval {
-    ghost use Rattle.din_schema.specs.Declarations.{kinds};
-    ghost use Rattle.din_power.specs.Schedules.{time_interval_members};
-
-    ghost kinds = { kinds };
-
-    ghost members = { time_interval_members };
-}
-
 impl<'a> Choice<'a> for TimeInterval {
     fn read_member<P: Places>(descent: &mut Descent<'a, '_, P>) -> Result<TimeInterval, Refusal> {
         Ok(TimeInterval::Relative(member(descent)?))
@@ -112,14 +105,25 @@ impl<'a> Choice<'a> for TimeInterval {
 }
 
 /// PMaxScheduleEntry.
-#[derive(Clone, Copy, Debug, PartialEq, Eq, Default)]
+#[derive(Clone, Copy, Default)]
 pub struct PMaxScheduleEntry {
     pub time_interval: TimeInterval,
     pub p_max: i16,
 }
 
 impl PutRecord for PMaxScheduleEntry {
+    ghost use Rattle.std.specs.Prelude.{refl};
+    ghost use Rattle.din_schema.specs.Declarations.{kinds};
+    ghost use Rattle.din_schema.specs.Parameters.{p_max_schedule_entry};
     ghost use Rattle.din_power.specs.Schedules.{p_max_schedule_entry_parts};
+
+    ghost kinds = { kinds };
+
+    ghost attributes = { [] };
+
+    ghost particles = { p_max_schedule_entry };
+
+    ghost apart = { refl };
 
     ghost given = { λ v. [] };
 
@@ -129,20 +133,6 @@ impl PutRecord for PMaxScheduleEntry {
         put_choice(writer, &self.time_interval);
         put_value(writer, names::P_MAX, &self.p_max);
     }
-}
-
-impl DeclaredRecord for PMaxScheduleEntry {
-    ghost use Rattle.std.specs.Prelude.{refl};
-    ghost use Rattle.din_schema.specs.Declarations.{kinds};
-    ghost use Rattle.din_schema.specs.Parameters.{p_max_schedule_entry};
-
-    ghost kinds = { kinds };
-
-    ghost attributes = { [] };
-
-    ghost particles = { p_max_schedule_entry };
-
-    ghost apart = { refl };
 }
 
 impl<'a> Record<'a> for PMaxScheduleEntry {
@@ -176,7 +166,18 @@ pub struct PMaxSchedule {
 }
 
 impl PutRecord for PMaxSchedule {
+    ghost use Rattle.std.specs.Prelude.{refl};
+    ghost use Rattle.din_schema.specs.Declarations.{kinds};
+    ghost use Rattle.din_schema.specs.Parameters.{p_max_schedule};
     ghost use Rattle.din_power.specs.Schedules.{p_max_schedule_parts};
+
+    ghost kinds = { kinds };
+
+    ghost attributes = { [] };
+
+    ghost particles = { p_max_schedule };
+
+    ghost apart = { refl };
 
     ghost given = { λ v. [] };
 
@@ -190,20 +191,6 @@ impl PutRecord for PMaxSchedule {
             &self.p_max_schedule_entry,
         );
     }
-}
-
-impl DeclaredRecord for PMaxSchedule {
-    ghost use Rattle.std.specs.Prelude.{refl};
-    ghost use Rattle.din_schema.specs.Declarations.{kinds};
-    ghost use Rattle.din_schema.specs.Parameters.{p_max_schedule};
-
-    ghost kinds = { kinds };
-
-    ghost attributes = { [] };
-
-    ghost particles = { p_max_schedule };
-
-    ghost apart = { refl };
 }
 
 impl<'a> Record<'a> for PMaxSchedule {
@@ -241,7 +228,18 @@ pub struct SaScheduleTuple {
 }
 
 impl PutRecord for SaScheduleTuple {
+    ghost use Rattle.std.specs.Prelude.{refl};
+    ghost use Rattle.din_schema.specs.Declarations.{kinds};
+    ghost use Rattle.din_schema.specs.Parameters.{sa_schedule_tuple};
     ghost use Rattle.din_power.specs.Schedules.{sa_schedule_tuple_parts};
+
+    ghost kinds = { kinds };
+
+    ghost attributes = { [] };
+
+    ghost particles = { sa_schedule_tuple };
+
+    ghost apart = { refl };
 
     ghost given = { λ v. [] };
 
@@ -255,20 +253,6 @@ impl PutRecord for SaScheduleTuple {
         );
         put_record(writer, names::P_MAX_SCHEDULE, &self.p_max_schedule);
     }
-}
-
-impl DeclaredRecord for SaScheduleTuple {
-    ghost use Rattle.std.specs.Prelude.{refl};
-    ghost use Rattle.din_schema.specs.Declarations.{kinds};
-    ghost use Rattle.din_schema.specs.Parameters.{sa_schedule_tuple};
-
-    ghost kinds = { kinds };
-
-    ghost attributes = { [] };
-
-    ghost particles = { sa_schedule_tuple };
-
-    ghost apart = { refl };
 }
 
 impl<'a> Record<'a> for SaScheduleTuple {
@@ -302,21 +286,10 @@ pub struct SaScheduleList {
 }
 
 impl PutRecord for SaScheduleList {
-    ghost use Rattle.din_power.specs.Schedules.{sa_schedule_list_parts};
-
-    ghost given = { λ v. [] };
-
-    ghost parts = { sa_schedule_list_parts };
-
-    fn write<P: Places>(&self, writer: &mut EventWriter<'_, '_, P>) {
-        put_records(writer, names::SA_SCHEDULE_TUPLE, &self.sa_schedule_tuple);
-    }
-}
-
-impl DeclaredRecord for SaScheduleList {
     ghost use Rattle.std.specs.Prelude.{refl};
     ghost use Rattle.din_schema.specs.Declarations.{kinds};
     ghost use Rattle.din_schema.specs.Parameters.{sa_schedule_list};
+    ghost use Rattle.din_power.specs.Schedules.{sa_schedule_list_parts};
 
     ghost kinds = { kinds };
 
@@ -325,6 +298,14 @@ impl DeclaredRecord for SaScheduleList {
     ghost particles = { sa_schedule_list };
 
     ghost apart = { refl };
+
+    ghost given = { λ v. [] };
+
+    ghost parts = { sa_schedule_list_parts };
+
+    fn write<P: Places>(&self, writer: &mut EventWriter<'_, '_, P>) {
+        put_records(writer, names::SA_SCHEDULE_TUPLE, &self.sa_schedule_tuple);
+    }
 }
 
 impl<'a> Record<'a> for SaScheduleList {
@@ -353,7 +334,12 @@ pub enum SaSchedules {
 }
 
 impl PutChoice for SaSchedules {
-    ghost use Rattle.din_power.specs.Schedules.{sa_schedules_name, sa_schedules_inside};
+    ghost use Rattle.din_schema.specs.Declarations.{kinds};
+    ghost use Rattle.din_power.specs.Schedules.{sa_schedules_members, sa_schedules_name, sa_schedules_inside};
+
+    ghost kinds = { kinds };
+
+    ghost members = { sa_schedules_members };
 
     ghost name = { sa_schedules_name };
 
@@ -368,15 +354,6 @@ impl PutChoice for SaSchedules {
             ),
         }
     }
-}
-
-impl Alternatives for SaSchedules {
-    ghost use Rattle.din_schema.specs.Declarations.{kinds};
-    ghost use Rattle.din_power.specs.Schedules.{sa_schedules_members};
-
-    ghost kinds = { kinds };
-
-    ghost members = { sa_schedules_members };
 }
 
 impl<'a> Choice<'a> for SaSchedules {

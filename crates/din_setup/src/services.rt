@@ -12,8 +12,8 @@ use message_fields::{
     Elements, Optional, OptionalValue, Required, RequiredValue, Several, SeveralValues,
 };
 use message_parts::{
-    DeclaredRecord, Descent, PutRecord, ReadRecord, Record, Text, put_optional, put_optional_value,
-    put_record, put_records, put_value, put_values, whole_record,
+    Descent, PutRecord, ReadRecord, Record, Text, put_optional, put_optional_value, put_record,
+    put_records, put_value, put_values, whole_record,
 };
 
 /// ServiceTag.
@@ -28,7 +28,18 @@ pub struct ServiceTag<'a> {
 }
 
 impl PutRecord for ServiceTag<'_> {
+    ghost use Rattle.std.specs.Prelude.{refl};
+    ghost use Rattle.din_schema.specs.Declarations.{kinds};
+    ghost use Rattle.din_schema.specs.Setup.{service_tag};
     ghost use Rattle.din_setup.specs.Services.{service_tag_parts};
+
+    ghost kinds = { kinds };
+
+    ghost attributes = { [] };
+
+    ghost particles = { service_tag };
+
+    ghost apart = { refl };
 
     ghost given = { λ v. [] };
 
@@ -40,20 +51,6 @@ impl PutRecord for ServiceTag<'_> {
         put_value(writer, names::SERVICE_CATEGORY, &self.service_category);
         put_optional_value(writer, names::SERVICE_SCOPE, &self.service_scope);
     }
-}
-
-impl DeclaredRecord for ServiceTag<'_> {
-    ghost use Rattle.std.specs.Prelude.{refl};
-    ghost use Rattle.din_schema.specs.Declarations.{kinds};
-    ghost use Rattle.din_schema.specs.Setup.{service_tag};
-
-    ghost kinds = { kinds };
-
-    ghost attributes = { [] };
-
-    ghost particles = { service_tag };
-
-    ghost apart = { refl };
 }
 
 impl<'a> Record<'a> for ServiceTag<'a> {
@@ -102,7 +99,18 @@ pub struct Service<'a> {
 }
 
 impl PutRecord for Service<'_> {
+    ghost use Rattle.std.specs.Prelude.{refl};
+    ghost use Rattle.din_schema.specs.Declarations.{kinds};
+    ghost use Rattle.din_schema.specs.Setup.{service};
     ghost use Rattle.din_setup.specs.Services.{service_parts};
+
+    ghost kinds = { kinds };
+
+    ghost attributes = { [] };
+
+    ghost particles = { service };
+
+    ghost apart = { refl };
 
     ghost given = { λ v. [] };
 
@@ -112,20 +120,6 @@ impl PutRecord for Service<'_> {
         put_record(writer, names::SERVICE_TAG, &self.service_tag);
         put_value(writer, names::FREE_SERVICE, &self.free_service);
     }
-}
-
-impl DeclaredRecord for Service<'_> {
-    ghost use Rattle.std.specs.Prelude.{refl};
-    ghost use Rattle.din_schema.specs.Declarations.{kinds};
-    ghost use Rattle.din_schema.specs.Setup.{service};
-
-    ghost kinds = { kinds };
-
-    ghost attributes = { [] };
-
-    ghost particles = { service };
-
-    ghost apart = { refl };
 }
 
 impl<'a> Record<'a> for Service<'a> {
@@ -158,21 +152,10 @@ pub struct ServiceList<'a> {
 }
 
 impl PutRecord for ServiceList<'_> {
-    ghost use Rattle.din_setup.specs.Services.{service_list_parts};
-
-    ghost given = { λ v. [] };
-
-    ghost parts = { service_list_parts };
-
-    fn write<P: Places>(&self, writer: &mut EventWriter<'_, '_, P>) {
-        put_records(writer, names::SERVICE, &self.service);
-    }
-}
-
-impl DeclaredRecord for ServiceList<'_> {
     ghost use Rattle.std.specs.Prelude.{refl};
     ghost use Rattle.din_schema.specs.Declarations.{kinds};
     ghost use Rattle.din_schema.specs.Setup.{service_list};
+    ghost use Rattle.din_setup.specs.Services.{service_list_parts};
 
     ghost kinds = { kinds };
 
@@ -181,6 +164,14 @@ impl DeclaredRecord for ServiceList<'_> {
     ghost particles = { service_list };
 
     ghost apart = { refl };
+
+    ghost given = { λ v. [] };
+
+    ghost parts = { service_list_parts };
+
+    fn write<P: Places>(&self, writer: &mut EventWriter<'_, '_, P>) {
+        put_records(writer, names::SERVICE, &self.service);
+    }
 }
 
 impl<'a> Record<'a> for ServiceList<'a> {
@@ -211,7 +202,18 @@ pub struct ChargeService<'a> {
 }
 
 impl PutRecord for ChargeService<'_> {
+    ghost use Rattle.std.specs.Prelude.{refl};
+    ghost use Rattle.din_schema.specs.Declarations.{kinds};
+    ghost use Rattle.din_schema.specs.Setup.{charge_service};
     ghost use Rattle.din_setup.specs.Services.{charge_service_parts};
+
+    ghost kinds = { kinds };
+
+    ghost attributes = { [] };
+
+    ghost particles = { charge_service };
+
+    ghost apart = { refl };
 
     ghost given = { λ v. [] };
 
@@ -226,20 +228,6 @@ impl PutRecord for ChargeService<'_> {
             &self.energy_transfer_type,
         );
     }
-}
-
-impl DeclaredRecord for ChargeService<'_> {
-    ghost use Rattle.std.specs.Prelude.{refl};
-    ghost use Rattle.din_schema.specs.Declarations.{kinds};
-    ghost use Rattle.din_schema.specs.Setup.{charge_service};
-
-    ghost kinds = { kinds };
-
-    ghost attributes = { [] };
-
-    ghost particles = { charge_service };
-
-    ghost apart = { refl };
 }
 
 impl<'a> Record<'a> for ChargeService<'a> {
@@ -285,21 +273,10 @@ pub struct PaymentOptions {
 }
 
 impl PutRecord for PaymentOptions {
-    ghost use Rattle.din_setup.specs.Services.{payment_options_parts};
-
-    ghost given = { λ v. [] };
-
-    ghost parts = { payment_options_parts };
-
-    fn write<P: Places>(&self, writer: &mut EventWriter<'_, '_, P>) {
-        put_values(writer, names::PAYMENT_OPTION, &self.payment_option);
-    }
-}
-
-impl DeclaredRecord for PaymentOptions {
     ghost use Rattle.std.specs.Prelude.{refl};
     ghost use Rattle.din_schema.specs.Declarations.{kinds};
     ghost use Rattle.din_schema.specs.Setup.{payment_options};
+    ghost use Rattle.din_setup.specs.Services.{payment_options_parts};
 
     ghost kinds = { kinds };
 
@@ -308,6 +285,14 @@ impl DeclaredRecord for PaymentOptions {
     ghost particles = { payment_options };
 
     ghost apart = { refl };
+
+    ghost given = { λ v. [] };
+
+    ghost parts = { payment_options_parts };
+
+    fn write<P: Places>(&self, writer: &mut EventWriter<'_, '_, P>) {
+        put_values(writer, names::PAYMENT_OPTION, &self.payment_option);
+    }
 }
 
 impl<'a> Record<'a> for PaymentOptions {
@@ -338,7 +323,18 @@ pub struct ServiceDiscoveryReq<'a> {
 }
 
 impl PutRecord for ServiceDiscoveryReq<'_> {
+    ghost use Rattle.std.specs.Prelude.{refl};
+    ghost use Rattle.din_schema.specs.Declarations.{kinds};
+    ghost use Rattle.din_schema.specs.Setup.{service_discovery_req};
     ghost use Rattle.din_setup.specs.Services.{service_discovery_req_parts};
+
+    ghost kinds = { kinds };
+
+    ghost attributes = { [] };
+
+    ghost particles = { service_discovery_req };
+
+    ghost apart = { refl };
 
     ghost given = { λ v. [] };
 
@@ -348,20 +344,6 @@ impl PutRecord for ServiceDiscoveryReq<'_> {
         put_optional_value(writer, names::SERVICE_SCOPE, &self.service_scope);
         put_optional_value(writer, names::SERVICE_CATEGORY, &self.service_category);
     }
-}
-
-impl DeclaredRecord for ServiceDiscoveryReq<'_> {
-    ghost use Rattle.std.specs.Prelude.{refl};
-    ghost use Rattle.din_schema.specs.Declarations.{kinds};
-    ghost use Rattle.din_schema.specs.Setup.{service_discovery_req};
-
-    ghost kinds = { kinds };
-
-    ghost attributes = { [] };
-
-    ghost particles = { service_discovery_req };
-
-    ghost apart = { refl };
 }
 
 impl<'a> Record<'a> for ServiceDiscoveryReq<'a> {
@@ -403,7 +385,18 @@ pub struct ServiceDiscoveryRes<'a> {
 }
 
 impl PutRecord for ServiceDiscoveryRes<'_> {
+    ghost use Rattle.std.specs.Prelude.{refl};
+    ghost use Rattle.din_schema.specs.Declarations.{kinds};
+    ghost use Rattle.din_schema.specs.Setup.{service_discovery_res};
     ghost use Rattle.din_setup.specs.Services.{service_discovery_res_parts};
+
+    ghost kinds = { kinds };
+
+    ghost attributes = { [] };
+
+    ghost particles = { service_discovery_res };
+
+    ghost apart = { refl };
 
     ghost given = { λ v. [] };
 
@@ -415,20 +408,6 @@ impl PutRecord for ServiceDiscoveryRes<'_> {
         put_record(writer, names::CHARGE_SERVICE, &self.charge_service);
         put_optional(writer, names::SERVICE_LIST, &self.service_list);
     }
-}
-
-impl DeclaredRecord for ServiceDiscoveryRes<'_> {
-    ghost use Rattle.std.specs.Prelude.{refl};
-    ghost use Rattle.din_schema.specs.Declarations.{kinds};
-    ghost use Rattle.din_schema.specs.Setup.{service_discovery_res};
-
-    ghost kinds = { kinds };
-
-    ghost attributes = { [] };
-
-    ghost particles = { service_discovery_res };
-
-    ghost apart = { refl };
 }
 
 impl<'a> Record<'a> for ServiceDiscoveryRes<'a> {

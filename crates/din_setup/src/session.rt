@@ -9,7 +9,7 @@ use exi_events::EventWriter;
 use exi_schema::Places;
 use message_fields::{Elements, OptionalValue, RequiredValue, WithOptionalAttribute};
 use message_parts::{
-    Binary, DeclaredRecord, Descent, PutRecord, ReadRecord, Record, Text, put_optional_attribute,
+    Binary, Descent, PutRecord, ReadRecord, Record, Text, put_optional_attribute,
     put_optional_value, put_value, whole_record,
 };
 
@@ -21,21 +21,10 @@ pub struct SessionSetupReq<'a> {
 }
 
 impl PutRecord for SessionSetupReq<'_> {
-    ghost use Rattle.din_setup.specs.Session.{session_setup_req_parts};
-
-    ghost given = { λ v. [] };
-
-    ghost parts = { session_setup_req_parts };
-
-    fn write<P: Places>(&self, writer: &mut EventWriter<'_, '_, P>) {
-        put_value(writer, names::EVCCID, &self.evccid);
-    }
-}
-
-impl DeclaredRecord for SessionSetupReq<'_> {
     ghost use Rattle.std.specs.Prelude.{refl};
     ghost use Rattle.din_schema.specs.Declarations.{kinds};
     ghost use Rattle.din_schema.specs.Setup.{session_setup_req};
+    ghost use Rattle.din_setup.specs.Session.{session_setup_req_parts};
 
     ghost kinds = { kinds };
 
@@ -44,6 +33,14 @@ impl DeclaredRecord for SessionSetupReq<'_> {
     ghost particles = { session_setup_req };
 
     ghost apart = { refl };
+
+    ghost given = { λ v. [] };
+
+    ghost parts = { session_setup_req_parts };
+
+    fn write<P: Places>(&self, writer: &mut EventWriter<'_, '_, P>) {
+        put_value(writer, names::EVCCID, &self.evccid);
+    }
 }
 
 impl<'a> Record<'a> for SessionSetupReq<'a> {
@@ -75,7 +72,18 @@ pub struct SessionSetupRes<'a> {
 }
 
 impl PutRecord for SessionSetupRes<'_> {
+    ghost use Rattle.std.specs.Prelude.{refl};
+    ghost use Rattle.din_schema.specs.Declarations.{kinds};
+    ghost use Rattle.din_schema.specs.Setup.{session_setup_res};
     ghost use Rattle.din_setup.specs.Session.{session_setup_res_parts};
+
+    ghost kinds = { kinds };
+
+    ghost attributes = { [] };
+
+    ghost particles = { session_setup_res };
+
+    ghost apart = { refl };
 
     ghost given = { λ v. [] };
 
@@ -86,20 +94,6 @@ impl PutRecord for SessionSetupRes<'_> {
         put_value(writer, names::EVSEID, &self.evseid);
         put_optional_value(writer, names::DATE_TIME_NOW, &self.date_time_now);
     }
-}
-
-impl DeclaredRecord for SessionSetupRes<'_> {
-    ghost use Rattle.std.specs.Prelude.{refl};
-    ghost use Rattle.din_schema.specs.Declarations.{kinds};
-    ghost use Rattle.din_schema.specs.Setup.{session_setup_res};
-
-    ghost kinds = { kinds };
-
-    ghost attributes = { [] };
-
-    ghost particles = { session_setup_res };
-
-    ghost apart = { refl };
 }
 
 impl<'a> Record<'a> for SessionSetupRes<'a> {
@@ -143,7 +137,18 @@ pub struct ContractAuthenticationReq<'a> {
 }
 
 impl PutRecord for ContractAuthenticationReq<'_> {
-    ghost use Rattle.din_setup.specs.Session.{contract_authentication_req_given, contract_authentication_req_parts};
+    ghost use Rattle.std.specs.Prelude.{refl};
+    ghost use Rattle.din_schema.specs.Declarations.{kinds};
+    ghost use Rattle.din_schema.specs.Setup.{contract_authentication_req};
+    ghost use Rattle.din_setup.specs.Session.{contract_authentication_req_given, contract_authentication_req_parts, contract_authentication_req_attributes};
+
+    ghost kinds = { kinds };
+
+    ghost attributes = { contract_authentication_req_attributes };
+
+    ghost particles = { contract_authentication_req };
+
+    ghost apart = { refl };
 
     ghost given = { contract_authentication_req_given };
 
@@ -153,21 +158,6 @@ impl PutRecord for ContractAuthenticationReq<'_> {
         put_optional_attribute(writer, names::ID, &self.id);
         put_optional_value(writer, names::GEN_CHALLENGE, &self.gen_challenge);
     }
-}
-
-impl DeclaredRecord for ContractAuthenticationReq<'_> {
-    ghost use Rattle.std.specs.Prelude.{refl};
-    ghost use Rattle.din_schema.specs.Declarations.{kinds};
-    ghost use Rattle.din_schema.specs.Setup.{contract_authentication_req};
-    ghost use Rattle.din_setup.specs.Session.{contract_authentication_req_attributes};
-
-    ghost kinds = { kinds };
-
-    ghost attributes = { contract_authentication_req_attributes };
-
-    ghost particles = { contract_authentication_req };
-
-    ghost apart = { refl };
 }
 
 impl<'a> Record<'a> for ContractAuthenticationReq<'a> {
@@ -192,14 +182,25 @@ impl<'a> ReadRecord<'a> for ContractAuthenticationReq<'a> {
 }
 
 /// ContractAuthenticationRes.
-#[derive(Clone, Copy, Debug, PartialEq, Eq)]
+#[derive(Clone, Copy)]
 pub struct ContractAuthenticationRes {
     pub response_code: ResponseCode,
     pub evse_processing: EvseProcessing,
 }
 
 impl PutRecord for ContractAuthenticationRes {
+    ghost use Rattle.std.specs.Prelude.{refl};
+    ghost use Rattle.din_schema.specs.Declarations.{kinds};
+    ghost use Rattle.din_schema.specs.Setup.{contract_authentication_res};
     ghost use Rattle.din_setup.specs.Session.{contract_authentication_res_parts};
+
+    ghost kinds = { kinds };
+
+    ghost attributes = { [] };
+
+    ghost particles = { contract_authentication_res };
+
+    ghost apart = { refl };
 
     ghost given = { λ v. [] };
 
@@ -209,20 +210,6 @@ impl PutRecord for ContractAuthenticationRes {
         put_value(writer, names::RESPONSE_CODE, &self.response_code);
         put_value(writer, names::EVSE_PROCESSING, &self.evse_processing);
     }
-}
-
-impl DeclaredRecord for ContractAuthenticationRes {
-    ghost use Rattle.std.specs.Prelude.{refl};
-    ghost use Rattle.din_schema.specs.Declarations.{kinds};
-    ghost use Rattle.din_schema.specs.Setup.{contract_authentication_res};
-
-    ghost kinds = { kinds };
-
-    ghost attributes = { [] };
-
-    ghost particles = { contract_authentication_res };
-
-    ghost apart = { refl };
 }
 
 impl<'a> Record<'a> for ContractAuthenticationRes {
@@ -250,18 +237,10 @@ impl<'a> ReadRecord<'a> for ContractAuthenticationRes {
 }
 
 /// SessionStopReq.
-#[derive(Clone, Copy, Debug, PartialEq, Eq)]
+#[derive(Clone, Copy)]
 pub struct SessionStopReq;
 
 impl PutRecord for SessionStopReq {
-    ghost given = { λ v. [] };
-
-    ghost parts = { λ v. [] };
-
-    fn write<P: Places>(&self, _writer: &mut EventWriter<'_, '_, P>) {}
-}
-
-impl DeclaredRecord for SessionStopReq {
     ghost use Rattle.std.specs.Prelude.{refl};
     ghost use Rattle.din_schema.specs.Declarations.{kinds};
 
@@ -272,6 +251,12 @@ impl DeclaredRecord for SessionStopReq {
     ghost particles = { [] };
 
     ghost apart = { refl };
+
+    ghost given = { λ v. [] };
+
+    ghost parts = { λ v. [] };
+
+    fn write<P: Places>(&self, _writer: &mut EventWriter<'_, '_, P>) {}
 }
 
 impl<'a> Record<'a> for SessionStopReq {
@@ -293,27 +278,16 @@ impl<'a> ReadRecord<'a> for SessionStopReq {
 }
 
 /// SessionStopRes.
-#[derive(Clone, Copy, Debug, PartialEq, Eq)]
+#[derive(Clone, Copy)]
 pub struct SessionStopRes {
     pub response_code: ResponseCode,
 }
 
 impl PutRecord for SessionStopRes {
-    ghost use Rattle.din_setup.specs.Session.{session_stop_res_parts};
-
-    ghost given = { λ v. [] };
-
-    ghost parts = { session_stop_res_parts };
-
-    fn write<P: Places>(&self, writer: &mut EventWriter<'_, '_, P>) {
-        put_value(writer, names::RESPONSE_CODE, &self.response_code);
-    }
-}
-
-impl DeclaredRecord for SessionStopRes {
     ghost use Rattle.std.specs.Prelude.{refl};
     ghost use Rattle.din_schema.specs.Declarations.{kinds};
     ghost use Rattle.din_schema.specs.Setup.{session_stop_res};
+    ghost use Rattle.din_setup.specs.Session.{session_stop_res_parts};
 
     ghost kinds = { kinds };
 
@@ -322,6 +296,14 @@ impl DeclaredRecord for SessionStopRes {
     ghost particles = { session_stop_res };
 
     ghost apart = { refl };
+
+    ghost given = { λ v. [] };
+
+    ghost parts = { session_stop_res_parts };
+
+    fn write<P: Places>(&self, writer: &mut EventWriter<'_, '_, P>) {
+        put_value(writer, names::RESPONSE_CODE, &self.response_code);
+    }
 }
 
 impl<'a> Record<'a> for SessionStopRes {

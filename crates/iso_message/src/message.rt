@@ -26,9 +26,8 @@ use iso_setup::{
     SessionSetupRes, SessionStopReq, SessionStopRes,
 };
 use message_parts::{
-    Alternatives, DeclaredRecord, Descent, LargeChoice, LargeGroup, LargeRecord, PutChoice,
-    PutRecord, first_child, member, optional_choice_here, put_optional_choice, put_record,
-    required, required_here,
+    Descent, LargeChoice, LargeGroup, LargeRecord, PutChoice, PutRecord, first_child, member,
+    optional_choice_here, put_optional_choice, put_record, required, required_here,
 };
 
 /// One element of BodyElement that holds no long list.
@@ -60,7 +59,12 @@ pub enum BriefElement<'a> {
 }
 
 impl PutChoice for BriefElement<'_> {
-    ghost use Rattle.iso_message.specs.Message.{brief_element_name, brief_element_inside};
+    ghost use Rattle.iso_schema.specs.Declarations.{kinds};
+    ghost use Rattle.iso_message.specs.Message.{brief_element_members, brief_element_name, brief_element_inside};
+
+    ghost kinds = { kinds };
+
+    ghost members = { brief_element_members };
 
     ghost name = { brief_element_name };
 
@@ -332,15 +336,6 @@ fn from_session_setup_res<'a, P: Places>(
     }
 }
 
-impl Alternatives for BriefElement<'_> {
-    ghost use Rattle.iso_schema.specs.Declarations.{kinds};
-    ghost use Rattle.iso_message.specs.Message.{brief_element_members};
-
-    ghost kinds = { kinds };
-
-    ghost members = { brief_element_members };
-}
-
 impl<'a> LargeChoice<'a> for BriefElement<'a> {
     fn read_member_here<P: Places>(
         &mut self,
@@ -381,7 +376,12 @@ pub enum BodyElement<'a> {
 }
 
 impl PutChoice for BodyElement<'_> {
-    ghost use Rattle.iso_message.specs.Message.{body_element_name, body_element_inside};
+    ghost use Rattle.iso_schema.specs.Declarations.{kinds};
+    ghost use Rattle.iso_message.specs.Message.{body_element_members, body_element_name, body_element_inside};
+
+    ghost kinds = { kinds };
+
+    ghost members = { body_element_members };
 
     ghost name = { body_element_name };
 
@@ -507,15 +507,6 @@ fn brief_anew<'a, P: Places>(
     Ok(())
 }
 
-impl Alternatives for BodyElement<'_> {
-    ghost use Rattle.iso_schema.specs.Declarations.{kinds};
-    ghost use Rattle.iso_message.specs.Message.{body_element_members};
-
-    ghost kinds = { kinds };
-
-    ghost members = { body_element_members };
-}
-
 impl<'a> LargeGroup<'a> for BodyElement<'a> {
     ghost use Rattle.std.specs.Prelude.{◌≡◌};
     ghost use Rattle.message_parts.specs.Particles.{names_among};
@@ -577,21 +568,10 @@ pub struct Body<'a> {
 }
 
 impl PutRecord for Body<'_> {
-    ghost use Rattle.iso_message.specs.Message.{body_parts};
-
-    ghost given = { λ v. [] };
-
-    ghost parts = { body_parts };
-
-    fn write<P: Places>(&self, writer: &mut EventWriter<'_, '_, P>) {
-        put_optional_choice(writer, &self.element);
-    }
-}
-
-impl DeclaredRecord for Body<'_> {
     ghost use Rattle.std.specs.Prelude.{refl};
     ghost use Rattle.iso_schema.specs.Declarations.{kinds};
     ghost use Rattle.iso_schema.specs.Frame.{body};
+    ghost use Rattle.iso_message.specs.Message.{body_parts};
 
     ghost kinds = { kinds };
 
@@ -600,6 +580,14 @@ impl DeclaredRecord for Body<'_> {
     ghost particles = { body };
 
     ghost apart = { refl };
+
+    ghost given = { λ v. [] };
+
+    ghost parts = { body_parts };
+
+    fn write<P: Places>(&self, writer: &mut EventWriter<'_, '_, P>) {
+        put_optional_choice(writer, &self.element);
+    }
 }
 
 impl<'a> LargeRecord<'a> for Body<'a> {
@@ -618,7 +606,18 @@ pub struct IsoMessage<'a> {
 }
 
 impl PutRecord for IsoMessage<'_> {
+    ghost use Rattle.std.specs.Prelude.{refl};
+    ghost use Rattle.iso_schema.specs.Declarations.{kinds};
+    ghost use Rattle.iso_schema.specs.Frame.{v2g_message};
     ghost use Rattle.iso_message.specs.Message.{iso_message_parts};
+
+    ghost kinds = { kinds };
+
+    ghost attributes = { [] };
+
+    ghost particles = { v2g_message };
+
+    ghost apart = { refl };
 
     ghost given = { λ v. [] };
 
@@ -628,20 +627,6 @@ impl PutRecord for IsoMessage<'_> {
         put_record(writer, names::HEADER, &self.header);
         put_record(writer, names::BODY, &self.body);
     }
-}
-
-impl DeclaredRecord for IsoMessage<'_> {
-    ghost use Rattle.std.specs.Prelude.{refl};
-    ghost use Rattle.iso_schema.specs.Declarations.{kinds};
-    ghost use Rattle.iso_schema.specs.Frame.{v2g_message};
-
-    ghost kinds = { kinds };
-
-    ghost attributes = { [] };
-
-    ghost particles = { v2g_message };
-
-    ghost apart = { refl };
 }
 
 impl<'a> LargeRecord<'a> for IsoMessage<'a> {

@@ -11,7 +11,7 @@ use exi_schema::Places;
 use iso_parts::Header;
 use iso_power::ChargingStatusReq;
 use iso_schema::names;
-use message_parts::{Alternatives, Descent, LargeChoice, PutChoice, Root, member_here, put_record};
+use message_parts::{Descent, LargeChoice, PutChoice, Root, member_here, put_record};
 
 impl<'a> IsoMessage<'a> {
     /// A message to read another into: reading a brief element over its own clears no room of the long ones.
@@ -30,8 +30,14 @@ impl<'a> IsoMessage<'a> {
 }
 
 impl PutChoice for IsoMessage<'_> {
+    ghost use Rattle.iso_schema.specs.Declarations.{kinds};
+    ghost use Rattle.iso_message.specs.Documents.{iso_roots};
     ghost use Rattle.iso_message.specs.Documents.{iso_inside};
     ghost use Rattle.iso_schema.specs.declared.names.TheConstants.{V2G_MESSAGE};
+
+    ghost kinds = { kinds };
+
+    ghost members = { iso_roots };
 
     ghost name = { λ v. V2G_MESSAGE };
 
@@ -40,15 +46,6 @@ impl PutChoice for IsoMessage<'_> {
     fn write_member<P: Places>(&self, writer: &mut EventWriter<'_, '_, P>) {
         put_record(writer, names::V2G_MESSAGE, self);
     }
-}
-
-impl Alternatives for IsoMessage<'_> {
-    ghost use Rattle.iso_schema.specs.Declarations.{kinds};
-    ghost use Rattle.iso_message.specs.Documents.{iso_roots};
-
-    ghost kinds = { kinds };
-
-    ghost members = { iso_roots };
 }
 
 impl<'a> LargeChoice<'a> for IsoMessage<'a> {

@@ -11,12 +11,12 @@ use iso_parts::{EnergyTransferMode, EvseProcessing, ResponseCode};
 use iso_schema::names;
 use message_fields::{AtMostOneOf, Elements, OneOf, OptionalValue, RequiredValue};
 use message_parts::{
-    DeclaredRecord, Descent, PutRecord, ReadRecord, Record, put_choice, put_optional_choice,
-    put_optional_value, put_value, whole_record,
+    Descent, PutRecord, ReadRecord, Record, put_choice, put_optional_choice, put_optional_value,
+    put_value, whole_record,
 };
 
 /// ChargeParameterDiscoveryReq.
-#[derive(Clone, Copy, Debug, PartialEq, Eq)]
+#[derive(Clone, Copy)]
 pub struct ChargeParameterDiscoveryReq {
     pub max_entries_sa_schedule_tuple: Option<u16>,
     pub requested_energy_transfer_mode: EnergyTransferMode,
@@ -24,7 +24,18 @@ pub struct ChargeParameterDiscoveryReq {
 }
 
 impl PutRecord for ChargeParameterDiscoveryReq {
+    ghost use Rattle.std.specs.Prelude.{refl};
+    ghost use Rattle.iso_schema.specs.Declarations.{kinds};
+    ghost use Rattle.iso_schema.specs.Parameters.{charge_parameter_discovery_req};
     ghost use Rattle.iso_parameters.specs.Discovery.{charge_parameter_discovery_req_parts};
+
+    ghost kinds = { kinds };
+
+    ghost attributes = { [] };
+
+    ghost particles = { charge_parameter_discovery_req };
+
+    ghost apart = { refl };
 
     ghost given = { λ v. [] };
 
@@ -43,20 +54,6 @@ impl PutRecord for ChargeParameterDiscoveryReq {
         );
         put_choice(writer, &self.ev_charge_parameter);
     }
-}
-
-impl DeclaredRecord for ChargeParameterDiscoveryReq {
-    ghost use Rattle.std.specs.Prelude.{refl};
-    ghost use Rattle.iso_schema.specs.Declarations.{kinds};
-    ghost use Rattle.iso_schema.specs.Parameters.{charge_parameter_discovery_req};
-
-    ghost kinds = { kinds };
-
-    ghost attributes = { [] };
-
-    ghost particles = { charge_parameter_discovery_req };
-
-    ghost apart = { refl };
 }
 
 impl<'a> Record<'a> for ChargeParameterDiscoveryReq {
@@ -106,7 +103,18 @@ pub struct ChargeParameterDiscoveryRes {
 }
 
 impl PutRecord for ChargeParameterDiscoveryRes {
+    ghost use Rattle.std.specs.Prelude.{refl};
+    ghost use Rattle.iso_schema.specs.Declarations.{kinds};
+    ghost use Rattle.iso_schema.specs.Parameters.{charge_parameter_discovery_res};
     ghost use Rattle.iso_parameters.specs.Discovery.{charge_parameter_discovery_res_parts};
+
+    ghost kinds = { kinds };
+
+    ghost attributes = { [] };
+
+    ghost particles = { charge_parameter_discovery_res };
+
+    ghost apart = { refl };
 
     ghost given = { λ v. [] };
 
@@ -118,20 +126,6 @@ impl PutRecord for ChargeParameterDiscoveryRes {
         put_optional_choice(writer, &self.sa_schedules);
         put_choice(writer, &self.evse_charge_parameter);
     }
-}
-
-impl DeclaredRecord for ChargeParameterDiscoveryRes {
-    ghost use Rattle.std.specs.Prelude.{refl};
-    ghost use Rattle.iso_schema.specs.Declarations.{kinds};
-    ghost use Rattle.iso_schema.specs.Parameters.{charge_parameter_discovery_res};
-
-    ghost kinds = { kinds };
-
-    ghost attributes = { [] };
-
-    ghost particles = { charge_parameter_discovery_res };
-
-    ghost apart = { refl };
 }
 
 impl<'a> Record<'a> for ChargeParameterDiscoveryRes {

@@ -9,12 +9,12 @@ use iso_parts::{AcEvseStatus, DcEvStatus, DcEvseStatus, PhysicalValue};
 use iso_schema::names;
 use message_fields::{Elements, Optional, OptionalValue, Required};
 use message_parts::{
-    Alternatives, Choice, DeclaredRecord, Descent, PutChoice, PutRecord, ReadRecord, Record,
-    member, put_optional, put_optional_value, put_record, whole_record,
+    Choice, Descent, PutChoice, PutRecord, ReadRecord, Record, member, put_optional,
+    put_optional_value, put_record, whole_record,
 };
 
 /// AC_EVChargeParameter.
-#[derive(Clone, Copy, Debug, PartialEq, Eq)]
+#[derive(Clone, Copy)]
 pub struct AcEvChargeParameter {
     pub departure_time: Option<u32>,
     pub e_amount: PhysicalValue,
@@ -24,7 +24,18 @@ pub struct AcEvChargeParameter {
 }
 
 impl PutRecord for AcEvChargeParameter {
+    ghost use Rattle.std.specs.Prelude.{refl};
+    ghost use Rattle.iso_schema.specs.Declarations.{kinds};
+    ghost use Rattle.iso_schema.specs.Parameters.{ac_ev_charge_parameter};
     ghost use Rattle.iso_parameters.specs.Limits.{ac_ev_charge_parameter_parts};
+
+    ghost kinds = { kinds };
+
+    ghost attributes = { [] };
+
+    ghost particles = { ac_ev_charge_parameter };
+
+    ghost apart = { refl };
 
     ghost given = { λ v. [] };
 
@@ -37,20 +48,6 @@ impl PutRecord for AcEvChargeParameter {
         put_record(writer, names::EV_MAX_CURRENT, &self.ev_max_current);
         put_record(writer, names::EV_MIN_CURRENT, &self.ev_min_current);
     }
-}
-
-impl DeclaredRecord for AcEvChargeParameter {
-    ghost use Rattle.std.specs.Prelude.{refl};
-    ghost use Rattle.iso_schema.specs.Declarations.{kinds};
-    ghost use Rattle.iso_schema.specs.Parameters.{ac_ev_charge_parameter};
-
-    ghost kinds = { kinds };
-
-    ghost attributes = { [] };
-
-    ghost particles = { ac_ev_charge_parameter };
-
-    ghost apart = { refl };
 }
 
 impl<'a> Record<'a> for AcEvChargeParameter {
@@ -93,7 +90,7 @@ impl<'a> ReadRecord<'a> for AcEvChargeParameter {
 }
 
 /// DC_EVChargeParameter.
-#[derive(Clone, Copy, Debug, PartialEq, Eq)]
+#[derive(Clone, Copy)]
 pub struct DcEvChargeParameter {
     pub departure_time: Option<u32>,
     pub dc_ev_status: DcEvStatus,
@@ -109,7 +106,18 @@ pub struct DcEvChargeParameter {
 }
 
 impl PutRecord for DcEvChargeParameter {
+    ghost use Rattle.std.specs.Prelude.{refl};
+    ghost use Rattle.iso_schema.specs.Declarations.{kinds};
+    ghost use Rattle.iso_schema.specs.Parameters.{dc_ev_charge_parameter};
     ghost use Rattle.iso_parameters.specs.Limits.{dc_ev_charge_parameter_parts};
+
+    ghost kinds = { kinds };
+
+    ghost attributes = { [] };
+
+    ghost particles = { dc_ev_charge_parameter };
+
+    ghost apart = { refl };
 
     ghost given = { λ v. [] };
 
@@ -138,20 +146,6 @@ impl PutRecord for DcEvChargeParameter {
         put_optional_value(writer, names::FULL_SOC, &self.full_soc);
         put_optional_value(writer, names::BULK_SOC, &self.bulk_soc);
     }
-}
-
-impl DeclaredRecord for DcEvChargeParameter {
-    ghost use Rattle.std.specs.Prelude.{refl};
-    ghost use Rattle.iso_schema.specs.Declarations.{kinds};
-    ghost use Rattle.iso_schema.specs.Parameters.{dc_ev_charge_parameter};
-
-    ghost kinds = { kinds };
-
-    ghost attributes = { [] };
-
-    ghost particles = { dc_ev_charge_parameter };
-
-    ghost apart = { refl };
 }
 
 impl<'a> Record<'a> for DcEvChargeParameter {
@@ -216,14 +210,19 @@ impl<'a> ReadRecord<'a> for DcEvChargeParameter {
 }
 
 /// One element of the substitution group EVChargeParameter.
-#[derive(Clone, Copy, Debug, PartialEq, Eq)]
+#[derive(Clone, Copy)]
 pub enum EvChargeParameter {
     Ac(AcEvChargeParameter),
     Dc(DcEvChargeParameter),
 }
 
 impl PutChoice for EvChargeParameter {
-    ghost use Rattle.iso_parameters.specs.Limits.{ev_charge_parameter_name, ev_charge_parameter_inside};
+    ghost use Rattle.iso_schema.specs.Declarations.{kinds};
+    ghost use Rattle.iso_parameters.specs.Limits.{ev_charge_parameter_members, ev_charge_parameter_name, ev_charge_parameter_inside};
+
+    ghost kinds = { kinds };
+
+    ghost members = { ev_charge_parameter_members };
 
     ghost name = { ev_charge_parameter_name };
 
@@ -235,15 +234,6 @@ impl PutChoice for EvChargeParameter {
             EvChargeParameter::Dc(dc) => put_record(writer, names::DC_EV_CHARGE_PARAMETER, dc),
         }
     }
-}
-
-impl Alternatives for EvChargeParameter {
-    ghost use Rattle.iso_schema.specs.Declarations.{kinds};
-    ghost use Rattle.iso_parameters.specs.Limits.{ev_charge_parameter_members};
-
-    ghost kinds = { kinds };
-
-    ghost members = { ev_charge_parameter_members };
 }
 
 impl<'a> Choice<'a> for EvChargeParameter {
@@ -259,7 +249,7 @@ impl<'a> Choice<'a> for EvChargeParameter {
 }
 
 /// AC_EVSEChargeParameter.
-#[derive(Clone, Copy, Debug, PartialEq, Eq)]
+#[derive(Clone, Copy)]
 pub struct AcEvseChargeParameter {
     pub ac_evse_status: AcEvseStatus,
     pub evse_nominal_voltage: PhysicalValue,
@@ -267,7 +257,18 @@ pub struct AcEvseChargeParameter {
 }
 
 impl PutRecord for AcEvseChargeParameter {
+    ghost use Rattle.std.specs.Prelude.{refl};
+    ghost use Rattle.iso_schema.specs.Declarations.{kinds};
+    ghost use Rattle.iso_schema.specs.Parameters.{ac_evse_charge_parameter};
     ghost use Rattle.iso_parameters.specs.Limits.{ac_evse_charge_parameter_parts};
+
+    ghost kinds = { kinds };
+
+    ghost attributes = { [] };
+
+    ghost particles = { ac_evse_charge_parameter };
+
+    ghost apart = { refl };
 
     ghost given = { λ v. [] };
 
@@ -282,20 +283,6 @@ impl PutRecord for AcEvseChargeParameter {
         );
         put_record(writer, names::EVSE_MAX_CURRENT, &self.evse_max_current);
     }
-}
-
-impl DeclaredRecord for AcEvseChargeParameter {
-    ghost use Rattle.std.specs.Prelude.{refl};
-    ghost use Rattle.iso_schema.specs.Declarations.{kinds};
-    ghost use Rattle.iso_schema.specs.Parameters.{ac_evse_charge_parameter};
-
-    ghost kinds = { kinds };
-
-    ghost attributes = { [] };
-
-    ghost particles = { ac_evse_charge_parameter };
-
-    ghost apart = { refl };
 }
 
 impl<'a> Record<'a> for AcEvseChargeParameter {
@@ -330,7 +317,7 @@ impl<'a> ReadRecord<'a> for AcEvseChargeParameter {
 }
 
 /// DC_EVSEChargeParameter.
-#[derive(Clone, Copy, Debug, PartialEq, Eq)]
+#[derive(Clone, Copy)]
 pub struct DcEvseChargeParameter {
     pub dc_evse_status: DcEvseStatus,
     pub evse_maximum_current_limit: PhysicalValue,
@@ -344,7 +331,18 @@ pub struct DcEvseChargeParameter {
 }
 
 impl PutRecord for DcEvseChargeParameter {
+    ghost use Rattle.std.specs.Prelude.{refl};
+    ghost use Rattle.iso_schema.specs.Declarations.{kinds};
+    ghost use Rattle.iso_schema.specs.Parameters.{dc_evse_charge_parameter};
     ghost use Rattle.iso_parameters.specs.Limits.{dc_evse_charge_parameter_parts};
+
+    ghost kinds = { kinds };
+
+    ghost attributes = { [] };
+
+    ghost particles = { dc_evse_charge_parameter };
+
+    ghost apart = { refl };
 
     ghost given = { λ v. [] };
 
@@ -393,20 +391,6 @@ impl PutRecord for DcEvseChargeParameter {
             &self.evse_energy_to_be_delivered,
         );
     }
-}
-
-impl DeclaredRecord for DcEvseChargeParameter {
-    ghost use Rattle.std.specs.Prelude.{refl};
-    ghost use Rattle.iso_schema.specs.Declarations.{kinds};
-    ghost use Rattle.iso_schema.specs.Parameters.{dc_evse_charge_parameter};
-
-    ghost kinds = { kinds };
-
-    ghost attributes = { [] };
-
-    ghost particles = { dc_evse_charge_parameter };
-
-    ghost apart = { refl };
 }
 
 impl<'a> Record<'a> for DcEvseChargeParameter {
@@ -475,14 +459,19 @@ impl<'a> ReadRecord<'a> for DcEvseChargeParameter {
 }
 
 /// One element of the substitution group EVSEChargeParameter.
-#[derive(Clone, Copy, Debug, PartialEq, Eq)]
+#[derive(Clone, Copy)]
 pub enum EvseChargeParameter {
     Ac(AcEvseChargeParameter),
     Dc(DcEvseChargeParameter),
 }
 
 impl PutChoice for EvseChargeParameter {
-    ghost use Rattle.iso_parameters.specs.Limits.{evse_charge_parameter_name, evse_charge_parameter_inside};
+    ghost use Rattle.iso_schema.specs.Declarations.{kinds};
+    ghost use Rattle.iso_parameters.specs.Limits.{evse_charge_parameter_members, evse_charge_parameter_name, evse_charge_parameter_inside};
+
+    ghost kinds = { kinds };
+
+    ghost members = { evse_charge_parameter_members };
 
     ghost name = { evse_charge_parameter_name };
 
@@ -494,15 +483,6 @@ impl PutChoice for EvseChargeParameter {
             EvseChargeParameter::Dc(dc) => put_record(writer, names::DC_EVSE_CHARGE_PARAMETER, dc),
         }
     }
-}
-
-impl Alternatives for EvseChargeParameter {
-    ghost use Rattle.iso_schema.specs.Declarations.{kinds};
-    ghost use Rattle.iso_parameters.specs.Limits.{evse_charge_parameter_members};
-
-    ghost kinds = { kinds };
-
-    ghost members = { evse_charge_parameter_members };
 }
 
 impl<'a> Choice<'a> for EvseChargeParameter {

@@ -4,7 +4,7 @@ ghost use Rattle.exi_documents.specs.Trees.{Ordinal};
 ghost use Rattle.message_parts.specs.Values.{is_named};
 
 use exi_events::Value;
-use message_parts::{ReadSimple, Simple};
+use message_parts::Simple;
 
 /// ResponseCode, its values in order from 0.
 #[derive(Clone, Copy, Debug, PartialEq, Eq)]
@@ -63,7 +63,7 @@ pub enum ResponseCode {
     FailedCertificateRevoked,
 }
 
-impl Simple for ResponseCode {
+impl<'a> Simple<'a> for ResponseCode {
     ghost use Rattle.iso_parts.specs.Codes.{response_code_ordinal};
 
     ghost takes = { is_named 26 };
@@ -100,9 +100,7 @@ impl Simple for ResponseCode {
             ResponseCode::FailedCertificateRevoked => 25,
         })
     }
-}
 
-impl<'a> ReadSimple<'a> for ResponseCode {
     fn of(read: Value<'a>) -> ResponseCode {
         match read {
             Value::Ordinal(0) => ResponseCode::Ok,
@@ -149,7 +147,7 @@ pub enum ServiceCategory {
     OtherCustom,
 }
 
-impl Simple for ServiceCategory {
+impl<'a> Simple<'a> for ServiceCategory {
     ghost use Rattle.iso_parts.specs.Codes.{service_category_ordinal};
 
     ghost takes = { is_named 4 };
@@ -164,9 +162,7 @@ impl Simple for ServiceCategory {
             ServiceCategory::OtherCustom => 3,
         })
     }
-}
 
-impl<'a> ReadSimple<'a> for ServiceCategory {
     fn of(read: Value<'a>) -> ServiceCategory {
         match read {
             Value::Ordinal(0) => ServiceCategory::EvCharging,
@@ -187,7 +183,7 @@ pub enum PaymentOption {
     ExternalPayment,
 }
 
-impl Simple for PaymentOption {
+impl<'a> Simple<'a> for PaymentOption {
     ghost use Rattle.iso_parts.specs.Codes.{payment_option_ordinal};
 
     ghost takes = { is_named 2 };
@@ -200,9 +196,7 @@ impl Simple for PaymentOption {
             PaymentOption::ExternalPayment => 1,
         })
     }
-}
 
-impl<'a> ReadSimple<'a> for PaymentOption {
     fn of(read: Value<'a>) -> PaymentOption {
         match read {
             Value::Ordinal(0) => PaymentOption::Contract,
@@ -229,7 +223,7 @@ pub enum EnergyTransferMode {
     DcUnique,
 }
 
-impl Simple for EnergyTransferMode {
+impl<'a> Simple<'a> for EnergyTransferMode {
     ghost use Rattle.iso_parts.specs.Codes.{energy_transfer_mode_ordinal};
 
     ghost takes = { is_named 6 };
@@ -246,9 +240,7 @@ impl Simple for EnergyTransferMode {
             EnergyTransferMode::DcUnique => 5,
         })
     }
-}
 
-impl<'a> ReadSimple<'a> for EnergyTransferMode {
     fn of(read: Value<'a>) -> EnergyTransferMode {
         match read {
             Value::Ordinal(0) => EnergyTransferMode::AcSinglePhaseCore,
@@ -272,7 +264,7 @@ pub enum EvseProcessing {
     OngoingWaitingForCustomerInteraction,
 }
 
-impl Simple for EvseProcessing {
+impl<'a> Simple<'a> for EvseProcessing {
     ghost use Rattle.iso_parts.specs.Codes.{evse_processing_ordinal};
 
     ghost takes = { is_named 3 };
@@ -286,9 +278,7 @@ impl Simple for EvseProcessing {
             EvseProcessing::OngoingWaitingForCustomerInteraction => 2,
         })
     }
-}
 
-impl<'a> ReadSimple<'a> for EvseProcessing {
     fn of(read: Value<'a>) -> EvseProcessing {
         match read {
             Value::Ordinal(0) => EvseProcessing::Finished,
@@ -307,7 +297,7 @@ pub enum ChargingSession {
     Pause,
 }
 
-impl Simple for ChargingSession {
+impl<'a> Simple<'a> for ChargingSession {
     ghost use Rattle.iso_parts.specs.Codes.{charging_session_ordinal};
 
     ghost takes = { is_named 2 };
@@ -320,9 +310,7 @@ impl Simple for ChargingSession {
             ChargingSession::Pause => 1,
         })
     }
-}
 
-impl<'a> ReadSimple<'a> for ChargingSession {
     fn of(read: Value<'a>) -> ChargingSession {
         match read {
             Value::Ordinal(0) => ChargingSession::Terminate,
@@ -342,7 +330,7 @@ pub enum ChargeProgress {
     Renegotiate,
 }
 
-impl Simple for ChargeProgress {
+impl<'a> Simple<'a> for ChargeProgress {
     ghost use Rattle.iso_parts.specs.Codes.{charge_progress_ordinal};
 
     ghost takes = { is_named 3 };
@@ -356,9 +344,7 @@ impl Simple for ChargeProgress {
             ChargeProgress::Renegotiate => 2,
         })
     }
-}
 
-impl<'a> ReadSimple<'a> for ChargeProgress {
     fn of(read: Value<'a>) -> ChargeProgress {
         match read {
             Value::Ordinal(0) => ChargeProgress::Start,

@@ -9,8 +9,8 @@ use exi_schema::Places;
 use iso_schema::names;
 use message_fields::{Elements, LeftOut, Optional, OptionalValue, RequiredValue};
 use message_parts::{
-    Binary, DeclaredRecord, Descent, PutRecord, ReadRecord, Record, Text, put_optional,
-    put_optional_value, put_value, whole_record,
+    Binary, Descent, PutRecord, ReadRecord, Record, Text, put_optional, put_optional_value,
+    put_value, whole_record,
 };
 
 /// Notification.
@@ -22,7 +22,18 @@ pub struct Notification<'a> {
 }
 
 impl PutRecord for Notification<'_> {
+    ghost use Rattle.std.specs.Prelude.{refl};
+    ghost use Rattle.iso_schema.specs.Declarations.{kinds};
+    ghost use Rattle.iso_schema.specs.Frame.{notification};
     ghost use Rattle.iso_parts.specs.Frame.{notification_parts};
+
+    ghost kinds = { kinds };
+
+    ghost attributes = { [] };
+
+    ghost particles = { notification };
+
+    ghost apart = { refl };
 
     ghost given = { λ v. [] };
 
@@ -32,20 +43,6 @@ impl PutRecord for Notification<'_> {
         put_value(writer, names::FAULT_CODE, &self.fault_code);
         put_optional_value(writer, names::FAULT_MSG, &self.fault_msg);
     }
-}
-
-impl DeclaredRecord for Notification<'_> {
-    ghost use Rattle.std.specs.Prelude.{refl};
-    ghost use Rattle.iso_schema.specs.Declarations.{kinds};
-    ghost use Rattle.iso_schema.specs.Frame.{notification};
-
-    ghost kinds = { kinds };
-
-    ghost attributes = { [] };
-
-    ghost particles = { notification };
-
-    ghost apart = { refl };
 }
 
 impl<'a> Record<'a> for Notification<'a> {
@@ -84,7 +81,18 @@ pub struct Header<'a> {
 }
 
 impl PutRecord for Header<'_> {
+    ghost use Rattle.std.specs.Prelude.{refl};
+    ghost use Rattle.iso_schema.specs.Declarations.{kinds};
+    ghost use Rattle.iso_schema.specs.Frame.{header};
     ghost use Rattle.iso_parts.specs.Frame.{header_parts};
+
+    ghost kinds = { kinds };
+
+    ghost attributes = { [] };
+
+    ghost particles = { header };
+
+    ghost apart = { refl };
 
     ghost given = { λ v. [] };
 
@@ -94,20 +102,6 @@ impl PutRecord for Header<'_> {
         put_value(writer, names::SESSION_ID, &self.session_id);
         put_optional(writer, names::NOTIFICATION, &self.notification);
     }
-}
-
-impl DeclaredRecord for Header<'_> {
-    ghost use Rattle.std.specs.Prelude.{refl};
-    ghost use Rattle.iso_schema.specs.Declarations.{kinds};
-    ghost use Rattle.iso_schema.specs.Frame.{header};
-
-    ghost kinds = { kinds };
-
-    ghost attributes = { [] };
-
-    ghost particles = { header };
-
-    ghost apart = { refl };
 }
 
 impl<'a> Record<'a> for Header<'a> {

@@ -11,12 +11,12 @@ use exi_schema::Places;
 use iso_schema::names;
 use message_fields::{Elements, OptionalValue, RequiredValue};
 use message_parts::{
-    Alternatives, Binary, Choice, DeclaredRecord, Descent, PutChoice, PutRecord, ReadRecord,
-    Record, Text, Three, member, put_optional_value, put_record, put_value, whole_record,
+    Binary, Choice, Descent, PutChoice, PutRecord, ReadRecord, Record, Text, Three, member,
+    put_optional_value, put_record, put_value, whole_record,
 };
 
 /// PhysicalValue.
-#[derive(Clone, Copy, Debug, PartialEq, Eq, Default)]
+#[derive(Clone, Copy, Default)]
 pub struct PhysicalValue {
     /// -3 to 3.
     pub multiplier: i8,
@@ -25,7 +25,18 @@ pub struct PhysicalValue {
 }
 
 impl PutRecord for PhysicalValue {
+    ghost use Rattle.std.specs.Prelude.{refl};
+    ghost use Rattle.iso_schema.specs.Declarations.{kinds};
+    ghost use Rattle.iso_schema.specs.Frame.{physical_value};
     ghost use Rattle.iso_parts.specs.Values.{physical_value_parts};
+
+    ghost kinds = { kinds };
+
+    ghost attributes = { [] };
+
+    ghost particles = { physical_value };
+
+    ghost apart = { refl };
 
     ghost given = { λ v. [] };
 
@@ -36,20 +47,6 @@ impl PutRecord for PhysicalValue {
         put_value(writer, names::UNIT, &self.unit);
         put_value(writer, names::VALUE, &self.value);
     }
-}
-
-impl DeclaredRecord for PhysicalValue {
-    ghost use Rattle.std.specs.Prelude.{refl};
-    ghost use Rattle.iso_schema.specs.Declarations.{kinds};
-    ghost use Rattle.iso_schema.specs.Frame.{physical_value};
-
-    ghost kinds = { kinds };
-
-    ghost attributes = { [] };
-
-    ghost particles = { physical_value };
-
-    ghost apart = { refl };
 }
 
 impl<'a> Record<'a> for PhysicalValue {
@@ -75,7 +72,7 @@ impl<'a> ReadRecord<'a> for PhysicalValue {
 }
 
 /// DC_EVStatus.
-#[derive(Clone, Copy, Debug, PartialEq, Eq)]
+#[derive(Clone, Copy)]
 pub struct DcEvStatus {
     pub ev_ready: bool,
     pub ev_error_code: EvErrorCode,
@@ -84,7 +81,18 @@ pub struct DcEvStatus {
 }
 
 impl PutRecord for DcEvStatus {
+    ghost use Rattle.std.specs.Prelude.{refl};
+    ghost use Rattle.iso_schema.specs.Declarations.{kinds};
+    ghost use Rattle.iso_schema.specs.Frame.{dc_ev_status};
     ghost use Rattle.iso_parts.specs.Values.{dc_ev_status_parts};
+
+    ghost kinds = { kinds };
+
+    ghost attributes = { [] };
+
+    ghost particles = { dc_ev_status };
+
+    ghost apart = { refl };
 
     ghost given = { λ v. [] };
 
@@ -95,20 +103,6 @@ impl PutRecord for DcEvStatus {
         put_value(writer, names::EV_ERROR_CODE, &self.ev_error_code);
         put_value(writer, names::EVRESS_SOC, &self.evress_soc);
     }
-}
-
-impl DeclaredRecord for DcEvStatus {
-    ghost use Rattle.std.specs.Prelude.{refl};
-    ghost use Rattle.iso_schema.specs.Declarations.{kinds};
-    ghost use Rattle.iso_schema.specs.Frame.{dc_ev_status};
-
-    ghost kinds = { kinds };
-
-    ghost attributes = { [] };
-
-    ghost particles = { dc_ev_status };
-
-    ghost apart = { refl };
 }
 
 impl<'a> Record<'a> for DcEvStatus {
@@ -134,7 +128,7 @@ impl<'a> ReadRecord<'a> for DcEvStatus {
 }
 
 /// AC_EVSEStatus.
-#[derive(Clone, Copy, Debug, PartialEq, Eq)]
+#[derive(Clone, Copy)]
 pub struct AcEvseStatus {
     pub notification_max_delay: u16,
     pub evse_notification: EvseNotification,
@@ -142,7 +136,18 @@ pub struct AcEvseStatus {
 }
 
 impl PutRecord for AcEvseStatus {
+    ghost use Rattle.std.specs.Prelude.{refl};
+    ghost use Rattle.iso_schema.specs.Declarations.{kinds};
+    ghost use Rattle.iso_schema.specs.Frame.{ac_evse_status};
     ghost use Rattle.iso_parts.specs.Values.{ac_evse_status_parts};
+
+    ghost kinds = { kinds };
+
+    ghost attributes = { [] };
+
+    ghost particles = { ac_evse_status };
+
+    ghost apart = { refl };
 
     ghost given = { λ v. [] };
 
@@ -157,20 +162,6 @@ impl PutRecord for AcEvseStatus {
         put_value(writer, names::EVSE_NOTIFICATION, &self.evse_notification);
         put_value(writer, names::RCD, &self.rcd);
     }
-}
-
-impl DeclaredRecord for AcEvseStatus {
-    ghost use Rattle.std.specs.Prelude.{refl};
-    ghost use Rattle.iso_schema.specs.Declarations.{kinds};
-    ghost use Rattle.iso_schema.specs.Frame.{ac_evse_status};
-
-    ghost kinds = { kinds };
-
-    ghost attributes = { [] };
-
-    ghost particles = { ac_evse_status };
-
-    ghost apart = { refl };
 }
 
 impl<'a> Record<'a> for AcEvseStatus {
@@ -196,7 +187,7 @@ impl<'a> ReadRecord<'a> for AcEvseStatus {
 }
 
 /// DC_EVSEStatus.
-#[derive(Clone, Copy, Debug, PartialEq, Eq)]
+#[derive(Clone, Copy)]
 pub struct DcEvseStatus {
     pub notification_max_delay: u16,
     pub evse_notification: EvseNotification,
@@ -205,7 +196,18 @@ pub struct DcEvseStatus {
 }
 
 impl PutRecord for DcEvseStatus {
+    ghost use Rattle.std.specs.Prelude.{refl};
+    ghost use Rattle.iso_schema.specs.Declarations.{kinds};
+    ghost use Rattle.iso_schema.specs.Frame.{dc_evse_status};
     ghost use Rattle.iso_parts.specs.Values.{dc_evse_status_parts};
+
+    ghost kinds = { kinds };
+
+    ghost attributes = { [] };
+
+    ghost particles = { dc_evse_status };
+
+    ghost apart = { refl };
 
     ghost given = { λ v. [] };
 
@@ -225,20 +227,6 @@ impl PutRecord for DcEvseStatus {
         );
         put_value(writer, names::EVSE_STATUS_CODE, &self.evse_status_code);
     }
-}
-
-impl DeclaredRecord for DcEvseStatus {
-    ghost use Rattle.std.specs.Prelude.{refl};
-    ghost use Rattle.iso_schema.specs.Declarations.{kinds};
-    ghost use Rattle.iso_schema.specs.Frame.{dc_evse_status};
-
-    ghost kinds = { kinds };
-
-    ghost attributes = { [] };
-
-    ghost particles = { dc_evse_status };
-
-    ghost apart = { refl };
 }
 
 impl<'a> Record<'a> for DcEvseStatus {
@@ -280,14 +268,19 @@ impl<'a> ReadRecord<'a> for DcEvseStatus {
 }
 
 /// One element of the substitution group EVSEStatus.
-#[derive(Clone, Copy, Debug, PartialEq, Eq)]
+#[derive(Clone, Copy)]
 pub enum EvseStatus {
     Ac(AcEvseStatus),
     Dc(DcEvseStatus),
 }
 
 impl PutChoice for EvseStatus {
-    ghost use Rattle.iso_parts.specs.Values.{evse_status_name, evse_status_inside};
+    ghost use Rattle.iso_schema.specs.Declarations.{kinds};
+    ghost use Rattle.iso_parts.specs.Values.{evse_status_members, evse_status_name, evse_status_inside};
+
+    ghost kinds = { kinds };
+
+    ghost members = { evse_status_members };
 
     ghost name = { evse_status_name };
 
@@ -299,15 +292,6 @@ impl PutChoice for EvseStatus {
             EvseStatus::Dc(dc) => put_record(writer, names::DC_EVSE_STATUS, dc),
         }
     }
-}
-
-impl Alternatives for EvseStatus {
-    ghost use Rattle.iso_schema.specs.Declarations.{kinds};
-    ghost use Rattle.iso_parts.specs.Values.{evse_status_members};
-
-    ghost kinds = { kinds };
-
-    ghost members = { evse_status_members };
 }
 
 impl<'a> Choice<'a> for EvseStatus {
@@ -333,7 +317,18 @@ pub struct MeterInfo<'a> {
 }
 
 impl PutRecord for MeterInfo<'_> {
+    ghost use Rattle.std.specs.Prelude.{refl};
+    ghost use Rattle.iso_schema.specs.Declarations.{kinds};
+    ghost use Rattle.iso_schema.specs.Frame.{meter_info};
     ghost use Rattle.iso_parts.specs.Values.{meter_info_parts};
+
+    ghost kinds = { kinds };
+
+    ghost attributes = { [] };
+
+    ghost particles = { meter_info };
+
+    ghost apart = { refl };
 
     ghost given = { λ v. [] };
 
@@ -346,20 +341,6 @@ impl PutRecord for MeterInfo<'_> {
         put_optional_value(writer, names::METER_STATUS, &self.meter_status);
         put_optional_value(writer, names::T_METER, &self.t_meter);
     }
-}
-
-impl DeclaredRecord for MeterInfo<'_> {
-    ghost use Rattle.std.specs.Prelude.{refl};
-    ghost use Rattle.iso_schema.specs.Declarations.{kinds};
-    ghost use Rattle.iso_schema.specs.Frame.{meter_info};
-
-    ghost kinds = { kinds };
-
-    ghost attributes = { [] };
-
-    ghost particles = { meter_info };
-
-    ghost apart = { refl };
 }
 
 impl<'a> Record<'a> for MeterInfo<'a> {

@@ -14,13 +14,13 @@ use message_fields::{
     AtMostOneOf, Elements, OneOf, Optional, OptionalValue, Required, RequiredValue, Several,
 };
 use message_parts::{
-    Alternatives, Choice, DeclaredRecord, Descent, Group, PutChoice, PutRecord, ReadRecord, Record,
-    Text, member, put_choice, put_optional, put_optional_choice, put_optional_value, put_record,
-    put_records, put_value, whole_record,
+    Choice, Descent, Group, PutChoice, PutRecord, ReadRecord, Record, Text, member, put_choice,
+    put_optional, put_optional_choice, put_optional_value, put_record, put_records, put_value,
+    whole_record,
 };
 
 /// ProfileEntry.
-#[derive(Clone, Copy, Debug, PartialEq, Eq, Default)]
+#[derive(Clone, Copy, Default)]
 pub struct ProfileEntry {
     pub charging_profile_entry_start: u32,
     pub charging_profile_entry_max_power: PhysicalValue,
@@ -29,7 +29,18 @@ pub struct ProfileEntry {
 }
 
 impl PutRecord for ProfileEntry {
+    ghost use Rattle.std.specs.Prelude.{refl};
+    ghost use Rattle.iso_schema.specs.Declarations.{kinds};
+    ghost use Rattle.iso_schema.specs.Parameters.{profile_entry};
     ghost use Rattle.iso_power.specs.Delivery.{profile_entry_parts};
+
+    ghost kinds = { kinds };
+
+    ghost attributes = { [] };
+
+    ghost particles = { profile_entry };
+
+    ghost apart = { refl };
 
     ghost given = { λ v. [] };
 
@@ -52,20 +63,6 @@ impl PutRecord for ProfileEntry {
             &self.charging_profile_entry_max_number_of_phases_in_use,
         );
     }
-}
-
-impl DeclaredRecord for ProfileEntry {
-    ghost use Rattle.std.specs.Prelude.{refl};
-    ghost use Rattle.iso_schema.specs.Declarations.{kinds};
-    ghost use Rattle.iso_schema.specs.Parameters.{profile_entry};
-
-    ghost kinds = { kinds };
-
-    ghost attributes = { [] };
-
-    ghost particles = { profile_entry };
-
-    ghost apart = { refl };
 }
 
 impl<'a> Record<'a> for ProfileEntry {
@@ -111,21 +108,10 @@ pub struct ChargingProfile {
 }
 
 impl PutRecord for ChargingProfile {
-    ghost use Rattle.iso_power.specs.Delivery.{charging_profile_parts};
-
-    ghost given = { λ v. [] };
-
-    ghost parts = { charging_profile_parts };
-
-    fn write<P: Places>(&self, writer: &mut EventWriter<'_, '_, P>) {
-        put_records(writer, names::PROFILE_ENTRY, &self.profile_entry);
-    }
-}
-
-impl DeclaredRecord for ChargingProfile {
     ghost use Rattle.std.specs.Prelude.{refl};
     ghost use Rattle.iso_schema.specs.Declarations.{kinds};
     ghost use Rattle.iso_schema.specs.Parameters.{charging_profile};
+    ghost use Rattle.iso_power.specs.Delivery.{charging_profile_parts};
 
     ghost kinds = { kinds };
 
@@ -134,6 +120,14 @@ impl DeclaredRecord for ChargingProfile {
     ghost particles = { charging_profile };
 
     ghost apart = { refl };
+
+    ghost given = { λ v. [] };
+
+    ghost parts = { charging_profile_parts };
+
+    fn write<P: Places>(&self, writer: &mut EventWriter<'_, '_, P>) {
+        put_records(writer, names::PROFILE_ENTRY, &self.profile_entry);
+    }
 }
 
 impl<'a> Record<'a> for ChargingProfile {
@@ -156,7 +150,7 @@ impl<'a> ReadRecord<'a> for ChargingProfile {
 }
 
 /// DC_EVPowerDeliveryParameter.
-#[derive(Clone, Copy, Debug, PartialEq, Eq)]
+#[derive(Clone, Copy)]
 pub struct DcEvPowerDeliveryParameter {
     pub dc_ev_status: DcEvStatus,
     pub bulk_charging_complete: Option<bool>,
@@ -164,7 +158,18 @@ pub struct DcEvPowerDeliveryParameter {
 }
 
 impl PutRecord for DcEvPowerDeliveryParameter {
+    ghost use Rattle.std.specs.Prelude.{refl};
+    ghost use Rattle.iso_schema.specs.Declarations.{kinds};
+    ghost use Rattle.iso_schema.specs.Parameters.{dc_ev_power_delivery_parameter};
     ghost use Rattle.iso_power.specs.Delivery.{dc_ev_power_delivery_parameter_parts};
+
+    ghost kinds = { kinds };
+
+    ghost attributes = { [] };
+
+    ghost particles = { dc_ev_power_delivery_parameter };
+
+    ghost apart = { refl };
 
     ghost given = { λ v. [] };
 
@@ -179,20 +184,6 @@ impl PutRecord for DcEvPowerDeliveryParameter {
         );
         put_value(writer, names::CHARGING_COMPLETE, &self.charging_complete);
     }
-}
-
-impl DeclaredRecord for DcEvPowerDeliveryParameter {
-    ghost use Rattle.std.specs.Prelude.{refl};
-    ghost use Rattle.iso_schema.specs.Declarations.{kinds};
-    ghost use Rattle.iso_schema.specs.Parameters.{dc_ev_power_delivery_parameter};
-
-    ghost kinds = { kinds };
-
-    ghost attributes = { [] };
-
-    ghost particles = { dc_ev_power_delivery_parameter };
-
-    ghost apart = { refl };
 }
 
 impl<'a> Record<'a> for DcEvPowerDeliveryParameter {
@@ -233,13 +224,18 @@ impl<'a> ReadRecord<'a> for DcEvPowerDeliveryParameter {
 }
 
 /// One element of the substitution group EVPowerDeliveryParameter.
-#[derive(Clone, Copy, Debug, PartialEq, Eq)]
+#[derive(Clone, Copy)]
 pub enum EvPowerDeliveryParameter {
     Dc(DcEvPowerDeliveryParameter),
 }
 
 impl PutChoice for EvPowerDeliveryParameter {
-    ghost use Rattle.iso_power.specs.Delivery.{ev_power_delivery_parameter_name, ev_power_delivery_parameter_inside};
+    ghost use Rattle.iso_schema.specs.Declarations.{kinds};
+    ghost use Rattle.iso_power.specs.Delivery.{ev_power_delivery_parameter_members, ev_power_delivery_parameter_name, ev_power_delivery_parameter_inside};
+
+    ghost kinds = { kinds };
+
+    ghost members = { ev_power_delivery_parameter_members };
 
     ghost name = { ev_power_delivery_parameter_name };
 
@@ -254,15 +250,6 @@ impl PutChoice for EvPowerDeliveryParameter {
             ),
         }
     }
-}
-
-impl Alternatives for EvPowerDeliveryParameter {
-    ghost use Rattle.iso_schema.specs.Declarations.{kinds};
-    ghost use Rattle.iso_power.specs.Delivery.{ev_power_delivery_parameter_members};
-
-    ghost kinds = { kinds };
-
-    ghost members = { ev_power_delivery_parameter_members };
 }
 
 impl<'a> Choice<'a> for EvPowerDeliveryParameter {
@@ -290,7 +277,18 @@ pub struct PowerDeliveryReq {
 }
 
 impl PutRecord for PowerDeliveryReq {
+    ghost use Rattle.std.specs.Prelude.{refl};
+    ghost use Rattle.iso_schema.specs.Declarations.{kinds};
+    ghost use Rattle.iso_schema.specs.Parameters.{power_delivery_req};
     ghost use Rattle.iso_power.specs.Delivery.{power_delivery_req_parts};
+
+    ghost kinds = { kinds };
+
+    ghost attributes = { [] };
+
+    ghost particles = { power_delivery_req };
+
+    ghost apart = { refl };
 
     ghost given = { λ v. [] };
 
@@ -306,20 +304,6 @@ impl PutRecord for PowerDeliveryReq {
         put_optional(writer, names::CHARGING_PROFILE, &self.charging_profile);
         put_optional_choice(writer, &self.ev_power_delivery_parameter);
     }
-}
-
-impl DeclaredRecord for PowerDeliveryReq {
-    ghost use Rattle.std.specs.Prelude.{refl};
-    ghost use Rattle.iso_schema.specs.Declarations.{kinds};
-    ghost use Rattle.iso_schema.specs.Parameters.{power_delivery_req};
-
-    ghost kinds = { kinds };
-
-    ghost attributes = { [] };
-
-    ghost particles = { power_delivery_req };
-
-    ghost apart = { refl };
 }
 
 impl<'a> Record<'a> for PowerDeliveryReq {
@@ -361,14 +345,25 @@ impl<'a> ReadRecord<'a> for PowerDeliveryReq {
 }
 
 /// PowerDeliveryRes.
-#[derive(Clone, Copy, Debug, PartialEq, Eq)]
+#[derive(Clone, Copy)]
 pub struct PowerDeliveryRes {
     pub response_code: ResponseCode,
     pub evse_status: EvseStatus,
 }
 
 impl PutRecord for PowerDeliveryRes {
+    ghost use Rattle.std.specs.Prelude.{refl};
+    ghost use Rattle.iso_schema.specs.Declarations.{kinds};
+    ghost use Rattle.iso_schema.specs.Parameters.{power_delivery_res};
     ghost use Rattle.iso_power.specs.Delivery.{power_delivery_res_parts};
+
+    ghost kinds = { kinds };
+
+    ghost attributes = { [] };
+
+    ghost particles = { power_delivery_res };
+
+    ghost apart = { refl };
 
     ghost given = { λ v. [] };
 
@@ -378,20 +373,6 @@ impl PutRecord for PowerDeliveryRes {
         put_value(writer, names::RESPONSE_CODE, &self.response_code);
         put_choice(writer, &self.evse_status);
     }
-}
-
-impl DeclaredRecord for PowerDeliveryRes {
-    ghost use Rattle.std.specs.Prelude.{refl};
-    ghost use Rattle.iso_schema.specs.Declarations.{kinds};
-    ghost use Rattle.iso_schema.specs.Parameters.{power_delivery_res};
-
-    ghost kinds = { kinds };
-
-    ghost attributes = { [] };
-
-    ghost particles = { power_delivery_res };
-
-    ghost apart = { refl };
 }
 
 impl<'a> Record<'a> for PowerDeliveryRes {
@@ -417,18 +398,10 @@ impl<'a> ReadRecord<'a> for PowerDeliveryRes {
 }
 
 /// ChargingStatusReq.
-#[derive(Clone, Copy, Debug, PartialEq, Eq)]
+#[derive(Clone, Copy)]
 pub struct ChargingStatusReq;
 
 impl PutRecord for ChargingStatusReq {
-    ghost given = { λ v. [] };
-
-    ghost parts = { λ v. [] };
-
-    fn write<P: Places>(&self, _writer: &mut EventWriter<'_, '_, P>) {}
-}
-
-impl DeclaredRecord for ChargingStatusReq {
     ghost use Rattle.std.specs.Prelude.{refl};
     ghost use Rattle.iso_schema.specs.Declarations.{kinds};
 
@@ -439,6 +412,12 @@ impl DeclaredRecord for ChargingStatusReq {
     ghost particles = { [] };
 
     ghost apart = { refl };
+
+    ghost given = { λ v. [] };
+
+    ghost parts = { λ v. [] };
+
+    fn write<P: Places>(&self, _writer: &mut EventWriter<'_, '_, P>) {}
 }
 
 impl<'a> Record<'a> for ChargingStatusReq {
@@ -474,7 +453,18 @@ pub struct ChargingStatusRes<'a> {
 }
 
 impl PutRecord for ChargingStatusRes<'_> {
+    ghost use Rattle.std.specs.Prelude.{refl};
+    ghost use Rattle.iso_schema.specs.Declarations.{kinds};
+    ghost use Rattle.iso_schema.specs.Parameters.{charging_status_res};
     ghost use Rattle.iso_power.specs.Delivery.{charging_status_res_parts};
+
+    ghost kinds = { kinds };
+
+    ghost attributes = { [] };
+
+    ghost particles = { charging_status_res };
+
+    ghost apart = { refl };
 
     ghost given = { λ v. [] };
 
@@ -493,20 +483,6 @@ impl PutRecord for ChargingStatusRes<'_> {
         put_optional_value(writer, names::RECEIPT_REQUIRED, &self.receipt_required);
         put_record(writer, names::AC_EVSE_STATUS, &self.ac_evse_status);
     }
-}
-
-impl DeclaredRecord for ChargingStatusRes<'_> {
-    ghost use Rattle.std.specs.Prelude.{refl};
-    ghost use Rattle.iso_schema.specs.Declarations.{kinds};
-    ghost use Rattle.iso_schema.specs.Parameters.{charging_status_res};
-
-    ghost kinds = { kinds };
-
-    ghost attributes = { [] };
-
-    ghost particles = { charging_status_res };
-
-    ghost apart = { refl };
 }
 
 impl<'a> Record<'a> for ChargingStatusRes<'a> {

@@ -10,9 +10,8 @@ use iso_parts::{PhysicalValue, ResponseCode};
 use iso_schema::names;
 use message_fields::{Elements, OneOf, Optional, RequiredValue, Several, WithAttribute};
 use message_parts::{
-    Alternatives, Choice, DeclaredRecord, Descent, PutChoice, PutRecord, ReadRecord, Record, Text,
-    member, member_value, put_attribute, put_choice, put_optional, put_record, put_records,
-    put_value, whole_record,
+    Choice, Descent, PutChoice, PutRecord, ReadRecord, Record, Text, member, member_value,
+    put_attribute, put_choice, put_optional, put_record, put_records, put_value, whole_record,
 };
 
 /// One of the elements of Parameter.
@@ -34,7 +33,12 @@ impl<'a> Default for ParameterValue<'a> {
 }
 
 impl PutChoice for ParameterValue<'_> {
-    ghost use Rattle.iso_setup.specs.Details.{parameter_value_name, parameter_value_inside};
+    ghost use Rattle.iso_schema.specs.Declarations.{kinds};
+    ghost use Rattle.iso_setup.specs.Details.{parameter_value_members, parameter_value_name, parameter_value_inside};
+
+    ghost kinds = { kinds };
+
+    ghost members = { parameter_value_members };
 
     ghost name = { parameter_value_name };
 
@@ -54,15 +58,6 @@ impl PutChoice for ParameterValue<'_> {
             ParameterValue::String(string) => put_value(writer, names::STRING_VALUE, string),
         }
     }
-}
-
-impl Alternatives for ParameterValue<'_> {
-    ghost use Rattle.iso_schema.specs.Declarations.{kinds};
-    ghost use Rattle.iso_setup.specs.Details.{parameter_value_members};
-
-    ghost kinds = { kinds };
-
-    ghost members = { parameter_value_members };
 }
 
 impl<'a> Choice<'a> for ParameterValue<'a> {
@@ -94,7 +89,18 @@ pub struct Parameter<'a> {
 }
 
 impl PutRecord for Parameter<'_> {
-    ghost use Rattle.iso_setup.specs.Details.{parameter_given, parameter_parts};
+    ghost use Rattle.std.specs.Prelude.{refl};
+    ghost use Rattle.iso_schema.specs.Declarations.{kinds};
+    ghost use Rattle.iso_schema.specs.Setup.{parameter};
+    ghost use Rattle.iso_setup.specs.Details.{parameter_given, parameter_parts, parameter_attributes};
+
+    ghost kinds = { kinds };
+
+    ghost attributes = { parameter_attributes };
+
+    ghost particles = { parameter };
+
+    ghost apart = { refl };
 
     ghost given = { parameter_given };
 
@@ -104,21 +110,6 @@ impl PutRecord for Parameter<'_> {
         put_attribute(writer, names::NAME, &self.name);
         put_choice(writer, &self.value);
     }
-}
-
-impl DeclaredRecord for Parameter<'_> {
-    ghost use Rattle.std.specs.Prelude.{refl};
-    ghost use Rattle.iso_schema.specs.Declarations.{kinds};
-    ghost use Rattle.iso_schema.specs.Setup.{parameter};
-    ghost use Rattle.iso_setup.specs.Details.{parameter_attributes};
-
-    ghost kinds = { kinds };
-
-    ghost attributes = { parameter_attributes };
-
-    ghost particles = { parameter };
-
-    ghost apart = { refl };
 }
 
 impl<'a> Record<'a> for Parameter<'a> {
@@ -149,7 +140,18 @@ pub struct ParameterSet<'a> {
 }
 
 impl PutRecord for ParameterSet<'_> {
+    ghost use Rattle.std.specs.Prelude.{refl};
+    ghost use Rattle.iso_schema.specs.Declarations.{kinds};
+    ghost use Rattle.iso_schema.specs.Setup.{parameter_set};
     ghost use Rattle.iso_setup.specs.Details.{parameter_set_parts};
+
+    ghost kinds = { kinds };
+
+    ghost attributes = { [] };
+
+    ghost particles = { parameter_set };
+
+    ghost apart = { refl };
 
     ghost given = { λ v. [] };
 
@@ -159,20 +161,6 @@ impl PutRecord for ParameterSet<'_> {
         put_value(writer, names::PARAMETER_SET_ID, &self.parameter_set_id);
         put_records(writer, names::PARAMETER, &self.parameter);
     }
-}
-
-impl DeclaredRecord for ParameterSet<'_> {
-    ghost use Rattle.std.specs.Prelude.{refl};
-    ghost use Rattle.iso_schema.specs.Declarations.{kinds};
-    ghost use Rattle.iso_schema.specs.Setup.{parameter_set};
-
-    ghost kinds = { kinds };
-
-    ghost attributes = { [] };
-
-    ghost particles = { parameter_set };
-
-    ghost apart = { refl };
 }
 
 impl<'a> Record<'a> for ParameterSet<'a> {
@@ -210,21 +198,10 @@ pub struct ServiceParameterList<'a> {
 }
 
 impl PutRecord for ServiceParameterList<'_> {
-    ghost use Rattle.iso_setup.specs.Details.{service_parameter_list_parts};
-
-    ghost given = { λ v. [] };
-
-    ghost parts = { service_parameter_list_parts };
-
-    fn write<P: Places>(&self, writer: &mut EventWriter<'_, '_, P>) {
-        put_records(writer, names::PARAMETER_SET, &self.parameter_set);
-    }
-}
-
-impl DeclaredRecord for ServiceParameterList<'_> {
     ghost use Rattle.std.specs.Prelude.{refl};
     ghost use Rattle.iso_schema.specs.Declarations.{kinds};
     ghost use Rattle.iso_schema.specs.Setup.{service_parameter_list};
+    ghost use Rattle.iso_setup.specs.Details.{service_parameter_list_parts};
 
     ghost kinds = { kinds };
 
@@ -233,6 +210,14 @@ impl DeclaredRecord for ServiceParameterList<'_> {
     ghost particles = { service_parameter_list };
 
     ghost apart = { refl };
+
+    ghost given = { λ v. [] };
+
+    ghost parts = { service_parameter_list_parts };
+
+    fn write<P: Places>(&self, writer: &mut EventWriter<'_, '_, P>) {
+        put_records(writer, names::PARAMETER_SET, &self.parameter_set);
+    }
 }
 
 impl<'a> Record<'a> for ServiceParameterList<'a> {
@@ -257,27 +242,16 @@ impl<'a> ReadRecord<'a> for ServiceParameterList<'a> {
 }
 
 /// ServiceDetailReq.
-#[derive(Clone, Copy, Debug, PartialEq, Eq)]
+#[derive(Clone, Copy)]
 pub struct ServiceDetailReq {
     pub service_id: u16,
 }
 
 impl PutRecord for ServiceDetailReq {
-    ghost use Rattle.iso_setup.specs.Details.{service_detail_req_parts};
-
-    ghost given = { λ v. [] };
-
-    ghost parts = { service_detail_req_parts };
-
-    fn write<P: Places>(&self, writer: &mut EventWriter<'_, '_, P>) {
-        put_value(writer, names::SERVICE_ID, &self.service_id);
-    }
-}
-
-impl DeclaredRecord for ServiceDetailReq {
     ghost use Rattle.std.specs.Prelude.{refl};
     ghost use Rattle.iso_schema.specs.Declarations.{kinds};
     ghost use Rattle.iso_schema.specs.Setup.{service_detail_req};
+    ghost use Rattle.iso_setup.specs.Details.{service_detail_req_parts};
 
     ghost kinds = { kinds };
 
@@ -286,6 +260,14 @@ impl DeclaredRecord for ServiceDetailReq {
     ghost particles = { service_detail_req };
 
     ghost apart = { refl };
+
+    ghost given = { λ v. [] };
+
+    ghost parts = { service_detail_req_parts };
+
+    fn write<P: Places>(&self, writer: &mut EventWriter<'_, '_, P>) {
+        put_value(writer, names::SERVICE_ID, &self.service_id);
+    }
 }
 
 impl<'a> Record<'a> for ServiceDetailReq {
@@ -316,7 +298,18 @@ pub struct ServiceDetailRes<'a> {
 }
 
 impl PutRecord for ServiceDetailRes<'_> {
+    ghost use Rattle.std.specs.Prelude.{refl};
+    ghost use Rattle.iso_schema.specs.Declarations.{kinds};
+    ghost use Rattle.iso_schema.specs.Setup.{service_detail_res};
     ghost use Rattle.iso_setup.specs.Details.{service_detail_res_parts};
+
+    ghost kinds = { kinds };
+
+    ghost attributes = { [] };
+
+    ghost particles = { service_detail_res };
+
+    ghost apart = { refl };
 
     ghost given = { λ v. [] };
 
@@ -331,20 +324,6 @@ impl PutRecord for ServiceDetailRes<'_> {
             &self.service_parameter_list,
         );
     }
-}
-
-impl DeclaredRecord for ServiceDetailRes<'_> {
-    ghost use Rattle.std.specs.Prelude.{refl};
-    ghost use Rattle.iso_schema.specs.Declarations.{kinds};
-    ghost use Rattle.iso_schema.specs.Setup.{service_detail_res};
-
-    ghost kinds = { kinds };
-
-    ghost attributes = { [] };
-
-    ghost particles = { service_detail_res };
-
-    ghost apart = { refl };
 }
 
 impl<'a> Record<'a> for ServiceDetailRes<'a> {

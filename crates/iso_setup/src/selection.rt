@@ -10,19 +10,30 @@ use iso_parts::{PaymentOption, ResponseCode};
 use iso_schema::names;
 use message_fields::{Elements, OptionalValue, Required, RequiredValue, Several};
 use message_parts::{
-    DeclaredRecord, Descent, PutRecord, ReadRecord, Record, put_optional_value, put_record,
-    put_records, put_value, whole_record,
+    Descent, PutRecord, ReadRecord, Record, put_optional_value, put_record, put_records, put_value,
+    whole_record,
 };
 
 /// SelectedService.
-#[derive(Clone, Copy, Debug, PartialEq, Eq, Default)]
+#[derive(Clone, Copy, Default)]
 pub struct SelectedService {
     pub service_id: u16,
     pub parameter_set_id: Option<i16>,
 }
 
 impl PutRecord for SelectedService {
+    ghost use Rattle.std.specs.Prelude.{refl};
+    ghost use Rattle.iso_schema.specs.Declarations.{kinds};
+    ghost use Rattle.iso_schema.specs.Setup.{selected_service};
     ghost use Rattle.iso_setup.specs.Selection.{selected_service_parts};
+
+    ghost kinds = { kinds };
+
+    ghost attributes = { [] };
+
+    ghost particles = { selected_service };
+
+    ghost apart = { refl };
 
     ghost given = { λ v. [] };
 
@@ -32,20 +43,6 @@ impl PutRecord for SelectedService {
         put_value(writer, names::SERVICE_ID, &self.service_id);
         put_optional_value(writer, names::PARAMETER_SET_ID, &self.parameter_set_id);
     }
-}
-
-impl DeclaredRecord for SelectedService {
-    ghost use Rattle.std.specs.Prelude.{refl};
-    ghost use Rattle.iso_schema.specs.Declarations.{kinds};
-    ghost use Rattle.iso_schema.specs.Setup.{selected_service};
-
-    ghost kinds = { kinds };
-
-    ghost attributes = { [] };
-
-    ghost particles = { selected_service };
-
-    ghost apart = { refl };
 }
 
 impl<'a> Record<'a> for SelectedService {
@@ -83,21 +80,10 @@ pub struct SelectedServiceList {
 }
 
 impl PutRecord for SelectedServiceList {
-    ghost use Rattle.iso_setup.specs.Selection.{selected_service_list_parts};
-
-    ghost given = { λ v. [] };
-
-    ghost parts = { selected_service_list_parts };
-
-    fn write<P: Places>(&self, writer: &mut EventWriter<'_, '_, P>) {
-        put_records(writer, names::SELECTED_SERVICE, &self.selected_service);
-    }
-}
-
-impl DeclaredRecord for SelectedServiceList {
     ghost use Rattle.std.specs.Prelude.{refl};
     ghost use Rattle.iso_schema.specs.Declarations.{kinds};
     ghost use Rattle.iso_schema.specs.Setup.{selected_service_list};
+    ghost use Rattle.iso_setup.specs.Selection.{selected_service_list_parts};
 
     ghost kinds = { kinds };
 
@@ -106,6 +92,14 @@ impl DeclaredRecord for SelectedServiceList {
     ghost particles = { selected_service_list };
 
     ghost apart = { refl };
+
+    ghost given = { λ v. [] };
+
+    ghost parts = { selected_service_list_parts };
+
+    fn write<P: Places>(&self, writer: &mut EventWriter<'_, '_, P>) {
+        put_records(writer, names::SELECTED_SERVICE, &self.selected_service);
+    }
 }
 
 impl<'a> Record<'a> for SelectedServiceList {
@@ -135,7 +129,18 @@ pub struct PaymentServiceSelectionReq {
 }
 
 impl PutRecord for PaymentServiceSelectionReq {
+    ghost use Rattle.std.specs.Prelude.{refl};
+    ghost use Rattle.iso_schema.specs.Declarations.{kinds};
+    ghost use Rattle.iso_schema.specs.Setup.{payment_service_selection_req};
     ghost use Rattle.iso_setup.specs.Selection.{payment_service_selection_req_parts};
+
+    ghost kinds = { kinds };
+
+    ghost attributes = { [] };
+
+    ghost particles = { payment_service_selection_req };
+
+    ghost apart = { refl };
 
     ghost given = { λ v. [] };
 
@@ -153,20 +158,6 @@ impl PutRecord for PaymentServiceSelectionReq {
             &self.selected_service_list,
         );
     }
-}
-
-impl DeclaredRecord for PaymentServiceSelectionReq {
-    ghost use Rattle.std.specs.Prelude.{refl};
-    ghost use Rattle.iso_schema.specs.Declarations.{kinds};
-    ghost use Rattle.iso_schema.specs.Setup.{payment_service_selection_req};
-
-    ghost kinds = { kinds };
-
-    ghost attributes = { [] };
-
-    ghost particles = { payment_service_selection_req };
-
-    ghost apart = { refl };
 }
 
 impl<'a> Record<'a> for PaymentServiceSelectionReq {
@@ -195,27 +186,16 @@ impl<'a> ReadRecord<'a> for PaymentServiceSelectionReq {
 }
 
 /// PaymentServiceSelectionRes.
-#[derive(Clone, Copy, Debug, PartialEq, Eq)]
+#[derive(Clone, Copy)]
 pub struct PaymentServiceSelectionRes {
     pub response_code: ResponseCode,
 }
 
 impl PutRecord for PaymentServiceSelectionRes {
-    ghost use Rattle.iso_setup.specs.Selection.{payment_service_selection_res_parts};
-
-    ghost given = { λ v. [] };
-
-    ghost parts = { payment_service_selection_res_parts };
-
-    fn write<P: Places>(&self, writer: &mut EventWriter<'_, '_, P>) {
-        put_value(writer, names::RESPONSE_CODE, &self.response_code);
-    }
-}
-
-impl DeclaredRecord for PaymentServiceSelectionRes {
     ghost use Rattle.std.specs.Prelude.{refl};
     ghost use Rattle.iso_schema.specs.Declarations.{kinds};
     ghost use Rattle.iso_schema.specs.Setup.{payment_service_selection_res};
+    ghost use Rattle.iso_setup.specs.Selection.{payment_service_selection_res_parts};
 
     ghost kinds = { kinds };
 
@@ -224,6 +204,14 @@ impl DeclaredRecord for PaymentServiceSelectionRes {
     ghost particles = { payment_service_selection_res };
 
     ghost apart = { refl };
+
+    ghost given = { λ v. [] };
+
+    ghost parts = { payment_service_selection_res_parts };
+
+    fn write<P: Places>(&self, writer: &mut EventWriter<'_, '_, P>) {
+        put_value(writer, names::RESPONSE_CODE, &self.response_code);
+    }
 }
 
 impl<'a> Record<'a> for PaymentServiceSelectionRes {

@@ -12,8 +12,8 @@ use message_fields::{
     Elements, Optional, OptionalValue, Required, RequiredValue, Several, SeveralValues,
 };
 use message_parts::{
-    DeclaredRecord, Descent, PutRecord, ReadRecord, Record, Text, put_optional, put_optional_value,
-    put_record, put_records, put_value, put_values, whole_record,
+    Descent, PutRecord, ReadRecord, Record, Text, put_optional, put_optional_value, put_record,
+    put_records, put_value, put_values, whole_record,
 };
 
 /// Service.
@@ -29,7 +29,18 @@ pub struct Service<'a> {
 }
 
 impl PutRecord for Service<'_> {
+    ghost use Rattle.std.specs.Prelude.{refl};
+    ghost use Rattle.iso_schema.specs.Declarations.{kinds};
+    ghost use Rattle.iso_schema.specs.Setup.{service};
     ghost use Rattle.iso_setup.specs.Services.{service_parts};
+
+    ghost kinds = { kinds };
+
+    ghost attributes = { [] };
+
+    ghost particles = { service };
+
+    ghost apart = { refl };
 
     ghost given = { λ v. [] };
 
@@ -42,20 +53,6 @@ impl PutRecord for Service<'_> {
         put_optional_value(writer, names::SERVICE_SCOPE, &self.service_scope);
         put_value(writer, names::FREE_SERVICE, &self.free_service);
     }
-}
-
-impl DeclaredRecord for Service<'_> {
-    ghost use Rattle.std.specs.Prelude.{refl};
-    ghost use Rattle.iso_schema.specs.Declarations.{kinds};
-    ghost use Rattle.iso_schema.specs.Setup.{service};
-
-    ghost kinds = { kinds };
-
-    ghost attributes = { [] };
-
-    ghost particles = { service };
-
-    ghost apart = { refl };
 }
 
 impl<'a> Record<'a> for Service<'a> {
@@ -112,21 +109,10 @@ pub struct ServiceList<'a> {
 }
 
 impl PutRecord for ServiceList<'_> {
-    ghost use Rattle.iso_setup.specs.Services.{service_list_parts};
-
-    ghost given = { λ v. [] };
-
-    ghost parts = { service_list_parts };
-
-    fn write<P: Places>(&self, writer: &mut EventWriter<'_, '_, P>) {
-        put_records(writer, names::SERVICE, &self.service);
-    }
-}
-
-impl DeclaredRecord for ServiceList<'_> {
     ghost use Rattle.std.specs.Prelude.{refl};
     ghost use Rattle.iso_schema.specs.Declarations.{kinds};
     ghost use Rattle.iso_schema.specs.Setup.{service_list};
+    ghost use Rattle.iso_setup.specs.Services.{service_list_parts};
 
     ghost kinds = { kinds };
 
@@ -135,6 +121,14 @@ impl DeclaredRecord for ServiceList<'_> {
     ghost particles = { service_list };
 
     ghost apart = { refl };
+
+    ghost given = { λ v. [] };
+
+    ghost parts = { service_list_parts };
+
+    fn write<P: Places>(&self, writer: &mut EventWriter<'_, '_, P>) {
+        put_records(writer, names::SERVICE, &self.service);
+    }
 }
 
 impl<'a> Record<'a> for ServiceList<'a> {
@@ -164,7 +158,18 @@ pub struct SupportedEnergyTransferMode {
 }
 
 impl PutRecord for SupportedEnergyTransferMode {
+    ghost use Rattle.std.specs.Prelude.{refl};
+    ghost use Rattle.iso_schema.specs.Declarations.{kinds};
+    ghost use Rattle.iso_schema.specs.Setup.{supported_energy_transfer_mode};
     ghost use Rattle.iso_setup.specs.Services.{supported_energy_transfer_mode_parts};
+
+    ghost kinds = { kinds };
+
+    ghost attributes = { [] };
+
+    ghost particles = { supported_energy_transfer_mode };
+
+    ghost apart = { refl };
 
     ghost given = { λ v. [] };
 
@@ -177,20 +182,6 @@ impl PutRecord for SupportedEnergyTransferMode {
             &self.energy_transfer_mode,
         );
     }
-}
-
-impl DeclaredRecord for SupportedEnergyTransferMode {
-    ghost use Rattle.std.specs.Prelude.{refl};
-    ghost use Rattle.iso_schema.specs.Declarations.{kinds};
-    ghost use Rattle.iso_schema.specs.Setup.{supported_energy_transfer_mode};
-
-    ghost kinds = { kinds };
-
-    ghost attributes = { [] };
-
-    ghost particles = { supported_energy_transfer_mode };
-
-    ghost apart = { refl };
 }
 
 impl<'a> Record<'a> for SupportedEnergyTransferMode {
@@ -230,7 +221,18 @@ pub struct ChargeService<'a> {
 }
 
 impl PutRecord for ChargeService<'_> {
+    ghost use Rattle.std.specs.Prelude.{refl};
+    ghost use Rattle.iso_schema.specs.Declarations.{kinds};
+    ghost use Rattle.iso_schema.specs.Setup.{charge_service};
     ghost use Rattle.iso_setup.specs.Services.{charge_service_parts};
+
+    ghost kinds = { kinds };
+
+    ghost attributes = { [] };
+
+    ghost particles = { charge_service };
+
+    ghost apart = { refl };
 
     ghost given = { λ v. [] };
 
@@ -248,20 +250,6 @@ impl PutRecord for ChargeService<'_> {
             &self.supported_energy_transfer_mode,
         );
     }
-}
-
-impl DeclaredRecord for ChargeService<'_> {
-    ghost use Rattle.std.specs.Prelude.{refl};
-    ghost use Rattle.iso_schema.specs.Declarations.{kinds};
-    ghost use Rattle.iso_schema.specs.Setup.{charge_service};
-
-    ghost kinds = { kinds };
-
-    ghost attributes = { [] };
-
-    ghost particles = { charge_service };
-
-    ghost apart = { refl };
 }
 
 impl<'a> Record<'a> for ChargeService<'a> {
@@ -324,21 +312,10 @@ pub struct PaymentOptionList {
 }
 
 impl PutRecord for PaymentOptionList {
-    ghost use Rattle.iso_setup.specs.Services.{payment_option_list_parts};
-
-    ghost given = { λ v. [] };
-
-    ghost parts = { payment_option_list_parts };
-
-    fn write<P: Places>(&self, writer: &mut EventWriter<'_, '_, P>) {
-        put_values(writer, names::PAYMENT_OPTION, &self.payment_option);
-    }
-}
-
-impl DeclaredRecord for PaymentOptionList {
     ghost use Rattle.std.specs.Prelude.{refl};
     ghost use Rattle.iso_schema.specs.Declarations.{kinds};
     ghost use Rattle.iso_schema.specs.Setup.{payment_option_list};
+    ghost use Rattle.iso_setup.specs.Services.{payment_option_list_parts};
 
     ghost kinds = { kinds };
 
@@ -347,6 +324,14 @@ impl DeclaredRecord for PaymentOptionList {
     ghost particles = { payment_option_list };
 
     ghost apart = { refl };
+
+    ghost given = { λ v. [] };
+
+    ghost parts = { payment_option_list_parts };
+
+    fn write<P: Places>(&self, writer: &mut EventWriter<'_, '_, P>) {
+        put_values(writer, names::PAYMENT_OPTION, &self.payment_option);
+    }
 }
 
 impl<'a> Record<'a> for PaymentOptionList {
@@ -377,7 +362,18 @@ pub struct ServiceDiscoveryReq<'a> {
 }
 
 impl PutRecord for ServiceDiscoveryReq<'_> {
+    ghost use Rattle.std.specs.Prelude.{refl};
+    ghost use Rattle.iso_schema.specs.Declarations.{kinds};
+    ghost use Rattle.iso_schema.specs.Setup.{service_discovery_req};
     ghost use Rattle.iso_setup.specs.Services.{service_discovery_req_parts};
+
+    ghost kinds = { kinds };
+
+    ghost attributes = { [] };
+
+    ghost particles = { service_discovery_req };
+
+    ghost apart = { refl };
 
     ghost given = { λ v. [] };
 
@@ -387,20 +383,6 @@ impl PutRecord for ServiceDiscoveryReq<'_> {
         put_optional_value(writer, names::SERVICE_SCOPE, &self.service_scope);
         put_optional_value(writer, names::SERVICE_CATEGORY, &self.service_category);
     }
-}
-
-impl DeclaredRecord for ServiceDiscoveryReq<'_> {
-    ghost use Rattle.std.specs.Prelude.{refl};
-    ghost use Rattle.iso_schema.specs.Declarations.{kinds};
-    ghost use Rattle.iso_schema.specs.Setup.{service_discovery_req};
-
-    ghost kinds = { kinds };
-
-    ghost attributes = { [] };
-
-    ghost particles = { service_discovery_req };
-
-    ghost apart = { refl };
 }
 
 impl<'a> Record<'a> for ServiceDiscoveryReq<'a> {
@@ -442,7 +424,18 @@ pub struct ServiceDiscoveryRes<'a> {
 }
 
 impl PutRecord for ServiceDiscoveryRes<'_> {
+    ghost use Rattle.std.specs.Prelude.{refl};
+    ghost use Rattle.iso_schema.specs.Declarations.{kinds};
+    ghost use Rattle.iso_schema.specs.Setup.{service_discovery_res};
     ghost use Rattle.iso_setup.specs.Services.{service_discovery_res_parts};
+
+    ghost kinds = { kinds };
+
+    ghost attributes = { [] };
+
+    ghost particles = { service_discovery_res };
+
+    ghost apart = { refl };
 
     ghost given = { λ v. [] };
 
@@ -458,20 +451,6 @@ impl PutRecord for ServiceDiscoveryRes<'_> {
         put_record(writer, names::CHARGE_SERVICE, &self.charge_service);
         put_optional(writer, names::SERVICE_LIST, &self.service_list);
     }
-}
-
-impl DeclaredRecord for ServiceDiscoveryRes<'_> {
-    ghost use Rattle.std.specs.Prelude.{refl};
-    ghost use Rattle.iso_schema.specs.Declarations.{kinds};
-    ghost use Rattle.iso_schema.specs.Setup.{service_discovery_res};
-
-    ghost kinds = { kinds };
-
-    ghost attributes = { [] };
-
-    ghost particles = { service_discovery_res };
-
-    ghost apart = { refl };
 }
 
 impl<'a> Record<'a> for ServiceDiscoveryRes<'a> {

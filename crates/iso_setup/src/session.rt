@@ -9,7 +9,7 @@ use iso_parts::{ChargingSession, EvseProcessing, ResponseCode};
 use iso_schema::names;
 use message_fields::{Elements, OptionalValue, RequiredValue, WithOptionalAttribute};
 use message_parts::{
-    Binary, DeclaredRecord, Descent, PutRecord, ReadRecord, Record, Text, put_optional_attribute,
+    Binary, Descent, PutRecord, ReadRecord, Record, Text, put_optional_attribute,
     put_optional_value, put_value, whole_record,
 };
 
@@ -21,21 +21,10 @@ pub struct SessionSetupReq<'a> {
 }
 
 impl PutRecord for SessionSetupReq<'_> {
-    ghost use Rattle.iso_setup.specs.Session.{session_setup_req_parts};
-
-    ghost given = { λ v. [] };
-
-    ghost parts = { session_setup_req_parts };
-
-    fn write<P: Places>(&self, writer: &mut EventWriter<'_, '_, P>) {
-        put_value(writer, names::EVCCID, &self.evccid);
-    }
-}
-
-impl DeclaredRecord for SessionSetupReq<'_> {
     ghost use Rattle.std.specs.Prelude.{refl};
     ghost use Rattle.iso_schema.specs.Declarations.{kinds};
     ghost use Rattle.iso_schema.specs.Setup.{session_setup_req};
+    ghost use Rattle.iso_setup.specs.Session.{session_setup_req_parts};
 
     ghost kinds = { kinds };
 
@@ -44,6 +33,14 @@ impl DeclaredRecord for SessionSetupReq<'_> {
     ghost particles = { session_setup_req };
 
     ghost apart = { refl };
+
+    ghost given = { λ v. [] };
+
+    ghost parts = { session_setup_req_parts };
+
+    fn write<P: Places>(&self, writer: &mut EventWriter<'_, '_, P>) {
+        put_value(writer, names::EVCCID, &self.evccid);
+    }
 }
 
 impl<'a> Record<'a> for SessionSetupReq<'a> {
@@ -75,7 +72,18 @@ pub struct SessionSetupRes<'a> {
 }
 
 impl PutRecord for SessionSetupRes<'_> {
+    ghost use Rattle.std.specs.Prelude.{refl};
+    ghost use Rattle.iso_schema.specs.Declarations.{kinds};
+    ghost use Rattle.iso_schema.specs.Setup.{session_setup_res};
     ghost use Rattle.iso_setup.specs.Session.{session_setup_res_parts};
+
+    ghost kinds = { kinds };
+
+    ghost attributes = { [] };
+
+    ghost particles = { session_setup_res };
+
+    ghost apart = { refl };
 
     ghost given = { λ v. [] };
 
@@ -86,20 +94,6 @@ impl PutRecord for SessionSetupRes<'_> {
         put_value(writer, names::EVSEID, &self.evseid);
         put_optional_value(writer, names::EVSE_TIME_STAMP, &self.evse_time_stamp);
     }
-}
-
-impl DeclaredRecord for SessionSetupRes<'_> {
-    ghost use Rattle.std.specs.Prelude.{refl};
-    ghost use Rattle.iso_schema.specs.Declarations.{kinds};
-    ghost use Rattle.iso_schema.specs.Setup.{session_setup_res};
-
-    ghost kinds = { kinds };
-
-    ghost attributes = { [] };
-
-    ghost particles = { session_setup_res };
-
-    ghost apart = { refl };
 }
 
 impl<'a> Record<'a> for SessionSetupRes<'a> {
@@ -143,7 +137,18 @@ pub struct AuthorizationReq<'a> {
 }
 
 impl PutRecord for AuthorizationReq<'_> {
-    ghost use Rattle.iso_setup.specs.Session.{authorization_req_given, authorization_req_parts};
+    ghost use Rattle.std.specs.Prelude.{refl};
+    ghost use Rattle.iso_schema.specs.Declarations.{kinds};
+    ghost use Rattle.iso_schema.specs.Setup.{authorization_req};
+    ghost use Rattle.iso_setup.specs.Session.{authorization_req_given, authorization_req_parts, authorization_req_attributes};
+
+    ghost kinds = { kinds };
+
+    ghost attributes = { authorization_req_attributes };
+
+    ghost particles = { authorization_req };
+
+    ghost apart = { refl };
 
     ghost given = { authorization_req_given };
 
@@ -153,21 +158,6 @@ impl PutRecord for AuthorizationReq<'_> {
         put_optional_attribute(writer, names::ID, &self.id);
         put_optional_value(writer, names::GEN_CHALLENGE, &self.gen_challenge);
     }
-}
-
-impl DeclaredRecord for AuthorizationReq<'_> {
-    ghost use Rattle.std.specs.Prelude.{refl};
-    ghost use Rattle.iso_schema.specs.Declarations.{kinds};
-    ghost use Rattle.iso_schema.specs.Setup.{authorization_req};
-    ghost use Rattle.iso_setup.specs.Session.{authorization_req_attributes};
-
-    ghost kinds = { kinds };
-
-    ghost attributes = { authorization_req_attributes };
-
-    ghost particles = { authorization_req };
-
-    ghost apart = { refl };
 }
 
 impl<'a> Record<'a> for AuthorizationReq<'a> {
@@ -193,14 +183,25 @@ impl<'a> ReadRecord<'a> for AuthorizationReq<'a> {
 }
 
 /// AuthorizationRes.
-#[derive(Clone, Copy, Debug, PartialEq, Eq)]
+#[derive(Clone, Copy)]
 pub struct AuthorizationRes {
     pub response_code: ResponseCode,
     pub evse_processing: EvseProcessing,
 }
 
 impl PutRecord for AuthorizationRes {
+    ghost use Rattle.std.specs.Prelude.{refl};
+    ghost use Rattle.iso_schema.specs.Declarations.{kinds};
+    ghost use Rattle.iso_schema.specs.Setup.{authorization_res};
     ghost use Rattle.iso_setup.specs.Session.{authorization_res_parts};
+
+    ghost kinds = { kinds };
+
+    ghost attributes = { [] };
+
+    ghost particles = { authorization_res };
+
+    ghost apart = { refl };
 
     ghost given = { λ v. [] };
 
@@ -210,20 +211,6 @@ impl PutRecord for AuthorizationRes {
         put_value(writer, names::RESPONSE_CODE, &self.response_code);
         put_value(writer, names::EVSE_PROCESSING, &self.evse_processing);
     }
-}
-
-impl DeclaredRecord for AuthorizationRes {
-    ghost use Rattle.std.specs.Prelude.{refl};
-    ghost use Rattle.iso_schema.specs.Declarations.{kinds};
-    ghost use Rattle.iso_schema.specs.Setup.{authorization_res};
-
-    ghost kinds = { kinds };
-
-    ghost attributes = { [] };
-
-    ghost particles = { authorization_res };
-
-    ghost apart = { refl };
 }
 
 impl<'a> Record<'a> for AuthorizationRes {
@@ -249,27 +236,16 @@ impl<'a> ReadRecord<'a> for AuthorizationRes {
 }
 
 /// SessionStopReq.
-#[derive(Clone, Copy, Debug, PartialEq, Eq)]
+#[derive(Clone, Copy)]
 pub struct SessionStopReq {
     pub charging_session: ChargingSession,
 }
 
 impl PutRecord for SessionStopReq {
-    ghost use Rattle.iso_setup.specs.Session.{session_stop_req_parts};
-
-    ghost given = { λ v. [] };
-
-    ghost parts = { session_stop_req_parts };
-
-    fn write<P: Places>(&self, writer: &mut EventWriter<'_, '_, P>) {
-        put_value(writer, names::CHARGING_SESSION, &self.charging_session);
-    }
-}
-
-impl DeclaredRecord for SessionStopReq {
     ghost use Rattle.std.specs.Prelude.{refl};
     ghost use Rattle.iso_schema.specs.Declarations.{kinds};
     ghost use Rattle.iso_schema.specs.Setup.{session_stop_req};
+    ghost use Rattle.iso_setup.specs.Session.{session_stop_req_parts};
 
     ghost kinds = { kinds };
 
@@ -278,6 +254,14 @@ impl DeclaredRecord for SessionStopReq {
     ghost particles = { session_stop_req };
 
     ghost apart = { refl };
+
+    ghost given = { λ v. [] };
+
+    ghost parts = { session_stop_req_parts };
+
+    fn write<P: Places>(&self, writer: &mut EventWriter<'_, '_, P>) {
+        put_value(writer, names::CHARGING_SESSION, &self.charging_session);
+    }
 }
 
 impl<'a> Record<'a> for SessionStopReq {
@@ -300,27 +284,16 @@ impl<'a> ReadRecord<'a> for SessionStopReq {
 }
 
 /// SessionStopRes.
-#[derive(Clone, Copy, Debug, PartialEq, Eq)]
+#[derive(Clone, Copy)]
 pub struct SessionStopRes {
     pub response_code: ResponseCode,
 }
 
 impl PutRecord for SessionStopRes {
-    ghost use Rattle.iso_setup.specs.Session.{session_stop_res_parts};
-
-    ghost given = { λ v. [] };
-
-    ghost parts = { session_stop_res_parts };
-
-    fn write<P: Places>(&self, writer: &mut EventWriter<'_, '_, P>) {
-        put_value(writer, names::RESPONSE_CODE, &self.response_code);
-    }
-}
-
-impl DeclaredRecord for SessionStopRes {
     ghost use Rattle.std.specs.Prelude.{refl};
     ghost use Rattle.iso_schema.specs.Declarations.{kinds};
     ghost use Rattle.iso_schema.specs.Setup.{session_stop_res};
+    ghost use Rattle.iso_setup.specs.Session.{session_stop_res_parts};
 
     ghost kinds = { kinds };
 
@@ -329,6 +302,14 @@ impl DeclaredRecord for SessionStopRes {
     ghost particles = { session_stop_res };
 
     ghost apart = { refl };
+
+    ghost given = { λ v. [] };
+
+    ghost parts = { session_stop_res_parts };
+
+    fn write<P: Places>(&self, writer: &mut EventWriter<'_, '_, P>) {
+        put_value(writer, names::RESPONSE_CODE, &self.response_code);
+    }
 }
 
 impl<'a> Record<'a> for SessionStopRes {

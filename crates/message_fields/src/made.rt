@@ -8,7 +8,7 @@ ghost use Rattle.message_parts.specs.Particles.{attribute_at, is_last_may, is_mu
 use crate::tuples::{Children, first_children};
 use exi_documents::Refusal;
 use exi_schema::Places;
-use message_parts::{Contents, Descent, ReadSimple, attribute, last_attribute};
+use message_parts::{Contents, Descent, Simple, attribute, last_attribute};
 
 /// Children alone.
 #[derive(Drop)]
@@ -33,7 +33,7 @@ impl<'a, C: Children<'a>> Contents<'a> for Elements<C> {
     }
 }
 
-impl<'a, T: ReadSimple<'a>, C: Children<'a>> Contents<'a> for WithAttribute<T, C> {
+impl<'a, T: Simple<'a>, C: Children<'a>> Contents<'a> for WithAttribute<T, C> {
     ghost stand = { λ ks attributes declared. (1 ≡ length attributes) × (is_must (slice_get attributes 0) ≡ true) × (takes_attribute T.takes ks attributes 0 ≡ true)
         × (C.behind 0 ≡ length declared) × C.stand ks declared 0 };
 
@@ -46,7 +46,7 @@ impl<'a, T: ReadSimple<'a>, C: Children<'a>> Contents<'a> for WithAttribute<T, C
     }
 }
 
-impl<'a, T: ReadSimple<'a>, C: Children<'a>> Contents<'a> for WithOptionalAttribute<T, C> {
+impl<'a, T: Simple<'a>, C: Children<'a>> Contents<'a> for WithOptionalAttribute<T, C> {
     ghost stand = { λ ks attributes declared. (is_last_may attributes 0 ≡ true) × (takes_attribute T.takes ks attributes 0 ≡ true)
         × (C.behind 0 ≡ length declared) × C.stand ks declared 0 };
 

@@ -10,7 +10,7 @@ use arrayvec::ArrayVec;
 use exi_documents::Refusal;
 use exi_schema::Places;
 use message_parts::{
-    Choice, Descent, Group, ReadRecord, ReadSimple, choice, left_out, optional, optional_choice,
+    Choice, Descent, Group, ReadRecord, Simple, choice, left_out, optional, optional_choice,
     optional_value, records, required, value, values,
 };
 
@@ -79,7 +79,7 @@ impl<'a, T: ReadRecord<'a>, const NAME: u16> Children<'a> for Optional<T, NAME> 
     }
 }
 
-impl<'a, T: ReadSimple<'a>> Children<'a> for RequiredValue<T> {
+impl<'a, T: Simple<'a>> Children<'a> for RequiredValue<T> {
     ghost stand = { λ ks declared at. (is_once_at declared at ≡ true) × (takes_at T.takes ks declared at ≡ true) };
 
     ghost behind = { λ at. suc at };
@@ -94,7 +94,7 @@ impl<'a, T: ReadSimple<'a>> Children<'a> for RequiredValue<T> {
     }
 }
 
-impl<'a, T: ReadSimple<'a>, const NAME: u16> Children<'a> for OptionalValue<T, NAME> {
+impl<'a, T: Simple<'a>, const NAME: u16> Children<'a> for OptionalValue<T, NAME> {
     ghost stand = { λ ks declared at. (is_optional_at declared at ≡ true) × (NAME ≡ name_at declared at) × (takes_at T.takes ks declared at ≡ true) };
 
     ghost behind = { λ at. suc at };
@@ -154,7 +154,7 @@ impl<'a, T: ReadRecord<'a> + Default, const MOST: usize, const NAME: u16> Childr
     }
 }
 
-impl<'a, T: ReadSimple<'a> + Default, const MOST: usize, const NAME: u16> Children<'a>
+impl<'a, T: Simple<'a> + Default, const MOST: usize, const NAME: u16> Children<'a>
     for SeveralValues<T, MOST, NAME> {
     ghost stand = { λ ks declared at. (is_repeated_at declared at MOST ≡ true) × (NAME ≡ name_at declared at) × (takes_at T.takes ks declared at ≡ true) };
 

@@ -12,16 +12,14 @@ ghost use Rattle.message_parts.specs.Reading.{Frame, seen_of, IsOpen, Enters, Le
 ghost use Rattle.message_parts.specs.Sequence.{HoldsValues, ReadsThree, told_three};
 
 use crate::descent::Descent;
-use crate::part::{
-    Choice, Contents, Group, LargeGroup, LargeRecord, ReadRecord, ReadSimple, Record,
-};
+use crate::part::{Choice, Contents, Group, LargeGroup, LargeRecord, ReadRecord, Record, Simple};
 use arrayvec::ArrayVec;
 use exi_documents::Refusal;
 use exi_schema::Places;
 
 /// The rest of an element that has started and has a value.
 #[inline(always)]
-fn simple_inside<'a, T: ReadSimple<'a>, P: Places>(
+fn simple_inside<'a, T: Simple<'a>, P: Places>(
     descent: &mut Descent<'a, '_, P>,
 ) -> Result<T, Refusal>
     requires open { IsOpen P.schema descent.old }
@@ -74,7 +72,7 @@ fn record_inside<'a, T: ReadRecord<'a>, P: Places>(
 // ---- attributes
 
 /// An attribute that has to be there.
-pub fn attribute<'a, T: ReadSimple<'a>, P: Places>(
+pub fn attribute<'a, T: Simple<'a>, P: Places>(
     descent: &mut Descent<'a, '_, P>,
 ) -> Result<T, Refusal>
     requires open { IsOpen P.schema descent.old }
@@ -92,7 +90,7 @@ pub fn attribute<'a, T: ReadSimple<'a>, P: Places>(
 }
 
 /// The last attribute, which may be there; behind it the first child is looked at.
-pub fn last_attribute<'a, T: ReadSimple<'a>, P: Places>(
+pub fn last_attribute<'a, T: Simple<'a>, P: Places>(
     descent: &mut Descent<'a, '_, P>,
 ) -> Result<Option<T>, Refusal>
     requires open { IsOpen P.schema descent.old }
@@ -132,9 +130,7 @@ pub fn first_child<'a, P: Places>(descent: &mut Descent<'a, '_, P>) -> Result<()
 
 /// A value that has to be there.
 #[inline(never)]
-pub fn value<'a, T: ReadSimple<'a>, P: Places>(
-    descent: &mut Descent<'a, '_, P>,
-) -> Result<T, Refusal>
+pub fn value<'a, T: Simple<'a>, P: Places>(descent: &mut Descent<'a, '_, P>) -> Result<T, Refusal>
     requires open { IsOpen P.schema descent.old }
     ensures open { IsOpen P.schema descent.new }
     ensures table { descent.new.reader.table.ghost_name ≡ descent.old.reader.table.ghost_name }
@@ -151,7 +147,7 @@ pub fn value<'a, T: ReadSimple<'a>, P: Places>(
 }
 
 /// A value that may be there.
-pub fn optional_value<'a, T: ReadSimple<'a>, P: Places>(
+pub fn optional_value<'a, T: Simple<'a>, P: Places>(
     descent: &mut Descent<'a, '_, P>,
     name: u16,
 ) -> Result<Option<T>, Refusal>
@@ -174,7 +170,7 @@ pub fn optional_value<'a, T: ReadSimple<'a>, P: Places>(
 }
 
 /// Values of one name, of which N are accepted.
-pub fn values<'a, T: ReadSimple<'a> + Default, P: Places, const N: usize>(
+pub fn values<'a, T: Simple<'a> + Default, P: Places, const N: usize>(
     descent: &mut Descent<'a, '_, P>,
     name: u16,
 ) -> Result<ArrayVec<T, N>, Refusal>
@@ -210,7 +206,7 @@ pub struct Three<A, B, C> {
     pub third: C,
 }
 
-impl<'a, A: ReadSimple<'a>, B: ReadSimple<'a>, C: ReadSimple<'a>> Contents<'a> for Three<A, B, C> {
+impl<'a, A: Simple<'a>, B: Simple<'a>, C: Simple<'a>> Contents<'a> for Three<A, B, C> {
     ghost stand = { λ ks attributes declared. (attributes ≡ []) × HoldsValues A.takes B.takes C.takes ks declared };
 
     ghost told = { λ attributes declared v before. told_three declared (A.value v.first) (B.value v.second) (C.value v.third) before };
@@ -222,7 +218,7 @@ impl<'a, A: ReadSimple<'a>, B: ReadSimple<'a>, C: ReadSimple<'a>> Contents<'a> f
 }
 
 /// Three values that each have to be there, of an element that holds nothing else: up to where there is no more.
-fn three_values<'a, A: ReadSimple<'a>, B: ReadSimple<'a>, C: ReadSimple<'a>, P: Places>(
+fn three_values<'a, A: Simple<'a>, B: Simple<'a>, C: Simple<'a>, P: Places>(
     descent: &mut Descent<'a, '_, P>,
 ) -> Result<Three<A, B, C>, Refusal>
     requires open { IsOpen P.schema descent.old }
@@ -246,7 +242,7 @@ fn three_values<'a, A: ReadSimple<'a>, B: ReadSimple<'a>, C: ReadSimple<'a>, P: 
 
 /// The same, one by one.
 #[inline(never)]
-fn each_of_three<'a, A: ReadSimple<'a>, B: ReadSimple<'a>, C: ReadSimple<'a>, P: Places>(
+fn each_of_three<'a, A: Simple<'a>, B: Simple<'a>, C: Simple<'a>, P: Places>(
     descent: &mut Descent<'a, '_, P>,
 ) -> Result<Three<A, B, C>, Refusal>
     requires open { IsOpen P.schema descent.old }
@@ -381,7 +377,7 @@ pub fn optional_choice<'a, T: Group<'a>, P: Places>(
 }
 
 /// What a member with a value contains, where the child that has started is this member.
-pub fn member_value<'a, T: ReadSimple<'a>, P: Places>(
+pub fn member_value<'a, T: Simple<'a>, P: Places>(
     descent: &mut Descent<'a, '_, P>,
 ) -> Result<T, Refusal>
     requires open { IsOpen P.schema descent.old }

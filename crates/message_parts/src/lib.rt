@@ -19,8 +19,8 @@ pub use descent::Descent;
 pub use document::{read, read_here, write};
 pub use lent_text::LentText;
 pub use part::{
-    Alternatives, Choice, Contents, DeclaredRecord, Group, LargeChoice, LargeGroup, LargeRecord,
-    PutChoice, PutRecord, ReadRecord, ReadSimple, Record, Root, Simple,
+    Choice, Contents, Group, LargeChoice, LargeGroup, LargeRecord, PutChoice, PutRecord,
+    ReadRecord, Record, Root, Simple,
 };
 pub use texts::{Binary, Text};
 pub use writer::{

@@ -4,10 +4,10 @@ ghost use Rattle.std.specs.Prelude.{pos};
 ghost use Rattle.exi_documents.specs.Trees.{Number, Truth};
 ghost use Rattle.message_parts.specs.Values.{is_bool, is_signed, is_unsigned};
 
-use crate::part::{ReadSimple, Simple};
+use crate::part::Simple;
 use exi_events::Value;
 
-impl Simple for u8 {
+impl<'a> Simple<'a> for u8 {
     ghost takes = { is_unsigned 8 };
 
     ghost value = { λ x. Number (pos x) };
@@ -15,9 +15,7 @@ impl Simple for u8 {
     fn as_value(&self) -> Value<'_> {
         Value::Number(i128::from(*self))
     }
-}
 
-impl<'a> ReadSimple<'a> for u8 {
     fn of(read: Value<'a>) -> u8 {
         match read {
             Value::Number(number) => u8::try_from(number).unwrap_or(0),
@@ -26,7 +24,7 @@ impl<'a> ReadSimple<'a> for u8 {
     }
 }
 
-impl Simple for u16 {
+impl<'a> Simple<'a> for u16 {
     ghost takes = { is_unsigned 16 };
 
     ghost value = { λ x. Number (pos x) };
@@ -34,9 +32,7 @@ impl Simple for u16 {
     fn as_value(&self) -> Value<'_> {
         Value::Number(i128::from(*self))
     }
-}
 
-impl<'a> ReadSimple<'a> for u16 {
     fn of(read: Value<'a>) -> u16 {
         match read {
             Value::Number(number) => u16::try_from(number).unwrap_or(0),
@@ -45,7 +41,7 @@ impl<'a> ReadSimple<'a> for u16 {
     }
 }
 
-impl Simple for u32 {
+impl<'a> Simple<'a> for u32 {
     ghost takes = { is_unsigned 32 };
 
     ghost value = { λ x. Number (pos x) };
@@ -53,9 +49,7 @@ impl Simple for u32 {
     fn as_value(&self) -> Value<'_> {
         Value::Number(i128::from(*self))
     }
-}
 
-impl<'a> ReadSimple<'a> for u32 {
     fn of(read: Value<'a>) -> u32 {
         match read {
             Value::Number(number) => u32::try_from(number).unwrap_or(0),
@@ -64,7 +58,7 @@ impl<'a> ReadSimple<'a> for u32 {
     }
 }
 
-impl Simple for u64 {
+impl<'a> Simple<'a> for u64 {
     ghost takes = { is_unsigned 64 };
 
     ghost value = { λ x. Number (pos x) };
@@ -72,9 +66,7 @@ impl Simple for u64 {
     fn as_value(&self) -> Value<'_> {
         Value::Number(i128::from(*self))
     }
-}
 
-impl<'a> ReadSimple<'a> for u64 {
     fn of(read: Value<'a>) -> u64 {
         match read {
             Value::Number(number) => u64::try_from(number).unwrap_or(0),
@@ -83,7 +75,7 @@ impl<'a> ReadSimple<'a> for u64 {
     }
 }
 
-impl Simple for i8 {
+impl<'a> Simple<'a> for i8 {
     ghost takes = { is_signed 7 };
 
     ghost value = { λ x. Number x };
@@ -91,9 +83,7 @@ impl Simple for i8 {
     fn as_value(&self) -> Value<'_> {
         Value::Number(i128::from(*self))
     }
-}
 
-impl<'a> ReadSimple<'a> for i8 {
     fn of(read: Value<'a>) -> i8 {
         match read {
             Value::Number(number) => i8::try_from(number).unwrap_or(0),
@@ -102,7 +92,7 @@ impl<'a> ReadSimple<'a> for i8 {
     }
 }
 
-impl Simple for i16 {
+impl<'a> Simple<'a> for i16 {
     ghost takes = { is_signed 15 };
 
     ghost value = { λ x. Number x };
@@ -110,9 +100,7 @@ impl Simple for i16 {
     fn as_value(&self) -> Value<'_> {
         Value::Number(i128::from(*self))
     }
-}
 
-impl<'a> ReadSimple<'a> for i16 {
     fn of(read: Value<'a>) -> i16 {
         match read {
             Value::Number(number) => i16::try_from(number).unwrap_or(0),
@@ -121,7 +109,7 @@ impl<'a> ReadSimple<'a> for i16 {
     }
 }
 
-impl Simple for i32 {
+impl<'a> Simple<'a> for i32 {
     ghost takes = { is_signed 31 };
 
     ghost value = { λ x. Number x };
@@ -129,9 +117,7 @@ impl Simple for i32 {
     fn as_value(&self) -> Value<'_> {
         Value::Number(i128::from(*self))
     }
-}
 
-impl<'a> ReadSimple<'a> for i32 {
     fn of(read: Value<'a>) -> i32 {
         match read {
             Value::Number(number) => i32::try_from(number).unwrap_or(0),
@@ -140,7 +126,7 @@ impl<'a> ReadSimple<'a> for i32 {
     }
 }
 
-impl Simple for i64 {
+impl<'a> Simple<'a> for i64 {
     ghost takes = { is_signed 63 };
 
     ghost value = { λ x. Number x };
@@ -148,9 +134,7 @@ impl Simple for i64 {
     fn as_value(&self) -> Value<'_> {
         Value::Number(i128::from(*self))
     }
-}
 
-impl<'a> ReadSimple<'a> for i64 {
     fn of(read: Value<'a>) -> i64 {
         match read {
             Value::Number(number) => i64::try_from(number).unwrap_or(0),
@@ -159,7 +143,7 @@ impl<'a> ReadSimple<'a> for i64 {
     }
 }
 
-impl Simple for bool {
+impl<'a> Simple<'a> for bool {
     ghost takes = { is_bool };
 
     ghost value = { λ x. Truth x };
@@ -167,9 +151,7 @@ impl Simple for bool {
     fn as_value(&self) -> Value<'_> {
         Value::Bool(*self)
     }
-}
 
-impl<'a> ReadSimple<'a> for bool {
     fn of(read: Value<'a>) -> bool {
         match read {
             Value::Bool(truth) => truth,

@@ -19,8 +19,8 @@ use exi_documents::Refusal;
 use exi_events::{EventWriter, Value};
 use exi_schema::Places;
 
-/// A value of a simple kind, and how it is put.
-pub trait Simple: Drop {
+/// A value of a simple kind, how it is put and how it is read.
+pub trait Simple<'a>: Drop {
     /// The datatypes whose values it takes.
     ghost takes: { Datatype → Bool };
 
@@ -31,18 +31,27 @@ pub trait Simple: Drop {
     fn as_value(&self) -> Value<'_>
         ensures shaped { IsShaped result }
         ensures value { value_of result ≡ value self.now };
-}
 
-/// A value of a simple kind, as it is read.
-pub trait ReadSimple<'a>: Simple {
     /// What is read as a value of one of these datatypes.
     fn of(read: Value<'a>) -> Self
         requires lent { (bits : List Bool) × IsLent bits read }
-        ensures { (d : Datatype) → Self.takes d ≡ true → IsRead d (value_of read.entry) → Self.value result ≡ value_of read.entry };
+        ensures { (d : Datatype) → takes d ≡ true → IsRead d (value_of read.entry) → value result ≡ value_of read.entry };
 }
 
-/// What an element of a complex kind contains, attributes and then elements, and how it is put.
+/// What an element of a complex kind contains, attributes and then elements, how it is declared, and how it is put.
 pub trait PutRecord: Drop {
+    /// The declarations of its schema.
+    ghost kinds: { List PlainKind };
+
+    /// Those of its attributes.
+    ghost attributes: { List AttributeOf };
+
+    /// Those of its elements.
+    ghost particles: { List PlainParticle };
+
+    /// No two elements have one name.
+    ghost apart: { are_distinct (names_in particles) ≡ true };
+
     /// What stands at its attributes.
     ghost given: { Self → List Given };
 
@@ -79,23 +88,8 @@ pub trait Contents<'a>: Drop {
             → IfOk result (λ v. Reads ks F attributes declared (length declared) (told attributes declared v before) (seen_of P.schema descent.new)) };
 }
 
-/// What an element of a complex kind contains, and how it is declared.
-pub trait DeclaredRecord: PutRecord {
-    /// The declarations of its schema.
-    ghost kinds: { List PlainKind };
-
-    /// Those of its attributes.
-    ghost attributes: { List AttributeOf };
-
-    /// Those of its elements.
-    ghost particles: { List PlainParticle };
-
-    /// No two elements have one name.
-    ghost apart: { are_distinct (names_in particles) ≡ true };
-}
-
 /// What an element of a complex kind contains, and of what it is made.
-pub trait Record<'a>: DeclaredRecord {
+pub trait Record<'a>: PutRecord {
     /// Of what it is made.
     type Made: Contents<'a>;
 
@@ -108,7 +102,7 @@ pub trait Record<'a>: DeclaredRecord {
 }
 
 /// What an element of a complex kind contains, as it is read.
-pub trait ReadRecord<'a>: DeclaredRecord {
+pub trait ReadRecord<'a>: PutRecord {
     /// Reads the attributes and the elements, up to where there is no more.
     fn read<P: Places>(descent: &mut Descent<'a, '_, P>) -> Result<Self, Refusal>
         requires open { IsOpen P.schema descent.old }
@@ -122,7 +116,7 @@ pub trait ReadRecord<'a>: DeclaredRecord {
 }
 
 /// What an element of a complex kind contains, as it is read into a place that the caller lends: for types that are too large to move.
-pub trait LargeRecord<'a>: DeclaredRecord {
+pub trait LargeRecord<'a>: PutRecord {
     /// Reads the attributes and the elements, up to where there is no more. What it is after a refusal is not told.
     fn read_here<P: Places>(&mut self, descent: &mut Descent<'a, '_, P>) -> Result<(), Refusal>
         requires open { IsOpen P.schema descent.old }
@@ -135,8 +129,14 @@ pub trait LargeRecord<'a>: DeclaredRecord {
             → IfOk result (λ _. Reads Self.kinds F Self.attributes Self.particles (length Self.particles) (told_parts (Self.parts self.new) (told_given (Self.given self.new) told)) (seen_of P.schema descent.new)) };
 }
 
-/// One of several elements, of a choice or of a substitution group, and how it is put.
+/// One of several elements, of a choice or of a substitution group, which may stand there, and how it is put.
 pub trait PutChoice: Drop {
+    /// The declarations of its schema.
+    ghost kinds: { List PlainKind };
+
+    /// The names and kinds of the elements that may stand there.
+    ghost members: { List (ℕ × ℕ) };
+
     /// Which it is.
     ghost name: { Self → ℕ };
 
@@ -152,17 +152,8 @@ pub trait PutChoice: Drop {
             → Writes F rest (put_of writer.new) };
 }
 
-/// One of several elements, and which may stand there.
-pub trait Alternatives: PutChoice {
-    /// The declarations of its schema.
-    ghost kinds: { List PlainKind };
-
-    /// The names and kinds of the elements that may stand there.
-    ghost members: { List (ℕ × ℕ) };
-}
-
 /// One of several elements, as it is read.
-pub trait Choice<'a>: Alternatives {
+pub trait Choice<'a>: PutChoice {
     /// Reads the rest of the element, which has started.
     fn read_member<P: Places>(descent: &mut Descent<'a, '_, P>) -> Result<Self, Refusal>
         requires open { IsOpen P.schema descent.old }
@@ -183,7 +174,7 @@ pub trait Group<'a>: Choice<'a> {
 }
 
 /// One of several elements where none may stand either, as it is read into a place that the caller lends.
-pub trait LargeGroup<'a>: Alternatives {
+pub trait LargeGroup<'a>: PutChoice {
     /// The names of the elements that may stand there.
     fn names() -> &'static [u16]
         ensures { result.now ≡ names_among Self.members };
@@ -204,7 +195,7 @@ pub trait LargeGroup<'a>: Alternatives {
 }
 
 /// One of several elements, or what stands at the root of a document, as it is read into a place that the caller lends.
-pub trait LargeChoice<'a>: Alternatives {
+pub trait LargeChoice<'a>: PutChoice {
     /// Reads the rest of the element, which has started. What it is after a refusal is not told.
     fn read_member_here<P: Places>(
         &mut self,

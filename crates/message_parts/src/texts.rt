@@ -9,7 +9,7 @@ ghost use Rattle.message_parts.specs.Values.{is_text, is_binary};
 ghost use Rattle.message_parts.specs.Texts.{text_value};
 
 use crate::lent_text::LentText;
-use crate::part::{ReadSimple, Simple};
+use crate::part::Simple;
 use exi_bits::BitSpan;
 use exi_events::Value;
 
@@ -102,7 +102,7 @@ impl<'a> Binary<'a> {
     }
 }
 
-impl Simple for Text<'_> {
+impl<'a> Simple<'a> for Text<'a> {
     ghost takes = { is_text };
 
     ghost value = { text_value };
@@ -113,9 +113,7 @@ impl Simple for Text<'_> {
             Text::Written(text) => Value::Written(text),
         }
     }
-}
 
-impl<'a> ReadSimple<'a> for Text<'a> {
     fn of(read: Value<'a>) -> Text<'a> {
         match read {
             Value::Text(span) => Text::Lent(LentText { span }),
@@ -130,7 +128,7 @@ impl<'a> Default for Text<'a> {
     }
 }
 
-impl Simple for Binary<'_> {
+impl<'a> Simple<'a> for Binary<'a> {
     ghost takes = { is_binary };
 
     ghost value = { λ x. TreeBytes (items_of x.span) };
@@ -138,9 +136,7 @@ impl Simple for Binary<'_> {
     fn as_value(&self) -> Value<'_> {
         binary_again(&self.span)
     }
-}
 
-impl<'a> ReadSimple<'a> for Binary<'a> {
     fn of(read: Value<'a>) -> Binary<'a> {
         match read {
             Value::Binary(span) => Binary { span },

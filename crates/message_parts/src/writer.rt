@@ -39,7 +39,7 @@ fn put_start<P: Places>(writer: &mut EventWriter<'_, '_, P>, name: u16)
 
 /// Puts the value of an element.
 #[inline(never)]
-fn put_content<T: Simple, P: Places>(writer: &mut EventWriter<'_, '_, P>, value: &T)
+fn put_content<'a, T: Simple<'a>, P: Places>(writer: &mut EventWriter<'_, '_, P>, value: &T)
     requires ready { IsReadyToPut writer.old }
     ensures ready { IsReadyToPut writer.new }
     ensures lent { KeepsLent writer.old writer.new }
@@ -62,7 +62,7 @@ fn put_end<P: Places>(writer: &mut EventWriter<'_, '_, P>)
 }
 
 /// Puts an attribute.
-pub fn put_attribute<T: Simple, P: Places>(
+pub fn put_attribute<'a, T: Simple<'a>, P: Places>(
     writer: &mut EventWriter<'_, '_, P>,
     name: u16,
     value: &T,
@@ -77,7 +77,7 @@ pub fn put_attribute<T: Simple, P: Places>(
 }
 
 /// Puts an attribute, where it is there.
-pub fn put_optional_attribute<T: Simple, P: Places>(
+pub fn put_optional_attribute<'a, T: Simple<'a>, P: Places>(
     writer: &mut EventWriter<'_, '_, P>,
     name: u16,
     value: &Option<T>,
@@ -95,7 +95,11 @@ pub fn put_optional_attribute<T: Simple, P: Places>(
 }
 
 /// Puts a value.
-pub fn put_value<T: Simple, P: Places>(writer: &mut EventWriter<'_, '_, P>, name: u16, value: &T)
+pub fn put_value<'a, T: Simple<'a>, P: Places>(
+    writer: &mut EventWriter<'_, '_, P>,
+    name: u16,
+    value: &T,
+)
     requires ready { IsReadyToPut writer.old }
     ensures ready { IsReadyToPut writer.new }
     ensures lent { KeepsLent writer.old writer.new }
@@ -108,7 +112,7 @@ pub fn put_value<T: Simple, P: Places>(writer: &mut EventWriter<'_, '_, P>, name
 }
 
 /// Puts a value, where it is there.
-pub fn put_optional_value<T: Simple, P: Places>(
+pub fn put_optional_value<'a, T: Simple<'a>, P: Places>(
     writer: &mut EventWriter<'_, '_, P>,
     name: u16,
     value: &Option<T>,
@@ -126,7 +130,7 @@ pub fn put_optional_value<T: Simple, P: Places>(
 }
 
 /// Puts values of one name.
-pub fn put_values<T: Simple, P: Places, const N: usize>(
+pub fn put_values<'a, T: Simple<'a>, P: Places, const N: usize>(
     writer: &mut EventWriter<'_, '_, P>,
     name: u16,
     values: &ArrayVec<T, N>,

@@ -8,9 +8,8 @@ use exi_events::{EventWriter, Value};
 use exi_schema::Places;
 use message_fields::{Elements, OptionalValue, RequiredValue};
 use message_parts::{
-    Alternatives, Choice, DeclaredRecord, Descent, Group, PutChoice, PutRecord, ReadRecord,
-    ReadSimple, Record, Simple, Text, member, member_value, put_optional_value, put_record,
-    put_value, whole_record,
+    Choice, Descent, Group, PutChoice, PutRecord, ReadRecord, Record, Simple, Text, member,
+    member_value, put_optional_value, put_record, put_value, whole_record,
 };
 
 /// How a post is.
@@ -21,7 +20,7 @@ pub enum State {
     Broken,
 }
 
-impl Simple for State {
+impl<'a> Simple<'a> for State {
     ghost use Rattle.exi_documents.specs.Trees.{Ordinal};
     ghost use Rattle.message_parts.specs.Values.{is_named};
     ghost use Rattle.parts_examples.specs.Parts.{state_ordinal};
@@ -37,9 +36,7 @@ impl Simple for State {
             State::Broken => 2,
         })
     }
-}
 
-impl<'a> ReadSimple<'a> for State {
     fn of(read: Value<'a>) -> State {
         match read {
             Value::Ordinal(0) => State::Free,
@@ -57,7 +54,17 @@ pub struct Reading {
 }
 
 impl PutRecord for Reading {
+    ghost use Rattle.std.specs.Prelude.{refl};
+    ghost use Rattle.parts_examples.specs.Declarations.{kinds, reading};
     ghost use Rattle.parts_examples.specs.Parts.{reading_parts};
+
+    ghost kinds = { kinds };
+
+    ghost attributes = { [] };
+
+    ghost particles = { reading };
+
+    ghost apart = { refl };
 
     ghost given = { λ v. [] };
 
@@ -67,19 +74,6 @@ impl PutRecord for Reading {
         put_value(writer, names::SCALE, &self.scale);
         put_value(writer, names::VALUE, &self.value);
     }
-}
-
-impl DeclaredRecord for Reading {
-    ghost use Rattle.std.specs.Prelude.{refl};
-    ghost use Rattle.parts_examples.specs.Declarations.{kinds, reading};
-
-    ghost kinds = { kinds };
-
-    ghost attributes = { [] };
-
-    ghost particles = { reading };
-
-    ghost apart = { refl };
 }
 
 impl<'a> Record<'a> for Reading {
@@ -113,7 +107,13 @@ pub enum Amount<'a> {
 }
 
 impl PutChoice for Amount<'_> {
+    ghost use Rattle.message_parts.specs.Particles.{alternatives};
+    ghost use Rattle.parts_examples.specs.Declarations.{kinds, amounts};
     ghost use Rattle.parts_examples.specs.Parts.{amount_name, amount_inside};
+
+    ghost kinds = { kinds };
+
+    ghost members = { alternatives amounts };
 
     ghost name = { amount_name };
 
@@ -129,15 +129,6 @@ impl PutChoice for Amount<'_> {
             Amount::Word(word) => put_value(writer, names::WORD, word),
         }
     }
-}
-
-impl Alternatives for Amount<'_> {
-    ghost use Rattle.message_parts.specs.Particles.{alternatives};
-    ghost use Rattle.parts_examples.specs.Declarations.{kinds, amounts};
-
-    ghost kinds = { kinds };
-
-    ghost members = { alternatives amounts };
 }
 
 impl<'a> Choice<'a> for Amount<'a> {
@@ -166,20 +157,9 @@ pub struct AcSupply {
 }
 
 impl PutRecord for AcSupply {
-    ghost use Rattle.parts_examples.specs.Parts.{ac_parts};
-
-    ghost given = { λ v. [] };
-
-    ghost parts = { ac_parts };
-
-    fn write<P: Places>(&self, writer: &mut EventWriter<'_, '_, P>) {
-        put_value(writer, names::PHASE, &self.phase);
-    }
-}
-
-impl DeclaredRecord for AcSupply {
     ghost use Rattle.std.specs.Prelude.{refl};
     ghost use Rattle.parts_examples.specs.Declarations.{kinds, ac_supply};
+    ghost use Rattle.parts_examples.specs.Parts.{ac_parts};
 
     ghost kinds = { kinds };
 
@@ -188,6 +168,14 @@ impl DeclaredRecord for AcSupply {
     ghost particles = { ac_supply };
 
     ghost apart = { refl };
+
+    ghost given = { λ v. [] };
+
+    ghost parts = { ac_parts };
+
+    fn write<P: Places>(&self, writer: &mut EventWriter<'_, '_, P>) {
+        put_value(writer, names::PHASE, &self.phase);
+    }
 }
 
 impl<'a> Record<'a> for AcSupply {
@@ -219,7 +207,17 @@ pub struct DcSupply {
 }
 
 impl PutRecord for DcSupply {
+    ghost use Rattle.std.specs.Prelude.{refl};
+    ghost use Rattle.parts_examples.specs.Declarations.{kinds, dc_supply};
     ghost use Rattle.parts_examples.specs.Parts.{dc_parts};
+
+    ghost kinds = { kinds };
+
+    ghost attributes = { [] };
+
+    ghost particles = { dc_supply };
+
+    ghost apart = { refl };
 
     ghost given = { λ v. [] };
 
@@ -229,19 +227,6 @@ impl PutRecord for DcSupply {
         put_value(writer, names::VOLTAGE, &self.voltage);
         put_optional_value(writer, names::CURRENT, &self.current);
     }
-}
-
-impl DeclaredRecord for DcSupply {
-    ghost use Rattle.std.specs.Prelude.{refl};
-    ghost use Rattle.parts_examples.specs.Declarations.{kinds, dc_supply};
-
-    ghost kinds = { kinds };
-
-    ghost attributes = { [] };
-
-    ghost particles = { dc_supply };
-
-    ghost apart = { refl };
 }
 
 impl<'a> Record<'a> for DcSupply {
@@ -271,7 +256,13 @@ pub enum Supply {
 }
 
 impl PutChoice for Supply {
+    ghost use Rattle.message_parts.specs.Particles.{alternatives};
+    ghost use Rattle.parts_examples.specs.Declarations.{kinds, supplies};
     ghost use Rattle.parts_examples.specs.Parts.{supply_name, supply_inside};
+
+    ghost kinds = { kinds };
+
+    ghost members = { alternatives supplies };
 
     ghost name = { supply_name };
 
@@ -283,15 +274,6 @@ impl PutChoice for Supply {
             Supply::Dc(supply) => put_record(writer, names::DC_SUPPLY, supply),
         }
     }
-}
-
-impl Alternatives for Supply {
-    ghost use Rattle.message_parts.specs.Particles.{alternatives};
-    ghost use Rattle.parts_examples.specs.Declarations.{kinds, supplies};
-
-    ghost kinds = { kinds };
-
-    ghost members = { alternatives supplies };
 }
 
 impl<'a> Choice<'a> for Supply {
@@ -311,20 +293,9 @@ pub struct Stopped {
 }
 
 impl PutRecord for Stopped {
-    ghost use Rattle.parts_examples.specs.Parts.{stopped_parts};
-
-    ghost given = { λ v. [] };
-
-    ghost parts = { stopped_parts };
-
-    fn write<P: Places>(&self, writer: &mut EventWriter<'_, '_, P>) {
-        put_value(writer, names::STATE, &self.state);
-    }
-}
-
-impl DeclaredRecord for Stopped {
     ghost use Rattle.std.specs.Prelude.{refl};
     ghost use Rattle.parts_examples.specs.Declarations.{kinds, stopped};
+    ghost use Rattle.parts_examples.specs.Parts.{stopped_parts};
 
     ghost kinds = { kinds };
 
@@ -333,6 +304,14 @@ impl DeclaredRecord for Stopped {
     ghost particles = { stopped };
 
     ghost apart = { refl };
+
+    ghost given = { λ v. [] };
+
+    ghost parts = { stopped_parts };
+
+    fn write<P: Places>(&self, writer: &mut EventWriter<'_, '_, P>) {
+        put_value(writer, names::STATE, &self.state);
+    }
 }
 
 impl<'a> Record<'a> for Stopped {
@@ -363,7 +342,13 @@ pub enum Cause {
 }
 
 impl PutChoice for Cause {
+    ghost use Rattle.message_parts.specs.Particles.{alternatives};
+    ghost use Rattle.parts_examples.specs.Declarations.{kinds, causes};
     ghost use Rattle.parts_examples.specs.Parts.{cause_name, cause_inside};
+
+    ghost kinds = { kinds };
+
+    ghost members = { alternatives causes };
 
     ghost name = { cause_name };
 
@@ -375,15 +360,6 @@ impl PutChoice for Cause {
             Cause::Stopped(stopped) => put_record(writer, names::STOPPED, stopped),
         }
     }
-}
-
-impl Alternatives for Cause {
-    ghost use Rattle.message_parts.specs.Particles.{alternatives};
-    ghost use Rattle.parts_examples.specs.Declarations.{kinds, causes};
-
-    ghost kinds = { kinds };
-
-    ghost members = { alternatives causes };
 }
 
 impl<'a> Choice<'a> for Cause {

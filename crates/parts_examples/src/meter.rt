@@ -8,8 +8,7 @@ use exi_events::EventWriter;
 use exi_schema::Places;
 use message_fields::{Elements, OptionalValue, RequiredValue};
 use message_parts::{
-    DeclaredRecord, Descent, PutRecord, ReadRecord, Record, put_optional_value, put_value,
-    whole_record,
+    Descent, PutRecord, ReadRecord, Record, put_optional_value, put_value, whole_record,
 };
 
 /// What a meter reads.
@@ -37,7 +36,17 @@ pub struct Meter {
 }
 
 impl PutRecord for Meter {
+    ghost use Rattle.std.specs.Prelude.{refl};
+    ghost use Rattle.parts_examples.specs.Declarations.{kinds, meter};
     ghost use Rattle.parts_examples.specs.Parts.{meter_parts};
+
+    ghost kinds = { kinds };
+
+    ghost attributes = { [] };
+
+    ghost particles = { meter };
+
+    ghost apart = { refl };
 
     ghost given = { λ v. [] };
 
@@ -55,19 +64,6 @@ impl PutRecord for Meter {
         put_value(writer, names::VALID, &self.valid);
         put_optional_value(writer, names::LOAD, &self.load);
     }
-}
-
-impl DeclaredRecord for Meter {
-    ghost use Rattle.std.specs.Prelude.{refl};
-    ghost use Rattle.parts_examples.specs.Declarations.{kinds, meter};
-
-    ghost kinds = { kinds };
-
-    ghost attributes = { [] };
-
-    ghost particles = { meter };
-
-    ghost apart = { refl };
 }
 
 impl<'a> Record<'a> for Meter {

@@ -17,11 +17,10 @@ use exi_events::{EventWriter, Full, Table};
 use exi_schema::Places;
 use message_fields::{Elements, SeveralValues};
 use message_parts::{
-    Alternatives, Binary, Choice, DeclaredRecord, Descent, PutChoice, PutRecord, ReadRecord,
-    Record, Root, Text, attribute, choice, last_attribute, member, optional_choice, optional_value,
-    put_attribute, put_choice, put_optional_attribute, put_optional_choice, put_optional_value,
-    put_record, put_records, put_value, put_values, read, records, required, value, whole_record,
-    write,
+    Binary, Choice, Descent, PutChoice, PutRecord, ReadRecord, Record, Root, Text, attribute,
+    choice, last_attribute, member, optional_choice, optional_value, put_attribute, put_choice,
+    put_optional_attribute, put_optional_choice, put_optional_value, put_record, put_records,
+    put_value, put_values, read, records, required, value, whole_record, write,
 };
 
 /// The readings of a day.
@@ -32,20 +31,9 @@ pub struct Day {
 }
 
 impl PutRecord for Day {
-    ghost use Rattle.parts_examples.specs.Parts.{day_parts};
-
-    ghost given = { λ v. [] };
-
-    ghost parts = { day_parts };
-
-    fn write<P: Places>(&self, writer: &mut EventWriter<'_, '_, P>) {
-        put_values(writer, names::HOUR, &self.hours);
-    }
-}
-
-impl DeclaredRecord for Day {
     ghost use Rattle.std.specs.Prelude.{refl};
     ghost use Rattle.parts_examples.specs.Declarations.{kinds, day};
+    ghost use Rattle.parts_examples.specs.Parts.{day_parts};
 
     ghost kinds = { kinds };
 
@@ -54,6 +42,14 @@ impl DeclaredRecord for Day {
     ghost particles = { day };
 
     ghost apart = { refl };
+
+    ghost given = { λ v. [] };
+
+    ghost parts = { day_parts };
+
+    fn write<P: Places>(&self, writer: &mut EventWriter<'_, '_, P>) {
+        put_values(writer, names::HOUR, &self.hours);
+    }
 }
 
 impl<'a> Record<'a> for Day {
@@ -80,14 +76,6 @@ impl<'a> ReadRecord<'a> for Day {
 pub struct Closed;
 
 impl PutRecord for Closed {
-    ghost given = { λ v. [] };
-
-    ghost parts = { λ v. [] };
-
-    fn write<P: Places>(&self, _writer: &mut EventWriter<'_, '_, P>) {}
-}
-
-impl DeclaredRecord for Closed {
     ghost use Rattle.std.specs.Prelude.{refl};
     ghost use Rattle.parts_examples.specs.Declarations.{kinds};
 
@@ -98,6 +86,12 @@ impl DeclaredRecord for Closed {
     ghost particles = { [] };
 
     ghost apart = { refl };
+
+    ghost given = { λ v. [] };
+
+    ghost parts = { λ v. [] };
+
+    fn write<P: Places>(&self, _writer: &mut EventWriter<'_, '_, P>) {}
 }
 
 impl<'a> Record<'a> for Closed {
@@ -137,7 +131,17 @@ pub struct Report<'a> {
 }
 
 impl PutRecord for Report<'_> {
+    ghost use Rattle.std.specs.Prelude.{refl};
+    ghost use Rattle.parts_examples.specs.Declarations.{kinds, report, report_attributes};
     ghost use Rattle.parts_examples.specs.Parts.{report_given, report_parts};
+
+    ghost kinds = { kinds };
+
+    ghost attributes = { report_attributes };
+
+    ghost particles = { report };
+
+    ghost apart = { refl };
 
     ghost given = { report_given };
 
@@ -157,19 +161,6 @@ impl PutRecord for Report<'_> {
         put_records(writer, names::DAY, &self.days);
         put_record(writer, names::CLOSED, &self.closed);
     }
-}
-
-impl DeclaredRecord for Report<'_> {
-    ghost use Rattle.std.specs.Prelude.{refl};
-    ghost use Rattle.parts_examples.specs.Declarations.{kinds, report, report_attributes};
-
-    ghost kinds = { kinds };
-
-    ghost attributes = { report_attributes };
-
-    ghost particles = { report };
-
-    ghost apart = { refl };
 }
 
 /// A report has two attributes, which no type of `message_fields` has: so it is read child by child.
@@ -205,8 +196,13 @@ impl<'a> ReadRecord<'a> for Report<'a> {
 }
 
 impl PutChoice for Report<'_> {
+    ghost use Rattle.parts_examples.specs.Declarations.{kinds, report_roots};
     ghost use Rattle.parts_examples.specs.Parts.{report_inside};
     ghost use Rattle.parts_examples.specs.declared.names.TheConstants.{REPORT};
+
+    ghost kinds = { kinds };
+
+    ghost members = { report_roots };
 
     ghost name = { λ v. REPORT };
 
@@ -215,14 +211,6 @@ impl PutChoice for Report<'_> {
     fn write_member<P: Places>(&self, writer: &mut EventWriter<'_, '_, P>) {
         put_record(writer, names::REPORT, self);
     }
-}
-
-impl Alternatives for Report<'_> {
-    ghost use Rattle.parts_examples.specs.Declarations.{kinds, report_roots};
-
-    ghost kinds = { kinds };
-
-    ghost members = { report_roots };
 }
 
 impl<'a> Choice<'a> for Report<'a> {

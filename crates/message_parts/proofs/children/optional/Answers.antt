@@ -14,4 +14,4 @@ returns-clause-read g c = λ F attributes declared at told h once named is.
     let e = enters_optional _ F attributes declared at told _ h once (c.is_at.ensures.here (search (rules, c.if-not-is_at.false)) ∙ ap Some named) in
     let l = c.in_ok-value.ensures.read _ (kind_at declared at) _ e is in
     let r = c.in_ok-next_child.ensures.child _ F attributes declared (suc at) 0 _ (behind_optional _ F attributes declared at told _ h once (name_at declared at) _ _ l) in
-    subst (λ (n : ℕ). Reads g.T.DeclaredRecord.kinds F attributes declared (suc at) (told_one n (holding_with (g.T.PutRecord.given c.in_ok-value.value) (g.T.PutRecord.parts c.in_ok-value.value)) told) (seen_of g.P.Places.schema c.next_child.new.self)) (sym named) r
+    subst (λ (n : ℕ). Reads g.T.PutRecord.kinds F attributes declared (suc at) (told_one n (holding_with (g.T.PutRecord.given c.in_ok-value.value) (g.T.PutRecord.parts c.in_ok-value.value)) told) (seen_of g.P.Places.schema c.next_child.new.self)) (sym named) r

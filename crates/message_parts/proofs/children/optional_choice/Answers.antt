@@ -19,7 +19,7 @@ returns-clause-read g c = λ F attributes declared at told h is same.
     let yes : is_child_among c.names.result.now d.child ≡ true = sym c.is_among.ensures ∙ search (rules, c.if-not-is_among.false) in
     let it = group_here _ F attributes declared at told d h is
     (ap (λ (these : List (ℕ × ℕ)). is_child_among (names_among these) d.child) same ∙ ap (λ (ns : List ℕ). is_child_among ns d.child) (sym c.names.ensures) ∙ yes) in
-    let chosen = subst (λ (these : List (ℕ × ℕ)). IsChosen g.T.Alternatives.kinds (child_frame g.T.Alternatives.kinds F attributes declared at told d h it.name) these (Start it.name ∷ told) d) same (is_chosen _ F attributes declared at told d h it) in
+    let chosen = subst (λ (these : List (ℕ × ℕ)). IsChosen g.T.PutChoice.kinds (child_frame g.T.PutChoice.kinds F attributes declared at told d h it.name) these (Start it.name ∷ told) d) same (is_chosen _ F attributes declared at told d h it) in
     let l = c.in_ok-value.ensures.read _ _ chosen in
     let r = c.in_ok-next_child.ensures.child _ F attributes declared (suc at) 0 _ (behind_group _ F attributes declared at told d h is it.name _ _ l.1) in
-    subst (λ (n : ℕ). Reads g.T.Alternatives.kinds F attributes declared (suc at) (told_one n (g.T.PutChoice.inside c.in_ok-value.value) told) (seen_of g.P.Places.schema c.next_child.new.self)) (sym l.0) r
+    subst (λ (n : ℕ). Reads g.T.PutChoice.kinds F attributes declared (suc at) (told_one n (g.T.PutChoice.inside c.in_ok-value.value) told) (seen_of g.P.Places.schema c.next_child.new.self)) (sym l.0) r

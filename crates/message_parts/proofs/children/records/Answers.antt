@@ -25,11 +25,11 @@ loop-preserved g c =
           let l = c.in_ok-record_inside.ensures.read _ (kind_at declared at) _ e.enters kind in
           let same = told_pushed (λ x. holding_with (g.T.PutRecord.given x) (g.T.PutRecord.parts x)) c.args.name (name_at declared at) c.loop.items.items c.push.new.self.items c.in_ok-record_inside.field-0 told c.push.ensures.items named in
           elim (e.follows _ _ l) [
-            | inl more ↦ inl (subst (λ (t : List Event). ReadsFrom g.T.DeclaredRecord.kinds F attributes declared at (k + 1) t (seen_of g.P.Places.schema c.next_child.new.self)) same
+            | inl more ↦ inl (subst (λ (t : List Event). ReadsFrom g.T.PutRecord.kinds F attributes declared at (k + 1) t (seen_of g.P.Places.schema c.next_child.new.self)) same
                 (c.in_ok-next_child.ensures.child _ F attributes declared at (k + 1) _ more))
             | inr last ↦ inr (
               last.0,
-              subst (λ (t : List Event). Reads g.T.DeclaredRecord.kinds F attributes declared (suc at) t (seen_of g.P.Places.schema c.next_child.new.self)) same
+              subst (λ (t : List Event). Reads g.T.PutRecord.kinds F attributes declared (suc at) t (seen_of g.P.Places.schema c.next_child.new.self)) same
                   (c.in_ok-next_child.ensures.child _ F attributes declared (suc at) 0 _ last.1),
             )
           ];

@@ -16,7 +16,7 @@ invariant-loop g l =
       places : l.descent.reader.places.now ≡ l.initial.descent.reader.places.now;
       payload : l.descent.reader.reader.bits ≡ l.initial.descent.reader.reader.bits;
       counted : length l.items.items ≡ l.counter;
-      read : (F : Frame) (attributes : List AttributeOf) (declared : List PlainParticle) (at : ℕ) (told : List Event) → Reads g.T.DeclaredRecord.kinds F attributes declared at told (seen_of g.P.Places.schema l.initial.descent)
-          → is_repeated_at declared at g.row.N ≡ true → l.name ≡ name_at declared at → slice_get g.T.DeclaredRecord.kinds (kind_at declared at) ≡ Some (containing g.T.DeclaredRecord.attributes g.T.DeclaredRecord.particles)
-          → Repeats g.T.DeclaredRecord.kinds F attributes declared at g.row.N l.counter (told_each l.name (map (λ x. holding_with (g.T.PutRecord.given x) (g.T.PutRecord.parts x)) l.items.items) told) (seen_of g.P.Places.schema l.descent);
+      read : (F : Frame) (attributes : List AttributeOf) (declared : List PlainParticle) (at : ℕ) (told : List Event) → Reads g.T.PutRecord.kinds F attributes declared at told (seen_of g.P.Places.schema l.initial.descent)
+          → is_repeated_at declared at g.row.N ≡ true → l.name ≡ name_at declared at → slice_get g.T.PutRecord.kinds (kind_at declared at) ≡ Some (containing g.T.PutRecord.attributes g.T.PutRecord.particles)
+          → Repeats g.T.PutRecord.kinds F attributes declared at g.row.N l.counter (told_each l.name (map (λ x. holding_with (g.T.PutRecord.given x) (g.T.PutRecord.parts x)) l.items.items) told) (seen_of g.P.Places.schema l.descent);
     }
