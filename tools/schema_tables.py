@@ -162,13 +162,16 @@ def tables(s):
     text += array("static", "ROOTS", "RootOf", [f"RootOf {{ number: {s.root}, name: V2G_MESSAGE, kind: V2G_MESSAGE_KIND }}"])
     for part in s.parts:
         text += PART % (part, part, part.upper())
-    fills = "".join(f"kinds.extend_from_slice({part}())?;" for part in s.parts)
-    return text + (TABLES_TAIL % fills).replace("Dialect", s.dialect).replace("TITLE", s.title)
+    parts = list(s.parts)
+    for word, some in (("first", parts[: len(parts) // 2]), ("last", parts[len(parts) // 2 :])):
+        puts = "".join(f"    kinds.extend_from_slice({part}())?;\n" for part in some)
+        text += PUT % (word, word, " ++ ".join(f"declared.{part}" for part in some), puts)
+    return text + TABLES_TAIL.replace("Dialect", s.dialect).replace("TITLE", s.title)
 
 
 TABLES_HEAD = """//! The declarations of %s as tables.
 
-ghost use Rattle.std.specs.Prelude.{◌≡◌, map};
+ghost use Rattle.std.specs.Prelude.{◌≡◌, ◌++◌, IfOk, map};
 ghost use Rattle.exi_schema.specs.Plain.{plain_kinds};
 ghost use Rattle.exi_schema.specs.Told.{schema_of};
 ghost use Rattle.%s.specs.Declarations as declared;
@@ -237,6 +240,15 @@ PART = """fn %s() -> &'static [Declaration<'static>]
 
 """
 
+PUT = """/// Puts the %s parts of the declarations.
+fn put_%s(kinds: &mut Vec<Declaration<'static>>) -> Result<(), AllocError>
+    ensures { IfOk result (λ _. plain_kinds kinds.new.items ≡ plain_kinds kinds.old.items ++ (%s)) }
+{
+%s    Ok(())
+}
+
+"""
+
 TABLES_TAIL = """fn names() -> &'static [&'static str]
     ensures { map (λ t. t.now) result.now ≡ declared.names }
 {
@@ -259,8 +271,9 @@ pub struct DialectSchema {
 impl DialectSchema {
     /// The declarations, each part behind the other.
     pub fn make(alloc: Global) -> Result<DialectSchema, AllocError> {
-        let mut kinds = Vec::new(alloc);
-        %s
+        let mut kinds: Vec<Declaration<'static>> = Vec::new(alloc);
+        put_first(&mut kinds)?;
+        put_last(&mut kinds)?;
         Ok(DialectSchema { kinds })
     }
 

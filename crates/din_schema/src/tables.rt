@@ -1,6 +1,6 @@
 //! The declarations of the messages of DIN SPEC 70121 as tables.
 
-ghost use Rattle.std.specs.Prelude.{◌≡◌, map};
+ghost use Rattle.std.specs.Prelude.{◌≡◌, ◌++◌, IfOk, map};
 ghost use Rattle.exi_schema.specs.Plain.{plain_kinds};
 ghost use Rattle.exi_schema.specs.Told.{schema_of};
 ghost use Rattle.din_schema.specs.Declarations as declared;
@@ -1031,6 +1031,25 @@ fn charging() -> &'static [Declaration<'static>]
     &CHARGING
 }
 
+/// Puts the first parts of the declarations.
+fn put_first(kinds: &mut Vec<Declaration<'static>>) -> Result<(), AllocError>
+    ensures { IfOk result (λ _. plain_kinds kinds.new.items ≡ plain_kinds kinds.old.items ++ (declared.simple ++ declared.frame)) }
+{
+    kinds.extend_from_slice(simple())?;
+    kinds.extend_from_slice(frame())?;
+    Ok(())
+}
+
+/// Puts the last parts of the declarations.
+fn put_last(kinds: &mut Vec<Declaration<'static>>) -> Result<(), AllocError>
+    ensures { IfOk result (λ _. plain_kinds kinds.new.items ≡ plain_kinds kinds.old.items ++ (declared.setup ++ declared.parameters ++ declared.charging)) }
+{
+    kinds.extend_from_slice(setup())?;
+    kinds.extend_from_slice(parameters())?;
+    kinds.extend_from_slice(charging())?;
+    Ok(())
+}
+
 fn names() -> &'static [&'static str]
     ensures { map (λ t. t.now) result.now ≡ declared.names }
 {
@@ -1053,12 +1072,9 @@ pub struct DinSchema {
 impl DinSchema {
     /// The declarations, each part behind the other.
     pub fn make(alloc: Global) -> Result<DinSchema, AllocError> {
-        let mut kinds = Vec::new(alloc);
-        kinds.extend_from_slice(simple())?;
-        kinds.extend_from_slice(frame())?;
-        kinds.extend_from_slice(setup())?;
-        kinds.extend_from_slice(parameters())?;
-        kinds.extend_from_slice(charging())?;
+        let mut kinds: Vec<Declaration<'static>> = Vec::new(alloc);
+        put_first(&mut kinds)?;
+        put_last(&mut kinds)?;
         Ok(DinSchema { kinds })
     }
 

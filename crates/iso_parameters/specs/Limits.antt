@@ -1,4 +1,4 @@
--- ISO 15118-2:2014 8.4.3, charge parameters, power delivery, and 8.4.4, AC: what elements of these types contain, part by part.
+-- ISO 15118-2:2014 8.4.3, charge parameters, and 8.5.2, schedules and charge parameters of a post: what elements of these types contain, part by part.
 use Rattle.std.specs.Prelude.{ℕ, pos, List, [], ◌∷◌}
 use Rattle.exi_documents.specs.Trees.{Number}
 use Rattle.message_parts.specs.Contents.{Inside, Part, Of, one, perhaps, mapped, holding}

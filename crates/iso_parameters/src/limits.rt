@@ -259,7 +259,7 @@ pub struct AcEvseChargeParameter {
 impl PutRecord for AcEvseChargeParameter {
     ghost use Rattle.std.specs.Prelude.{refl};
     ghost use Rattle.iso_schema.specs.Declarations.{kinds};
-    ghost use Rattle.iso_schema.specs.Parameters.{ac_evse_charge_parameter};
+    ghost use Rattle.iso_schema.specs.Schedules.{ac_evse_charge_parameter};
     ghost use Rattle.iso_parameters.specs.Limits.{ac_evse_charge_parameter_parts};
 
     ghost kinds = { kinds };
@@ -333,7 +333,7 @@ pub struct DcEvseChargeParameter {
 impl PutRecord for DcEvseChargeParameter {
     ghost use Rattle.std.specs.Prelude.{refl};
     ghost use Rattle.iso_schema.specs.Declarations.{kinds};
-    ghost use Rattle.iso_schema.specs.Parameters.{dc_evse_charge_parameter};
+    ghost use Rattle.iso_schema.specs.Schedules.{dc_evse_charge_parameter};
     ghost use Rattle.iso_parameters.specs.Limits.{dc_evse_charge_parameter_parts};
 
     ghost kinds = { kinds };

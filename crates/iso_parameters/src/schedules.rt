@@ -26,7 +26,7 @@ pub struct RelativeTimeInterval {
 impl PutRecord for RelativeTimeInterval {
     ghost use Rattle.std.specs.Prelude.{refl};
     ghost use Rattle.iso_schema.specs.Declarations.{kinds};
-    ghost use Rattle.iso_schema.specs.Parameters.{relative_time_interval};
+    ghost use Rattle.iso_schema.specs.Schedules.{relative_time_interval};
     ghost use Rattle.iso_parameters.specs.Schedules.{relative_time_interval_parts};
 
     ghost kinds = { kinds };
@@ -117,7 +117,7 @@ pub struct PMaxScheduleEntry {
 impl PutRecord for PMaxScheduleEntry {
     ghost use Rattle.std.specs.Prelude.{refl};
     ghost use Rattle.iso_schema.specs.Declarations.{kinds};
-    ghost use Rattle.iso_schema.specs.Parameters.{p_max_schedule_entry};
+    ghost use Rattle.iso_schema.specs.Schedules.{p_max_schedule_entry};
     ghost use Rattle.iso_parameters.specs.Schedules.{p_max_schedule_entry_parts};
 
     ghost kinds = { kinds };
@@ -170,7 +170,7 @@ pub struct PMaxSchedule {
 impl PutRecord for PMaxSchedule {
     ghost use Rattle.std.specs.Prelude.{refl};
     ghost use Rattle.iso_schema.specs.Declarations.{kinds};
-    ghost use Rattle.iso_schema.specs.Parameters.{p_max_schedule};
+    ghost use Rattle.iso_schema.specs.Schedules.{p_max_schedule};
     ghost use Rattle.iso_parameters.specs.Schedules.{p_max_schedule_parts};
 
     ghost kinds = { kinds };
@@ -226,7 +226,7 @@ pub struct SaScheduleTuple {
 impl PutRecord for SaScheduleTuple {
     ghost use Rattle.std.specs.Prelude.{refl};
     ghost use Rattle.iso_schema.specs.Declarations.{kinds};
-    ghost use Rattle.iso_schema.specs.Parameters.{sa_schedule_tuple};
+    ghost use Rattle.iso_schema.specs.Schedules.{sa_schedule_tuple};
     ghost use Rattle.iso_parameters.specs.Schedules.{sa_schedule_tuple_parts};
 
     ghost kinds = { kinds };
@@ -284,7 +284,7 @@ pub struct SaScheduleList {
 impl PutRecord for SaScheduleList {
     ghost use Rattle.std.specs.Prelude.{refl};
     ghost use Rattle.iso_schema.specs.Declarations.{kinds};
-    ghost use Rattle.iso_schema.specs.Parameters.{sa_schedule_list};
+    ghost use Rattle.iso_schema.specs.Schedules.{sa_schedule_list};
     ghost use Rattle.iso_parameters.specs.Schedules.{sa_schedule_list_parts};
 
     ghost kinds = { kinds };

@@ -1,4 +1,4 @@
--- ISO 15118-2:2014 8.4.3, charge parameters, power delivery, and 8.4.4, AC: what elements of these types contain, part by part.
+-- ISO 15118-2:2014 8.4.3, power delivery, and 8.4.4, AC: what elements of these types contain, part by part.
 use Rattle.std.specs.Prelude.{ℕ, pos, map, List, [], ◌∷◌}
 use Rattle.exi_documents.specs.Trees.{Truth, Ordinal, Number}
 use Rattle.message_parts.specs.Contents.{Inside, Part, Of, one, perhaps, each, perhaps_one, mapped, holding}

@@ -31,7 +31,7 @@ pub struct ProfileEntry {
 impl PutRecord for ProfileEntry {
     ghost use Rattle.std.specs.Prelude.{refl};
     ghost use Rattle.iso_schema.specs.Declarations.{kinds};
-    ghost use Rattle.iso_schema.specs.Parameters.{profile_entry};
+    ghost use Rattle.iso_schema.specs.Delivery.{profile_entry};
     ghost use Rattle.iso_power.specs.Delivery.{profile_entry_parts};
 
     ghost kinds = { kinds };
@@ -110,7 +110,7 @@ pub struct ChargingProfile {
 impl PutRecord for ChargingProfile {
     ghost use Rattle.std.specs.Prelude.{refl};
     ghost use Rattle.iso_schema.specs.Declarations.{kinds};
-    ghost use Rattle.iso_schema.specs.Parameters.{charging_profile};
+    ghost use Rattle.iso_schema.specs.Delivery.{charging_profile};
     ghost use Rattle.iso_power.specs.Delivery.{charging_profile_parts};
 
     ghost kinds = { kinds };
@@ -160,7 +160,7 @@ pub struct DcEvPowerDeliveryParameter {
 impl PutRecord for DcEvPowerDeliveryParameter {
     ghost use Rattle.std.specs.Prelude.{refl};
     ghost use Rattle.iso_schema.specs.Declarations.{kinds};
-    ghost use Rattle.iso_schema.specs.Parameters.{dc_ev_power_delivery_parameter};
+    ghost use Rattle.iso_schema.specs.Delivery.{dc_ev_power_delivery_parameter};
     ghost use Rattle.iso_power.specs.Delivery.{dc_ev_power_delivery_parameter_parts};
 
     ghost kinds = { kinds };
@@ -279,7 +279,7 @@ pub struct PowerDeliveryReq {
 impl PutRecord for PowerDeliveryReq {
     ghost use Rattle.std.specs.Prelude.{refl};
     ghost use Rattle.iso_schema.specs.Declarations.{kinds};
-    ghost use Rattle.iso_schema.specs.Parameters.{power_delivery_req};
+    ghost use Rattle.iso_schema.specs.Delivery.{power_delivery_req};
     ghost use Rattle.iso_power.specs.Delivery.{power_delivery_req_parts};
 
     ghost kinds = { kinds };
@@ -354,7 +354,7 @@ pub struct PowerDeliveryRes {
 impl PutRecord for PowerDeliveryRes {
     ghost use Rattle.std.specs.Prelude.{refl};
     ghost use Rattle.iso_schema.specs.Declarations.{kinds};
-    ghost use Rattle.iso_schema.specs.Parameters.{power_delivery_res};
+    ghost use Rattle.iso_schema.specs.Delivery.{power_delivery_res};
     ghost use Rattle.iso_power.specs.Delivery.{power_delivery_res_parts};
 
     ghost kinds = { kinds };
@@ -455,7 +455,7 @@ pub struct ChargingStatusRes<'a> {
 impl PutRecord for ChargingStatusRes<'_> {
     ghost use Rattle.std.specs.Prelude.{refl};
     ghost use Rattle.iso_schema.specs.Declarations.{kinds};
-    ghost use Rattle.iso_schema.specs.Parameters.{charging_status_res};
+    ghost use Rattle.iso_schema.specs.Delivery.{charging_status_res};
     ghost use Rattle.iso_power.specs.Delivery.{charging_status_res_parts};
 
     ghost kinds = { kinds };

@@ -15,7 +15,8 @@ use Rattle.session_words.specs.declared.limits.PostLimits.{PostLimits}
 use Rattle.session_words.specs.declared.limits.PostLimits.TheVariants as post
 use Rattle.session_words.specs.declared.limits.Tuple.{Tuple}
 use Rattle.iso_schema.specs.Declarations.{kinds}
-use Rattle.iso_schema.specs.Parameters.{charge_parameter_discovery_res, sa_schedule_list, sa_schedule_tuple, p_max_schedule, p_max_schedule_entry, relative_time_interval, ac_evse_charge_parameter, dc_evse_charge_parameter}
+use Rattle.iso_schema.specs.Parameters.{charge_parameter_discovery_res}
+use Rattle.iso_schema.specs.Schedules.{sa_schedule_list, sa_schedule_tuple, p_max_schedule, p_max_schedule_entry, relative_time_interval, ac_evse_charge_parameter, dc_evse_charge_parameter}
 use Rattle.iso_schema.specs.declared.names.TheConstants.{SA_SCHEDULE_LIST, SA_SCHEDULES, SA_SCHEDULE_TUPLE, P_MAX_SCHEDULE_ENTRY, AC_EVSE_CHARGE_PARAMETER, DC_EVSE_CHARGE_PARAMETER, EVSE_CHARGE_PARAMETER}
 use Rattle.iso_schema.specs.declared.kinds.TheConstants.{EMPTY_KIND, TUPLE_ID_KIND, INTERVAL_START_KIND, INTERVAL_DURATION_KIND, RESPONSE_CODE_KIND, EVSE_PROCESSING_KIND, PHYSICAL_VALUE_KIND, AC_EVSE_STATUS_KIND, DC_EVSE_STATUS_KIND, CHARGE_PARAMETER_DISCOVERY_RES_KIND, SA_SCHEDULE_LIST_KIND, SA_SCHEDULE_TUPLE_KIND, P_MAX_SCHEDULE_KIND, P_MAX_SCHEDULE_ENTRY_KIND, RELATIVE_TIME_INTERVAL_KIND, AC_EVSE_CHARGE_PARAMETER_KIND, DC_EVSE_CHARGE_PARAMETER_KIND}
 use Rattle.iso_parts.specs.declared.codes.ResponseCode.{ResponseCode}

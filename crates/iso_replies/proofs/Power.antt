@@ -18,7 +18,7 @@ use Rattle.session_words.specs.declared.limits.PostStatus.{PostStatus}
 use Rattle.session_words.specs.declared.limits.PostStatus.TheVariants as post
 use Rattle.iso_schema.specs.Declarations.{kinds}
 use Rattle.iso_schema.specs.Charging.{cable_check_res as cable_check_particles, pre_charge_res as pre_charge_particles, current_demand_res, welding_detection_res}
-use Rattle.iso_schema.specs.Parameters.{power_delivery_res, charging_status_res}
+use Rattle.iso_schema.specs.Delivery.{power_delivery_res, charging_status_res}
 use Rattle.iso_schema.specs.declared.names.TheConstants.{AC_EVSE_STATUS, DC_EVSE_STATUS, EVSE_STATUS, EVSE_MAXIMUM_VOLTAGE_LIMIT, EVSE_MAXIMUM_CURRENT_LIMIT, EVSE_MAXIMUM_POWER_LIMIT, EVSE_MAX_CURRENT}
 use Rattle.iso_schema.specs.declared.kinds.TheConstants.{BOOLEAN_KIND, TUPLE_ID_KIND, TEXT37_KIND, EMPTY_KIND, RESPONSE_CODE_KIND, EVSE_PROCESSING_KIND, PHYSICAL_VALUE_KIND, AC_EVSE_STATUS_KIND, DC_EVSE_STATUS_KIND, POWER_DELIVERY_RES_KIND, CHARGING_STATUS_RES_KIND, CABLE_CHECK_RES_KIND, PRE_CHARGE_RES_KIND, CURRENT_DEMAND_RES_KIND, WELDING_DETECTION_RES_KIND}
 use Rattle.iso_parts.specs.Values.{evse_status_name, evse_status_inside}

@@ -10,7 +10,8 @@ use Rattle.session_words.specs.declared.code.Processing.{Processing}
 use Rattle.session_words.specs.declared.limits.EvseId.{EvseId}
 use Rattle.session_words.specs.declared.mode.OfferedMode.{OfferedMode}
 use Rattle.iso_schema.specs.Declarations.{kinds}
-use Rattle.iso_schema.specs.Setup.{session_setup_res, service_discovery_res, payment_option_list, charge_service as charge_service_particles, supported_energy_transfer_mode, service_detail_res, payment_service_selection_res, authorization_res as authorization_particles, session_stop_res}
+use Rattle.iso_schema.specs.Setup.{session_setup_res, service_discovery_res, payment_option_list, charge_service as charge_service_particles, supported_energy_transfer_mode}
+use Rattle.iso_schema.specs.Selection.{service_detail_res, payment_service_selection_res, authorization_res as authorization_particles, session_stop_res}
 use Rattle.iso_schema.specs.declared.names.TheConstants.{ENERGY_TRANSFER_MODE}
 use Rattle.iso_schema.specs.declared.kinds.TheConstants.{BOOLEAN_KIND, UNSIGNED_SHORT_KIND, TEXT37_KIND, RESPONSE_CODE_KIND, SERVICE_CATEGORY_KIND, PAYMENT_OPTION_KIND, ENERGY_TRANSFER_MODE_KIND, EVSE_PROCESSING_KIND, SESSION_SETUP_RES_KIND, SERVICE_DISCOVERY_RES_KIND, PAYMENT_OPTION_LIST_KIND, CHARGE_SERVICE_KIND, SUPPORTED_ENERGY_TRANSFER_MODE_KIND, SERVICE_DETAIL_RES_KIND, PAYMENT_SERVICE_SELECTION_RES_KIND, AUTHORIZATION_RES_KIND, SESSION_STOP_RES_KIND}
 use Rattle.iso_parts.specs.Codes.{energy_transfer_mode_ordinal}

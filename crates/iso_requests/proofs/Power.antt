@@ -9,7 +9,7 @@ use Rattle.session_words.specs.declared.amount.Amount.{Amount}
 use Rattle.session_words.specs.declared.code.Progress.{Progress}
 use Rattle.iso_schema.specs.Declarations.{kinds}
 use Rattle.iso_schema.specs.Charging.{cable_check_req as cable_check_particles, pre_charge_req as pre_charge_particles, current_demand_req, welding_detection_req}
-use Rattle.iso_schema.specs.Parameters.{power_delivery_req, charging_profile, profile_entry as entry_particles}
+use Rattle.iso_schema.specs.Delivery.{power_delivery_req, charging_profile, profile_entry as entry_particles}
 use Rattle.iso_schema.specs.declared.names.TheConstants.{CHARGING_PROFILE}
 use Rattle.iso_schema.specs.declared.kinds.TheConstants.{BOOLEAN_KIND, UNSIGNED_INT_KIND, TUPLE_ID_KIND, CHARGE_PROGRESS_KIND, EMPTY_KIND, PHYSICAL_VALUE_KIND, DC_EV_STATUS_KIND, POWER_DELIVERY_REQ_KIND, CHARGING_PROFILE_KIND, PROFILE_ENTRY_KIND, CABLE_CHECK_REQ_KIND, PRE_CHARGE_REQ_KIND, CURRENT_DEMAND_REQ_KIND, WELDING_DETECTION_REQ_KIND}
 use Rattle.iso_power.specs.Charging.{cable_check_req_parts, pre_charge_req_parts, current_demand_req_parts, welding_detection_req_parts}

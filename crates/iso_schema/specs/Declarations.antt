@@ -6,7 +6,10 @@ use Rattle.iso_schema.specs.Texts.{fault_code, unit_symbol, ev_error_code, evse_
 pub use Rattle.iso_schema.specs.Simple.{simple}
 pub use Rattle.iso_schema.specs.Frame.{frame}
 pub use Rattle.iso_schema.specs.Setup.{setup}
+pub use Rattle.iso_schema.specs.Selection.{selection}
 pub use Rattle.iso_schema.specs.Parameters.{parameters}
+pub use Rattle.iso_schema.specs.Schedules.{schedules}
+pub use Rattle.iso_schema.specs.Delivery.{delivery}
 pub use Rattle.iso_schema.specs.Charging.{charging}
 use Rattle.std.specs.Prelude.{◌≡◌, ◌++◌, refl, length, ℕ, true, List, [], ◌∷◌}
 use Rattle.exi_schema.specs.declared.tables.RootOf.{RootOf}
@@ -16,7 +19,7 @@ use Rattle.iso_schema.specs.declared.kinds.TheConstants.{V2G_MESSAGE_KIND}
 
 -- the kinds, numbered from 0
 abbrev pub kinds : List PlainKind
-kinds = simple ++ frame ++ setup ++ parameters ++ charging
+kinds = simple ++ frame ++ setup ++ selection ++ parameters ++ schedules ++ delivery ++ charging
 
 -- the texts of the values of each kind
 abbrev pub values : List (List (List ℕ))

@@ -2,6 +2,9 @@ pub mod Texts
 pub mod Simple
 pub mod Frame
 pub mod Setup
+pub mod Selection
 pub mod Parameters
+pub mod Schedules
+pub mod Delivery
 pub mod Charging
 pub mod Declarations

@@ -1,6 +1,6 @@
 //! The declarations of the messages of ISO 15118-2 as tables.
 
-ghost use Rattle.std.specs.Prelude.{◌≡◌, map};
+ghost use Rattle.std.specs.Prelude.{◌≡◌, ◌++◌, IfOk, map};
 ghost use Rattle.exi_schema.specs.Plain.{plain_kinds};
 ghost use Rattle.exi_schema.specs.Told.{schema_of};
 ghost use Rattle.iso_schema.specs.Declarations as declared;
@@ -1005,7 +1005,7 @@ static FRAME: [Declaration<'static>; 9] = [
     },
 ];
 
-static SETUP: [Declaration<'static>; 22] = [
+static SETUP: [Declaration<'static>; 9] = [
     Declaration::Complex {
         attributes: &[],
         particles: &SESSION_SETUP_REQ_PARTICLES,
@@ -1042,6 +1042,9 @@ static SETUP: [Declaration<'static>; 22] = [
         attributes: &[],
         particles: &SERVICE_PARTICLES,
     },
+];
+
+static SELECTION: [Declaration<'static>; 13] = [
     Declaration::Complex {
         attributes: &[],
         particles: &SERVICE_DETAIL_REQ_PARTICLES,
@@ -1096,7 +1099,7 @@ static SETUP: [Declaration<'static>; 22] = [
     },
 ];
 
-static PARAMETERS: [Declaration<'static>; 17] = [
+static PARAMETERS: [Declaration<'static>; 4] = [
     Declaration::Complex {
         attributes: &[],
         particles: &CHARGE_PARAMETER_DISCOVERY_REQ_PARTICLES,
@@ -1113,6 +1116,9 @@ static PARAMETERS: [Declaration<'static>; 17] = [
         attributes: &[],
         particles: &CHARGE_PARAMETER_DISCOVERY_RES_PARTICLES,
     },
+];
+
+static SCHEDULES: [Declaration<'static>; 7] = [
     Declaration::Complex {
         attributes: &[],
         particles: &SA_SCHEDULE_LIST_PARTICLES,
@@ -1141,6 +1147,9 @@ static PARAMETERS: [Declaration<'static>; 17] = [
         attributes: &[],
         particles: &DC_EVSE_CHARGE_PARAMETER_PARTICLES,
     },
+];
+
+static DELIVERY: [Declaration<'static>; 6] = [
     Declaration::Complex {
         attributes: &[],
         particles: &POWER_DELIVERY_REQ_PARTICLES,
@@ -1226,16 +1235,56 @@ fn setup() -> &'static [Declaration<'static>]
     &SETUP
 }
 
+fn selection() -> &'static [Declaration<'static>]
+    ensures { plain_kinds result.now ≡ declared.selection }
+{
+    &SELECTION
+}
+
 fn parameters() -> &'static [Declaration<'static>]
     ensures { plain_kinds result.now ≡ declared.parameters }
 {
     &PARAMETERS
 }
 
+fn schedules() -> &'static [Declaration<'static>]
+    ensures { plain_kinds result.now ≡ declared.schedules }
+{
+    &SCHEDULES
+}
+
+fn delivery() -> &'static [Declaration<'static>]
+    ensures { plain_kinds result.now ≡ declared.delivery }
+{
+    &DELIVERY
+}
+
 fn charging() -> &'static [Declaration<'static>]
     ensures { plain_kinds result.now ≡ declared.charging }
 {
     &CHARGING
+}
+
+/// Puts the first parts of the declarations.
+fn put_first(kinds: &mut Vec<Declaration<'static>>) -> Result<(), AllocError>
+    ensures { IfOk result (λ _. plain_kinds kinds.new.items ≡ plain_kinds kinds.old.items ++ (declared.simple ++ declared.frame ++ declared.setup ++ declared.selection)) }
+{
+    kinds.extend_from_slice(simple())?;
+    kinds.extend_from_slice(frame())?;
+    kinds.extend_from_slice(setup())?;
+    kinds.extend_from_slice(selection())?;
+    Ok(())
+}
+
+/// Puts the last parts of the declarations.
+fn put_last(kinds: &mut Vec<Declaration<'static>>) -> Result<(), AllocError>
+    ensures { IfOk result (λ _. plain_kinds kinds.new.items ≡ plain_kinds kinds.old.items ++ (declared.parameters ++ declared.schedules ++ declared.delivery ++ declared.charging)) }
+{
+    kinds.extend_from_slice(parameters())?;
+    kinds.extend_from_slice(schedules())?;
+    kinds.extend_from_slice(delivery())?;
+    kinds.extend_from_slice(charging())?;
+    Ok(())
 }
 
 fn names() -> &'static [&'static str]
@@ -1260,12 +1309,9 @@ pub struct IsoSchema {
 impl IsoSchema {
     /// The declarations, each part behind the other.
     pub fn make(alloc: Global) -> Result<IsoSchema, AllocError> {
-        let mut kinds = Vec::new(alloc);
-        kinds.extend_from_slice(simple())?;
-        kinds.extend_from_slice(frame())?;
-        kinds.extend_from_slice(setup())?;
-        kinds.extend_from_slice(parameters())?;
-        kinds.extend_from_slice(charging())?;
+        let mut kinds: Vec<Declaration<'static>> = Vec::new(alloc);
+        put_first(&mut kinds)?;
+        put_last(&mut kinds)?;
         Ok(IsoSchema { kinds })
     }
 

@@ -1,4 +1,4 @@
--- ISO 15118-2:2014 8.4.3, common messages: what elements of these types contain, part by part.
+-- ISO 15118-2:2014 8.4.3, details and selection of services, authorization, session stop: what elements of these types contain, part by part.
 use Rattle.std.specs.Prelude.{ℕ, pos, map, List, [], ◌∷◌}
 use Rattle.exi_documents.specs.Trees.{Truth, Ordinal, Number}
 use Rattle.exi_schema.specs.declared.tables.AttributeOf.{AttributeOf}

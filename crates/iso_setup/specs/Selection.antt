@@ -1,4 +1,4 @@
--- ISO 15118-2:2014 8.4.3, common messages: what elements of these types contain, part by part.
+-- ISO 15118-2:2014 8.4.3, details and selection of services, authorization, session stop: what elements of these types contain, part by part.
 use Rattle.std.specs.Prelude.{pos, map, List, [], ◌∷◌}
 use Rattle.exi_documents.specs.Trees.{Ordinal, Number}
 use Rattle.message_parts.specs.Contents.{Part, Of, one, perhaps, each, mapped, holding}

@@ -1,4 +1,4 @@
--- ISO 15118-2:2014 8.4.3, common messages: what elements of these types contain, part by part.
+-- ISO 15118-2:2014 8.4.3, session setup and services: what elements of these types contain, part by part.
 use Rattle.std.specs.Prelude.{pos, map, List, [], ◌∷◌}
 use Rattle.exi_documents.specs.Trees.{Truth, Ordinal, Number}
 use Rattle.message_parts.specs.Contents.{Part, Of, one, perhaps, each, mapped, holding}

@@ -1,4 +1,4 @@
--- ISO 15118-2:2014 8.4.3, common messages: what elements of these types contain, part by part.
+-- ISO 15118-2:2014 8.4.3, session setup and services, and 8.4.3, details and selection of services, authorization, session stop: what elements of these types contain, part by part.
 use Rattle.std.specs.Prelude.{List, [], ◌∷◌}
 use Rattle.exi_bits.specs.Lent.{items_of}
 use Rattle.exi_documents.specs.Trees.{Ordinal, Number, Bytes}

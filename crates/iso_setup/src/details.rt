@@ -91,7 +91,7 @@ pub struct Parameter<'a> {
 impl PutRecord for Parameter<'_> {
     ghost use Rattle.std.specs.Prelude.{refl};
     ghost use Rattle.iso_schema.specs.Declarations.{kinds};
-    ghost use Rattle.iso_schema.specs.Setup.{parameter};
+    ghost use Rattle.iso_schema.specs.Selection.{parameter};
     ghost use Rattle.iso_setup.specs.Details.{parameter_given, parameter_parts, parameter_attributes};
 
     ghost kinds = { kinds };
@@ -142,7 +142,7 @@ pub struct ParameterSet<'a> {
 impl PutRecord for ParameterSet<'_> {
     ghost use Rattle.std.specs.Prelude.{refl};
     ghost use Rattle.iso_schema.specs.Declarations.{kinds};
-    ghost use Rattle.iso_schema.specs.Setup.{parameter_set};
+    ghost use Rattle.iso_schema.specs.Selection.{parameter_set};
     ghost use Rattle.iso_setup.specs.Details.{parameter_set_parts};
 
     ghost kinds = { kinds };
@@ -200,7 +200,7 @@ pub struct ServiceParameterList<'a> {
 impl PutRecord for ServiceParameterList<'_> {
     ghost use Rattle.std.specs.Prelude.{refl};
     ghost use Rattle.iso_schema.specs.Declarations.{kinds};
-    ghost use Rattle.iso_schema.specs.Setup.{service_parameter_list};
+    ghost use Rattle.iso_schema.specs.Selection.{service_parameter_list};
     ghost use Rattle.iso_setup.specs.Details.{service_parameter_list_parts};
 
     ghost kinds = { kinds };
@@ -250,7 +250,7 @@ pub struct ServiceDetailReq {
 impl PutRecord for ServiceDetailReq {
     ghost use Rattle.std.specs.Prelude.{refl};
     ghost use Rattle.iso_schema.specs.Declarations.{kinds};
-    ghost use Rattle.iso_schema.specs.Setup.{service_detail_req};
+    ghost use Rattle.iso_schema.specs.Selection.{service_detail_req};
     ghost use Rattle.iso_setup.specs.Details.{service_detail_req_parts};
 
     ghost kinds = { kinds };
@@ -300,7 +300,7 @@ pub struct ServiceDetailRes<'a> {
 impl PutRecord for ServiceDetailRes<'_> {
     ghost use Rattle.std.specs.Prelude.{refl};
     ghost use Rattle.iso_schema.specs.Declarations.{kinds};
-    ghost use Rattle.iso_schema.specs.Setup.{service_detail_res};
+    ghost use Rattle.iso_schema.specs.Selection.{service_detail_res};
     ghost use Rattle.iso_setup.specs.Details.{service_detail_res_parts};
 
     ghost kinds = { kinds };

@@ -24,7 +24,7 @@ pub struct SelectedService {
 impl PutRecord for SelectedService {
     ghost use Rattle.std.specs.Prelude.{refl};
     ghost use Rattle.iso_schema.specs.Declarations.{kinds};
-    ghost use Rattle.iso_schema.specs.Setup.{selected_service};
+    ghost use Rattle.iso_schema.specs.Selection.{selected_service};
     ghost use Rattle.iso_setup.specs.Selection.{selected_service_parts};
 
     ghost kinds = { kinds };
@@ -82,7 +82,7 @@ pub struct SelectedServiceList {
 impl PutRecord for SelectedServiceList {
     ghost use Rattle.std.specs.Prelude.{refl};
     ghost use Rattle.iso_schema.specs.Declarations.{kinds};
-    ghost use Rattle.iso_schema.specs.Setup.{selected_service_list};
+    ghost use Rattle.iso_schema.specs.Selection.{selected_service_list};
     ghost use Rattle.iso_setup.specs.Selection.{selected_service_list_parts};
 
     ghost kinds = { kinds };
@@ -131,7 +131,7 @@ pub struct PaymentServiceSelectionReq {
 impl PutRecord for PaymentServiceSelectionReq {
     ghost use Rattle.std.specs.Prelude.{refl};
     ghost use Rattle.iso_schema.specs.Declarations.{kinds};
-    ghost use Rattle.iso_schema.specs.Setup.{payment_service_selection_req};
+    ghost use Rattle.iso_schema.specs.Selection.{payment_service_selection_req};
     ghost use Rattle.iso_setup.specs.Selection.{payment_service_selection_req_parts};
 
     ghost kinds = { kinds };
@@ -194,7 +194,7 @@ pub struct PaymentServiceSelectionRes {
 impl PutRecord for PaymentServiceSelectionRes {
     ghost use Rattle.std.specs.Prelude.{refl};
     ghost use Rattle.iso_schema.specs.Declarations.{kinds};
-    ghost use Rattle.iso_schema.specs.Setup.{payment_service_selection_res};
+    ghost use Rattle.iso_schema.specs.Selection.{payment_service_selection_res};
     ghost use Rattle.iso_setup.specs.Selection.{payment_service_selection_res_parts};
 
     ghost kinds = { kinds };

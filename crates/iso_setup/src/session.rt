@@ -139,7 +139,7 @@ pub struct AuthorizationReq<'a> {
 impl PutRecord for AuthorizationReq<'_> {
     ghost use Rattle.std.specs.Prelude.{refl};
     ghost use Rattle.iso_schema.specs.Declarations.{kinds};
-    ghost use Rattle.iso_schema.specs.Setup.{authorization_req};
+    ghost use Rattle.iso_schema.specs.Selection.{authorization_req};
     ghost use Rattle.iso_setup.specs.Session.{authorization_req_given, authorization_req_parts, authorization_req_attributes};
 
     ghost kinds = { kinds };
@@ -192,7 +192,7 @@ pub struct AuthorizationRes {
 impl PutRecord for AuthorizationRes {
     ghost use Rattle.std.specs.Prelude.{refl};
     ghost use Rattle.iso_schema.specs.Declarations.{kinds};
-    ghost use Rattle.iso_schema.specs.Setup.{authorization_res};
+    ghost use Rattle.iso_schema.specs.Selection.{authorization_res};
     ghost use Rattle.iso_setup.specs.Session.{authorization_res_parts};
 
     ghost kinds = { kinds };
@@ -244,7 +244,7 @@ pub struct SessionStopReq {
 impl PutRecord for SessionStopReq {
     ghost use Rattle.std.specs.Prelude.{refl};
     ghost use Rattle.iso_schema.specs.Declarations.{kinds};
-    ghost use Rattle.iso_schema.specs.Setup.{session_stop_req};
+    ghost use Rattle.iso_schema.specs.Selection.{session_stop_req};
     ghost use Rattle.iso_setup.specs.Session.{session_stop_req_parts};
 
     ghost kinds = { kinds };
@@ -292,7 +292,7 @@ pub struct SessionStopRes {
 impl PutRecord for SessionStopRes {
     ghost use Rattle.std.specs.Prelude.{refl};
     ghost use Rattle.iso_schema.specs.Declarations.{kinds};
-    ghost use Rattle.iso_schema.specs.Setup.{session_stop_res};
+    ghost use Rattle.iso_schema.specs.Selection.{session_stop_res};
     ghost use Rattle.iso_setup.specs.Session.{session_stop_res_parts};
 
     ghost kinds = { kinds };

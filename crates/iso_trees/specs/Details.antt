@@ -1,4 +1,4 @@
--- ISO 15118-2:2014 8.4.3, common messages: what elements of these types are read as.
+-- ISO 15118-2:2014 8.4.3, details and selection of services, authorization, session stop: what elements of these types are read as.
 use Rattle.std.specs.Prelude.{ℕ, List, map}
 use Rattle.std.specs.Option.{option_map}
 use Rattle.exi_documents.specs.Trees.{Value}
@@ -23,7 +23,7 @@ parameter_value_in l x =
     or_last (option_map (λ inside. parameter_value.Byte (number_in inside)) (head (x BYTE_VALUE))) (
     or_last (option_map (λ inside. parameter_value.Short (number_in inside)) (head (x SHORT_VALUE))) (
     or_last (option_map (λ inside. parameter_value.Int (number_in inside)) (head (x INT_VALUE))) (
-    or_last (option_map (λ inside. parameter_value.Physical (physical_value_in (children inside))) (head (x PHYSICAL_VALUE)))
+    or_last (option_map (λ inside. parameter_value.Physical (physical_value_in (children inside))) (head (x PHYSICAL_VALUE))) 
     (parameter_value.String (l.text (text (x STRING_VALUE))))))))
 
 abbrev pub settled_parameter_value : Lends → ParameterValue → ParameterValue

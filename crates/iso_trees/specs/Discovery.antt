@@ -1,4 +1,4 @@
--- ISO 15118-2:2014 8.4.3, charge parameters, power delivery, and 8.4.4, AC: what elements of these types are read as.
+-- ISO 15118-2:2014 8.4.3, charge parameters: what elements of these types are read as.
 use Rattle.std.specs.Option.{option_map}
 use Rattle.iso_schema.specs.declared.names.TheConstants.{RESPONSE_CODE, EVSE_PROCESSING, MAX_ENTRIES_SA_SCHEDULE_TUPLE, REQUESTED_ENERGY_TRANSFER_MODE}
 use Rattle.tree_words.specs.Leaves.{ordinal, natural_in}

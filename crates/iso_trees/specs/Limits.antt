@@ -1,4 +1,4 @@
--- ISO 15118-2:2014 8.4.3, charge parameters, power delivery, and 8.4.4, AC: what elements of these types are read as.
+-- ISO 15118-2:2014 8.4.3, charge parameters, and 8.5.2, schedules and charge parameters of a post: what elements of these types are read as.
 use Rattle.std.specs.Option.{option_map}
 use Rattle.iso_schema.specs.declared.names.TheConstants.{AC_EV_CHARGE_PARAMETER, DC_EV_CHARGE_PARAMETER, DEPARTURE_TIME, E_AMOUNT, EV_MAX_VOLTAGE, EV_MAX_CURRENT, EV_MIN_CURRENT, DC_EV_STATUS, EV_MAXIMUM_CURRENT_LIMIT, EV_MAXIMUM_POWER_LIMIT, EV_MAXIMUM_VOLTAGE_LIMIT, EV_ENERGY_CAPACITY, EV_ENERGY_REQUEST, FULL_SOC, BULK_SOC, AC_EVSE_CHARGE_PARAMETER, DC_EVSE_CHARGE_PARAMETER, AC_EVSE_STATUS, EVSE_NOMINAL_VOLTAGE, EVSE_MAX_CURRENT, DC_EVSE_STATUS, EVSE_MAXIMUM_CURRENT_LIMIT, EVSE_MAXIMUM_POWER_LIMIT, EVSE_MAXIMUM_VOLTAGE_LIMIT, EVSE_MINIMUM_CURRENT_LIMIT, EVSE_MINIMUM_VOLTAGE_LIMIT, EVSE_CURRENT_REGULATION_TOLERANCE, EVSE_PEAK_CURRENT_RIPPLE, EVSE_ENERGY_TO_BE_DELIVERED}
 use Rattle.tree_words.specs.Leaves.{natural_in}
@@ -38,7 +38,7 @@ dc_ev_charge_parameter_in x = record {
 
 abbrev pub ev_charge_parameter_in : Children → EvChargeParameter
 ev_charge_parameter_in x =
-    or_last (option_map (λ inside. ev_charge_parameter.Ac (ac_ev_charge_parameter_in (children inside))) (head (x AC_EV_CHARGE_PARAMETER)))
+    or_last (option_map (λ inside. ev_charge_parameter.Ac (ac_ev_charge_parameter_in (children inside))) (head (x AC_EV_CHARGE_PARAMETER))) 
     (ev_charge_parameter.Dc (dc_ev_charge_parameter_in (within (x DC_EV_CHARGE_PARAMETER))))
 
 abbrev pub ac_evse_charge_parameter_in : Children → AcEvseChargeParameter
@@ -57,7 +57,7 @@ dc_evse_charge_parameter_in x = record {
   evse_minimum_current_limit = physical_value_in (within (x EVSE_MINIMUM_CURRENT_LIMIT));
   evse_minimum_voltage_limit = physical_value_in (within (x EVSE_MINIMUM_VOLTAGE_LIMIT));
   evse_current_regulation_tolerance = option_map (λ inside. physical_value_in (children inside))
-      (head (x EVSE_CURRENT_REGULATION_TOLERANCE));
+    (head (x EVSE_CURRENT_REGULATION_TOLERANCE));
   evse_peak_current_ripple = physical_value_in (within (x EVSE_PEAK_CURRENT_RIPPLE));
   evse_energy_to_be_delivered = option_map (λ inside. physical_value_in (children inside)) (head (x EVSE_ENERGY_TO_BE_DELIVERED));
 }
@@ -65,5 +65,5 @@ dc_evse_charge_parameter_in x = record {
 abbrev pub evse_charge_parameter_in : Children → EvseChargeParameter
 evse_charge_parameter_in x =
     or_last (option_map (λ inside. evse_charge_parameter.Ac (ac_evse_charge_parameter_in (children inside)))
-    (head (x AC_EVSE_CHARGE_PARAMETER)))
+      (head (x AC_EVSE_CHARGE_PARAMETER))) 
     (evse_charge_parameter.Dc (dc_evse_charge_parameter_in (within (x DC_EVSE_CHARGE_PARAMETER))))

@@ -1,4 +1,4 @@
--- ISO 15118-2:2014 8.4.3, charge parameters, power delivery, and 8.4.4, AC: what elements of these types are read as.
+-- ISO 15118-2:2014 8.5.2, schedules and charge parameters of a post: what elements of these types are read as.
 use Rattle.std.specs.Prelude.{Option, None, map}
 use Rattle.std.specs.Option.{option_map}
 use Rattle.iso_schema.specs.declared.names.TheConstants.{SA_SCHEDULE_LIST, SA_SCHEDULE_TUPLE, SA_SCHEDULE_TUPLE_ID, P_MAX_SCHEDULE, P_MAX_SCHEDULE_ENTRY, RELATIVE_TIME_INTERVAL, P_MAX, START, DURATION}
@@ -50,5 +50,5 @@ sa_schedule_list_in x = record {
 
 abbrev pub sa_schedules_if : Children → Option SaSchedules
 sa_schedules_if x =
-    or_next (option_map (λ inside. sa_schedules.SaScheduleList (sa_schedule_list_in (children inside))) (head (x SA_SCHEDULE_LIST)))
+    or_next (option_map (λ inside. sa_schedules.SaScheduleList (sa_schedule_list_in (children inside))) (head (x SA_SCHEDULE_LIST))) 
     None

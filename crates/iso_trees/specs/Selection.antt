@@ -1,4 +1,4 @@
--- ISO 15118-2:2014 8.4.3, common messages: what elements of these types are read as.
+-- ISO 15118-2:2014 8.4.3, details and selection of services, authorization, session stop: what elements of these types are read as.
 use Rattle.std.specs.Prelude.{map}
 use Rattle.std.specs.Option.{option_map}
 use Rattle.iso_schema.specs.declared.names.TheConstants.{RESPONSE_CODE, SERVICE_ID, PARAMETER_SET_ID, SELECTED_PAYMENT_OPTION, SELECTED_SERVICE_LIST, SELECTED_SERVICE}

@@ -1,4 +1,4 @@
--- ISO 15118-2:2014 8.4.3, common messages: what elements of these types are read as.
+-- ISO 15118-2:2014 8.4.3, session setup and services: what elements of these types are read as.
 use Rattle.std.specs.Prelude.{map}
 use Rattle.std.specs.Option.{option_map}
 use Rattle.message_parts.specs.Texts.{chars_of}
