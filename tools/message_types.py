@@ -24,8 +24,8 @@ WORDS = [
     "put_values", "required", "required_here", "whole_record",
 ]
 CHILDREN = [
-    "AtMostOneOf", "Elements", "LeftOut", "OneOf", "Optional", "OptionalValue", "Required", "RequiredValue", "Several", "SeveralValues", "WithAttribute",
-    "WithOptionalAttribute",
+    "AtMostOneOf", "Elements", "Elements2", "Elements3", "Elements4", "LeftOut", "OneOf", "Optional", "OptionalValue", "Required", "RequiredValue",
+    "Several", "SeveralValues", "WithAttribute", "WithOptionalAttribute",
 ]
 
 
@@ -93,9 +93,12 @@ def tuple_of(words):
     return words[0] if len(words) == 1 else f"({', '.join(words)})"
 
 
-def holder(attributes):
-    """What holds the children, with the attribute if there is one: at most one."""
-    return "Elements" if not attributes else "WithOptionalAttribute" if attributes[0].optional else "WithAttribute"
+def holder(attributes, children):
+    """What holds the children, with the attribute if there is one: at most one. Without one they stand in it one by one."""
+    if attributes:
+        return "WithOptionalAttribute" if attributes[0].optional else "WithAttribute", [tuple_of(children)]
+    groups = [tuple_of(it) for it in in_groups(children)] if len(children) > 4 else children
+    return "Elements" + (str(len(groups)) if len(groups) > 1 else ""), groups
 
 
 def made_of(t, kind):
@@ -107,10 +110,11 @@ def made_of(t, kind):
         return f"Three<{', '.join(it.one for it in fields)}>", f"        {name} {{ {parts} }}\n"
     attributes, children = [it for it in fields if it.form == "attribute"], [it for it in fields if it.form != "attribute"]
     child = lambda it: "LeftOut" if it.form == "out" else f"{it.single()}({it.field})"
-    types = [*(it.one for it in attributes), tuple_of([it.child() for it in children])]
-    parts = [*(it.field for it in attributes), tuple_of([child(it) for it in children])]
-    taken = f"        let {holder(attributes)}({', '.join(parts)}) = made;\n"
-    return f"{holder(attributes)}<{', '.join(types)}>", f"{taken}        {name} {{ {', '.join(kept)} }}\n"
+    held, types = holder(attributes, [it.child() for it in children])
+    _, parts = holder(attributes, [child(it) for it in children])
+    types, parts = [*(it.one for it in attributes), *types], [*(it.field for it in attributes), *parts]
+    taken = f"        let {held}({', '.join(parts)}) = made;\n"
+    return f"{held}<{', '.join(types)}>", f"{taken}        {name} {{ {', '.join(kept)} }}\n"
 
 
 def record(t, kind, lent):

@@ -15,7 +15,7 @@ use arrayvec::ArrayVec;
 use exi_documents::Refusal;
 use exi_events::{EventWriter, Value};
 use exi_schema::Places;
-use message_fields::{Elements, OptionalValue, RequiredValue};
+use message_fields::{Elements2, OptionalValue, RequiredValue};
 use message_parts::{
     Choice, Descent, PutChoice, PutRecord, ReadRecord, Record, Root, Simple, Text, first_child,
     member, put_optional_value, put_record, put_records, put_value, records, whole_record,
@@ -73,23 +73,19 @@ impl<'a> PutRecord for AppProtocol<'a> {
 }
 
 impl<'a> Record<'a> for AppProtocol<'a> {
-    type Made = Elements<
+    type Made = Elements2<
         (
-            (
-                RequiredValue<Text<'a>>,
-                RequiredValue<u32>,
-                RequiredValue<u32>,
-            ),
-            (RequiredValue<u8>, RequiredValue<u8>),
+            RequiredValue<Text<'a>>,
+            RequiredValue<u32>,
+            RequiredValue<u32>,
         ),
+        (RequiredValue<u8>, RequiredValue<u8>),
     >;
 
     fn of(made: Self::Made) -> AppProtocol<'a> {
-        let Elements(
-            (
-                (RequiredValue(namespace), RequiredValue(major), RequiredValue(minor)),
-                (RequiredValue(schema), RequiredValue(priority)),
-            ),
+        let Elements2(
+            (RequiredValue(namespace), RequiredValue(major), RequiredValue(minor)),
+            (RequiredValue(schema), RequiredValue(priority)),
         ) = made;
         AppProtocol {
             namespace,
@@ -208,10 +204,10 @@ impl PutRecord for AppRes {
 }
 
 impl<'a> Record<'a> for AppRes {
-    type Made = Elements<(RequiredValue<AppCode>, OptionalValue<u8, { SCHEMA_ID }>)>;
+    type Made = Elements2<RequiredValue<AppCode>, OptionalValue<u8, { SCHEMA_ID }>>;
 
     fn of(made: Self::Made) -> AppRes {
-        let Elements((RequiredValue(code), OptionalValue(schema))) = made;
+        let Elements2(RequiredValue(code), OptionalValue(schema)) = made;
         AppRes { code, schema }
     }
 

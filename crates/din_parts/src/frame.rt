@@ -7,7 +7,7 @@ use din_schema::names;
 use exi_documents::Refusal;
 use exi_events::EventWriter;
 use exi_schema::Places;
-use message_fields::{Elements, LeftOut, Optional, OptionalValue, RequiredValue};
+use message_fields::{Elements2, Elements3, LeftOut, Optional, OptionalValue, RequiredValue};
 use message_parts::{
     Binary, Descent, PutRecord, ReadRecord, Record, Text, put_optional, put_optional_value,
     put_value, whole_record,
@@ -48,15 +48,10 @@ impl PutRecord for Notification<'_> {
 impl<'a> Record<'a> for Notification<'a> {
     ghost use Rattle.std.proofs.Common.{rules};
 
-    type Made = Elements<
-        (
-            RequiredValue<FaultCode>,
-            OptionalValue<Text<'a>, { names::FAULT_MSG }>,
-        ),
-    >;
+    type Made = Elements2<RequiredValue<FaultCode>, OptionalValue<Text<'a>, { names::FAULT_MSG }>>;
 
     fn of(made: Self::Made) -> Notification<'a> {
-        let Elements((RequiredValue(fault_code), OptionalValue(fault_msg))) = made;
+        let Elements2(RequiredValue(fault_code), OptionalValue(fault_msg)) = made;
         Notification {
             fault_code,
             fault_msg,
@@ -107,16 +102,14 @@ impl PutRecord for Header<'_> {
 impl<'a> Record<'a> for Header<'a> {
     ghost use Rattle.std.proofs.Common.{rules};
 
-    type Made = Elements<
-        (
-            RequiredValue<Binary<'a>>,
-            Optional<Notification<'a>, { names::NOTIFICATION }>,
-            LeftOut,
-        ),
+    type Made = Elements3<
+        RequiredValue<Binary<'a>>,
+        Optional<Notification<'a>, { names::NOTIFICATION }>,
+        LeftOut,
     >;
 
     fn of(made: Self::Made) -> Header<'a> {
-        let Elements((RequiredValue(session_id), Optional(notification), LeftOut)) = made;
+        let Elements3(RequiredValue(session_id), Optional(notification), LeftOut) = made;
         Header {
             session_id,
             notification,

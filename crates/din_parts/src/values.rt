@@ -9,7 +9,7 @@ use din_schema::names;
 use exi_documents::Refusal;
 use exi_events::EventWriter;
 use exi_schema::Places;
-use message_fields::{Elements, OptionalValue, RequiredValue};
+use message_fields::{Elements2, Elements3, Elements4, OptionalValue, RequiredValue};
 use message_parts::{
     Choice, Descent, PutChoice, PutRecord, ReadRecord, Record, member, put_optional_value,
     put_record, put_value, whole_record,
@@ -52,16 +52,14 @@ impl PutRecord for PhysicalValue {
 impl<'a> Record<'a> for PhysicalValue {
     ghost use Rattle.std.proofs.Common.{rules};
 
-    type Made = Elements<
-        (
-            RequiredValue<i8>,
-            OptionalValue<UnitSymbol, { names::UNIT }>,
-            RequiredValue<i16>,
-        ),
+    type Made = Elements3<
+        RequiredValue<i8>,
+        OptionalValue<UnitSymbol, { names::UNIT }>,
+        RequiredValue<i16>,
     >;
 
     fn of(made: Self::Made) -> PhysicalValue {
-        let Elements((RequiredValue(multiplier), OptionalValue(unit), RequiredValue(value))) = made;
+        let Elements3(RequiredValue(multiplier), OptionalValue(unit), RequiredValue(value)) = made;
         PhysicalValue {
             multiplier,
             unit,
@@ -127,27 +125,23 @@ impl PutRecord for DcEvStatus {
 impl<'a> Record<'a> for DcEvStatus {
     ghost use Rattle.std.proofs.Common.{rules};
 
-    type Made = Elements<
+    type Made = Elements2<
         (
-            (
-                RequiredValue<bool>,
-                OptionalValue<bool, { names::EV_CABIN_CONDITIONING }>,
-                OptionalValue<bool, { names::EVRESS_CONDITIONING }>,
-            ),
-            (RequiredValue<EvErrorCode>, RequiredValue<u8>),
+            RequiredValue<bool>,
+            OptionalValue<bool, { names::EV_CABIN_CONDITIONING }>,
+            OptionalValue<bool, { names::EVRESS_CONDITIONING }>,
         ),
+        (RequiredValue<EvErrorCode>, RequiredValue<u8>),
     >;
 
     fn of(made: Self::Made) -> DcEvStatus {
-        let Elements(
+        let Elements2(
             (
-                (
-                    RequiredValue(ev_ready),
-                    OptionalValue(ev_cabin_conditioning),
-                    OptionalValue(evress_conditioning),
-                ),
-                (RequiredValue(ev_error_code), RequiredValue(evress_soc)),
+                RequiredValue(ev_ready),
+                OptionalValue(ev_cabin_conditioning),
+                OptionalValue(evress_conditioning),
             ),
+            (RequiredValue(ev_error_code), RequiredValue(evress_soc)),
         ) = made;
         DcEvStatus {
             ev_ready,
@@ -213,23 +207,19 @@ impl PutRecord for DcEvseStatus {
 impl<'a> Record<'a> for DcEvseStatus {
     ghost use Rattle.std.proofs.Common.{rules};
 
-    type Made = Elements<
-        (
-            OptionalValue<IsolationLevel, { names::EVSE_ISOLATION_STATUS }>,
-            RequiredValue<EvseStatusCode>,
-            RequiredValue<u32>,
-            RequiredValue<EvseNotification>,
-        ),
+    type Made = Elements4<
+        OptionalValue<IsolationLevel, { names::EVSE_ISOLATION_STATUS }>,
+        RequiredValue<EvseStatusCode>,
+        RequiredValue<u32>,
+        RequiredValue<EvseNotification>,
     >;
 
     fn of(made: Self::Made) -> DcEvseStatus {
-        let Elements(
-            (
-                OptionalValue(evse_isolation_status),
-                RequiredValue(evse_status_code),
-                RequiredValue(notification_max_delay),
-                RequiredValue(evse_notification),
-            ),
+        let Elements4(
+            OptionalValue(evse_isolation_status),
+            RequiredValue(evse_status_code),
+            RequiredValue(notification_max_delay),
+            RequiredValue(evse_notification),
         ) = made;
         DcEvseStatus {
             evse_isolation_status,

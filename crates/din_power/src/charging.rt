@@ -7,7 +7,7 @@ use din_schema::names;
 use exi_documents::Refusal;
 use exi_events::EventWriter;
 use exi_schema::Places;
-use message_fields::{Elements, Optional, OptionalValue, Required, RequiredValue};
+use message_fields::{Elements, Elements3, Optional, OptionalValue, Required, RequiredValue};
 use message_parts::{
     Descent, PutRecord, ReadRecord, Record, put_optional, put_optional_value, put_record,
     put_value, whole_record,
@@ -97,21 +97,17 @@ impl PutRecord for CableCheckRes {
 impl<'a> Record<'a> for CableCheckRes {
     ghost use Rattle.std.proofs.Common.{rules};
 
-    type Made = Elements<
-        (
-            RequiredValue<ResponseCode>,
-            Required<DcEvseStatus>,
-            RequiredValue<EvseProcessing>,
-        ),
+    type Made = Elements3<
+        RequiredValue<ResponseCode>,
+        Required<DcEvseStatus>,
+        RequiredValue<EvseProcessing>,
     >;
 
     fn of(made: Self::Made) -> CableCheckRes {
-        let Elements(
-            (
-                RequiredValue(response_code),
-                Required(dc_evse_status),
-                RequiredValue(evse_processing),
-            ),
+        let Elements3(
+            RequiredValue(response_code),
+            Required(dc_evse_status),
+            RequiredValue(evse_processing),
         ) = made;
         CableCheckRes {
             response_code,
@@ -165,17 +161,13 @@ impl PutRecord for PreChargeReq {
 impl<'a> Record<'a> for PreChargeReq {
     ghost use Rattle.std.proofs.Common.{rules};
 
-    type Made = Elements<
-        (
-            Required<DcEvStatus>,
-            Required<PhysicalValue>,
-            Required<PhysicalValue>,
-        ),
-    >;
+    type Made = Elements3<Required<DcEvStatus>, Required<PhysicalValue>, Required<PhysicalValue>>;
 
     fn of(made: Self::Made) -> PreChargeReq {
-        let Elements(
-            (Required(dc_ev_status), Required(ev_target_voltage), Required(ev_target_current)),
+        let Elements3(
+            Required(dc_ev_status),
+            Required(ev_target_voltage),
+            Required(ev_target_current),
         ) = made;
         PreChargeReq {
             dc_ev_status,
@@ -233,21 +225,17 @@ impl PutRecord for PreChargeRes {
 impl<'a> Record<'a> for PreChargeRes {
     ghost use Rattle.std.proofs.Common.{rules};
 
-    type Made = Elements<
-        (
-            RequiredValue<ResponseCode>,
-            Required<DcEvseStatus>,
-            Required<PhysicalValue>,
-        ),
+    type Made = Elements3<
+        RequiredValue<ResponseCode>,
+        Required<DcEvseStatus>,
+        Required<PhysicalValue>,
     >;
 
     fn of(made: Self::Made) -> PreChargeRes {
-        let Elements(
-            (
-                RequiredValue(response_code),
-                Required(dc_evse_status),
-                Required(evse_present_voltage),
-            ),
+        let Elements3(
+            RequiredValue(response_code),
+            Required(dc_evse_status),
+            Required(evse_present_voltage),
         ) = made;
         PreChargeRes {
             response_code,
@@ -339,46 +327,42 @@ impl PutRecord for CurrentDemandReq {
 impl<'a> Record<'a> for CurrentDemandReq {
     ghost use Rattle.std.proofs.Common.{rules};
 
-    type Made = Elements<
+    type Made = Elements3<
         (
-            (
-                Required<DcEvStatus>,
-                Required<PhysicalValue>,
-                Optional<PhysicalValue, { names::EV_MAXIMUM_VOLTAGE_LIMIT }>,
-                Optional<PhysicalValue, { names::EV_MAXIMUM_CURRENT_LIMIT }>,
-            ),
-            (
-                Optional<PhysicalValue, { names::EV_MAXIMUM_POWER_LIMIT }>,
-                OptionalValue<bool, { names::BULK_CHARGING_COMPLETE }>,
-                RequiredValue<bool>,
-            ),
-            (
-                Optional<PhysicalValue, { names::REMAINING_TIME_TO_FULL_SO_C }>,
-                Optional<PhysicalValue, { names::REMAINING_TIME_TO_BULK_SO_C }>,
-                Required<PhysicalValue>,
-            ),
+            Required<DcEvStatus>,
+            Required<PhysicalValue>,
+            Optional<PhysicalValue, { names::EV_MAXIMUM_VOLTAGE_LIMIT }>,
+            Optional<PhysicalValue, { names::EV_MAXIMUM_CURRENT_LIMIT }>,
+        ),
+        (
+            Optional<PhysicalValue, { names::EV_MAXIMUM_POWER_LIMIT }>,
+            OptionalValue<bool, { names::BULK_CHARGING_COMPLETE }>,
+            RequiredValue<bool>,
+        ),
+        (
+            Optional<PhysicalValue, { names::REMAINING_TIME_TO_FULL_SO_C }>,
+            Optional<PhysicalValue, { names::REMAINING_TIME_TO_BULK_SO_C }>,
+            Required<PhysicalValue>,
         ),
     >;
 
     fn of(made: Self::Made) -> CurrentDemandReq {
-        let Elements(
+        let Elements3(
             (
-                (
-                    Required(dc_ev_status),
-                    Required(ev_target_current),
-                    Optional(ev_maximum_voltage_limit),
-                    Optional(ev_maximum_current_limit),
-                ),
-                (
-                    Optional(ev_maximum_power_limit),
-                    OptionalValue(bulk_charging_complete),
-                    RequiredValue(charging_complete),
-                ),
-                (
-                    Optional(remaining_time_to_full_so_c),
-                    Optional(remaining_time_to_bulk_so_c),
-                    Required(ev_target_voltage),
-                ),
+                Required(dc_ev_status),
+                Required(ev_target_current),
+                Optional(ev_maximum_voltage_limit),
+                Optional(ev_maximum_current_limit),
+            ),
+            (
+                Optional(ev_maximum_power_limit),
+                OptionalValue(bulk_charging_complete),
+                RequiredValue(charging_complete),
+            ),
+            (
+                Optional(remaining_time_to_full_so_c),
+                Optional(remaining_time_to_bulk_so_c),
+                Required(ev_target_voltage),
             ),
         ) = made;
         CurrentDemandReq {
@@ -486,46 +470,42 @@ impl PutRecord for CurrentDemandRes {
 impl<'a> Record<'a> for CurrentDemandRes {
     ghost use Rattle.std.proofs.Common.{rules};
 
-    type Made = Elements<
+    type Made = Elements3<
         (
-            (
-                RequiredValue<ResponseCode>,
-                Required<DcEvseStatus>,
-                Required<PhysicalValue>,
-                Required<PhysicalValue>,
-            ),
-            (
-                RequiredValue<bool>,
-                RequiredValue<bool>,
-                RequiredValue<bool>,
-            ),
-            (
-                Optional<PhysicalValue, { names::EVSE_MAXIMUM_VOLTAGE_LIMIT }>,
-                Optional<PhysicalValue, { names::EVSE_MAXIMUM_CURRENT_LIMIT }>,
-                Optional<PhysicalValue, { names::EVSE_MAXIMUM_POWER_LIMIT }>,
-            ),
+            RequiredValue<ResponseCode>,
+            Required<DcEvseStatus>,
+            Required<PhysicalValue>,
+            Required<PhysicalValue>,
+        ),
+        (
+            RequiredValue<bool>,
+            RequiredValue<bool>,
+            RequiredValue<bool>,
+        ),
+        (
+            Optional<PhysicalValue, { names::EVSE_MAXIMUM_VOLTAGE_LIMIT }>,
+            Optional<PhysicalValue, { names::EVSE_MAXIMUM_CURRENT_LIMIT }>,
+            Optional<PhysicalValue, { names::EVSE_MAXIMUM_POWER_LIMIT }>,
         ),
     >;
 
     fn of(made: Self::Made) -> CurrentDemandRes {
-        let Elements(
+        let Elements3(
             (
-                (
-                    RequiredValue(response_code),
-                    Required(dc_evse_status),
-                    Required(evse_present_voltage),
-                    Required(evse_present_current),
-                ),
-                (
-                    RequiredValue(evse_current_limit_achieved),
-                    RequiredValue(evse_voltage_limit_achieved),
-                    RequiredValue(evse_power_limit_achieved),
-                ),
-                (
-                    Optional(evse_maximum_voltage_limit),
-                    Optional(evse_maximum_current_limit),
-                    Optional(evse_maximum_power_limit),
-                ),
+                RequiredValue(response_code),
+                Required(dc_evse_status),
+                Required(evse_present_voltage),
+                Required(evse_present_current),
+            ),
+            (
+                RequiredValue(evse_current_limit_achieved),
+                RequiredValue(evse_voltage_limit_achieved),
+                RequiredValue(evse_power_limit_achieved),
+            ),
+            (
+                Optional(evse_maximum_voltage_limit),
+                Optional(evse_maximum_current_limit),
+                Optional(evse_maximum_power_limit),
             ),
         ) = made;
         CurrentDemandRes {
@@ -639,21 +619,17 @@ impl PutRecord for WeldingDetectionRes {
 impl<'a> Record<'a> for WeldingDetectionRes {
     ghost use Rattle.std.proofs.Common.{rules};
 
-    type Made = Elements<
-        (
-            RequiredValue<ResponseCode>,
-            Required<DcEvseStatus>,
-            Required<PhysicalValue>,
-        ),
+    type Made = Elements3<
+        RequiredValue<ResponseCode>,
+        Required<DcEvseStatus>,
+        Required<PhysicalValue>,
     >;
 
     fn of(made: Self::Made) -> WeldingDetectionRes {
-        let Elements(
-            (
-                RequiredValue(response_code),
-                Required(dc_evse_status),
-                Required(evse_present_voltage),
-            ),
+        let Elements3(
+            RequiredValue(response_code),
+            Required(dc_evse_status),
+            Required(evse_present_voltage),
         ) = made;
         WeldingDetectionRes {
             response_code,

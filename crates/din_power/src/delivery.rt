@@ -9,7 +9,8 @@ use exi_documents::Refusal;
 use exi_events::EventWriter;
 use exi_schema::Places;
 use message_fields::{
-    AtMostOneOf, Elements, OneOf, Optional, OptionalValue, Required, RequiredValue, Several,
+    AtMostOneOf, Elements2, Elements3, OneOf, Optional, OptionalValue, Required, RequiredValue,
+    Several,
 };
 use message_parts::{
     Choice, Descent, Group, PutChoice, PutRecord, ReadRecord, Record, member, put_choice,
@@ -59,14 +60,12 @@ impl PutRecord for ProfileEntry {
 impl<'a> Record<'a> for ProfileEntry {
     ghost use Rattle.std.proofs.Common.{rules};
 
-    type Made = Elements<(RequiredValue<u32>, RequiredValue<i16>)>;
+    type Made = Elements2<RequiredValue<u32>, RequiredValue<i16>>;
 
     fn of(made: Self::Made) -> ProfileEntry {
-        let Elements(
-            (
-                RequiredValue(charging_profile_entry_start),
-                RequiredValue(charging_profile_entry_max_power),
-            ),
+        let Elements2(
+            RequiredValue(charging_profile_entry_start),
+            RequiredValue(charging_profile_entry_max_power),
         ) = made;
         ProfileEntry {
             charging_profile_entry_start,
@@ -122,15 +121,10 @@ impl PutRecord for ChargingProfile {
 impl<'a> Record<'a> for ChargingProfile {
     ghost use Rattle.std.proofs.Common.{rules};
 
-    type Made = Elements<
-        (
-            RequiredValue<i16>,
-            Several<ProfileEntry, 24, { names::PROFILE_ENTRY }>,
-        ),
-    >;
+    type Made = Elements2<RequiredValue<i16>, Several<ProfileEntry, 24, { names::PROFILE_ENTRY }>>;
 
     fn of(made: Self::Made) -> ChargingProfile {
-        let Elements((RequiredValue(sa_schedule_tuple_id), Several(profile_entry))) = made;
+        let Elements2(RequiredValue(sa_schedule_tuple_id), Several(profile_entry)) = made;
         ChargingProfile {
             sa_schedule_tuple_id,
             profile_entry,
@@ -186,21 +180,17 @@ impl PutRecord for DcEvPowerDeliveryParameter {
 impl<'a> Record<'a> for DcEvPowerDeliveryParameter {
     ghost use Rattle.std.proofs.Common.{rules};
 
-    type Made = Elements<
-        (
-            Required<DcEvStatus>,
-            OptionalValue<bool, { names::BULK_CHARGING_COMPLETE }>,
-            RequiredValue<bool>,
-        ),
+    type Made = Elements3<
+        Required<DcEvStatus>,
+        OptionalValue<bool, { names::BULK_CHARGING_COMPLETE }>,
+        RequiredValue<bool>,
     >;
 
     fn of(made: Self::Made) -> DcEvPowerDeliveryParameter {
-        let Elements(
-            (
-                Required(dc_ev_status),
-                OptionalValue(bulk_charging_complete),
-                RequiredValue(charging_complete),
-            ),
+        let Elements3(
+            Required(dc_ev_status),
+            OptionalValue(bulk_charging_complete),
+            RequiredValue(charging_complete),
         ) = made;
         DcEvPowerDeliveryParameter {
             dc_ev_status,
@@ -303,21 +293,17 @@ impl PutRecord for PowerDeliveryReq {
 impl<'a> Record<'a> for PowerDeliveryReq {
     ghost use Rattle.std.proofs.Common.{rules};
 
-    type Made = Elements<
-        (
-            RequiredValue<bool>,
-            Optional<ChargingProfile, { names::CHARGING_PROFILE }>,
-            AtMostOneOf<EvPowerDeliveryParameter>,
-        ),
+    type Made = Elements3<
+        RequiredValue<bool>,
+        Optional<ChargingProfile, { names::CHARGING_PROFILE }>,
+        AtMostOneOf<EvPowerDeliveryParameter>,
     >;
 
     fn of(made: Self::Made) -> PowerDeliveryReq {
-        let Elements(
-            (
-                RequiredValue(ready_to_charge_state),
-                Optional(charging_profile),
-                AtMostOneOf(ev_power_delivery_parameter),
-            ),
+        let Elements3(
+            RequiredValue(ready_to_charge_state),
+            Optional(charging_profile),
+            AtMostOneOf(ev_power_delivery_parameter),
         ) = made;
         PowerDeliveryReq {
             ready_to_charge_state,
@@ -369,10 +355,10 @@ impl PutRecord for PowerDeliveryRes {
 impl<'a> Record<'a> for PowerDeliveryRes {
     ghost use Rattle.std.proofs.Common.{rules};
 
-    type Made = Elements<(RequiredValue<ResponseCode>, OneOf<EvseStatus>)>;
+    type Made = Elements2<RequiredValue<ResponseCode>, OneOf<EvseStatus>>;
 
     fn of(made: Self::Made) -> PowerDeliveryRes {
-        let Elements((RequiredValue(response_code), OneOf(evse_status))) = made;
+        let Elements2(RequiredValue(response_code), OneOf(evse_status)) = made;
         PowerDeliveryRes {
             response_code,
             evse_status,

@@ -9,7 +9,7 @@ use din_schema::names;
 use exi_documents::Refusal;
 use exi_events::EventWriter;
 use exi_schema::Places;
-use message_fields::{AtMostOneOf, Elements, OneOf, RequiredValue};
+use message_fields::{AtMostOneOf, Elements2, Elements4, OneOf, RequiredValue};
 use message_parts::{
     Descent, PutRecord, ReadRecord, Record, put_choice, put_optional_choice, put_value,
     whole_record,
@@ -53,11 +53,12 @@ impl PutRecord for ChargeParameterDiscoveryReq {
 impl<'a> Record<'a> for ChargeParameterDiscoveryReq {
     ghost use Rattle.std.proofs.Common.{rules};
 
-    type Made = Elements<(RequiredValue<EnergyTransferMode>, OneOf<EvChargeParameter>)>;
+    type Made = Elements2<RequiredValue<EnergyTransferMode>, OneOf<EvChargeParameter>>;
 
     fn of(made: Self::Made) -> ChargeParameterDiscoveryReq {
-        let Elements(
-            (RequiredValue(ev_requested_energy_transfer_type), OneOf(ev_charge_parameter)),
+        let Elements2(
+            RequiredValue(ev_requested_energy_transfer_type),
+            OneOf(ev_charge_parameter),
         ) = made;
         ChargeParameterDiscoveryReq {
             ev_requested_energy_transfer_type,
@@ -114,23 +115,19 @@ impl PutRecord for ChargeParameterDiscoveryRes {
 impl<'a> Record<'a> for ChargeParameterDiscoveryRes {
     ghost use Rattle.std.proofs.Common.{rules};
 
-    type Made = Elements<
-        (
-            RequiredValue<ResponseCode>,
-            RequiredValue<EvseProcessing>,
-            AtMostOneOf<SaSchedules>,
-            OneOf<EvseChargeParameter>,
-        ),
+    type Made = Elements4<
+        RequiredValue<ResponseCode>,
+        RequiredValue<EvseProcessing>,
+        AtMostOneOf<SaSchedules>,
+        OneOf<EvseChargeParameter>,
     >;
 
     fn of(made: Self::Made) -> ChargeParameterDiscoveryRes {
-        let Elements(
-            (
-                RequiredValue(response_code),
-                RequiredValue(evse_processing),
-                AtMostOneOf(sa_schedules),
-                OneOf(evse_charge_parameter),
-            ),
+        let Elements4(
+            RequiredValue(response_code),
+            RequiredValue(evse_processing),
+            AtMostOneOf(sa_schedules),
+            OneOf(evse_charge_parameter),
         ) = made;
         ChargeParameterDiscoveryRes {
             response_code,

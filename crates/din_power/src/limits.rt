@@ -7,7 +7,7 @@ use din_schema::names;
 use exi_documents::Refusal;
 use exi_events::EventWriter;
 use exi_schema::Places;
-use message_fields::{Elements, Optional, OptionalValue, Required};
+use message_fields::{Elements2, Elements3, Optional, OptionalValue, Required};
 use message_parts::{
     Choice, Descent, PutChoice, PutRecord, ReadRecord, Record, member, put_optional,
     put_optional_value, put_record, whole_record,
@@ -73,38 +73,34 @@ impl PutRecord for DcEvChargeParameter {
 impl<'a> Record<'a> for DcEvChargeParameter {
     ghost use Rattle.std.proofs.Common.{rules};
 
-    type Made = Elements<
+    type Made = Elements2<
         (
-            (
-                Required<DcEvStatus>,
-                Required<PhysicalValue>,
-                Optional<PhysicalValue, { names::EV_MAXIMUM_POWER_LIMIT }>,
-                Required<PhysicalValue>,
-            ),
-            (
-                Optional<PhysicalValue, { names::EV_ENERGY_CAPACITY }>,
-                Optional<PhysicalValue, { names::EV_ENERGY_REQUEST }>,
-                OptionalValue<u8, { names::FULL_SOC }>,
-                OptionalValue<u8, { names::BULK_SOC }>,
-            ),
+            Required<DcEvStatus>,
+            Required<PhysicalValue>,
+            Optional<PhysicalValue, { names::EV_MAXIMUM_POWER_LIMIT }>,
+            Required<PhysicalValue>,
+        ),
+        (
+            Optional<PhysicalValue, { names::EV_ENERGY_CAPACITY }>,
+            Optional<PhysicalValue, { names::EV_ENERGY_REQUEST }>,
+            OptionalValue<u8, { names::FULL_SOC }>,
+            OptionalValue<u8, { names::BULK_SOC }>,
         ),
     >;
 
     fn of(made: Self::Made) -> DcEvChargeParameter {
-        let Elements(
+        let Elements2(
             (
-                (
-                    Required(dc_ev_status),
-                    Required(ev_maximum_current_limit),
-                    Optional(ev_maximum_power_limit),
-                    Required(ev_maximum_voltage_limit),
-                ),
-                (
-                    Optional(ev_energy_capacity),
-                    Optional(ev_energy_request),
-                    OptionalValue(full_soc),
-                    OptionalValue(bulk_soc),
-                ),
+                Required(dc_ev_status),
+                Required(ev_maximum_current_limit),
+                Optional(ev_maximum_power_limit),
+                Required(ev_maximum_voltage_limit),
+            ),
+            (
+                Optional(ev_energy_capacity),
+                Optional(ev_energy_request),
+                OptionalValue(full_soc),
+                OptionalValue(bulk_soc),
             ),
         ) = made;
         DcEvChargeParameter {
@@ -241,44 +237,40 @@ impl PutRecord for DcEvseChargeParameter {
 impl<'a> Record<'a> for DcEvseChargeParameter {
     ghost use Rattle.std.proofs.Common.{rules};
 
-    type Made = Elements<
+    type Made = Elements3<
         (
-            (
-                Required<DcEvseStatus>,
-                Required<PhysicalValue>,
-                Optional<PhysicalValue, { names::EVSE_MAXIMUM_POWER_LIMIT }>,
-            ),
-            (
-                Required<PhysicalValue>,
-                Required<PhysicalValue>,
-                Required<PhysicalValue>,
-            ),
-            (
-                Optional<PhysicalValue, { names::EVSE_CURRENT_REGULATION_TOLERANCE }>,
-                Required<PhysicalValue>,
-                Optional<PhysicalValue, { names::EVSE_ENERGY_TO_BE_DELIVERED }>,
-            ),
+            Required<DcEvseStatus>,
+            Required<PhysicalValue>,
+            Optional<PhysicalValue, { names::EVSE_MAXIMUM_POWER_LIMIT }>,
+        ),
+        (
+            Required<PhysicalValue>,
+            Required<PhysicalValue>,
+            Required<PhysicalValue>,
+        ),
+        (
+            Optional<PhysicalValue, { names::EVSE_CURRENT_REGULATION_TOLERANCE }>,
+            Required<PhysicalValue>,
+            Optional<PhysicalValue, { names::EVSE_ENERGY_TO_BE_DELIVERED }>,
         ),
     >;
 
     fn of(made: Self::Made) -> DcEvseChargeParameter {
-        let Elements(
+        let Elements3(
             (
-                (
-                    Required(dc_evse_status),
-                    Required(evse_maximum_current_limit),
-                    Optional(evse_maximum_power_limit),
-                ),
-                (
-                    Required(evse_maximum_voltage_limit),
-                    Required(evse_minimum_current_limit),
-                    Required(evse_minimum_voltage_limit),
-                ),
-                (
-                    Optional(evse_current_regulation_tolerance),
-                    Required(evse_peak_current_ripple),
-                    Optional(evse_energy_to_be_delivered),
-                ),
+                Required(dc_evse_status),
+                Required(evse_maximum_current_limit),
+                Optional(evse_maximum_power_limit),
+            ),
+            (
+                Required(evse_maximum_voltage_limit),
+                Required(evse_minimum_current_limit),
+                Required(evse_minimum_voltage_limit),
+            ),
+            (
+                Optional(evse_current_regulation_tolerance),
+                Required(evse_peak_current_ripple),
+                Optional(evse_energy_to_be_delivered),
             ),
         ) = made;
         DcEvseChargeParameter {

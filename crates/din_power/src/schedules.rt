@@ -7,7 +7,9 @@ use din_schema::names;
 use exi_documents::Refusal;
 use exi_events::EventWriter;
 use exi_schema::Places;
-use message_fields::{Elements, LeftOut, OneOf, OptionalValue, Required, RequiredValue, Several};
+use message_fields::{
+    Elements, Elements2, Elements3, LeftOut, OneOf, OptionalValue, Required, RequiredValue, Several,
+};
 use message_parts::{
     Choice, Descent, Group, PutChoice, PutRecord, ReadRecord, Record, member, put_choice,
     put_optional_value, put_record, put_records, put_value, whole_record,
@@ -47,10 +49,10 @@ impl PutRecord for RelativeTimeInterval {
 impl<'a> Record<'a> for RelativeTimeInterval {
     ghost use Rattle.std.proofs.Common.{rules};
 
-    type Made = Elements<(RequiredValue<u32>, OptionalValue<u32, { names::DURATION }>)>;
+    type Made = Elements2<RequiredValue<u32>, OptionalValue<u32, { names::DURATION }>>;
 
     fn of(made: Self::Made) -> RelativeTimeInterval {
-        let Elements((RequiredValue(start), OptionalValue(duration))) = made;
+        let Elements2(RequiredValue(start), OptionalValue(duration)) = made;
         RelativeTimeInterval { start, duration }
     }
 
@@ -138,10 +140,10 @@ impl PutRecord for PMaxScheduleEntry {
 impl<'a> Record<'a> for PMaxScheduleEntry {
     ghost use Rattle.std.proofs.Common.{rules};
 
-    type Made = Elements<(OneOf<TimeInterval>, RequiredValue<i16>)>;
+    type Made = Elements2<OneOf<TimeInterval>, RequiredValue<i16>>;
 
     fn of(made: Self::Made) -> PMaxScheduleEntry {
-        let Elements((OneOf(time_interval), RequiredValue(p_max))) = made;
+        let Elements2(OneOf(time_interval), RequiredValue(p_max)) = made;
         PMaxScheduleEntry {
             time_interval,
             p_max,
@@ -196,15 +198,13 @@ impl PutRecord for PMaxSchedule {
 impl<'a> Record<'a> for PMaxSchedule {
     ghost use Rattle.std.proofs.Common.{rules};
 
-    type Made = Elements<
-        (
-            RequiredValue<i16>,
-            Several<PMaxScheduleEntry, 128, { names::P_MAX_SCHEDULE_ENTRY }>,
-        ),
+    type Made = Elements2<
+        RequiredValue<i16>,
+        Several<PMaxScheduleEntry, 128, { names::P_MAX_SCHEDULE_ENTRY }>,
     >;
 
     fn of(made: Self::Made) -> PMaxSchedule {
-        let Elements((RequiredValue(p_max_schedule_id), Several(p_max_schedule_entry))) = made;
+        let Elements2(RequiredValue(p_max_schedule_id), Several(p_max_schedule_entry)) = made;
         PMaxSchedule {
             p_max_schedule_id,
             p_max_schedule_entry,
@@ -258,10 +258,10 @@ impl PutRecord for SaScheduleTuple {
 impl<'a> Record<'a> for SaScheduleTuple {
     ghost use Rattle.std.proofs.Common.{rules};
 
-    type Made = Elements<(RequiredValue<i16>, Required<PMaxSchedule>, LeftOut)>;
+    type Made = Elements3<RequiredValue<i16>, Required<PMaxSchedule>, LeftOut>;
 
     fn of(made: Self::Made) -> SaScheduleTuple {
-        let Elements((RequiredValue(sa_schedule_tuple_id), Required(p_max_schedule), LeftOut)) =
+        let Elements3(RequiredValue(sa_schedule_tuple_id), Required(p_max_schedule), LeftOut) =
             made;
         SaScheduleTuple {
             sa_schedule_tuple_id,

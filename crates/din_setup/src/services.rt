@@ -9,7 +9,8 @@ use exi_documents::Refusal;
 use exi_events::EventWriter;
 use exi_schema::Places;
 use message_fields::{
-    Elements, Optional, OptionalValue, Required, RequiredValue, Several, SeveralValues,
+    Elements, Elements2, Elements3, Elements4, Optional, OptionalValue, Required, RequiredValue,
+    Several, SeveralValues,
 };
 use message_parts::{
     Descent, PutRecord, ReadRecord, Record, Text, put_optional, put_optional_value, put_record,
@@ -56,23 +57,19 @@ impl PutRecord for ServiceTag<'_> {
 impl<'a> Record<'a> for ServiceTag<'a> {
     ghost use Rattle.std.proofs.Common.{rules};
 
-    type Made = Elements<
-        (
-            RequiredValue<u16>,
-            OptionalValue<Text<'a>, { names::SERVICE_NAME }>,
-            RequiredValue<ServiceCategory>,
-            OptionalValue<Text<'a>, { names::SERVICE_SCOPE }>,
-        ),
+    type Made = Elements4<
+        RequiredValue<u16>,
+        OptionalValue<Text<'a>, { names::SERVICE_NAME }>,
+        RequiredValue<ServiceCategory>,
+        OptionalValue<Text<'a>, { names::SERVICE_SCOPE }>,
     >;
 
     fn of(made: Self::Made) -> ServiceTag<'a> {
-        let Elements(
-            (
-                RequiredValue(service_id),
-                OptionalValue(service_name),
-                RequiredValue(service_category),
-                OptionalValue(service_scope),
-            ),
+        let Elements4(
+            RequiredValue(service_id),
+            OptionalValue(service_name),
+            RequiredValue(service_category),
+            OptionalValue(service_scope),
         ) = made;
         ServiceTag {
             service_id,
@@ -125,10 +122,10 @@ impl PutRecord for Service<'_> {
 impl<'a> Record<'a> for Service<'a> {
     ghost use Rattle.std.proofs.Common.{rules};
 
-    type Made = Elements<(Required<ServiceTag<'a>>, RequiredValue<bool>)>;
+    type Made = Elements2<Required<ServiceTag<'a>>, RequiredValue<bool>>;
 
     fn of(made: Self::Made) -> Service<'a> {
-        let Elements((Required(service_tag), RequiredValue(free_service))) = made;
+        let Elements2(Required(service_tag), RequiredValue(free_service)) = made;
         Service {
             service_tag,
             free_service,
@@ -233,21 +230,17 @@ impl PutRecord for ChargeService<'_> {
 impl<'a> Record<'a> for ChargeService<'a> {
     ghost use Rattle.std.proofs.Common.{rules};
 
-    type Made = Elements<
-        (
-            Required<ServiceTag<'a>>,
-            RequiredValue<bool>,
-            RequiredValue<SupportedEnergyTransferType>,
-        ),
+    type Made = Elements3<
+        Required<ServiceTag<'a>>,
+        RequiredValue<bool>,
+        RequiredValue<SupportedEnergyTransferType>,
     >;
 
     fn of(made: Self::Made) -> ChargeService<'a> {
-        let Elements(
-            (
-                Required(service_tag),
-                RequiredValue(free_service),
-                RequiredValue(energy_transfer_type),
-            ),
+        let Elements3(
+            Required(service_tag),
+            RequiredValue(free_service),
+            RequiredValue(energy_transfer_type),
         ) = made;
         ChargeService {
             service_tag,
@@ -349,15 +342,13 @@ impl PutRecord for ServiceDiscoveryReq<'_> {
 impl<'a> Record<'a> for ServiceDiscoveryReq<'a> {
     ghost use Rattle.std.proofs.Common.{rules};
 
-    type Made = Elements<
-        (
-            OptionalValue<Text<'a>, { names::SERVICE_SCOPE }>,
-            OptionalValue<ServiceCategory, { names::SERVICE_CATEGORY }>,
-        ),
+    type Made = Elements2<
+        OptionalValue<Text<'a>, { names::SERVICE_SCOPE }>,
+        OptionalValue<ServiceCategory, { names::SERVICE_CATEGORY }>,
     >;
 
     fn of(made: Self::Made) -> ServiceDiscoveryReq<'a> {
-        let Elements((OptionalValue(service_scope), OptionalValue(service_category))) = made;
+        let Elements2(OptionalValue(service_scope), OptionalValue(service_category)) = made;
         ServiceDiscoveryReq {
             service_scope,
             service_category,
@@ -413,23 +404,19 @@ impl PutRecord for ServiceDiscoveryRes<'_> {
 impl<'a> Record<'a> for ServiceDiscoveryRes<'a> {
     ghost use Rattle.std.proofs.Common.{rules};
 
-    type Made = Elements<
-        (
-            RequiredValue<ResponseCode>,
-            Required<PaymentOptions>,
-            Required<ChargeService<'a>>,
-            Optional<ServiceList<'a>, { names::SERVICE_LIST }>,
-        ),
+    type Made = Elements4<
+        RequiredValue<ResponseCode>,
+        Required<PaymentOptions>,
+        Required<ChargeService<'a>>,
+        Optional<ServiceList<'a>, { names::SERVICE_LIST }>,
     >;
 
     fn of(made: Self::Made) -> ServiceDiscoveryRes<'a> {
-        let Elements(
-            (
-                RequiredValue(response_code),
-                Required(payment_options),
-                Required(charge_service),
-                Optional(service_list),
-            ),
+        let Elements4(
+            RequiredValue(response_code),
+            Required(payment_options),
+            Required(charge_service),
+            Optional(service_list),
         ) = made;
         ServiceDiscoveryRes {
             response_code,

@@ -7,7 +7,9 @@ use din_schema::names;
 use exi_documents::Refusal;
 use exi_events::EventWriter;
 use exi_schema::Places;
-use message_fields::{Elements, OptionalValue, RequiredValue, WithOptionalAttribute};
+use message_fields::{
+    Elements, Elements2, Elements3, OptionalValue, RequiredValue, WithOptionalAttribute,
+};
 use message_parts::{
     Binary, Descent, PutRecord, ReadRecord, Record, Text, put_optional_attribute,
     put_optional_value, put_value, whole_record,
@@ -99,17 +101,17 @@ impl PutRecord for SessionSetupRes<'_> {
 impl<'a> Record<'a> for SessionSetupRes<'a> {
     ghost use Rattle.std.proofs.Common.{rules};
 
-    type Made = Elements<
-        (
-            RequiredValue<ResponseCode>,
-            RequiredValue<Binary<'a>>,
-            OptionalValue<i64, { names::DATE_TIME_NOW }>,
-        ),
+    type Made = Elements3<
+        RequiredValue<ResponseCode>,
+        RequiredValue<Binary<'a>>,
+        OptionalValue<i64, { names::DATE_TIME_NOW }>,
     >;
 
     fn of(made: Self::Made) -> SessionSetupRes<'a> {
-        let Elements(
-            (RequiredValue(response_code), RequiredValue(evseid), OptionalValue(date_time_now)),
+        let Elements3(
+            RequiredValue(response_code),
+            RequiredValue(evseid),
+            OptionalValue(date_time_now),
         ) = made;
         SessionSetupRes {
             response_code,
@@ -215,10 +217,10 @@ impl PutRecord for ContractAuthenticationRes {
 impl<'a> Record<'a> for ContractAuthenticationRes {
     ghost use Rattle.std.proofs.Common.{rules};
 
-    type Made = Elements<(RequiredValue<ResponseCode>, RequiredValue<EvseProcessing>)>;
+    type Made = Elements2<RequiredValue<ResponseCode>, RequiredValue<EvseProcessing>>;
 
     fn of(made: Self::Made) -> ContractAuthenticationRes {
-        let Elements((RequiredValue(response_code), RequiredValue(evse_processing))) = made;
+        let Elements2(RequiredValue(response_code), RequiredValue(evse_processing)) = made;
         ContractAuthenticationRes {
             response_code,
             evse_processing,

@@ -9,7 +9,7 @@ use exi_events::EventWriter;
 use exi_schema::Places;
 use iso_parts::{EnergyTransferMode, EvseProcessing, ResponseCode};
 use iso_schema::names;
-use message_fields::{AtMostOneOf, Elements, OneOf, OptionalValue, RequiredValue};
+use message_fields::{AtMostOneOf, Elements3, Elements4, OneOf, OptionalValue, RequiredValue};
 use message_parts::{
     Descent, PutRecord, ReadRecord, Record, put_choice, put_optional_choice, put_optional_value,
     put_value, whole_record,
@@ -59,21 +59,17 @@ impl PutRecord for ChargeParameterDiscoveryReq {
 impl<'a> Record<'a> for ChargeParameterDiscoveryReq {
     ghost use Rattle.std.proofs.Common.{rules};
 
-    type Made = Elements<
-        (
-            OptionalValue<u16, { names::MAX_ENTRIES_SA_SCHEDULE_TUPLE }>,
-            RequiredValue<EnergyTransferMode>,
-            OneOf<EvChargeParameter>,
-        ),
+    type Made = Elements3<
+        OptionalValue<u16, { names::MAX_ENTRIES_SA_SCHEDULE_TUPLE }>,
+        RequiredValue<EnergyTransferMode>,
+        OneOf<EvChargeParameter>,
     >;
 
     fn of(made: Self::Made) -> ChargeParameterDiscoveryReq {
-        let Elements(
-            (
-                OptionalValue(max_entries_sa_schedule_tuple),
-                RequiredValue(requested_energy_transfer_mode),
-                OneOf(ev_charge_parameter),
-            ),
+        let Elements3(
+            OptionalValue(max_entries_sa_schedule_tuple),
+            RequiredValue(requested_energy_transfer_mode),
+            OneOf(ev_charge_parameter),
         ) = made;
         ChargeParameterDiscoveryReq {
             max_entries_sa_schedule_tuple,
@@ -131,23 +127,19 @@ impl PutRecord for ChargeParameterDiscoveryRes {
 impl<'a> Record<'a> for ChargeParameterDiscoveryRes {
     ghost use Rattle.std.proofs.Common.{rules};
 
-    type Made = Elements<
-        (
-            RequiredValue<ResponseCode>,
-            RequiredValue<EvseProcessing>,
-            AtMostOneOf<SaSchedules>,
-            OneOf<EvseChargeParameter>,
-        ),
+    type Made = Elements4<
+        RequiredValue<ResponseCode>,
+        RequiredValue<EvseProcessing>,
+        AtMostOneOf<SaSchedules>,
+        OneOf<EvseChargeParameter>,
     >;
 
     fn of(made: Self::Made) -> ChargeParameterDiscoveryRes {
-        let Elements(
-            (
-                RequiredValue(response_code),
-                RequiredValue(evse_processing),
-                AtMostOneOf(sa_schedules),
-                OneOf(evse_charge_parameter),
-            ),
+        let Elements4(
+            RequiredValue(response_code),
+            RequiredValue(evse_processing),
+            AtMostOneOf(sa_schedules),
+            OneOf(evse_charge_parameter),
         ) = made;
         ChargeParameterDiscoveryRes {
             response_code,

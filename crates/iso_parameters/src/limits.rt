@@ -7,7 +7,7 @@ use exi_events::EventWriter;
 use exi_schema::Places;
 use iso_parts::{AcEvseStatus, DcEvStatus, DcEvseStatus, PhysicalValue};
 use iso_schema::names;
-use message_fields::{Elements, Optional, OptionalValue, Required};
+use message_fields::{Elements2, Elements3, Optional, OptionalValue, Required};
 use message_parts::{
     Choice, Descent, PutChoice, PutRecord, ReadRecord, Record, member, put_optional,
     put_optional_value, put_record, whole_record,
@@ -53,23 +53,19 @@ impl PutRecord for AcEvChargeParameter {
 impl<'a> Record<'a> for AcEvChargeParameter {
     ghost use Rattle.std.proofs.Common.{rules};
 
-    type Made = Elements<
+    type Made = Elements2<
         (
-            (
-                OptionalValue<u32, { names::DEPARTURE_TIME }>,
-                Required<PhysicalValue>,
-                Required<PhysicalValue>,
-            ),
-            (Required<PhysicalValue>, Required<PhysicalValue>),
+            OptionalValue<u32, { names::DEPARTURE_TIME }>,
+            Required<PhysicalValue>,
+            Required<PhysicalValue>,
         ),
+        (Required<PhysicalValue>, Required<PhysicalValue>),
     >;
 
     fn of(made: Self::Made) -> AcEvChargeParameter {
-        let Elements(
-            (
-                (OptionalValue(departure_time), Required(e_amount), Required(ev_max_voltage)),
-                (Required(ev_max_current), Required(ev_min_current)),
-            ),
+        let Elements2(
+            (OptionalValue(departure_time), Required(e_amount), Required(ev_max_voltage)),
+            (Required(ev_max_current), Required(ev_min_current)),
         ) = made;
         AcEvChargeParameter {
             departure_time,
@@ -151,41 +147,37 @@ impl PutRecord for DcEvChargeParameter {
 impl<'a> Record<'a> for DcEvChargeParameter {
     ghost use Rattle.std.proofs.Common.{rules};
 
-    type Made = Elements<
+    type Made = Elements3<
         (
-            (
-                OptionalValue<u32, { names::DEPARTURE_TIME }>,
-                Required<DcEvStatus>,
-                Required<PhysicalValue>,
-            ),
-            (
-                Optional<PhysicalValue, { names::EV_MAXIMUM_POWER_LIMIT }>,
-                Required<PhysicalValue>,
-                Optional<PhysicalValue, { names::EV_ENERGY_CAPACITY }>,
-            ),
-            (
-                Optional<PhysicalValue, { names::EV_ENERGY_REQUEST }>,
-                OptionalValue<u8, { names::FULL_SOC }>,
-                OptionalValue<u8, { names::BULK_SOC }>,
-            ),
+            OptionalValue<u32, { names::DEPARTURE_TIME }>,
+            Required<DcEvStatus>,
+            Required<PhysicalValue>,
+        ),
+        (
+            Optional<PhysicalValue, { names::EV_MAXIMUM_POWER_LIMIT }>,
+            Required<PhysicalValue>,
+            Optional<PhysicalValue, { names::EV_ENERGY_CAPACITY }>,
+        ),
+        (
+            Optional<PhysicalValue, { names::EV_ENERGY_REQUEST }>,
+            OptionalValue<u8, { names::FULL_SOC }>,
+            OptionalValue<u8, { names::BULK_SOC }>,
         ),
     >;
 
     fn of(made: Self::Made) -> DcEvChargeParameter {
-        let Elements(
+        let Elements3(
             (
-                (
-                    OptionalValue(departure_time),
-                    Required(dc_ev_status),
-                    Required(ev_maximum_current_limit),
-                ),
-                (
-                    Optional(ev_maximum_power_limit),
-                    Required(ev_maximum_voltage_limit),
-                    Optional(ev_energy_capacity),
-                ),
-                (Optional(ev_energy_request), OptionalValue(full_soc), OptionalValue(bulk_soc)),
+                OptionalValue(departure_time),
+                Required(dc_ev_status),
+                Required(ev_maximum_current_limit),
             ),
+            (
+                Optional(ev_maximum_power_limit),
+                Required(ev_maximum_voltage_limit),
+                Optional(ev_energy_capacity),
+            ),
+            (Optional(ev_energy_request), OptionalValue(full_soc), OptionalValue(bulk_soc)),
         ) = made;
         DcEvChargeParameter {
             departure_time,
@@ -288,17 +280,13 @@ impl PutRecord for AcEvseChargeParameter {
 impl<'a> Record<'a> for AcEvseChargeParameter {
     ghost use Rattle.std.proofs.Common.{rules};
 
-    type Made = Elements<
-        (
-            Required<AcEvseStatus>,
-            Required<PhysicalValue>,
-            Required<PhysicalValue>,
-        ),
-    >;
+    type Made = Elements3<Required<AcEvseStatus>, Required<PhysicalValue>, Required<PhysicalValue>>;
 
     fn of(made: Self::Made) -> AcEvseChargeParameter {
-        let Elements(
-            (Required(ac_evse_status), Required(evse_nominal_voltage), Required(evse_max_current)),
+        let Elements3(
+            Required(ac_evse_status),
+            Required(evse_nominal_voltage),
+            Required(evse_max_current),
         ) = made;
         AcEvseChargeParameter {
             ac_evse_status,
@@ -396,44 +384,40 @@ impl PutRecord for DcEvseChargeParameter {
 impl<'a> Record<'a> for DcEvseChargeParameter {
     ghost use Rattle.std.proofs.Common.{rules};
 
-    type Made = Elements<
+    type Made = Elements3<
         (
-            (
-                Required<DcEvseStatus>,
-                Required<PhysicalValue>,
-                Required<PhysicalValue>,
-            ),
-            (
-                Required<PhysicalValue>,
-                Required<PhysicalValue>,
-                Required<PhysicalValue>,
-            ),
-            (
-                Optional<PhysicalValue, { names::EVSE_CURRENT_REGULATION_TOLERANCE }>,
-                Required<PhysicalValue>,
-                Optional<PhysicalValue, { names::EVSE_ENERGY_TO_BE_DELIVERED }>,
-            ),
+            Required<DcEvseStatus>,
+            Required<PhysicalValue>,
+            Required<PhysicalValue>,
+        ),
+        (
+            Required<PhysicalValue>,
+            Required<PhysicalValue>,
+            Required<PhysicalValue>,
+        ),
+        (
+            Optional<PhysicalValue, { names::EVSE_CURRENT_REGULATION_TOLERANCE }>,
+            Required<PhysicalValue>,
+            Optional<PhysicalValue, { names::EVSE_ENERGY_TO_BE_DELIVERED }>,
         ),
     >;
 
     fn of(made: Self::Made) -> DcEvseChargeParameter {
-        let Elements(
+        let Elements3(
             (
-                (
-                    Required(dc_evse_status),
-                    Required(evse_maximum_current_limit),
-                    Required(evse_maximum_power_limit),
-                ),
-                (
-                    Required(evse_maximum_voltage_limit),
-                    Required(evse_minimum_current_limit),
-                    Required(evse_minimum_voltage_limit),
-                ),
-                (
-                    Optional(evse_current_regulation_tolerance),
-                    Required(evse_peak_current_ripple),
-                    Optional(evse_energy_to_be_delivered),
-                ),
+                Required(dc_evse_status),
+                Required(evse_maximum_current_limit),
+                Required(evse_maximum_power_limit),
+            ),
+            (
+                Required(evse_maximum_voltage_limit),
+                Required(evse_minimum_current_limit),
+                Required(evse_minimum_voltage_limit),
+            ),
+            (
+                Optional(evse_current_regulation_tolerance),
+                Required(evse_peak_current_ripple),
+                Optional(evse_energy_to_be_delivered),
             ),
         ) = made;
         DcEvseChargeParameter {

@@ -8,7 +8,9 @@ use exi_events::EventWriter;
 use exi_schema::Places;
 use iso_parts::PhysicalValue;
 use iso_schema::names;
-use message_fields::{Elements, LeftOut, OneOf, OptionalValue, Required, RequiredValue, Several};
+use message_fields::{
+    Elements, Elements2, Elements3, LeftOut, OneOf, OptionalValue, Required, RequiredValue, Several,
+};
 use message_parts::{
     Choice, Descent, Group, PutChoice, PutRecord, ReadRecord, Record, member, put_choice,
     put_optional_value, put_record, put_records, put_value, whole_record,
@@ -50,10 +52,10 @@ impl PutRecord for RelativeTimeInterval {
 impl<'a> Record<'a> for RelativeTimeInterval {
     ghost use Rattle.std.proofs.Common.{rules};
 
-    type Made = Elements<(RequiredValue<u32>, OptionalValue<u32, { names::DURATION }>)>;
+    type Made = Elements2<RequiredValue<u32>, OptionalValue<u32, { names::DURATION }>>;
 
     fn of(made: Self::Made) -> RelativeTimeInterval {
-        let Elements((RequiredValue(start), OptionalValue(duration))) = made;
+        let Elements2(RequiredValue(start), OptionalValue(duration)) = made;
         RelativeTimeInterval { start, duration }
     }
 
@@ -141,10 +143,10 @@ impl PutRecord for PMaxScheduleEntry {
 impl<'a> Record<'a> for PMaxScheduleEntry {
     ghost use Rattle.std.proofs.Common.{rules};
 
-    type Made = Elements<(OneOf<TimeInterval>, Required<PhysicalValue>)>;
+    type Made = Elements2<OneOf<TimeInterval>, Required<PhysicalValue>>;
 
     fn of(made: Self::Made) -> PMaxScheduleEntry {
-        let Elements((OneOf(time_interval), Required(p_max))) = made;
+        let Elements2(OneOf(time_interval), Required(p_max)) = made;
         PMaxScheduleEntry {
             time_interval,
             p_max,
@@ -254,10 +256,10 @@ impl PutRecord for SaScheduleTuple {
 impl<'a> Record<'a> for SaScheduleTuple {
     ghost use Rattle.std.proofs.Common.{rules};
 
-    type Made = Elements<(RequiredValue<u8>, Required<PMaxSchedule>, LeftOut)>;
+    type Made = Elements3<RequiredValue<u8>, Required<PMaxSchedule>, LeftOut>;
 
     fn of(made: Self::Made) -> SaScheduleTuple {
-        let Elements((RequiredValue(sa_schedule_tuple_id), Required(p_max_schedule), LeftOut)) =
+        let Elements3(RequiredValue(sa_schedule_tuple_id), Required(p_max_schedule), LeftOut) =
             made;
         SaScheduleTuple {
             sa_schedule_tuple_id,

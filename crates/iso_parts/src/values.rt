@@ -9,7 +9,7 @@ use exi_documents::Refusal;
 use exi_events::EventWriter;
 use exi_schema::Places;
 use iso_schema::names;
-use message_fields::{Elements, OptionalValue, RequiredValue};
+use message_fields::{Elements2, Elements4, OptionalValue, RequiredValue};
 use message_parts::{
     Binary, Choice, Descent, PutChoice, PutRecord, ReadRecord, Record, Text, Three, member,
     put_optional_value, put_record, put_value, whole_record,
@@ -232,23 +232,19 @@ impl PutRecord for DcEvseStatus {
 impl<'a> Record<'a> for DcEvseStatus {
     ghost use Rattle.std.proofs.Common.{rules};
 
-    type Made = Elements<
-        (
-            RequiredValue<u16>,
-            RequiredValue<EvseNotification>,
-            OptionalValue<IsolationLevel, { names::EVSE_ISOLATION_STATUS }>,
-            RequiredValue<EvseStatusCode>,
-        ),
+    type Made = Elements4<
+        RequiredValue<u16>,
+        RequiredValue<EvseNotification>,
+        OptionalValue<IsolationLevel, { names::EVSE_ISOLATION_STATUS }>,
+        RequiredValue<EvseStatusCode>,
     >;
 
     fn of(made: Self::Made) -> DcEvseStatus {
-        let Elements(
-            (
-                RequiredValue(notification_max_delay),
-                RequiredValue(evse_notification),
-                OptionalValue(evse_isolation_status),
-                RequiredValue(evse_status_code),
-            ),
+        let Elements4(
+            RequiredValue(notification_max_delay),
+            RequiredValue(evse_notification),
+            OptionalValue(evse_isolation_status),
+            RequiredValue(evse_status_code),
         ) = made;
         DcEvseStatus {
             notification_max_delay,
@@ -346,30 +342,26 @@ impl PutRecord for MeterInfo<'_> {
 impl<'a> Record<'a> for MeterInfo<'a> {
     ghost use Rattle.std.proofs.Common.{rules};
 
-    type Made = Elements<
+    type Made = Elements2<
         (
-            (
-                RequiredValue<Text<'a>>,
-                OptionalValue<u64, { names::METER_READING }>,
-                OptionalValue<Binary<'a>, { names::SIG_METER_READING }>,
-            ),
-            (
-                OptionalValue<i16, { names::METER_STATUS }>,
-                OptionalValue<i64, { names::T_METER }>,
-            ),
+            RequiredValue<Text<'a>>,
+            OptionalValue<u64, { names::METER_READING }>,
+            OptionalValue<Binary<'a>, { names::SIG_METER_READING }>,
+        ),
+        (
+            OptionalValue<i16, { names::METER_STATUS }>,
+            OptionalValue<i64, { names::T_METER }>,
         ),
     >;
 
     fn of(made: Self::Made) -> MeterInfo<'a> {
-        let Elements(
+        let Elements2(
             (
-                (
-                    RequiredValue(meter_id),
-                    OptionalValue(meter_reading),
-                    OptionalValue(sig_meter_reading),
-                ),
-                (OptionalValue(meter_status), OptionalValue(t_meter)),
+                RequiredValue(meter_id),
+                OptionalValue(meter_reading),
+                OptionalValue(sig_meter_reading),
             ),
+            (OptionalValue(meter_status), OptionalValue(t_meter)),
         ) = made;
         MeterInfo {
             meter_id,

@@ -11,7 +11,8 @@ use iso_parts::{
 };
 use iso_schema::names;
 use message_fields::{
-    AtMostOneOf, Elements, OneOf, Optional, OptionalValue, Required, RequiredValue, Several,
+    AtMostOneOf, Elements, Elements2, Elements3, Elements4, OneOf, Optional, OptionalValue,
+    Required, RequiredValue, Several,
 };
 use message_parts::{
     Choice, Descent, Group, PutChoice, PutRecord, ReadRecord, Record, Text, member, put_choice,
@@ -68,21 +69,17 @@ impl PutRecord for ProfileEntry {
 impl<'a> Record<'a> for ProfileEntry {
     ghost use Rattle.std.proofs.Common.{rules};
 
-    type Made = Elements<
-        (
-            RequiredValue<u32>,
-            Required<PhysicalValue>,
-            OptionalValue<u8, { names::CHARGING_PROFILE_ENTRY_MAX_NUMBER_OF_PHASES_IN_USE }>,
-        ),
+    type Made = Elements3<
+        RequiredValue<u32>,
+        Required<PhysicalValue>,
+        OptionalValue<u8, { names::CHARGING_PROFILE_ENTRY_MAX_NUMBER_OF_PHASES_IN_USE }>,
     >;
 
     fn of(made: Self::Made) -> ProfileEntry {
-        let Elements(
-            (
-                RequiredValue(charging_profile_entry_start),
-                Required(charging_profile_entry_max_power),
-                OptionalValue(charging_profile_entry_max_number_of_phases_in_use),
-            ),
+        let Elements3(
+            RequiredValue(charging_profile_entry_start),
+            Required(charging_profile_entry_max_power),
+            OptionalValue(charging_profile_entry_max_number_of_phases_in_use),
         ) = made;
         ProfileEntry {
             charging_profile_entry_start,
@@ -189,21 +186,17 @@ impl PutRecord for DcEvPowerDeliveryParameter {
 impl<'a> Record<'a> for DcEvPowerDeliveryParameter {
     ghost use Rattle.std.proofs.Common.{rules};
 
-    type Made = Elements<
-        (
-            Required<DcEvStatus>,
-            OptionalValue<bool, { names::BULK_CHARGING_COMPLETE }>,
-            RequiredValue<bool>,
-        ),
+    type Made = Elements3<
+        Required<DcEvStatus>,
+        OptionalValue<bool, { names::BULK_CHARGING_COMPLETE }>,
+        RequiredValue<bool>,
     >;
 
     fn of(made: Self::Made) -> DcEvPowerDeliveryParameter {
-        let Elements(
-            (
-                Required(dc_ev_status),
-                OptionalValue(bulk_charging_complete),
-                RequiredValue(charging_complete),
-            ),
+        let Elements3(
+            Required(dc_ev_status),
+            OptionalValue(bulk_charging_complete),
+            RequiredValue(charging_complete),
         ) = made;
         DcEvPowerDeliveryParameter {
             dc_ev_status,
@@ -309,23 +302,19 @@ impl PutRecord for PowerDeliveryReq {
 impl<'a> Record<'a> for PowerDeliveryReq {
     ghost use Rattle.std.proofs.Common.{rules};
 
-    type Made = Elements<
-        (
-            RequiredValue<ChargeProgress>,
-            RequiredValue<u8>,
-            Optional<ChargingProfile, { names::CHARGING_PROFILE }>,
-            AtMostOneOf<EvPowerDeliveryParameter>,
-        ),
+    type Made = Elements4<
+        RequiredValue<ChargeProgress>,
+        RequiredValue<u8>,
+        Optional<ChargingProfile, { names::CHARGING_PROFILE }>,
+        AtMostOneOf<EvPowerDeliveryParameter>,
     >;
 
     fn of(made: Self::Made) -> PowerDeliveryReq {
-        let Elements(
-            (
-                RequiredValue(charge_progress),
-                RequiredValue(sa_schedule_tuple_id),
-                Optional(charging_profile),
-                AtMostOneOf(ev_power_delivery_parameter),
-            ),
+        let Elements4(
+            RequiredValue(charge_progress),
+            RequiredValue(sa_schedule_tuple_id),
+            Optional(charging_profile),
+            AtMostOneOf(ev_power_delivery_parameter),
         ) = made;
         PowerDeliveryReq {
             charge_progress,
@@ -378,10 +367,10 @@ impl PutRecord for PowerDeliveryRes {
 impl<'a> Record<'a> for PowerDeliveryRes {
     ghost use Rattle.std.proofs.Common.{rules};
 
-    type Made = Elements<(RequiredValue<ResponseCode>, OneOf<EvseStatus>)>;
+    type Made = Elements2<RequiredValue<ResponseCode>, OneOf<EvseStatus>>;
 
     fn of(made: Self::Made) -> PowerDeliveryRes {
-        let Elements((RequiredValue(response_code), OneOf(evse_status))) = made;
+        let Elements2(RequiredValue(response_code), OneOf(evse_status)) = made;
         PowerDeliveryRes {
             response_code,
             evse_status,
@@ -488,33 +477,29 @@ impl PutRecord for ChargingStatusRes<'_> {
 impl<'a> Record<'a> for ChargingStatusRes<'a> {
     ghost use Rattle.std.proofs.Common.{rules};
 
-    type Made = Elements<
+    type Made = Elements2<
         (
-            (
-                RequiredValue<ResponseCode>,
-                RequiredValue<Text<'a>>,
-                RequiredValue<u8>,
-                Optional<PhysicalValue, { names::EVSE_MAX_CURRENT }>,
-            ),
-            (
-                Optional<MeterInfo<'a>, { names::METER_INFO }>,
-                OptionalValue<bool, { names::RECEIPT_REQUIRED }>,
-                Required<AcEvseStatus>,
-            ),
+            RequiredValue<ResponseCode>,
+            RequiredValue<Text<'a>>,
+            RequiredValue<u8>,
+            Optional<PhysicalValue, { names::EVSE_MAX_CURRENT }>,
+        ),
+        (
+            Optional<MeterInfo<'a>, { names::METER_INFO }>,
+            OptionalValue<bool, { names::RECEIPT_REQUIRED }>,
+            Required<AcEvseStatus>,
         ),
     >;
 
     fn of(made: Self::Made) -> ChargingStatusRes<'a> {
-        let Elements(
+        let Elements2(
             (
-                (
-                    RequiredValue(response_code),
-                    RequiredValue(evseid),
-                    RequiredValue(sa_schedule_tuple_id),
-                    Optional(evse_max_current),
-                ),
-                (Optional(meter_info), OptionalValue(receipt_required), Required(ac_evse_status)),
+                RequiredValue(response_code),
+                RequiredValue(evseid),
+                RequiredValue(sa_schedule_tuple_id),
+                Optional(evse_max_current),
             ),
+            (Optional(meter_info), OptionalValue(receipt_required), Required(ac_evse_status)),
         ) = made;
         ChargingStatusRes {
             response_code,

@@ -8,7 +8,9 @@ use exi_events::EventWriter;
 use exi_schema::Places;
 use iso_parts::{PhysicalValue, ResponseCode};
 use iso_schema::names;
-use message_fields::{Elements, OneOf, Optional, RequiredValue, Several, WithAttribute};
+use message_fields::{
+    Elements, Elements2, Elements3, OneOf, Optional, RequiredValue, Several, WithAttribute,
+};
 use message_parts::{
     Choice, Descent, PutChoice, PutRecord, ReadRecord, Record, Text, member, member_value,
     put_attribute, put_choice, put_optional, put_record, put_records, put_value, whole_record,
@@ -166,15 +168,10 @@ impl PutRecord for ParameterSet<'_> {
 impl<'a> Record<'a> for ParameterSet<'a> {
     ghost use Rattle.std.proofs.Common.{rules};
 
-    type Made = Elements<
-        (
-            RequiredValue<i16>,
-            Several<Parameter<'a>, 16, { names::PARAMETER }>,
-        ),
-    >;
+    type Made = Elements2<RequiredValue<i16>, Several<Parameter<'a>, 16, { names::PARAMETER }>>;
 
     fn of(made: Self::Made) -> ParameterSet<'a> {
-        let Elements((RequiredValue(parameter_set_id), Several(parameter))) = made;
+        let Elements2(RequiredValue(parameter_set_id), Several(parameter)) = made;
         ParameterSet {
             parameter_set_id,
             parameter,
@@ -329,21 +326,17 @@ impl PutRecord for ServiceDetailRes<'_> {
 impl<'a> Record<'a> for ServiceDetailRes<'a> {
     ghost use Rattle.std.proofs.Common.{rules};
 
-    type Made = Elements<
-        (
-            RequiredValue<ResponseCode>,
-            RequiredValue<u16>,
-            Optional<ServiceParameterList<'a>, { names::SERVICE_PARAMETER_LIST }>,
-        ),
+    type Made = Elements3<
+        RequiredValue<ResponseCode>,
+        RequiredValue<u16>,
+        Optional<ServiceParameterList<'a>, { names::SERVICE_PARAMETER_LIST }>,
     >;
 
     fn of(made: Self::Made) -> ServiceDetailRes<'a> {
-        let Elements(
-            (
-                RequiredValue(response_code),
-                RequiredValue(service_id),
-                Optional(service_parameter_list),
-            ),
+        let Elements3(
+            RequiredValue(response_code),
+            RequiredValue(service_id),
+            Optional(service_parameter_list),
         ) = made;
         ServiceDetailRes {
             response_code,

@@ -8,7 +8,7 @@ use exi_events::EventWriter;
 use exi_schema::Places;
 use iso_parts::{PaymentOption, ResponseCode};
 use iso_schema::names;
-use message_fields::{Elements, OptionalValue, Required, RequiredValue, Several};
+use message_fields::{Elements, Elements2, OptionalValue, Required, RequiredValue, Several};
 use message_parts::{
     Descent, PutRecord, ReadRecord, Record, put_optional_value, put_record, put_records, put_value,
     whole_record,
@@ -48,15 +48,10 @@ impl PutRecord for SelectedService {
 impl<'a> Record<'a> for SelectedService {
     ghost use Rattle.std.proofs.Common.{rules};
 
-    type Made = Elements<
-        (
-            RequiredValue<u16>,
-            OptionalValue<i16, { names::PARAMETER_SET_ID }>,
-        ),
-    >;
+    type Made = Elements2<RequiredValue<u16>, OptionalValue<i16, { names::PARAMETER_SET_ID }>>;
 
     fn of(made: Self::Made) -> SelectedService {
-        let Elements((RequiredValue(service_id), OptionalValue(parameter_set_id))) = made;
+        let Elements2(RequiredValue(service_id), OptionalValue(parameter_set_id)) = made;
         SelectedService {
             service_id,
             parameter_set_id,
@@ -163,10 +158,10 @@ impl PutRecord for PaymentServiceSelectionReq {
 impl<'a> Record<'a> for PaymentServiceSelectionReq {
     ghost use Rattle.std.proofs.Common.{rules};
 
-    type Made = Elements<(RequiredValue<PaymentOption>, Required<SelectedServiceList>)>;
+    type Made = Elements2<RequiredValue<PaymentOption>, Required<SelectedServiceList>>;
 
     fn of(made: Self::Made) -> PaymentServiceSelectionReq {
-        let Elements((RequiredValue(selected_payment_option), Required(selected_service_list))) =
+        let Elements2(RequiredValue(selected_payment_option), Required(selected_service_list)) =
             made;
         PaymentServiceSelectionReq {
             selected_payment_option,

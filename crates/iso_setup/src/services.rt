@@ -9,7 +9,8 @@ use exi_schema::Places;
 use iso_parts::{EnergyTransferMode, PaymentOption, ResponseCode, ServiceCategory};
 use iso_schema::names;
 use message_fields::{
-    Elements, Optional, OptionalValue, Required, RequiredValue, Several, SeveralValues,
+    Elements, Elements2, Elements4, Optional, OptionalValue, Required, RequiredValue, Several,
+    SeveralValues,
 };
 use message_parts::{
     Descent, PutRecord, ReadRecord, Record, Text, put_optional, put_optional_value, put_record,
@@ -58,30 +59,26 @@ impl PutRecord for Service<'_> {
 impl<'a> Record<'a> for Service<'a> {
     ghost use Rattle.std.proofs.Common.{rules};
 
-    type Made = Elements<
+    type Made = Elements2<
         (
-            (
-                RequiredValue<u16>,
-                OptionalValue<Text<'a>, { names::SERVICE_NAME }>,
-                RequiredValue<ServiceCategory>,
-            ),
-            (
-                OptionalValue<Text<'a>, { names::SERVICE_SCOPE }>,
-                RequiredValue<bool>,
-            ),
+            RequiredValue<u16>,
+            OptionalValue<Text<'a>, { names::SERVICE_NAME }>,
+            RequiredValue<ServiceCategory>,
+        ),
+        (
+            OptionalValue<Text<'a>, { names::SERVICE_SCOPE }>,
+            RequiredValue<bool>,
         ),
     >;
 
     fn of(made: Self::Made) -> Service<'a> {
-        let Elements(
+        let Elements2(
             (
-                (
-                    RequiredValue(service_id),
-                    OptionalValue(service_name),
-                    RequiredValue(service_category),
-                ),
-                (OptionalValue(service_scope), RequiredValue(free_service)),
+                RequiredValue(service_id),
+                OptionalValue(service_name),
+                RequiredValue(service_category),
             ),
+            (OptionalValue(service_scope), RequiredValue(free_service)),
         ) = made;
         Service {
             service_id,
@@ -255,34 +252,30 @@ impl PutRecord for ChargeService<'_> {
 impl<'a> Record<'a> for ChargeService<'a> {
     ghost use Rattle.std.proofs.Common.{rules};
 
-    type Made = Elements<
+    type Made = Elements2<
         (
-            (
-                RequiredValue<u16>,
-                OptionalValue<Text<'a>, { names::SERVICE_NAME }>,
-                RequiredValue<ServiceCategory>,
-            ),
-            (
-                OptionalValue<Text<'a>, { names::SERVICE_SCOPE }>,
-                RequiredValue<bool>,
-                Required<SupportedEnergyTransferMode>,
-            ),
+            RequiredValue<u16>,
+            OptionalValue<Text<'a>, { names::SERVICE_NAME }>,
+            RequiredValue<ServiceCategory>,
+        ),
+        (
+            OptionalValue<Text<'a>, { names::SERVICE_SCOPE }>,
+            RequiredValue<bool>,
+            Required<SupportedEnergyTransferMode>,
         ),
     >;
 
     fn of(made: Self::Made) -> ChargeService<'a> {
-        let Elements(
+        let Elements2(
             (
-                (
-                    RequiredValue(service_id),
-                    OptionalValue(service_name),
-                    RequiredValue(service_category),
-                ),
-                (
-                    OptionalValue(service_scope),
-                    RequiredValue(free_service),
-                    Required(supported_energy_transfer_mode),
-                ),
+                RequiredValue(service_id),
+                OptionalValue(service_name),
+                RequiredValue(service_category),
+            ),
+            (
+                OptionalValue(service_scope),
+                RequiredValue(free_service),
+                Required(supported_energy_transfer_mode),
             ),
         ) = made;
         ChargeService {
@@ -388,15 +381,13 @@ impl PutRecord for ServiceDiscoveryReq<'_> {
 impl<'a> Record<'a> for ServiceDiscoveryReq<'a> {
     ghost use Rattle.std.proofs.Common.{rules};
 
-    type Made = Elements<
-        (
-            OptionalValue<Text<'a>, { names::SERVICE_SCOPE }>,
-            OptionalValue<ServiceCategory, { names::SERVICE_CATEGORY }>,
-        ),
+    type Made = Elements2<
+        OptionalValue<Text<'a>, { names::SERVICE_SCOPE }>,
+        OptionalValue<ServiceCategory, { names::SERVICE_CATEGORY }>,
     >;
 
     fn of(made: Self::Made) -> ServiceDiscoveryReq<'a> {
-        let Elements((OptionalValue(service_scope), OptionalValue(service_category))) = made;
+        let Elements2(OptionalValue(service_scope), OptionalValue(service_category)) = made;
         ServiceDiscoveryReq {
             service_scope,
             service_category,
@@ -456,23 +447,19 @@ impl PutRecord for ServiceDiscoveryRes<'_> {
 impl<'a> Record<'a> for ServiceDiscoveryRes<'a> {
     ghost use Rattle.std.proofs.Common.{rules};
 
-    type Made = Elements<
-        (
-            RequiredValue<ResponseCode>,
-            Required<PaymentOptionList>,
-            Required<ChargeService<'a>>,
-            Optional<ServiceList<'a>, { names::SERVICE_LIST }>,
-        ),
+    type Made = Elements4<
+        RequiredValue<ResponseCode>,
+        Required<PaymentOptionList>,
+        Required<ChargeService<'a>>,
+        Optional<ServiceList<'a>, { names::SERVICE_LIST }>,
     >;
 
     fn of(made: Self::Made) -> ServiceDiscoveryRes<'a> {
-        let Elements(
-            (
-                RequiredValue(response_code),
-                Required(payment_option_list),
-                Required(charge_service),
-                Optional(service_list),
-            ),
+        let Elements4(
+            RequiredValue(response_code),
+            Required(payment_option_list),
+            Required(charge_service),
+            Optional(service_list),
         ) = made;
         ServiceDiscoveryRes {
             response_code,

@@ -7,7 +7,9 @@ use exi_events::EventWriter;
 use exi_schema::Places;
 use iso_parts::{ChargingSession, EvseProcessing, ResponseCode};
 use iso_schema::names;
-use message_fields::{Elements, OptionalValue, RequiredValue, WithOptionalAttribute};
+use message_fields::{
+    Elements, Elements2, Elements3, OptionalValue, RequiredValue, WithOptionalAttribute,
+};
 use message_parts::{
     Binary, Descent, PutRecord, ReadRecord, Record, Text, put_optional_attribute,
     put_optional_value, put_value, whole_record,
@@ -99,17 +101,17 @@ impl PutRecord for SessionSetupRes<'_> {
 impl<'a> Record<'a> for SessionSetupRes<'a> {
     ghost use Rattle.std.proofs.Common.{rules};
 
-    type Made = Elements<
-        (
-            RequiredValue<ResponseCode>,
-            RequiredValue<Text<'a>>,
-            OptionalValue<i64, { names::EVSE_TIME_STAMP }>,
-        ),
+    type Made = Elements3<
+        RequiredValue<ResponseCode>,
+        RequiredValue<Text<'a>>,
+        OptionalValue<i64, { names::EVSE_TIME_STAMP }>,
     >;
 
     fn of(made: Self::Made) -> SessionSetupRes<'a> {
-        let Elements(
-            (RequiredValue(response_code), RequiredValue(evseid), OptionalValue(evse_time_stamp)),
+        let Elements3(
+            RequiredValue(response_code),
+            RequiredValue(evseid),
+            OptionalValue(evse_time_stamp),
         ) = made;
         SessionSetupRes {
             response_code,
@@ -216,10 +218,10 @@ impl PutRecord for AuthorizationRes {
 impl<'a> Record<'a> for AuthorizationRes {
     ghost use Rattle.std.proofs.Common.{rules};
 
-    type Made = Elements<(RequiredValue<ResponseCode>, RequiredValue<EvseProcessing>)>;
+    type Made = Elements2<RequiredValue<ResponseCode>, RequiredValue<EvseProcessing>>;
 
     fn of(made: Self::Made) -> AuthorizationRes {
-        let Elements((RequiredValue(response_code), RequiredValue(evse_processing))) = made;
+        let Elements2(RequiredValue(response_code), RequiredValue(evse_processing)) = made;
         AuthorizationRes {
             response_code,
             evse_processing,

@@ -5,7 +5,7 @@ mod made;
 mod singles;
 mod tuples;
 
-pub use made::{Elements, WithAttribute, WithOptionalAttribute};
+pub use made::{Elements, Elements2, Elements3, Elements4, WithAttribute, WithOptionalAttribute};
 pub use singles::{
     AtMostOneOf, LeftOut, OneOf, Optional, OptionalValue, Required, RequiredValue, Several,
     SeveralValues,

@@ -10,9 +10,21 @@ use exi_documents::Refusal;
 use exi_schema::Places;
 use message_parts::{Contents, Descent, Simple, attribute, last_attribute};
 
-/// Children alone.
+/// A child alone, or none, `Elements<()>`.
 #[derive(Drop)]
 pub struct Elements<C>(pub C);
+
+/// Two children alone, or two tuples of them, one behind the other.
+#[derive(Drop)]
+pub struct Elements2<A, B>(pub A, pub B);
+
+/// Three of them.
+#[derive(Drop)]
+pub struct Elements3<A, B, C>(pub A, pub B, pub C);
+
+/// Four of them.
+#[derive(Drop)]
+pub struct Elements4<A, B, C, D>(pub A, pub B, pub C, pub D);
 
 /// An attribute that has to be there, and children.
 #[derive(Drop)]
@@ -30,6 +42,49 @@ impl<'a, C: Children<'a>> Contents<'a> for Elements<C> {
     #[inline(always)]
     fn read<P: Places>(descent: &mut Descent<'a, '_, P>) -> Result<Elements<C>, Refusal> {
         Ok(Elements(first_children(descent)?))
+    }
+}
+
+impl<'a, A: Children<'a>, B: Children<'a>> Contents<'a> for Elements2<A, B> {
+    ghost stand = { λ ks attributes declared. (0 ≡ length attributes) × (B.behind (A.behind 0) ≡ length declared)
+        × A.stand ks declared 0 × B.stand ks declared (A.behind 0) };
+
+    ghost told = { λ attributes declared v before. B.told declared (A.behind 0) v.1 (A.told declared 0 v.0 before) };
+
+    #[inline(always)]
+    fn read<P: Places>(descent: &mut Descent<'a, '_, P>) -> Result<Elements2<A, B>, Refusal> {
+        let (a, b) = first_children(descent)?;
+        Ok(Elements2(a, b))
+    }
+}
+
+impl<'a, A: Children<'a>, B: Children<'a>, C: Children<'a>> Contents<'a> for Elements3<A, B, C> {
+    ghost stand = { λ ks attributes declared. (0 ≡ length attributes) × (C.behind (B.behind (A.behind 0)) ≡ length declared)
+        × A.stand ks declared 0 × B.stand ks declared (A.behind 0) × C.stand ks declared (B.behind (A.behind 0)) };
+
+    ghost told = { λ attributes declared v before. C.told declared (B.behind (A.behind 0)) v.2
+        (B.told declared (A.behind 0) v.1 (A.told declared 0 v.0 before)) };
+
+    #[inline(always)]
+    fn read<P: Places>(descent: &mut Descent<'a, '_, P>) -> Result<Elements3<A, B, C>, Refusal> {
+        let (a, b, c) = first_children(descent)?;
+        Ok(Elements3(a, b, c))
+    }
+}
+
+impl<'a, A: Children<'a>, B: Children<'a>, C: Children<'a>, D: Children<'a>> Contents<'a>
+    for Elements4<A, B, C, D> {
+    ghost stand = { λ ks attributes declared. (0 ≡ length attributes) × (D.behind (C.behind (B.behind (A.behind 0))) ≡ length declared)
+        × A.stand ks declared 0 × B.stand ks declared (A.behind 0) × C.stand ks declared (B.behind (A.behind 0))
+        × D.stand ks declared (C.behind (B.behind (A.behind 0))) };
+
+    ghost told = { λ attributes declared v before. D.told declared (C.behind (B.behind (A.behind 0))) v.3
+        (C.told declared (B.behind (A.behind 0)) v.2 (B.told declared (A.behind 0) v.1 (A.told declared 0 v.0 before))) };
+
+    #[inline(always)]
+    fn read<P: Places>(descent: &mut Descent<'a, '_, P>) -> Result<Elements4<A, B, C, D>, Refusal> {
+        let (a, b, c, d) = first_children(descent)?;
+        Ok(Elements4(a, b, c, d))
     }
 }
 

@@ -6,7 +6,7 @@ use crate::names;
 use exi_documents::Refusal;
 use exi_events::{EventWriter, Value};
 use exi_schema::Places;
-use message_fields::{Elements, OptionalValue, RequiredValue};
+use message_fields::{Elements, Elements2, OptionalValue, RequiredValue};
 use message_parts::{
     Choice, Descent, Group, PutChoice, PutRecord, ReadRecord, Record, Simple, Text, member,
     member_value, put_optional_value, put_record, put_value, whole_record,
@@ -79,10 +79,10 @@ impl PutRecord for Reading {
 impl<'a> Record<'a> for Reading {
     ghost use Rattle.std.proofs.Common.{rules};
 
-    type Made = Elements<(RequiredValue<i8>, RequiredValue<i16>)>;
+    type Made = Elements2<RequiredValue<i8>, RequiredValue<i16>>;
 
     fn of(made: Self::Made) -> Reading {
-        let Elements((RequiredValue(scale), RequiredValue(value))) = made;
+        let Elements2(RequiredValue(scale), RequiredValue(value)) = made;
         Reading { scale, value }
     }
 
@@ -232,10 +232,10 @@ impl PutRecord for DcSupply {
 impl<'a> Record<'a> for DcSupply {
     ghost use Rattle.std.proofs.Common.{rules};
 
-    type Made = Elements<(RequiredValue<u16>, OptionalValue<u16, { names::CURRENT }>)>;
+    type Made = Elements2<RequiredValue<u16>, OptionalValue<u16, { names::CURRENT }>>;
 
     fn of(made: Self::Made) -> DcSupply {
-        let Elements((RequiredValue(voltage), OptionalValue(current))) = made;
+        let Elements2(RequiredValue(voltage), OptionalValue(current)) = made;
         DcSupply { voltage, current }
     }
 

@@ -6,7 +6,7 @@ use crate::names;
 use exi_documents::Refusal;
 use exi_events::EventWriter;
 use exi_schema::Places;
-use message_fields::{Elements, OptionalValue, RequiredValue};
+use message_fields::{Elements3, OptionalValue, RequiredValue};
 use message_parts::{
     Descent, PutRecord, ReadRecord, Record, put_optional_value, put_value, whole_record,
 };
@@ -69,41 +69,37 @@ impl PutRecord for Meter {
 impl<'a> Record<'a> for Meter {
     ghost use Rattle.std.proofs.Common.{rules};
 
-    type Made = Elements<
+    type Made = Elements3<
         (
-            (
-                RequiredValue<u8>,
-                RequiredValue<u16>,
-                RequiredValue<u32>,
-                RequiredValue<u64>,
-            ),
-            (
-                RequiredValue<i8>,
-                RequiredValue<i16>,
-                RequiredValue<i32>,
-                RequiredValue<i64>,
-            ),
-            (RequiredValue<bool>, OptionalValue<u8, { names::LOAD }>),
+            RequiredValue<u8>,
+            RequiredValue<u16>,
+            RequiredValue<u32>,
+            RequiredValue<u64>,
         ),
+        (
+            RequiredValue<i8>,
+            RequiredValue<i16>,
+            RequiredValue<i32>,
+            RequiredValue<i64>,
+        ),
+        (RequiredValue<bool>, OptionalValue<u8, { names::LOAD }>),
     >;
 
     fn of(made: Self::Made) -> Meter {
-        let Elements(
+        let Elements3(
             (
-                (
-                    RequiredValue(phase),
-                    RequiredValue(pulses),
-                    RequiredValue(energy),
-                    RequiredValue(total),
-                ),
-                (
-                    RequiredValue(offset),
-                    RequiredValue(power),
-                    RequiredValue(reactive),
-                    RequiredValue(time),
-                ),
-                (RequiredValue(valid), OptionalValue(load)),
+                RequiredValue(phase),
+                RequiredValue(pulses),
+                RequiredValue(energy),
+                RequiredValue(total),
             ),
+            (
+                RequiredValue(offset),
+                RequiredValue(power),
+                RequiredValue(reactive),
+                RequiredValue(time),
+            ),
+            (RequiredValue(valid), OptionalValue(load)),
         ) = made;
         Meter {
             phase,
