@@ -99,7 +99,7 @@ def member_of(t, kind, call, fact):
     return [f"    {read}"] if t.is_brief(kind) else [f"    let it = {read} in", "    (_, refl, it.0, it.1)"]
 
 
-def read_large_choice(t, kind, n=0):
+def read_in_parts(t, kind, n=0):
     members, text = t.parts(kind)[n], ""
     behind = "brief" if kind in t.brief else t.reader_of(kind, n + 1)
     calls = iter(list(numbered(it.read() for it in members if not t.holds_list(it.kind))))
@@ -126,12 +126,9 @@ def read_apart(t, kind, it):
 
 def read_brief(file):
     """The answers of the functions that read one of the brief members of a group."""
-    found = "(_, refl, it.0, it.1)"
-    weaker = f"IfOk-weaker c.read_member_here.result _ _ (λ _ it. {found})"
-    again = answer("in-Some-Brief-clause-read", "told", [f"    {weaker} (c.read_member_here.ensures.read F told h)"])
-    anew = answer("clause-read", "told", ["    let it = c.in_ok-read_member_here.ensures.read F told h in", f"    {found}"])
+    found = ["    let it = c.in_ok-read_member.ensures.read F told h in", "    (_, refl, it.0, it.1)"]
     refl = "use Rattle.std.proofs.Common.{refl}\n"
-    return [(f"{file}/brief", refl + "use Rattle.std.proofs.lemmas.Result.{IfOk-weaker}\n", again), (f"{file}/brief_anew", refl, anew)]
+    return [(f"{file}/brief", refl, answer("in_ok-read_member-clause-read", "told", found)), (f"{file}/brief_anew", refl, answer("clause-read", "told", found))]
 
 
 def read_choice(t, kind):
@@ -187,9 +184,9 @@ def proofs(t, crate, file, kind):
     if kind in t.choices:
         put = put_choice if len(t.choices[kind]) > 1 else put_only
         found.append(("PutChoice/write_member", put_choice_head(t, crate, file, kind), put(t, kind)))
-        if kind in t.large:
-            at = "LargeChoice/read_member_here" if t.is_brief(kind) else "LargeGroup/read_member_into"
-            found.append((at, read_choice_head(t, crate, file, kind), read_large_choice(t, kind)))
+        if kind in t.large or t.is_brief(kind):
+            at = "Choice/read_member" if t.is_brief(kind) else "LargeGroup/read_member_into"
+            found.append((at, read_choice_head(t, crate, file, kind), read_in_parts(t, kind)))
         else:
             found.append(("Choice/read_member", read_choice_head(t, crate, file, kind), read_choice(t, kind)))
     elif kind in t.s.content:
@@ -197,9 +194,9 @@ def proofs(t, crate, file, kind):
         if kind in t.large:
             found.append(("LargeRecord/read_here", read_large_record_head(t, kind), read_large_record(t, kind)))
     places = [(f"{file}/{name}{place}", head, body) for place, head, body in found]
-    if kind in t.large and kind in t.choices:
+    if kind in t.choices and (kind in t.large or t.is_brief(kind)):
         apart = [it for it in t.own(kind) if t.holds_list(it.kind)]
         places += [(f"{file}/{it.word}", "use Rattle.std.proofs.Common.{refl}\n", read_apart(t, kind, it)) for it in apart]
         places += read_brief(file) if kind in t.brief else []
-        places += [(f"{file}/{t.reader_of(kind, n)}", read_choice_head(t, crate, file, kind, n), read_large_choice(t, kind, n)) for n in range(1, len(t.parts(kind)))]
+        places += [(f"{file}/{t.reader_of(kind, n)}", read_choice_head(t, crate, file, kind, n), read_in_parts(t, kind, n)) for n in range(1, len(t.parts(kind)))]
     return {place: with_uses(t, crate, place, head, body) for place, head, body in places}

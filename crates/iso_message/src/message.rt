@@ -26,7 +26,7 @@ use iso_setup::{
     SessionSetupRes, SessionStopReq, SessionStopRes,
 };
 use message_parts::{
-    Descent, LargeChoice, LargeGroup, LargeRecord, PutChoice, PutRecord, first_child, member,
+    Choice, Descent, LargeGroup, LargeRecord, PutChoice, PutRecord, first_child, member,
     optional_choice_here, put_optional_choice, put_record, required, required_here,
 };
 
@@ -194,9 +194,8 @@ impl PutChoice for BriefElement<'_> {
 /// PaymentServiceSelectionReq, which holds a list: apart from the others, so that they don't fill its room.
 #[inline(never)]
 fn payment_service_selection_req<'a, P: Places>(
-    place: &mut BriefElement<'a>,
     descent: &mut Descent<'a, '_, P>,
-) -> Result<(), Refusal>
+) -> Result<BriefElement<'a>, Refusal>
     requires open { IsOpen P.schema descent.old }
     ensures open { IsOpen P.schema descent.new }
     ensures table { descent.new.reader.table.ghost_name ≡ descent.old.reader.table.ghost_name }
@@ -204,18 +203,16 @@ fn payment_service_selection_req<'a, P: Places>(
     ensures payload { descent.new.reader.reader.bits ≡ descent.old.reader.reader.bits }
     ensures refused { IfErr result (λ r. IsRefusal (seen_of P.schema descent.old) r) }
     ensures read { (F : Frame) (told : List TreeEvent) → IsChosen kinds F (drop 6 brief_element_members) told (seen_of P.schema descent.old) → descent.old.child ≡ Some PAYMENT_SERVICE_SELECTION_REQ
-        → IfOk result (λ _. (brief_element_name place.new ≡ F.name) × Leaves kinds F (told_inside (brief_element_inside place.new) told) (seen_of P.schema descent.new)) }
+        → IfOk result (λ v. (brief_element_name v ≡ F.name) × Leaves kinds F (told_inside (brief_element_inside v) told) (seen_of P.schema descent.new)) }
 {
-    *place = BriefElement::PaymentServiceSelectionReq(member(descent)?);
-    Ok(())
+    Ok(BriefElement::PaymentServiceSelectionReq(member(descent)?))
 }
 
 /// PowerDeliveryReq, which holds a list: apart from the others, so that they don't fill its room.
 #[inline(never)]
 fn power_delivery_req<'a, P: Places>(
-    place: &mut BriefElement<'a>,
     descent: &mut Descent<'a, '_, P>,
-) -> Result<(), Refusal>
+) -> Result<BriefElement<'a>, Refusal>
     requires open { IsOpen P.schema descent.old }
     ensures open { IsOpen P.schema descent.new }
     ensures table { descent.new.reader.table.ghost_name ≡ descent.old.reader.table.ghost_name }
@@ -223,18 +220,16 @@ fn power_delivery_req<'a, P: Places>(
     ensures payload { descent.new.reader.reader.bits ≡ descent.old.reader.reader.bits }
     ensures refused { IfErr result (λ r. IsRefusal (seen_of P.schema descent.old) r) }
     ensures read { (F : Frame) (told : List TreeEvent) → IsChosen kinds F (drop 6 brief_element_members) told (seen_of P.schema descent.old) → descent.old.child ≡ Some POWER_DELIVERY_REQ
-        → IfOk result (λ _. (brief_element_name place.new ≡ F.name) × Leaves kinds F (told_inside (brief_element_inside place.new) told) (seen_of P.schema descent.new)) }
+        → IfOk result (λ v. (brief_element_name v ≡ F.name) × Leaves kinds F (told_inside (brief_element_inside v) told) (seen_of P.schema descent.new)) }
 {
-    *place = BriefElement::PowerDeliveryReq(member(descent)?);
-    Ok(())
+    Ok(BriefElement::PowerDeliveryReq(member(descent)?))
 }
 
 /// One of the members from ChargingStatusRes on.
 #[inline(always)]
 fn from_charging_status_res<'a, P: Places>(
-    place: &mut BriefElement<'a>,
     descent: &mut Descent<'a, '_, P>,
-) -> Result<(), Refusal>
+) -> Result<BriefElement<'a>, Refusal>
     requires open { IsOpen P.schema descent.old }
     ensures open { IsOpen P.schema descent.new }
     ensures table { descent.new.reader.table.ghost_name ≡ descent.old.reader.table.ghost_name }
@@ -242,35 +237,30 @@ fn from_charging_status_res<'a, P: Places>(
     ensures payload { descent.new.reader.reader.bits ≡ descent.old.reader.reader.bits }
     ensures refused { IfErr result (λ r. IsRefusal (seen_of P.schema descent.old) r) }
     ensures read { (F : Frame) (told : List TreeEvent) → IsChosen kinds F (drop 6 brief_element_members) told (seen_of P.schema descent.old)
-        → IfOk result (λ _. (brief_element_name place.new ≡ F.name) × Leaves kinds F (told_inside (brief_element_inside place.new) told) (seen_of P.schema descent.new)) }
+        → IfOk result (λ v. (brief_element_name v ≡ F.name) × Leaves kinds F (told_inside (brief_element_inside v) told) (seen_of P.schema descent.new)) }
 {
     if descent.is_at(names::CHARGING_STATUS_RES) {
-        *place = BriefElement::ChargingStatusRes(member(descent)?);
-        Ok(())
+        Ok(BriefElement::ChargingStatusRes(member(descent)?))
     } else if descent.is_at(names::CURRENT_DEMAND_REQ) {
-        *place = BriefElement::CurrentDemandReq(member(descent)?);
-        Ok(())
+        Ok(BriefElement::CurrentDemandReq(member(descent)?))
     } else if descent.is_at(names::CURRENT_DEMAND_RES) {
-        *place = BriefElement::CurrentDemandRes(member(descent)?);
-        Ok(())
+        Ok(BriefElement::CurrentDemandRes(member(descent)?))
     } else if descent.is_at(names::PAYMENT_SERVICE_SELECTION_REQ) {
-        payment_service_selection_req(place, descent)
+        payment_service_selection_req(descent)
     } else if descent.is_at(names::PAYMENT_SERVICE_SELECTION_RES) {
-        *place = BriefElement::PaymentServiceSelectionRes(member(descent)?);
-        Ok(())
+        Ok(BriefElement::PaymentServiceSelectionRes(member(descent)?))
     } else if descent.is_at(names::POWER_DELIVERY_REQ) {
-        power_delivery_req(place, descent)
+        power_delivery_req(descent)
     } else {
-        from_power_delivery_res(place, descent)
+        from_power_delivery_res(descent)
     }
 }
 
 /// One of the members from PowerDeliveryRes on.
 #[inline(always)]
 fn from_power_delivery_res<'a, P: Places>(
-    place: &mut BriefElement<'a>,
     descent: &mut Descent<'a, '_, P>,
-) -> Result<(), Refusal>
+) -> Result<BriefElement<'a>, Refusal>
     requires open { IsOpen P.schema descent.old }
     ensures open { IsOpen P.schema descent.new }
     ensures table { descent.new.reader.table.ghost_name ≡ descent.old.reader.table.ghost_name }
@@ -278,37 +268,30 @@ fn from_power_delivery_res<'a, P: Places>(
     ensures payload { descent.new.reader.reader.bits ≡ descent.old.reader.reader.bits }
     ensures refused { IfErr result (λ r. IsRefusal (seen_of P.schema descent.old) r) }
     ensures read { (F : Frame) (told : List TreeEvent) → IsChosen kinds F (drop 12 brief_element_members) told (seen_of P.schema descent.old)
-        → IfOk result (λ _. (brief_element_name place.new ≡ F.name) × Leaves kinds F (told_inside (brief_element_inside place.new) told) (seen_of P.schema descent.new)) }
+        → IfOk result (λ v. (brief_element_name v ≡ F.name) × Leaves kinds F (told_inside (brief_element_inside v) told) (seen_of P.schema descent.new)) }
 {
     if descent.is_at(names::POWER_DELIVERY_RES) {
-        *place = BriefElement::PowerDeliveryRes(member(descent)?);
-        Ok(())
+        Ok(BriefElement::PowerDeliveryRes(member(descent)?))
     } else if descent.is_at(names::PRE_CHARGE_REQ) {
-        *place = BriefElement::PreChargeReq(member(descent)?);
-        Ok(())
+        Ok(BriefElement::PreChargeReq(member(descent)?))
     } else if descent.is_at(names::PRE_CHARGE_RES) {
-        *place = BriefElement::PreChargeRes(member(descent)?);
-        Ok(())
+        Ok(BriefElement::PreChargeRes(member(descent)?))
     } else if descent.is_at(names::SERVICE_DETAIL_REQ) {
-        *place = BriefElement::ServiceDetailReq(member(descent)?);
-        Ok(())
+        Ok(BriefElement::ServiceDetailReq(member(descent)?))
     } else if descent.is_at(names::SERVICE_DISCOVERY_REQ) {
-        *place = BriefElement::ServiceDiscoveryReq(member(descent)?);
-        Ok(())
+        Ok(BriefElement::ServiceDiscoveryReq(member(descent)?))
     } else if descent.is_at(names::SESSION_SETUP_REQ) {
-        *place = BriefElement::SessionSetupReq(member(descent)?);
-        Ok(())
+        Ok(BriefElement::SessionSetupReq(member(descent)?))
     } else {
-        from_session_setup_res(place, descent)
+        from_session_setup_res(descent)
     }
 }
 
 /// One of the members from SessionSetupRes on.
 #[inline(always)]
 fn from_session_setup_res<'a, P: Places>(
-    place: &mut BriefElement<'a>,
     descent: &mut Descent<'a, '_, P>,
-) -> Result<(), Refusal>
+) -> Result<BriefElement<'a>, Refusal>
     requires open { IsOpen P.schema descent.old }
     ensures open { IsOpen P.schema descent.new }
     ensures table { descent.new.reader.table.ghost_name ≡ descent.old.reader.table.ghost_name }
@@ -316,51 +299,39 @@ fn from_session_setup_res<'a, P: Places>(
     ensures payload { descent.new.reader.reader.bits ≡ descent.old.reader.reader.bits }
     ensures refused { IfErr result (λ r. IsRefusal (seen_of P.schema descent.old) r) }
     ensures read { (F : Frame) (told : List TreeEvent) → IsChosen kinds F (drop 18 brief_element_members) told (seen_of P.schema descent.old)
-        → IfOk result (λ _. (brief_element_name place.new ≡ F.name) × Leaves kinds F (told_inside (brief_element_inside place.new) told) (seen_of P.schema descent.new)) }
+        → IfOk result (λ v. (brief_element_name v ≡ F.name) × Leaves kinds F (told_inside (brief_element_inside v) told) (seen_of P.schema descent.new)) }
 {
     if descent.is_at(names::SESSION_SETUP_RES) {
-        *place = BriefElement::SessionSetupRes(member(descent)?);
-        Ok(())
+        Ok(BriefElement::SessionSetupRes(member(descent)?))
     } else if descent.is_at(names::SESSION_STOP_REQ) {
-        *place = BriefElement::SessionStopReq(member(descent)?);
-        Ok(())
+        Ok(BriefElement::SessionStopReq(member(descent)?))
     } else if descent.is_at(names::SESSION_STOP_RES) {
-        *place = BriefElement::SessionStopRes(member(descent)?);
-        Ok(())
+        Ok(BriefElement::SessionStopRes(member(descent)?))
     } else if descent.is_at(names::WELDING_DETECTION_REQ) {
-        *place = BriefElement::WeldingDetectionReq(member(descent)?);
-        Ok(())
+        Ok(BriefElement::WeldingDetectionReq(member(descent)?))
     } else {
-        *place = BriefElement::WeldingDetectionRes(member(descent)?);
-        Ok(())
+        Ok(BriefElement::WeldingDetectionRes(member(descent)?))
     }
 }
 
-impl<'a> LargeChoice<'a> for BriefElement<'a> {
-    fn read_member_here<P: Places>(
-        &mut self,
+impl<'a> Choice<'a> for BriefElement<'a> {
+    fn read_member<P: Places>(
         descent: &mut Descent<'a, '_, P>,
-    ) -> Result<(), Refusal> {
+    ) -> Result<BriefElement<'a>, Refusal> {
         if descent.is_at(names::AUTHORIZATION_REQ) {
-            *self = BriefElement::AuthorizationReq(member(descent)?);
-            Ok(())
+            Ok(BriefElement::AuthorizationReq(member(descent)?))
         } else if descent.is_at(names::AUTHORIZATION_RES) {
-            *self = BriefElement::AuthorizationRes(member(descent)?);
-            Ok(())
+            Ok(BriefElement::AuthorizationRes(member(descent)?))
         } else if descent.is_at(names::CABLE_CHECK_REQ) {
-            *self = BriefElement::CableCheckReq(member(descent)?);
-            Ok(())
+            Ok(BriefElement::CableCheckReq(member(descent)?))
         } else if descent.is_at(names::CABLE_CHECK_RES) {
-            *self = BriefElement::CableCheckRes(member(descent)?);
-            Ok(())
+            Ok(BriefElement::CableCheckRes(member(descent)?))
         } else if descent.is_at(names::CHARGE_PARAMETER_DISCOVERY_REQ) {
-            *self = BriefElement::ChargeParameterDiscoveryReq(member(descent)?);
-            Ok(())
+            Ok(BriefElement::ChargeParameterDiscoveryReq(member(descent)?))
         } else if descent.is_at(names::CHARGING_STATUS_REQ) {
-            *self = BriefElement::ChargingStatusReq(member(descent)?);
-            Ok(())
+            Ok(BriefElement::ChargingStatusReq(member(descent)?))
         } else {
-            from_charging_status_res(self, descent)
+            from_charging_status_res(descent)
         }
     }
 }
@@ -481,7 +452,10 @@ fn brief<'a, P: Places>(
         → IfOk result (λ _. (v : BodyElement) × (place.new ≡ Some v) × (body_element_name v ≡ F.name) × Leaves kinds F (told_inside (body_element_inside v) told) (seen_of P.schema descent.new)) }
 {
     match place {
-        Some(BodyElement::Brief(brief)) => brief.read_member_here(descent),
+        Some(BodyElement::Brief(brief)) => {
+            *brief = BriefElement::read_member(descent)?;
+            Ok(())
+        }
         _ => brief_anew(place, descent),
     }
 }
@@ -501,9 +475,7 @@ fn brief_anew<'a, P: Places>(
     ensures read { (F : Frame) (told : List TreeEvent) → IsChosen kinds F brief_element_members told (seen_of P.schema descent.old)
         → IfOk result (λ _. (v : BodyElement) × (place.new ≡ Some v) × (body_element_name v ≡ F.name) × Leaves kinds F (told_inside (body_element_inside v) told) (seen_of P.schema descent.new)) }
 {
-    let mut brief = BriefElement::ChargingStatusReq(ChargingStatusReq);
-    brief.read_member_here(descent)?;
-    *place = Some(BodyElement::Brief(brief));
+    *place = Some(BodyElement::Brief(BriefElement::read_member(descent)?));
     Ok(())
 }
 
