@@ -1,6 +1,7 @@
--- A member of a group that is none of some is one of the rest.
-use Rattle.std.proofs.Common.{◌≡◌, ℕ, List, [], ◌∷◌, ◌++◌, Option, Some, None, if◌then◌else◌, Bool, true, false, refl, sym, ap, ◌∙◌, subst}
+-- A member of a group that is none of some is one of the rest, and what holds of it as it is read.
+use Rattle.std.proofs.Common.{◌≡◌, ℕ, List, [], ◌∷◌, ◌++◌, Option, Some, None, Result, Ok, Err, IfOk, if◌then◌else◌, Bool, true, false, refl, sym, ap, ◌∙◌, subst}
 use Rattle.std.specs.Prelude.{◌==◌}
+use Rattle.std.specs.Result.{IsOkAnd, MatchResult}
 use Rattle.exi_documents.specs.Trees.{Event}
 use Rattle.exi_schema.specs.Plain.{PlainKind}
 use Rattle.message_parts.specs.Particles.{kind_among}
@@ -75,3 +76,11 @@ chosen_rest ks F all apart told d is others = record {
   among = among_rest apart all d.child F.name is.kind is.here others is.among;
   enters = is.enters;
 }
+
+-- ---- a member as one of its group
+
+-- what holds of a value that was read holds of what it is mapped to
+pub mapped : {T U E : Type 0} (f : T → U) (r : Result T E) (s : Result U E) (P : T → Type 0) (Q : U → Type 0) → MatchResult r (λ x. IsOkAnd s (λ y. y ≡ f x)) (λ e. s ≡ Err e) → IfOk r P → ((x : T) → P x → Q (f x)) → IfOk s Q
+mapped f (Ok x) (Ok y) P Q c p holds = subst Q (sym c) (holds x p)
+mapped f (Ok x) (Err e) P Q c p holds = tt
+mapped f (Err e) s P Q c p holds = subst (λ t. IfOk t Q) (sym c) tt

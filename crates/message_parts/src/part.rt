@@ -1,6 +1,6 @@
 //! What an element contains.
 
-ghost use Rattle.std.specs.Prelude.{◌≡◌, ℕ, ◌∷◌, [], List, Bool, true, Some, IfOk, IfErr, slice_get, length};
+ghost use Rattle.std.specs.Prelude.{◌≡◌, ℕ, List, Bool, true, Some, IfOk, IfErr, length};
 ghost use Rattle.exi_documents.specs.Trees.{Event as TreeEvent, Value as TreeValue};
 ghost use Rattle.message_parts.specs.Values.{IsRead};
 ghost use Rattle.exi_schema.specs.declared.tables.Datatype.{Datatype};
