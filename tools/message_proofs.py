@@ -93,10 +93,20 @@ def member_here(t, members, n):
     return f"(only_last {pairs(t, members[:n])} {pair(t, members[n])} _ F.name h.kind h.here h.among {none_here(n)})"
 
 
-def member_of(t, kind, call, fact):
-    """A member that was read, as the one of its group that stands in the place."""
-    read = f"{call}.ensures.read F _ _ _ told h {fact} refl refl"
-    return [f"    {read}"] if t.is_brief(kind) else [f"    let it = {read} in", "    (_, refl, it.0, it.1)"]
+def mapped(t, kind, it, member, call, given):
+    """A member that was read, as one of its choice."""
+    return f"mapped {t.lower(kind)}.{it.variant} _ _ _ _ c.{call}.ensures.cases (c.{member}.ensures.read {given} refl refl{' refl' * it.simple}) (λ _ p. p)"
+
+
+def stored(call, fact):
+    """A member that was read, as it stands in the place."""
+    return [f"    let it = c.in_ok-{call}.ensures.read F _ _ _ told h {fact} refl refl in", "    (_, refl, it.0, it.1)"]
+
+
+def arm(n, last):
+    """The branch of the nth test, and what the names of the calls in it end with."""
+    branch = f"then-is_at-{n + 1}" if not last else "else-is_at" + (f"-{n}" if n > 1 else "")
+    return ("", branch.removesuffix("-1")) if n == 0 else (f"-{branch}", branch)
 
 
 def read_in_parts(t, kind, n=0):
@@ -104,15 +114,15 @@ def read_in_parts(t, kind, n=0):
     behind = "brief" if kind in t.brief else t.reader_of(kind, n + 1)
     calls = iter(list(numbered(it.read() for it in members if not t.holds_list(it.kind))))
     for k, it in enumerate(members):
-        fact = is_here(k) if behind else member_here(t, members, k)
+        fact, last = is_here(k) if behind else member_here(t, members, k), k == len(members) - 1 and not behind
+        ending, branch = arm(k, last)
         if t.holds_list(it.kind):
-            last = k == len(members) - 1 and not behind
-            at = k if last else k + 1
-            arm = f"{'else' if last else 'then'}-is_at" + (f"-{at}" if at > 1 else "")
-            text += answer(f"{arm}-clause-read", "told", [f"    c.{it.word}.ensures.read F told h {fact}"])
-        else:
+            text += answer(f"{branch}-clause-read", "told", [f"    c.{it.word}.ensures.read F told h {fact}"])
+        elif kind in t.large:
             call = next(calls)
-            text += answer(f"in_ok-{call}-clause-read", "told", member_of(t, kind, f"c.in_ok-{call}", fact))
+            text += answer(f"in_ok-{call}-clause-read", "told", stored(call, fact))
+        else:
+            text += answer(f"{branch}-clause-read", "told", ["    " + mapped(t, kind, it, it.read() + ending, "map" + ending, f"F _ _ _ told h {fact}")])
     if behind:
         rest = f"chosen_rest kinds F {t.from_part(kind, n)} {pairs(t, members)} told _ h {none_here(len(members))}"
         text += answer(f"else-is_at-{len(members)}-clause-read", "told", [f"    c.{behind}.ensures.read F told ({rest})"])
@@ -120,7 +130,7 @@ def read_in_parts(t, kind, n=0):
 
 
 def read_apart(t, kind, it):
-    lines = member_of(t, kind, f"c.in_ok-{it.read()}", "here")
+    lines = stored(it.read(), "here") if kind in t.large else ["    " + mapped(t, kind, it, it.read(), "map", "F _ _ _ told h here")]
     return "\npub returns-clause-read : goal.returns-clause-read\nreturns-clause-read g c = λ F told h here.\n" + "\n".join(lines) + "\n"
 
 
@@ -133,11 +143,12 @@ def read_brief(file):
 
 def read_choice(t, kind):
     members, text = t.choices[kind], ""
-    for n, (it, call) in enumerate(zip(members, numbered(it.read() for it in members))):
-        head = f"c.in_ok-{call}.ensures.read {'_ F _ _ _ _' if it.simple else 'F _ _ _'} told h"
+    for n, it in enumerate(members):
+        ending, branch = arm(n, n == len(members) - 1)
         fact = member_here(t, members, n)
-        whole = f"{head} {fact} refl refl" + (" refl" if it.simple else "")
-        goal = f"in_ok-{call}-clause-read" if len(members) > 1 else "clause-read"
+        given = f"{'_ F _ _ _ _' if it.simple else 'F _ _ _'} told h {fact}"
+        whole = mapped(t, kind, it, it.read() + ending, "map" + ending, given)
+        goal = f"{branch}-clause-read" if len(members) > 1 else "clause-read"
         text += answer(goal, "told", [f"    search (rules, {whole})" if t.is_signed(it.kind) else f"    {whole}"])
     return text
 
@@ -152,25 +163,34 @@ def put_choice_head(t, crate, file, kind):
         inner = t.camel(members[0].kind)
         of_inner, of_own = (f"Rattle.{it[0]}.specs.declared.{it[1]}" for it in (t.places[members[0].kind], (crate, file)))
         head = f"use Rattle.std.proofs.Common.{{◌≡◌, refl}}\nuse {of_inner}.{inner}.{{{inner}}}\n"
-        return head + f"use {of_own}.{name}.{{{name}}}\nuse {of_own}.{name}.TheVariants as {low}\n"
+        return head + f"use {of_own}.{name}.{{{name}}}\n" + variants_use(t, crate, file, kind)
     head = "use Rattle.std.proofs.Common.{subst}\nuse Rattle.message_parts.specs.Contents.{one_onto}\n"
     head += "use Rattle.message_parts.specs.Writing.{Writes, put_of}\n"
     return head + f"use Rattle.{crate}.specs.{file.capitalize()}.{{{low}_name, {low}_inside}}\n"
 
 
+def variants_use(t, crate, file, kind):
+    return f"use Rattle.{crate}.specs.declared.{file}.{t.camel(kind)}.TheVariants as {t.lower(kind)}\n"
+
+
 def read_choice_head(t, crate, file, kind, n=0):
     members = t.parts(kind)[n]
     rules = "rules, " if any(t.is_signed(it.kind) for it in members) else ""
-    refl = "" if kind in t.brief else "refl, "
-    head = f"use Rattle.std.proofs.Common.{{{rules}{refl}[]{', ◌∷◌' if len(members) > 1 else ''}{', drop' if n and t.reader_of(kind, n + 1) else ''}}}\n"
-    if kind in t.brief or t.reader_of(kind, n + 1):
-        head += "use Rattle.message_parts.proofs.Chosen.{chosen_rest}\n"
+    behind = kind in t.brief or t.reader_of(kind, n + 1)
+    head = f"use Rattle.std.proofs.Common.{{{rules}refl, []{', ◌∷◌' if len(members) > 1 else ''}{', drop' if n and t.reader_of(kind, n + 1) else ''}}}\n"
+    chosen = ["chosen_rest" if behind else "only_last"] + ["mapped"] * (kind not in t.large)
+    head += f"use Rattle.message_parts.proofs.Chosen.{{{', '.join(chosen)}}}\n"
+    if behind:
         head += f"use Rattle.{t.s.crate}.specs.Declarations.{{kinds}}\nuse Rattle.{crate}.specs.{file.capitalize()}.{{{t.lower(kind)}_members}}\n"
-    else:
-        head += "use Rattle.message_parts.proofs.Chosen.{only_last}\n"
+    head += variants_use(t, crate, file, kind) if kind not in t.large else ""
     head += f"use Rattle.{t.s.crate}.specs.declared.names.TheConstants.{{{', '.join(it.name for it in members)}}}\n"
     kinds = dict.fromkeys(kind_name(t, it) for it in members)
     return head + f"use Rattle.{t.s.crate}.specs.declared.kinds.TheConstants.{{{', '.join(kinds)}}}\n"
+
+
+def read_apart_head(t, crate, file, kind):
+    refl = "use Rattle.std.proofs.Common.{refl}\n"
+    return refl + ("" if kind in t.large else "use Rattle.message_parts.proofs.Chosen.{mapped}\n" + variants_use(t, crate, file, kind))
 
 
 def read_large_record_head(t, kind):
@@ -196,7 +216,7 @@ def proofs(t, crate, file, kind):
     places = [(f"{file}/{name}{place}", head, body) for place, head, body in found]
     if kind in t.choices and (kind in t.large or t.is_brief(kind)):
         apart = [it for it in t.own(kind) if t.holds_list(it.kind)]
-        places += [(f"{file}/{it.word}", "use Rattle.std.proofs.Common.{refl}\n", read_apart(t, kind, it)) for it in apart]
+        places += [(f"{file}/{it.word}", read_apart_head(t, crate, file, kind), read_apart(t, kind, it)) for it in apart]
         places += read_brief(file) if kind in t.brief else []
         places += [(f"{file}/{t.reader_of(kind, n)}", read_choice_head(t, crate, file, kind, n), read_in_parts(t, kind, n)) for n in range(1, len(t.parts(kind)))]
     return {place: with_uses(t, crate, place, head, body) for place, head, body in places}

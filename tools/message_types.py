@@ -196,7 +196,7 @@ def chain(t, name, members):
     """Reads one of these members, after its name; the last without a look at it."""
     text = "        "
     for n, it in enumerate(members):
-        call = f"Ok({name}::{it.variant}({it.read()}(descent)?))"
+        call = f"{it.read()}(descent).map({name}::{it.variant})"
         if len(members) == 1:
             return f"        {call}\n"
         head = f"if descent.is_at(names::{it.name}) " if n < len(members) - 1 else ""
@@ -204,15 +204,18 @@ def chain(t, name, members):
     return text
 
 
-def value_of(t, kind, it):
-    """A member that is read, as one of its choice."""
-    return f"{t.camel(kind)}::{it.variant}({it.read()}(descent)?)"
+def read_one(t, kind, it):
+    """Reads a member as one of its choice."""
+    variant = f"{t.camel(kind)}::{it.variant}"
+    if kind in t.large:
+        return [f"*place = Some({variant}({it.read()}(descent)?));", "Ok(())"]
+    return [f"{it.read()}(descent).map({variant})"]
 
 
 def part_chain(t, kind, n=0):
     """Reads one of the members from the nth part on, after its name; the last without a look at it."""
-    large, place = kind in t.large, "place, " if kind in t.large else ""
-    one = lambda it: f"*place = Some({value_of(t, kind, it)});\n            Ok(())" if large else f"Ok({value_of(t, kind, it)})"
+    place = "place, " if kind in t.large else ""
+    one = lambda it: "\n            ".join(read_one(t, kind, it))
     steps = [(it.name, f"{it.word}({place}descent)" if t.holds_list(it.kind) else one(it)) for it in t.parts(kind)[n]]
     behind = "brief" if kind in t.brief else t.reader_of(kind, n + 1)
     steps += [("", f"{behind}({place}descent)")] if behind else []
@@ -253,8 +256,7 @@ def part_function(t, kind, n):
 
 def apart(t, kind, it):
     """Reads a member that holds a list."""
-    value = value_of(t, kind, it)
-    body = f"    *place = Some({value});\n    Ok(())\n" if kind in t.large else f"    Ok({value})\n"
+    body = "".join(f"    {line}\n" for line in read_one(t, kind, it))
     return f"""/// {it.type.split("<")[0]}, which holds a list: apart from the others, so that they don't fill its room.
 #[inline(never)]
 """ + reader(t, kind, it.word, t.from_part(kind, next(n for n, part in enumerate(t.parts(kind)) if it in part)), f" → descent.old.child ≡ Some {it.name}", body)

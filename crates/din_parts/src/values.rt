@@ -265,6 +265,6 @@ impl PutChoice for EvseStatus {
 
 impl<'a> Choice<'a> for EvseStatus {
     fn read_member<P: Places>(descent: &mut Descent<'a, '_, P>) -> Result<EvseStatus, Refusal> {
-        Ok(EvseStatus::Dc(member(descent)?))
+        member(descent).map(EvseStatus::Dc)
     }
 }

@@ -153,7 +153,7 @@ impl<'a> Choice<'a> for EvChargeParameter {
     fn read_member<P: Places>(
         descent: &mut Descent<'a, '_, P>,
     ) -> Result<EvChargeParameter, Refusal> {
-        Ok(EvChargeParameter::Dc(member(descent)?))
+        member(descent).map(EvChargeParameter::Dc)
     }
 }
 
@@ -324,6 +324,6 @@ impl<'a> Choice<'a> for EvseChargeParameter {
     fn read_member<P: Places>(
         descent: &mut Descent<'a, '_, P>,
     ) -> Result<EvseChargeParameter, Refusal> {
-        Ok(EvseChargeParameter::Dc(member(descent)?))
+        member(descent).map(EvseChargeParameter::Dc)
     }
 }

@@ -102,7 +102,7 @@ impl PutChoice for TimeInterval {
 
 impl<'a> Choice<'a> for TimeInterval {
     fn read_member<P: Places>(descent: &mut Descent<'a, '_, P>) -> Result<TimeInterval, Refusal> {
-        Ok(TimeInterval::Relative(member(descent)?))
+        member(descent).map(TimeInterval::Relative)
     }
 }
 
@@ -358,7 +358,7 @@ impl PutChoice for SaSchedules {
 
 impl<'a> Choice<'a> for SaSchedules {
     fn read_member<P: Places>(descent: &mut Descent<'a, '_, P>) -> Result<SaSchedules, Refusal> {
-        Ok(SaSchedules::SaScheduleList(member(descent)?))
+        member(descent).map(SaSchedules::SaScheduleList)
     }
 }
 

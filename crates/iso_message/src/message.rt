@@ -205,7 +205,7 @@ fn payment_service_selection_req<'a, P: Places>(
     ensures read { (F : Frame) (told : List TreeEvent) → IsChosen kinds F (drop 6 brief_element_members) told (seen_of P.schema descent.old) → descent.old.child ≡ Some PAYMENT_SERVICE_SELECTION_REQ
         → IfOk result (λ v. (brief_element_name v ≡ F.name) × Leaves kinds F (told_inside (brief_element_inside v) told) (seen_of P.schema descent.new)) }
 {
-    Ok(BriefElement::PaymentServiceSelectionReq(member(descent)?))
+    member(descent).map(BriefElement::PaymentServiceSelectionReq)
 }
 
 /// PowerDeliveryReq, which holds a list: apart from the others, so that they don't fill its room.
@@ -222,7 +222,7 @@ fn power_delivery_req<'a, P: Places>(
     ensures read { (F : Frame) (told : List TreeEvent) → IsChosen kinds F (drop 6 brief_element_members) told (seen_of P.schema descent.old) → descent.old.child ≡ Some POWER_DELIVERY_REQ
         → IfOk result (λ v. (brief_element_name v ≡ F.name) × Leaves kinds F (told_inside (brief_element_inside v) told) (seen_of P.schema descent.new)) }
 {
-    Ok(BriefElement::PowerDeliveryReq(member(descent)?))
+    member(descent).map(BriefElement::PowerDeliveryReq)
 }
 
 /// One of the members from ChargingStatusRes on.
@@ -240,15 +240,15 @@ fn from_charging_status_res<'a, P: Places>(
         → IfOk result (λ v. (brief_element_name v ≡ F.name) × Leaves kinds F (told_inside (brief_element_inside v) told) (seen_of P.schema descent.new)) }
 {
     if descent.is_at(names::CHARGING_STATUS_RES) {
-        Ok(BriefElement::ChargingStatusRes(member(descent)?))
+        member(descent).map(BriefElement::ChargingStatusRes)
     } else if descent.is_at(names::CURRENT_DEMAND_REQ) {
-        Ok(BriefElement::CurrentDemandReq(member(descent)?))
+        member(descent).map(BriefElement::CurrentDemandReq)
     } else if descent.is_at(names::CURRENT_DEMAND_RES) {
-        Ok(BriefElement::CurrentDemandRes(member(descent)?))
+        member(descent).map(BriefElement::CurrentDemandRes)
     } else if descent.is_at(names::PAYMENT_SERVICE_SELECTION_REQ) {
         payment_service_selection_req(descent)
     } else if descent.is_at(names::PAYMENT_SERVICE_SELECTION_RES) {
-        Ok(BriefElement::PaymentServiceSelectionRes(member(descent)?))
+        member(descent).map(BriefElement::PaymentServiceSelectionRes)
     } else if descent.is_at(names::POWER_DELIVERY_REQ) {
         power_delivery_req(descent)
     } else {
@@ -271,17 +271,17 @@ fn from_power_delivery_res<'a, P: Places>(
         → IfOk result (λ v. (brief_element_name v ≡ F.name) × Leaves kinds F (told_inside (brief_element_inside v) told) (seen_of P.schema descent.new)) }
 {
     if descent.is_at(names::POWER_DELIVERY_RES) {
-        Ok(BriefElement::PowerDeliveryRes(member(descent)?))
+        member(descent).map(BriefElement::PowerDeliveryRes)
     } else if descent.is_at(names::PRE_CHARGE_REQ) {
-        Ok(BriefElement::PreChargeReq(member(descent)?))
+        member(descent).map(BriefElement::PreChargeReq)
     } else if descent.is_at(names::PRE_CHARGE_RES) {
-        Ok(BriefElement::PreChargeRes(member(descent)?))
+        member(descent).map(BriefElement::PreChargeRes)
     } else if descent.is_at(names::SERVICE_DETAIL_REQ) {
-        Ok(BriefElement::ServiceDetailReq(member(descent)?))
+        member(descent).map(BriefElement::ServiceDetailReq)
     } else if descent.is_at(names::SERVICE_DISCOVERY_REQ) {
-        Ok(BriefElement::ServiceDiscoveryReq(member(descent)?))
+        member(descent).map(BriefElement::ServiceDiscoveryReq)
     } else if descent.is_at(names::SESSION_SETUP_REQ) {
-        Ok(BriefElement::SessionSetupReq(member(descent)?))
+        member(descent).map(BriefElement::SessionSetupReq)
     } else {
         from_session_setup_res(descent)
     }
@@ -302,15 +302,15 @@ fn from_session_setup_res<'a, P: Places>(
         → IfOk result (λ v. (brief_element_name v ≡ F.name) × Leaves kinds F (told_inside (brief_element_inside v) told) (seen_of P.schema descent.new)) }
 {
     if descent.is_at(names::SESSION_SETUP_RES) {
-        Ok(BriefElement::SessionSetupRes(member(descent)?))
+        member(descent).map(BriefElement::SessionSetupRes)
     } else if descent.is_at(names::SESSION_STOP_REQ) {
-        Ok(BriefElement::SessionStopReq(member(descent)?))
+        member(descent).map(BriefElement::SessionStopReq)
     } else if descent.is_at(names::SESSION_STOP_RES) {
-        Ok(BriefElement::SessionStopRes(member(descent)?))
+        member(descent).map(BriefElement::SessionStopRes)
     } else if descent.is_at(names::WELDING_DETECTION_REQ) {
-        Ok(BriefElement::WeldingDetectionReq(member(descent)?))
+        member(descent).map(BriefElement::WeldingDetectionReq)
     } else {
-        Ok(BriefElement::WeldingDetectionRes(member(descent)?))
+        member(descent).map(BriefElement::WeldingDetectionRes)
     }
 }
 
@@ -319,17 +319,17 @@ impl<'a> Choice<'a> for BriefElement<'a> {
         descent: &mut Descent<'a, '_, P>,
     ) -> Result<BriefElement<'a>, Refusal> {
         if descent.is_at(names::AUTHORIZATION_REQ) {
-            Ok(BriefElement::AuthorizationReq(member(descent)?))
+            member(descent).map(BriefElement::AuthorizationReq)
         } else if descent.is_at(names::AUTHORIZATION_RES) {
-            Ok(BriefElement::AuthorizationRes(member(descent)?))
+            member(descent).map(BriefElement::AuthorizationRes)
         } else if descent.is_at(names::CABLE_CHECK_REQ) {
-            Ok(BriefElement::CableCheckReq(member(descent)?))
+            member(descent).map(BriefElement::CableCheckReq)
         } else if descent.is_at(names::CABLE_CHECK_RES) {
-            Ok(BriefElement::CableCheckRes(member(descent)?))
+            member(descent).map(BriefElement::CableCheckRes)
         } else if descent.is_at(names::CHARGE_PARAMETER_DISCOVERY_REQ) {
-            Ok(BriefElement::ChargeParameterDiscoveryReq(member(descent)?))
+            member(descent).map(BriefElement::ChargeParameterDiscoveryReq)
         } else if descent.is_at(names::CHARGING_STATUS_REQ) {
-            Ok(BriefElement::ChargingStatusReq(member(descent)?))
+            member(descent).map(BriefElement::ChargingStatusReq)
         } else {
             from_charging_status_res(descent)
         }

@@ -233,9 +233,9 @@ impl<'a> Choice<'a> for EvChargeParameter {
         descent: &mut Descent<'a, '_, P>,
     ) -> Result<EvChargeParameter, Refusal> {
         if descent.is_at(names::AC_EV_CHARGE_PARAMETER) {
-            Ok(EvChargeParameter::Ac(member(descent)?))
+            member(descent).map(EvChargeParameter::Ac)
         } else {
-            Ok(EvChargeParameter::Dc(member(descent)?))
+            member(descent).map(EvChargeParameter::Dc)
         }
     }
 }
@@ -474,9 +474,9 @@ impl<'a> Choice<'a> for EvseChargeParameter {
         descent: &mut Descent<'a, '_, P>,
     ) -> Result<EvseChargeParameter, Refusal> {
         if descent.is_at(names::AC_EVSE_CHARGE_PARAMETER) {
-            Ok(EvseChargeParameter::Ac(member(descent)?))
+            member(descent).map(EvseChargeParameter::Ac)
         } else {
-            Ok(EvseChargeParameter::Dc(member(descent)?))
+            member(descent).map(EvseChargeParameter::Dc)
         }
     }
 }

@@ -293,9 +293,9 @@ impl PutChoice for EvseStatus {
 impl<'a> Choice<'a> for EvseStatus {
     fn read_member<P: Places>(descent: &mut Descent<'a, '_, P>) -> Result<EvseStatus, Refusal> {
         if descent.is_at(names::AC_EVSE_STATUS) {
-            Ok(EvseStatus::Ac(member(descent)?))
+            member(descent).map(EvseStatus::Ac)
         } else {
-            Ok(EvseStatus::Dc(member(descent)?))
+            member(descent).map(EvseStatus::Dc)
         }
     }
 }

@@ -249,7 +249,7 @@ impl<'a> Choice<'a> for EvPowerDeliveryParameter {
     fn read_member<P: Places>(
         descent: &mut Descent<'a, '_, P>,
     ) -> Result<EvPowerDeliveryParameter, Refusal> {
-        Ok(EvPowerDeliveryParameter::Dc(member(descent)?))
+        member(descent).map(EvPowerDeliveryParameter::Dc)
     }
 }
 

@@ -67,17 +67,17 @@ impl<'a> Choice<'a> for ParameterValue<'a> {
         descent: &mut Descent<'a, '_, P>,
     ) -> Result<ParameterValue<'a>, Refusal> {
         if descent.is_at(names::BOOL_VALUE) {
-            Ok(ParameterValue::Bool(member_value(descent)?))
+            member_value(descent).map(ParameterValue::Bool)
         } else if descent.is_at(names::BYTE_VALUE) {
-            Ok(ParameterValue::Byte(member_value(descent)?))
+            member_value(descent).map(ParameterValue::Byte)
         } else if descent.is_at(names::SHORT_VALUE) {
-            Ok(ParameterValue::Short(member_value(descent)?))
+            member_value(descent).map(ParameterValue::Short)
         } else if descent.is_at(names::INT_VALUE) {
-            Ok(ParameterValue::Int(member_value(descent)?))
+            member_value(descent).map(ParameterValue::Int)
         } else if descent.is_at(names::PHYSICAL_VALUE) {
-            Ok(ParameterValue::Physical(member(descent)?))
+            member(descent).map(ParameterValue::Physical)
         } else {
-            Ok(ParameterValue::String(member_value(descent)?))
+            member_value(descent).map(ParameterValue::String)
         }
     }
 }

@@ -1,9 +1,10 @@
 use Rattle.std.proofs.Common.{refl, []}
-use Rattle.message_parts.proofs.Chosen.{only_last}
+use Rattle.message_parts.proofs.Chosen.{only_last, mapped}
+use Rattle.din_power.specs.declared.limits.EvChargeParameter.TheVariants as ev_charge_parameter
 use Rattle.din_schema.specs.declared.names.TheConstants.{DC_EV_CHARGE_PARAMETER}
 use Rattle.din_schema.specs.declared.kinds.TheConstants.{DC_EV_CHARGE_PARAMETER_KIND}
 use Rattle.din_power.proofs.limits.EvChargeParameterChoice.read_member.Goals as goal
 
 pub returns-clause-read : goal.returns-clause-read
 returns-clause-read g c = λ F told h.
-    c.in_ok-member.ensures.read F _ _ _ told h (only_last [] (DC_EV_CHARGE_PARAMETER, DC_EV_CHARGE_PARAMETER_KIND) _ F.name h.kind h.here h.among tt) refl refl
+    mapped ev_charge_parameter.Dc _ _ _ _ c.map.ensures.cases (c.member.ensures.read F _ _ _ told h (only_last [] (DC_EV_CHARGE_PARAMETER, DC_EV_CHARGE_PARAMETER_KIND) _ F.name h.kind h.here h.among tt) refl refl) (λ _ p. p)
