@@ -136,9 +136,10 @@ def read_apart(t, kind, it):
 
 def read_brief(file):
     """The answers of the functions that read one of the brief members of a group."""
-    found = ["    let it = c.in_ok-read_member.ensures.read F told h in", "    (_, refl, it.0, it.1)"]
+    found = lambda call: [f"    let it = c.in_ok-{call}.ensures.read F told h in", "    (_, refl, it.0, it.1)"]
     refl = "use Rattle.std.proofs.Common.{refl}\n"
-    return [(f"{file}/brief", refl, answer("in_ok-read_member-clause-read", "told", found)), (f"{file}/brief_anew", refl, answer("clause-read", "told", found))]
+    again = answer("in_ok-brief-in-Some-Brief-clause-read", "told", found("brief"))
+    return [(f"{file}/brief", refl, again), (f"{file}/brief_anew", refl, answer("clause-read", "told", found("read_member")))]
 
 
 def read_choice(t, kind):
