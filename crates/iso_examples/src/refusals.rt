@@ -18,33 +18,35 @@ fn refusal_of(alloc: Global, tables: &IsoTables, text: &str) -> Result<Option<Re
     Ok(read_iso(tables, payload.as_slice(), &mut table, &mut message).err())
 }
 
+/// Payloads, each with the cause and the bit of what can't be taken.
+const REFUSED: [(&'static str, RefusalCause, u32); 8] = [
+    // a session setup without its last byte, one up to the length of SessionID, and one without it
+    (
+        "809802000000000000000011d0180004080c1014",
+        RefusalCause::ShortInput,
+        160,
+    ),
+    ("809802", RefusalCause::ShortInput, 18),
+    ("809802004080c1014181c2", RefusalCause::ShortInput, 26),
+    // a SessionID of 9 bytes, and the document number of no element
+    ("80980240", RefusalCause::TooLong, 18),
+    ("809602", RefusalCause::UnknownElement, 8),
+    // MeteringReceiptReq, BodyElement, and no element of the schema
+    (
+        "809802000000000000000010f0",
+        RefusalCause::OutOfProfile {
+            name: names::METERING_RECEIPT_REQ,
+        },
+        94,
+    ),
+    ("80980200000000000000001020", RefusalCause::Abstract, 94),
+    ("80980200000000000000001240", RefusalCause::Deviation, 94),
+];
+
 #[test]
 fn payloads_are_refused_exactly(rt: HostRuntime) -> Result<(), Fail> {
     let tables = IsoTables::make(rt.alloc())?;
-    let table = [
-        // a session setup without its last byte, one up to the length of SessionID, and one without it
-        (
-            "809802000000000000000011d0180004080c1014",
-            RefusalCause::ShortInput,
-            160,
-        ),
-        ("809802", RefusalCause::ShortInput, 18),
-        ("809802004080c1014181c2", RefusalCause::ShortInput, 26),
-        // a SessionID of 9 bytes, and the document number of no element
-        ("80980240", RefusalCause::TooLong, 18),
-        ("809602", RefusalCause::UnknownElement, 8),
-        // MeteringReceiptReq, BodyElement, and no element of the schema
-        (
-            "809802000000000000000010f0",
-            RefusalCause::OutOfProfile {
-                name: names::METERING_RECEIPT_REQ,
-            },
-            94,
-        ),
-        ("80980200000000000000001020", RefusalCause::Abstract, 94),
-        ("80980200000000000000001240", RefusalCause::Deviation, 94),
-    ];
-    for (hex, cause, bit) in table {
+    for (hex, cause, bit) in REFUSED {
         let wanted = Refusal { cause, bit };
         assert_eq!(rt; refusal_of(rt.alloc(), &tables, hex)?, Some(wanted));
     }

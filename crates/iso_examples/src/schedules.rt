@@ -7,7 +7,7 @@ use arrayvec::ArrayVec;
 use exi_documents::MOST_ENTRIES;
 use iso_codec::{BodyElement, IsoMessage, IsoTables, Refusal, RefusalCause, Table, read_iso};
 use iso_parameters::{SaSchedules, TimeInterval};
-use message_trees::{MessageDialect, scan_text};
+use message_trees::{MessageDialect, Piece, scan_text};
 use std::alloc::Global;
 use std::test::*;
 
@@ -90,33 +90,51 @@ fn lasts(
     found
 }
 
-#[test]
-fn a_schedule_has_128_entries_at_most(rt: HostRuntime) -> Result<(), Fail> {
-    let tables = IsoTables::make(rt.alloc())?;
-    let mut table = Table::make(rt.alloc(), MOST_ENTRIES)?;
-    let text = response(rt.alloc(), 128)?;
-    let Ok(payload) = scan_text(rt.alloc(), MessageDialect::Iso, text.as_str()) else {
+/// The payload of a response with three schedules of 128 entries.
+fn full(alloc: Global) -> Result<Piece, Fail> {
+    let text = response(alloc, 128)?;
+    let Ok(payload) = scan_text(alloc, MessageDialect::Iso, text.as_str()) else {
         return Err(Fail::from("no payload"));
     };
-    assert!(rt; payload.bytes().len() == 2137);
+    Ok(payload)
+}
+
+#[test]
+fn a_schedule_has_128_entries(rt: HostRuntime) -> Result<(), Fail> {
+    let tables = IsoTables::make(rt.alloc())?;
+    let mut table = Table::make(rt.alloc(), MOST_ENTRIES)?;
+    let payload = full(rt.alloc())?;
     let found = lasts(payload.bytes(), &tables, &mut table);
     assert_eq!(rt; found.len(), 3);
     for (last, id) in found.as_slice().iter().zip(&[1, 2, 3]) {
         assert_eq!(rt; *last, (*id, 128, 127, 127));
     }
-    // an entry starts where the first schedule ends: its event code is 0 in two bits, and the end's is 1
+    Ok(())
+}
+
+/// The same with an entry where the first schedule ends: its event code is 0 in two bits, and the end's is 1.
+fn longer(payload: &[u8]) -> [u8; 2137]
+    requires { length payload.now ≡ 2137 }
+{
     let mut longer = [0; 2137];
-    longer.copy_from_slice(payload.bytes());
-    assert_eq!(rt; longer[713], 0x50);
+    longer.copy_from_slice(payload);
     longer[713] = 0x10;
+    longer
+}
+
+#[test]
+fn one_more_entry_is_too_long(rt: HostRuntime) -> Result<(), Fail> {
+    let tables = IsoTables::make(rt.alloc())?;
+    let mut table = Table::make(rt.alloc(), MOST_ENTRIES)?;
+    let payload = full(rt.alloc())?;
+    assert!(rt; payload.bytes().len() == 2137);
+    assert_eq!(rt; payload.bytes()[713], 0x50);
+    let mut message = IsoMessage::default();
+    let refused = read_iso(&tables, &longer(payload.bytes()), &mut table, &mut message).err();
     let wanted = Refusal {
         cause: RefusalCause::TooLong,
         bit: 5704,
     };
-    let mut message = IsoMessage::default();
-    assert_eq!(rt;
-        read_iso(&tables, &longer, &mut table, &mut message).err(),
-        Some(wanted)
-    );
+    assert_eq!(rt; refused, Some(wanted));
     Ok(())
 }
