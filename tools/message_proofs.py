@@ -93,9 +93,13 @@ def member_here(t, members, n):
     return f"(only_last {pairs(t, members[:n])} {pair(t, members[n])} _ F.name h.kind h.here h.among {none_here(n)})"
 
 
-def mapped(t, kind, it, member, call, given):
-    """A member that was read, as one of its choice."""
-    return f"mapped {t.lower(kind)}.{it.variant} _ _ _ _ c.{call}.ensures.cases (c.{member}.ensures.read {given} refl refl{' refl' * it.simple}) (λ _ p. p)"
+def as_one(t, kind, it, call, ending, branch, given):
+    """The goal where a member was read as one of its choice, and its answer: the last step of reading it, or what it is mapped to."""
+    read, shown = f"ensures.read {given} refl refl{' refl' * it.simple}", lambda text: f"    search (rules, {text})" if t.is_signed(it.kind) else f"    {text}"
+    if t.lent(kind):
+        return f"in_ok-{call}-clause-read" if branch else "clause-read", shown(f"c.in_ok-{call}.{read}")
+    goal = f"{branch}-clause-read" if branch else "clause-read"
+    return goal, shown(f"mapped {t.lower(kind)}.{it.variant} _ _ _ _ c.map{ending}.ensures.cases (c.{it.read()}{ending}.{read}) (λ _ p. p)")
 
 
 def stored(call, fact):
@@ -122,7 +126,8 @@ def read_in_parts(t, kind, n=0):
             call = next(calls)
             text += answer(f"in_ok-{call}-clause-read", "told", stored(call, fact))
         else:
-            text += answer(f"{branch}-clause-read", "told", ["    " + mapped(t, kind, it, it.read() + ending, "map" + ending, f"F _ _ _ told h {fact}")])
+            goal, shown = as_one(t, kind, it, next(calls), ending, branch, f"F _ _ _ told h {fact}")
+            text += answer(goal, "told", [shown])
     if behind:
         rest = f"chosen_rest kinds F {t.from_part(kind, n)} {pairs(t, members)} told _ h {none_here(len(members))}"
         text += answer(f"else-is_at-{len(members)}-clause-read", "told", [f"    c.{behind}.ensures.read F told ({rest})"])
@@ -130,7 +135,7 @@ def read_in_parts(t, kind, n=0):
 
 
 def read_apart(t, kind, it):
-    lines = stored(it.read(), "here") if kind in t.large else ["    " + mapped(t, kind, it, it.read(), "map", "F _ _ _ told h here")]
+    lines = stored(it.read(), "here") if kind in t.large else [as_one(t, kind, it, it.read(), "", "", "F _ _ _ told h here")[1]]
     return "\npub returns-clause-read : goal.returns-clause-read\nreturns-clause-read g c = λ F told h here.\n" + "\n".join(lines) + "\n"
 
 
@@ -144,13 +149,11 @@ def read_brief(file):
 
 def read_choice(t, kind):
     members, text = t.choices[kind], ""
-    for n, it in enumerate(members):
+    for n, (it, call) in enumerate(zip(members, numbered(it.read() for it in members))):
         ending, branch = arm(n, n == len(members) - 1)
-        fact = member_here(t, members, n)
-        given = f"{'_ F _ _ _ _' if it.simple else 'F _ _ _'} told h {fact}"
-        whole = mapped(t, kind, it, it.read() + ending, "map" + ending, given)
-        goal = f"{branch}-clause-read" if len(members) > 1 else "clause-read"
-        text += answer(goal, "told", [f"    search (rules, {whole})" if t.is_signed(it.kind) else f"    {whole}"])
+        given = f"{'_ F _ _ _ _' if it.simple else 'F _ _ _'} told h {member_here(t, members, n)}"
+        goal, shown = as_one(t, kind, it, call, ending, branch if len(members) > 1 else "", given)
+        text += answer(goal, "told", [shown])
     return text
 
 
@@ -179,19 +182,15 @@ def read_choice_head(t, crate, file, kind, n=0):
     rules = "rules, " if any(t.is_signed(it.kind) for it in members) else ""
     behind = kind in t.brief or t.reader_of(kind, n + 1)
     head = f"use Rattle.std.proofs.Common.{{{rules}refl, []{', ◌∷◌' if len(members) > 1 else ''}{', drop' if n and t.reader_of(kind, n + 1) else ''}}}\n"
-    chosen = ["chosen_rest" if behind else "only_last"] + ["mapped"] * (kind not in t.large)
+    maps = kind not in t.large and not t.lent(kind)
+    chosen = ["chosen_rest" if behind else "only_last"] + ["mapped"] * maps
     head += f"use Rattle.message_parts.proofs.Chosen.{{{', '.join(chosen)}}}\n"
     if behind:
         head += f"use Rattle.{t.s.crate}.specs.Declarations.{{kinds}}\nuse Rattle.{crate}.specs.{file.capitalize()}.{{{t.lower(kind)}_members}}\n"
-    head += variants_use(t, crate, file, kind) if kind not in t.large else ""
+    head += variants_use(t, crate, file, kind) if maps else ""
     head += f"use Rattle.{t.s.crate}.specs.declared.names.TheConstants.{{{', '.join(it.name for it in members)}}}\n"
     kinds = dict.fromkeys(kind_name(t, it) for it in members)
     return head + f"use Rattle.{t.s.crate}.specs.declared.kinds.TheConstants.{{{', '.join(kinds)}}}\n"
-
-
-def read_apart_head(t, crate, file, kind):
-    refl = "use Rattle.std.proofs.Common.{refl}\n"
-    return refl + ("" if kind in t.large else "use Rattle.message_parts.proofs.Chosen.{mapped}\n" + variants_use(t, crate, file, kind))
 
 
 def read_large_record_head(t, kind):
@@ -217,7 +216,7 @@ def proofs(t, crate, file, kind):
     places = [(f"{file}/{name}{place}", head, body) for place, head, body in found]
     if kind in t.choices and (kind in t.large or t.is_brief(kind)):
         apart = [it for it in t.own(kind) if t.holds_list(it.kind)]
-        places += [(f"{file}/{it.word}", read_apart_head(t, crate, file, kind), read_apart(t, kind, it)) for it in apart]
+        places += [(f"{file}/{it.word}", "use Rattle.std.proofs.Common.{refl}\n", read_apart(t, kind, it)) for it in apart]
         places += read_brief(file) if kind in t.brief else []
         places += [(f"{file}/{t.reader_of(kind, n)}", read_choice_head(t, crate, file, kind, n), read_in_parts(t, kind, n)) for n in range(1, len(t.parts(kind)))]
     return {place: with_uses(t, crate, place, head, body) for place, head, body in places}

@@ -192,11 +192,11 @@ impl PutRecord for {name}{"<'_>" if lent else ""} {{
 {(large_record if kind in t.large else record)(t, kind, lent)}"""
 
 
-def chain(t, name, members):
+def chain(t, kind, members):
     """Reads one of these members, after its name; the last without a look at it."""
     text = "        "
     for n, it in enumerate(members):
-        call = f"{it.read()}(descent).map({name}::{it.variant})"
+        call = read_one(t, kind, it)[0]
         if len(members) == 1:
             return f"        {call}\n"
         head = f"if descent.is_at(names::{it.name}) " if n < len(members) - 1 else ""
@@ -209,7 +209,8 @@ def read_one(t, kind, it):
     variant = f"{t.camel(kind)}::{it.variant}"
     if kind in t.large:
         return [f"*place = Some({variant}({it.read()}(descent)?));", "Ok(())"]
-    return [f"{it.read()}(descent).map({variant})"]
+    # a function whose result borrows, while what it takes doesn't, can't be passed
+    return [f"Ok({variant}({it.read()}(descent)?))" if t.lent(kind) else f"{it.read()}(descent).map({variant})"]
 
 
 def part_chain(t, kind, n=0):
@@ -321,7 +322,7 @@ impl<'a> Group<'a> for {name}{"<'a>" if lent else ""} {{
     functions += "".join(part_function(t, kind, n) for n in range(1, len(t.parts(kind))))
     reading = f"""{functions}impl<'a> Choice<'a> for {name}{"<'a>" if lent else ""} {{
     fn read_member<P: Places>(descent: &mut Descent<'a, '_, P>) -> Result<{name}{"<'a>" if lent else ""}, Refusal> {{
-{part_chain(t, kind) if t.is_brief(kind) else chain(t, name, members)}    }}
+{part_chain(t, kind) if t.is_brief(kind) else chain(t, kind, members)}    }}
 }}
 {group}"""
     if kind in t.large:

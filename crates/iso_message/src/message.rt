@@ -205,7 +205,7 @@ fn payment_service_selection_req<'a, P: Places>(
     ensures read { (F : Frame) (told : List TreeEvent) → IsChosen kinds F (drop 6 brief_element_members) told (seen_of P.schema descent.old) → descent.old.child ≡ Some PAYMENT_SERVICE_SELECTION_REQ
         → IfOk result (λ v. (brief_element_name v ≡ F.name) × Leaves kinds F (told_inside (brief_element_inside v) told) (seen_of P.schema descent.new)) }
 {
-    member(descent).map(BriefElement::PaymentServiceSelectionReq)
+    Ok(BriefElement::PaymentServiceSelectionReq(member(descent)?))
 }
 
 /// PowerDeliveryReq, which holds a list: apart from the others, so that they don't fill its room.
@@ -222,7 +222,7 @@ fn power_delivery_req<'a, P: Places>(
     ensures read { (F : Frame) (told : List TreeEvent) → IsChosen kinds F (drop 6 brief_element_members) told (seen_of P.schema descent.old) → descent.old.child ≡ Some POWER_DELIVERY_REQ
         → IfOk result (λ v. (brief_element_name v ≡ F.name) × Leaves kinds F (told_inside (brief_element_inside v) told) (seen_of P.schema descent.new)) }
 {
-    member(descent).map(BriefElement::PowerDeliveryReq)
+    Ok(BriefElement::PowerDeliveryReq(member(descent)?))
 }
 
 /// One of the members from ChargingStatusRes on.
@@ -240,15 +240,15 @@ fn from_charging_status_res<'a, P: Places>(
         → IfOk result (λ v. (brief_element_name v ≡ F.name) × Leaves kinds F (told_inside (brief_element_inside v) told) (seen_of P.schema descent.new)) }
 {
     if descent.is_at(names::CHARGING_STATUS_RES) {
-        member(descent).map(BriefElement::ChargingStatusRes)
+        Ok(BriefElement::ChargingStatusRes(member(descent)?))
     } else if descent.is_at(names::CURRENT_DEMAND_REQ) {
-        member(descent).map(BriefElement::CurrentDemandReq)
+        Ok(BriefElement::CurrentDemandReq(member(descent)?))
     } else if descent.is_at(names::CURRENT_DEMAND_RES) {
-        member(descent).map(BriefElement::CurrentDemandRes)
+        Ok(BriefElement::CurrentDemandRes(member(descent)?))
     } else if descent.is_at(names::PAYMENT_SERVICE_SELECTION_REQ) {
         payment_service_selection_req(descent)
     } else if descent.is_at(names::PAYMENT_SERVICE_SELECTION_RES) {
-        member(descent).map(BriefElement::PaymentServiceSelectionRes)
+        Ok(BriefElement::PaymentServiceSelectionRes(member(descent)?))
     } else if descent.is_at(names::POWER_DELIVERY_REQ) {
         power_delivery_req(descent)
     } else {
@@ -271,17 +271,17 @@ fn from_power_delivery_res<'a, P: Places>(
         → IfOk result (λ v. (brief_element_name v ≡ F.name) × Leaves kinds F (told_inside (brief_element_inside v) told) (seen_of P.schema descent.new)) }
 {
     if descent.is_at(names::POWER_DELIVERY_RES) {
-        member(descent).map(BriefElement::PowerDeliveryRes)
+        Ok(BriefElement::PowerDeliveryRes(member(descent)?))
     } else if descent.is_at(names::PRE_CHARGE_REQ) {
-        member(descent).map(BriefElement::PreChargeReq)
+        Ok(BriefElement::PreChargeReq(member(descent)?))
     } else if descent.is_at(names::PRE_CHARGE_RES) {
-        member(descent).map(BriefElement::PreChargeRes)
+        Ok(BriefElement::PreChargeRes(member(descent)?))
     } else if descent.is_at(names::SERVICE_DETAIL_REQ) {
-        member(descent).map(BriefElement::ServiceDetailReq)
+        Ok(BriefElement::ServiceDetailReq(member(descent)?))
     } else if descent.is_at(names::SERVICE_DISCOVERY_REQ) {
-        member(descent).map(BriefElement::ServiceDiscoveryReq)
+        Ok(BriefElement::ServiceDiscoveryReq(member(descent)?))
     } else if descent.is_at(names::SESSION_SETUP_REQ) {
-        member(descent).map(BriefElement::SessionSetupReq)
+        Ok(BriefElement::SessionSetupReq(member(descent)?))
     } else {
         from_session_setup_res(descent)
     }
@@ -302,15 +302,15 @@ fn from_session_setup_res<'a, P: Places>(
         → IfOk result (λ v. (brief_element_name v ≡ F.name) × Leaves kinds F (told_inside (brief_element_inside v) told) (seen_of P.schema descent.new)) }
 {
     if descent.is_at(names::SESSION_SETUP_RES) {
-        member(descent).map(BriefElement::SessionSetupRes)
+        Ok(BriefElement::SessionSetupRes(member(descent)?))
     } else if descent.is_at(names::SESSION_STOP_REQ) {
-        member(descent).map(BriefElement::SessionStopReq)
+        Ok(BriefElement::SessionStopReq(member(descent)?))
     } else if descent.is_at(names::SESSION_STOP_RES) {
-        member(descent).map(BriefElement::SessionStopRes)
+        Ok(BriefElement::SessionStopRes(member(descent)?))
     } else if descent.is_at(names::WELDING_DETECTION_REQ) {
-        member(descent).map(BriefElement::WeldingDetectionReq)
+        Ok(BriefElement::WeldingDetectionReq(member(descent)?))
     } else {
-        member(descent).map(BriefElement::WeldingDetectionRes)
+        Ok(BriefElement::WeldingDetectionRes(member(descent)?))
     }
 }
 
@@ -319,17 +319,17 @@ impl<'a> Choice<'a> for BriefElement<'a> {
         descent: &mut Descent<'a, '_, P>,
     ) -> Result<BriefElement<'a>, Refusal> {
         if descent.is_at(names::AUTHORIZATION_REQ) {
-            member(descent).map(BriefElement::AuthorizationReq)
+            Ok(BriefElement::AuthorizationReq(member(descent)?))
         } else if descent.is_at(names::AUTHORIZATION_RES) {
-            member(descent).map(BriefElement::AuthorizationRes)
+            Ok(BriefElement::AuthorizationRes(member(descent)?))
         } else if descent.is_at(names::CABLE_CHECK_REQ) {
-            member(descent).map(BriefElement::CableCheckReq)
+            Ok(BriefElement::CableCheckReq(member(descent)?))
         } else if descent.is_at(names::CABLE_CHECK_RES) {
-            member(descent).map(BriefElement::CableCheckRes)
+            Ok(BriefElement::CableCheckRes(member(descent)?))
         } else if descent.is_at(names::CHARGE_PARAMETER_DISCOVERY_REQ) {
-            member(descent).map(BriefElement::ChargeParameterDiscoveryReq)
+            Ok(BriefElement::ChargeParameterDiscoveryReq(member(descent)?))
         } else if descent.is_at(names::CHARGING_STATUS_REQ) {
-            member(descent).map(BriefElement::ChargingStatusReq)
+            Ok(BriefElement::ChargingStatusReq(member(descent)?))
         } else {
             from_charging_status_res(descent)
         }

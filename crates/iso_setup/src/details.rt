@@ -67,17 +67,17 @@ impl<'a> Choice<'a> for ParameterValue<'a> {
         descent: &mut Descent<'a, '_, P>,
     ) -> Result<ParameterValue<'a>, Refusal> {
         if descent.is_at(names::BOOL_VALUE) {
-            member_value(descent).map(ParameterValue::Bool)
+            Ok(ParameterValue::Bool(member_value(descent)?))
         } else if descent.is_at(names::BYTE_VALUE) {
-            member_value(descent).map(ParameterValue::Byte)
+            Ok(ParameterValue::Byte(member_value(descent)?))
         } else if descent.is_at(names::SHORT_VALUE) {
-            member_value(descent).map(ParameterValue::Short)
+            Ok(ParameterValue::Short(member_value(descent)?))
         } else if descent.is_at(names::INT_VALUE) {
-            member_value(descent).map(ParameterValue::Int)
+            Ok(ParameterValue::Int(member_value(descent)?))
         } else if descent.is_at(names::PHYSICAL_VALUE) {
-            member(descent).map(ParameterValue::Physical)
+            Ok(ParameterValue::Physical(member(descent)?))
         } else {
-            member_value(descent).map(ParameterValue::String)
+            Ok(ParameterValue::String(member_value(descent)?))
         }
     }
 }
