@@ -143,7 +143,7 @@ def read_brief(file):
     """The answers of the functions that read one of the brief members of a group."""
     found = lambda call: [f"    let it = c.in_ok-{call}.ensures.read F told h in", "    (_, refl, it.0, it.1)"]
     refl = "use Rattle.std.proofs.Common.{refl}\n"
-    again = answer("in_ok-brief-in-Some-Brief-clause-read", "told", found("brief"))
+    again = answer("in_ok-brief-in-Some-Brief-clause-read", "told", found("brief-in-Some-Brief"))
     return [(f"{file}/brief", refl, again), (f"{file}/brief_anew", refl, answer("clause-read", "told", found("read_member")))]
 
 
