@@ -8,7 +8,7 @@ use iso_parts::{
 };
 use message_parts::Simple;
 
-fn ordinal_of<T: Simple>(value: &T) -> Option<u32> {
+fn ordinal_of<'a, T: Simple<'a>>(value: &T) -> Option<u32> {
     match value.as_value() {
         Value::Ordinal(ordinal) => Some(ordinal),
         _ => None,
