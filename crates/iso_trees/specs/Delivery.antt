@@ -22,7 +22,7 @@ profile_entry_in x = record {
   charging_profile_entry_start = natural (x CHARGING_PROFILE_ENTRY_START);
   charging_profile_entry_max_power = physical_value_in (within (x CHARGING_PROFILE_ENTRY_MAX_POWER));
   charging_profile_entry_max_number_of_phases_in_use = option_map (λ inside. natural_in inside)
-    (head (x CHARGING_PROFILE_ENTRY_MAX_NUMBER_OF_PHASES_IN_USE));
+      (head (x CHARGING_PROFILE_ENTRY_MAX_NUMBER_OF_PHASES_IN_USE));
 }
 
 abbrev pub charging_profile_in : Children → ChargingProfile
@@ -40,7 +40,7 @@ dc_ev_power_delivery_parameter_in x = record {
 abbrev pub ev_power_delivery_parameter_if : Children → Option EvPowerDeliveryParameter
 ev_power_delivery_parameter_if x =
     or_next (option_map (λ inside. ev_power_delivery_parameter.Dc (dc_ev_power_delivery_parameter_in (children inside)))
-      (head (x DC_EV_POWER_DELIVERY_PARAMETER))) 
+    (head (x DC_EV_POWER_DELIVERY_PARAMETER)))
     None
 
 abbrev pub power_delivery_req_in : Children → PowerDeliveryReq

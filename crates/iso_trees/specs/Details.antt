@@ -23,7 +23,7 @@ parameter_value_in l x =
     or_last (option_map (λ inside. parameter_value.Byte (number_in inside)) (head (x BYTE_VALUE))) (
     or_last (option_map (λ inside. parameter_value.Short (number_in inside)) (head (x SHORT_VALUE))) (
     or_last (option_map (λ inside. parameter_value.Int (number_in inside)) (head (x INT_VALUE))) (
-    or_last (option_map (λ inside. parameter_value.Physical (physical_value_in (children inside))) (head (x PHYSICAL_VALUE))) 
+    or_last (option_map (λ inside. parameter_value.Physical (physical_value_in (children inside))) (head (x PHYSICAL_VALUE)))
     (parameter_value.String (l.text (text (x STRING_VALUE))))))))
 
 abbrev pub settled_parameter_value : Lends → ParameterValue → ParameterValue

@@ -38,7 +38,7 @@ dc_ev_charge_parameter_in x = record {
 
 abbrev pub ev_charge_parameter_in : Children → EvChargeParameter
 ev_charge_parameter_in x =
-    or_last (option_map (λ inside. ev_charge_parameter.Ac (ac_ev_charge_parameter_in (children inside))) (head (x AC_EV_CHARGE_PARAMETER))) 
+    or_last (option_map (λ inside. ev_charge_parameter.Ac (ac_ev_charge_parameter_in (children inside))) (head (x AC_EV_CHARGE_PARAMETER)))
     (ev_charge_parameter.Dc (dc_ev_charge_parameter_in (within (x DC_EV_CHARGE_PARAMETER))))
 
 abbrev pub ac_evse_charge_parameter_in : Children → AcEvseChargeParameter
@@ -57,7 +57,7 @@ dc_evse_charge_parameter_in x = record {
   evse_minimum_current_limit = physical_value_in (within (x EVSE_MINIMUM_CURRENT_LIMIT));
   evse_minimum_voltage_limit = physical_value_in (within (x EVSE_MINIMUM_VOLTAGE_LIMIT));
   evse_current_regulation_tolerance = option_map (λ inside. physical_value_in (children inside))
-    (head (x EVSE_CURRENT_REGULATION_TOLERANCE));
+      (head (x EVSE_CURRENT_REGULATION_TOLERANCE));
   evse_peak_current_ripple = physical_value_in (within (x EVSE_PEAK_CURRENT_RIPPLE));
   evse_energy_to_be_delivered = option_map (λ inside. physical_value_in (children inside)) (head (x EVSE_ENERGY_TO_BE_DELIVERED));
 }
@@ -65,5 +65,5 @@ dc_evse_charge_parameter_in x = record {
 abbrev pub evse_charge_parameter_in : Children → EvseChargeParameter
 evse_charge_parameter_in x =
     or_last (option_map (λ inside. evse_charge_parameter.Ac (ac_evse_charge_parameter_in (children inside)))
-      (head (x AC_EVSE_CHARGE_PARAMETER))) 
+    (head (x AC_EVSE_CHARGE_PARAMETER)))
     (evse_charge_parameter.Dc (dc_evse_charge_parameter_in (within (x DC_EVSE_CHARGE_PARAMETER))))

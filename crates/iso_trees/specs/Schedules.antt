@@ -50,5 +50,5 @@ sa_schedule_list_in x = record {
 
 abbrev pub sa_schedules_if : Children → Option SaSchedules
 sa_schedules_if x =
-    or_next (option_map (λ inside. sa_schedules.SaScheduleList (sa_schedule_list_in (children inside))) (head (x SA_SCHEDULE_LIST))) 
+    or_next (option_map (λ inside. sa_schedules.SaScheduleList (sa_schedule_list_in (children inside))) (head (x SA_SCHEDULE_LIST)))
     None
