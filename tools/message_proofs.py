@@ -93,18 +93,45 @@ def member_here(t, members, n):
     return f"(only_last {pairs(t, members[:n])} {pair(t, members[n])} _ F.name h.kind h.here h.among {none_here(n)})"
 
 
-def as_one(t, kind, it, call, ending, branch, given):
-    """The goal where a member was read as one of its choice, and its answer: the last step of reading it, or what it is mapped to."""
-    read, shown = f"ensures.read {given} refl refl{' refl' * it.simple}", lambda text: f"    search (rules, {text})" if t.is_signed(it.kind) else f"    {text}"
-    if t.lent(kind):
-        return f"in_ok-{call}-clause-read" if branch else "clause-read", shown(f"c.in_ok-{call}.{read}")
-    goal = f"{branch}-clause-read" if branch else "clause-read"
-    return goal, shown(f"mapped {t.lower(kind)}.{it.variant} _ _ _ _ c.map{ending}.ensures.cases (c.{it.read()}{ending}.{read}) (λ _ p. p)")
+def member_of(t, kind, call, fact):
+    """A member that was read, as the one of its group that stands in the place."""
+    read = f"{call}.ensures.read F _ _ _ told h {fact} refl refl"
+    return [f"    {read}"] if t.is_brief(kind) else [f"    let it = {read} in", "    (_, refl, it.0, it.1)"]
 
 
-def stored(call, fact):
-    """A member that was read, as it stands in the place."""
-    return [f"    let it = c.in_ok-{call}.ensures.read F _ _ _ told h {fact} refl refl in", "    (_, refl, it.0, it.1)"]
+def read_large_choice(t, kind, n=0):
+    members, text = t.parts(kind)[n], ""
+    behind = "brief" if kind in t.brief else t.reader_of(kind, n + 1)
+    calls = iter(list(numbered(it.read() for it in members if not t.holds_list(it.kind))))
+    for k, it in enumerate(members):
+        fact = is_here(k) if behind else member_here(t, members, k)
+        if t.holds_list(it.kind):
+            last = k == len(members) - 1 and not behind
+            at = k if last else k + 1
+            arm = f"{'else' if last else 'then'}-is_at" + (f"-{at}" if at > 1 else "")
+            text += answer(f"{arm}-clause-read", "told", [f"    c.{it.word}.ensures.read F told h {fact}"])
+        else:
+            call = next(calls)
+            text += answer(f"in_ok-{call}-clause-read", "told", member_of(t, kind, f"c.in_ok-{call}", fact))
+    if behind:
+        rest = f"chosen_rest kinds F {t.from_part(kind, n)} {pairs(t, members)} told _ h {none_here(len(members))}"
+        text += answer(f"else-is_at-{len(members)}-clause-read", "told", [f"    c.{behind}.ensures.read F told ({rest})"])
+    return text
+
+
+def read_apart(t, kind, it):
+    lines = member_of(t, kind, f"c.in_ok-{it.read()}", "here")
+    return "\npub returns-clause-read : goal.returns-clause-read\nreturns-clause-read g c = λ F told h here.\n" + "\n".join(lines) + "\n"
+
+
+def read_brief(file):
+    """The answers of the functions that read one of the brief members of a group."""
+    found = "(_, refl, it.0, it.1)"
+    weaker = f"IfOk-weaker c.read_member_here.result _ _ (λ _ it. {found})"
+    again = answer("in-Some-Brief-clause-read", "told", [f"    {weaker} (c.read_member_here.ensures.read F told h)"])
+    anew = answer("clause-read", "told", ["    let it = c.in_ok-read_member_here.ensures.read F told h in", f"    {found}"])
+    refl = "use Rattle.std.proofs.Common.{refl}\n"
+    return [(f"{file}/brief", refl + "use Rattle.std.proofs.lemmas.Result.{IfOk-weaker}\n", again), (f"{file}/brief_anew", refl, anew)]
 
 
 def arm(n, last):
@@ -113,47 +140,18 @@ def arm(n, last):
     return ("", branch.removesuffix("-1")) if n == 0 else (f"-{branch}", branch)
 
 
-def read_in_parts(t, kind, n=0):
-    members, text = t.parts(kind)[n], ""
-    behind = "brief" if kind in t.brief else t.reader_of(kind, n + 1)
-    calls = iter(list(numbered(it.read() for it in members if not t.holds_list(it.kind))))
-    for k, it in enumerate(members):
-        fact, last = is_here(k) if behind else member_here(t, members, k), k == len(members) - 1 and not behind
-        ending, branch = arm(k, last)
-        if t.holds_list(it.kind):
-            text += answer(f"{branch}-clause-read", "told", [f"    c.{it.word}.ensures.read F told h {fact}"])
-        elif kind in t.large:
-            call = next(calls)
-            text += answer(f"in_ok-{call}-clause-read", "told", stored(call, fact))
-        else:
-            goal, shown = as_one(t, kind, it, next(calls), ending, branch, f"F _ _ _ told h {fact}")
-            text += answer(goal, "told", [shown])
-    if behind:
-        rest = f"chosen_rest kinds F {t.from_part(kind, n)} {pairs(t, members)} told _ h {none_here(len(members))}"
-        text += answer(f"else-is_at-{len(members)}-clause-read", "told", [f"    c.{behind}.ensures.read F told ({rest})"])
-    return text
-
-
-def read_apart(t, kind, it):
-    lines = stored(it.read(), "here") if kind in t.large else [as_one(t, kind, it, it.read(), "", "", "F _ _ _ told h here")[1]]
-    return "\npub returns-clause-read : goal.returns-clause-read\nreturns-clause-read g c = λ F told h here.\n" + "\n".join(lines) + "\n"
-
-
-def read_brief(file):
-    """The answers of the functions that read one of the brief members of a group."""
-    found = lambda call: [f"    let it = c.in_ok-{call}.ensures.read F told h in", "    (_, refl, it.0, it.1)"]
-    refl = "use Rattle.std.proofs.Common.{refl}\n"
-    again = answer("in_ok-brief-in-Some-Brief-clause-read", "told", found("brief-in-Some-Brief"))
-    return [(f"{file}/brief", refl, again), (f"{file}/brief_anew", refl, answer("clause-read", "told", found("read_member")))]
-
-
 def read_choice(t, kind):
+    """A member is one of its choice by the last step of reading it, or by what it is mapped to."""
     members, text = t.choices[kind], ""
     for n, (it, call) in enumerate(zip(members, numbered(it.read() for it in members))):
         ending, branch = arm(n, n == len(members) - 1)
-        given = f"{'_ F _ _ _ _' if it.simple else 'F _ _ _'} told h {member_here(t, members, n)}"
-        goal, shown = as_one(t, kind, it, call, ending, branch if len(members) > 1 else "", given)
-        text += answer(goal, "told", [shown])
+        read = f"ensures.read {'_ F _ _ _ _' if it.simple else 'F _ _ _'} told h {member_here(t, members, n)} refl refl{' refl' * it.simple}"
+        if t.lent(kind):
+            branch, whole = f"in_ok-{call}", f"c.in_ok-{call}.{read}"
+        else:
+            whole = f"mapped {t.lower(kind)}.{it.variant} _ _ _ _ c.map{ending}.ensures.cases (c.{it.read()}{ending}.{read}) (λ _ p. p)"
+        goal = f"{branch}-clause-read" if len(members) > 1 else "clause-read"
+        text += answer(goal, "told", [f"    search (rules, {whole})" if t.is_signed(it.kind) else f"    {whole}"])
     return text
 
 
@@ -180,14 +178,15 @@ def variants_use(t, crate, file, kind):
 def read_choice_head(t, crate, file, kind, n=0):
     members = t.parts(kind)[n]
     rules = "rules, " if any(t.is_signed(it.kind) for it in members) else ""
-    behind = kind in t.brief or t.reader_of(kind, n + 1)
-    head = f"use Rattle.std.proofs.Common.{{{rules}refl, []{', ◌∷◌' if len(members) > 1 else ''}{', drop' if n and t.reader_of(kind, n + 1) else ''}}}\n"
-    maps = kind not in t.large and not t.lent(kind)
-    chosen = ["chosen_rest" if behind else "only_last"] + ["mapped"] * maps
-    head += f"use Rattle.message_parts.proofs.Chosen.{{{', '.join(chosen)}}}\n"
-    if behind:
+    refl = "" if kind in t.brief else "refl, "
+    head = f"use Rattle.std.proofs.Common.{{{rules}{refl}[]{', ◌∷◌' if len(members) > 1 else ''}{', drop' if n and t.reader_of(kind, n + 1) else ''}}}\n"
+    if kind in t.brief or t.reader_of(kind, n + 1):
+        head += "use Rattle.message_parts.proofs.Chosen.{chosen_rest}\n"
         head += f"use Rattle.{t.s.crate}.specs.Declarations.{{kinds}}\nuse Rattle.{crate}.specs.{file.capitalize()}.{{{t.lower(kind)}_members}}\n"
-    head += variants_use(t, crate, file, kind) if maps else ""
+    else:
+        maps = kind not in t.large and not t.lent(kind)
+        head += f"use Rattle.message_parts.proofs.Chosen.{{only_last{', mapped' * maps}}}\n"
+        head += variants_use(t, crate, file, kind) if maps else ""
     head += f"use Rattle.{t.s.crate}.specs.declared.names.TheConstants.{{{', '.join(it.name for it in members)}}}\n"
     kinds = dict.fromkeys(kind_name(t, it) for it in members)
     return head + f"use Rattle.{t.s.crate}.specs.declared.kinds.TheConstants.{{{', '.join(kinds)}}}\n"
@@ -204,9 +203,9 @@ def proofs(t, crate, file, kind):
     if kind in t.choices:
         put = put_choice if len(t.choices[kind]) > 1 else put_only
         found.append(("PutChoice/write_member", put_choice_head(t, crate, file, kind), put(t, kind)))
-        if kind in t.large or t.is_brief(kind):
-            at = "Choice/read_member" if t.is_brief(kind) else "LargeGroup/read_member_into"
-            found.append((at, read_choice_head(t, crate, file, kind), read_in_parts(t, kind)))
+        if kind in t.large:
+            at = "LargeChoice/read_member_here" if t.is_brief(kind) else "LargeGroup/read_member_into"
+            found.append((at, read_choice_head(t, crate, file, kind), read_large_choice(t, kind)))
         else:
             found.append(("Choice/read_member", read_choice_head(t, crate, file, kind), read_choice(t, kind)))
     elif kind in t.s.content:
@@ -214,9 +213,9 @@ def proofs(t, crate, file, kind):
         if kind in t.large:
             found.append(("LargeRecord/read_here", read_large_record_head(t, kind), read_large_record(t, kind)))
     places = [(f"{file}/{name}{place}", head, body) for place, head, body in found]
-    if kind in t.choices and (kind in t.large or t.is_brief(kind)):
+    if kind in t.large and kind in t.choices:
         apart = [it for it in t.own(kind) if t.holds_list(it.kind)]
         places += [(f"{file}/{it.word}", "use Rattle.std.proofs.Common.{refl}\n", read_apart(t, kind, it)) for it in apart]
         places += read_brief(file) if kind in t.brief else []
-        places += [(f"{file}/{t.reader_of(kind, n)}", read_choice_head(t, crate, file, kind, n), read_in_parts(t, kind, n)) for n in range(1, len(t.parts(kind)))]
+        places += [(f"{file}/{t.reader_of(kind, n)}", read_choice_head(t, crate, file, kind, n), read_large_choice(t, kind, n)) for n in range(1, len(t.parts(kind)))]
     return {place: with_uses(t, crate, place, head, body) for place, head, body in places}

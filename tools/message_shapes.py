@@ -82,7 +82,7 @@ class Types:
             self.file_sections[crate, file] = section
             self.large |= {it.split("*")[0] for it in kinds if "*" in it}
             self.long |= {it.removesuffix("!") for it in kinds if it.endswith("!")}
-            self.brief.update(it.split("<")[::-1] for it in kinds if "<" in it)
+            self.brief.update(it.split("*<")[::-1] for it in kinds if "<" in it)
             kinds = [re.sub(r"[*!]|<.*", "", it) for it in kinds]
             self.renamed.update(it.split("=") for it in kinds if "=" in it)
             self.files.append((crate, file, [it.split("=")[0] for it in kinds]))

@@ -18,7 +18,7 @@ from message_shapes import Types, in_groups
 from message_specs import definitions
 
 WORDS = [
-    "Binary", "Choice", "Descent", "Group", "LargeGroup", "LargeRecord", "PutChoice", "PutRecord", "ReadRecord",
+    "Binary", "Choice", "Descent", "Group", "LargeChoice", "LargeGroup", "LargeRecord", "PutChoice", "PutRecord", "ReadRecord",
     "Record", "Text", "Three", "first_child", "member", "member_value", "optional_choice_here", "put_attribute", "put_choice",
     "put_optional", "put_optional_attribute", "put_optional_choice", "put_optional_value", "put_record", "put_records", "put_value",
     "put_values", "required", "required_here", "whole_record",
@@ -194,9 +194,11 @@ impl PutRecord for {name}{"<'_>" if lent else ""} {{
 
 def chain(t, kind, members):
     """Reads one of these members, after its name; the last without a look at it."""
+    # a function whose result borrows, while what it takes doesn't, can't be passed
+    name, form = t.camel(kind), "Ok({1}({0}(descent)?))" if t.lent(kind) else "{0}(descent).map({1})"
     text = "        "
     for n, it in enumerate(members):
-        call = read_one(t, kind, it)[0]
+        call = form.format(it.read(), f"{name}::{it.variant}")
         if len(members) == 1:
             return f"        {call}\n"
         head = f"if descent.is_at(names::{it.name}) " if n < len(members) - 1 else ""
@@ -204,22 +206,18 @@ def chain(t, kind, members):
     return text
 
 
-def read_one(t, kind, it):
-    """Reads a member as one of its choice."""
-    variant = f"{t.camel(kind)}::{it.variant}"
-    if kind in t.large:
-        return [f"*place = Some({variant}({it.read()}(descent)?));", "Ok(())"]
-    # a function whose result borrows, while what it takes doesn't, can't be passed
-    return [f"Ok({variant}({it.read()}(descent)?))" if t.lent(kind) else f"{it.read()}(descent).map({variant})"]
+def stored(t, kind, it):
+    """A member that is read, as it is stored."""
+    one = f"{t.camel(kind)}::{it.variant}({it.read()}(descent)?)"
+    return one if t.is_brief(kind) else f"Some({one})"
 
 
-def part_chain(t, kind, n=0):
-    """Reads one of the members from the nth part on, after its name; the last without a look at it."""
-    place = "place, " if kind in t.large else ""
-    one = lambda it: "\n            ".join(read_one(t, kind, it))
-    steps = [(it.name, f"{it.word}({place}descent)" if t.holds_list(it.kind) else one(it)) for it in t.parts(kind)[n]]
+def large_chain(t, kind, n=0):
+    """Reads one of the members from the nth part on into a place, after its name; the last without a look at it."""
+    place = "self" if t.is_brief(kind) and not n else "place"
+    steps = [(it.name, f"{it.word}({place}, descent)" if t.holds_list(it.kind) else f"*{place} = {stored(t, kind, it)};\n            Ok(())") for it in t.parts(kind)[n]]
     behind = "brief" if kind in t.brief else t.reader_of(kind, n + 1)
-    steps += [("", f"{behind}({place}descent)")] if behind else []
+    steps += [("", f"{behind}({place}, descent)")] if behind else []
     text = "        "
     for n, (name, step) in enumerate(steps):
         head = f"if descent.is_at(names::{name}) " if n < len(steps) - 1 else ""
@@ -227,13 +225,12 @@ def part_chain(t, kind, n=0):
     return text
 
 
-def reader(t, kind, word, members, child, body):
-    """A function that reads a member, into a place where the choice is too large to move."""
+def into_place(t, kind, word, members, child, body):
+    """A function that reads a member into a place."""
     name, low = t.camel(kind), t.lower(kind)
-    large = kind in t.large
-    place, result = (f"place: &mut Option<{name}<'a>>, ", "()") if large else ("", f"{name}<'a>")
-    value, found = ("_", f"(v : {name}) × (place.new ≡ Some v) × ") if large else ("v", "")
-    return f"""fn {word}<'a, P: Places>({place}descent: &mut Descent<'a, '_, P>) -> Result<{result}, Refusal>
+    place, value = (f"{name}<'a>", "place.new") if t.is_brief(kind) else (f"Option<{name}<'a>>", "v")
+    found = "" if t.is_brief(kind) else f"(v : {name}) × (place.new ≡ Some v) × "
+    return f"""fn {word}<'a, P: Places>(place: &mut {place}, descent: &mut Descent<'a, '_, P>) -> Result<(), Refusal>
     requires open {{ IsOpen P.schema descent.old }}
     ensures open {{ IsOpen P.schema descent.new }}
     ensures table {{ descent.new.reader.table.ghost_name ≡ descent.old.reader.table.ghost_name }}
@@ -241,7 +238,7 @@ def reader(t, kind, word, members, child, body):
     ensures payload {{ descent.new.reader.reader.bits ≡ descent.old.reader.reader.bits }}
     ensures refused {{ IfErr result (λ r. IsRefusal (seen_of P.schema descent.old) r) }}
     ensures read {{ (F : Frame) (told : List TreeEvent) → IsChosen kinds F {members} told (seen_of P.schema descent.old){child}
-        → IfOk result (λ {value}. {found}({low}_name v ≡ F.name) × Leaves kinds F (told_inside ({low}_inside v) told) (seen_of P.schema descent.new)) }}
+        → IfOk result (λ _. {found}({low}_name {value} ≡ F.name) × Leaves kinds F (told_inside ({low}_inside {value}) told) (seen_of P.schema descent.new)) }}
 {{
 {body}}}
 
@@ -252,41 +249,41 @@ def part_function(t, kind, n):
     """Reads one of the members from the nth part on."""
     return f"""/// One of the members from {t.parts(kind)[n][0].type.split("<")[0]} on.
 #[inline(always)]
-""" + reader(t, kind, t.reader_of(kind, n), t.from_part(kind, n), "", part_chain(t, kind, n))
+""" + into_place(t, kind, t.reader_of(kind, n), t.from_part(kind, n), "", large_chain(t, kind, n))
 
 
 def apart(t, kind, it):
     """Reads a member that holds a list."""
-    body = "".join(f"    {line}\n" for line in read_one(t, kind, it))
+    body = f"    *place = {stored(t, kind, it)};\n    Ok(())\n"
     return f"""/// {it.type.split("<")[0]}, which holds a list: apart from the others, so that they don't fill its room.
 #[inline(never)]
-""" + reader(t, kind, it.word, t.from_part(kind, next(n for n, part in enumerate(t.parts(kind)) if it in part)), f" → descent.old.child ≡ Some {it.name}", body)
+""" + into_place(t, kind, it.word, t.from_part(kind, next(n for n, part in enumerate(t.parts(kind)) if it in part)), f" → descent.old.child ≡ Some {it.name}", body)
 
 
 def brief_functions(t, kind):
     """Read one of the brief members of a group."""
-    name, of_brief, members = t.camel(kind), t.camel(t.brief[kind]), f"{t.lower(t.brief[kind])}_members"
+    name, of_brief, members = t.camel(kind), t.brief[kind], f"{t.lower(t.brief[kind])}_members"
+    empty = next(it for it in t.choices[of_brief] if not t.inner(it.kind))
     again = f"""    match place {{
-        Some({name}::Brief(brief)) => {{
-            *brief = {of_brief}::read_member(descent)?;
-            Ok(())
-        }}
+        Some({name}::Brief(brief)) => brief.read_member_here(descent),
         _ => brief_anew(place, descent),
     }}
 """
-    anew = f"""    *place = Some({name}::Brief({of_brief}::read_member(descent)?));
+    anew = f"""    let mut brief = {t.camel(of_brief)}::{empty.variant}({empty.type});
+    brief.read_member_here(descent)?;
+    *place = Some({name}::Brief(brief));
     Ok(())
 """
     return f"""/// One that holds no long list, over one that holds none either where such a one stands.
-{reader(t, kind, "brief", members, "", again)}/// One that holds no long list, where another stands or none: this clears the room of the longest.
+{into_place(t, kind, "brief", members, "", again)}/// One that holds no long list, where another stands or none: this clears the room of the longest.
 #[inline(never)]
-{reader(t, kind, "brief_anew", members, "", anew)}"""
+{into_place(t, kind, "brief_anew", members, "", anew)}"""
 
 
 def large_uses(t, crate, file, kinds):
     """What the clauses of the own functions of large groups name."""
     names = ", ".join(it.name for it in t.choices[kinds[-1]] if t.holds_list(it.kind))
-    types = "".join(f"ghost use Rattle.{crate}.specs.declared.{file}.{t.camel(it)}.{{{t.camel(it)}}};\n" for it in kinds if it in t.large)
+    types = "".join(f"ghost use Rattle.{crate}.specs.declared.{file}.{t.camel(it)}.{{{t.camel(it)}}};\n" for it in kinds if not t.is_brief(it))
     words = ", ".join(f"{t.lower(it)}_{word}" for it in kinds for word in ("members", "name", "inside"))
     drop = ", drop" if any(len(t.parts(it)) > 1 for it in kinds) else ""
     return f"""ghost use Rattle.std.specs.Prelude.{{◌≡◌, [], List, Some, IfOk, IfErr{drop}}};
@@ -317,19 +314,18 @@ def choice(t, crate, file, kind):
 impl<'a> Group<'a> for {name}{"<'a>" if lent else ""} {{
 {uses}{names}}}
 """ if kind in t.optional_choices else ""
-    functions = "".join(apart(t, kind, it) for it in t.own(kind) if t.holds_list(it.kind)) if kind in t.large or t.is_brief(kind) else ""
-    functions += brief_functions(t, kind) if kind in t.brief else ""
-    functions += "".join(part_function(t, kind, n) for n in range(1, len(t.parts(kind))))
-    reading = f"""{functions}impl<'a> Choice<'a> for {name}{"<'a>" if lent else ""} {{
+    reading = f"""impl<'a> Choice<'a> for {name}{"<'a>" if lent else ""} {{
     fn read_member<P: Places>(descent: &mut Descent<'a, '_, P>) -> Result<{name}{"<'a>" if lent else ""}, Refusal> {{
-{part_chain(t, kind) if t.is_brief(kind) else chain(t, kind, members)}    }}
+{chain(t, kind, members)}    }}
 }}
 {group}"""
     if kind in t.large:
-        reading = f"""{functions}impl<'a> LargeGroup<'a> for {name}<'a> {{
-{uses}{names}
-    fn read_member_into<P: Places>(place: &mut Option<{name}<'a>>, descent: &mut Descent<'a, '_, P>) -> Result<(), Refusal> {{
-{part_chain(t, kind)}    }}
+        functions = "".join(apart(t, kind, it) for it in t.own(kind) if t.holds_list(it.kind)) + (brief_functions(t, kind) if kind in t.brief else "")
+        functions += "".join(part_function(t, kind, n) for n in range(1, len(t.parts(kind))))
+        taken = "&mut self" if t.is_brief(kind) else f"place: &mut Option<{name}<'a>>"
+        reading = functions + f"""impl<'a> Large{"Choice" if t.is_brief(kind) else "Group"}<'a> for {name}<'a> {{
+{"" if t.is_brief(kind) else uses + names + chr(10)}    fn read_member_{"here" if t.is_brief(kind) else "into"}<P: Places>({taken}, descent: &mut Descent<'a, '_, P>) -> Result<(), Refusal> {{
+{large_chain(t, kind)}    }}
 }}
 """
     default = f"""
@@ -398,7 +394,7 @@ use message_parts::Simple;
     words = [it for it in CHILDREN if re.search(rf"(?<![\w:]){it}\b", said)]
     lines += [f"use message_fields::{{{', '.join(words)}}};"] if words else []
     ghost = "ghost use Rattle.std.specs.Prelude.{[]};\n\n" if "[]" in re.sub(r"&\[[^]]*\]", "", said) else ""
-    large = [it for it in kinds if it in t.choices and (it in t.large or t.is_brief(it))]
+    large = [it for it in kinds if it in t.large and it in t.choices]
     ghost = large_uses(t, crate, file, large) + "\n" if large else ghost
     return f"//! Types of elements of {t.s.title}.\n\n{ghost}" + "\n".join(sorted(lines, key=order)) + "\n" + body
 

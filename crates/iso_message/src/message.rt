@@ -26,7 +26,7 @@ use iso_setup::{
     SessionSetupRes, SessionStopReq, SessionStopRes,
 };
 use message_parts::{
-    Choice, Descent, LargeGroup, LargeRecord, PutChoice, PutRecord, first_child, member,
+    Descent, LargeChoice, LargeGroup, LargeRecord, PutChoice, PutRecord, first_child, member,
     optional_choice_here, put_optional_choice, put_record, required, required_here,
 };
 
@@ -194,8 +194,9 @@ impl PutChoice for BriefElement<'_> {
 /// PaymentServiceSelectionReq, which holds a list: apart from the others, so that they don't fill its room.
 #[inline(never)]
 fn payment_service_selection_req<'a, P: Places>(
+    place: &mut BriefElement<'a>,
     descent: &mut Descent<'a, '_, P>,
-) -> Result<BriefElement<'a>, Refusal>
+) -> Result<(), Refusal>
     requires open { IsOpen P.schema descent.old }
     ensures open { IsOpen P.schema descent.new }
     ensures table { descent.new.reader.table.ghost_name ≡ descent.old.reader.table.ghost_name }
@@ -203,16 +204,18 @@ fn payment_service_selection_req<'a, P: Places>(
     ensures payload { descent.new.reader.reader.bits ≡ descent.old.reader.reader.bits }
     ensures refused { IfErr result (λ r. IsRefusal (seen_of P.schema descent.old) r) }
     ensures read { (F : Frame) (told : List TreeEvent) → IsChosen kinds F (drop 6 brief_element_members) told (seen_of P.schema descent.old) → descent.old.child ≡ Some PAYMENT_SERVICE_SELECTION_REQ
-        → IfOk result (λ v. (brief_element_name v ≡ F.name) × Leaves kinds F (told_inside (brief_element_inside v) told) (seen_of P.schema descent.new)) }
+        → IfOk result (λ _. (brief_element_name place.new ≡ F.name) × Leaves kinds F (told_inside (brief_element_inside place.new) told) (seen_of P.schema descent.new)) }
 {
-    Ok(BriefElement::PaymentServiceSelectionReq(member(descent)?))
+    *place = BriefElement::PaymentServiceSelectionReq(member(descent)?);
+    Ok(())
 }
 
 /// PowerDeliveryReq, which holds a list: apart from the others, so that they don't fill its room.
 #[inline(never)]
 fn power_delivery_req<'a, P: Places>(
+    place: &mut BriefElement<'a>,
     descent: &mut Descent<'a, '_, P>,
-) -> Result<BriefElement<'a>, Refusal>
+) -> Result<(), Refusal>
     requires open { IsOpen P.schema descent.old }
     ensures open { IsOpen P.schema descent.new }
     ensures table { descent.new.reader.table.ghost_name ≡ descent.old.reader.table.ghost_name }
@@ -220,16 +223,18 @@ fn power_delivery_req<'a, P: Places>(
     ensures payload { descent.new.reader.reader.bits ≡ descent.old.reader.reader.bits }
     ensures refused { IfErr result (λ r. IsRefusal (seen_of P.schema descent.old) r) }
     ensures read { (F : Frame) (told : List TreeEvent) → IsChosen kinds F (drop 6 brief_element_members) told (seen_of P.schema descent.old) → descent.old.child ≡ Some POWER_DELIVERY_REQ
-        → IfOk result (λ v. (brief_element_name v ≡ F.name) × Leaves kinds F (told_inside (brief_element_inside v) told) (seen_of P.schema descent.new)) }
+        → IfOk result (λ _. (brief_element_name place.new ≡ F.name) × Leaves kinds F (told_inside (brief_element_inside place.new) told) (seen_of P.schema descent.new)) }
 {
-    Ok(BriefElement::PowerDeliveryReq(member(descent)?))
+    *place = BriefElement::PowerDeliveryReq(member(descent)?);
+    Ok(())
 }
 
 /// One of the members from ChargingStatusRes on.
 #[inline(always)]
 fn from_charging_status_res<'a, P: Places>(
+    place: &mut BriefElement<'a>,
     descent: &mut Descent<'a, '_, P>,
-) -> Result<BriefElement<'a>, Refusal>
+) -> Result<(), Refusal>
     requires open { IsOpen P.schema descent.old }
     ensures open { IsOpen P.schema descent.new }
     ensures table { descent.new.reader.table.ghost_name ≡ descent.old.reader.table.ghost_name }
@@ -237,30 +242,35 @@ fn from_charging_status_res<'a, P: Places>(
     ensures payload { descent.new.reader.reader.bits ≡ descent.old.reader.reader.bits }
     ensures refused { IfErr result (λ r. IsRefusal (seen_of P.schema descent.old) r) }
     ensures read { (F : Frame) (told : List TreeEvent) → IsChosen kinds F (drop 6 brief_element_members) told (seen_of P.schema descent.old)
-        → IfOk result (λ v. (brief_element_name v ≡ F.name) × Leaves kinds F (told_inside (brief_element_inside v) told) (seen_of P.schema descent.new)) }
+        → IfOk result (λ _. (brief_element_name place.new ≡ F.name) × Leaves kinds F (told_inside (brief_element_inside place.new) told) (seen_of P.schema descent.new)) }
 {
     if descent.is_at(names::CHARGING_STATUS_RES) {
-        Ok(BriefElement::ChargingStatusRes(member(descent)?))
+        *place = BriefElement::ChargingStatusRes(member(descent)?);
+        Ok(())
     } else if descent.is_at(names::CURRENT_DEMAND_REQ) {
-        Ok(BriefElement::CurrentDemandReq(member(descent)?))
+        *place = BriefElement::CurrentDemandReq(member(descent)?);
+        Ok(())
     } else if descent.is_at(names::CURRENT_DEMAND_RES) {
-        Ok(BriefElement::CurrentDemandRes(member(descent)?))
+        *place = BriefElement::CurrentDemandRes(member(descent)?);
+        Ok(())
     } else if descent.is_at(names::PAYMENT_SERVICE_SELECTION_REQ) {
-        payment_service_selection_req(descent)
+        payment_service_selection_req(place, descent)
     } else if descent.is_at(names::PAYMENT_SERVICE_SELECTION_RES) {
-        Ok(BriefElement::PaymentServiceSelectionRes(member(descent)?))
+        *place = BriefElement::PaymentServiceSelectionRes(member(descent)?);
+        Ok(())
     } else if descent.is_at(names::POWER_DELIVERY_REQ) {
-        power_delivery_req(descent)
+        power_delivery_req(place, descent)
     } else {
-        from_power_delivery_res(descent)
+        from_power_delivery_res(place, descent)
     }
 }
 
 /// One of the members from PowerDeliveryRes on.
 #[inline(always)]
 fn from_power_delivery_res<'a, P: Places>(
+    place: &mut BriefElement<'a>,
     descent: &mut Descent<'a, '_, P>,
-) -> Result<BriefElement<'a>, Refusal>
+) -> Result<(), Refusal>
     requires open { IsOpen P.schema descent.old }
     ensures open { IsOpen P.schema descent.new }
     ensures table { descent.new.reader.table.ghost_name ≡ descent.old.reader.table.ghost_name }
@@ -268,30 +278,37 @@ fn from_power_delivery_res<'a, P: Places>(
     ensures payload { descent.new.reader.reader.bits ≡ descent.old.reader.reader.bits }
     ensures refused { IfErr result (λ r. IsRefusal (seen_of P.schema descent.old) r) }
     ensures read { (F : Frame) (told : List TreeEvent) → IsChosen kinds F (drop 12 brief_element_members) told (seen_of P.schema descent.old)
-        → IfOk result (λ v. (brief_element_name v ≡ F.name) × Leaves kinds F (told_inside (brief_element_inside v) told) (seen_of P.schema descent.new)) }
+        → IfOk result (λ _. (brief_element_name place.new ≡ F.name) × Leaves kinds F (told_inside (brief_element_inside place.new) told) (seen_of P.schema descent.new)) }
 {
     if descent.is_at(names::POWER_DELIVERY_RES) {
-        Ok(BriefElement::PowerDeliveryRes(member(descent)?))
+        *place = BriefElement::PowerDeliveryRes(member(descent)?);
+        Ok(())
     } else if descent.is_at(names::PRE_CHARGE_REQ) {
-        Ok(BriefElement::PreChargeReq(member(descent)?))
+        *place = BriefElement::PreChargeReq(member(descent)?);
+        Ok(())
     } else if descent.is_at(names::PRE_CHARGE_RES) {
-        Ok(BriefElement::PreChargeRes(member(descent)?))
+        *place = BriefElement::PreChargeRes(member(descent)?);
+        Ok(())
     } else if descent.is_at(names::SERVICE_DETAIL_REQ) {
-        Ok(BriefElement::ServiceDetailReq(member(descent)?))
+        *place = BriefElement::ServiceDetailReq(member(descent)?);
+        Ok(())
     } else if descent.is_at(names::SERVICE_DISCOVERY_REQ) {
-        Ok(BriefElement::ServiceDiscoveryReq(member(descent)?))
+        *place = BriefElement::ServiceDiscoveryReq(member(descent)?);
+        Ok(())
     } else if descent.is_at(names::SESSION_SETUP_REQ) {
-        Ok(BriefElement::SessionSetupReq(member(descent)?))
+        *place = BriefElement::SessionSetupReq(member(descent)?);
+        Ok(())
     } else {
-        from_session_setup_res(descent)
+        from_session_setup_res(place, descent)
     }
 }
 
 /// One of the members from SessionSetupRes on.
 #[inline(always)]
 fn from_session_setup_res<'a, P: Places>(
+    place: &mut BriefElement<'a>,
     descent: &mut Descent<'a, '_, P>,
-) -> Result<BriefElement<'a>, Refusal>
+) -> Result<(), Refusal>
     requires open { IsOpen P.schema descent.old }
     ensures open { IsOpen P.schema descent.new }
     ensures table { descent.new.reader.table.ghost_name ≡ descent.old.reader.table.ghost_name }
@@ -299,39 +316,51 @@ fn from_session_setup_res<'a, P: Places>(
     ensures payload { descent.new.reader.reader.bits ≡ descent.old.reader.reader.bits }
     ensures refused { IfErr result (λ r. IsRefusal (seen_of P.schema descent.old) r) }
     ensures read { (F : Frame) (told : List TreeEvent) → IsChosen kinds F (drop 18 brief_element_members) told (seen_of P.schema descent.old)
-        → IfOk result (λ v. (brief_element_name v ≡ F.name) × Leaves kinds F (told_inside (brief_element_inside v) told) (seen_of P.schema descent.new)) }
+        → IfOk result (λ _. (brief_element_name place.new ≡ F.name) × Leaves kinds F (told_inside (brief_element_inside place.new) told) (seen_of P.schema descent.new)) }
 {
     if descent.is_at(names::SESSION_SETUP_RES) {
-        Ok(BriefElement::SessionSetupRes(member(descent)?))
+        *place = BriefElement::SessionSetupRes(member(descent)?);
+        Ok(())
     } else if descent.is_at(names::SESSION_STOP_REQ) {
-        Ok(BriefElement::SessionStopReq(member(descent)?))
+        *place = BriefElement::SessionStopReq(member(descent)?);
+        Ok(())
     } else if descent.is_at(names::SESSION_STOP_RES) {
-        Ok(BriefElement::SessionStopRes(member(descent)?))
+        *place = BriefElement::SessionStopRes(member(descent)?);
+        Ok(())
     } else if descent.is_at(names::WELDING_DETECTION_REQ) {
-        Ok(BriefElement::WeldingDetectionReq(member(descent)?))
+        *place = BriefElement::WeldingDetectionReq(member(descent)?);
+        Ok(())
     } else {
-        Ok(BriefElement::WeldingDetectionRes(member(descent)?))
+        *place = BriefElement::WeldingDetectionRes(member(descent)?);
+        Ok(())
     }
 }
 
-impl<'a> Choice<'a> for BriefElement<'a> {
-    fn read_member<P: Places>(
+impl<'a> LargeChoice<'a> for BriefElement<'a> {
+    fn read_member_here<P: Places>(
+        &mut self,
         descent: &mut Descent<'a, '_, P>,
-    ) -> Result<BriefElement<'a>, Refusal> {
+    ) -> Result<(), Refusal> {
         if descent.is_at(names::AUTHORIZATION_REQ) {
-            Ok(BriefElement::AuthorizationReq(member(descent)?))
+            *self = BriefElement::AuthorizationReq(member(descent)?);
+            Ok(())
         } else if descent.is_at(names::AUTHORIZATION_RES) {
-            Ok(BriefElement::AuthorizationRes(member(descent)?))
+            *self = BriefElement::AuthorizationRes(member(descent)?);
+            Ok(())
         } else if descent.is_at(names::CABLE_CHECK_REQ) {
-            Ok(BriefElement::CableCheckReq(member(descent)?))
+            *self = BriefElement::CableCheckReq(member(descent)?);
+            Ok(())
         } else if descent.is_at(names::CABLE_CHECK_RES) {
-            Ok(BriefElement::CableCheckRes(member(descent)?))
+            *self = BriefElement::CableCheckRes(member(descent)?);
+            Ok(())
         } else if descent.is_at(names::CHARGE_PARAMETER_DISCOVERY_REQ) {
-            Ok(BriefElement::ChargeParameterDiscoveryReq(member(descent)?))
+            *self = BriefElement::ChargeParameterDiscoveryReq(member(descent)?);
+            Ok(())
         } else if descent.is_at(names::CHARGING_STATUS_REQ) {
-            Ok(BriefElement::ChargingStatusReq(member(descent)?))
+            *self = BriefElement::ChargingStatusReq(member(descent)?);
+            Ok(())
         } else {
-            from_charging_status_res(descent)
+            from_charging_status_res(self, descent)
         }
     }
 }
@@ -452,10 +481,7 @@ fn brief<'a, P: Places>(
         → IfOk result (λ _. (v : BodyElement) × (place.new ≡ Some v) × (body_element_name v ≡ F.name) × Leaves kinds F (told_inside (body_element_inside v) told) (seen_of P.schema descent.new)) }
 {
     match place {
-        Some(BodyElement::Brief(brief)) => {
-            *brief = BriefElement::read_member(descent)?;
-            Ok(())
-        }
+        Some(BodyElement::Brief(brief)) => brief.read_member_here(descent),
         _ => brief_anew(place, descent),
     }
 }
@@ -475,7 +501,9 @@ fn brief_anew<'a, P: Places>(
     ensures read { (F : Frame) (told : List TreeEvent) → IsChosen kinds F brief_element_members told (seen_of P.schema descent.old)
         → IfOk result (λ _. (v : BodyElement) × (place.new ≡ Some v) × (body_element_name v ≡ F.name) × Leaves kinds F (told_inside (body_element_inside v) told) (seen_of P.schema descent.new)) }
 {
-    *place = Some(BodyElement::Brief(BriefElement::read_member(descent)?));
+    let mut brief = BriefElement::ChargingStatusReq(ChargingStatusReq);
+    brief.read_member_here(descent)?;
+    *place = Some(BodyElement::Brief(brief));
     Ok(())
 }
 

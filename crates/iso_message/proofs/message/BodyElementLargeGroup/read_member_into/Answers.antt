@@ -1,4 +1,4 @@
-use Rattle.std.proofs.Common.{refl, [], ◌∷◌}
+use Rattle.std.proofs.Common.{[], ◌∷◌}
 use Rattle.message_parts.proofs.Chosen.{chosen_rest}
 use Rattle.iso_schema.specs.Declarations.{kinds}
 use Rattle.iso_message.specs.Message.{body_element_members}

@@ -4,7 +4,7 @@ use Rattle.iso_schema.specs.Declarations.{kinds}
 use Rattle.iso_message.specs.Message.{brief_element_members}
 use Rattle.iso_schema.specs.declared.names.TheConstants.{AUTHORIZATION_REQ, AUTHORIZATION_RES, CABLE_CHECK_REQ, CABLE_CHECK_RES, CHARGE_PARAMETER_DISCOVERY_REQ, CHARGING_STATUS_REQ}
 use Rattle.iso_schema.specs.declared.kinds.TheConstants.{AUTHORIZATION_REQ_KIND, AUTHORIZATION_RES_KIND, CABLE_CHECK_REQ_KIND, CABLE_CHECK_RES_KIND, CHARGE_PARAMETER_DISCOVERY_REQ_KIND, EMPTY_KIND}
-use Rattle.iso_message.proofs.message.BriefElementChoice.read_member.Goals as goal
+use Rattle.iso_message.proofs.message.BriefElementLargeChoice.read_member_here.Goals as goal
 
 pub returns-in_ok-member-clause-read : goal.returns-in_ok-member-clause-read
 returns-in_ok-member-clause-read g c = λ F told h.
