@@ -4,8 +4,8 @@ use Rattle.charge_world.specs.declared.offer.Dialect.{Dialect}
 use Rattle.charge_world.specs.declared.offer.Dialect.TheVariants as dialect
 use Rattle.session_words.specs.declared.word.Request.{Request}
 use Rattle.session_words.specs.declared.word.Word.TheVariants as word
-use Rattle.iso_words.specs.Spellable as iso_words
-use Rattle.din_words.specs.Spellable as din_words
+use Rattle.iso_word_messages.specs.Spellable as iso_spellable
+use Rattle.din_word_messages.specs.Spellable as din_spellable
 use Rattle.car_codec_rules.specs.Iso as iso
 use Rattle.car_codec_rules.specs.Din as din
 
@@ -16,5 +16,5 @@ Encodes dialect.Din request payload = din.Encodes request payload
 
 -- a request that the declarations of a dialect can spell
 abbrev pub CanSpell : Dialect → Request → Type 0
-CanSpell dialect.Iso request = iso_words.CanSpell (word.Request request)
-CanSpell dialect.Din request = din_words.CanSpell (word.Request request)
+CanSpell dialect.Iso request = iso_spellable.CanSpell (word.Request request)
+CanSpell dialect.Din request = din_spellable.CanSpell (word.Request request)

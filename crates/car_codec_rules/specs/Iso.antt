@@ -5,8 +5,8 @@ use Rattle.session_words.specs.declared.word.Request.{Request}
 use Rattle.session_words.specs.declared.word.Word.TheVariants as word
 use Rattle.iso_message.specs.declared.message.IsoMessage.{IsoMessage}
 use Rattle.iso_message.specs.Documents.{IsIsoEncoding}
-use Rattle.iso_words.specs.Messages.{IsMessageOf}
-use Rattle.iso_words.specs.Spellable.{CanSpell}
+use Rattle.iso_word_messages.specs.Messages.{IsMessageOf}
+use Rattle.iso_word_messages.specs.Spellable.{CanSpell}
 use Rattle.car_codec_rules.specs.Profiles.{HasNoProfile}
 
 -- a request that the declarations can spell, and the encoding of its message

@@ -3,13 +3,13 @@
 ghost use Rattle.std.specs.Prelude.{◌≡◌, ◌≤◌, length, take};
 ghost use Rattle.exi_documents.specs.Values.{most_entries};
 ghost use Rattle.session_words.specs.declared.word.Word.TheVariants as words;
-ghost use Rattle.din_words.specs.Spellable.{CanSpell};
+ghost use Rattle.din_word_messages.specs.Spellable.{CanSpell};
 ghost use Rattle.car_codec_rules.specs.Din.{Encodes};
 ghost use Rattle.car_codec_rules.specs.Profiles.{HasNoProfile};
 
 use crate::words::word_of;
 use din_codec::{DinTables, write_din};
-use din_words::of_word;
+use din_word_messages::of_word;
 use exi_events::Table;
 use session_words::{Request, Word};
 

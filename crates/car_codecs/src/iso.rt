@@ -3,14 +3,14 @@
 ghost use Rattle.std.specs.Prelude.{◌≡◌, ◌≤◌, length, take};
 ghost use Rattle.exi_documents.specs.Values.{most_entries};
 ghost use Rattle.session_words.specs.declared.word.Word.TheVariants as words;
-ghost use Rattle.iso_words.specs.Spellable.{CanSpell};
+ghost use Rattle.iso_word_messages.specs.Spellable.{CanSpell};
 ghost use Rattle.car_codec_rules.specs.Iso.{Encodes};
 ghost use Rattle.car_codec_rules.specs.Profiles.{HasNoProfile};
 
 use crate::words::word_of;
 use exi_events::Table;
 use iso_codec::{IsoTables, write_iso};
-use iso_words::of_word;
+use iso_word_messages::of_word;
 use session_words::{Request, Word};
 
 /// Writes the encoding of a request to the front of a room, and answers its number of bytes. The table is emptied.

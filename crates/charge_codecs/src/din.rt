@@ -3,12 +3,12 @@
 ghost use Rattle.std.specs.Prelude.{◌≡◌, ◌≤◌, length, take};
 ghost use Rattle.exi_documents.specs.Values.{most_entries};
 ghost use Rattle.session_words.specs.declared.word.Word.TheVariants as words;
-ghost use Rattle.din_words.specs.Spellable.{CanSpell};
+ghost use Rattle.din_word_messages.specs.Spellable.{CanSpell};
 ghost use Rattle.written_sizes.specs.Entries.{HasEntries};
 ghost use Rattle.codec_rules.specs.Din.{Encodes};
 
 use din_codec::{DinTables, write_din};
-use din_words::of_reply;
+use din_word_messages::of_reply;
 use exi_events::Table;
 use session_words::Reply;
 

@@ -3,13 +3,13 @@
 ghost use Rattle.std.specs.Prelude.{◌≡◌, ◌≤◌, length, take};
 ghost use Rattle.exi_documents.specs.Values.{most_entries};
 ghost use Rattle.session_words.specs.declared.word.Word.TheVariants as words;
-ghost use Rattle.iso_words.specs.Spellable.{CanSpell};
+ghost use Rattle.iso_word_messages.specs.Spellable.{CanSpell};
 ghost use Rattle.written_sizes.specs.Entries.{HasEntries};
 ghost use Rattle.codec_rules.specs.Iso.{Encodes};
 
 use exi_events::Table;
 use iso_codec::{IsoTables, write_iso};
-use iso_words::of_reply;
+use iso_word_messages::of_reply;
 use session_words::Reply;
 
 /// Writes the encoding of a reply to the front of a room, and answers its number of bytes. The table is emptied.

@@ -10,10 +10,10 @@ use Rattle.session_words.specs.declared.word.Word.TheVariants as word
 use Rattle.session_rules.specs.declared.stage.Stage.{Stage}
 use Rattle.session_rules.specs.Reply.{waiting_reply}
 use Rattle.written_words.specs.Typed.{IsTyped}
-use Rattle.iso_words.specs.Spellable as iso_words
+use Rattle.iso_word_messages.specs.Spellable as iso_spellable
 use Rattle.iso_word_laws.specs.Posts as iso_posts
 use Rattle.iso_word_laws.proofs.Posts as iso_replies
-use Rattle.din_words.specs.Spellable as din_words
+use Rattle.din_word_messages.specs.Spellable as din_spellable
 use Rattle.din_word_laws.specs.Posts as din_posts
 use Rattle.din_word_laws.proofs.Posts as din_replies
 use Rattle.written_sizes.specs.Entries.{HasEntries}
@@ -39,7 +39,7 @@ iso_bounds s facts plan shown p f told most = record {
 }
 
 abbrev InIso : Reply → Type 0
-InIso reply = iso_words.CanSpell (word.Reply reply)
+InIso reply = iso_spellable.CanSpell (word.Reply reply)
 
 iso_reply : (reply : Reply) (g : IsGiven Reads dialect.Iso reply) → IsTyped reply
     → IsAnswer Reads g.stage g.facts g.plan reply ⊎ (reply ≡ waiting_reply g.stage g.facts g.plan) → InIso reply
@@ -71,7 +71,7 @@ spoken_by dialect.Din payload r is read = spoken_in _ read.message.body.element 
 spoken_by dialect.Iso payload r is read = absurd (cc)
 
 abbrev InDin : Reply → Type 0
-InDin reply = din_words.CanSpell (word.Reply reply)
+InDin reply = din_spellable.CanSpell (word.Reply reply)
 
 din_reply : (reply : Reply) (g : IsGiven Reads dialect.Din reply) → IsTyped reply
     → IsAnswer Reads g.stage g.facts g.plan reply ⊎ (reply ≡ waiting_reply g.stage g.facts g.plan) → InDin reply

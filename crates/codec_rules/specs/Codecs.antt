@@ -5,8 +5,8 @@ use Rattle.charge_world.specs.declared.offer.Dialect.TheVariants as dialect
 use Rattle.session_words.specs.declared.word.Reply.{Reply}
 use Rattle.session_words.specs.declared.word.Word.{Word}
 use Rattle.session_words.specs.declared.word.Word.TheVariants as word
-use Rattle.iso_words.specs.Spellable as iso_words
-use Rattle.din_words.specs.Spellable as din_words
+use Rattle.iso_word_messages.specs.Spellable as iso_spellable
+use Rattle.din_word_messages.specs.Spellable as din_spellable
 use Rattle.codec_rules.specs.Iso as iso
 use Rattle.codec_rules.specs.Din as din
 
@@ -22,5 +22,5 @@ Encodes dialect.Din reply payload = din.Encodes reply payload
 
 -- a reply that the declarations of a dialect can spell
 abbrev pub CanSpell : Dialect → Reply → Type 0
-CanSpell dialect.Iso reply = iso_words.CanSpell (word.Reply reply)
-CanSpell dialect.Din reply = din_words.CanSpell (word.Reply reply)
+CanSpell dialect.Iso reply = iso_spellable.CanSpell (word.Reply reply)
+CanSpell dialect.Din reply = din_spellable.CanSpell (word.Reply reply)

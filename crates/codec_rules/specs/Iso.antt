@@ -7,8 +7,8 @@ use Rattle.session_words.specs.declared.word.Word.{Word}
 use Rattle.session_words.specs.declared.word.Word.TheVariants as word
 use Rattle.iso_message.specs.declared.message.IsoMessage.{IsoMessage}
 use Rattle.iso_message.specs.Documents.{IsIso, IsIsoRefused, IsIsoEncoding}
-use Rattle.iso_words.specs.Messages.{IsMessageOf}
-use Rattle.iso_words.specs.Spellable.{CanSpell}
+use Rattle.iso_word_messages.specs.Messages.{IsMessageOf}
+use Rattle.iso_word_messages.specs.Spellable.{CanSpell}
 use Rattle.iso_words.specs.Words.{word_of}
 
 -- a payload spells a message, and this is its word

@@ -28,9 +28,9 @@ use Rattle.din_power.specs.declared.schedules.SaScheduleList.{SaScheduleList}
 use Rattle.din_values.specs.Physical.{tenths_of, power_if, watts_of}
 use Rattle.din_values.specs.States.{evse_processing}
 use Rattle.din_values.specs.Statuses.{dc_evse_status}
-use Rattle.din_words.specs.Messages.{parameter_if}
-use Rattle.din_words.specs.ParameterMessages.{entry_at, schedule_tuple, schedules_if, parameters_res}
-use Rattle.din_words.specs.Spellable.{CanTuple, CanTuples, CanPostLimits}
+use Rattle.din_word_messages.specs.Messages.{parameter_if}
+use Rattle.din_word_messages.specs.ParameterMessages.{entry_at, schedule_tuple, schedules_if, parameters_res}
+use Rattle.din_word_messages.specs.Spellable.{CanTuple, CanTuples, CanPostLimits}
 use Rattle.written_parts.proofs.Numbers.{value_few}
 use Rattle.written_parts.proofs.Parts.{at_least_one_takes, each_held, range_held}
 use Rattle.din_replies.proofs.Simple.{short, unsigned_int, response, progress}

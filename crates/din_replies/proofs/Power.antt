@@ -16,8 +16,8 @@ use Rattle.din_parts.specs.declared.codes.ResponseCode.{ResponseCode}
 use Rattle.din_power.specs.Charging.{cable_check_res_parts, pre_charge_res_parts, current_demand_res_parts, welding_detection_res_parts}
 use Rattle.din_power.specs.Delivery.{power_delivery_res_parts}
 use Rattle.din_values.specs.States.{evse_processing}
-use Rattle.din_words.specs.PowerMessages.{cable_check_res, pre_charge_res, delivery_res, demand_res, welding_res}
-use Rattle.din_words.specs.Spellable.{AreTenths, AreWatts}
+use Rattle.din_word_messages.specs.PowerMessages.{cable_check_res, pre_charge_res, delivery_res, demand_res, welding_res}
+use Rattle.din_word_messages.specs.Spellable.{AreTenths, AreWatts}
 use Rattle.din_replies.proofs.Simple.{truth, response, progress}
 use Rattle.din_replies.proofs.Values.{tenths_held, some_tenths_fit, powers_fit, dc_status_held}
 

@@ -23,8 +23,8 @@ use Rattle.din_message.specs.Documents.{IsWithin}
 use Rattle.din_message.specs.Message.{body_parts}
 use Rattle.din_message.specs.declared.message.BodyElement.{BodyElement}
 use Rattle.din_values.specs.Codes.{response_code}
-use Rattle.din_words.specs.Messages.{LendsTell, LendsSession, delivery_reply, parameter_if, parameters_reply, reply_element, message_with}
-use Rattle.din_words.specs.Spellable.{CanSession, CanTuples, CanTell}
+use Rattle.din_word_messages.specs.Messages.{LendsTell, LendsSession, delivery_reply, parameter_if, parameters_reply, reply_element, message_with}
+use Rattle.din_word_messages.specs.Spellable.{CanSession, CanTuples, CanTell}
 use Rattle.din_replies.specs.Replies.{RepliesAreWithin}
 use Rattle.din_replies.proofs.Simple.{identifier}
 use Rattle.din_replies.proofs.Setup.{setup_held, discovery_held, selection_held, authorization_held, stop_held}

@@ -18,9 +18,9 @@ use Rattle.din_setup.specs.Services.{service_tag_parts, charge_service_parts, pa
 use Rattle.din_setup.specs.Session.{session_setup_res_parts, contract_authentication_res_parts, session_stop_res_parts}
 use Rattle.din_values.specs.Modes.{offered_mode}
 use Rattle.din_values.specs.States.{evse_processing}
-use Rattle.din_words.specs.Messages.{LendsEvse}
-use Rattle.din_words.specs.SetupMessages.{setup_res, first_mode, charge_service, external_payment, discovery_res, authorization_res}
-use Rattle.din_words.specs.Spellable.{CanEvse}
+use Rattle.din_word_messages.specs.Messages.{LendsEvse}
+use Rattle.din_word_messages.specs.SetupMessages.{setup_res, first_mode, charge_service, external_payment, discovery_res, authorization_res}
+use Rattle.din_word_messages.specs.Spellable.{CanEvse}
 use Rattle.din_replies.proofs.Simple.{truth, unsigned_short, evse_id, response, service_category, payment_option, transfer_type, progress}
 
 -- ---- services

@@ -31,8 +31,8 @@ use Rattle.din_parts.specs.declared.enumerations.IsolationLevel.{IsolationLevel}
 use Rattle.din_parts.specs.declared.enumerations.IsolationLevel.TheVariants as level
 use Rattle.din_parts.specs.declared.enumerations.EvseStatusCode.{EvseStatusCode}
 use Rattle.din_parts.specs.declared.enumerations.EvseStatusCode.TheVariants as status
-use Rattle.din_words.specs.Messages.{LendsEvse, LendsSession}
-use Rattle.din_words.specs.Spellable.{CanEvse, CanSession}
+use Rattle.din_word_messages.specs.Messages.{LendsEvse, LendsSession}
+use Rattle.din_word_messages.specs.Spellable.{CanEvse, CanSession}
 use Rattle.written_parts.proofs.Items.{bytes_fit}
 use Rattle.written_parts.proofs.Numbers.{multiplier_type, value_type}
 

@@ -13,7 +13,7 @@ use Rattle.din_schema.specs.declared.names.TheConstants.{V2G_MESSAGE, HEADER, BO
 use Rattle.din_message.specs.Documents.{din_tree}
 use Rattle.din_message.specs.Message.{body_parts}
 use Rattle.din_message.specs.declared.message.BodyElement.{BodyElement}
-use Rattle.din_words.specs.Messages.{LendsEvse, LendsTell, reply_element, message_with}
+use Rattle.din_word_messages.specs.Messages.{LendsEvse, LendsTell, reply_element, message_with}
 use Rattle.din_replies.specs.Replies.{RepliesHaveOneTree}
 
 -- an identifier is lent as the same bytes

@@ -21,7 +21,7 @@ use Rattle.din_parts.specs.declared.values.PhysicalValue.{PhysicalValue}
 use Rattle.din_values.specs.Physical.{tenths_of, tenths_if, power_of, power_if}
 use Rattle.din_values.specs.States.{isolation_level}
 use Rattle.din_values.specs.Statuses.{dc_evse_status}
-use Rattle.din_words.specs.Spellable.{AreTenths, AreWatts}
+use Rattle.din_word_messages.specs.Spellable.{AreTenths, AreWatts}
 use Rattle.written_parts.proofs.Numbers.{IsPhysical, tenths_fit, watts_fit}
 use Rattle.written_parts.proofs.Parts.{perhaps_held}
 use Rattle.din_replies.proofs.Simple.{multiplier, short, unsigned_int, unit_symbol, notified, isolation, status_code}

@@ -4,8 +4,8 @@ use Rattle.session_words.specs.declared.word.Reply.{Reply}
 use Rattle.session_words.specs.declared.word.Word.TheVariants as word
 use Rattle.din_message.specs.declared.message.DinMessage.{DinMessage}
 use Rattle.din_message.specs.Documents.{din_tree, IsWithin}
-use Rattle.din_words.specs.Messages.{IsMessageOf}
-use Rattle.din_words.specs.Spellable.{CanSpell}
+use Rattle.din_word_messages.specs.Messages.{IsMessageOf}
+use Rattle.din_word_messages.specs.Spellable.{CanSpell}
 
 abbrev pub RepliesAreWithin : Type 0
 RepliesAreWithin = (reply : Reply) (m : DinMessage) → CanSpell (word.Reply reply) → IsMessageOf (word.Reply reply) m → IsWithin m

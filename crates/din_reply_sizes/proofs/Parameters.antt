@@ -17,8 +17,8 @@ use Rattle.din_power.specs.Schedules.{p_max_schedule_entry_parts, p_max_schedule
 use Rattle.din_power.specs.declared.limits.EvseChargeParameter.{EvseChargeParameter}
 use Rattle.din_power.specs.declared.schedules.SaScheduleList.{SaScheduleList}
 use Rattle.din_values.specs.Physical.{tenths_of, watts_of}
-use Rattle.din_words.specs.Messages.{parameter_if}
-use Rattle.din_words.specs.ParameterMessages.{entry_at, schedule_tuple, schedules_if, parameters_res}
+use Rattle.din_word_messages.specs.Messages.{parameter_if}
+use Rattle.din_word_messages.specs.ParameterMessages.{entry_at, schedule_tuple, schedules_if, parameters_res}
 use Rattle.din_replies.proofs.Parameters.{dc_limits}
 use Rattle.written_sizes.proofs.Parts.{three_light}
 use Rattle.din_reply_sizes.proofs.Values.{physical_light, powers_light, dc_status_light}

@@ -10,7 +10,7 @@ use Rattle.din_parts.specs.declared.codes.ResponseCode.{ResponseCode}
 use Rattle.din_power.specs.Charging.{cable_check_res_parts, pre_charge_res_parts, current_demand_res_parts, welding_detection_res_parts}
 use Rattle.din_power.specs.Delivery.{power_delivery_res_parts}
 use Rattle.din_values.specs.Physical.{tenths_of}
-use Rattle.din_words.specs.PowerMessages.{cable_check_res, pre_charge_res, delivery_res, demand_res, welding_res}
+use Rattle.din_word_messages.specs.PowerMessages.{cable_check_res, pre_charge_res, delivery_res, demand_res, welding_res}
 use Rattle.din_reply_sizes.proofs.Values.{physical_light, tenths_light, powers_light, dc_status_light}
 
 pub delivery_light : (code : ResponseCode) (s : DcStatus) → inside_weight 6 (holding (power_delivery_res_parts (delivery_res code s))) ≤ 163

@@ -25,8 +25,8 @@ use Rattle.din_message.specs.Message.{body_element_inside, body_parts, din_messa
 use Rattle.din_message.specs.declared.message.BodyElement.{BodyElement}
 use Rattle.din_message.specs.declared.message.DinMessage.{DinMessage}
 use Rattle.din_values.specs.Codes.{response_code}
-use Rattle.din_words.specs.Messages.{LendsTell, LendsSession, delivery_reply, parameter_if, parameters_reply, reply_element, message_with, IsMessageOf}
-use Rattle.din_words.specs.Spellable.{CanSession, CanTuple, CanTuples, CanTell, CanSpell}
+use Rattle.din_word_messages.specs.Messages.{LendsTell, LendsSession, delivery_reply, parameter_if, parameters_reply, reply_element, message_with, IsMessageOf}
+use Rattle.din_word_messages.specs.Spellable.{CanSession, CanTuple, CanTuples, CanTell, CanSpell}
 use Rattle.written_sizes.specs.Entries.{HasEntries}
 use Rattle.din_reply_sizes.specs.Sizes.{BriefRepliesAreSmall, RepliesAreSmall}
 use Rattle.din_reply_sizes.proofs.Values.{session_few}

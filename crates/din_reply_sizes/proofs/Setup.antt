@@ -10,9 +10,9 @@ use Rattle.din_parts.specs.declared.codes.ResponseCode.{ResponseCode}
 use Rattle.din_setup.specs.Selection.{service_payment_selection_res_parts}
 use Rattle.din_setup.specs.Services.{service_discovery_res_parts}
 use Rattle.din_setup.specs.Session.{session_setup_res_parts, contract_authentication_res_parts, session_stop_res_parts}
-use Rattle.din_words.specs.Messages.{LendsEvse}
-use Rattle.din_words.specs.SetupMessages.{setup_res, discovery_res, authorization_res}
-use Rattle.din_words.specs.Spellable.{CanEvse}
+use Rattle.din_word_messages.specs.Messages.{LendsEvse}
+use Rattle.din_word_messages.specs.SetupMessages.{setup_res, discovery_res, authorization_res}
+use Rattle.din_word_messages.specs.Spellable.{CanEvse}
 use Rattle.din_reply_sizes.proofs.Values.{evse_few}
 
 pub discovery_light : (code : ResponseCode) (free : Bool) (modes : List OfferedMode)

@@ -20,8 +20,8 @@ use Rattle.din_parts.specs.declared.values.PhysicalValue.{PhysicalValue}
 use Rattle.din_values.specs.Physical.{tenths_of, tenths_if, power_of, power_if}
 use Rattle.din_values.specs.States.{isolation_level}
 use Rattle.din_values.specs.Statuses.{dc_evse_status}
-use Rattle.din_words.specs.Messages.{LendsEvse, LendsSession}
-use Rattle.din_words.specs.Spellable.{CanEvse, CanSession}
+use Rattle.din_word_messages.specs.Messages.{LendsEvse, LendsSession}
+use Rattle.din_word_messages.specs.Spellable.{CanEvse, CanSession}
 use Rattle.written_sizes.proofs.Parts.{perhaps_light}
 
 units_light : (u : Option UnitSymbol) → perhaps_weight 6 (mapped (λ x. Of (Ordinal (unit_symbol_ordinal x))) u) ≤ 14

@@ -3,8 +3,8 @@ use Rattle.session_words.specs.declared.word.Reply.{Reply}
 use Rattle.session_words.specs.declared.word.Word.TheVariants as word
 use Rattle.din_message.specs.declared.message.DinMessage.{DinMessage}
 use Rattle.din_message.specs.Documents.{PassesBytes}
-use Rattle.din_words.specs.Messages.{IsMessageOf}
-use Rattle.din_words.specs.Spellable.{CanSpell}
+use Rattle.din_word_messages.specs.Messages.{IsMessageOf}
+use Rattle.din_word_messages.specs.Spellable.{CanSpell}
 use Rattle.written_sizes.specs.Entries.{HasEntries}
 
 abbrev pub BriefRepliesAreSmall : Type 0

@@ -19,8 +19,8 @@ use Rattle.din_power.specs.declared.limits.EvChargeParameter.{EvChargeParameter}
 use Rattle.din_values.specs.Modes.{energy_transfer_mode}
 use Rattle.din_values.specs.Physical.{tenths_of, power_if}
 use Rattle.din_values.specs.Statuses.{dc_ev_status}
-use Rattle.din_words.specs.ParameterMessages.{ev_parameter, parameters_req}
-use Rattle.din_words.specs.Spellable.{AreTenths, AreWatts, IsCharge}
+use Rattle.din_word_messages.specs.ParameterMessages.{ev_parameter, parameters_req}
+use Rattle.din_word_messages.specs.Spellable.{AreTenths, AreWatts, IsCharge}
 use Rattle.din_replies.proofs.Values.{tenths_held, powers_fit}
 use Rattle.din_requests.proofs.Values.{transfer_mode, status_held}
 

@@ -13,8 +13,8 @@ use Rattle.din_schema.specs.declared.names.TheConstants.{CHARGING_PROFILE}
 use Rattle.din_schema.specs.declared.kinds.TheConstants.{BOOLEAN_KIND, SHORT_KIND, UNSIGNED_INT_KIND, EMPTY_KIND, PHYSICAL_VALUE_KIND, DC_EV_STATUS_KIND, POWER_DELIVERY_REQ_KIND, CHARGING_PROFILE_KIND, PROFILE_ENTRY_KIND, CABLE_CHECK_REQ_KIND, PRE_CHARGE_REQ_KIND, CURRENT_DEMAND_REQ_KIND, WELDING_DETECTION_REQ_KIND}
 use Rattle.din_power.specs.Charging.{cable_check_req_parts, pre_charge_req_parts, current_demand_req_parts, welding_detection_req_parts}
 use Rattle.din_power.specs.Delivery.{profile_entry_parts, charging_profile_parts, power_delivery_req_parts}
-use Rattle.din_words.specs.PowerMessages.{cable_check_req, pre_charge_req, profile_entry, profile_of, profile_if, is_start, delivery_req, demand_req, welding_req}
-use Rattle.din_words.specs.Spellable.{AreTenths, AreFewWatts, IsCharge, IsTupleNumber, CanProfile}
+use Rattle.din_word_messages.specs.PowerMessages.{cable_check_req, pre_charge_req, profile_entry, profile_of, profile_if, is_start, delivery_req, demand_req, welding_req}
+use Rattle.din_word_messages.specs.Spellable.{AreTenths, AreFewWatts, IsCharge, IsTupleNumber, CanProfile}
 use Rattle.written_parts.proofs.Numbers.{value_few}
 use Rattle.din_replies.proofs.Simple.{truth, short, unsigned_int}
 use Rattle.din_replies.proofs.Values.{tenths_held}

@@ -8,8 +8,8 @@ use Rattle.session_words.specs.declared.word.Ask.{Ask}
 use Rattle.session_words.specs.declared.word.Ask.TheVariants as ask
 use Rattle.din_schema.specs.declared.kinds.TheConstants.{EMPTY_KIND, SESSION_SETUP_REQ_KIND, SERVICE_DISCOVERY_REQ_KIND, SERVICE_PAYMENT_SELECTION_REQ_KIND, CONTRACT_AUTHENTICATION_REQ_KIND, CHARGE_PARAMETER_DISCOVERY_REQ_KIND, POWER_DELIVERY_REQ_KIND, CABLE_CHECK_REQ_KIND, PRE_CHARGE_REQ_KIND, CURRENT_DEMAND_REQ_KIND, WELDING_DETECTION_REQ_KIND}
 use Rattle.din_message.specs.Documents.{IsWithin}
-use Rattle.din_words.specs.Messages.{LendsAsk, parameters_request, request_element}
-use Rattle.din_words.specs.Spellable.{CanCarLimits, CanAsk}
+use Rattle.din_word_messages.specs.Messages.{LendsAsk, parameters_request, request_element}
+use Rattle.din_word_messages.specs.Spellable.{CanCarLimits, CanAsk}
 use Rattle.din_replies.proofs.Replies.{FitsBodyIf, message_fits}
 use Rattle.din_requests.specs.Requests.{RequestsAreWithin}
 use Rattle.din_requests.proofs.Setup.{setup_held, discovery_held, selection_held, authorization_held}

@@ -15,8 +15,8 @@ use Rattle.din_setup.specs.Services.{service_discovery_req_parts}
 use Rattle.din_setup.specs.Session.{session_setup_req_parts, contract_authentication_req_attributes, contract_authentication_req_given, contract_authentication_req_parts}
 use Rattle.din_setup.specs.declared.selection.SelectedServiceList.{SelectedServiceList}
 use Rattle.din_values.specs.States.{payment_option as payment}
-use Rattle.din_words.specs.SetupMessages.{setup_req, discovery_req, selected_service, selection_req, authorization_req}
-use Rattle.din_words.specs.Spellable.{IsByte, IsService, IsFromTo}
+use Rattle.din_word_messages.specs.SetupMessages.{setup_req, discovery_req, selected_service, selection_req, authorization_req}
+use Rattle.din_word_messages.specs.Spellable.{IsByte, IsService, IsFromTo}
 use Rattle.written_parts.proofs.Parts.{at_least_one_takes, each_held}
 use Rattle.din_replies.proofs.Simple.{unsigned_short, payment_option}
 use Rattle.din_requests.proofs.Values.{evcc_id}

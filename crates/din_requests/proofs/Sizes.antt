@@ -23,11 +23,11 @@ use Rattle.din_power.specs.Delivery.{charging_profile_parts, power_delivery_req_
 use Rattle.din_message.specs.Documents.{din_tree, din_number}
 use Rattle.din_message.specs.declared.message.DinMessage.{DinMessage}
 use Rattle.din_values.specs.Physical.{tenths_of}
-use Rattle.din_words.specs.Messages.{LendsAsk, parameters_request, request_element}
-use Rattle.din_words.specs.ParameterMessages.{ev_parameter, parameters_req}
-use Rattle.din_words.specs.PowerMessages.{profile_if, delivery_req}
-use Rattle.din_words.specs.SetupMessages.{selected_service, selection_req}
-use Rattle.din_words.specs.Spellable.{CanAsk}
+use Rattle.din_word_messages.specs.Messages.{LendsAsk, parameters_request, request_element}
+use Rattle.din_word_messages.specs.ParameterMessages.{ev_parameter, parameters_req}
+use Rattle.din_word_messages.specs.PowerMessages.{profile_if, delivery_req}
+use Rattle.din_word_messages.specs.SetupMessages.{selected_service, selection_req}
+use Rattle.din_word_messages.specs.Spellable.{CanAsk}
 use Rattle.din_reply_sizes.proofs.Values.{physical_light, powers_light}
 use Rattle.din_reply_sizes.proofs.Replies.{IsLightBody, weight_of, message_light}
 use Rattle.din_requests.specs.Requests.{RequestsAreSmall}

@@ -4,7 +4,7 @@ use Rattle.message_parts.specs.declared.texts.Binary.{Binary}
 use Rattle.session_words.specs.declared.word.Ask.{Ask}
 use Rattle.session_words.specs.declared.word.Ask.TheVariants as ask
 use Rattle.din_message.specs.Documents.{din_tree}
-use Rattle.din_words.specs.Messages.{LendsAsk, request_element}
+use Rattle.din_word_messages.specs.Messages.{LendsAsk, request_element}
 use Rattle.din_replies.proofs.Trees.{inside_if, tree_of}
 use Rattle.din_requests.specs.Requests.{RequestsHaveOneTree}
 

@@ -16,7 +16,7 @@ use Rattle.din_parts.specs.Values.{dc_ev_status_parts}
 use Rattle.din_parts.specs.declared.codes.EnergyTransferMode.{EnergyTransferMode}
 use Rattle.din_parts.specs.declared.codes.EnergyTransferMode.TheVariants as mode
 use Rattle.din_values.specs.Statuses.{dc_ev_status}
-use Rattle.din_words.specs.Spellable.{IsByte, IsCharge}
+use Rattle.din_word_messages.specs.Spellable.{IsByte, IsCharge}
 use Rattle.written_parts.proofs.Items.{bytes_fit}
 use Rattle.din_replies.proofs.Simple.{Has, truth}
 

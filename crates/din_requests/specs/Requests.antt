@@ -4,8 +4,8 @@ use Rattle.session_words.specs.declared.word.Request.{Request}
 use Rattle.session_words.specs.declared.word.Word.TheVariants as word
 use Rattle.din_message.specs.declared.message.DinMessage.{DinMessage}
 use Rattle.din_message.specs.Documents.{din_tree, IsWithin, PassesBytes}
-use Rattle.din_words.specs.Messages.{IsMessageOf}
-use Rattle.din_words.specs.Spellable.{CanSpell}
+use Rattle.din_word_messages.specs.Messages.{IsMessageOf}
+use Rattle.din_word_messages.specs.Spellable.{CanSpell}
 
 abbrev pub RequestsAreWithin : Type 0
 RequestsAreWithin = (request : Request) (m : DinMessage)

@@ -12,11 +12,11 @@ use Rattle.post_spec.specs.Spelled.{dropped, dropped_tuples}
 use Rattle.din_values.specs.Modes.{offered_of, offered_mode, is_din_mode}
 use Rattle.din_values.specs.Physical.{watts_in, watts_of}
 use Rattle.din_words.specs.ParameterWords.{entry_power, least_of, least_power, tuple_in, schedules_if as schedules_in_if}
-use Rattle.din_words.specs.ParameterMessages.{entry_at, entries_of, schedule_tuple, schedules_if}
+use Rattle.din_word_messages.specs.ParameterMessages.{entry_at, entries_of, schedule_tuple, schedules_if}
 use Rattle.din_words.specs.PowerWords.{profile_in}
-use Rattle.din_words.specs.PowerMessages.{profile_of}
-use Rattle.din_words.specs.SetupMessages.{selected_service, first_mode}
-use Rattle.din_words.specs.Spellable.{AreFewWatts, CanTuple, CanTuples}
+use Rattle.din_word_messages.specs.PowerMessages.{profile_of}
+use Rattle.din_word_messages.specs.SetupMessages.{selected_service, first_mode}
+use Rattle.din_word_messages.specs.Spellable.{AreFewWatts, CanTuple, CanTuples}
 use Rattle.din_word_laws.proofs.Values.{few_back, offered_back}
 
 -- ---- of each element

@@ -34,7 +34,7 @@ use Rattle.din_values.specs.Codes.{is_din_code}
 use Rattle.din_values.specs.Modes.{is_din_mode}
 use Rattle.din_values.specs.States.{is_din_level, is_din_processing}
 use Rattle.word_values.specs.Amounts.{can_write_tenths}
-use Rattle.din_words.specs.Spellable.{IsByte, CanSession, CanEvse, IsNoEvse, CanTuple, CanTuples, CanPostStatus, CanPostLimits, CanTell}
+use Rattle.din_word_messages.specs.Spellable.{IsByte, CanSession, CanEvse, IsNoEvse, CanTuple, CanTuples, CanPostStatus, CanPostLimits, CanTell}
 use Rattle.din_word_laws.specs.Posts.{IsBounded, IsSpoken, SpellsReplies, SpellsWaiting, ArePostBounds, SpellsTyped, SpellsTypedWaiting}
 use Rattle.written_words.specs.Typed.{IsTypedEvse, IsTypedTell}
 use Rattle.written_words.proofs.Numbers.{few_tenths}

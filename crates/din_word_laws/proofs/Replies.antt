@@ -26,10 +26,10 @@ use Rattle.din_values.specs.Codes.{code_of, response_code, is_din_code}
 use Rattle.din_values.specs.Physical.{voltage_in, tenths_of, tenths_if, current_in, power_in, power_if}
 use Rattle.din_values.specs.States.{processing_of, evse_processing}
 use Rattle.din_values.specs.Statuses.{dc_status_of, dc_evse_status}
-use Rattle.din_words.specs.Messages.{reply_element, LendsTell, LendsEvse}
-use Rattle.din_words.specs.ParameterMessages.{evse_parameter, schedules_if}
+use Rattle.din_word_messages.specs.Messages.{reply_element, LendsTell, LendsEvse}
+use Rattle.din_word_messages.specs.ParameterMessages.{evse_parameter, schedules_if}
 use Rattle.din_words.specs.ParameterWords.{post_limits, schedules_if as schedules_in_if}
-use Rattle.din_words.specs.Spellable.{AreTenths, CanTell, CanEvse, CanStatus}
+use Rattle.din_word_messages.specs.Spellable.{AreTenths, CanTell, CanEvse, CanStatus}
 use Rattle.din_words.specs.Words.{element_word}
 use Rattle.word_values.proofs.TextLemmas.{fitting_all}
 use Rattle.word_values.specs.Items.{fitting, bytes_of}

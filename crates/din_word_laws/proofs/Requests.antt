@@ -15,12 +15,12 @@ use Rattle.session_words.specs.declared.word.Ask.{Ask}
 use Rattle.session_words.specs.declared.word.Ask.TheVariants as ask
 use Rattle.din_message.specs.declared.message.BodyElement.{BodyElement}
 use Rattle.din_values.specs.Physical.{voltage_in, tenths_of, power_in, power_if}
-use Rattle.din_words.specs.Messages.{request_element, LendsAsk}
-use Rattle.din_words.specs.ParameterMessages.{ev_parameter}
+use Rattle.din_word_messages.specs.Messages.{request_element, LendsAsk}
+use Rattle.din_word_messages.specs.ParameterMessages.{ev_parameter}
 use Rattle.din_words.specs.ParameterWords.{car_limits}
-use Rattle.din_words.specs.PowerMessages.{delivery_req}
+use Rattle.din_word_messages.specs.PowerMessages.{delivery_req}
 use Rattle.din_words.specs.PowerWords.{delivery_ask}
-use Rattle.din_words.specs.Spellable.{AreTenths, CanAsk, CanProfile, IsDinProgress}
+use Rattle.din_word_messages.specs.Spellable.{AreTenths, CanAsk, CanProfile, IsDinProgress}
 use Rattle.din_words.specs.Words.{element_word, asked}
 use Rattle.word_values.proofs.TextLemmas.{fitting_all}
 use Rattle.word_values.specs.Items.{fitting}

@@ -28,9 +28,9 @@ use Rattle.din_values.specs.Modes.{mode_of, energy_transfer_mode, offered_of, of
 use Rattle.din_values.specs.States.{isolation_of, isolation_level, is_din_level, status_code_of, evse_status_code, notify_of, evse_notification, processing_of, evse_processing, is_din_processing, is_external, payment_option}
 use Rattle.din_values.specs.Physical.{is_volt, is_ampere, is_watt, unit_if, voltage_in, current_in, power_in, watts_in, tenths_of, power_of, watts_of}
 use Rattle.din_values.specs.Statuses.{dc_status_of, dc_evse_status}
-use Rattle.din_words.specs.PowerMessages.{is_start}
+use Rattle.din_word_messages.specs.PowerMessages.{is_start}
 use Rattle.din_words.specs.PowerWords.{progress_of}
-use Rattle.din_words.specs.Spellable.{AreTenths, AreFewWatts, CanStatus, IsDinProgress}
+use Rattle.din_word_messages.specs.Spellable.{AreTenths, AreFewWatts, CanStatus, IsDinProgress}
 use Rattle.written_words.proofs.Numbers.{tenths_back, watts_back as watts_counted_back}
 
 -- ---- physical values

@@ -2,8 +2,3 @@ pub mod SetupWords
 pub mod ParameterWords
 pub mod PowerWords
 pub mod Words
-pub mod SetupMessages
-pub mod ParameterMessages
-pub mod PowerMessages
-pub mod Messages
-pub mod Spellable

@@ -32,8 +32,8 @@ use Rattle.iso_parameters.specs.declared.schedules.SaScheduleList.{SaScheduleLis
 use Rattle.iso_values.specs.Physical.{voltage_of, nominal_of, current_of, power_of}
 use Rattle.iso_values.specs.States.{evse_processing}
 use Rattle.iso_values.specs.Statuses.{ac_evse_status, dc_evse_status}
-use Rattle.iso_words.specs.ParameterMessages.{power_or_none, evse_parameter, entry_at, schedule_tuple, schedules_if, parameters_res}
-use Rattle.iso_words.specs.Spellable.{CanTuple, CanTuples, CanPostLimits}
+use Rattle.iso_word_messages.specs.ParameterMessages.{power_or_none, evse_parameter, entry_at, schedule_tuple, schedules_if, parameters_res}
+use Rattle.iso_word_messages.specs.Spellable.{CanTuple, CanTuples, CanPostLimits}
 use Rattle.written_parts.proofs.Parts.{up_to_takes, at_least_one_takes, each_held, range_held}
 use Rattle.iso_replies.proofs.Simple.{start, duration, tuple_number, response, progress}
 use Rattle.iso_replies.proofs.Values.{HoldsPhysical, voltage_held, nominal_held, current_held, power_held, some_power_held, ac_status_held, dc_status_held}

@@ -27,9 +27,9 @@ use Rattle.iso_power.specs.Charging.{cable_check_res_parts, pre_charge_res_parts
 use Rattle.iso_power.specs.Delivery.{power_delivery_res_parts, charging_status_res_parts}
 use Rattle.iso_values.specs.States.{evse_processing}
 use Rattle.iso_values.specs.Statuses.{evse_status}
-use Rattle.iso_words.specs.Messages.{LendsEvse}
-use Rattle.iso_words.specs.PowerMessages.{cable_check_res, pre_charge_res, delivery_res, demand_res, charging_res, welding_res}
-use Rattle.iso_words.specs.Spellable.{AreTenths, AreWatts, CanEvse}
+use Rattle.iso_word_messages.specs.Messages.{LendsEvse}
+use Rattle.iso_word_messages.specs.PowerMessages.{cable_check_res, pre_charge_res, delivery_res, demand_res, charging_res, welding_res}
+use Rattle.iso_word_messages.specs.Spellable.{AreTenths, AreWatts, CanEvse}
 use Rattle.iso_replies.proofs.Simple.{Has, truth, tuple_number, evse_id, response, progress}
 use Rattle.iso_replies.proofs.Values.{voltage_held, current_held, voltages_fit, currents_fit, powers_fit, ac_status_held, dc_status_held}
 

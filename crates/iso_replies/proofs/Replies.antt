@@ -17,8 +17,8 @@ use Rattle.iso_message.specs.Documents.{IsWithin}
 use Rattle.iso_message.specs.Message.{body_parts}
 use Rattle.iso_message.specs.declared.message.BodyElement.{BodyElement}
 use Rattle.iso_values.specs.Codes.{response_code}
-use Rattle.iso_words.specs.Messages.{LendsTell, LendsSession, reply_element, message_with}
-use Rattle.iso_words.specs.Spellable.{CanSession, CanTell}
+use Rattle.iso_word_messages.specs.Messages.{LendsTell, LendsSession, reply_element, message_with}
+use Rattle.iso_word_messages.specs.Spellable.{CanSession, CanTell}
 use Rattle.iso_replies.specs.Replies.{RepliesAreWithin}
 use Rattle.iso_replies.proofs.Simple.{identifier}
 use Rattle.iso_replies.proofs.Setup.{setup_held, discovery_held, detail_held, selection_held, authorization_held, stop_held}

@@ -24,9 +24,9 @@ use Rattle.iso_setup.specs.Services.{supported_energy_transfer_mode_parts, charg
 use Rattle.iso_setup.specs.Session.{session_setup_res_parts, authorization_res_parts, session_stop_res_parts}
 use Rattle.iso_values.specs.Modes.{offered_mode, is_iso_mode}
 use Rattle.iso_values.specs.States.{evse_processing}
-use Rattle.iso_words.specs.Messages.{LendsEvse}
-use Rattle.iso_words.specs.SetupMessages.{setup_res, charge_service, external_payment, discovery_res, detail_res, authorization_res}
-use Rattle.iso_words.specs.Spellable.{CanEvse, IsService, IsFromTo}
+use Rattle.iso_word_messages.specs.Messages.{LendsEvse}
+use Rattle.iso_word_messages.specs.SetupMessages.{setup_res, charge_service, external_payment, discovery_res, detail_res, authorization_res}
+use Rattle.iso_word_messages.specs.Spellable.{CanEvse, IsService, IsFromTo}
 use Rattle.written_parts.proofs.Parts.{up_to_takes, each_held}
 use Rattle.iso_replies.proofs.Simple.{truth, unsigned_short, evse_id, response, service_category, payment_option, transfer_mode, progress}
 

@@ -34,8 +34,8 @@ use Rattle.iso_parts.specs.declared.enumerations.IsolationLevel.{IsolationLevel}
 use Rattle.iso_parts.specs.declared.enumerations.IsolationLevel.TheVariants as level
 use Rattle.iso_parts.specs.declared.enumerations.EvseStatusCode.{EvseStatusCode}
 use Rattle.iso_parts.specs.declared.enumerations.EvseStatusCode.TheVariants as status
-use Rattle.iso_words.specs.Messages.{LendsEvse, LendsSession}
-use Rattle.iso_words.specs.Spellable.{CanEvse, CanSession, IsTupleNumber}
+use Rattle.iso_word_messages.specs.Messages.{LendsEvse, LendsSession}
+use Rattle.iso_word_messages.specs.Spellable.{CanEvse, CanSession, IsTupleNumber}
 use Rattle.written_parts.proofs.Items.{bytes_fit, text_fits, tuple_fits}
 use Rattle.written_parts.proofs.Numbers.{multiplier_type, value_type}
 

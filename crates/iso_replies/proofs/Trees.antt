@@ -15,7 +15,7 @@ use Rattle.iso_schema.specs.declared.names.TheConstants.{V2G_MESSAGE, HEADER, BO
 use Rattle.iso_message.specs.Documents.{iso_tree}
 use Rattle.iso_message.specs.Message.{body_parts}
 use Rattle.iso_message.specs.declared.message.BodyElement.{BodyElement}
-use Rattle.iso_words.specs.Messages.{LendsEvse, LendsIf, LendsTell, reply_element, message_with}
+use Rattle.iso_word_messages.specs.Messages.{LendsEvse, LendsIf, LendsTell, reply_element, message_with}
 use Rattle.iso_replies.specs.Replies.{RepliesHaveOneTree}
 
 -- ---- an identifier is lent as the same code points

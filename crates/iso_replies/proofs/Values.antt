@@ -21,8 +21,8 @@ use Rattle.iso_parts.specs.declared.values.PhysicalValue.{PhysicalValue}
 use Rattle.iso_values.specs.Physical.{voltage_of, voltage_if, nominal_of, current_of, current_if, power_of, power_if}
 use Rattle.iso_values.specs.States.{isolation_level}
 use Rattle.iso_values.specs.Statuses.{ac_evse_status, dc_evse_status}
-use Rattle.iso_words.specs.ParameterMessages.{power_or_none}
-use Rattle.iso_words.specs.Spellable.{AreTenths, AreWatts, IsSomeWatts}
+use Rattle.iso_word_messages.specs.ParameterMessages.{power_or_none}
+use Rattle.iso_word_messages.specs.Spellable.{AreTenths, AreWatts, IsSomeWatts}
 use Rattle.written_parts.proofs.Numbers.{IsPhysical, tenths_fit, volts_fit, watts_fit}
 use Rattle.written_parts.proofs.Parts.{perhaps_held}
 use Rattle.iso_replies.proofs.Simple.{truth, multiplier, short, unsigned_short, unit_symbol, notified, isolation, status_code}

@@ -4,8 +4,8 @@ use Rattle.session_words.specs.declared.word.Reply.{Reply}
 use Rattle.session_words.specs.declared.word.Word.TheVariants as word
 use Rattle.iso_message.specs.declared.message.IsoMessage.{IsoMessage}
 use Rattle.iso_message.specs.Documents.{iso_tree, IsWithin}
-use Rattle.iso_words.specs.Messages.{IsMessageOf}
-use Rattle.iso_words.specs.Spellable.{CanSpell}
+use Rattle.iso_word_messages.specs.Messages.{IsMessageOf}
+use Rattle.iso_word_messages.specs.Spellable.{CanSpell}
 
 abbrev pub RepliesAreWithin : Type 0
 RepliesAreWithin = (reply : Reply) (m : IsoMessage) → CanSpell (word.Reply reply) → IsMessageOf (word.Reply reply) m → IsWithin m

@@ -17,7 +17,7 @@ use Rattle.iso_parameters.specs.Limits.{evse_charge_parameter_inside}
 use Rattle.iso_parameters.specs.Schedules.{p_max_schedule_entry_parts, p_max_schedule_parts, sa_schedule_tuple_parts, sa_schedule_list_parts, sa_schedules_name, sa_schedules_inside}
 use Rattle.iso_parameters.specs.declared.schedules.SaScheduleList.{SaScheduleList}
 use Rattle.iso_values.specs.Physical.{power_of}
-use Rattle.iso_words.specs.ParameterMessages.{evse_parameter, entry_at, schedule_tuple, schedules_if, parameters_res}
+use Rattle.iso_word_messages.specs.ParameterMessages.{evse_parameter, entry_at, schedule_tuple, schedules_if, parameters_res}
 use Rattle.written_sizes.proofs.Parts.{three_light}
 use Rattle.iso_reply_sizes.proofs.Values.{ac_status_weight, dc_status_light}
 

@@ -14,9 +14,9 @@ use Rattle.session_words.specs.declared.limits.PostStatus.TheVariants as post
 use Rattle.iso_parts.specs.declared.codes.ResponseCode.{ResponseCode}
 use Rattle.iso_power.specs.Charging.{cable_check_res_parts, pre_charge_res_parts, current_demand_res_parts, welding_detection_res_parts}
 use Rattle.iso_power.specs.Delivery.{power_delivery_res_parts, charging_status_res_parts}
-use Rattle.iso_words.specs.Messages.{LendsEvse}
-use Rattle.iso_words.specs.PowerMessages.{cable_check_res, pre_charge_res, delivery_res, demand_res, charging_res, welding_res}
-use Rattle.iso_words.specs.Spellable.{CanEvse}
+use Rattle.iso_word_messages.specs.Messages.{LendsEvse}
+use Rattle.iso_word_messages.specs.PowerMessages.{cable_check_res, pre_charge_res, delivery_res, demand_res, charging_res, welding_res}
+use Rattle.iso_word_messages.specs.Spellable.{CanEvse}
 use Rattle.iso_reply_sizes.proofs.Values.{voltages_light, currents_light, powers_light, ac_status_weight, dc_status_light, evse_few}
 
 pub delivery_light : (code : ResponseCode) (s : PostStatus) → inside_weight 6 (holding (power_delivery_res_parts (delivery_res code s))) ≤ 163

@@ -22,8 +22,8 @@ use Rattle.iso_message.specs.Message.{body_element_inside, body_parts, iso_messa
 use Rattle.iso_message.specs.declared.message.BodyElement.{BodyElement}
 use Rattle.iso_message.specs.declared.message.IsoMessage.{IsoMessage}
 use Rattle.iso_values.specs.Codes.{response_code}
-use Rattle.iso_words.specs.Messages.{LendsTell, LendsSession, reply_element, message_with, IsMessageOf}
-use Rattle.iso_words.specs.Spellable.{CanSession, CanTuple, CanTuples, CanTell, CanSpell}
+use Rattle.iso_word_messages.specs.Messages.{LendsTell, LendsSession, reply_element, message_with, IsMessageOf}
+use Rattle.iso_word_messages.specs.Spellable.{CanSession, CanTuple, CanTuples, CanTell, CanSpell}
 use Rattle.written_sizes.specs.Entries.{HasEntries}
 use Rattle.iso_reply_sizes.specs.Sizes.{BriefRepliesAreSmall, RepliesAreSmall}
 use Rattle.iso_reply_sizes.proofs.Values.{session_few}

@@ -15,9 +15,9 @@ use Rattle.iso_setup.specs.Selection.{payment_service_selection_res_parts}
 use Rattle.iso_setup.specs.Services.{supported_energy_transfer_mode_parts, charge_service_parts, service_discovery_res_parts}
 use Rattle.iso_setup.specs.Session.{session_setup_res_parts, authorization_res_parts, session_stop_res_parts}
 use Rattle.iso_values.specs.Modes.{offered_mode}
-use Rattle.iso_words.specs.Messages.{LendsEvse}
-use Rattle.iso_words.specs.SetupMessages.{setup_res, charge_service, discovery_res, detail_res, authorization_res}
-use Rattle.iso_words.specs.Spellable.{CanEvse}
+use Rattle.iso_word_messages.specs.Messages.{LendsEvse}
+use Rattle.iso_word_messages.specs.SetupMessages.{setup_res, charge_service, discovery_res, detail_res, authorization_res}
+use Rattle.iso_word_messages.specs.Spellable.{CanEvse}
 use Rattle.written_sizes.proofs.Parts.{names_light}
 use Rattle.iso_reply_sizes.proofs.Values.{evse_few}
 

@@ -22,8 +22,8 @@ use Rattle.iso_parts.specs.declared.values.PhysicalValue.{PhysicalValue}
 use Rattle.iso_values.specs.Physical.{voltage_of, voltage_if, current_of, current_if, power_of, power_if}
 use Rattle.iso_values.specs.States.{isolation_level}
 use Rattle.iso_values.specs.Statuses.{ac_evse_status, dc_evse_status}
-use Rattle.iso_words.specs.Messages.{LendsEvse, LendsSession}
-use Rattle.iso_words.specs.Spellable.{CanEvse, CanSession}
+use Rattle.iso_word_messages.specs.Messages.{LendsEvse, LendsSession}
+use Rattle.iso_word_messages.specs.Spellable.{CanEvse, CanSession}
 use Rattle.written_parts.proofs.Items.{text_fits}
 use Rattle.written_sizes.proofs.Parts.{perhaps_light}
 

@@ -21,8 +21,8 @@ use Rattle.iso_parameters.specs.declared.limits.EvChargeParameter.{EvChargeParam
 use Rattle.iso_values.specs.Modes.{energy_transfer_mode}
 use Rattle.iso_values.specs.Physical.{voltage_of, current_of, power_if}
 use Rattle.iso_values.specs.Statuses.{dc_ev_status}
-use Rattle.iso_words.specs.ParameterMessages.{no_energy, ev_parameter, parameters_req}
-use Rattle.iso_words.specs.Spellable.{CanCarLimits}
+use Rattle.iso_word_messages.specs.ParameterMessages.{no_energy, ev_parameter, parameters_req}
+use Rattle.iso_word_messages.specs.Spellable.{CanCarLimits}
 use Rattle.written_parts.proofs.Numbers.{none_fits}
 use Rattle.iso_replies.proofs.Simple.{transfer_mode}
 use Rattle.iso_replies.proofs.Values.{physical_held, voltage_held, current_held, powers_fit}

@@ -15,8 +15,8 @@ use Rattle.iso_schema.specs.declared.kinds.TheConstants.{BOOLEAN_KIND, UNSIGNED_
 use Rattle.iso_power.specs.Charging.{cable_check_req_parts, pre_charge_req_parts, current_demand_req_parts, welding_detection_req_parts}
 use Rattle.iso_power.specs.Delivery.{profile_entry_parts, charging_profile_parts, power_delivery_req_parts}
 use Rattle.iso_values.specs.States.{charge_progress as progress}
-use Rattle.iso_words.specs.PowerMessages.{cable_check_req, pre_charge_req, profile_entry, profile_of, profile_if, delivery_req, demand_req, welding_req}
-use Rattle.iso_words.specs.Spellable.{AreTenths, AreWatts, IsCharge, IsSomeTuple}
+use Rattle.iso_word_messages.specs.PowerMessages.{cable_check_req, pre_charge_req, profile_entry, profile_of, profile_if, delivery_req, demand_req, welding_req}
+use Rattle.iso_word_messages.specs.Spellable.{AreTenths, AreWatts, IsCharge, IsSomeTuple}
 use Rattle.written_parts.proofs.Parts.{perhaps_held}
 use Rattle.iso_replies.proofs.Simple.{truth, tuple_number}
 use Rattle.iso_replies.proofs.Values.{voltage_held, current_held, power_held}

@@ -5,8 +5,8 @@ use Rattle.session_words.specs.declared.word.Ask.{Ask}
 use Rattle.session_words.specs.declared.word.Ask.TheVariants as ask
 use Rattle.iso_schema.specs.declared.kinds.TheConstants.{EMPTY_KIND, SESSION_SETUP_REQ_KIND, SERVICE_DISCOVERY_REQ_KIND, SERVICE_DETAIL_REQ_KIND, PAYMENT_SERVICE_SELECTION_REQ_KIND, AUTHORIZATION_REQ_KIND, SESSION_STOP_REQ_KIND, CHARGE_PARAMETER_DISCOVERY_REQ_KIND, POWER_DELIVERY_REQ_KIND, CABLE_CHECK_REQ_KIND, PRE_CHARGE_REQ_KIND, CURRENT_DEMAND_REQ_KIND, WELDING_DETECTION_REQ_KIND}
 use Rattle.iso_message.specs.Documents.{IsWithin}
-use Rattle.iso_words.specs.Messages.{LendsAsk, request_element}
-use Rattle.iso_words.specs.Spellable.{CanAsk}
+use Rattle.iso_word_messages.specs.Messages.{LendsAsk, request_element}
+use Rattle.iso_word_messages.specs.Spellable.{CanAsk}
 use Rattle.iso_replies.proofs.Replies.{FitsBody, message_fits}
 use Rattle.iso_requests.specs.Requests.{RequestsAreWithin}
 use Rattle.iso_requests.proofs.Setup.{setup_held, discovery_held, detail_held, selection_held, authorization_held, stop_held}

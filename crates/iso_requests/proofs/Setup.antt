@@ -17,8 +17,8 @@ use Rattle.iso_setup.specs.Services.{service_discovery_req_parts}
 use Rattle.iso_setup.specs.Session.{session_setup_req_parts, authorization_req_attributes, authorization_req_given, authorization_req_parts, session_stop_req_parts}
 use Rattle.iso_setup.specs.declared.selection.SelectedServiceList.{SelectedServiceList}
 use Rattle.iso_values.specs.States.{payment_option as payment, charging_session as session}
-use Rattle.iso_words.specs.SetupMessages.{setup_req, discovery_req, detail_req, selected_service, selection_req, authorization_req, stop_req}
-use Rattle.iso_words.specs.Spellable.{IsByte, IsService, IsFromTo}
+use Rattle.iso_word_messages.specs.SetupMessages.{setup_req, discovery_req, detail_req, selected_service, selection_req, authorization_req, stop_req}
+use Rattle.iso_word_messages.specs.Spellable.{IsByte, IsService, IsFromTo}
 use Rattle.written_parts.proofs.Parts.{up_to_takes, each_held}
 use Rattle.iso_replies.proofs.Simple.{unsigned_short, payment_option}
 use Rattle.iso_requests.proofs.Values.{evcc_id, charging_session}

@@ -22,11 +22,11 @@ use Rattle.iso_parameters.specs.Limits.{dc_ev_charge_parameter_parts, ev_charge_
 use Rattle.iso_power.specs.Delivery.{charging_profile_parts, power_delivery_req_parts}
 use Rattle.iso_message.specs.Documents.{iso_tree, iso_number}
 use Rattle.iso_message.specs.declared.message.IsoMessage.{IsoMessage}
-use Rattle.iso_words.specs.Messages.{LendsAsk, request_element}
-use Rattle.iso_words.specs.ParameterMessages.{ev_parameter, parameters_req}
-use Rattle.iso_words.specs.PowerMessages.{profile_of, profile_if, delivery_req}
-use Rattle.iso_words.specs.SetupMessages.{selected_service, selection_req}
-use Rattle.iso_words.specs.Spellable.{CanAsk}
+use Rattle.iso_word_messages.specs.Messages.{LendsAsk, request_element}
+use Rattle.iso_word_messages.specs.ParameterMessages.{ev_parameter, parameters_req}
+use Rattle.iso_word_messages.specs.PowerMessages.{profile_of, profile_if, delivery_req}
+use Rattle.iso_word_messages.specs.SetupMessages.{selected_service, selection_req}
+use Rattle.iso_word_messages.specs.Spellable.{CanAsk}
 use Rattle.written_sizes.proofs.Parts.{perhaps_light}
 use Rattle.iso_reply_sizes.proofs.Values.{powers_light}
 use Rattle.iso_reply_sizes.proofs.Replies.{IsLight, weight_of, message_light}

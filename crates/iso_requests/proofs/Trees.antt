@@ -4,7 +4,7 @@ use Rattle.message_parts.specs.declared.texts.Binary.{Binary}
 use Rattle.session_words.specs.declared.word.Ask.{Ask}
 use Rattle.session_words.specs.declared.word.Ask.TheVariants as ask
 use Rattle.iso_message.specs.Documents.{iso_tree}
-use Rattle.iso_words.specs.Messages.{LendsAsk, request_element}
+use Rattle.iso_word_messages.specs.Messages.{LendsAsk, request_element}
 use Rattle.iso_replies.proofs.Trees.{inside, tree_of}
 use Rattle.iso_requests.specs.Requests.{RequestsHaveOneTree}
 

@@ -18,7 +18,7 @@ use Rattle.iso_parts.specs.declared.codes.ChargeProgress.TheVariants as progress
 use Rattle.iso_parts.specs.declared.codes.ChargingSession.{ChargingSession}
 use Rattle.iso_parts.specs.declared.codes.ChargingSession.TheVariants as session
 use Rattle.iso_values.specs.Statuses.{dc_ev_status}
-use Rattle.iso_words.specs.Spellable.{IsByte, IsCharge}
+use Rattle.iso_word_messages.specs.Spellable.{IsByte, IsCharge}
 use Rattle.written_parts.proofs.Items.{bytes_fit}
 use Rattle.iso_replies.proofs.Simple.{Has, truth}
 

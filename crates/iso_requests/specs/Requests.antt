@@ -4,8 +4,8 @@ use Rattle.session_words.specs.declared.word.Request.{Request}
 use Rattle.session_words.specs.declared.word.Word.TheVariants as word
 use Rattle.iso_message.specs.declared.message.IsoMessage.{IsoMessage}
 use Rattle.iso_message.specs.Documents.{iso_tree, IsWithin, PassesBytes}
-use Rattle.iso_words.specs.Messages.{IsMessageOf}
-use Rattle.iso_words.specs.Spellable.{CanSpell}
+use Rattle.iso_word_messages.specs.Messages.{IsMessageOf}
+use Rattle.iso_word_messages.specs.Spellable.{CanSpell}
 
 abbrev pub RequestsAreWithin : Type 0
 RequestsAreWithin = (request : Request) (m : IsoMessage)

@@ -20,11 +20,11 @@ use Rattle.post_spec.specs.Spelled.{dropped, dropped_tuples}
 use Rattle.iso_values.specs.Modes.{offered_of, offered_mode, is_iso_mode}
 use Rattle.iso_values.specs.Physical.{power_in, power_of}
 use Rattle.iso_words.specs.ParameterWords.{entry_power, least_of, least_power, tuple_in, schedules_in, schedules_if as schedules_in_if}
-use Rattle.iso_words.specs.ParameterMessages.{entry_at, entries_of, schedule_tuple, schedules_of, schedules_if}
+use Rattle.iso_word_messages.specs.ParameterMessages.{entry_at, entries_of, schedule_tuple, schedules_of, schedules_if}
 use Rattle.iso_words.specs.PowerWords.{profile_in, profile_if as profile_in_if}
-use Rattle.iso_words.specs.PowerMessages.{profile_of, profile_if}
-use Rattle.iso_words.specs.SetupMessages.{selected_service}
-use Rattle.iso_words.specs.Spellable.{AreWatts, IsTupleNumber, CanTuple, CanTuples}
+use Rattle.iso_word_messages.specs.PowerMessages.{profile_of, profile_if}
+use Rattle.iso_word_messages.specs.SetupMessages.{selected_service}
+use Rattle.iso_word_messages.specs.Spellable.{AreWatts, IsTupleNumber, CanTuple, CanTuples}
 use Rattle.word_values.proofs.TextLemmas.{fitting_all}
 use Rattle.word_values.specs.Items.{fitting, evse_bytes}
 use Rattle.iso_word_laws.proofs.Values.{power_back, offered_back}

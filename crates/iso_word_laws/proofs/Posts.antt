@@ -29,7 +29,7 @@ use Rattle.session_rules.proofs.VerdictLemmas.{answers_in_dialect}
 use Rattle.iso_values.specs.Codes.{is_iso_code}
 use Rattle.iso_values.specs.Modes.{is_iso_mode}
 use Rattle.word_values.specs.Amounts.{can_write_tenths}
-use Rattle.iso_words.specs.Spellable.{CanSession, CanEvse, IsSomeEvse, CanTuple, CanTuples, CanPostLimits, CanTell}
+use Rattle.iso_word_messages.specs.Spellable.{CanSession, CanEvse, IsSomeEvse, CanTuple, CanTuples, CanPostLimits, CanTell}
 use Rattle.iso_word_laws.specs.Posts.{IsBounded, IsServiceOf, SpellsReplies, SpellsWaiting, ArePostBounds, SpellsTyped, SpellsTypedWaiting}
 use Rattle.written_words.specs.Typed.{IsTypedTell}
 use Rattle.written_words.proofs.Numbers.{few_tenths}

@@ -27,12 +27,12 @@ use Rattle.iso_values.specs.Codes.{code_of, response_code, is_iso_code}
 use Rattle.iso_values.specs.Physical.{voltage_in, voltage_of, voltage_if, nominal_of, current_in, current_of, current_if, power_in, power_of, power_if}
 use Rattle.iso_values.specs.States.{notify_of, evse_notification, processing_of, evse_processing}
 use Rattle.iso_values.specs.Statuses.{dc_status_of, dc_evse_status}
-use Rattle.iso_words.specs.Messages.{reply_element, LendsTell, LendsEvse}
-use Rattle.iso_words.specs.ParameterMessages.{evse_parameter, schedules_if, parameters_res}
+use Rattle.iso_word_messages.specs.Messages.{reply_element, LendsTell, LendsEvse}
+use Rattle.iso_word_messages.specs.ParameterMessages.{evse_parameter, schedules_if, parameters_res}
 use Rattle.iso_words.specs.ParameterWords.{post_limits, parameters_tell, schedules_if as schedules_in_if}
-use Rattle.iso_words.specs.PowerMessages.{demand_res}
+use Rattle.iso_word_messages.specs.PowerMessages.{demand_res}
 use Rattle.iso_words.specs.PowerWords.{demand_tell}
-use Rattle.iso_words.specs.Spellable.{CanTell, CanPostLimits, CanEvse}
+use Rattle.iso_word_messages.specs.Spellable.{CanTell, CanPostLimits, CanEvse}
 use Rattle.iso_words.specs.Words.{element_word}
 use Rattle.word_values.specs.Items.{evse_bytes, evse_text_of}
 use Rattle.iso_word_laws.proofs.Lists.{evse_back, modes_back, schedules_back}

@@ -16,12 +16,12 @@ use Rattle.session_words.specs.declared.word.Ask.{Ask}
 use Rattle.session_words.specs.declared.word.Ask.TheVariants as ask
 use Rattle.iso_values.specs.Physical.{voltage_in, voltage_of, current_in, current_of, power_in, power_if}
 use Rattle.iso_values.specs.States.{is_external, payment_option, progress_of, charge_progress}
-use Rattle.iso_words.specs.Messages.{request_element, LendsAsk}
-use Rattle.iso_words.specs.ParameterMessages.{ev_parameter}
+use Rattle.iso_word_messages.specs.Messages.{request_element, LendsAsk}
+use Rattle.iso_word_messages.specs.ParameterMessages.{ev_parameter}
 use Rattle.iso_words.specs.ParameterWords.{car_limits}
-use Rattle.iso_words.specs.PowerMessages.{delivery_req, profile_if}
+use Rattle.iso_word_messages.specs.PowerMessages.{delivery_req, profile_if}
 use Rattle.iso_words.specs.PowerWords.{delivery_ask, profile_if as profile_in_if}
-use Rattle.iso_words.specs.Spellable.{CanAsk, CanCarLimits, IsSomeTuple}
+use Rattle.iso_word_messages.specs.Spellable.{CanAsk, CanCarLimits, IsSomeTuple}
 use Rattle.iso_words.specs.Words.{element_word, asked}
 use Rattle.word_values.proofs.TextLemmas.{fitting_all}
 use Rattle.word_values.specs.Items.{fitting}

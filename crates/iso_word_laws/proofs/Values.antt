@@ -30,7 +30,7 @@ use Rattle.iso_values.specs.Modes.{mode_of, energy_transfer_mode, offered_of, of
 use Rattle.iso_values.specs.States.{isolation_of, isolation_level, status_code_of, evse_status_code, notify_of, evse_notification, processing_of, evse_processing, progress_of, charge_progress, is_external, payment_option, is_pause, charging_session}
 use Rattle.iso_values.specs.Physical.{is_volt, is_ampere, is_watt, unit_if, voltage_in, current_in, power_in, voltage_of, nominal_of, current_of, power_of}
 use Rattle.iso_values.specs.Statuses.{dc_status_of, dc_evse_status, post_status_of, evse_status}
-use Rattle.iso_words.specs.Spellable.{AreTenths, AreWatts}
+use Rattle.iso_word_messages.specs.Spellable.{AreTenths, AreWatts}
 use Rattle.written_words.proofs.Numbers.{tenths_back, volts_back, watts_back}
 
 -- ---- physical values

@@ -7,8 +7,8 @@ use Rattle.session_words.specs.declared.session.SessionId.{SessionId}
 use Rattle.session_words.specs.declared.word.Word.{Word}
 use Rattle.session_words.specs.declared.word.Word.TheVariants as word
 use Rattle.iso_message.specs.declared.message.BodyElement.{BodyElement}
-use Rattle.iso_words.specs.Messages.{LendsSession, message_with}
-use Rattle.iso_words.specs.Spellable.{CanSession}
+use Rattle.iso_word_messages.specs.Messages.{LendsSession, message_with}
+use Rattle.iso_word_messages.specs.Spellable.{CanSession}
 use Rattle.iso_words.specs.Words.{word_of, element_word}
 use Rattle.word_values.proofs.TextLemmas.{fitting_all}
 use Rattle.word_values.specs.Items.{fitting}

@@ -11,7 +11,7 @@ use Rattle.session_words.specs.declared.word.Word.TheVariants as word
 use Rattle.session_rules.specs.declared.stage.Stage.{Stage}
 use Rattle.session_rules.specs.Reply.{reply_to, waiting_reply}
 use Rattle.written_words.specs.Typed.{IsTyped}
-use Rattle.iso_words.specs.Spellable.{IsService, CanSession, CanSpell}
+use Rattle.iso_word_messages.specs.Spellable.{IsService, CanSession, CanSpell}
 
 -- what tenths of a plan and of facts are
 abbrev pub IsTenths : ℕ → Type 0

@@ -5,7 +5,7 @@ ghost use Rattle.din_values.specs.Codes as codes;
 ghost use Rattle.din_values.specs.Modes as modes;
 ghost use Rattle.din_values.specs.States as states;
 ghost use Rattle.session_words.specs.declared.word.Word.TheVariants as word;
-ghost use Rattle.din_words.specs.Spellable as spellable;
+ghost use Rattle.din_word_messages.specs.Spellable as spellable;
 
 use crate::amounts::{are_tenths, may_be_tenths, may_be_watts};
 use crate::typed::{law_of_bytes, law_of_sessions};

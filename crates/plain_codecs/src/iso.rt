@@ -4,7 +4,7 @@ ghost use Rattle.std.specs.Prelude.{◌≡◌, ◌≤◌, ◌<◌, ◌↔◌, Al
 ghost use Rattle.iso_values.specs.Codes as codes;
 ghost use Rattle.iso_values.specs.Modes as modes;
 ghost use Rattle.session_words.specs.declared.word.Word.TheVariants as word;
-ghost use Rattle.iso_words.specs.Spellable as spellable;
+ghost use Rattle.iso_word_messages.specs.Spellable as spellable;
 
 use crate::amounts::{are_tenths, are_watts, may_be_tenths, may_be_watts};
 use crate::typed::law_of_sessions;

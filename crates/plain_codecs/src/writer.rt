@@ -4,8 +4,8 @@ ghost use Rattle.std.specs.Prelude.{◌≡◌, IfOk};
 ghost use Rattle.document_laws.specs.Laws.{AreBytes};
 ghost use Rattle.exi_documents.specs.Values.{most_entries};
 ghost use Rattle.session_words.specs.declared.word.Word.TheVariants as words;
-ghost use Rattle.iso_words.specs.Spellable as iso_spellable;
-ghost use Rattle.din_words.specs.Spellable as din_spellable;
+ghost use Rattle.iso_word_messages.specs.Spellable as iso_spellable;
+ghost use Rattle.din_word_messages.specs.Spellable as din_spellable;
 ghost use Rattle.codec_rules.specs.Iso as iso_rules;
 ghost use Rattle.codec_rules.specs.Din as din_rules;
 ghost use Rattle.codec_rules.specs.Codecs.{Encodes};
@@ -50,7 +50,12 @@ fn iso_written(
     iso_codec::laws::messages_are_written();
     iso_replies::replies_are_within();
     let mut room = [0u8; ROOM];
-    match write_iso(tables, &iso_words::of_reply(reply), &mut room, table) {
+    match write_iso(
+        tables,
+        &iso_word_messages::of_reply(reply),
+        &mut room,
+        table,
+    ) {
         Ok(n) => copied(alloc, &room[..n as usize]),
         Err(_) => Err(NoMemory),
     }
@@ -71,7 +76,12 @@ fn din_written(
     din_codec::laws::messages_are_written();
     din_replies::replies_are_within();
     let mut room = [0u8; ROOM];
-    match write_din(tables, &din_words::of_reply(reply), &mut room, table) {
+    match write_din(
+        tables,
+        &din_word_messages::of_reply(reply),
+        &mut room,
+        table,
+    ) {
         Ok(n) => copied(alloc, &room[..n as usize]),
         Err(_) => Err(NoMemory),
     }

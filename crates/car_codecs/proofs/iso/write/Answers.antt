@@ -2,8 +2,8 @@ use Rattle.std.proofs.Common.{ℕ, rules, arith, sym, subst}
 use Rattle.session_words.specs.declared.word.Word.{Word}
 use Rattle.session_words.specs.declared.word.Word.TheVariants as word
 use Rattle.iso_message.specs.Documents.{PassesBytes}
-use Rattle.iso_words.specs.Messages.{IsMessageOf}
-use Rattle.iso_words.specs.Spellable.{CanSpell}
+use Rattle.iso_word_messages.specs.Messages.{IsMessageOf}
+use Rattle.iso_word_messages.specs.Spellable.{CanSpell}
 use Rattle.car_codecs.proofs.Bytes.{front_bytes}
 use Rattle.car_codecs.proofs.Results.{is_ok}
 use Rattle.car_codecs.proofs.iso.write.Goals as goal

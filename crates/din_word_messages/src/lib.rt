@@ -1,0 +1,10 @@
+//! Neutral words as messages of DIN SPEC 70121:2014: `of_word` and `of_reply` give the message of a word that the declarations can spell, with the
+//! elements that a word doesn't keep.
+#![tactic(auto)]
+
+mod messages;
+mod parameter_messages;
+mod power_messages;
+mod setup_messages;
+
+pub use messages::{of_reply, of_word};
