@@ -104,6 +104,7 @@ fn a_schedule_has_128_entries(rt: HostRuntime) -> Result<(), Fail> {
     let tables = IsoTables::make(rt.alloc())?;
     let mut table = Table::make(rt.alloc(), MOST_ENTRIES)?;
     let payload = full(rt.alloc())?;
+    assert!(rt; payload.bytes().len() == 2137);
     let found = lasts(payload.bytes(), &tables, &mut table);
     assert_eq!(rt; found.len(), 3);
     for (last, id) in found.as_slice().iter().zip(&[1, 2, 3]) {
