@@ -93,12 +93,18 @@ def tuple_of(words):
     return words[0] if len(words) == 1 else f"({', '.join(words)})"
 
 
-def holder(attributes, children):
-    """What holds the children, with the attribute if there is one: at most one. Without one they stand in it one by one."""
+def holder(attributes, count):
+    """What holds so many parts, with the attribute if there is one: at most one."""
     if attributes:
-        return "WithOptionalAttribute" if attributes[0].optional else "WithAttribute", [tuple_of(children)]
-    groups = [tuple_of(it) for it in in_groups(children)] if len(children) > 4 else children
-    return "Elements" + (str(len(groups)) if len(groups) > 1 else ""), groups
+        return "WithOptionalAttribute" if attributes[0].optional else "WithAttribute"
+    return "Elements" + (str(count) if count > 1 else "")
+
+
+def held(attributes, words):
+    """What stands in the holder: behind an attribute one tuple, else these one by one, or tuples of them where there are more than four."""
+    if attributes:
+        return [tuple_of(words)]
+    return [tuple_of(it) for it in in_groups(words)] if len(words) > 4 else words
 
 
 def made_of(t, kind):
@@ -110,11 +116,11 @@ def made_of(t, kind):
         return f"Three<{', '.join(it.one for it in fields)}>", f"        {name} {{ {parts} }}\n"
     attributes, children = [it for it in fields if it.form == "attribute"], [it for it in fields if it.form != "attribute"]
     child = lambda it: "LeftOut" if it.form == "out" else f"{it.single()}({it.field})"
-    held, types = holder(attributes, [it.child() for it in children])
-    _, parts = holder(attributes, [child(it) for it in children])
-    types, parts = [*(it.one for it in attributes), *types], [*(it.field for it in attributes), *parts]
-    taken = f"        let {held}({', '.join(parts)}) = made;\n"
-    return f"{held}<{', '.join(types)}>", f"{taken}        {name} {{ {', '.join(kept)} }}\n"
+    types = [*(it.one for it in attributes), *held(attributes, [it.child() for it in children])]
+    parts = [*(it.field for it in attributes), *held(attributes, [child(it) for it in children])]
+    word = holder(attributes, len(types))
+    taken = f"        let {word}({', '.join(parts)}) = made;\n"
+    return f"{word}<{', '.join(types)}>", f"{taken}        {name} {{ {', '.join(kept)} }}\n"
 
 
 def record(t, kind, lent):
@@ -159,8 +165,7 @@ def struct(t, crate, file, kind):
     body = f" {{\n{members}}}" if kept else ";"
     attributes = any(it.form == "attribute" for it in kept)
     puts = "".join(f"        {put(it)}\n" for it in kept)
-    words = ([f"{low}_given"] if attributes else []) + ([f"{low}_parts"] if kept else [])
-    words += [f"{low}_attributes"] if attributes else []
+    words = [f"{low}_given"] * attributes + [f"{low}_parts"] * bool(kept) + [f"{low}_attributes"] * attributes
     uses = f"    ghost use Rattle.{crate}.specs.{file.capitalize()}.{{{', '.join(words)}}};\n" if words else ""
     particles = f"    ghost use Rattle.{t.s.crate}.specs.{t.section(kind)}.{{{t.declared(kind)}}};\n" if kept else ""
     writer = "writer" if puts else "_writer"
