@@ -1,12 +1,11 @@
 //! Schedules of as many entries as are accepted, and of one more.
 
 ghost use Rattle.std.specs.Prelude.{◌≡◌, ◌≤◌, length};
-ghost use Rattle.exi_documents.specs.Values.{most_entries};
 
-use arrayvec::ArrayVec;
+use crate::refusals::refusal_of;
 use exi_documents::MOST_ENTRIES;
 use iso_codec::{BodyElement, IsoMessage, IsoTables, Refusal, RefusalCause, Table, read_iso};
-use iso_parameters::{SaSchedules, TimeInterval};
+use iso_parameters::{PMaxSchedule, SaSchedules, TimeInterval};
 use message_trees::{MessageDialect, Piece, scan_text};
 use std::alloc::Global;
 use std::test::*;
@@ -53,41 +52,42 @@ fn response(alloc: Global, entries: u32) -> Result<String, Fail> {
     Ok(text)
 }
 
-/// The schedules of a message, each with how many entries it has and the start and power of the last.
-fn lasts(
-    payload: &[u8],
-    tables: &IsoTables,
-    table: &mut Table,
-) -> ArrayVec<(u8, usize, u32, i16), 3>
-    requires payload { length payload.now ≤ 65536 }
-    requires cap { table.old.cap ≡ most_entries }
-    ensures { table.new.cap ≡ most_entries }
-{
-    let mut found = ArrayVec::new();
-    let mut message = IsoMessage::default();
-    if read_iso(tables, payload, table, &mut message).is_err() {
-        return found;
-    }
+/// Whether a schedule has 128 entries, the last of which starts at 127 with a power of 127.
+fn is_full(schedule: &PMaxSchedule) -> bool {
+    let entries = schedule.p_max_schedule_entry.as_slice();
+    let Some(last) = entries.last() else {
+        return false;
+    };
+    let TimeInterval::Relative(interval) = last.time_interval;
+    entries.len() == 128 && interval.start == 127 && last.p_max.value == 127
+}
+
+/// Whether a message has three such schedules, numbered from 1.
+fn holds_full_schedules(message: &IsoMessage<'_>) -> bool {
     let Some(BodyElement::ChargeParameterDiscoveryRes(response)) = &message.body.element else {
-        return found;
+        return false;
     };
     let Some(SaSchedules::SaScheduleList(schedules)) = &response.sa_schedules else {
-        return found;
+        return false;
     };
-    for tuple in schedules.sa_schedule_tuple.as_slice() {
-        let entries = tuple.p_max_schedule.p_max_schedule_entry.as_slice();
-        let Some(last) = entries.last() else {
-            break;
-        };
-        let TimeInterval::Relative(interval) = last.time_interval;
-        let _full = found.try_push((
-            tuple.sa_schedule_tuple_id,
-            entries.len(),
-            interval.start,
-            last.p_max.value,
-        ));
+    let tuples = schedules.sa_schedule_tuple.as_slice();
+    for (tuple, id) in tuples.iter().zip(&[1, 2, 3]) {
+        if tuple.sa_schedule_tuple_id != *id || !is_full(&tuple.p_max_schedule) {
+            return false;
+        }
     }
-    found
+    tuples.len() == 3
+}
+
+/// Whether a payload spells such a message.
+fn spells_full_schedules(alloc: Global, payload: &[u8]) -> Result<bool, Fail>
+    requires { length payload.now ≤ 65536 }
+{
+    let tables = IsoTables::make(alloc)?;
+    let mut table = Table::make(alloc, MOST_ENTRIES)?;
+    let mut message = IsoMessage::default();
+    let read = read_iso(&tables, payload, &mut table, &mut message);
+    Ok(read.is_ok() && holds_full_schedules(&message))
 }
 
 /// The payload of a response with three schedules of 128 entries.
@@ -101,15 +101,9 @@ fn full(alloc: Global) -> Result<Piece, Fail> {
 
 #[test]
 fn a_schedule_has_128_entries(rt: HostRuntime) -> Result<(), Fail> {
-    let tables = IsoTables::make(rt.alloc())?;
-    let mut table = Table::make(rt.alloc(), MOST_ENTRIES)?;
     let payload = full(rt.alloc())?;
     assert!(rt; payload.bytes().len() == 2137);
-    let found = lasts(payload.bytes(), &tables, &mut table);
-    assert_eq!(rt; found.len(), 3);
-    for (last, id) in found.as_slice().iter().zip(&[1, 2, 3]) {
-        assert_eq!(rt; *last, (*id, 128, 127, 127));
-    }
+    assert!(rt; spells_full_schedules(rt.alloc(), payload.bytes())?);
     Ok(())
 }
 
@@ -125,17 +119,16 @@ fn longer(payload: &[u8]) -> [u8; 2137]
 
 #[test]
 fn one_more_entry_is_too_long(rt: HostRuntime) -> Result<(), Fail> {
-    let tables = IsoTables::make(rt.alloc())?;
-    let mut table = Table::make(rt.alloc(), MOST_ENTRIES)?;
     let payload = full(rt.alloc())?;
     assert!(rt; payload.bytes().len() == 2137);
     assert_eq!(rt; payload.bytes()[713], 0x50);
-    let mut message = IsoMessage::default();
-    let refused = read_iso(&tables, &longer(payload.bytes()), &mut table, &mut message).err();
     let wanted = Refusal {
         cause: RefusalCause::TooLong,
         bit: 5704,
     };
-    assert_eq!(rt; refused, Some(wanted));
+    assert_eq!(rt;
+        refusal_of(rt.alloc(), &longer(payload.bytes()))?,
+        Some(wanted)
+    );
     Ok(())
 }

@@ -11,7 +11,7 @@ use message_parts::Binary;
 use std::test::*;
 
 /// The request of a car whose identifier is 000102030405, in a session of zeros.
-pub(crate) const SETUP: [u8; 21] = [
+const SETUP: [u8; 21] = [
     0x80, 0x98, 0x02, 0, 0, 0, 0, 0, 0, 0, 0, 0x11, 0xd0, 0x18, 0x00, 0x04, 0x08, 0x0c, 0x10, 0x14,
     0x00,
 ];
@@ -44,6 +44,17 @@ fn is_written_back(
     write_iso(tables, message, &mut shorter, table).is_err()
 }
 
+/// Whether a message is that request.
+fn is_setup(message: &IsoMessage<'_>) -> bool {
+    let Some(BodyElement::Brief(BriefElement::SessionSetupReq(request))) = &message.body.element
+    else {
+        return false;
+    };
+    message.header.notification.is_none()
+        && is_bytes(&message.header.session_id, &[0; 8])
+        && is_bytes(&request.evccid, &[0, 1, 2, 3, 4, 5])
+}
+
 #[test]
 fn a_session_setup_is_read_and_written(rt: HostRuntime) -> Result<(), Fail> {
     let tables = IsoTables::make(rt.alloc())?;
@@ -52,13 +63,7 @@ fn a_session_setup_is_read_and_written(rt: HostRuntime) -> Result<(), Fail> {
     let Ok(()) = read_iso(&tables, &SETUP, &mut table, &mut message) else {
         return Err(Fail::from("refused"));
     };
-    assert!(rt; is_bytes(&message.header.session_id, &[0; 8]));
-    assert!(rt; message.header.notification.is_none());
-    let Some(BodyElement::Brief(BriefElement::SessionSetupReq(request))) = &message.body.element
-    else {
-        return Err(Fail::from("another message"));
-    };
-    assert!(rt; is_bytes(&request.evccid, &[0, 1, 2, 3, 4, 5]));
+    assert!(rt; is_setup(&message));
     assert!(rt; is_written_back(&tables, &message, &SETUP, &mut table));
     Ok(())
 }
