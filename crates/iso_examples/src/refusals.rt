@@ -8,9 +8,6 @@ use iso_schema::names;
 use std::alloc::Global;
 use std::test::*;
 
-/// A payload in hexadecimal, with the cause and the bit of what can't be taken.
-type Row = (&'static str, RefusalCause, u32);
-
 /// How a payload is refused.
 pub(crate) fn refusal_of(alloc: Global, payload: &[u8]) -> Result<Option<Refusal>, Fail>
     requires { length payload.now ≤ 65536 }
@@ -30,13 +27,14 @@ fn refusal_of_text(alloc: Global, text: &str) -> Result<Option<Refusal>, Fail> {
     refusal_of(alloc, payload.as_slice())
 }
 
-/// The first payload that isn't refused as its row says.
-fn first_other(alloc: Global, rows: &[Row]) -> Result<Option<&'static str>, Fail> {
-    for (text, cause, bit) in rows {
-        let wanted = Refusal {
-            cause: *cause,
-            bit: *bit,
-        };
+/// The first of these payloads that isn't refused for this cause, at its bit.
+fn first_other(
+    alloc: Global,
+    rows: &[(&'static str, u32)],
+    cause: RefusalCause,
+) -> Result<Option<&'static str>, Fail> {
+    for (text, bit) in rows {
+        let wanted = Refusal { cause, bit: *bit };
         if refusal_of_text(alloc, text)? != Some(wanted) {
             return Ok(Some(text));
         }
@@ -44,7 +42,8 @@ fn first_other(alloc: Global, rows: &[Row]) -> Result<Option<&'static str>, Fail
     Ok(None)
 }
 
-const REFUSED: [Row; 8] = [
+/// Payloads, each with the cause and the bit of what can't be taken.
+const REFUSED: [(&'static str, RefusalCause, u32); 8] = [
     // a session setup without its last byte, one up to the length of SessionID, and one without it
     (
         "809802000000000000000011d0180004080c1014",
@@ -70,141 +69,69 @@ const REFUSED: [Row; 8] = [
 
 #[test]
 fn payloads_are_refused_exactly(rt: HostRuntime) -> Result<(), Fail> {
-    assert_eq!(rt; first_other(rt.alloc(), &REFUSED)?, None);
+    for (text, cause, bit) in REFUSED {
+        assert_eq!(rt; first_other(rt.alloc(), &[(text, bit)], cause)?, None);
+    }
     Ok(())
 }
 
 /// A session setup that is cut behind each of its bytes: refused at the first bit of the first item that isn't whole. Its items begin
 /// at the bits 0, 8, 15 to 18, 26, 90, 91, 93, 94, 100 to 102, 110 and 158 to 161.
-const CUT: [Row; 21] = [
-    ("", RefusalCause::ShortInput, 0),
-    ("80", RefusalCause::ShortInput, 8),
-    ("8098", RefusalCause::ShortInput, 16),
-    ("809802", RefusalCause::ShortInput, 18),
-    ("80980200", RefusalCause::ShortInput, 26),
-    ("8098020000", RefusalCause::ShortInput, 26),
-    ("809802000000", RefusalCause::ShortInput, 26),
-    ("80980200000000", RefusalCause::ShortInput, 26),
-    ("8098020000000000", RefusalCause::ShortInput, 26),
-    ("809802000000000000", RefusalCause::ShortInput, 26),
-    ("80980200000000000000", RefusalCause::ShortInput, 26),
-    ("8098020000000000000000", RefusalCause::ShortInput, 26),
-    ("809802000000000000000011", RefusalCause::ShortInput, 94),
-    ("809802000000000000000011d0", RefusalCause::ShortInput, 102),
-    (
-        "809802000000000000000011d018",
-        RefusalCause::ShortInput,
-        110,
-    ),
-    (
-        "809802000000000000000011d01800",
-        RefusalCause::ShortInput,
-        110,
-    ),
-    (
-        "809802000000000000000011d0180004",
-        RefusalCause::ShortInput,
-        110,
-    ),
-    (
-        "809802000000000000000011d018000408",
-        RefusalCause::ShortInput,
-        110,
-    ),
-    (
-        "809802000000000000000011d0180004080c",
-        RefusalCause::ShortInput,
-        110,
-    ),
-    (
-        "809802000000000000000011d0180004080c10",
-        RefusalCause::ShortInput,
-        110,
-    ),
-    (
-        "809802000000000000000011d0180004080c1014",
-        RefusalCause::ShortInput,
-        160,
-    ),
+const CUT: [(&'static str, u32); 21] = [
+    ("", 0),
+    ("80", 8),
+    ("8098", 16),
+    ("809802", 18),
+    ("80980200", 26),
+    ("8098020000", 26),
+    ("809802000000", 26),
+    ("80980200000000", 26),
+    ("8098020000000000", 26),
+    ("809802000000000000", 26),
+    ("80980200000000000000", 26),
+    ("8098020000000000000000", 26),
+    ("809802000000000000000011", 94),
+    ("809802000000000000000011d0", 102),
+    ("809802000000000000000011d018", 110),
+    ("809802000000000000000011d01800", 110),
+    ("809802000000000000000011d0180004", 110),
+    ("809802000000000000000011d018000408", 110),
+    ("809802000000000000000011d0180004080c", 110),
+    ("809802000000000000000011d0180004080c10", 110),
+    ("809802000000000000000011d0180004080c1014", 160),
 ];
 
 #[test]
 fn a_cut_payload_is_short_at_the_first_item_that_is_not_whole(rt: HostRuntime) -> Result<(), Fail> {
-    assert_eq!(rt; first_other(rt.alloc(), &CUT)?, None);
+    assert_eq!(rt;
+        first_other(rt.alloc(), &CUT, RefusalCause::ShortInput)?,
+        None
+    );
     Ok(())
 }
 
 /// A session setup with the escape in place of one of its event codes, and the bit at which that code begins.
-const ESCAPES: [Row; 13] = [
-    (
-        "809902000000000000000011d0180004080c101400",
-        RefusalCause::Deviation,
-        15,
-    ),
-    (
-        "809882000000000000000011d0180004080c101400",
-        RefusalCause::Deviation,
-        16,
-    ),
-    (
-        "809842000000000000000011d0180004080c101400",
-        RefusalCause::Deviation,
-        17,
-    ),
-    (
-        "809802000000000000000031d0180004080c101400",
-        RefusalCause::Deviation,
-        90,
-    ),
-    (
-        "809802000000000000000019d0180004080c101400",
-        RefusalCause::Deviation,
-        91,
-    ),
-    (
-        "809802000000000000000015d0180004080c101400",
-        RefusalCause::Deviation,
-        93,
-    ),
-    (
-        "80980200000000000000001240180004080c101400",
-        RefusalCause::Deviation,
-        94,
-    ),
-    (
-        "809802000000000000000011d8180004080c101400",
-        RefusalCause::Deviation,
-        100,
-    ),
-    (
-        "809802000000000000000011d4180004080c101400",
-        RefusalCause::Deviation,
-        101,
-    ),
-    (
-        "809802000000000000000011d0180004080c101600",
-        RefusalCause::Deviation,
-        158,
-    ),
-    (
-        "809802000000000000000011d0180004080c101500",
-        RefusalCause::Deviation,
-        159,
-    ),
-    (
-        "809802000000000000000011d0180004080c101480",
-        RefusalCause::Deviation,
-        160,
-    ),
-    (
-        "809802000000000000000011d0180004080c101440",
-        RefusalCause::Deviation,
-        161,
-    ),
+const ESCAPES: [(&'static str, u32); 13] = [
+    ("809902000000000000000011d0180004080c101400", 15),
+    ("809882000000000000000011d0180004080c101400", 16),
+    ("809842000000000000000011d0180004080c101400", 17),
+    ("809802000000000000000031d0180004080c101400", 90),
+    ("809802000000000000000019d0180004080c101400", 91),
+    ("809802000000000000000015d0180004080c101400", 93),
+    ("80980200000000000000001240180004080c101400", 94),
+    ("809802000000000000000011d8180004080c101400", 100),
+    ("809802000000000000000011d4180004080c101400", 101),
+    ("809802000000000000000011d0180004080c101600", 158),
+    ("809802000000000000000011d0180004080c101500", 159),
+    ("809802000000000000000011d0180004080c101480", 160),
+    ("809802000000000000000011d0180004080c101440", 161),
 ];
 
 #[test]
 fn an_escape_in_place_of_an_event_is_a_deviation(rt: HostRuntime) -> Result<(), Fail> {
-    assert_eq!(rt; first_other(rt.alloc(), &ESCAPES)?, None);
+    assert_eq!(rt;
+        first_other(rt.alloc(), &ESCAPES, RefusalCause::Deviation)?,
+        None
+    );
     Ok(())
 }
