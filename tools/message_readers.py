@@ -337,9 +337,7 @@ def folded(text):
 
 def reader_files(t):
     files, own = {}, crate_of(t)
-    parts = []
     for crate, file, kinds in t.files:
-        parts.append(file.capitalize())
         if kinds[0] in t.s.enumerations:
             specs = "".join(ordinal_definitions(t, it) for it in kinds)
             proved = "".join(ordinal_proofs(t, it) for it in kinds)
@@ -348,9 +346,10 @@ def reader_files(t):
         else:
             specs = "".join(choice_definitions(t, it) if it in t.choices else record_definitions(t, it) for it in kinds)
             proved = "".join("" if it in t.choices else record_proofs(t, it) for it in kinds)
-            sections = dict.fromkeys(t.s.sections[t.section(it).lower()][0] for it in kinds if it in t.s.content)
-            head = f"-- {t.s.standard} {', and '.join(sections)}: what elements of these types are read as.\n"
+            head = f"-- {t.s.standard} {t.titles(kinds)}: what elements of these types are read as.\n"
             told = "-- What elements of these types are read as is what they were written of.\n"
         files[f"{own}/specs/{file.capitalize()}.antt"] = head + imports(t, crate, file, kinds, specs, False) + "\n" + folded(specs.rstrip("\n")) + "\n"
+        if not proved:
+            continue
         files[f"{own}/proofs/{file.capitalize()}.antt"] = told + imports(t, crate, file, kinds, proved, True) + "\n" + folded(proved.rstrip("\n")) + "\n"
     return files

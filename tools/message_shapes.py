@@ -122,6 +122,13 @@ class Types:
         """The file of the schema's definitions that has a kind's particles."""
         return next(part.capitalize() for part, kinds in self.s.parts.items() if kind in kinds)
 
+    def titles(self, kinds):
+        """The sections of the standard that tell of these types; of a group it is that of the types that hold it."""
+        told = [it for it in kinds if it in self.s.content]
+        groups = [group for group, brief in self.brief.items() if brief in kinds]
+        told = told or [of for of in self.s.content if any(it.form == "choice" and it.kind in groups for it in self.fields(of))]
+        return ", and ".join(dict.fromkeys(self.s.sections[self.section(it).lower()][0] for it in told))
+
     # ---- particles
 
     def taken(self, particle):

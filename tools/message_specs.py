@@ -94,8 +94,7 @@ def definitions(t, crate, file, kinds):
         return ordinals(t, crate, file, kinds)
     body = "".join(choice(t, it) if it in t.choices else record(t, it) for it in kinds)
     has = lambda word: re.search(rf"(?<![\w.]){word}(?!\w)", re.sub(r"(?m)^--.*$", "", body))
-    sections = dict.fromkeys(t.s.sections[t.section(it).lower()][0] for it in kinds if it in t.s.content)
-    text = f"-- {t.s.standard} {', and '.join(sections)}: what elements of these types contain, part by part.\n"
+    text = f"-- {t.s.standard} {t.titles(kinds)}: what elements of these types contain, part by part.\n"
     for module, words, always in (
         ("std.specs.Prelude", ["ℕ", "pos", "map"], ["List", "[]", "◌∷◌"]),
         ("exi_bits.specs.Lent", ["items_of"], []),

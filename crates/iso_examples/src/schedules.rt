@@ -5,7 +5,7 @@ ghost use Rattle.std.specs.Prelude.{◌≡◌, ◌≤◌, length};
 use crate::refusals::refusal_of;
 use exi_documents::MOST_ENTRIES;
 use iso_codec::{BodyElement, IsoMessage, IsoTables, Refusal, RefusalCause, Table, read_iso};
-use iso_parameters::{PMaxSchedule, SaSchedules, TimeInterval};
+use iso_schedules::{PMaxSchedule, SaSchedules, TimeInterval};
 use message_trees::{MessageDialect, Piece, scan_text};
 use std::alloc::Global;
 use std::test::*;

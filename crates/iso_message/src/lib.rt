@@ -4,4 +4,5 @@
 mod message;
 mod root;
 
-pub use message::{Body, BodyElement, BriefElement, IsoMessage};
+pub use iso_elements::BriefElement;
+pub use message::{Body, BodyElement, IsoMessage};

@@ -2,14 +2,14 @@
 
 ghost use Rattle.std.specs.Prelude.{◌≡◌, Some};
 ghost use Rattle.iso_message.specs.declared.message.BodyElement.TheVariants as elements;
-ghost use Rattle.iso_message.specs.declared.message.BriefElement.TheVariants as briefs;
+ghost use Rattle.iso_elements.specs.declared.brief.BriefElement.TheVariants as briefs;
 
 use crate::message::{Body, BodyElement, BriefElement, IsoMessage};
 use exi_documents::Refusal;
 use exi_events::EventWriter;
 use exi_schema::Places;
+use iso_delivery::ChargingStatusReq;
 use iso_parts::Header;
-use iso_power::ChargingStatusReq;
 use iso_schema::names;
 use message_parts::{Descent, LargeChoice, PutChoice, Root, member_here, put_record};
 

@@ -3,11 +3,11 @@
 ghost use Rattle.std.specs.Prelude.{[]};
 
 use crate::limits::{EvChargeParameter, EvseChargeParameter};
-use crate::schedules::SaSchedules;
 use exi_documents::Refusal;
 use exi_events::EventWriter;
 use exi_schema::Places;
 use iso_parts::{EnergyTransferMode, EvseProcessing, ResponseCode};
+use iso_schedules::SaSchedules;
 use iso_schema::names;
 use message_fields::{AtMostOneOf, Elements3, Elements4, OneOf, OptionalValue, RequiredValue};
 use message_parts::{

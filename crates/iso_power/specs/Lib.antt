@@ -1,2 +1,1 @@
 pub mod Charging
-pub mod Delivery

@@ -23,12 +23,12 @@ use Rattle.iso_parts.specs.declared.codes.ResponseCode.{ResponseCode}
 use Rattle.iso_parts.specs.declared.values.PhysicalValue.{PhysicalValue}
 use Rattle.iso_parameters.specs.Discovery.{charge_parameter_discovery_res_parts}
 use Rattle.iso_parameters.specs.Limits.{ac_evse_charge_parameter_parts, dc_evse_charge_parameter_parts, evse_charge_parameter_name, evse_charge_parameter_inside}
-use Rattle.iso_parameters.specs.Schedules.{relative_time_interval_parts, p_max_schedule_entry_parts, p_max_schedule_parts, sa_schedule_tuple_parts, sa_schedule_list_parts, sa_schedules_name, sa_schedules_inside}
+use Rattle.iso_schedules.specs.Schedules.{relative_time_interval_parts, p_max_schedule_entry_parts, p_max_schedule_parts, sa_schedule_tuple_parts, sa_schedule_list_parts, sa_schedules_name, sa_schedules_inside}
 use Rattle.iso_parameters.specs.declared.limits.AcEvseChargeParameter.{AcEvseChargeParameter}
 use Rattle.iso_parameters.specs.declared.limits.DcEvseChargeParameter.{DcEvseChargeParameter}
 use Rattle.iso_parameters.specs.declared.limits.EvseChargeParameter.{EvseChargeParameter}
-use Rattle.iso_parameters.specs.declared.schedules.RelativeTimeInterval.{RelativeTimeInterval}
-use Rattle.iso_parameters.specs.declared.schedules.SaScheduleList.{SaScheduleList}
+use Rattle.iso_schedules.specs.declared.schedules.RelativeTimeInterval.{RelativeTimeInterval}
+use Rattle.iso_schedules.specs.declared.schedules.SaScheduleList.{SaScheduleList}
 use Rattle.iso_values.specs.Physical.{voltage_of, nominal_of, current_of, power_of}
 use Rattle.iso_values.specs.States.{evse_processing}
 use Rattle.iso_values.specs.Statuses.{ac_evse_status, dc_evse_status}

@@ -24,7 +24,7 @@ use Rattle.iso_schema.specs.declared.kinds.TheConstants.{BOOLEAN_KIND, TUPLE_ID_
 use Rattle.iso_parts.specs.Values.{evse_status_name, evse_status_inside}
 use Rattle.iso_parts.specs.declared.codes.ResponseCode.{ResponseCode}
 use Rattle.iso_power.specs.Charging.{cable_check_res_parts, pre_charge_res_parts, current_demand_res_parts, welding_detection_res_parts}
-use Rattle.iso_power.specs.Delivery.{power_delivery_res_parts, charging_status_res_parts}
+use Rattle.iso_delivery.specs.Delivery.{power_delivery_res_parts, charging_status_res_parts}
 use Rattle.iso_values.specs.States.{evse_processing}
 use Rattle.iso_values.specs.Statuses.{evse_status}
 use Rattle.iso_word_messages.specs.Messages.{LendsEvse}

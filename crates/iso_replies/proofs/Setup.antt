@@ -18,7 +18,7 @@ use Rattle.iso_parts.specs.Codes.{energy_transfer_mode_ordinal}
 use Rattle.iso_parts.specs.declared.codes.PaymentOption.TheVariants.{ExternalPayment}
 use Rattle.iso_parts.specs.declared.codes.ResponseCode.{ResponseCode}
 use Rattle.iso_parts.specs.declared.codes.ServiceCategory.TheVariants.{EvCharging}
-use Rattle.iso_setup.specs.Details.{service_detail_res_parts}
+use Rattle.iso_details.specs.Details.{service_detail_res_parts}
 use Rattle.iso_setup.specs.Selection.{payment_service_selection_res_parts}
 use Rattle.iso_setup.specs.Services.{supported_energy_transfer_mode_parts, charge_service_parts, payment_option_list_parts, service_discovery_res_parts}
 use Rattle.iso_setup.specs.Session.{session_setup_res_parts, authorization_res_parts, session_stop_res_parts}

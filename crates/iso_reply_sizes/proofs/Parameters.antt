@@ -14,8 +14,8 @@ use Rattle.iso_parts.specs.declared.codes.ResponseCode.{ResponseCode}
 use Rattle.iso_parts.specs.declared.values.PhysicalValue.{PhysicalValue}
 use Rattle.iso_parameters.specs.Discovery.{charge_parameter_discovery_res_parts}
 use Rattle.iso_parameters.specs.Limits.{evse_charge_parameter_inside}
-use Rattle.iso_parameters.specs.Schedules.{p_max_schedule_entry_parts, p_max_schedule_parts, sa_schedule_tuple_parts, sa_schedule_list_parts, sa_schedules_name, sa_schedules_inside}
-use Rattle.iso_parameters.specs.declared.schedules.SaScheduleList.{SaScheduleList}
+use Rattle.iso_schedules.specs.Schedules.{p_max_schedule_entry_parts, p_max_schedule_parts, sa_schedule_tuple_parts, sa_schedule_list_parts, sa_schedules_name, sa_schedules_inside}
+use Rattle.iso_schedules.specs.declared.schedules.SaScheduleList.{SaScheduleList}
 use Rattle.iso_values.specs.Physical.{power_of}
 use Rattle.iso_word_messages.specs.ParameterMessages.{evse_parameter, entry_at, schedule_tuple, schedules_if, parameters_res}
 use Rattle.written_sizes.proofs.Parts.{three_light}

@@ -13,7 +13,7 @@ use Rattle.session_words.specs.declared.limits.PostStatus.{PostStatus}
 use Rattle.session_words.specs.declared.limits.PostStatus.TheVariants as post
 use Rattle.iso_parts.specs.declared.codes.ResponseCode.{ResponseCode}
 use Rattle.iso_power.specs.Charging.{cable_check_res_parts, pre_charge_res_parts, current_demand_res_parts, welding_detection_res_parts}
-use Rattle.iso_power.specs.Delivery.{power_delivery_res_parts, charging_status_res_parts}
+use Rattle.iso_delivery.specs.Delivery.{power_delivery_res_parts, charging_status_res_parts}
 use Rattle.iso_word_messages.specs.Messages.{LendsEvse}
 use Rattle.iso_word_messages.specs.PowerMessages.{cable_check_res, pre_charge_res, delivery_res, demand_res, charging_res, welding_res}
 use Rattle.iso_word_messages.specs.Spellable.{CanEvse}

@@ -13,7 +13,7 @@ use Rattle.iso_schema.specs.Delivery.{power_delivery_req, charging_profile, prof
 use Rattle.iso_schema.specs.declared.names.TheConstants.{CHARGING_PROFILE}
 use Rattle.iso_schema.specs.declared.kinds.TheConstants.{BOOLEAN_KIND, UNSIGNED_INT_KIND, TUPLE_ID_KIND, CHARGE_PROGRESS_KIND, EMPTY_KIND, PHYSICAL_VALUE_KIND, DC_EV_STATUS_KIND, POWER_DELIVERY_REQ_KIND, CHARGING_PROFILE_KIND, PROFILE_ENTRY_KIND, CABLE_CHECK_REQ_KIND, PRE_CHARGE_REQ_KIND, CURRENT_DEMAND_REQ_KIND, WELDING_DETECTION_REQ_KIND}
 use Rattle.iso_power.specs.Charging.{cable_check_req_parts, pre_charge_req_parts, current_demand_req_parts, welding_detection_req_parts}
-use Rattle.iso_power.specs.Delivery.{profile_entry_parts, charging_profile_parts, power_delivery_req_parts}
+use Rattle.iso_delivery.specs.Delivery.{profile_entry_parts, charging_profile_parts, power_delivery_req_parts}
 use Rattle.iso_values.specs.States.{charge_progress as progress}
 use Rattle.iso_word_messages.specs.PowerMessages.{cable_check_req, pre_charge_req, profile_entry, profile_of, profile_if, delivery_req, demand_req, welding_req}
 use Rattle.iso_word_messages.specs.Spellable.{AreTenths, AreWatts, IsCharge, IsSomeTuple}

@@ -11,7 +11,7 @@ use Rattle.iso_schema.specs.Setup.{session_setup_req, service_discovery_req}
 use Rattle.iso_schema.specs.Selection.{service_detail_req, payment_service_selection_req, selected_service_list, selected_service as selected_service_particles, authorization_req as authorization_particles, session_stop_req}
 use Rattle.iso_schema.specs.declared.names.TheConstants.{SELECTED_SERVICE}
 use Rattle.iso_schema.specs.declared.kinds.TheConstants.{UNSIGNED_SHORT_KIND, BINARY6_KIND, PAYMENT_OPTION_KIND, CHARGING_SESSION_KIND, SESSION_SETUP_REQ_KIND, SERVICE_DISCOVERY_REQ_KIND, SERVICE_DETAIL_REQ_KIND, PAYMENT_SERVICE_SELECTION_REQ_KIND, SELECTED_SERVICE_LIST_KIND, SELECTED_SERVICE_KIND, AUTHORIZATION_REQ_KIND, SESSION_STOP_REQ_KIND}
-use Rattle.iso_setup.specs.Details.{service_detail_req_parts}
+use Rattle.iso_details.specs.Details.{service_detail_req_parts}
 use Rattle.iso_setup.specs.Selection.{selected_service_parts, selected_service_list_parts, payment_service_selection_req_parts}
 use Rattle.iso_setup.specs.Services.{service_discovery_req_parts}
 use Rattle.iso_setup.specs.Session.{session_setup_req_parts, authorization_req_attributes, authorization_req_given, authorization_req_parts, session_stop_req_parts}

@@ -19,7 +19,7 @@ use Rattle.iso_setup.specs.Selection.{selected_service_parts, selected_service_l
 use Rattle.iso_setup.specs.declared.selection.SelectedServiceList.{SelectedServiceList}
 use Rattle.iso_parameters.specs.Discovery.{charge_parameter_discovery_req_parts}
 use Rattle.iso_parameters.specs.Limits.{dc_ev_charge_parameter_parts, ev_charge_parameter_inside}
-use Rattle.iso_power.specs.Delivery.{charging_profile_parts, power_delivery_req_parts}
+use Rattle.iso_delivery.specs.Delivery.{charging_profile_parts, power_delivery_req_parts}
 use Rattle.iso_message.specs.Documents.{iso_tree, iso_number}
 use Rattle.iso_message.specs.declared.message.IsoMessage.{IsoMessage}
 use Rattle.iso_word_messages.specs.Messages.{LendsAsk, request_element}

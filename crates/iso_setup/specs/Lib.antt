@@ -1,4 +1,3 @@
 pub mod Session
 pub mod Services
-pub mod Details
 pub mod Selection

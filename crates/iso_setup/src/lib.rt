@@ -1,16 +1,11 @@
-//! Messages of a session's setup and stop of ISO 15118-2:2014: session setup, service discovery and detail, payment selection,
-//! authorization, session stop.
+//! Messages of a session's setup and stop of ISO 15118-2:2014: session setup, service discovery, payment selection, authorization,
+//! session stop.
 #![tactic(auto)]
 
-mod details;
 mod selection;
 mod services;
 mod session;
 
-pub use details::{
-    Parameter, ParameterSet, ParameterValue, ServiceDetailReq, ServiceDetailRes,
-    ServiceParameterList,
-};
 pub use selection::{
     PaymentServiceSelectionReq, PaymentServiceSelectionRes, SelectedService, SelectedServiceList,
 };

@@ -26,16 +26,16 @@ use Rattle.iso_parameters.specs.declared.limits.EvChargeParameter.{EvChargeParam
 use Rattle.iso_parameters.specs.declared.limits.EvChargeParameter.TheVariants as ev
 use Rattle.iso_parameters.specs.declared.limits.EvseChargeParameter.{EvseChargeParameter}
 use Rattle.iso_parameters.specs.declared.limits.EvseChargeParameter.TheVariants as evse
-use Rattle.iso_parameters.specs.declared.schedules.PMaxSchedule.{PMaxSchedule}
-use Rattle.iso_parameters.specs.declared.schedules.PMaxScheduleEntry.{PMaxScheduleEntry}
-use Rattle.iso_parameters.specs.declared.schedules.SaScheduleList.{SaScheduleList}
-use Rattle.iso_parameters.specs.declared.schedules.SaScheduleTuple.{SaScheduleTuple}
-use Rattle.iso_parameters.specs.declared.schedules.SaSchedules.{SaSchedules}
-use Rattle.iso_parameters.specs.declared.schedules.SaSchedules.TheVariants as schedules
-use Rattle.iso_parameters.specs.declared.schedules.TimeInterval.{TimeInterval}
-use Rattle.iso_parameters.specs.declared.schedules.TimeInterval.TheVariants as interval
+use Rattle.iso_schedules.specs.declared.schedules.PMaxSchedule.{PMaxSchedule}
+use Rattle.iso_schedules.specs.declared.schedules.PMaxScheduleEntry.{PMaxScheduleEntry}
+use Rattle.iso_schedules.specs.declared.schedules.SaScheduleList.{SaScheduleList}
+use Rattle.iso_schedules.specs.declared.schedules.SaScheduleTuple.{SaScheduleTuple}
+use Rattle.iso_schedules.specs.declared.schedules.SaSchedules.{SaSchedules}
+use Rattle.iso_schedules.specs.declared.schedules.SaSchedules.TheVariants as schedules
+use Rattle.iso_schedules.specs.declared.schedules.TimeInterval.{TimeInterval}
+use Rattle.iso_schedules.specs.declared.schedules.TimeInterval.TheVariants as interval
 use Rattle.iso_parameters.specs.Limits.{ac_ev_charge_parameter_parts, dc_ev_charge_parameter_parts, ev_charge_parameter_name, ev_charge_parameter_inside, ac_evse_charge_parameter_parts, dc_evse_charge_parameter_parts, evse_charge_parameter_name, evse_charge_parameter_inside}
-use Rattle.iso_parameters.specs.Schedules.{time_interval_name, time_interval_inside, p_max_schedule_entry_parts, p_max_schedule_parts, sa_schedule_tuple_parts, sa_schedule_list_parts, sa_schedules_name, sa_schedules_inside}
+use Rattle.iso_schedules.specs.Schedules.{time_interval_name, time_interval_inside, p_max_schedule_entry_parts, p_max_schedule_parts, sa_schedule_tuple_parts, sa_schedule_list_parts, sa_schedules_name, sa_schedules_inside}
 use Rattle.iso_parameters.specs.Discovery.{charge_parameter_discovery_req_parts, charge_parameter_discovery_res_parts}
 use Rattle.iso_values.specs.Modes.{mode_of}
 use Rattle.iso_values.specs.Physical as physical

@@ -23,15 +23,15 @@ use Rattle.iso_power.specs.declared.charging.PreChargeRes.{PreChargeRes}
 use Rattle.iso_power.specs.declared.charging.CurrentDemandReq.{CurrentDemandReq}
 use Rattle.iso_power.specs.declared.charging.CurrentDemandRes.{CurrentDemandRes}
 use Rattle.iso_power.specs.declared.charging.WeldingDetectionRes.{WeldingDetectionRes}
-use Rattle.iso_power.specs.declared.delivery.ChargingProfile.{ChargingProfile}
-use Rattle.iso_power.specs.declared.delivery.EvPowerDeliveryParameter.{EvPowerDeliveryParameter}
-use Rattle.iso_power.specs.declared.delivery.EvPowerDeliveryParameter.TheVariants as parameter
-use Rattle.iso_power.specs.declared.delivery.ProfileEntry.{ProfileEntry}
-use Rattle.iso_power.specs.declared.delivery.PowerDeliveryReq.{PowerDeliveryReq}
-use Rattle.iso_power.specs.declared.delivery.PowerDeliveryRes.{PowerDeliveryRes}
-use Rattle.iso_power.specs.declared.delivery.ChargingStatusRes.{ChargingStatusRes}
+use Rattle.iso_delivery.specs.declared.delivery.ChargingProfile.{ChargingProfile}
+use Rattle.iso_delivery.specs.declared.delivery.EvPowerDeliveryParameter.{EvPowerDeliveryParameter}
+use Rattle.iso_delivery.specs.declared.delivery.EvPowerDeliveryParameter.TheVariants as parameter
+use Rattle.iso_delivery.specs.declared.delivery.ProfileEntry.{ProfileEntry}
+use Rattle.iso_delivery.specs.declared.delivery.PowerDeliveryReq.{PowerDeliveryReq}
+use Rattle.iso_delivery.specs.declared.delivery.PowerDeliveryRes.{PowerDeliveryRes}
+use Rattle.iso_delivery.specs.declared.delivery.ChargingStatusRes.{ChargingStatusRes}
 use Rattle.iso_power.specs.Charging.{cable_check_res_parts, pre_charge_req_parts, pre_charge_res_parts, current_demand_req_parts, current_demand_res_parts, welding_detection_res_parts}
-use Rattle.iso_power.specs.Delivery.{ev_power_delivery_parameter_name, ev_power_delivery_parameter_inside, profile_entry_parts, charging_profile_parts, power_delivery_req_parts, power_delivery_res_parts, charging_status_res_parts}
+use Rattle.iso_delivery.specs.Delivery.{ev_power_delivery_parameter_name, ev_power_delivery_parameter_inside, profile_entry_parts, charging_profile_parts, power_delivery_req_parts, power_delivery_res_parts, charging_status_res_parts}
 use Rattle.iso_values.specs.States.{processing_of, progress_of}
 use Rattle.iso_values.specs.Statuses.{post_status_of}
 use Rattle.iso_words.specs.PowerWords as message

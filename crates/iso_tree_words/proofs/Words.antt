@@ -10,11 +10,12 @@ use Rattle.iso_parts.specs.declared.codes.ResponseCode.{ResponseCode}
 use Rattle.iso_parts.specs.declared.frame.Header.{Header}
 use Rattle.iso_message.specs.declared.message.BodyElement.{BodyElement}
 use Rattle.iso_message.specs.declared.message.BodyElement.TheVariants as element
-use Rattle.iso_message.specs.declared.message.BriefElement.{BriefElement}
-use Rattle.iso_message.specs.declared.message.BriefElement.TheVariants as brief
+use Rattle.iso_elements.specs.declared.brief.BriefElement.{BriefElement}
+use Rattle.iso_elements.specs.declared.brief.BriefElement.TheVariants as brief
 use Rattle.iso_message.specs.declared.message.IsoMessage.{IsoMessage}
 use Rattle.iso_message.specs.Documents.{iso_tree, IsIso}
-use Rattle.iso_message.specs.Message.{brief_element_name, brief_element_inside, body_element_name, body_element_inside}
+use Rattle.iso_elements.specs.Brief.{brief_element_name, brief_element_inside}
+use Rattle.iso_message.specs.Message.{body_element_name, body_element_inside}
 use Rattle.iso_words.specs.Words as message
 use Rattle.tree_words.proofs.Held.{first_is}
 use Rattle.iso_tree_words.specs.Words as tree

@@ -14,19 +14,19 @@ use Rattle.iso_parts.specs.declared.values.PhysicalValue.{PhysicalValue}
 use Rattle.iso_parts.specs.declared.values.EvseStatus.{EvseStatus}
 use Rattle.iso_parts.specs.declared.values.EvseStatus.TheVariants as evse_status
 use Rattle.iso_parts.specs.declared.values.MeterInfo.{MeterInfo}
-use Rattle.iso_power.specs.declared.delivery.ProfileEntry.{ProfileEntry}
-use Rattle.iso_power.specs.declared.delivery.ChargingProfile.{ChargingProfile}
-use Rattle.iso_power.specs.declared.delivery.DcEvPowerDeliveryParameter.{DcEvPowerDeliveryParameter}
-use Rattle.iso_power.specs.declared.delivery.EvPowerDeliveryParameter.{EvPowerDeliveryParameter}
-use Rattle.iso_power.specs.declared.delivery.EvPowerDeliveryParameter.TheVariants as ev_power_delivery_parameter
-use Rattle.iso_power.specs.declared.delivery.PowerDeliveryReq.{PowerDeliveryReq}
-use Rattle.iso_power.specs.declared.delivery.PowerDeliveryRes.{PowerDeliveryRes}
-use Rattle.iso_power.specs.declared.delivery.ChargingStatusRes.{ChargingStatusRes}
+use Rattle.iso_delivery.specs.declared.delivery.ProfileEntry.{ProfileEntry}
+use Rattle.iso_delivery.specs.declared.delivery.ChargingProfile.{ChargingProfile}
+use Rattle.iso_delivery.specs.declared.delivery.DcEvPowerDeliveryParameter.{DcEvPowerDeliveryParameter}
+use Rattle.iso_delivery.specs.declared.delivery.EvPowerDeliveryParameter.{EvPowerDeliveryParameter}
+use Rattle.iso_delivery.specs.declared.delivery.EvPowerDeliveryParameter.TheVariants as ev_power_delivery_parameter
+use Rattle.iso_delivery.specs.declared.delivery.PowerDeliveryReq.{PowerDeliveryReq}
+use Rattle.iso_delivery.specs.declared.delivery.PowerDeliveryRes.{PowerDeliveryRes}
+use Rattle.iso_delivery.specs.declared.delivery.ChargingStatusRes.{ChargingStatusRes}
 use Rattle.iso_trees.proofs.Codes.{response_code_back, charge_progress_back}
 use Rattle.iso_parts.specs.Values.{physical_value_parts, meter_info_parts}
 use Rattle.iso_trees.specs.Values.{physical_value_in, meter_info_in, settled_meter_info}
 use Rattle.iso_trees.proofs.Values.{physical_value_read, dc_ev_status_read, ac_evse_status_read, dc_evse_status_read, meter_info_read}
-use Rattle.iso_power.specs.Delivery.{profile_entry_parts, charging_profile_parts, dc_ev_power_delivery_parameter_parts, power_delivery_req_parts, power_delivery_res_parts, charging_status_res_parts}
+use Rattle.iso_delivery.specs.Delivery.{profile_entry_parts, charging_profile_parts, dc_ev_power_delivery_parameter_parts, power_delivery_req_parts, power_delivery_res_parts, charging_status_res_parts}
 use Rattle.iso_trees.specs.Delivery.{profile_entry_in, charging_profile_in, dc_ev_power_delivery_parameter_in, power_delivery_req_in, power_delivery_res_in, charging_status_res_in, settled_charging_status_res}
 
 pub profile_entry_read : (v : ProfileEntry) → profile_entry_in (of_parts (profile_entry_parts v)) ≡ v
@@ -44,8 +44,8 @@ charging_profile_read v =
     by_parts charging_profile_in (charging_profile_parts v)
     ∙ (λ i. record {
       profile_entry = record {
-        items = same_each (λ (found : Inside). profile_entry_in (children found))
-            (λ (x : ProfileEntry). holding (profile_entry_parts x)) (λ (x : ProfileEntry). profile_entry_read x) v.profile_entry.items i;
+        items = same_each (λ (found : Inside). profile_entry_in (children found)) (λ (x : ProfileEntry). holding (profile_entry_parts x))
+            (λ (x : ProfileEntry). profile_entry_read x) v.profile_entry.items i;
       };
     })
 

@@ -7,16 +7,16 @@ use Rattle.tree_words.specs.Named.{children}
 use Rattle.tree_words.specs.Lending.{Lends, given_in}
 use Rattle.tree_words.proofs.Held.{held, of_parts, by_parts}
 use Rattle.tree_words.proofs.Lists.{reads_if, reads_each}
-use Rattle.iso_setup.specs.declared.details.ParameterValue.{ParameterValue}
-use Rattle.iso_setup.specs.declared.details.ParameterValue.TheVariants as parameter_value
-use Rattle.iso_setup.specs.declared.details.Parameter.{Parameter}
-use Rattle.iso_setup.specs.declared.details.ParameterSet.{ParameterSet}
-use Rattle.iso_setup.specs.declared.details.ServiceParameterList.{ServiceParameterList}
-use Rattle.iso_setup.specs.declared.details.ServiceDetailReq.{ServiceDetailReq}
-use Rattle.iso_setup.specs.declared.details.ServiceDetailRes.{ServiceDetailRes}
+use Rattle.iso_details.specs.declared.details.ParameterValue.{ParameterValue}
+use Rattle.iso_details.specs.declared.details.ParameterValue.TheVariants as parameter_value
+use Rattle.iso_details.specs.declared.details.Parameter.{Parameter}
+use Rattle.iso_details.specs.declared.details.ParameterSet.{ParameterSet}
+use Rattle.iso_details.specs.declared.details.ServiceParameterList.{ServiceParameterList}
+use Rattle.iso_details.specs.declared.details.ServiceDetailReq.{ServiceDetailReq}
+use Rattle.iso_details.specs.declared.details.ServiceDetailRes.{ServiceDetailRes}
 use Rattle.iso_trees.proofs.Codes.{response_code_back}
 use Rattle.iso_trees.proofs.Values.{physical_value_read}
-use Rattle.iso_setup.specs.Details.{parameter_given, parameter_parts, parameter_set_parts, service_parameter_list_parts, service_detail_req_parts, service_detail_res_parts}
+use Rattle.iso_details.specs.Details.{parameter_given, parameter_parts, parameter_set_parts, service_parameter_list_parts, service_detail_req_parts, service_detail_res_parts}
 use Rattle.iso_trees.specs.Details.{parameter_in, settled_parameter, parameter_set_in, settled_parameter_set, service_parameter_list_in, settled_service_parameter_list, service_detail_req_in, service_detail_res_in, settled_service_detail_res}
 
 abbrev parameter_of : Text → ParameterValue → Parameter

@@ -12,8 +12,8 @@ use Rattle.iso_parameters.specs.declared.limits.EvChargeParameter.{EvChargeParam
 use Rattle.iso_parameters.specs.declared.limits.EvChargeParameter.TheVariants as ev_charge_parameter
 use Rattle.iso_parameters.specs.declared.limits.EvseChargeParameter.{EvseChargeParameter}
 use Rattle.iso_parameters.specs.declared.limits.EvseChargeParameter.TheVariants as evse_charge_parameter
-use Rattle.iso_parameters.specs.declared.schedules.SaSchedules.{SaSchedules}
-use Rattle.iso_parameters.specs.declared.schedules.SaSchedules.TheVariants as sa_schedules
+use Rattle.iso_schedules.specs.declared.schedules.SaSchedules.{SaSchedules}
+use Rattle.iso_schedules.specs.declared.schedules.SaSchedules.TheVariants as sa_schedules
 use Rattle.iso_parameters.specs.declared.discovery.ChargeParameterDiscoveryReq.{ChargeParameterDiscoveryReq}
 use Rattle.iso_parameters.specs.declared.discovery.ChargeParameterDiscoveryRes.{ChargeParameterDiscoveryRes}
 use Rattle.iso_trees.proofs.Codes.{response_code_back, energy_transfer_mode_back, evse_processing_back}

@@ -2,7 +2,7 @@
 use Rattle.std.proofs.Common.{Option, Some, None, ◌≡◌, ◌∙◌}
 use Rattle.tree_words.specs.Lending.{Lends}
 use Rattle.tree_words.proofs.Held.{held, of_parts, by_parts}
-use Rattle.iso_message.specs.declared.message.BriefElement.TheVariants as brief_element
+use Rattle.iso_elements.specs.declared.brief.BriefElement.TheVariants as brief_element
 use Rattle.iso_message.specs.declared.message.BodyElement.{BodyElement}
 use Rattle.iso_message.specs.declared.message.BodyElement.TheVariants as body_element
 use Rattle.iso_message.specs.declared.message.Body.{Body}

@@ -7,15 +7,15 @@ use Rattle.tree_words.specs.Named.{children}
 use Rattle.tree_words.proofs.Held.{held, of_parts, by_parts}
 use Rattle.tree_words.proofs.Lists.{same_if, same_each}
 use Rattle.iso_parts.specs.declared.values.PhysicalValue.{PhysicalValue}
-use Rattle.iso_parameters.specs.declared.schedules.RelativeTimeInterval.{RelativeTimeInterval}
-use Rattle.iso_parameters.specs.declared.schedules.TimeInterval.{TimeInterval}
-use Rattle.iso_parameters.specs.declared.schedules.TimeInterval.TheVariants as time_interval
-use Rattle.iso_parameters.specs.declared.schedules.PMaxScheduleEntry.{PMaxScheduleEntry}
-use Rattle.iso_parameters.specs.declared.schedules.PMaxSchedule.{PMaxSchedule}
-use Rattle.iso_parameters.specs.declared.schedules.SaScheduleTuple.{SaScheduleTuple}
-use Rattle.iso_parameters.specs.declared.schedules.SaScheduleList.{SaScheduleList}
+use Rattle.iso_schedules.specs.declared.schedules.RelativeTimeInterval.{RelativeTimeInterval}
+use Rattle.iso_schedules.specs.declared.schedules.TimeInterval.{TimeInterval}
+use Rattle.iso_schedules.specs.declared.schedules.TimeInterval.TheVariants as time_interval
+use Rattle.iso_schedules.specs.declared.schedules.PMaxScheduleEntry.{PMaxScheduleEntry}
+use Rattle.iso_schedules.specs.declared.schedules.PMaxSchedule.{PMaxSchedule}
+use Rattle.iso_schedules.specs.declared.schedules.SaScheduleTuple.{SaScheduleTuple}
+use Rattle.iso_schedules.specs.declared.schedules.SaScheduleList.{SaScheduleList}
 use Rattle.iso_trees.proofs.Values.{physical_value_read}
-use Rattle.iso_parameters.specs.Schedules.{relative_time_interval_parts, p_max_schedule_entry_parts, p_max_schedule_parts, sa_schedule_tuple_parts, sa_schedule_list_parts}
+use Rattle.iso_schedules.specs.Schedules.{relative_time_interval_parts, p_max_schedule_entry_parts, p_max_schedule_parts, sa_schedule_tuple_parts, sa_schedule_list_parts}
 use Rattle.iso_trees.specs.Schedules.{relative_time_interval_in, p_max_schedule_entry_in, p_max_schedule_in, sa_schedule_tuple_in, sa_schedule_list_in}
 
 pub relative_time_interval_read : (v : RelativeTimeInterval) → relative_time_interval_in (of_parts (relative_time_interval_parts v)) ≡ v

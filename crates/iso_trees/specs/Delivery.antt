@@ -6,14 +6,14 @@ use Rattle.iso_schema.specs.declared.names.TheConstants.{RESPONSE_CODE, EVSEID, 
 use Rattle.tree_words.specs.Leaves.{truth, truth_in, ordinal, natural, natural_in, text}
 use Rattle.tree_words.specs.Named.{Children, children, head, within}
 use Rattle.tree_words.specs.Lending.{Lends, or_next}
-use Rattle.iso_power.specs.declared.delivery.ProfileEntry.{ProfileEntry}
-use Rattle.iso_power.specs.declared.delivery.ChargingProfile.{ChargingProfile}
-use Rattle.iso_power.specs.declared.delivery.DcEvPowerDeliveryParameter.{DcEvPowerDeliveryParameter}
-use Rattle.iso_power.specs.declared.delivery.EvPowerDeliveryParameter.{EvPowerDeliveryParameter}
-use Rattle.iso_power.specs.declared.delivery.EvPowerDeliveryParameter.TheVariants as ev_power_delivery_parameter
-use Rattle.iso_power.specs.declared.delivery.PowerDeliveryReq.{PowerDeliveryReq}
-use Rattle.iso_power.specs.declared.delivery.PowerDeliveryRes.{PowerDeliveryRes}
-use Rattle.iso_power.specs.declared.delivery.ChargingStatusRes.{ChargingStatusRes}
+use Rattle.iso_delivery.specs.declared.delivery.ProfileEntry.{ProfileEntry}
+use Rattle.iso_delivery.specs.declared.delivery.ChargingProfile.{ChargingProfile}
+use Rattle.iso_delivery.specs.declared.delivery.DcEvPowerDeliveryParameter.{DcEvPowerDeliveryParameter}
+use Rattle.iso_delivery.specs.declared.delivery.EvPowerDeliveryParameter.{EvPowerDeliveryParameter}
+use Rattle.iso_delivery.specs.declared.delivery.EvPowerDeliveryParameter.TheVariants as ev_power_delivery_parameter
+use Rattle.iso_delivery.specs.declared.delivery.PowerDeliveryReq.{PowerDeliveryReq}
+use Rattle.iso_delivery.specs.declared.delivery.PowerDeliveryRes.{PowerDeliveryRes}
+use Rattle.iso_delivery.specs.declared.delivery.ChargingStatusRes.{ChargingStatusRes}
 use Rattle.iso_trees.specs.Codes.{response_code_at, charge_progress_at}
 use Rattle.iso_trees.specs.Values.{physical_value_in, dc_ev_status_in, ac_evse_status_in, evse_status_in, meter_info_in, settled_meter_info}
 

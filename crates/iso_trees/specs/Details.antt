@@ -7,13 +7,13 @@ use Rattle.iso_schema.specs.declared.names.TheConstants.{RESPONSE_CODE, SERVICE_
 use Rattle.tree_words.specs.Leaves.{truth_in, ordinal, number, number_in, natural, text}
 use Rattle.tree_words.specs.Named.{Children, children, head}
 use Rattle.tree_words.specs.Lending.{Lends, given_in, attribute_named, text_if, or_last}
-use Rattle.iso_setup.specs.declared.details.ParameterValue.{ParameterValue}
-use Rattle.iso_setup.specs.declared.details.ParameterValue.TheVariants as parameter_value
-use Rattle.iso_setup.specs.declared.details.Parameter.{Parameter}
-use Rattle.iso_setup.specs.declared.details.ParameterSet.{ParameterSet}
-use Rattle.iso_setup.specs.declared.details.ServiceParameterList.{ServiceParameterList}
-use Rattle.iso_setup.specs.declared.details.ServiceDetailReq.{ServiceDetailReq}
-use Rattle.iso_setup.specs.declared.details.ServiceDetailRes.{ServiceDetailRes}
+use Rattle.iso_details.specs.declared.details.ParameterValue.{ParameterValue}
+use Rattle.iso_details.specs.declared.details.ParameterValue.TheVariants as parameter_value
+use Rattle.iso_details.specs.declared.details.Parameter.{Parameter}
+use Rattle.iso_details.specs.declared.details.ParameterSet.{ParameterSet}
+use Rattle.iso_details.specs.declared.details.ServiceParameterList.{ServiceParameterList}
+use Rattle.iso_details.specs.declared.details.ServiceDetailReq.{ServiceDetailReq}
+use Rattle.iso_details.specs.declared.details.ServiceDetailRes.{ServiceDetailRes}
 use Rattle.iso_trees.specs.Codes.{response_code_at}
 use Rattle.iso_trees.specs.Values.{physical_value_in}
 

@@ -11,5 +11,6 @@ pub mod Schedules
 pub mod Discovery
 pub mod Charging
 pub mod Delivery
+pub mod Brief
 pub mod Message
 pub mod Trees

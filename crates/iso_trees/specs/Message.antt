@@ -4,45 +4,20 @@ use Rattle.std.specs.Option.{option_map}
 use Rattle.iso_schema.specs.declared.names.TheConstants.{HEADER, BODY, AUTHORIZATION_REQ, AUTHORIZATION_RES, CABLE_CHECK_REQ, CABLE_CHECK_RES, CHARGE_PARAMETER_DISCOVERY_REQ, CHARGE_PARAMETER_DISCOVERY_RES, CHARGING_STATUS_REQ, CHARGING_STATUS_RES, CURRENT_DEMAND_REQ, CURRENT_DEMAND_RES, PAYMENT_SERVICE_SELECTION_REQ, PAYMENT_SERVICE_SELECTION_RES, POWER_DELIVERY_REQ, POWER_DELIVERY_RES, PRE_CHARGE_REQ, PRE_CHARGE_RES, SERVICE_DETAIL_REQ, SERVICE_DETAIL_RES, SERVICE_DISCOVERY_REQ, SERVICE_DISCOVERY_RES, SESSION_SETUP_REQ, SESSION_SETUP_RES, SESSION_STOP_REQ, SESSION_STOP_RES, WELDING_DETECTION_REQ, WELDING_DETECTION_RES}
 use Rattle.tree_words.specs.Named.{Children, children, head, within}
 use Rattle.tree_words.specs.Lending.{Lends, given_in, or_next}
-use Rattle.iso_message.specs.declared.message.BriefElement.{BriefElement}
-use Rattle.iso_message.specs.declared.message.BriefElement.TheVariants as brief_element
+use Rattle.iso_elements.specs.declared.brief.BriefElement.TheVariants as brief_element
 use Rattle.iso_message.specs.declared.message.BodyElement.{BodyElement}
 use Rattle.iso_message.specs.declared.message.BodyElement.TheVariants as body_element
 use Rattle.iso_message.specs.declared.message.Body.{Body}
 use Rattle.iso_message.specs.declared.message.IsoMessage.{IsoMessage}
 use Rattle.iso_trees.specs.Frame.{header_in, settled_header}
-use Rattle.iso_trees.specs.Session.{session_setup_req_in, settled_session_setup_req, session_setup_res_in, settled_session_setup_res, authorization_req_in, settled_authorization_req, authorization_res_in, session_stop_req_in, session_stop_res_in}
-use Rattle.iso_trees.specs.Services.{service_discovery_req_in, settled_service_discovery_req, service_discovery_res_in, settled_service_discovery_res}
+use Rattle.iso_trees.specs.Session.{session_setup_req_in, session_setup_res_in, authorization_req_in, authorization_res_in, session_stop_req_in, session_stop_res_in}
+use Rattle.iso_trees.specs.Services.{service_discovery_req_in, service_discovery_res_in, settled_service_discovery_res}
 use Rattle.iso_trees.specs.Details.{service_detail_req_in, service_detail_res_in, settled_service_detail_res}
 use Rattle.iso_trees.specs.Selection.{payment_service_selection_req_in, payment_service_selection_res_in}
 use Rattle.iso_trees.specs.Discovery.{charge_parameter_discovery_req_in, charge_parameter_discovery_res_in}
-use Rattle.iso_trees.specs.Charging.{cable_check_req_in, cable_check_res_in, pre_charge_req_in, pre_charge_res_in, current_demand_req_in, current_demand_res_in, settled_current_demand_res, welding_detection_req_in, welding_detection_res_in}
-use Rattle.iso_trees.specs.Delivery.{power_delivery_req_in, power_delivery_res_in, charging_status_res_in, settled_charging_status_res}
-
-abbrev pub settled_brief_element : Lends → BriefElement → BriefElement
-settled_brief_element l (brief_element.AuthorizationReq x) = brief_element.AuthorizationReq (settled_authorization_req l x)
-settled_brief_element l (brief_element.AuthorizationRes x) = brief_element.AuthorizationRes x
-settled_brief_element l (brief_element.CableCheckReq x) = brief_element.CableCheckReq x
-settled_brief_element l (brief_element.CableCheckRes x) = brief_element.CableCheckRes x
-settled_brief_element l (brief_element.ChargeParameterDiscoveryReq x) = brief_element.ChargeParameterDiscoveryReq x
-settled_brief_element l (brief_element.ChargingStatusReq x) = brief_element.ChargingStatusReq x
-settled_brief_element l (brief_element.ChargingStatusRes x) = brief_element.ChargingStatusRes (settled_charging_status_res l x)
-settled_brief_element l (brief_element.CurrentDemandReq x) = brief_element.CurrentDemandReq x
-settled_brief_element l (brief_element.CurrentDemandRes x) = brief_element.CurrentDemandRes (settled_current_demand_res l x)
-settled_brief_element l (brief_element.PaymentServiceSelectionReq x) = brief_element.PaymentServiceSelectionReq x
-settled_brief_element l (brief_element.PaymentServiceSelectionRes x) = brief_element.PaymentServiceSelectionRes x
-settled_brief_element l (brief_element.PowerDeliveryReq x) = brief_element.PowerDeliveryReq x
-settled_brief_element l (brief_element.PowerDeliveryRes x) = brief_element.PowerDeliveryRes x
-settled_brief_element l (brief_element.PreChargeReq x) = brief_element.PreChargeReq x
-settled_brief_element l (brief_element.PreChargeRes x) = brief_element.PreChargeRes x
-settled_brief_element l (brief_element.ServiceDetailReq x) = brief_element.ServiceDetailReq x
-settled_brief_element l (brief_element.ServiceDiscoveryReq x) = brief_element.ServiceDiscoveryReq (settled_service_discovery_req l x)
-settled_brief_element l (brief_element.SessionSetupReq x) = brief_element.SessionSetupReq (settled_session_setup_req l x)
-settled_brief_element l (brief_element.SessionSetupRes x) = brief_element.SessionSetupRes (settled_session_setup_res l x)
-settled_brief_element l (brief_element.SessionStopReq x) = brief_element.SessionStopReq x
-settled_brief_element l (brief_element.SessionStopRes x) = brief_element.SessionStopRes x
-settled_brief_element l (brief_element.WeldingDetectionReq x) = brief_element.WeldingDetectionReq x
-settled_brief_element l (brief_element.WeldingDetectionRes x) = brief_element.WeldingDetectionRes x
+use Rattle.iso_trees.specs.Charging.{cable_check_req_in, cable_check_res_in, pre_charge_req_in, pre_charge_res_in, current_demand_req_in, current_demand_res_in, welding_detection_req_in, welding_detection_res_in}
+use Rattle.iso_trees.specs.Delivery.{power_delivery_req_in, power_delivery_res_in, charging_status_res_in}
+use Rattle.iso_trees.specs.Brief.{settled_brief_element}
 
 abbrev pub body_element_if : Lends → Children → Option BodyElement
 body_element_if l x =

@@ -5,15 +5,15 @@ use Rattle.iso_schema.specs.declared.names.TheConstants.{SA_SCHEDULE_LIST, SA_SC
 use Rattle.tree_words.specs.Leaves.{natural, natural_in}
 use Rattle.tree_words.specs.Named.{Children, children, head, within}
 use Rattle.tree_words.specs.Lending.{or_next}
-use Rattle.iso_parameters.specs.declared.schedules.RelativeTimeInterval.{RelativeTimeInterval}
-use Rattle.iso_parameters.specs.declared.schedules.TimeInterval.{TimeInterval}
-use Rattle.iso_parameters.specs.declared.schedules.TimeInterval.TheVariants as time_interval
-use Rattle.iso_parameters.specs.declared.schedules.PMaxScheduleEntry.{PMaxScheduleEntry}
-use Rattle.iso_parameters.specs.declared.schedules.PMaxSchedule.{PMaxSchedule}
-use Rattle.iso_parameters.specs.declared.schedules.SaScheduleTuple.{SaScheduleTuple}
-use Rattle.iso_parameters.specs.declared.schedules.SaScheduleList.{SaScheduleList}
-use Rattle.iso_parameters.specs.declared.schedules.SaSchedules.{SaSchedules}
-use Rattle.iso_parameters.specs.declared.schedules.SaSchedules.TheVariants as sa_schedules
+use Rattle.iso_schedules.specs.declared.schedules.RelativeTimeInterval.{RelativeTimeInterval}
+use Rattle.iso_schedules.specs.declared.schedules.TimeInterval.{TimeInterval}
+use Rattle.iso_schedules.specs.declared.schedules.TimeInterval.TheVariants as time_interval
+use Rattle.iso_schedules.specs.declared.schedules.PMaxScheduleEntry.{PMaxScheduleEntry}
+use Rattle.iso_schedules.specs.declared.schedules.PMaxSchedule.{PMaxSchedule}
+use Rattle.iso_schedules.specs.declared.schedules.SaScheduleTuple.{SaScheduleTuple}
+use Rattle.iso_schedules.specs.declared.schedules.SaScheduleList.{SaScheduleList}
+use Rattle.iso_schedules.specs.declared.schedules.SaSchedules.{SaSchedules}
+use Rattle.iso_schedules.specs.declared.schedules.SaSchedules.TheVariants as sa_schedules
 use Rattle.iso_trees.specs.Values.{physical_value_in}
 
 abbrev pub relative_time_interval_in : Children → RelativeTimeInterval

@@ -22,11 +22,11 @@ use Rattle.iso_parameters.specs.declared.limits.EvChargeParameter.{EvChargeParam
 use Rattle.iso_parameters.specs.declared.limits.EvChargeParameter.TheVariants as ev
 use Rattle.iso_parameters.specs.declared.limits.EvseChargeParameter.{EvseChargeParameter}
 use Rattle.iso_parameters.specs.declared.limits.EvseChargeParameter.TheVariants as evse
-use Rattle.iso_parameters.specs.declared.schedules.PMaxScheduleEntry.{PMaxScheduleEntry}
-use Rattle.iso_parameters.specs.declared.schedules.SaScheduleTuple.{SaScheduleTuple}
-use Rattle.iso_parameters.specs.declared.schedules.SaSchedules.{SaSchedules}
-use Rattle.iso_parameters.specs.declared.schedules.SaSchedules.TheVariants.{SaScheduleList}
-use Rattle.iso_parameters.specs.declared.schedules.TimeInterval.TheVariants.{Relative}
+use Rattle.iso_schedules.specs.declared.schedules.PMaxScheduleEntry.{PMaxScheduleEntry}
+use Rattle.iso_schedules.specs.declared.schedules.SaScheduleTuple.{SaScheduleTuple}
+use Rattle.iso_schedules.specs.declared.schedules.SaSchedules.{SaSchedules}
+use Rattle.iso_schedules.specs.declared.schedules.SaSchedules.TheVariants.{SaScheduleList}
+use Rattle.iso_schedules.specs.declared.schedules.TimeInterval.TheVariants.{Relative}
 use Rattle.iso_values.specs.Modes.{energy_transfer_mode}
 use Rattle.iso_values.specs.States.{evse_processing}
 use Rattle.iso_values.specs.Physical.{voltage_of, nominal_of, current_of, power_of, power_if}

@@ -20,11 +20,11 @@ use Rattle.iso_power.specs.declared.charging.CurrentDemandReq.{CurrentDemandReq}
 use Rattle.iso_power.specs.declared.charging.CurrentDemandRes.{CurrentDemandRes}
 use Rattle.iso_power.specs.declared.charging.WeldingDetectionReq.{WeldingDetectionReq}
 use Rattle.iso_power.specs.declared.charging.WeldingDetectionRes.{WeldingDetectionRes}
-use Rattle.iso_power.specs.declared.delivery.ChargingProfile.{ChargingProfile}
-use Rattle.iso_power.specs.declared.delivery.ProfileEntry.{ProfileEntry}
-use Rattle.iso_power.specs.declared.delivery.PowerDeliveryReq.{PowerDeliveryReq}
-use Rattle.iso_power.specs.declared.delivery.PowerDeliveryRes.{PowerDeliveryRes}
-use Rattle.iso_power.specs.declared.delivery.ChargingStatusRes.{ChargingStatusRes}
+use Rattle.iso_delivery.specs.declared.delivery.ChargingProfile.{ChargingProfile}
+use Rattle.iso_delivery.specs.declared.delivery.ProfileEntry.{ProfileEntry}
+use Rattle.iso_delivery.specs.declared.delivery.PowerDeliveryReq.{PowerDeliveryReq}
+use Rattle.iso_delivery.specs.declared.delivery.PowerDeliveryRes.{PowerDeliveryRes}
+use Rattle.iso_delivery.specs.declared.delivery.ChargingStatusRes.{ChargingStatusRes}
 use Rattle.iso_values.specs.States.{charge_progress, evse_processing}
 use Rattle.iso_values.specs.Physical.{voltage_of, voltage_if, current_of, current_if, power_of, power_if}
 use Rattle.iso_values.specs.Statuses.{ac_evse_status, dc_evse_status, dc_ev_status, evse_status}

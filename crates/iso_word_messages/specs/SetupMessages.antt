@@ -9,8 +9,8 @@ use Rattle.message_parts.specs.declared.texts.Text.{Text}
 use Rattle.iso_parts.specs.declared.codes.PaymentOption.TheVariants.{ExternalPayment}
 use Rattle.iso_parts.specs.declared.codes.ResponseCode.{ResponseCode}
 use Rattle.iso_parts.specs.declared.codes.ServiceCategory.TheVariants.{EvCharging}
-use Rattle.iso_setup.specs.declared.details.ServiceDetailReq.{ServiceDetailReq}
-use Rattle.iso_setup.specs.declared.details.ServiceDetailRes.{ServiceDetailRes}
+use Rattle.iso_details.specs.declared.details.ServiceDetailReq.{ServiceDetailReq}
+use Rattle.iso_details.specs.declared.details.ServiceDetailRes.{ServiceDetailRes}
 use Rattle.iso_setup.specs.declared.selection.SelectedService.{SelectedService}
 use Rattle.iso_setup.specs.declared.selection.PaymentServiceSelectionReq.{PaymentServiceSelectionReq}
 use Rattle.iso_setup.specs.declared.services.ChargeService.{ChargeService}

@@ -15,9 +15,9 @@ use crate::setup_messages::{
     authorization_req, authorization_res, detail_req, detail_res, discovery_req, discovery_res,
     selection_req, setup_req, setup_res, stop_req,
 };
+use iso_delivery::ChargingStatusReq;
 use iso_message::{Body, BodyElement, BriefElement, IsoMessage};
 use iso_parts::Header;
-use iso_power::ChargingStatusReq;
 use iso_setup::{PaymentServiceSelectionRes, SessionStopRes};
 use iso_values::codes::response_code;
 use message_parts::{Binary, Text};

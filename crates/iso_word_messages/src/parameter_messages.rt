@@ -9,10 +9,13 @@ use arrayvec::ArrayVec;
 use iso_parameters::{
     AcEvChargeParameter, AcEvseChargeParameter, ChargeParameterDiscoveryReq,
     ChargeParameterDiscoveryRes, DcEvChargeParameter, DcEvseChargeParameter, EvChargeParameter,
-    EvseChargeParameter, PMaxSchedule, PMaxScheduleEntry, RelativeTimeInterval, SaScheduleList,
-    SaScheduleTuple, SaSchedules, TimeInterval,
+    EvseChargeParameter,
 };
 use iso_parts::{PhysicalValue, ResponseCode, UnitSymbol};
+use iso_schedules::{
+    PMaxSchedule, PMaxScheduleEntry, RelativeTimeInterval, SaScheduleList, SaScheduleTuple,
+    SaSchedules, TimeInterval,
+};
 use iso_values::modes::energy_transfer_mode;
 use iso_values::physical::{current_of, nominal_of, power_if, power_of, voltage_of};
 use iso_values::states::evse_processing;

@@ -5,10 +5,12 @@ ghost use Rattle.iso_word_messages.specs.PowerMessages as rule;
 ghost use Rattle.iso_word_messages.specs.Spellable.{AreTenths, AreWatts, IsSomeTuple};
 
 use arrayvec::ArrayVec;
+use iso_delivery::{
+    ChargingProfile, ChargingStatusRes, PowerDeliveryReq, PowerDeliveryRes, ProfileEntry,
+};
 use iso_parts::ResponseCode;
 use iso_power::{
-    CableCheckReq, CableCheckRes, ChargingProfile, ChargingStatusRes, CurrentDemandReq,
-    CurrentDemandRes, PowerDeliveryReq, PowerDeliveryRes, PreChargeReq, PreChargeRes, ProfileEntry,
+    CableCheckReq, CableCheckRes, CurrentDemandReq, CurrentDemandRes, PreChargeReq, PreChargeRes,
     WeldingDetectionReq, WeldingDetectionRes,
 };
 use iso_values::physical::{current_if, current_of, power_if, power_of, voltage_if, voltage_of};

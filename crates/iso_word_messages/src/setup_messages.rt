@@ -5,12 +5,13 @@ ghost use Rattle.iso_values.specs.Modes.{offered_mode as offered_as};
 ghost use Rattle.iso_word_messages.specs.SetupMessages as rule;
 
 use arrayvec::ArrayVec;
+use iso_details::{ServiceDetailReq, ServiceDetailRes};
 use iso_parts::{EnergyTransferMode, PaymentOption, ResponseCode, ServiceCategory};
 use iso_setup::{
     AuthorizationReq, AuthorizationRes, ChargeService, PaymentOptionList,
-    PaymentServiceSelectionReq, SelectedService, SelectedServiceList, ServiceDetailReq,
-    ServiceDetailRes, ServiceDiscoveryReq, ServiceDiscoveryRes, SessionSetupReq, SessionSetupRes,
-    SessionStopReq, SupportedEnergyTransferMode,
+    PaymentServiceSelectionReq, SelectedService, SelectedServiceList, ServiceDiscoveryReq,
+    ServiceDiscoveryRes, SessionSetupReq, SessionSetupRes, SessionStopReq,
+    SupportedEnergyTransferMode,
 };
 use iso_values::modes::offered_mode;
 use iso_values::states::{charging_session, evse_processing, payment_option};

@@ -19,10 +19,10 @@ use Rattle.iso_parameters.specs.declared.limits.EvChargeParameter.{EvChargeParam
 use Rattle.iso_parameters.specs.declared.limits.EvChargeParameter.TheVariants as ev
 use Rattle.iso_parameters.specs.declared.limits.EvseChargeParameter.{EvseChargeParameter}
 use Rattle.iso_parameters.specs.declared.limits.EvseChargeParameter.TheVariants as evse
-use Rattle.iso_parameters.specs.declared.schedules.PMaxScheduleEntry.{PMaxScheduleEntry}
-use Rattle.iso_parameters.specs.declared.schedules.SaScheduleTuple.{SaScheduleTuple}
-use Rattle.iso_parameters.specs.declared.schedules.SaSchedules.{SaSchedules}
-use Rattle.iso_parameters.specs.declared.schedules.SaSchedules.TheVariants.{SaScheduleList}
+use Rattle.iso_schedules.specs.declared.schedules.PMaxScheduleEntry.{PMaxScheduleEntry}
+use Rattle.iso_schedules.specs.declared.schedules.SaScheduleTuple.{SaScheduleTuple}
+use Rattle.iso_schedules.specs.declared.schedules.SaSchedules.{SaSchedules}
+use Rattle.iso_schedules.specs.declared.schedules.SaSchedules.TheVariants.{SaScheduleList}
 use Rattle.iso_values.specs.Modes.{mode_of}
 use Rattle.iso_values.specs.States.{notify_of, processing_of}
 use Rattle.iso_values.specs.Physical.{voltage_in, current_in, power_in}

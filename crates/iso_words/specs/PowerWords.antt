@@ -16,11 +16,11 @@ use Rattle.iso_power.specs.declared.charging.CurrentDemandReq.{CurrentDemandReq}
 use Rattle.iso_power.specs.declared.charging.CurrentDemandRes.{CurrentDemandRes}
 use Rattle.iso_power.specs.declared.charging.WeldingDetectionReq.{WeldingDetectionReq}
 use Rattle.iso_power.specs.declared.charging.WeldingDetectionRes.{WeldingDetectionRes}
-use Rattle.iso_power.specs.declared.delivery.ChargingProfile.{ChargingProfile}
-use Rattle.iso_power.specs.declared.delivery.ProfileEntry.{ProfileEntry}
-use Rattle.iso_power.specs.declared.delivery.PowerDeliveryReq.{PowerDeliveryReq}
-use Rattle.iso_power.specs.declared.delivery.PowerDeliveryRes.{PowerDeliveryRes}
-use Rattle.iso_power.specs.declared.delivery.ChargingStatusRes.{ChargingStatusRes}
+use Rattle.iso_delivery.specs.declared.delivery.ChargingProfile.{ChargingProfile}
+use Rattle.iso_delivery.specs.declared.delivery.ProfileEntry.{ProfileEntry}
+use Rattle.iso_delivery.specs.declared.delivery.PowerDeliveryReq.{PowerDeliveryReq}
+use Rattle.iso_delivery.specs.declared.delivery.PowerDeliveryRes.{PowerDeliveryRes}
+use Rattle.iso_delivery.specs.declared.delivery.ChargingStatusRes.{ChargingStatusRes}
 use Rattle.iso_values.specs.States.{notify_of, processing_of, progress_of}
 use Rattle.iso_values.specs.Physical.{voltage_in, current_in, power_in}
 use Rattle.iso_values.specs.Statuses.{dc_status_of, post_status_of}

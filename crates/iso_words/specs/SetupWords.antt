@@ -6,8 +6,8 @@ use Rattle.session_words.specs.declared.word.Ask.{Ask}
 use Rattle.session_words.specs.declared.word.Ask.TheVariants as ask
 use Rattle.session_words.specs.declared.word.Tell.{Tell}
 use Rattle.session_words.specs.declared.word.Tell.TheVariants as tell
-use Rattle.iso_setup.specs.declared.details.ServiceDetailReq.{ServiceDetailReq}
-use Rattle.iso_setup.specs.declared.details.ServiceDetailRes.{ServiceDetailRes}
+use Rattle.iso_details.specs.declared.details.ServiceDetailReq.{ServiceDetailReq}
+use Rattle.iso_details.specs.declared.details.ServiceDetailRes.{ServiceDetailRes}
 use Rattle.iso_setup.specs.declared.selection.PaymentServiceSelectionReq.{PaymentServiceSelectionReq}
 use Rattle.iso_setup.specs.declared.services.ServiceDiscoveryRes.{ServiceDiscoveryRes}
 use Rattle.iso_setup.specs.declared.session.SessionSetupReq.{SessionSetupReq}

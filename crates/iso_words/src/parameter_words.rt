@@ -7,8 +7,9 @@ ghost use Rattle.iso_words.specs.ParameterWords as rule;
 use arrayvec::ArrayVec;
 use iso_parameters::{
     ChargeParameterDiscoveryReq, ChargeParameterDiscoveryRes, EvChargeParameter,
-    EvseChargeParameter, PMaxScheduleEntry, SaScheduleTuple, SaSchedules,
+    EvseChargeParameter,
 };
+use iso_schedules::{PMaxScheduleEntry, SaScheduleTuple, SaSchedules};
 use iso_values::modes::mode_of;
 use iso_values::physical::{current_in, power_in, voltage_in};
 use iso_values::states::{notify_of, processing_of};

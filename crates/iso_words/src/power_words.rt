@@ -4,9 +4,11 @@ ghost use Rattle.std.specs.Prelude.{◌≡◌, fold, max, map};
 ghost use Rattle.std.specs.List.{list_all};
 ghost use Rattle.iso_words.specs.PowerWords as rule;
 
+use iso_delivery::{
+    ChargingProfile, ChargingStatusRes, PowerDeliveryReq, PowerDeliveryRes, ProfileEntry,
+};
 use iso_power::{
-    CableCheckReq, CableCheckRes, ChargingProfile, ChargingStatusRes, CurrentDemandReq,
-    CurrentDemandRes, PowerDeliveryReq, PowerDeliveryRes, PreChargeReq, PreChargeRes, ProfileEntry,
+    CableCheckReq, CableCheckRes, CurrentDemandReq, CurrentDemandRes, PreChargeReq, PreChargeRes,
     WeldingDetectionReq, WeldingDetectionRes,
 };
 use iso_values::physical::{current_in, power_in, voltage_in};

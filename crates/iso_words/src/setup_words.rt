@@ -5,10 +5,11 @@ ghost use Rattle.iso_values.specs.Modes.{offered_of as offered_as};
 ghost use Rattle.iso_words.specs.SetupWords as rule;
 
 use arrayvec::ArrayVec;
+use iso_details::{ServiceDetailReq, ServiceDetailRes};
 use iso_parts::EnergyTransferMode;
 use iso_setup::{
-    AuthorizationRes, PaymentServiceSelectionReq, SelectedService, ServiceDetailReq,
-    ServiceDetailRes, ServiceDiscoveryRes, SessionSetupReq, SessionSetupRes, SessionStopReq,
+    AuthorizationRes, PaymentServiceSelectionReq, SelectedService, ServiceDiscoveryRes,
+    SessionSetupReq, SessionSetupRes, SessionStopReq,
 };
 use iso_values::modes::offered_of;
 use iso_values::states::{is_external, is_pause, processing_of};

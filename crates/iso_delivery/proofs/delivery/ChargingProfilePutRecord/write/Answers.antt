@@ -1,0 +1,5 @@
+use Rattle.iso_delivery.proofs.delivery.ChargingProfilePutRecord.write.Goals as goal
+
+pub returns-clause-write : goal.returns-clause-write
+returns-clause-write g c = λ F rest h.
+    c.put_records.ensures.write F _ h

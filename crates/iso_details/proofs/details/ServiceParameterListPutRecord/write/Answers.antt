@@ -1,0 +1,5 @@
+use Rattle.iso_details.proofs.details.ServiceParameterListPutRecord.write.Goals as goal
+
+pub returns-clause-write : goal.returns-clause-write
+returns-clause-write g c = λ F rest h.
+    c.put_records.ensures.write F _ h

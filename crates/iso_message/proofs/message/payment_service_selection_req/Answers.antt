@@ -1,6 +1,0 @@
-use Rattle.std.proofs.Common.{refl}
-use Rattle.iso_message.proofs.message.payment_service_selection_req.Goals as goal
-
-pub returns-clause-read : goal.returns-clause-read
-returns-clause-read g c = λ F told h here.
-    c.in_ok-member.ensures.read F _ _ _ told h here refl refl

@@ -1,5 +1,0 @@
-use Rattle.iso_parameters.proofs.schedules.SaScheduleTuplePutRecord.write.Goals as goal
-
-pub returns-clause-write : goal.returns-clause-write
-returns-clause-write g c = λ F rest h.
-    c.put_record.ensures.write F _ (c.put_value.ensures.write F _ h)

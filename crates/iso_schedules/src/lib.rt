@@ -1,0 +1,9 @@
+//! Schedules of ISO 15118-2:2014: the power that a station gives over time.
+#![tactic(auto)]
+
+mod schedules;
+
+pub use schedules::{
+    PMaxSchedule, PMaxScheduleEntry, RelativeTimeInterval, SaScheduleList, SaScheduleTuple,
+    SaSchedules, TimeInterval,
+};

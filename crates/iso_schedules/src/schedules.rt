@@ -1,0 +1,367 @@
+//! Types of elements of the messages of ISO 15118-2.
+
+ghost use Rattle.std.specs.Prelude.{[]};
+
+use arrayvec::ArrayVec;
+use exi_documents::Refusal;
+use exi_events::EventWriter;
+use exi_schema::Places;
+use iso_parts::PhysicalValue;
+use iso_schema::names;
+use message_fields::{
+    Elements, Elements2, Elements3, LeftOut, OneOf, OptionalValue, Required, RequiredValue, Several,
+};
+use message_parts::{
+    Choice, Descent, Group, PutChoice, PutRecord, ReadRecord, Record, member, put_choice,
+    put_optional_value, put_record, put_records, put_value, whole_record,
+};
+
+/// RelativeTimeInterval.
+#[derive(Clone, Copy, Default)]
+pub struct RelativeTimeInterval {
+    /// At most 16,777,214.
+    pub start: u32,
+    /// At most 86,400.
+    pub duration: Option<u32>,
+}
+
+impl PutRecord for RelativeTimeInterval {
+    ghost use Rattle.std.specs.Prelude.{refl};
+    ghost use Rattle.iso_schema.specs.Declarations.{kinds};
+    ghost use Rattle.iso_schema.specs.Schedules.{relative_time_interval};
+    ghost use Rattle.iso_schedules.specs.Schedules.{relative_time_interval_parts};
+
+    ghost kinds = { kinds };
+
+    ghost attributes = { [] };
+
+    ghost particles = { relative_time_interval };
+
+    ghost apart = { refl };
+
+    ghost given = { λ v. [] };
+
+    ghost parts = { relative_time_interval_parts };
+
+    fn write<P: Places>(&self, writer: &mut EventWriter<'_, '_, P>) {
+        put_value(writer, names::START, &self.start);
+        put_optional_value(writer, names::DURATION, &self.duration);
+    }
+}
+
+impl<'a> Record<'a> for RelativeTimeInterval {
+    ghost use Rattle.std.proofs.Common.{rules};
+
+    type Made = Elements2<RequiredValue<u32>, OptionalValue<u32, { names::DURATION }>>;
+
+    fn of(made: Self::Made) -> RelativeTimeInterval {
+        let Elements2(RequiredValue(start), OptionalValue(duration)) = made;
+        RelativeTimeInterval { start, duration }
+    }
+
+    ghost declared = { Prim.search rules };
+}
+
+impl<'a> ReadRecord<'a> for RelativeTimeInterval {
+    fn read<P: Places>(descent: &mut Descent<'a, '_, P>) -> Result<RelativeTimeInterval, Refusal> {
+        whole_record(descent)
+    }
+}
+
+/// One element of the substitution group TimeInterval.
+#[derive(Clone, Copy)]
+pub enum TimeInterval {
+    Relative(RelativeTimeInterval),
+}
+
+impl Default for TimeInterval {
+    fn default() -> TimeInterval {
+        TimeInterval::Relative(RelativeTimeInterval::default())
+    }
+}
+
+impl PutChoice for TimeInterval {
+    ghost use Rattle.iso_schema.specs.Declarations.{kinds};
+    ghost use Rattle.iso_schedules.specs.Schedules.{time_interval_members, time_interval_name, time_interval_inside};
+
+    ghost kinds = { kinds };
+
+    ghost members = { time_interval_members };
+
+    ghost name = { time_interval_name };
+
+    ghost inside = { time_interval_inside };
+
+    fn write_member<P: Places>(&self, writer: &mut EventWriter<'_, '_, P>) {
+        match self {
+            TimeInterval::Relative(relative) => put_record(
+                writer,
+                names::RELATIVE_TIME_INTERVAL,
+                relative,
+            ),
+        }
+    }
+}
+
+impl<'a> Choice<'a> for TimeInterval {
+    fn read_member<P: Places>(descent: &mut Descent<'a, '_, P>) -> Result<TimeInterval, Refusal> {
+        member(descent).map(TimeInterval::Relative)
+    }
+}
+
+/// PMaxScheduleEntry.
+#[derive(Clone, Copy, Default)]
+pub struct PMaxScheduleEntry {
+    pub time_interval: TimeInterval,
+    pub p_max: PhysicalValue,
+}
+
+impl PutRecord for PMaxScheduleEntry {
+    ghost use Rattle.std.specs.Prelude.{refl};
+    ghost use Rattle.iso_schema.specs.Declarations.{kinds};
+    ghost use Rattle.iso_schema.specs.Schedules.{p_max_schedule_entry};
+    ghost use Rattle.iso_schedules.specs.Schedules.{p_max_schedule_entry_parts};
+
+    ghost kinds = { kinds };
+
+    ghost attributes = { [] };
+
+    ghost particles = { p_max_schedule_entry };
+
+    ghost apart = { refl };
+
+    ghost given = { λ v. [] };
+
+    ghost parts = { p_max_schedule_entry_parts };
+
+    fn write<P: Places>(&self, writer: &mut EventWriter<'_, '_, P>) {
+        put_choice(writer, &self.time_interval);
+        put_record(writer, names::P_MAX, &self.p_max);
+    }
+}
+
+impl<'a> Record<'a> for PMaxScheduleEntry {
+    ghost use Rattle.std.proofs.Common.{rules};
+
+    type Made = Elements2<OneOf<TimeInterval>, Required<PhysicalValue>>;
+
+    fn of(made: Self::Made) -> PMaxScheduleEntry {
+        let Elements2(OneOf(time_interval), Required(p_max)) = made;
+        PMaxScheduleEntry {
+            time_interval,
+            p_max,
+        }
+    }
+
+    ghost declared = { Prim.search rules };
+}
+
+impl<'a> ReadRecord<'a> for PMaxScheduleEntry {
+    fn read<P: Places>(descent: &mut Descent<'a, '_, P>) -> Result<PMaxScheduleEntry, Refusal> {
+        whole_record(descent)
+    }
+}
+
+/// PMaxSchedule.
+#[derive(Drop, Default)]
+pub struct PMaxSchedule {
+    /// 1 to 128.
+    pub p_max_schedule_entry: ArrayVec<PMaxScheduleEntry, 128>,
+}
+
+impl PutRecord for PMaxSchedule {
+    ghost use Rattle.std.specs.Prelude.{refl};
+    ghost use Rattle.iso_schema.specs.Declarations.{kinds};
+    ghost use Rattle.iso_schema.specs.Schedules.{p_max_schedule};
+    ghost use Rattle.iso_schedules.specs.Schedules.{p_max_schedule_parts};
+
+    ghost kinds = { kinds };
+
+    ghost attributes = { [] };
+
+    ghost particles = { p_max_schedule };
+
+    ghost apart = { refl };
+
+    ghost given = { λ v. [] };
+
+    ghost parts = { p_max_schedule_parts };
+
+    fn write<P: Places>(&self, writer: &mut EventWriter<'_, '_, P>) {
+        put_records(
+            writer,
+            names::P_MAX_SCHEDULE_ENTRY,
+            &self.p_max_schedule_entry,
+        );
+    }
+}
+
+impl<'a> Record<'a> for PMaxSchedule {
+    ghost use Rattle.std.proofs.Common.{rules};
+
+    type Made = Elements<Several<PMaxScheduleEntry, 128, { names::P_MAX_SCHEDULE_ENTRY }>>;
+
+    fn of(made: Self::Made) -> PMaxSchedule {
+        let Elements(Several(p_max_schedule_entry)) = made;
+        PMaxSchedule {
+            p_max_schedule_entry,
+        }
+    }
+
+    ghost declared = { Prim.search rules };
+}
+
+impl<'a> ReadRecord<'a> for PMaxSchedule {
+    fn read<P: Places>(descent: &mut Descent<'a, '_, P>) -> Result<PMaxSchedule, Refusal> {
+        whole_record(descent)
+    }
+}
+
+/// SAScheduleTuple.
+#[derive(Drop, Default)]
+pub struct SaScheduleTuple {
+    /// 1 to 255.
+    pub sa_schedule_tuple_id: u8,
+    pub p_max_schedule: PMaxSchedule,
+}
+
+impl PutRecord for SaScheduleTuple {
+    ghost use Rattle.std.specs.Prelude.{refl};
+    ghost use Rattle.iso_schema.specs.Declarations.{kinds};
+    ghost use Rattle.iso_schema.specs.Schedules.{sa_schedule_tuple};
+    ghost use Rattle.iso_schedules.specs.Schedules.{sa_schedule_tuple_parts};
+
+    ghost kinds = { kinds };
+
+    ghost attributes = { [] };
+
+    ghost particles = { sa_schedule_tuple };
+
+    ghost apart = { refl };
+
+    ghost given = { λ v. [] };
+
+    ghost parts = { sa_schedule_tuple_parts };
+
+    fn write<P: Places>(&self, writer: &mut EventWriter<'_, '_, P>) {
+        put_value(
+            writer,
+            names::SA_SCHEDULE_TUPLE_ID,
+            &self.sa_schedule_tuple_id,
+        );
+        put_record(writer, names::P_MAX_SCHEDULE, &self.p_max_schedule);
+    }
+}
+
+impl<'a> Record<'a> for SaScheduleTuple {
+    ghost use Rattle.std.proofs.Common.{rules};
+
+    type Made = Elements3<RequiredValue<u8>, Required<PMaxSchedule>, LeftOut>;
+
+    fn of(made: Self::Made) -> SaScheduleTuple {
+        let Elements3(RequiredValue(sa_schedule_tuple_id), Required(p_max_schedule), LeftOut) =
+            made;
+        SaScheduleTuple {
+            sa_schedule_tuple_id,
+            p_max_schedule,
+        }
+    }
+
+    ghost declared = { Prim.search rules };
+}
+
+impl<'a> ReadRecord<'a> for SaScheduleTuple {
+    fn read<P: Places>(descent: &mut Descent<'a, '_, P>) -> Result<SaScheduleTuple, Refusal> {
+        whole_record(descent)
+    }
+}
+
+/// SAScheduleList.
+#[derive(Drop)]
+pub struct SaScheduleList {
+    /// 1 to 3.
+    pub sa_schedule_tuple: ArrayVec<SaScheduleTuple, 3>,
+}
+
+impl PutRecord for SaScheduleList {
+    ghost use Rattle.std.specs.Prelude.{refl};
+    ghost use Rattle.iso_schema.specs.Declarations.{kinds};
+    ghost use Rattle.iso_schema.specs.Schedules.{sa_schedule_list};
+    ghost use Rattle.iso_schedules.specs.Schedules.{sa_schedule_list_parts};
+
+    ghost kinds = { kinds };
+
+    ghost attributes = { [] };
+
+    ghost particles = { sa_schedule_list };
+
+    ghost apart = { refl };
+
+    ghost given = { λ v. [] };
+
+    ghost parts = { sa_schedule_list_parts };
+
+    fn write<P: Places>(&self, writer: &mut EventWriter<'_, '_, P>) {
+        put_records(writer, names::SA_SCHEDULE_TUPLE, &self.sa_schedule_tuple);
+    }
+}
+
+impl<'a> Record<'a> for SaScheduleList {
+    ghost use Rattle.std.proofs.Common.{rules};
+
+    type Made = Elements<Several<SaScheduleTuple, 3, { names::SA_SCHEDULE_TUPLE }>>;
+
+    fn of(made: Self::Made) -> SaScheduleList {
+        let Elements(Several(sa_schedule_tuple)) = made;
+        SaScheduleList { sa_schedule_tuple }
+    }
+
+    ghost declared = { Prim.search rules };
+}
+
+impl<'a> ReadRecord<'a> for SaScheduleList {
+    fn read<P: Places>(descent: &mut Descent<'a, '_, P>) -> Result<SaScheduleList, Refusal> {
+        whole_record(descent)
+    }
+}
+
+/// One element of the substitution group SASchedules.
+#[derive(Drop)]
+pub enum SaSchedules {
+    SaScheduleList(SaScheduleList),
+}
+
+impl PutChoice for SaSchedules {
+    ghost use Rattle.iso_schema.specs.Declarations.{kinds};
+    ghost use Rattle.iso_schedules.specs.Schedules.{sa_schedules_members, sa_schedules_name, sa_schedules_inside};
+
+    ghost kinds = { kinds };
+
+    ghost members = { sa_schedules_members };
+
+    ghost name = { sa_schedules_name };
+
+    ghost inside = { sa_schedules_inside };
+
+    fn write_member<P: Places>(&self, writer: &mut EventWriter<'_, '_, P>) {
+        match self {
+            SaSchedules::SaScheduleList(sa_schedule_list) => put_record(
+                writer,
+                names::SA_SCHEDULE_LIST,
+                sa_schedule_list,
+            ),
+        }
+    }
+}
+
+impl<'a> Choice<'a> for SaSchedules {
+    fn read_member<P: Places>(descent: &mut Descent<'a, '_, P>) -> Result<SaSchedules, Refusal> {
+        member(descent).map(SaSchedules::SaScheduleList)
+    }
+}
+
+impl<'a> Group<'a> for SaSchedules {
+    fn names() -> &'static [u16] {
+        &[names::SA_SCHEDULE_LIST]
+    }
+}

@@ -1,5 +1,0 @@
-use Rattle.iso_setup.proofs.details.ParameterPutRecord.write.Goals as goal
-
-pub returns-clause-write : goal.returns-clause-write
-returns-clause-write g c = λ F rest h.
-    c.put_choice.ensures.write F _ (c.put_attribute.ensures.write F _ h)
