@@ -4,11 +4,12 @@ ghost use Rattle.std.specs.Prelude.{◌≡◌, Some};
 ghost use Rattle.iso_message.specs.declared.message.BodyElement.TheVariants as elements;
 ghost use Rattle.iso_elements.specs.declared.brief.BriefElement.TheVariants as briefs;
 
-use crate::message::{Body, BodyElement, BriefElement, IsoMessage};
+use crate::message::{Body, BodyElement, IsoMessage};
 use exi_documents::Refusal;
 use exi_events::EventWriter;
 use exi_schema::Places;
 use iso_delivery::ChargingStatusReq;
+use iso_elements::BriefElement;
 use iso_parts::Header;
 use iso_schema::names;
 use message_parts::{Descent, LargeChoice, PutChoice, Root, member_here, put_record};
