@@ -286,7 +286,7 @@ def brief_functions(t, kind):
 
 
 def large_uses(t, crate, file, kinds, said):
-    """What the clauses of the own functions of large groups name."""
+    """What the clauses of the own functions of large groups name; `said` is the text that they stand in."""
     names = ", ".join(it.name for it in t.own(kinds[-1]) if t.holds_list(it.kind))
     types = "".join(f"ghost use Rattle.{crate}.specs.declared.{file}.{t.camel(it)}.{{{t.camel(it)}}};\n" for it in kinds if not t.is_brief(it))
     prelude = ["◌≡◌", *(it for it in ("[]", "List", "Some", "IfOk", "IfErr", "drop") if has_word(it, said))]
@@ -403,7 +403,8 @@ use message_parts::Simple;
     lines += ["use exi_events::EventWriter;", "use exi_schema::Places;"]
     lines += [f"use {t.s.crate}::names;"] if "names::" in said else []
     lines += ["use arrayvec::ArrayVec;"] if "ArrayVec" in said else []
-    said += "LargeChoice" if "brief.read_member_here" in said else ""
+    # a method is called through its trait
+    said += " LargeChoice" if "brief.read_member_here" in said else ""
     words = [it for it in WORDS if re.search(rf"(?<![\w:.]){it}(?=\()" if it[0].islower() else rf"(?<![\w:]){it}\b", said)]
     lines += [f"use message_parts::{{{', '.join(words)}}};"]
     words = [it for it in CHILDREN if re.search(rf"(?<![\w:]){it}\b", said)]
