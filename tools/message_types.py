@@ -289,25 +289,20 @@ def large_uses(t, crate, file, kinds, said):
     """What the clauses of the own functions of large groups name; `said` is the text that they stand in."""
     names = ", ".join(it.name for it in t.own(kinds[-1]) if t.holds_list(it.kind))
     types = "".join(f"ghost use Rattle.{crate}.specs.declared.{file}.{t.camel(it)}.{{{t.camel(it)}}};\n" for it in kinds if not t.is_brief(it))
-    prelude = ["◌≡◌", *(it for it in ("[]", "List", "Some", "IfOk", "IfErr", "drop") if has_word(it, said))]
+    found = [it for it in ("[]", "List", "Some", "IfOk", "IfErr", "drop") if re.search(rf"(?<![\w:]){re.escape(it)}(?!\w)", said)]
     uses = {}
     for it in [*kinds, *(t.brief[it] for it in kinds if it in t.brief)]:
         place = f"{t.places[it][0]}.specs.{t.places[it][1].capitalize()}"
         words = [f"{t.lower(it)}_{word}" for word in ("members", "name", "inside") if it in kinds or word == "members"]
         uses.setdefault(place, []).extend(word for word in words if word not in uses.get(place, []))
     words = "".join(f"ghost use Rattle.{place}.{{{', '.join(words)}}};\n" for place, words in uses.items())
-    return f"""ghost use Rattle.std.specs.Prelude.{{{', '.join(prelude)}}};
+    return f"""ghost use Rattle.std.specs.Prelude.{{{', '.join(["◌≡◌", *found])}}};
 ghost use Rattle.exi_documents.specs.Trees.{{Event as TreeEvent}};
 ghost use Rattle.message_parts.specs.Contents.{{told_inside}};
 ghost use Rattle.message_parts.specs.Reading.{{Frame, IsOpen, IsRefusal, IsChosen, Leaves, seen_of}};
 ghost use Rattle.{t.s.crate}.specs.Declarations.{{kinds}};
 ghost use Rattle.{t.s.crate}.specs.declared.names.TheConstants.{{{names}}};
 {types}{words}"""
-
-
-def has_word(word, text):
-    """Whether a name or sign stands in a text."""
-    return word in text if not word[0].isalpha() else re.search(rf"(?<![\w:]){word}(?!\w)", text)
 
 
 def choice(t, crate, file, kind):
@@ -403,15 +398,16 @@ use message_parts::Simple;
     lines += ["use exi_events::EventWriter;", "use exi_schema::Places;"]
     lines += [f"use {t.s.crate}::names;"] if "names::" in said else []
     lines += ["use arrayvec::ArrayVec;"] if "ArrayVec" in said else []
-    # a method is called through its trait
-    said += " LargeChoice" if "brief.read_member_here" in said else ""
-    words = [it for it in WORDS if re.search(rf"(?<![\w:.]){it}(?=\()" if it[0].islower() else rf"(?<![\w:]){it}\b", said)]
+    # what is brief is read by a method, and so through its trait
+    methods = ["LargeChoice"] if any(it in t.brief for it in kinds) else []
+    words = [it for it in WORDS if it in methods or re.search(rf"(?<![\w:.]){it}(?=\()" if it[0].islower() else rf"(?<![\w:]){it}\b", said)]
     lines += [f"use message_parts::{{{', '.join(words)}}};"]
     words = [it for it in CHILDREN if re.search(rf"(?<![\w:]){it}\b", said)]
     lines += [f"use message_fields::{{{', '.join(words)}}};"] if words else []
-    ghost = "ghost use Rattle.std.specs.Prelude.{[]};\n\n" if "[]" in re.sub(r"&\[[^]]*\]", "", said) else ""
+    said = re.sub(r"&\[[^]]*\]", "", said)
+    ghost = "ghost use Rattle.std.specs.Prelude.{[]};\n\n" if "[]" in said else ""
     large = [it for it in kinds if it in t.large and it in t.choices]
-    ghost = large_uses(t, crate, file, large, re.sub(r"&\[[^]]*\]", "", said)) + "\n" if large else ghost
+    ghost = large_uses(t, crate, file, large, said) + "\n" if large else ghost
     return f"//! Types of elements of {t.s.title}.\n\n{ghost}" + "\n".join(sorted(lines, key=order)) + "\n" + body
 
 
