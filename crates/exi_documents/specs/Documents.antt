@@ -1,8 +1,8 @@
 -- W3C EXI 1.0 (Second Edition) 8.5.4, Schema-informed Element and Type Grammars, 8.4.1, Schema-informed Document Grammar, and 5, EXI
 -- Header: the bits that spell a tree, a document and its one encoding.
 use Rattle.std.specs.Prelude.{◌≡◌, ℕ, ◌<◌, Bool, false, List, [], ◌∷◌, ◌++◌, length, replicate, Some, slice_get}
-use Rattle.exi_spec.specs.Bits.{number_bits, bits_of}
-use Rattle.exi_spec.specs.Items.{SpellsNumber}
+use Rattle.exi_strings.specs.Bits.{number_bits, bits_of}
+use Rattle.exi_strings.specs.Items.{SpellsNumber}
 use Rattle.exi_schema.specs.declared.places.Place.{Place}
 use Rattle.exi_schema.specs.declared.places.Root.TheVariants.{Kind}
 use Rattle.exi_schema.specs.declared.places.Step.{Step}

@@ -1,6 +1,6 @@
 -- W3C EXI 1.0 (Second Edition) 8, EXI Grammars: how a document goes from one event to the next.
 use Rattle.std.specs.Prelude.{◌≡◌, ℕ, Bool, List, [], ◌∷◌, ◌++◌, Some}
-use Rattle.exi_spec.specs.Items.{SpellsNumber}
+use Rattle.exi_strings.specs.Items.{SpellsNumber}
 use Rattle.exi_schema.specs.declared.places.Place.{Place}
 use Rattle.exi_schema.specs.declared.places.Root.TheVariants.{Kind}
 use Rattle.exi_schema.specs.declared.places.Step.TheVariants as step

@@ -1,8 +1,8 @@
 -- Own: the first item of a payload that can't be taken, and why. The items are those of W3C EXI 1.0 (Second Edition): the header
 -- byte (5), a document number (8.4.1), an event code (6.2), and those of a value (7.1).
 use Rattle.std.specs.Prelude.{◌≡◌, ◌≢◌, ℕ, ◌+◌, ◌%◌, ◌≤◌, ◌==◌, if◌then◌else◌, ◌⊎◌, Bool, true, false, List, ◌++◌, length, take, Option, Some, None, slice_get}
-use Rattle.exi_spec.specs.Bits.{bits_of}
-use Rattle.exi_spec.specs.Items.{SpellsNumber, Begins, RefusesBits}
+use Rattle.exi_strings.specs.Bits.{bits_of}
+use Rattle.exi_strings.specs.Items.{SpellsNumber, Begins, RefusesBits}
 use Rattle.exi_schema.specs.declared.places.Place.{Place}
 use Rattle.exi_schema.specs.declared.places.Root.{Root}
 use Rattle.exi_schema.specs.declared.places.Root.TheVariants.{Kind, Unknown, NoSuch}

@@ -3,10 +3,10 @@
 use Rattle.std.specs.Prelude.{◌≡◌, ℕ, zero, suc, ℤ, pos, ◌+◌, ◌*◌, ◌<◌, ◌≤◌, ◌+ℤ◌, ◌≤ℤ◌, ◌⊎◌, Bool, List, [], ◌∷◌, ◌++◌, length, Some, None, slice_get}
 use Rattle.std.specs.List.{AllByRecursion}
 use Rattle.std.specs.Char.{IsScalar}
-use Rattle.exi_spec.specs.Bits.{number_bits, bits_of}
-use Rattle.exi_spec.specs.Items.{SpellsNumber, SpellsUnsigned, SpellsInteger, SpellsBytes, Begins, RefusesBits, RefusesUnsigned, RefusesInteger, RefusesChars, shortest_unsigned, shortest_integer}
-use Rattle.exi_spec.specs.declared.BitCause.{BitCause}
-use Rattle.exi_spec.specs.declared.BitCause.TheVariants as bit
+use Rattle.exi_strings.specs.Bits.{number_bits, bits_of}
+use Rattle.exi_strings.specs.Items.{SpellsNumber, SpellsUnsigned, SpellsInteger, SpellsBytes, Begins, RefusesBits, RefusesUnsigned, RefusesInteger, RefusesChars, shortest_unsigned, shortest_integer}
+use Rattle.exi_strings.specs.BitCause.{BitCause}
+use Rattle.exi_strings.specs.BitCause.TheVariants as bit
 use Rattle.exi_schema.specs.declared.tables.Datatype.{Datatype}
 use Rattle.exi_schema.specs.declared.tables.Datatype.TheVariants.{Bool as BoolType, Named, Bounded, Unsigned, Signed, Binary, Text as TextType}
 use Rattle.exi_strings.specs.Table.{global_of, local_of}

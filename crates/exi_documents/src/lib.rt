@@ -4,6 +4,7 @@
 
 mod refusal;
 
+pub use exi_strings;
 pub use refusal::{Refusal, RefusalCause};
 
 /// How many texts the string table of a payload holds at most (own).

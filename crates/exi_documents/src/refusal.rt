@@ -1,6 +1,6 @@
 //! Refusals of a payload.
 
-use exi_spec::BitCause;
+use exi_strings::exi_spec::BitCause;
 
 /// Why a payload spells no document (own): what is wrong with the first item that can't be taken.
 #[derive(Clone, Copy, Debug, PartialEq, Eq)]

@@ -3,6 +3,7 @@
 
 mod partitions;
 
+pub use exi_spec;
 pub use partitions::{Partitions, TableFull};
 
 /// Want of memory, which a call can answer that takes an allocator.

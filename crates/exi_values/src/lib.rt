@@ -2,7 +2,7 @@
 #![tactic(auto)]
 
 use exi_bits::{BitSpan, SpanAt};
-use exi_strings::Partitions;
+use exi_documents::exi_strings::Partitions;
 
 /// The value of an element or of an attribute.
 #[derive(Drop)]
