@@ -8,7 +8,7 @@ use Rattle.app_documents.proofs.OneMessage.{one_message}
 use Rattle.app_protocol.specs.Documents.{IsApp}
 use Rattle.app_protocol.proofs.Decided.{apart}
 use Rattle.app_protocol.proofs.Encodings.{one_encoding}
-use Rattle.codec_rules.specs.Negotiating.{IsResponse}
+use Rattle.car_codec_rules.specs.Negotiating.{IsResponse}
 use Rattle.car_spec.specs.Codecs.{Judged, Chosen, Told, WrongSide, Refused}
 use Rattle.car_codec_rules.specs.Offering.{Offers, entries_of}
 use Rattle.car_codec_rules.specs.Responding.{chosen_by, IsChoice, IsRequest, Responds}

@@ -3,7 +3,7 @@
 
 ghost use Rattle.car_spec.specs.Codecs.{codecs};
 ghost use Rattle.car_spec.specs.Spelled.{ReadsBack, AreDetermined};
-ghost use Rattle.codec_rules.specs.Codecs.{Reads};
+ghost use Rattle.car_codec_rules.specs.CodecCodecs.{Reads};
 ghost use Rattle.car_codec.specs.Judging.{ChoosesOffered};
 ghost use Rattle.car_codec_rules.specs.Codecs.{Encodes};
 ghost use Rattle.car_codec_rules.specs.Offering.{Offers};
@@ -16,3 +16,7 @@ pub fn car_codecs_are_lawful()
     ensures determined { AreDetermined (codecs Offers Responds Reads Encodes) }
     ensures offered { ChoosesOffered Responds }
 {}
+
+pub use car_codec_rules;
+pub use din_requests;
+pub use iso_requests;

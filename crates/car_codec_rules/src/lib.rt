@@ -9,3 +9,5 @@ pub fn asked_requests()
     ensures spelled { AskedAreSpelled }
     ensures no_profile { AskedHaveNoProfile }
 {}
+
+pub use codec_rules;

@@ -3,7 +3,7 @@ use Rattle.std.proofs.Common.{◌≡◌, ℕ, suc, ◌+◌, ◌<◌, ◌==◌, B
 use Rattle.std.proofs.Math.Seq.{drop-cons}
 use Rattle.std.proofs.lemmas.Bool.{ne_eqb}
 use Rattle.charge_world.specs.declared.offer.Dialect.{Dialect}
-use Rattle.car_codec_rules.specs.Responding.{named_from}
+use Rattle.car_codec_laws.specs.Responding.{named_from}
 
 skipped : (b : Bool) (x : Dialect) (rest : Option Dialect) → b ≡ false → (if b then Some x else rest) ≡ rest
 skipped true x rest is = absurd (cc)

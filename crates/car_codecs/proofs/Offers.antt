@@ -12,7 +12,7 @@ use Rattle.app_documents.specs.Trees.{Request, IsOffered, IsMessage, tree_of}
 use Rattle.app_protocol.specs.Documents.{PassesBytes}
 use Rattle.app_protocol.specs.Negotiation.{namespace_of}
 use Rattle.session_words.specs.Plans.{IsOfferOnce}
-use Rattle.car_codec_rules.specs.Offering.{entry_at, entries_of}
+use Rattle.car_codec_laws.specs.Offering.{entry_at, entries_of}
 
 both : (a b : Bool) → (a && b) ≡ true → (a ≡ true) × (b ≡ true)
 both true b h = (refl, h)

@@ -3,17 +3,17 @@
 ghost use Rattle.std.specs.Prelude.{◌≡◌, ◌≤◌, length, take};
 ghost use Rattle.car_spec.specs.Codecs.{judged_word};
 ghost use Rattle.evcc_machine.specs.Views.{judged_of};
-ghost use Rattle.car_codec_rules.specs.Codecs.{Encodes, CanSpell};
-ghost use Rattle.car_codec_rules.specs.Profiles.{HasNoProfile};
+ghost use Rattle.car_codec_laws.specs.Codecs.{Encodes, CanSpell};
+ghost use Rattle.car_codec_laws.specs.Profiles.{HasNoProfile};
 
 use crate::negotiating::{first_payload, write_offer};
 use crate::typed::law_of_types;
 use crate::{din, iso};
 use car_codec::{CarCodec, LawfulCarCodec, REQUEST_ROOM};
-use car_codec_rules::asked_requests;
+use car_codec_laws::car_codec_rules::asked_requests;
+use car_codec_laws::car_codec_rules::codec_rules::read_word;
 use car_spec::CarCoded;
 use charge_world::{Dialect, NoMemory};
-use codec_rules::read_word;
 use din_codec::DinTables;
 use evcc_machine::Judged;
 use exi_documents::MOST_ENTRIES;
@@ -78,10 +78,10 @@ fn judged_as(word: Option<Word>) -> Judged
 }
 
 impl CarCoded for CarCodecs {
-    ghost use Rattle.codec_rules.specs.Codecs.{Reads};
-    ghost use Rattle.car_codec_rules.specs.Codecs.{Encodes};
-    ghost use Rattle.car_codec_rules.specs.Offering.{Offers};
-    ghost use Rattle.car_codec_rules.specs.Responding.{Responds};
+    ghost use Rattle.car_codec_laws.specs.CodecCodecs.{Reads};
+    ghost use Rattle.car_codec_laws.specs.Codecs.{Encodes};
+    ghost use Rattle.car_codec_laws.specs.Offering.{Offers};
+    ghost use Rattle.car_codec_laws.specs.Responding.{Responds};
 
     ghost offers = { Offers };
 

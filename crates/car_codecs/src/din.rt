@@ -4,8 +4,8 @@ ghost use Rattle.std.specs.Prelude.{◌≡◌, ◌≤◌, length, take};
 ghost use Rattle.exi_documents.specs.Values.{most_entries};
 ghost use Rattle.session_words.specs.declared.word.Word.TheVariants as words;
 ghost use Rattle.din_word_messages.specs.Spellable.{CanSpell};
-ghost use Rattle.car_codec_rules.specs.Din.{Encodes};
-ghost use Rattle.car_codec_rules.specs.Profiles.{HasNoProfile};
+ghost use Rattle.car_codec_laws.specs.Din.{Encodes};
+ghost use Rattle.car_codec_laws.specs.Profiles.{HasNoProfile};
 
 use crate::words::word_of;
 use din_codec::{DinTables, write_din};
@@ -29,8 +29,8 @@ pub(crate) fn write(
     ensures encoded { Encodes request.now (take result room.new) }
 {
     din_codec::laws::messages_are_written();
-    din_requests::requests_are_within();
-    din_requests::requests_are_small();
+    car_codec_laws::din_requests::requests_are_within();
+    car_codec_laws::din_requests::requests_are_small();
     let word = word_of(request);
     write_din(tables, &of_word(&word), room, table).unwrap()
 }

@@ -4,8 +4,8 @@ ghost use Rattle.std.specs.Prelude.{◌≡◌, ◌≤◌, length, take};
 ghost use Rattle.exi_documents.specs.Values.{most_entries};
 ghost use Rattle.session_words.specs.declared.word.Word.TheVariants as words;
 ghost use Rattle.iso_word_messages.specs.Spellable.{CanSpell};
-ghost use Rattle.car_codec_rules.specs.Iso.{Encodes};
-ghost use Rattle.car_codec_rules.specs.Profiles.{HasNoProfile};
+ghost use Rattle.car_codec_laws.specs.Iso.{Encodes};
+ghost use Rattle.car_codec_laws.specs.Profiles.{HasNoProfile};
 
 use crate::words::word_of;
 use exi_events::Table;
@@ -29,8 +29,8 @@ pub(crate) fn write(
     ensures encoded { Encodes request.now (take result room.new) }
 {
     iso_codec::laws::messages_are_written();
-    iso_requests::requests_are_within();
-    iso_requests::requests_are_small();
+    car_codec_laws::iso_requests::requests_are_within();
+    car_codec_laws::iso_requests::requests_are_small();
     let word = word_of(request);
     write_iso(tables, &of_word(&word), room, table).unwrap()
 }

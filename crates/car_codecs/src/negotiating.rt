@@ -7,8 +7,8 @@ ghost use Rattle.app_protocol.specs.Messages.{ordinal_of, protocol_of, protocols
 ghost use Rattle.app_protocol.specs.Negotiation.{namespace_of};
 ghost use Rattle.session_words.specs.Plans.{IsOfferOnce};
 ghost use Rattle.evcc_machine.specs.Views.{judged_of};
-ghost use Rattle.car_codec_rules.specs.Offering.{entry_at as entry_as, entries_of, Offers};
-ghost use Rattle.car_codec_rules.specs.Responding.{named_from, named_by as named_as, chosen_by as chosen_as, Responds};
+ghost use Rattle.car_codec_laws.specs.Offering.{entry_at as entry_as, entries_of, Offers};
+ghost use Rattle.car_codec_laws.specs.Responding.{named_from, named_by as named_as, chosen_by as chosen_as, Responds};
 
 use app_protocol::{AppCode, AppMessage, AppProtocol, AppReq, AppRes, Text, read_app, write_app};
 use arrayvec::ArrayVec;

@@ -1,7 +1,7 @@
 //! What the types of a request bound. These functions do nothing but read it: their contracts are what is known then.
 
 ghost use Rattle.std.specs.Prelude.{◌≤◌, ◌<◌, length, All};
-ghost use Rattle.car_codec_rules.specs.Asked.{IsTyped, IsTypedAsk};
+ghost use Rattle.car_codec_laws.specs.Asked.{IsTyped, IsTypedAsk};
 
 use session_words::{Ask, Request, SessionId};
 

@@ -4,8 +4,8 @@ use Rattle.session_words.specs.declared.plan.CarPlan.{CarPlan}
 use Rattle.site_acts.specs.Telling.{Carries, CarriesText}
 use Rattle.car_spec.specs.Codecs.{Codecs}
 use Rattle.car_spec.specs.Report.{Report}
-use Rattle.car_turns.specs.declared.ending.Ended.{Ended}
-use Rattle.car_turns.specs.Ending.{EndedAs, IsDriven, RanAs, TracedAs}
+use Rattle.car_core.specs.Ended.{Ended}
+use Rattle.car_core.specs.Ending.{EndedAs, IsDriven, RanAs, TracedAs}
 use Rattle.car_core.specs.Lawful.{IsLawful}
 use Rattle.command_status.specs.declared.status.Status.{Status}
 use Rattle.station_command.specs.Served.{WireTold, SinkTold, IsUnstarted}

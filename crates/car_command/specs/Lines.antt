@@ -5,8 +5,8 @@ use Rattle.hex.specs.Hex.{encode_lower}
 use Rattle.charge_world.specs.Outside.{Appends}
 use Rattle.session_words.specs.declared.session.SessionId.{SessionId}
 use Rattle.car_spec.specs.Report.{Report}
-use Rattle.car_turns.specs.declared.ending.Ended.{Ended}
-use Rattle.car_turns.specs.declared.ending.Ended.TheVariants as ended
+use Rattle.car_core.specs.Ended.{Ended}
+use Rattle.car_core.specs.Ended.TheVariants as ended
 use Rattle.command_status.specs.declared.status.Status.{Status}
 use Rattle.command_status.specs.declared.status.Status.TheVariants as status
 use Rattle.command_status.specs.FaultLines.{Tells, wire_line}

@@ -4,13 +4,13 @@ ghost use Rattle.std.specs.Prelude.{◌≡◌, ◌≤◌, length, take};
 ghost use Rattle.post_spec.specs.Codecs.{judged_word};
 ghost use Rattle.secc_machine.specs.Views.{judged_of};
 ghost use Rattle.written_sizes.specs.Entries.{HasEntries};
-ghost use Rattle.codec_rules.specs.Codecs.{Encodes, CanSpell};
+ghost use Rattle.codec_laws.specs.Codecs.{Encodes, CanSpell};
 
 use crate::negotiating::first_payload;
 use crate::typed::law_of_types;
 use crate::{din, iso};
 use charge_world::{Dialect, NoMemory};
-use codec_rules::{given_replies, read_word};
+use codec_laws::codec_rules::{given_replies, read_word};
 use din_codec::DinTables;
 use exi_documents::MOST_ENTRIES;
 use exi_events::Table;
@@ -77,8 +77,8 @@ fn judged_as(word: Option<Word>) -> Judged
 }
 
 impl Coded for ChargeCodecs {
-    ghost use Rattle.codec_rules.specs.Codecs.{Reads, Encodes};
-    ghost use Rattle.codec_rules.specs.Negotiating.{Negotiates};
+    ghost use Rattle.codec_laws.specs.Codecs.{Reads, Encodes};
+    ghost use Rattle.codec_laws.specs.Negotiating.{Negotiates};
 
     ghost negotiates = { Negotiates };
 

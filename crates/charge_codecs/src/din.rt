@@ -5,7 +5,7 @@ ghost use Rattle.exi_documents.specs.Values.{most_entries};
 ghost use Rattle.session_words.specs.declared.word.Word.TheVariants as words;
 ghost use Rattle.din_word_messages.specs.Spellable.{CanSpell};
 ghost use Rattle.written_sizes.specs.Entries.{HasEntries};
-ghost use Rattle.codec_rules.specs.Din.{Encodes};
+ghost use Rattle.codec_laws.specs.Din.{Encodes};
 
 use din_codec::{DinTables, write_din};
 use din_word_messages::of_reply;
@@ -23,7 +23,7 @@ pub(crate) fn write(tables: &DinTables, reply: &Reply, room: &mut [u8], table: &
     ensures encoded { Encodes reply.now (take result room.new) }
 {
     din_codec::laws::messages_are_written();
-    din_replies::replies_are_within();
+    codec_laws::din_replies::replies_are_within();
     din_reply_sizes::replies_are_small();
     write_din(tables, &of_reply(reply), room, table).unwrap()
 }

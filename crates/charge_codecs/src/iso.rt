@@ -5,7 +5,7 @@ ghost use Rattle.exi_documents.specs.Values.{most_entries};
 ghost use Rattle.session_words.specs.declared.word.Word.TheVariants as words;
 ghost use Rattle.iso_word_messages.specs.Spellable.{CanSpell};
 ghost use Rattle.written_sizes.specs.Entries.{HasEntries};
-ghost use Rattle.codec_rules.specs.Iso.{Encodes};
+ghost use Rattle.codec_laws.specs.Iso.{Encodes};
 
 use exi_events::Table;
 use iso_codec::{IsoTables, write_iso};
@@ -23,7 +23,7 @@ pub(crate) fn write(tables: &IsoTables, reply: &Reply, room: &mut [u8], table: &
     ensures encoded { Encodes reply.now (take result room.new) }
 {
     iso_codec::laws::messages_are_written();
-    iso_replies::replies_are_within();
+    codec_laws::iso_replies::replies_are_within();
     iso_reply_sizes::replies_are_small();
     write_iso(tables, &of_reply(reply), room, table).unwrap()
 }

@@ -9,6 +9,7 @@ mod negotiating;
 mod typed;
 
 pub use charge_world::{Dialect, NoMemory};
+pub use codec_laws;
 pub use codecs::ChargeCodecs;
 pub use secc_machine::Judged;
 pub use session_words::Reply;

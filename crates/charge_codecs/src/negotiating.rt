@@ -8,7 +8,7 @@ ghost use Rattle.app_protocol.specs.declared.message.AppMessage.TheVariants.{Res
 ghost use Rattle.app_protocol.specs.Documents.{IsApp, IsAppEncoding};
 ghost use Rattle.app_protocol.specs.Messages.{message_of, protocols_of};
 ghost use Rattle.secc_machine.specs.Views.{judged_of};
-ghost use Rattle.codec_rules.specs.Negotiating.{Negotiates};
+ghost use Rattle.codec_laws.specs.Negotiating.{Negotiates};
 
 use crate::typed::law_of_bytes;
 use app_protocol::{AppMessage, AppReq, AppRes, negotiate_among, read_app, write_app};

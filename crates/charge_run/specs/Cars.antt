@@ -6,7 +6,7 @@ use Rattle.plan_files.specs.Plans.{IsCarPlanIn}
 use Rattle.command_status.specs.declared.status.Status.{Status}
 use Rattle.command_status.specs.declared.status.Status.TheVariants as status
 use Rattle.command_status.specs.FaultLines.{Tells, source_line}
-use Rattle.station_command.specs.Served.{WireTold, SinkTold, IsBegun}
+use Rattle.replay_command.specs.Served.{WireTold, SinkTold, IsBegun}
 use Rattle.car_command.specs.Driven.{Drives}
 use Rattle.car_command.specs.Refused.{IsRefused}
 use Rattle.charge_run.specs.Stations.{FileTold}

@@ -1,5 +1,5 @@
 pub use Rattle.message_trees.specs.Texts
-pub use Rattle.station_command.specs.Served
+pub use Rattle.replay_command.specs.Served
 pub mod HexText
 pub mod Runs
 pub mod Stations

@@ -3,12 +3,12 @@ use Rattle.std.specs.Prelude.{◌≡◌, ◌⊎◌, ℕ, List, ◌++◌, Option,
 use Rattle.std.specs.Str.{chars}
 use Rattle.charge_world.specs.Outside.{Appends, AppendsSome}
 use Rattle.exi_documents.specs.declared.refusal.RefusalCause.{RefusalCause}
-use Rattle.codec_rules.specs.Negotiating.{Negotiates}
-use Rattle.codec_rules.specs.Codecs as rules
+use Rattle.charge_codecs.specs.Negotiating.{Negotiates}
+use Rattle.charge_codecs.specs.Codecs as rules
 use Rattle.post_spec.specs.Codecs.{Codecs, codecs}
-use Rattle.car_codec_rules.specs.Codecs as car_rules
-use Rattle.car_codec_rules.specs.Offering.{Offers}
-use Rattle.car_codec_rules.specs.Responding.{Responds}
+use Rattle.car_codecs.specs.Codecs as car_rules
+use Rattle.car_codecs.specs.Offering.{Offers}
+use Rattle.car_codecs.specs.Responding.{Responds}
 use Rattle.car_spec.specs.Codecs as cars
 use Rattle.message_dialects.specs.declared.dialect.MessageDialect.{MessageDialect}
 use Rattle.message_trees.specs.Texts.{IsPrinted, IsRefusedIn, IsScanned, IsUnscanned}

@@ -6,8 +6,8 @@ use Rattle.plan_files.specs.Plans.{IsSitePlanIn}
 use Rattle.command_status.specs.declared.status.Status.{Status}
 use Rattle.command_status.specs.declared.status.Status.TheVariants as status
 use Rattle.command_status.specs.FaultLines.{Tells, source_line}
-use Rattle.station_command.specs.Served.{WireTold, SinkTold, Serves, IsBegun}
-use Rattle.station_command.specs.Refused.{IsRefused}
+use Rattle.replay_command.specs.Served.{WireTold, SinkTold, Serves, IsBegun}
+use Rattle.replay_command.specs.Refused.{IsRefused}
 
 -- what a source tells of the file of a plan: its text, and what is left of it; its count of faults went from n to m
 pub record FileTold : Type 0 where

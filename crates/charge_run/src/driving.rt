@@ -1,7 +1,7 @@
 //! The command that drives a car.
 
 ghost use Rattle.std.specs.Prelude.{◌≡◌, ◌<◌, ◌⊎◌, ℕ, List};
-ghost use Rattle.station_command.specs.Served.{wire_told, sink_told, IsBegun, IsUnbegun};
+ghost use Rattle.replay_command.specs.Served.{wire_told, sink_told, IsBegun, IsUnbegun};
 ghost use Rattle.charge_run.specs.Runs.{car_codecs};
 ghost use Rattle.charge_run.specs.Stations.{file_told};
 ghost use Rattle.charge_run.specs.Cars.{CarLeaves};

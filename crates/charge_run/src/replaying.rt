@@ -1,7 +1,7 @@
 //! The command that replays a trace.
 
 ghost use Rattle.std.specs.Prelude.{◌≡◌, ◌<◌, ◌⊎◌, ℕ, List};
-ghost use Rattle.station_command.specs.Served.{sink_told, IsUnbegun};
+ghost use Rattle.replay_command.specs.Served.{sink_told, IsUnbegun};
 ghost use Rattle.replay_command.specs.Files.{files_told, TellsAlways};
 ghost use Rattle.replay_command.specs.Replays.{ReplayLeaves};
 ghost use Rattle.charge_run.specs.Runs.{charge_codecs};

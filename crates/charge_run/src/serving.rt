@@ -1,14 +1,14 @@
 //! The command that serves a station.
 
 ghost use Rattle.std.specs.Prelude.{◌≡◌, ◌<◌, ◌⊎◌, ℕ, List};
-ghost use Rattle.station_command.specs.Served.{wire_told, sink_told, IsBegun, IsUnbegun};
+ghost use Rattle.replay_command.specs.Served.{wire_told, sink_told, IsBegun, IsUnbegun};
 ghost use Rattle.charge_run.specs.Runs.{charge_codecs};
 ghost use Rattle.charge_run.specs.Stations.{file_told, StationLeaves};
 
 use charge_codecs::ChargeCodecs;
 use charge_world::{Sink, Source, Wire};
 use command_status::Status;
-use station_command::station;
+use replay_command::station_command::station;
 use std::alloc::Global;
 
 /// Serves a station by the plan in the file of that name, which talks with its cars in the negotiation, ISO 15118-2 and DIN SPEC 70121.

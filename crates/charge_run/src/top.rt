@@ -5,7 +5,7 @@ ghost use Rattle.message_dialects.specs.declared.dialect.MessageDialect.{Message
 ghost use Rattle.message_trees.specs.Texts.{IsUnscanned};
 ghost use Rattle.command_words.specs.Command.{IsNoCommand, IsStation, IsCar, IsReplay, IsDecode, IsEncode};
 ghost use Rattle.command_status.specs.FaultLines.{Tells, words_line};
-ghost use Rattle.station_command.specs.Served.{wire_told, sink_told, IsUnbegun};
+ghost use Rattle.replay_command.specs.Served.{wire_told, sink_told, IsUnbegun};
 ghost use Rattle.replay_command.specs.Files.{files_told, TellsAlways};
 ghost use Rattle.replay_command.specs.Replays.{ReplayLeaves};
 ghost use Rattle.charge_run.specs.Cars.{CarLeaves};

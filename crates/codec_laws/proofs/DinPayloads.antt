@@ -10,7 +10,7 @@ use Rattle.session_words.specs.declared.word.Word.TheVariants as word
 use Rattle.post_spec.specs.Spelled.{read_back}
 use Rattle.din_schema.specs.Declarations.{schema}
 use Rattle.din_message.specs.Documents.{din_tree}
-use Rattle.din_word_laws.proofs.Words.{reads_as_written}
+use Rattle.codec_rules.proofs.DinWords.{reads_as_written}
 use Rattle.din_replies.proofs.Trees.{replies_have_one_tree}
 use Rattle.din_tree_words.proofs.Words.{one_payload_word}
 use Rattle.codec_rules.specs.Din.{IsSpelled, IsNone, Reads, Encodes}

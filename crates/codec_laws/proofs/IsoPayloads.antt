@@ -9,8 +9,8 @@ use Rattle.session_words.specs.declared.word.Word.{Word}
 use Rattle.session_words.specs.declared.word.Word.TheVariants as word
 use Rattle.post_spec.specs.Spelled.{read_back}
 use Rattle.iso_schema.specs.Declarations.{schema}
-use Rattle.iso_message.specs.Documents.{iso_tree}
-use Rattle.iso_word_laws.proofs.Words.{reads_as_written}
+use Rattle.iso_replies.specs.Documents.{iso_tree}
+use Rattle.codec_rules.proofs.Words.{reads_as_written}
 use Rattle.iso_replies.proofs.Trees.{replies_have_one_tree}
 use Rattle.iso_tree_words.proofs.Words.{one_payload_word}
 use Rattle.codec_rules.specs.Iso.{IsSpelled, IsNone, Reads, Encodes}

@@ -12,3 +12,7 @@ pub fn codecs_are_lawful()
     ensures reads_back { ReadsBack (codecs Negotiates Reads Encodes) }
     ensures determined { AreDetermined (codecs Negotiates Reads Encodes) }
 {}
+
+pub use codec_rules;
+pub use din_replies;
+pub use iso_replies;

@@ -10,10 +10,10 @@ use Rattle.session_words.specs.declared.word.Word.TheVariants as word
 use Rattle.session_rules.specs.declared.stage.Stage.{Stage}
 use Rattle.session_rules.specs.Reply.{waiting_reply}
 use Rattle.written_words.specs.Typed.{IsTyped}
-use Rattle.iso_word_messages.specs.Spellable as iso_spellable
+use Rattle.iso_word_laws.specs.Spellable as iso_spellable
 use Rattle.iso_word_laws.specs.Posts as iso_posts
 use Rattle.iso_word_laws.proofs.Posts as iso_replies
-use Rattle.din_word_messages.specs.Spellable as din_spellable
+use Rattle.din_word_laws.specs.Spellable as din_spellable
 use Rattle.din_word_laws.specs.Posts as din_posts
 use Rattle.din_word_laws.proofs.Posts as din_replies
 use Rattle.written_sizes.specs.Entries.{HasEntries}

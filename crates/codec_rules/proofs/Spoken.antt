@@ -8,7 +8,7 @@ use Rattle.session_words.specs.declared.word.Word.{Word}
 use Rattle.session_words.specs.declared.word.Word.TheVariants as word
 use Rattle.din_message.specs.declared.message.BodyElement.{BodyElement}
 use Rattle.din_message.specs.declared.message.BodyElement.TheVariants as element
-use Rattle.din_words.specs.Words.{body_word}
+use Rattle.din_word_laws.specs.Words.{body_word}
 use Rattle.din_word_laws.specs.Posts.{IsSpoken}
 
 -- what a word asks is of the profile, where it is a request

@@ -5,8 +5,8 @@ use Rattle.charge_world.specs.declared.offer.Dialect.TheVariants as dialect
 use Rattle.session_words.specs.declared.word.Reply.{Reply}
 use Rattle.session_words.specs.declared.word.Word.{Word}
 use Rattle.session_words.specs.declared.word.Word.TheVariants as word
-use Rattle.iso_word_messages.specs.Spellable as iso_spellable
-use Rattle.din_word_messages.specs.Spellable as din_spellable
+use Rattle.iso_word_laws.specs.Spellable as iso_spellable
+use Rattle.din_word_laws.specs.Spellable as din_spellable
 use Rattle.codec_rules.specs.Iso as iso
 use Rattle.codec_rules.specs.Din as din
 

@@ -7,9 +7,9 @@ use Rattle.session_words.specs.declared.word.Word.{Word}
 use Rattle.session_words.specs.declared.word.Word.TheVariants as word
 use Rattle.din_message.specs.declared.message.DinMessage.{DinMessage}
 use Rattle.din_message.specs.Documents.{IsDin, IsDinRefused, IsDinEncoding}
-use Rattle.din_word_messages.specs.Messages.{IsMessageOf}
-use Rattle.din_word_messages.specs.Spellable.{CanSpell}
-use Rattle.din_words.specs.Words.{word_of}
+use Rattle.din_word_laws.specs.Messages.{IsMessageOf}
+use Rattle.din_word_laws.specs.Spellable.{CanSpell}
+use Rattle.din_word_laws.specs.Words.{word_of}
 
 -- a payload spells a message, and this is its word
 pub record IsSpelled (payload : List ℕ) (word : Word) : Type 0 where

@@ -5,11 +5,11 @@ use Rattle.document_laws.specs.Laws.{AreBytes}
 use Rattle.session_words.specs.declared.word.Reply.{Reply}
 use Rattle.session_words.specs.declared.word.Word.{Word}
 use Rattle.session_words.specs.declared.word.Word.TheVariants as word
-use Rattle.iso_message.specs.declared.message.IsoMessage.{IsoMessage}
-use Rattle.iso_message.specs.Documents.{IsIso, IsIsoRefused, IsIsoEncoding}
-use Rattle.iso_word_messages.specs.Messages.{IsMessageOf}
-use Rattle.iso_word_messages.specs.Spellable.{CanSpell}
-use Rattle.iso_words.specs.Words.{word_of}
+use Rattle.iso_codec.specs.IsoMessage.{IsoMessage}
+use Rattle.iso_codec.specs.Documents.{IsIso, IsIsoRefused, IsIsoEncoding}
+use Rattle.iso_word_laws.specs.Messages.{IsMessageOf}
+use Rattle.iso_word_laws.specs.Spellable.{CanSpell}
+use Rattle.iso_word_laws.specs.Words.{word_of}
 
 -- a payload spells a message, and this is its word
 pub record IsSpelled (payload : List ℕ) (word : Word) : Type 0 where

@@ -3,7 +3,7 @@ use Rattle.std.specs.Prelude.{ℕ, List, [], ◌∷◌}
 use Rattle.message_parts.specs.Contents.{Inside, Part, one, perhaps_one, mapped, holding, holding_with}
 use Rattle.din_schema.specs.declared.names.TheConstants.{HEADER, BODY, CABLE_CHECK_REQ, CABLE_CHECK_RES, CHARGE_PARAMETER_DISCOVERY_REQ, CHARGE_PARAMETER_DISCOVERY_RES, CONTRACT_AUTHENTICATION_REQ, CONTRACT_AUTHENTICATION_RES, CURRENT_DEMAND_REQ, CURRENT_DEMAND_RES, POWER_DELIVERY_REQ, POWER_DELIVERY_RES, PRE_CHARGE_REQ, PRE_CHARGE_RES, SERVICE_DISCOVERY_REQ, SERVICE_DISCOVERY_RES, SERVICE_PAYMENT_SELECTION_REQ, SERVICE_PAYMENT_SELECTION_RES, SESSION_SETUP_REQ, SESSION_SETUP_RES, SESSION_STOP_REQ, SESSION_STOP_RES, WELDING_DETECTION_REQ, WELDING_DETECTION_RES}
 use Rattle.din_schema.specs.declared.kinds.TheConstants.{EMPTY_KIND, SESSION_SETUP_REQ_KIND, SESSION_SETUP_RES_KIND, SERVICE_DISCOVERY_REQ_KIND, SERVICE_DISCOVERY_RES_KIND, SERVICE_PAYMENT_SELECTION_REQ_KIND, SERVICE_PAYMENT_SELECTION_RES_KIND, SESSION_STOP_RES_KIND, CONTRACT_AUTHENTICATION_REQ_KIND, CONTRACT_AUTHENTICATION_RES_KIND, CHARGE_PARAMETER_DISCOVERY_REQ_KIND, CHARGE_PARAMETER_DISCOVERY_RES_KIND, POWER_DELIVERY_REQ_KIND, POWER_DELIVERY_RES_KIND, CURRENT_DEMAND_REQ_KIND, CURRENT_DEMAND_RES_KIND, CABLE_CHECK_REQ_KIND, CABLE_CHECK_RES_KIND, PRE_CHARGE_REQ_KIND, PRE_CHARGE_RES_KIND, WELDING_DETECTION_REQ_KIND, WELDING_DETECTION_RES_KIND}
-use Rattle.din_parts.specs.Frame.{header_parts}
+use Rattle.din_setup.specs.Frame.{header_parts}
 use Rattle.din_setup.specs.Session.{session_setup_req_parts, session_setup_res_parts, contract_authentication_req_given, contract_authentication_req_parts, contract_authentication_res_parts, session_stop_res_parts}
 use Rattle.din_setup.specs.Services.{service_discovery_req_parts, service_discovery_res_parts}
 use Rattle.din_setup.specs.Selection.{service_payment_selection_req_parts, service_payment_selection_res_parts}

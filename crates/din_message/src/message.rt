@@ -9,21 +9,21 @@ ghost use Rattle.din_schema.specs.declared.names.TheConstants.{CHARGE_PARAMETER_
 ghost use Rattle.din_message.specs.declared.message.BodyElement.{BodyElement};
 ghost use Rattle.din_message.specs.Message.{body_element_members, body_element_name, body_element_inside};
 
-use din_parts::Header;
 use din_power::{
     CableCheckReq, CableCheckRes, ChargeParameterDiscoveryReq, ChargeParameterDiscoveryRes,
     CurrentDemandReq, CurrentDemandRes, PowerDeliveryReq, PowerDeliveryRes, PreChargeReq,
     PreChargeRes, WeldingDetectionReq, WeldingDetectionRes,
 };
 use din_schema::names;
+use din_setup::din_parts::Header;
 use din_setup::{
     ContractAuthenticationReq, ContractAuthenticationRes, ServiceDiscoveryReq, ServiceDiscoveryRes,
     ServicePaymentSelectionReq, ServicePaymentSelectionRes, SessionSetupReq, SessionSetupRes,
     SessionStopReq, SessionStopRes,
 };
 use exi_documents::Refusal;
-use exi_events::EventWriter;
 use exi_schema::Places;
+use message_parts::exi_events::EventWriter;
 use message_parts::{
     Descent, LargeGroup, LargeRecord, PutChoice, PutRecord, first_child, member,
     optional_choice_here, put_optional_choice, put_record, required, required_here,

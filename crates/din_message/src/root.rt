@@ -3,8 +3,8 @@
 use crate::message::DinMessage;
 use din_schema::names;
 use exi_documents::Refusal;
-use exi_events::EventWriter;
 use exi_schema::Places;
+use message_parts::exi_events::EventWriter;
 use message_parts::{Descent, LargeChoice, PutChoice, Root, member_here, put_record};
 
 impl PutChoice for DinMessage<'_> {

@@ -2,8 +2,8 @@
 use Rattle.std.specs.Prelude.{List, [], ◌∷◌}
 use Rattle.exi_bits.specs.Lent.{items_of}
 use Rattle.exi_documents.specs.Trees.{Ordinal, Bytes}
-use Rattle.message_parts.specs.Contents.{Part, Of, one, perhaps, mapped, holding}
-use Rattle.message_parts.specs.Texts.{text_value}
+use Rattle.message_fields.specs.Contents.{Part, Of, one, perhaps, mapped, holding}
+use Rattle.message_fields.specs.Texts.{text_value}
 use Rattle.din_schema.specs.declared.names.TheConstants.{SESSION_ID, NOTIFICATION, FAULT_CODE, FAULT_MSG}
 use Rattle.din_parts.specs.Enumerations.{fault_code_ordinal}
 use Rattle.din_parts.specs.declared.frame.Notification.{Notification}

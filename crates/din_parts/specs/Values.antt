@@ -1,7 +1,7 @@
 -- DIN SPEC 70121:2014 9.2 to 9.5, message, header, body and data types: what elements of these types contain, part by part.
 use Rattle.std.specs.Prelude.{ℕ, pos, List, [], ◌∷◌}
 use Rattle.exi_documents.specs.Trees.{Truth, Ordinal, Number}
-use Rattle.message_parts.specs.Contents.{Inside, Part, Of, one, perhaps, mapped, holding}
+use Rattle.message_fields.specs.Contents.{Inside, Part, Of, one, perhaps, mapped, holding}
 use Rattle.din_schema.specs.declared.names.TheConstants.{MULTIPLIER, UNIT, VALUE, EV_READY, EV_CABIN_CONDITIONING, EVRESS_CONDITIONING, EV_ERROR_CODE, EVRESS_SOC, EVSE_ISOLATION_STATUS, EVSE_STATUS_CODE, NOTIFICATION_MAX_DELAY, EVSE_NOTIFICATION, DC_EVSE_STATUS}
 use Rattle.din_schema.specs.declared.kinds.TheConstants.{DC_EVSE_STATUS_KIND}
 use Rattle.din_parts.specs.Enumerations.{unit_symbol_ordinal, ev_error_code_ordinal, evse_notification_ordinal, isolation_level_ordinal, evse_status_code_ordinal}

@@ -7,13 +7,13 @@ use crate::enumerations::{
 };
 use din_schema::names;
 use exi_documents::Refusal;
-use exi_events::EventWriter;
 use exi_schema::Places;
-use message_fields::{Elements2, Elements3, Elements4, OptionalValue, RequiredValue};
-use message_parts::{
+use message_fields::message_parts::exi_events::EventWriter;
+use message_fields::message_parts::{
     Choice, Descent, PutChoice, PutRecord, ReadRecord, Record, member, put_optional_value,
     put_record, put_value, whole_record,
 };
+use message_fields::{Elements2, Elements3, Elements4, OptionalValue, RequiredValue};
 
 /// PhysicalValue.
 #[derive(Clone, Copy)]

@@ -2,12 +2,14 @@
 
 ghost use Rattle.std.specs.Prelude.{[]};
 
+use din_parts::message_fields::{
+    Elements, Elements3, Optional, OptionalValue, Required, RequiredValue,
+};
 use din_parts::{DcEvStatus, DcEvseStatus, EvseProcessing, PhysicalValue, ResponseCode};
 use din_schema::names;
 use exi_documents::Refusal;
-use exi_events::EventWriter;
 use exi_schema::Places;
-use message_fields::{Elements, Elements3, Optional, OptionalValue, Required, RequiredValue};
+use message_parts::exi_events::EventWriter;
 use message_parts::{
     Descent, PutRecord, ReadRecord, Record, put_optional, put_optional_value, put_record,
     put_value, whole_record,

@@ -4,12 +4,12 @@ ghost use Rattle.std.specs.Prelude.{[]};
 
 use crate::limits::{EvChargeParameter, EvseChargeParameter};
 use crate::schedules::SaSchedules;
+use din_parts::message_fields::{AtMostOneOf, Elements2, Elements4, OneOf, RequiredValue};
 use din_parts::{EnergyTransferMode, EvseProcessing, ResponseCode};
 use din_schema::names;
 use exi_documents::Refusal;
-use exi_events::EventWriter;
 use exi_schema::Places;
-use message_fields::{AtMostOneOf, Elements2, Elements4, OneOf, RequiredValue};
+use message_parts::exi_events::EventWriter;
 use message_parts::{
     Descent, PutRecord, ReadRecord, Record, put_choice, put_optional_choice, put_value,
     whole_record,

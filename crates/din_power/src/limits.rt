@@ -2,12 +2,12 @@
 
 ghost use Rattle.std.specs.Prelude.{[]};
 
+use din_parts::message_fields::{Elements2, Elements3, Optional, OptionalValue, Required};
 use din_parts::{DcEvStatus, DcEvseStatus, PhysicalValue};
 use din_schema::names;
 use exi_documents::Refusal;
-use exi_events::EventWriter;
 use exi_schema::Places;
-use message_fields::{Elements2, Elements3, Optional, OptionalValue, Required};
+use message_parts::exi_events::EventWriter;
 use message_parts::{
     Choice, Descent, PutChoice, PutRecord, ReadRecord, Record, member, put_optional,
     put_optional_value, put_record, whole_record,

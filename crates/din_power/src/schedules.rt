@@ -3,13 +3,13 @@
 ghost use Rattle.std.specs.Prelude.{[]};
 
 use arrayvec::ArrayVec;
-use din_schema::names;
-use exi_documents::Refusal;
-use exi_events::EventWriter;
-use exi_schema::Places;
-use message_fields::{
+use din_parts::message_fields::{
     Elements, Elements2, Elements3, LeftOut, OneOf, OptionalValue, Required, RequiredValue, Several,
 };
+use din_schema::names;
+use exi_documents::Refusal;
+use exi_schema::Places;
+use message_parts::exi_events::EventWriter;
 use message_parts::{
     Choice, Descent, Group, PutChoice, PutRecord, ReadRecord, Record, member, put_choice,
     put_optional_value, put_record, put_records, put_value, whole_record,

@@ -1,7 +1,7 @@
 -- DIN SPEC 70121:2014 9.4, session setup to session stop: what elements of these types contain, part by part.
 use Rattle.std.specs.Prelude.{pos, map, List, [], ◌∷◌}
 use Rattle.exi_documents.specs.Trees.{Ordinal, Number}
-use Rattle.message_parts.specs.Contents.{Part, Of, one, perhaps, each, mapped, holding}
+use Rattle.din_parts.specs.Contents.{Part, Of, one, perhaps, each, mapped, holding}
 use Rattle.din_schema.specs.declared.names.TheConstants.{RESPONSE_CODE, SERVICE_ID, SELECTED_PAYMENT_OPTION, SELECTED_SERVICE_LIST, SELECTED_SERVICE, PARAMETER_SET_ID}
 use Rattle.din_parts.specs.Codes.{response_code_ordinal, payment_option_ordinal}
 use Rattle.din_setup.specs.declared.selection.SelectedService.{SelectedService}

@@ -1,8 +1,8 @@
 -- DIN SPEC 70121:2014 9.4, session setup to session stop: what elements of these types contain, part by part.
 use Rattle.std.specs.Prelude.{pos, map, List, [], ◌∷◌}
 use Rattle.exi_documents.specs.Trees.{Truth, Ordinal, Number}
-use Rattle.message_parts.specs.Contents.{Part, Of, one, perhaps, each, mapped, holding}
-use Rattle.message_parts.specs.Texts.{text_value}
+use Rattle.din_parts.specs.Contents.{Part, Of, one, perhaps, each, mapped, holding}
+use Rattle.din_parts.specs.Texts.{text_value}
 use Rattle.din_schema.specs.declared.names.TheConstants.{RESPONSE_CODE, SERVICE_SCOPE, SERVICE_CATEGORY, PAYMENT_OPTIONS, CHARGE_SERVICE, SERVICE_LIST, PAYMENT_OPTION, SERVICE_TAG, FREE_SERVICE, ENERGY_TRANSFER_TYPE, SERVICE_ID, SERVICE_NAME, SERVICE}
 use Rattle.din_parts.specs.Codes.{response_code_ordinal, service_category_ordinal, payment_option_ordinal, supported_energy_transfer_type_ordinal}
 use Rattle.din_setup.specs.declared.services.ServiceTag.{ServiceTag}

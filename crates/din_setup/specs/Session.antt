@@ -3,9 +3,9 @@ use Rattle.std.specs.Prelude.{List, [], ◌∷◌}
 use Rattle.exi_bits.specs.Lent.{items_of}
 use Rattle.exi_documents.specs.Trees.{Ordinal, Number, Bytes}
 use Rattle.exi_schema.specs.declared.tables.AttributeOf.{AttributeOf}
-use Rattle.message_parts.specs.Contents.{Given, perhaps_given, Part, Of, one, perhaps, mapped}
-use Rattle.message_parts.specs.Particles.{may}
-use Rattle.message_parts.specs.Texts.{text_value}
+use Rattle.din_parts.specs.Contents.{Given, perhaps_given, Part, Of, one, perhaps, mapped}
+use Rattle.din_parts.specs.Particles.{may}
+use Rattle.din_parts.specs.Texts.{text_value}
 use Rattle.din_schema.specs.declared.names.TheConstants.{EVCCID, RESPONSE_CODE, EVSEID, DATE_TIME_NOW, ID, GEN_CHALLENGE, EVSE_PROCESSING}
 use Rattle.din_schema.specs.declared.kinds.TheConstants.{TEXT64_KIND}
 use Rattle.din_parts.specs.Codes.{response_code_ordinal, evse_processing_ordinal}

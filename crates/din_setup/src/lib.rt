@@ -6,6 +6,7 @@ mod selection;
 mod services;
 mod session;
 
+pub use din_parts;
 pub use selection::{
     SelectedService, SelectedServiceList, ServicePaymentSelectionReq, ServicePaymentSelectionRes,
 };

@@ -3,16 +3,18 @@
 ghost use Rattle.std.specs.Prelude.{[]};
 
 use arrayvec::ArrayVec;
-use din_parts::{PaymentOption, ResponseCode};
-use din_schema::names;
-use exi_documents::Refusal;
-use exi_events::EventWriter;
-use exi_schema::Places;
-use message_fields::{Elements, Elements2, OptionalValue, Required, RequiredValue, Several};
-use message_parts::{
+use din_parts::message_fields::{
+    Elements, Elements2, OptionalValue, Required, RequiredValue, Several,
+};
+use din_parts::message_parts::exi_events::EventWriter;
+use din_parts::message_parts::{
     Descent, PutRecord, ReadRecord, Record, put_optional_value, put_record, put_records, put_value,
     whole_record,
 };
+use din_parts::{PaymentOption, ResponseCode};
+use din_schema::names;
+use exi_documents::Refusal;
+use exi_schema::Places;
 
 /// SelectedService.
 #[derive(Clone, Copy, Default)]

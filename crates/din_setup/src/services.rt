@@ -3,19 +3,19 @@
 ghost use Rattle.std.specs.Prelude.{[]};
 
 use arrayvec::ArrayVec;
-use din_parts::{PaymentOption, ResponseCode, ServiceCategory, SupportedEnergyTransferType};
-use din_schema::names;
-use exi_documents::Refusal;
-use exi_events::EventWriter;
-use exi_schema::Places;
-use message_fields::{
+use din_parts::message_fields::{
     Elements, Elements2, Elements3, Elements4, Optional, OptionalValue, Required, RequiredValue,
     Several, SeveralValues,
 };
-use message_parts::{
+use din_parts::message_parts::exi_events::EventWriter;
+use din_parts::message_parts::{
     Descent, PutRecord, ReadRecord, Record, Text, put_optional, put_optional_value, put_record,
     put_records, put_value, put_values, whole_record,
 };
+use din_parts::{PaymentOption, ResponseCode, ServiceCategory, SupportedEnergyTransferType};
+use din_schema::names;
+use exi_documents::Refusal;
+use exi_schema::Places;
 
 /// ServiceTag.
 #[derive(Drop, Default)]

@@ -2,18 +2,18 @@
 
 ghost use Rattle.std.specs.Prelude.{[]};
 
-use din_parts::{EvseProcessing, ResponseCode};
-use din_schema::names;
-use exi_documents::Refusal;
-use exi_events::EventWriter;
-use exi_schema::Places;
-use message_fields::{
+use din_parts::message_fields::{
     Elements, Elements2, Elements3, OptionalValue, RequiredValue, WithOptionalAttribute,
 };
-use message_parts::{
+use din_parts::message_parts::exi_events::EventWriter;
+use din_parts::message_parts::{
     Binary, Descent, PutRecord, ReadRecord, Record, Text, put_optional_attribute,
     put_optional_value, put_value, whole_record,
 };
+use din_parts::{EvseProcessing, ResponseCode};
+use din_schema::names;
+use exi_documents::Refusal;
+use exi_schema::Places;
 
 /// SessionSetupReq.
 #[derive(Drop)]

@@ -18,3 +18,5 @@ pub fn spells_replies()
     ensures typed { SpellsTyped }
     ensures typed_waiting { SpellsTypedWaiting }
 {}
+
+pub use din_words;

@@ -21,3 +21,8 @@ pub mod Valued
 pub mod Whole
 pub mod Writable
 pub mod Sequences
+pub use Rattle.document_laws.proofs.Written
+pub use Rattle.document_laws.proofs.Once
+pub use Rattle.document_laws.proofs.Runs
+pub use Rattle.document_laws.proofs.Apart
+pub use Rattle.document_laws.proofs.Offered

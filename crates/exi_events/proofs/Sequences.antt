@@ -18,9 +18,9 @@ use Rattle.exi_documents.specs.Values.{Entries, SpellsValue}
 use Rattle.exi_values.specs.declared.Event.TheVariants as event
 use Rattle.exi_values.specs.declared.Value.{Value}
 use Rattle.exi_values.specs.declared.Value.TheVariants as value
-use Rattle.exi_reading.specs.Short.{tree_of}
-use Rattle.exi_reading.specs.declared.short.ShortValue.{ShortValue}
-use Rattle.exi_reading.specs.declared.short.ShortValue.TheVariants as short
+use Rattle.exi_writing.specs.Short.{tree_of}
+use Rattle.exi_writing.specs.ShortValue.{ShortValue}
+use Rattle.exi_writing.specs.ShortValue.TheVariants as short
 use Rattle.exi_values.specs.Meaning.{value_of, texts_in}
 use Rattle.exi_events.specs.declared.open.OpenElement.{OpenElement}
 use Rattle.exi_events.specs.declared.reader.Phase.{Phase}

@@ -4,3 +4,6 @@ pub mod Inside
 pub mod Reader
 pub mod Writer
 pub mod Sequence
+pub use Rattle.exi_writing.specs.Short
+pub use Rattle.exi_writing.specs.ShortValue
+pub use Rattle.document_laws.specs.Laws

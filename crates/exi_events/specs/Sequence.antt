@@ -13,7 +13,7 @@ use Rattle.exi_documents.specs.Documents.{element}
 use Rattle.exi_documents.specs.Grammar.{Opened, Inside, opened, around, stands}
 use Rattle.exi_documents.specs.Trees.{Event as TreeEvent, Value as TreeValue, Start, EndElement}
 use Rattle.exi_values.specs.Meaning.{texts_in}
-use Rattle.exi_reading.specs.Short.{tree_of}
+use Rattle.exi_writing.specs.Short.{tree_of}
 use Rattle.exi_events.specs.declared.sequence.ThreeValues.{ThreeValues}
 use Rattle.exi_events.specs.Reader.{Reading, reading, IsNext, HasTold, TakesValue}
 

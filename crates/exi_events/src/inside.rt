@@ -14,9 +14,9 @@ ghost use Rattle.exi_events.specs.Inside.{AreOpen, HasTop, SpellsInside, TakesVa
 use crate::open::{OpenElement, OpenElements};
 use crate::step::{take_only, take_step};
 use exi_documents::Refusal;
-use exi_reading::PayloadReader;
 use exi_schema::{Datatype, Place, Places, Step};
 use exi_values::{Event, Table, Value};
+use exi_writing::exi_reading::PayloadReader;
 
 /// Takes a value of a simple kind of the schema.
 #[inline(never)]

@@ -11,9 +11,9 @@ use crate::open::{OpenElement, OpenElements};
 use crate::sequence::{ThreeValues, take_three};
 use crate::step::take_front;
 use exi_documents::{Refusal, RefusalCause};
-use exi_reading::PayloadReader;
 use exi_schema::{Datatype, Place, Places, SequenceChild};
 use exi_values::{Event, Table, Value};
+use exi_writing::exi_reading::PayloadReader;
 
 /// How far a document is.
 #[derive(Clone, Copy, Debug, PartialEq, Eq)]

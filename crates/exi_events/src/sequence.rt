@@ -11,11 +11,11 @@ ghost use Rattle.exi_schema.specs.Schemas.{PlainSchema};
 ghost use Rattle.exi_schema.specs.Sequences.{TellsSequence};
 ghost use Rattle.exi_documents.specs.Documents.{SpellsStep};
 ghost use Rattle.exi_documents.specs.Grammar.{Opened};
-ghost use Rattle.exi_reading.specs.Short.{tree_of};
+ghost use Rattle.exi_writing.specs.Short.{tree_of};
 ghost use Rattle.exi_events.specs.Sequence.{TakesChild, TakesSequence, OffersChild, values_of, inside_at, behind_all};
 
-use exi_reading::{BitWindow, PayloadReader, ShortValue, short_value};
 use exi_schema::SequenceChild;
+use exi_writing::exi_reading::{BitWindow, PayloadReader, ShortValue, short_value};
 
 /// The values of a sequence of three children, each of few bits.
 #[derive(Clone, Copy, Debug)]

@@ -15,8 +15,8 @@ ghost use Rattle.exi_documents.specs.declared.refusal.RefusalCause.TheVariants a
 ghost use Rattle.exi_events.specs.Front.{SpellsHeader, SpellsFront};
 
 use exi_documents::{Refusal, RefusalCause};
-use exi_reading::PayloadReader;
 use exi_schema::{MemberStanding, Place, Places, Root, Step};
+use exi_writing::exi_reading::PayloadReader;
 
 /// Takes the event code at a place: what it means, where that may stand there.
 #[tactic(auto, using(crate::proofs::Codes::code_refused, crate::proofs::Codes::none_behind, crate::proofs::Limits::few_code_bits))]

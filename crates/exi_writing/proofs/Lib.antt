@@ -8,3 +8,4 @@ pub mod Whole
 pub mod Values
 pub mod Locals
 pub mod LengthLaws
+pub use Rattle.exi_reading.proofs.Places

@@ -9,5 +9,6 @@ mod source;
 mod texts;
 mod value;
 
+pub use exi_reading;
 pub use needed::value_bits;
 pub use value::put_value;

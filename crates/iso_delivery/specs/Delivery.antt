@@ -1,8 +1,8 @@
 -- ISO 15118-2:2014 8.4.3, power delivery, and 8.4.4, AC: what elements of these types contain, part by part.
 use Rattle.std.specs.Prelude.{ℕ, pos, map, List, [], ◌∷◌}
 use Rattle.exi_documents.specs.Trees.{Truth, Ordinal, Number}
-use Rattle.message_parts.specs.Contents.{Inside, Part, Of, one, perhaps, each, perhaps_one, mapped, holding}
-use Rattle.message_parts.specs.Texts.{text_value}
+use Rattle.iso_parts.specs.Contents.{Inside, Part, Of, one, perhaps, each, perhaps_one, mapped, holding}
+use Rattle.iso_parts.specs.Texts.{text_value}
 use Rattle.iso_schema.specs.declared.names.TheConstants.{RESPONSE_CODE, EVSEID, DC_EV_STATUS, SA_SCHEDULE_TUPLE_ID, AC_EVSE_STATUS, EVSE_MAX_CURRENT, CHARGE_PROGRESS, CHARGING_PROFILE, DC_EV_POWER_DELIVERY_PARAMETER, PROFILE_ENTRY, CHARGING_PROFILE_ENTRY_START, CHARGING_PROFILE_ENTRY_MAX_POWER, CHARGING_PROFILE_ENTRY_MAX_NUMBER_OF_PHASES_IN_USE, BULK_CHARGING_COMPLETE, CHARGING_COMPLETE, METER_INFO, RECEIPT_REQUIRED}
 use Rattle.iso_schema.specs.declared.kinds.TheConstants.{DC_EV_POWER_DELIVERY_PARAMETER_KIND}
 use Rattle.iso_parts.specs.Codes.{response_code_ordinal, charge_progress_ordinal}

@@ -4,21 +4,21 @@ ghost use Rattle.std.specs.Prelude.{[]};
 
 use arrayvec::ArrayVec;
 use exi_documents::Refusal;
-use exi_events::EventWriter;
 use exi_schema::Places;
-use iso_parts::{
-    AcEvseStatus, ChargeProgress, DcEvStatus, EvseStatus, MeterInfo, PhysicalValue, ResponseCode,
-};
-use iso_schema::names;
-use message_fields::{
+use iso_parts::message_fields::{
     AtMostOneOf, Elements, Elements2, Elements3, Elements4, OneOf, Optional, OptionalValue,
     Required, RequiredValue, Several,
 };
-use message_parts::{
+use iso_parts::message_parts::exi_events::EventWriter;
+use iso_parts::message_parts::{
     Choice, Descent, Group, PutChoice, PutRecord, ReadRecord, Record, Text, member, put_choice,
     put_optional, put_optional_choice, put_optional_value, put_record, put_records, put_value,
     whole_record,
 };
+use iso_parts::{
+    AcEvseStatus, ChargeProgress, DcEvStatus, EvseStatus, MeterInfo, PhysicalValue, ResponseCode,
+};
+use iso_schema::names;
 
 /// ProfileEntry.
 #[derive(Clone, Copy, Default)]

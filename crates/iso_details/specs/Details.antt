@@ -2,9 +2,9 @@
 use Rattle.std.specs.Prelude.{ℕ, pos, map, List, [], ◌∷◌}
 use Rattle.exi_documents.specs.Trees.{Truth, Ordinal, Number}
 use Rattle.exi_schema.specs.declared.tables.AttributeOf.{AttributeOf}
-use Rattle.message_parts.specs.Contents.{Inside, Given, given, Part, Of, one, perhaps, each, mapped, holding, holding_with}
-use Rattle.message_parts.specs.Particles.{must}
-use Rattle.message_parts.specs.Texts.{text_value}
+use Rattle.iso_parts.specs.Contents.{Inside, Given, given, Part, Of, one, perhaps, each, mapped, holding, holding_with}
+use Rattle.iso_parts.specs.Particles.{must}
+use Rattle.iso_parts.specs.Texts.{text_value}
 use Rattle.iso_schema.specs.declared.names.TheConstants.{RESPONSE_CODE, SERVICE_ID, SERVICE_PARAMETER_LIST, PARAMETER_SET, PARAMETER_SET_ID, PARAMETER, NAME, BOOL_VALUE, BYTE_VALUE, SHORT_VALUE, INT_VALUE, PHYSICAL_VALUE, STRING_VALUE}
 use Rattle.iso_schema.specs.declared.kinds.TheConstants.{BOOLEAN_KIND, BYTE_KIND, SHORT_KIND, INT_KIND, TEXT64_KIND, PHYSICAL_VALUE_KIND}
 use Rattle.iso_parts.specs.Codes.{response_code_ordinal}

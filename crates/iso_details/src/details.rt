@@ -4,17 +4,17 @@ ghost use Rattle.std.specs.Prelude.{[]};
 
 use arrayvec::ArrayVec;
 use exi_documents::Refusal;
-use exi_events::EventWriter;
 use exi_schema::Places;
-use iso_parts::{PhysicalValue, ResponseCode};
-use iso_schema::names;
-use message_fields::{
+use iso_parts::message_fields::{
     Elements, Elements2, Elements3, OneOf, Optional, RequiredValue, Several, WithAttribute,
 };
-use message_parts::{
+use iso_parts::message_parts::exi_events::EventWriter;
+use iso_parts::message_parts::{
     Choice, Descent, PutChoice, PutRecord, ReadRecord, Record, Text, member, member_value,
     put_attribute, put_choice, put_optional, put_record, put_records, put_value, whole_record,
 };
+use iso_parts::{PhysicalValue, ResponseCode};
+use iso_schema::names;
 
 /// One of the elements of Parameter.
 #[derive(Drop)]

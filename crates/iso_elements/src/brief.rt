@@ -9,7 +9,6 @@ ghost use Rattle.iso_schema.specs.declared.names.TheConstants.{PAYMENT_SERVICE_S
 ghost use Rattle.iso_elements.specs.Brief.{brief_element_members, brief_element_name, brief_element_inside};
 
 use exi_documents::Refusal;
-use exi_events::EventWriter;
 use exi_schema::Places;
 use iso_delivery::{ChargingStatusReq, ChargingStatusRes, PowerDeliveryReq, PowerDeliveryRes};
 use iso_details::ServiceDetailReq;
@@ -23,6 +22,7 @@ use iso_setup::{
     AuthorizationReq, AuthorizationRes, PaymentServiceSelectionReq, PaymentServiceSelectionRes,
     ServiceDiscoveryReq, SessionSetupReq, SessionSetupRes, SessionStopReq, SessionStopRes,
 };
+use message_parts::exi_events::EventWriter;
 use message_parts::{Descent, LargeChoice, PutChoice, member, put_record};
 
 /// One element of BodyElement that holds no long list.

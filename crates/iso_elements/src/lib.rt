@@ -4,3 +4,8 @@
 mod brief;
 
 pub use brief::BriefElement;
+pub use iso_delivery;
+pub use iso_details;
+pub use iso_parameters;
+pub use iso_setup;
+pub use iso_setup::iso_parts;

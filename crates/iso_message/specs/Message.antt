@@ -3,10 +3,10 @@ use Rattle.std.specs.Prelude.{ℕ, List, [], ◌∷◌}
 use Rattle.message_parts.specs.Contents.{Inside, Part, one, perhaps_one, mapped, holding}
 use Rattle.iso_schema.specs.declared.names.TheConstants.{HEADER, BODY, AUTHORIZATION_REQ, AUTHORIZATION_RES, CABLE_CHECK_REQ, CABLE_CHECK_RES, CHARGE_PARAMETER_DISCOVERY_REQ, CHARGE_PARAMETER_DISCOVERY_RES, CHARGING_STATUS_REQ, CHARGING_STATUS_RES, CURRENT_DEMAND_REQ, CURRENT_DEMAND_RES, PAYMENT_SERVICE_SELECTION_REQ, PAYMENT_SERVICE_SELECTION_RES, POWER_DELIVERY_REQ, POWER_DELIVERY_RES, PRE_CHARGE_REQ, PRE_CHARGE_RES, SERVICE_DETAIL_REQ, SERVICE_DETAIL_RES, SERVICE_DISCOVERY_REQ, SERVICE_DISCOVERY_RES, SESSION_SETUP_REQ, SESSION_SETUP_RES, SESSION_STOP_REQ, SESSION_STOP_RES, WELDING_DETECTION_REQ, WELDING_DETECTION_RES}
 use Rattle.iso_schema.specs.declared.kinds.TheConstants.{EMPTY_KIND, SESSION_SETUP_REQ_KIND, SESSION_SETUP_RES_KIND, SERVICE_DISCOVERY_REQ_KIND, SERVICE_DISCOVERY_RES_KIND, SERVICE_DETAIL_REQ_KIND, SERVICE_DETAIL_RES_KIND, PAYMENT_SERVICE_SELECTION_REQ_KIND, PAYMENT_SERVICE_SELECTION_RES_KIND, AUTHORIZATION_REQ_KIND, AUTHORIZATION_RES_KIND, SESSION_STOP_REQ_KIND, SESSION_STOP_RES_KIND, CHARGE_PARAMETER_DISCOVERY_REQ_KIND, CHARGE_PARAMETER_DISCOVERY_RES_KIND, POWER_DELIVERY_REQ_KIND, POWER_DELIVERY_RES_KIND, CHARGING_STATUS_RES_KIND, CABLE_CHECK_REQ_KIND, CABLE_CHECK_RES_KIND, PRE_CHARGE_REQ_KIND, PRE_CHARGE_RES_KIND, CURRENT_DEMAND_REQ_KIND, CURRENT_DEMAND_RES_KIND, WELDING_DETECTION_REQ_KIND, WELDING_DETECTION_RES_KIND}
-use Rattle.iso_parts.specs.Frame.{header_parts}
-use Rattle.iso_setup.specs.Services.{service_discovery_res_parts}
-use Rattle.iso_details.specs.Details.{service_detail_res_parts}
-use Rattle.iso_parameters.specs.Discovery.{charge_parameter_discovery_res_parts}
+use Rattle.iso_elements.specs.Frame.{header_parts}
+use Rattle.iso_elements.specs.Services.{service_discovery_res_parts}
+use Rattle.iso_elements.specs.Details.{service_detail_res_parts}
+use Rattle.iso_elements.specs.Discovery.{charge_parameter_discovery_res_parts}
 use Rattle.iso_elements.specs.Brief.{brief_element_name, brief_element_inside}
 use Rattle.iso_message.specs.declared.message.BodyElement.{BodyElement}
 use Rattle.iso_message.specs.declared.message.BodyElement.TheVariants as body_element

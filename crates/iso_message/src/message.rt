@@ -11,15 +11,15 @@ ghost use Rattle.iso_message.specs.Message.{body_element_members, body_element_n
 ghost use Rattle.iso_elements.specs.Brief.{brief_element_members};
 
 use exi_documents::Refusal;
-use exi_events::EventWriter;
 use exi_schema::Places;
-use iso_delivery::ChargingStatusReq;
-use iso_details::ServiceDetailRes;
 use iso_elements::BriefElement;
-use iso_parameters::ChargeParameterDiscoveryRes;
-use iso_parts::Header;
+use iso_elements::iso_delivery::ChargingStatusReq;
+use iso_elements::iso_details::ServiceDetailRes;
+use iso_elements::iso_parameters::ChargeParameterDiscoveryRes;
+use iso_elements::iso_parts::Header;
+use iso_elements::iso_setup::ServiceDiscoveryRes;
 use iso_schema::names;
-use iso_setup::ServiceDiscoveryRes;
+use message_parts::exi_events::EventWriter;
 use message_parts::{
     Descent, LargeChoice, LargeGroup, LargeRecord, PutChoice, PutRecord, first_child, member,
     optional_choice_here, put_optional_choice, put_record, required, required_here,

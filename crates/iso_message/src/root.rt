@@ -6,12 +6,12 @@ ghost use Rattle.iso_elements.specs.declared.brief.BriefElement.TheVariants as b
 
 use crate::message::{Body, BodyElement, IsoMessage};
 use exi_documents::Refusal;
-use exi_events::EventWriter;
 use exi_schema::Places;
-use iso_delivery::ChargingStatusReq;
 use iso_elements::BriefElement;
-use iso_parts::Header;
+use iso_elements::iso_delivery::ChargingStatusReq;
+use iso_elements::iso_parts::Header;
 use iso_schema::names;
+use message_parts::exi_events::EventWriter;
 use message_parts::{Descent, LargeChoice, PutChoice, Root, member_here, put_record};
 
 impl<'a> IsoMessage<'a> {

@@ -3,7 +3,7 @@ use Rattle.std.specs.Prelude.{pos, List, [], ◌∷◌}
 use Rattle.exi_documents.specs.Trees.{Ordinal, Number}
 use Rattle.message_parts.specs.Contents.{Part, Of, one, perhaps, perhaps_one, mapped}
 use Rattle.iso_schema.specs.declared.names.TheConstants.{RESPONSE_CODE, EVSE_PROCESSING, MAX_ENTRIES_SA_SCHEDULE_TUPLE, REQUESTED_ENERGY_TRANSFER_MODE}
-use Rattle.iso_parts.specs.Codes.{response_code_ordinal, energy_transfer_mode_ordinal, evse_processing_ordinal}
+use Rattle.iso_schedules.specs.Codes.{response_code_ordinal, energy_transfer_mode_ordinal, evse_processing_ordinal}
 use Rattle.iso_parameters.specs.Limits.{ev_charge_parameter_name, ev_charge_parameter_inside, evse_charge_parameter_name, evse_charge_parameter_inside}
 use Rattle.iso_schedules.specs.Schedules.{sa_schedules_name, sa_schedules_inside}
 use Rattle.iso_parameters.specs.declared.discovery.ChargeParameterDiscoveryReq.{ChargeParameterDiscoveryReq}

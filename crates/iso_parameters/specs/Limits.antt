@@ -4,7 +4,7 @@ use Rattle.exi_documents.specs.Trees.{Number}
 use Rattle.message_parts.specs.Contents.{Inside, Part, Of, one, perhaps, mapped, holding}
 use Rattle.iso_schema.specs.declared.names.TheConstants.{AC_EV_CHARGE_PARAMETER, DC_EV_CHARGE_PARAMETER, DEPARTURE_TIME, E_AMOUNT, EV_MAX_VOLTAGE, EV_MAX_CURRENT, EV_MIN_CURRENT, DC_EV_STATUS, EV_MAXIMUM_CURRENT_LIMIT, EV_MAXIMUM_POWER_LIMIT, EV_MAXIMUM_VOLTAGE_LIMIT, EV_ENERGY_CAPACITY, EV_ENERGY_REQUEST, FULL_SOC, BULK_SOC, AC_EVSE_CHARGE_PARAMETER, DC_EVSE_CHARGE_PARAMETER, AC_EVSE_STATUS, EVSE_NOMINAL_VOLTAGE, EVSE_MAX_CURRENT, DC_EVSE_STATUS, EVSE_MAXIMUM_CURRENT_LIMIT, EVSE_MAXIMUM_POWER_LIMIT, EVSE_MAXIMUM_VOLTAGE_LIMIT, EVSE_MINIMUM_CURRENT_LIMIT, EVSE_MINIMUM_VOLTAGE_LIMIT, EVSE_CURRENT_REGULATION_TOLERANCE, EVSE_PEAK_CURRENT_RIPPLE, EVSE_ENERGY_TO_BE_DELIVERED}
 use Rattle.iso_schema.specs.declared.kinds.TheConstants.{AC_EV_CHARGE_PARAMETER_KIND, DC_EV_CHARGE_PARAMETER_KIND, AC_EVSE_CHARGE_PARAMETER_KIND, DC_EVSE_CHARGE_PARAMETER_KIND}
-use Rattle.iso_parts.specs.Values.{physical_value_parts, dc_ev_status_parts, ac_evse_status_parts, dc_evse_status_parts}
+use Rattle.iso_schedules.specs.Values.{physical_value_parts, dc_ev_status_parts, ac_evse_status_parts, dc_evse_status_parts}
 use Rattle.iso_parameters.specs.declared.limits.AcEvChargeParameter.{AcEvChargeParameter}
 use Rattle.iso_parameters.specs.declared.limits.DcEvChargeParameter.{DcEvChargeParameter}
 use Rattle.iso_parameters.specs.declared.limits.EvChargeParameter.{EvChargeParameter}

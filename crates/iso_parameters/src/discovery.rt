@@ -4,12 +4,14 @@ ghost use Rattle.std.specs.Prelude.{[]};
 
 use crate::limits::{EvChargeParameter, EvseChargeParameter};
 use exi_documents::Refusal;
-use exi_events::EventWriter;
 use exi_schema::Places;
-use iso_parts::{EnergyTransferMode, EvseProcessing, ResponseCode};
 use iso_schedules::SaSchedules;
+use iso_schedules::iso_parts::message_fields::{
+    AtMostOneOf, Elements3, Elements4, OneOf, OptionalValue, RequiredValue,
+};
+use iso_schedules::iso_parts::{EnergyTransferMode, EvseProcessing, ResponseCode};
 use iso_schema::names;
-use message_fields::{AtMostOneOf, Elements3, Elements4, OneOf, OptionalValue, RequiredValue};
+use message_parts::exi_events::EventWriter;
 use message_parts::{
     Descent, PutRecord, ReadRecord, Record, put_choice, put_optional_choice, put_optional_value,
     put_value, whole_record,

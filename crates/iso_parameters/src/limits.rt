@@ -3,11 +3,13 @@
 ghost use Rattle.std.specs.Prelude.{[]};
 
 use exi_documents::Refusal;
-use exi_events::EventWriter;
 use exi_schema::Places;
-use iso_parts::{AcEvseStatus, DcEvStatus, DcEvseStatus, PhysicalValue};
+use iso_schedules::iso_parts::message_fields::{
+    Elements2, Elements3, Optional, OptionalValue, Required,
+};
+use iso_schedules::iso_parts::{AcEvseStatus, DcEvStatus, DcEvseStatus, PhysicalValue};
 use iso_schema::names;
-use message_fields::{Elements2, Elements3, Optional, OptionalValue, Required};
+use message_parts::exi_events::EventWriter;
 use message_parts::{
     Choice, Descent, PutChoice, PutRecord, ReadRecord, Record, member, put_optional,
     put_optional_value, put_record, whole_record,

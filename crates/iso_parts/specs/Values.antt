@@ -2,8 +2,8 @@
 use Rattle.std.specs.Prelude.{ℕ, pos, List, [], ◌∷◌}
 use Rattle.exi_bits.specs.Lent.{items_of}
 use Rattle.exi_documents.specs.Trees.{Truth, Ordinal, Number, Bytes}
-use Rattle.message_parts.specs.Contents.{Inside, Part, Of, one, perhaps, mapped, holding}
-use Rattle.message_parts.specs.Texts.{text_value}
+use Rattle.message_fields.specs.Contents.{Inside, Part, Of, one, perhaps, mapped, holding}
+use Rattle.message_fields.specs.Texts.{text_value}
 use Rattle.iso_schema.specs.declared.names.TheConstants.{MULTIPLIER, UNIT, VALUE, EV_READY, EV_ERROR_CODE, EVRESS_SOC, NOTIFICATION_MAX_DELAY, EVSE_NOTIFICATION, RCD, EVSE_ISOLATION_STATUS, EVSE_STATUS_CODE, METER_ID, METER_READING, SIG_METER_READING, METER_STATUS, T_METER, AC_EVSE_STATUS, DC_EVSE_STATUS}
 use Rattle.iso_schema.specs.declared.kinds.TheConstants.{AC_EVSE_STATUS_KIND, DC_EVSE_STATUS_KIND}
 use Rattle.iso_parts.specs.Enumerations.{unit_symbol_ordinal, ev_error_code_ordinal, evse_notification_ordinal, isolation_level_ordinal, evse_status_code_ordinal}

@@ -1,10 +1,10 @@
 //! Enumerations of the messages of ISO 15118-2.
 
 ghost use Rattle.exi_documents.specs.Trees.{Ordinal};
-ghost use Rattle.message_parts.specs.Values.{is_named};
+ghost use Rattle.message_fields.specs.Values.{is_named};
 
-use exi_events::Value;
-use message_parts::Simple;
+use message_fields::message_parts::Simple;
+use message_fields::message_parts::exi_events::Value;
 
 /// FaultCode, its values in order from 0.
 #[derive(Clone, Copy, Debug, PartialEq, Eq)]

@@ -4,14 +4,14 @@ ghost use Rattle.std.specs.Prelude.{[]};
 
 use crate::enumerations::FaultCode;
 use exi_documents::Refusal;
-use exi_events::EventWriter;
 use exi_schema::Places;
 use iso_schema::names;
-use message_fields::{Elements2, Elements3, LeftOut, Optional, OptionalValue, RequiredValue};
-use message_parts::{
+use message_fields::message_parts::exi_events::EventWriter;
+use message_fields::message_parts::{
     Binary, Descent, PutRecord, ReadRecord, Record, Text, put_optional, put_optional_value,
     put_value, whole_record,
 };
+use message_fields::{Elements2, Elements3, LeftOut, Optional, OptionalValue, RequiredValue};
 
 /// Notification.
 #[derive(Drop)]

@@ -14,4 +14,6 @@ pub use enumerations::{
     EvErrorCode, EvseNotification, EvseStatusCode, FaultCode, IsolationLevel, UnitSymbol,
 };
 pub use frame::{Header, Notification};
+pub use message_fields;
+pub use message_fields::message_parts;
 pub use values::{AcEvseStatus, DcEvStatus, DcEvseStatus, EvseStatus, MeterInfo, PhysicalValue};

@@ -6,14 +6,14 @@ use crate::enumerations::{
     EvErrorCode, EvseNotification, EvseStatusCode, IsolationLevel, UnitSymbol,
 };
 use exi_documents::Refusal;
-use exi_events::EventWriter;
 use exi_schema::Places;
 use iso_schema::names;
-use message_fields::{Elements2, Elements4, OptionalValue, RequiredValue};
-use message_parts::{
+use message_fields::message_parts::exi_events::EventWriter;
+use message_fields::message_parts::{
     Binary, Choice, Descent, PutChoice, PutRecord, ReadRecord, Record, Text, Three, member,
     put_optional_value, put_record, put_value, whole_record,
 };
+use message_fields::{Elements2, Elements4, OptionalValue, RequiredValue};
 
 /// PhysicalValue.
 #[derive(Clone, Copy, Default)]

@@ -1,8 +1,8 @@
 -- ISO 15118-2:2014 8.4.5, DC: what elements of these types contain, part by part.
 use Rattle.std.specs.Prelude.{pos, List, [], ◌∷◌}
 use Rattle.exi_documents.specs.Trees.{Truth, Ordinal, Number}
-use Rattle.message_parts.specs.Contents.{Part, Of, one, perhaps, mapped, holding}
-use Rattle.message_parts.specs.Texts.{text_value}
+use Rattle.iso_parts.specs.Contents.{Part, Of, one, perhaps, mapped, holding}
+use Rattle.iso_parts.specs.Texts.{text_value}
 use Rattle.iso_schema.specs.declared.names.TheConstants.{RESPONSE_CODE, EVSEID, EVSE_PROCESSING, DC_EV_STATUS, EV_MAXIMUM_CURRENT_LIMIT, EV_MAXIMUM_POWER_LIMIT, EV_MAXIMUM_VOLTAGE_LIMIT, SA_SCHEDULE_TUPLE_ID, DC_EVSE_STATUS, EVSE_MAXIMUM_CURRENT_LIMIT, EVSE_MAXIMUM_POWER_LIMIT, EVSE_MAXIMUM_VOLTAGE_LIMIT, BULK_CHARGING_COMPLETE, CHARGING_COMPLETE, METER_INFO, RECEIPT_REQUIRED, EV_TARGET_VOLTAGE, EV_TARGET_CURRENT, EVSE_PRESENT_VOLTAGE, REMAINING_TIME_TO_FULL_SO_C, REMAINING_TIME_TO_BULK_SO_C, EVSE_PRESENT_CURRENT, EVSE_CURRENT_LIMIT_ACHIEVED, EVSE_VOLTAGE_LIMIT_ACHIEVED, EVSE_POWER_LIMIT_ACHIEVED}
 use Rattle.iso_parts.specs.Codes.{response_code_ordinal, evse_processing_ordinal}
 use Rattle.iso_parts.specs.Values.{physical_value_parts, dc_ev_status_parts, dc_evse_status_parts, meter_info_parts}

@@ -3,17 +3,17 @@
 ghost use Rattle.std.specs.Prelude.{[]};
 
 use exi_documents::Refusal;
-use exi_events::EventWriter;
 use exi_schema::Places;
-use iso_parts::{DcEvStatus, DcEvseStatus, EvseProcessing, MeterInfo, PhysicalValue, ResponseCode};
-use iso_schema::names;
-use message_fields::{
+use iso_parts::message_fields::{
     Elements, Elements3, Elements4, Optional, OptionalValue, Required, RequiredValue,
 };
-use message_parts::{
+use iso_parts::message_parts::exi_events::EventWriter;
+use iso_parts::message_parts::{
     Descent, PutRecord, ReadRecord, Record, Text, put_optional, put_optional_value, put_record,
     put_value, whole_record,
 };
+use iso_parts::{DcEvStatus, DcEvseStatus, EvseProcessing, MeterInfo, PhysicalValue, ResponseCode};
+use iso_schema::names;
 
 /// CableCheckReq.
 #[derive(Clone, Copy)]

@@ -1,1 +1,2 @@
 pub mod Replies
+pub use Rattle.iso_message.specs.Documents

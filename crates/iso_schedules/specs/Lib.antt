@@ -1,1 +1,3 @@
 pub mod Schedules
+pub use Rattle.iso_parts.specs.Values
+pub use Rattle.iso_parts.specs.Codes

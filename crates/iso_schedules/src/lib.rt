@@ -3,6 +3,7 @@
 
 mod schedules;
 
+pub use iso_parts;
 pub use schedules::{
     PMaxSchedule, PMaxScheduleEntry, RelativeTimeInterval, SaScheduleList, SaScheduleTuple,
     SaSchedules, TimeInterval,

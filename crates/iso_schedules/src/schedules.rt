@@ -4,17 +4,17 @@ ghost use Rattle.std.specs.Prelude.{[]};
 
 use arrayvec::ArrayVec;
 use exi_documents::Refusal;
-use exi_events::EventWriter;
 use exi_schema::Places;
 use iso_parts::PhysicalValue;
-use iso_schema::names;
-use message_fields::{
+use iso_parts::message_fields::{
     Elements, Elements2, Elements3, LeftOut, OneOf, OptionalValue, Required, RequiredValue, Several,
 };
-use message_parts::{
+use iso_parts::message_parts::exi_events::EventWriter;
+use iso_parts::message_parts::{
     Choice, Descent, Group, PutChoice, PutRecord, ReadRecord, Record, member, put_choice,
     put_optional_value, put_record, put_records, put_value, whole_record,
 };
+use iso_schema::names;
 
 /// RelativeTimeInterval.
 #[derive(Clone, Copy, Default)]

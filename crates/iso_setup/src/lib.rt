@@ -6,6 +6,7 @@ mod selection;
 mod services;
 mod session;
 
+pub use iso_parts;
 pub use selection::{
     PaymentServiceSelectionReq, PaymentServiceSelectionRes, SelectedService, SelectedServiceList,
 };

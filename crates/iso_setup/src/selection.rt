@@ -4,11 +4,13 @@ ghost use Rattle.std.specs.Prelude.{[]};
 
 use arrayvec::ArrayVec;
 use exi_documents::Refusal;
-use exi_events::EventWriter;
 use exi_schema::Places;
+use iso_parts::message_fields::{
+    Elements, Elements2, OptionalValue, Required, RequiredValue, Several,
+};
 use iso_parts::{PaymentOption, ResponseCode};
 use iso_schema::names;
-use message_fields::{Elements, Elements2, OptionalValue, Required, RequiredValue, Several};
+use message_parts::exi_events::EventWriter;
 use message_parts::{
     Descent, PutRecord, ReadRecord, Record, put_optional_value, put_record, put_records, put_value,
     whole_record,

@@ -4,14 +4,14 @@ ghost use Rattle.std.specs.Prelude.{[]};
 
 use arrayvec::ArrayVec;
 use exi_documents::Refusal;
-use exi_events::EventWriter;
 use exi_schema::Places;
-use iso_parts::{EnergyTransferMode, PaymentOption, ResponseCode, ServiceCategory};
-use iso_schema::names;
-use message_fields::{
+use iso_parts::message_fields::{
     Elements, Elements2, Elements4, Optional, OptionalValue, Required, RequiredValue, Several,
     SeveralValues,
 };
+use iso_parts::{EnergyTransferMode, PaymentOption, ResponseCode, ServiceCategory};
+use iso_schema::names;
+use message_parts::exi_events::EventWriter;
 use message_parts::{
     Descent, PutRecord, ReadRecord, Record, Text, put_optional, put_optional_value, put_record,
     put_records, put_value, put_values, whole_record,

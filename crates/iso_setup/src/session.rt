@@ -3,13 +3,13 @@
 ghost use Rattle.std.specs.Prelude.{[]};
 
 use exi_documents::Refusal;
-use exi_events::EventWriter;
 use exi_schema::Places;
-use iso_parts::{ChargingSession, EvseProcessing, ResponseCode};
-use iso_schema::names;
-use message_fields::{
+use iso_parts::message_fields::{
     Elements, Elements2, Elements3, OptionalValue, RequiredValue, WithOptionalAttribute,
 };
+use iso_parts::{ChargingSession, EvseProcessing, ResponseCode};
+use iso_schema::names;
+use message_parts::exi_events::EventWriter;
 use message_parts::{
     Binary, Descent, PutRecord, ReadRecord, Record, Text, put_optional_attribute,
     put_optional_value, put_value, whole_record,

@@ -6,7 +6,7 @@ use Rattle.message_parts.specs.declared.texts.Binary.{Binary}
 use Rattle.session_words.specs.declared.session.SessionId.{SessionId}
 use Rattle.session_words.specs.declared.word.Word.{Word}
 use Rattle.session_words.specs.declared.word.Word.TheVariants as word
-use Rattle.iso_message.specs.declared.message.BodyElement.{BodyElement}
+use Rattle.iso_words.specs.BodyElement.{BodyElement}
 use Rattle.iso_word_messages.specs.Messages.{LendsSession, message_with}
 use Rattle.iso_word_messages.specs.Spellable.{CanSession}
 use Rattle.iso_words.specs.Words.{word_of, element_word}

@@ -2,7 +2,7 @@
 use Rattle.std.specs.Prelude.{◌≡◌}
 use Rattle.session_words.specs.declared.word.Word.{Word}
 use Rattle.written_words.specs.Back.{word_back}
-use Rattle.iso_message.specs.declared.message.IsoMessage.{IsoMessage}
+use Rattle.iso_words.specs.IsoMessage.{IsoMessage}
 use Rattle.iso_word_messages.specs.Messages.{IsMessageOf}
 use Rattle.iso_word_messages.specs.Spellable.{CanSpell}
 use Rattle.iso_words.specs.Words.{word_of}

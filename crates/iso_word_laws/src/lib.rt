@@ -17,3 +17,5 @@ pub fn spells_replies()
     ensures typed { SpellsTyped }
     ensures typed_waiting { SpellsTypedWaiting }
 {}
+
+pub use iso_words;

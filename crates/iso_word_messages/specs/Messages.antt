@@ -20,7 +20,7 @@ use Rattle.iso_delivery.specs.declared.delivery.ChargingStatusReq.{ChargingStatu
 use Rattle.iso_setup.specs.declared.selection.PaymentServiceSelectionRes.{PaymentServiceSelectionRes}
 use Rattle.iso_message.specs.declared.message.BodyElement.{BodyElement}
 use Rattle.iso_message.specs.declared.message.BodyElement.TheVariants as element
-use Rattle.iso_elements.specs.declared.brief.BriefElement.TheVariants as brief
+use Rattle.iso_message.specs.BriefElement.TheVariants as brief
 use Rattle.iso_message.specs.declared.message.IsoMessage.{IsoMessage}
 use Rattle.iso_values.specs.Codes.{response_code}
 use Rattle.iso_word_messages.specs.SetupMessages.{setup_req, setup_res, discovery_req, discovery_res, detail_req, detail_res, selection_req, authorization_req, authorization_res, stop_req}

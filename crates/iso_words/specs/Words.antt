@@ -12,8 +12,8 @@ use Rattle.iso_parts.specs.declared.codes.ResponseCode.{ResponseCode}
 use Rattle.iso_parts.specs.declared.frame.Header.{Header}
 use Rattle.iso_message.specs.declared.message.BodyElement.{BodyElement}
 use Rattle.iso_message.specs.declared.message.BodyElement.TheVariants as element
-use Rattle.iso_elements.specs.declared.brief.BriefElement.{BriefElement}
-use Rattle.iso_elements.specs.declared.brief.BriefElement.TheVariants as brief
+use Rattle.iso_message.specs.BriefElement.{BriefElement}
+use Rattle.iso_message.specs.BriefElement.TheVariants as brief
 use Rattle.iso_message.specs.declared.message.IsoMessage.{IsoMessage}
 use Rattle.iso_values.specs.Codes.{code_of}
 use Rattle.word_values.specs.Items.{bytes_of}

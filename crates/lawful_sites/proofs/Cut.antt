@@ -4,9 +4,9 @@ use Rattle.charge_world.specs.declared.entry.Entry.{Entry}
 use Rattle.session_words.specs.declared.plan.SitePlan.{SitePlan}
 use Rattle.post_spec.specs.Codecs.{Codecs}
 use Rattle.station_spec.specs.Runs.{IsSiteRun, IsCutRun}
-use Rattle.site_turns.specs.declared.ending.Ended.{Ended}
-use Rattle.site_turns.specs.declared.ending.Ended.TheVariants as ended
-use Rattle.site_turns.specs.Ending.{RanAs}
+use Rattle.site_core.specs.Ended.{Ended}
+use Rattle.site_core.specs.Ended.TheVariants as ended
+use Rattle.site_core.specs.Ending.{RanAs}
 
 whole_cut : (c : Codecs) (plan : SitePlan) (past : List Entry) → IsSiteRun c plan past → IsCutRun c plan past
 whole_cut c plan past r = record { blocks = r.blocks; posts = r.posts; run = r.run; closes = r.closes }

@@ -8,7 +8,7 @@ ghost use Rattle.session_words.specs.declared.plan.SitePlan.{SitePlan};
 ghost use Rattle.post_spec.specs.Codecs.{codecs};
 ghost use Rattle.station_spec.specs.Runs.{IsCutRun};
 ghost use Rattle.site_acts.specs.Telling.{Carries, CarriesText};
-ghost use Rattle.site_turns.specs.Ending.{AreMade, AreMadeOf, EndedAs, RanAs, TracedAs, AwaitedAs, AreCounts, AreFaults};
+ghost use Rattle.site_core.specs.Ending.{AreMade, AreMadeOf, EndedAs, RanAs, TracedAs, AwaitedAs, AreCounts, AreFaults};
 ghost use Rattle.lawful_sites.specs.Lawful.{IsLawful};
 
 use charge_world::{Sink, Wire};
@@ -19,6 +19,7 @@ use opened_causes::opens_at_causes;
 use safe_runs::{closes_as_mandated, ends_open, opens_again};
 use served_sessions::serves_conforming_sessions;
 use silent_runs::sends_in_sessions;
+pub use site_core;
 use site_core::{Ended, Site};
 use spelled_watts::spelled_within_limit;
 use standing_causes::opens_where_causes_stand;

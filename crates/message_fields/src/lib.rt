@@ -6,6 +6,7 @@ mod singles;
 mod tuples;
 
 pub use made::{Elements, Elements2, Elements3, Elements4, WithAttribute, WithOptionalAttribute};
+pub use message_parts;
 pub use singles::{
     AtMostOneOf, LeftOut, OneOf, Optional, OptionalValue, Required, RequiredValue, Several,
     SeveralValues,

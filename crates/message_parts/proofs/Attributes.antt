@@ -23,7 +23,7 @@ use Rattle.exi_values.specs.Meaning.{event_of, value_of}
 use Rattle.exi_schema.specs.Plain.{PlainKind, PlainParticle, containing}
 use Rattle.exi_schema.specs.Offers.{offers, offers_of, element_steps}
 use Rattle.exi_schema.specs.Steps.{simple_at}
-use Rattle.document_laws.proofs.Offered.{each_of, one_taken}
+use Rattle.exi_events.proofs.Offered.{each_of, one_taken}
 use Rattle.message_parts.specs.Contents.{started, attribute_value}
 use Rattle.message_parts.specs.Particles.{attribute_name, attribute_kind, attribute_at, is_must, is_may, is_last_may}
 use Rattle.message_parts.specs.Reading.{Frame, Seen, Goes, Enters, IsBetween, Reads, IsChild, StartsAt, before_children, names_in}

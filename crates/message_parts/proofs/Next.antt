@@ -28,7 +28,7 @@ use Rattle.exi_events.specs.Reader.{Reading, reading, IsNext, TakesValue}
 use Rattle.exi_schema.specs.Plain.{PlainKind, PlainParticle, containing}
 use Rattle.exi_schema.specs.Offers.{offers, offers_of, element_step, element_steps}
 use Rattle.exi_schema.specs.Steps.{simple_at, datatype_of}
-use Rattle.document_laws.proofs.Offered.{EachOf, each_of, each_of_both, each_of_some, one_taken, offers_simple}
+use Rattle.exi_events.proofs.Offered.{EachOf, each_of, each_of_both, each_of_some, one_taken, offers_simple}
 use Rattle.message_parts.specs.Contents.{started}
 use Rattle.exi_documents.specs.declared.refusal.Refusal.{Refusal}
 use Rattle.exi_documents.specs.Refusals.{IsRefused}

@@ -9,9 +9,9 @@ use Rattle.exi_documents.specs.Values.{WritesValue}
 use Rattle.exi_events.specs.Writer.{Draft, IsPut, IsNeeded, IsOfferedAs}
 use Rattle.exi_events.specs.declared.writer.NotPut.{NotPut}
 use Rattle.exi_events.specs.declared.writer.NotPut.TheVariants.{NotOffered, Full as NoRoom}
-use Rattle.document_laws.specs.Laws.{IsStanding}
-use Rattle.document_laws.proofs.Written.{value_once}
-use Rattle.document_laws.proofs.Once.{moves_once}
+use Rattle.exi_events.specs.Laws.{IsStanding}
+use Rattle.exi_events.proofs.Written.{value_once}
+use Rattle.exi_events.proofs.Once.{moves_once}
 use Rattle.message_parts.specs.Writing.{Target, Put, HasLeft, Writes, Leads, IsTooMuch}
 
 module _ (F : Target) (e : Event) (rest : List Event) (old new : Put) (room : List ℕ) (same : old.schema ≡ F.schema) (now : new.schema ≡ F.schema) (has : old.room ≡ F.room) (keeps : new.room ≡ F.room)

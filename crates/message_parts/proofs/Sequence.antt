@@ -8,9 +8,9 @@ use Rattle.exi_documents.specs.Trees.{Event, Start, EndElement}
 use Rattle.exi_values.specs.declared.Event.TheVariants as read
 use Rattle.exi_values.specs.declared.Value.{Value as ReadValue}
 use Rattle.exi_values.specs.declared.Value.TheVariants as read_value
-use Rattle.exi_reading.specs.Short.{tree_of}
-use Rattle.exi_reading.specs.declared.short.ShortValue.{ShortValue}
-use Rattle.exi_reading.specs.declared.short.ShortValue.TheVariants as short
+use Rattle.exi_events.specs.Short.{tree_of}
+use Rattle.exi_events.specs.ShortValue.{ShortValue}
+use Rattle.exi_events.specs.ShortValue.TheVariants as short
 use Rattle.exi_values.specs.Meaning.{value_of}
 use Rattle.exi_events.specs.Reader.{Reading, reading}
 use Rattle.exi_events.specs.Sequence.{TakesChild, TakesEnd, TakesSequence, values_of}

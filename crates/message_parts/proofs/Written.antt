@@ -8,7 +8,7 @@ use Rattle.exi_documents.specs.Grammar.{Behind, State, start, stands}
 use Rattle.exi_documents.specs.Trees.{Event, Document, Tree, document_events}
 use Rattle.exi_documents.specs.Values.{WritesValue}
 use Rattle.exi_events.specs.Writer.{Draft, IsPut}
-use Rattle.document_laws.proofs.Runs.{Runs, document_runs}
+use Rattle.exi_events.proofs.Runs.{Runs, document_runs}
 use Rattle.message_parts.specs.Contents.{Inside, root_of, one_onto}
 use Rattle.message_parts.specs.Writing.{Target, Put, Writes, Leads, IsTooMuch}
 use Rattle.message_parts.proofs.Told.{root_ahead}

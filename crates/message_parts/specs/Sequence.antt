@@ -5,7 +5,7 @@ use Rattle.exi_schema.specs.Plain.{PlainKind, PlainParticle}
 use Rattle.exi_schema.specs.Steps.{simple_at}
 use Rattle.exi_documents.specs.Trees.{Event, Value}
 use Rattle.exi_documents.specs.declared.refusal.Refusal.{Refusal}
-use Rattle.exi_reading.specs.Short.{tree_of}
+use Rattle.exi_events.specs.Short.{tree_of}
 use Rattle.exi_events.specs.declared.sequence.ThreeValues.{ThreeValues}
 use Rattle.message_parts.specs.Contents.{Of, told_one}
 use Rattle.message_parts.specs.Particles.{name_at, kind_at, is_once_at, takes_at}

@@ -17,6 +17,7 @@ pub use children::{
 };
 pub use descent::Descent;
 pub use document::{read, read_here, write};
+pub use exi_events;
 pub use lent_text::LentText;
 pub use part::{
     Choice, Contents, Group, LargeChoice, LargeGroup, LargeRecord, PutChoice, PutRecord,

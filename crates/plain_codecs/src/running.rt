@@ -6,8 +6,8 @@ ghost use Rattle.plain_site.specs.Checking.{IsRunOf, IsKnown, past_of};
 ghost use Rattle.plain_codecs.specs.Coding.{site_codecs};
 
 use crate::codecs::PlainCodecs;
+use charge_codecs::codec_laws::codecs_are_lawful;
 use charge_world::Entry;
-use codec_laws::codecs_are_lawful;
 use plain_site::{Ending, Fault, NoMemory, check};
 use session_words::SitePlan;
 use std::alloc::Global;

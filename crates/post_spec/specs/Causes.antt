@@ -10,8 +10,8 @@ use Rattle.session_words.specs.declared.cause.Timeout.TheVariants.{Setup, Sequen
 use Rattle.session_words.specs.declared.plan.PostPlan.{PostPlan}
 use Rattle.session_words.specs.Causes.{cause_of}
 use Rattle.session_words.specs.Modes.{phases_of}
-use Rattle.session_timers.specs.Due.{never}
-use Rattle.session_timers.specs.Law.{span_of}
+use Rattle.session_rules.specs.Due.{never}
+use Rattle.session_rules.specs.Law.{span_of}
 use Rattle.session_rules.specs.declared.causes.Found.{Found}
 use Rattle.session_rules.specs.declared.causes.Found.TheVariants as found
 use Rattle.session_rules.specs.declared.causes.Watch.{Watch}

@@ -5,8 +5,8 @@ use Rattle.charge_world.specs.declared.heard.PlantEvent.TheVariants as plant
 use Rattle.charge_world.specs.declared.ports.Order.{Order}
 use Rattle.charge_world.specs.declared.ports.Order.TheVariants as order
 use Rattle.session_words.specs.declared.phase.Standing.{Standing}
-use Rattle.contactor.specs.Standing.{standing_of, is_live}
-use Rattle.contactor.specs.Standing as contactor
+use Rattle.session_rules.specs.Standing.{standing_of, is_live}
+use Rattle.session_rules.specs.Standing as contactor
 use Rattle.post_spec.specs.Steps.{Act, Give, Send, Answer, End, Seen, Heard, Did}
 use Rattle.post_spec.specs.Facts.{told_by}
 

@@ -9,7 +9,7 @@ use Rattle.session_words.specs.declared.plan.PostPlan.{PostPlan}
 use Rattle.session_words.specs.declared.word.Reply.{Reply}
 use Rattle.session_words.specs.declared.word.Request.{Request}
 use Rattle.session_words.specs.declared.word.Word.TheVariants as word
-use Rattle.contactor.specs.Rights.{is_ready}
+use Rattle.session_rules.specs.Rights.{is_ready}
 use Rattle.session_rules.specs.Finishing.{is_ac}
 use Rattle.post_spec.specs.Codecs.{Codecs}
 use Rattle.post_spec.specs.Facts.{pilot}

@@ -3,3 +3,5 @@ pub mod Files
 pub mod Itself
 pub mod Lines
 pub mod Replays
+pub use Rattle.station_command.specs.Served
+pub use Rattle.station_command.specs.Refused

@@ -12,8 +12,8 @@ use crate::lines::{conclude, refuse};
 use crate::recording::{Recording, recording_in};
 use charge_world::{Sink, Source};
 use command_status::Status;
-use site_core::Site;
 use site_replays::replay as replay_at;
+use site_replays::site_core::Site;
 use std::alloc::Global;
 use word_codec::Codec;
 

@@ -8,3 +8,4 @@ mod recording;
 
 pub use command::replay;
 pub use laws::writes_itself;
+pub use station_command;

@@ -8,8 +8,8 @@ ghost use Rattle.replay_command.specs.Lines.{replay_line, Prints, Concludes, Ref
 use crate::recording::FilesFault;
 use charge_world::Sink;
 use command_status::{Line, Status, add, add_number, line_of_input, tell_fault, tell_plan};
-use site_core::Ended;
 use site_replays::Replayed;
+use site_replays::site_core::Ended;
 use station_command::key_of;
 
 /// The line of a replay that wrote so many lines.

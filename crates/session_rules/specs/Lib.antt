@@ -15,3 +15,8 @@ pub mod Allowed
 pub mod Causes
 pub mod Deadlines
 pub mod Laws
+pub use Rattle.contactor.specs.Standing
+pub use Rattle.contactor.specs.Rights
+pub use Rattle.session_timers.specs.Due
+pub use Rattle.session_timers.specs.Law
+pub use Rattle.contactor.specs.Calls

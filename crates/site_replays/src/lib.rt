@@ -11,6 +11,7 @@ ghost use Rattle.site_replays.specs.Replayed.{IsReplayed};
 
 use charge_world::{Entry, Sink};
 use replay_wire::{Recorded, ReplayWire};
+pub use site_core;
 use site_core::{Ended, Site, serve};
 use std::marker::Brand;
 use word_codec::Codec;

@@ -11,8 +11,8 @@ use crate::ports::ports_of;
 use charge_world::{Sink, Wire};
 use command_status::{Status, tell_fault};
 use lawful_sites::serve;
+use lawful_sites::site_core::Site;
 use session_words::SitePlan;
-use site_core::Site;
 use std::alloc::Global;
 use word_codec::LawfulCodec;
 

@@ -4,7 +4,7 @@ use Rattle.std.specs.Option.{option_map}
 use Rattle.charge_world.specs.declared.heard.PlantEvent.{PlantEvent}
 use Rattle.charge_world.specs.declared.heard.PlantEvent.TheVariants as plant
 use Rattle.session_words.specs.declared.facts.Facts.{Facts}
-use Rattle.contactor.specs.Calls.{standing_heard}
+use Rattle.session_rules.specs.Calls.{standing_heard}
 use Rattle.post_spec.specs.Sessions.{brought}
 use Rattle.post_spec.specs.Steps.{Event, Came, Bytes, Gone, Datagram, Plant, Clock, Over}
 use Rattle.station_spec.specs.States.{Repeating, Session, State, nothing, first_session}

@@ -1,7 +1,7 @@
 use Rattle.std.proofs.Common.{◌≡◌, []}
 use Rattle.post_spec.specs.Codecs.{codecs}
 use Rattle.site_acts.proofs.Carry.{carries_to}
-use Rattle.site_turns.specs.Ending.{RanAs}
+use Rattle.site_core.specs.Ending.{RanAs}
 use Rattle.lawful_sites.specs.Lawful.{IsLawful}
 use Rattle.lawful_sites.proofs.Cut.{ran_cut}
 use Rattle.lawful_sites.proofs.serve.Goals as goal

@@ -1,5 +1,5 @@
 use Rattle.std.proofs.Common.{◌≡◌, ◌+◌, drop}
-use Rattle.car_codec_rules.specs.Responding.{named_from}
+use Rattle.car_codec_laws.specs.Responding.{named_from}
 use Rattle.car_codecs.proofs.negotiating.named.Given as goal
 
 abbrev pub invariant-loop-i : goal.invariant-loop-i

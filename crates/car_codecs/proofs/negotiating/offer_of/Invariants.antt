@@ -1,6 +1,6 @@
 use Rattle.std.proofs.Common.{◌≡◌, ◌+◌, ◌++◌, drop, length, map}
 use Rattle.app_protocol.specs.Messages.{protocol_of}
-use Rattle.car_codec_rules.specs.Offering.{entries_from, entries_of}
+use Rattle.car_codec_laws.specs.Offering.{entries_from, entries_of}
 use Rattle.car_codecs.proofs.negotiating.offer_of.Given as goal
 
 abbrev pub invariant-loop-i : goal.invariant-loop-i

@@ -7,7 +7,7 @@ use Rattle.car_spec.specs.Report.{Report}
 use Rattle.car_acts.specs.Reporting.{reported}
 use Rattle.car_core.specs.Lawful.{IsLawful}
 use Rattle.car_core.specs.Made.{IsMadeOf}
-use Rattle.car_turns.specs.Ending.{EndedAs, IsDriven, RanAs}
+use Rattle.car_core.specs.Ending.{EndedAs, IsDriven, RanAs}
 use Rattle.station_command.proofs.Begun.{IsNew, started_run, started_text}
 use Rattle.station_command.specs.Served.{sink_told}
 use Rattle.car_command.specs.Lines.{Concludes}

@@ -1,6 +1,6 @@
 use Rattle.std.proofs.Common.{arith}
 use Rattle.exi_spec.specs.Bits.{bits_of}
-use Rattle.exi_reading.proofs.Places.{global_of-texts, global_places, place_spelled}
+use Rattle.exi_writing.proofs.Places.{global_of-texts, global_places, place_spelled}
 use Rattle.exi_writing.proofs.Found.{same_count, first_there, not_there, all_passed}
 use Rattle.exi_events.proofs.value.is_entered.Goals as goal
 

@@ -1,6 +1,6 @@
 use Rattle.std.proofs.Common.{refl, sym, subst, [], ◌∙◌}
 use Rattle.exi_documents.specs.Trees.{Value}
-use Rattle.exi_reading.specs.Short.{tree_of}
+use Rattle.exi_events.specs.Short.{tree_of}
 use Rattle.message_parts.specs.Reading.{Reads, StartsAt, seen_of}
 use Rattle.message_parts.specs.Sequence.{HoldsThree, told_three}
 use Rattle.message_parts.specs.Values.{IsRead}

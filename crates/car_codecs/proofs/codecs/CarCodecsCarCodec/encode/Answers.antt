@@ -1,6 +1,6 @@
 use Rattle.std.proofs.Common.{ℕ, ◌≤◌, List, length, drop, arith, sym, subst}
 use Rattle.std.proofs.lemmas.List.{take-append-le, length-take-le}
-use Rattle.car_codec_rules.specs.Codecs.{Encodes}
+use Rattle.car_codec_laws.specs.Codecs.{Encodes}
 use Rattle.car_codecs.proofs.codecs.CarCodecsCarCodec.encode.Goals as goal
 
 pub write-requires-clause-request : goal.write-requires-clause-request

@@ -1,6 +1,6 @@
 use Rattle.std.proofs.Common.{ℕ, ◌≤◌, List, length, drop, arith, sym, subst}
 use Rattle.std.proofs.lemmas.List.{take-append-le, length-take-le}
-use Rattle.car_codec_rules.specs.Offering.{Offers}
+use Rattle.car_codec_laws.specs.Offering.{Offers}
 use Rattle.car_codecs.proofs.codecs.CarCodecsCarCodec.offer.Goals as goal
 
 pub returns-clause-encoded : goal.returns-clause-encoded

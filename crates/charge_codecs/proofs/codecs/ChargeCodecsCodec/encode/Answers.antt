@@ -1,6 +1,6 @@
 use Rattle.std.proofs.Common.{ℕ, ◌≤◌, List, length, drop, arith, sym, subst}
 use Rattle.std.proofs.lemmas.List.{take-append-le, length-take-le}
-use Rattle.codec_rules.specs.Codecs.{Encodes}
+use Rattle.codec_laws.specs.Codecs.{Encodes}
 use Rattle.charge_codecs.proofs.codecs.ChargeCodecsCodec.encode.Goals as goal
 
 pub write-requires-clause-brief : goal.write-requires-clause-brief

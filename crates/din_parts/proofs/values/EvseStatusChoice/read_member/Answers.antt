@@ -1,5 +1,5 @@
 use Rattle.std.proofs.Common.{refl, []}
-use Rattle.message_parts.proofs.Chosen.{only_last, mapped}
+use Rattle.message_fields.proofs.Chosen.{only_last, mapped}
 use Rattle.din_parts.specs.declared.values.EvseStatus.TheVariants as evse_status
 use Rattle.din_schema.specs.declared.names.TheConstants.{DC_EVSE_STATUS}
 use Rattle.din_schema.specs.declared.kinds.TheConstants.{DC_EVSE_STATUS_KIND}

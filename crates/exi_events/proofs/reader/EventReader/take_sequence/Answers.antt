@@ -1,4 +1,4 @@
-use Rattle.exi_reading.specs.Short.{tree_of}
+use Rattle.exi_writing.specs.Short.{tree_of}
 use Rattle.exi_events.specs.Sequence.{values_of}
 use Rattle.exi_events.proofs.Sequences.{three_taken, sequence_told, open_behind}
 use Rattle.exi_events.proofs.Valued.{stays_ready}

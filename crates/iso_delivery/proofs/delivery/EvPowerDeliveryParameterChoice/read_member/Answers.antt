@@ -1,5 +1,5 @@
 use Rattle.std.proofs.Common.{refl, []}
-use Rattle.message_parts.proofs.Chosen.{only_last, mapped}
+use Rattle.iso_parts.proofs.Chosen.{only_last, mapped}
 use Rattle.iso_delivery.specs.declared.delivery.EvPowerDeliveryParameter.TheVariants as ev_power_delivery_parameter
 use Rattle.iso_schema.specs.declared.names.TheConstants.{DC_EV_POWER_DELIVERY_PARAMETER}
 use Rattle.iso_schema.specs.declared.kinds.TheConstants.{DC_EV_POWER_DELIVERY_PARAMETER_KIND}

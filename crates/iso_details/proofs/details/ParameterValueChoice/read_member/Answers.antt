@@ -1,5 +1,5 @@
 use Rattle.std.proofs.Common.{rules, refl, [], ◌∷◌}
-use Rattle.message_parts.proofs.Chosen.{only_last}
+use Rattle.iso_parts.proofs.Chosen.{only_last}
 use Rattle.iso_schema.specs.declared.names.TheConstants.{BOOL_VALUE, BYTE_VALUE, SHORT_VALUE, INT_VALUE, PHYSICAL_VALUE, STRING_VALUE}
 use Rattle.iso_schema.specs.declared.kinds.TheConstants.{BOOLEAN_KIND, BYTE_KIND, SHORT_KIND, INT_KIND, PHYSICAL_VALUE_KIND, TEXT64_KIND}
 use Rattle.iso_details.proofs.details.ParameterValueChoice.read_member.Goals as goal

@@ -1,6 +1,6 @@
 use Rattle.std.proofs.Common.{subst}
-use Rattle.message_parts.specs.Contents.{one_onto}
-use Rattle.message_parts.specs.Writing.{Writes, put_of}
+use Rattle.iso_parts.specs.Contents.{one_onto}
+use Rattle.iso_parts.specs.Writing.{Writes, put_of}
 use Rattle.iso_details.specs.Details.{parameter_value_name, parameter_value_inside}
 use Rattle.iso_details.proofs.details.ParameterValuePutChoice.write_member.Goals as goal
 

@@ -1,6 +1,6 @@
 use Rattle.std.proofs.Common.{subst}
-use Rattle.message_parts.specs.Contents.{one_onto}
-use Rattle.message_parts.specs.Writing.{Writes, put_of}
+use Rattle.message_fields.specs.Contents.{one_onto}
+use Rattle.message_fields.specs.Writing.{Writes, put_of}
 use Rattle.iso_parts.specs.Values.{evse_status_name, evse_status_inside}
 use Rattle.iso_parts.proofs.values.EvseStatusPutChoice.write_member.Goals as goal
 

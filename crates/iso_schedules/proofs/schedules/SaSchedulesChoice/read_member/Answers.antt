@@ -1,5 +1,5 @@
 use Rattle.std.proofs.Common.{refl, []}
-use Rattle.message_parts.proofs.Chosen.{only_last, mapped}
+use Rattle.iso_parts.proofs.Chosen.{only_last, mapped}
 use Rattle.iso_schedules.specs.declared.schedules.SaSchedules.TheVariants as sa_schedules
 use Rattle.iso_schema.specs.declared.names.TheConstants.{SA_SCHEDULE_LIST}
 use Rattle.iso_schema.specs.declared.kinds.TheConstants.{SA_SCHEDULE_LIST_KIND}

@@ -1,0 +1,3 @@
+pub use Rattle.car_codec_laws.specs.Codecs
+pub use Rattle.car_codec_laws.specs.Offering
+pub use Rattle.car_codec_laws.specs.Responding

@@ -1,0 +1,1 @@
+pub use Rattle.message_fields.proofs.Chosen

@@ -1,0 +1,1 @@
+pub use Rattle.message_parts.proofs.Chosen
