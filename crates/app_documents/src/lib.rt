@@ -1,5 +1,9 @@
 //! The documents of the negotiation (ISO 15118-2:2014, section 8.2), as definitions that contracts cite: its declarations, and the trees of
 //! its messages.
+//!
+//! Proved: `documents_are_messages`: each document of the negotiation's declarations is the tree of a request or of a response within its
+//! ranges; `messages_are_written`: each message within its ranges has an encoding, of at most 32,768 bytes; `responses_are_short`: that of
+//! a response has at most 28 bits; `one_message`: a tree is that of one message.
 #![tactic(auto)]
 
 ghost use Rattle.std.specs.Prelude.{◌≡◌, ℕ, ◌*◌, ◌≤◌, Bool, List, length, Option};

@@ -1,4 +1,10 @@
-//! The negotiation of a message set (ISO 15118-2:2014, section 8.2): its messages, their bits, and the rule.
+//! The negotiation of a message set (ISO 15118-2:2014, section 8.2): its messages read, written, printed and scanned, and the rule.
+//!
+//! Proved: `read_app` reads exactly the messages of the negotiation (`IsApp`), and answers the exact refusal of every other payload
+//! (`IsAppRefused`); `write_app` writes the one encoding of a message (`IsAppEncoding`), which is read back as that message, and is `Full`
+//! exactly where the room is smaller, with the bits that are needed; `negotiate` is the rule (`Negotiates`); `print` (`IsPrinted`) and
+//! `scan` (`IsAppScanned`, `IsAppScanFault`) go to the text of a message and back; `messages_and_refusals`, `payloads_and_faults`: not
+//! both, and one refusal; `one_encoding`; `responses_fit_four_bytes`.
 #![tactic(auto)]
 
 mod codec;

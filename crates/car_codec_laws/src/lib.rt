@@ -1,4 +1,7 @@
 //! Laws of the codecs of a car: what the laws of runs ask of them. The function does nothing: its contract is the law.
+//!
+//! Proved: `car_codecs_are_lawful`: a request reads back, a payload is judged one way and what is said has one encoding, and a chosen
+//! dialect is one on offer.
 #![tactic(auto)]
 
 ghost use Rattle.car_spec.specs.Codecs.{codecs};

@@ -1,4 +1,8 @@
-//! What holds of every run of a car, whatever its codecs are.
+//! What holds of every run of a car, whatever its codecs are: its contactor and session are read off its past and steps, it closes behind
+//! the words that mandate it, takes no step behind its end, ends open, and has one next act or word.
+//!
+//! Proved: laws of every run: `runs_end_open`, `ended_cars_are_silent`, `closes_by_words` (each Close stands behind the words that mandate
+//! it), `contactors_are_read`, `readings_are_kept`, `cars_are_determined`.
 #![tactic(auto)]
 
 ghost use Rattle.car_spec.specs.Codecs.{codecs};

@@ -1,4 +1,7 @@
-//! What a car does: what it keeps of its steps, what it does next, and its runs. Definitions alone, in `specs/`.
+//! What a car keeps of its steps and does next, its runs, what its past tells, and when it may close its contactor. Definitions alone, in
+//! `specs/`.
+//!
+//! Proved: definitions alone, of the steps, the state and the runs of a car, whole or cut.
 #![tactic(auto)]
 
 ghost use Rattle.std.specs.Prelude.{ℕ, List, Option};

@@ -1,4 +1,6 @@
 //! All that the program does, as one call.
+//!
+//! Proved: `run`, the whole program, over any wire, files and outputs: what each command leaves, and when each status comes.
 #![tactic(auto)]
 
 mod answer;

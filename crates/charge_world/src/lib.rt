@@ -3,6 +3,10 @@
 //! The core of a station or of a car meets the world through three traits: `Wire` (connections, datagrams,
 //! the charger and the clock), `Source` (files that are read) and `Sink` (files that are written). What they
 //! tell is written down in their ghost members, which the contracts of the core speak of.
+//!
+//! Proved: `Tenths::of` takes exactly 0 to 30,000 tenths. The fakes in memory keep the promises of `Wire`, `Source` and `Sink` (`Outside`),
+//! fail exactly the calls that they are told to (`Counts`), say what each call leaves, and tell what they keep exactly as long as it has
+//! the room that they were made with (`Spends`, `NotesHearing`, `SpendsBytes`).
 #![tactic(auto)]
 
 pub mod entry;

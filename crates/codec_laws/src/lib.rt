@@ -1,4 +1,6 @@
 //! Laws of the codecs of a site: what the laws of runs ask of them. The function does nothing: its contract is the law.
+//!
+//! Proved: `codecs_are_lawful`: encoded replies read back, a payload is judged one way, a reply has one encoding (`LawfulCodec`).
 #![tactic(auto)]
 
 ghost use Rattle.post_spec.specs.Codecs.{codecs};

@@ -1,4 +1,6 @@
 //! How a command ends: its status, and the lines that tell of faults (own).
+//!
+//! Proved: the statuses and their lines.
 #![tactic(auto)]
 
 mod fault;

@@ -1,4 +1,7 @@
 //! The words of the program's commands, which are read with `clap`.
+//!
+//! Proved: `read_words`: the command that the words are (`IsCommand`), or that they are none (`IsNoCommand`), but for want of memory; they
+//! are read with `clap`, behind the test that none begins with `-`.
 #![tactic(auto)]
 
 mod grammar;

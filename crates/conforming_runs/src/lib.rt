@@ -1,4 +1,7 @@
-//! When a session conforms, and what a post answers to a conforming request.
+//! When a session conforms; its requests are accepted, and what its charger tells ends nothing.
+//!
+//! Proved: `conforming_sessions_go_on`: a request that a conforming car makes is answered with a code of the OK class, and what the charger
+//! tells while all goes well ends nothing.
 #![tactic(auto)]
 
 ghost use Rattle.conforming_runs.specs.Laws.{EventsEndNothing, RequestsAreAccepted};

@@ -1,5 +1,8 @@
-//! The contactor of a post: when it may be closed, how it stands, and whether its feedback is against its order
-//! (IEC 61851-1; the states are own).
+//! The contactor of a post: when it may be closed, how it stands, and whether its feedback is against its order (IEC 61851-1; the states
+//! are own).
+//!
+//! Proved: `CloseRight` exists only under its conditions and is spent once; `Contactor` stands as its orders and feedback say;
+//! `law_of_contactor`.
 #![tactic(auto)]
 
 pub mod contactor;

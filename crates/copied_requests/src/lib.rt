@@ -1,4 +1,6 @@
 //! A request that is lent, once more.
+//!
+//! Proved: `copied_request` gives the same request once more.
 #![tactic(auto)]
 
 ghost use Rattle.std.specs.Prelude.{◌≡◌};

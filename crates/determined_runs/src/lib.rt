@@ -1,4 +1,8 @@
 //! What follows behind a past of a station is determined by it, but for what is heard and for the outcomes of calls.
+//!
+//! Proved: `next_is_determined`: with one outcome the same posts do one thing next, one hearing makes one thing of them, and nothing is
+//! heard while something is to be done; `inputs_determine`: the hearings and outcomes of a run, in their order, determine it; where a
+//! payload is judged one way and a reply has one encoding.
 #![tactic(auto)]
 
 ghost use Rattle.post_spec.specs.Codecs.{codecs};

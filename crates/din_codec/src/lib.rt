@@ -1,4 +1,7 @@
-//! The messages of DIN SPEC 70121:2014 in the profile, read from payloads and written as their encodings.
+//! The messages of DIN SPEC 70121:2014 in the profile, read from payloads over compiled rows, or refused exactly, and written as their one
+//! encoding.
+//!
+//! Proved: the same of DIN SPEC 70121 as `iso_codec` of ISO 15118-2 (`read_din`, `write_din`, `IsDin`, `IsDinRefused`, `IsDinEncoding`).
 #![tactic(auto)]
 
 mod codec;

@@ -1,5 +1,9 @@
 //! Messages of charging of DIN SPEC 70121:2014: charge parameters and schedules, power delivery, cable check, pre-charge, current demand,
 //! welding detection.
+//!
+//! `tools/message_types.py` writes its types, their definitions and their proofs from `tools/din.schema` and `tools/din.types`.
+//!
+//! Proved: each type is read and written as its declaration in `din_schema` says.
 #![tactic(auto)]
 
 mod charging;

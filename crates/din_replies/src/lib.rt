@@ -1,4 +1,8 @@
-//! Laws of the messages of replies (DIN SPEC 70121:2014). Each of these functions does nothing: its contract is the law.
+//! The message of a reply that can be spelled holds what is declared, so that it can be written, and is of one tree (DIN SPEC 70121:2014).
+//! Each of these functions does nothing: its contract is the law.
+//!
+//! Proved: `replies_are_within`: the message of a reply that can be spelled holds what is declared; `replies_have_one_tree`: whatever lends
+//! its texts, it has one tree.
 #![tactic(auto)]
 
 ghost use Rattle.din_replies.specs.Replies.{RepliesAreWithin, RepliesHaveOneTree};

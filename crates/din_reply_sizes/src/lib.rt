@@ -1,4 +1,8 @@
-//! The encoding of each reply of DIN SPEC 70121:2014 is small. This function does nothing: its contract is the law.
+//! A reply of a post is written in 1,024 bytes at most, and each that can be spelled in 15,000 (DIN SPEC 70121:2014). This function does
+//! nothing: its contract is the law.
+//!
+//! Proved: `replies_are_small`: no encoding of a reply has more than 1,024 bytes where each schedule tuple has one entry, as each reply of
+//! a post has (`posts_give_one_entry` of `written_sizes`), nor more than 15,000 in any reply that can be spelled.
 #![tactic(auto)]
 
 ghost use Rattle.din_reply_sizes.specs.Sizes.{BriefRepliesAreSmall, RepliesAreSmall};

@@ -1,5 +1,9 @@
 //! Messages of a session's setup and stop of DIN SPEC 70121:2014: session setup, service discovery, payment selection, authentication,
 //! session stop.
+//!
+//! `tools/message_types.py` writes its types, their definitions and their proofs from `tools/din.schema` and `tools/din.types`.
+//!
+//! Proved: each type is read and written as its declaration in `din_schema` says.
 #![tactic(auto)]
 
 mod selection;

@@ -1,5 +1,8 @@
 //! The word of a message of DIN SPEC 70121:2014 is that of its tree, so what a payload is read as is one word. `specs/Words.antt` says the
 //! word of a tree by the names of its elements. Each of these functions does nothing: its contract is the law.
+//!
+//! Proved: `words_of_trees`: the word of a message is that of its tree (`tree_word`); so what a payload is read as is one word
+//! (`words_of_payloads`).
 #![tactic(auto)]
 
 ghost use Rattle.std.specs.Prelude.{◌≡◌, ℕ, List};

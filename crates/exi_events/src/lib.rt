@@ -1,5 +1,13 @@
-//! The events of EXI documents (W3C EXI 1.0, Second Edition, 4 and 8), read from a payload and written into a room, over the places of
-//! any schema. No call takes memory.
+//! The events of EXI documents (W3C EXI 1.0, Second Edition, 4 and 8), read from a payload and written into a room, over the places of any
+//! schema. No call takes memory.
+//!
+//! Proved: `EventReader` over any `Places`: each event is the grammar's next one (`Moves`), those up to `Finished` are those of the one
+//! tree that the payload spells, and a refusal is the payload's (`IsRefused`), answered again; a loop over them ends (`events_left`).
+//! `value` takes a value and the end of its element at once (`TakesValue`), `three_values` those of a sequence of three of few bits
+//! (`TakesSequence`) or nothing at all; that it takes a sequence where one stands is not stated, and is seen in what reading takes.
+//! `EventWriter`: `offers` tells exactly which event may come next, and `try_put` looks it up once and says so itself; the events put are
+//! written as the one encoding of their tree (`IsWritten`), `Full` exactly where the next has no room, with the bits of all that was put
+//! and of it (`IsNeeded`), answered again; `finish` tells how many bytes of the lent room hold it.
 #![tactic(auto)]
 
 mod inside;

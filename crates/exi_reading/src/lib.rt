@@ -1,6 +1,10 @@
-//! A payload that is read item by item (W3C EXI 1.0, Second Edition, 7): numbers, and values of a datatype with the string table.
+//! One value of a datatype is taken from a payload, or refused exactly (W3C EXI 1.0, Second Edition, 7): numbers, and values with the
+//! string table.
 //!
 //! No call takes memory. A refusal has the bit of the first item that can't be taken.
+//!
+//! Proved: `PayloadReader::take_value` takes exactly the values of a datatype (`SpellsValue`), with the string table, or answers the exact
+//! refusal (`RefusesValue`); `short_value` takes such a value out of a window, or none; that it takes one is not stated.
 #![tactic(auto)]
 
 mod items;

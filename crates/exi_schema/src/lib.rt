@@ -1,4 +1,9 @@
 //! Declarations of elements as plain tables, and what may stand at each place (W3C EXI 1.0, Second Edition, 8.5).
+//!
+//! Proved: `Schema` as tables that tell a `PlainSchema`, one within the conditions (`is_schema`), which definitions speak of wherever the
+//! tables lie; `Places`: at each place the alternatives, the width of a code and the step of a code are those of the definitions (`offers`,
+//! `IsWidth`), the next place is the schema's, and a kind of which `sequence` tells children is a sequence of those alone, each with a
+//! value (`TellsSequence`).
 #![tactic(auto)]
 
 mod places;

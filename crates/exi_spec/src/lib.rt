@@ -1,4 +1,8 @@
-//! How EXI spells its items as bits (W3C EXI 1.0, Second Edition, 7.1), as definitions that contracts cite.
+//! How EXI spells its items as bits (W3C EXI 1.0, Second Edition, 7.1), and when an item can't be taken, as definitions that contracts
+//! cite.
+//!
+//! Proved: definitions, and the laws that each list of bits begins with one item or has one refusal, at one of its bits; `unsigned_of`, a
+//! plain reader of the integers.
 #![tactic(auto)]
 
 pub mod laws;

@@ -1,4 +1,7 @@
-//! Values and events of an EXI document, and the string table of a payload (W3C EXI 1.0, Second Edition, 4 and 7).
+//! The values and events of an EXI document, lent from its payload, and the string table of a payload (W3C EXI 1.0, Second Edition, 4 and
+//! 7).
+//!
+//! Proved: definitions alone, of values and events that are lent from a payload.
 #![tactic(auto)]
 
 use exi_bits::{BitSpan, SpanAt};

@@ -1,4 +1,7 @@
 //! No FAILED reply is sent while the contactor is live: it is ordered open before.
+//!
+//! Proved: `no_failed_reply_while_live`: what is sent while the contactor is live is the encoding of a reply of the OK class, or the
+//! response to a negotiation, where encoded replies read back.
 #![tactic(auto)]
 
 ghost use Rattle.post_spec.specs.Codecs.{codecs};

@@ -1,4 +1,6 @@
 //! What a post does never makes a session late: a deadline is reached by a hearing.
+//!
+//! Proved: `deadlines_come_by_hearings`: what a post does makes no session late.
 #![tactic(auto)]
 
 ghost use Rattle.post_spec.specs.Codecs.{codecs};

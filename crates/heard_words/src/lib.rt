@@ -1,4 +1,6 @@
 //! Behind a whole block each word is read, so that a hearing which brings no bytes finds none.
+//!
+//! Proved: `words_come_by_bytes`: no word is next behind a whole block, nor behind a hearing without bytes.
 #![tactic(auto)]
 
 ghost use Rattle.post_spec.specs.Codecs.{codecs};

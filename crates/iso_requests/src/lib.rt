@@ -1,4 +1,8 @@
-//! Laws of the messages of requests (ISO 15118-2:2014). Each of these functions does nothing: its contract is the law.
+//! The message of a request that can be spelled holds what is declared, is of one tree, and is written in 1,024 bytes at most (ISO
+//! 15118-2:2014). Each of these functions does nothing: its contract is the law.
+//!
+//! Proved: `requests_are_within`, `requests_have_one_tree`, `requests_are_small`: the same of a request as `iso_replies` and
+//! `iso_reply_sizes` say of a reply; its encoding has at most 1,024 bytes.
 #![tactic(auto)]
 
 ghost use Rattle.iso_requests.specs.Requests.{RequestsAreWithin, RequestsHaveOneTree, RequestsAreSmall};

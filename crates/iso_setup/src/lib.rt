@@ -1,5 +1,9 @@
-//! Messages of a session's setup and stop of ISO 15118-2:2014: session setup, service discovery, payment selection, authorization,
-//! session stop.
+//! Messages of a session's setup and stop of ISO 15118-2:2014: session setup, service discovery, payment selection, authorization, session
+//! stop.
+//!
+//! `tools/message_types.py` writes its types, their definitions and their proofs from `tools/iso.schema` and `tools/iso.types`.
+//!
+//! Proved: each type is read and written as its declaration in `iso_schema` says.
 #![tactic(auto)]
 
 mod selection;

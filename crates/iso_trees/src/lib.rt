@@ -1,5 +1,11 @@
-//! The message of a tree of ISO 15118-2:2014: each of its fields is read from the element of its name. So messages of one tree differ
-//! in nothing but where their texts and Binaries lie. Each of these functions does nothing: its contract is the law.
+//! The message of a tree of ISO 15118-2:2014: each of its fields is read from the element of its name. So messages of one tree differ in
+//! nothing but where their texts and Binaries lie. Each of these functions does nothing: its contract is the law.
+//!
+//! `tools/message_types.py` writes what each type is read as, with the laws of that, from `tools/iso.schema` and `tools/iso.types`;
+//! `specs/Trees.antt` and the laws here are written by hand.
+//!
+//! Proved: `messages_of_trees`: each field of a message is read back from the element of its name; so messages of one tree, or of one
+//! payload, are the same wherever their texts lie (`one_message`, `messages_of_payloads`).
 #![tactic(auto)]
 
 ghost use Rattle.std.specs.Prelude.{◌≡◌, ℕ, List};

@@ -1,5 +1,7 @@
-//! Parts of the messages of ISO 15118-2:2014 that have no text or list, as words have them and as they are written: enumerations,
-//! physical values and statuses.
+//! Parts of the messages of ISO 15118-2:2014 that have no text or list, as words have them and as they are written: enumerations, physical
+//! values and statuses.
+//!
+//! Proved: the enumerations, physical values and statuses of the dialect as a word has them, and as they are written.
 #![tactic(auto)]
 
 pub mod codes;

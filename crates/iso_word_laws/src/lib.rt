@@ -1,4 +1,9 @@
-//! Laws of the messages of words (ISO 15118-2:2014). Each of these functions does nothing: its contract is the law.
+//! The message of a word reads as that word but for watts that are dropped, and each reply of a post can be spelled (ISO 15118-2:2014).
+//! Each of these functions does nothing: its contract is the law.
+//!
+//! Proved: `reads_as_written`: the message of a word reads as that word, but for the watts that a Value and its Multiplier drop
+//! (`written_words` has the definitions of what is dropped); `spells_replies`: each reply that a post gives under a plan within its rules
+//! can be spelled.
 #![tactic(auto)]
 
 ghost use Rattle.iso_word_laws.specs.Posts.{SpellsReplies, SpellsWaiting, SpellsTyped, SpellsTypedWaiting};

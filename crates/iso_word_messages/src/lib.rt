@@ -1,5 +1,7 @@
-//! Neutral words as messages of ISO 15118-2:2014: `of_word` and `of_reply` give the message of a word that the declarations can spell, with the
-//! elements that a word doesn't keep.
+//! Neutral words as messages of ISO 15118-2:2014: `of_word` and `of_reply` give the message of a word that the declarations can spell, with
+//! the elements that a word doesn't keep.
+//!
+//! Proved: `of_word` and `of_reply` are a message of a word that the declarations can spell (`IsMessageOf`, `CanSpell`).
 #![tactic(auto)]
 
 mod messages;

@@ -1,4 +1,7 @@
 //! What a post does in a run depends on nothing of the other posts but the moments of their hearings and the watts that it is shown.
+//!
+//! Proved: `posts_are_isolated`: a post that hears the same, has the same outcomes and is shown the same watts does the same, in whole runs
+//! of any two sites, where a payload is judged one way and a reply has one encoding.
 #![tactic(auto)]
 
 ghost use Rattle.post_spec.specs.Codecs.{codecs};

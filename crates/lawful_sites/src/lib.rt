@@ -1,5 +1,8 @@
-//! A site whose codecs read back what they write is served lawfully: safe, within its limit, and silent without a session. It serves the cars
-//! that conform, and isolates its posts.
+//! A site whose codecs read back what they write is served lawfully: safe, within its limit, and silent without a session. It serves the
+//! cars that conform, and isolates its posts.
+//!
+//! Proved: `serve`, with codecs that are lawful: the past besides is lawful (`IsLawful`): safe, within the limit, silent without a session;
+//! it serves the cars that conform, and isolates the posts where the run is whole; `law_of_sites`: so is every run of a site, whole or cut.
 #![tactic(auto)]
 
 ghost use Rattle.std.specs.Prelude.{◌≡◌, ◌≤◌, ◌<◌, List, [], vec_len};

@@ -1,4 +1,6 @@
 //! Worked examples of what a post has left to do, computed from its steps.
+//!
+//! Proved: worked examples that compute.
 #![tactic(auto)]
 
 ghost use Rattle.left_examples.specs.Examples as examples;

@@ -1,4 +1,6 @@
 //! The dialects in which messages are spelled, each with its declarations.
+//!
+//! Proved: `DialectTables::schema` tells the declarations of its dialect (`declarations`).
 #![tactic(auto)]
 
 mod dialect;

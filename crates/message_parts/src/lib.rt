@@ -1,4 +1,13 @@
-//! Messages read from and written as the events of their documents, part by part.
+//! Messages read from and written as the events of their documents, part by part, into a place that the caller lends where a type is too
+//! large to move.
+//!
+//! Proved: for any schema and each type that says what it contains by its parts, `read` gives a message whose tree the payload spells
+//! (`IsDocument`), or the payload's refusal (`IsRefused`), and `read_here` the same in a message that the caller lends; `write` gives the
+//! one encoding of the message's tree (`IsEncoding`), `Full` exactly where it has more bits than the room, with the bits of the whole
+//! encoding (`TellsBits`; of more than 65,536 bytes it tells that they are more), on the condition that the tree has an encoding. A record
+//! says of what it is made (`Record::Made`), which `whole_record` reads. Each part of reading says, wherever its element stands: where so
+//! many particles are behind, it gives the value and its events are told besides; each part of writing: where its events are the next of an
+//! encoding, its bits are put, or the whole has no room.
 #![tactic(auto)]
 
 mod children;

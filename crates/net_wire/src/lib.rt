@@ -2,6 +2,9 @@
 //!
 //! What a socket, a file or the clock gives isn't known to any proof. Here it is only proved that nothing goes wrong in between, and
 //! that each object keeps the promises of its trait. All that is a function over values stands in `wire_events`.
+//!
+//! Proved: `NetWire`, `FileSource`, `StandardOutput` and `TraceFile` keep the promises of `Wire`, `Source` and `Sink`; what the system
+//! gives is trusted (docs/OUTSIDE.md).
 #![tactic(auto)]
 
 mod files;

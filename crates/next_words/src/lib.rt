@@ -1,4 +1,6 @@
 //! The words of a session are read in order, each once.
+//!
+//! Proved: `words_are_read_in_order`: what a post reads is the next word of its stream, and no reply waits then.
 #![tactic(auto)]
 
 ghost use Rattle.post_spec.specs.Codecs.{codecs};

@@ -1,4 +1,9 @@
-//! What ends a session opens its live contactor before anything else.
+//! Where what ends a session comes, it opens a live contactor before anything else is heard or sent.
+//!
+//! Proved: `opens_at_causes`: where what ends a session comes while its contactor is live (what is heard of the connection or the charger,
+//! a deadline, the next word, a negotiation without a match, a call that failed), the next thing that the post does is an order to open,
+//! and no block ends before it; behind a failed order to open this is said of those that were no earlier cause's; where encoded replies
+//! read back, a payload is judged one way and a reply has one encoding. `ends_at_causes`: a run that is cut there is closed by that order.
 #![tactic(auto)]
 
 ghost use Rattle.post_spec.specs.Codecs.{codecs};

@@ -1,4 +1,7 @@
 //! A message that has each shape that a message of a schema may have, read and written part by part.
+//!
+//! Proved: an example: `read_report` and `write_report` of one message that has each shape are what `message_parts` says; payloads worked
+//! out by hand are read, written again, and refused at each kind of place.
 #![tactic(auto)]
 
 mod amounts;

@@ -1,4 +1,6 @@
 //! Basic charging by the duty of the control pilot, after IEC 61851-1, in whole numbers.
+//!
+//! Proved: `current_of`, `duty_of`, and `Basic` over every list of events; `offers_no_more`, `closes_for_ready_vehicles`, `pauses`.
 #![tactic(auto)]
 
 pub mod duty;

@@ -1,4 +1,6 @@
 //! A simulated charger: what it tells, and when, after a car came and after orders.
+//!
+//! Proved: `Sim` is the table of events, places and moments (`Charger`).
 #![tactic(auto)]
 
 mod amounts;

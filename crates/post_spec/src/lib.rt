@@ -1,4 +1,7 @@
-//! What a post of a charging station goes by, and what its past tells of it: definitions, in `specs/`.
+//! A past as one post sees it, and every fact that is read off it, in `specs/`: the session and its stream, the charger's facts, the words
+//! and what they led to, when a contactor may be closed, the watts that replies spell, what ends a session.
+//!
+//! Proved: definitions alone, of what a post's past tells.
 #![tactic(auto)]
 
 ghost use Rattle.std.specs.Prelude.{ℕ, List, Option};

@@ -1,4 +1,7 @@
-//! What a post has left to do is read off its past.
+//! What a post has left to do, and the part of the hearing to which it has come, are read off its past.
+//!
+//! Proved: `agendas_are_read`: behind any steps of a run, what a post has left to do, and the part of the hearing that it came to, are read
+//! off its past.
 #![tactic(auto)]
 
 ghost use Rattle.post_spec.specs.Codecs.{codecs};

@@ -1,4 +1,9 @@
-//! What a post keeps of its steps is what is read off its past.
+//! What a post keeps of its charger and of its session is what is read off its past.
+//!
+//! Proved: `facts_are_read` (behind any steps its clock, its charger's facts, its contactor, and whether a session lives),
+//! `courses_are_read` (for any codecs, behind the steps of a post in a run, the stage of its session with row, dialect and identifier, the
+//! watts that it asks for, was told and that stay allowed, and the facts by which words are judged, kept and joined identifiers among
+//! them).
 #![tactic(auto)]
 
 ghost use Rattle.post_spec.specs.Codecs.{codecs};

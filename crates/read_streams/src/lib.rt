@@ -1,4 +1,7 @@
 //! What a post has not read, and from when its deadline counts, are read off its past behind any steps.
+//!
+//! Proved: `streams_are_read`, `sessions_are_read_between`: behind any steps, also within a block and behind a cause, the unread bytes and
+//! the deadline of a session are read off its past.
 #![tactic(auto)]
 
 ghost use Rattle.post_spec.specs.Codecs.{codecs};

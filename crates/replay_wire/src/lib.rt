@@ -1,6 +1,8 @@
 //! A recorded run as a wire (own): it gives the hearings of a trace, and its calls fail by the trace's marks.
 //!
 //! It keeps no past in memory: its past exists in proofs alone.
+//!
+//! Proved: `ReplayWire` gives a trace's hearings and fails by its marks.
 #![tactic(auto)]
 
 mod history;

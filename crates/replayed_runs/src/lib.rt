@@ -1,4 +1,6 @@
 //! A run of a station that is replayed under the same plan is the same run, so its trace is the same text.
+//!
+//! Proved: `replays_itself`: a run that is heard off a whole run's trace, and whose calls failed by its marks, is that run.
 #![tactic(auto)]
 
 ghost use Rattle.post_spec.specs.Codecs.{codecs};

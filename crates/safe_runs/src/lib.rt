@@ -1,4 +1,9 @@
-//! Every run of a station is safe, whatever its codecs are, as long as an encoded reply reads as that reply.
+//! Every run of a station is safe, whatever its codecs are, as long as an encoded reply reads as that reply: a contactor closes only as
+//! mandated, a failed order is repeated, a run ends open.
+//!
+//! Proved: for any codecs, in every run and of each post, `closes_as_mandated` (before each order to close, the session is mandated to it
+//! by its words, their replies and what the charger told, where encoded replies read back), `opens_again` (while the last order has failed,
+//! each block begins with an Open), `ends_open` (at the end of a run, whole or cut, each live contactor is ordered open, last of all).
 #![tactic(auto)]
 
 ghost use Rattle.post_spec.specs.Codecs.{codecs};

@@ -1,5 +1,6 @@
-//! Pasts that are not served. A rule by which a post did so in a conforming session is refused by the law that each of
-//! these is served.
+//! Pasts that are not served. A rule by which a post did so in a conforming session is refused by the law that each of these is served.
+//!
+//! Proved: eight pasts that are no such service as `served_sessions` promises.
 #![tactic(auto)]
 
 ghost use Rattle.post_spec.specs.Codecs.{codecs};

@@ -1,4 +1,8 @@
 //! What a post gives to a car that conforms: every reply, the contactor in time, and the session until the car ends it.
+//!
+//! Proved: `serves_conforming_sessions`: in every run, of a post whose sessions conform, each whole request has one reply, of the OK class,
+//! but the one that waits; Close is ordered in the hearing of PowerDelivery Start, and its reply is sent in the hearing of the feedback;
+//! only SessionStop ends a session; where encoded replies read back.
 #![tactic(auto)]
 
 ghost use Rattle.post_spec.specs.Codecs.{codecs};

@@ -1,8 +1,14 @@
-//! What a post answers to a request, and why its session ends (ISO 15118-2:2014, DIN SPEC 70121:2014): the rules that the
-//! machine of a post, and whoever judges its record, rest on. Each function's contract is the definition of `specs/` that
-//! has its name.
+//! What a post answers to a request, and why its session ends (ISO 15118-2:2014, DIN SPEC 70121:2014): the rules that the machine of a
+//! post, and whoever judges its record, rest on. Each function's contract is the definition of `specs/` that has its name.
 //!
 //! Voltages and currents are in tenths of a volt and of an ampere, power is in watts.
+//!
+//! Proved: for every session, facts, plan and request, `judge` is the code of the first line of the verdict that applies (`verdict`),
+//! `reply_to` and `waiting_reply` the reply in neutral words, `order_of` the order, `stage_behind` and `facts_behind` what is kept;
+//! `leads`, `accepts` are the rows; `ask_of`, `allowed_watts` the watts; `plant_cause`, `word_cause`, `break_cause` the causes. Laws:
+//! `law_of_verdicts` (OK exactly without a line that applies; only requests that name the session; codes of the dialect),
+//! `law_of_refusals`, `law_of_closing` (Close only for an accepted Start with the pilot at C or D, an open contactor and, in DC, a
+//! pre-charge within 20.0 V), `law_of_timeouts`, `law_of_schedules`.
 #![tactic(auto)]
 
 pub mod allowed;

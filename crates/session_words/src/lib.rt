@@ -1,6 +1,8 @@
 //! The words of a charging session, the same for ISO 15118-2:2014 and DIN SPEC 70121:2014, and the plans of its ends.
 //!
 //! All types have a fixed size. Amounts of voltage and current count in tenths, amounts of power in watts.
+//!
+//! Proved: the rules of amounts (`Amount::in_tenths`, `in_units`, `dc_watts`, `ac_watts`, ..), `EndCause::number`, the session identifier.
 #![tactic(auto)]
 
 pub mod amount;

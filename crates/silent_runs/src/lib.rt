@@ -1,4 +1,6 @@
 //! A post whose session has ended sends nothing but answers to datagrams until another connection comes.
+//!
+//! Proved: `sends_in_sessions`: what is sent on a connection, and each end, is of a session that lives.
 #![tactic(auto)]
 
 ghost use Rattle.post_spec.specs.Codecs.{codecs};

@@ -1,4 +1,7 @@
-//! Worked examples of whole pasts, by the definition of a site's runs.
+//! Worked examples of whole pasts, by the definition of a site's runs: what follows behind one at two posts, and a run whose session
+//! charges and conforms.
+//!
+//! Proved: worked examples of runs, computed: one post's deadline before another post's reply, a session that charges and conforms.
 #![tactic(auto)]
 
 ghost use Rattle.post_spec.specs.Codecs.{codecs};

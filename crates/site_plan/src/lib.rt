@@ -1,6 +1,9 @@
 //! The plans of a charging site and of a car, read from TOML (own).
 //!
 //! `specs/Keys.antt` has the tables of their keys, one line a key.
+//!
+//! Proved: `site_plan_of`, `car_plan_of`: the plan that a text says (`IsSitePlanOf`, `IsCarPlanOf`), or its first fault (`AnswersBy`), of
+//! which each text has at most one, and none beside a plan; within the rules of plans; `fixed`, `fixed_car`.
 #![tactic(auto)]
 
 mod car;

@@ -1,5 +1,7 @@
 //! A site that replays a trace: the posts hear what the trace tells, their calls fail by its marks, and the whole trace is written anew
 //! (own).
+//!
+//! Proved: `replay`: a site replays a trace and writes it anew (`IsReplayed`).
 #![tactic(auto)]
 
 ghost use Rattle.std.specs.Prelude.{◌≡◌, vec_len};

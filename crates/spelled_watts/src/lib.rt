@@ -1,4 +1,8 @@
-//! The watts that the replies of a site's posts spell, read off their bytes.
+//! The watts that the last replies of all posts spell, read off their bytes, stay within the limit.
+//!
+//! Proved: for any codecs, `spelled_within_limit` (after every entry of a run, and behind the orders that close it, each post spells watts,
+//! read off the bytes of its last reply on watts, and together they are at most the limit; where an encoded reply reads as that reply, and
+//! a first payload is no request of a dialect), `spelled_once` (a past spells one list of watts, where a payload is judged one way).
 #![tactic(auto)]
 
 ghost use Rattle.post_spec.specs.Codecs.{codecs};

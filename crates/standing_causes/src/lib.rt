@@ -1,4 +1,8 @@
 //! Whatever ends a session opens its live contactor before anything else, wherever it stands.
+//!
+//! Proved: `causes_come`, `opens_where_causes_stand`: wherever what ends a session stands while its contactor is live, and nothing came
+//! earlier in that hearing's answers, the next thing that the post does is an order to open, before anything else is heard or sent; a
+//! failed order to open counts where it repeated one or the car asked for it.
 #![tactic(auto)]
 
 ghost use Rattle.post_spec.specs.Codecs.{codecs};

@@ -1,4 +1,6 @@
 //! The command that serves a station by the plan in a file (own), with codecs of any kind.
+//!
+//! Proved: `station`: serves by the plan in a file, with any lawful codecs.
 #![tactic(auto)]
 
 mod command;

@@ -1,6 +1,8 @@
-//! Worked examples of what a post does, computed from the definitions of a station: each clause is one. Where the
-//! definitions that
-//! they speak of change, the example that shows it is refused.
+//! Worked examples of what a post does, computed from the definitions of a station: each clause is one. Where the definitions that they
+//! speak of change, the example that shows it is refused.
+//!
+//! Proved: worked examples of a post, each a clause that the definitions compute: two whole sessions, set-up, closing, charging, ends,
+//! deadlines, pause and renegotiation; docs/WRONG_RULES.md lists which change of a rule each of them refuses.
 #![tactic(auto)]
 
 ghost use Rattle.station_examples.specs.Whole as whole;

@@ -1,4 +1,8 @@
-//! What holds of every run of a station, whatever its codecs are.
+//! What holds of every run of a station, whatever its codecs are: each post's part of it is its own, the told watts stay within the limit,
+//! and the contactor is read off the past.
+//!
+//! Proved: for any codecs, `told_within_limit` (after every entry of a run the watts that all posts were told add up to at most the limit),
+//! `runs_of_posts` (what each post goes by in a run), `contactors_are_read` (standing and live are what the past tells).
 #![tactic(auto)]
 
 ghost use Rattle.post_spec.specs.Codecs.{codecs};

@@ -1,3 +1,5 @@
-//! What a charging station does: what a post keeps of its steps, what it does next, and the runs of a site. Definitions alone, in
+//! What a post keeps of its steps and does next, and the runs of a site of one to eight posts, whole or cut. Definitions alone, in
 //! `specs/`.
+//!
+//! Proved: definitions alone, of what a post keeps and does next, and of the runs of a station.
 #![tactic(auto)]

@@ -2,6 +2,10 @@
 //!
 //! A number is decimal, without a leading zero. Bytes are lower-case hexadecimal. The words of a line have one space
 //! between each two. Each value has one text, and reading takes that text alone.
+//!
+//! Proved: `number`, `is_hex`, `hex_bytes`, `identifier` read exactly the one text of each number and of each list of bytes; `Words` takes
+//! the words of a text one after another; `Line::write` writes words with one space between each two, or says how many bytes it wants;
+//! `texts_are_unambiguous`, `words_are_cut`.
 #![tactic(auto)]
 
 pub mod laws;

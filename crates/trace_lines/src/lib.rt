@@ -1,4 +1,6 @@
 //! A trace that is written line by line as its entries come (own). Nothing takes memory but `make`.
+//!
+//! Proved: a trace written line by line, the line of each entry whole or a front of it where the write failed.
 #![tactic(auto)]
 
 ghost use Rattle.std.specs.Prelude.{◌≡◌, ◌<◌, ◌≤◌, ◌^◌, length, OnOk, OnErr, IsOk};

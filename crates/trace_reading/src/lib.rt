@@ -1,6 +1,8 @@
-//! A whole trace as the entries of its past (own).
+//! A whole trace read as the past whose text it is, or its first line that is outside the grammar (own).
 //!
 //! The contracts speak of the text of a past, as `trace_text` defines it, and not of a parser.
+//!
+//! Proved: `read_trace`: the past whose text it is, in either format, or the first line outside the grammar.
 #![tactic(auto)]
 
 mod cuts;

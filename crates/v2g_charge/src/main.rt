@@ -1,5 +1,5 @@
-//! The program: it makes the outside itself (the loopback network, files, standard output, the file `v2g.trace`), and does what its
-//! words say. No socket is opened and no file is made before a command asks for it.
+//! The program: it makes the outside itself (the loopback network, files, standard output, the file `v2g.trace`), and does what its words
+//! say. No socket is opened and no file is made before a command asks for it.
 #![tactic(auto)]
 
 use anyhow::Result;

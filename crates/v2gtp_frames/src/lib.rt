@@ -1,4 +1,8 @@
 //! The frames of V2GTP (ISO 15118-2:2014, section 7.8.3): their header, and the frames of a TCP stream in any cutting.
+//!
+//! Proved: `put_frame` writes a frame; `FrameReader` answers the first frame of the bytes fed, or their first wrong field (`whole_at`);
+//! `split`: over any cutting into pieces the payloads are those of the one reading of the whole stream (`Frames`), and the fault is the
+//! first; `whole_frames_stay`, `words_of_a_stream`.
 #![tactic(auto)]
 
 ghost use Rattle.std.specs.Prelude.{ℕ, List, ◌≡◌, ◌≤◌, ◌++◌, ◌+◌, ◌<◌, ◌↔◌, [], length, take, drop, slice_index_or, All, Ok, Err, None, Some, IfOk, IfSome, OnOk, vec_len, vec_capacity};

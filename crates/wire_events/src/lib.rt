@@ -1,5 +1,9 @@
-//! What a wire over real sockets can decide over values alone: how the connections of its posts stand, which event it tells next
-//! of those that are due, and what a read, a random token and a failure come to.
+//! What a wire over real sockets can decide over values alone: how the connections of its posts stand, which event it tells next of those
+//! that are due, and what a read, a random token and a failure come to.
+//!
+//! Proved: `Board::step` tells Over, whose turn it is going round, a Tick, or how long nothing is due (`IsStep`); `accept`, `dial`,
+//! `settle` and `close` do to a post's connection what their names say and count those that ended; `key_of` undoes `number_of`;
+//! `Faults::fail` counts (`IsFault`).
 #![tactic(auto)]
 
 mod board;

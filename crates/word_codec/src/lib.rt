@@ -1,5 +1,8 @@
-//! What a site needs of the codecs of its messages: the negotiation's (ISO 15118-2:2014, section 8.2) and those of the dialects
-//! (section 7.9; DIN SPEC 70121:2014). A site is generic over them, and its promises hold for any codecs that keep these laws.
+//! What a site needs of the codecs of its messages: the negotiation's (ISO 15118-2:2014, section 8.2) and those of the dialects (section
+//! 7.9; DIN SPEC 70121:2014). A site is generic over them, and its promises hold for any codecs that keep these laws.
+//!
+//! Proved: the traits by which a site takes its codecs (`Codec`), and what the laws of runs ask of them (`LawfulCodec`); `charge_codecs`
+//! keeps both.
 #![tactic(auto)]
 
 ghost use Rattle.std.specs.Prelude.{◌≤◌, length, take};
