@@ -25,7 +25,7 @@ fn bound_car(id: [u8; 6])
     ensures { length id ≡ 6 }
 {}
 
-/// The values of a plan are within their types.
+/// The values of a plan are within their types. It does nothing: each value is looked at for the prover, which so knows its bound.
 fn bound_plan(plan: &CarPlan)
     requires { IsCarPlan plan.now }
     ensures { IsPlan plan.now }

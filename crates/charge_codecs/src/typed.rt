@@ -32,6 +32,7 @@ fn law_of_tells(tell: &Tell)
 {
     match tell {
         Tell::ServiceDetail { service } => {
+            // for the prover, which so knows that it fits its type
             let _service = *service;
         }
         Tell::SessionSetup { evse } => law_of_identifiers(evse),

@@ -49,6 +49,7 @@ fn text_again<'a>(span: &BitSpan<'a>) -> Value<'a>
     ensures shaped { IsShaped result }
     ensures value { value_of result ≡ TreeText (items_of span.now) }
 {
+    // for the prover, which so knows that the span is spelled there
     let _at = span.at();
     match span.cursor().take_chars(span.len()) {
         Ok(again) => Value::Text(again),
@@ -62,6 +63,7 @@ fn binary_again<'a>(span: &BitSpan<'a>) -> Value<'a>
     ensures shaped { IsShaped result }
     ensures value { value_of result ≡ TreeBytes (items_of span.now) }
 {
+    // for the prover, which so knows that the span is spelled there
     let _at = span.at();
     match span.cursor().take_bytes(span.len()) {
         Ok(again) => Value::Binary(again),

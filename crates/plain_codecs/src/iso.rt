@@ -144,6 +144,7 @@ fn can_tell(tell: &Tell) -> bool
         Tell::SessionSetup { evse } => can_evse(evse),
         Tell::ServiceDiscovery { modes, .. } => !modes.is_empty() && are_modes(modes.as_slice()),
         Tell::ServiceDetail { service } => {
+            // for the prover, which so knows that it fits its type
             let _service = *service;
             true
         }

@@ -92,7 +92,7 @@ fn is_of_posts(posts: usize, what: &What) -> bool
     }
 }
 
-/// An amount that the charger tells is within its type.
+/// An amount that the charger tells is within its type. It does nothing: each is looked at for the prover, which so knows its bound.
 fn is_within(event: &PlantEvent)
     ensures { IsPlantEvent event.now }
 {
@@ -114,6 +114,7 @@ fn brings(what: &What, bytes: &[u8]) -> bool
             bytes.is_empty()
         }
         What::Came { token, .. } => {
+            // for the prover, which so knows that it fits its type
             let _token = *token;
             bytes.is_empty()
         }
@@ -132,6 +133,7 @@ fn is_count(n: u32, bytes: &[u8]) -> bool
 pub(crate) fn is_hearing(heard: &Heard, bytes: &[u8]) -> bool
     ensures { IsTrue result ↔ IsHearing heard.now bytes.now }
 {
+    // for the prover, which so knows that it fits its type
     let _at = heard.at;
     brings(&heard.what, bytes)
 }

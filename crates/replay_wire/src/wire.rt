@@ -72,7 +72,8 @@ impl<K: Recorded> ReplayWire<K> {
         }
     }
 
-    /// The past is heard off the trace, and its calls failed by the trace's marks.
+    /// The past is heard off the trace, and its calls failed by the trace's marks. It does nothing: the wire is looked at for the prover, which
+    /// so knows what its fields promise.
     pub fn replays(&self)
         ensures { IsReplayOf K.entries self.now.told.past }
     {

@@ -27,7 +27,7 @@ pub struct Site<C> {
     pub(crate) turns: u64,
 }
 
-/// The amounts of a plan are within their types.
+/// The amounts of a plan are within their types. It does nothing: each is looked at for the prover, which so knows its bound.
 fn bound_plan(plan: &PostPlan)
     requires { IsPostPlan plan.now }
     ensures { IsPlan plan.now }

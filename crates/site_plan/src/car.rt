@@ -39,6 +39,7 @@ pub(crate) fn car_keys(keys: &mut Keys<'_>, port: Option<u64>, usual: Mode) -> C
     ensures read { Reads (car_rules port usual) keys.old keys.new result }
     ensures within { IsCarPlan result }
 {
+    // a fault of `tcp` is told before one of `sdp`, which decides whether `tcp` has to be there
     let _port = keys.perhaps("tcp", 1, 65535, port, false);
     let sdp = keys.number("sdp", 0, 65535, Some(0)) as u16;
     let tcp = tcp_port(keys, port, sdp);

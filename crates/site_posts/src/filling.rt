@@ -33,7 +33,7 @@ impl Place {
     }
 }
 
-/// A response has at most four bytes.
+/// A response has at most four bytes. It does nothing: the response is looked at for the prover, which so knows its length.
 fn is_short(judged: &Judged)
     ensures { IsShort (judged_of judged.now) }
 {

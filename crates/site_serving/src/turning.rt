@@ -86,7 +86,7 @@ pub fn bytes_heard(what: What, room: &[u8]) -> &[u8]
     }
 }
 
-/// What was heard is within its types.
+/// What was heard is within its types. It does nothing: each number is looked at for the prover, which so knows its bound.
 pub fn bound_heard(heard: &Heard, room: &[u8])
     requires room { length room.now ≡ 4096 }
     requires count { HasCount heard.now.what }
@@ -103,7 +103,7 @@ pub fn bound_heard(heard: &Heard, room: &[u8])
     }
 }
 
-/// The amounts of an event of the charger are within their types.
+/// The amounts of an event of the charger are within their types. It does nothing, likewise.
 fn bound_event(event: &PlantEvent)
     ensures { IsPlantEvent event.now }
 {

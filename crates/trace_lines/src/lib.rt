@@ -104,7 +104,8 @@ fn put<J: Sink>(piece: &[u8], trace: &mut J) -> Result<(), TraceFailed>
     }
 }
 
-/// The numbers of an entry are within their types.
+/// The numbers of an entry are within their types. It does nothing, as the next three: each number is looked at for the prover, which so
+/// knows its bound.
 fn bound_numbers(noted: &Noted<'_>)
     ensures { HasNumbers (entry_of noted.now) }
 {
