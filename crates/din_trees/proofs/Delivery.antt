@@ -31,8 +31,8 @@ charging_profile_read v =
     ∙ (λ i. record {
       sa_schedule_tuple_id = v.sa_schedule_tuple_id;
       profile_entry = record {
-        items = same_each (λ (found : Inside). profile_entry_in (children found))
-            (λ (x : ProfileEntry). holding (profile_entry_parts x)) (λ (x : ProfileEntry). profile_entry_read x) v.profile_entry.items i;
+        items = same_each (λ (found : Inside). profile_entry_in (children found)) (λ (x : ProfileEntry). holding (profile_entry_parts x))
+            (λ (x : ProfileEntry). profile_entry_read x) v.profile_entry.items i;
       };
     })
 

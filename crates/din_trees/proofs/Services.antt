@@ -49,9 +49,8 @@ service_list_read l v =
     by_parts (service_list_in l) (service_list_parts v)
     ∙ (λ i. record {
       service = record {
-        items = reads_each (λ (found : Inside). service_in l (children found))
-            (λ (x : Service). holding (service_parts x)) (λ (x : Service). settled_service l x)
-            (λ (x : Service). service_read l x) v.service.items i;
+        items = reads_each (λ (found : Inside). service_in l (children found)) (λ (x : Service). holding (service_parts x))
+            (λ (x : Service). settled_service l x) (λ (x : Service). service_read l x) v.service.items i;
       };
     })
 
