@@ -1,6 +1,7 @@
-//! Pasts that are not served. A rule by which a post did so in a conforming session is refused by the law that each of these is served.
+//! Pasts that are not served, each of which breaks a sentence of what `served_sessions` promises. A rule by which a post did so in a
+//! conforming session is refused by the law that each of its runs is served.
 //!
-//! Proved: eight pasts that are no such service as `served_sessions` promises.
+//! Proved: of eight pasts, that each is no such service.
 #![tactic(auto)]
 
 ghost use Rattle.post_spec.specs.Codecs.{codecs};

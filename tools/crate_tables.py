@@ -1,0 +1,114 @@
+#!/usr/bin/env python3
+"""Writes the tables of crates in docs/MAP.md and docs/PROVED.md, between their markers.
+
+usage: crate_tables.py            writes both tables
+       crate_tables.py --check    exits 1 where one differs from what would be written
+
+What a crate promises is the first sentence of its head (`//!` in src/lib.rt or src/main.rt), and what is proved of it the paragraph of the
+head that begins with `Proved: `. What it stands on is in crates.txt, its layer in tools/layers.txt. A crate without a layer or a head, and a
+layer's crate that crates.txt lacks, are refused."""
+import os
+import re
+import sys
+
+TOP = os.path.join(os.path.dirname(os.path.abspath(__file__)), "..")
+
+
+def read(path):
+    with open(os.path.join(TOP, path), encoding="utf-8") as it:
+        return it.read()
+
+
+def listed(path):
+    """(NAME, WORDS) of each line `NAME: WORD ..` that is no comment."""
+    lines = [it for it in read(path).splitlines() if it.strip() and not it.startswith("#")]
+    return [(name.split()[0] if path == "crates.txt" else name, words.split()) for name, _, words in (it.partition(":") for it in lines)]
+
+
+def next_below(crates):
+    """Of each crate those that it names and reaches through no other that it names."""
+    named = {name: [it for it in words if it in crates] for name, words in crates.items()}
+    below = {}
+
+    def all_below(name):
+        if name not in below:
+            below[name] = set(named[name]).union(*map(all_below, named[name]))
+        return below[name]
+
+    return {name: [it for it in words if not any(it in all_below(by) for by in words)] for name, words in named.items()}
+
+
+def head(crate):
+    """The paragraphs of a crate's head."""
+    for file in ("lib", "main"):
+        path = f"crates/{crate}/src/{file}.rt"
+        if os.path.exists(os.path.join(TOP, path)):
+            lines = re.match(r"(?://!.*\n)*", read(path)).group().splitlines()
+            return [" ".join(it.split()) for it in "\n".join(line[3:].strip() for line in lines).split("\n\n") if it.strip()]
+    return []
+
+
+def promise(crate):
+    paragraphs = head(crate)
+    if not paragraphs:
+        sys.exit(f"crates/{crate}: no head (`//!`) says what it promises")
+    return re.split(r"\.(?:\s|$)", paragraphs[0])[0]
+
+
+def proved(crate):
+    return next((it.removeprefix("Proved: ") for it in head(crate) if it.startswith("Proved: ")), None)
+
+
+def cell(text):
+    return text.rstrip(".").replace("|", "\\|")
+
+
+def names(crates):
+    return ", ".join(f"`{it}`" for it in crates)
+
+
+def tables():
+    crates = dict(listed("crates.txt"))
+    layers = listed("tools/layers.txt")
+    placed = [crate for _, some in layers for crate in some]
+    for crate in crates:
+        if placed.count(crate) != 1:
+            sys.exit(f"tools/layers.txt: {crate} stands in {placed.count(crate)} layers")
+    for crate in placed:
+        if crate not in crates:
+            sys.exit(f"tools/layers.txt: {crate} is no crate of crates.txt")
+    below = next_below(crates)
+    places, last = "| Layer | Crate | Stands on | What it promises |\n|---|---|---|---|\n", ""
+    for layer, some in layers:
+        for crate in some:
+            places += f"| {layer if layer != last else ''} | `{crate}` | {names(below[crate])} | {cell(promise(crate))} |\n"
+            last = layer
+    said = [(it, proved(it)) for it in placed]
+    theorems = "| Crate | Proved |\n|---|---|\n" + "".join(f"| `{it}` | {cell(text)} |\n" for it, text in said if text)
+    rest = [it for it, text in said if not text]
+    return {"docs/MAP.md": places, "docs/PROVED.md": f"{theorems}\nWithout a promise of their own, as programs, tests and benches: {names(rest)}.\n"}
+
+
+def main():
+    checks = sys.argv[1:] == ["--check"]
+    if sys.argv[1:] and not checks:
+        sys.exit(__doc__)
+    begin, end = "<!-- crates: written by tools/crate_tables.py -->\n", "<!-- end of crates -->\n"
+    differ = []
+    for path, table in tables().items():
+        text = read(path)
+        if text.count(begin) != 1 or text.count(end) != 1:
+            sys.exit(f"{path}: its markers are not there once each")
+        before, rest = text.split(begin)
+        wanted = before + begin + table + end + rest.split(end)[1]
+        if checks and wanted != text:
+            differ.append(path)
+        elif not checks:
+            with open(os.path.join(TOP, path), "w", encoding="utf-8") as it:
+                it.write(wanted)
+    if differ:
+        sys.exit(f"{', '.join(differ)}: not what tools/crate_tables.py writes: run it")
+
+
+if __name__ == "__main__":
+    main()
