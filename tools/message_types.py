@@ -38,7 +38,7 @@ def enumeration(t, crate, file, kind):
     reads = "".join(f"            Value::Ordinal({n}) => {name}::{it},\n" for n, it in enumerate(variants[:-1]))
     return f"""
 /// {kind}, its values in order from 0.
-#[derive(Clone, Copy, Debug, {"Default, " if kind in t.defaults else ""}PartialEq, Eq)]
+#[derive(Clone, Copy{", Default" if kind in t.defaults else ""})]
 pub enum {name} {{
 {listed}}}
 

@@ -8,7 +8,7 @@ use session_words::{CarPlan, EndCause, SessionId};
 use std::marker::Model;
 
 /// What a car reports. Contracts see the report of the definitions.
-#[derive(Debug, Drop)]
+#[derive(Drop)]
 pub struct CarReport {
     /// The accepted charging replies, at most 10,000.
     pub cycles: u32,

@@ -8,14 +8,14 @@ use crate::stage::{CarPhase, CarStage};
 use session_words::{Ask, CarPlan, EndCause};
 
 /// A deadline: when it is reached, and the cause that it then is.
-#[derive(Clone, Copy, Debug, PartialEq, Eq)]
+#[derive(Clone, Copy)]
 pub struct CarDue {
     pub cause: EndCause,
     pub moment: u64,
 }
 
 /// The moments from which the deadlines of a session count.
-#[derive(Clone, Copy, Debug, PartialEq, Eq)]
+#[derive(Clone, Copy)]
 pub struct CarMoments {
     /// When the connection came.
     pub came: u64,

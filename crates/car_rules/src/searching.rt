@@ -9,7 +9,7 @@ use sdp_discovery::{SdpResponse, read_response};
 use session_words::{CarPlan, EndCause};
 
 /// How far the search for a post has come.
-#[derive(Clone, Copy, Debug, PartialEq, Eq)]
+#[derive(Clone, Copy)]
 pub struct Search {
     /// The requests so far, at most 50.
     pub asked: u8,

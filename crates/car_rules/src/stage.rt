@@ -7,7 +7,7 @@ use charge_world::Dialect;
 use session_words::{CarPlan, SessionId};
 
 /// The request whose reply the car awaits, or that it asks once more. Each has the name of what the car does with it.
-#[derive(Clone, Copy, Debug, PartialEq, Eq)]
+#[derive(Clone, Copy)]
 pub enum CarPhase {
     /// SessionSetup.
     SettingUp,
@@ -38,7 +38,7 @@ pub enum CarPhase {
 }
 
 /// What a car's session keeps from one request to the next, once a dialect was chosen.
-#[derive(Debug, Drop, PartialEq, Eq)]
+#[derive(Drop)]
 pub struct CarStage {
     pub phase: CarPhase,
     /// The dialect that was chosen.

@@ -5,7 +5,7 @@ use crate::piece::Piece;
 use crate::ports::Order;
 
 /// One entry of a past: something heard, or one call that was made. `taken` is false where it failed.
-#[derive(Debug, Drop)]
+#[derive(Drop)]
 pub enum Entry {
     /// An event, with the bytes that came with it: none but for `Bytes` and `Datagram`.
     Heard { heard: Heard, bytes: Piece },

@@ -9,7 +9,7 @@ use crate::outside::Source;
 use crate::piece::Piece;
 
 /// A file in memory.
-#[derive(Debug, Drop)]
+#[derive(Drop)]
 pub struct NamedFile {
     pub name: Piece,
     pub bytes: Piece,

@@ -19,7 +19,7 @@ use crate::reserved::Reserved;
 use std::alloc::Global;
 
 /// An event of a script, with its bytes.
-#[derive(Debug, Drop)]
+#[derive(Drop)]
 pub struct Scripted {
     pub heard: Heard,
     pub bytes: Piece,

@@ -11,7 +11,7 @@ pub enum Dialect {
 }
 
 /// The dialects that an end offers, each at most once, in its order of preference.
-#[derive(Debug, Drop)]
+#[derive(Drop)]
 pub struct Offer {
     pub entries: ArrayVec<Dialect, 2>,
 }

@@ -5,7 +5,7 @@ ghost use Rattle.std.specs.Prelude.{◌≡◌};
 use std::marker::Model;
 
 /// A list of bytes, as they came, went out or stand in a file. Contracts see the list.
-#[derive(Debug, Drop)]
+#[derive(Drop)]
 pub struct Piece {
     bytes: Vec<u8>,
 }

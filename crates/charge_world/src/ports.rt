@@ -21,14 +21,14 @@ pub enum Order {
 }
 
 /// The ports of one post: TCP for the session and UDP for discovery, 0 for no discovery.
-#[derive(Clone, Copy, Debug, Default, PartialEq, Eq)]
+#[derive(Clone, Copy, Default)]
 pub struct PortPair {
     pub tcp: u16,
     pub sdp: u16,
 }
 
 /// Where a wire listens, or what a car dials.
-#[derive(Debug, Drop)]
+#[derive(Drop)]
 pub enum Ports {
     /// A station's posts, in order of number, and the connections that it serves in all.
     Posts {

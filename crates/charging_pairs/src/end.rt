@@ -17,7 +17,7 @@ const OUTPUT: u32 = 1000;
 const TRACE: u32 = 1_000_000;
 
 /// A station, or a car.
-#[derive(Clone, Copy, Debug, PartialEq, Eq)]
+#[derive(Clone, Copy, PartialEq, Eq)]
 pub(crate) enum End {
     Station,
     Car,

@@ -42,7 +42,7 @@ pub enum Command<'a> {
 }
 
 /// Why no command was read.
-#[derive(Clone, Copy, Debug, PartialEq, Eq)]
+#[derive(Clone, Copy, Debug)]
 pub enum WordsFault {
     /// The words are no command.
     NoCommand,

@@ -10,7 +10,7 @@ use exi_schema::{Place, Places, Schema, Step};
 const MOST_PLACES: u32 = 100_000;
 
 /// What was compared, and how much of it differs.
-#[derive(Clone, Copy, Debug, Default)]
+#[derive(Clone, Copy, Default)]
 pub struct Comparison {
     pub kinds: u32,
     pub places: u32,

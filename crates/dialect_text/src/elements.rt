@@ -6,7 +6,7 @@ use arrayvec::ArrayVec;
 use std::marker::Model;
 
 /// What is in an element so far.
-#[derive(Clone, Copy, Debug, PartialEq, Eq)]
+#[derive(Clone, Copy)]
 pub(crate) enum Filling {
     Nothing,
     Attributes,
@@ -15,7 +15,7 @@ pub(crate) enum Filling {
 }
 
 /// An element that has started: the number of its kind, and what is in it.
-#[derive(Clone, Copy, Debug, PartialEq, Eq)]
+#[derive(Clone, Copy)]
 pub(crate) struct OpenElement {
     pub(crate) kind: u16,
     pub(crate) filling: Filling,

@@ -1,7 +1,7 @@
 //! How far a text is scanned.
 
 /// Where a scanner stands.
-#[derive(Clone, Copy, Debug, PartialEq, Eq)]
+#[derive(Clone, Copy)]
 pub(crate) enum Phase {
     /// Nothing is taken.
     Before,

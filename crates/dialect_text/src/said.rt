@@ -3,7 +3,7 @@
 use value_text::Scanned;
 
 /// An event that a text says.
-#[derive(Debug, Drop)]
+#[derive(Drop)]
 pub enum Said {
     /// The document starts; its number names the root.
     Document(u32),

@@ -7,7 +7,7 @@ use message_fields::message_parts::Simple;
 use message_fields::message_parts::exi_events::Value;
 
 /// ResponseCode, its values in order from 0.
-#[derive(Clone, Copy, Debug, PartialEq, Eq)]
+#[derive(Clone, Copy)]
 pub enum ResponseCode {
     /// OK.
     Ok,
@@ -122,7 +122,7 @@ impl<'a> Simple<'a> for ResponseCode {
 }
 
 /// ServiceCategory, its values in order from 0.
-#[derive(Clone, Copy, Debug, Default, PartialEq, Eq)]
+#[derive(Clone, Copy, Default)]
 pub enum ServiceCategory {
     /// EVCharging.
     #[default]
@@ -162,7 +162,7 @@ impl<'a> Simple<'a> for ServiceCategory {
 }
 
 /// PaymentOption, its values in order from 0.
-#[derive(Clone, Copy, Debug, Default, PartialEq, Eq)]
+#[derive(Clone, Copy, Default)]
 pub enum PaymentOption {
     /// Contract.
     #[default]
@@ -194,7 +194,7 @@ impl<'a> Simple<'a> for PaymentOption {
 }
 
 /// EnergyTransferMode, its values in order from 0.
-#[derive(Clone, Copy, Debug, PartialEq, Eq)]
+#[derive(Clone, Copy)]
 pub enum EnergyTransferMode {
     /// AC_single_phase_core.
     AcSinglePhaseCore,
@@ -241,7 +241,7 @@ impl<'a> Simple<'a> for EnergyTransferMode {
 }
 
 /// SupportedEnergyTransferType, its values in order from 0.
-#[derive(Clone, Copy, Debug, PartialEq, Eq)]
+#[derive(Clone, Copy)]
 pub enum SupportedEnergyTransferType {
     /// AC_single_phase_core.
     AcSinglePhaseCore,
@@ -304,7 +304,7 @@ impl<'a> Simple<'a> for SupportedEnergyTransferType {
 }
 
 /// EVSEProcessing, its values in order from 0.
-#[derive(Clone, Copy, Debug, PartialEq, Eq)]
+#[derive(Clone, Copy)]
 pub enum EvseProcessing {
     /// Finished.
     Finished,

@@ -13,14 +13,14 @@ use session_words::{CarPlan, EndCause, Request};
 use std::marker::Model;
 
 /// What a car says: it offers its dialects, or it asks in the dialect that was chosen.
-#[derive(Debug, Drop)]
+#[derive(Drop)]
 pub enum Spoken {
     Offer,
     Asked { dialect: Dialect, request: Request },
 }
 
 /// A thing to do.
-#[derive(Debug, Drop)]
+#[derive(Drop)]
 pub enum Todo<'a> {
     /// This TCP port of the post is dialed.
     Call(u16),
@@ -35,7 +35,7 @@ pub enum Todo<'a> {
 }
 
 /// What is decided and not done yet. It is done in this order: a post is dialed, the order, what is said, the end, the search.
-#[derive(Debug, Drop)]
+#[derive(Drop)]
 pub(crate) struct Agenda {
     pub(crate) port: Option<u16>,
     pub(crate) order: Option<Order>,

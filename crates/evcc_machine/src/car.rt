@@ -22,7 +22,7 @@ use std::marker::Model;
 
 /// Before the first hearing nothing is due; then the parts of a hearing, in order: the deadlines, the event, and the words with
 /// what is due behind them.
-#[derive(Clone, Copy, Debug, PartialEq, Eq)]
+#[derive(Clone, Copy)]
 pub(crate) enum Part {
     Unheard,
     Timing,

@@ -10,7 +10,7 @@ use charge_world::{Dialect, Order, PlantEvent, What};
 use session_words::Reply;
 
 /// What a hearing is for a car, beside its bytes.
-#[derive(Clone, Copy, Debug, PartialEq, Eq)]
+#[derive(Clone, Copy)]
 pub enum CarEvent {
     /// A connection began. The token names it.
     Came { token: u64 },
@@ -67,7 +67,7 @@ pub(crate) fn brought<'a>(event: &CarEvent, bytes: &'a [u8]) -> &'a [u8]
 }
 
 /// What was done of what the car asked for.
-#[derive(Clone, Copy, Debug, PartialEq, Eq)]
+#[derive(Clone, Copy)]
 pub enum Done {
     /// A post was dialed.
     Dialed,
@@ -82,7 +82,7 @@ pub enum Done {
 }
 
 /// What a payload is judged as.
-#[derive(Debug, Drop)]
+#[derive(Drop)]
 pub enum Judged {
     /// A response of the negotiation, with the dialect whose offer it names.
     Chosen(Option<Dialect>),

@@ -30,7 +30,7 @@ use std::marker::Model;
 use v2gtp_frames::whole_frame;
 
 /// A payload that has to be read now.
-#[derive(Clone, Copy, Debug)]
+#[derive(Clone, Copy)]
 pub struct Wanted<'a> {
     /// The dialect in which it is read; none where it is the negotiation's.
     pub dialect: Option<Dialect>,

@@ -60,7 +60,7 @@ pub(crate) fn offer_of<P: Places>(places: &P, here: Place, event: &Event) -> Opt
 }
 
 /// How an event is put.
-#[derive(Clone, Copy, Debug, PartialEq, Eq)]
+#[derive(Clone, Copy)]
 pub(crate) enum Found {
     /// Before the root or behind it.
     Outside,

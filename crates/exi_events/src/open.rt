@@ -8,7 +8,7 @@ use exi_schema::Place;
 use std::marker::Model;
 
 /// An element that has started: the number of its name, and the place reached in it.
-#[derive(Clone, Copy, Debug, PartialEq, Eq)]
+#[derive(Clone, Copy)]
 pub(crate) struct OpenElement {
     pub(crate) name: u16,
     pub(crate) place: Place,

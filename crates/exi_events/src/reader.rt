@@ -16,7 +16,7 @@ use exi_values::{Event, Table, Value};
 use exi_writing::exi_reading::PayloadReader;
 
 /// How far a document is.
-#[derive(Clone, Copy, Debug, PartialEq, Eq)]
+#[derive(Clone, Copy)]
 pub(crate) enum Phase {
     /// Nothing is taken.
     Before,
@@ -27,7 +27,7 @@ pub(crate) enum Phase {
 }
 
 /// The innermost element, which is of a simple kind and of which nothing is taken.
-#[derive(Clone, Copy, Debug)]
+#[derive(Clone, Copy)]
 struct SimpleElement {
     top: OpenElement,
     datatype: Datatype,

@@ -18,7 +18,7 @@ use exi_schema::SequenceChild;
 use exi_writing::exi_reading::{BitWindow, PayloadReader, ShortValue, short_value};
 
 /// The values of a sequence of three children, each of few bits.
-#[derive(Clone, Copy, Debug)]
+#[derive(Clone, Copy)]
 pub struct ThreeValues {
     /// That of the first child.
     pub first: ShortValue,

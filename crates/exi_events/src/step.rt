@@ -124,7 +124,7 @@ fn take_header(reader: &mut PayloadReader) -> Result<(), Refusal>
 }
 
 /// The root that a document number names.
-#[derive(Clone, Copy, Debug, PartialEq, Eq)]
+#[derive(Clone, Copy)]
 pub(crate) struct RootNumber {
     pub(crate) number: u32,
     pub(crate) name: u16,

@@ -11,7 +11,7 @@ use exi_schema::Datatype;
 use exi_values::Value;
 
 /// A value of a datatype other than String and Binary that has few bits.
-#[derive(Clone, Copy, Debug, PartialEq, Eq)]
+#[derive(Clone, Copy)]
 pub enum ShortValue {
     /// 7.1.2 Boolean.
     Bool(bool),

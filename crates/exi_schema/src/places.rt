@@ -3,7 +3,7 @@
 use crate::tables::{Datatype, MemberStanding};
 
 /// A place inside an element.
-#[derive(Clone, Copy, Debug, PartialEq, Eq)]
+#[derive(Clone, Copy, PartialEq, Eq)]
 pub struct Place {
     /// The number of the element's kind.
     pub kind: u16,
@@ -35,7 +35,7 @@ impl Place {
 }
 
 /// What an event code means at a place.
-#[derive(Clone, Copy, Debug, PartialEq, Eq)]
+#[derive(Clone, Copy, PartialEq, Eq)]
 pub enum Step {
     /// An attribute with the numbers of its name and kind, and the place behind it.
     Attribute {
@@ -61,7 +61,7 @@ pub enum Step {
 }
 
 /// The event codes of a place.
-#[derive(Clone, Copy, Debug, PartialEq, Eq)]
+#[derive(Clone, Copy)]
 pub struct Codes {
     /// How many are offered.
     pub offered: u16,
@@ -70,7 +70,7 @@ pub struct Codes {
 }
 
 /// What is looked for among the steps of a place.
-#[derive(Clone, Copy, Debug, PartialEq, Eq)]
+#[derive(Clone, Copy)]
 pub enum Sought {
     /// The attribute with this name.
     Attribute(u16),
@@ -83,7 +83,7 @@ pub enum Sought {
 }
 
 /// An event code that is offered at a place.
-#[derive(Clone, Copy, Debug, PartialEq, Eq)]
+#[derive(Clone, Copy)]
 pub struct Offer {
     /// The code.
     pub code: u16,
@@ -94,7 +94,7 @@ pub struct Offer {
 }
 
 /// A child of a sequence of values.
-#[derive(Clone, Copy, Debug, PartialEq, Eq)]
+#[derive(Clone, Copy)]
 pub struct SequenceChild {
     /// The number of its name.
     pub name: u16,

@@ -20,7 +20,7 @@ pub enum Datatype {
 }
 
 /// Whether an element may stand where its particle stands.
-#[derive(Clone, Copy, Debug, PartialEq, Eq)]
+#[derive(Clone, Copy, PartialEq, Eq)]
 pub enum MemberStanding {
     /// It may.
     Taken,
@@ -31,7 +31,7 @@ pub enum MemberStanding {
 }
 
 /// One element of a particle.
-#[derive(Clone, Copy, Debug, PartialEq, Eq)]
+#[derive(Clone, Copy)]
 pub struct Member {
     /// The number of its name.
     pub name: u16,
@@ -55,7 +55,7 @@ pub struct Particle<'s> {
 }
 
 /// An attribute of a complex kind.
-#[derive(Clone, Copy, Debug, PartialEq, Eq)]
+#[derive(Clone, Copy)]
 pub struct AttributeOf {
     /// The number of its name.
     pub name: u16,
@@ -78,7 +78,7 @@ pub enum Declaration<'s> {
 }
 
 /// An element that may be the root of a document.
-#[derive(Clone, Copy, Debug, PartialEq, Eq)]
+#[derive(Clone, Copy)]
 pub struct RootOf {
     /// Its document number.
     pub number: u32,

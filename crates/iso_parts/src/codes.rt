@@ -7,7 +7,7 @@ use message_fields::message_parts::Simple;
 use message_fields::message_parts::exi_events::Value;
 
 /// ResponseCode, its values in order from 0.
-#[derive(Clone, Copy, Debug, PartialEq, Eq)]
+#[derive(Clone, Copy)]
 pub enum ResponseCode {
     /// OK.
     Ok,
@@ -134,7 +134,7 @@ impl<'a> Simple<'a> for ResponseCode {
 }
 
 /// ServiceCategory, its values in order from 0.
-#[derive(Clone, Copy, Debug, Default, PartialEq, Eq)]
+#[derive(Clone, Copy, Default)]
 pub enum ServiceCategory {
     /// EVCharging.
     #[default]
@@ -174,7 +174,7 @@ impl<'a> Simple<'a> for ServiceCategory {
 }
 
 /// PaymentOption, its values in order from 0.
-#[derive(Clone, Copy, Debug, Default, PartialEq, Eq)]
+#[derive(Clone, Copy, Default)]
 pub enum PaymentOption {
     /// Contract.
     #[default]
@@ -206,7 +206,7 @@ impl<'a> Simple<'a> for PaymentOption {
 }
 
 /// EnergyTransferMode, its values in order from 0.
-#[derive(Clone, Copy, Debug, Default, PartialEq, Eq)]
+#[derive(Clone, Copy, Default)]
 pub enum EnergyTransferMode {
     /// AC_single_phase_core.
     #[default]
@@ -254,7 +254,7 @@ impl<'a> Simple<'a> for EnergyTransferMode {
 }
 
 /// EVSEProcessing, its values in order from 0.
-#[derive(Clone, Copy, Debug, PartialEq, Eq)]
+#[derive(Clone, Copy)]
 pub enum EvseProcessing {
     /// Finished.
     Finished,
@@ -289,7 +289,7 @@ impl<'a> Simple<'a> for EvseProcessing {
 }
 
 /// ChargingSession, its values in order from 0.
-#[derive(Clone, Copy, Debug, PartialEq, Eq)]
+#[derive(Clone, Copy)]
 pub enum ChargingSession {
     /// Terminate.
     Terminate,
@@ -320,7 +320,7 @@ impl<'a> Simple<'a> for ChargingSession {
 }
 
 /// ChargeProgress, its values in order from 0.
-#[derive(Clone, Copy, Debug, PartialEq, Eq)]
+#[derive(Clone, Copy)]
 pub enum ChargeProgress {
     /// Start.
     Start,

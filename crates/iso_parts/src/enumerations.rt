@@ -7,7 +7,7 @@ use message_fields::message_parts::Simple;
 use message_fields::message_parts::exi_events::Value;
 
 /// FaultCode, its values in order from 0.
-#[derive(Clone, Copy, Debug, PartialEq, Eq)]
+#[derive(Clone, Copy)]
 pub enum FaultCode {
     /// ParsingError.
     ParsingError,
@@ -42,7 +42,7 @@ impl<'a> Simple<'a> for FaultCode {
 }
 
 /// UnitSymbol, its values in order from 0.
-#[derive(Clone, Copy, Debug, Default, PartialEq, Eq)]
+#[derive(Clone, Copy, Default)]
 pub enum UnitSymbol {
     /// h.
     #[default]
@@ -94,7 +94,7 @@ impl<'a> Simple<'a> for UnitSymbol {
 }
 
 /// EVErrorCode, its values in order from 0.
-#[derive(Clone, Copy, Debug, PartialEq, Eq)]
+#[derive(Clone, Copy)]
 pub enum EvErrorCode {
     /// NO_ERROR.
     NoError,
@@ -165,7 +165,7 @@ impl<'a> Simple<'a> for EvErrorCode {
 }
 
 /// EVSENotification, its values in order from 0.
-#[derive(Clone, Copy, Debug, PartialEq, Eq)]
+#[derive(Clone, Copy)]
 pub enum EvseNotification {
     /// None.
     None,
@@ -200,7 +200,7 @@ impl<'a> Simple<'a> for EvseNotification {
 }
 
 /// IsolationLevel, its values in order from 0.
-#[derive(Clone, Copy, Debug, PartialEq, Eq)]
+#[derive(Clone, Copy)]
 pub enum IsolationLevel {
     /// Invalid.
     Invalid,
@@ -243,7 +243,7 @@ impl<'a> Simple<'a> for IsolationLevel {
 }
 
 /// EVSEStatusCode, its values in order from 0.
-#[derive(Clone, Copy, Debug, PartialEq, Eq)]
+#[derive(Clone, Copy)]
 pub enum EvseStatusCode {
     /// EVSE_NotReady.
     EvseNotReady,

@@ -72,7 +72,7 @@ impl<'a> ReadRecord<'a> for Day {
 }
 
 /// An empty element.
-#[derive(Clone, Copy, Debug, PartialEq, Eq)]
+#[derive(Clone, Copy)]
 pub struct Closed;
 
 impl PutRecord for Closed {

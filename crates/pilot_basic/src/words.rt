@@ -3,7 +3,7 @@
 use charge_world::PilotState;
 
 /// What is heard.
-#[derive(Clone, Copy, Debug, PartialEq, Eq)]
+#[derive(Clone, Copy)]
 pub enum BasicEvent {
     /// Offer a current, in tenths of an ampere, from 60 to 800.
     Offer(u16),
@@ -32,7 +32,7 @@ pub enum BasicOrder {
 }
 
 /// How a post charges.
-#[derive(Clone, Copy, Debug, PartialEq, Eq)]
+#[derive(Clone, Copy)]
 pub enum Mode {
     /// Not yet, or not any more.
     Off,

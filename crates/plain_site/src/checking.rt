@@ -26,7 +26,7 @@ use session_words::SitePlan;
 use std::alloc::Global;
 
 /// How a run ends.
-#[derive(Clone, Copy, Debug, PartialEq, Eq)]
+#[derive(Clone, Copy)]
 pub enum Ending {
     /// With Over, a lost hearing or the last turn, or before the first hearing.
     Whole,

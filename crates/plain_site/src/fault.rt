@@ -5,7 +5,7 @@ use plain_station::Act;
 use std::alloc::{AllocError, AllocFailed};
 
 /// What was expected in place of an entry, for a reader. Posts are numbered from 1.
-#[derive(Debug, Drop)]
+#[derive(Drop)]
 pub enum Expected {
     /// Something heard, since each post has done all that it had to.
     Hearing,
@@ -28,7 +28,7 @@ pub enum Expected {
 }
 
 /// Why an entry doesn't follow.
-#[derive(Debug, Drop)]
+#[derive(Drop)]
 pub enum Stop {
     /// Want of memory: nothing is known.
     Memory,
@@ -37,7 +37,7 @@ pub enum Stop {
 }
 
 /// Why entries aren't said to be a run.
-#[derive(Debug, Drop)]
+#[derive(Drop)]
 pub enum Fault {
     /// Want of memory: nothing is known.
     Memory,

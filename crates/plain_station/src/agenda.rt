@@ -11,14 +11,14 @@ use session_words::{EndCause, Reply, Standing};
 use std::marker::Model;
 
 /// What is sent: the response to a negotiation, as its payload, or a reply in the session's dialect.
-#[derive(Debug, Drop)]
+#[derive(Drop)]
 pub enum Spoken {
     Response(Piece),
     Said { dialect: Dialect, reply: Reply },
 }
 
 /// A thing to do.
-#[derive(Debug, Drop)]
+#[derive(Drop)]
 pub enum Todo {
     Tell([u8; 28]),
     Give(Order),
@@ -27,7 +27,7 @@ pub enum Todo {
 }
 
 /// What is decided and not done yet. It is done in this order: the datagram, the order, the reply, and then the session ends.
-#[derive(Debug, Drop)]
+#[derive(Drop)]
 pub struct Agenda {
     pub datagram: Option<[u8; 28]>,
     pub order: Option<Order>,

@@ -4,7 +4,7 @@ use charge_world::{Dialect, Order, Piece, PlantEvent};
 use session_words::Request;
 
 /// What a hearing is for one post: one at another post is a look at the clock.
-#[derive(Debug, Drop)]
+#[derive(Drop)]
 pub enum Event {
     Came { token: u64 },
     Bytes(Piece),
@@ -16,7 +16,7 @@ pub enum Event {
 }
 
 /// What a post does: an order to its charger, bytes on the connection, a datagram, the end of the session by a cause's number.
-#[derive(Debug, Drop)]
+#[derive(Drop)]
 pub enum Act {
     Give(Order),
     Send(Piece),
@@ -25,7 +25,7 @@ pub enum Act {
 }
 
 /// What a payload is judged as.
-#[derive(Debug, Drop)]
+#[derive(Drop)]
 pub enum Judged {
     /// A request of the negotiation, with the dialect that is chosen for it and the payload that answers it.
     Negotiated {
@@ -41,14 +41,14 @@ pub enum Judged {
 }
 
 /// What the word of an act was judged as, and the watts that it was shown: 0 where it is shown none.
-#[derive(Debug, Drop)]
+#[derive(Drop)]
 pub struct Reading {
     pub judged: Judged,
     pub shown: u32,
 }
 
 /// What a post goes by: a hearing at this moment (in milliseconds), or an act and what was read for it, where a word was.
-#[derive(Debug, Drop)]
+#[derive(Drop)]
 pub enum Step {
     Hears {
         at: u64,

@@ -18,7 +18,7 @@ use session_words::{Phase, PostPlan};
 use v2gtp_frames::whole_frame;
 
 /// A payload that has to be read now: in the schema of the negotiation where no dialect is chosen yet, else in the dialect's.
-#[derive(Clone, Copy, Debug)]
+#[derive(Clone, Copy)]
 pub struct Payload<'a> {
     pub dialect: Option<Dialect>,
     pub bytes: &'a [u8],

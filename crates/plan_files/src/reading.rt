@@ -7,7 +7,7 @@ use charge_world::Source;
 use std::alloc::Global;
 
 /// Why there is no text.
-#[derive(Clone, Copy, Debug, PartialEq, Eq)]
+#[derive(Clone, Copy, Debug)]
 pub enum TextFault {
     /// The file could not be read.
     Unread,

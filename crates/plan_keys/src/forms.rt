@@ -10,7 +10,7 @@ use arrayvec::ArrayVec;
 use toml::Value;
 
 /// What is wrong with a key.
-#[derive(Clone, Copy, Debug, PartialEq, Eq)]
+#[derive(Clone, Copy, Debug)]
 pub enum Wrong {
     /// It isn't there.
     Missing,

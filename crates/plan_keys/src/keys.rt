@@ -20,7 +20,7 @@ use toml::{Table, Value};
 type Name = &'static str;
 
 /// A key that is wrong, and what it has to say.
-#[derive(Clone, Copy, Debug)]
+#[derive(Clone, Copy)]
 pub struct Found {
     pub name: &'static str,
     pub wrong: Wrong,

@@ -21,7 +21,7 @@ const MEASUREMENT: u64 = 20;
 const CONTACTOR: u64 = 50;
 
 /// What the charger was ordered last.
-#[derive(Clone, Copy, Debug)]
+#[derive(Clone, Copy)]
 struct Limits {
     voltage: Tenths,
     current: Tenths,
@@ -36,7 +36,7 @@ struct Limits {
 ///
 /// Contracts see whether it is free, the moments of what is to come, the limits ordered last, whether the last Open
 /// or Close order was a Close, and the voltage measured last.
-#[derive(Debug, Drop)]
+#[derive(Drop)]
 pub struct Sim {
     free: bool,
     moments: [Option<u64>; PLACES],

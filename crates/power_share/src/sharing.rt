@@ -12,7 +12,7 @@ const POSTS: usize = 8;
 /// What the posts of a site ask for and were told last, in watts.
 ///
 /// Contracts see the limit, the number of posts, and both lists, by post.
-#[derive(Debug, Drop)]
+#[derive(Drop)]
 pub struct Shares {
     limit: u32,
     posts: u8,

@@ -22,7 +22,7 @@ pub(crate) struct Recording {
 }
 
 /// Why there is nothing to replay.
-#[derive(Debug, Drop)]
+#[derive(Drop)]
 pub(crate) enum FilesFault {
     /// A file could not be read.
     Unread,

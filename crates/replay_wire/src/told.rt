@@ -3,7 +3,7 @@
 use trace_text::Noted;
 
 /// One step of a wire.
-#[derive(Clone, Copy, Debug)]
+#[derive(Clone, Copy)]
 pub(crate) enum Step<'a> {
     /// Something was heard, or nothing was, and the `until` of that call.
     Heard(Noted<'a>, u64),

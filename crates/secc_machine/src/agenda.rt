@@ -12,14 +12,14 @@ use session_words::{EndCause, Reply, Standing};
 use std::marker::Model;
 
 /// What is sent: the response to a negotiation, as its payload, or a reply in the session's dialect.
-#[derive(Debug, Drop)]
+#[derive(Drop)]
 pub enum Spoken {
     Response(ArrayVec<u8, 4>),
     Said { dialect: Dialect, reply: Reply },
 }
 
 /// A thing to do.
-#[derive(Debug, Drop)]
+#[derive(Drop)]
 pub enum Todo<'a> {
     /// This datagram is sent to whoever sent the newest one.
     Tell([u8; 28]),
@@ -33,7 +33,7 @@ pub enum Todo<'a> {
 
 /// What is decided and not done yet. It is done in this order: the datagram, the order, the reply, and then the
 /// session ends.
-#[derive(Debug, Drop)]
+#[derive(Drop)]
 pub(crate) struct Agenda {
     pub(crate) datagram: Option<[u8; 28]>,
     pub(crate) order: Option<Order>,

@@ -5,7 +5,7 @@ use charge_world::{Dialect, Order, PlantEvent};
 use session_words::Request;
 
 /// What a hearing is for one post, beside its bytes: one at another post is a look at the clock.
-#[derive(Clone, Copy, Debug, PartialEq, Eq)]
+#[derive(Clone, Copy)]
 pub enum PostEvent {
     /// A connection began. The token names it.
     Came { token: u64 },
@@ -24,7 +24,7 @@ pub enum PostEvent {
 }
 
 /// What was done of what the post asked for.
-#[derive(Clone, Copy, Debug, PartialEq, Eq)]
+#[derive(Clone, Copy)]
 pub enum Done {
     /// This order was given.
     Gave(Order),
@@ -37,7 +37,7 @@ pub enum Done {
 }
 
 /// What a payload is judged as.
-#[derive(Debug, Drop)]
+#[derive(Drop)]
 pub enum Judged {
     /// A request of the negotiation, with the dialect that is chosen for it and the payload that answers it.
     Negotiated {

@@ -4,7 +4,7 @@ ghost use Rattle.std.specs.Prelude.{◌≡◌};
 ghost use Rattle.session_rules.specs.Allowed as rule;
 
 /// Watts that stay allowed for 5,000 ms behind a reply that lowered the told ones.
-#[derive(Clone, Copy, Debug, PartialEq, Eq)]
+#[derive(Clone, Copy)]
 pub struct Lowered {
     /// The watts that were allowed before that reply.
     pub watts: u32,

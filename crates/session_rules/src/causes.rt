@@ -10,7 +10,7 @@ use charge_world::{PilotState, PlantEvent, Tenths};
 use session_words::{Ask, Code, EndCause, Phase, Standing, Timeout};
 
 /// What the rules of a session's end know beside an event of the charger.
-#[derive(Clone, Copy, Debug, PartialEq, Eq)]
+#[derive(Clone, Copy)]
 pub struct Watch {
     pub row: Phase,
     /// How the contactor stands before the event.
@@ -24,7 +24,7 @@ pub struct Watch {
 }
 
 /// What the next word of a session was found to be.
-#[derive(Clone, Copy, Debug, PartialEq, Eq)]
+#[derive(Clone, Copy)]
 pub enum Found {
     /// Its frame is refused.
     BadFrame,
@@ -43,7 +43,7 @@ pub enum Found {
 }
 
 /// What breaks a session from outside its words and its charger.
-#[derive(Clone, Copy, Debug, PartialEq, Eq)]
+#[derive(Clone, Copy)]
 pub enum Break {
     /// The connection ended, or another one came while it stood.
     Gone,

@@ -7,7 +7,7 @@ use charge_world::{Dialect, Tenths};
 use session_words::{Phase, SessionId};
 
 /// The last PreCharge of a session that was accepted.
-#[derive(Clone, Copy, Debug, PartialEq, Eq)]
+#[derive(Clone, Copy)]
 pub struct PreCharged {
     /// The voltage that the request asked for, in tenths of a volt.
     pub target: u32,
@@ -16,7 +16,7 @@ pub struct PreCharged {
 }
 
 /// What a session keeps from one request to the next.
-#[derive(Debug, Drop, PartialEq, Eq)]
+#[derive(Drop)]
 pub struct Stage {
     pub row: Phase,
     /// The dialect that was negotiated. In row Connected it says nothing.

@@ -7,7 +7,7 @@ use session_words::Timeout;
 use std::marker::Model;
 
 /// What a post did last in its session. Moments are in milliseconds.
-#[derive(Clone, Copy, Debug, Default, PartialEq, Eq)]
+#[derive(Clone, Copy, Default)]
 pub enum Last {
     /// No reply so far.
     #[default]

@@ -101,7 +101,7 @@ pub fn ac_current(watts: u32, nominal: u16, phases: u8) -> Tenths
 }
 
 /// A number of watts as a message writes it: the Value and its Multiplier.
-#[derive(Clone, Copy, Debug, PartialEq, Eq)]
+#[derive(Clone, Copy)]
 pub struct WrittenWatts {
     /// 0 to 3.
     pub multiplier: u8,

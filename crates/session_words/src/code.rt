@@ -87,7 +87,7 @@ pub enum Processing {
 }
 
 /// What PowerDelivery asks for (chargeProgressType). In DIN, ReadyToChargeState is `Start` or `Stop`.
-#[derive(Clone, Copy, Debug, PartialEq, Eq)]
+#[derive(Clone, Copy)]
 pub enum Progress {
     Start,
     Stop,

@@ -5,7 +5,7 @@ use crate::session::SessionId;
 use charge_world::{Dialect, IsolationLevel, PilotState, Tenths};
 
 /// What the charger of a post told last, and what the post keeps.
-#[derive(Debug, Drop, PartialEq, Eq)]
+#[derive(Drop)]
 pub struct Facts {
     pub pilot: PilotState,
     /// What the isolation monitor found last since the connection came.
@@ -28,7 +28,7 @@ pub struct Facts {
 }
 
 /// What a station's session takes from one phase to the next.
-#[derive(Debug, Drop, PartialEq, Eq)]
+#[derive(Drop)]
 pub struct Carried {
     pub dialect: Dialect,
     /// The session's identifier.
@@ -42,7 +42,7 @@ pub struct Carried {
 }
 
 /// What a car's session takes from one request to the next.
-#[derive(Debug, Drop, PartialEq, Eq)]
+#[derive(Drop)]
 pub struct CarCarried {
     pub dialect: Dialect,
     /// The session's identifier.

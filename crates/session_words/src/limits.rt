@@ -121,7 +121,7 @@ impl EvseId {
 }
 
 /// What a car can take (EVChargeParameter). Voltages and currents are in tenths.
-#[derive(Clone, Copy, Debug, PartialEq, Eq)]
+#[derive(Clone, Copy)]
 pub enum CarLimits {
     Ac {
         most_current: Amount,

@@ -8,14 +8,14 @@ use crate::session::SessionId;
 use arrayvec::ArrayVec;
 
 /// A request: the identifier in its header and what it asks.
-#[derive(Debug, Drop, PartialEq, Eq)]
+#[derive(Drop)]
 pub struct Request {
     pub session: SessionId,
     pub ask: Ask,
 }
 
 /// A reply: the identifier in its header, its code and what it tells.
-#[derive(Debug, Drop, PartialEq, Eq)]
+#[derive(Drop, PartialEq, Eq)]
 pub struct Reply {
     pub session: SessionId,
     pub code: Code,
@@ -23,7 +23,7 @@ pub struct Reply {
 }
 
 /// A message of either side.
-#[derive(Debug, Drop, PartialEq, Eq)]
+#[derive(Drop)]
 pub enum Word {
     Request(Request),
     Reply(Reply),
@@ -34,7 +34,7 @@ pub enum Word {
 /// What a request asks. Each variant has the name of its pair of messages; `PaymentSelection` is
 /// PaymentServiceSelection in ISO and ServicePaymentSelection in DIN, `Authorization` is ContractAuthentication in
 /// DIN, and `ChargeParameters` is ChargeParameterDiscovery.
-#[derive(Debug, Drop, PartialEq, Eq)]
+#[derive(Drop)]
 pub enum Ask {
     SessionSetup {
         /// The EVCCID.

@@ -3,7 +3,7 @@
 use crate::causes::CauseSet;
 
 /// Counts over the past of a post.
-#[derive(Clone, Copy, Debug, PartialEq, Eq)]
+#[derive(Clone, Copy)]
 pub struct PostReport {
     /// The connections that began.
     pub sessions: u64,

@@ -19,7 +19,7 @@ use std::marker::Brand;
 use word_codec::Codec;
 
 /// How a replay ended, and how many entries its past has; that count stands still at the end of its type.
-#[derive(Clone, Copy, Debug, PartialEq, Eq)]
+#[derive(Clone, Copy)]
 pub struct Replayed {
     pub ended: Ended,
     pub entries: u64,

@@ -6,7 +6,7 @@ ghost use Rattle.site_turns.specs.Lasts.{ended_by, last_by};
 use charge_world::What;
 
 /// How serving ended.
-#[derive(Clone, Copy, Debug, PartialEq, Eq)]
+#[derive(Clone, Copy)]
 pub enum Ended {
     /// The wire said that nothing more will be heard.
     Over,
@@ -19,7 +19,7 @@ pub enum Ended {
 }
 
 /// Why no hearing follows, where each line could be written.
-#[derive(Clone, Copy, Debug, PartialEq, Eq)]
+#[derive(Clone, Copy)]
 pub(crate) enum Last {
     /// The wire said that nothing more will be heard.
     Over,

@@ -16,7 +16,7 @@ pub struct Full {
 }
 
 /// One word of a line.
-#[derive(Clone, Copy, Debug)]
+#[derive(Clone, Copy)]
 pub enum Word<'a> {
     /// A word that stands as it is. It has no space.
     Plain(&'a [u8]),

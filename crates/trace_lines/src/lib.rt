@@ -17,7 +17,7 @@ use std::marker::Model;
 use trace_text::{Noted, write_noted};
 
 /// A write on the trace failed.
-#[derive(Clone, Copy, Debug, PartialEq, Eq)]
+#[derive(Clone, Copy, Debug)]
 pub struct TraceFailed;
 
 /// The bytes of the longest line that a site writes, and some more.

@@ -1,7 +1,7 @@
 //! The formats of a trace.
 
 /// How the lines of a trace are written, which its first line tells.
-#[derive(Clone, Copy, Debug, PartialEq, Eq)]
+#[derive(Clone, Copy)]
 pub enum Format {
     /// Format 1: the line of each entry.
     Plain,

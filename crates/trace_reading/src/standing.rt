@@ -3,7 +3,7 @@
 use crate::format::Format;
 
 /// The format, how many posts there are, how many hearings were read, and whether the last of all was.
-#[derive(Clone, Copy, Debug)]
+#[derive(Clone, Copy)]
 pub(crate) struct Standing {
     pub(crate) format: Format,
     pub(crate) posts: u8,

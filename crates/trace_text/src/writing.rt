@@ -12,7 +12,7 @@ use text_tokens::{Full, Line};
 
 /// An entry of a past whose bytes are lent: what was heard, or a call that was made, and whether it was taken. Contracts see the entry by
 /// `entry_of`.
-#[derive(Clone, Copy, Debug)]
+#[derive(Clone, Copy)]
 pub enum Noted<'a> {
     /// What was heard, with the bytes that came with it.
     Heard {

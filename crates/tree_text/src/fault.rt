@@ -4,7 +4,7 @@ use charge_world::NoMemory;
 use exi_documents::Refusal;
 
 /// Why no text is printed.
-#[derive(Clone, Copy, Debug, PartialEq, Eq)]
+#[derive(Clone, Copy, Debug)]
 pub enum PrintFault {
     /// The payload spells no tree.
     Refused(Refusal),

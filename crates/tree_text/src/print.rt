@@ -24,7 +24,7 @@ use exi_values::{Event, Table, Value};
 use std::alloc::Global;
 
 /// What a text ends with so far.
-#[derive(Clone, Copy, Debug, PartialEq, Eq)]
+#[derive(Clone, Copy)]
 pub(crate) enum TextEnd {
     /// No element has started.
     Nothing,

@@ -1,7 +1,7 @@
 //! Names that are awaited.
 
 /// A name and the character that stands behind it.
-#[derive(Clone, Copy, Debug, PartialEq, Eq)]
+#[derive(Clone, Copy)]
 pub struct Awaited {
     /// The number of the name.
     pub name: u16,

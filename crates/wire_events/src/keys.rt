@@ -6,7 +6,7 @@ ghost use Rattle.wire_events.specs.Told.{key_number};
 use crate::seat::Socket;
 
 /// A socket of the post at a place.
-#[derive(Clone, Copy, Debug, PartialEq, Eq)]
+#[derive(Clone, Copy)]
 pub struct Key {
     pub place: usize,
     pub socket: Socket,

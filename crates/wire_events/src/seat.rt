@@ -4,7 +4,7 @@ ghost use Rattle.std.specs.Prelude.{◌≡◌, ◌≤◌, IfSome, IfNone};
 ghost use Rattle.wire_events.specs.Seats.{blank, kind_at, is_due, NextKind, raised, NoKindDue, FirstKind, NoKindIn};
 
 /// How the connection of a post stands.
-#[derive(Clone, Copy, Debug, Default, PartialEq, Eq)]
+#[derive(Clone, Copy, Default, PartialEq, Eq)]
 pub enum Line {
     /// There is none.
     #[default]
@@ -16,7 +16,7 @@ pub enum Line {
 }
 
 /// The sockets of a post.
-#[derive(Clone, Copy, Debug, PartialEq, Eq)]
+#[derive(Clone, Copy)]
 pub enum Socket {
     Listener,
     Stream,
@@ -24,7 +24,7 @@ pub enum Socket {
 }
 
 /// What may be told of a post, in the order in which it takes turns.
-#[derive(Clone, Copy, Debug, Default, PartialEq, Eq)]
+#[derive(Clone, Copy, Default)]
 pub enum Kind {
     /// A connection that isn't told yet.
     #[default]
@@ -58,7 +58,7 @@ impl Kind {
 
 /// One post: its connection, which of its sockets were found ready and not empty since, the moment of the charger's next event
 /// (milliseconds), and the kind told last.
-#[derive(Clone, Copy, Debug, Default, PartialEq, Eq)]
+#[derive(Clone, Copy, Default)]
 pub struct Seat {
     pub line: Line,
     pub listener: bool,

@@ -7,7 +7,7 @@ ghost use Rattle.word_values.specs.Amounts as amounts;
 use session_words::Amount;
 
 /// The number of a physical value: Value times ten to the Multiplier.
-#[derive(Clone, Copy, Debug, PartialEq, Eq)]
+#[derive(Clone, Copy)]
 pub struct Written {
     /// -3 to 3.
     pub multiplier: i8,
