@@ -2,7 +2,6 @@
 //! DIN SPEC 70121:2014).
 #![tactic(auto)]
 
-mod copying;
 mod driving;
 mod lawful;
 mod site;

@@ -2,7 +2,6 @@
 //! sections 8.7 and 8.8; DIN SPEC 70121:2014).
 #![tactic(auto)]
 
-mod copying;
 mod serving;
 mod site;
 

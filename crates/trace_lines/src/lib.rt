@@ -1,7 +1,7 @@
 //! A trace that is written line by line as its entries come (own). Nothing takes memory but `make`.
 #![tactic(auto)]
 
-ghost use Rattle.std.specs.Prelude.{◌≡◌, ◌<◌, ◌≤◌, ◌^◌, length, OnOk, OnErr, IsOk};
+ghost use Rattle.std.specs.Prelude.{◌≤◌, length, OnOk, OnErr};
 ghost use Rattle.charge_world.specs.Outside.{IsFault, Appends, AppendsSome};
 ghost use Rattle.trace_text.specs.Noted.{entry_of};
 ghost use Rattle.trace_text.specs.Pasts.{first_line_2};
