@@ -1,9 +1,8 @@
 //! The messages of the negotiation, and how they are read and put.
 
-ghost use Rattle.std.specs.Prelude.{◌≡◌, []};
+ghost use Rattle.std.specs.Prelude.{[]};
 ghost use Rattle.std.proofs.Common.{rules};
 ghost use Rattle.exi_documents.specs.Trees.{Ordinal};
-ghost use Rattle.message_parts.specs.Contents.{told_parts};
 ghost use Rattle.message_parts.specs.Values.{is_named};
 ghost use Rattle.app_schema.specs.Declarations.{kinds as all_kinds, protocol_particles, request_particles, response_particles};
 ghost use Rattle.app_protocol.specs.Messages.{ordinal_of, protocol_parts, parts_of_request, parts_of_response, root_name, root_inside, root_number};

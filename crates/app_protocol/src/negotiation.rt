@@ -1,8 +1,7 @@
 //! The rule of the negotiation.
 
-ghost use Rattle.std.specs.Prelude.{◌≡◌, ◌<◌, ℕ, Option, MatchOption, IsTrue, ◌↔◌, List, [], ◌∷◌, ◌++◌};
+ghost use Rattle.std.specs.Prelude.{◌≡◌, ◌<◌, MatchOption, IsTrue, ◌↔◌, List, [], ◌∷◌, ◌++◌};
 ghost use Rattle.std.specs.Str.{chars};
-ghost use Rattle.charge_world.specs.declared.offer.Dialect.{Dialect};
 ghost use Rattle.app_protocol.specs.Messages.{Protocol, protocol_of, protocols_of};
 ghost use Rattle.app_protocol.specs.Winning.{Won};
 ghost use Rattle.app_protocol.specs.Negotiation.{namespace_of, minor_of, Names, Matches, NoMatch, Negotiates, code_for};

@@ -1,6 +1,6 @@
 //! The text of a message.
 
-ghost use Rattle.std.specs.Prelude.{ℕ, ◌≤◌, length, IfOk, IfErr};
+ghost use Rattle.std.specs.Prelude.{◌≤◌, length, IfOk, IfErr};
 ghost use Rattle.std.specs.String.{string_bytes};
 ghost use Rattle.app_protocol.specs.Printing.{IsPrinted, IsAppFault};
 

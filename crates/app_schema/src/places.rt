@@ -1,6 +1,6 @@
 //! What is offered at each place, written out.
 
-ghost use Rattle.std.specs.Prelude.{◌≡◌, ◌≤◌, ◌<◌, ℕ, List, [], ◌∷◌, nat_lt, if◌then◌else◌, Some, false, slice_get};
+ghost use Rattle.std.specs.Prelude.{◌≡◌, ◌≤◌, ◌<◌, ℕ, [], ◌∷◌, nat_lt, if◌then◌else◌, Some, false, slice_get};
 ghost use Rattle.exi_schema.specs.Offers.{IsPlace, offers, behind_copy, simple_step};
 ghost use Rattle.exi_schema.specs.declared.places.Step.TheVariants.{Element, End as TheEnd};
 ghost use Rattle.exi_schema.specs.declared.tables.MemberStanding.TheVariants.{Taken};

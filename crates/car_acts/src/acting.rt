@@ -1,6 +1,6 @@
 //! What a car does next, on the wire and in the trace.
 
-ghost use Rattle.std.specs.Prelude.{◌≡◌, ◌≤◌, ◌<◌, ℕ, List, Bool, length, true, false, Ok, OnOk, OnErr, IsErr, IsSome};
+ghost use Rattle.std.specs.Prelude.{◌≡◌, ◌≤◌, ◌<◌, length, true, false, Ok, OnOk, OnErr, IsErr, IsSome};
 ghost use Rattle.charge_world.specs.Outside.{GrowsByOne, IsFault, Appends, AppendsSome};
 ghost use Rattle.trace_text.specs.TraceText.{numbered_line_of};
 ghost use Rattle.site_acts.specs.Serving.{Known};

@@ -3,12 +3,11 @@
 ghost use Rattle.std.specs.Prelude.{◌≡◌};
 ghost use Rattle.session_words.specs.declared.word.Word.TheVariants as words;
 
-use copied_requests::copied_request;
 use session_words::{Request, Word};
 
 /// The word of a request.
 pub(crate) fn word_of(request: &Request) -> Word
     ensures { result ≡ words.Request request.now }
 {
-    Word::Request(copied_request(request))
+    Word::Request(request.copied())
 }

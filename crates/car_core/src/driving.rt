@@ -1,7 +1,6 @@
 //! Driving a car.
 
 ghost use Rattle.std.specs.Prelude.{◌≡◌, ◌≤◌, ◌<◌, []};
-ghost use Rattle.session_words.specs.declared.plan.CarPlan.{CarPlan};
 ghost use Rattle.site_acts.specs.Telling.{Carries, CarriesText};
 ghost use Rattle.car_spec.specs.Codecs.{codecs};
 ghost use Rattle.car_acts.specs.Reporting.{reported};

@@ -6,7 +6,6 @@
 //! session is what its past and its steps tell, and it ends open; `law_of_cars`: every run of a car, whole or cut, is lawful.
 #![tactic(auto)]
 
-mod copying;
 mod driving;
 mod lawful;
 mod site;

@@ -6,7 +6,6 @@ ghost use Rattle.car_codec.specs.Requests.{IsPlan};
 ghost use Rattle.car_acts.specs.Reporting.{reported};
 ghost use Rattle.car_core.specs.Made.{IsMadeOf};
 
-use crate::copying::copied;
 use car_acts::{CarReport, Desk, Driver, FRAME};
 use evcc_machine::Car;
 use session_words::CarPlan;
@@ -55,7 +54,7 @@ impl<C: Drop> CarSite<C> {
         let desk = desk_made(alloc, codec)?;
         let car = Car::make(alloc)?;
         let driver = Driver {
-            plan: copied(plan),
+            plan: plan.copied(),
             car,
             report: None,
         };

@@ -1,6 +1,6 @@
 //! The deadlines of a car.
 
-ghost use Rattle.std.specs.Prelude.{◌≡◌, ◌∷◌, []};
+ghost use Rattle.std.specs.Prelude.{◌≡◌};
 ghost use Rattle.car_rules.specs.Deadlines as rule;
 
 use crate::requests::ask_of;

@@ -2,7 +2,6 @@
 
 ghost use Rattle.std.specs.Prelude.{◌≡◌, ◌<◌};
 ghost use Rattle.post_spec.specs.Kinds.{says_finished as finished};
-ghost use Rattle.session_rules.specs.Delivery.{off_of as distance};
 ghost use Rattle.car_rules.specs.Moves as rule;
 
 use crate::stage::{CarPhase, CarStage};

@@ -1,6 +1,6 @@
 //! The order by which driving ends: a live contactor is ordered open.
 
-ghost use Rattle.std.specs.Prelude.{◌≡◌, ◌≤◌, List, true, false, not, ◌&&◌, IsSome, OnErr};
+ghost use Rattle.std.specs.Prelude.{◌≡◌, ◌≤◌, List, false, not, ◌&&◌, IsSome, OnErr};
 ghost use Rattle.charge_world.specs.declared.entry.Entry.{Entry};
 ghost use Rattle.charge_world.specs.Outside.{IsFault};
 ghost use Rattle.car_spec.specs.Runs.{Closes};

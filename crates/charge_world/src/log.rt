@@ -1,6 +1,6 @@
 //! The past that a fake wire keeps, without taking memory for it.
 
-ghost use Rattle.std.specs.Prelude.{◌≡◌, [], ◌∷◌, List, length, map, reverse, IfOk, IfSome, Some, None, IsSome, ◌↔◌, IsTrue};
+ghost use Rattle.std.specs.Prelude.{◌≡◌, [], length, map, reverse, IfOk, IfSome, Some, None, ◌↔◌, IsTrue};
 ghost use Rattle.charge_world.specs.Fakes.{Spends};
 ghost use Rattle.charge_world.specs.Outside.{GrowsByOne};
 ghost use Rattle.charge_world.specs.Logs.{entry_with, entry_of, AllFit};

@@ -1,6 +1,6 @@
 //! A sink in memory.
 
-ghost use Rattle.std.specs.Prelude.{◌≡◌, ◌+◌, ◌<◌, ◌≤◌, [], ◌++◌, length, Option, Some, None, IfOk, OnOk, OnErr, IfSome, vec_len, is_err, if◌then◌else◌};
+ghost use Rattle.std.specs.Prelude.{◌≡◌, length, IfOk, OnOk, OnErr, is_err};
 
 use crate::failed::{Failed, NoMemory};
 use crate::outages::Outages;

@@ -1,6 +1,6 @@
 //! A source in memory.
 
-ghost use Rattle.std.specs.Prelude.{◌≡◌, ◌+◌, ◌<◌, ◌≤◌, ℕ, List, [], ◌++◌, length, take, drop, Option, Some, None, IfOk, OnOk, OnErr, IfSome, IfNone, is_err};
+ghost use Rattle.std.specs.Prelude.{◌≡◌, ◌≤◌, ℕ, List, length, take, drop, Some, IfOk, OnOk, is_err};
 ghost use Rattle.charge_world.specs.NamedFiles.{bytes_named, at_place};
 
 use crate::failed::Failed;

@@ -1,7 +1,6 @@
 //! A wire in memory: it gives a script, fails the calls that it is told to fail, and keeps its past.
 
-ghost use Rattle.std.specs.Prelude.{◌≡◌, ◌+◌, ◌<◌, ◌≤◌, ◌↔◌, ℕ, List, [], ◌∷◌, length, take, reverse, map, Option, Some, None, IsTrue, IsSome, IfOk, OnOk, OnErr, IfSome, IfNone, is_ok, is_err};
-ghost use Rattle.charge_world.specs.declared.entry.Entry.{Entry};
+ghost use Rattle.std.specs.Prelude.{◌≡◌, ◌≤◌, ◌↔◌, ℕ, List, [], ◌∷◌, length, take, reverse, Some, IsTrue, IsSome, IfOk, OnOk, OnErr, IfSome, IfNone, is_ok, is_err};
 ghost use Rattle.charge_world.specs.declared.entry.Entry.TheVariants as entry;
 ghost use Rattle.charge_world.specs.Outside.{Grows, GrowsByOne, IsOfPosts, HasCount, bytes_of, posts_of, IsFault};
 ghost use Rattle.charge_world.specs.Fakes.{Spends, Counts};

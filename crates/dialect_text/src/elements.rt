@@ -1,6 +1,6 @@
 //! The elements that have started and not ended.
 
-ghost use Rattle.std.specs.Prelude.{◌≡◌, ◌<◌, ℕ, List, [], ◌∷◌, length, MatchOption};
+ghost use Rattle.std.specs.Prelude.{◌≡◌, ◌<◌, List, [], ◌∷◌, length, MatchOption};
 
 use arrayvec::ArrayVec;
 use std::marker::Model;

@@ -1,6 +1,6 @@
 //! The names that are awaited at a place of a text.
 
-ghost use Rattle.std.specs.Prelude.{◌≡◌, ◌<◌, ◌++◌, [], List, length, map, All, IfOk, OnOk, IsTrue};
+ghost use Rattle.std.specs.Prelude.{◌≡◌, ◌<◌, ◌++◌, List, length, map, IfOk, OnOk};
 ghost use Rattle.std.specs.List.{AllByRecursion};
 ghost use Rattle.exi_schema.specs.Plain.{plain_particles};
 ghost use Rattle.exi_schema.specs.Told.{schema_of};

@@ -1,6 +1,6 @@
 //! Characters, names and values at a cursor.
 
-ghost use Rattle.std.specs.Prelude.{◌≡◌, ◌<◌, ◌∷◌, ◌++◌, List, Some, All, length, slice_get, encode_utf8, IfOk, IfErr, IsSome};
+ghost use Rattle.std.specs.Prelude.{◌≡◌, ◌<◌, List, Some, All, length, slice_get, IfOk, IfErr, IsSome};
 ghost use Rattle.std.specs.Str.{encode_utf8_all};
 ghost use Rattle.exi_schema.specs.Steps.{simple_at};
 ghost use Rattle.exi_schema.specs.Told.{schema_of};

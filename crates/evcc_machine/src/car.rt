@@ -2,7 +2,6 @@
 
 ghost use Rattle.std.specs.Prelude.{◌≡◌, ◌≤◌, IfOk, IfSome, is_some, length};
 ghost use Rattle.std.specs.Option.{option_map};
-ghost use Rattle.car_rules.specs.Deadlines.{moment_of};
 ghost use Rattle.car_spec.specs.Judging as judging;
 ghost use Rattle.car_spec.specs.States.{fresh, first};
 ghost use Rattle.car_spec.specs.Until.{until};

@@ -2,7 +2,6 @@
 
 ghost use Rattle.std.specs.Prelude.{◌≡◌, false, None};
 ghost use Rattle.car_rules.specs.Deadlines.{hit as first_hit, hit_by as by_hit};
-ghost use Rattle.car_rules.specs.Searching.{is_searching};
 ghost use Rattle.car_spec.specs.Deciding as deciding;
 ghost use Rattle.car_spec.specs.Due.{all_deadlines};
 

@@ -1,6 +1,6 @@
 //! What a car is told.
 
-ghost use Rattle.std.specs.Prelude.{◌≡◌, ℕ, Bool, List};
+ghost use Rattle.std.specs.Prelude.{◌≡◌, ℕ, List};
 ghost use Rattle.post_spec.specs.Sessions.{brought};
 ghost use Rattle.post_spec.specs.Steps.{event_at};
 ghost use Rattle.car_spec.specs.Steps as steps;

@@ -1,9 +1,8 @@
 //! Where a word leads a car.
 
-ghost use Rattle.std.specs.Prelude.{◌≡◌, ◌≤◌, ℕ, List, Some, is_some};
+ghost use Rattle.std.specs.Prelude.{◌≡◌, ℕ, List, Some, is_some};
 ghost use Rattle.session_words.specs.Plans.{IsCarPlan};
 ghost use Rattle.car_rules.specs.Moves as moves;
-ghost use Rattle.car_spec.specs.Codecs as codecs;
 ghost use Rattle.car_spec.specs.Judging as judging;
 ghost use Rattle.car_spec.specs.States as states;
 ghost use Rattle.evcc_machine.specs.Counting.{IsCounted, IsCountedSo};

@@ -1,16 +1,13 @@
 //! What a car keeps of a session that lives, beside its stream.
 
-ghost use Rattle.std.specs.Prelude.{◌≡◌, ℕ, List, false, [], Option, Some};
-ghost use Rattle.std.specs.Option.{option_map};
-ghost use Rattle.v2gtp_frames.specs.Reading.{behind_front};
+ghost use Rattle.std.specs.Prelude.{◌≡◌, false, [], Some};
 ghost use Rattle.car_rules.specs.Deadlines.{deadlines, hit as first_hit, least_moment};
-ghost use Rattle.car_spec.specs.Acting as acting;
 ghost use Rattle.car_spec.specs.Deciding as deciding;
 ghost use Rattle.car_spec.specs.Due as due;
 ghost use Rattle.car_spec.specs.Judging as judging;
 ghost use Rattle.car_spec.specs.States.{first_session};
 ghost use Rattle.car_spec.specs.Until.{or_never};
-ghost use Rattle.evcc_machine.specs.Views.{spoken_of, with_unread};
+ghost use Rattle.evcc_machine.specs.Views.{with_unread};
 
 use crate::agenda::{Agenda, Spoken, asking};
 use car_rules::{CarMoments, CarStage, hit, is_reached, next_due};

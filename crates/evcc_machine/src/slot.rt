@@ -1,6 +1,6 @@
 //! The session of a car, in memory of its own.
 
-ghost use Rattle.std.specs.Prelude.{◌≡◌, ◌≤◌, List, ℕ, Option, Some, None, true, false, [], length, is_some, IfOk, IfSome};
+ghost use Rattle.std.specs.Prelude.{◌≡◌, ◌≤◌, List, ℕ, Option, Some, None, true, false, length, is_some, IfOk, IfSome};
 ghost use Rattle.std.specs.Option.{option_map};
 ghost use Rattle.v2gtp_frames.specs.Reading.{behind_front};
 ghost use Rattle.car_rules.specs.Deadlines.{hit as first_hit, least_moment};

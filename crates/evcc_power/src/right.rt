@@ -1,6 +1,6 @@
 //! When a car may close its contactor.
 
-ghost use Rattle.std.specs.Prelude.{◌≡◌, ◌≤◌, Some, None, IfSome, is_some};
+ghost use Rattle.std.specs.Prelude.{◌≡◌, ◌≤◌, None, IfSome, is_some};
 ghost use Rattle.charge_world.specs.declared.ports.Order.TheVariants as order;
 ghost use Rattle.car_rules.specs.Moves.{is_pre_charged};
 ghost use Rattle.evcc_power.specs.Rights.{off_in};

@@ -1,7 +1,7 @@
 //! The requests whose replies a car awaits, each a type of its own. Contracts see the stage of the session.
 
 ghost use Rattle.std.specs.Prelude.{◌≡◌, ◌<◌, Bool, true, Some, None};
-ghost use Rattle.car_rules.specs.Moves.{welding_phase, phase_behind_stop};
+ghost use Rattle.car_rules.specs.Moves.{welding_phase};
 ghost use Rattle.car_rules.specs.Replies.{reply_cause};
 ghost use Rattle.car_rules.specs.Requests.{request_of};
 ghost use Rattle.car_rules.specs.declared.stage.CarPhase.TheVariants as phase;

@@ -18,7 +18,7 @@ pub struct Contents<'a> {
 impl<'a> Model for Contents<'a> {
     ghost use Rattle.std.specs.Prelude.{ℕ, List, ◌≤◌, ◌*◌, length, drop};
     ghost use Rattle.exi_spec.specs.Bits.{bits_of};
-    ghost use Rattle.exi_bits.specs.Lent.{Span, IsSpan, items_in};
+    ghost use Rattle.exi_bits.specs.Lent.{IsSpan, items_in};
 
     ghost Value = { List ℕ };
 
@@ -29,7 +29,7 @@ impl<'a> Model for Contents<'a> {
 }
 
 impl<'a> Contents<'a> {
-    ghost use Rattle.exi_bits.specs.Lent.{Span, IsSpan, items_in};
+    ghost use Rattle.exi_bits.specs.Lent.{IsSpan, items_in};
 
     /// What a span of a payload contains.
     pub(crate) fn new(payload: &'a [u8], bit: u32, count: u32, is_text: bool) -> Contents<'a>
@@ -61,7 +61,7 @@ impl<'a> Contents<'a> {
     }
 }
 
-ghost use Rattle.exi_bits.specs.Lent.{Span, IsSpan, items_in};
+ghost use Rattle.exi_bits.specs.Lent.{IsSpan, items_in};
 
 /// The first of n items at a bit, and how many bits spell it.
 fn item_at(payload: &[u8], bit: u32, n: u32, is_text: bool) -> (u32, u32)

@@ -1,6 +1,6 @@
 //! A place in a payload, from which items are taken.
 
-ghost use Rattle.std.specs.Prelude.{◌≡◌, ℕ, ◌+◌, ◌*◌, ◌≤◌, ◌/◌, ◌<◌, true, false, length, IfOk, IfErr, IfSome, OnErr};
+ghost use Rattle.std.specs.Prelude.{◌≡◌, ℕ, ◌+◌, ◌*◌, ◌≤◌, ◌<◌, true, false, length, IfOk, IfErr, IfSome, OnErr};
 ghost use Rattle.exi_spec.specs.Bits.{bits_of};
 ghost use Rattle.exi_spec.specs.Items.{SpellsBool, SpellsNumber, SpellsUnsigned, SpellsInteger, SpellsBytes, SpellsChars, RefusesBits, RefusesUnsigned, RefusesInteger, RefusesChars};
 ghost use Rattle.exi_bits.specs.Lent.{items_of, IsSpan};

@@ -1,6 +1,6 @@
 //! A pen that writes items into a room of bytes.
 
-ghost use Rattle.std.specs.Prelude.{◌≡◌, ℕ, ◌+◌, ◌*◌, ◌<◌, ◌≤◌, ◌↔◌, ◌^◌, ◌++◌, [], ◌∷◌, length, take, pos, negsuc, ◌≤ℤ◌, if◌then◌else◌, OnOk, OnErr, IfErr, IsErr};
+ghost use Rattle.std.specs.Prelude.{◌≡◌, ◌+◌, ◌*◌, ◌<◌, ◌≤◌, ◌↔◌, ◌^◌, [], ◌∷◌, length, take, pos, negsuc, ◌≤ℤ◌, if◌then◌else◌, OnOk, OnErr, IfErr, IsErr};
 ghost use Rattle.exi_spec.specs.Bits.{bits_of, number_bits};
 ghost use Rattle.exi_spec.specs.Items.{shortest_unsigned, shortest_integer, shortest_chars};
 ghost use Rattle.exi_bits.specs.Written.{PadsZero, HoldsBits};

@@ -1,9 +1,9 @@
 //! Bits in a room of bytes, behind those that are written.
 
-ghost use Rattle.std.specs.Prelude.{◌≡◌, ◌≢◌, ℕ, ◌+◌, ◌-◌, ◌*◌, ◌/◌, ◌%◌, ◌<◌, ◌≤◌, ◌^◌, [], ◌∷◌, if◌then◌else◌, length, slice_index, take};
+ghost use Rattle.std.specs.Prelude.{◌≡◌, ◌≢◌, ◌+◌, ◌*◌, ◌/◌, ◌%◌, ◌<◌, ◌≤◌, ◌^◌, [], ◌∷◌, length, slice_index, take};
 ghost use Rattle.std.specs.Str.{chars};
 ghost use Rattle.exi_spec.specs.Bits.{bits_of, number_bits};
-ghost use Rattle.exi_spec.specs.Items.{shortest_within, shortest_unsigned, shortest_chars};
+ghost use Rattle.exi_spec.specs.Items.{shortest_unsigned, shortest_chars};
 ghost use Rattle.exi_bits.specs.Written.{PadsZero, Extends, HoldsBits};
 
 /// The bytes begun by the first `bits` bits of a room, where the bits behind them are 0 up to a whole byte, as a pen leaves them.

@@ -59,7 +59,6 @@ impl<'a> Default for BitSpan<'a> {
 
 impl<'a> BitSpan<'a> {
     ghost use Rattle.exi_bits.specs.Lent.{Span, Holds, IsSpan, items_of, text_at};
-    ghost use Rattle.exi_bits.specs.Reading.{Cursor};
 
     /// The n bytes of a Binary at a bit.
     pub(crate) fn binary_at(payload: &'a [u8], bit: u32, n: u32) -> BitSpan<'a>

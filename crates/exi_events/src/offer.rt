@@ -1,15 +1,14 @@
 //! What may be put at a place.
 
-ghost use Rattle.std.specs.Prelude.{◌≡◌, ◌<◌, ◌≤◌, ◌^◌, ℕ, ◌↔◌, IsTrue, true, length, Some, None, IfSome, IsSome, slice_get};
+ghost use Rattle.std.specs.Prelude.{◌≡◌, ◌<◌, ◌≤◌, ◌^◌, ℕ, ◌↔◌, IsTrue, length, Some, None, IfSome, IsSome, slice_get};
 ghost use Rattle.exi_spec.specs.Bits.{bits_of};
 ghost use Rattle.exi_schema.specs.declared.places.Root.TheVariants.{Kind};
 ghost use Rattle.exi_schema.specs.declared.places.Step.{Step as SchemaStep};
 ghost use Rattle.exi_schema.specs.Offers.{IsPlace, IsWidth, offers};
 ghost use Rattle.exi_schema.specs.Steps.{IsStep, IsRoot, simple_at};
-ghost use Rattle.exi_documents.specs.Grammar.{Inside, stands, Opened};
-ghost use Rattle.exi_documents.specs.Values.{most_entries, IsValue};
-ghost use Rattle.exi_values.specs.Meaning.{AreTexts, IsShaped, texts_in, value_of};
-ghost use Rattle.exi_writing.specs.Entering.{HasEntryFor};
+ghost use Rattle.exi_documents.specs.Grammar.{Inside, stands};
+ghost use Rattle.exi_documents.specs.Values.{most_entries};
+ghost use Rattle.exi_values.specs.Meaning.{AreTexts, texts_in, value_of};
 ghost use Rattle.exi_events.specs.Open.{opened_of};
 ghost use Rattle.exi_events.specs.Writer.{IsOffered, IsShapedEvent, IsStepOf, IsFound, MayWrite, sought_in, value_in};
 

@@ -1,6 +1,6 @@
 //! The elements that have started and not ended.
 
-ghost use Rattle.std.specs.Prelude.{◌≡◌, ◌<◌, ◌↔◌, ℕ, List, [], ◌∷◌, length, MatchOption, IsTrue};
+ghost use Rattle.std.specs.Prelude.{◌≡◌, ◌<◌, List, [], ◌∷◌, length, MatchOption};
 ghost use Rattle.exi_events.specs.Inside.{GoesTo, HasTop};
 
 use arrayvec::ArrayVec;

@@ -1,6 +1,6 @@
 //! Event codes, and the front of a document, taken from a payload.
 
-ghost use Rattle.std.specs.Prelude.{◌≡◌, ℕ, List, [], ◌∷◌, OnOk, ◌+◌, ◌<◌, ◌==◌, if◌then◌else◌, length, Some, None, IfOk, IfErr};
+ghost use Rattle.std.specs.Prelude.{◌≡◌, ℕ, List, [], ◌∷◌, OnOk, ◌+◌, ◌==◌, if◌then◌else◌, length, None, IfOk, IfErr};
 ghost use Rattle.exi_spec.specs.Items.{SpellsNumber};
 ghost use Rattle.exi_bits.specs.Reading.{Takes, ahead};
 ghost use Rattle.exi_schema.specs.declared.places.Place.{Place as SchemaPlace};

@@ -1,6 +1,6 @@
 //! Whether a value may be written.
 
-ghost use Rattle.std.specs.Prelude.{◌≡◌, ◌≤◌, ℕ, length, ◌↔◌, IsTrue, true, List, Some, MatchBool, slice_get};
+ghost use Rattle.std.specs.Prelude.{◌≡◌, ◌≤◌, ℕ, length, ◌↔◌, IsTrue, List, Some, MatchBool, slice_get};
 ghost use Rattle.exi_bits.specs.Lent.{items_of, text_at, IsSpan};
 ghost use Rattle.exi_spec.specs.Bits.{bits_of};
 ghost use Rattle.exi_documents.specs.Trees.{Text, Number};

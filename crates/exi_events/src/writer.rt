@@ -39,7 +39,7 @@ pub struct EventWriter<'b, 'p, P: Places> {
 }
 
 impl<'b, 'p, P: Places> EventWriter<'b, 'p, P> {
-    ghost use Rattle.std.specs.Prelude.{ℕ, ◌<◌, ◌∷◌, [], ◌↔◌, IsTrue, IsSome, List, take, Some, None, IfSome, IfErr, OnOk, OnErr, IsErr, Err};
+    ghost use Rattle.std.specs.Prelude.{◌<◌, ◌∷◌, [], ◌↔◌, IsTrue, IsSome, List, take, Some, None, IfSome, IfErr, OnOk, OnErr, IsErr, Err};
     ghost use Rattle.exi_bits.specs.Written.{HoldsBits};
     ghost use Rattle.exi_documents.specs.Trees.{Event as TreeEvent};
     ghost use Rattle.exi_documents.specs.Values.{most_entries};

@@ -115,7 +115,7 @@ pub enum Root {
 
 /// What a reader or a writer asks of a schema, in whatever form the schema is kept.
 pub trait Places {
-    ghost use Rattle.std.specs.Prelude.{◌≡◌, ℕ, ◌<◌, ◌≤◌, ◌^◌, ◌↔◌, Some, None, IfSome, slice_get, length};
+    ghost use Rattle.std.specs.Prelude.{◌≡◌, ℕ, ◌<◌, ◌^◌, Some, None, IfSome, slice_get, length};
     ghost use Rattle.exi_schema.specs.declared.places.Step.{Step as SchemaStep};
     ghost use Rattle.exi_schema.specs.Offers.{IsPlace, IsWidth, offers};
     ghost use Rattle.exi_schema.specs.Schemas.{PlainSchema};

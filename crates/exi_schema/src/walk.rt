@@ -1,6 +1,6 @@
 //! Walks over the parts of a kind.
 
-ghost use Rattle.std.specs.Prelude.{◌↔◌, IsTrue, ◌≡◌, ◌<◌, ◌≤◌, ◌^◌, length, drop, Some, slice_get, All};
+ghost use Rattle.std.specs.Prelude.{◌↔◌, IsTrue, ◌≡◌, ◌<◌, ◌≤◌, length, drop, Some, slice_get, All};
 ghost use Rattle.std.specs.List.{list_any};
 ghost use Rattle.exi_schema.specs.Counts.{element_total, root_numbered};
 ghost use Rattle.exi_schema.specs.Plain.{plain_particle, plain_particles};

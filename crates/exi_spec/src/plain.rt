@@ -1,6 +1,6 @@
 //! A plain reader of an Unsigned Integer, over a list of bits.
 
-ghost use Rattle.std.specs.Prelude.{◌≡◌, ◌≤◌, ◌<◌, ◌^◌, length, take, MatchResult};
+ghost use Rattle.std.specs.Prelude.{◌≡◌, ◌≤◌, ◌<◌, length, take, MatchResult};
 ghost use Rattle.exi_spec.specs.Bits.{number_of};
 ghost use Rattle.exi_spec.specs.Items.{SpellsUnsigned, RefusesUnsigned, SpellsOctets, RefusesOctets};
 

@@ -1,6 +1,6 @@
 //! Strings, written with the string table (7.1.10, 7.3.3).
 
-ghost use Rattle.std.specs.Prelude.{◌≡◌, ◌+◌, ◌<◌, ◌≤◌, ◌^◌, ◌==◌, if◌then◌else◌, ◌++◌, [], ◌∷◌, ◌↔◌, IsTrue, length, MatchOption, OnOk, OnErr, IfOk, IfErr};
+ghost use Rattle.std.specs.Prelude.{◌≡◌, ◌+◌, ◌<◌, ◌^◌, ◌==◌, if◌then◌else◌, ◌++◌, [], ◌∷◌, ◌↔◌, IsTrue, length, MatchOption, OnOk, OnErr, IfOk, IfErr};
 ghost use Rattle.std.specs.List.{AllByRecursion};
 ghost use Rattle.std.specs.Char.{IsScalar};
 ghost use Rattle.exi_spec.specs.Items.{shortest_unsigned, shortest_chars};

@@ -1,7 +1,6 @@
 //! ChargeParameterDiscovery, as it is written of words (ISO 15118-2:2014, 8.4.3.8).
 
-ghost use Rattle.std.specs.Prelude.{◌≡◌, ◌≤◌, map, All, IfSome};
-ghost use Rattle.iso_values.specs.Physical.{power_of as power_as};
+ghost use Rattle.std.specs.Prelude.{◌≡◌, ◌≤◌, IfSome};
 ghost use Rattle.iso_word_messages.specs.ParameterMessages as rule;
 ghost use Rattle.iso_word_messages.specs.Spellable.{CanCarLimits, CanPostLimits, CanTuple, CanTuples, IsSomeWatts, IsTupleNumber};
 

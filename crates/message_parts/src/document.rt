@@ -1,6 +1,6 @@
 //! Whole documents.
 
-ghost use Rattle.std.specs.Prelude.{◌≡◌, ℕ, Bool, None, OnOk, OnErr, ◌*◌, ◌<◌, ◌≤◌, ◌↔◌, ◌∷◌, [], List, true, length, take, IfOk, IfErr, IsErr};
+ghost use Rattle.std.specs.Prelude.{◌≡◌, ℕ, Bool, None, OnOk, OnErr, ◌*◌, ◌<◌, ◌≤◌, ◌↔◌, [], List, true, length, take, IfOk, IfErr, IsErr};
 ghost use Rattle.exi_spec.specs.Bits.{bits_of};
 ghost use Rattle.exi_schema.specs.Schemas.{PlainSchema};
 ghost use Rattle.exi_documents.specs.Documents.{IsDocument, IsEncoding};

@@ -1,6 +1,6 @@
 //! The elements of a message, put one after the other.
 
-ghost use Rattle.std.specs.Prelude.{◌≡◌, ℕ, ◌∷◌, List, Some, map};
+ghost use Rattle.std.specs.Prelude.{◌≡◌, ◌∷◌, List, Some, map};
 ghost use Rattle.exi_documents.specs.Trees.{Event as TreeEvent, Attribute, Start, Content, EndElement};
 ghost use Rattle.exi_events.specs.Writer.{IsReadyToPut, KeepsLent, IsShapedEvent};
 ghost use Rattle.exi_values.specs.Meaning.{event_of};

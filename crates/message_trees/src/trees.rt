@@ -1,6 +1,6 @@
 //! The text of a payload, and the payload of a text.
 
-ghost use Rattle.std.specs.Prelude.{ℕ, ◌≤◌, length, IfOk, IfErr};
+ghost use Rattle.std.specs.Prelude.{◌≤◌, length, IfOk, IfErr};
 ghost use Rattle.std.specs.String.{string_bytes};
 ghost use Rattle.tree_text.specs.Printing.{IsFaultOf};
 ghost use Rattle.tree_text.specs.Scans.{IsScanFault};

@@ -1,6 +1,6 @@
 //! A wire that was started.
 
-ghost use Rattle.std.specs.Prelude.{◌≡◌, ◌≤◌, ◌<◌, length, IfOk, IfSome, IsTrue};
+ghost use Rattle.std.specs.Prelude.{◌≡◌, ◌≤◌, ◌<◌, length, IfOk, IfSome};
 ghost use Rattle.charge_world.specs.Outside.{IsOfPosts, HasCount, IsPost, posts_of};
 ghost use Rattle.net_wire.specs.Posts.{posts_in};
 

@@ -1,7 +1,5 @@
 //! The codecs.
 
-ghost use Rattle.std.specs.Prelude.{◌≡◌, IfOk};
-
 use crate::judged::plain_judged;
 use crate::writer::Writer;
 use charge_codecs::{ChargeCodecs, PAYLOAD};

@@ -1,6 +1,6 @@
 //! Whether the declarations of DIN SPEC 70121:2014 can spell a reply.
 
-ghost use Rattle.std.specs.Prelude.{◌≡◌, ◌≤◌, ◌<◌, ◌↔◌, All, IsTrue, IfSome, length};
+ghost use Rattle.std.specs.Prelude.{◌≡◌, ◌↔◌, All, IsTrue, IfSome};
 ghost use Rattle.din_values.specs.Codes as codes;
 ghost use Rattle.din_values.specs.Modes as modes;
 ghost use Rattle.din_values.specs.States as states;

@@ -1,6 +1,6 @@
 //! Whether the declarations of ISO 15118-2:2014 can spell a reply.
 
-ghost use Rattle.std.specs.Prelude.{◌≡◌, ◌≤◌, ◌<◌, ◌↔◌, All, IsTrue, IfSome, length};
+ghost use Rattle.std.specs.Prelude.{◌≡◌, ◌<◌, ◌↔◌, All, IsTrue, IfSome};
 ghost use Rattle.iso_values.specs.Codes as codes;
 ghost use Rattle.iso_values.specs.Modes as modes;
 ghost use Rattle.session_words.specs.declared.word.Word.TheVariants as word;

@@ -1,6 +1,6 @@
 //! What types bound. These functions do nothing but read a value: their contracts are what is known then.
 
-ghost use Rattle.std.specs.Prelude.{◌≡◌, ◌≤◌, ◌<◌, length, All};
+ghost use Rattle.std.specs.Prelude.{◌≤◌, ◌<◌, length, All};
 ghost use Rattle.document_laws.specs.Laws.{AreBytes};
 
 use session_words::SessionId;

@@ -1,9 +1,8 @@
 //! Whether entries are a run.
 
-ghost use Rattle.std.specs.Prelude.{◌≡◌, ◌≤◌, ◌<◌, ◌+◌, ℕ, List, ◌∷◌, IfOk, IfErr, OnOk, MatchOption, IsTrue, ◌↔◌, length, take};
+ghost use Rattle.std.specs.Prelude.{◌≤◌, List, ◌∷◌, IfOk, IfErr, OnOk, MatchOption, IsTrue, ◌↔◌, length};
 ghost use Rattle.charge_world.specs.declared.entry.Entry.{Entry};
 ghost use Rattle.charge_world.specs.declared.entry.Entry.TheVariants as entry;
-ghost use Rattle.charge_world.specs.declared.ports.Order.TheVariants as order;
 ghost use Rattle.session_words.specs.Plans.{IsSitePlan};
 ghost use Rattle.post_spec.specs.Codecs.{codecs};
 ghost use Rattle.post_spec.specs.Spelled.{AreDetermined};

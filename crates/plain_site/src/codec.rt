@@ -1,10 +1,10 @@
 //! What a site takes from below: what a payload is judged as, and which payload a reply is sent as.
 
-ghost use Rattle.std.specs.Prelude.{◌≡◌, ℕ, List, Option, IfOk};
+ghost use Rattle.std.specs.Prelude.{ℕ, List, Option, IfOk};
 ghost use Rattle.charge_world.specs.declared.offer.Dialect.{Dialect};
 ghost use Rattle.session_words.specs.declared.word.Reply.{Reply};
 ghost use Rattle.session_words.specs.declared.word.Word.{Word};
-ghost use Rattle.post_spec.specs.Codecs.{codecs, judged_word, Judges};
+ghost use Rattle.post_spec.specs.Codecs.{codecs, Judges};
 ghost use Rattle.post_spec.specs.Codecs as coded;
 ghost use Rattle.plain_site.specs.Finding.{Finds, FindsBytes, IsRead};
 ghost use Rattle.plain_station.specs.Wanted.{payload_of};

@@ -1,7 +1,6 @@
 //! The posts of a site.
 
-ghost use Rattle.std.specs.Prelude.{◌≡◌, ℕ, List, IfOk, IsTrue, ◌↔◌, MatchOption, map, ◌≤◌, ◌+◌, length};
-ghost use Rattle.post_spec.specs.Steps.{event_at};
+ghost use Rattle.std.specs.Prelude.{◌≡◌, IfOk, IsTrue, ◌↔◌, MatchOption, map};
 ghost use Rattle.plain_station.specs.Views.{event_of};
 ghost use Rattle.plain_site.specs.Seats as seats;
 

@@ -1,10 +1,9 @@
 //! A site, entry by entry.
 
-ghost use Rattle.std.specs.Prelude.{◌≡◌, ◌≤◌, ◌<◌, ℕ, List, ◌∷◌, length, IfOk, IfErr, IsTrue, ◌↔◌};
+ghost use Rattle.std.specs.Prelude.{◌≡◌, ◌≤◌, ◌<◌, List, ◌∷◌, length, IfOk, IfErr, IsTrue, ◌↔◌};
 ghost use Rattle.std.specs.List.{AllByRecursion};
 ghost use Rattle.charge_world.specs.declared.entry.Entry.{Entry};
 ghost use Rattle.session_words.specs.declared.plan.SitePlan.{SitePlan};
-ghost use Rattle.session_words.specs.Plans.{IsSitePlan};
 ghost use Rattle.post_spec.specs.Codecs.{codecs};
 ghost use Rattle.post_spec.specs.Spelled.{AreDetermined};
 ghost use Rattle.station_spec.specs.Sharing.{Post};

@@ -3,14 +3,12 @@
 ghost use Rattle.std.specs.Prelude.{◌≡◌, IfOk, ◌↔◌, IsTrue};
 ghost use Rattle.plain_station.specs.Views.{judged_of};
 ghost use Rattle.post_spec.specs.Codecs.{judged_word};
-ghost use Rattle.plain_site.specs.Finding.{Finds, FindsBytes, IsRead};
 ghost use Rattle.plain_site.specs.Tables as lines;
 
 use crate::NoMemory;
 use crate::codec::Codec;
 use crate::hearing::copied;
 use charge_world::{Dialect, Piece};
-use copied_requests::copied_request;
 use plain_station::Judged;
 use session_words::{Reply, Word};
 use std::alloc::Global;
@@ -82,7 +80,7 @@ fn copied_judged(alloc: Global, judged: &Judged) -> Result<Judged, NoMemory>
             chosen: *chosen,
             response: copied(alloc, response.bytes())?,
         }),
-        Judged::Asked(request) => Ok(Judged::Asked(copied_request(request))),
+        Judged::Asked(request) => Ok(Judged::Asked(request.copied())),
         Judged::WrongSide => Ok(Judged::WrongSide),
         Judged::Refused => Ok(Judged::Refused),
     }
@@ -94,7 +92,7 @@ pub fn judged_as(word: &Option<Word>) -> Judged
 {
     match word {
         None => Judged::Refused,
-        Some(Word::Request(request)) => Judged::Asked(copied_request(request)),
+        Some(Word::Request(request)) => Judged::Asked(request.copied()),
         Some(Word::Reply(_)) | Some(Word::Nothing) => Judged::WrongSide,
     }
 }

@@ -1,14 +1,10 @@
 //! A post.
 
-ghost use Rattle.std.specs.Prelude.{◌≡◌, IfOk, if◌then◌else◌};
-ghost use Rattle.std.specs.Option.{option_map};
-ghost use Rattle.session_words.specs.Plans.{IsPostPlan};
-ghost use Rattle.session_rules.specs.Moves.{stage_behind as stage_after};
+ghost use Rattle.std.specs.Prelude.{◌≡◌};
 ghost use Rattle.post_spec.specs.Discovery.{answer_of, is_request_of};
-ghost use Rattle.station_spec.specs.States.{State, first_facts, fresh, first};
+ghost use Rattle.station_spec.specs.States.{State, first_facts, fresh};
 ghost use Rattle.station_spec.specs.Deciding as deciding;
-ghost use Rattle.station_spec.specs.Judging as judging;
-ghost use Rattle.plain_station.specs.Views.{event_of, act_of, judged_of, reading_of, todo_of};
+ghost use Rattle.plain_station.specs.Views.{event_of};
 
 use crate::NoMemory;
 use crate::agenda::{Agenda, Spoken, Todo, opening_if};

@@ -1,11 +1,11 @@
 //! The session of a post.
 
-ghost use Rattle.std.specs.Prelude.{◌≡◌, ◌++◌, OnOk, Ok, Some, None, List, ℕ, drop, vec_len, ◌≤◌, ◌+◌};
-ghost use Rattle.v2gtp_frames.specs.Reading.{whole_at, payload_at, behind_front};
+ghost use Rattle.std.specs.Prelude.{◌≡◌, OnOk, Some};
+ghost use Rattle.v2gtp_frames.specs.Reading.{whole_at, behind_front};
 ghost use Rattle.session_timers.specs.Law.{span_of as span};
 ghost use Rattle.session_rules.specs.Stages.{is_waiting};
 ghost use Rattle.station_spec.specs.States.{first_session};
-ghost use Rattle.station_spec.specs.Deciding.{due, is_reached, fronting_by};
+ghost use Rattle.station_spec.specs.Deciding.{due, is_reached};
 ghost use Rattle.station_spec.specs.Hearing.{with_bytes};
 ghost use Rattle.station_spec.specs.Acting.{replied};
 

@@ -1,6 +1,6 @@
 //! The keys of a table, read one after another.
 
-ghost use Rattle.std.specs.Prelude.{◌≡◌, ◌≤◌, IsTrue, IsSome, IfSome, OnOk, Some, None, option_map, map, length, string_bytes, true};
+ghost use Rattle.std.specs.Prelude.{◌≡◌, ◌≤◌, IsTrue, IsSome, IfSome, Some, None, option_map, map, length, string_bytes, true};
 ghost use Rattle.std.specs.BTreeMap.{IsOrdered};
 ghost use Rattle.std.specs.Result.{result_unwrap_or, result_err};
 ghost use Rattle.std.specs.String.{string_cmp};

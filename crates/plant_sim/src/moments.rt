@@ -1,6 +1,6 @@
 //! The moments at which events come.
 
-ghost use Rattle.std.specs.Prelude.{◌≡◌, ℕ, ◌+◌, ◌<◌, Option, IfSome, IfNone};
+ghost use Rattle.std.specs.Prelude.{◌≡◌, ◌+◌, ◌<◌, IfSome, IfNone};
 ghost use Rattle.plant_sim.specs.Charger.{later, IsFirst, NothingComes};
 ghost use Rattle.plant_sim.specs.Search.{FoundBelow};
 

@@ -1,7 +1,6 @@
 //! The lines that a replay prints.
 
-ghost use Rattle.std.specs.Prelude.{◌≡◌, ◌+◌, ◌≤◌, ◌++◌, length, min, codes, decimal};
-ghost use Rattle.station_command.specs.Refused.{key_of};
+ghost use Rattle.std.specs.Prelude.{◌≡◌, ◌+◌, ◌≤◌, length, min};
 ghost use Rattle.station_command.specs.Served.{sink_told};
 ghost use Rattle.replay_command.specs.Lines.{replay_line, Prints, Concludes, Refuses};
 

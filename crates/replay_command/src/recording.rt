@@ -1,6 +1,6 @@
 //! The plan and the trace of a replay.
 
-ghost use Rattle.std.specs.Prelude.{◌≡◌, ◌≤◌, ℕ, List, length, IfOk, IfErr, MatchResult};
+ghost use Rattle.std.specs.Prelude.{◌≡◌, ℕ, List, length, IfOk, IfErr, MatchResult};
 ghost use Rattle.session_words.specs.Plans.{IsSitePlan};
 ghost use Rattle.replay_wire.specs.Replays.{AllCanBeHeard};
 ghost use Rattle.plan_files.specs.FileTexts.{CountsFault};

@@ -1,9 +1,8 @@
 //! Places in a trace.
 
-ghost use Rattle.std.specs.Prelude.{◌≡◌, ◌≤◌, ◌<◌, ℕ, List, [], ◌∷◌, true, drop, take, length, IfOk, OnErr};
-ghost use Rattle.charge_world.specs.declared.entry.Entry.{Entry};
+ghost use Rattle.std.specs.Prelude.{◌≡◌, ◌≤◌, ℕ, true, drop, take, length, IfOk, OnErr};
 ghost use Rattle.charge_world.specs.declared.entry.Entry.TheVariants as variant;
-ghost use Rattle.charge_world.specs.Outside.{bytes_of, IsOfPosts, HasCount, posts_of};
+ghost use Rattle.charge_world.specs.Outside.{bytes_of, posts_of};
 ghost use Rattle.trace_text.specs.TraceText.{taken_of};
 ghost use Rattle.trace_text.specs.Pasts.{is_hearing};
 ghost use Rattle.replay_wire.specs.Replays.{from_hearing, behind_call, outcome_of, last_moment, CanBeHeard};

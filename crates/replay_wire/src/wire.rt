@@ -1,6 +1,6 @@
 //! The wire.
 
-ghost use Rattle.std.specs.Prelude.{◌≡◌, ◌↔◌, ◌+◌, ◌<◌, ◌≤◌, ℕ, List, [], ◌∷◌, length, take, drop, Option, Some, None, IsSome, IsOk, IfOk, OnOk, OnErr, true, false, is_ok};
+ghost use Rattle.std.specs.Prelude.{◌≡◌, ◌↔◌, ◌<◌, List, [], length, drop, Some, None, IsSome, IsOk, IfOk, OnOk, OnErr, true, is_ok};
 ghost use Rattle.charge_world.specs.declared.entry.Entry.{Entry};
 ghost use Rattle.charge_world.specs.declared.entry.Entry.TheVariants as variant;
 ghost use Rattle.charge_world.specs.Outside.{Grows, posts_of, IsFault, bytes_of, IsOfPosts, HasCount};

@@ -1,8 +1,8 @@
 //! The V2GTP frame of a discovery message (ISO 15118-2:2014, section 7.8.3).
 
-ghost use Rattle.std.specs.Prelude.{◌≡◌, ◌+◌, ◌≤◌, ◌<◌, ◌++◌, length, drop, slice_index, IfOk, IfErr, IsTrue, ◌↔◌};
+ghost use Rattle.std.specs.Prelude.{◌≡◌, ◌+◌, ◌≤◌, ◌<◌, ◌++◌, length, drop, IfOk, IfErr};
 ghost use Rattle.v2gtp_frames.specs.Header.{header};
-ghost use Rattle.sdp_discovery.specs.Discovery.{security, tcp, HasLength, IsFault, HasSecurity, security_of, transport_of};
+ghost use Rattle.sdp_discovery.specs.Discovery.{security, tcp, HasLength, IsFault, security_of, transport_of};
 
 use crate::fault::SdpFault;
 use byteorder::{BigEndian, ByteOrder};

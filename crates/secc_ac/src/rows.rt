@@ -1,6 +1,6 @@
 //! The rows, each a type of its own. Contracts see the stage of the session.
 
-ghost use Rattle.std.specs.Prelude.{◌≡◌, ◌≢◌, true, false, Some, None, IfSome, if◌then◌else◌};
+ghost use Rattle.std.specs.Prelude.{◌≡◌, ◌≢◌, true, false, Some, None, IfSome};
 ghost use Rattle.charge_world.specs.declared.ports.Order.TheVariants as order;
 ghost use Rattle.session_words.specs.Plans.{IsPostPlan};
 ghost use Rattle.session_words.specs.declared.phase.Phase.TheVariants as row;

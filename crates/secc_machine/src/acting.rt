@@ -1,9 +1,8 @@
 //! What a post keeps behind a hearing, and behind what was done.
 
-ghost use Rattle.std.specs.Prelude.{◌≡◌, ◌≤◌, List, ℕ, Option, true, false, length};
+ghost use Rattle.std.specs.Prelude.{◌≡◌, ◌≤◌, List, ℕ, Option, length};
 ghost use Rattle.std.specs.Option.{option_map};
 ghost use Rattle.contactor.specs.Calls.{standing_heard};
-ghost use Rattle.post_spec.specs.Sessions.{brought};
 ghost use Rattle.post_spec.specs.Steps.{Act};
 ghost use Rattle.station_spec.specs.States.{Session};
 ghost use Rattle.station_spec.specs.Acting as acting;

@@ -7,7 +7,7 @@ ghost use Rattle.session_rules.specs.Causes.{found_by, word_cause};
 ghost use Rattle.session_rules.specs.Moves.{stage_behind as stage_after, facts_behind as facts_after};
 ghost use Rattle.session_rules.specs.Verdict.{verdict};
 ghost use Rattle.post_spec.specs.Codecs.{Asked};
-ghost use Rattle.station_spec.specs.States.{Session, State, Said, Wording};
+ghost use Rattle.station_spec.specs.States.{Session, Said, Wording};
 ghost use Rattle.station_spec.specs.Judging as judging;
 ghost use Rattle.station_spec.specs.Sharing.{Post as SitePost, Shows};
 ghost use Rattle.secc_machine.specs.Views.{spoken_of, judged_of, asks_in, rejected, with_unread, IsShownFor};

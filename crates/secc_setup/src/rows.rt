@@ -1,6 +1,6 @@
 //! The rows, each a type of its own. Contracts see the stage of the session.
 
-ghost use Rattle.std.specs.Prelude.{◌≡◌, ℕ, false, if◌then◌else◌};
+ghost use Rattle.std.specs.Prelude.{◌≡◌, ℕ, if◌then◌else◌};
 ghost use Rattle.session_words.specs.Plans.{IsPostPlan};
 ghost use Rattle.session_words.specs.declared.plan.PostPlan.{PostPlan as Plan};
 ghost use Rattle.session_rules.specs.Moves.{stage_behind};

@@ -1,6 +1,6 @@
 //! What a post asks for, and which replies tell watts.
 
-ghost use Rattle.std.specs.Prelude.{◌≡◌, ◌≤◌, min};
+ghost use Rattle.std.specs.Prelude.{◌≡◌, ◌≤◌};
 ghost use Rattle.session_rules.specs.Asks as rule;
 
 use session_words::{Ask, CarLimits, PostPlan, ac_watts, dc_watts};

@@ -1,6 +1,6 @@
 //! What a session keeps behind a request.
 
-ghost use Rattle.std.specs.Prelude.{◌≡◌, IsTrue, true};
+ghost use Rattle.std.specs.Prelude.{◌≡◌};
 ghost use Rattle.session_rules.specs.Moves as rule;
 
 use crate::asking::shows_watts;

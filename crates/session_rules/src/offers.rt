@@ -1,7 +1,6 @@
 //! What a post can give, as its replies tell it.
 
-ghost use Rattle.std.specs.Prelude.{◌≡◌, ◌*◌, ◌^◌, ℕ};
-ghost use Rattle.session_words.specs.Amounts.{IsWrittenWatts};
+ghost use Rattle.std.specs.Prelude.{◌≡◌};
 ghost use Rattle.session_words.specs.Plans.{IsPostPlan};
 ghost use Rattle.session_rules.specs.Offers as rule;
 

@@ -1,6 +1,6 @@
 //! The deadline that runs.
 
-ghost use Rattle.std.specs.Prelude.{◌≡◌, Bool, true, false, ℕ, List, [], ◌∷◌, Option, Some, None};
+ghost use Rattle.std.specs.Prelude.{◌≡◌, true, false, List, [], ◌∷◌, Some, None};
 ghost use Rattle.session_timers.specs.Due.{Call, came, set_up, replied, closing, stop, Moments, moments_of, due_of, capped, hit_of, next_of};
 
 use session_words::Timeout;

@@ -80,6 +80,60 @@ impl Default for PostPlan {
     }
 }
 
+impl PostPlan {
+    /// The same plan once more.
+    pub fn copied(&self) -> PostPlan
+        ensures { result ≡ self.now }
+    {
+        PostPlan {
+            tcp: self.tcp,
+            sdp: self.sdp,
+            mode: self.mode,
+            dialects: copied_dialects(&self.dialects),
+            evse_id: self.evse_id.copied(),
+            evse_id_din: ArrayVec::try_from(self.evse_id_din.as_slice()).unwrap(),
+            free: self.free,
+            max_watts: self.max_watts,
+            max_voltage: self.max_voltage,
+            min_voltage: self.min_voltage,
+            max_current: self.max_current,
+            min_current: self.min_current,
+            ripple: self.ripple,
+            nominal: self.nominal,
+        }
+    }
+}
+
+impl SitePlan {
+    /// The same plan once more.
+    pub fn copied(&self) -> SitePlan
+        ensures { result ≡ self.now }
+    {
+        SitePlan {
+            limit: self.limit,
+            turns: self.turns,
+            sessions: self.sessions,
+            post: copied_posts(&self.post),
+        }
+    }
+}
+
+fn copied_posts(plans: &ArrayVec<PostPlan, 8>) -> ArrayVec<PostPlan, 8>
+    ensures { result ≡ plans.now }
+{
+    let mut copies = ArrayVec::new();
+    for plan in plans.as_slice() {
+        copies.push(plan.copied());
+    }
+    copies
+}
+
+fn copied_dialects(dialects: &ArrayVec<Dialect, 2>) -> ArrayVec<Dialect, 2>
+    ensures { result ≡ dialects.now }
+{
+    ArrayVec::try_from(dialects.as_slice()).unwrap()
+}
+
 /// How a car ends its session (ChargingSession of ISO 15118-2:2014).
 #[derive(Clone, Copy, Debug, Default, PartialEq, Eq)]
 pub enum Stop {
@@ -129,4 +183,32 @@ pub struct CarPlan {
     pub stop: Stop,
     /// The session that it names in SessionSetup, to come back to it; without bytes where there is none.
     pub session: SessionId,
+}
+
+impl CarPlan {
+    /// The same plan once more.
+    pub fn copied(&self) -> CarPlan
+        ensures { result ≡ self.now }
+    {
+        CarPlan {
+            tcp: self.tcp,
+            sdp: self.sdp,
+            turns: self.turns,
+            mode: self.mode,
+            dialects: copied_dialects(&self.dialects),
+            car_id: self.car_id,
+            soc: self.soc,
+            target_voltage: self.target_voltage,
+            target_current: self.target_current,
+            max_voltage: self.max_voltage,
+            max_current: self.max_current,
+            min_current: self.min_current,
+            max_watts: self.max_watts,
+            cycles: self.cycles,
+            welding: self.welding,
+            pace: self.pace,
+            stop: self.stop,
+            session: self.session.copied(),
+        }
+    }
 }

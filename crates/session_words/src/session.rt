@@ -1,7 +1,6 @@
 //! What names a session.
 
-ghost use Rattle.std.specs.Prelude.{◌≡◌, ◌==◌, ◌↔◌, IsTrue, replicate, if◌then◌else◌};
-ghost use Rattle.std.specs.Int.{to_be_bytes, w64};
+ghost use Rattle.std.specs.Prelude.{◌≡◌, ◌↔◌, IsTrue, replicate};
 ghost use Rattle.session_words.specs.Sessions.{token_bytes};
 
 use arrayvec::ArrayVec;

@@ -1,5 +1,7 @@
 //! The messages of a session, the same for both dialects: what a car asks and what a post tells.
 
+ghost use Rattle.std.specs.Prelude.{◌≡◌};
+
 use crate::amount::Amount;
 use crate::code::{Code, Notify, Processing, Progress};
 use crate::limits::{CarLimits, DcStatus, EvseId, PostLimits, PostStatus, Tuple};
@@ -87,6 +89,83 @@ pub enum Ask {
     SessionStop {
         pause: bool,
     },
+}
+
+impl Request {
+    /// The same request once more.
+    pub fn copied(&self) -> Request
+        ensures { result ≡ self.now }
+    {
+        Request {
+            session: self.session.copied(),
+            ask: self.ask.copied(),
+        }
+    }
+}
+
+impl Ask {
+    /// The same once more.
+    fn copied(&self) -> Ask
+        ensures { result ≡ self.now }
+    {
+        match self {
+            Ask::SessionSetup { car } => Ask::SessionSetup {
+                car: ArrayVec::try_from(car.as_slice()).unwrap(),
+            },
+            Ask::ServiceDiscovery => Ask::ServiceDiscovery,
+            Ask::ServiceDetail { service } => Ask::ServiceDetail { service: *service },
+            Ask::PaymentSelection { external, services } => Ask::PaymentSelection {
+                external: *external,
+                services: ArrayVec::try_from(services.as_slice()).unwrap(),
+            },
+            Ask::Authorization => Ask::Authorization,
+            Ask::ChargeParameters { mode, limits } => Ask::ChargeParameters {
+                mode: *mode,
+                limits: *limits,
+            },
+            Ask::CableCheck { ready, soc } => Ask::CableCheck {
+                ready: *ready,
+                soc: *soc,
+            },
+            Ask::PreCharge {
+                ready,
+                soc,
+                voltage,
+                current,
+            } => Ask::PreCharge {
+                ready: *ready,
+                soc: *soc,
+                voltage: *voltage,
+                current: *current,
+            },
+            Ask::PowerDelivery {
+                progress,
+                tuple,
+                profile,
+            } => Ask::PowerDelivery {
+                progress: *progress,
+                tuple: *tuple,
+                profile: *profile,
+            },
+            Ask::CurrentDemand {
+                ready,
+                soc,
+                voltage,
+                current,
+            } => Ask::CurrentDemand {
+                ready: *ready,
+                soc: *soc,
+                voltage: *voltage,
+                current: *current,
+            },
+            Ask::ChargingStatus => Ask::ChargingStatus,
+            Ask::WeldingDetection { ready, soc } => Ask::WeldingDetection {
+                ready: *ready,
+                soc: *soc,
+            },
+            Ask::SessionStop { pause } => Ask::SessionStop { pause: *pause },
+        }
+    }
 }
 
 /// What a reply tells, beside its code.

@@ -1,16 +1,16 @@
 //! What a post does next, on the wire and in the trace.
 
-ghost use Rattle.std.specs.Prelude.{◌≡◌, ◌≤◌, ◌<◌, ◌+◌, ℕ, List, Bool, length, true, false, Ok, OnOk, OnErr, IsErr, IsSome, All};
+ghost use Rattle.std.specs.Prelude.{◌≡◌, ◌≤◌, ◌<◌, ◌+◌, length, true, false, Ok, OnOk, OnErr, IsErr, IsSome, All};
 ghost use Rattle.std.specs.List.{AllWithin};
 ghost use Rattle.charge_world.specs.Outside.{GrowsByOne, IsFault, Appends, AppendsSome};
 ghost use Rattle.session_words.specs.declared.plan.SitePlan.{SitePlan};
 ghost use Rattle.trace_text.specs.TraceText.{IsPost, numbered_line_of};
 ghost use Rattle.post_spec.specs.Codecs.{codecs};
 ghost use Rattle.station_spec.specs.Runs.{entry_of};
-ghost use Rattle.site_posts.specs.Places.{RestsAt, done_place};
+ghost use Rattle.site_posts.specs.Places.{RestsAt};
 ghost use Rattle.site_posts.specs.Filling.{at};
 ghost use Rattle.site_posts.specs.Work.{work};
-ghost use Rattle.site_acts.specs.Deeds.{act_of, IsFramed, MayTake, Nexts, Done};
+ghost use Rattle.site_acts.specs.Deeds.{act_of, IsFramed, MayTake, Nexts};
 ghost use Rattle.site_acts.specs.Serving.{IsReady, InBlock, Known};
 ghost use Rattle.site_acts.specs.Telling.{Carries, CarriesText, IsTraced, IsWrittenSo};
 

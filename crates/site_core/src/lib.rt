@@ -6,7 +6,6 @@
 //! `until` the least due moment (`AreUntils`), and `report` counts it; it ends within the plan's turns and takes no memory.
 #![tactic(auto)]
 
-mod copying;
 mod serving;
 mod site;
 

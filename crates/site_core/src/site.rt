@@ -1,6 +1,6 @@
 //! A site in memory.
 
-ghost use Rattle.std.specs.Prelude.{◌≡◌, ◌≤◌, ◌-◌, IfOk, length, vec_len};
+ghost use Rattle.std.specs.Prelude.{◌≡◌, ◌≤◌, ◌-◌, IfOk, vec_len};
 ghost use Rattle.session_words.specs.Plans.{IsSitePlan, IsPostPlan};
 ghost use Rattle.station_spec.specs.Runs.{unheard};
 ghost use Rattle.word_codec.specs.Replies.{IsPlan};
@@ -8,7 +8,6 @@ ghost use Rattle.site_posts.specs.Filling.{at};
 ghost use Rattle.site_posts.specs.Places.{place_of};
 ghost use Rattle.site_turns.specs.Ending.{AreMadeOf};
 
-use crate::copying::copied;
 use bitflags::Flags;
 use secc_machine::Post;
 use session_words::{PostPlan, SitePlan};
@@ -48,7 +47,7 @@ fn place_made(alloc: Global, plan: &PostPlan) -> Result<Place, NoMemory>
     bound_plan(plan);
     let post = Post::make(alloc)?;
     Ok(Place {
-        plan: copied(plan),
+        plan: plan.copied(),
         post,
         report: PostReport {
             sessions: 0,

@@ -1,9 +1,8 @@
 //! What a post decides, with the word that it reads for it.
 
-ghost use Rattle.std.specs.Prelude.{◌≡◌, ◌≤◌, ◌<◌, length, slice_set, Option, Some};
+ghost use Rattle.std.specs.Prelude.{◌≡◌, ◌≤◌, ◌<◌, length, Some};
 ghost use Rattle.std.specs.Option.{option_map};
 ghost use Rattle.post_spec.specs.Codecs.{codecs};
-ghost use Rattle.station_spec.specs.Deciding.{decided};
 ghost use Rattle.station_spec.specs.Judging.{wanted};
 ghost use Rattle.secc_machine.specs.Views.{judged_of, asks_in, IsShownFor};
 ghost use Rattle.word_codec.specs.Replies.{IsPlan};

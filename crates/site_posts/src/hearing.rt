@@ -1,6 +1,6 @@
 //! What a hearing is for each post, and until when they wait for the next.
 
-ghost use Rattle.std.specs.Prelude.{◌≡◌, ◌≤◌, ◌<◌, ℕ, List, length, All, min, fold, map};
+ghost use Rattle.std.specs.Prelude.{◌≡◌, ◌≤◌, ℕ, List, length, All, min, fold, map};
 ghost use Rattle.session_timers.specs.Due.{never};
 ghost use Rattle.post_spec.specs.Steps.{event_at as event_for};
 ghost use Rattle.secc_machine.specs.Resting.{IsReadOut};

@@ -1,9 +1,8 @@
 //! How the posts share the site's watts.
 
-ghost use Rattle.std.specs.Prelude.{◌≡◌, ◌≤◌, ◌<◌, ◌+◌, ◌++◌, ◌∷◌, ◌*◌, ℕ, length, map, take, drop};
+ghost use Rattle.std.specs.Prelude.{◌≡◌, ◌≤◌, ◌<◌, ◌*◌, length};
 ghost use Rattle.std.specs.List.{sum_by};
-ghost use Rattle.power_share.specs.Sharing.{IsLevel};
-ghost use Rattle.site_posts.specs.Places.{asked_at, told_at, Shares as IsShared, AsksOf};
+ghost use Rattle.site_posts.specs.Places.{told_at, Shares as IsShared, AsksOf};
 
 use crate::place::Place;
 use power_share::Shares;

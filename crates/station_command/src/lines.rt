@@ -1,6 +1,6 @@
 //! The lines that a station prints.
 
-ghost use Rattle.std.specs.Prelude.{◌≡◌, ◌+◌, ◌≤◌, ◌<◌, ◌++◌, length, codes, decimal, OnOk, OnErr, vec_len};
+ghost use Rattle.std.specs.Prelude.{◌≡◌, ◌+◌, ◌≤◌, ◌++◌, OnOk, OnErr, vec_len};
 ghost use Rattle.arrayvec.specs.ArrayVec.{array_vec_len};
 ghost use Rattle.charge_world.specs.Outside.{Appends, AppendsSome, IsFault};
 ghost use Rattle.station_command.specs.Lines.{hex8, report_line, report_lines, reports_of, Concludes};

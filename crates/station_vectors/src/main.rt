@@ -12,7 +12,6 @@ mod changes;
 mod counts;
 mod places;
 mod plain;
-mod plans;
 mod recorded;
 mod replays;
 

@@ -9,7 +9,6 @@ ghost use Rattle.session_words.specs.Plans.{IsSitePlan};
 use crate::changes::{Change, changed};
 use crate::counts::{Counts, count};
 use crate::places::places_of;
-use crate::plans::copied_plan;
 use crate::recorded::Run;
 use anyhow::{Result, bail};
 use charge_world::Entry;
@@ -73,7 +72,7 @@ impl PlainJudge {
     fn accepts(&self, alloc: Global, run: &PlainRun, entries: &[Entry]) -> Result<bool, NoMemory>
         requires { IsSitePlan run.now.plan }
     {
-        let plan = copied_plan(&run.plan);
+        let plan = run.plan.copied();
         is_run(alloc, &self.codecs, plan, Ending::Whole, entries)
     }
 

@@ -1,6 +1,6 @@
 //! The trace of a text.
 
-ghost use Rattle.std.specs.Prelude.{◌≡◌, ◌==◌, ◌+◌, ◌≤◌, ℕ, List, length, take, IfOk, IfErr};
+ghost use Rattle.std.specs.Prelude.{◌≡◌, ◌==◌, ◌+◌, ◌≤◌, ℕ, List, length, IfOk, IfErr};
 ghost use Rattle.std.specs.List.{count_by};
 ghost use Rattle.plan_files.specs.FileTexts.{IsBeginning};
 ghost use Rattle.replay_wire.specs.Replays.{AllCanBeHeard};

@@ -3,7 +3,7 @@
 //! Proved: a trace written line by line, the line of each entry whole or a front of it where the write failed.
 #![tactic(auto)]
 
-ghost use Rattle.std.specs.Prelude.{◌≡◌, ◌<◌, ◌≤◌, ◌^◌, length, OnOk, OnErr, IsOk};
+ghost use Rattle.std.specs.Prelude.{◌≤◌, length, OnOk, OnErr};
 ghost use Rattle.charge_world.specs.Outside.{IsFault, Appends, AppendsSome};
 ghost use Rattle.trace_text.specs.Noted.{entry_of};
 ghost use Rattle.trace_text.specs.Pasts.{first_line_2};

@@ -1,11 +1,11 @@
 //! Lines as entries.
 #![tactic(auto, using(text_tokens::proofs::Digits::length_hex, std::proofs::lemmas::Fmt::decimal_digit))]
 
-ghost use Rattle.std.specs.Prelude.{◌≡◌, ◌≢◌, ◌^◌, ◌<◌, ◌≤◌, ◌⊎◌, ◌↔◌, ℕ, List, [], ◌∷◌, length, codes, decimal, IsTrue, IfOk, IfErr, MatchResult};
+ghost use Rattle.std.specs.Prelude.{◌≡◌, ◌^◌, ◌<◌, ◌≤◌, ◌⊎◌, ◌↔◌, ℕ, ◌∷◌, decimal, IsTrue, IfOk, IfErr};
 ghost use Rattle.hex.specs.Hex.{encode_lower};
 ghost use Rattle.charge_world.specs.declared.entry.Entry.{Entry};
 ghost use Rattle.text_tokens.specs.Words.{Reads, Gives};
-ghost use Rattle.trace_text.specs.TraceText.{pilot_word, isolation_word, event_words, order_words, datagram_word, what_words, plain_words, words_of, line_of, numbered_line_of, IsPost, IsEventOfTypes, IsOrderOfTypes, IsLine, IsLine1, IsOfFormat1};
+ghost use Rattle.trace_text.specs.TraceText.{event_words, order_words, datagram_word, what_words, plain_words, words_of, line_of, numbered_line_of, IsPost, IsEventOfTypes, IsOrderOfTypes, IsLine, IsLine1, IsOfFormat1};
 ghost use Rattle.trace_text.specs.Reading.{AreSent, AreHeard, IsDatagram, IsHeard, IsRead, IsCall, IsNumbered};
 
 use charge_world::{

@@ -1,6 +1,6 @@
 //! Entries as lines.
 
-ghost use Rattle.std.specs.Prelude.{◌≡◌, ◌++◌, [], ◌∷◌, ◌<◌, ◌≤◌, length, codes, decimal, if◌then◌else◌};
+ghost use Rattle.std.specs.Prelude.{◌≡◌, ◌++◌, [], ◌∷◌, ◌<◌, ◌≤◌, codes, decimal, if◌then◌else◌};
 ghost use Rattle.arrayvec.specs.ArrayVec.{array_vec_len};
 ghost use Rattle.text_tokens.specs.Words.{texts_of, Writes};
 ghost use Rattle.trace_text.specs.TraceText.{event_words, order_words, what_words, words_of, line_of, numbered_line_of, IsWritable, IsOfFormat1};

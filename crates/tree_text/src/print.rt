@@ -1,6 +1,6 @@
 //! The text of the tree that a payload spells.
 
-ghost use Rattle.std.specs.Prelude.{◌≡◌, ℕ, ◌<◌, ◌≤◌, ◌++◌, Bool, List, length, codes, Some, slice_get, IfSome, IfOk, IfErr, OnOk};
+ghost use Rattle.std.specs.Prelude.{◌≡◌, ℕ, ◌≤◌, ◌++◌, Bool, List, length, IfSome, IfOk, IfErr, OnOk};
 ghost use Rattle.std.specs.String.{string_bytes};
 ghost use Rattle.exi_schema.specs.declared.places.Place.{Place};
 ghost use Rattle.exi_schema.specs.declared.places.Step.TheVariants.{Attribute};

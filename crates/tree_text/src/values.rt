@@ -1,13 +1,13 @@
 //! Values, put behind a text.
 
-ghost use Rattle.std.specs.Prelude.{◌≡◌, ℕ, ◌<◌, ◌++◌, Bool, true, false, List, map, codes, slice_get, slice_index, Some, OnOk};
+ghost use Rattle.std.specs.Prelude.{◌≡◌, ℕ, ◌<◌, ◌++◌, Bool, true, false, List, codes, slice_index, OnOk};
 ghost use Rattle.std.specs.Char.{IsScalar};
 ghost use Rattle.std.specs.String.{string_bytes};
 ghost use Rattle.hex.specs.Hex.{encode_lower, lower_digits};
 ghost use Rattle.exi_bits.specs.Lent.{items_of};
 ghost use Rattle.exi_schema.specs.Told.{schema_of};
 ghost use Rattle.exi_values.specs.Meaning.{IsLent, value_of};
-ghost use Rattle.tree_text.specs.TreeText.{character_text, quoted, truth_text, IsValueText, IsName, IsNamedText};
+ghost use Rattle.tree_text.specs.TreeText.{character_text, quoted, IsValueText, IsName};
 
 use charge_world::NoMemory;
 use exi_bits::BitSpan;

@@ -5,12 +5,12 @@
 //! first; `whole_frames_stay`, `words_of_a_stream`.
 #![tactic(auto)]
 
-ghost use Rattle.std.specs.Prelude.{ℕ, List, ◌≡◌, ◌≤◌, ◌++◌, ◌+◌, ◌<◌, ◌↔◌, [], length, take, drop, slice_index_or, All, Ok, Err, None, Some, IfOk, IfSome, OnOk, vec_len, vec_capacity};
+ghost use Rattle.std.specs.Prelude.{ℕ, List, ◌≡◌, ◌≤◌, ◌++◌, ◌+◌, ◌<◌, ◌↔◌, [], length, drop, slice_index_or, All, Ok, Err, None, Some, IfOk, IfSome, vec_len, vec_capacity};
 ghost use Rattle.std.specs.Borrow.{sem};
 ghost use Rattle.std.specs.Io.BufRead.{Rests};
 ghost use Rattle.v2gtp_frames.specs.Frames.{Frames, IsFault, IsRest, IsRight};
 ghost use Rattle.v2gtp_frames.specs.Header.{header};
-ghost use Rattle.v2gtp_frames.specs.Reading.{whole_at, behind, payload_at, behind_front, behind_frames, IsNext};
+ghost use Rattle.v2gtp_frames.specs.Reading.{whole_at, behind, payload_at, behind_frames, IsNext};
 
 mod splitting;
 

@@ -1,6 +1,6 @@
 //! The posts of a wire: what becomes of their connections, whose turn it is, and how long nothing is due.
 
-ghost use Rattle.std.specs.Prelude.{◌≡◌, ◌<◌, ◌≤◌, ◌↔◌, length, IsTrue, IfSome, IfNone};
+ghost use Rattle.std.specs.Prelude.{◌≡◌, ◌≤◌, ◌↔◌, length, IsTrue, IfSome, IfNone};
 ghost use Rattle.wire_events.specs.Boards.{new_board, line_of, seat_of, with_seat, with_line, ended, accepted, closed, told, IsStep, NextTurn, FirstTurn, NoneIn, NothingDue, LeastDue};
 ghost use Rattle.wire_events.specs.Seats.{raised};
 

@@ -1,6 +1,6 @@
 //! Physical values as amounts, and amounts as physical values.
 
-ghost use Rattle.std.specs.Prelude.{◌≡◌, ◌<◌, ◌≤◌, IsTrue};
+ghost use Rattle.std.specs.Prelude.{◌≡◌, ◌<◌, IsTrue};
 ghost use Rattle.session_words.specs.Amounts.{IsMultiplier};
 ghost use Rattle.word_values.specs.Amounts as amounts;
 
