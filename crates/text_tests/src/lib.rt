@@ -1,7 +1,9 @@
 //! Tests of the public calls that read and write texts: tokens, values, trees, words of the command line, traces and plans. They stand here
-//! so that the crates whose calls they are are proved once.
+//! so that the crates whose calls they are are proved once, as tables of cases, since a test is proved call by call.
 #![tactic(auto)]
 
+#[cfg(test)]
+mod cases;
 #[cfg(test)]
 mod dialects;
 #[cfg(test)]

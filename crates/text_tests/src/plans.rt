@@ -1,95 +1,47 @@
 //! What no clause says: the messages of faults, and that there is memory for a plan.
 
+use crate::cases::{Case, all_hold};
 use charge_world::Dialect;
-use site_plan::{Mode, PlanFault, Stop, car_plan_of, fixed, fixed_car, mode_name, site_plan_of};
+use site_plan::{
+    CarPlan, Mode, PlanFault, SitePlan, Stop, car_plan_of, fixed, fixed_car, mode_name,
+    site_plan_of,
+};
 use std::alloc::{AllocError, Global};
-use std::test::Fail;
 
-/// What is told of a text as a station's plan and as a car's.
-fn told(alloc: Global, text: &[u8]) -> Result<(String, String), AllocError> {
-    let station = match site_plan_of(alloc, text) {
-        Ok(_) => String::from_str(alloc, "ok")?,
-        Err(fault) => format!(in alloc; "{fault}")?,
-    };
-    let car = match car_plan_of(alloc, text) {
-        Ok(_) => String::from_str(alloc, "ok")?,
-        Err(fault) => format!(in alloc; "{fault}")?,
-    };
-    Ok((station, car))
+/// What a text is read as.
+#[derive(Clone, Copy)]
+enum Reader {
+    Station,
+    Car,
 }
 
-#[test]
-fn faults_of_stations(rt: HostRuntime) -> Result<(), Fail> {
-    let table = [
-        ("[[post]]\ntcp = 15120", "ok"),
-        ("limit =", "not a TOML document"),
-        ("limit = 0", "limit must be 1 to 8000000"),
-        ("", "post is missing, and must be 1 to 8 tables"),
-        ("post = []", "post must be 1 to 8 tables"),
-        ("[[post]]", "post.1.tcp is missing, and must be 1 to 65535"),
-        (
-            "[[post]]\ntcp = 15120\nmax_watts = 0",
-            "post.1.max_watts must be 1 to 1000000",
-        ),
-        (
-            "[[post]]\ntcp = 15120\nmode = \"DC\"",
-            "post.1.mode must be one of AC_single_phase_core, AC_three_phase_core, DC_core, DC_extended, DC_combo_core, DC_unique",
-        ),
-        (
-            "[[post]]\ntcp = 1\n[[post]]\ntcp = 2\nmode = \"DC_unique\"\ndialects = [\"din\"]",
-            "post.2.dialects must be a list of one or more of iso, each once",
-        ),
-        (
-            "[[post]]\ntcp = 15120\nevse_id = \"ZZ\"",
-            "post.1.evse_id must be 7 to 37 ASCII characters",
-        ),
-        (
-            "[[post]]\ntcp = 15120\nevse_id_din = \"0\"",
-            "post.1.evse_id_din must be 1 to 32 bytes in hexadecimal",
-        ),
-        (
-            "[[post]]\ntcp = 15120\nfree = 1",
-            "post.1.free must be true or false",
-        ),
-        (
-            "colour = 1\n[[post]]\ntcp = 15120",
-            "colour must be left out, since there is no such key",
-        ),
-    ];
-    for (text, wanted) in table {
-        let (station, _) = told(rt.alloc(), text.as_bytes())?;
-        assert_eq!(rt; station.as_str(), wanted, "{text}");
+/// A text, and what is told of it as a plan: "ok" or its fault.
+struct Plan(Reader, &'static [u8], &'static str);
+
+/// The start of a text up to whose length a comment stands behind it, and what is told of both.
+struct Long(Reader, &'static [u8], usize, &'static str);
+
+fn fault_of(alloc: Global, reader: Reader, text: &[u8]) -> Option<PlanFault> {
+    match reader {
+        Reader::Station => site_plan_of(alloc, text).err(),
+        Reader::Car => car_plan_of(alloc, text).err(),
     }
-    Ok(())
 }
 
-#[test]
-fn faults_of_cars(rt: HostRuntime) -> Result<(), Fail> {
-    let table = [
-        ("tcp = 15120", "ok"),
-        ("sdp = 15118", "ok"),
-        ("sdp = 0", "tcp is missing, and must be 1 to 65535"),
-        ("sdp = 65536", "sdp must be 0 to 65535"),
-        ("tcp = 0\nsdp = 65536", "tcp must be 1 to 65535"),
-        (
-            "tcp = 1\nstop = \"go\"",
-            "stop must be one of terminate, pause",
-        ),
-        (
-            "tcp = 1\ncar_id = \"00\"",
-            "car_id must be 6 to 6 bytes in hexadecimal",
-        ),
-    ];
-    for (text, wanted) in table {
-        let (_, car) = told(rt.alloc(), text.as_bytes())?;
-        assert_eq!(rt; car.as_str(), wanted, "{text}");
+/// Whether this is told of a text.
+fn is_told(alloc: Global, reader: Reader, text: &[u8], wanted: &str) -> bool {
+    match fault_of(alloc, reader, text) {
+        None => wanted == "ok",
+        Some(fault) => match format!(in alloc; "{fault}") {
+            Ok(told) => told.as_str() == wanted,
+            Err(_) => false,
+        },
     }
-    Ok(())
 }
 
 /// The start of a text, and then a comment up to so many bytes.
-fn padded(alloc: Global, start: &str, length: usize) -> Result<Vec<u8>, AllocError> {
-    let mut text = Vec::from_slice(alloc, start.as_bytes())?;
+fn padded(alloc: Global, start: &[u8], length: usize) -> Result<Vec<u8>, AllocError> {
+    let mut text = Vec::from_slice(alloc, start)?;
     text.push(b'#')?;
     for _ in text.len()..length {
         text.push(b'-')?;
@@ -97,60 +49,162 @@ fn padded(alloc: Global, start: &str, length: usize) -> Result<Vec<u8>, AllocErr
     Ok(text)
 }
 
-#[test]
-fn longest_texts(rt: HostRuntime) -> Result<(), Fail> {
-    let alloc = rt.alloc();
-    let (station, _) = told(
-        alloc,
-        padded(alloc, "[[post]]\ntcp = 15120\n", 65536)?.as_slice(),
-    )?;
-    assert_eq!(rt; station.as_str(), "ok");
-    let (_, car) = told(alloc, padded(alloc, "tcp = 15120\n", 65536)?.as_slice())?;
-    assert_eq!(rt; car.as_str(), "ok");
-    let (station, car) = told(alloc, padded(alloc, "tcp = 15120\n", 65537)?.as_slice())?;
-    assert_eq!(rt; station.as_str(), "bytes must be at most 65536");
-    assert_eq!(rt; car.as_str(), "bytes must be at most 65536");
-    Ok(())
+impl Case for Plan {
+    fn holds(&self, alloc: Global) -> bool {
+        is_told(alloc, self.0, self.1, self.2)
+    }
 }
 
-#[test]
-fn bytes_that_are_no_text(rt: HostRuntime) -> Result<(), Fail> {
-    let (station, car) = told(rt.alloc(), b"# \xff\ntcp = 15120\n")?;
-    assert_eq!(rt; station.as_str(), "not a TOML document");
-    assert_eq!(rt; car.as_str(), "not a TOML document");
-    Ok(())
-}
-
-#[test]
-fn defaults(rt: HostRuntime) -> Result<(), Fail> {
-    let Ok(read) = site_plan_of(rt.alloc(), b"[[post]]\ntcp = 15120\n") else {
-        return Err("a plan".into());
-    };
-    for plan in [read, fixed(false)] {
-        assert_eq!(rt; plan.limit, 150000);
-        assert_eq!(rt; plan.turns, 1000000);
-        assert_eq!(rt; plan.sessions, 1);
-        for post in plan.post.as_slice() {
-            assert_eq!(rt; mode_name(post.mode), "DC_extended");
-            assert_eq!(rt;
-                post.dialects.as_slice(),
-                [Dialect::Iso, Dialect::Din].as_slice()
-            );
-            assert_eq!(rt; post.evse_id.as_str(), "ZZ00000");
-            assert_eq!(rt; post.max_voltage.get(), 9200);
-            assert_eq!(rt; post.nominal, 230);
+impl Case for Long {
+    fn holds(&self, alloc: Global) -> bool {
+        match padded(alloc, self.1, self.2) {
+            Ok(text) => is_told(alloc, self.0, text.as_slice(), self.3),
+            Err(_) => false,
         }
     }
-    let Ok(read) = car_plan_of(rt.alloc(), b"tcp = 15120\n") else {
-        return Err("a plan".into());
-    };
-    for plan in [read, fixed_car(false)] {
-        assert_eq!(rt; plan.tcp, Some(15120));
-        assert_eq!(rt; plan.mode, Mode::DcExtended);
-        assert_eq!(rt; plan.car_id, [0, 1, 2, 3, 4, 5]);
-        assert_eq!(rt; plan.pace, 100);
-        assert_eq!(rt; plan.stop, Stop::Terminate);
+}
+
+const PLANS: [Plan; 22] = [
+    Plan(Reader::Station, b"[[post]]\ntcp = 15120", "ok"),
+    Plan(Reader::Station, b"limit =", "not a TOML document"),
+    Plan(Reader::Station, b"limit = 0", "limit must be 1 to 8000000"),
+    Plan(
+        Reader::Station,
+        b"",
+        "post is missing, and must be 1 to 8 tables",
+    ),
+    Plan(Reader::Station, b"post = []", "post must be 1 to 8 tables"),
+    Plan(
+        Reader::Station,
+        b"[[post]]",
+        "post.1.tcp is missing, and must be 1 to 65535",
+    ),
+    Plan(
+        Reader::Station,
+        b"[[post]]\ntcp = 15120\nmax_watts = 0",
+        "post.1.max_watts must be 1 to 1000000",
+    ),
+    Plan(
+        Reader::Station,
+        b"[[post]]\ntcp = 15120\nmode = \"DC\"",
+        "post.1.mode must be one of AC_single_phase_core, AC_three_phase_core, DC_core, DC_extended, DC_combo_core, DC_unique",
+    ),
+    Plan(
+        Reader::Station,
+        b"[[post]]\ntcp = 1\n[[post]]\ntcp = 2\nmode = \"DC_unique\"\ndialects = [\"din\"]",
+        "post.2.dialects must be a list of one or more of iso, each once",
+    ),
+    Plan(
+        Reader::Station,
+        b"[[post]]\ntcp = 15120\nevse_id = \"ZZ\"",
+        "post.1.evse_id must be 7 to 37 ASCII characters",
+    ),
+    Plan(
+        Reader::Station,
+        b"[[post]]\ntcp = 15120\nevse_id_din = \"0\"",
+        "post.1.evse_id_din must be 1 to 32 bytes in hexadecimal",
+    ),
+    Plan(
+        Reader::Station,
+        b"[[post]]\ntcp = 15120\nfree = 1",
+        "post.1.free must be true or false",
+    ),
+    Plan(
+        Reader::Station,
+        b"colour = 1\n[[post]]\ntcp = 15120",
+        "colour must be left out, since there is no such key",
+    ),
+    Plan(Reader::Car, b"tcp = 15120", "ok"),
+    Plan(Reader::Car, b"sdp = 15118", "ok"),
+    Plan(
+        Reader::Car,
+        b"sdp = 0",
+        "tcp is missing, and must be 1 to 65535",
+    ),
+    Plan(Reader::Car, b"sdp = 65536", "sdp must be 0 to 65535"),
+    Plan(
+        Reader::Car,
+        b"tcp = 0\nsdp = 65536",
+        "tcp must be 1 to 65535",
+    ),
+    Plan(
+        Reader::Car,
+        b"tcp = 1\nstop = \"go\"",
+        "stop must be one of terminate, pause",
+    ),
+    Plan(
+        Reader::Car,
+        b"tcp = 1\ncar_id = \"00\"",
+        "car_id must be 6 to 6 bytes in hexadecimal",
+    ),
+    // bytes that are no text
+    Plan(
+        Reader::Station,
+        b"# \xff\ntcp = 15120\n",
+        "not a TOML document",
+    ),
+    Plan(Reader::Car, b"# \xff\ntcp = 15120\n", "not a TOML document"),
+];
+
+const LONG: [Long; 4] = [
+    Long(Reader::Station, b"[[post]]\ntcp = 15120\n", 65536, "ok"),
+    Long(Reader::Car, b"tcp = 15120\n", 65536, "ok"),
+    Long(
+        Reader::Station,
+        b"tcp = 15120\n",
+        65537,
+        "bytes must be at most 65536",
+    ),
+    Long(
+        Reader::Car,
+        b"tcp = 15120\n",
+        65537,
+        "bytes must be at most 65536",
+    ),
+];
+
+/// Whether a station has all defaults.
+fn has_site_defaults(plan: &SitePlan) -> bool {
+    for post in plan.post.as_slice() {
+        if mode_name(post.mode) != "DC_extended"
+            || post.dialects.as_slice() != [Dialect::Iso, Dialect::Din].as_slice()
+            || post.evse_id.as_str() != "ZZ00000"
+            || post.max_voltage.get() != 9200
+            || post.nominal != 230
+        {
+            return false;
+        }
     }
-    assert_eq!(rt; fixed_car(true).mode, Mode::AcThreePhaseCore);
-    Ok(())
+    plan.limit == 150000 && plan.turns == 1000000 && plan.sessions == 1
+}
+
+/// Whether a car has all defaults.
+fn has_car_defaults(plan: &CarPlan) -> bool {
+    plan.tcp == Some(15120)
+        && plan.mode == Mode::DcExtended
+        && plan.car_id == [0, 1, 2, 3, 4, 5]
+        && plan.pace == 100
+        && plan.stop == Stop::Terminate
+}
+
+/// The plans of the shortest texts, and those that are stored.
+fn are_defaults(alloc: Global) -> bool {
+    let Ok(site) = site_plan_of(alloc, b"[[post]]\ntcp = 15120\n") else {
+        return false;
+    };
+    let Ok(car) = car_plan_of(alloc, b"tcp = 15120\n") else {
+        return false;
+    };
+    has_site_defaults(&site)
+        && has_site_defaults(&fixed(false))
+        && has_car_defaults(&car)
+        && has_car_defaults(&fixed_car(false))
+        && fixed_car(true).mode == Mode::AcThreePhaseCore
+}
+
+#[test]
+fn plans_and_their_faults(rt: HostRuntime) {
+    all_hold(&rt, rt.alloc(), &PLANS);
+    all_hold(&rt, rt.alloc(), &LONG);
+    assert!(rt; are_defaults(rt.alloc()));
 }

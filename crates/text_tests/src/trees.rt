@@ -1,40 +1,11 @@
 //! Payloads and the texts of their trees, in a schema with each form of a value.
 
-ghost use Rattle.std.specs.Prelude.{◌≡◌, ◌≤◌, true, length};
-ghost use Rattle.exi_schema.specs.Told.{schema_of};
-ghost use Rattle.tree_text.specs.Consistent.{are_consistent};
-
+use crate::cases::{Case, all_hold};
 use exi_schema::{
     AttributeOf, Datatype, Declaration, Member, MemberStanding, Particle, RootOf, Schema,
 };
-use std::alloc::{AllocError, Global};
-use std::test::Fail;
-use tree_text::{PrintFault, Refusal, ScanFault, print_tree, scan_tree};
-
-/// The text of a payload, or why and at which bit it is refused.
-fn answer(alloc: Global, payload: &[u8], schema: &Schema) -> Result<String, AllocError>
-    requires { length payload.now ≤ 65536 }
-{
-    match print_tree(alloc, schema, payload) {
-        Ok(text) => Ok(text),
-        Err(PrintFault::Refused(refusal)) => {
-            let Refusal { cause, bit } = refusal;
-            format!(in alloc; "{cause:?} {bit}")
-        }
-        Err(PrintFault::Memory) => Err(AllocError),
-    }
-}
-
-/// The encoding of the tree of a text in hexadecimal, or the place of its fault.
-fn encoding(alloc: Global, text: &str, schema: &Schema) -> Result<String, AllocError>
-    requires consistent { are_consistent (schema_of schema.now).kinds ≡ true }
-{
-    match scan_tree(alloc, schema, text) {
-        Ok(piece) => hex::encode(alloc, piece.bytes()),
-        Err(ScanFault::Place(place)) => format!(in alloc; "{place}"),
-        Err(ScanFault::Memory) => Err(AllocError),
-    }
-}
+use std::alloc::Global;
+use tree_text::{PrintFault, Refusal, RefusalCause, ScanFault, print_tree, scan_tree};
 
 const NAMES: [&'static str; 8] = ["All", "Id", "Unit", "Flag", "Power", "Data", "Low", "Empty"];
 
@@ -151,68 +122,104 @@ const KINDS: [Declaration<'static>; 8] = [
     },
 ];
 
+/// A payload or a text, and what is made of it.
+enum Tree {
+    /// A payload in hexadecimal, and the text of its tree.
+    Printed(&'static str, &'static str),
+    /// A payload in hexadecimal, and why and at which bit it is refused.
+    Refused(&'static str, RefusalCause, u32),
+    /// A text, and its encoding in hexadecimal.
+    Encoded(&'static str, &'static str),
+    /// A text, and the place of its fault.
+    Fault(&'static str, u64),
+}
+
+/// What is printed of a payload in hexadecimal.
+fn printed(alloc: Global, payload: &str) -> Result<String, PrintFault> {
+    let schema = Schema {
+        kinds: &KINDS,
+        names: &NAMES,
+        values: &VALUES,
+        root_bits: 2,
+        roots: &ROOTS,
+    };
+    match hex::decode(alloc, payload) {
+        Ok(bytes) if bytes.len() <= 65536 => print_tree(alloc, &schema, bytes.as_slice()),
+        _ => Err(PrintFault::Memory),
+    }
+}
+
+/// The encoding of the tree of a text in hexadecimal.
+fn encoded(alloc: Global, text: &str) -> Result<String, ScanFault> {
+    let schema = Schema {
+        kinds: &KINDS,
+        names: &NAMES,
+        values: &VALUES,
+        root_bits: 2,
+        roots: &ROOTS,
+    };
+    let piece = scan_tree(alloc, &schema, text)?;
+    match hex::encode(alloc, piece.bytes()) {
+        Ok(encoding) => Ok(encoding),
+        Err(_) => Err(ScanFault::Memory),
+    }
+}
+
+impl Case for Tree {
+    fn holds(&self, alloc: Global) -> bool {
+        match self {
+            Tree::Printed(payload, text) => {
+                matches!(printed(alloc, payload), Ok(made) if made.as_str() == *text)
+            }
+            Tree::Refused(payload, cause, bit) => {
+                let refusal = Refusal {
+                    cause: *cause,
+                    bit: *bit,
+                };
+                matches!(printed(alloc, payload), Err(PrintFault::Refused(found)) if found == refusal)
+            }
+            Tree::Encoded(text, payload) => {
+                matches!(encoded(alloc, text), Ok(made) if made.as_str() == *payload)
+            }
+            Tree::Fault(text, place) => {
+                matches!(encoded(alloc, text), Err(ScanFault::Place(found)) if found == *place)
+            }
+        }
+    }
+}
+
 /// Header and root, @Id of three code points, @Unit by its ordinal, then Flag, Power, Data, Low, Empty and the ends.
 const EACH_FORM: &'static str = "8000561220a24604080155860200";
 
-/// Payloads in hexadecimal, and the texts of their trees or why and at which bit they are refused.
-const PAYLOADS: [(&'static str, &'static str); 5] = [
-    (
+const TREES: [Tree; 13] = [
+    Tree::Printed(
         EACH_FORM,
         r#"All{@Id="a\"\u{a}" @Unit=V Flag=true Power=-258 Data=ab0c Low=-1 Empty{}}"#,
     ),
-    ("", "ShortInput 0"),
-    ("0000561220a24604080155860200", "BadHeader 0"),
-    ("80c0561220a24604080155860200", "NoSuchCode 8"),
-    ("8000561220a2460408015586020000", "Trailing 112"),
-];
-
-#[test]
-fn payloads_are_printed_or_refused(rt: HostRuntime) -> Result<(), Fail> {
-    let schema = Schema {
-        kinds: &KINDS,
-        names: &NAMES,
-        values: &VALUES,
-        root_bits: 2,
-        roots: &ROOTS,
-    };
-    for (payload, expected) in PAYLOADS {
-        let bytes = hex::decode(rt.alloc(), payload)?;
-        assert!(rt; bytes.len() <= 65536);
-        let text = answer(rt.alloc(), bytes.as_slice(), &schema)?;
-        assert_eq!(rt; text.as_str(), expected, "{payload}");
-    }
-    Ok(())
-}
-
-/// Texts, and their encodings or the places of their faults.
-const TEXTS: [(&'static str, &'static str); 8] = [
-    (
+    Tree::Refused("", RefusalCause::ShortInput, 0),
+    Tree::Refused("0000561220a24604080155860200", RefusalCause::BadHeader, 0),
+    Tree::Refused("80c0561220a24604080155860200", RefusalCause::NoSuchCode, 8),
+    Tree::Refused(
+        "8000561220a2460408015586020000",
+        RefusalCause::Trailing,
+        112,
+    ),
+    Tree::Encoded(
         r#"All{@Id="a\"\u{a}" @Unit=V Flag=true Power=-258 Data=ab0c Low=-1 Empty{}}"#,
         EACH_FORM,
     ),
-    ("x", "0"),
-    ("", "0"),
-    ("All{Flag=true", "13"),
+    Tree::Fault("x", 0),
+    Tree::Fault("", 0),
+    Tree::Fault("All{Flag=true", 13),
     // Of the dialect: in another order, without what has to be there, and with a number outside its range.
-    ("All{Power=1 Flag=true}", "22"),
-    ("All{}", "5"),
-    ("All{Flag=true Power=1001 Data= Low=0}", "37"),
+    Tree::Fault("All{Power=1 Flag=true}", 22),
+    Tree::Fault("All{}", 5),
+    Tree::Fault("All{Flag=true Power=1001 Data= Low=0}", 37),
     // None of the dialect, behind what is no document.
-    ("All{Low=7 Flag=Bad}", "15"),
+    Tree::Fault("All{Low=7 Flag=Bad}", 15),
 ];
 
 #[test]
-fn texts_are_scanned(rt: HostRuntime) -> Result<(), Fail> {
-    let schema = Schema {
-        kinds: &KINDS,
-        names: &NAMES,
-        values: &VALUES,
-        root_bits: 2,
-        roots: &ROOTS,
-    };
-    for (text, expected) in TEXTS {
-        let written = encoding(rt.alloc(), text, &schema)?;
-        assert_eq!(rt; written.as_str(), expected, "{text}");
-    }
-    Ok(())
+fn payloads_and_texts_of_trees(rt: HostRuntime) {
+    all_hold(&rt, rt.alloc(), &TREES);
 }

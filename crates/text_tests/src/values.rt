@@ -1,11 +1,8 @@
 //! Each form of a value, and each fault with its place.
 
-ghost use Rattle.std.specs.Prelude.{◌≤◌, length};
-ghost use Rattle.exi_schema.specs.Told.{schema_of};
-
+use crate::cases::{Case, all_hold};
 use exi_schema::{Datatype, Declaration, RootOf, Schema};
-use std::alloc::{AllocError, Global};
-use std::test::Fail;
+use std::alloc::Global;
 use value_text::{Awaited, ScanFault, Scanned, TextCursor};
 
 const NAMES: [&'static str; 3] = ["Unit", "Units", "Value"];
@@ -30,150 +27,168 @@ const ROOTS: [RootOf; 1] = [RootOf {
     kind: 0,
 }];
 
-/// What is taken of a text as a value of a kind and what is left, or the place of the fault.
-fn answer(alloc: Global, schema: &Schema, kind: u16, text: &str) -> Result<String, AllocError> {
-    let mut cursor = TextCursor::new(text);
-    let Some(Declaration::Simple(datatype)) = schema.kinds.get(kind as usize) else {
-        return format!(in alloc; "no simple kind");
-    };
-    match cursor.take_value(alloc, schema, kind, *datatype) {
-        Ok(scanned) => {
-            let place = cursor.place;
-            let rest = cursor.rest;
-            format!(in alloc; "{scanned:?} {place} {rest}")
-        }
-        Err(ScanFault::Place(place)) => { format!(in alloc; "fault {place}") }
-        Err(ScanFault::Memory) => Err(AllocError),
+/// What is taken of a text.
+enum Taken {
+    Bool(bool),
+    Ordinal(u32),
+    Number(i128),
+    Bytes(&'static [u8]),
+    Text(&'static str),
+    /// Nothing, for a fault.
+    Fault,
+}
+
+/// What is taken of a text as a value of a kind, the place behind it and what is left; or the place of the fault, and no rest.
+struct Front(u16, &'static str, Taken, u64, &'static str);
+
+/// Whether a value is this one.
+fn is_taken(scanned: &Scanned, wanted: &Taken) -> bool {
+    match (scanned, wanted) {
+        (Scanned::Bool(truth), Taken::Bool(wanted)) => truth == wanted,
+        (Scanned::Ordinal(ordinal), Taken::Ordinal(wanted)) => ordinal == wanted,
+        (Scanned::Number(number), Taken::Number(wanted)) => number == wanted,
+        (Scanned::Bytes(bytes), Taken::Bytes(wanted)) => bytes.as_slice() == *wanted,
+        (Scanned::Text(text), Taken::Text(wanted)) => text.as_str() == *wanted,
+        _ => false,
     }
 }
 
-const CASES: [(u16, &'static str, &'static str); 45] = [
-    (0, "true}", "Bool(true) 4 }"),
-    (0, "false", "Bool(false) 5 "),
-    (0, "tru", "fault 3"),
-    (0, "trux", "fault 3"),
-    (0, "True", "fault 0"),
-    (0, "", "fault 0"),
-    (1, "OK}", "Ordinal(0) 2 }"),
-    (1, "OK_New ", "Ordinal(1) 6  "),
-    (1, "OK_X", "fault 3"),
-    (1, "Wh", "Ordinal(3) 2 "),
-    (1, "Wx", "Ordinal(2) 1 x"),
-    (1, "o", "fault 0"),
-    (2, "0", "Number(0) 1 "),
-    (2, "12x", "Number(12) 2 x"),
-    (2, "-7 ", "Number(-7) 2  "),
-    (2, "-", "fault 1"),
-    (2, "-0", "fault 1"),
-    (2, "007", "Number(0) 1 07"),
-    (2, "+1", "fault 0"),
-    (
+impl Case for Front {
+    fn holds(&self, alloc: Global) -> bool {
+        let schema = Schema {
+            kinds: &KINDS,
+            names: &NAMES,
+            values: &VALUES,
+            root_bits: 1,
+            roots: &ROOTS,
+        };
+        let mut cursor = TextCursor::new(self.1);
+        let Some(Declaration::Simple(datatype)) = schema.kinds.get(self.0 as usize) else {
+            return false;
+        };
+        match cursor.take_value(alloc, &schema, self.0, *datatype) {
+            Ok(scanned) => {
+                is_taken(&scanned, &self.2) && cursor.place == self.3 && cursor.rest == self.4
+            }
+            Err(ScanFault::Place(place)) => matches!(self.2, Taken::Fault) && place == self.3,
+            Err(ScanFault::Memory) => false,
+        }
+    }
+}
+
+const FRONTS: [Front; 45] = [
+    Front(0, "true}", Taken::Bool(true), 4, "}"),
+    Front(0, "false", Taken::Bool(false), 5, ""),
+    Front(0, "tru", Taken::Fault, 3, ""),
+    Front(0, "trux", Taken::Fault, 3, ""),
+    Front(0, "True", Taken::Fault, 0, ""),
+    Front(0, "", Taken::Fault, 0, ""),
+    Front(1, "OK}", Taken::Ordinal(0), 2, "}"),
+    Front(1, "OK_New ", Taken::Ordinal(1), 6, " "),
+    Front(1, "OK_X", Taken::Fault, 3, ""),
+    Front(1, "Wh", Taken::Ordinal(3), 2, ""),
+    Front(1, "Wx", Taken::Ordinal(2), 1, "x"),
+    Front(1, "o", Taken::Fault, 0, ""),
+    Front(2, "0", Taken::Number(0), 1, ""),
+    Front(2, "12x", Taken::Number(12), 2, "x"),
+    Front(2, "-7 ", Taken::Number(-7), 2, " "),
+    Front(2, "-", Taken::Fault, 1, ""),
+    Front(2, "-0", Taken::Fault, 1, ""),
+    Front(2, "007", Taken::Number(0), 1, "07"),
+    Front(2, "+1", Taken::Fault, 0, ""),
+    Front(
         2,
         "98765432109876543210",
-        "Number(98765432109876543210) 20 ",
+        Taken::Number(98765432109876543210),
+        20,
+        "",
     ),
-    (
+    Front(
         2,
         "-987654321098765432109",
-        "Number(-98765432109876543210) 21 9",
+        Taken::Number(-98765432109876543210),
+        21,
+        "9",
     ),
-    (2, "é", "fault 0"),
-    (3, "", "Bytes([]) 0 "),
-    (3, "00ff}", "Bytes([0, 255]) 4 }"),
-    (3, "0a1b2c", "Bytes([10, 27, 44]) 6 "),
-    (3, "0g", "fault 1"),
-    (3, "abc", "fault 3"),
-    (3, "0A", "fault 1"),
-    (3, "g", "Bytes([]) 0 g"),
-    (4, "\"\"", "Text(\"\") 2 "),
-    (4, "\"abcd\" ", "Text(\"abcd\") 6  "),
-    (4, "\"\\\"\\\\\"", "Text(\"\\\"\\\\\") 6 "),
-    (4, "\"\\u{1f}\"", "Text(\"\\u{1f}\") 8 "),
-    (4, "\"\\u{1}\"", "Text(\"\\u{1}\") 7 "),
-    (4, "\"é🔌\"}", "Text(\"é🔌\") 4 }"),
-    (4, "a", "fault 0"),
-    (4, "\"a", "fault 2"),
-    (4, "\"\\x\"", "fault 2"),
-    (4, "\"\\u{20}\"", "fault 5"),
-    (4, "\"\\u{01}\"", "fault 5"),
-    (4, "\"\\u{1F}\"", "fault 5"),
-    (4, "\"\\u{1f", "fault 6"),
-    (4, "\"\\u1f\"", "fault 3"),
-    (4, "\"é\n\"", "fault 2"),
-    (4, "\"é\\", "fault 3"),
+    Front(2, "é", Taken::Fault, 0, ""),
+    Front(3, "", Taken::Bytes(&[]), 0, ""),
+    Front(3, "00ff}", Taken::Bytes(&[0x00, 0xff]), 4, "}"),
+    Front(3, "0a1b2c", Taken::Bytes(&[0x0a, 0x1b, 0x2c]), 6, ""),
+    Front(3, "0g", Taken::Fault, 1, ""),
+    Front(3, "abc", Taken::Fault, 3, ""),
+    Front(3, "0A", Taken::Fault, 1, ""),
+    Front(3, "g", Taken::Bytes(&[]), 0, "g"),
+    Front(4, "\"\"", Taken::Text(""), 2, ""),
+    Front(4, "\"abcd\" ", Taken::Text("abcd"), 6, " "),
+    Front(4, "\"\\\"\\\\\"", Taken::Text("\"\\"), 6, ""),
+    Front(4, "\"\\u{1f}\"", Taken::Text("\u{1f}"), 8, ""),
+    Front(4, "\"\\u{1}\"", Taken::Text("\u{1}"), 7, ""),
+    Front(4, "\"é🔌\"}", Taken::Text("é🔌"), 4, "}"),
+    Front(4, "a", Taken::Fault, 0, ""),
+    Front(4, "\"a", Taken::Fault, 2, ""),
+    Front(4, "\"\\x\"", Taken::Fault, 2, ""),
+    Front(4, "\"\\u{20}\"", Taken::Fault, 5, ""),
+    Front(4, "\"\\u{01}\"", Taken::Fault, 5, ""),
+    Front(4, "\"\\u{1F}\"", Taken::Fault, 5, ""),
+    Front(4, "\"\\u{1f", Taken::Fault, 6, ""),
+    Front(4, "\"\\u1f\"", Taken::Fault, 3, ""),
+    Front(4, "\"é\n\"", Taken::Fault, 2, ""),
+    Front(4, "\"é\\", Taken::Fault, 3, ""),
 ];
 
-#[test]
-fn forms_and_faults(rt: HostRuntime) -> Result<(), Fail> {
-    let schema = Schema {
-        kinds: &KINDS,
-        names: &NAMES,
-        values: &VALUES,
-        root_bits: 1,
-        roots: &ROOTS,
-    };
-    for case in CASES.iter() {
-        let (kind, text, expected) = *case;
-        let told = answer(rt.alloc(), &schema, kind, text)?;
-        assert_eq!(rt; told.as_str(), expected, "{text}");
-    }
-    Ok(())
-}
+/// Which name is taken of a text and what is left; or the place of the fault, and no rest.
+struct Named(&'static str, Result<usize, u64>, &'static str);
 
-/// Which name is taken of a text and what is left, or the place of the fault.
-fn named(alloc: Global, schema: &Schema, text: &str) -> Result<String, AllocError>
-    requires { 3 ≤ length (schema_of schema.now).names }
-{
-    let mut cursor = TextCursor::new(text);
-    let awaited = [
-        Awaited { name: 0, end: '=' },
-        Awaited { name: 1, end: '{' },
-        Awaited { name: 2, end: '=' },
-    ];
-    match cursor.take_name(schema, &awaited) {
-        Ok(i) => {
-            let rest = cursor.rest;
-            format!(in alloc; "{i} {rest}")
+const AWAITED: [Awaited; 3] = [
+    Awaited { name: 0, end: '=' },
+    Awaited { name: 1, end: '{' },
+    Awaited { name: 2, end: '=' },
+];
+
+impl Case for Named {
+    fn holds(&self, _: Global) -> bool {
+        let schema = Schema {
+            kinds: &KINDS,
+            names: &NAMES,
+            values: &VALUES,
+            root_bits: 1,
+            roots: &ROOTS,
+        };
+        let mut cursor = TextCursor::new(self.0);
+        match cursor.take_name(&schema, &AWAITED) {
+            Ok(i) => self.1 == Ok(i) && cursor.rest == self.2,
+            Err(place) => self.1 == Err(place),
         }
-        Err(place) => { format!(in alloc; "fault {place}") }
     }
 }
 
-#[test]
-fn names(rt: HostRuntime) -> Result<(), Fail> {
-    let schema = Schema {
-        kinds: &KINDS,
-        names: &NAMES,
-        values: &VALUES,
-        root_bits: 1,
-        roots: &ROOTS,
-    };
-    let cases = [
-        ("Unit=W", "0 W"),
-        ("Units{}", "1 }"),
-        ("Unit{", "fault 4"),
-        ("Units=", "fault 5"),
-        ("Value=", "2 "),
-        ("Values", "fault 5"),
-        ("x", "fault 0"),
-        ("", "fault 0"),
-    ];
-    for case in cases.iter() {
-        let (text, expected) = *case;
-        let told = named(rt.alloc(), &schema, text)?;
-        assert_eq!(rt; told.as_str(), expected, "{text}");
-    }
-    Ok(())
-}
+const NAMED: [Named; 8] = [
+    Named("Unit=W", Ok(0), "W"),
+    Named("Units{}", Ok(1), "}"),
+    Named("Unit{", Err(4), ""),
+    Named("Units=", Err(5), ""),
+    Named("Value=", Ok(2), ""),
+    Named("Values", Err(5), ""),
+    Named("x", Err(0), ""),
+    Named("", Err(0), ""),
+];
 
-#[test]
-fn lent(rt: HostRuntime) -> Result<(), Fail> {
+/// The characters of a cursor, and values as they are lent.
+fn are_lent(alloc: Global) -> bool {
     let mut cursor = TextCursor::new("7");
-    assert_eq!(rt; cursor.peek(), Some('7'));
-    assert_eq!(rt; cursor.next(), Some('7'));
-    assert_eq!(rt; cursor.peek(), None);
-    assert!(rt; Scanned::Number(7).value().is_some());
-    let long = Scanned::Bytes(vec![in rt.alloc(); 0; 65537]?);
-    assert!(rt; long.value().is_none());
-    Ok(())
+    let Ok(bytes) = vec![in alloc; 0; 65537] else {
+        return false;
+    };
+    cursor.peek() == Some('7')
+        && cursor.next() == Some('7')
+        && cursor.peek().is_none()
+        && Scanned::Number(7).value().is_some()
+        && Scanned::Bytes(bytes).value().is_none()
+}
+
+#[test]
+fn forms_and_faults(rt: HostRuntime) {
+    all_hold(&rt, rt.alloc(), &FRONTS);
+    all_hold(&rt, rt.alloc(), &NAMED);
+    assert!(rt; are_lent(rt.alloc()));
 }

@@ -1,7 +1,20 @@
+use crate::cases::{Case, all_hold};
 use command_words::{Command, WordList, WordsFault, read_words};
 use message_dialects::MessageDialect;
 use std::alloc::{AllocError, Global};
-use std::test::*;
+
+/// What words are read as.
+enum Told {
+    Station(&'static str),
+    Replay(&'static str, &'static str),
+    Decode(MessageDialect, &'static str),
+    Encode(MessageDialect, &'static str),
+    /// They are no command.
+    Nothing,
+}
+
+/// The words of a command line, and what they are read as.
+struct Words(&'static [&'static str], Told);
 
 fn list_of(alloc: Global, texts: &[&str]) -> Result<WordList, AllocError> {
     let mut words = Vec::new(alloc);
@@ -11,124 +24,152 @@ fn list_of(alloc: Global, texts: &[&str]) -> Result<WordList, AllocError> {
     Ok(WordList::of(words))
 }
 
-#[test]
-fn commands_are_read(rt: HostRuntime) -> Result<(), Fail> {
-    let alloc = rt.alloc();
-    for file in ["plan.toml", "", "station", "é"] {
-        let words = list_of(alloc, &["station", file])?;
-        let Ok(Command::Station { plan }) = read_words(alloc, &words) else {
-            return Err(Fail::from("no station"));
-        };
-        assert_eq!(rt; plan, file);
+/// Whether a command is this one.
+fn is_told(command: Command<'_>, told: &Told) -> bool {
+    match (command, told) {
+        (Command::Station { plan }, Told::Station(file)) => plan == *file,
+        (Command::Replay { plan, trace }, Told::Replay(file, lines)) => {
+            plan == *file && trace == *lines
+        }
+        (Command::Decode { dialect, hex }, Told::Decode(wanted, payload)) => {
+            dialect == *wanted && hex == *payload
+        }
+        (Command::Encode { dialect, text }, Told::Encode(wanted, tree)) => {
+            dialect == *wanted && text == *tree
+        }
+        _ => false,
     }
-    let words = list_of(alloc, &["replay", "plan.toml", "v2g.trace"])?;
-    let Ok(Command::Replay { plan, trace }) = read_words(alloc, &words) else {
-        return Err(Fail::from("no replay"));
+}
+
+impl Case for Words {
+    fn holds(&self, alloc: Global) -> bool {
+        let Ok(words) = list_of(alloc, self.0) else {
+            return false;
+        };
+        match read_words(alloc, &words) {
+            Ok(command) => is_told(command, &self.1),
+            Err(WordsFault::NoCommand) => matches!(self.1, Told::Nothing),
+            Err(WordsFault::Memory) => false,
+        }
+    }
+}
+
+const COMMANDS: [Words; 14] = [
+    Words(&["station", "plan.toml"], Told::Station("plan.toml")),
+    Words(&["station", ""], Told::Station("")),
+    Words(&["station", "station"], Told::Station("station")),
+    Words(&["station", "é"], Told::Station("é")),
+    Words(
+        &["replay", "plan.toml", "v2g.trace"],
+        Told::Replay("plan.toml", "v2g.trace"),
+    ),
+    Words(
+        &["decode", "app", "80400040"],
+        Told::Decode(MessageDialect::App, "80400040"),
+    ),
+    Words(
+        &["decode", "app", ""],
+        Told::Decode(MessageDialect::App, ""),
+    ),
+    Words(
+        &["decode", "iso", "app"],
+        Told::Decode(MessageDialect::Iso, "app"),
+    ),
+    Words(
+        &["decode", "iso", "decode"],
+        Told::Decode(MessageDialect::Iso, "decode"),
+    ),
+    Words(
+        &["decode", "din", "8-"],
+        Told::Decode(MessageDialect::Din, "8-"),
+    ),
+    Words(
+        &["decode", "din", "é"],
+        Told::Decode(MessageDialect::Din, "é"),
+    ),
+    Words(
+        &["encode", "app", "a{b=1 c=2}"],
+        Told::Encode(MessageDialect::App, "a{b=1 c=2}"),
+    ),
+    Words(
+        &["encode", "iso", ""],
+        Told::Encode(MessageDialect::Iso, ""),
+    ),
+    Words(
+        &["encode", "din", "{-}"],
+        Told::Encode(MessageDialect::Din, "{-}"),
+    ),
+];
+
+const REFUSED: [Words; 44] = [
+    // no word, and no command's name
+    Words(&[], Told::Nothing),
+    Words(&[""], Told::Nothing),
+    Words(&["", "app", "80"], Told::Nothing),
+    Words(&["Station"], Told::Nothing),
+    Words(&["stations"], Told::Nothing),
+    Words(&["stat"], Told::Nothing),
+    Words(&[" station"], Told::Nothing),
+    Words(&["v2g_charge"], Told::Nothing),
+    Words(&["v2g_charge", "station"], Told::Nothing),
+    Words(&["v2g_charge", "station", "plan"], Told::Nothing),
+    Words(&["80", "app", "decode"], Told::Nothing),
+    // there is no help
+    Words(&["help"], Told::Nothing),
+    Words(&["help", "decode"], Told::Nothing),
+    Words(&["station", "help", "plan"], Told::Nothing),
+    Words(&["-h"], Told::Nothing),
+    Words(&["--help"], Told::Nothing),
+    Words(&["--version"], Told::Nothing),
+    // a value is missing
+    Words(&["station"], Told::Nothing),
+    Words(&["replay"], Told::Nothing),
+    Words(&["replay", "plan"], Told::Nothing),
+    Words(&["decode"], Told::Nothing),
+    Words(&["decode", "app"], Told::Nothing),
+    Words(&["encode"], Told::Nothing),
+    Words(&["encode", "app"], Told::Nothing),
+    // a word too many
+    Words(&["station", "plan", ""], Told::Nothing),
+    Words(&["station", "station", "station"], Told::Nothing),
+    Words(&["replay", "plan", "trace", "trace"], Told::Nothing),
+    Words(&["decode", "app", "80", ""], Told::Nothing),
+    Words(&["encode", "app", "a", "b", "c"], Told::Nothing),
+    // no dialect
+    Words(&["decode", "", "80"], Told::Nothing),
+    Words(&["decode", "APP", "80"], Told::Nothing),
+    Words(&["encode", "appp", "a"], Told::Nothing),
+    Words(&["encode", "Iso", "a"], Told::Nothing),
+    Words(&["decode", "dim", "80"], Told::Nothing),
+    Words(&["decode", "iso din", "80"], Told::Nothing),
+    // `-` begins a word
+    Words(&["-", "app", "80"], Told::Nothing),
+    Words(&["--", "station", "plan"], Told::Nothing),
+    Words(&["station", "-x"], Told::Nothing),
+    Words(&["replay", "plan", "-"], Told::Nothing),
+    Words(&["replay", "-plan", "trace"], Told::Nothing),
+    Words(&["decode", "-app", "80"], Told::Nothing),
+    Words(&["decode", "--", "app", "80"], Told::Nothing),
+    Words(&["decode", "app", "-80"], Told::Nothing),
+    Words(&["encode", "app", "--"], Told::Nothing),
+];
+
+/// Words stand in their order.
+fn words_are_listed(alloc: Global) -> bool {
+    let (Ok(words), Ok(none)) = (list_of(alloc, &["a", ""]), list_of(alloc, &[])) else {
+        return false;
     };
-    assert_eq!(rt; plan, "plan.toml");
-    assert_eq!(rt; trace, "v2g.trace");
-    let payloads = [
-        ("app", MessageDialect::App, "80400040"),
-        ("app", MessageDialect::App, ""),
-        ("iso", MessageDialect::Iso, "app"),
-        ("iso", MessageDialect::Iso, "decode"),
-        ("din", MessageDialect::Din, "8-"),
-        ("din", MessageDialect::Din, "é"),
-    ];
-    for (word, wanted, value) in payloads {
-        let words = list_of(alloc, &["decode", word, value])?;
-        let Ok(Command::Decode { dialect, hex }) = read_words(alloc, &words) else {
-            return Err(Fail::from("no decode"));
-        };
-        assert_eq!(rt; dialect, wanted);
-        assert_eq!(rt; hex, value);
-    }
-    let texts = [
-        ("app", MessageDialect::App, "a{b=1 c=2}"),
-        ("iso", MessageDialect::Iso, ""),
-        ("din", MessageDialect::Din, "{-}"),
-    ];
-    for (word, wanted, value) in texts {
-        let words = list_of(alloc, &["encode", word, value])?;
-        let Ok(Command::Encode { dialect, text }) = read_words(alloc, &words) else {
-            return Err(Fail::from("no encode"));
-        };
-        assert_eq!(rt; dialect, wanted);
-        assert_eq!(rt; text, value);
-    }
-    Ok(())
+    words.len() == 2
+        && !words.is_empty()
+        && words.get(0) == Some("a")
+        && words.get(1) == Some("")
+        && words.get(2).is_none()
+        && none.is_empty()
 }
 
 #[test]
-fn other_words_are_refused(rt: HostRuntime) -> Result<(), Fail> {
-    let table: [&[&str]; 44] = [
-        // no word, and no command's name
-        &[],
-        &[""],
-        &["", "app", "80"],
-        &["Station"],
-        &["stations"],
-        &["stat"],
-        &[" station"],
-        &["v2g_charge"],
-        &["v2g_charge", "station"],
-        &["v2g_charge", "station", "plan"],
-        &["80", "app", "decode"],
-        // there is no help
-        &["help"],
-        &["help", "decode"],
-        &["station", "help", "plan"],
-        &["-h"],
-        &["--help"],
-        &["--version"],
-        // a value is missing
-        &["station"],
-        &["replay"],
-        &["replay", "plan"],
-        &["decode"],
-        &["decode", "app"],
-        &["encode"],
-        &["encode", "app"],
-        // a word too many
-        &["station", "plan", ""],
-        &["station", "station", "station"],
-        &["replay", "plan", "trace", "trace"],
-        &["decode", "app", "80", ""],
-        &["encode", "app", "a", "b", "c"],
-        // no dialect
-        &["decode", "", "80"],
-        &["decode", "APP", "80"],
-        &["encode", "appp", "a"],
-        &["encode", "Iso", "a"],
-        &["decode", "dim", "80"],
-        &["decode", "iso din", "80"],
-        // `-` begins a word
-        &["-", "app", "80"],
-        &["--", "station", "plan"],
-        &["station", "-x"],
-        &["replay", "plan", "-"],
-        &["replay", "-plan", "trace"],
-        &["decode", "-app", "80"],
-        &["decode", "--", "app", "80"],
-        &["decode", "app", "-80"],
-        &["encode", "app", "--"],
-    ];
-    for texts in table {
-        let words = list_of(rt.alloc(), texts)?;
-        let read = read_words(rt.alloc(), &words);
-        assert!(rt; matches!(&read, Err(WordsFault::NoCommand)));
-    }
-    Ok(())
-}
-
-#[test]
-fn words_stand_in_their_order(rt: HostRuntime) -> Result<(), Fail> {
-    let words = list_of(rt.alloc(), &["a", ""])?;
-    assert_eq!(rt; words.len(), 2);
-    assert!(rt; !words.is_empty());
-    assert_eq!(rt; words.get(0), Some("a"));
-    assert_eq!(rt; words.get(1), Some(""));
-    assert_eq!(rt; words.get(2), None);
-    assert!(rt; list_of(rt.alloc(), &[])?.is_empty());
-    Ok(())
+fn words_are_read_as_commands_or_refused(rt: HostRuntime) {
+    all_hold(&rt, rt.alloc(), &COMMANDS);
+    all_hold(&rt, rt.alloc(), &REFUSED);
+    assert!(rt; words_are_listed(rt.alloc()));
 }
