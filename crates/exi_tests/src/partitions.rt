@@ -1,24 +1,36 @@
 use exi_strings::{Partitions, TableFull};
+use std::alloc::Global;
+
+/// A third item finds a table of two full.
+fn two_are_entered(table: &mut Partitions<char>) -> bool {
+    table.enter(7, 'a') == Ok(())
+        && table.enter(9, 'b') == Ok(())
+        && table.enter(7, 'c') == Err(TableFull)
+        && table.globals() == 2
+        && table.locals(9) == 1
+}
+
+/// The second is found by its name and among all.
+fn the_second_is_found(table: &Partitions<char>) -> bool {
+    matches!(table.local(9, 0), Some('b'))
+        && table.local(9, 1).is_none()
+        && matches!(table.global(1), Some('b'))
+        && table.global(2).is_none()
+        && matches!(table.entries(), [_, (9, 'b')])
+}
+
+fn a_table_of_two(alloc: Global) -> bool {
+    let Ok(mut table) = Partitions::make(alloc, 2) else {
+        return false;
+    };
+    if !two_are_entered(&mut table) || !the_second_is_found(&table) {
+        return false;
+    }
+    table.clear();
+    table.globals() == 0 && table.enter(7, 'c') == Ok(())
+}
 
 #[test]
 fn a_third_item_finds_a_table_of_two_full(rt: HostRuntime) {
-    let Ok(mut table) = Partitions::make(rt.alloc(), 2) else {
-        assert!(rt; false);
-        return;
-    };
-    assert_eq!(rt; table.enter(7, 'a'), Ok(()));
-    assert_eq!(rt; table.enter(9, 'b'), Ok(()));
-    assert_eq!(rt; table.enter(7, 'c'), Err(TableFull));
-    assert_eq!(rt; table.globals(), 2);
-    assert_eq!(rt; table.locals(9), 1);
-    assert_eq!(rt; table.local(9, 0).copied(), Some('b'));
-    assert_eq!(rt; table.local(9, 1).copied(), None);
-    assert_eq!(rt; table.global(1).copied(), Some('b'));
-    assert_eq!(rt; table.global(2).copied(), None);
-    let entries = table.entries();
-    assert_eq!(rt; entries.len(), 2);
-    assert_eq!(rt; entries[1], (9, 'b'));
-    table.clear();
-    assert_eq!(rt; table.globals(), 0);
-    assert_eq!(rt; table.enter(7, 'c'), Ok(()));
+    assert!(rt; a_table_of_two(rt.alloc()));
 }

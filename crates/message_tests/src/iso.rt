@@ -8,30 +8,32 @@ use iso_parts::{
 };
 use message_parts::Simple;
 
-fn ordinal_of<'a, T: Simple<'a>>(value: &T) -> Option<u32> {
-    match value.as_value() {
-        Value::Ordinal(ordinal) => Some(ordinal),
-        _ => None,
-    }
+fn is_at<'a, T: Simple<'a>>(value: T, place: u32) -> bool {
+    matches!(value.as_value(), Value::Ordinal(ordinal) if ordinal == place)
+}
+
+/// The last value of each enumeration.
+fn last_of_requests() -> bool {
+    is_at(ServiceCategory::OtherCustom, 3)
+        && is_at(PaymentOption::ExternalPayment, 1)
+        && is_at(EnergyTransferMode::DcUnique, 5)
+        && is_at(ChargingSession::Pause, 1)
+        && is_at(ChargeProgress::Renegotiate, 2)
+        && is_at(UnitSymbol::Wh, 6)
+        && is_at(EvErrorCode::NoData, 11)
+}
+
+fn last_of_responses() -> bool {
+    is_at(ResponseCode::FailedCertificateRevoked, 25)
+        && is_at(EvseProcessing::OngoingWaitingForCustomerInteraction, 2)
+        && is_at(FaultCode::UnknownError, 2)
+        && is_at(EvseNotification::ReNegotiation, 2)
+        && is_at(IsolationLevel::NoImd, 4)
+        && is_at(EvseStatusCode::ReservedC, 11)
 }
 
 #[test]
 fn the_last_value_of_each_enumeration(rt: HostRuntime) {
-    let last = ResponseCode::FailedCertificateRevoked;
-    assert_eq!(rt; ordinal_of(&last), Some(25));
-    assert_eq!(rt; ordinal_of(&ServiceCategory::OtherCustom), Some(3));
-    assert_eq!(rt; ordinal_of(&PaymentOption::ExternalPayment), Some(1));
-    assert_eq!(rt; ordinal_of(&EnergyTransferMode::DcUnique), Some(5));
-    assert_eq!(rt;
-        ordinal_of(&EvseProcessing::OngoingWaitingForCustomerInteraction),
-        Some(2)
-    );
-    assert_eq!(rt; ordinal_of(&ChargingSession::Pause), Some(1));
-    assert_eq!(rt; ordinal_of(&ChargeProgress::Renegotiate), Some(2));
-    assert_eq!(rt; ordinal_of(&FaultCode::UnknownError), Some(2));
-    assert_eq!(rt; ordinal_of(&UnitSymbol::Wh), Some(6));
-    assert_eq!(rt; ordinal_of(&EvErrorCode::NoData), Some(11));
-    assert_eq!(rt; ordinal_of(&EvseNotification::ReNegotiation), Some(2));
-    assert_eq!(rt; ordinal_of(&IsolationLevel::NoImd), Some(4));
-    assert_eq!(rt; ordinal_of(&EvseStatusCode::ReservedC), Some(11));
+    assert!(rt; last_of_requests());
+    assert!(rt; last_of_responses());
 }

@@ -6,6 +6,7 @@ ghost use Rattle.kind_laws.specs.Laws.{HasDocument};
 ghost use Rattle.parts_examples.specs.Declarations.{report_schema};
 ghost use Rattle.parts_examples.specs.Parts.{report_tree};
 
+use crate::cases::{Case, all_hold};
 use exi_documents::{MOST_ENTRIES, RefusalCause};
 use exi_events::Table;
 use message_parts::{Binary, Text};
@@ -13,7 +14,7 @@ use parts_examples::{
     Amount, Cause, DcSupply, Meter, Reading, Report, State, Stopped, Supply, names, read_report,
     report_schema, write_report,
 };
-use std::process::Abort;
+use std::alloc::Global;
 
 /// A report of every part but a correction, with two days.
 const FULL: [u8; 53] = [
@@ -37,179 +38,148 @@ fn is_text(text: &Text<'_>, chars: &str) -> bool {
     }
 }
 
-/// The parts of the full report.
-fn is_full(rt: &impl Abort, report: &Report<'_>) {
-    assert_eq!(rt; (report.number, report.revision), (7, None));
-    assert!(rt; is_text(&report.place, "Hof"));
-    assert!(rt;
-        report
-            .seal
-            .span()
-            .same(Binary::of_bytes(&[0x00, 0xff, 0x10]).span())
-    );
-    assert_eq!(rt; report.state, State::Charging);
-    let meter = Meter {
-        phase: 2,
-        pulses: 300,
-        energy: 70_000,
-        total: 1_099_511_627_776,
-        offset: -5,
-        power: -1_234,
-        reactive: 100_000,
-        time: -1,
-        valid: true,
-        load: None,
+/// The numbers of the full report.
+const METER: Meter = Meter {
+    phase: 2,
+    pulses: 300,
+    energy: 70_000,
+    total: 1_099_511_627_776,
+    offset: -5,
+    power: -1_234,
+    reactive: 100_000,
+    time: -1,
+    valid: true,
+    load: None,
+};
+
+const READING: Reading = Reading {
+    scale: -128,
+    value: 32_767,
+};
+
+const SUPPLY: Supply = Supply::Dc(DcSupply {
+    voltage: 400,
+    current: Some(20),
+});
+
+const CAUSE: Cause = Cause::Stopped(Stopped {
+    state: State::Broken,
+});
+
+/// Whether these are the texts, the seal and the days of the full report.
+fn has_texts(report: &Report<'_>) -> bool {
+    let is_sealed = report
+        .seal
+        .span()
+        .same(Binary::of_bytes(&[0x00, 0xff, 0x10]).span());
+    let days = match report.days.as_slice() {
+        [first, second] => first.hours.len() == 2 && second.hours.len() == 1,
+        _ => false,
     };
-    assert_eq!(rt; report.meter, meter);
-    match &report.remark {
-        Some(remark) => assert!(rt; is_text(remark, "Hof")),
-        None => assert!(rt; false),
-    }
-    let reading = Reading {
-        scale: -128,
-        value: 32_767,
-    };
-    match &report.amount {
-        Amount::Reading(read) => assert_eq!(rt; *read, reading),
-        _ => assert!(rt; false),
-    }
-    let supply = Supply::Dc(DcSupply {
-        voltage: 400,
-        current: Some(20),
-    });
-    assert_eq!(rt; report.supply, supply);
-    let stopped = Stopped {
-        state: State::Broken,
-    };
-    assert_eq!(rt; report.cause, Some(Cause::Stopped(stopped)));
-    assert_eq!(rt; report.days.len(), 2);
-    for (day, hours) in report.days.as_slice().iter().zip([2, 1].iter()) {
-        assert_eq!(rt; day.hours.len(), *hours);
-    }
+    is_sealed
+        && days
+        && is_text(&report.place, "Hof")
+        && matches!(&report.remark, Some(remark) if is_text(remark, "Hof"))
 }
 
-#[test]
-fn a_report_of_every_part_is_read(rt: HostRuntime) {
-    let Ok(mut table) = Table::make(rt.alloc(), MOST_ENTRIES) else {
-        assert!(rt; false);
-        return;
-    };
-    match read_report(&FULL, &report_schema(), &mut table) {
-        Ok(report) => is_full(&rt, &report),
-        Err(_) => assert!(rt; false),
-    }
+/// Whether these are the parts of the full report.
+fn is_full(report: &Report<'_>) -> bool {
+    report.number == 7
+        && report.revision.is_none()
+        && report.state == State::Charging
+        && report.meter == METER
+        && matches!(&report.amount, Amount::Reading(reading) if *reading == READING)
+        && report.supply == SUPPLY
+        && report.cause == Some(CAUSE)
+        && has_texts(report)
 }
 
-/// A payload in which one byte is another is refused.
-fn is_refused(
-    rt: &impl Abort,
-    payload: &[u8],
-    table: &mut Table,
-    at: usize,
-    byte: u8,
-    why: RefusalCause,
-    bit: u32,
-)
-    requires payload { length payload.now ≤ 64 }
-    requires cap { table.old.cap ≡ most_entries }
-    ensures { table.new.cap ≡ most_entries }
-{
-    let mut changed = [0; 64];
-    changed[..payload.len()].copy_from_slice(payload);
-    if let Some(place) = changed.get_mut(at) {
-        *place = byte;
-    }
-    match read_report(&changed[..payload.len()], &report_schema(), table) {
-        Ok(_) => assert!(rt; false),
-        Err(refusal) => assert_eq!(rt; (refusal.cause, refusal.bit), (why, bit)),
-    }
-}
-
-#[test]
-fn reports_are_refused_at_each_kind_of_place(rt: HostRuntime) {
-    let Ok(mut table) = Table::make(rt.alloc(), MOST_ENTRIES) else {
-        assert!(rt; false);
-        return;
-    };
-    let rows = [
-        (0, 0x00, RefusalCause::BadHeader, 0),
-        (1, 0x40, RefusalCause::UnknownElement, 8),
-        (1, 0xc0, RefusalCause::NoSuchCode, 8),
-        (1, 0x20, RefusalCause::Deviation, 10),
-        (2, 0xf0, RefusalCause::Deviation, 19),
-        (2, 0xf8, RefusalCause::NoSuchCode, 19),
-        (3, 0x5d, RefusalCause::TooLong, 22),
-        (7, 0x02, RefusalCause::TooLong, 57),
-        (11, 0x0c, RefusalCause::NoSuchValue, 92),
-        (12, 0x31, RefusalCause::NoSuchValue, 98),
-        (35, 0x00, RefusalCause::NoSuchIndex, 287),
-        (36, 0xc0, RefusalCause::Deviation, 288),
-        (36, 0xe0, RefusalCause::NoSuchCode, 288),
-        (
-            41,
-            0x88,
-            RefusalCause::OutOfProfile {
-                name: names::SOLAR_SUPPLY,
-            },
-            331,
-        ),
-        (41, 0x8c, RefusalCause::Abstract, 331),
-        (45, 0x40, RefusalCause::Abstract, 366),
-        (50, 0x07, RefusalCause::TooLong, 399),
-        (52, 0x60, RefusalCause::Deviation, 418),
-    ];
-    for (at, byte, why, bit) in rows {
-        is_refused(&rt, &FULL, &mut table, at, byte, why, bit);
-    }
-    is_refused(
-        &rt,
-        &SHORT,
-        &mut table,
-        5,
-        0x38,
-        RefusalCause::OutOfRange,
-        21,
-    );
-    is_refused(
-        &rt,
-        &SHORT,
-        &mut table,
-        18,
-        0x10,
-        RefusalCause::OutOfRange,
-        124,
-    );
-}
-
-/// A report is written as this payload, and not in less room.
-fn is_written(rt: &impl Abort, report: &Report<'_>, payload: &[u8], table: &mut Table)
+/// Whether a report is written as this payload, and not in less room.
+fn is_written(report: &Report<'_>, payload: &[u8], table: &mut Table) -> bool
     requires message { HasDocument report_schema (report_tree report.now) }
     requires payload { length payload.now ≤ 64 }
     requires some { 1 ≤ length payload.now }
     requires cap { table.old.cap ≡ most_entries }
-    ensures { table.new.cap ≡ most_entries }
 {
     let mut room = [0; 64];
-    match write_report(report, &mut room, &report_schema(), table) {
-        Ok(count) => assert_eq!(rt; &room[..count as usize], payload),
-        Err(_) => assert!(rt; false),
+    let Ok(count) = write_report(report, &mut room, &report_schema(), table) else {
+        return false;
+    };
+    if &room[..count as usize] != payload {
+        return false;
     }
     let less = payload.len() - 1;
-    assert!(rt; write_report(report, &mut room[..less], &report_schema(), table).is_err());
+    write_report(report, &mut room[..less], &report_schema(), table).is_err()
 }
 
+/// A payload that is read, and whether it is the full report; it is written again as it was read.
+struct Again(&'static [u8], bool);
+
+impl Case for Again {
+    fn holds(&self, alloc: Global) -> bool {
+        let Ok(mut table) = Table::make(alloc, MOST_ENTRIES) else {
+            return false;
+        };
+        if self.0.is_empty() || self.0.len() > 64 {
+            return false;
+        }
+        match read_report(self.0, &report_schema(), &mut table) {
+            Ok(report) => {
+                is_full(&report) == self.1 && is_written(&report, self.0, &mut table)
+            }
+            Err(_) => false,
+        }
+    }
+}
+
+const AGAIN: [Again; 2] = [Again(&FULL, true), Again(&SHORT, false)];
+
+/// A payload of at most 64 bytes, of which the one at this place is another, and how it is refused.
+struct Changed(&'static [u8], usize, u8, RefusalCause, u32);
+
+impl Case for Changed {
+    fn holds(&self, alloc: Global) -> bool {
+        let Ok(mut table) = Table::make(alloc, MOST_ENTRIES) else {
+            return false;
+        };
+        if self.0.len() > 64 || self.1 >= 64 {
+            return false;
+        }
+        let mut changed = [0; 64];
+        changed[..self.0.len()].copy_from_slice(self.0);
+        changed[self.1] = self.2;
+        match read_report(&changed[..self.0.len()], &report_schema(), &mut table) {
+            Ok(_) => false,
+            Err(refusal) => refusal.cause == self.3 && refusal.bit == self.4,
+        }
+    }
+}
+
+const CHANGED: [Changed; 20] = [
+    Changed(&FULL, 0, 0x00, RefusalCause::BadHeader, 0),
+    Changed(&FULL, 1, 0x40, RefusalCause::UnknownElement, 8),
+    Changed(&FULL, 1, 0xc0, RefusalCause::NoSuchCode, 8),
+    Changed(&FULL, 1, 0x20, RefusalCause::Deviation, 10),
+    Changed(&FULL, 2, 0xf0, RefusalCause::Deviation, 19),
+    Changed(&FULL, 2, 0xf8, RefusalCause::NoSuchCode, 19),
+    Changed(&FULL, 3, 0x5d, RefusalCause::TooLong, 22),
+    Changed(&FULL, 7, 0x02, RefusalCause::TooLong, 57),
+    Changed(&FULL, 11, 0x0c, RefusalCause::NoSuchValue, 92),
+    Changed(&FULL, 12, 0x31, RefusalCause::NoSuchValue, 98),
+    Changed(&FULL, 35, 0x00, RefusalCause::NoSuchIndex, 287),
+    Changed(&FULL, 36, 0xc0, RefusalCause::Deviation, 288),
+    Changed(&FULL, 36, 0xe0, RefusalCause::NoSuchCode, 288),
+    Changed(&FULL, 41, 0x88, RefusalCause::OutOfProfile { name: names::SOLAR_SUPPLY }, 331),
+    Changed(&FULL, 41, 0x8c, RefusalCause::Abstract, 331),
+    Changed(&FULL, 45, 0x40, RefusalCause::Abstract, 366),
+    Changed(&FULL, 50, 0x07, RefusalCause::TooLong, 399),
+    Changed(&FULL, 52, 0x60, RefusalCause::Deviation, 418),
+    Changed(&SHORT, 5, 0x38, RefusalCause::OutOfRange, 21),
+    Changed(&SHORT, 18, 0x10, RefusalCause::OutOfRange, 124),
+];
+
 #[test]
-fn reports_are_written_as_they_were_read(rt: HostRuntime) {
-    let Ok(mut table) = Table::make(rt.alloc(), MOST_ENTRIES) else {
-        assert!(rt; false);
-        return;
-    };
-    match read_report(&FULL, &report_schema(), &mut table) {
-        Ok(report) => is_written(&rt, &report, &FULL, &mut table),
-        Err(_) => assert!(rt; false),
-    }
-    match read_report(&SHORT, &report_schema(), &mut table) {
-        Ok(report) => is_written(&rt, &report, &SHORT, &mut table),
-        Err(_) => assert!(rt; false),
-    }
+fn reports_are_read_written_and_refused(rt: HostRuntime) {
+    all_hold(&rt, rt.alloc(), &AGAIN);
+    all_hold(&rt, rt.alloc(), &CHANGED);
 }

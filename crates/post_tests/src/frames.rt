@@ -1,14 +1,8 @@
 ghost use Rattle.std.specs.Prelude.{◌≤◌, length};
 
+use crate::cases::{Case, all_hold};
 use std::alloc::Global;
-use std::test::Fail;
 use v2gtp_frames::{FrameFault, FrameReader, NoMemory, StreamFrames, put_frame, split};
-
-/// A frame of one byte, and then one of two.
-const TWO_FRAMES: [u8; 19] = [
-    0x01, 0xfe, 0x80, 0x01, 0x00, 0x00, 0x00, 0x01, 0x80, 0x01, 0xfe, 0x80, 0x01, 0x00, 0x00, 0x00,
-    0x02, 0x9a, 0x00,
-];
 
 /// The frames of these bytes in one piece, and with one byte in each piece.
 fn split_both(alloc: Global, bytes: &[u8]) -> Result<(StreamFrames, StreamFrames), NoMemory>
@@ -23,74 +17,88 @@ fn split_both(alloc: Global, bytes: &[u8]) -> Result<(StreamFrames, StreamFrames
     Ok((split(alloc, &whole)?, split(alloc, &single)?))
 }
 
-#[test]
-fn the_first_wrong_field_is_the_fault_as_soon_as_it_is_whole(rt: HostRuntime) -> Result<(), Fail> {
-    let version = FrameFault::BadVersion(0x02fe);
-    for (header, len, fault) in [
-        ([0x02, 0xfe, 0x80, 0x01, 0x00, 0x00, 0x00, 0x00], 1, None),
-        (
-            [0x02, 0xfe, 0x80, 0x01, 0x00, 0x00, 0x00, 0x00],
-            2,
-            Some(version),
-        ),
-        (
-            [0x02, 0xfe, 0x80, 0x01, 0x00, 0x00, 0x00, 0x00],
-            8,
-            Some(version),
-        ),
-        (
-            [0x01, 0xfe, 0x80, 0x02, 0x00, 0x00, 0x00, 0x00],
-            4,
-            Some(FrameFault::BadType(0x8002)),
-        ),
-        (
-            [0x01, 0xfe, 0x80, 0x01, 0x00, 0x01, 0x00, 0x01],
-            8,
-            Some(FrameFault::LongPayload(65537)),
-        ),
-        ([0x01, 0xfe, 0x80, 0x01, 0x00, 0x01, 0x00, 0x00], 8, None),
-    ] {
-        let (whole, single) = split_both(rt.alloc(), &header[..len])?;
-        assert!(rt; whole.payloads.is_empty());
-        assert!(rt; single.payloads.is_empty());
-        assert_eq!(rt; whole.fault, fault);
-        assert_eq!(rt; single.fault, fault);
+/// The bytes of a stream, the payloads of their frames, and the first wrong field as soon as it is whole.
+struct Stream(&'static [u8], &'static [&'static [u8]], Option<FrameFault>);
+
+impl Stream {
+    /// Whether these are its frames.
+    fn has(&self, frames: &StreamFrames) -> bool {
+        if frames.payloads.len() != self.1.len() || frames.fault != self.2 {
+            return false;
+        }
+        for (payload, wanted) in frames.payloads.iter().zip(self.1) {
+            if payload.as_slice() != *wanted {
+                return false;
+            }
+        }
+        true
     }
-    Ok(())
 }
 
-#[test]
-fn two_frames_in_one_piece_are_two_payloads_as_byte_by_byte(rt: HostRuntime) -> Result<(), Fail> {
-    let (whole, single) = split_both(rt.alloc(), &TWO_FRAMES)?;
-    for frames in [whole, single] {
-        assert_eq!(rt; frames.payloads.len(), 2);
-        assert!(rt; frames.payloads[0].as_slice() == [0x80].as_slice());
-        assert!(rt; frames.payloads[1].as_slice() == [0x9a, 0x00].as_slice());
-        assert_eq!(rt; frames.fault, None);
+impl Case for Stream {
+    fn holds(&self, alloc: Global) -> bool {
+        if self.0.len() > 4096 {
+            return false;
+        }
+        match split_both(alloc, self.0) {
+            Ok((whole, single)) => self.has(&whole) && self.has(&single),
+            Err(_) => false,
+        }
     }
-    Ok(())
 }
 
-#[test]
-fn a_header_names_its_type_and_length(rt: HostRuntime) {
-    assert_eq!(rt;
-        put_frame(0x8001, 34),
-        [0x01, 0xfe, 0x80, 0x01, 0x00, 0x00, 0x00, 0x22]
-    );
-}
+/// A frame of one byte, and then one of two.
+const TWO_FRAMES: [u8; 19] = [
+    0x01, 0xfe, 0x80, 0x01, 0x00, 0x00, 0x00, 0x01, 0x80, 0x01, 0xfe, 0x80, 0x01, 0x00, 0x00, 0x00,
+    0x02, 0x9a, 0x00,
+];
 
-#[test]
+const STREAMS: [Stream; 7] = [
+    Stream(&[0x02], &[], None),
+    Stream(&[0x02, 0xfe], &[], Some(FrameFault::BadVersion(0x02fe))),
+    Stream(
+        &[0x02, 0xfe, 0x80, 0x01, 0x00, 0x00, 0x00, 0x00],
+        &[],
+        Some(FrameFault::BadVersion(0x02fe)),
+    ),
+    Stream(
+        &[0x01, 0xfe, 0x80, 0x02],
+        &[],
+        Some(FrameFault::BadType(0x8002)),
+    ),
+    Stream(
+        &[0x01, 0xfe, 0x80, 0x01, 0x00, 0x01, 0x00, 0x01],
+        &[],
+        Some(FrameFault::LongPayload(65537)),
+    ),
+    Stream(&[0x01, 0xfe, 0x80, 0x01, 0x00, 0x01, 0x00, 0x00], &[], None),
+    Stream(&TWO_FRAMES, &[&[0x80], &[0x9a, 0x00]], None),
+];
+
+/// A fault is answered again until the reader is cleared.
 #[tactic(auto, unfolding(v2gtp_frames::specs::Reading::whole_at))]
-fn a_fault_is_answered_again_until_the_reader_is_cleared(rt: HostRuntime) -> Result<(), Fail> {
-    let mut reader = FrameReader::make(rt.alloc())?;
+fn is_cleared(alloc: Global) -> bool {
+    let Ok(mut reader) = FrameReader::make(alloc) else {
+        return false;
+    };
     reader.feed(&[0x01, 0xfe, 0x80, 0x02]);
     for _ in 0..2 {
-        assert_eq!(rt; reader.next(), Err(FrameFault::BadType(0x8002)));
+        if reader.next() != Err(FrameFault::BadType(0x8002)) {
+            return false;
+        }
     }
     reader.clear();
-    assert_eq!(rt; reader.next(), Ok(None));
+    if reader.next() != Ok(None) {
+        return false;
+    }
     reader.clear();
     reader.feed(&TWO_FRAMES);
-    assert!(rt; reader.next() == Ok(Some(&[0x80])));
-    Ok(())
+    reader.next() == Ok(Some(&[0x80]))
+}
+
+#[test]
+fn streams_are_split_into_frames(rt: HostRuntime) {
+    all_hold(&rt, rt.alloc(), &STREAMS);
+    assert!(rt; is_cleared(rt.alloc()));
+    assert!(rt; put_frame(0x8001, 34) == [0x01, 0xfe, 0x80, 0x01, 0x00, 0x00, 0x00, 0x22]);
 }

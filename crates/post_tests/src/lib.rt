@@ -1,8 +1,10 @@
 //! Tests of the public calls that a post is made of: frames and discovery, words, deadlines, contactor and pilot, the rules of a session,
 //! shares of power, a simulated charger, and the plain program of a post. They stand here so that the crates whose calls they are are proved
-//! once.
+//! once, as tables of cases, since a test is proved call by call.
 #![tactic(auto)]
 
+#[cfg(test)]
+mod cases;
 #[cfg(test)]
 mod contactors;
 #[cfg(test)]

@@ -1,6 +1,7 @@
 ghost use Rattle.std.specs.Prelude.{◌≤◌};
 ghost use Rattle.session_words.specs.Plans.{IsPostPlan};
 
+use crate::cases::{Case, all_hold};
 use arrayvec::ArrayVec;
 use charge_world::{Dialect, IsolationLevel, Order, PilotState, PlantEvent, Tenths};
 use session_rules::{
@@ -13,7 +14,7 @@ use session_words::{
     PostLimits, PostPlan, PostStatus, Processing, Progress, Request, SessionId, Standing,
     StatusCode, Tell, Timeout, Tuple,
 };
-use std::process::Abort;
+use std::alloc::Global;
 
 /// The token of the sessions.
 const TOKEN: u64 = 0x0102_0304_0506_0708;
@@ -28,8 +29,8 @@ fn amount(size: u32) -> Amount {
     Amount { size, right: true }
 }
 
-/// A post of 50 kW that speaks ISO 15118-2.
-fn post(mode: Mode) -> PostPlan
+/// A post of 50 kW that speaks ISO 15118-2, free or not.
+fn post(mode: Mode, free: bool) -> PostPlan
     ensures { IsPostPlan result }
 {
     let mut dialects = ArrayVec::new();
@@ -43,7 +44,7 @@ fn post(mode: Mode) -> PostPlan
         dialects,
         evse_id: EvseText::of("ZZ00000").unwrap(),
         evse_id_din,
-        free: true,
+        free,
         max_watts: 50_000,
         max_voltage: tenths(9200),
         min_voltage: tenths(1500),
@@ -54,15 +55,15 @@ fn post(mode: Mode) -> PostPlan
     }
 }
 
-/// A session of ISO in this row.
-fn stage(row: Phase) -> Stage {
+/// A session of ISO in this row, with this pre-charge.
+fn stage(row: Phase, pre_charge: Option<PreCharged>) -> Stage {
     Stage {
         row,
         dialect: Dialect::Iso,
         session: SessionId::of_token(TOKEN),
         told: 0,
         schedule: 50_000,
-        pre_charge: None,
+        pre_charge,
     }
 }
 
@@ -89,68 +90,6 @@ fn request(ask: Ask) -> Request {
     }
 }
 
-fn delivery(progress: Progress) -> Ask {
-    Ask::PowerDelivery {
-        progress,
-        tuple: Some(1),
-        profile: None,
-    }
-}
-
-/// What is wanted of an answer.
-#[derive(Clone, Copy)]
-struct Wanted {
-    code: Code,
-    order: Option<Order>,
-    cause: Option<EndCause>,
-    row: Phase,
-}
-
-/// Answers a request, where no watts are shown.
-fn answers(
-    rt: &impl Abort,
-    plan: &PostPlan,
-    stage: Stage,
-    facts: &Facts,
-    request: &Request,
-    wanted: Wanted,
-) -> Tell
-    requires { IsPostPlan plan.now }
-{
-    let reply = reply_to(&stage, facts, plan, request, 0);
-    assert_eq!(rt; reply.code, wanted.code);
-    assert_eq!(rt; order_of(&stage, facts, plan, request, 0), wanted.order);
-    assert_eq!(rt;
-        word_cause(false, found_by(reply.code, &request.ask)),
-        wanted.cause
-    );
-    assert_eq!(rt;
-        stage_behind(stage, facts, plan, request, 0).row,
-        wanted.row
-    );
-    reply.tell
-}
-
-/// An answer without an order and a cause.
-fn good(row: Phase) -> Wanted {
-    Wanted {
-        code: Code::Ok,
-        order: None,
-        cause: None,
-        row,
-    }
-}
-
-/// A FAILED answer.
-fn failed(code: Code, row: Phase) -> Wanted {
-    Wanted {
-        code,
-        order: None,
-        cause: Some(EndCause::FailedReply),
-        row,
-    }
-}
-
 fn dc_status(isolation: Option<IsolationLevel>, code: StatusCode) -> DcStatus {
     DcStatus {
         notify: Notify::None,
@@ -159,387 +98,556 @@ fn dc_status(isolation: Option<IsolationLevel>, code: StatusCode) -> DcStatus {
     }
 }
 
-#[test]
-fn the_first_request_out_of_order_and_the_last_one(rt: HostRuntime) {
-    let plan = post(Mode::DcExtended);
-    let told = answers(
-        &rt,
-        &plan,
-        stage(Phase::SetUp),
-        &facts(None),
-        &request(Ask::Authorization),
-        failed(Code::FailedSequenceError, Phase::SetUp),
-    );
-    let finished = Tell::Authorization {
-        processing: Processing::Finished,
-    };
-    assert_eq!(rt; told, finished);
-    let nameless = Request {
-        session: SessionId::zero(),
-        ask: Ask::Authorization,
-    };
-    let unknown = failed(Code::FailedUnknownSession, Phase::SetUp);
-    let row = stage(Phase::SetUp);
-    answers(&rt, &plan, row, &facts(None), &nameless, unknown);
-    let stop = request(Ask::SessionStop { pause: false });
-    let zeros = Request {
-        session: SessionId::zero(),
-        ask: Ask::SessionStop { pause: false },
-    };
-    for row in [Phase::SetUp, Phase::DcStopped] {
-        let stopped = Wanted {
-            cause: Some(EndCause::Stopped),
-            ..good(row)
-        };
-        answers(&rt, &plan, stage(row), &facts(None), &stop, stopped);
-        let unknown = failed(Code::FailedUnknownSession, row);
-        answers(&rt, &plan, stage(row), &facts(None), &zeros, unknown);
+/// Where a post stands when it is asked.
+#[derive(Clone, Copy)]
+struct Scene {
+    mode: Mode,
+    free: bool,
+    row: Phase,
+    /// The voltage that a pre-charge to 400.0 V came to, in tenths.
+    pre_charged: Option<u16>,
+    isolation: Option<IsolationLevel>,
+    paid: bool,
+    renew: bool,
+    /// Whether the request names its session, or none.
+    named: bool,
+}
+
+/// A free post for DC.
+const DC: Scene = Scene {
+    mode: Mode::DcExtended,
+    free: true,
+    row: Phase::SetUp,
+    pre_charged: None,
+    isolation: None,
+    paid: false,
+    renew: false,
+    named: true,
+};
+
+/// What is asked.
+#[derive(Clone, Copy)]
+enum Asked {
+    Authorization,
+    Stop { pause: bool },
+    Delivery(Progress),
+    CableCheck,
+}
+
+fn ask_from(asked: Asked) -> Ask {
+    match asked {
+        Asked::Authorization => Ask::Authorization,
+        Asked::Stop { pause } => Ask::SessionStop { pause },
+        Asked::Delivery(progress) => Ask::PowerDelivery {
+            progress,
+            tuple: Some(1),
+            profile: None,
+        },
+        Asked::CableCheck => Ask::CableCheck {
+            ready: true,
+            soc: 20,
+        },
     }
 }
 
-#[test]
-fn an_authorization_waits_until_somebody_paid(rt: HostRuntime) {
-    let plan = PostPlan {
-        free: false,
-        ..post(Mode::DcExtended)
-    };
-    let ask = request(Ask::Authorization);
-    let waits = answers(
-        &rt,
-        &plan,
-        stage(Phase::Selected),
-        &facts(None),
-        &ask,
-        good(Phase::Selected),
-    );
-    let ongoing = Tell::Authorization {
-        processing: Processing::OngoingWaitingForCustomerInteraction,
-    };
-    assert_eq!(rt; waits, ongoing);
-    let paid = Facts {
-        paid: true,
-        ..facts(None)
-    };
-    let row = good(Phase::Authorized);
-    let done = answers(&rt, &plan, stage(Phase::Selected), &paid, &ask, row);
-    let finished = Tell::Authorization {
-        processing: Processing::Finished,
-    };
-    assert_eq!(rt; done, finished);
+/// What is wanted of an answer, where no watts are shown, and the row behind it.
+#[derive(Clone, Copy)]
+enum Wanted {
+    /// OK, without an order and a cause.
+    Good(Phase),
+    /// OK, and the contactor is to close, or to open.
+    Closes(Phase),
+    Opens(Phase),
+    /// OK, with the cause by which the session ends.
+    Ends(EndCause, Phase),
+    /// FAILED, which ends the session.
+    Fails(Code, Phase),
 }
 
-#[test]
-fn start_before_the_cable_check_closes_nothing(rt: HostRuntime) {
-    let told = answers(
-        &rt,
-        &post(Mode::DcExtended),
-        stage(Phase::DcReady),
-        &facts(None),
-        &request(delivery(Progress::Start)),
-        failed(Code::FailedSequenceError, Phase::DcReady),
-    );
-    let status = dc_status(None, StatusCode::EvseMalfunction);
-    let malfunction = Tell::PowerDelivery {
-        status: PostStatus::Dc(status),
-    };
-    assert_eq!(rt; told, malfunction);
-}
-
-#[test]
-fn start_closes_where_the_pre_charge_came_within_20_volts(rt: HostRuntime) {
-    let valid = facts(Some(IsolationLevel::Valid));
-    let closes = Wanted {
-        order: Some(Order::Close),
-        ..good(Phase::DcClosing)
-    };
-    let far = failed(Code::FailedPowerDeliveryNotApplied, Phase::DcPreCharging);
-    for (voltage, wanted) in [(3800, closes), (3790, far), (4200, closes), (4201, far)] {
-        let pre_charged = Stage {
-            pre_charge: Some(PreCharged {
-                target: 4000,
-                voltage: tenths(voltage),
-            }),
-            ..stage(Phase::DcPreCharging)
-        };
-        answers(
-            &rt,
-            &post(Mode::DcExtended),
-            pre_charged,
-            &valid,
-            &request(delivery(Progress::Start)),
-            wanted,
-        );
+/// The code, the order, the cause and the row.
+fn parts_of(wanted: Wanted) -> (Code, Option<Order>, Option<EndCause>, Phase) {
+    match wanted {
+        Wanted::Good(row) => (Code::Ok, None, None, row),
+        Wanted::Closes(row) => (Code::Ok, Some(Order::Close), None, row),
+        Wanted::Opens(row) => (Code::Ok, Some(Order::Open), None, row),
+        Wanted::Ends(cause, row) => (Code::Ok, None, Some(cause), row),
+        Wanted::Fails(code, row) => (code, None, Some(EndCause::FailedReply), row),
     }
-    assert_eq!(rt;
-        word_cause(true, Found::Accepted),
-        Some(EndCause::Impatient)
-    );
-    assert!(rt; is_waiting(Phase::DcClosing) && !is_waiting(Phase::DcCharging));
-    assert_eq!(rt; timeout_of(Phase::DcClosing), Timeout::Feedback);
-    assert_eq!(rt;
-        break_cause(Break::Due(Timeout::Feedback)),
-        EndCause::FeedbackTimeout
-    );
 }
 
-#[test]
-fn a_cable_check_waits_for_the_isolation_and_fails_by_a_fault(rt: HostRuntime) {
-    let plan = post(Mode::DcExtended);
-    let ask = request(Ask::CableCheck {
-        ready: true,
-        soc: 20,
-    });
-    let row = good(Phase::DcReady);
-    let told = answers(&rt, &plan, stage(Phase::DcReady), &facts(None), &ask, row);
-    let ongoing = Tell::CableCheck {
-        status: dc_status(None, StatusCode::EvseIsolationMonitoringActive),
-        processing: Processing::Ongoing,
-    };
-    assert_eq!(rt; told, ongoing);
-    let fault = facts(Some(IsolationLevel::Fault));
-    let row = failed(Code::Failed, Phase::DcReady);
-    answers(&rt, &plan, stage(Phase::DcReady), &fault, &ask, row);
+/// What is told.
+#[derive(Clone, Copy)]
+enum Told {
+    /// It doesn't matter.
+    Any,
+    Authorization(Processing),
+    Delivery(Option<IsolationLevel>, StatusCode),
+    CableCheck(StatusCode, Processing),
 }
+
+fn tell_of(told: Told) -> Option<Tell> {
+    match told {
+        Told::Any => None,
+        Told::Authorization(processing) => Some(Tell::Authorization { processing }),
+        Told::Delivery(isolation, code) => Some(Tell::PowerDelivery {
+            status: PostStatus::Dc(dc_status(isolation, code)),
+        }),
+        Told::CableCheck(code, processing) => Some(Tell::CableCheck {
+            status: dc_status(None, code),
+            processing,
+        }),
+    }
+}
+
+/// Whether a request is answered so.
+fn is_answered(
+    plan: &PostPlan,
+    stage: Stage,
+    facts: &Facts,
+    request: &Request,
+    wanted: Wanted,
+    told: Told,
+) -> bool
+    requires { IsPostPlan plan.now }
+{
+    let (code, order, cause, row) = parts_of(wanted);
+    let reply = reply_to(&stage, facts, plan, request, 0);
+    let is_told = match tell_of(told) {
+        Some(tell) => reply.tell == tell,
+        None => true,
+    };
+    is_told
+        && reply.code == code
+        && order_of(&stage, facts, plan, request, 0) == order
+        && word_cause(false, found_by(reply.code, &request.ask)) == cause
+        && stage_behind(stage, facts, plan, request, 0).row == row
+}
+
+/// A request, and how it is answered.
+struct Answer(Scene, Asked, Wanted, Told);
+
+/// What was pre-charged to 400.0 V.
+fn pre_charge_of(voltage: Option<u16>) -> Option<PreCharged> {
+    match Tenths::of(voltage?) {
+        Some(voltage) => Some(PreCharged {
+            target: 4000,
+            voltage,
+        }),
+        None => None,
+    }
+}
+
+impl Case for Answer {
+    fn holds(&self, _: Global) -> bool {
+        let scene = self.0;
+        let facts = Facts {
+            paid: scene.paid,
+            renew: scene.renew,
+            ..facts(scene.isolation)
+        };
+        let session = if scene.named {
+            SessionId::of_token(TOKEN)
+        } else {
+            SessionId::zero()
+        };
+        let request = Request {
+            session,
+            ask: ask_from(self.1),
+        };
+        is_answered(
+            &post(scene.mode, scene.free),
+            stage(scene.row, pre_charge_of(scene.pre_charged)),
+            &facts,
+            &request,
+            self.2,
+            self.3,
+        )
+    }
+}
+
+/// A pre-charge to 400.0 V that came to this voltage, where the isolation is valid.
+macro_rules! pre_charged {
+    ($voltage:expr) => {
+        Scene {
+            row: Phase::DcPreCharging,
+            pre_charged: Some($voltage),
+            isolation: Some(IsolationLevel::Valid),
+            ..DC
+        }
+    };
+}
+
+const ANSWERS: [Answer; 19] = [
+    // the first request out of order, and the last one
+    Answer(
+        DC,
+        Asked::Authorization,
+        Wanted::Fails(Code::FailedSequenceError, Phase::SetUp),
+        Told::Authorization(Processing::Finished),
+    ),
+    Answer(
+        Scene { named: false, ..DC },
+        Asked::Authorization,
+        Wanted::Fails(Code::FailedUnknownSession, Phase::SetUp),
+        Told::Any,
+    ),
+    Answer(
+        DC,
+        Asked::Stop { pause: false },
+        Wanted::Ends(EndCause::Stopped, Phase::SetUp),
+        Told::Any,
+    ),
+    Answer(
+        Scene { named: false, ..DC },
+        Asked::Stop { pause: false },
+        Wanted::Fails(Code::FailedUnknownSession, Phase::SetUp),
+        Told::Any,
+    ),
+    Answer(
+        Scene {
+            row: Phase::DcStopped,
+            ..DC
+        },
+        Asked::Stop { pause: false },
+        Wanted::Ends(EndCause::Stopped, Phase::DcStopped),
+        Told::Any,
+    ),
+    Answer(
+        Scene {
+            row: Phase::DcStopped,
+            named: false,
+            ..DC
+        },
+        Asked::Stop { pause: false },
+        Wanted::Fails(Code::FailedUnknownSession, Phase::DcStopped),
+        Told::Any,
+    ),
+    // an authorization waits until somebody paid
+    Answer(
+        Scene {
+            row: Phase::Selected,
+            free: false,
+            ..DC
+        },
+        Asked::Authorization,
+        Wanted::Good(Phase::Selected),
+        Told::Authorization(Processing::OngoingWaitingForCustomerInteraction),
+    ),
+    Answer(
+        Scene {
+            row: Phase::Selected,
+            free: false,
+            paid: true,
+            ..DC
+        },
+        Asked::Authorization,
+        Wanted::Good(Phase::Authorized),
+        Told::Authorization(Processing::Finished),
+    ),
+    // a start before the cable check closes nothing
+    Answer(
+        Scene {
+            row: Phase::DcReady,
+            ..DC
+        },
+        Asked::Delivery(Progress::Start),
+        Wanted::Fails(Code::FailedSequenceError, Phase::DcReady),
+        Told::Delivery(None, StatusCode::EvseMalfunction),
+    ),
+    // a start closes where the pre-charge came within 20 volts
+    Answer(
+        pre_charged!(3800),
+        Asked::Delivery(Progress::Start),
+        Wanted::Closes(Phase::DcClosing),
+        Told::Any,
+    ),
+    Answer(
+        pre_charged!(3790),
+        Asked::Delivery(Progress::Start),
+        Wanted::Fails(Code::FailedPowerDeliveryNotApplied, Phase::DcPreCharging),
+        Told::Any,
+    ),
+    Answer(
+        pre_charged!(4200),
+        Asked::Delivery(Progress::Start),
+        Wanted::Closes(Phase::DcClosing),
+        Told::Any,
+    ),
+    Answer(
+        pre_charged!(4201),
+        Asked::Delivery(Progress::Start),
+        Wanted::Fails(Code::FailedPowerDeliveryNotApplied, Phase::DcPreCharging),
+        Told::Any,
+    ),
+    // a cable check waits for the isolation, and fails by a fault
+    Answer(
+        Scene {
+            row: Phase::DcReady,
+            ..DC
+        },
+        Asked::CableCheck,
+        Wanted::Good(Phase::DcReady),
+        Told::CableCheck(
+            StatusCode::EvseIsolationMonitoringActive,
+            Processing::Ongoing,
+        ),
+    ),
+    Answer(
+        Scene {
+            row: Phase::DcReady,
+            isolation: Some(IsolationLevel::Fault),
+            ..DC
+        },
+        Asked::CableCheck,
+        Wanted::Fails(Code::Failed, Phase::DcReady),
+        Told::Any,
+    ),
+    // three phases
+    Answer(
+        Scene {
+            mode: Mode::AcThreePhaseCore,
+            row: Phase::AcReady,
+            ..DC
+        },
+        Asked::Delivery(Progress::Start),
+        Wanted::Closes(Phase::AcClosing),
+        Told::Any,
+    ),
+    // a pause, and one that is too early
+    Answer(
+        Scene {
+            row: Phase::DcStopped,
+            ..DC
+        },
+        Asked::Stop { pause: true },
+        Wanted::Ends(EndCause::Paused, Phase::DcStopped),
+        Told::Any,
+    ),
+    Answer(
+        Scene {
+            row: Phase::DcCharging,
+            ..DC
+        },
+        Asked::Stop { pause: true },
+        Wanted::Fails(Code::Failed, Phase::DcCharging),
+        Told::Any,
+    ),
+    // a renegotiation opens and goes back to the parameters
+    Answer(
+        Scene {
+            row: Phase::DcCharging,
+            isolation: Some(IsolationLevel::Valid),
+            renew: true,
+            ..DC
+        },
+        Asked::Delivery(Progress::Renegotiate),
+        Wanted::Opens(Phase::Authorized),
+        Told::Delivery(Some(IsolationLevel::Valid), StatusCode::EvseNotReady),
+    ),
+];
+
+/// Behind a renegotiation none is wanted any more, and a start is too early.
+fn is_renewed() -> bool {
+    let plan = post(Mode::DcExtended, true);
+    let renewing = Facts {
+        renew: true,
+        ..facts(Some(IsolationLevel::Valid))
+    };
+    let charging = stage(Phase::DcCharging, None);
+    let renegotiate = request(ask_from(Asked::Delivery(Progress::Renegotiate)));
+    let renewed = facts_behind(renewing, &charging, &plan, &renegotiate);
+    !renewed.renew
+        && is_answered(
+            &plan,
+            stage(Phase::Authorized, None),
+            &renewed,
+            &request(ask_from(Asked::Delivery(Progress::Start))),
+            Wanted::Fails(Code::FailedSequenceError, Phase::Authorized),
+            Told::Any,
+        )
+}
+
+/// What a charger tells.
+#[derive(Clone, Copy)]
+enum Happened {
+    /// 230.0 V and this current, in tenths of an ampere.
+    Measured(u16),
+    Isolation(IsolationLevel),
+    Pilot(PilotState),
+    Emergency,
+    Opened,
+}
+
+fn event_of(happened: Happened) -> PlantEvent {
+    match happened {
+        Happened::Measured(current) => PlantEvent::Measured {
+            voltage: tenths(2300),
+            current: tenths(current.min(30000)),
+        },
+        Happened::Isolation(level) => PlantEvent::Isolation(level),
+        Happened::Pilot(state) => PlantEvent::Pilot(state),
+        Happened::Emergency => PlantEvent::Emergency,
+        Happened::Opened => PlantEvent::Feedback { closed: false },
+    }
+}
+
+/// An event, and by which causes it ends a session that charges, and one whose isolation was checked.
+struct Ending(Happened, Option<EndCause>, Option<EndCause>);
 
 /// A charging session of three phases that may take 22,080 W.
-fn charging() -> Watch {
-    Watch {
-        row: Phase::AcCharging,
-        standing: Standing::Closed,
-        live: true,
-        phases: 3,
-        allowed: 22080,
-    }
-}
+const CHARGING: Watch = Watch {
+    row: Phase::AcCharging,
+    standing: Standing::Closed,
+    live: true,
+    phases: 3,
+    allowed: 22080,
+};
 
 /// A session whose isolation was checked, and whose contactor is open.
-fn checked() -> Watch {
-    Watch {
-        row: Phase::DcChecked,
-        standing: Standing::Opened,
-        live: false,
-        phases: 1,
-        allowed: 22080,
+const CHECKED: Watch = Watch {
+    row: Phase::DcChecked,
+    standing: Standing::Opened,
+    live: false,
+    phases: 1,
+    allowed: 22080,
+};
+
+impl Case for Ending {
+    fn holds(&self, _: Global) -> bool {
+        let event = event_of(self.0);
+        plant_cause(&CHARGING, &event) == self.1 && plant_cause(&CHECKED, &event) == self.2
     }
 }
 
-/// 230.0 V and this current, in tenths of an ampere.
-fn measured(current: u16) -> PlantEvent
-    requires { current ≤ 30000 }
-{
-    PlantEvent::Measured {
-        voltage: tenths(2300),
-        current: tenths(current),
-    }
-}
-
-/// The event is this cause in a charging session, and this one in a session that was checked.
-fn ends(rt: &impl Abort, event: PlantEvent, then: Option<EndCause>, before: Option<EndCause>) {
-    assert_eq!(rt; plant_cause(&charging(), &event), then);
-    assert_eq!(rt; plant_cause(&checked(), &event), before);
-}
-
-#[test]
-fn events_of_the_charger_that_end_a_session(rt: HostRuntime) {
-    let lost = Some(EndCause::IsolationLost);
-    let emergency = Some(EndCause::Emergency);
-    let opened = PlantEvent::Feedback { closed: false };
-    ends(&rt, measured(336), None, None);
-    ends(&rt, measured(337), Some(EndCause::OverPower), None);
-    ends(
-        &rt,
-        PlantEvent::Isolation(IsolationLevel::Invalid),
+const ENDINGS: [Ending; 6] = [
+    Ending(Happened::Measured(336), None, None),
+    Ending(Happened::Measured(337), Some(EndCause::OverPower), None),
+    Ending(
+        Happened::Isolation(IsolationLevel::Invalid),
         None,
-        lost,
-    );
-    ends(
-        &rt,
-        PlantEvent::Pilot(PilotState::B),
+        Some(EndCause::IsolationLost),
+    ),
+    Ending(
+        Happened::Pilot(PilotState::B),
         Some(EndCause::PilotLost),
         None,
-    );
-    ends(&rt, PlantEvent::Emergency, emergency, emergency);
-    ends(&rt, opened, Some(EndCause::FeedbackWrong), None);
-    assert_eq!(rt; break_cause(Break::OrderFailed), EndCause::OrderFailed);
+    ),
+    Ending(
+        Happened::Emergency,
+        Some(EndCause::Emergency),
+        Some(EndCause::Emergency),
+    ),
+    Ending(Happened::Opened, Some(EndCause::FeedbackWrong), None),
+];
+
+/// What a session waits for, and what ends it beside the charger.
+fn waits_and_ends() -> bool {
+    word_cause(true, Found::Accepted) == Some(EndCause::Impatient)
+        && is_waiting(Phase::DcClosing)
+        && !is_waiting(Phase::DcCharging)
+        && timeout_of(Phase::DcClosing) == Timeout::Feedback
+        && break_cause(Break::Due(Timeout::Feedback)) == EndCause::FeedbackTimeout
+        && break_cause(Break::OrderFailed) == EndCause::OrderFailed
 }
 
-#[test]
-fn three_phases_at_32_amperes(rt: HostRuntime) {
-    let plan = post(Mode::AcThreePhaseCore);
+/// Three phases at 32 amperes are asked for, closed and charged with.
+fn charges_by_three_phases() -> bool {
+    let plan = post(Mode::AcThreePhaseCore, true);
     let car = CarLimits::Ac {
         most_current: amount(320),
         least_current: amount(60),
         most_voltage: amount(4000),
     };
-    assert_eq!(rt; ask_of(&plan, &car), 22080);
-    let closes = Wanted {
-        order: Some(Order::Close),
-        ..good(Phase::AcClosing)
-    };
-    let start = request(delivery(Progress::Start));
-    answers(
-        &rt,
-        &plan,
-        stage(Phase::AcReady),
-        &facts(None),
-        &start,
-        closes,
-    );
-    let confirmed = stage(Phase::AcClosing).confirmed();
-    assert_eq!(rt; confirmed.row, Phase::AcCharging);
+    let confirmed = stage(Phase::AcClosing, None).confirmed();
     let closed = Tell::PowerDelivery {
         status: PostStatus::Ac {
             notify: Notify::None,
         },
     };
-    assert_eq!(rt; waiting_reply(&confirmed, &facts(None), &plan).tell, closed);
+    ask_of(&plan, &car) == 22080
+        && confirmed.row == Phase::AcCharging
+        && waiting_reply(&confirmed, &facts(None), &plan).tell == closed
+        && shows_the_current(&plan, &confirmed)
+}
+
+/// A charging status orders and tells 32 amperes.
+fn shows_the_current(plan: &PostPlan, charging: &Stage) -> bool
+    requires { IsPostPlan plan.now }
+{
+    let facts = facts(None);
     let status = request(Ask::ChargingStatus);
     let limits = Order::Limits {
         voltage: tenths(2300),
         current: tenths(320),
         watts: 22080,
     };
-    let order = order_of(&confirmed, &facts(None), &plan, &status, 22080);
-    assert_eq!(rt; order, Some(limits));
-    let evse = EvseId::Text(plan.evse_id.copied());
     let told = Tell::ChargingStatus {
         notify: Notify::None,
-        evse,
+        evse: EvseId::Text(plan.evse_id.copied()),
         current: Some(amount(320)),
     };
-    let reply = reply_to(&confirmed, &facts(None), &plan, &status, 22080);
-    assert_eq!(rt; reply.tell, told);
+    order_of(charging, &facts, plan, &status, 22080) == Some(limits)
+        && reply_to(charging, &facts, plan, &status, 22080).tell == told
 }
 
-#[test]
-fn a_paused_session_is_joined_once(rt: HostRuntime) {
-    let plan = post(Mode::DcExtended);
-    let pause = request(Ask::SessionStop { pause: true });
-    let paused = Wanted {
-        cause: Some(EndCause::Paused),
-        ..good(Phase::DcStopped)
-    };
-    answers(
-        &rt,
-        &plan,
-        stage(Phase::DcStopped),
-        &facts(None),
-        &pause,
-        paused,
-    );
-    let early = failed(Code::Failed, Phase::DcCharging);
-    answers(
-        &rt,
-        &plan,
-        stage(Phase::DcCharging),
-        &facts(None),
-        &pause,
-        early,
-    );
+/// A car that comes back joins the session that was kept, and a new one otherwise.
+fn joins(is_kept: bool, code: Code, token: u64) -> bool {
+    let plan = post(Mode::DcExtended, true);
     let setup = request(Ask::SessionSetup {
         car: ArrayVec::new(),
     });
-    let kept = Facts {
-        kept: Some(SessionId::of_token(TOKEN)),
+    let facts = Facts {
+        kept: is_kept.then_some(SessionId::of_token(TOKEN)),
         ..facts(None)
     };
-    for (kept, code, session) in [
-        (kept, Code::OkOldSessionJoined, SessionId::of_token(TOKEN)),
-        (
-            facts(None),
-            Code::OkNewSessionEstablished,
-            SessionId::of_token(7),
-        ),
-    ] {
-        let begun = Stage::new(7).negotiated(Dialect::Iso);
-        let reply = reply_to(&begun, &kept, &plan, &setup, 0);
-        assert_eq!(rt; (reply.code, reply.session), (code, session));
-        let behind = facts_behind(kept, &begun, &plan, &setup);
-        assert_eq!(rt; behind.joined, matches!(code, Code::OkOldSessionJoined));
-        assert_eq!(rt; behind.kept, None);
-    }
+    let begun = Stage::new(7).negotiated(Dialect::Iso);
+    let reply = reply_to(&begun, &facts, &plan, &setup, 0);
+    let behind = facts_behind(facts, &begun, &plan, &setup);
+    reply.code == code
+        && reply.session == SessionId::of_token(token)
+        && behind.joined == is_kept
+        && behind.kept.is_none()
 }
 
-#[test]
-fn a_renegotiation_opens_and_goes_back_to_the_parameters(rt: HostRuntime) {
-    let plan = post(Mode::DcExtended);
-    let renewing = Facts {
-        renew: true,
-        ..facts(Some(IsolationLevel::Valid))
-    };
-    let opens = Wanted {
-        order: Some(Order::Open),
-        ..good(Phase::Authorized)
-    };
-    let renegotiate = request(delivery(Progress::Renegotiate));
-    let row = stage(Phase::DcCharging);
-    let told = answers(&rt, &plan, row, &renewing, &renegotiate, opens);
-    let status = dc_status(Some(IsolationLevel::Valid), StatusCode::EvseNotReady);
-    let open = Tell::PowerDelivery {
-        status: PostStatus::Dc(status),
-    };
-    assert_eq!(rt; told, open);
-    let renewed = facts_behind(renewing, &stage(Phase::DcCharging), &plan, &renegotiate);
-    assert!(rt; !renewed.renew);
-    let early = failed(Code::FailedSequenceError, Phase::Authorized);
-    let start = request(delivery(Progress::Start));
-    answers(
-        &rt,
-        &plan,
-        stage(Phase::Authorized),
-        &renewed,
-        &start,
-        early,
-    );
-}
-
-#[test]
-fn a_demand_is_cut_and_hears_of_renegotiation_and_of_stop(rt: HostRuntime) {
-    let plan = post(Mode::DcExtended);
+/// A demand of too much is cut, and hears of a renegotiation and of a stop.
+fn is_cut(stop: bool, notify: Notify, code: StatusCode) -> bool {
+    let plan = post(Mode::DcExtended, true);
     let demand = request(Ask::CurrentDemand {
         ready: true,
         soc: 40,
         voltage: amount(4000),
         current: amount(1251),
     });
-    for (stop, notify, code) in [
-        (false, Notify::ReNegotiation, StatusCode::EvseReady),
-        (true, Notify::StopCharging, StatusCode::EvseShutdown),
-    ] {
-        let asking = Facts {
-            renew: true,
-            stop,
-            ..facts(Some(IsolationLevel::Valid))
-        };
-        let charging = stage(Phase::DcCharging);
-        let told = Tell::CurrentDemand {
-            status: DcStatus {
-                notify,
-                isolation: Some(IsolationLevel::Valid),
-                code,
-            },
-            voltage: amount(0),
-            current: amount(0),
-            current_cut: true,
-            voltage_cut: false,
-            watts_cut: true,
-            most_voltage: Some(amount(9200)),
-            most_current: Some(amount(1250)),
-            most_watts: Some(amount(50_000)),
-            evse: Some(EvseId::Text(plan.evse_id.copied())),
-        };
-        let reply = reply_to(&charging, &asking, &plan, &demand, 50_000);
-        assert_eq!(rt; reply.tell, told);
-        let limits = Order::Limits {
-            voltage: tenths(4000),
-            current: tenths(1250),
-            watts: 50_000,
-        };
-        let order = order_of(&charging, &asking, &plan, &demand, 50_000);
-        assert_eq!(rt; order, Some(limits));
-        let behind = stage_behind(charging, &asking, &plan, &demand, 50_000);
-        assert_eq!(rt; behind.told, 50_000);
-    }
+    let asking = Facts {
+        renew: true,
+        stop,
+        ..facts(Some(IsolationLevel::Valid))
+    };
+    let charging = stage(Phase::DcCharging, None);
+    let told = Tell::CurrentDemand {
+        status: DcStatus {
+            notify,
+            isolation: Some(IsolationLevel::Valid),
+            code,
+        },
+        voltage: amount(0),
+        current: amount(0),
+        current_cut: true,
+        voltage_cut: false,
+        watts_cut: true,
+        most_voltage: Some(amount(9200)),
+        most_current: Some(amount(1250)),
+        most_watts: Some(amount(50_000)),
+        evse: Some(EvseId::Text(plan.evse_id.copied())),
+    };
+    let limits = Order::Limits {
+        voltage: tenths(4000),
+        current: tenths(1250),
+        watts: 50_000,
+    };
+    reply_to(&charging, &asking, &plan, &demand, 50_000).tell == told
+        && order_of(&charging, &asking, &plan, &demand, 50_000) == Some(limits)
+        && stage_behind(charging, &asking, &plan, &demand, 50_000).told == 50_000
 }
 
 /// The one tuple of a schedule, where these watts are any.
@@ -553,36 +661,35 @@ fn schedule(watts: u32) -> Option<ArrayVec<Tuple, 3>> {
     (watts > 0).then_some(tuples)
 }
 
-#[test]
-fn parameters_are_shown_their_share_and_wait_without_one(rt: HostRuntime) {
-    let plan = post(Mode::DcExtended);
-    let limits = CarLimits::Dc {
-        ready: false,
-        soc: 20,
-        current: amount(1250),
-        watts: Some(amount(40_000)),
-        voltage: amount(4000),
-    };
-    assert_eq!(rt;
-        asks(
-            &plan,
-            &Ask::ChargeParameters {
-                mode: plan.mode,
-                limits
-            }
-        ),
-        Some(40_000)
-    );
+/// The parameters of a car that asks for 40 kW.
+const CAR: CarLimits = CarLimits::Dc {
+    ready: false,
+    soc: 20,
+    current: Amount {
+        size: 1250,
+        right: true,
+    },
+    watts: Some(Amount {
+        size: 40_000,
+        right: true,
+    }),
+    voltage: Amount {
+        size: 4000,
+        right: true,
+    },
+};
+
+/// Parameters are shown these watts, and wait without any.
+fn is_shown(shown: u32, row: Phase, processing: Processing) -> bool {
+    let plan = post(Mode::DcExtended, true);
     let ask = request(Ask::ChargeParameters {
         mode: Mode::DcExtended,
-        limits,
+        limits: CAR,
     });
-    for (shown, row, processing) in [
-        (40_000, Phase::DcReady, Processing::Finished),
-        (0, Phase::Authorized, Processing::Ongoing),
-    ] {
-        let reply = reply_to(&stage(Phase::Authorized), &facts(None), &plan, &ask, shown);
-        let limits = PostLimits::Dc {
+    let told = Tell::ChargeParameters {
+        processing,
+        schedule: schedule(shown),
+        limits: PostLimits::Dc {
             status: dc_status(None, StatusCode::EvseReady),
             current: amount(1250),
             watts: Some(amount(shown)),
@@ -590,22 +697,40 @@ fn parameters_are_shown_their_share_and_wait_without_one(rt: HostRuntime) {
             least_current: amount(0),
             least_voltage: amount(1500),
             ripple: amount(10),
-        };
-        let told = Tell::ChargeParameters {
-            processing,
-            schedule: schedule(shown),
-            limits,
-        };
-        assert_eq!(rt; reply.tell, told);
-        let behind = stage_behind(stage(Phase::Authorized), &facts(None), &plan, &ask, shown);
-        assert_eq!(rt; (behind.row, behind.told), (row, shown));
+        },
+    };
+    let facts = facts(None);
+    let authorized = stage(Phase::Authorized, None);
+    if asks(&plan, &ask.ask) != Some(40_000)
+        || reply_to(&authorized, &facts, &plan, &ask, shown).tell != told
+    {
+        return false;
     }
-    assert_eq!(rt;
-        allowed_watts(10_000, lowered_by(40_000, None, 500, 10_000), 5_499),
-        40_000
-    );
-    assert_eq!(rt;
-        allowed_watts(10_000, lowered_by(40_000, None, 500, 10_000), 5_500),
-        10_000
-    );
+    let behind = stage_behind(authorized, &facts, &plan, &ask, shown);
+    behind.row == row && behind.told == shown
+}
+
+/// Less watts are allowed at once, and at most 5 seconds later.
+fn is_lowered(now: u64, allowed: u32) -> bool {
+    allowed_watts(10_000, lowered_by(40_000, None, 500, 10_000), now) == allowed
+}
+
+#[test]
+fn requests_are_answered_and_events_end_sessions(rt: HostRuntime) {
+    all_hold(&rt, rt.alloc(), &ANSWERS);
+    all_hold(&rt, rt.alloc(), &ENDINGS);
+    assert!(rt; is_renewed());
+    assert!(rt; waits_and_ends());
+    assert!(rt; charges_by_three_phases());
+}
+
+#[test]
+fn sessions_are_joined_and_watts_are_shown(rt: HostRuntime) {
+    assert!(rt; joins(true, Code::OkOldSessionJoined, TOKEN));
+    assert!(rt; joins(false, Code::OkNewSessionEstablished, 7));
+    assert!(rt; is_cut(false, Notify::ReNegotiation, StatusCode::EvseReady));
+    assert!(rt; is_cut(true, Notify::StopCharging, StatusCode::EvseShutdown));
+    assert!(rt; is_shown(40_000, Phase::DcReady, Processing::Finished));
+    assert!(rt; is_shown(0, Phase::Authorized, Processing::Ongoing));
+    assert!(rt; is_lowered(5_499, 40_000) && is_lowered(5_500, 10_000));
 }

@@ -1,17 +1,10 @@
-//! An attribute, a choice with an abstract head and with an element out of profile, a list without a maximum, and a place with 37 codes:
-//! what is told of them, and where they are refused.
+//! Schemas with an attribute, a choice with an abstract head and with an element out of profile, a list without a maximum, places with four
+//! codes and with 37, and that of the negotiation.
 
-ghost use Rattle.std.specs.Prelude.{◌≡◌, ◌≤◌, length};
-ghost use Rattle.exi_documents.specs.Values.{most_entries};
-
-use crate::events::{Told, next_is, refusal_of};
-use exi_documents::MOST_ENTRIES;
-use exi_events::{EventReader, Refusal, RefusalCause, Table};
+use app_schema::negotiation;
 use exi_schema::{
     AttributeOf, Datatype, Declaration, Member, MemberStanding, Particle, RootOf, Schema,
 };
-use exi_strings::Partitions;
-use std::process::Abort;
 
 /// An element of this name, with a number of four bits.
 macro_rules! member {
@@ -168,102 +161,53 @@ fn many() -> Schema<'static> {
     }
 }
 
-const ITEMS_TOLD: [Told; 14] = [
-    Told::Document(0),
-    Told::Start(0),
-    Told::Attribute(1, 5),
-    Told::Start(2),
-    Told::Number(3),
-    Told::End,
-    Told::Start(5),
-    Told::Number(1),
-    Told::End,
-    Told::Start(5),
-    Told::Number(2),
-    Told::End,
-    Told::End,
-    Told::Finished,
+static CHOICE_NAMES: [&'static str; 5] = ["Root", "First", "Second", "Third", "Fourth"];
+
+const FOUR: [Member; 4] = [taken!(1), taken!(2), taken!(3), taken!(4)];
+
+const FOUR_PARTICLES: [Particle<'static>; 1] = [Particle {
+    members: &FOUR,
+    least: 1,
+    most: Some(1),
+    profile: 1,
+}];
+
+static FOUR_KINDS: [Declaration<'static>; 2] = [
+    Declaration::Simple(Datatype::Bounded {
+        least: 1,
+        count: 20,
+    }),
+    Declaration::Complex {
+        attributes: &[],
+        particles: &FOUR_PARTICLES,
+    },
 ];
 
-#[test]
-fn an_attribute_a_choice_and_a_list_are_told(rt: HostRuntime) {
-    let Ok(mut table) = Partitions::make(rt.alloc(), MOST_ENTRIES) else {
-        assert!(rt; false);
-        return;
-    };
-    let schema = items();
-    let mut reader = EventReader::new(b"\x80\x14\x18\x10\x22", &schema, &mut table);
-    for told in &ITEMS_TOLD {
-        next_is(&rt, &mut reader, told);
+/// Four codes are offered at the start of the root.
+fn four_choices() -> Schema<'static> {
+    Schema {
+        kinds: &FOUR_KINDS,
+        names: &CHOICE_NAMES,
+        values: &VALUES,
+        root_bits: 2,
+        roots: &ROOTS,
     }
 }
 
-const LAST_TOLD: [Told; 7] = [
-    Told::Document(0),
-    Told::Start(0),
-    Told::Start(37),
-    Told::Number(7),
-    Told::End,
-    Told::End,
-    Told::Finished,
-];
+/// A schema.
+#[derive(Clone, Copy)]
+pub(crate) enum Of {
+    Negotiation,
+    FourChoices,
+    Items,
+    Many,
+}
 
-#[test]
-fn the_last_of_37_elements_is_told(rt: HostRuntime) {
-    let Ok(mut table) = Partitions::make(rt.alloc(), MOST_ENTRIES) else {
-        assert!(rt; false);
-        return;
-    };
-    let schema = many();
-    let mut reader = EventReader::new(b"\x80\x48\x70", &schema, &mut table);
-    for told in &LAST_TOLD {
-        next_is(&rt, &mut reader, told);
+pub(crate) fn schema(of: Of) -> Schema<'static> {
+    match of {
+        Of::Negotiation => negotiation(),
+        Of::FourChoices => four_choices(),
+        Of::Items => items(),
+        Of::Many => many(),
     }
-}
-
-fn is_refused(
-    rt: &impl Abort,
-    schema: &Schema,
-    table: &mut Table,
-    payload: &[u8],
-    cause: RefusalCause,
-    bit: u32,
-)
-    requires payload { length payload.now ≤ 65536 }
-    requires cap { table.old.cap ≡ most_entries }
-    ensures { table.new.cap ≡ most_entries }
-{
-    let mut reader = EventReader::new(payload, schema, table);
-    assert_eq!(rt; refusal_of(rt, &mut reader), Some(Refusal { cause, bit }));
-    let _ = reader.end();
-}
-
-#[test]
-fn each_is_refused_at_its_code(rt: HostRuntime) {
-    let Ok(mut table) = Partitions::make(rt.alloc(), MOST_ENTRIES) else {
-        assert!(rt; false);
-        return;
-    };
-    let of = &mut table;
-    let s = items();
-    // No attribute where one has to be.
-    is_refused(&rt, &s, of, b"\x80\x40", RefusalCause::Deviation, 9);
-    // The abstract head, the element out of profile, and none that is declared.
-    is_refused(&rt, &s, of, b"\x80\x15", RefusalCause::Abstract, 14);
-    let right = RefusalCause::OutOfProfile { name: 4 };
-    is_refused(&rt, &s, of, b"\x80\x16", right, 14);
-    is_refused(&rt, &s, of, b"\x80\x17", RefusalCause::Deviation, 14);
-    // A third item.
-    is_refused(
-        &rt,
-        &s,
-        of,
-        b"\x80\x14\x18\x10\x20",
-        RefusalCause::TooLong,
-        37,
-    );
-    // The escape of 37 codes, and one above it.
-    let s = many();
-    is_refused(&rt, &s, of, b"\x80\x4a", RefusalCause::Deviation, 9);
-    is_refused(&rt, &s, of, b"\x80\x4c", RefusalCause::NoSuchCode, 9);
 }
