@@ -272,7 +272,7 @@ def ordinal_proofs(t, kind):
 
 
 def imports(t, crate, file, kinds, body, is_proof):
-    has = lambda word: re.search(rf"(?<![\w.]){re.escape(word)}(?!\w)", re.sub(r"(?m)^--.*$", "", body))
+    has = set(re.findall(r"(?<![\w.])\w+", re.sub(r"(?m)^--.*$", "", body))).__contains__
     text, own = "", crate_of(t)
     base = "Rattle.std.proofs.Common" if is_proof else "Rattle.std.specs.Prelude"
     symbols = [("◌≡◌", "≡"), ("◌∷◌", "∷"), ("◌∙◌", "∙"), ("[]", "[]")]

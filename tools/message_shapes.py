@@ -74,6 +74,8 @@ class Types:
             self.files.append((it.crate, it.file, [of.kind for of in it.kinds]))
         self.kinds = {self.s.kind(it): it for it in self.s.kinds}
         self.empty = {self.s.upper(it): it for it in self.s.empty}
+        # what was found of each kind once all choices are known
+        self.found = {}
         self.choices, self.optional_choices = {}, set()
         self.places = {kind: (crate, file) for crate, file, kinds in self.files for kind in kinds}
         for kind, (_, particles) in self.s.content.items():
@@ -86,6 +88,7 @@ class Types:
                 if len(it.members) > 1:
                     self.choices[self.choice_of(kind, it)] = self.members(self.choice_of(kind, it), it)
         self.choices.update({brief: [it for it in self.choices[group] if it.kind not in self.long] for group, brief in self.brief.items()})
+        self.found.clear()
         self.defaults = self.with_defaults()
 
     # ---- names
@@ -165,6 +168,12 @@ class Types:
         return f"{self.lower(choice)}.{it.variant} {value}"
 
     def fields(self, kind):
+        """The attributes and elements of a type."""
+        if kind not in self.found:
+            self.found[kind] = self.made_fields(kind)
+        return self.found[kind]
+
+    def made_fields(self, kind):
         attributes, particles = self.s.content.get(kind, ([], []))
         made = [Element(self, "attribute", name, self.kinds[of], at, not required) for at, (name, of, required) in enumerate(attributes)]
         for at, it in enumerate(particles):
