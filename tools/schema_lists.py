@@ -140,7 +140,7 @@ class Schema:
         numbers = [int(it) for it in numbers]
         if word == "bounded" and not 1 <= numbers[1] <= 4096:
             self.lines.refuse("a bounded number has 1 to 4,096 values")
-        if word == "signed" and numbers[0] > numbers[1]:
+        if word in ("signed", "unsigned") and bounds(text)[0] > bounds(text)[1]:
             self.lines.refuse("the least number is greater than the greatest")
         if word in ("binary", "text") and not 1 <= numbers[0] < 2**32:
             self.lines.refuse(f"a {word} has a greatest length, 1 to {2**32 - 1:,}")
@@ -299,17 +299,16 @@ def listed_types(path, s):
                 lines.refuse(f"{kind} is no type, group, choice or enumeration of {s.path}")
             if kind in seen:
                 lines.refuse(f"{kind} was there before, in line {seen[kind]}")
-            seen[kind] = lines.number
             kinds.append(ListedKind(kind, bool(large), bool(long), group, renamed))
+            for inner in held(s, kinds[-1]):
+                if inner not in seen:
+                    lines.refuse(f"{kind} holds {inner}, which has to be listed before it")
+            seen[kind] = lines.number
         named = [it.kind in s.enumerations for it in kinds]
         if any(named) != all(named):
             lines.refuse("the kinds of a file are all enumerations, or none is")
         if any(named) != bool(head.group(3)):
             lines.refuse("a section is given where the kinds are enumerations, and there alone")
-        for it in kinds:
-            for inner in held(s, it):
-                if inner not in seen:
-                    lines.refuse(f"{it.kind} holds {inner}, which has to be listed before it")
         found.append(ListedFile(head.group(1), head.group(2), (head.group(3) or "").strip(), kinds))
     missing = [it for it in known if it not in seen and it not in s.empty]
     if missing:
