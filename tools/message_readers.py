@@ -15,8 +15,8 @@ def lend(t, kind):
 
 def type_name(t, kind):
     if kind in t.s.values:
-        word = kind.rstrip("0123456789")
-        return word if word in ("Text", "Binary") else "Bool" if kind == "Boolean" else "ℤ" if t.is_signed(kind) else "ℕ"
+        word = t.s.form(kind)
+        return word.capitalize() if word in ("text", "binary", "bool") else "ℤ" if t.is_signed(kind) else "ℕ"
     return t.camel(kind)
 
 
@@ -29,11 +29,11 @@ def leaf(t, kind):
     """(function before, leaf's word) of a simple type."""
     if kind in t.s.enumerations:
         return f"{t.lower(kind)}_at", "ordinal"
-    if kind.startswith("Text"):
+    if t.s.form(kind) == "text":
         return "l.text", "text"
-    if kind.startswith("Binary"):
+    if t.s.form(kind) == "binary":
         return "l.binary", "bytes"
-    return "", "truth" if kind == "Boolean" else "number" if t.is_signed(kind) else "natural"
+    return "", "truth" if t.s.form(kind) == "bool" else "number" if t.is_signed(kind) else "natural"
 
 
 def read_found(t, kind, found):
@@ -61,9 +61,9 @@ def settle(t, kind, it):
     """A value whose texts lie where they are lent."""
     if not t.lent(kind):
         return it
-    if kind.startswith("Text"):
+    if t.s.form(kind) == "text":
         return f"l.text (chars_of {it})"
-    if kind.startswith("Binary"):
+    if t.s.form(kind) == "binary":
         return f"l.binary (items_of {it}.span)"
     return f"settled_{t.lower(kind)} l {it}"
 
@@ -272,7 +272,7 @@ def ordinal_proofs(t, kind):
 
 
 def imports(t, crate, file, kinds, body, is_proof):
-    has = lambda word: re.search(rf"(?<![\w.]){re.escape(word)}(?!\w)", re.sub(r"(?m)^--.*$", "", body))
+    has = set(re.findall(r"(?<![\w.])\w+", re.sub(r"(?m)^--.*$", "", body))).__contains__
     text, own = "", crate_of(t)
     base = "Rattle.std.proofs.Common" if is_proof else "Rattle.std.specs.Prelude"
     symbols = [("◌≡◌", "≡"), ("◌∷◌", "∷"), ("◌∙◌", "∙"), ("[]", "[]")]

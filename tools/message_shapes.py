@@ -1,20 +1,7 @@
 """The shapes of a dialect's types, read from the list of its declarations and from the list of its types."""
 import re
 
-from schema_tables import Schema
-
-NUMBERS = {
-    "Boolean": "bool", "Byte": "i8", "Short": "i16", "Int": "i32", "Long": "i64", "UnsignedShort": "u16", "UnsignedInt": "u32",
-    "UnsignedLong": "u64", "Multiplier": "i8", "Percent": "u8", "TupleID": "u8", "Phases": "u8", "IntervalStart": "u32", "IntervalDuration": "u32",
-}
-
-
-def listed_types(path):
-    """(CRATE, FILE, SECTION, KINDS) of each line of the list of types."""
-    lines = [it for it in open(path, encoding="utf-8") if it.strip() and not it.startswith("#")]
-    for place, _, kinds in (it.partition(":") for it in lines):
-        place, _, section = place.partition(" ")
-        yield (*place.split("/"), section, kinds.split())
+from schema_lists import Schema, bounds, listed_types, type_bounds
 
 
 class Element:
@@ -78,16 +65,17 @@ class Types:
         self.s.crate = schema
         self.renamed, self.files, self.file_sections, self.large = {}, [], {}, set()
         self.long, self.brief = set(), {}
-        for crate, file, section, kinds in listed_types(types):
-            self.file_sections[crate, file] = section
-            self.large |= {it.split("*")[0] for it in kinds if "*" in it}
-            self.long |= {it.removesuffix("!") for it in kinds if it.endswith("!")}
-            self.brief.update(it.split("*<")[::-1] for it in kinds if "<" in it)
-            kinds = [re.sub(r"[*!]|<.*", "", it) for it in kinds]
-            self.renamed.update(it.split("=") for it in kinds if "=" in it)
-            self.files.append((crate, file, [it.split("=")[0] for it in kinds]))
+        for it in listed_types(types, self.s):
+            self.file_sections[it.crate, it.file] = it.section
+            self.large |= {of.kind for of in it.kinds if of.large}
+            self.long |= {of.kind for of in it.kinds if of.long}
+            self.brief.update({of.group: of.kind for of in it.kinds if of.group})
+            self.renamed.update({of.kind: of.renamed for of in it.kinds if of.renamed})
+            self.files.append((it.crate, it.file, [of.kind for of in it.kinds]))
         self.kinds = {self.s.kind(it): it for it in self.s.kinds}
         self.empty = {self.s.upper(it): it for it in self.s.empty}
+        # what was found of each kind once all choices are known
+        self.found = {}
         self.choices, self.optional_choices = {}, set()
         self.places = {kind: (crate, file) for crate, file, kinds in self.files for kind in kinds}
         for kind, (_, particles) in self.s.content.items():
@@ -100,6 +88,7 @@ class Types:
                 if len(it.members) > 1:
                     self.choices[self.choice_of(kind, it)] = self.members(self.choice_of(kind, it), it)
         self.choices.update({brief: [it for it in self.choices[group] if it.kind not in self.long] for group, brief in self.brief.items()})
+        self.found.clear()
         self.defaults = self.with_defaults()
 
     # ---- names
@@ -179,6 +168,12 @@ class Types:
         return f"{self.lower(choice)}.{it.variant} {value}"
 
     def fields(self, kind):
+        """The attributes and elements of a type."""
+        if kind not in self.found:
+            self.found[kind] = self.made_fields(kind)
+        return self.found[kind]
+
+    def made_fields(self, kind):
         attributes, particles = self.s.content.get(kind, ([], []))
         made = [Element(self, "attribute", name, self.kinds[of], at, not required) for at, (name, of, required) in enumerate(attributes)]
         for at, it in enumerate(particles):
@@ -198,23 +193,27 @@ class Types:
         return kind in self.s.values or kind in self.s.enumerations
 
     def is_signed(self, kind):
-        return NUMBERS.get(kind, "u").startswith("i")
+        return self.s.form(kind) in ("bounded", "unsigned", "signed") and self.s.number(kind).startswith("i")
 
     def type_of(self, kind):
-        if kind in NUMBERS:
-            return NUMBERS[kind]
-        word = kind.rstrip("0123456789")
-        return f"{word}<'a>" if kind in self.s.values else self.camel(kind) + ("<'a>" if self.lent(kind) else "")
+        form = self.s.form(kind)
+        if form in ("text", "binary"):
+            return f"{form.capitalize()}<'a>"
+        if form:
+            return "bool" if form == "bool" else self.s.number(kind)
+        return self.camel(kind) + ("<'a>" if self.lent(kind) else "")
 
     def bound(self, kind):
         """What values there are of a number or text that takes fewer than its type."""
-        word, *numbers = self.s.values.get(kind, "bool").split()
-        numbers = [int(it) for it in numbers]
-        if word == "bounded":
-            return f"{numbers[0]} to {numbers[0] + numbers[1] - 1}" if kind != "Byte" else ""
-        if word == "unsigned":
-            return f"At most {numbers[0]:,}" if numbers[0] not in (2**16 - 1, 2**32 - 1, 2**64 - 1) else ""
-        return f"At most {numbers[0]} code points" if word == "text" else f"At most {numbers[0]} bytes" if word == "binary" else ""
+        form = self.s.form(kind)
+        if form in ("text", "binary"):
+            return f"At most {self.s.values[kind].split()[1]} {'code points' if form == 'text' else 'bytes'}"
+        if form in ("", "bool"):
+            return ""
+        least, most = bounds(self.s.values[kind])
+        if (least, most) == type_bounds(int(self.s.number(kind)[1:]), least < 0):
+            return ""
+        return f"At most {most:,}" if form == "unsigned" else f"{least:,} to {most:,}"
 
     def inner(self, kind):
         """What a type holds."""
@@ -227,7 +226,7 @@ class Types:
         if kind in self.choices and self.choices[kind] is None:
             particle = next(it for of, (_, its) in self.s.content.items() for it in its if len(it.members) > 1 and self.choice_of(of, it) == kind)
             return any(self.lent(it) for _, it in self.taken(particle))
-        return kind.startswith(("Text", "Binary")) if kind in self.s.values else any(self.lent(it.kind) for it in self.inner(kind))
+        return self.s.form(kind) in ("text", "binary") if kind in self.s.values else any(self.lent(it.kind) for it in self.inner(kind))
 
     def holds_list(self, kind):
         """Whether a list stands somewhere in a type."""

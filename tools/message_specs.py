@@ -6,11 +6,11 @@ def value_of(t, kind, it):
     """The value of a simple type as documents have it."""
     if kind in t.s.enumerations:
         return f"Ordinal ({t.lower(kind)}_ordinal {it})"
-    if kind.startswith("Text"):
+    if t.s.form(kind) == "text":
         return f"text_value {it}"
-    if kind.startswith("Binary"):
+    if t.s.form(kind) == "binary":
         return f"Bytes (items_of {it}.span)"
-    return f"Truth {it}" if kind == "Boolean" else f"Number {it}" if t.is_signed(kind) else f"Number (pos {it})"
+    return f"Truth {it}" if t.s.form(kind) == "bool" else f"Number {it}" if t.is_signed(kind) else f"Number (pos {it})"
 
 
 def inside(t, kind, it):

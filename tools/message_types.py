@@ -4,11 +4,10 @@ and their proofs, and how each type is read from a tree.
 
 usage: message_types.py LIST SCHEMA TYPES            writes crates/CRATE/{src,specs,proofs} for the files and kinds that TYPES lists, and what
                                                      they are read as to crates/{iso,din}_trees
-       message_types.py --check LIST SCHEMA TYPES    exits 1 where a file differs from what would be written, but for its layout
+       message_types.py --check LIST SCHEMA TYPES    exits 1 where a file differs from what would be written
 
 SCHEMA is the crate of the dialect's schema. The kinds of a file are all enumerations or none is. The head of tools/iso.schema says what
 stands in LIST, that of tools/iso.types what stands in TYPES."""
-import os
 import re
 import sys
 
@@ -16,6 +15,8 @@ from message_proofs import proofs
 from message_readers import reader_files
 from message_shapes import Types, in_groups
 from message_specs import definitions
+from reached_paths import Reached
+from written_files import settle, told
 
 WORDS = [
     "Binary", "Choice", "Descent", "Group", "LargeChoice", "LargeGroup", "LargeRecord", "PutChoice", "PutRecord", "ReadRecord",
@@ -424,25 +425,17 @@ def written(t):
         for kind in kinds:
             files.update({f"{crate}/proofs/{at}/Answers.antt": text for at, text in proofs(t, crate, file, kind).items()})
     files.update(reader_files(t))
-    return {f"crates/{at}": text for at, text in files.items()}
+    reached = Reached()
+    return {f"crates/{at}": reached.text(at.split("/")[0], text, at.endswith(".rt")) for at, text in files.items()}
 
 
 def main():
     words = sys.argv[1:]
     checks = words[:1] == ["--check"]
-    t = Types(*words[checks:])
-    bare = lambda text: re.sub(r"[\s,{}]", "", text)
-    differ = []
-    for file, text in written(t).items():
-        if checks:
-            if not os.path.exists(file) or bare(open(file, encoding="utf-8").read()) != bare(text):
-                differ.append(file)
-        elif not os.path.exists(file) or bare(open(file, encoding="utf-8").read()) != bare(text):
-            os.makedirs(os.path.dirname(file), exist_ok=True)
-            open(file, "w", encoding="utf-8").write(text)
-    print("".join(f"{it} differs\n" for it in differ), end="")
-    sys.exit(1 if differ else 0)
+    if len(words[checks:]) != 3:
+        sys.exit(__doc__)
+    settle(written(Types(*words[checks:])), checks, "tools/message_types.py")
 
 
 if __name__ == "__main__":
-    main()
+    told(main)

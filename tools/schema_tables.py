@@ -2,98 +2,16 @@
 """Writes the crate of a dialect's schema from one list of its types: its names, kinds and tables, and the same as plain declarations.
 
 usage: schema_tables.py LIST CRATE            writes crates/CRATE/src/{names,kinds,tables}.rt and the files of crates/CRATE/specs
-       schema_tables.py --check LIST CRATE    exits 1 where one of them differs from what would be written, but for its layout
+       schema_tables.py --check LIST CRATE    exits 1 where one of them differs from what would be written
 
-The head of tools/iso.schema says what stands in a list."""
-import os
+The head of tools/iso.schema says what stands in a list; a line that says anything else is refused."""
 import re
 import sys
 
+from schema_lists import Schema
+from written_files import settle, told
+
 WIDTH = 132
-STANDINGS = {"^": "Abstract", "!": "OutOfProfile"}
-ABOUT = {"title", "dialect", "standard", "root"}
-
-
-class Particle:
-    def __init__(self, members, least, most, profile):
-        self.members, self.least, self.most, self.profile = members, least, most, profile
-
-
-class Schema:
-    """A list of types. `parts` has the kinds in their order, part by part; `content` the attributes and particles of each type."""
-
-    def __init__(self, path):
-        self.spelled, self.values, self.enumerations, self.groups, self.sections, lines = {}, {}, {}, {}, {}, {}
-        section = None
-        for line in open(path, encoding="utf-8"):
-            line = line.rstrip("\n")
-            if line.startswith("["):
-                section = line.strip("[]").split()
-                if section[0] == "types":
-                    part = self.sections.setdefault(section[1], (" ".join(section[2:]), []))[1]
-            elif line and not line.startswith("#"):
-                head, _, rest = (it.strip() for it in line.partition(":"))
-                if section[0] == "about":
-                    assert head in ABOUT, head
-                    setattr(self, head, rest)
-                elif section[0] == "types":
-                    part.append(head)
-                    lines[head] = split(rest)
-                else:
-                    getattr(self, section[0])[head] = rest if section[0] in ("spelled", "values") else rest.split()
-        self.empty = [it for it in lines if not lines[it]]
-        types = {name: [it for it in part if it not in self.empty] for name, (_, part) in self.sections.items()}
-        self.parts = {"simple": [*self.values, *self.enumerations, "Empty"], **types}
-        self.kinds = [it for part in self.parts.values() for it in part]
-        self.names = ["V2G_Message"]
-        self.content = {it: self.content_of(lines[it]) for part in types.values() for it in part}
-
-    def content_of(self, parts):
-        attributes = [it[1:].rstrip("?").split() + [not it.endswith("?")] for it in parts if it.startswith("@")]
-        particles = [it for it in parts if not it.startswith("@")]
-        return [(self.name(n), self.kind(k), required) for n, k, required in attributes], [self.particle(it) for it in particles]
-
-    def particle(self, text):
-        least, most, profile = 1, 1, 1
-        found = re.search(r" ([*+])(\d+)$", text)
-        if found:
-            text, profile = text[: found.start()], int(found.group(2))
-            most = profile if found.group(1) == "*" else None
-        if text.endswith("?"):
-            text, least = text[:-1], 0
-        listed = self.groups[text[1:-1]] if text.startswith("<") else text[1:-1].split(" | ") if text.startswith("(") else [text]
-        return Particle([self.member(it) for it in listed], least, most, profile)
-
-    def member(self, text):
-        standing = STANDINGS.get(text[0], "Taken")
-        name, *kind = text.lstrip("^!").split()
-        kind = kind[0] if kind else name
-        return standing, self.name(name), self.kind(kind if standing == "Taken" else "Empty")
-
-    def name(self, text):
-        if text not in self.names:
-            self.names.append(text)
-        return self.upper(text)
-
-    def kind(self, text):
-        text = "Empty" if text in self.empty else text
-        assert text in self.kinds, text
-        return self.upper(text) + "_KIND"
-
-    def upper(self, text):
-        if text in self.spelled:
-            return self.spelled[text]
-        text = re.sub(r"([A-Z0-9]+)([A-Z][a-z])", r"\1_\2", text)
-        text = re.sub(r"([a-z])([A-Z])", r"\1_\2", text)
-        return re.sub(r"__+", "_", text).upper()
-
-    def lower(self, text):
-        return self.upper(text).lower()
-
-
-def split(text):
-    """The parts between commas that stand in no brackets."""
-    return [it.strip() for it in re.split(r",(?![^(]*\))", text) if it.strip()]
 
 
 # ---- as tables
@@ -427,35 +345,27 @@ schema = record { kinds = kinds; names = names; values = values; root_bits = 7; 
 """
 
 
-def main():
-    words = sys.argv[1:]
-    checks = words[:1] == ["--check"]
-    path, crate = words[checks:]
-    s = Schema(path)
-    s.crate = crate
+def written(s):
+    """The files of the crate, by their paths."""
     files = {
         "src/names.rt": constants(s, f"The numbers of the names of {s.title}.", [(s.upper(it), it) for it in s.names]),
         "src/kinds.rt": constants(s, f"The numbers of the kinds of {s.title}: values, enumerations, and types of elements with parts.", [(s.kind(it), what_is(s, it)) for it in s.kinds]),
         "src/tables.rt": tables(s),
         **{f"specs/{name}.antt": text for name, text in plain(s).items()},
     }
-    folder = os.path.join(os.path.dirname(os.path.abspath(__file__)), "..", "crates", crate)
-    other = []
-    for name, text in files.items():
-        file = os.path.join(folder, name)
-        if not checks:
-            with open(file, "w", encoding="utf-8") as it:
-                it.write(text)
-        elif squeezed(open(file, encoding="utf-8").read()) != squeezed(text):
-            other.append(name)
-    if other:
-        sys.exit(f"crates/{crate}: not what tools/schema_tables.py writes: {', '.join(other)}")
+    return {f"crates/{s.crate}/{name}": text for name, text in files.items()}
 
 
-def squeezed(text):
-    """A text without what the formatter may set: blanks, trailing commas, and the braces of a macro's arm."""
-    return re.sub(r",(?=[\])}])", "", re.sub(r"\s+", "", text))
+def main():
+    words = sys.argv[1:]
+    checks = words[:1] == ["--check"]
+    if len(words[checks:]) != 2:
+        sys.exit(__doc__)
+    path, crate = words[checks:]
+    s = Schema(path)
+    s.crate = crate
+    settle(written(s), checks, "tools/schema_tables.py")
 
 
 if __name__ == "__main__":
-    main()
+    told(main)
