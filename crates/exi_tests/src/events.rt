@@ -5,7 +5,7 @@ ghost use Rattle.std.specs.Prelude.{◌≡◌, ◌≤◌, length, Some, IfErr};
 ghost use Rattle.exi_documents.specs.Values.{most_entries};
 ghost use Rattle.exi_schema.specs.Told.{schema_of};
 ghost use Rattle.exi_events.specs.Reader.{IsReady};
-ghost use Rattle.exi_events.specs.Writer.{IsShapedEvent, IsReadyToPut, KeepsLent};
+ghost use Rattle.exi_events.specs.Writer.{IsShapedEvent, IsReadyToPut};
 
 use crate::cases::{Case, all_hold};
 use crate::schemas::{Of, schema};
@@ -304,7 +304,6 @@ fn event_of(told: &Told) -> Event<'static>
 fn try_next(writer: &mut EventWriter<Schema>, told: &Told) -> Result<(), NotPut>
     requires { IsReadyToPut writer.old }
     ensures ready { IsReadyToPut writer.new }
-    ensures lent { KeepsLent writer.old writer.new }
 {
     writer.try_put(&event_of(told))
 }
@@ -313,7 +312,6 @@ fn try_next(writer: &mut EventWriter<Schema>, told: &Told) -> Result<(), NotPut>
 fn put_next(writer: &mut EventWriter<Schema>, told: &Told) -> Result<bool, Full>
     requires { IsReadyToPut writer.old }
     ensures ready { IsReadyToPut writer.new }
-    ensures lent { KeepsLent writer.old writer.new }
     ensures full { IfErr result (λ full. writer.new.full ≡ Some full) }
 {
     let event = event_of(told);

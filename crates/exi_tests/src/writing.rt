@@ -128,9 +128,11 @@ fn texts_are_put(alloc: Global) -> bool {
 
 /// A lent text, the letter a in two octets, is written shorter.
 fn a_lent_text_is_put(alloc: Global) -> bool {
+    let Ok(mut table) = Partitions::make(alloc, MOST_ENTRIES) else {
+        return false;
+    };
     let mut cursor = BitCursor::new(&[0xe1, 0x00]);
-    let (Ok(mut table), Ok(span)) = (Partitions::make(alloc, MOST_ENTRIES), cursor.take_chars(1))
-    else {
+    let Ok(span) = cursor.take_chars(1) else {
         return false;
     };
     let mut room = [0xff; 2];

@@ -180,12 +180,7 @@ const WRITTEN: [Written; 7] = [
         4,
         Ok((4, &[0x80, 0x44, 0x00, 0x40])),
     ),
-    Written(
-        AppCode::Failed,
-        None,
-        4,
-        Ok((3, &[0x80, 0x48, 0x80, 0xff])),
-    ),
+    Written(AppCode::Failed, None, 4, Ok((3, &[0x80, 0x48, 0x80, 0xff]))),
 ];
 
 /// A text, and its payload in hexadecimal or the place of its fault.

@@ -124,9 +124,7 @@ impl Case for Again {
             return false;
         }
         match read_report(self.0, &report_schema(), &mut table) {
-            Ok(report) => {
-                is_full(&report) == self.1 && is_written(&report, self.0, &mut table)
-            }
+            Ok(report) => { is_full(&report) == self.1 && is_written(&report, self.0, &mut table) }
             Err(_) => false,
         }
     }
@@ -169,7 +167,15 @@ const CHANGED: [Changed; 20] = [
     Changed(&FULL, 35, 0x00, RefusalCause::NoSuchIndex, 287),
     Changed(&FULL, 36, 0xc0, RefusalCause::Deviation, 288),
     Changed(&FULL, 36, 0xe0, RefusalCause::NoSuchCode, 288),
-    Changed(&FULL, 41, 0x88, RefusalCause::OutOfProfile { name: names::SOLAR_SUPPLY }, 331),
+    Changed(
+        &FULL,
+        41,
+        0x88,
+        RefusalCause::OutOfProfile {
+            name: names::SOLAR_SUPPLY,
+        },
+        331,
+    ),
     Changed(&FULL, 41, 0x8c, RefusalCause::Abstract, 331),
     Changed(&FULL, 45, 0x40, RefusalCause::Abstract, 366),
     Changed(&FULL, 50, 0x07, RefusalCause::TooLong, 399),

@@ -15,7 +15,7 @@ entered_or_full (Ok x) bits old new name at all one ok err =
 entered_or_full (Err e) bits old new name at all one ok err = subst (λ (t : Table SpanAt). AreTexts bits t.entries) (sym err) all
 
 pub returns-in-Some-clause-texts : goal.returns-in-Some-clause-texts
-returns-in-Some-clause-texts g c =
+returns-in-Some-clause-texts c =
     let bits = written_bits c.args.pen.now in
     entered_or_full c.enter.result bits c.args.table.now c.enter.new.self c.args.name c.in-Some.at c.requires.texts
     (place_spelled bits _ 0 c.in-Some.at (local_places bits c.args.name c.args.table.now.entries c.requires.texts) (c.in-Some.ensures ∙ c.local.ensures))

@@ -1,7 +1,6 @@
 use Rattle.exi_schema.specs.Told.{schema_of}
 use Rattle.exi_events.specs.Reader.{IsReady}
-use Rattle.exi_tests.proofs.particles.the_last_of_37_elements_is_told.Given as goal
+use Rattle.exi_tests.proofs.events.are_next.Given as goal
 
 abbrev pub invariant-loop-told : goal.invariant-loop-told
-invariant-loop-told g l =
-    IsReady schema_of l.reader
+invariant-loop-told l = IsReady schema_of l.reader

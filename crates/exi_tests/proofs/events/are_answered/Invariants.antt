@@ -1,0 +1,5 @@
+use Rattle.exi_events.specs.Writer.{IsReadyToPut}
+use Rattle.exi_tests.proofs.events.are_answered.Given as goal
+
+abbrev pub invariant-loop-told : goal.invariant-loop-told
+invariant-loop-told l = IsReadyToPut l.writer

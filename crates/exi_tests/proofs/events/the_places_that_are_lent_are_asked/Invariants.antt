@@ -1,7 +1,0 @@
-use Rattle.exi_schema.specs.Told.{schema_of}
-use Rattle.exi_events.specs.Reader.{IsReady}
-use Rattle.exi_tests.proofs.events.the_places_that_are_lent_are_asked.Given as goal
-
-abbrev pub invariant-loop-told : goal.invariant-loop-told
-invariant-loop-told g l =
-    IsReady schema_of l.reader
