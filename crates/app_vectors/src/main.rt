@@ -10,19 +10,20 @@ ghost use Rattle.std.specs.Prelude.{◌≤◌, length};
 use anyhow::{Context, Result};
 use app_protocol::{PrintFault, Refusal, ScanFault, Table, print, read_app, scan, write_app};
 use exi_documents::MOST_ENTRIES;
+use row_texts::{Vector, count};
 use std::alloc::{AllocError, Global};
 use std::{env, fs};
 
 fn main(rt: HostRuntime) -> Result<()> {
     for file in env::args(&rt)?.skip(1) {
-        let text = fs::read(&rt, file.as_str())?;
+        let text = fs::read_to_string(&rt, file.as_str())?;
         let mut right = 0u64;
         let mut wrong = 0u64;
-        for line in str::from_utf8(text.as_slice())?.lines() {
+        for line in text.as_str().lines() {
             if is_right(rt.alloc(), line)? {
-                right = right.saturating_add(1);
+                count(&mut right);
             } else {
-                wrong = wrong.saturating_add(1);
+                count(&mut wrong);
             }
         }
         println!(rt; "{} right {right} wrong {wrong}", file.as_str())?;
@@ -32,32 +33,23 @@ fn main(rt: HostRuntime) -> Result<()> {
 
 /// Whether the codec answers as a line says.
 fn is_right(alloc: Global, line: &str) -> Result<bool> {
-    let (word, rest) = line.split_once(' ').context("a line of one word")?;
-    let (hex, expected) = rest.split_once(' ').context("a line of two words")?;
-    let payload = bytes_of(alloc, hex)?;
+    let vector = Vector::of(line).context("a line of two words")?;
+    let payload = vector.bytes(alloc)?;
     if payload.len() > 65536 {
         return Ok(false);
     }
     let text = printed(alloc, payload.as_slice())?;
-    if text.as_str() != expected {
+    if text.as_str() != vector.answer {
         return Ok(false);
     }
-    if word != "ok" {
-        return Ok(word == "no");
+    if vector.mark != "ok" {
+        return Ok(vector.mark == "no");
     }
-    let scanned = scanned(alloc, expected)?;
-    if scanned.as_str() != hex {
+    let scanned = scanned(alloc, vector.answer)?;
+    if scanned.as_str() != vector.payload {
         return Ok(false);
     }
     is_written_back(alloc, payload.as_slice())
-}
-
-/// The bytes of hexadecimal text; a dash is none.
-fn bytes_of(alloc: Global, hex: &str) -> Result<Vec<u8>> {
-    if hex == "-" {
-        return Ok(Vec::new(alloc));
-    }
-    Ok(hex::decode(alloc, hex)?)
 }
 
 /// The text of a payload, or why and at which bit it is refused.

@@ -13,6 +13,7 @@ ghost use Rattle.app_protocol.specs.Messages.{message_of};
 use anyhow::{Context, Result};
 use app_protocol::{AppMessage, Table, read_app, write_app};
 use exi_documents::MOST_ENTRIES;
+use row_texts::Vector;
 use std::alloc::Global;
 use std::process::ExitCode;
 use std::{env, fs};
@@ -24,8 +25,8 @@ fn main(rt: HostRuntime) -> Result<ExitCode> {
         return Ok(ExitCode::from(2));
     };
     let rounds: u32 = rounds.as_str().parse()?;
-    let text = fs::read(&rt, file.as_str())?;
-    let payloads = payloads_of(rt.alloc(), str::from_utf8(text.as_slice())?)?;
+    let text = fs::read_to_string(&rt, file.as_str())?;
+    let payloads = payloads_of(rt.alloc(), text.as_str())?;
     let mut table = Table::make(rt.alloc(), MOST_ENTRIES)?;
     let count = if task.as_str() == "read" {
         read_rounds(&payloads, &mut table, rounds)
@@ -64,18 +65,10 @@ fn write_rounds(messages: &Vec<AppMessage<'_>>, table: &mut Table, rounds: u32) 
 fn payloads_of(alloc: Global, text: &str) -> Result<Vec<Vec<u8>>> {
     let mut payloads = Vec::new(alloc);
     for line in text.lines() {
-        payloads.push(payload_of(alloc, line)?)?;
+        let vector = Vector::of(line).context("a line without an answer")?;
+        payloads.push(vector.bytes(alloc)?)?;
     }
     Ok(payloads)
-}
-
-/// The second word of a line.
-fn payload_of(alloc: Global, line: &str) -> Result<Vec<u8>> {
-    let word = line.split(' ').nth(1).context("a line of one word")?;
-    if word == "-" {
-        return Ok(Vec::new(alloc));
-    }
-    Ok(hex::decode(alloc, word)?)
 }
 
 /// Reads each payload once, and adds their number to the count.

@@ -29,8 +29,8 @@ fn main(rt: HostRuntime) -> Result<ExitCode> {
     let rounds: u32 = words.next().context("no rounds")?.as_str().parse()?;
     let name = words.next().context("no message")?;
     let (file, is_iso) = file_of(dialect.as_str())?;
-    let text = fs::read(&rt, file)?;
-    let payloads = payloads_of(rt.alloc(), str::from_utf8(text.as_slice())?, name.as_str())?;
+    let text = fs::read_to_string(&rt, file)?;
+    let payloads = payloads_of(rt.alloc(), text.as_str(), name.as_str())?;
     let mut table = Table::make(rt.alloc(), MOST_ENTRIES)?;
     let count = if is_iso {
         iso::rounds(rt.alloc(), task, &payloads, &mut table, rounds)?

@@ -4,6 +4,7 @@
 #![tactic(auto)]
 
 use anyhow::{Context, Result};
+use row_texts::{code_of, count};
 use site_plan::{PlanFault, car_plan_of, site_plan_of};
 use std::alloc::{AllocError, Global};
 use std::process::ExitCode;
@@ -22,35 +23,31 @@ fn main(rt: HostRuntime) -> Result<ExitCode> {
         println!(rt; "words: STATIONS CARS, two files of vectors")?;
         return Ok(ExitCode::from(2));
     };
-    let mut right = true;
+    let mut wrong = 0_u64;
     for (whose, file) in [(Whose::Station, stations), (Whose::Car, cars)] {
-        let text = fs::read(&rt, file.as_str())?;
-        let text = str::from_utf8(text.as_slice())?;
-        right &= count(&rt, rt.alloc(), whose, file.as_str(), text)?;
+        let text = fs::read_to_string(&rt, file.as_str())?;
+        let of_file = wrong_of(&rt, rt.alloc(), whose, file.as_str(), text.as_str())?;
+        wrong = wrong.saturating_add(of_file);
     }
-    Ok(if right {
-        ExitCode::SUCCESS
-    } else {
-        ExitCode::from(1)
-    })
+    Ok(code_of(wrong))
 }
 
-/// Prints how many vectors of a text are answered as they say, and whether all are.
-fn count(rt: &impl Print, alloc: Global, whose: Whose, file: &str, text: &str) -> Result<bool> {
+/// Prints how many vectors of a text are answered as they say, and tells how many are not.
+fn wrong_of(rt: &impl Print, alloc: Global, whose: Whose, file: &str, text: &str) -> Result<u64> {
     let mut all = 0u64;
     let mut right = 0u64;
     for block in text.split("=== ").skip(1) {
         let (wanted, plan) = block.split_once('\n').context("a vector without a text")?;
         let said = answer(alloc, whose, plan.as_bytes())?;
-        all = all.wrapping_add(1);
+        count(&mut all);
         if said.as_str() == wanted {
-            right = right.wrapping_add(1);
+            count(&mut right);
         } else {
             println!(rt; "{file}: vector {all} gives {said}")?;
         }
     }
     println!(rt; "{file}: {right} of {all}")?;
-    Ok(right == all)
+    Ok(all.saturating_sub(right))
 }
 
 /// What a text is as a plan, as the vectors write it.

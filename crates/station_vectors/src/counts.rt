@@ -12,8 +12,3 @@ pub(crate) struct Counts {
     /// All that comes otherwise.
     pub(crate) other: u64,
 }
-
-/// Counts one more.
-pub(crate) fn count(number: &mut u64) {
-    *number = number.saturating_add(1);
-}

@@ -15,11 +15,12 @@ mod plain;
 mod recorded;
 mod replays;
 
-use crate::counts::{Counts, count};
+use crate::counts::Counts;
 use crate::plain::PlainJudge;
 use crate::recorded::Run;
 use crate::replays::is_as_recorded;
 use anyhow::{Context, Result};
+use row_texts::{code_of, count};
 use std::alloc::Global;
 use std::process::ExitCode;
 use std::{env, fs};
@@ -28,19 +29,17 @@ fn main(rt: HostRuntime) -> Result<ExitCode> {
     let mut words = env::args(&rt)?.skip(1);
     let step = words.next().context("no number")?.as_str().parse()?;
     let judge = PlainJudge::make(rt.alloc(), step)?;
-    let mut code = ExitCode::SUCCESS;
+    let mut other = 0_u64;
     for file in words {
-        let bytes = fs::read(&rt, file.as_str())?;
-        let counts = judge_all(&rt, rt.alloc(), &judge, str::from_utf8(bytes.as_slice())?)?;
+        let text = fs::read_to_string(&rt, file.as_str())?;
+        let counts = judge_all(&rt, rt.alloc(), &judge, text.as_str())?;
         println!(rt;
             "{file}: same {} accepted {} refused {} other {}",
             counts.same, counts.accepted, counts.refused, counts.other
         )?;
-        if counts.other > 0 {
-            code = ExitCode::from(1);
-        }
+        other = other.saturating_add(counts.other);
     }
-    Ok(code)
+    Ok(code_of(other))
 }
 
 /// Judges each run of a text.

@@ -7,12 +7,13 @@ ghost use Rattle.std.specs.Prelude.{◌<◌, IfOk};
 ghost use Rattle.session_words.specs.Plans.{IsSitePlan};
 
 use crate::changes::{Change, changed};
-use crate::counts::{Counts, count};
+use crate::counts::Counts;
 use crate::places::places_of;
 use crate::recorded::Run;
 use anyhow::{Result, bail};
 use charge_world::Entry;
 use plain_codecs::{Ending, NoMemory, PlainCodecs, is_run};
+use row_texts::count;
 use session_words::SitePlan;
 use site_plan::site_plan_of;
 use std::alloc::Global;

@@ -1,6 +1,7 @@
 //! Runs as they were recorded.
 
 use anyhow::Result;
+use row_texts::add_line;
 use std::alloc::Global;
 
 /// A run: its plan and its trace, and, where these don't tell it, what its replay comes to.
@@ -33,11 +34,4 @@ impl Run {
         }
         Ok(true)
     }
-}
-
-/// Adds a line to a text.
-fn add_line(text: &mut String, line: &str) -> Result<()> {
-    text.push_str(line)?;
-    text.push('\n')?;
-    Ok(())
 }

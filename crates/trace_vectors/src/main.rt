@@ -5,6 +5,7 @@
 #![tactic(auto)]
 
 use anyhow::Result;
+use row_texts::count;
 use std::alloc::Global;
 use std::{env, fs};
 use trace_text::{LineFault, read_line, read_numbered, write_line, write_numbered};
@@ -21,9 +22,9 @@ impl Counts {
     /// Counts a line: `Some(true)` where it was read, `Some(false)` where it was refused, `None` where it was wrong.
     fn add(&mut self, answer: Option<bool>) {
         match answer {
-            Some(true) => self.read = self.read.saturating_add(1),
-            Some(false) => self.refused = self.refused.saturating_add(1),
-            None => self.wrong = self.wrong.saturating_add(1),
+            Some(true) => count(&mut self.read),
+            Some(false) => count(&mut self.refused),
+            None => count(&mut self.wrong),
         }
     }
 }

@@ -14,75 +14,70 @@
 //! A line that begins with `#` says something to the reader.
 #![tactic(auto)]
 
+mod given;
 mod left;
 mod playing;
-mod row;
 
+use crate::left::Left;
 use crate::playing::left_by;
-use crate::row::Row;
 use anyhow::Result;
+use row_texts::{add_line, code_of, count};
 use std::alloc::Global;
 use std::process::ExitCode;
 use std::{env, fs};
 
 /// How many rows there are, and how many don't go as they say.
-#[derive(Clone, Copy, Debug, Default)]
+#[derive(Clone, Copy, Default)]
 struct Counts {
     rows: u64,
     wrong: u64,
 }
 
 fn main(rt: HostRuntime) -> Result<ExitCode> {
-    let mut wrong = false;
+    let mut wrong = 0_u64;
     for file in env::args(&rt)?.skip(1) {
-        let text = fs::read(&rt, file.as_str())?;
-        let counts = count(&rt, rt.alloc(), str::from_utf8(text.as_slice())?)?;
+        let text = fs::read_to_string(&rt, file.as_str())?;
+        let counts = counts_of(&rt, rt.alloc(), text.as_str())?;
         println!(rt;
             "{} rows {} wrong {}",
             file.as_str(),
             counts.rows,
             counts.wrong
         )?;
-        wrong |= counts.wrong > 0;
+        wrong = wrong.saturating_add(counts.wrong);
     }
-    Ok(if wrong {
-        ExitCode::from(1)
-    } else {
-        ExitCode::SUCCESS
-    })
+    Ok(code_of(wrong))
 }
 
 /// Runs each row of a text.
-fn count(rt: &impl Print, alloc: Global, text: &str) -> Result<Counts> {
+fn counts_of(rt: &impl Print, alloc: Global, text: &str) -> Result<Counts> {
     let mut counts = Counts::default();
-    let mut row = Row::new(alloc, "")?;
+    let mut row = String::new(alloc);
     for line in text.lines() {
-        if let Some(name) = line.strip_prefix("row ") {
-            settle(rt, alloc, row, &mut counts)?;
-            row = Row::new(alloc, name)?;
-        } else {
-            row.add(alloc, line)?;
+        if line.starts_with("row ") {
+            settle(rt, alloc, row.as_str(), &mut counts)?;
+            row.clear();
         }
+        add_line(&mut row, line)?;
     }
-    settle(rt, alloc, row, &mut counts)?;
+    settle(rt, alloc, row.as_str(), &mut counts)?;
     Ok(counts)
 }
 
-/// Runs a row, if it has a name, and counts it. One that goes otherwise is printed.
-fn settle(rt: &impl Print, alloc: Global, row: Row, counts: &mut Counts) -> Result<()> {
-    let Row {
-        name,
-        given,
-        wanted,
-    } = row;
-    if name.is_empty() {
+/// Runs a row, if it is one and not what stands before the first, and counts it. One that goes otherwise is printed.
+fn settle(rt: &impl Print, alloc: Global, row: &str, counts: &mut Counts) -> Result<()> {
+    let Some((name, lines)) = row.split_once('\n') else {
+        return Ok(());
+    };
+    if !name.starts_with("row ") {
         return Ok(());
     }
-    counts.rows = counts.rows.saturating_add(1);
-    let left = left_by(alloc, given)?;
+    count(&mut counts.rows);
+    let left = left_by(alloc, lines)?;
+    let wanted = Left::told(alloc, lines)?;
     if !left.is_as(&wanted) {
-        counts.wrong = counts.wrong.saturating_add(1);
-        println!(rt; "row {name} left\n{left}in place of\n{wanted}")?;
+        count(&mut counts.wrong);
+        println!(rt; "{name} left\n{left}in place of\n{wanted}")?;
     }
     Ok(())
 }

@@ -1,48 +1,23 @@
 //! A run of the program with the outside in memory.
 
-use crate::left::{Left, add_line};
-use crate::row::{Failing, Given};
+use crate::given::{files_in, sink_in, wire_in, words_in};
+use crate::left::Left;
 use anyhow::Result;
 use charge_run::{Status, WordList, run};
-use charge_world::{
-    Entry, MemorySink, MemorySource, MemoryWire, NamedFile, Order, Piece, Sink, Source, Wire,
-};
+use charge_world::{Entry, MemorySink, MemoryWire, Order, Sink, Source, Wire};
+use row_texts::add_line;
 use std::alloc::Global;
+use std::fmt::Write;
 
-/// Room for the entries of a wire.
-const ENTRIES: u32 = 400;
-
-/// Bytes of the entries of a wire, and bytes of a sink.
-const BYTES: u32 = 100_000;
-
-/// What a run leaves to which this is given.
-pub(crate) fn left_by(alloc: Global, given: Given) -> Result<Left> {
-    let Given {
-        words,
-        plan,
-        recorded,
-        script,
-        failing,
-    } = given;
-    let Failing {
-        wire,
-        files,
-        out,
-        trace,
-    } = failing;
-    let words = WordList::of(words);
-    let mut files = MemorySource::of(files_of(alloc, plan, recorded)?, files);
-    let mut out = MemorySink::make(alloc, out, BYTES)?;
-    let mut trace = MemorySink::make(alloc, trace, BYTES)?;
-    let mut wire = MemoryWire::make(alloc, script, wire, ENTRIES, BYTES)?;
+/// What a run leaves to which these lines of a row are given.
+pub(crate) fn left_by(alloc: Global, lines: &str) -> Result<Left> {
+    let words = words_in(alloc, lines)?;
+    let mut files = files_in(alloc, lines)?;
+    let mut out = sink_in(alloc, lines, "fails out ")?;
+    let mut trace = sink_in(alloc, lines, "fails trace ")?;
+    let mut wire = wire_in(alloc, lines)?;
     let status = status_of(alloc, &words, &mut files, &mut out, &mut trace, &mut wire);
-    Ok(Left {
-        trace: text_of(alloc, trace.bytes())?,
-        out: text_of(alloc, out.bytes())?,
-        untils: lines_of(alloc, wire.untils())?,
-        driven: orders_of(alloc, wire.entries(alloc)?.as_slice())?,
-        status: status.number(),
-    })
+    left_in(alloc, status, &out, &trace, &wire)
 }
 
 /// Does all that the program does. That `run` has a large contract is felt here alone.
@@ -57,18 +32,21 @@ fn status_of<F: Source, K: Sink, J: Sink, W: Wire>(
     run(alloc, words, files, out, trace, wire)
 }
 
-/// The files `plan` and `recorded` of these texts.
-fn files_of(alloc: Global, plan: String, recorded: String) -> Result<Vec<NamedFile>> {
-    let plan = file_of(alloc, b"plan", plan)?;
-    let recorded = file_of(alloc, b"recorded", recorded)?;
-    Ok(vec![in alloc; plan, recorded]?)
-}
-
-/// A file of this name and text.
-fn file_of(alloc: Global, name: &[u8], text: String) -> Result<NamedFile> {
-    Ok(NamedFile {
-        name: Piece::of(name.to_vec(alloc)?),
-        bytes: Piece::of(text.into_bytes()),
+/// What is left in these.
+fn left_in(
+    alloc: Global,
+    status: Status,
+    out: &MemorySink,
+    trace: &MemorySink,
+    wire: &MemoryWire,
+) -> Result<Left> {
+    let entries = wire.entries(alloc)?;
+    Ok(Left {
+        trace: text_of(alloc, trace.bytes())?,
+        out: text_of(alloc, out.bytes())?,
+        untils: lines_of(alloc, wire.untils())?,
+        driven: orders_of(alloc, entries.as_slice())?,
+        status: u32::from(status.number()),
     })
 }
 
@@ -81,8 +59,7 @@ fn text_of(alloc: Global, bytes: &[u8]) -> Result<String> {
 fn lines_of(alloc: Global, numbers: &[u64]) -> Result<String> {
     let mut lines = String::new(alloc);
     for number in numbers {
-        let line = format!(in alloc; "{number}\n")?;
-        lines.push_str(line.as_str())?;
+        writeln!(lines, "{number}")?;
     }
     Ok(lines)
 }
