@@ -16,6 +16,7 @@ from message_readers import reader_files
 from message_shapes import Types, in_groups
 from message_specs import definitions
 from reached_paths import Reached
+from schema_lists import Refused
 from written_files import settle, told
 
 WORDS = [
@@ -426,7 +427,10 @@ def written(t):
             files.update({f"{crate}/proofs/{at}/Answers.antt": text for at, text in proofs(t, crate, file, kind).items()})
     files.update(reader_files(t))
     reached = Reached()
-    return {f"crates/{at}": reached.text(at.split("/")[0], text, at.endswith(".rt")) for at, text in files.items()}
+    try:
+        return {f"crates/{at}": reached.text(at.split("/")[0], text, at.endswith(".rt")) for at, text in files.items()}
+    except LookupError as lacking:
+        raise Refused(str(lacking)) from lacking
 
 
 def main():
