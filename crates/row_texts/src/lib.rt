@@ -6,5 +6,5 @@ mod lines;
 mod vector;
 
 pub use counts::{code_of, count};
-pub use lines::{add_line, lines_behind};
+pub use lines::{add_line, lines_behind, numbers_behind};
 pub use vector::{Vector, bytes_of};
