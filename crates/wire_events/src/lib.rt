@@ -11,6 +11,7 @@ mod faults;
 mod keys;
 mod law;
 mod seat;
+mod stop_line;
 mod told;
 
 pub use board::{Board, Step};
@@ -18,4 +19,5 @@ pub use faults::Faults;
 pub use keys::{Key, key_of, number_of};
 pub use law::law_of_turns;
 pub use seat::{Kind, Line, Seat, Socket};
+pub use stop_line::StopLine;
 pub use told::{piece_or_end, token_of};
