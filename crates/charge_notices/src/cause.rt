@@ -56,7 +56,8 @@ fn sense_of(cause: EndCause) -> &'static str {
         EndCause::Refused => "a payload was refused; `decode` says at which bit",
         EndCause::BadFrame => "a frame's header was refused, or its payload is too long",
         EndCause::WrongSide => "a message of this end's own side, or one without a body, came",
-        EndCause::NoNegotiation => "the two ends have no protocol in common; see `dialects` in the plans",
+        EndCause::NoNegotiation =>
+            "the two ends have no protocol in common; see `dialects` in the plans",
         EndCause::FailedReply => "a request was answered with a FAILED code",
         EndCause::SetupTimeout => "SessionSetup came too late",
         EndCause::SequenceTimeout => "the next request came too late",
@@ -67,7 +68,8 @@ fn sense_of(cause: EndCause) -> &'static str {
         EndCause::FeedbackWrong => "the contactor's feedback is against its order",
         EndCause::OverPower => "the measured power is above the allowed one",
         EndCause::Gone => "the connection ended, or another one took its place",
-        EndCause::SendFailed => "a message could not be sent: the other end is gone, or does not read",
+        EndCause::SendFailed =>
+            "a message could not be sent: the other end is gone, or does not read",
         EndCause::OrderFailed => "the charger did not take an order",
         EndCause::RunOver => "the program was to end: nothing more is heard",
         EndCause::Impatient => "a request came while another one was answered",
@@ -76,7 +78,8 @@ fn sense_of(cause: EndCause) -> &'static str {
         EndCause::CableCheckTimeout => "the cable check was not finished in time",
         EndCause::PreChargeTimeout => "pre-charging did not reach its voltage in time",
         EndCause::OngoingTimeout => "the authorization or the parameters were not finished in time",
-        EndCause::WrongReply => "a reply of another kind, of another session, or one not asked for, came",
+        EndCause::WrongReply =>
+            "a reply of another kind, of another session, or one not asked for, came",
         EndCause::NoOffer => "no post answered, or none gives energy in the car's `mode`",
         EndCause::Paused => "the car paused with SessionStop, and may come back",
     }

@@ -19,11 +19,14 @@ const PAYLOAD: usize = 8;
 
 /// The numbers of V2G_Message among the elements of a schema.
 const ISO_MESSAGE: u8 = 76;
+
 const DIN_MESSAGE: u8 = 77;
 
 /// The numbers of three bodies among those of a schema. CurrentDemandReq and SessionSetupReq have the same ones in both.
 const CHARGING_STATUS: u8 = 11;
+
 const CURRENT_DEMAND: u8 = 13;
+
 const SESSION_SETUP: u8 = 29;
 
 /// The request in a frame that a car sends, where it is one that is told of.

@@ -10,6 +10,6 @@ pub use cause::{Cause, cause_of};
 pub use frame::{Request, request_in};
 pub use journal::{Journal, Progress, Tally};
 pub use notice::{
-    Begun, Connected, Cycle, Dialing, Ended, Found, Listening, Over, Seconds, Seeking, Serving, Speaking,
-    Unconnected,
+    Begun, Connected, Cycle, Dialing, Ended, Found, Listening, Over, Seconds, Seeking, Serving,
+    Speaking, Unconnected,
 };

@@ -25,7 +25,11 @@ pub struct Listening {
 
 impl fmt::Display for Listening {
     fn fmt<W: fmt::Write>(&self, f: &mut fmt::Formatter<W>) -> fmt::Result {
-        write!(f, "post {} listens at TCP port {} of 127.0.0.1", self.post, self.pair.tcp)?;
+        write!(
+            f,
+            "post {} listens at TCP port {} of 127.0.0.1",
+            self.post, self.pair.tcp
+        )?;
         match self.pair.sdp {
             0 => f.write_str(", without discovery"),
             sdp => write!(f, ", discovery at UDP port {sdp}"),
@@ -82,7 +86,11 @@ impl fmt::Display for Begun {
     fn fmt<W: fmt::Write>(&self, f: &mut fmt::Formatter<W>) -> fmt::Result {
         match self.peer {
             Some(peer) => write!(f, "post {}: a session begins, with {peer}", self.post),
-            None => write!(f, "post {}: a session begins, whose peer is gone already", self.post),
+            None => write!(
+                f,
+                "post {}: a session begins, whose peer is gone already",
+                self.post
+            ),
         }
     }
 }
@@ -102,7 +110,11 @@ impl fmt::Display for Ended {
         let span = Seconds(self.at.saturating_sub(self.tally.since));
         match self.post {
             0 => write!(f, "car: the session ends after {span}, {}", self.cause)?,
-            post => write!(f, "post {post}: the session ends after {span}, {}", self.cause)?,
+            post => write!(
+                f,
+                "post {post}: the session ends after {span}, {}",
+                self.cause
+            )?,
         }
         write!(f, "; {}", self.tally)
     }
@@ -170,7 +182,11 @@ pub struct Unconnected {
 
 impl fmt::Display for Unconnected {
     fn fmt<W: fmt::Write>(&self, f: &mut fmt::Formatter<W>) -> fmt::Result {
-        write!(f, "car: no connection to TCP port {} of 127.0.0.1", self.tcp)
+        write!(
+            f,
+            "car: no connection to TCP port {} of 127.0.0.1",
+            self.tcp
+        )
     }
 }
 

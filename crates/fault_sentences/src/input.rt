@@ -36,10 +36,17 @@ impl fmt::Display for DecodePlace<'_> {
             return write!(f, "HEX has {count} digits: each byte wants two.");
         }
         if let Some(other) = self.hex.chars().find(|c| !c.is_ascii_hexdigit()) {
-            return write!(f, "HEX has {other:?} at place {}, counted from 0: it wants digits 0 to 9 and a to f alone.", self.place);
+            return write!(
+                f,
+                "HEX has {other:?} at place {}, counted from 0: it wants digits 0 to 9 and a to f alone.",
+                self.place
+            );
         }
         if count > MOST_DIGITS {
-            return write!(f, "HEX has {count} digits: a payload has {MOST_DIGITS} at most.");
+            return write!(
+                f,
+                "HEX has {count} digits: a payload has {MOST_DIGITS} at most."
+            );
         }
         self.fmt_bit(f, count / 2)
     }
@@ -50,7 +57,11 @@ impl DecodePlace<'_> {
     fn fmt_bit<W: fmt::Write>(&self, f: &mut fmt::Formatter<W>, bytes: u64) -> fmt::Result {
         let bit = self.place;
         if bit >= 8 * bytes {
-            return write!(f, "The payload ends before a message of `{}` does: it has {bytes} bytes. A frame's eight bytes in front are no part of it.", self.dialect);
+            return write!(
+                f,
+                "The payload ends before a message of `{}` does: it has {bytes} bytes. A frame's eight bytes in front are no part of it.",
+                self.dialect
+            );
         }
         write!(
             f,
@@ -73,8 +84,16 @@ pub struct EncodePlace<'a> {
 impl fmt::Display for EncodePlace<'_> {
     fn fmt<W: fmt::Write>(&self, f: &mut fmt::Formatter<W>) -> fmt::Result {
         match char_at(self.text, self.place) {
-            Some(c) => write!(f, "At character {} of TEXT, counted from 0, stands {c:?}, which no message of `{}` has there.", self.place, self.dialect),
-            None => write!(f, "TEXT ends before the message does, or no payload is written for it: a child of `{}` is missing, or a number is out of its bounds.", self.dialect),
+            Some(c) => write!(
+                f,
+                "At character {} of TEXT, counted from 0, stands {c:?}, which no message of `{}` has there.",
+                self.place, self.dialect
+            ),
+            None => write!(
+                f,
+                "TEXT ends before the message does, or no payload is written for it: a child of `{}` is missing, or a number is out of its bounds.",
+                self.dialect
+            ),
         }
     }
 }

@@ -17,7 +17,9 @@ pub fn say_plan<E: Eprint, F: Source>(
     name: &str,
 ) -> io::Result<()> {
     let Ok(text) = text_in(alloc, files, name, LONGEST) else {
-        return eprintln!(rt; "The plan {name} is refused, and can't be read a second time to say why.");
+        return eprintln!(rt;
+            "The plan {name} is refused, and can't be read a second time to say why."
+        );
     };
     let fault = if is_car {
         car_plan_of(alloc, text.as_slice()).err()
@@ -27,7 +29,9 @@ pub fn say_plan<E: Eprint, F: Source>(
     match fault {
         None => eprintln!(rt; "The plan {name} was refused, and has changed since."),
         Some(PlanFault::NotToml) => say_not_toml(rt, alloc, name, text.as_slice()),
-        Some(PlanFault::Memory) => rt.eprintln("There is too little memory to say why the plan is refused."),
+        Some(PlanFault::Memory) => rt.eprintln(
+            "There is too little memory to say why the plan is refused.",
+        ),
         Some(fault) => say_key(rt, alloc, name, &fault, text.as_slice()),
     }
 }

@@ -25,12 +25,16 @@ pub fn say_trouble<E: Eprint, F: Source>(
             say_taken(rt, alloc, files, name, post, port, |post| post.sdp)
         }
         (Attempt::Listen { .. } | Attempt::Discover { .. }, ErrorKind::PermissionDenied) => {
-            eprintln!(rt; "Ports below 1024 are the system's own: give the post another one in {name}.")
+            eprintln!(rt;
+                "Ports below 1024 are the system's own: give the post another one in {name}."
+            )
         }
         (Attempt::Connect { .. }, ErrorKind::ConnectionRefused) => eprintln!(rt;
             "No station listens there. Start it first, or mend `tcp` in {name}: it is the port of a station's post."
         ),
-        (Attempt::Connect { .. }, _) => eprintln!(rt; "Is a station up, and is `tcp` in {name} the port of one of its posts?"),
+        (Attempt::Connect { .. }, _) => eprintln!(rt;
+            "Is a station up, and is `tcp` in {name} the port of one of its posts?"
+        ),
         _ => Ok(()),
     }
 }
@@ -50,13 +54,22 @@ fn say_taken<E: Eprint, F: Source, P: Fn(&session_words::PostPlan) -> u16 + Drop
         Err(_) => None,
     };
     match earlier {
-        Some(number) => eprintln!(rt; "The plan {name} gives that port to post {number} too: each post has its own."),
-        None => eprintln!(rt; "Another program has it, maybe a station that still runs. End that one, or give the post another port in {name}."),
+        Some(number) => eprintln!(rt;
+            "The plan {name} gives that port to post {number} too: each post has its own."
+        ),
+        None => eprintln!(rt;
+            "Another program has it, maybe a station that still runs. End that one, or give the post another port in {name}."
+        ),
     }
 }
 
 /// The number of the first post before this one that has this port.
-fn earlier_with<P: Fn(&session_words::PostPlan) -> u16 + Drop>(plan: &SitePlan, post: u8, port: u16, port_of: P) -> Option<usize> {
+fn earlier_with<P: Fn(&session_words::PostPlan) -> u16 + Drop>(
+    plan: &SitePlan,
+    post: u8,
+    port: u16,
+    port_of: P,
+) -> Option<usize> {
     let posts = plan.post.as_slice();
     for place in 0..posts.len().min(usize::from(post).saturating_sub(1)) {
         if port_of(&posts[place]) == port {

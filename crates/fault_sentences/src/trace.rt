@@ -40,7 +40,11 @@ impl Reading {
 }
 
 /// The first bytes of the first line of a file that is wanted; of the last one where none is and it has no line feed.
-fn find_line<F: Source, P: Fn(u64, &[u8]) -> bool + Drop>(files: &mut F, name: &str, wanted: P) -> Option<Line> {
+fn find_line<F: Source, P: Fn(u64, &[u8]) -> bool + Drop>(
+    files: &mut F,
+    name: &str,
+    wanted: P,
+) -> Option<Line> {
     files.begin(name).ok()?;
     let mut reading = Reading::new();
     let mut room = [0u8; 4096];

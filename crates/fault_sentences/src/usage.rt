@@ -77,7 +77,9 @@ pub fn asked(words: &WordList) -> Asked {
 
 /// Says what the commands are, with an example each.
 pub fn say_help<E: Eprint>(rt: &E) -> io::Result<()> {
-    rt.eprintln("The talk between an electric car and its charging post, after ISO 15118-2 and DIN SPEC 70121.\n")?;
+    rt.eprintln(
+        "The talk between an electric car and its charging post, after ISO 15118-2 and DIN SPEC 70121.\n",
+    )?;
     for usage in COMMANDS {
         eprintln!(rt; "  {usage}\n      {}\n      {}", usage.does, usage.example)?;
     }
@@ -90,10 +92,14 @@ pub fn say_help<E: Eprint>(rt: &E) -> io::Result<()> {
 pub fn sentence_of(status: u8) -> &'static str {
     match status {
         1 => "There is too little memory. Nothing was begun.",
-        8 => "The greatest number of hearings, `turns` of the plan, was spent before the end. Give it more.",
-        9 => "A check of the trace fails: the line on the output has the number of the trace's line and that of the check.",
-        10 => "No charging profile within the limits reaches the energy that is needed by then. Ask for less, or leave later.",
-        11 => "The payload offers no schedule: it is no ChargeParameterDiscoveryRes of the OK class with one, or its entries are out of order or not in W.",
+        8 =>
+            "The greatest number of hearings, `turns` of the plan, was spent before the end. Give it more.",
+        9 =>
+            "A check of the trace fails: the line on the output has the number of the trace's line and that of the check.",
+        10 =>
+            "No charging profile within the limits reaches the energy that is needed by then. Ask for less, or leave later.",
+        11 =>
+            "The payload offers no schedule: it is no ChargeParameterDiscoveryRes of the OK class with one, or its entries are out of order or not in W.",
         12 => "The payload offers no set of parameters as it is wanted.",
         _ => "The command could not be done.",
     }

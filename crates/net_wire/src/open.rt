@@ -407,7 +407,11 @@ impl OpenWire {
         if self.board.line(place) != Line::Held {
             return Err(io::Error::from(ErrorKind::NotConnected));
         }
-        let Some(stream) = self.posts.get_mut(place).and_then(|post| post.stream.as_mut()) else {
+        let Some(stream) = self
+            .posts
+            .get_mut(place)
+            .and_then(|post| post.stream.as_mut())
+        else {
             return Err(io::Error::from(ErrorKind::NotConnected));
         };
         if stream.write(bytes)? == bytes.len() {

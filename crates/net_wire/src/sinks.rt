@@ -49,7 +49,9 @@ impl<'r, R: Print> Sink for StandardOutput<'r, R> {
 
     fn write(&mut self, piece: &[u8]) -> Result<(), Failed> {
         self.last.clear();
-        let _ = self.last.try_extend_from_slice(&piece[..piece.len().min(KEPT)]);
+        let _ = self
+            .last
+            .try_extend_from_slice(&piece[..piece.len().min(KEPT)]);
         match self.rt.write_all(piece) {
             Ok(()) => Ok(()),
             Err(reason) => {

@@ -6,19 +6,11 @@ use std::{fmt, io};
 #[derive(Clone, Copy, Debug, PartialEq, Eq)]
 pub enum Attempt {
     /// To listen for the connections of a post.
-    Listen {
-        post: u8,
-        port: u16,
-    },
+    Listen { post: u8, port: u16 },
     /// To listen for the datagrams of a post, at port 0 for the answers to a car.
-    Discover {
-        post: u8,
-        port: u16,
-    },
+    Discover { post: u8, port: u16 },
     /// To connect to a post.
-    Connect {
-        port: u16,
-    },
+    Connect { port: u16 },
     /// To wait for what comes, and to take it.
     Wait,
 }
@@ -27,7 +19,10 @@ impl fmt::Display for Attempt {
     fn fmt<W: fmt::Write>(&self, f: &mut fmt::Formatter<W>) -> fmt::Result {
         match self {
             Attempt::Listen { post, port } => {
-                write!(f, "post {post} can't listen at TCP port {port} of 127.0.0.1")
+                write!(
+                    f,
+                    "post {post} can't listen at TCP port {port} of 127.0.0.1"
+                )
             }
             Attempt::Discover { post: _, port: 0 } => {
                 f.write_str("there is no UDP port of 127.0.0.1 for the discovery")

@@ -1,8 +1,8 @@
 //! What is said at which call.
 
 use charge_notices::{
-    Begun, Cause, Connected, Cycle, Dialing, Ended, Found, Journal, Listening, Over, Progress, Seeking,
-    Serving, Speaking, Unconnected,
+    Begun, Cause, Connected, Cycle, Dialing, Ended, Found, Journal, Listening, Over, Progress,
+    Seeking, Serving, Speaking, Unconnected,
 };
 use charge_world::{Heard, Order, Ports, What};
 use net_wire::Sockets;

@@ -19,7 +19,12 @@ pub(crate) struct Outside<'r> {
 }
 
 /// Says why a run of these words has its status, and what to change.
-pub(crate) fn say(rt: &HostRuntime, status: Status, words: &WordList, outside: &mut Outside<'_>) -> io::Result<()> {
+pub(crate) fn say(
+    rt: &HostRuntime,
+    status: Status,
+    words: &WordList,
+    outside: &mut Outside<'_>,
+) -> io::Result<()> {
     let plan = word(words, 1);
     match status {
         Status::Done => say_done(rt, words, outside),
@@ -49,7 +54,9 @@ fn word<'a>(words: &'a WordList, place: usize) -> &'a str {
 fn say_done(rt: &HostRuntime, words: &WordList, outside: &mut Outside<'_>) -> io::Result<()> {
     let trace = word(words, 2);
     if word(words, 0) == "replay" && is_of_a_car(&mut outside.files, trace) {
-        return eprintln!(rt; "{trace} is the trace of a car. It was replayed as if a station had heard it, which tells nothing of the car: `replay` is for a station's trace.");
+        return eprintln!(rt;
+            "{trace} is the trace of a car. It was replayed as if a station had heard it, which tells nothing of the car: `replay` is for a station's trace."
+        );
     }
     Ok(())
 }
@@ -88,8 +95,15 @@ fn say_input(rt: &HostRuntime, words: &WordList, outside: &mut Outside<'_>) -> i
 }
 
 /// Says which line of a trace is refused.
-fn say_line(rt: &HostRuntime, name: &str, number: u64, outside: &mut Outside<'_>) -> io::Result<()> {
-    eprintln!(rt; "Line {number} of {name} is refused: it is no line of a trace of a station with the plan's posts, can't stand there, or is cut off.")?;
+fn say_line(
+    rt: &HostRuntime,
+    name: &str,
+    number: u64,
+    outside: &mut Outside<'_>,
+) -> io::Result<()> {
+    eprintln!(rt;
+        "Line {number} of {name} is refused: it is no line of a trace of a station with the plan's posts, can't stand there, or is cut off."
+    )?;
     let Some(line) = line_in(&mut outside.files, name, number) else {
         return rt.eprintln("The trace ends before that line does.");
     };
@@ -105,7 +119,10 @@ fn say_sinks(rt: &HostRuntime, outside: &Outside<'_>) -> io::Result<()> {
         eprintln!(rt; "Standard output can't be written: {reason}.")?;
     }
     if let Some(reason) = outside.trace.trouble() {
-        eprintln!(rt; "The trace {} can't be written in the folder in which the program runs: {reason}. Run it where there is room, and where it may write.", outside.trace.name())?;
+        eprintln!(rt;
+            "The trace {} can't be written in the folder in which the program runs: {reason}. Run it where there is room, and where it may write.",
+            outside.trace.name()
+        )?;
     }
     Ok(())
 }
@@ -114,7 +131,9 @@ fn say_sinks(rt: &HostRuntime, outside: &Outside<'_>) -> io::Result<()> {
 fn say_source(rt: &HostRuntime, outside: &Outside<'_>) -> io::Result<()> {
     let name = outside.files.name().unwrap_or("A file");
     match outside.files.trouble() {
-        Some(reason) => eprintln!(rt; "{name} can't be read: {reason}. Its path is counted from the folder in which the program runs."),
+        Some(reason) => eprintln!(rt;
+            "{name} can't be read: {reason}. Its path is counted from the folder in which the program runs."
+        ),
         None => eprintln!(rt; "{name} can't be read."),
     }
 }
