@@ -3,7 +3,7 @@
 use charge_world::Source;
 use net_wire::{Attempt, Trouble};
 use plan_files::site_plan_in;
-use session_words::SitePlan;
+use session_words::PostPlan;
 use std::alloc::Global;
 use std::io;
 use std::io::ErrorKind;
@@ -18,11 +18,8 @@ pub fn say_trouble<E: Eprint, F: Source>(
 ) -> io::Result<()> {
     eprintln!(rt; "The network failed: {trouble}.")?;
     match (trouble.attempt, trouble.reason.kind()) {
-        (Attempt::Listen { post, port }, ErrorKind::AddrInUse) => {
-            say_taken(rt, alloc, files, name, post, port, |post| post.tcp)
-        }
-        (Attempt::Discover { post, port }, ErrorKind::AddrInUse) => {
-            say_taken(rt, alloc, files, name, post, port, |post| post.sdp)
+        (Attempt::Listen { .. } | Attempt::Discover { .. }, ErrorKind::AddrInUse) => {
+            say_taken(rt, alloc, files, name, trouble.attempt)
         }
         (Attempt::Listen { .. } | Attempt::Discover { .. }, ErrorKind::PermissionDenied) => {
             eprintln!(rt;
@@ -39,18 +36,16 @@ pub fn say_trouble<E: Eprint, F: Source>(
     }
 }
 
-/// Says who has a port.
-fn say_taken<E: Eprint, F: Source, P: Fn(&session_words::PostPlan) -> u16 + Drop>(
+/// Says who has the port that a post was to listen at.
+fn say_taken<E: Eprint, F: Source>(
     rt: &E,
     alloc: Global,
     files: &mut F,
     name: &str,
-    post: u8,
-    port: u16,
-    port_of: P,
+    attempt: Attempt,
 ) -> io::Result<()> {
     let earlier = match site_plan_in(alloc, files, name) {
-        Ok(plan) => earlier_with(&plan, post, port, port_of),
+        Ok(plan) => earlier_with(plan.post.as_slice(), attempt),
         Err(_) => None,
     };
     match earlier {
@@ -63,17 +58,17 @@ fn say_taken<E: Eprint, F: Source, P: Fn(&session_words::PostPlan) -> u16 + Drop
     }
 }
 
-/// The number of the first post before this one that has this port.
-fn earlier_with<P: Fn(&session_words::PostPlan) -> u16 + Drop>(
-    plan: &SitePlan,
-    post: u8,
-    port: u16,
-    port_of: P,
-) -> Option<usize> {
-    let posts = plan.post.as_slice();
-    for place in 0..posts.len().min(usize::from(post).saturating_sub(1)) {
-        if port_of(&posts[place]) == port {
-            return Some(place + 1);
+/// The number of the first post that has the port of this attempt, but for the post that it was made for.
+fn earlier_with(posts: &[PostPlan], attempt: Attempt) -> Option<usize> {
+    for (place, plan) in posts.iter().enumerate() {
+        let number = place + 1;
+        let has_it = match attempt {
+            Attempt::Listen { post, port } => plan.tcp == port && number != usize::from(post),
+            Attempt::Discover { post, port } => plan.sdp == port && number != usize::from(post),
+            Attempt::Connect { .. } | Attempt::Wait => false,
+        };
+        if has_it {
+            return Some(number);
         }
     }
     None

@@ -39,12 +39,26 @@ impl Reading {
     }
 }
 
-/// The first bytes of the first line of a file that is wanted; of the last one where none is and it has no line feed.
-fn find_line<F: Source, P: Fn(u64, &[u8]) -> bool + Drop>(
-    files: &mut F,
-    name: &str,
-    wanted: P,
-) -> Option<Line> {
+/// Which line is looked for.
+#[derive(Clone, Copy, Debug, PartialEq, Eq)]
+enum Wanted {
+    /// That with this number, from 1.
+    Number(u64),
+    /// The first that tells of a send.
+    Sent,
+}
+
+impl Wanted {
+    fn is(self, reading: &Reading) -> bool {
+        match self {
+            Wanted::Number(number) => reading.number == number,
+            Wanted::Sent => sent_in(reading.line.as_slice()).is_some(),
+        }
+    }
+}
+
+/// The first bytes of the line that is wanted of a file.
+fn find_line<F: Source>(files: &mut F, name: &str, wanted: Wanted) -> Option<Line> {
     files.begin(name).ok()?;
     let mut reading = Reading::new();
     let mut room = [0u8; 4096];
@@ -53,30 +67,35 @@ fn find_line<F: Source, P: Fn(u64, &[u8]) -> bool + Drop>(
         if count == 0 {
             break;
         }
-        for byte in &room[..count] {
-            if reading.take(*byte) {
-                if wanted(reading.number, reading.line.as_slice()) {
-                    return Some(reading.line);
-                }
-                reading.next_line();
-            }
+        if find_in(&mut reading, &room[..count], wanted) {
+            return Some(reading.line);
         }
     }
-    wanted(reading.number, reading.line.as_slice()).then_some(reading.line)
+    wanted.is(&reading).then_some(reading.line)
+}
+
+/// Reads these bytes, and no further once the line that is wanted has ended.
+fn find_in(reading: &mut Reading, bytes: &[u8], wanted: Wanted) -> bool {
+    for byte in bytes {
+        if reading.take(*byte) {
+            if wanted.is(reading) {
+                return true;
+            }
+            reading.next_line();
+        }
+    }
+    false
 }
 
 /// The first bytes of the line with this number, from 1, of the file of that name.
 pub fn line_in<F: Source>(files: &mut F, name: &str, number: u64) -> Option<Line> {
-    find_line(files, name, |at, _line| at == number)
+    find_line(files, name, Wanted::Number(number))
 }
 
 /// Whether the trace in a file is a car's: what it sends first is a request for negotiation.
 pub fn is_of_a_car<F: Source>(files: &mut F, name: &str) -> bool {
-    match find_line(files, name, |_at, line| sent_in(line).is_some()) {
-        Some(line) => match sent_in(line.as_slice()) {
-            Some(frame) => is_request(frame),
-            None => false,
-        },
+    match find_line(files, name, Wanted::Sent) {
+        Some(line) => sent_in(line.as_slice()).is_some_and(is_request),
         None => false,
     }
 }
