@@ -86,7 +86,7 @@ fn sense_of(cause: EndCause) -> &'static str {
 }
 
 /// The number of a cause, which is printed with its name and what happened.
-#[derive(Clone, Copy, Debug, PartialEq, Eq)]
+#[derive(Clone, Copy)]
 pub struct Cause(pub u8);
 
 impl fmt::Display for Cause {

@@ -6,7 +6,7 @@
 use charge_world::Dialect;
 
 /// A request of a car that is told of.
-#[derive(Clone, Copy, Debug, PartialEq, Eq)]
+#[derive(Clone, Copy)]
 pub enum Request {
     /// The first one behind the negotiation.
     SessionSetup(Dialect),

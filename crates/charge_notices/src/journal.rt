@@ -10,7 +10,7 @@ use charge_world::{Dialect, Heard, Order, What};
 const EACH: u32 = 100;
 
 /// What a post's charger, or a car's contactor, was ordered in a session, and how often it took it.
-#[derive(Clone, Copy, Debug, Default, PartialEq, Eq)]
+#[derive(Clone, Copy, Default)]
 pub struct Tally {
     /// When the session began (milliseconds).
     pub since: u64,
@@ -34,7 +34,7 @@ impl Tally {
 }
 
 /// What a car's request is told of.
-#[derive(Clone, Copy, Debug, PartialEq, Eq)]
+#[derive(Clone, Copy)]
 pub enum Progress {
     Negotiated(Dialect),
     Cycle(u32),

@@ -1,4 +1,6 @@
 //! What the program says to a person while it serves, each line as a value that can be printed, and what it counts for them (own).
+//!
+//! Proved: `cause_of` answers a cause of that number alone; for the lines only that nothing goes wrong in making them.
 #![tactic(auto)]
 
 mod cause;

@@ -7,7 +7,7 @@ use std::fmt;
 use std::net::SocketAddr;
 
 /// So many milliseconds, in seconds with one decimal.
-#[derive(Clone, Copy, Debug, PartialEq, Eq)]
+#[derive(Clone, Copy)]
 pub struct Seconds(pub u64);
 
 impl fmt::Display for Seconds {
@@ -17,7 +17,7 @@ impl fmt::Display for Seconds {
 }
 
 /// A station's post listens.
-#[derive(Clone, Copy, Debug, PartialEq, Eq)]
+#[derive(Clone, Copy)]
 pub struct Listening {
     pub post: u8,
     pub pair: PortPair,
@@ -38,7 +38,7 @@ impl fmt::Display for Listening {
 }
 
 /// A station serves so many connections, and may be asked to stop.
-#[derive(Clone, Copy, Debug, PartialEq, Eq)]
+#[derive(Clone, Copy)]
 pub struct Serving {
     pub sessions: u32,
     pub stoppable: bool,
@@ -60,7 +60,7 @@ impl fmt::Display for Serving {
 }
 
 /// A station hears nothing more, because it was asked to stop or because of its plan.
-#[derive(Clone, Copy, Debug, PartialEq, Eq)]
+#[derive(Clone, Copy)]
 pub struct Over {
     pub stopped: bool,
 }
@@ -76,7 +76,7 @@ impl fmt::Display for Over {
 }
 
 /// A connection came to a post.
-#[derive(Clone, Copy, Debug, PartialEq, Eq)]
+#[derive(Clone, Copy)]
 pub struct Begun {
     pub post: u8,
     pub peer: Option<SocketAddr>,
@@ -96,7 +96,7 @@ impl fmt::Display for Begun {
 }
 
 /// A session ended by a cause at a moment (milliseconds).
-#[derive(Clone, Copy, Debug, PartialEq, Eq)]
+#[derive(Clone, Copy)]
 pub struct Ended {
     /// The number of its post; 0 for a car.
     pub post: u8,
@@ -135,7 +135,7 @@ impl fmt::Display for Tally {
 }
 
 /// A car looks for its post by discovery.
-#[derive(Clone, Copy, Debug, PartialEq, Eq)]
+#[derive(Clone, Copy)]
 pub struct Seeking {
     pub sdp: u16,
 }
@@ -151,7 +151,7 @@ impl fmt::Display for Seeking {
 }
 
 /// A car dials a port that its plan gives.
-#[derive(Clone, Copy, Debug, PartialEq, Eq)]
+#[derive(Clone, Copy)]
 pub struct Dialing {
     pub tcp: u16,
 }
@@ -163,7 +163,7 @@ impl fmt::Display for Dialing {
 }
 
 /// A car dials a port that a post answered, or that its plan gives.
-#[derive(Clone, Copy, Debug, PartialEq, Eq)]
+#[derive(Clone, Copy)]
 pub struct Found {
     pub tcp: u16,
 }
@@ -175,7 +175,7 @@ impl fmt::Display for Found {
 }
 
 /// A car can't connect.
-#[derive(Clone, Copy, Debug, PartialEq, Eq)]
+#[derive(Clone, Copy)]
 pub struct Unconnected {
     pub tcp: u16,
 }
@@ -191,7 +191,7 @@ impl fmt::Display for Unconnected {
 }
 
 /// A car is connected.
-#[derive(Clone, Copy, Debug, PartialEq, Eq)]
+#[derive(Clone, Copy)]
 pub struct Connected {
     pub peer: Option<SocketAddr>,
 }
@@ -206,7 +206,7 @@ impl fmt::Display for Connected {
 }
 
 /// A car and its post agreed on a dialect.
-#[derive(Clone, Copy, Debug, PartialEq, Eq)]
+#[derive(Clone, Copy)]
 pub struct Speaking {
     pub dialect: Dialect,
 }
@@ -221,7 +221,7 @@ impl fmt::Display for Speaking {
 }
 
 /// A car sends its so manieth charging request, at a moment (milliseconds since the connection).
-#[derive(Clone, Copy, Debug, PartialEq, Eq)]
+#[derive(Clone, Copy)]
 pub struct Cycle {
     pub count: u32,
     pub after: u64,

@@ -1,6 +1,8 @@
 //! What the program says to a person where it doesn't do what it was asked: one or two sentences for each status, which name what to change (own).
 //!
 //! They decide nothing. A file that is read again for them may have changed meanwhile.
+//!
+//! Proved: only that nothing goes wrong in making them.
 #![tactic(auto)]
 
 mod input;

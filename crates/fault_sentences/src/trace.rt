@@ -40,7 +40,7 @@ impl Reading {
 }
 
 /// Which line is looked for.
-#[derive(Clone, Copy, Debug, PartialEq, Eq)]
+#[derive(Clone, Copy)]
 enum Wanted {
     /// That with this number, from 1.
     Number(u64),

@@ -4,7 +4,7 @@ use command_words::WordList;
 use std::{fmt, io};
 
 /// A command: its words, what it does, and an example.
-#[derive(Clone, Copy, Debug)]
+#[derive(Clone, Copy)]
 struct Usage {
     name: &'static str,
     values: &'static [&'static str],
@@ -58,7 +58,7 @@ impl fmt::Display for Usage {
 }
 
 /// What words that are no command ask for.
-#[derive(Clone, Copy, Debug, PartialEq, Eq)]
+#[derive(Clone, Copy)]
 pub enum Asked {
     Help,
     Version,

@@ -3,7 +3,7 @@
 use std::{fmt, io};
 
 /// What was tried.
-#[derive(Clone, Copy, Debug, PartialEq, Eq)]
+#[derive(Clone, Copy)]
 pub enum Attempt {
     /// To listen for the connections of a post.
     Listen { post: u8, port: u16 },
@@ -40,7 +40,7 @@ impl fmt::Display for Attempt {
 }
 
 /// What was tried, and the system's reason why it failed.
-#[derive(Debug, Drop)]
+#[derive(Drop)]
 pub struct Trouble {
     pub attempt: Attempt,
     pub reason: io::Error,

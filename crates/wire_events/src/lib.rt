@@ -3,7 +3,7 @@
 //!
 //! Proved: `Board::step` tells Over, whose turn it is going round, a Tick, or how long nothing is due (`IsStep`); `accept`, `dial`,
 //! `settle` and `close` do to a post's connection what their names say and count those that ended; `key_of` undoes `number_of`;
-//! `Faults::fail` counts (`IsFault`).
+//! `Faults::fail` counts (`IsFault`); `StopLine::hear` answers where the line `stop` ends.
 #![tactic(auto)]
 
 mod board;
