@@ -165,8 +165,23 @@ def connect(port):
     sys.exit("no station came up")
 
 
+def connect_when_up(port):
+    """Waits for a station to listen, by the system's table, since a connection would count as a session."""
+    wanted = f":{port:04X} 00000000:0000 0A"
+    for _ in range(5000):
+        with open("/proc/net/tcp") as file:
+            if wanted in file.read():
+                return
+        time.sleep(0.005)
+    sys.exit("no station came up")
+
+
 def served():
     port, sdp = free_port(), free_port(socket.SOCK_DGRAM)
+    other = free_port()
+    din = Running("station", f"[[post]]\ntcp = {other}\ndialects = ['din']\n", V2G_QUIET="1")
+    connect_when_up(other)
+    din_car = Running("car", f"tcp = {other}\ncycles = 101\n")
     station = Running("station", f"[[post]]\ntcp = {port}\nsdp = {sdp}\n")
     expect("a station listens", station.wait_for("Ctrl-C"), station.said)
     car = Running("car", f"sdp = {sdp}\ncycles = 105\n")
@@ -178,6 +193,13 @@ def served():
     expect("a station", (status, out) == (0, "post 1 sessions 1 closed 1 causes 00000002\n"), (status, out, err))
     for text in (f"post 1 listens at TCP port {port} of 127.0.0.1, discovery at UDP port {sdp}", "behind 1 ended connections", "post 1: a session begins, with 127.0.0.1:", "cause 1 Stopped", "orders: 1 close, ", "as `sessions` of its plan says"):
         expect("a station says", text in err, f"{text}: {err}")
+
+
+    status, out, err = din_car.end()
+    expect("a car of DIN", (status, out) == (0, "cycles 101 cause 1\n"), (status, out, err))
+    for text in (f"dials TCP port {other} of 127.0.0.1", "negotiated DIN SPEC 70121", "cycle 100 after"):
+        expect("a car of DIN says", text in err, f"{text}: {err}")
+    expect("its station is quiet", din.end()[2] == "", "it isn't")
 
 
 def quiet():

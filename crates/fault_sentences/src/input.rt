@@ -56,7 +56,7 @@ impl DecodePlace<'_> {
     /// Says at which bit a payload of so many bytes is refused.
     fn fmt_bit<W: fmt::Write>(&self, f: &mut fmt::Formatter<W>, bytes: u64) -> fmt::Result {
         let bit = self.place;
-        if bit >= 8 * bytes {
+        if bit / 8 >= bytes {
             return write!(
                 f,
                 "The payload ends before a message of `{}` does: it has {bytes} bytes. A frame's eight bytes in front are no part of it.",
