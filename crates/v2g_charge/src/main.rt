@@ -22,21 +22,25 @@ fn main(rt: HostRuntime) -> Result<ExitCode> {
     }
     let words = WordList::of(words);
     let quiet = env::var(&rt, QUIET).is_ok();
-    let mut outside = Outside {
-        files: FileSource::new(&rt, rt.alloc()),
-        out: StandardOutput::new(&rt),
-        trace: TraceFile::new(&rt, "v2g.trace"),
-        wire: ToldWire::new(&rt, NetWire::stoppable(&rt, rt.alloc()), quiet),
-    };
+    let mut files = FileSource::new(&rt, rt.alloc());
+    let mut out = StandardOutput::new(&rt);
+    let mut trace = TraceFile::new(&rt, "v2g.trace");
+    let mut wire = ToldWire::new(&rt, NetWire::stoppable(&rt, rt.alloc()), quiet);
     let status = run(
         rt.alloc(),
         &words,
-        &mut outside.files,
-        &mut outside.out,
-        &mut outside.trace,
-        &mut outside.wire,
+        &mut files,
+        &mut out,
+        &mut trace,
+        &mut wire,
     );
+    let outside = Outside {
+        files: &mut files,
+        out: &out,
+        trace: &trace,
+        wire: &wire,
+    };
     // who reads no standard error misses nothing
-    let _ = say(&rt, status, &words, &mut outside);
+    let _ = say(&rt, status, &words, outside);
     Ok(ExitCode::from(status.number()))
 }

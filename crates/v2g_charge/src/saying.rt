@@ -9,13 +9,13 @@ use net_wire::{FileSource, NetWire, StandardOutput, TraceFile};
 use std::io;
 use told_wire::ToldWire;
 
-/// The outside of a run.
+/// The outside behind a run.
 #[derive(Drop)]
-pub(crate) struct Outside<'r> {
-    pub(crate) files: FileSource<'r, HostRuntime>,
-    pub(crate) out: StandardOutput<'r, HostRuntime>,
-    pub(crate) trace: TraceFile<'r, HostRuntime>,
-    pub(crate) wire: ToldWire<'r, HostRuntime, NetWire<'r, HostRuntime>>,
+pub(crate) struct Outside<'a, 'r> {
+    pub(crate) files: &'a mut FileSource<'r, HostRuntime>,
+    pub(crate) out: &'a StandardOutput<'r, HostRuntime>,
+    pub(crate) trace: &'a TraceFile<'r, HostRuntime>,
+    pub(crate) wire: &'a ToldWire<'r, HostRuntime, NetWire<'r, HostRuntime>>,
 }
 
 /// Says why a run of these words has its status, and what to change.
@@ -23,7 +23,7 @@ pub(crate) fn say(
     rt: &HostRuntime,
     status: Status,
     words: &WordList,
-    outside: &mut Outside<'_>,
+    outside: Outside<'_, '_>,
 ) -> io::Result<()> {
     let plan = word(words, 1);
     match status {
@@ -36,7 +36,7 @@ pub(crate) fn say(
         Status::Plan => say_refused(rt, words, outside),
         Status::Input => say_input(rt, words, outside),
         Status::WireFault => match outside.wire.trouble() {
-            Some(trouble) => say_trouble(rt, rt.alloc(), &mut outside.files, plan, trouble),
+            Some(trouble) => say_trouble(rt, rt.alloc(), outside.files, plan, trouble),
             None => rt.eprintln("The network failed."),
         },
         Status::SinkFault => say_sinks(rt, outside),
@@ -51,9 +51,9 @@ fn word<'a>(words: &'a WordList, place: usize) -> &'a str {
 }
 
 /// A car's trace can be replayed at a station, which tells nothing of the car.
-fn say_done(rt: &HostRuntime, words: &WordList, outside: &mut Outside<'_>) -> io::Result<()> {
+fn say_done(rt: &HostRuntime, words: &WordList, outside: Outside<'_, '_>) -> io::Result<()> {
     let trace = word(words, 2);
-    if word(words, 0) == "replay" && is_of_a_car(&mut outside.files, trace) {
+    if word(words, 0) == "replay" && is_of_a_car(outside.files, trace) {
         return eprintln!(rt;
             "{trace} is the trace of a car. It was replayed as if a station had heard it, which tells nothing of the car: `replay` is for a station's trace."
         );
@@ -62,17 +62,17 @@ fn say_done(rt: &HostRuntime, words: &WordList, outside: &mut Outside<'_>) -> io
 }
 
 /// Says why a plan is refused.
-fn say_refused(rt: &HostRuntime, words: &WordList, outside: &mut Outside<'_>) -> io::Result<()> {
+fn say_refused(rt: &HostRuntime, words: &WordList, outside: Outside<'_, '_>) -> io::Result<()> {
     let name = word(words, 1);
     match word(words, 0) {
-        "station" | "replay" => say_plan(rt, rt.alloc(), &mut outside.files, false, name),
-        "car" => say_plan(rt, rt.alloc(), &mut outside.files, true, name),
+        "station" | "replay" => say_plan(rt, rt.alloc(), outside.files, false, name),
+        "car" => say_plan(rt, rt.alloc(), outside.files, true, name),
         _ => eprintln!(rt; "{name} is refused at the key that the line on the output names."),
     }
 }
 
 /// Says where an input is refused.
-fn say_input(rt: &HostRuntime, words: &WordList, outside: &mut Outside<'_>) -> io::Result<()> {
+fn say_input(rt: &HostRuntime, words: &WordList, outside: Outside<'_, '_>) -> io::Result<()> {
     let Some(place) = place_in(outside.out.last()) else {
         return rt.eprintln("The input is refused.");
     };
@@ -95,16 +95,11 @@ fn say_input(rt: &HostRuntime, words: &WordList, outside: &mut Outside<'_>) -> i
 }
 
 /// Says which line of a trace is refused.
-fn say_line(
-    rt: &HostRuntime,
-    name: &str,
-    number: u64,
-    outside: &mut Outside<'_>,
-) -> io::Result<()> {
+fn say_line(rt: &HostRuntime, name: &str, number: u64, outside: Outside<'_, '_>) -> io::Result<()> {
     eprintln!(rt;
         "Line {number} of {name} is refused: it is no line of a trace of a station with the plan's posts, can't stand there, or is cut off."
     )?;
-    let Some(line) = line_in(&mut outside.files, name, number) else {
+    let Some(line) = line_in(outside.files, name, number) else {
         return rt.eprintln("The trace ends before that line does.");
     };
     match str::from_utf8(line.as_slice()) {
@@ -114,7 +109,7 @@ fn say_line(
 }
 
 /// Says what could not be written.
-fn say_sinks(rt: &HostRuntime, outside: &Outside<'_>) -> io::Result<()> {
+fn say_sinks(rt: &HostRuntime, outside: Outside<'_, '_>) -> io::Result<()> {
     if let Some(reason) = outside.out.trouble() {
         eprintln!(rt; "Standard output can't be written: {reason}.")?;
     }
@@ -128,7 +123,7 @@ fn say_sinks(rt: &HostRuntime, outside: &Outside<'_>) -> io::Result<()> {
 }
 
 /// Says which file could not be read.
-fn say_source(rt: &HostRuntime, outside: &Outside<'_>) -> io::Result<()> {
+fn say_source(rt: &HostRuntime, outside: Outside<'_, '_>) -> io::Result<()> {
     let name = outside.files.name().unwrap_or("A file");
     match outside.files.trouble() {
         Some(reason) => eprintln!(rt;
