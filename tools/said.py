@@ -86,8 +86,8 @@ STATION = "[[post]]\ntcp = 15120\n"
 def refused_inputs():
     row("an odd number of digits", ["decode", "app", "804"], 4, "input 3\n", "HEX has 3 digits: each byte wants two")
     row("no digit", ["decode", "app", "8x"], 4, "input 1\n", "HEX has 'x' at place 1, counted from 0")
-    row("a wrong bit", ["decode", "iso", "809802000000000000000010f0"], 4, "input 94\n", "At bit 94", "bit 6 of its byte 11")
-    row("a payload cut off", ["decode", "app", "8040"], 4, None, "ends before a message of `app` does")
+    row("a wrong bit", ["decode", "iso", "809802000000000000000010f0"], 4, "input 94\n", "At bit 94", "bit 6 of its byte 11 (all from 0)")
+    row("a payload cut off", ["decode", "app", "8040"], 4, "input 15\n", "or the payload ends inside it: it has 2 bytes")
     row("a wrong character", ["encode", "app", TREE.replace("ID=", "ID:")], 4, None, "At character", "':'")
     row("a text cut off", ["encode", "app", TREE[:-1]], 4, None, "ends before the message does")
     trace = "v2g-trace 2\n1 heard 5 tick\n2 hoard 6 tick\n"
@@ -126,8 +126,11 @@ def unwritten():
         row("a full output", ["decode", "app", "80400040"], 6, None, "Standard output can't be written: No space left", stdout=full)
     files = {"p": f"[[post]]\ntcp = {free_port()}\n", "v2g.trace": None}
     row("a trace that can't be made", ["station", "p"], 6, None, "The trace v2g.trace can't be written", files=files)
-    files = {"p": f"turns = 1\n[[post]]\ntcp = {free_port()}\n"}
-    row("too few hearings", ["station", "p"], 8, None, "`turns` of the plan", files=files)
+    port = free_port()
+    station = Running("station", f"turns = 1\n[[post]]\ntcp = {port}\n")
+    with connect(port):
+        status, out, err = station.end()
+    expect("too few hearings", status == 8 and out.endswith("turns\n") and "`turns` of the plan" in err, (status, out, err))
 
 
 class Running:

@@ -48,27 +48,14 @@ impl fmt::Display for DecodePlace<'_> {
                 "HEX has {count} digits: a payload has {MOST_DIGITS} at most."
             );
         }
-        self.fmt_bit(f, count / 2)
-    }
-}
-
-impl DecodePlace<'_> {
-    /// Says at which bit a payload of so many bytes is refused.
-    fn fmt_bit<W: fmt::Write>(&self, f: &mut fmt::Formatter<W>, bytes: u64) -> fmt::Result {
-        let bit = self.place;
-        if bit / 8 >= bytes {
-            return write!(
-                f,
-                "The payload ends before a message of `{}` does: it has {bytes} bytes. A frame's eight bytes in front are no part of it.",
-                self.dialect
-            );
-        }
         write!(
             f,
-            "At bit {bit} of the payload, bit {} of its byte {} (both from 0), begins what can't stand there in a message of `{}`. A frame's eight bytes in front are no part of it.",
-            bit % 8,
-            bit / 8,
-            self.dialect
+            "At bit {} of the payload, bit {} of its byte {} (all from 0), begins what can't stand there in a message of `{}`, or the payload ends inside it: it has {} bytes. A frame's eight bytes in front are no part of it.",
+            self.place,
+            self.place % 8,
+            self.place / 8,
+            self.dialect,
+            count / 2
         )
     }
 }
