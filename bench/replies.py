@@ -82,8 +82,26 @@ def echo():
 # ---- cars in a charging loop
 
 
+# The numbers of three requests among the bodies of a message.
+CABLE_CHECK, POWER_DELIVERY, CURRENT_DEMAND = 3, 21, 13
+
+
+def is_message(frame):
+    """Whether a frame holds a message of ISO 15118-2 or DIN SPEC 70121, and not of the negotiation."""
+    return frame[9] >> 1 in (76, 77)
+
+
+def kind_of(frame):
+    """The number of a request among the bodies of a message, which stands at fixed bits; None for the negotiation."""
+    return (frame[19] & 3) << 4 | frame[20] >> 4 if is_message(frame) else None
+
+
 def recorded():
-    """The requests of a car up to its first CurrentDemandReq, each with its moment in seconds behind the connection."""
+    """The requests of a car up to its first CurrentDemandReq, each with its moment in seconds behind the connection.
+
+    The charger has a second more to find the isolation valid before CableCheck, which is asked once, and to reach its voltage in PreCharge, since
+    both come by time.
+    """
     with tempfile.TemporaryDirectory() as folder:
         os.mkdir(f"{folder}/car")
         station = run_station(folder, f"[[post]]\ntcp = {PORT}\n")
@@ -92,7 +110,7 @@ def recorded():
             file.write(f"tcp = {PORT}\ncycles = 2\n")
         subprocess.run([PROGRAM, "car", "car.toml"], cwd=f"{folder}/car", check=True, stdin=subprocess.DEVNULL, stdout=subprocess.DEVNULL, stderr=subprocess.DEVNULL)
         station.wait(20)
-        heard, requests, came = {}, [], 0
+        heard, requests, came, late = {}, [], 0, 0
         with open(f"{folder}/car/v2g.trace") as file:
             for words in map(str.split, file):
                 if words[1] == "heard":
@@ -101,8 +119,16 @@ def recorded():
                         came = int(words[2])
                 elif words[1] == "sent":
                     frame = bytes.fromhex(words[3])
-                    requests.append(((heard[words[0]] - came) / 1000, frame))
-                    if frame[9] >> 1 in (76, 77) and (frame[19] & 3) << 4 | frame[20] >> 4 == 13:
+                    moment = (heard[words[0]] - came) / 1000
+                    if kind_of(frame) == CABLE_CHECK:
+                        if late:
+                            continue
+                        late = 1
+                    if kind_of(frame) == POWER_DELIVERY:
+                        requests += [(moment + late + tenth / 10, requests[-1][1]) for tenth in range(10)]
+                        late += 1
+                    requests.append((moment + late, frame))
+                    if kind_of(frame) == CURRENT_DEMAND:
                         return requests
     sys.exit("the car sent no CurrentDemandReq")
 
@@ -128,7 +154,7 @@ class Car:
 
     def frame(self, frame):
         """The same request in this car's session, whose eight bytes stand behind 26 bits of the payload."""
-        if self.session is None or frame[9] >> 1 not in (76, 77):
+        if self.session is None or not is_message(frame):
             return frame
         bits = 8 * (len(frame) - 8)
         payload = int.from_bytes(frame[8:])
@@ -148,7 +174,7 @@ class Car:
                 raise ConnectionError("the connection ended")
             reply += piece
         took = (time.perf_counter_ns() - begun) / 1000
-        if self.session is None and reply[9] >> 1 in (76, 77):
+        if self.session is None and is_message(reply):
             bits = 8 * (len(reply) - 8)
             self.session = int.from_bytes(reply[8:]) >> bits - 26 - 64 & 2**64 - 1
         return took
