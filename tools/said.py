@@ -194,7 +194,7 @@ def served():
         expect("a car says", text in err, f"{text}: {err}")
     status, out, err = station.end()
     expect("a station", (status, out) == (0, "post 1 sessions 1 closed 1 causes 00000002\n"), (status, out, err))
-    for text in (f"post 1 listens at TCP port {port} of 127.0.0.1, discovery at UDP port {sdp}", "behind 1 ended connections", "post 1: a session begins, with 127.0.0.1:", "cause 1 Stopped", "orders: 1 close, ", "as `sessions` of its plan says"):
+    for text in (f"post 1 listens at TCP port {port} of 127.0.0.1, discovery at UDP port {sdp}", "ended connections, whoever makes them, is 1 ", "post 1: a session begins, with 127.0.0.1:", "cause 1 Stopped", "orders: 1 close, ", "as `sessions` of its plan says"):
         expect("a station says", text in err, f"{text}: {err}")
 
 

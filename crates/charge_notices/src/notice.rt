@@ -48,7 +48,7 @@ impl fmt::Display for Serving {
     fn fmt<W: fmt::Write>(&self, f: &mut fmt::Formatter<W>) -> fmt::Result {
         write!(
             f,
-            "the station ends behind {} ended connections, whoever makes them (`sessions` of the plan), behind its `turns`, and where v2g.trace can't be written",
+            "the station ends when the number of ended connections, whoever makes them, is {} (`sessions` of the plan), behind its `turns`, and where v2g.trace can't be written",
             self.sessions
         )?;
         if self.stoppable {
