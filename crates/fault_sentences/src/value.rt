@@ -36,8 +36,18 @@ impl fmt::Display for Described<'_> {
 /// A list: how many items it has, and the first that is no table.
 fn describe_list<W: fmt::Write>(f: &mut fmt::Formatter<W>, items: &[Value]) -> fmt::Result {
     write!(f, "a list with {} items", items.len())?;
-    match items.iter().position(|item| item.as_table().is_none()) {
-        Some(place) => write!(f, ", whose item {} is no table", place + 1),
+    match number_of_no_table(items) {
+        Some(number) => write!(f, ", whose item {number} is no table"),
         None => Ok(()),
     }
+}
+
+/// The number of the first item that is no table, from 1.
+fn number_of_no_table(items: &[Value]) -> Option<usize> {
+    for (place, item) in items.iter().enumerate() {
+        if item.as_table().is_none() {
+            return Some(place + 1);
+        }
+    }
+    None
 }
