@@ -74,9 +74,10 @@ impl<'r, R: Eprint, W: Wire + Sockets + Drop> Wire for ToldWire<'r, R, W> {
     }
 
     fn drive(&mut self, post: u8, order: Order) -> Result<(), Failed> {
+        let told = copied(&order);
         let driven = self.wire.drive(post, order);
         if let Some(telling) = &mut self.telling {
-            telling.drove(post, order, driven.is_ok());
+            telling.drove(post, told, driven.is_ok());
         }
         driven
     }
@@ -95,4 +96,9 @@ impl<'r, R: Eprint, W: Wire + Sockets + Drop> Wire for ToldWire<'r, R, W> {
             telling.ended(post, cause);
         }
     }
+}
+
+/// The same order once more.
+fn copied(order: &Order) -> Order {
+    *order
 }
