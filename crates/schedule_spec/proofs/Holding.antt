@@ -2,12 +2,7 @@
 use Rattle.std.proofs.Common.{◌≡◌, ℕ, zero, suc, ◌+◌, ◌-◌, ◌*◌, ◌<◌, ◌≤◌, leb, cond, true, false, List, [], ◌∷◌, ◌++◌, refl, sym, ap, ◌∙◌, arith, inl, inr}
 use Rattle.std.proofs.lemmas.Bool.{cases_lt, le-leb, lt-leb, cond-true, cond-false}
 use Rattle.schedule_spec.specs.declared.Step.{Step}
-use Rattle.schedule_spec.specs.Steps.{held, watts_at, Begins, RiseWithin}
-
--- the start of the first step, or the end where there is none
-abbrev pub next : ℕ → List Step → ℕ
-next end [] = end
-next end (s ∷ steps) = s.start
+use Rattle.schedule_spec.specs.Steps.{held, watts_at, next, Begins, RiseWithin}
 
 -- a step that has begun hides what was held before it
 pub held_begun : (s : Step) (steps : List Step) (before t : ℕ) → s.start ≤ t → held before (s ∷ steps) t ≡ held s.watts steps t

@@ -15,6 +15,11 @@ unfoldable pub energy : List Step → ℕ → ℕ
 energy steps zero = 0
 energy steps (suc n) = energy steps n + watts_at steps n
 
+-- the start of the first step, or this end where there is none
+abbrev pub next : ℕ → List Step → ℕ
+next end [] = end
+next end (s ∷ steps) = s.start
+
 -- the first step starts at second t
 abbrev pub Begins : ℕ → List Step → Type 0
 Begins t [] = ⊥
