@@ -91,7 +91,7 @@ module _ (departure : ℕ) where
       ])
 
   -- the same step before both
-  extended : (x y : Step) (xs ys : List Step) → x.start ≡ y.start → x.watts ≡ y.watts → next departure xs ≡ next departure ys →
+  pub extended : (x y : Step) (xs ys : List Step) → x.start ≡ y.start → x.watts ≡ y.watts → next departure xs ≡ next departure ys →
              IsAtLeast departure xs ys → IsAtLeast departure (x ∷ xs) (y ∷ ys)
   extended x y xs ys start watts joint h =
       let same : x.watts * (next departure xs - x.start) ≡ y.watts * (next departure ys - y.start) = rw (start, watts, joint) refl in
@@ -103,7 +103,7 @@ module _ (departure : ℕ) where
         ])
       ]
 
-  rise_drop : (steps : List Step) (n low : ℕ) → RiseWithin low departure steps → RiseWithin low departure (drop n steps)
+  pub rise_drop : (steps : List Step) (n low : ℕ) → RiseWithin low departure steps → RiseWithin low departure (drop n steps)
   rise_drop steps zero low rise = rise
   rise_drop [] (suc n) low rise = tt
   rise_drop (s ∷ steps) (suc n) low rise = rise_lower (drop n steps) (s.start + 1) low departure (omega (arith, rise.0)) (rise_drop steps n (s.start + 1) rise.2)

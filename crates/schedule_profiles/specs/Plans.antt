@@ -1,13 +1,13 @@
 -- How the steps of a profile cover a list of limits: each step starts at one of them, reaches until the next step starts, and has
 -- the least watts of those below it. All up to a departure; seconds and watts.
-use Rattle.std.specs.Prelude.{◌≡◌, ℕ, ◌+◌, ◌-◌, ◌*◌, ◌^◌, ◌<◌, ◌≤◌, ◌⊎◌, min, List, [], ◌∷◌, ◌++◌, length}
+use Rattle.std.specs.Prelude.{◌≡◌, ℕ, ◌+◌, ◌-◌, ◌*◌, ◌^◌, ◌<◌, ◌≤◌, ◌⊎◌, min, List, [], ◌∷◌, ◌++◌, length, drop, fold, slice_index_or}
 use Rattle.schedule_spec.specs.declared.Step.{Step}
+use Rattle.schedule_profiles.specs.declared.plan.Plan.{Plan}
 use Rattle.schedule_spec.specs.Steps.{next, starts}
 
 -- the least of these watts and those of the steps
 abbrev pub least : ℕ → List Step → ℕ
-least watts [] = watts
-least watts (s ∷ steps) = least (min watts s.watts) steps
+least watts steps = fold (λ low s. min low s.watts) watts steps
 
 -- the steps cover the limits
 abbrev pub Covers : List Step → List Step → Type 0
@@ -44,3 +44,29 @@ pub record IsPlan (departure : ℕ) (limits : List Step) (sum : ℕ) (steps : Li
 pub record IsBestOf (departure most : ℕ) (limits steps : List Step) : Type 0 where
   pub few : length steps ≤ most
   pub best : (other : List Step) → Covers limits other → length other ≤ most → IsAtLeast departure steps other
+
+-- a first amount that is more than the other, or as much with a lesser number
+abbrev pub IsMore : ℕ → ℕ → ℕ → ℕ → Type 0
+IsMore amount number other_amount other_number = (other_amount < amount) ⊎ ((amount ≡ other_amount) × (number < other_number))
+
+abbrev pub no_plan : Plan
+no_plan = record { energy = 0; steps = record { items = [] } }
+
+abbrev pub plan_at : List Plan → ℕ → Plan
+plan_at plans n = slice_index_or plans n no_plan
+
+abbrev pub steps_at : List Plan → ℕ → List Step
+steps_at plans n = (plan_at plans n).steps.items
+
+-- a plan for what is left behind each number of limits, the last for none
+pub record ArePlans (departure : ℕ) (limits : List Step) (plans : List Plan) : Type 0 where
+  pub even : length plans ≡ length limits + 1
+  pub each : (n : ℕ) → n ≤ length limits → IsPlan departure (drop n limits) (plan_at plans n).energy (steps_at plans n)
+
+-- from one place on each is the best of so many steps
+abbrev pub AreBest : ℕ → ℕ → ℕ → List Step → List Plan → Type 0
+AreBest departure most from limits plans = (n : ℕ) → from ≤ n → n ≤ length limits → IsBestOf departure most (drop n limits) (steps_at plans n)
+
+-- from one place on each has room for one more step
+abbrev pub HaveRoom : ℕ → List Plan → Type 0
+HaveRoom from plans = (n : ℕ) → from ≤ n → length (steps_at plans n) < 24

@@ -1,11 +1,13 @@
-//! The best charging profile that a schedule allows.
+//! The charging profile with which a car should answer a schedule of the station (ISO 15118-2:2014, 8.5.2.10): of those that take
+//! no more than the schedule and the car allow, one of the most energy, with as few steps as that takes.
+//!
+//! It takes no memory.
 #![tactic(auto)]
 
-/// The best.
-pub fn nothing() -> bool
-    ensures { result ≡ true }
-{
-    true
-}
+mod answer;
+mod limits;
+mod plan;
+mod rounds;
 
-ghost use Rattle.std.specs.Prelude.{◌≡◌, true};
+pub use answer::best_plan;
+pub use plan::Plan;

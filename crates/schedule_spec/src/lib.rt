@@ -20,7 +20,7 @@ pub const STEPS: usize = 24;
 pub const ENTRIES: usize = 128;
 
 /// From this second on, until the next step starts, this power.
-#[derive(Clone, Copy, Debug, PartialEq, Eq)]
+#[derive(Clone, Copy, Debug, Default, PartialEq, Eq)]
 pub struct Step {
     /// The second at which it starts.
     pub start: u32,
