@@ -58,22 +58,28 @@ module _ (moment : ℕ) where
 
   -- with one more there is still room for it
   pub past_room : (steps : List Step) (i : ℕ) (d : Step) → i < length steps → (get_or steps i d).start < moment →
-                  length (ahead moment steps) + length (past moment (take i steps)) < length steps
+      length (ahead moment steps) + length (past moment (take i steps)) < length steps
   past_room steps i d h before =
       let split : past moment steps ≡ past moment (take (i + 1) steps) ++ past moment (drop (i + 1) steps) =
-          ap (past moment) (sym (take-append-drop (i + 1) steps)) ∙ past_append (take (i + 1) steps) (drop (i + 1) steps) in
-      omega (arith, both_few steps, ap length split, length-append (past moment (take (i + 1) steps)) (past moment (drop (i + 1) steps)),
-             ap length (past_more steps i d h), length-append (past moment (take i steps)) (past_one moment (get_or steps i d)),
-             ap length (past_in (get_or steps i d) before))
+      ap (past moment) (sym (take-append-drop (i + 1) steps)) ∙ past_append (take (i + 1) steps) (drop (i + 1) steps) in
+      omega (
+        arith,
+        both_few steps,
+        ap length split,
+        length-append (past moment (take (i + 1) steps)) (past moment (drop (i + 1) steps)),
+        ap length (past_more steps i d h),
+        length-append (past moment (take i steps)) (past_one moment (get_or steps i d)),
+        ap length (past_in (get_or steps i d) before),
+      )
 
   rise_ahead : (steps : List Step) (low from end : ℕ) → RiseWithin low end steps → from ≤ 1 + (low - (moment + 1)) → RiseWithin from (end - moment) (ahead moment steps)
   rise_ahead [] low from end rise h = tt
   rise_ahead (s ∷ steps) low from end rise h =
       elim (cases_lt moment s.start) [
         | inl lt ↦ subst (λ xs. RiseWithin from (end - moment) (xs ++ ahead moment steps)) (sym (ahead_in s lt))
-          (omega (arith, rise.0), omega (arith, rise.1), rise_ahead steps (s.start + 1) (s.start - moment + 1) end rise.2 (omega arith))
+            (omega (arith, rise.0), omega (arith, rise.1), rise_ahead steps (s.start + 1) (s.start - moment + 1) end rise.2 (omega arith))
         | inr ge ↦ subst (λ xs. RiseWithin from (end - moment) (xs ++ ahead moment steps)) (sym (ahead_out s ge))
-          (rise_ahead steps (s.start + 1) from end rise.2 (omega (arith, rise.0)))
+            (rise_ahead steps (s.start + 1) from end rise.2 (omega (arith, rise.0)))
       ]
 
   rise_past : (steps : List Step) (low end : ℕ) → moment < 86400 → RiseWithin low end steps → RiseWithin (low + (86400 - moment)) 86400 (past moment steps)
@@ -81,11 +87,11 @@ module _ (moment : ℕ) where
   rise_past (s ∷ steps) low end day rise =
       elim (cases_lt s.start moment) [
         | inl lt ↦
-          let e : s.start + 1 + (86400 - moment) ≡ s.start + (86400 - moment) + 1 = omega arith in
-          subst (λ xs. RiseWithin (low + (86400 - moment)) 86400 (xs ++ past moment steps)) (sym (past_in s lt))
-          (omega (arith, rise.0), omega arith, subst (λ n. RiseWithin n 86400 (past moment steps)) e (rise_past steps (s.start + 1) end day rise.2))
+            let e : s.start + 1 + (86400 - moment) ≡ s.start + (86400 - moment) + 1 = omega arith in
+            subst (λ xs. RiseWithin (low + (86400 - moment)) 86400 (xs ++ past moment steps)) (sym (past_in s lt))
+            (omega (arith, rise.0), omega arith, subst (λ n. RiseWithin n 86400 (past moment steps)) e (rise_past steps (s.start + 1) end day rise.2))
         | inr ge ↦ subst (λ xs. RiseWithin (low + (86400 - moment)) 86400 (xs ++ past moment steps)) (sym (past_out s ge))
-          (rise_lower (past moment steps) (s.start + 1 + (86400 - moment)) (low + (86400 - moment)) 86400 (omega (arith, rise.0)) (rise_past steps (s.start + 1) end day rise.2))
+            (rise_lower (past moment steps) (s.start + 1 + (86400 - moment)) (low + (86400 - moment)) 86400 (omega (arith, rise.0)) (rise_past steps (s.start + 1) end day rise.2))
       ]
 
   held_ahead : (steps : List Step) (low end before t : ℕ) → RiseWithin low end steps → held (held before steps moment) (ahead moment steps) t ≡ held before steps (moment + t)
@@ -93,23 +99,23 @@ module _ (moment : ℕ) where
   held_ahead (s ∷ steps) low end before t rise =
       elim (cases_lt moment s.start) [
         | inl lt ↦
-          let now : held before (s ∷ steps) moment ≡ before =
-              held_waiting s steps before moment lt ∙ held_before steps (s.start + 1) end before moment rise.2 (omega arith) in
-          let list : ahead moment (s ∷ steps) ≡ step_of (s.start - moment) s.watts ∷ ahead moment steps = ap (λ xs. xs ++ ahead moment steps) (ahead_in s lt) in
-          ap (λ w. held w (ahead moment (s ∷ steps)) t) now ∙ ap (λ xs. held before xs t) list ∙ elim (cases_lt t (s.start - moment)) [
-            | inl waits ↦
-              held_waiting (step_of (s.start - moment) s.watts) (ahead moment steps) before t waits
-              ∙ ap (λ w. held w (ahead moment steps) t) (sym (held_before steps (s.start + 1) end before moment rise.2 (omega arith)))
-              ∙ held_ahead steps (s.start + 1) end before t rise.2 ∙ sym (held_waiting s steps before (moment + t) (omega arith))
-            | inr begun ↦
-              held_begun (step_of (s.start - moment) s.watts) (ahead moment steps) before t begun
-              ∙ ap (λ w. held w (ahead moment steps) t) (sym (held_before steps (s.start + 1) end s.watts moment rise.2 (omega arith)))
-              ∙ held_ahead steps (s.start + 1) end s.watts t rise.2 ∙ sym (held_begun s steps before (moment + t) (omega arith))
-          ]
+            let now : held before (s ∷ steps) moment ≡ before =
+            held_waiting s steps before moment lt ∙ held_before steps (s.start + 1) end before moment rise.2 (omega arith) in
+            let list : ahead moment (s ∷ steps) ≡ step_of (s.start - moment) s.watts ∷ ahead moment steps = ap (λ xs. xs ++ ahead moment steps) (ahead_in s lt) in
+            ap (λ w. held w (ahead moment (s ∷ steps)) t) now ∙ ap (λ xs. held before xs t) list ∙ elim (cases_lt t (s.start - moment)) [
+              | inl waits ↦
+                  held_waiting (step_of (s.start - moment) s.watts) (ahead moment steps) before t waits
+                  ∙ ap (λ w. held w (ahead moment steps) t) (sym (held_before steps (s.start + 1) end before moment rise.2 (omega arith)))
+                  ∙ held_ahead steps (s.start + 1) end before t rise.2 ∙ sym (held_waiting s steps before (moment + t) (omega arith))
+              | inr begun ↦
+                  held_begun (step_of (s.start - moment) s.watts) (ahead moment steps) before t begun
+                  ∙ ap (λ w. held w (ahead moment steps) t) (sym (held_before steps (s.start + 1) end s.watts moment rise.2 (omega arith)))
+                  ∙ held_ahead steps (s.start + 1) end s.watts t rise.2 ∙ sym (held_begun s steps before (moment + t) (omega arith))
+            ]
         | inr ge ↦
-          ap (λ xs. held (held before (s ∷ steps) moment) (xs ++ ahead moment steps) t) (ahead_out s ge)
-          ∙ ap (λ w. held w (ahead moment steps) t) (held_begun s steps before moment ge)
-          ∙ held_ahead steps (s.start + 1) end s.watts t rise.2 ∙ sym (held_begun s steps before (moment + t) (omega arith))
+            ap (λ xs. held (held before (s ∷ steps) moment) (xs ++ ahead moment steps) t) (ahead_out s ge)
+            ∙ ap (λ w. held w (ahead moment steps) t) (held_begun s steps before moment ge)
+            ∙ held_ahead steps (s.start + 1) end s.watts t rise.2 ∙ sym (held_begun s steps before (moment + t) (omega arith))
       ]
 
   held_past : (steps : List Step) (before t u : ℕ) → moment < 86400 → u < moment → u + 86400 ≡ moment + t → held before (past moment steps) t ≡ held before steps u
@@ -118,15 +124,15 @@ module _ (moment : ℕ) where
       elim (cases_lt s.start moment) [
         | inl lt ↦ ap (λ xs. held before (xs ++ past moment steps) t) (past_in s lt) ∙ elim (cases_lt u s.start) [
           | inl waits ↦
-            held_waiting (step_of (s.start + (86400 - moment)) s.watts) (past moment steps) before t (omega arith)
-            ∙ held_past steps before t u day early same ∙ sym (held_waiting s steps before u waits)
+              held_waiting (step_of (s.start + (86400 - moment)) s.watts) (past moment steps) before t (omega arith)
+              ∙ held_past steps before t u day early same ∙ sym (held_waiting s steps before u waits)
           | inr begun ↦
-            held_begun (step_of (s.start + (86400 - moment)) s.watts) (past moment steps) before t (omega arith)
-            ∙ held_past steps s.watts t u day early same ∙ sym (held_begun s steps before u begun)
+              held_begun (step_of (s.start + (86400 - moment)) s.watts) (past moment steps) before t (omega arith)
+              ∙ held_past steps s.watts t u day early same ∙ sym (held_begun s steps before u begun)
         ]
         | inr ge ↦
-          ap (λ xs. held before (xs ++ past moment steps) t) (past_out s ge) ∙ held_past steps before t u day early same
-          ∙ sym (held_waiting s steps before u (omega arith))
+            ap (λ xs. held before (xs ++ past moment steps) t) (past_out s ge) ∙ held_past steps before t u day early same
+            ∙ sym (held_waiting s steps before u (omega arith))
       ]
 
 merged_out : (before : ℕ) (s : Step) (steps : List Step) → s.watts ≡ before → merged before (s ∷ steps) ≡ merged before steps
@@ -136,11 +142,11 @@ merged_in : (before : ℕ) (s : Step) (steps : List Step) → s.watts ≢ before
 merged_in before s steps h = ap (λ b. cond b (merged before steps) (s ∷ merged s.watts steps)) (ne_eqb s.watts before h)
 
 pub merged_same : (before : ℕ) (steps : List Step) (i : ℕ) (d : Step) → i < length steps → (get_or steps i d).watts ≡ before →
-                  merged before (drop i steps) ≡ merged before (drop (i + 1) steps)
+    merged before (drop i steps) ≡ merged before (drop (i + 1) steps)
 merged_same before steps i d h same = ap (merged before) (drop_more steps i d h) ∙ merged_out before (get_or steps i d) (drop (i + 1) steps) same
 
 pub merged_more : (before : ℕ) (steps : List Step) (i : ℕ) (d : Step) → i < length steps → (get_or steps i d).watts ≢ before →
-                  merged before (drop i steps) ≡ get_or steps i d ∷ merged (get_or steps i d).watts (drop (i + 1) steps)
+    merged before (drop i steps) ≡ get_or steps i d ∷ merged (get_or steps i d).watts (drop (i + 1) steps)
 merged_more before steps i d h other = ap (merged before) (drop_more steps i d h) ∙ merged_in before (get_or steps i d) (drop (i + 1) steps) other
 
 changes_merged : (before : ℕ) (steps : List Step) → ChangesFrom before (merged before steps)
@@ -156,7 +162,7 @@ rise_merged before low end [] rise = tt
 rise_merged before low end (s ∷ steps) rise =
     elim (cases_eq s.watts before) [
       | inl eq ↦ subst (RiseWithin low end) (sym (merged_out before s steps eq))
-        (rise_lower (merged before steps) (s.start + 1) low end (omega (arith, rise.0)) (rise_merged before (s.start + 1) end steps rise.2))
+          (rise_lower (merged before steps) (s.start + 1) low end (omega (arith, rise.0)) (rise_merged before (s.start + 1) end steps rise.2))
       | inr ne ↦ subst (RiseWithin low end) (sym (merged_in before s steps ne)) (rise.0, rise.1, rise_merged s.watts (s.start + 1) end steps rise.2)
     ]
 
@@ -170,11 +176,11 @@ held_merged before low end t (s ∷ steps) rise =
       ]
       | inr ne ↦ ap (λ xs. held before xs t) (merged_in before s steps ne) ∙ elim (cases_lt t s.start) [
         | inl waits ↦
-          held_waiting s (merged s.watts steps) before t waits
-          ∙ held_before (merged s.watts steps) (s.start + 1) end before t (rise_merged s.watts (s.start + 1) end steps rise.2) (omega arith)
-          ∙ sym (held_before steps (s.start + 1) end before t rise.2 (omega arith)) ∙ sym (held_waiting s steps before t waits)
+            held_waiting s (merged s.watts steps) before t waits
+            ∙ held_before (merged s.watts steps) (s.start + 1) end before t (rise_merged s.watts (s.start + 1) end steps rise.2) (omega arith)
+            ∙ sym (held_before steps (s.start + 1) end before t rise.2 (omega arith)) ∙ sym (held_waiting s steps before t waits)
         | inr begun ↦
-          held_begun s (merged s.watts steps) before t begun ∙ held_merged s.watts (s.start + 1) end t steps rise.2 ∙ sym (held_begun s steps before t begun)
+            held_begun s (merged s.watts steps) before t begun ∙ held_merged s.watts (s.start + 1) end t steps rise.2 ∙ sym (held_begun s steps before t begun)
       ]
     ]
 
@@ -189,7 +195,7 @@ begins_zero (s ∷ steps) one other u h = held_begun s steps one u (omega (arith
 
 -- what is turned and merged is the offer
 pub offered : (calendar : List Step) (moment : ℕ) → IsCalendar calendar → moment < 86400 →
-              IsOffer calendar moment (step_of 0 (watts_at calendar moment) ∷ merged (watts_at calendar moment) (ahead moment calendar ++ past moment calendar))
+    IsOffer calendar moment (step_of 0 (watts_at calendar moment) ∷ merged (watts_at calendar moment) (ahead moment calendar ++ past moment calendar))
 offered calendar moment is day = record {
   begins = refl;
   rise = (omega arith, omega arith, rise_merged now 1 86400 turned rise);
@@ -218,12 +224,12 @@ offered calendar moment is day = record {
   power t below =
       elim (cases_lt t (86400 - moment)) [
         | inl today ↦
-          let e : (moment + t) % 86400 ≡ moment + t = omega arith in
-          held_before back (86400 - moment) 86400 (held now front t) t rise_back today ∙ held_ahead moment calendar 0 86400 0 t is.rise
-          ∙ ap (watts_at calendar) (sym e)
+            let e : (moment + t) % 86400 ≡ moment + t = omega arith in
+            held_before back (86400 - moment) 86400 (held now front t) t rise_back today ∙ held_ahead moment calendar 0 86400 0 t is.rise
+            ∙ ap (watts_at calendar) (sym e)
         | inr later ↦
-          let u : ℕ = moment + t - 86400 in
-          let e : (moment + t) % 86400 ≡ u = omega arith in
-          held_past moment calendar (held now front t) t u day (omega arith) (omega arith) ∙ begins_zero calendar (held now front t) 0 u is.begins
-          ∙ ap (watts_at calendar) (sym e)
+            let u : ℕ = moment + t - 86400 in
+            let e : (moment + t) % 86400 ≡ u = omega arith in
+            held_past moment calendar (held now front t) t u day (omega arith) (omega arith) ∙ begins_zero calendar (held now front t) 0 u is.begins
+            ∙ ap (watts_at calendar) (sym e)
       ]

@@ -15,7 +15,10 @@ pub fn offer_of(calendar: &[Step], moment: u32) -> ArrayVec<Step, 25>
     requires moment { moment < 86400 }
     ensures { IsOffer calendar.now moment result.items }
 {
-    merged_with(watts_at(calendar, moment), turned(calendar, moment).as_slice())
+    merged_with(
+        watts_at(calendar, moment),
+        turned(calendar, moment).as_slice(),
+    )
 }
 
 /// The power at a second, in watts.

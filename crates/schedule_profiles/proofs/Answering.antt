@@ -38,7 +38,7 @@ module _ (departure : ℕ) where
 
   -- no steps within the limits that have the starts of covering ones hold more
   covers_full : (limits steps other : List Step) (low : ℕ) → RiseWithin low departure limits → RiseWithin low departure other → Covers limits steps →
-                starts other ≡ starts steps → Below departure (next departure limits) other limits → Below departure (next departure limits) other steps
+      starts other ≡ starts steps → Below departure (next departure limits) other limits → Below departure (next departure limits) other steps
   covers_full limits [] [] low rise climbs h same below t begun k = omega arith
   covers_full limits [] (o ∷ os) low rise climbs h same below t begun k = absurd (cc)
   covers_full limits (s ∷ steps) [] low rise climbs h same below t begun k = absurd (cc)
@@ -53,17 +53,31 @@ module _ (departure : ℕ) where
       let begun_rest : h.0.start < next departure h.2 = after_first departure h.0 h.1 h.2 low (subst (RiseWithin low departure) h.3 rise) in
       elim (cases_lt t (next departure h.2)) [
         | inl lt ↦
-          omega (arith, held_first o os low departure 0 t climbs (omega (arith, h.4)) (omega arith),
-                 held_first s steps low departure 0 t (rise_covers departure limits (s ∷ steps) low rise h) (omega (arith, h.4)) (omega arith), h.5,
-                 over departure limits h.0 h.1 h.2 o.watts low h.3 rise (λ u late lasts.
-                     omega (arith, below u (omega arith) (omega (arith, lasts, rest_within)), held_first o os low departure 0 u climbs (omega (arith, h.4)) (omega arith))))
+            omega (
+              arith,
+              held_first o os low departure 0 t climbs (omega (arith, h.4)) (omega arith),
+              held_first s steps low departure 0 t (rise_covers departure limits (s ∷ steps) low rise h) (omega (arith, h.4)) (omega arith),
+              h.5,
+              over departure limits h.0 h.1 h.2 o.watts low h.3 rise (λ u late lasts.
+                  omega (arith, below u (omega arith) (omega (arith, lasts, rest_within)), held_first o os low departure 0 u climbs (omega (arith, h.4)) (omega arith))),
+            )
         | inr ge ↦
-          omega (arith, held_begun o os 0 t (omega (arith, h.4)), held_from os departure o.watts 0 t (omega arith) k,
-                 held_begun s steps 0 t (omega (arith, h.4)), held_from steps departure s.watts 0 t (omega arith) k,
-                 covers_full h.2 steps os low (rise_rest departure limits h.0 h.1 h.2 low h.3 rise) (rise_lower os (o.start + 1) low departure (omega (arith, climbs.0)) climbs.2) h.6 tails
-                 (λ u late l. omega (arith, below u (omega (arith, begun_rest)) l, held_begun o os 0 u (omega (arith, h.4, begun_rest)), held_from os departure o.watts 0 u (omega arith) l,
-                                     held_rest departure limits h.0 h.1 h.2 u h.3 late l))
-                 t ge k)
+            omega (
+              arith,
+              held_begun o os 0 t (omega (arith, h.4)),
+              held_from os departure o.watts 0 t (omega arith) k,
+              held_begun s steps 0 t (omega (arith, h.4)),
+              held_from steps departure s.watts 0 t (omega arith) k,
+              covers_full h.2 steps os low (rise_rest departure limits h.0 h.1 h.2 low h.3 rise) (rise_lower os (o.start + 1) low departure (omega (arith, climbs.0)) climbs.2) h.6 tails
+                  (λ u late l. omega (
+                    arith,
+                    below u (omega (arith, begun_rest)) l,
+                    held_begun o os 0 u (omega (arith, h.4, begun_rest)),
+                    held_from os departure o.watts 0 u (omega arith) l,
+                    held_rest departure limits h.0 h.1 h.2 u h.3 late l,
+                  ))
+                  t ge k,
+            )
       ]
 
 next_begins : (departure t : ℕ) (steps : List Step) → Begins t steps → next departure steps ≡ t
@@ -110,12 +124,12 @@ module _ (schedule : Schedule) (cap departure : ℕ) (limits : List Step) (a : A
     most [] h = absurd h.profile.begins
     most (o ∷ os) h =
         let r : Raised departure limits (suc (length os)) (plan_energy departure (o ∷ os)) =
-            raised departure (length os) limits o os 0 (omega arith) a.rise h.profile.rise (starts_at o h.profile.begins)
-            (λ t begun below. within_limits (o ∷ os) h.within t (omega arith) below) in
+        raised departure (length os) limits o os 0 (omega arith) a.rise h.profile.rise (starts_at o h.profile.begins)
+        (λ t begun below. within_limits (o ∷ os) h.within t (omega arith) below) in
         omega (arith, r.much, at_most r.steps (best.best r.steps r.covers (omega (arith, r.few, h.profile.few))), measured, energy_is (o ∷ os) departure h.profile.rise)
 
     no_better : (other m : List Step) → length m ≡ length other → starts m ≡ starts other → energy other departure ≤ plan_energy departure m →
-                IsAtLeast departure steps m → IsBetter departure other steps → ⊥
+        IsAtLeast departure steps m → IsBetter departure other steps → ⊥
     no_better other m long same much (inl h) (inl k) = omega (arith, measured)
     no_better other m long same much (inl h) (inr k) = omega (arith, measured, k.0)
     no_better other m long same much (inr h) (inl k) = omega (arith, measured, h.0)
@@ -133,8 +147,8 @@ module _ (schedule : Schedule) (cap departure : ℕ) (limits : List Step) (a : A
     unbeaten (o ∷ os) h marked better =
         let all : AllStart limits (o ∷ os) = started_steps (o ∷ os) 0 h.profile.rise marked in
         let m : Matched departure limits (o ∷ os) =
-            matched departure limits o os 0 a.rise h.profile.rise (starts_at o h.profile.begins)
-            (λ t begun below. within_limits (o ∷ os) h.within t (omega arith) below) all.1 in
+        matched departure limits o os 0 a.rise h.profile.rise (starts_at o h.profile.begins)
+        (λ t begun below. within_limits (o ∷ os) h.within t (omega arith) below) all.1 in
         let long : length m.steps ≡ length (o ∷ os) = sym (length_starts m.steps) ∙ ap length m.same ∙ length_starts (o ∷ os) in
         no_better (o ∷ os) m.steps long m.same (omega (arith, m.much, energy_is (o ∷ os) departure h.profile.rise))
         (best.best m.steps m.covers (omega (arith, long, h.profile.few))) better
@@ -147,8 +161,11 @@ module _ (schedule : Schedule) (cap departure : ℕ) (limits : List Step) (a : A
           rise = climbs;
           few = best.few;
         };
-        within = λ t below. omega (arith, a.power t below,
-            covers_below departure limits steps 0 a.rise plan.covers t (omega (arith, next_begins departure 0 limits a.begins)) below);
+        within = λ t below. omega (
+          arith,
+          a.power t below,
+          covers_below departure limits steps 0 a.rise plan.covers t (omega (arith, next_begins departure 0 limits a.begins)) below,
+        );
       };
       marked = marked_steps steps (covers_start departure limits steps limits plan.covers (λ t h. h));
       full = λ other h same t below.

@@ -48,7 +48,7 @@ module _ (amount number : ℕ → ℕ) where
 
   -- one more, which is not better
   pub first_kept : (count at : ℕ) → IsFirst amount number count at → (amount count < amount at) ⊎ ((amount at ≡ amount count) × (number at ≤ number count)) →
-                   IsFirst amount number (count + 1) at
+      IsFirst amount number (count + 1) at
   first_kept count at f h = record {
     here = omega (arith, f.here);
     before = f.before;
@@ -59,14 +59,14 @@ module _ (amount number : ℕ → ℕ) where
   }
 
   over_all : (count at : ℕ) → IsFirst amount number count at → (amount at < amount count) ⊎ ((amount count ≡ amount at) × (number count < number at)) →
-             (m : ℕ) → m < count → (amount m < amount count) ⊎ ((amount count ≡ amount m) × (number count < number m))
+      (m : ℕ) → m < count → (amount m < amount count) ⊎ ((amount count ≡ amount m) × (number count < number m))
   over_all count at f (inl more) m h = inl (elim (f.most m h) [ inl lt ↦ omega arith | inr eq ↦ omega (arith, eq.0) ])
   over_all count at f (inr fewer) m h =
       elim (f.most m h) [ inl lt ↦ inl (omega (arith, fewer.0)) | inr eq ↦ inr (fewer.0 ∙ eq.0, omega (arith, fewer.1, eq.1)) ]
 
   -- one more, which is better
   pub first_new : (count at : ℕ) → IsFirst amount number count at → (amount at < amount count) ⊎ ((amount count ≡ amount at) × (number count < number at)) →
-                  IsFirst amount number (count + 1) count
+      IsFirst amount number (count + 1) count
   first_new count at f h = record {
     here = omega arith;
     before = over_all count at f h;
@@ -84,23 +84,28 @@ module _ (departure : ℕ) where
   at_least_trans a b c (inl h) (inl k) = inl (omega arith)
   at_least_trans a b c (inl h) (inr k) = inl (omega (arith, k.0))
   at_least_trans a b c (inr h) (inl k) = inl (omega (arith, h.0))
-  at_least_trans a b c (inr h) (inr k) = inr (h.0 ∙ k.0,
-      elim h.1 [
-        | inl lt ↦ elim k.1 [ inl lt' ↦ inl (omega arith) | inr eq' ↦ inl (omega (arith, eq'.0)) ]
-        | inr eq ↦ elim k.1 [ inl lt' ↦ inl (omega (arith, eq.0)) | inr eq' ↦ inr (eq.0 ∙ eq'.0, not_after_trans (starts a) (starts b) (starts c) eq.1 eq'.1) ]
-      ])
+  at_least_trans a b c (inr h) (inr k) = inr (
+    h.0 ∙ k.0,
+    elim h.1 [
+      | inl lt ↦ elim k.1 [ inl lt' ↦ inl (omega arith) | inr eq' ↦ inl (omega (arith, eq'.0)) ]
+      | inr eq ↦ elim k.1 [ inl lt' ↦ inl (omega (arith, eq.0)) | inr eq' ↦ inr (eq.0 ∙ eq'.0, not_after_trans (starts a) (starts b) (starts c) eq.1 eq'.1) ]
+    ],
+  )
 
   -- the same step before both
   pub extended : (x y : Step) (xs ys : List Step) → x.start ≡ y.start → x.watts ≡ y.watts → next departure xs ≡ next departure ys →
-             IsAtLeast departure xs ys → IsAtLeast departure (x ∷ xs) (y ∷ ys)
+      IsAtLeast departure xs ys → IsAtLeast departure (x ∷ xs) (y ∷ ys)
   extended x y xs ys start watts joint h =
       let same : x.watts * (next departure xs - x.start) ≡ y.watts * (next departure ys - y.start) = rw (start, watts, joint) refl in
       elim h [
         | inl more ↦ inl (omega (arith, same))
-        | inr eq ↦ inr (omega (arith, same, eq.0), elim eq.1 [
-          | inl fewer ↦ inl (omega arith)
-          | inr tie ↦ inr (omega (arith, tie.0), inr (start, tie.1))
-        ])
+        | inr eq ↦ inr (
+          omega (arith, same, eq.0),
+          elim eq.1 [
+            | inl fewer ↦ inl (omega arith)
+            | inr tie ↦ inr (omega (arith, tie.0), inr (start, tie.1))
+          ],
+        )
       ]
 
   pub rise_drop : (steps : List Step) (n low : ℕ) → RiseWithin low departure steps → RiseWithin low departure (drop n steps)
@@ -118,7 +123,7 @@ module _ (departure : ℕ) where
 
   -- of covers of as many steps the one that starts earlier comes first
   sooner : (limits others xs ys : List Step) → Covers limits xs → Covers others ys → next departure limits < next departure others → length xs ≡ length ys →
-           IsNotAfter (starts xs) (starts ys)
+      IsNotAfter (starts xs) (starts ys)
   sooner limits others [] ys h k less even = tt
   sooner limits others (x ∷ xs) [] h k less even = absurd (omega arith)
   sooner limits others (x ∷ xs) (y ∷ ys) h k less even =
@@ -134,8 +139,8 @@ module _ (departure : ℕ) (first : Step) (rest : List Step) (plans : ℕ → Li
     option_covers m h = (first, take m rest, drop m rest, ap (λ xs. first ∷ xs) (sym (take-append-drop m rest)), refl, refl, covers m h)
 
     chosen : (amount number : ℕ → ℕ) (at : ℕ) → ((m : ℕ) → m ≤ length rest → amount m ≡ plan_energy departure (option m)) →
-             ((m : ℕ) → m ≤ length rest → number m ≡ length (plans m)) → IsFirst amount number (length rest + 1) at →
-             (m : ℕ) → m ≤ length rest → IsAtLeast departure (option at) (option m)
+        ((m : ℕ) → m ≤ length rest → number m ≡ length (plans m)) → IsFirst amount number (length rest + 1) at →
+        (m : ℕ) → m ≤ length rest → IsAtLeast departure (option at) (option m)
     chosen amount number at amounts numbers f m h =
         let here : at ≤ length rest = omega (arith, f.here) in
         let ea : amount at ≡ plan_energy departure (option at) = amounts at here in
@@ -150,20 +155,29 @@ module _ (departure : ℕ) (first : Step) (rest : List Step) (plans : ℕ → Li
           ]
           | inr (inr gt) ↦ elim (f.most m (omega arith)) [
             | inl less ↦ inl (omega (arith, ea, em))
-            | inr tie ↦ inr (sym ea ∙ tie.0 ∙ em, elim (cases_lt (number at) (number m)) [
-              | inl fewer ↦ inl (omega (arith, na, nm))
-              | inr even ↦
-                let same : length (plans at) ≡ length (plans m) = omega (arith, na, nm, tie.1) in
-                inr (ap suc same, inr (refl, sooner departure (drop at rest) (drop m rest) (plans at) (plans m) (covers at here) (covers m h)
-                                              (drops_rise departure rest at m (first.start + 1) rise.2 gt h) same))
-            ])
+            | inr tie ↦ inr (
+              sym ea ∙ tie.0 ∙ em,
+              elim (cases_lt (number at) (number m)) [
+                | inl fewer ↦ inl (omega (arith, na, nm))
+                | inr even ↦
+                    let same : length (plans at) ≡ length (plans m) = omega (arith, na, nm, tie.1) in
+                    inr (
+                      ap suc same,
+                      inr (
+                        refl,
+                        sooner departure (drop at rest) (drop m rest) (plans at) (plans m) (covers at here) (covers m h)
+                            (drops_rise departure rest at m (first.start + 1) rise.2 gt h) same,
+                      ),
+                    )
+              ],
+            )
           ]
         ]
 
     -- the best cover with one step more
     pub best_option : (amount number : ℕ → ℕ) (at most : ℕ) → ((m : ℕ) → m ≤ length rest → amount m ≡ plan_energy departure (option m)) →
-                      ((m : ℕ) → m ≤ length rest → number m ≡ length (plans m)) → IsFirst amount number (length rest + 1) at →
-                      ((m : ℕ) → m ≤ length rest → IsBestOf departure most (drop m rest) (plans m)) → IsBestOf departure (most + 1) (first ∷ rest) (option at)
+        ((m : ℕ) → m ≤ length rest → number m ≡ length (plans m)) → IsFirst amount number (length rest + 1) at →
+        ((m : ℕ) → m ≤ length rest → IsBestOf departure most (drop m rest) (plans m)) → IsBestOf departure (most + 1) (first ∷ rest) (option at)
     best_option amount number at most amounts numbers f bests = record {
       few = omega (arith, (bests at (omega (arith, f.here))).few);
       best = best_over;
@@ -181,6 +195,6 @@ module _ (departure : ℕ) (first : Step) (rest : List Step) (plans : ℕ → Li
           let start : first.start ≡ s.start = ap (λ (x : Step). x.start) same ∙ sym h.4 in
           let watts : least first.watts (take m rest) ≡ s.watts = ap (least first.watts) taken ∙ ap (λ (x : Step). least x.watts h.1) same ∙ sym h.5 in
           let joint : next departure (plans m) ≡ next departure steps =
-              next_covers departure (drop m rest) (plans m) (covers m within) ∙ ap (next departure) left ∙ sym (next_covers departure h.2 steps h.6) in
+          next_covers departure (drop m rest) (plans m) (covers m within) ∙ ap (next departure) left ∙ sym (next_covers departure h.2 steps h.6) in
           at_least_trans departure (option at) (option m) (s ∷ steps) (chosen amount number at amounts numbers f m within)
           (extended departure (step_of first.start (least first.watts (take m rest))) s (plans m) steps start watts joint tail)

@@ -29,7 +29,7 @@ module _ (departure : ℕ) where
 
   -- one step in the middle
   pub held_at : (front : List Step) (l : Step) (back : List Step) (low before t : ℕ) → RiseWithin low departure (front ++ l ∷ back) →
-                l.start ≤ t → t < next departure back → held before (front ++ l ∷ back) t ≡ l.watts
+      l.start ≤ t → t < next departure back → held before (front ++ l ∷ back) t ≡ l.watts
   held_at front l back low before t rise begun h =
       held_append front (l ∷ back) before t ∙ held_first l back low departure (held before front t) t (rise_behind front (l ∷ back) low rise) begun h
 
@@ -48,31 +48,43 @@ module _ (departure : ℕ) where
 
   -- what is held nowhere below `w` has a least of at least `w`
   least_above : (part rest : List Step) (w v low : ℕ) → RiseWithin low departure (part ++ rest) → w ≤ v →
-                ((before t : ℕ) → next departure (part ++ rest) ≤ t → t < next departure rest → w ≤ held before (part ++ rest) t) → w ≤ least v part
+      ((before t : ℕ) → next departure (part ++ rest) ≤ t → t < next departure rest → w ≤ held before (part ++ rest) t) → w ≤ least v part
   least_above [] rest w v low rise h at = h
   least_above (l ∷ ls) rest w v low rise h at =
       let later : l.start < next departure rest = after_first l ls rest low rise in
       let here : w ≤ l.watts =
-          omega (arith, at 0 l.start (omega arith) later, held_begun l (ls ++ rest) 0 l.start (omega arith),
-                 held_before (ls ++ rest) (l.start + 1) departure l.watts l.start rise.2 (omega arith)) in
+      omega (
+        arith,
+        at 0 l.start (omega arith) later,
+        held_begun l (ls ++ rest) 0 l.start (omega arith),
+        held_before (ls ++ rest) (l.start + 1) departure l.watts l.start rise.2 (omega arith),
+      ) in
       least_above ls rest w (min v l.watts) (l.start + 1) rise.2 (omega arith)
       (λ before t begun below.
-          let first : l.start ≤ t = omega (arith, next_after (ls ++ rest) (l.start + 1) departure rise.2 (omega (arith, rise.1))) in
-          omega (arith, at 0 t first below, held_begun l (ls ++ rest) 0 t first,
-                 held_from (ls ++ rest) departure l.watts before t begun (omega (arith, next_within rest (l.start + 1) departure (rise_behind ls rest (l.start + 1) rise.2)))))
+      let first : l.start ≤ t = omega (arith, next_after (ls ++ rest) (l.start + 1) departure rise.2 (omega (arith, rise.1))) in
+      omega (
+        arith,
+        at 0 t first below,
+        held_begun l (ls ++ rest) 0 t first,
+        held_from (ls ++ rest) departure l.watts before t begun (omega (arith, next_within rest (l.start + 1) departure (rise_behind ls rest (l.start + 1) rise.2))),
+      ))
 
   -- a step that is below each of the limits that it reaches over
   pub under : (first : Step) (part rest : List Step) (w low : ℕ) → RiseWithin low departure (first ∷ (part ++ rest)) →
-              ((t : ℕ) → first.start ≤ t → t < next departure rest → w ≤ held 0 (first ∷ (part ++ rest)) t) → w ≤ least first.watts part
+      ((t : ℕ) → first.start ≤ t → t < next departure rest → w ≤ held 0 (first ∷ (part ++ rest)) t) → w ≤ least first.watts part
   under first part rest w low rise at =
       let later : first.start < next departure rest = after_first first part rest low rise in
       let end : next departure rest ≤ departure = next_within rest (first.start + 1) departure (rise_behind part rest (first.start + 1) rise.2) in
       least_above part rest w first.watts (first.start + 1) rise.2
-      (omega (arith, at first.start (omega arith) later, held_begun first (part ++ rest) 0 first.start (omega arith),
-              held_before (part ++ rest) (first.start + 1) departure first.watts first.start rise.2 (omega arith)))
+      (omega (
+        arith,
+        at first.start (omega arith) later,
+        held_begun first (part ++ rest) 0 first.start (omega arith),
+        held_before (part ++ rest) (first.start + 1) departure first.watts first.start rise.2 (omega arith),
+      ))
       (λ before t begun below.
-          let h : first.start ≤ t = omega (arith, next_after (part ++ rest) (first.start + 1) departure rise.2 (omega (arith, rise.1))) in
-          omega (arith, at t h below, held_begun first (part ++ rest) 0 t h, held_from (part ++ rest) departure first.watts before t begun (omega arith)))
+      let h : first.start ≤ t = omega (arith, next_after (part ++ rest) (first.start + 1) departure rise.2 (omega (arith, rise.1))) in
+      omega (arith, at t h below, held_begun first (part ++ rest) 0 t h, held_from (part ++ rest) departure first.watts before t begun (omega arith)))
 
   -- covering steps rise as the limits do
   pub rise_covers : (limits steps : List Step) (low : ℕ) → RiseWithin low departure limits → Covers limits steps → RiseWithin low departure steps
@@ -94,13 +106,13 @@ module _ (departure : ℕ) where
       let whole : held 0 limits t ≡ held h.0.watts (h.1 ++ h.2) t = ap (λ l. held 0 l t) h.3 ∙ held_begun h.0 (h.1 ++ h.2) 0 t first in
       elim (cases_lt t (next departure h.2)) [
         | inl lt ↦
-          let mine : held 0 (s ∷ steps) t ≡ s.watts = held_first s steps low departure 0 t here (omega (arith, h.4)) (omega arith) in
-          let theirs : held h.0.watts (h.1 ++ h.2) t ≡ held h.0.watts h.1 t =
-              held_append h.1 h.2 h.0.watts t ∙ held_until h.2 (h.0.start + 1) departure (held h.0.watts h.1 t) t (rise_behind h.1 h.2 (h.0.start + 1) along.2) lt in
-          omega (arith, mine, whole, theirs, h.5, least_below h.1 h.0.watts t)
+            let mine : held 0 (s ∷ steps) t ≡ s.watts = held_first s steps low departure 0 t here (omega (arith, h.4)) (omega arith) in
+            let theirs : held h.0.watts (h.1 ++ h.2) t ≡ held h.0.watts h.1 t =
+            held_append h.1 h.2 h.0.watts t ∙ held_until h.2 (h.0.start + 1) departure (held h.0.watts h.1 t) t (rise_behind h.1 h.2 (h.0.start + 1) along.2) lt in
+            omega (arith, mine, whole, theirs, h.5, least_below h.1 h.0.watts t)
         | inr ge ↦
-          let mine : held 0 (s ∷ steps) t ≡ held 0 steps t =
-              held_begun s steps 0 t (omega (arith, h.4)) ∙ held_from steps departure s.watts 0 t (omega arith) below in
-          let theirs : held h.0.watts (h.1 ++ h.2) t ≡ held 0 h.2 t = held_back h.1 h.2 h.0.watts 0 t ge below in
-          omega (arith, mine, whole, theirs, covers_below h.2 steps (h.0.start + 1) (rise_behind h.1 h.2 (h.0.start + 1) along.2) h.6 t ge below)
+            let mine : held 0 (s ∷ steps) t ≡ held 0 steps t =
+            held_begun s steps 0 t (omega (arith, h.4)) ∙ held_from steps departure s.watts 0 t (omega arith) below in
+            let theirs : held h.0.watts (h.1 ++ h.2) t ≡ held 0 h.2 t = held_back h.1 h.2 h.0.watts 0 t ge below in
+            omega (arith, mine, whole, theirs, covers_below h.2 steps (h.0.start + 1) (rise_behind h.1 h.2 (h.0.start + 1) along.2) h.6 t ge below)
       ]

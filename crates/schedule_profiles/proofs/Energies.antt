@@ -21,8 +21,12 @@ waited : (s : Step) (steps : List Step) (before low end n : ℕ) → RiseWithin 
 unfolding total
 waited s steps before low end zero rise h = omega arith
 waited s steps before low end (suc n) rise h =
-    omega (arith, waited s steps before low end n rise (omega arith), held_waiting s steps before n (omega arith),
-           held_before steps (s.start + 1) end before n rise.2 (omega arith))
+    omega (
+      arith,
+      waited s steps before low end n rise (omega arith),
+      held_waiting s steps before n (omega arith),
+      held_before steps (s.start + 1) end before n rise.2 (omega arith),
+    )
 
 still : (steps : List Step) (before low end n : ℕ) → RiseWithin low end steps → n ≤ low → total before steps n ≡ before * n
 unfolding total
@@ -32,7 +36,7 @@ still steps before low end (suc n) rise h =
 
 -- from the first step on
 changed : (s : Step) (steps : List Step) (before low end k : ℕ) → RiseWithin low end (s ∷ steps) →
-          total before (s ∷ steps) (s.start + k) + s.watts * s.start ≡ before * s.start + total s.watts steps (s.start + k)
+    total before (s ∷ steps) (s.start + k) + s.watts * s.start ≡ before * s.start + total s.watts steps (s.start + k)
 unfolding total
 changed s steps before low end zero rise =
     let e : s.start + 0 ≡ s.start = omega arith in
@@ -48,12 +52,12 @@ all_of (s ∷ steps) before low end rise =
     let later : s.start < next end steps = omega (arith, next_after steps (s.start + 1) end rise.2 (omega arith)) in
     let e : s.start + (end - s.start) ≡ end = omega arith in
     let c : total before (s ∷ steps) end + s.watts * s.start ≡ before * s.start + total s.watts steps end =
-        rw e at (changed s steps before low end (end - s.start) rise) in
+    rw e at (changed s steps before low end (end - s.start) rise) in
     let d : (next end steps - s.start) + s.start ≡ next end steps = omega arith in
     let f : s.watts * (next end steps - s.start) + s.watts * s.start ≡ s.watts * next end steps = product s.watts (next end steps - s.start) s.start (next end steps) d in
     omega (arith, c, f, all_of steps s.watts (s.start + 1) end rise.2) where
-  product : (w a b c : ℕ) → a + b ≡ c → w * a + w * b ≡ w * c
-  product w a b c h = rw (sym h) (omega arith)
+      product : (w a b c : ℕ) → a + b ≡ c → w * a + w * b ≡ w * c
+      product w a b c h = rw (sym h) (omega arith)
 
 -- steps that begin at 0
 pub energy_is : (steps : List Step) (end : ℕ) → RiseWithin 0 end steps → energy steps end ≡ plan_energy end steps

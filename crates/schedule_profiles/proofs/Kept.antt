@@ -54,15 +54,15 @@ module _ (cap end : ℕ) where
       elim (cases_lt s.start end) [
         | inl lt ↦ ap (λ xs. held (min cap before) xs t) (kept_in s steps lt) ∙ elim (cases_lt t s.start) [
           | inl waits ↦
-            held_waiting (step_of s.start (min cap s.watts)) (kept cap end steps) (min cap before) t waits ∙ held_kept steps before t below
-            ∙ ap (min cap) (sym (held_waiting s steps before t waits))
+              held_waiting (step_of s.start (min cap s.watts)) (kept cap end steps) (min cap before) t waits ∙ held_kept steps before t below
+              ∙ ap (min cap) (sym (held_waiting s steps before t waits))
           | inr begun ↦
-            held_begun (step_of s.start (min cap s.watts)) (kept cap end steps) (min cap before) t begun ∙ held_kept steps s.watts t below
-            ∙ ap (min cap) (sym (held_begun s steps before t begun))
+              held_begun (step_of s.start (min cap s.watts)) (kept cap end steps) (min cap before) t begun ∙ held_kept steps s.watts t below
+              ∙ ap (min cap) (sym (held_begun s steps before t begun))
         ]
         | inr ge ↦
-          ap (λ xs. held (min cap before) xs t) (kept_out s steps ge) ∙ held_kept steps before t below
-          ∙ ap (min cap) (sym (held_waiting s steps before t (omega arith)))
+            ap (λ xs. held (min cap before) xs t) (kept_out s steps ge) ∙ held_kept steps before t below
+            ∙ ap (min cap) (sym (held_waiting s steps before t (omega arith)))
       ]
 
   watts_kept : (steps : List Step) (t : ℕ) → t < end → watts_at (kept cap end steps) t ≡ min cap (watts_at steps t)
@@ -75,8 +75,8 @@ module _ (cap end : ℕ) where
         | inl lt ↦ elim (in_kept s steps t lt h) [ inl here ↦ inl here | inr there ↦ inr (starts_kept steps t there) ]
         | inr ge ↦ inr (starts_kept steps t (subst (λ xs. Starts xs t) (kept_out s steps ge) h))
       ] where
-    in_kept : (x : Step) (xs : List Step) (u : ℕ) → x.start < end → Starts (kept cap end (x ∷ xs)) u → (x.start ≡ u) ⊎ Starts (kept cap end xs) u
-    in_kept x xs u lt k = subst (λ zs. Starts zs u) (kept_in x xs lt) k
+        in_kept : (x : Step) (xs : List Step) (u : ℕ) → x.start < end → Starts (kept cap end (x ∷ xs)) u → (x.start ≡ u) ⊎ Starts (kept cap end xs) u
+        in_kept x xs u lt k = subst (λ zs. Starts zs u) (kept_in x xs lt) k
 
   kept_starts : (steps : List Step) (t : ℕ) → t < end → Starts steps t → Starts (kept cap end steps) t
   kept_starts [] t below h = h
@@ -133,7 +133,7 @@ module _ (schedule : Schedule) (cap departure : ℕ) (is : IsSchedule schedule) 
 
   -- the schedule ends behind the departure
   pub limits_whole : departure ≤ schedule.end → length (kept cap departure schedule.entries.items) ≤ 129 →
-                     AreLimits schedule cap departure (kept cap departure schedule.entries.items)
+      AreLimits schedule cap departure (kept cap departure schedule.entries.items)
   limits_whole long few = record {
     begins = begins_kept cap departure schedule.entries.items some is.begins;
     rise = rise_kept cap departure schedule.entries.items 0 (schedule.end + 1) is.rise;
@@ -153,18 +153,18 @@ module _ (schedule : Schedule) (cap departure : ℕ) (is : IsSchedule schedule) 
 
   -- the schedule ends before the departure
   pub limits_ended : schedule.end < departure → length (kept cap schedule.end schedule.entries.items) ≤ 128 →
-                     AreLimits schedule cap departure (kept cap schedule.end schedule.entries.items ++ step_of schedule.end 0 ∷ [])
+      AreLimits schedule cap departure (kept cap schedule.end schedule.entries.items ++ step_of schedule.end 0 ∷ [])
   limits_ended ends few = record {
     begins = begins;
     rise = rise_push front 0 schedule.end departure last (rise_kept cap schedule.end schedule.entries.items 0 (schedule.end + 1) is.rise) (omega arith) (omega arith) ends;
     few = omega (arith, length-append front (last ∷ []));
     power = λ t below. elim (cases_lt t schedule.end) [
       | inl lt ↦
-        held_append front (last ∷ []) 0 t ∙ held_waiting last [] (held 0 front t) t lt ∙ watts_kept cap schedule.end schedule.entries.items t lt
-        ∙ ap (λ b. min cap (cond b (watts_at schedule.entries.items t) 0)) (sym (lt-ltb t schedule.end lt))
+          held_append front (last ∷ []) 0 t ∙ held_waiting last [] (held 0 front t) t lt ∙ watts_kept cap schedule.end schedule.entries.items t lt
+          ∙ ap (λ b. min cap (cond b (watts_at schedule.entries.items t) 0)) (sym (lt-ltb t schedule.end lt))
       | inr ge ↦
-        held_append front (last ∷ []) 0 t ∙ held_begun last [] (held 0 front t) t ge ∙ none
-        ∙ ap (λ b. min cap (cond b (watts_at schedule.entries.items t) 0)) (sym (le-ltb t schedule.end ge))
+          held_append front (last ∷ []) 0 t ∙ held_begun last [] (held 0 front t) t ge ∙ none
+          ∙ ap (λ b. min cap (cond b (watts_at schedule.entries.items t) 0)) (sym (le-ltb t schedule.end ge))
     ];
     marked = λ t h. elim (starts_push front last t h) [
       | inl early ↦ inr (inl (starts_kept cap schedule.end schedule.entries.items t early))
@@ -194,7 +194,7 @@ module _ (schedule : Schedule) (cap departure : ℕ) (is : IsSchedule schedule) 
     begins = elim (cases_lt 0 schedule.end) [
       | inl lt ↦ begins_push front last (begins_kept cap schedule.end schedule.entries.items lt is.begins)
       | inr ge ↦
-        let e : schedule.end ≡ 0 = omega arith in
-        let none' : front ≡ [] = ap (λ n. kept cap n schedule.entries.items) e ∙ kept_none cap schedule.entries.items in
-        subst (λ xs. Begins 0 (xs ++ last ∷ [])) (sym none') e
+          let e : schedule.end ≡ 0 = omega arith in
+          let none' : front ≡ [] = ap (λ n. kept cap n schedule.entries.items) e ∙ kept_none cap schedule.entries.items in
+          subst (λ xs. Begins 0 (xs ++ last ∷ [])) (sym none') e
     ]

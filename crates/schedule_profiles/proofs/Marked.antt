@@ -38,8 +38,8 @@ module _ (departure : ℕ) where
       elim (cases_order k.start t) [
         | inl eq ↦ record { first = l; part = []; rest = k ∷ ks; whole = refl; joint = eq }
         | inr (inl lt) ↦
-          let p : Parted departure t (k ∷ ks) = parted_at (k ∷ ks) (l.start + 1) t rise.2 there lt below in
-          record { first = l; part = p.first ∷ p.part; rest = p.rest; whole = ap (λ xs. l ∷ xs) p.whole; joint = p.joint }
+            let p : Parted departure t (k ∷ ks) = parted_at (k ∷ ks) (l.start + 1) t rise.2 there lt below in
+            record { first = l; part = p.first ∷ p.part; rest = p.rest; whole = ap (λ xs. l ∷ xs) p.whole; joint = p.joint }
         | inr (inr gt) ↦ absurd (omega (arith, starts_above (k ∷ ks) k.start t (omega arith, rise.2.1, rise.2.2) there))
       ]
 
@@ -49,14 +49,14 @@ module _ (departure : ℕ) where
   starts_behind (x ∷ xs) ys low t rise (inr there) behind = starts_behind xs ys (x.start + 1) t rise.2 there behind
 
   all_behind : (xs ys steps : List Step) (low from : ℕ) → RiseWithin low departure (xs ++ ys) → RiseWithin from departure steps → next departure ys ≤ from →
-               AllStart (xs ++ ys) steps → AllStart ys steps
+      AllStart (xs ++ ys) steps → AllStart ys steps
   all_behind xs ys [] low from rise climbs behind all = tt
   all_behind xs ys (s ∷ steps) low from rise climbs behind all =
       (starts_behind xs ys low s.start rise all.0 (omega (arith, climbs.0)), all_behind xs ys steps low (s.start + 1) rise climbs.2 (omega (arith, climbs.0)) all.1)
 
   joined_same : (limits : List Step) (s : Step) (tail : List Step) (p : Step) (part rest : List Step) → limits ≡ p ∷ (part ++ rest) →
-                p.start ≡ s.start → next departure rest ≡ next departure tail → s.watts ≤ least p.watts part → Matched departure rest tail →
-                Matched departure limits (s ∷ tail)
+      p.start ≡ s.start → next departure rest ≡ next departure tail → s.watts ≤ least p.watts part → Matched departure rest tail →
+      Matched departure limits (s ∷ tail)
   joined_same limits s tail p part rest whole start joint low r =
       let same : next departure r.steps ≡ next departure tail = next_covers departure rest r.steps r.covers ∙ joint in
       let long : ℕ = next departure tail - s.start in
@@ -68,24 +68,33 @@ module _ (departure : ℕ) where
       }
 
   pub matched : (limits : List Step) (s : Step) (steps : List Step) (low : ℕ) → RiseWithin low departure limits → RiseWithin low departure (s ∷ steps) →
-                next departure limits ≡ s.start → Below departure s.start (s ∷ steps) limits → AllStart limits steps → Matched departure limits (s ∷ steps)
+      next departure limits ≡ s.start → Below departure s.start (s ∷ steps) limits → AllStart limits steps → Matched departure limits (s ∷ steps)
   matched [] s [] low rise climbs start below all = absurd (omega (arith, climbs.1))
   matched (l ∷ ls) s [] low rise climbs start below all =
       let whole : l ∷ ls ≡ l ∷ (ls ++ []) = ap (λ xs. l ∷ xs) (sym (append-nil ls)) in
       joined_same (l ∷ ls) s [] l ls [] whole start refl
       (over departure (l ∷ ls) l ls [] s.watts low whole rise (λ t begun lasts.
-          omega (arith, below t (omega arith) lasts, held_first s [] low departure 0 t climbs (omega arith) lasts)))
+      omega (arith, below t (omega arith) lasts, held_first s [] low departure 0 t climbs (omega arith) lasts)))
       (record { steps = []; covers = refl; same = refl; much = omega arith })
   matched limits s (u ∷ rest) low rise climbs start below all =
       let p : Parted departure u.start limits = parted_at limits low u.start rise all.0 (omega (arith, climbs.2.0)) climbs.2.1 in
       let first : p.first.start ≡ s.start = sym (ap (next departure) p.whole) ∙ start in
       joined_same limits s (u ∷ rest) p.first p.part p.rest p.whole first p.joint
       (over departure limits p.first p.part p.rest s.watts low p.whole rise (λ t begun lasts.
-          omega (arith, below t (omega (arith, first)) (omega (arith, p.joint, climbs.2.1)),
-                 held_first s (u ∷ rest) low departure 0 t climbs (omega (arith, first)) (omega (arith, p.joint)))))
+      omega (
+        arith,
+        below t (omega (arith, first)) (omega (arith, p.joint, climbs.2.1)),
+        held_first s (u ∷ rest) low departure 0 t climbs (omega (arith, first)) (omega (arith, p.joint)),
+      )))
       (matched p.rest u rest low (rise_rest departure limits p.first p.part p.rest low p.whole rise)
-       (omega (arith, climbs.0, climbs.2.0), climbs.2.1, climbs.2.2) p.joint
-       (λ t begun k. omega (arith, held_begun u rest 0 t begun, held_begun s (u ∷ rest) 0 t (omega (arith, climbs.2.0)), held_begun u rest s.watts t begun,
-                            below t (omega (arith, climbs.2.0)) k, held_rest departure limits p.first p.part p.rest t p.whole (omega (arith, p.joint)) k))
-       (all_behind (p.first ∷ p.part) p.rest rest low (u.start + 1) (subst (RiseWithin low departure) p.whole rise) climbs.2.2 (omega (arith, p.joint))
-        (subst (λ xs. AllStart xs rest) p.whole all.1)))
+      (omega (arith, climbs.0, climbs.2.0), climbs.2.1, climbs.2.2) p.joint
+      (λ t begun k. omega (
+        arith,
+        held_begun u rest 0 t begun,
+        held_begun s (u ∷ rest) 0 t (omega (arith, climbs.2.0)),
+        held_begun u rest s.watts t begun,
+        below t (omega (arith, climbs.2.0)) k,
+        held_rest departure limits p.first p.part p.rest t p.whole (omega (arith, p.joint)) k,
+      ))
+      (all_behind (p.first ∷ p.part) p.rest rest low (u.start + 1) (subst (RiseWithin low departure) p.whole rise) climbs.2.2 (omega (arith, p.joint))
+      (subst (λ xs. AllStart xs rest) p.whole all.1)))

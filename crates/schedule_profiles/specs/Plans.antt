@@ -32,7 +32,7 @@ abbrev pub IsAtLeast : ℕ → List Step → List Step → Type 0
 IsAtLeast departure steps other =
     (plan_energy departure other < plan_energy departure steps)
     ⊎ ((plan_energy departure steps ≡ plan_energy departure other)
-        × ((length steps < length other) ⊎ ((length steps ≡ length other) × IsNotAfter (starts steps) (starts other))))
+    × ((length steps < length other) ⊎ ((length steps ≡ length other) × IsNotAfter (starts steps) (starts other))))
 
 -- steps that cover the limits, with their energy, which fits
 pub record IsPlan (departure : ℕ) (limits : List Step) (sum : ℕ) (steps : List Step) : Type 0 where

@@ -106,7 +106,5 @@ pub(crate) fn whole(first: Step, rest: &[Step], departure: u32) -> Plan
 fn least_of(watts: u32, limits: &[Step]) -> u32
     ensures { result ≡ least watts limits.now }
 {
-    limits
-        .iter()
-        .fold(watts, |low, limit| low.min(limit.watts))
+    limits.iter().fold(watts, |low, limit| low.min(limit.watts))
 }

@@ -58,7 +58,7 @@ abbrev pub IsBetter : ℕ → List Step → List Step → Type 0
 IsBetter departure one other =
     (energy other departure < energy one departure)
     ⊎ ((energy one departure ≡ energy other departure)
-        × ((length one < length other) ⊎ ((length one ≡ length other) × IsLess (starts one) (starts other))))
+    × ((length one < length other) ⊎ ((length one ≡ length other) × IsLess (starts one) (starts other))))
 
 -- The best answer to a schedule: its steps start at marks and are full, no allowed profile has more energy, whatever its starts,
 -- and none with its starts at marks is better.

@@ -7,5 +7,4 @@ ghost use Rattle.schedule_spec.specs.Offers.{IsOffer};
 /// A calendar has one offer at a moment.
 pub fn one_offer()
     ensures { (calendar : List Step) (moment : ℕ) (one other : List Step) → IsOffer calendar moment one → IsOffer calendar moment other → one ≡ other }
-{
-}
+{}

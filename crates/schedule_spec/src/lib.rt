@@ -6,9 +6,8 @@
 
 mod laws;
 
-pub use laws::one_offer;
-
 use arrayvec::ArrayVec;
+pub use laws::one_offer;
 
 /// The seconds of a day.
 pub const DAY: u32 = 86_400;

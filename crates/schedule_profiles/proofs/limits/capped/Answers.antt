@@ -12,13 +12,13 @@ loop-entry-preserved c =
     let item : Step = get_or c.args.entries.now i (record { start = 0; watts = 0 }) in
     let front : List Step = kept c.args.cap c.args.end (take i c.args.entries.now) in
     let more : kept c.args.cap c.args.end (take (i + 1) c.args.entries.now) ≡ front ++ kept_one c.args.cap c.args.end item =
-        kept_more c.args.cap c.args.end c.args.entries.now i (record { start = 0; watts = 0 }) c.loop-entry-test.true in
+    kept_more c.args.cap c.args.end c.args.entries.now i (record { start = 0; watts = 0 }) c.loop-entry-test.true in
     elim c.if-entry-end.branch [
       | then-entry-end w ↦
-        let here : kept_one c.args.cap c.args.end item ≡ record { start = item.start; watts = min c.args.cap item.watts } ∷ [] = kept_here c.args.cap c.args.end item w.if-entry-end.true in
-        record { kept = cc; few = omega (arith, c.loop-entry.invariant.few, w.push.ensures.len) }
+          let here : kept_one c.args.cap c.args.end item ≡ record { start = item.start; watts = min c.args.cap item.watts } ∷ [] = kept_here c.args.cap c.args.end item w.if-entry-end.true in
+          record { kept = cc; few = omega (arith, c.loop-entry.invariant.few, w.push.ensures.len) }
       | else-entry-end w ↦
-        let none : kept_one c.args.cap c.args.end item ≡ [] = kept_not c.args.cap c.args.end item w.if-entry-end.false in
-        let same : front ++ [] ≡ front = append-nil front in
-        record { kept = cc; few = omega (arith, c.loop-entry.invariant.few) }
+          let none : kept_one c.args.cap c.args.end item ≡ [] = kept_not c.args.cap c.args.end item w.if-entry-end.false in
+          let same : front ++ [] ≡ front = append-nil front in
+          record { kept = cc; few = omega (arith, c.loop-entry.invariant.few) }
     ]

@@ -1,7 +1,29 @@
+use Rattle.std.proofs.Common.{◌≡◌, ◌≢◌, ℕ, ◌+◌, ◌<◌, ◌≤◌, List, [], ◌∷◌, drop, length, refl, sym, ap, ◌∙◌, subst, inl, inr, arith}
+use Rattle.std.proofs.lemmas.Bool.{cases_lt}
+use Rattle.std.proofs.lemmas.List.{drop_all, length-set, get_or-set_other}
+use Rattle.schedule_profiles.specs.declared.plan.Plan.{Plan}
+use Rattle.schedule_profiles.specs.Plans.{IsPlan, IsBestOf, ArePlans, AreBest, HaveRoom, no_plan, plan_at, steps_at}
+use Rattle.schedule_profiles.proofs.Growing.{each_set, best_last, set_plans, set_best, set_same}
 use Rattle.schedule_profiles.proofs.rounds.lengthen.Goals as goal
 
+probe : goal.loop-at-preserved
+probe c = ?
+
 pub loop-at-preserved : goal.loop-at-preserved
-loop-at-preserved c = ?
+loop-at-preserved c = record {
+  plans = set_plans c.args.departure c.args.limits.now c.loop-at.plans c.loop-at.at c.longer.result c.loop-at.invariant.plans (omega arith) c.longer.ensures.plan;
+  done = λ most bests.
+      set_best c.args.departure (most + 1) c.args.limits.now c.loop-at.plans c.loop-at.at c.longer.result c.loop-at.invariant.plans (omega arith)
+      (c.loop-at.invariant.done most bests)
+      (c.longer.ensures.best most (λ n from few. subst (λ (p : Plan). IsBestOf c.args.departure most (drop n c.args.limits.now) p.steps.items)
+      (sym (c.loop-at.invariant.same n (omega arith))) (bests n (omega arith) few)));
+  same = set_same c.loop-at.plans c.args.plans.old c.loop-at.at c.longer.result c.loop-at.invariant.same;
+}
 
 pub returns-clause-best : goal.returns-clause-best
-returns-clause-best c = ?
+returns-clause-best c = λ most bests n from few.
+    elim (cases_lt n (length c.args.limits.now)) [
+      | inl lt ↦ c.loop-at.invariant.done most bests n (omega arith) few
+      | inr ge ↦ best_last c.args.departure most (drop n c.args.limits.now) (steps_at c.loop-at.plans n) (drop_all n c.args.limits.now ge)
+          (subst (λ (p : Plan). IsBestOf c.args.departure most (drop n c.args.limits.now) p.steps.items) (sym (c.loop-at.invariant.same n (omega arith))) (bests n from few))
+    ]
