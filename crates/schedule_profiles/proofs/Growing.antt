@@ -1,7 +1,7 @@
 -- Plans for what is left behind each number of limits, and how they grow by a step.
 use Rattle.std.proofs.Common.{◌≡◌, ◌≢◌, ℕ, zero, suc, ◌+◌, ◌-◌, ◌*◌, ◌^◌, ◌<◌, ◌≤◌, ◌⊎◌, min, List, [], ◌∷◌, ◌++◌, length, take, drop, get_or, refl, sym, ap, ◌∙◌, subst, inl, inr, arith}
 use Rattle.std.proofs.lemmas.Bool.{cases_lt, cases_order, cases_eq}
-use Rattle.std.proofs.lemmas.List.{append-nil, take_more, length-set, drop_all, get_or_past, get_or_append_left, get_or_push, get_or-set_same, get_or-set_other, get_or-drop, drop-drop, length-drop}
+use Rattle.std.proofs.lemmas.List.{append-nil, take_more, take_rest, drop_more, length-set, drop_all, get_or_past, get_or_append_left, get_or_push, get_or-set_same, get_or-set_other, get_or-drop, drop-drop, length-drop}
 use Rattle.std.proofs.lemmas.Nat.{mul-le}
 use Rattle.std.proofs.Math.ListN.{set}
 use Rattle.schedule_spec.specs.declared.Step.{Step}
@@ -255,3 +255,10 @@ pub set_same : (plans old : List Plan) (at : ℕ) (p : Plan) → ((n : ℕ) → 
 set_same plans old at p same n h =
     let ne : n ≢ at = λ e. omega arith in
     get_or-set_other plans at n p no_plan ne ∙ same n (omega arith)
+
+-- what is left behind a number of limits, as its first and the slice behind that
+pub at_rest : (limits : List Step) (at : ℕ) → at < length limits →
+              drop at limits ≡ get_or limits at (record { start = 0; watts = 0 }) ∷ take (length limits - (at + 1)) (drop (at + 1) limits)
+at_rest limits at h =
+    drop_more limits at (record { start = 0; watts = 0 }) h
+    ∙ ap (λ (xs : List Step). get_or limits at (record { start = 0; watts = 0 }) ∷ xs) (sym (take_rest limits (at + 1)))

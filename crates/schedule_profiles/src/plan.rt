@@ -41,6 +41,7 @@ impl Choice {
         ensures energy { result.energy ≡ watts * (next departure plan.now.steps.items - start) + plan.now.energy }
         ensures steps { result.steps ≡ length plan.now.steps.items }
         ensures place { result.place ≡ place }
+        ensures fits { result.watts < 2 ^ 32 }
     {
         let end = first_start(&plan.steps, departure);
         Choice {

@@ -92,7 +92,7 @@ pub(crate) fn plan_of(limits: &[Step], departure: u32) -> Plan
     ensures best { IsBestOf departure 24 limits.now result.steps.items }
 {
     let mut plans = first_plans(limits, departure);
-    for _most in 1..24 {
+    for _most in 1..24_usize {
         lengthen(limits, &mut plans, departure);
     }
     plans.remove(0)

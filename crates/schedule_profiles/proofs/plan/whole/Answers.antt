@@ -4,9 +4,6 @@ use Rattle.schedule_profiles.specs.Plans.{least, IsPlan, IsBestOf}
 use Rattle.schedule_profiles.proofs.Growing.{whole_plan, whole_best}
 use Rattle.schedule_profiles.proofs.plan.whole.Goals as goal
 
-probe : goal.returns-clause-plan
-probe c = ?
-
 pub returns-clause-plan : goal.returns-clause-plan
 returns-clause-plan c =
     let e : c.from.result * c.from-2.result ≡ c.least_of-watts.result * (c.args.departure - c.args.first.start) = cc in

@@ -6,18 +6,15 @@ use Rattle.schedule_profiles.specs.Plans.{IsPlan, IsBestOf, ArePlans, AreBest, H
 use Rattle.schedule_profiles.proofs.Growing.{each_set, best_last, set_plans, set_best, set_same}
 use Rattle.schedule_profiles.proofs.rounds.lengthen.Goals as goal
 
-probe : goal.loop-at-preserved
-probe c = ?
-
 pub loop-at-preserved : goal.loop-at-preserved
 loop-at-preserved c = record {
   plans = set_plans c.args.departure c.args.limits.now c.loop-at.plans c.loop-at.at c.longer.result c.loop-at.invariant.plans (omega arith) c.longer.ensures.plan;
   done = λ most bests.
-      set_best c.args.departure (most + 1) c.args.limits.now c.loop-at.plans c.loop-at.at c.longer.result c.loop-at.invariant.plans (omega arith)
+      set_best c.args.departure c.args.limits.now c.loop-at.plans c.loop-at.at c.longer.result (most + 1) c.loop-at.invariant.plans (omega arith)
       (c.loop-at.invariant.done most bests)
       (c.longer.ensures.best most (λ n from few. subst (λ (p : Plan). IsBestOf c.args.departure most (drop n c.args.limits.now) p.steps.items)
       (sym (c.loop-at.invariant.same n (omega arith))) (bests n (omega arith) few)));
-  same = set_same c.loop-at.plans c.args.plans.old c.loop-at.at c.longer.result c.loop-at.invariant.same;
+  same = set_same c.loop-at.plans c.args.plans.now c.loop-at.at c.longer.result c.loop-at.invariant.same;
 }
 
 pub returns-clause-best : goal.returns-clause-best

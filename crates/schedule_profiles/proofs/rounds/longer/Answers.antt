@@ -1,24 +1,23 @@
-use Rattle.std.proofs.Common.{◌≡◌, ℕ, ◌+◌, List, [], ◌∷◌, drop, get_or, length, refl, sym, ap, ◌∙◌, subst, arith}
-use Rattle.std.proofs.lemmas.List.{drop_more}
+use Rattle.std.proofs.Common.{◌≡◌, ℕ, ◌+◌, ◌-◌, List, [], ◌∷◌, take, drop, get_or, length, refl, sym, ap, ◌∙◌, subst, arith}
+use Rattle.std.proofs.lemmas.List.{drop_more, take_rest}
 use Rattle.schedule_spec.specs.declared.Step.{Step}
 use Rattle.schedule_spec.specs.Steps.{RiseWithin}
+use Rattle.schedule_profiles.specs.declared.plan.Plan.{Plan}
 use Rattle.schedule_profiles.specs.Plans.{IsPlan, IsBestOf, ArePlans, AreBest, HaveRoom}
 use Rattle.schedule_profiles.proofs.Choosing.{rise_drop}
-use Rattle.schedule_profiles.proofs.Growing.{plans_behind, best_behind, room_behind}
+use Rattle.schedule_profiles.proofs.Growing.{plans_behind, best_behind, room_behind, at_rest}
 use Rattle.schedule_profiles.proofs.rounds.longer.Goals as goal
-
-probe : goal.returns-clause-best
-probe c = ?
 
 pub extended-requires-clause-rise : goal.extended-requires-clause-rise
 extended-requires-clause-rise c =
-    subst (RiseWithin 0 c.args.departure) (drop_more c.args.limits.now c.args.at (record { start = 0; watts = 0 }) c.requires.place)
+    subst (RiseWithin 0 c.args.departure) (at_rest c.args.limits.now c.args.at c.requires.place)
     (rise_drop c.args.departure c.args.limits.now c.args.at 0 c.requires.rise)
 
 pub extended-requires-clause-plans : goal.extended-requires-clause-plans
 extended-requires-clause-plans c =
-    subst (ArePlans c.args.departure (drop (c.args.at + 1) c.args.limits.now)) (sym c.split_at.ensures.back)
-    (plans_behind c.args.departure c.args.at c.args.limits.now c.args.plans.now c.requires.place c.requires.plans)
+    subst (λ (xs : List Step). ArePlans c.args.departure xs c.split_at.result.1.now) (sym (take_rest c.args.limits.now (c.args.at + 1)))
+    (subst (ArePlans c.args.departure (drop (c.args.at + 1) c.args.limits.now)) (sym c.split_at.ensures.back)
+     (plans_behind c.args.departure c.args.at c.args.limits.now c.args.plans.now c.requires.place c.requires.plans))
 
 pub extended-requires-clause-room : goal.extended-requires-clause-room
 extended-requires-clause-room c =
@@ -26,12 +25,14 @@ extended-requires-clause-room c =
 
 pub returns-clause-plan : goal.returns-clause-plan
 returns-clause-plan c =
-    subst (λ xs. IsPlan c.args.departure xs c.extended.result.energy c.extended.result.steps.items)
-    (sym (drop_more c.args.limits.now c.args.at (record { start = 0; watts = 0 }) c.requires.place)) c.extended.ensures.plan
+    subst (λ (xs : List Step). IsPlan c.args.departure xs c.extended.result.energy c.extended.result.steps.items)
+    (sym (at_rest c.args.limits.now c.args.at c.requires.place)) c.extended.ensures.plan
 
 pub returns-clause-best : goal.returns-clause-best
 returns-clause-best c = λ most bests.
-    subst (λ xs. IsBestOf c.args.departure (most + 1) xs c.extended.result.steps.items)
-    (sym (drop_more c.args.limits.now c.args.at (record { start = 0; watts = 0 }) c.requires.place))
-    (c.extended.ensures.best most (subst (AreBest c.args.departure most 0 (drop (c.args.at + 1) c.args.limits.now)) (sym c.split_at.ensures.back)
-    (best_behind c.args.departure c.args.at most c.args.limits.now c.args.plans.now c.requires.place bests)))
+    subst (λ (xs : List Step). IsBestOf c.args.departure (most + 1) xs c.extended.result.steps.items)
+    (sym (at_rest c.args.limits.now c.args.at c.requires.place))
+    (c.extended.ensures.best most
+     (subst (λ (xs : List Step). AreBest c.args.departure most 0 xs c.split_at.result.1.now) (sym (take_rest c.args.limits.now (c.args.at + 1)))
+      (subst (AreBest c.args.departure most 0 (drop (c.args.at + 1) c.args.limits.now)) (sym c.split_at.ensures.back)
+       (best_behind c.args.departure c.args.at most c.args.limits.now c.args.plans.now c.requires.place bests))))
