@@ -233,3 +233,7 @@ offered calendar moment is day = record {
             held_past moment calendar (held now front t) t u day (omega arith) (omega arith) ∙ begins_zero calendar (held now front t) 0 u is.begins
             ∙ ap (watts_at calendar) (sym e)
       ]
+
+-- one more step of a list
+pub watts_more : (steps : List Step) (i : ℕ) (d : Step) (t : ℕ) → i < length steps → watts_at (take (i + 1) steps) t ≡ held (watts_at (take i steps) t) (get_or steps i d ∷ []) t
+watts_more steps i d t h = ap (λ (xs : List Step). watts_at xs t) (take_more steps i d h) ∙ held_append (take i steps) (get_or steps i d ∷ []) 0 t

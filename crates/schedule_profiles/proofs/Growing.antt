@@ -258,7 +258,7 @@ set_same plans old at p same n h =
 
 -- what is left behind a number of limits, as its first and the slice behind that
 pub at_rest : (limits : List Step) (at : ℕ) → at < length limits →
-              drop at limits ≡ get_or limits at (record { start = 0; watts = 0 }) ∷ take (length limits - (at + 1)) (drop (at + 1) limits)
+    drop at limits ≡ get_or limits at (record { start = 0; watts = 0 }) ∷ take (length limits - (at + 1)) (drop (at + 1) limits)
 at_rest limits at h =
     drop_more limits at (record { start = 0; watts = 0 }) h
     ∙ ap (λ (xs : List Step). get_or limits at (record { start = 0; watts = 0 }) ∷ xs) (sym (take_rest limits (at + 1)))

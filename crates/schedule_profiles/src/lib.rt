@@ -2,6 +2,9 @@
 //! no more than the schedule and the car allow, one of the most energy, with as few steps as that takes.
 //!
 //! It takes no memory.
+//!
+//! Proved: `best_plan`: no profile within the schedule and the cap has more energy, whatever its starts, and none whose steps start at the schedule's starts or its end
+//! is better (`IsBest`); its energy.
 #![tactic(auto)]
 
 mod answer;

@@ -83,6 +83,29 @@ pub(crate) fn followed(first: Step, others: &[Step]) -> ArrayVec<Step, 24>
     steps
 }
 
+/// The same steps.
+fn copied(steps: &[Step]) -> ArrayVec<Step, 24>
+    requires { length steps.now ≤ 24 }
+    ensures { result.items ≡ steps.now }
+{
+    let mut copy = ArrayVec::new();
+    for step in steps {
+        copy.push(*step);
+    }
+    copy
+}
+
+/// The same plan.
+pub(crate) fn copy_of(plan: &Plan) -> Plan
+    ensures energy { result.energy ≡ plan.now.energy }
+    ensures steps { result.steps.items ≡ plan.now.steps.items }
+{
+    Plan {
+        energy: plan.energy,
+        steps: copied(&plan.steps),
+    }
+}
+
 /// One step over all the limits.
 pub(crate) fn whole(first: Step, rest: &[Step], departure: u32) -> Plan
     requires rise { RiseWithin 0 departure (first ∷ rest.now) }

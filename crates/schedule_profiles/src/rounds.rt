@@ -2,9 +2,9 @@
 
 ghost use Rattle.std.specs.Prelude.{◌≡◌, ℕ, ◌+◌, ◌<◌, ◌≤◌, List, [], ◌∷◌, length, drop};
 ghost use Rattle.schedule_spec.specs.Steps.{RiseWithin};
-ghost use Rattle.schedule_profiles.specs.Plans.{IsPlan, IsBestOf, ArePlans, AreBest, HaveRoom};
+ghost use Rattle.schedule_profiles.specs.Plans.{IsPlan, IsBestOf, ArePlans, AreBest, HaveRoom, plan_at, steps_at};
 
-use crate::plan::{Choice, Plan, followed, whole};
+use crate::plan::{Choice, Plan, copy_of, followed, whole};
 use arrayvec::ArrayVec;
 use schedule_spec::Step;
 
@@ -83,6 +83,30 @@ fn first_plans(limits: &[Step], departure: u32) -> ArrayVec<Plan, 130>
     plans
 }
 
+/// The first of some plans.
+fn first_of(plans: &[Plan]) -> Plan
+    requires { 0 < length plans.now }
+    ensures energy { result.energy ≡ (plan_at plans.now 0).energy }
+    ensures steps { result.steps.items ≡ steps_at plans.now 0 }
+{
+    copy_of(&plans[0])
+}
+
+/// The best plan of at most 24 steps for the limits, from plans of one step.
+fn best_of(limits: &[Step], plans: &mut [Plan], departure: u32) -> Plan
+    requires rise { RiseWithin 0 departure limits.now }
+    requires day { departure ≤ 86400 }
+    requires plans { ArePlans departure limits.now plans.old }
+    requires best { AreBest departure 1 0 limits.now plans.old }
+    ensures plan { IsPlan departure limits.now result.energy result.steps.items }
+    ensures best { IsBestOf departure 24 limits.now result.steps.items }
+{
+    for _most in 1..24_usize {
+        lengthen(limits, plans, departure);
+    }
+    first_of(plans)
+}
+
 /// The best plan of at most 24 steps for the limits.
 pub(crate) fn plan_of(limits: &[Step], departure: u32) -> Plan
     requires few { length limits.now ≤ 129 }
@@ -92,8 +116,5 @@ pub(crate) fn plan_of(limits: &[Step], departure: u32) -> Plan
     ensures best { IsBestOf departure 24 limits.now result.steps.items }
 {
     let mut plans = first_plans(limits, departure);
-    for _most in 1..24_usize {
-        lengthen(limits, &mut plans, departure);
-    }
-    plans.remove(0)
+    best_of(limits, &mut plans, departure)
 }

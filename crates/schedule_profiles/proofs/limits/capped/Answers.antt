@@ -15,12 +15,12 @@ loop-entry-preserved c =
     kept_more c.args.cap c.args.end c.args.entries.now i (record { start = 0; watts = 0 }) c.loop-entry-test.true in
     elim c.if-entry-end.branch [
       | then-entry-end w ↦
-        let here : kept_one c.args.cap c.args.end item ≡ record { start = item.start; watts = min c.args.cap item.watts } ∷ [] = kept_here c.args.cap c.args.end item w.if-entry-end.true in
-        let long : length c.if-entry-end.limits.items ≡ length w.push.new.self.items = cc in
-        record { kept = cc; few = omega (arith, c.loop-entry.invariant.few, w.push.ensures.len, long) }
+          let here : kept_one c.args.cap c.args.end item ≡ record { start = item.start; watts = min c.args.cap item.watts } ∷ [] = kept_here c.args.cap c.args.end item w.if-entry-end.true in
+          let long : length c.if-entry-end.limits.items ≡ length w.push.new.self.items = cc in
+          record { kept = cc; few = omega (arith, c.loop-entry.invariant.few, w.push.ensures.len, long) }
       | else-entry-end w ↦
-        let none : kept_one c.args.cap c.args.end item ≡ [] = kept_not c.args.cap c.args.end item w.if-entry-end.false in
-        let same : front ++ [] ≡ front = append-nil front in
-        let long : length c.if-entry-end.limits.items ≡ length c.loop-entry.limits.items = cc in
-        record { kept = cc; few = omega (arith, c.loop-entry.invariant.few, long) }
+          let none : kept_one c.args.cap c.args.end item ≡ [] = kept_not c.args.cap c.args.end item w.if-entry-end.false in
+          let same : front ++ [] ≡ front = append-nil front in
+          let long : length c.if-entry-end.limits.items ≡ length c.loop-entry.limits.items = cc in
+          record { kept = cc; few = omega (arith, c.loop-entry.invariant.few, long) }
     ]

@@ -17,7 +17,7 @@ pub extended-requires-clause-plans : goal.extended-requires-clause-plans
 extended-requires-clause-plans c =
     subst (λ (xs : List Step). ArePlans c.args.departure xs c.split_at.result.1.now) (sym (take_rest c.args.limits.now (c.args.at + 1)))
     (subst (ArePlans c.args.departure (drop (c.args.at + 1) c.args.limits.now)) (sym c.split_at.ensures.back)
-     (plans_behind c.args.departure c.args.at c.args.limits.now c.args.plans.now c.requires.place c.requires.plans))
+    (plans_behind c.args.departure c.args.at c.args.limits.now c.args.plans.now c.requires.place c.requires.plans))
 
 pub extended-requires-clause-room : goal.extended-requires-clause-room
 extended-requires-clause-room c =
@@ -33,6 +33,6 @@ returns-clause-best c = λ most bests.
     subst (λ (xs : List Step). IsBestOf c.args.departure (most + 1) xs c.extended.result.steps.items)
     (sym (at_rest c.args.limits.now c.args.at c.requires.place))
     (c.extended.ensures.best most
-     (subst (λ (xs : List Step). AreBest c.args.departure most 0 xs c.split_at.result.1.now) (sym (take_rest c.args.limits.now (c.args.at + 1)))
-      (subst (AreBest c.args.departure most 0 (drop (c.args.at + 1) c.args.limits.now)) (sym c.split_at.ensures.back)
-       (best_behind c.args.departure c.args.at most c.args.limits.now c.args.plans.now c.requires.place bests))))
+    (subst (λ (xs : List Step). AreBest c.args.departure most 0 xs c.split_at.result.1.now) (sym (take_rest c.args.limits.now (c.args.at + 1)))
+    (subst (AreBest c.args.departure most 0 (drop (c.args.at + 1) c.args.limits.now)) (sym c.split_at.ensures.back)
+    (best_behind c.args.departure c.args.at most c.args.limits.now c.args.plans.now c.requires.place bests))))
