@@ -2,8 +2,6 @@
 //! station offers, and the charging profile with which a car answers.
 //!
 //! `specs/` says what an offer is, and which profile is the best that a schedule allows.
-//!
-//! Proved: `one_offer`: two offers of one calendar at a moment are the same.
 #![tactic(auto)]
 
 mod laws;
