@@ -34,23 +34,31 @@ fn watts_at(steps: &[Step], second: u32) -> u32
     watts
 }
 
-/// The steps that start behind the moment, and then those of the next day that start before it, in seconds from the moment.
-fn turned(calendar: &[Step], moment: u32) -> ArrayVec<Step, 24>
-    requires calendar { length calendar.now ≤ 24 }
-    requires moment { moment < 86400 }
-    requires day { IsCalendar calendar.now }
-    ensures { result.items ≡ ahead moment calendar.now ++ past moment calendar.now }
+/// The steps that start behind the moment, in seconds from the moment.
+fn ahead_of(calendar: &[Step], moment: u32) -> ArrayVec<Step, 24>
+    requires { length calendar.now ≤ 24 }
+    ensures { result.items ≡ ahead moment calendar.now }
 {
-    let mut turned = ArrayVec::new();
-    'ahead: for step in calendar {
+    let mut found = ArrayVec::new();
+    for step in calendar {
         if step.start > moment {
-            turned.push(Step {
+            found.push(Step {
                 start: step.start - moment,
                 watts: step.watts,
             });
         }
     }
-    'past: for step in calendar {
+    found
+}
+
+/// The steps that start behind the moment, and then those of the next day that start before it, in seconds from the moment.
+fn turned(calendar: &[Step], moment: u32) -> ArrayVec<Step, 24>
+    requires few { length calendar.now ≤ 24 }
+    requires moment { moment < 86400 }
+    ensures { result.items ≡ ahead moment calendar.now ++ past moment calendar.now }
+{
+    let mut turned = ahead_of(calendar, moment);
+    for step in calendar {
         if step.start < moment {
             turned.push(Step {
                 start: step.start + (DAY - moment),

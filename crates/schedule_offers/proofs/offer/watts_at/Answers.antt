@@ -6,9 +6,6 @@ use Rattle.schedule_offers.proofs.Turned.{watts_more}
 use Rattle.schedule_offers.proofs.offer.watts_at.Goals as goal
 use Rattle.schedule_offers.proofs.offer.watts_at.Goals.{then-step-second, else-step-second}
 
-probe : goal.loop-step-preserved
-probe c = ?
-
 pub loop-step-preserved : goal.loop-step-preserved
 loop-step-preserved c =
     let i : ℕ = c.loop-step.step-index in
