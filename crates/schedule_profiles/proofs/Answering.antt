@@ -1,12 +1,12 @@
 -- The best cover of a schedule's limits is the best answer to the schedule.
-use Rattle.std.proofs.Common.{◌≡◌, ℕ, zero, suc, ◌+◌, ◌-◌, ◌*◌, ◌<◌, ◌≤◌, ◌⊎◌, List, [], ◌∷◌, ◌++◌, length, refl, sym, ap, ◌∙◌, subst, inl, inr, arith}
+use Rattle.std.proofs.Common.{◌≡◌, ℕ, suc, ◌+◌, ◌<◌, ◌≤◌, List, [], ◌∷◌, ◌++◌, length, refl, sym, ap, ◌∙◌, subst, inl, inr, arith}
 use Rattle.std.proofs.lemmas.Bool.{cases_lt}
 use Rattle.schedule_spec.specs.declared.Step.{Step}
 use Rattle.schedule_spec.specs.declared.Schedule.{Schedule}
-use Rattle.schedule_spec.specs.Steps.{held, watts_at, energy, next, Begins, RiseWithin, starts}
-use Rattle.schedule_spec.specs.Profiles.{allowed, IsProfile, IsWithin, IsAllowed, Starts, IsMark, IsMarked, IsFull, IsLess, IsBetter, IsBest}
+use Rattle.schedule_spec.specs.Steps.{energy, next, Begins, RiseWithin, starts}
+use Rattle.schedule_spec.specs.Profiles.{IsWithin, IsAllowed, Starts, IsMarked, IsLess, IsBetter, IsBest}
 use Rattle.schedule_spec.proofs.Holding.{held_begun, held_from, held_first, next_within, rise_lower}
-use Rattle.schedule_profiles.specs.Plans.{least, Covers, plan_energy, IsAtLeast, IsPlan, IsBestOf}
+use Rattle.schedule_profiles.specs.Plans.{Covers, plan_energy, IsAtLeast, IsPlan, IsBestOf}
 use Rattle.schedule_profiles.specs.Limits.{AreLimits}
 use Rattle.schedule_profiles.proofs.Covering.{Below, rise_covers, covers_below, after_first, next_covers}
 use Rattle.schedule_profiles.proofs.Moving.{Raised, raised, over, held_rest, rise_rest}

@@ -1,10 +1,10 @@
 -- What steps that cover limits hold.
-use Rattle.std.proofs.Common.{◌≡◌, ℕ, zero, suc, ◌+◌, ◌-◌, ◌*◌, ◌<◌, ◌≤◌, ◌⊎◌, leb, cond, min, List, [], ◌∷◌, ◌++◌, length, refl, sym, ap, ◌∙◌, subst, inl, inr, arith}
+use Rattle.std.proofs.Common.{◌≡◌, ℕ, ◌+◌, ◌<◌, ◌≤◌, min, List, [], ◌∷◌, ◌++◌, sym, ap, ◌∙◌, subst, inl, inr, arith}
 use Rattle.std.proofs.lemmas.Bool.{cases_lt}
 use Rattle.schedule_spec.specs.declared.Step.{Step}
-use Rattle.schedule_spec.specs.Steps.{held, watts_at, energy, next, Begins, RiseWithin, starts}
-use Rattle.schedule_spec.proofs.Holding.{held_begun, held_waiting, held_before, held_until, held_from, held_first, held_append, rise_next, rise_lower, next_after, next_within}
-use Rattle.schedule_profiles.specs.Plans.{least, Covers, plan_energy}
+use Rattle.schedule_spec.specs.Steps.{held, next, RiseWithin}
+use Rattle.schedule_spec.proofs.Holding.{held_begun, held_waiting, held_before, held_until, held_from, held_first, held_append, rise_lower, next_after, next_within}
+use Rattle.schedule_profiles.specs.Plans.{least, Covers}
 
 -- the steps hold no more than the limits from second a to the departure
 abbrev pub Below : ℕ → ℕ → List Step → List Step → Type 0

@@ -1,9 +1,8 @@
 -- The energy of steps, second by second, is that of each step until the next one.
-use Rattle.std.proofs.Common.{◌≡◌, ℕ, zero, suc, ◌+◌, ◌-◌, ◌*◌, ◌<◌, ◌≤◌, ◌⊎◌, List, [], ◌∷◌, refl, sym, ap, ◌∙◌, inl, inr, arith}
-use Rattle.std.proofs.lemmas.Bool.{cases_lt}
+use Rattle.std.proofs.Common.{◌≡◌, ℕ, zero, suc, ◌+◌, ◌-◌, ◌*◌, ◌<◌, ◌≤◌, List, [], ◌∷◌, refl, sym, ap, ◌∙◌, arith}
 use Rattle.schedule_spec.specs.declared.Step.{Step}
-use Rattle.schedule_spec.specs.Steps.{held, watts_at, energy, next, Begins, RiseWithin}
-use Rattle.schedule_spec.proofs.Holding.{held_begun, held_waiting, held_before, next_after, next_within}
+use Rattle.schedule_spec.specs.Steps.{held, energy, next, RiseWithin}
+use Rattle.schedule_spec.proofs.Holding.{held_begun, held_waiting, held_before, next_after}
 use Rattle.schedule_profiles.specs.Plans.{plan_energy}
 
 -- the sum below second n, where `before` is held before the first step

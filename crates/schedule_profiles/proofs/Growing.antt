@@ -1,17 +1,17 @@
 -- Plans for what is left behind each number of limits, and how they grow by a step.
-use Rattle.std.proofs.Common.{◌≡◌, ◌≢◌, ℕ, zero, suc, ◌+◌, ◌-◌, ◌*◌, ◌^◌, ◌<◌, ◌≤◌, ◌⊎◌, min, List, [], ◌∷◌, ◌++◌, length, take, drop, get_or, refl, sym, ap, ◌∙◌, subst, inl, inr, arith}
+use Rattle.std.proofs.Common.{◌≡◌, ◌≢◌, ℕ, ◌+◌, ◌-◌, ◌*◌, ◌^◌, ◌<◌, ◌≤◌, ◌⊎◌, min, List, [], ◌∷◌, ◌++◌, length, take, drop, get_or, refl, sym, ap, ◌∙◌, subst, inl, inr, arith}
 use Rattle.std.proofs.lemmas.Bool.{cases_lt, cases_order, cases_eq}
-use Rattle.std.proofs.lemmas.List.{append-nil, take_more, take_rest, drop_more, length-set, drop_all, get_or_past, get_or_append_left, get_or_push, get_or-set_same, get_or-set_other, get_or-drop, drop-drop, length-drop}
+use Rattle.std.proofs.lemmas.List.{append-nil, take_more, take_rest, drop_more, length-set, get_or_past, get_or_append_left, get_or_push, get_or-set_same, get_or-set_other, get_or-drop, drop-drop, length-drop}
 use Rattle.std.proofs.lemmas.Nat.{mul-le}
 use Rattle.std.proofs.Math.ListN.{set}
 use Rattle.schedule_spec.specs.declared.Step.{Step}
-use Rattle.schedule_spec.specs.Steps.{next, RiseWithin, starts}
+use Rattle.schedule_spec.specs.Steps.{next, RiseWithin}
 use Rattle.schedule_spec.proofs.Holding.{next_after, next_within}
 use Rattle.schedule_profiles.specs.declared.plan.Plan.{Plan}
-use Rattle.schedule_profiles.specs.Plans.{least, Covers, plan_energy, IsMore, IsAtLeast, IsPlan, IsBestOf, ArePlans, AreBest, HaveRoom, no_plan, plan_at, steps_at}
+use Rattle.schedule_profiles.specs.Plans.{least, Covers, IsMore, IsAtLeast, IsPlan, IsBestOf, ArePlans, AreBest, HaveRoom, no_plan, plan_at, steps_at}
 use Rattle.schedule_profiles.proofs.Covering.{next_covers}
 use Rattle.schedule_profiles.proofs.Moving.{step_of}
-use Rattle.schedule_profiles.proofs.Choosing.{IsFirst, first_alone, first_kept, first_new, at_least_refl, extended, option, option_covers, best_option, rise_drop}
+use Rattle.schedule_profiles.proofs.Choosing.{IsFirst, first_alone, first_kept, first_new, at_least_refl, extended, option_covers, best_option, rise_drop}
 
 -- what is not more is no more
 pub not_more : (amount number other_amount other_number : ℕ) → (IsMore amount number other_amount other_number → ⊥) →

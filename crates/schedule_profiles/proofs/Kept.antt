@@ -1,12 +1,12 @@
 -- The entries of a schedule below a second, with no more than the cap.
-use Rattle.std.proofs.Common.{◌≡◌, ℕ, zero, suc, ◌+◌, ◌-◌, ◌<◌, ◌≤◌, ◌⊎◌, min, ltb, cond, List, [], ◌∷◌, ◌++◌, length, take, get_or, refl, sym, ap, ◌∙◌, subst, inl, inr, arith}
+use Rattle.std.proofs.Common.{◌≡◌, ℕ, ◌+◌, ◌<◌, ◌≤◌, ◌⊎◌, min, cond, List, [], ◌∷◌, ◌++◌, length, take, get_or, refl, sym, ap, ◌∙◌, subst, inl, inr, arith}
 use Rattle.std.proofs.lemmas.Bool.{cases_lt, lt-ltb, le-ltb}
 use Rattle.std.proofs.lemmas.List.{length-append, append_assoc, append-nil, take_more}
 use Rattle.schedule_spec.specs.declared.Step.{Step}
 use Rattle.schedule_spec.specs.declared.Schedule.{Schedule}
 use Rattle.schedule_spec.specs.Steps.{held, watts_at, Begins, RiseWithin}
-use Rattle.schedule_spec.specs.Profiles.{allowed, IsSchedule, IsMark, Starts}
-use Rattle.schedule_spec.proofs.Holding.{held_begun, held_waiting, held_append, rise_lower, rise_end}
+use Rattle.schedule_spec.specs.Profiles.{allowed, IsSchedule, Starts}
+use Rattle.schedule_spec.proofs.Holding.{held_begun, held_waiting, held_append, rise_lower}
 use Rattle.schedule_profiles.specs.Limits.{AreLimits, kept, kept_one}
 use Rattle.schedule_profiles.proofs.Moving.{step_of}
 

@@ -1,14 +1,14 @@
 -- Steps within limits that start where limits do: with the same starts they cover the limits, and no energy is lost.
-use Rattle.std.proofs.Common.{◌≡◌, ℕ, zero, suc, ◌+◌, ◌-◌, ◌*◌, ◌<◌, ◌≤◌, ◌⊎◌, List, [], ◌∷◌, ◌++◌, length, refl, sym, ap, ◌∙◌, subst, inl, inr, arith}
-use Rattle.std.proofs.lemmas.Bool.{cases_lt, cases_order}
+use Rattle.std.proofs.Common.{◌≡◌, ℕ, ◌+◌, ◌-◌, ◌<◌, ◌≤◌, List, [], ◌∷◌, ◌++◌, refl, sym, ap, ◌∙◌, subst, inl, inr, arith}
+use Rattle.std.proofs.lemmas.Bool.{cases_order}
 use Rattle.std.proofs.lemmas.List.{append-nil}
 use Rattle.std.proofs.lemmas.Nat.{mul-le}
 use Rattle.schedule_spec.specs.declared.Step.{Step}
-use Rattle.schedule_spec.specs.Steps.{held, next, RiseWithin, starts}
+use Rattle.schedule_spec.specs.Steps.{next, RiseWithin, starts}
 use Rattle.schedule_spec.specs.Profiles.{Starts}
-use Rattle.schedule_spec.proofs.Holding.{held_begun, held_from, held_first}
+use Rattle.schedule_spec.proofs.Holding.{held_begun, held_first}
 use Rattle.schedule_profiles.specs.Plans.{least, Covers, plan_energy}
-use Rattle.schedule_profiles.proofs.Covering.{Below, rise_behind, after_first, next_covers}
+use Rattle.schedule_profiles.proofs.Covering.{Below, after_first, next_covers}
 use Rattle.schedule_profiles.proofs.Moving.{step_of, Parted, over, held_rest, rise_rest}
 
 -- each step starts where a limit does

@@ -4,9 +4,8 @@ use Rattle.std.proofs.lemmas.Bool.{cases_lt, cases_order}
 use Rattle.std.proofs.lemmas.List.{append-nil, append_assoc}
 use Rattle.std.proofs.lemmas.Nat.{mul-le}
 use Rattle.schedule_spec.specs.declared.Step.{Step}
-use Rattle.schedule_spec.specs.Steps.{held, watts_at, next, Begins, RiseWithin, starts}
-use Rattle.schedule_spec.specs.Profiles.{Starts}
-use Rattle.schedule_spec.proofs.Holding.{held_begun, held_before, held_until, held_from, held_first, next_after, next_within, rise_lower}
+use Rattle.schedule_spec.specs.Steps.{held, next, RiseWithin}
+use Rattle.schedule_spec.proofs.Holding.{held_begun, held_until, held_from, held_first, next_after, next_within, rise_lower}
 use Rattle.schedule_profiles.specs.Plans.{least, Covers, plan_energy}
 use Rattle.schedule_profiles.proofs.Areas.{later, earlier, kept_up, begun_before}
 use Rattle.schedule_profiles.proofs.Covering.{Below, under, rise_behind, after_first, held_back, held_at, next_covers}

@@ -1,6 +1,4 @@
-use Rattle.std.proofs.Common.{◌≡◌, ℕ, List, refl, sym, ap, ◌∙◌, subst, arith}
-use Rattle.schedule_spec.specs.declared.Step.{Step}
-use Rattle.schedule_profiles.specs.Limits.{AreLimits}
+use Rattle.std.proofs.Common.{subst}
 use Rattle.schedule_profiles.specs.Plans.{IsPlan, IsBestOf}
 use Rattle.schedule_profiles.proofs.Answering.{answered, measures}
 use Rattle.schedule_profiles.proofs.answer.best_plan.Goals as goal

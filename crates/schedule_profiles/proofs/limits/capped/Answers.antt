@@ -1,4 +1,4 @@
-use Rattle.std.proofs.Common.{◌≡◌, ℕ, length, List, [], ◌∷◌, ◌++◌, min, get_or, take, ◌+◌, ap, ◌∙◌, sym, arith}
+use Rattle.std.proofs.Common.{◌≡◌, ℕ, length, List, [], ◌∷◌, ◌++◌, min, get_or, take, ◌+◌, arith}
 use Rattle.std.proofs.lemmas.List.{append-nil}
 use Rattle.schedule_spec.specs.declared.Step.{Step}
 use Rattle.schedule_profiles.proofs.Kept.{kept_more, kept_here, kept_not}

@@ -1,4 +1,4 @@
-use Rattle.std.proofs.Common.{◌≡◌, ℕ, List, [], ◌∷◌, ◌++◌, min, length, ap, ◌∙◌, sym, subst, arith}
+use Rattle.std.proofs.Common.{◌≡◌, List, [], ◌∷◌, ◌++◌, length, ap, ◌∙◌, sym, subst, arith}
 use Rattle.schedule_spec.specs.declared.Step.{Step}
 use Rattle.schedule_profiles.specs.Limits.{AreLimits, kept}
 use Rattle.schedule_profiles.proofs.Kept.{limits_whole, limits_ended}

@@ -1,6 +1,5 @@
-use Rattle.std.proofs.Common.{◌≡◌, ℕ, ◌-◌, ◌*◌, List, [], ◌∷◌, refl, sym, ap, ◌∙◌, subst, arith}
-use Rattle.schedule_spec.specs.declared.Step.{Step}
-use Rattle.schedule_profiles.specs.Plans.{least, IsPlan, IsBestOf}
+use Rattle.std.proofs.Common.{◌≡◌, ◌-◌, ◌*◌, ◌∷◌, sym, subst, arith}
+use Rattle.schedule_profiles.specs.Plans.{IsPlan, IsBestOf}
 use Rattle.schedule_profiles.proofs.Growing.{whole_plan, whole_best}
 use Rattle.schedule_profiles.proofs.plan.whole.Goals as goal
 

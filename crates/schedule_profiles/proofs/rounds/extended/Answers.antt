@@ -1,11 +1,11 @@
-use Rattle.std.proofs.Common.{◌≡◌, ℕ, ◌+◌, ◌-◌, ◌*◌, ◌^◌, ◌<◌, ◌≤◌, List, [], ◌∷◌, take, length, get_or, min, refl, sym, ap, ◌∙◌, subst, arith}
+use Rattle.std.proofs.Common.{◌≡◌, ℕ, ◌+◌, ◌-◌, ◌*◌, ◌^◌, ◌<◌, ◌≤◌, List, ◌∷◌, take, length, get_or, min, refl, sym, ap, ◌∙◌, subst, arith}
 use Rattle.std.proofs.lemmas.Bool.{both_ways}
 use Rattle.std.proofs.lemmas.List.{get_or_read, get_or_default}
 use Rattle.schedule_spec.specs.declared.Step.{Step}
 use Rattle.schedule_spec.specs.Steps.{next}
 use Rattle.schedule_profiles.specs.declared.plan.Plan.{Plan}
 use Rattle.schedule_profiles.specs.declared.plan.Choice.{Choice}
-use Rattle.schedule_profiles.specs.Plans.{least, IsPlan, IsBestOf, IsMore, no_plan, plan_at, steps_at}
+use Rattle.schedule_profiles.specs.Plans.{least, IsPlan, IsBestOf, no_plan, plan_at, steps_at}
 use Rattle.schedule_profiles.proofs.Choosing.{IsFirst}
 use Rattle.schedule_profiles.proofs.Moving.{step_of}
 use Rattle.schedule_profiles.proofs.Growing.{Chosen, amount, least_more, option_after, option_within, option_plan, option_best, chosen_first, chosen_new, chosen_kept}

@@ -1,4 +1,4 @@
-use Rattle.std.proofs.Common.{◌≡◌, ℕ, ◌+◌, ◌^◌, ◌<◌, take}
+use Rattle.std.proofs.Common.{◌≡◌, ◌+◌, ◌^◌, ◌<◌, take}
 use Rattle.schedule_profiles.specs.Plans.{least}
 use Rattle.schedule_profiles.proofs.Growing.{Chosen}
 use Rattle.schedule_profiles.proofs.rounds.extended.Given as goal

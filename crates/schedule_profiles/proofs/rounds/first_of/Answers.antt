@@ -1,4 +1,4 @@
-use Rattle.std.proofs.Common.{◌≡◌, ℕ, List, ap, ◌∙◌}
+use Rattle.std.proofs.Common.{◌≡◌, ap, ◌∙◌}
 use Rattle.std.proofs.lemmas.List.{get_or_read}
 use Rattle.schedule_profiles.specs.declared.plan.Plan.{Plan}
 use Rattle.schedule_profiles.specs.Plans.{no_plan, plan_at}

@@ -1,9 +1,9 @@
-use Rattle.std.proofs.Common.{◌≡◌, ℕ, ◌+◌, ◌-◌, ◌<◌, ◌≤◌, List, [], ◌∷◌, ◌++◌, take, drop, get_or, length, refl, sym, ap, ◌∙◌, subst, arith}
+use Rattle.std.proofs.Common.{◌≡◌, ℕ, ◌+◌, ◌-◌, List, [], ◌∷◌, take, drop, get_or, length, sym, subst, arith}
 use Rattle.std.proofs.lemmas.List.{drop_all}
 use Rattle.schedule_spec.specs.declared.Step.{Step}
 use Rattle.schedule_spec.specs.Steps.{RiseWithin}
 use Rattle.schedule_profiles.specs.declared.plan.Plan.{Plan}
-use Rattle.schedule_profiles.specs.Plans.{IsPlan, IsBestOf, ArePlans, AreBest, plan_at, steps_at}
+use Rattle.schedule_profiles.specs.Plans.{IsPlan, IsBestOf, plan_at, steps_at}
 use Rattle.schedule_profiles.proofs.Choosing.{rise_drop}
 use Rattle.schedule_profiles.proofs.Growing.{each_pushed, plan_nothing, best_nothing, at_rest}
 use Rattle.schedule_profiles.proofs.rounds.first_plans.Goals as goal

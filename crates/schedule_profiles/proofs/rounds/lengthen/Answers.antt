@@ -1,9 +1,9 @@
-use Rattle.std.proofs.Common.{◌≡◌, ◌≢◌, ℕ, ◌+◌, ◌<◌, ◌≤◌, List, [], ◌∷◌, drop, length, refl, sym, ap, ◌∙◌, subst, inl, inr, arith}
+use Rattle.std.proofs.Common.{◌+◌, drop, length, sym, subst, inl, inr, arith}
 use Rattle.std.proofs.lemmas.Bool.{cases_lt}
-use Rattle.std.proofs.lemmas.List.{drop_all, length-set, get_or-set_other}
+use Rattle.std.proofs.lemmas.List.{drop_all}
 use Rattle.schedule_profiles.specs.declared.plan.Plan.{Plan}
-use Rattle.schedule_profiles.specs.Plans.{IsPlan, IsBestOf, ArePlans, AreBest, HaveRoom, no_plan, plan_at, steps_at}
-use Rattle.schedule_profiles.proofs.Growing.{each_set, best_last, set_plans, set_best, set_same}
+use Rattle.schedule_profiles.specs.Plans.{IsBestOf, steps_at}
+use Rattle.schedule_profiles.proofs.Growing.{best_last, set_plans, set_best, set_same}
 use Rattle.schedule_profiles.proofs.rounds.lengthen.Goals as goal
 
 pub loop-at-preserved : goal.loop-at-preserved

@@ -1,8 +1,7 @@
-use Rattle.std.proofs.Common.{◌≡◌, ℕ, ◌+◌, ◌-◌, List, [], ◌∷◌, take, drop, get_or, length, refl, sym, ap, ◌∙◌, subst, arith}
-use Rattle.std.proofs.lemmas.List.{drop_more, take_rest}
+use Rattle.std.proofs.Common.{◌+◌, List, drop, sym, subst}
+use Rattle.std.proofs.lemmas.List.{take_rest}
 use Rattle.schedule_spec.specs.declared.Step.{Step}
 use Rattle.schedule_spec.specs.Steps.{RiseWithin}
-use Rattle.schedule_profiles.specs.declared.plan.Plan.{Plan}
 use Rattle.schedule_profiles.specs.Plans.{IsPlan, IsBestOf, ArePlans, AreBest, HaveRoom}
 use Rattle.schedule_profiles.proofs.Choosing.{rise_drop}
 use Rattle.schedule_profiles.proofs.Growing.{plans_behind, best_behind, room_behind, at_rest}
