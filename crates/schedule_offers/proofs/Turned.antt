@@ -215,7 +215,7 @@ offered calendar moment is day = record {
   turned = front ++ back
 
   rise_back : RiseWithin (86400 - moment) 86400 back
-  rise_back = rise_past moment calendar 0 86400 day is.rise
+  rise_back = let e : 0 + (86400 - moment) ≡ 86400 - moment = omega arith in subst (λ (n : ℕ). RiseWithin n 86400 back) e (rise_past moment calendar 0 86400 day is.rise)
 
   rise : RiseWithin 1 86400 turned
   rise = rise_append front back 1 (86400 - moment) 86400 (rise_ahead moment calendar 0 1 86400 is.rise (omega arith)) rise_back (omega arith) (omega arith)

@@ -17,8 +17,8 @@ loop-step-preserved c =
           let more : merged c.loop-step.held (drop i c.args.steps.now) ≡ item ∷ merged item.watts rest =
           merged_more c.loop-step.held c.args.steps.now i (record { start = 0; watts = 0 }) c.loop-step-test.true w.if-step-held.true in
           let along : (offer ++ item ∷ []) ++ merged item.watts rest ≡ offer ++ (item ∷ merged item.watts rest) = append_assoc offer (item ∷ []) (merged item.watts rest) in
-          let long : length c.if-step-held.offer.items ≡ length w.push.new.self.items = cc in
-          record { all = cc; few = omega (arith, c.loop-step.invariant.few, w.push.ensures.len, long) }
+          let long : length c.if-step-held.offer.items ≡ length w.push-then-step-held.new.self.items = cc in
+          record { all = cc; few = omega (arith, c.loop-step.invariant.few, w.push-then-step-held.ensures.len, long) }
       | else-step-held w ↦
           let same : merged c.loop-step.held (drop i c.args.steps.now) ≡ merged c.loop-step.held rest =
           merged_same c.loop-step.held c.args.steps.now i (record { start = 0; watts = 0 }) c.loop-step-test.true w.if-step-held.false in
