@@ -16,4 +16,4 @@ pub use input::{DecodePlace, EncodePlace, place_in};
 pub use plan::say_plan;
 pub use sockets::say_trouble;
 pub use trace::{Line, is_of_a_car, line_in};
-pub use usage::{Asked, asked, say_help, say_misused, say_version, sentence_of};
+pub use usage::{Asked, say_help, say_misused, say_version, sentence_of};

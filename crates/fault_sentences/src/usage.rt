@@ -66,12 +66,14 @@ pub enum Asked {
     Mistaken,
 }
 
-/// What these words ask for, which are no command.
-pub fn asked(words: &WordList) -> Asked {
-    match words.get(0) {
-        Some("--help") | Some("-h") | Some("help") => Asked::Help,
-        Some("--version") | Some("-V") | Some("version") => Asked::Version,
-        _ => Asked::Mistaken,
+impl Asked {
+    /// What these words ask for, which are no command.
+    pub fn by(words: &WordList) -> Asked {
+        match words.get(0) {
+            Some("--help") | Some("-h") | Some("help") => Asked::Help,
+            Some("--version") | Some("-V") | Some("version") => Asked::Version,
+            _ => Asked::Mistaken,
+        }
     }
 }
 

@@ -2,7 +2,7 @@
 
 use charge_run::{Status, WordList};
 use fault_sentences::{
-    Asked, DecodePlace, EncodePlace, asked, is_of_a_car, line_in, place_in, say_help, say_misused,
+    Asked, DecodePlace, EncodePlace, is_of_a_car, line_in, place_in, say_help, say_misused,
     say_plan, say_trouble, say_version, sentence_of,
 };
 use net_wire::{FileSource, NetWire, StandardOutput, TraceFile};
@@ -28,7 +28,7 @@ pub(crate) fn say(
     let plan = word(words, 1);
     match status {
         Status::Done => say_done(rt, words, outside),
-        Status::Words => match asked(words) {
+        Status::Words => match Asked::by(words) {
             Asked::Help => say_help(rt),
             Asked::Version => say_version(rt),
             Asked::Mistaken => say_misused(rt, words),
