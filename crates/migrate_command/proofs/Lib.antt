@@ -1,0 +1,4 @@
+pub mod Plain
+pub mod OnePlain
+pub mod Written
+pub mod Leaving
