@@ -9,7 +9,7 @@ use Rattle.session_rules.specs.Moves.{next_row}
 use Rattle.session_rules.specs.Verdict.{verdict, is_accepted}
 use Rattle.audit_rows.specs.declared.judging.PostValues.{PostValues}
 use Rattle.audit_rows.specs.declared.judging.Judged.{Judged}
-use Rattle.audit_rows.specs.Rows.{number_of, number_behind}
+use Rattle.audit_rows.specs.Rows.{number_behind}
 
 -- the session in this row that the values tell. What it told last is no matter of a verdict
 abbrev pub stage_of : Phase → PostValues → Stage

@@ -9,7 +9,7 @@ use Rattle.command_status.specs.FaultLines.{input_line}
 use Rattle.migrate_command.specs.declared.reading.PlainFault.{PlainFault}
 use Rattle.migrate_command.specs.declared.reading.PlainFault.TheVariants.{Unread, Line, Memory}
 use Rattle.migrate_command.specs.Migrated.{IsPlain, IsRefusedAt}
-use Rattle.migrate_command.specs.Leaving.{FileTold, SinkTold, OfText, HasFault, Refuses, IsCutShort, WritesAll, LeavesBy, ComesWith, TellsLine, IsDecided, MigrateLeaves}
+use Rattle.migrate_command.specs.Leaving.{FileTold, SinkTold, OfText, HasFault, Refuses, IsCutShort, WritesAll, LeavesBy, ComesWith, TellsLine, MigrateLeaves}
 use Rattle.migrate_command.proofs.OnePlain.{same_line, never_both}
 
 -- ---- files that were read

@@ -1,5 +1,5 @@
 -- A text is a trace of format 1, or is refused at one line.
-use Rattle.std.proofs.Common.{◌≡◌, ◌≢◌, ◌⊎◌, inl, inr, ℕ, ◌+◌, ◌≤◌, List, ◌++◌, length, sym, ◌∙◌, append_assoc, arith}
+use Rattle.std.proofs.Common.{◌≡◌, ◌⊎◌, inl, inr, ℕ, ◌+◌, ◌≤◌, List, ◌++◌, length, sym, ◌∙◌, append_assoc, arith}
 use Rattle.charge_world.specs.declared.entry.Entry.{Entry}
 use Rattle.trace_text.specs.Pasts.{first_line_1, lines_by, line_after}
 use Rattle.trace_reading.specs.declared.format.Format.TheVariants.{Plain}

@@ -1,5 +1,5 @@
 -- A text of format 1 is read as a trace of either format at eight posts.
-use Rattle.std.proofs.Common.{◌≡◌, ◌≢◌, ◌⊎◌, inl, inr, ℕ, ◌+◌, List, [], ◌∷◌, ◌++◌, length, get_or, refl, sym, ap, ◌∙◌, append_assoc, arith}
+use Rattle.std.proofs.Common.{◌≡◌, inl, inr, ℕ, ◌+◌, List, [], ◌∷◌, ◌++◌, length, get_or, refl, sym, ap, ◌∙◌, append_assoc, arith}
 use Rattle.std.proofs.lemmas.List.{append-nil}
 use Rattle.std.specs.Prelude.{reverse}
 use Rattle.std.specs.List.{AllByRecursion}
@@ -17,7 +17,7 @@ use Rattle.trace_reading.specs.Readings.{IsOf, IsGood, text_in, IsBadBehind}
 use Rattle.trace_reading.specs.Readings as readings
 use Rattle.trace_files.specs.Recordings.{IsRecorded}
 use Rattle.trace_files.specs.Recordings as recordings
-use Rattle.migrate_command.specs.Migrated.{IsPlain, IsBadFirst, IsBadLater, IsRefusedAt}
+use Rattle.migrate_command.specs.Migrated.{IsPlain, IsBadLater, IsRefusedAt}
 
 -- ---- an entry that has a line is of one of eight posts
 

@@ -1,16 +1,16 @@
 -- The lines of a past, written one by one.
-use Rattle.std.proofs.Common.{◌≡◌, ℕ, ◌+◌, ◌^◌, ◌<◌, ◌≤◌, List, [], ◌∷◌, ◌++◌, length, take, drop, get_or, Option, refl, sym, ap, ◌∙◌, subst, append_assoc, arith}
+use Rattle.std.proofs.Common.{◌≡◌, ℕ, ◌+◌, ◌^◌, ◌<◌, ◌≤◌, List, [], ◌∷◌, ◌++◌, length, take, drop, get_or, Option, sym, ap, ◌∙◌, subst, append_assoc, arith}
 use Rattle.std.specs.Prelude.{reverse, decimal}
 use Rattle.std.specs.List.{AllByRecursion}
 use Rattle.std.proofs.lemmas.Fmt.{length-decimal-le}
-use Rattle.std.proofs.lemmas.List.{append-nil, take-append-drop, length-append, length-reverse, reverse-append, take_more, drop_more}
+use Rattle.std.proofs.lemmas.List.{append-nil, take-append-drop, length-append, length-reverse, reverse-append, take_more}
 use Rattle.charge_world.specs.declared.entry.Entry.{Entry}
 use Rattle.charge_world.specs.declared.entry.Entry.TheVariants as entry
 use Rattle.charge_world.specs.Outside.{Appends, AppendsSome}
 use Rattle.text_tokens.specs.Words.{spaced_out, line_text}
 use Rattle.text_tokens.proofs.Lines.{length_line}
 use Rattle.trace_text.specs.TraceText.{words_of, line_of, numbered_line_of, IsLine1, IsWritable}
-use Rattle.trace_text.specs.Pasts.{is_hearing, hearing_number, lines_by, numbered_after, first_line_2, trace_text, IsTrace1}
+use Rattle.trace_text.specs.Pasts.{hearing_number, lines_by, numbered_after, first_line_2, trace_text, IsTrace1}
 use Rattle.trace_text.proofs.Spelling.{some_words}
 use Rattle.command_status.proofs.Pieces.{appends_more, appends_front, appends_first}
 

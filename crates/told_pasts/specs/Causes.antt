@@ -1,7 +1,6 @@
 -- IEC 61851-1 (the pilot), IEC 61851-23 (isolation), ISO 15118-2:2014, sections 8.7 and 8.8: what ends a session of a foreign trace. Which cause
 -- is the first, and which Open it asks for, is own.
 use Rattle.std.specs.Prelude.{◌≡◌, ◌≤◌, ◌<◌, ℕ, Bool, true, false, List, [], ◌∷◌, Option, Some, None, ◌⊎◌}
-use Rattle.charge_world.specs.declared.offer.Dialect.{Dialect}
 use Rattle.charge_world.specs.declared.ports.Order.{Order}
 use Rattle.charge_world.specs.declared.ports.Order.TheVariants as order
 use Rattle.session_words.specs.declared.cause.EndCause.{EndCause}
@@ -15,7 +14,7 @@ use Rattle.post_spec.specs.Causes.{running, due, found_word, watch}
 use Rattle.post_spec.specs.Course.{Talked}
 use Rattle.post_spec.specs.Contactors.{live}
 use Rattle.post_spec.specs.Sessions.{arriving, session, waits}
-use Rattle.post_spec.specs.Steps.{Event, Came, Bytes, Gone, Datagram, Plant, Clock, Over, Act, Give, Send, Answer, End, Seen, Reading}
+use Rattle.post_spec.specs.Steps.{Event, Came, Bytes, Gone, Datagram, Plant, Clock, Over, Give, End, Seen, Reading}
 use Rattle.post_spec.specs.Talk.{Unless}
 use Rattle.post_spec.specs.Words.{HeardWord}
 use Rattle.told_pasts.specs.Course.{told_course}

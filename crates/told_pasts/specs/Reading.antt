@@ -1,5 +1,5 @@
 -- Own: what the acts of a post were about in a foreign trace: which of them judged a word, and what its bytes say.
-use Rattle.std.specs.Prelude.{◌≡◌, ◌≤◌, ◌<◌, ℕ, Bool, true, false, ◌&&◌, if◌then◌else◌, List, [], ◌∷◌, drop, length, Option, Some, None, unwrap_or, ◌⊎◌}
+use Rattle.std.specs.Prelude.{◌≡◌, ◌≤◌, ◌<◌, ℕ, Bool, true, false, ◌&&◌, List, [], ◌∷◌, drop, length, Option, Some, None, unwrap_or, ◌⊎◌}
 use Rattle.charge_world.specs.declared.offer.Dialect.{Dialect}
 use Rattle.charge_world.specs.declared.ports.Order.{Order}
 use Rattle.charge_world.specs.declared.ports.Order.TheVariants as order
@@ -14,7 +14,7 @@ use Rattle.session_rules.specs.Verdict.{verdict, is_accepted}
 use Rattle.v2gtp_frames.specs.Frames.{frame}
 use Rattle.car_rules.specs.Replies.{answers}
 use Rattle.post_spec.specs.Causes.{due}
-use Rattle.post_spec.specs.Codecs.{Judged, Negotiated, Asked, WrongSide, Refused, Codecs}
+use Rattle.post_spec.specs.Codecs.{Judged, Negotiated, Asked, Codecs}
 use Rattle.post_spec.specs.Contactors.{standing}
 use Rattle.post_spec.specs.Course.{Talked, Course, facts_of}
 use Rattle.post_spec.specs.Facts.{now}

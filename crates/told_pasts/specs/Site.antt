@@ -1,5 +1,5 @@
 -- Own: what the posts of a site went by in a foreign trace.
-use Rattle.std.specs.Prelude.{◌≡◌, ℕ, suc, ◌+◌, ◌-◌, max, min, Bool, true, List, [], ◌∷◌, ◌++◌, length, map, Option, Some, None}
+use Rattle.std.specs.Prelude.{◌≡◌, ℕ, suc, ◌+◌, ◌-◌, max, min, Bool, true, List, [], ◌∷◌, ◌++◌, length, map, Option}
 use Rattle.std.specs.List.{sum_by}
 use Rattle.charge_world.specs.declared.entry.Entry.{Entry}
 use Rattle.charge_world.specs.declared.entry.Entry.TheVariants as entry

@@ -1,6 +1,6 @@
 -- ISO 15118-2:2014, 8.4.3.8 (EVSEMaximumPowerLimit, EVSEMaxCurrent, PMax); DIN SPEC 70121:2014: the watts that a reply spells, as its message
 -- writes them. Which of them count, and how they are held against told ones, is own.
-use Rattle.std.specs.Prelude.{◌≡◌, ℕ, ◌*◌, min, max, Bool, List, [], ◌∷◌, Option, Some, None, IfSome, ℤ, pos, negsuc}
+use Rattle.std.specs.Prelude.{◌≡◌, ℕ, min, max, Bool, List, [], ◌∷◌, Option, Some, None, IfSome, ℤ, pos, negsuc}
 use Rattle.std.specs.List.{AllByRecursion}
 use Rattle.charge_world.specs.declared.offer.Dialect.{Dialect}
 use Rattle.charge_world.specs.declared.offer.Dialect.TheVariants as dialect

@@ -1,5 +1,5 @@
 -- Own: what a session of a foreign trace talked about: each word that was answered, with the reply to it.
-use Rattle.std.specs.Prelude.{ℕ, Bool, true, false, ◌||◌, if◌then◌else◌, List, [], ◌∷◌, map, Option, Some, None, is_some}
+use Rattle.std.specs.Prelude.{ℕ, Bool, false, ◌||◌, if◌then◌else◌, List, [], ◌∷◌, map, Option, Some, None, is_some}
 use Rattle.session_words.specs.declared.plan.PostPlan.{PostPlan}
 use Rattle.session_rules.specs.Asks.{shows_watts}
 use Rattle.post_spec.specs.Sessions.{arriving, session}
