@@ -47,13 +47,14 @@ fn texts_are_the_same() -> bool {
 /// Puts an item of each kind.
 fn items_are_put(room: &mut [u8; 16]) -> bool {
     let mut pen = BitPen::new(room);
-    pen.put_bit(true) == Ok(())
-        && pen.put_unsigned(300) == Ok(())
-        && pen.put_integer(-2) == Ok(())
-        && pen.put_bytes(b"\x0f") == Ok(())
-        && pen.put_chars("z") == Ok(())
-        && pen.written() == [0xd6, 0x01, 0x40, 0x43, 0xde, 0x80].as_slice()
-        && pen.finish() == 6
+    let bit = pen.put_bit(true) == Ok(());
+    let unsigned = pen.put_unsigned(300) == Ok(());
+    let integer = pen.put_integer(-2) == Ok(());
+    let bytes = pen.put_bytes(b"\x0f") == Ok(());
+    let text = pen.put_chars("z") == Ok(());
+    let written = pen.written() == [0xd6, 0x01, 0x40, 0x43, 0xde, 0x80].as_slice();
+    let length = pen.finish();
+    bit && unsigned && integer && bytes && text && written && length == 6
 }
 
 /// Takes them again.

@@ -12,11 +12,20 @@ fn two_are_entered(table: &mut Partitions<char>) -> bool {
 
 /// The second is found by its name and among all.
 fn the_second_is_found(table: &Partitions<char>) -> bool {
-    matches!(table.local(9, 0), Some('b'))
+    let (Some(local), Some(global)) = (table.local(9, 0), table.global(1)) else {
+        return false;
+    };
+    let [_, entry] = table.entries() else {
+        return false;
+    };
+    let (name, letter) = *entry;
+    let (local, global) = (*local, *global);
+    local == 'b'
         && table.local(9, 1).is_none()
-        && matches!(table.global(1), Some('b'))
+        && global == 'b'
         && table.global(2).is_none()
-        && matches!(table.entries(), [_, (9, 'b')])
+        && name == 9
+        && letter == 'b'
 }
 
 fn a_table_of_two(alloc: Global) -> bool {

@@ -8,7 +8,7 @@ use std::test::*;
 #[test]
 fn a_file_is_read_piece_by_piece(rt: HostRuntime) -> Result<(), Fail> {
     fs::write(&rt, "plan", "a = 1")?;
-    let mut source = FileSource::new(&rt);
+    let mut source = FileSource::new(&rt, rt.alloc());
     let mut room = [0u8; 3];
     assert_eq!(rt; source.read(&mut room), Err(Failed));
     assert_eq!(rt; source.begin("no plan"), Err(Failed));

@@ -7,13 +7,16 @@
 //! gives is trusted (docs/OUTSIDE.md).
 #![tactic(auto)]
 
+mod ears;
 mod files;
 mod open;
 mod post;
 mod sinks;
 mod sockets;
+mod trouble;
 mod wire;
 
 pub use files::FileSource;
 pub use sinks::{StandardOutput, TraceFile};
-pub use wire::NetWire;
+pub use trouble::{Attempt, Trouble};
+pub use wire::{NetWire, Sockets};

@@ -4,14 +4,16 @@ ghost use Rattle.std.specs.Prelude.{◌≡◌, ◌≤◌, ◌<◌, length, IfOk,
 ghost use Rattle.charge_world.specs.Outside.{IsOfPosts, HasCount, IsPost, posts_of};
 ghost use Rattle.net_wire.specs.Posts.{posts_in};
 
+use crate::ears::{EARS, Ears};
 use crate::post::Post;
 use crate::sockets::{connect, open_car, open_post, watch};
+use crate::trouble::{Attempt, Trouble};
 use charge_world::{Heard, Order, Ports, What};
 use mio::net::TcpStream;
-use mio::{Events, Poll};
+use mio::{Events, Poll, Token};
 use std::alloc::Global;
 use std::io::{ErrorKind, Read, Write};
-use std::net::{Net, Shutdown};
+use std::net::{Net, Shutdown, SocketAddr};
 use std::random::RandomSource;
 use std::time::{Clock, Duration, Instant};
 use std::{io, net};
@@ -20,9 +22,6 @@ use wire_events::{Board, Kind, Line, Socket, Step, key_of, piece_or_end, token_o
 /// How many sockets are told of at once.
 const EVENTS: usize = 32;
 
-/// How long a send may wait until the peer takes all of its bytes, in milliseconds.
-const PATIENCE: u64 = 50;
-
 /// The sockets and chargers of a wire that was started, and how they stand. Moments are milliseconds since its start.
 #[derive(Drop)]
 pub(crate) struct OpenWire {
@@ -30,31 +29,45 @@ pub(crate) struct OpenWire {
     posts: Vec<Post>,
     poll: Poll,
     events: Events,
+    ears: Option<Ears>,
+    stopped: bool,
     since: Instant,
 }
 
+/// What a wait needs: the sockets to wait for, room for what they tell, and the moment from which on time is counted.
+fn waiting<R: Net + Clock>(rt: &R, alloc: Global) -> io::Result<(Poll, Events, Instant)> {
+    let poll = Poll::new(rt)?;
+    let events = Events::with_capacity(alloc, EVENTS)?;
+    let since = Instant::now(rt)?;
+    Ok((poll, events, since))
+}
+
 impl OpenWire {
-    /// Opens the sockets of these ports.
+    /// Opens the sockets of these ports. One that is stoppable listens to standard input too, where it can.
     pub(crate) fn start<R: Net<Stream = net::TcpStream> + Clock>(
         rt: &R,
         alloc: Global,
         ports: &Ports,
-    ) -> io::Result<OpenWire>
+        stoppable: bool,
+    ) -> Result<OpenWire, Trouble>
         ensures { IfOk result (λ wire. posts_in wire ≡ posts_of ports.now) }
     {
-        let poll = Poll::new(rt)?;
-        let events = Events::with_capacity(alloc, EVENTS)?;
-        let since = Instant::now(rt)?;
+        let (poll, events, since) = waiting(rt, alloc).map_err(Trouble::waiting)?;
+        let ears = if stoppable {
+            Ears::open(poll.registry())
+        } else {
+            None
+        };
         let mut posts = Vec::new(alloc);
         let board = match ports {
             Ports::Posts { pairs, sessions } => {
                 for (place, pair) in pairs.as_slice().iter().enumerate() {
-                    posts.push(open_post(rt, poll.registry(), place, *pair)?)?;
+                    keep_post(&mut posts, open_post(rt, poll.registry(), place, *pair)?)?;
                 }
                 Board::new(pairs.len(), *sessions)
             }
             Ports::Car { tcp: _, sdp } => {
-                posts.push(open_car(rt, poll.registry(), *sdp)?)?;
+                keep_post(&mut posts, open_car(rt, poll.registry(), *sdp)?)?;
                 Board::new(1, 1)
             }
         };
@@ -63,6 +76,8 @@ impl OpenWire {
             posts,
             poll,
             events,
+            ears,
+            stopped: false,
             since,
         };
         if let Ports::Car { tcp, sdp: 0 } = ports {
@@ -77,13 +92,43 @@ impl OpenWire {
         Ok(u64::try_from(elapsed.as_millis()).unwrap_or(u64::MAX))
     }
 
-    /// Waits until a socket is ready or the time is up, and notes which are ready.
+    /// Waits until a socket is ready or the time is up, and notes which are ready, and whether somebody asks to stop.
     fn gather(&mut self, limit: Duration) -> io::Result<()>
         ensures { posts_in self.new ≡ posts_in self.old }
     {
         self.poll.poll(&mut self.events, Some(limit))?;
         note_ready(&mut self.board, &self.events);
+        if tells_of(&self.events, EARS) && self.is_asked_to_stop() {
+            self.stopped = true;
+            self.board.stop();
+        }
         Ok(())
+    }
+
+    /// Whether standard input, which was found ready, asks to stop.
+    fn is_asked_to_stop(&mut self) -> bool
+        ensures { posts_in self.new ≡ posts_in self.old }
+    {
+        match &mut self.ears {
+            Some(ears) => ears.hear(self.poll.registry()),
+            None => false,
+        }
+    }
+
+    /// Whether standard input may ask to stop.
+    pub(crate) fn is_stoppable(&self) -> bool {
+        self.ears.is_some()
+    }
+
+    /// Whether standard input asked to stop.
+    pub(crate) fn is_stopped(&self) -> bool {
+        self.stopped
+    }
+
+    /// The other end of the connection of a post.
+    pub(crate) fn peer(&self, place: usize) -> Option<SocketAddr> {
+        let stream = self.posts.get(place)?.stream.as_ref()?;
+        stream.peer_addr().ok()
     }
 
     /// Waits for one event, at most until a moment.
@@ -355,54 +400,24 @@ impl OpenWire {
         }
     }
 
-    /// Sends all of these bytes on the connection that was told.
-    pub(crate) fn send<R: Clock>(&mut self, rt: &R, place: usize, bytes: &[u8]) -> io::Result<()>
+    /// Sends all of these bytes on the connection that was told. It never waits: a buffer without room for all of them fails.
+    pub(crate) fn send(&mut self, place: usize, bytes: &[u8]) -> io::Result<()>
         ensures { posts_in self.new ≡ posts_in self.old }
     {
         if self.board.line(place) != Line::Held {
             return Err(io::Error::from(ErrorKind::NotConnected));
         }
-        let begun = Instant::now(rt)?;
-        let mut rest = bytes;
-        for _ in 0..u64::MAX {
-            if rest.is_empty() {
-                return Ok(());
-            }
-            match self.write(place, rest)? {
-                0 => self.wait(rt, begun)?,
-                n => rest = &rest[n..],
-            }
-        }
-        Err(io::Error::from(ErrorKind::TimedOut))
-    }
-
-    /// Writes some of these bytes, none where the peer takes none now.
-    fn write(&mut self, place: usize, bytes: &[u8]) -> io::Result<usize>
-        ensures posts { posts_in self.new ≡ posts_in self.old }
-        ensures bound { IfOk result (λ n. n ≤ length bytes.now) }
-    {
-        let Some(post) = self.posts.get_mut(place) else {
+        let Some(stream) = self
+            .posts
+            .get_mut(place)
+            .and_then(|post| post.stream.as_mut())
+        else {
             return Err(io::Error::from(ErrorKind::NotConnected));
         };
-        let Some(stream) = &mut post.stream else {
-            return Err(io::Error::from(ErrorKind::NotConnected));
-        };
-        match stream.write(bytes) {
-            Ok(n) => Ok(n),
-            Err(error) => match error.kind() {
-                ErrorKind::WouldBlock | ErrorKind::Interrupted => Ok(0),
-                _ => Err(error),
-            },
-        }
-    }
-
-    /// Waits until a peer may take bytes again, as long as a send that was begun then may take.
-    fn wait<R: Clock>(&mut self, rt: &R, begun: Instant) -> io::Result<()>
-        ensures { posts_in self.new ≡ posts_in self.old }
-    {
-        match Duration::from_millis(PATIENCE).checked_sub(begun.elapsed(rt)?) {
-            Some(left) if left != Duration::ZERO => self.gather(left),
-            _ => Err(io::Error::from(ErrorKind::TimedOut)),
+        if stream.write(bytes)? == bytes.len() {
+            Ok(())
+        } else {
+            Err(io::Error::from(ErrorKind::WouldBlock))
         }
     }
 
@@ -442,7 +457,19 @@ impl OpenWire {
         &mut self,
         rt: &R,
         port: u16,
-    ) -> io::Result<()>
+    ) -> Result<(), Trouble>
+        ensures { posts_in self.new ≡ posts_in self.old }
+    {
+        match self.connect(rt, port) {
+            Ok(()) => Ok(()),
+            Err(reason) => Err(Trouble {
+                attempt: Attempt::Connect { port },
+                reason,
+            }),
+        }
+    }
+
+    fn connect<R: Net<Stream = net::TcpStream>>(&mut self, rt: &R, port: u16) -> io::Result<()>
         ensures { posts_in self.new ≡ posts_in self.old }
     {
         let is_station = self
@@ -458,6 +485,19 @@ impl OpenWire {
         self.board.dial(0);
         Ok(())
     }
+}
+
+/// Keeps a post behind the others.
+fn keep_post(posts: &mut Vec<Post>, post: Post) -> Result<(), Trouble> {
+    match posts.push(post) {
+        Ok(()) => Ok(()),
+        Err(none) => Err(Trouble::waiting(io::Error::from(none))),
+    }
+}
+
+/// Whether one of these events is that of the socket with this number.
+fn tells_of(events: &Events, number: usize) -> bool {
+    events.iter().any(|event| event.token() == Token(number))
 }
 
 /// Notes which sockets are ready.

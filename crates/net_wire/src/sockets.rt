@@ -3,6 +3,7 @@
 ghost use Rattle.std.specs.Prelude.{◌<◌, ◌^◌};
 
 use crate::post::{Partner, Post};
+use crate::trouble::{Attempt, Trouble};
 use charge_world::PortPair;
 use mio::net::{TcpListener, TcpStream, UdpSocket};
 use mio::{Interest, Registry, Token};
@@ -32,15 +33,22 @@ pub(crate) fn open_post<R: Net>(
     registry: &Registry,
     place: usize,
     pair: PortPair,
-) -> io::Result<Post>
-    requires { place < 2 ^ 32 }
+) -> Result<Post, Trouble>
+    requires { place < 255 }
 {
-    let mut listener = TcpListener::bind(rt, loopback(pair.tcp))?;
-    registry.register(
-        &mut listener,
-        token(place, Socket::Listener),
-        Interest::READABLE,
-    )?;
+    let post = place as u8 + 1;
+    let listener = match open_listener(rt, registry, place, pair.tcp) {
+        Ok(listener) => listener,
+        Err(reason) => {
+            return Err(Trouble {
+                attempt: Attempt::Listen {
+                    post,
+                    port: pair.tcp,
+                },
+                reason,
+            });
+        }
+    };
     let discovery = if pair.sdp == 0 {
         None
     } else {
@@ -56,7 +64,7 @@ pub(crate) fn open_post<R: Net>(
 }
 
 /// Opens the sockets of a car, but for its connection.
-pub(crate) fn open_car<R: Net>(rt: &R, registry: &Registry, sdp: u16) -> io::Result<Post> {
+pub(crate) fn open_car<R: Net>(rt: &R, registry: &Registry, sdp: u16) -> Result<Post, Trouble> {
     let discovery = if sdp == 0 {
         None
     } else {
@@ -71,8 +79,46 @@ pub(crate) fn open_car<R: Net>(rt: &R, registry: &Registry, sdp: u16) -> io::Res
     })
 }
 
-/// A socket for datagrams, at any port where 0 is given.
+/// A socket for connections.
+fn open_listener<R: Net>(
+    rt: &R,
+    registry: &Registry,
+    place: usize,
+    port: u16,
+) -> io::Result<TcpListener>
+    requires { place < 2 ^ 32 }
+{
+    let mut listener = TcpListener::bind(rt, loopback(port))?;
+    registry.register(
+        &mut listener,
+        token(place, Socket::Listener),
+        Interest::READABLE,
+    )?;
+    Ok(listener)
+}
+
+/// A socket for the datagrams of the post at a place, at any port where 0 is given.
 fn open_discovery<R: Net>(
+    rt: &R,
+    registry: &Registry,
+    place: usize,
+    port: u16,
+) -> Result<UdpSocket, Trouble>
+    requires { place < 255 }
+{
+    match bind_datagrams(rt, registry, place, port) {
+        Ok(socket) => Ok(socket),
+        Err(reason) => Err(Trouble {
+            attempt: Attempt::Discover {
+                post: place as u8 + 1,
+                port,
+            },
+            reason,
+        }),
+    }
+}
+
+fn bind_datagrams<R: Net>(
     rt: &R,
     registry: &Registry,
     place: usize,

@@ -77,6 +77,13 @@ impl Board {
         self.left == 0
     }
 
+    /// Nothing more will be heard.
+    pub fn stop(&mut self)
+        ensures { self.new ≡ record self.old { left = 0 } }
+    {
+        self.left = 0;
+    }
+
     /// A socket of a post was found ready, or empty.
     pub fn raise(&mut self, place: usize, socket: Socket, ready: bool)
         ensures { self.new ≡ with_seat self.old place (raised (seat_of self.old place) socket ready) }

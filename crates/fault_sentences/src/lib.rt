@@ -1,0 +1,19 @@
+//! What the program says to a person where it doesn't do what it was asked: one or two sentences for each status, which name what to change (own).
+//!
+//! They decide nothing. A file that is read again for them may have changed meanwhile.
+//!
+//! Proved: only that nothing goes wrong in making them.
+#![tactic(auto)]
+
+mod input;
+mod plan;
+mod sockets;
+mod trace;
+mod usage;
+mod value;
+
+pub use input::{DecodePlace, EncodePlace, place_in};
+pub use plan::say_plan;
+pub use sockets::say_trouble;
+pub use trace::{Line, is_of_a_car, line_in};
+pub use usage::{Asked, asked, say_help, say_misused, say_version, sentence_of};

@@ -1,0 +1,178 @@
+//! The commands, and what is wrong with words that are none.
+
+use command_words::WordList;
+use std::{fmt, io};
+
+/// A command: its words, what it does, and an example.
+#[derive(Clone, Copy)]
+struct Usage {
+    name: &'static str,
+    values: &'static [&'static str],
+    does: &'static str,
+    example: &'static str,
+}
+
+const DIALECT: &str = "DIALECT";
+
+const COMMANDS: [Usage; 5] = [
+    Usage {
+        name: "station",
+        values: &["PLAN"],
+        does: "serves the posts of the plan in the file PLAN, and writes the file v2g.trace",
+        example: "v2g_charge station station.toml",
+    },
+    Usage {
+        name: "car",
+        values: &["PLAN"],
+        does: "charges one car by the plan in the file PLAN, and writes the file v2g.trace",
+        example: "v2g_charge car car.toml",
+    },
+    Usage {
+        name: "replay",
+        values: &["PLAN", "TRACE"],
+        does: "runs a station over what its trace in the file TRACE heard, and writes v2g.trace anew",
+        example: "v2g_charge replay station.toml run.trace",
+    },
+    Usage {
+        name: "decode",
+        values: &[DIALECT, "HEX"],
+        does: "prints the text of the message that a payload is; DIALECT is app, iso or din",
+        example: "v2g_charge decode app 80400040",
+    },
+    Usage {
+        name: "encode",
+        values: &[DIALECT, "TEXT"],
+        does: "prints the payload of the message that a text is; DIALECT is app, iso or din",
+        example: "v2g_charge encode app 'supportedAppProtocolRes{ResponseCode=OK_SuccessfulNegotiation SchemaID=1}'",
+    },
+];
+
+impl fmt::Display for Usage {
+    fn fmt<W: fmt::Write>(&self, f: &mut fmt::Formatter<W>) -> fmt::Result {
+        write!(f, "v2g_charge {}", self.name)?;
+        for value in self.values {
+            write!(f, " {value}")?;
+        }
+        Ok(())
+    }
+}
+
+/// What words that are no command ask for.
+#[derive(Clone, Copy)]
+pub enum Asked {
+    Help,
+    Version,
+    /// Nothing that there is.
+    Mistaken,
+}
+
+/// What these words ask for, which are no command.
+pub fn asked(words: &WordList) -> Asked {
+    match words.get(0) {
+        Some("--help") | Some("-h") | Some("help") => Asked::Help,
+        Some("--version") | Some("-V") | Some("version") => Asked::Version,
+        _ => Asked::Mistaken,
+    }
+}
+
+/// Says what the commands are, with an example each.
+pub fn say_help<E: Eprint>(rt: &E) -> io::Result<()> {
+    rt.eprintln(
+        "The talk between an electric car and its charging post, after ISO 15118-2 and DIN SPEC 70121.\n",
+    )?;
+    for usage in COMMANDS {
+        eprintln!(rt; "  {usage}\n      {}\n      {}", usage.does, usage.example)?;
+    }
+    rt.eprintln(
+        "\nThe status is 0 where all went well; docs/USE.md has the others. V2G_QUIET=1 in the environment silences what a station and a car say while they run.",
+    )
+}
+
+/// What a status means that needs no look at the input.
+pub fn sentence_of(status: u8) -> &'static str {
+    match status {
+        1 => "There is too little memory. Nothing was begun.",
+        8 =>
+            "The greatest number of hearings, `turns` of the plan, was spent before the end. Give it more.",
+        9 =>
+            "A check of the trace fails: the line on the output has the number of the trace's line and that of the check.",
+        10 =>
+            "No charging profile within the limits reaches the energy that is needed by then. Ask for less, or leave later.",
+        11 =>
+            "The payload offers no schedule: it is no ChargeParameterDiscoveryRes of the OK class with one, or its entries are out of order or not in W.",
+        12 => "The payload offers no set of parameters as it is wanted.",
+        _ => "The command could not be done.",
+    }
+}
+
+/// Says the program's name and version.
+pub fn say_version<E: Eprint>(rt: &E) -> io::Result<()> {
+    rt.eprintln("v2g_charge 1.0 (ISO 15118-2:2014, DIN SPEC 70121:2014, traces of format 2)")
+}
+
+/// Says what is wrong with words that are no command, and how it is used.
+pub fn say_misused<E: Eprint>(rt: &E, words: &WordList) -> io::Result<()> {
+    let Some(name) = words.get(0) else {
+        rt.eprintln("A command is missing.")?;
+        return say_usages(rt);
+    };
+    let Some(usage) = usage_of(name) else {
+        eprintln!(rt; "There is no command `{name}`.")?;
+        return say_usages(rt);
+    };
+    say_values(rt, usage, words)?;
+    eprintln!(rt; "Usage: {usage}\nFor example: {}", usage.example)
+}
+
+/// Says what is wrong with the values of a command.
+fn say_values<E: Eprint>(rt: &E, usage: Usage, words: &WordList) -> io::Result<()> {
+    let wanted = usage.values.len();
+    let given = words.len().saturating_sub(1);
+    if given != wanted {
+        return eprintln!(rt;
+            "`{}` wants {wanted} {} behind it, and {given} {}.",
+            usage.name,
+            if wanted == 1 { "word" } else { "words" },
+            if given == 1 { "is there" } else { "are there" }
+        );
+    }
+    if let Some(word) = dashed(words) {
+        return eprintln!(rt;
+            "`{word}` begins with a dash, and there are no options. A file of that name is `./{word}`."
+        );
+    }
+    match words.get(1) {
+        Some(dialect) if usage.values.first() == Some(&DIALECT) => {
+            eprintln!(rt; "`{dialect}` is no DIALECT: write app, iso or din.")
+        }
+        _ => rt.eprintln("The words are no command."),
+    }
+}
+
+/// The first word that begins with a dash.
+fn dashed(words: &WordList) -> Option<&str> {
+    for place in 0..words.len() {
+        let word = words.get(place)?;
+        if word.starts_with('-') {
+            return Some(word);
+        }
+    }
+    None
+}
+
+fn usage_of(name: &str) -> Option<Usage> {
+    for usage in COMMANDS {
+        if usage.name == name {
+            return Some(usage);
+        }
+    }
+    None
+}
+
+fn say_usages<E: Eprint>(rt: &E) -> io::Result<()> {
+    rt.eprintln("Usage:")?;
+    for usage in COMMANDS {
+        eprintln!(rt; "  {usage}")?;
+    }
+    rt.eprintln("`v2g_charge --help` shows an example of each.")
+}

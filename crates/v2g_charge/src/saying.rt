@@ -1,0 +1,134 @@
+//! What is said behind a run.
+
+use charge_run::{Status, WordList};
+use fault_sentences::{
+    Asked, DecodePlace, EncodePlace, asked, is_of_a_car, line_in, place_in, say_help, say_misused,
+    say_plan, say_trouble, say_version, sentence_of,
+};
+use net_wire::{FileSource, NetWire, StandardOutput, TraceFile};
+use std::io;
+use told_wire::ToldWire;
+
+/// The outside behind a run.
+#[derive(Drop)]
+pub(crate) struct Outside<'a, 'r> {
+    pub(crate) files: &'a mut FileSource<'r, HostRuntime>,
+    pub(crate) out: &'a StandardOutput<'r, HostRuntime>,
+    pub(crate) trace: &'a TraceFile<'r, HostRuntime>,
+    pub(crate) wire: &'a ToldWire<'r, HostRuntime, NetWire<'r, HostRuntime>>,
+}
+
+/// Says why a run of these words has its status, and what to change.
+pub(crate) fn say(
+    rt: &HostRuntime,
+    status: Status,
+    words: &WordList,
+    outside: Outside<'_, '_>,
+) -> io::Result<()> {
+    let plan = word(words, 1);
+    match status {
+        Status::Done => say_done(rt, words, outside),
+        Status::Words => match asked(words) {
+            Asked::Help => say_help(rt),
+            Asked::Version => say_version(rt),
+            Asked::Mistaken => say_misused(rt, words),
+        },
+        Status::Plan => say_refused(rt, words, outside),
+        Status::Input => say_input(rt, words, outside),
+        Status::WireFault => match outside.wire.trouble() {
+            Some(trouble) => say_trouble(rt, rt.alloc(), outside.files, plan, trouble),
+            None => rt.eprintln("The network failed."),
+        },
+        Status::SinkFault => say_sinks(rt, outside),
+        Status::SourceFault => say_source(rt, outside),
+        _ => rt.eprintln(sentence_of(status.number())),
+    }
+}
+
+/// The word at a place, nothing behind the last.
+fn word<'a>(words: &'a WordList, place: usize) -> &'a str {
+    words.get(place).unwrap_or("")
+}
+
+/// A car's trace can be replayed at a station, which tells nothing of the car.
+fn say_done(rt: &HostRuntime, words: &WordList, outside: Outside<'_, '_>) -> io::Result<()> {
+    let trace = word(words, 2);
+    if word(words, 0) == "replay" && is_of_a_car(outside.files, trace) {
+        return eprintln!(rt;
+            "{trace} is the trace of a car. It was replayed as if a station had heard it, which tells nothing of the car: `replay` is for a station's trace."
+        );
+    }
+    Ok(())
+}
+
+/// Says why a plan is refused.
+fn say_refused(rt: &HostRuntime, words: &WordList, outside: Outside<'_, '_>) -> io::Result<()> {
+    let name = word(words, 1);
+    match word(words, 0) {
+        "station" | "replay" => say_plan(rt, rt.alloc(), outside.files, false, name),
+        "car" => say_plan(rt, rt.alloc(), outside.files, true, name),
+        _ => eprintln!(rt; "{name} is refused at the key that the line on the output names."),
+    }
+}
+
+/// Says where an input is refused.
+fn say_input(rt: &HostRuntime, words: &WordList, outside: Outside<'_, '_>) -> io::Result<()> {
+    let Some(place) = place_in(outside.out.last()) else {
+        return rt.eprintln("The input is refused.");
+    };
+    let first = word(words, 1);
+    let second = word(words, 2);
+    match word(words, 0) {
+        "decode" => rt.eprintln(DecodePlace {
+            dialect: first,
+            hex: second,
+            place,
+        }),
+        "encode" => rt.eprintln(EncodePlace {
+            dialect: first,
+            text: second,
+            place,
+        }),
+        "replay" => say_line(rt, second, place, outside),
+        _ => eprintln!(rt; "The input is refused at place {place}, counted from 0."),
+    }
+}
+
+/// Says which line of a trace is refused.
+fn say_line(rt: &HostRuntime, name: &str, number: u64, outside: Outside<'_, '_>) -> io::Result<()> {
+    eprintln!(rt;
+        "Line {number} of {name} is refused: it is no line of a trace of a station with the plan's posts, can't stand there, or is cut off."
+    )?;
+    let Some(line) = line_in(outside.files, name, number) else {
+        return rt.eprintln("The trace ends before that line does.");
+    };
+    match str::from_utf8(line.as_slice()) {
+        Ok(text) => eprintln!(rt; "It begins: {text}"),
+        Err(_) => rt.eprintln("It is no text."),
+    }
+}
+
+/// Says what could not be written.
+fn say_sinks(rt: &HostRuntime, outside: Outside<'_, '_>) -> io::Result<()> {
+    if let Some(reason) = outside.out.trouble() {
+        eprintln!(rt; "Standard output can't be written: {reason}.")?;
+    }
+    if let Some(reason) = outside.trace.trouble() {
+        eprintln!(rt;
+            "The trace {} can't be written in the folder in which the program runs: {reason}. Run it where there is room, and where it may write.",
+            outside.trace.name()
+        )?;
+    }
+    Ok(())
+}
+
+/// Says which file could not be read.
+fn say_source(rt: &HostRuntime, outside: Outside<'_, '_>) -> io::Result<()> {
+    let name = outside.files.name().unwrap_or("A file");
+    match outside.files.trouble() {
+        Some(reason) => eprintln!(rt;
+            "{name} can't be read: {reason}. Its path is counted from the folder in which the program runs."
+        ),
+        None => eprintln!(rt; "{name} can't be read."),
+    }
+}
