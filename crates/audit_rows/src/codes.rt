@@ -7,6 +7,7 @@ ghost use Rattle.session_rules.specs.Delivery as delivery;
 ghost use Rattle.session_rules.specs.Parameters.{parameter_lines};
 ghost use Rattle.session_rules.specs.Parameters as parameters;
 ghost use Rattle.session_rules.specs.Verdict.{selection_lines, cable_lines, pre_charge_lines};
+ghost use Rattle.session_rules.specs.Verdict as rule;
 ghost use Rattle.session_words.specs.declared.code.Progress.TheVariants as progress;
 ghost use Rattle.audit_rows.specs.Values.{stage_of};
 
@@ -24,11 +25,18 @@ pub(crate) fn selection_code(external: bool, services: &[u16]) -> Option<Code>
 {
     if !external {
         Some(Code::FailedPaymentSelectionInvalid)
-    } else if services.iter().any(|service| *service != 1) {
+    } else if has_other_service(services) {
         Some(Code::FailedServiceSelectionInvalid)
     } else {
         None
     }
+}
+
+/// Whether a service other than 1, the only one that is offered, is among these.
+fn has_other_service(services: &[u16]) -> bool
+    ensures { result ≡ rule.has_other_service services.now }
+{
+    services.iter().any(|service| *service != 1)
 }
 
 /// CableCheck.

@@ -1,7 +1,6 @@
 //! The rows, and the requests that each takes.
 
-ghost use Rattle.std.specs.Prelude.{◌≡◌, ◌≤◌, Bool, true, Some, IfSome, is_some};
-ghost use Rattle.std.specs.Option.{option_map};
+ghost use Rattle.std.specs.Prelude.{◌≡◌, ◌≤◌, Bool, true, Some, IfSome, is_some, unwrap_or};
 ghost use Rattle.session_rules.specs.Rows.{leads};
 ghost use Rattle.session_rules.specs.Rows as rule;
 ghost use Rattle.audit_rows.specs.Rows.{number_of, number_behind, led};
@@ -48,7 +47,7 @@ fn on(finished: u8, ongoing: u8) -> Option<Lead>
 
 /// The table: where the row takes the request, the row to which it leads.
 pub(crate) fn lead_of(row: Phase, ask: &Ask, ac: bool) -> Option<Lead>
-    ensures led { (finished : Bool) → option_map (led finished) result ≡ option_map (number_behind ask.now) (leads row ask.now finished ac) }
+    ensures led { (finished : Bool) → IfSome result (λ lead. led finished lead ≡ number_behind ask.now (unwrap_or (leads row ask.now finished ac) row)) }
     ensures taken { is_some result ≡ is_some (leads row ask.now true true) }
 {
     match row {
@@ -145,7 +144,7 @@ pub(crate) fn lead_of(row: Phase, ask: &Ask, ac: bool) -> Option<Lead>
 
 /// The same in a dialect, which has the request or hasn't.
 pub(crate) fn lead_in(row: Phase, dialect: Dialect, ask: &Ask, ac: bool) -> Option<Lead>
-    ensures led { (finished : Bool) → IfSome result (λ lead. Some (led finished lead) ≡ option_map (number_behind ask.now) (leads row ask.now finished ac)) }
+    ensures led { (finished : Bool) → IfSome result (λ lead. led finished lead ≡ number_behind ask.now (unwrap_or (leads row ask.now finished ac) row)) }
     ensures taken { is_some result ≡ rule.accepts dialect row ask.now }
 {
     if is_spoken(dialect, ask) {

@@ -4,6 +4,9 @@
 //! `specs/Steps.antt`, `Reading.antt` and `Site.antt` say what a post went by, `Mandated.antt` and `Causes.antt` when its contactor may be
 //! closed and what opens it, `Checks.antt` and `Faults.antt` the checks, and `Safe.antt` what a safe trace is, and one within the limit.
 //!
+//! Proved: worked examples of the definitions: which contactor is left open at the end of a trace (`pasts_end`), which watts a physical value
+//! writes (`watts_are_written`), and when a word is judged (`words_are_judged`).
+//!
 //! What a check that fails means on the post:
 //!
 //! 1. Its contactor was ordered closed before the session had come so far, or with a pilot, an isolation or a voltage at which it must stay open.
