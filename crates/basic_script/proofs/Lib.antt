@@ -1,0 +1,4 @@
+pub mod LineWords
+pub mod Scripts
+pub mod Running
+pub mod OrderLines
