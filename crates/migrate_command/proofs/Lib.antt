@@ -1,4 +1,0 @@
-pub mod Plain
-pub mod OnePlain
-pub mod Written
-pub mod Leaving
