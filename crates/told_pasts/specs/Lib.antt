@@ -1,0 +1,12 @@
+pub mod Spelling
+pub mod Steps
+pub mod Course
+pub mod Talk
+pub mod Reading
+pub mod Mandated
+pub mod Causes
+pub mod Site
+pub mod Checks
+pub mod Faults
+pub mod Safe
+pub mod Examples
