@@ -2,8 +2,10 @@
 
 use charge_world::Source;
 use net_wire::{Attempt, Trouble};
-use plan_files::site_plan_in;
-use session_words::PostPlan;
+use plan_files::text_in;
+use plan_keys::LONGEST;
+use session_words::SitePlan;
+use site_plan::site_plan_of;
 use std::alloc::Global;
 use std::io;
 use std::io::ErrorKind;
@@ -44,10 +46,15 @@ fn say_taken<E: Eprint, F: Source>(
     name: &str,
     attempt: Attempt,
 ) -> io::Result<()> {
-    let earlier = match site_plan_in(alloc, files, name) {
-        Ok(plan) => earlier_with(plan.post.as_slice(), attempt),
-        Err(_) => None,
+    let Ok(text) = text_in(alloc, files, name, LONGEST) else {
+        return say_holder(rt, name, None);
     };
+    let earlier = earlier_in(alloc, text.as_slice(), attempt);
+    say_holder(rt, name, earlier)
+}
+
+/// Says that an earlier post has the port, or else another program.
+fn say_holder<E: Eprint>(rt: &E, name: &str, earlier: Option<usize>) -> io::Result<()> {
     match earlier {
         Some(number) => eprintln!(rt;
             "The plan {name} gives that port to post {number} too: each post has its own."
@@ -58,13 +65,23 @@ fn say_taken<E: Eprint, F: Source>(
     }
 }
 
+/// The number of the first post of the plan of this text that has the port of this attempt, but for the post that it was made for.
+fn earlier_in(alloc: Global, text: &[u8], attempt: Attempt) -> Option<usize> {
+    let plan = site_plan_of(alloc, text).ok();
+    match plan {
+        Some(plan) => earlier_with(&plan, attempt),
+        None => None,
+    }
+}
+
 /// The number of the first post that has the port of this attempt, but for the post that it was made for.
-fn earlier_with(posts: &[PostPlan], attempt: Attempt) -> Option<usize> {
-    for (place, plan) in posts.iter().enumerate() {
+fn earlier_with(plan: &SitePlan, attempt: Attempt) -> Option<usize> {
+    for (place, post_plan) in plan.post.as_slice().iter().enumerate() {
         let number = place + 1;
         let has_it = match attempt {
-            Attempt::Listen { post, port } => plan.tcp == port && number != usize::from(post),
-            Attempt::Discover { post, port } => plan.sdp == port && number != usize::from(post),
+            Attempt::Listen { post, port } => post_plan.tcp == port && number != usize::from(post),
+            Attempt::Discover { post, port } => post_plan.sdp == port
+                && number != usize::from(post),
             Attempt::Connect { .. } | Attempt::Wait => false,
         };
         if has_it {
