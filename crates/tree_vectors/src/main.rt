@@ -19,7 +19,6 @@ use anyhow::{Context, Result, bail};
 use message_trees::{
     MessageDialect, PrintFault, Refusal, RefusalCause, ScanFault, print_payload, scan_text,
 };
-use row_texts::{Vector, bytes_of, code_of, count};
 use std::alloc::Global;
 use std::process::ExitCode;
 use std::{env, fs};
@@ -40,9 +39,9 @@ impl Counts {
     /// One line more of this mark.
     fn add(&mut self, mark: &str) {
         match mark {
-            "ok" => count(&mut self.printed),
-            "no" => count(&mut self.refused),
-            _ => count(&mut self.changed),
+            "ok" => self.printed = self.printed.saturating_add(1),
+            "no" => self.refused = self.refused.saturating_add(1),
+            _ => self.changed = self.changed.saturating_add(1),
         }
     }
 }
@@ -50,11 +49,17 @@ impl Counts {
 fn main(rt: HostRuntime) -> Result<ExitCode> {
     let mut words = env::args(&rt)?.skip(1);
     let codecs = Codecs::make(rt.alloc())?;
-    let mut wrong = 0_u64;
+    let mut wrong = false;
     while let (Some(dialect), Some(file)) = (words.next(), words.next()) {
         let dialect = dialect_named(dialect.as_str()).context("no dialect")?;
-        let text = fs::read_to_string(&rt, file.as_str())?;
-        let counts = counts_of(&rt, rt.alloc(), &codecs, dialect, text.as_str())?;
+        let text = fs::read(&rt, file.as_str())?;
+        let counts = count(
+            &rt,
+            rt.alloc(),
+            &codecs,
+            dialect,
+            str::from_utf8(text.as_slice())?,
+        )?;
         println!(rt;
             "{} printed {} refused {} changed {} wrong {}",
             file.as_str(),
@@ -63,9 +68,13 @@ fn main(rt: HostRuntime) -> Result<ExitCode> {
             counts.changed,
             counts.wrong
         )?;
-        wrong = wrong.saturating_add(counts.wrong);
+        wrong |= counts.wrong > 0;
     }
-    Ok(code_of(wrong))
+    Ok(if wrong {
+        ExitCode::from(1)
+    } else {
+        ExitCode::SUCCESS
+    })
 }
 
 /// The dialect of a name.
@@ -78,7 +87,7 @@ fn dialect_named(name: &str) -> Option<MessageDialect> {
 }
 
 /// The counts of a text of vectors. The first one that is answered otherwise is printed with its answer.
-fn counts_of(
+fn count(
     rt: &impl Print,
     alloc: Global,
     codecs: &Codecs,
@@ -87,34 +96,31 @@ fn counts_of(
 ) -> Result<Counts> {
     let mut counts = Counts::default();
     for line in text.lines() {
-        let vector = Vector::of(line).context("a line without an answer")?;
-        let answer = answer(alloc, codecs, dialect, &vector)?;
+        let (mark, rest) = line.split_once(' ').context("a line without a payload")?;
+        let (hex, _) = rest.split_once(' ').context("a line without an answer")?;
+        let answer = answer(alloc, codecs, dialect, mark, hex)?;
         if answer.as_str() != line {
             if counts.wrong == 0 {
                 println!(rt; "{line}")?;
                 println!(rt; "gives {answer}")?;
             }
-            count(&mut counts.wrong);
+            counts.wrong = counts.wrong.saturating_add(1);
         } else {
-            counts.add(vector.mark);
+            counts.add(mark);
         }
     }
     Ok(counts)
 }
 
-/// The line of a vector's mark and payload.
+/// The line of this mark and this payload.
 fn answer(
     alloc: Global,
     codecs: &Codecs,
     dialect: MessageDialect,
-    vector: &Vector<'_>,
+    mark: &str,
+    hex: &str,
 ) -> Result<String> {
-    let Vector {
-        mark,
-        payload: hex,
-        ..
-    } = *vector;
-    let payload = bytes_of(alloc, hex)?;
+    let payload = hex::decode(alloc, if hex == "-" { "" } else { hex })?;
     if payload.len() > MOST_BYTES {
         bail!("a long payload");
     }
