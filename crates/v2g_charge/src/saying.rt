@@ -40,7 +40,7 @@ pub(crate) fn say(
             None => rt.eprintln("The network failed."),
         },
         Status::SinkFault => say_sinks(rt, outside),
-        Status::SourceFault => say_source(rt, outside),
+        Status::SourceFault => say_source(rt, outside.files),
         _ => rt.eprintln(sentence_of(status.number())),
     }
 }
@@ -123,9 +123,9 @@ fn say_sinks(rt: &HostRuntime, outside: Outside<'_, '_>) -> io::Result<()> {
 }
 
 /// Says which file could not be read.
-fn say_source(rt: &HostRuntime, outside: Outside<'_, '_>) -> io::Result<()> {
-    let name = outside.files.name().unwrap_or("A file");
-    match outside.files.trouble() {
+fn say_source(rt: &HostRuntime, files: &FileSource<'_, HostRuntime>) -> io::Result<()> {
+    let name = files.name().unwrap_or("A file");
+    match files.trouble() {
         Some(reason) => eprintln!(rt;
             "{name} can't be read: {reason}. Its path is counted from the folder in which the program runs."
         ),
