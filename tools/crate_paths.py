@@ -28,14 +28,24 @@ def paths_to(edges):
     return paths_from(above)
 
 
-def below(edges, crate):
-    return {crate}.union(*(below(edges, it) for it in edges[crate]))
+def reached_from(edges):
+    """What stands below each crate, itself among it."""
+    found = {}
+
+    def reach(crate):
+        if crate not in found:
+            found[crate] = {crate}.union(*(reach(it) for it in edges[crate]))
+        return found[crate]
+
+    for crate in edges:
+        reach(crate)
+    return found
 
 
 def main():
     named = listed()
     edges = {crate: [it for it in uses if it in named] for crate, uses in named.items()}
-    down, up = paths_from(edges), paths_to(edges)
+    down = paths_from(edges)
     paths = sum(down.values())
     if sys.argv[1:2] == ["--most"] and len(sys.argv) == 3:
         if paths > int(sys.argv[2]):
@@ -43,7 +53,7 @@ def main():
         return
     if sys.argv[1:]:
         sys.exit(__doc__)
-    reached = {crate: below(edges, crate) for crate in edges}
+    up, reached = paths_to(edges), reached_from(edges)
     print(f"{len(edges)} crates, {sum(map(len, edges.values())):,} edges, {paths:,} paths")
     costs = [
         (up[crate] * down[it], crate, it)
