@@ -105,7 +105,3 @@ found_few place (Some offer) few = omega (arith, few)
 pub only_first : (first : Step) (sought : Sought) → (IsSought first sought → ⊥) → (code : ℕ) (step : Step) → slice_get (first ∷ []) code ≡ Some step → IsSought step sought → ⊥
 only_first first sought other zero step is meant = let same : Some first ≡ Some step = is in let e : step ≡ first = cc in other (subst (λ (s : Step). IsSought s sought) e meant)
 only_first first sought other (suc n) step is meant = absurd cc
-
-pub neither : (first second : Step) (sought : Sought) → (IsSought first sought → ⊥) → (IsSought second sought → ⊥) → (code : ℕ) (step : Step) → slice_get (first ∷ second ∷ []) code ≡ Some step → IsSought step sought → ⊥
-neither first second sought one two zero step is meant = only_first first sought one zero step is meant
-neither first second sought one two (suc code) step is meant = only_first second sought two code step is meant

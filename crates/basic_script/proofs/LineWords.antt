@@ -4,7 +4,7 @@ use Rattle.std.specs.Prelude.{decimal, nat_le}
 use Rattle.std.specs.List.{All, list_all, slice_split}
 use Rattle.std.proofs.lemmas.Fmt.{decimal_injective}
 use Rattle.std.proofs.lemmas.List.Elements.{All-weaker}
-use Rattle.std.proofs.lemmas.List.Splits.{length-slice_split, slice_split_at, slice_split_none}
+use Rattle.std.proofs.lemmas.List.Splits.{slice_split_at}
 use Rattle.std.proofs.lemmas.List.Sums.{AllPass-from_list_all}
 use Rattle.text_tokens.specs.Words.{spaced, IsWord, AreWords}
 use Rattle.text_tokens.proofs.Cuts.{is_space}
@@ -88,12 +88,6 @@ pub line_read : (text front rest : List ℕ) (line : ScriptLine) → IsCut text 
 line_read text front rest line cut words =
     let same : front ≡ spaced (line_words line) = sym (spaced_cut front) ∙ ap spaced words in
     cut.whole ∙ ap (λ (t : List ℕ). t ++ 10 ∷ rest) same ∙ sym (append_assoc (spaced (line_words line)) (10 ∷ []) rest)
-
-pub no_line : (text more : List ℕ) (line : ScriptLine) → All (λ byte. is_feed byte ≡ false) text → IsLine line → text ≡ line_of line ++ more → ⊥
-no_line text more line none is said =
-    let parts : text ∷ [] ≡ spaced (line_words line) ∷ slice_split is_feed more = sym (slice_split_none is_feed text none) ∙ ap (slice_split is_feed) said ∙ line_split line more is in
-    let empty : slice_split is_feed more ≡ [] = cc in
-    omega (arith, ap length empty, length-slice_split is_feed more)
 
 pub words_at : (text front rest more : List ℕ) (line : ScriptLine) → IsCut text front rest → IsLine line → text ≡ line_of line ++ more → slice_split is_space front ≡ line_words line
 words_at text front rest more line cut is said =

@@ -1,6 +1,6 @@
 -- Reading a script line by line.
-use Rattle.std.proofs.Common.{◌≡◌, ℕ, ◌+◌, ◌<◌, ◌≤◌, max, true, List, [], ◌∷◌, ◌++◌, length, Result, Ok, Err, refl, sym, ap, ◌∙◌, append_assoc, arith}
-use Rattle.std.specs.Prelude.{◌≢◌, OnOk}
+use Rattle.std.proofs.Common.{◌≡◌, ℕ, ◌+◌, ◌<◌, ◌≤◌, max, true, List, [], ◌∷◌, ◌++◌, length, Result, Ok, Err, sym, ap, ◌∙◌, append_assoc, arith}
+use Rattle.std.specs.Prelude.{OnOk}
 use Rattle.std.specs.Result.{is_ok}
 use Rattle.std.specs.List.{flat_map}
 use Rattle.std.proofs.lemmas.Grind.{flat_map-append}
@@ -8,7 +8,7 @@ use Rattle.std.proofs.lemmas.List.{append-nil, length_push}
 use Rattle.pilot_basic.specs.declared.words.BasicOrder.{BasicOrder}
 use Rattle.pilot_basic.specs.Machine.{Step, State, IsRun, LeadsTo, now_of, state_of}
 use Rattle.basic_script.specs.declared.lines.ScriptLine.{ScriptLine}
-use Rattle.basic_script.specs.Scripts.{line_of, line_at, lines_of, order_lines, printed_of, script_of, IsLine, AreLines, IsRead, IsReadSo, IsBadLine}
+use Rattle.basic_script.specs.Scripts.{line_of, line_at, lines_of, order_lines, printed_of, script_of, IsLine, AreLines}
 use Rattle.basic_script.proofs.Scripts.{shorter}
 
 -- some lines were read, and this is left of the script
@@ -24,12 +24,6 @@ pub record IsRunning (past : List Step) (script : List ℕ) (basic : State) (now
 
 abbrev pub Runs : List ℕ → State → ℕ → ℕ → List ℕ → List ℕ → Type 0
 Runs script basic now number printed rest = (past : List Step) × IsRunning past script basic now number printed rest
-
-pub begun : (script : List ℕ) (basic : State) → basic ≡ state_of [] → Runs script basic 0 1 [] script
-begun script basic e = (
-  [],
-  record { run = tt; lines = tt; front = refl; state = e; now_is = refl; number_is = refl; few = omega arith; printed_is = refl },
-)
 
 are_more : (lines : List ScriptLine) (line : ScriptLine) → AreLines lines → IsLine line → AreLines (lines ++ line ∷ [])
 are_more [] line are is = (is, tt)
@@ -63,21 +57,6 @@ running_more past script basic new now next number printed text rest more line o
         printed_is = s.printed_is ∙ ap (λ (t : List ℕ). t ++ order_lines next orders) r.printed_is ∙ ap (λ (n : ℕ). printed_of past ++ order_lines n orders) s.now_is;
       },
     )
-
-pub all_read : (script : List ℕ) (basic : State) (now number : ℕ) (printed : List ℕ) → Runs script basic now number printed [] → IsReadSo script printed
-all_read script basic now number printed r = (
-  r.0,
-  record { run = r.1.run; lines = r.1.lines; script_is = r.1.front ∙ append-nil (script_of (lines_of r.0)) },
-  r.1.printed_is,
-)
-
-pub bad_line : (script : List ℕ) (basic : State) (now number : ℕ) (printed rest : List ℕ) → Runs script basic now number printed rest → rest ≢ []
-    → ((line : ScriptLine) (more : List ℕ) → IsLine line → rest ≢ line_of line ++ more) → IsBadLine script number
-bad_line script basic now number printed rest r some bad = (
-  lines_of r.0,
-  rest,
-  record { good = r.1.lines; some = some; front = r.1.front; bad = bad; count = r.1.number_is },
-)
 
 -- what holds where a call succeeded, which it did
 pub on_ok : {T E : Type 0} (r : Result T E) (P : Type 0) → is_ok r ≡ true → OnOk r P → P

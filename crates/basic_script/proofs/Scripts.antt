@@ -1,5 +1,5 @@
 -- A script has one list of lines, and a list of events one list of orders.
-use Rattle.std.proofs.Common.{◌≡◌, ℕ, ◌+◌, ◌<◌, ◌≤◌, Bool, true, false, List, [], ◌∷◌, ◌++◌, length, take, String, Global, Result, Ok, Err, string_bytes, refl, sym, ap, subst, ◌∙◌, append_assoc, inl, inr, arith}
+use Rattle.std.proofs.Common.{◌≡◌, ℕ, ◌+◌, ◌<◌, ◌≤◌, Bool, true, false, List, [], ◌∷◌, ◌++◌, length, take, String, Global, Result, Ok, Err, string_bytes, refl, sym, ap, subst, ◌∙◌, append_assoc, arith}
 use Rattle.std.specs.Prelude.{◌≢◌, MatchBool, IfOk, IfErr, MatchResult}
 use Rattle.std.proofs.lemmas.List.{length-append, length-take-le, same_from_push}
 use Rattle.text_tokens.specs.Words.{spaced}
@@ -13,7 +13,7 @@ use Rattle.pilot_basic.specs.Machine.{Step, Acts, LeadsTo, IsRun, is_free, follo
 use Rattle.trace_text.specs.declared.reading.LineFault.{LineFault}
 use Rattle.trace_text.specs.declared.reading.LineFault.TheVariants.{BadLine, Memory}
 use Rattle.basic_script.specs.declared.lines.ScriptLine.{ScriptLine}
-use Rattle.basic_script.specs.Scripts.{line_words, line_of, line_at, lines_of, printed_of, script_of, IsLine, AreLines, IsRead, IsReadSo, IsBadBehind, IsBadLine, IsPrinted, IsRefusedAt}
+use Rattle.basic_script.specs.Scripts.{line_words, line_of, line_at, lines_of, printed_of, script_of, IsLine, AreLines, IsRead, IsReadSo, IsBadBehind, IsBadLine, IsPrinted}
 use Rattle.basic_script.proofs.LineWords.{line_same}
 
 line_length : (line : ScriptLine) → 0 < length (line_of line)
@@ -101,10 +101,6 @@ pub not_bad : (script printed : List ℕ) (number : ℕ) → IsReadSo script pri
 not_bad script printed number x bad =
     no_bad bad.0 (lines_of x.0) bad.1 bad.2.good x.1.lines bad.2.some bad.2.bad (sym bad.2.front ∙ x.1.script_is)
 
-pub not_refused : (script printed : List ℕ) (number : ℕ) → IsPrinted script printed → IsRefusedAt script number → ⊥
-not_refused script printed number p (inl over) = omega (arith, over.over, p.within)
-not_refused script printed number p (inr bad) = not_bad script printed number p.read bad.bad
-
 -- ---- one bad line
 
 same_front : (a b : List ScriptLine) (r s : List ℕ) → AreLines a → AreLines b → r ≢ [] → s ≢ [] → ((line : ScriptLine) (more : List ℕ) → IsLine line → r ≢ line_of line ++ more)
@@ -122,12 +118,6 @@ one_bad_line script m n x y =
     let b = y.2 in
     let same : length x.0 ≡ length y.0 = same_front x.0 y.0 x.1 y.1 a.good b.good a.some b.some a.bad b.bad (sym a.front ∙ b.front) in
     omega (arith, a.count, b.count, same)
-
-pub one_refusal : (script : List ℕ) (m n : ℕ) → IsRefusedAt script m → IsRefusedAt script n → m ≡ n
-one_refusal script m n (inl x) (inl y) = x.line ∙ sym y.line
-one_refusal script m n (inl x) (inr y) = absurd (omega (arith, x.over, y.within))
-one_refusal script m n (inr x) (inl y) = absurd (omega (arith, y.over, x.within))
-one_refusal script m n (inr x) (inr y) = one_bad_line script m n x.bad y.bad
 
 -- ---- the front of a text above the limit
 

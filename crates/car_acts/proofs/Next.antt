@@ -5,9 +5,8 @@ use Rattle.charge_world.specs.declared.ports.Order.{Order}
 use Rattle.session_words.specs.Causes.{number_of}
 use Rattle.session_words.specs.declared.cause.EndCause.{EndCause}
 use Rattle.session_words.specs.declared.plan.CarPlan.{CarPlan}
-use Rattle.car_spec.specs.Codecs.{Judged, Codecs}
+use Rattle.car_spec.specs.Codecs.{Codecs}
 use Rattle.car_spec.specs.Deciding.{decided}
-use Rattle.car_spec.specs.Judging.{Payload, wanted, read}
 use Rattle.car_spec.specs.Next.{IsSaid, IsDone, MayAct}
 use Rattle.car_spec.specs.States.{State, first_of, first}
 use Rattle.car_spec.specs.States as states
@@ -16,7 +15,7 @@ use Rattle.car_spec.specs.Steps as steps
 use Rattle.car_acts.specs.declared.acting.Next.TheVariants as next
 use Rattle.car_acts.specs.declared.deeds.Deed.{Deed}
 use Rattle.car_acts.specs.declared.deeds.Deed.TheVariants.{Dial, Give, Say, Finish, Seek}
-use Rattle.car_acts.specs.Deeds.{act_of, spoken_in, MayTake, IsFrameOf, IsDeed, Prepares, JudgesFor, ReadsNext, ReadsSo, DoesNext, Nexts}
+use Rattle.car_acts.specs.Deeds.{act_of, spoken_in, MayTake, IsFrameOf, IsDeed, Prepares, DoesNext, Nexts}
 
 prepared_none : (c : Codecs) (plan : CarPlan) (t : Option states.Todo) (room : List ℕ) → Prepares c plan t room None → t ≡ None
 prepared_none c plan None room h = refl
@@ -29,19 +28,6 @@ does_by c plan s (Some todo) room deed e h = record { todo = todo; first_is = e;
 -- what was prepared is next
 pub next_deed : (c : Codecs) (plan : CarPlan) (s d : State) (room : List ℕ) (deed : Deed) → d ≡ decided plan s → Prepares c plan (first d.agenda) room (Some deed) → Nexts c plan s room (next.Do deed) d
 next_deed c plan s d room deed e h = (subst (λ (t : State). DoesNext c plan t room deed) e (does_by c plan d (first d.agenda) room deed refl h), e)
-
-pub next_word : (c : Codecs) (plan : CarPlan) (s d new : State) (room : List ℕ) → d ≡ decided plan s → Prepares c plan (first d.agenda) room None → ReadsSo c plan d true new → Nexts c plan s room next.Read new
-next_word c plan s d new room e h r =
-    (subst (λ (t : State). first t.agenda ≡ None) e (prepared_none c plan (first d.agenda) room h), subst (λ (t : State). ReadsNext c plan t new) e r)
-
--- a word is read where one is wanted
-pub reads_some : (c : Codecs) (plan : CarPlan) (s new : State) (w : Option Payload) (j : Judged) → wanted s ≡ w → JudgesFor c plan.dialects.items w (Some j) → new ≡ read plan s j → ReadsSo c plan s true new
-reads_some c plan s new None j e h n = absurd h
-reads_some c plan s new (Some payload) j e h n = record { payload = payload; word = j; wanted_is = e; judges = h; new_is = n }
-
-pub reads_none : (c : Codecs) (plan : CarPlan) (s : State) (w : Option Payload) → wanted s ≡ w → JudgesFor c plan.dialects.items w None → wanted s ≡ None
-reads_none c plan s None e h = e
-reads_none c plan s (Some payload) e h = absurd h
 
 -- the deed is the act by which the thing is done
 said_done : (c : Codecs) (plan : CarPlan) (spoken : Spoken) (bytes : List ℕ) → IsFrameOf c plan spoken bytes → IsSaid c plan spoken (steps.Say spoken bytes)

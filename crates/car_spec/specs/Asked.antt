@@ -55,10 +55,3 @@ or_first None asks at = if asks then Some at else None
 abbrev pub first_with : (Ask → Bool) → Option Request → ℕ → Option ℕ → Option ℕ
 first_with kind None at earlier = earlier
 first_with kind (Some request) at earlier = if asks_renegotiation request.ask then None else or_first earlier (kind request.ask) at
-
-abbrev pub first_of : (Ask → Bool) → List Step → Option ℕ
-first_of kind [] = None
-first_of kind (Hears at event ∷ steps) = first_of kind steps
-first_of kind (Loses ∷ steps) = first_of kind steps
-first_of kind (Reads word ∷ steps) = first_of kind steps
-first_of kind (Does act taken ∷ steps) = first_with kind (request_in act taken) (now steps) (first_of kind steps)

@@ -1,7 +1,7 @@
 -- One entry more in the past that a fake wire keeps.
 use Rattle.std.proofs.Common.{◌≡◌, ℕ, ◌+◌, ◌≤◌, Bool, false, List, [], ◌∷◌, ◌++◌, length, take, drop, map, Option, Some, refl, sym, ap, ◌∙◌, arith}
 use Rattle.std.specs.Prelude.{reverse}
-use Rattle.std.proofs.lemmas.List.{map_push, reverse-append, drop-append-le, take-append-le, length-drop, length-append, drop_at, take_all}
+use Rattle.std.proofs.lemmas.List.{map_push, reverse-append, drop-append-le, take-append-le, length-drop, drop_at, take_all}
 use Rattle.charge_world.specs.declared.entry.Entry.{Entry}
 use Rattle.charge_world.specs.declared.log.Kept.{Kept}
 use Rattle.charge_world.specs.Outside.{GrowsByOne}
@@ -20,14 +20,6 @@ entries_stay bytes more (k ∷ kept) fits =
     let one = entry_stays bytes more k fits.0 in
     let others = entries_stay bytes more kept fits.1 in
     cc
-
-fit_more : (bytes more : List ℕ) (kept : List Kept) → AllFit bytes kept → AllFit (bytes ++ more) kept
-fit_more bytes more [] fits = tt
-fit_more bytes more (k ∷ kept) fits = (omega (arith, fits.0, length-append bytes more), fit_more bytes more kept fits.1)
-
-fit_push : (bytes : List ℕ) (kept : List Kept) (k : Kept) → AllFit bytes kept → k.from + k.len ≤ length bytes → AllFit bytes (kept ++ k ∷ [])
-fit_push bytes [] k fits here = (here, tt)
-fit_push bytes (j ∷ kept) k fits here = (fits.0, fit_push bytes kept k fits.1 here)
 
 pub logged : (bytes more : List ℕ) (kept : List Kept) (k : Kept) → k.from ≡ length bytes → k.len ≡ length more → AllFit bytes kept
     → reverse (map (entry_of (bytes ++ more)) (kept ++ k ∷ [])) ≡ entry_with k.note more ∷ reverse (map (entry_of bytes) kept)

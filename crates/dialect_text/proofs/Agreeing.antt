@@ -93,12 +93,6 @@ leads_then K L M a b rest p q = record {
   to = λ text shares old. q.to text shares (p.to (encode_utf8_all b ++ text) (shares_behind b 0 rest text shares) (subst K (encodes_both a b text) old));
 }
 
-pub leads_on : (K L M : List ℕ → Type 0) (rest : List ℕ) → ((text : List ℕ) → M text → L text) → ((text : List ℕ) → Shares 0 rest text → L text → M text) → (front : List ℕ) → Leads K front rest L → Leads K front rest M
-leads_on K L M rest from to front p = record {
-  from = λ text new. p.from text (from text new);
-  to = λ text shares old. to text shares (p.to text shares old);
-}
-
 pub stalls_after : (K L : List ℕ → Type 0) (a b rest : List ℕ) → Leads K a rest L → ((a ≡ []) ⊎ ((text : List ℕ) × L text)) → Stalls L rest b → Stalls K (encode_utf8_all a ++ rest) (a ++ b)
 stalls_after K L a b rest p some q = record {
   more = q.more;

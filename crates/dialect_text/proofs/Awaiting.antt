@@ -48,10 +48,6 @@ members_on s particles [] awaited more has = tt
 members_on s particles (member ∷ members) awaited more has =
     ((λ is. let at = has.0 is in (at.0, get_on awaited more at.0 _ at.1)), members_on s particles members awaited more has.1)
 
-pub members_taken : (s : PlainSchema) (particles : List PlainParticle) (members : List Member) (awaited : List Awaited) → HasMembers s particles (take (length members) members) awaited → HasMembers s particles members awaited
-members_taken s particles [] awaited has = tt
-members_taken s particles (member ∷ members) awaited has = (has.0, members_taken s particles members awaited has.1)
-
 pub each_on : (s : PlainSchema) (all particles : List PlainParticle) (awaited more : List Awaited) → AllByRecursion (λ p. HasMembers s all p.members awaited) particles → AllByRecursion (λ p. HasMembers s all p.members (awaited ++ more)) particles
 each_on s all [] awaited more has = tt
 each_on s all (p ∷ particles) awaited more has = (members_on s all p.members awaited more has.0, each_on s all particles awaited more has.1)

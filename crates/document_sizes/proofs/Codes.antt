@@ -22,10 +22,6 @@ passed_total copies particle particles =
     elim (nat_lt copies particle.least) as (λ b. length particle.members + (if b then 0 else element_total 0 particles) ≤ length particle.members + element_total 0 particles)
     [ true ↦ omega arith | false ↦ omega arith ]
 
-one_least : (particles : List PlainParticle) → 1 ≤ most_elements particles
-one_least [] = omega arith
-one_least (particle ∷ particles) = omega (arith, one_least particles)
-
 elements_few : (copies at : ℕ) (particles : List PlainParticle) → element_total copies (drop at particles) ≤ most_elements particles
 elements_few copies zero [] = omega arith
 elements_few copies (suc at) [] = omega arith

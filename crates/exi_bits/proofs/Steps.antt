@@ -4,7 +4,7 @@ use Rattle.std.proofs.lemmas.List.{length-append, length-drop, append-nil, lengt
 use Rattle.exi_spec.specs.declared.BitCause.{BitCause}
 use Rattle.exi_spec.specs.declared.BitCause.TheVariants.{ShortInput, WiderInteger}
 use Rattle.exi_spec.specs.Bits.{number_bits}
-use Rattle.exi_spec.specs.Items.{octet, SpellsOctets, RefusesOctets, PassesOctets, IsWideInOctets, SpellsChar, SpellsChars, RefusesChar, RefusesChars}
+use Rattle.exi_spec.specs.Items.{octet, SpellsOctets, RefusesOctets, PassesOctets, IsWideInOctets, SpellsChar, SpellsChars}
 use Rattle.exi_spec.proofs.BitLaws.{length-number_bits, low_octet, high_octet}
 use Rattle.exi_spec.proofs.OctetLaws.{only_octet, more_octets, short_octet, none_allowed, wide_octets, refused_later}
 use Rattle.exi_bits.specs.Reading.{ItemAt}
@@ -97,7 +97,3 @@ chars_more bits bit n found char more c one =
         record { long = length-append front one.0 ∙ (let e : length front + length one.0 ≡ found + more = omega (arith, item.2.long, one.2.long) in e); there = there },
       ),
     )
-
-pub chars_refused : (bits : List Bool) (bit n most found : ℕ) (cause : BitCause) → CharsAt bits bit n found → n < most → RefusesChar (drop (bit + found) bits) cause → (at : ℕ) × RefusesChars most (drop bit bits) cause at × (bit + found ≡ bit + at)
-chars_refused bits bit n most found cause c less r =
-    (found, record { chars = c.0; front = c.2.0; rest = drop (bit + found) bits; fewer = omega (arith, c.1, less); spelled = c.2.1; there = c.2.2.there; refused = r; place = sym c.2.2.long }, refl)

@@ -141,12 +141,6 @@ value_decides kinds kind entries name o given v d b is few given_is v_is value r
     subst (λ (w : ShapedValue). IsTrue b ↔ MayWrite kinds kind entries name (value_of w)) same
     ((λ t. may_write kinds kind entries name (value_of given) d is few value (room.0 t)), (λ w. room.1 (may_fit kinds kind entries name (value_of given) d is w).1))
 
-pub no_value : (kinds : List PlainKind) (kind : ℕ) (entries : Entries) (name : ℕ) (o : Option ShapedValue) (given v : ShapedValue) (d : Datatype) → Some d ≡ simple_at kinds kind →
-    o ≡ Some given → o ≡ Some v → (IsValue d (value_of given) → ⊥) → MayWrite kinds kind entries name (value_of v) → ⊥
-no_value kinds kind entries name o given v d is given_is v_is other w =
-    let same : given ≡ v = some_is given v (sym given_is ∙ v_is) in
-    other (subst (λ (x : ShapedValue). IsValue d (value_of x)) (sym same) (may_fit kinds kind entries name (value_of v) d is w).0)
-
 pub in_event : (e : Event) (v : ShapedValue) → ((n : ℕ) × (e ≡ event.Attribute n v)) ⊎ (e ≡ event.Value v) → value_in e ≡ Some v
 in_event e v (inl h) = ap value_in h.1
 in_event e v (inr h) = ap value_in h

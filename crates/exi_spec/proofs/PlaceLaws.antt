@@ -1,7 +1,7 @@
 -- Numbers at a place of bits.
 use Rattle.std.proofs.Common.{◌≡◌, ℕ, suc, ◌+◌, ◌-◌, ◌*◌, ◌/◌, ◌%◌, ◌^◌, ◌<◌, ◌≤◌, Bool, false, eqb, List, ◌∷◌, length, get_or, take, drop, sym, ap, ◌∙◌, arith, bit_and}
 use Rattle.std.proofs.Math.Nat.{pow-suc, pow-le-pow_right}
-use Rattle.std.proofs.lemmas.List.{drop_more, length-take, length-drop}
+use Rattle.std.proofs.lemmas.List.{drop_more, length-take}
 use Rattle.std.proofs.lemmas.Nat.Bits.{shr_and_one}
 use Rattle.exi_spec.specs.Bits.{number_of, bits_of}
 use Rattle.exi_spec.proofs.BitLaws.{length-bits_of, get_or-bits_of, number_of-lt}
@@ -17,9 +17,6 @@ drop-bits_of bytes p h =
     sym (shr_and_one (get_or bytes (p / 8) 0) (7 - p % 8)) in
     drop_more (bits_of bytes) p false (omega (arith, length-bits_of bytes))
     ∙ ap (λ (b : Bool). b ∷ drop (p + 1) (bits_of bytes)) (here ∙ ap (λ (n : ℕ). eqb n 1) and_one)
-
-longer : (bits rest : List Bool) (k : ℕ) (b : Bool) → drop k bits ≡ b ∷ rest → k < length bits
-longer bits rest k b e = let n : length (drop k bits) ≡ suc (length rest) = ap length e in omega (arith, length-drop k bits)
 
 pub number_of_take-lt : (i : ℕ) (bits : List Bool) → number_of (take i bits) < 2 ^ i
 number_of_take-lt i bits =

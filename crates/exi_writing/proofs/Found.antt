@@ -1,5 +1,5 @@
 -- A text that is looked for in a partition.
-use Rattle.std.proofs.Common.{◌≡◌, ◌≢◌, ℕ, ◌+◌, ◌<◌, ◌≤◌, Bool, true, false, List, length, map, sym, ap, ◌∙◌, arith, Some, None, ◌↔◌, IsTrue}
+use Rattle.std.proofs.Common.{◌≡◌, ◌≢◌, ℕ, ◌+◌, ◌<◌, ◌≤◌, Bool, true, false, List, length, map, sym, ap, ◌∙◌, arith, Some, ◌↔◌, IsTrue}
 use Rattle.std.specs.Prelude.{slice_get, option_map}
 use borrow.Author.Count.{below_more}
 use Rattle.std.proofs.lemmas.Bool.{false≢true}
@@ -18,10 +18,6 @@ NotBefore partition text i = (k : ℕ) → k < i → slice_get partition k ≢ S
 pub found_text : (bits : List Bool) (texts : List (List ℕ)) (places : List SpanAt) (i : ℕ) (at : SpanAt) → texts ≡ map (text_of bits) places → Some at ≡ slice_get places i → slice_get texts i ≡ Some (text_of bits at)
 found_text bits texts places i at same found =
     ap (λ (l : List (List ℕ)). slice_get l i) same ∙ slice_get-map (text_of bits) places i ∙ ap (option_map (text_of bits)) (sym found)
-
-pub no_text : (bits : List Bool) (texts : List (List ℕ)) (places : List SpanAt) (i : ℕ) → texts ≡ map (text_of bits) places → None ≡ slice_get places i → slice_get texts i ≡ None
-no_text bits texts places i same none =
-    ap (λ (l : List (List ℕ)). slice_get l i) same ∙ slice_get-map (text_of bits) places i ∙ ap (option_map (text_of bits)) (sym none)
 
 -- a partition of texts has as many as that of their places
 pub same_count : (bits : List Bool) (texts : List (List ℕ)) (places : List SpanAt) (count : ℕ) → texts ≡ map (text_of bits) places → count ≡ length places → count ≡ length texts

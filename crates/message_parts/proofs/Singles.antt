@@ -33,11 +33,6 @@ pub one_of_required : (o : Option PlainParticle) → is_required o ≡ true → 
 one_of_required None is = absurd cc
 one_of_required (Some p) is = (record { particle = p; there = refl; last = not_true (leaves_room p.most 1) (and_second (nat_lt 0 p.least) _ is) }, and_first (nat_lt 0 p.least) _ is)
 
-pub sole : (these : List (ℕ × ℕ)) → is_sole these ≡ true → these ≡ (first_name these, first_kind these) ∷ []
-sole [] is = absurd cc
-sole (a ∷ []) is = refl
-sole (a ∷ b ∷ more) is = absurd cc
-
 by_name : (a m k : ℕ) (b : ℕ) (t : Bool) → (a == m) ≡ t → (if t then Some b else None) ≡ Some k → (m ≡ a) × (k ≡ b)
 by_name a m k b true test is = (sym (number_is a m test), (let same : Some b ≡ Some k = is in let s : b ≡ k = cc in sym s))
 by_name a m k b false test is = absurd cc

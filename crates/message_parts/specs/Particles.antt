@@ -7,14 +7,10 @@ use Rattle.exi_schema.specs.declared.tables.AttributeOf.{AttributeOf}
 use Rattle.exi_schema.specs.declared.tables.Datatype.{Datatype}
 use Rattle.exi_schema.specs.declared.tables.Member.{Member}
 use Rattle.exi_schema.specs.declared.tables.RootOf.{RootOf}
-use Rattle.exi_schema.specs.Plain.{PlainKind, PlainParticle, one_of}
+use Rattle.exi_schema.specs.Plain.{PlainKind, PlainParticle}
 use Rattle.exi_schema.specs.Steps.{simple_at}
 
 -- ---- particles, as they are written down
-
--- from so many to so many, of which n are accepted
-abbrev pub repeated : ℕ → ℕ → ℕ → Option ℕ → ℕ → PlainParticle
-repeated name kind least most n = record { members = one_of name kind ∷ []; least = least; most = most; profile = n }
 
 -- ---- what may stand at a particle
 

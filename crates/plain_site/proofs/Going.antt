@@ -35,10 +35,6 @@ pub behind_front : (xs ys past : List Entry) → behind (xs ++ ys) past ≡ behi
 behind_front [] ys past = refl
 behind_front (x ∷ xs) ys past = behind_front xs ys (x ∷ past)
 
--- the closing orders
-live_is : (p : Post) (b : Bool) → (state_of p).live ≡ b → (seat_of p).post.live ≡ b
-live_is p b e = same_live p.plan (state_of p) ∙ e
-
 closes_if : (A B C D : Type 0) (b c : Bool) → b ≡ c → (A → C) → (B → D) → MatchBool b A B → MatchBool c C D
 closes_if A B C D true true e f g h = f h
 closes_if A B C D false false e f g h = g h

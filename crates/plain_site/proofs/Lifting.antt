@@ -179,11 +179,6 @@ act_last k (Send bytes) t past = refl
 act_last k (Answer bytes) t past = refl
 act_last k (End cause) t past = refl
 
--- what follows on a site follows in the run
-length_heard : (k at : ℕ) (heard : Heard) (bytes : List ℕ) (posts : List Post) → length (heard_from k at heard bytes posts) ≡ length posts
-length_heard k at heard bytes [] = refl
-length_heard k at heard bytes (p ∷ posts) = ap suc (length_heard (suc k) at heard bytes posts)
-
 lift_heard : (c : Codecs) (site : SitePlan) (past : List Entry) (b later : Board) (e : Entry) → (s : Stands c site past b) → AreIdle b.seats → b.over ≡ false → b.hearings < b.turns → HeardTo b e later → Stands c site (e ∷ past) later
 lift_heard c site past b later entry.Lost s idle goes_on left h = record {
   posts = s.posts;

@@ -21,9 +21,6 @@ shown_by S plan s (Some session) (Negotiated chosen response) n h = h
 shown_by S plan s (Some session) WrongSide n h = h
 shown_by S plan s (Some session) Refused n h = h
 
-pub reads_none : (c : Codecs) (plan : PostPlan) (S : ℕ → ℕ → Type 0) (s : State) → wanted s ≡ None → IsRead c plan S s (wanted s) None
-reads_none c plan S s w = subst (λ (x : Option Payload). IsRead c plan S s x None) (sym w) tt
-
 pub reads_some : (c : Codecs) (plan : PostPlan) (S : ℕ → ℕ → Type 0) (s : State) (p : Payload) (j : Judged) (n : ℕ) → wanted s ≡ Some p → Judges c plan.dialects.items p.dialect p.bytes j
     → MatchOption (share_in plan s s.session j) (n ≡ 0) (λ a. S a n) → IsRead c plan S s (wanted s) (Some (record { judged = j; shown = n }))
 reads_some c plan S s p j n w is shown =

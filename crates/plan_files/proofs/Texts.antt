@@ -2,8 +2,6 @@
 use Rattle.std.proofs.Common.{◌≡◌, ℕ, ◌<◌, nat_lt, true, false, Bool, List, [], ◌++◌, length, Option, Some, None, refl, sym, ap, ◌∙◌, arith, length-append, append-nil}
 use Rattle.std.proofs.lemmas.Bool.{lt-ltb, ltb-true, ltb-false}
 use Rattle.plan_keys.specs.Faults.{text_says}
-use Rattle.session_words.specs.declared.plan.SitePlan.{SitePlan}
-use Rattle.site_plan.specs.Plans.{IsSitePlanOf}
 use Rattle.plan_files.specs.FileTexts.{IsBeginning, Told}
 
 -- a text above the limit says the same as any other
@@ -20,9 +18,6 @@ said text bytes false is h =
 
 same_said : (text bytes : List ℕ) → IsBeginning text bytes 65537 → text_says bytes ≡ text_says text
 same_said text bytes h = said text bytes _ refl h
-
-pub same_plan : (text bytes : List ℕ) (plan : SitePlan) → IsBeginning text bytes 65537 → IsSitePlanOf bytes plan → IsSitePlanOf text plan
-same_plan text bytes plan h is = (is.0, sym (same_said text bytes h) ∙ is.1, is.2, is.3)
 
 -- of what is told of a file
 pub told_weaker : (left text : Option (List ℕ)) (P Q : List ℕ → Type 0) → ((t : List ℕ) → P t → Q t) → Told left text P → Told left text Q

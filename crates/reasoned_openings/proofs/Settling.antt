@@ -32,10 +32,6 @@ said_order : (b : Option EndCause) (kept : Option Session) (a : Agenda) (on : Bo
 said_order None kept a on o n h = absurd (let x : None ≡ Some o = sym n ∙ h in cc)
 said_order (Some k) kept a on o n h = let x = in_order kept k on o h in (x.0, (x.1.1, (k, refl)))
 
-map_some : (f : Session → Session) (kept : Option Session) → is_some kept ≡ true → is_some (option_map f kept) ≡ true
-map_some f None h = h
-map_some f (Some ss) h = refl
-
 judged_lives : (plan : PostPlan) (s : State) (ss : Session) (w : Judged) (shown : ℕ) → is_some (judged plan s ss w shown).session ≡ true
 judged_lives plan s ss (Negotiated chosen response) shown = refl
 judged_lives plan s ss (Asked r) shown = refl

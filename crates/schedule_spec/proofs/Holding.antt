@@ -53,7 +53,3 @@ held_append (x ∷ xs) ys before t = held_append xs ys (cond (leb x.start t) x.w
 pub rise_lower : (steps : List Step) (low lower end : ℕ) → lower ≤ low → RiseWithin low end steps → RiseWithin lower end steps
 rise_lower [] low lower end h rise = tt
 rise_lower (s ∷ steps) low lower end h rise = (omega (arith, rise.0), rise.1, rise.2)
-
-pub rise_end : (steps : List Step) (low end later : ℕ) → end ≤ later → RiseWithin low end steps → RiseWithin low later steps
-rise_end [] low end later h rise = tt
-rise_end (s ∷ steps) low end later h rise = (rise.0, omega (arith, rise.1), rise_end steps (s.start + 1) end later h rise.2)

@@ -10,7 +10,7 @@ use Rattle.session_words.specs.declared.phase.Phase.TheVariants as row
 use Rattle.session_words.specs.declared.plan.PostPlan.{PostPlan}
 use Rattle.session_words.specs.declared.word.Reply.{Reply}
 use Rattle.session_words.specs.declared.word.Request.{Request}
-use Rattle.session_rules.specs.Stages.{is_waiting, confirmed_row}
+use Rattle.session_rules.specs.Stages.{is_waiting}
 use Rattle.post_spec.specs.Codecs.{Codecs}
 use Rattle.post_spec.specs.Sessions.{session, with_seen, stream, replies, waits}
 use Rattle.post_spec.specs.Spelled.{read_back, ReadsBack}
@@ -206,11 +206,6 @@ stops_sent : (c : Codecs) (plan : PostPlan) (past : List Seen) (bytes : List ℕ
 stops_sent c plan past bytes taken None spoken back s o = tt
 stops_sent c plan past bytes taken (Some k) (Response payload) back s o = absurd o
 stops_sent c plan past bytes taken (Some k) (Said d reply) back s o = owes_ends c plan past bytes taken k d reply back s o
-
-row_goes : (here : Phase) → is_waiting (confirmed_row here) ≡ false
-row_goes row.DcClosing = refl
-row_goes row.AcClosing = refl
-row_goes here = refl
 
 early_sent : (bytes : List ℕ) (es : List Seen) (here later : Phase) (r : Option Spoken) (o : Option Order) → o ≡ None → Early es here r o → Early (Did (Send bytes) true ∷ es) later None o
 early_sent bytes es here later r o n e =

@@ -1,8 +1,7 @@
 -- What posts hear, and the line of a hearing.
-use Rattle.std.proofs.Common.{◌≡◌, ◌<◌, ◌≤◌, ℕ, zero, suc, ◌+◌, Bool, true, false, ◌==◌, if◌then◌else◌, List, [], ◌∷◌, ◌++◌, length, map, take, get_or, max, min, Option, Some, None, refl, sym, ap, subst, ◌∙◌, arith, inl, inr}
+use Rattle.std.proofs.Common.{◌≡◌, ◌<◌, ℕ, zero, suc, ◌+◌, Bool, true, false, ◌==◌, if◌then◌else◌, List, [], ◌∷◌, ◌++◌, length, map, get_or, max, min, Option, Some, None, refl, sym, ap, subst, ◌∙◌, arith, inl, inr}
 use Rattle.std.specs.Prelude.{fold}
 use Rattle.std.specs.List.{All}
-use Rattle.std.proofs.lemmas.List.{length-take}
 use Rattle.charge_world.specs.declared.entry.Entry.{Entry}
 use Rattle.charge_world.specs.declared.heard.Heard.{Heard}
 use Rattle.charge_world.specs.declared.heard.What.{What}
@@ -69,9 +68,6 @@ pub made_rest : (plans : List PostPlan) (k : ℕ) (d : Place) → k < length (ma
 made_rest [] k d less = absurd (let f : k < 0 = less in omega arith)
 made_rest (p ∷ plans) zero d less = record { none = refl; no_word = refl }
 made_rest (p ∷ plans) (suc k) d less = made_rest plans k d (omega (arith, less))
-
-few_of : (room : List ℕ) (n : ℕ) → length room ≡ 4096 → n ≤ 4096 → n ≡ length (take n room)
-few_of room n len most = omega (arith, length-take n room, len, most)
 
 pub heard_by : (a : Option (List Entry)) (c : Codecs) (plan : SitePlan) (k : Known) (places new : List Place) (h : Heard) (bytes : List ℕ) (now wait : ℕ) → k.last ≡ false → k.heard < plan.turns → All RestsAt places → IsOfPosts (length places) h.what → IsHearing h bytes
     → length new ≡ length places → max k.clock h.at ≡ now → HeardAll now h.what bytes places new → wait ≡ fold min never (map due_at places) → Carries a a (Hears c plan k h bytes places) (InBlock c plan (known_behind k h bytes wait) new)

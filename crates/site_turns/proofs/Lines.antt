@@ -1,20 +1,17 @@
 -- A line that is written behind its entry, and counts of faults.
-use Rattle.std.proofs.Common.{◌≡◌, ◌<◌, ◌≤◌, ℕ, ◌+◌, Bool, true, false, if◌then◌else◌, List, [], ◌∷◌, ◌++◌, length, Option, Some, None, Result, Ok, Err, refl, sym, ap, subst, ◌∙◌, arith, inl, inr}
+use Rattle.std.proofs.Common.{◌≡◌, ◌<◌, ◌≤◌, ℕ, ◌+◌, Bool, true, false, if◌then◌else◌, List, [], ◌∷◌, ◌++◌, length, Option, Some, None, Result, Ok, Err, refl, sym, ap, subst, inl, inr}
 use Rattle.std.specs.Prelude.{OnOk, OnErr, IsErr, IsSome}
 use Rattle.charge_world.specs.declared.entry.Entry.{Entry}
 use Rattle.charge_world.specs.declared.entry.Entry.TheVariants as entry
 use Rattle.charge_world.specs.declared.ports.Order.TheVariants as order
-use Rattle.charge_world.specs.Outside.{IsFault, GrowsByOne, Appends, AppendsSome}
+use Rattle.charge_world.specs.Outside.{GrowsByOne, Appends, AppendsSome}
 use Rattle.trace_text.specs.TraceText.{numbered_line_of}
 use Rattle.trace_text.specs.Pasts.{is_hearing}
 use Rattle.site_acts.specs.Telling.{Carries, CarriesText, IsTraced, IsCutHere, IsWrittenSo}
 use Rattle.site_acts.proofs.Carry.{text_one}
-use Rattle.site_serving.proofs.Counts.{fault_ok}
-use Rattle.site_turns.specs.declared.ending.Ended.{Ended}
 use Rattle.site_turns.specs.declared.ending.Ended.TheVariants as ended
 use Rattle.site_turns.specs.declared.ending.Last.{Last}
 use Rattle.site_turns.specs.declared.ending.Last.TheVariants.{Over, Lost, Turns}
-use Rattle.site_turns.specs.Ending.{AreFaults}
 use Rattle.site_turns.specs.Hearing.{AwaitsLine}
 use Rattle.site_turns.specs.Lasts.{ended_by}
 
@@ -53,18 +50,3 @@ no_fault : (last : Last) → ended_by last ≡ ended.TraceFault → ⊥
 no_fault Over e = cc
 no_fault Lost e = cc
 no_fault Turns e = cc
-
--- the line of a closing order, behind turns whose lines could be written
-pub closed_faults : {T E F : Type 0} (start mid after : ℕ) (last : Last) (x : T) (r : Result (Unit {0}) F) (how : Ended) → IsFault {T = T} {E = E} start mid (Ok x) → IsFault mid after r
-    → OnOk r (how ≡ ended_by last) → OnErr r (how ≡ ended.TraceFault) → AreFaults start after how
-closed_faults start mid after why x (Ok done) how before f ok err =
-    let behind : after ≡ mid = fault_ok mid after done f in
-    let between : mid ≡ start = fault_ok start mid x before in
-    record { later = omega (arith, behind, between); risen = (λ e. absurd (no_fault why (sym ok ∙ e)), λ l. absurd (omega (arith, behind, between, l))) }
-closed_faults start mid after why x (Err fault) how before f ok err = record {
-  later = omega (arith, before.later, f.later);
-  risen = (λ e. omega (arith, before.later, f.risen.0 refl), λ l. err);
-}
-
-pub turn_faults : {T E : Type 0} (start after : ℕ) (fault : E) → IsFault {T = T} {E = E} start after (Err fault) → AreFaults start after ended.TraceFault
-turn_faults start after fault f = record { later = f.later; risen = (λ e. f.risen.0 refl, λ l. refl) }

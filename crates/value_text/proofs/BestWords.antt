@@ -4,8 +4,8 @@ use Rattle.std.specs.Prelude.{◌==◌, encode_utf8, Some, None, Option, slice_g
 use Rattle.std.specs.Str.{encode_utf8_all, IsAscii}
 use Rattle.std.proofs.lemmas.Bool.{cases_lt}
 use Rattle.std.proofs.lemmas.Bool.Decides.{nat_tests}
-use Rattle.std.proofs.lemmas.List.{length-append, length-take-le, take-append-drop, take-take, take_all, take_at, take-append-le, get_or_at, append_cancel_left}
-use Rattle.std.proofs.lemmas.Str.{encodes-IsAscii, IsAscii-take, encode_ascii, length-encode, len_utf8_bounds}
+use Rattle.std.proofs.lemmas.List.{length-append, length-take-le, take-append-drop, take-take, take_at, take-append-le, append_cancel_left}
+use Rattle.std.proofs.lemmas.Str.{encodes-IsAscii, IsAscii-take, length-encode, len_utf8_bounds}
 use Rattle.value_text.specs.declared.cursor.TextCursor.{TextCursor}
 use Rattle.value_text.specs.Forms.{AgreesTo, AgreesMost, IsBest, IsOneOf, AreAscii, awaited_text}
 use Rattle.value_text.specs.Fronts.{Begins}
@@ -30,9 +30,6 @@ most_with words n text word old count best at agrees le le2 most i other more lt
       | inl below ↦ omega (arith, most i other more below found h, le)
       | inr top ↦ omega (arith, agrees.1 more (subst (λ (w : List ℕ). AgreesTo text w more) (one_word words i n other word top found at) h), le2)
     ]
-
-whole_is : (text word : List ℕ) (count : ℕ) → AgreesTo text word count → length word ≡ count → word ≡ take count text
-whole_is text word count h long = sym (take_all count word (omega (arith, long))) ∙ sym h.2
 
 length_of_front : (text word : List ℕ) (count : ℕ) → count ≤ length text → word ≡ take count text → length word ≡ count
 length_of_front text word count within is = ap length is ∙ length-take-le count text within
@@ -204,9 +201,6 @@ agrees_front text name end k h le = (h.0, le, h.2 ∙ take-append-le k name end 
 front_agreed : (text name end : List ℕ) (k : ℕ) → AgreesTo text name k → AgreesTo text (name ++ end) k
 front_agreed text name end k h = (h.0, omega (arith, h.1, length-append name end), h.2 ∙ sym (take-append-le k name end h.1))
 
-one_byte : (c : ℕ) → c < 128 → length (encode_utf8 c) ≡ 1
-one_byte c small = ap length (encode_ascii c small)
-
 pub agreed_inside : (text name : List ℕ) (end count : ℕ) → end < 128 → AgreesMost text name count → count < length name → AgreesMost text (awaited_text name end) count
 agreed_inside text name end count small h lt = (
   front_agreed text name (encode_utf8 end) count h.0,
@@ -215,6 +209,3 @@ agreed_inside text name end count small h lt = (
     | inr within ↦ h.1 more (agrees_front text name (encode_utf8 end) more agrees within)
   ],
 )
-
-end_at : (name : List ℕ) (end count : ℕ) → end < 128 → count ≡ length name → get_or (awaited_text name end) count 0 ≡ end
-end_at name end count small is = rw is (ap (λ (bs : List ℕ). get_or (name ++ bs) (length name) 0) (encode_ascii end small) ∙ get_or_at name end [] 0 (length name) refl)
