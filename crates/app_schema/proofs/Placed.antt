@@ -1,8 +1,7 @@
 -- The places of the negotiation's schema, kind by kind.
-use Rattle.std.proofs.Common.{◌≡◌, ℕ, zero, suc, ◌+◌, ◌^◌, ◌<◌, ◌≤◌, List, [], ◌∷◌, length, drop, Option, Some, None, IfSome, slice_get, refl, sym, ap, ap₂, subst, ◌∙◌, arith}
+use Rattle.std.proofs.Common.{◌≡◌, ℕ, zero, suc, ◌+◌, ◌^◌, ◌<◌, ◌≤◌, List, length, drop, Option, Some, None, IfSome, slice_get, refl, sym, ap, ap₂, subst, ◌∙◌, arith}
 use Rattle.exi_schema.specs.Plain.{PlainKind, valued, containing}
-use Rattle.exi_schema.specs.Steps.{IsStep, IsSought}
-use Rattle.exi_schema.specs.declared.places.Sought.{Sought}
+use Rattle.exi_schema.specs.Steps.{IsStep}
 use Rattle.exi_schema.specs.declared.places.Offer.{Offer}
 use Rattle.exi_schema.proofs.Conditions.{complex_in}
 use Rattle.exi_schema.proofs.Fitting.{EachStep, each_get, each_complex, simple_fits}
@@ -101,7 +100,3 @@ found_few place None few = tt
 found_few place (Some offer) few = omega (arith, few)
 
 -- ---- a row of one step or two
-
-pub only_first : (first : Step) (sought : Sought) → (IsSought first sought → ⊥) → (code : ℕ) (step : Step) → slice_get (first ∷ []) code ≡ Some step → IsSought step sought → ⊥
-only_first first sought other zero step is meant = let same : Some first ≡ Some step = is in let e : step ≡ first = cc in other (subst (λ (s : Step). IsSought s sought) e meant)
-only_first first sought other (suc n) step is meant = absurd cc

@@ -103,22 +103,6 @@ not_bad script printed number x bad =
 
 -- ---- one bad line
 
-same_front : (a b : List ScriptLine) (r s : List ℕ) → AreLines a → AreLines b → r ≢ [] → s ≢ [] → ((line : ScriptLine) (more : List ℕ) → IsLine line → r ≢ line_of line ++ more)
-    → ((line : ScriptLine) (more : List ℕ) → IsLine line → s ≢ line_of line ++ more) → script_of a ++ r ≡ script_of b ++ s → length a ≡ length b
-same_front [] [] r s x y some_r some_s bad_r bad_s e = refl
-same_front [] (b ∷ bs) r s x y some_r some_s bad_r bad_s e = absurd (bad_r b (script_of bs ++ s) y.0 (e ∙ append_assoc (line_of b) (script_of bs) s))
-same_front (a ∷ ls) [] r s x y some_r some_s bad_r bad_s e = absurd (bad_s a (script_of ls ++ r) x.0 (sym e ∙ append_assoc (line_of a) (script_of ls) r))
-same_front (a ∷ ls) (b ∷ bs) r s x y some_r some_s bad_r bad_s e =
-    let both = line_same a b (script_of ls ++ r) (script_of bs ++ s) x.0 y.0 (sym (append_assoc (line_of a) (script_of ls) r) ∙ e ∙ append_assoc (line_of b) (script_of bs) s) in
-    omega (arith, same_front ls bs r s x.1 y.1 some_r some_s bad_r bad_s both.1)
-
-one_bad_line : (script : List ℕ) (m n : ℕ) → IsBadLine script m → IsBadLine script n → m ≡ n
-one_bad_line script m n x y =
-    let a = x.2 in
-    let b = y.2 in
-    let same : length x.0 ≡ length y.0 = same_front x.0 y.0 x.1 y.1 a.good b.good a.some b.some a.bad b.bad (sym a.front ∙ b.front) in
-    omega (arith, a.count, b.count, same)
-
 -- ---- the front of a text above the limit
 
 pub whole_front : (script : List ℕ) (n : ℕ) → n < length script → n ≡ length (take n script)

@@ -1,9 +1,8 @@
 -- Own: what the steps of a car tell of what it asked, and when. It is read off the steps, without what the car
 -- keeps.
-use Rattle.std.specs.Prelude.{ℕ, Bool, true, if◌then◌else◌, List, [], ◌∷◌, Option, Some, None}
+use Rattle.std.specs.Prelude.{ℕ, Bool, true, List, [], ◌∷◌, Option, Some, None}
 use Rattle.session_words.specs.declared.word.Ask.{Ask}
 use Rattle.session_words.specs.declared.word.Request.{Request}
-use Rattle.post_spec.specs.Kinds.{asks_renegotiation}
 use Rattle.car_spec.specs.Steps.{Asked, Act, Say, Step, Hears, Loses, Reads, Does}
 
 -- now: the greatest moment heard so far
@@ -46,12 +45,3 @@ awaited (Hears at event ∷ steps) = awaited steps
 awaited (Loses ∷ steps) = awaited steps
 awaited (Reads word ∷ steps) = None
 awaited (Does act taken ∷ steps) = said_in act taken (now steps) (awaited steps)
-
--- the first request of a kind in a round of negotiated parameters: since the last renegotiation, if there was one
-abbrev pub or_first : Option ℕ → Bool → ℕ → Option ℕ
-or_first (Some first) asks at = Some first
-or_first None asks at = if asks then Some at else None
-
-abbrev pub first_with : (Ask → Bool) → Option Request → ℕ → Option ℕ → Option ℕ
-first_with kind None at earlier = earlier
-first_with kind (Some request) at earlier = if asks_renegotiation request.ask then None else or_first earlier (kind request.ask) at

@@ -16,9 +16,6 @@ said text bytes false is h =
     let none : h.rest ≡ [] = h.whole (omega (arith, ltb-false 65536 (length bytes) is)) in
     ap text_says (sym (h.split ∙ ap (λ (xs : List ℕ). bytes ++ xs) none ∙ append-nil bytes))
 
-same_said : (text bytes : List ℕ) → IsBeginning text bytes 65537 → text_says bytes ≡ text_says text
-same_said text bytes h = said text bytes _ refl h
-
 -- of what is told of a file
 pub told_weaker : (left text : Option (List ℕ)) (P Q : List ℕ → Type 0) → ((t : List ℕ) → P t → Q t) → Told left text P → Told left text Q
 told_weaker None text P Q f h = tt
