@@ -140,7 +140,7 @@ impl<'a> ReadRecord<'a> for AppReq<'a> {
 }
 
 /// The response code.
-#[derive(Clone, Copy, Debug, PartialEq, Eq, Drop)]
+#[derive(Clone, Copy, PartialEq, Eq, Drop)]
 pub enum AppCode {
     /// OK_SuccessfulNegotiation.
     Successful,
@@ -173,7 +173,7 @@ impl<'a> Simple<'a> for AppCode {
 }
 
 /// A station's response.
-#[derive(Clone, Copy, Debug, PartialEq, Eq, Drop)]
+#[derive(Clone, Copy, PartialEq, Eq, Drop)]
 pub struct AppRes {
     /// ResponseCode.
     pub code: AppCode,

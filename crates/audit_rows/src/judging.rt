@@ -37,7 +37,7 @@ pub struct PostValues {
 }
 
 /// The verdict on a request.
-#[derive(Clone, Copy, Debug, PartialEq, Eq)]
+#[derive(Clone, Copy, PartialEq, Eq)]
 pub struct Judged {
     pub code: Code,
     /// The row behind it: 10 or 14 where the contactor closes first, 0 where the session ends.

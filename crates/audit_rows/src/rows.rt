@@ -9,7 +9,7 @@ use charge_world::Dialect;
 use session_words::{Ask, Phase, Progress};
 
 /// The number of the row behind an accepted request: where its reply says Finished, and where it doesn't. 0 stands for the end of the session.
-#[derive(Clone, Copy, Debug, PartialEq, Eq)]
+#[derive(Clone, Copy, PartialEq, Eq)]
 pub(crate) struct Lead {
     pub(crate) finished: u8,
     pub(crate) ongoing: u8,

@@ -4,7 +4,7 @@ use Rattle.std.proofs.Math.Nat.{pow-suc}
 use Rattle.std.proofs.Math.Pow.{pow_mono}
 use Rattle.std.proofs.lemmas.Bool.{cases_lt}
 use Rattle.exi_schema.specs.Offers.{IsWidth}
-use Rattle.exi_strings.specs.Texts.{IsIndexWidth}
+use Rattle.exi_documents.specs.Texts.{IsIndexWidth}
 
 pub same_index_width : (n v w : ℕ) → IsIndexWidth n v → IsIndexWidth n w → v ≡ w
 same_index_width n v w a b = le_antisymm (a.least w b.enough) (b.least v a.enough)

@@ -6,8 +6,8 @@ use Rattle.exi_spec.specs.Laws.{IsExact, SpellsNChars}
 use Rattle.exi_spec.proofs.Readers.{exact, numbers_read, unsigned_read, strings_read}
 use Rattle.exi_schema.specs.declared.tables.Datatype.{Datatype}
 use Rattle.exi_schema.specs.declared.tables.Datatype.TheVariants.{Bool as BoolType, Named, Bounded, Unsigned, Signed, Binary, Text as TextType}
-use Rattle.exi_strings.specs.Table.{global_of, local_of}
-use Rattle.exi_strings.specs.Texts.{SpellsIndex, Announces, entered, SpellsHit}
+use Rattle.exi_documents.specs.Table.{global_of, local_of}
+use Rattle.exi_documents.specs.Texts.{SpellsIndex, Announces, entered, SpellsHit}
 use Rattle.exi_documents.specs.Trees.{Value, Truth, Ordinal, Number, Bytes, Text}
 use Rattle.exi_documents.specs.declared.refusal.RefusalCause.{RefusalCause}
 use Rattle.exi_documents.specs.declared.refusal.RefusalCause.TheVariants.{NoSuchIndex, TooLong, TableFull}

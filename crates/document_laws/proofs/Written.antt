@@ -14,8 +14,8 @@ use Rattle.exi_schema.specs.declared.tables.Datatype.TheVariants.{Bool as BoolTy
 use Rattle.exi_schema.specs.Schemas.{PlainSchema, is_signed, is_datatype}
 use Rattle.exi_schema.specs.Steps.{simple_at}
 use Rattle.exi_schema.proofs.Conditions.{and-l, and-r, datatype_fits}
-use Rattle.exi_strings.specs.Table.{global_of, local_of}
-use Rattle.exi_strings.specs.Texts.{SpellsIndex, Announces, SpellsText, IsFirstAt, IsAbsent, WritesIndex, WritesHit, WritesText}
+use Rattle.exi_documents.specs.Table.{global_of, local_of}
+use Rattle.exi_documents.specs.Texts.{SpellsIndex, Announces, SpellsText, IsFirstAt, IsAbsent, WritesIndex, WritesHit, WritesText}
 use Rattle.exi_documents.specs.Trees.{Value, Truth, Ordinal, Number, Bytes, Text}
 use Rattle.exi_documents.specs.Values.{Entries, SpellsCode, WritesValue}
 use Rattle.document_laws.specs.Laws.{IsInRange, WritesOnce, IsSpelled}

@@ -9,11 +9,11 @@ use Rattle.exi_bits.proofs.Spans.{items_of-held, held_bytes}
 use Rattle.std.specs.List.{AllByRecursion}
 use Rattle.exi_schema.specs.declared.tables.Datatype.{Datatype}
 use Rattle.exi_schema.specs.declared.tables.Datatype.TheVariants.{Bounded, Binary, Text as TextType}
-use Rattle.exi_documents.specs.Trees.{Number, Bytes, Text}
-use Rattle.exi_documents.specs.Values.{IsValue}
-use Rattle.exi_values.specs.declared.Value.{Value}
-use Rattle.exi_values.specs.declared.Value.TheVariants as value
-use Rattle.exi_values.specs.Meaning.{value_of, IsShaped}
+use Rattle.exi_writing.specs.Trees.{Number, Bytes, Text}
+use Rattle.exi_writing.specs.Values.{IsValue}
+use Rattle.exi_writing.specs.Value.{Value}
+use Rattle.exi_writing.specs.Value.TheVariants as value
+use Rattle.exi_writing.specs.Meaning.{value_of, IsShaped}
 use Rattle.exi_writing.proofs.Values.{written_text, lent_text}
 
 -- ---- integers

@@ -11,14 +11,14 @@ use Rattle.exi_schema.specs.Schemas.{PlainSchema}
 use Rattle.exi_schema.specs.Plain.{PlainKind}
 use Rattle.exi_schema.specs.declared.tables.MemberStanding.{MemberStanding}
 use Rattle.exi_schema.specs.Offers.{IsPlace, IsWidth, offers}
-use Rattle.exi_documents.specs.Documents.{first}
-use Rattle.exi_documents.specs.Grammar.{Opened, opened, Inside, State, around, stands, MovesFrom}
-use Rattle.exi_documents.specs.Trees.{Start, Attribute}
-use Rattle.exi_documents.specs.Values.{Entries, WritesValue}
-use Rattle.exi_values.specs.declared.Event.{Event}
-use Rattle.exi_values.specs.declared.Event.TheVariants as event
-use Rattle.exi_values.specs.declared.Value.{Value}
-use Rattle.exi_values.specs.Meaning.{event_of, value_of}
+use Rattle.exi_writing.specs.Documents.{first}
+use Rattle.exi_writing.specs.Grammar.{Opened, opened, Inside, State, around, stands, MovesFrom}
+use Rattle.exi_writing.specs.Trees.{Start, Attribute}
+use Rattle.exi_writing.specs.Values.{Entries, WritesValue}
+use Rattle.exi_writing.specs.Event.{Event}
+use Rattle.exi_writing.specs.Event.TheVariants as event
+use Rattle.exi_writing.specs.Value.{Value}
+use Rattle.exi_writing.specs.Meaning.{event_of, value_of}
 use Rattle.exi_writing.specs.Writing.{Puts, Lacks}
 use Rattle.exi_writing.proofs.Pens.{writes_none, writes_both, needs_more, needs_behind, had_room}
 use Rattle.exi_events.specs.declared.open.OpenElement.{OpenElement}

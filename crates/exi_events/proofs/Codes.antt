@@ -7,8 +7,8 @@ use Rattle.exi_schema.specs.declared.places.Place.{Place}
 use Rattle.exi_schema.specs.declared.places.Step.{Step}
 use Rattle.exi_schema.specs.Plain.{PlainKind}
 use Rattle.exi_schema.specs.Offers.{offers, IsWidth}
-use Rattle.exi_documents.specs.declared.refusal.RefusalCause.{RefusalCause}
-use Rattle.exi_documents.specs.Refusals.{RefusesStep, code_cause}
+use Rattle.exi_writing.specs.RefusalCause.{RefusalCause}
+use Rattle.exi_writing.specs.Refusals.{RefusesStep, code_cause}
 
 pub none_behind : (steps : List Step) (code : ℕ) → length steps ≤ code → slice_get steps code ≡ None
 none_behind [] code more = refl

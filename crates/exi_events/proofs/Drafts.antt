@@ -10,9 +10,9 @@ use Rattle.exi_bits.specs.declared.pen.BitPen.{BitPen}
 use Rattle.exi_bits.specs.declared.span.SpanAt.{SpanAt}
 use Rattle.exi_schema.specs.declared.places.Places.{Ghosts}
 use Rattle.exi_schema.specs.Schemas.{PlainSchema}
-use Rattle.exi_documents.specs.Grammar.{Opened, State}
-use Rattle.exi_documents.specs.Trees.{Event as TreeEvent}
-use Rattle.exi_values.specs.Meaning.{texts_in, AreTexts}
+use Rattle.exi_writing.specs.Grammar.{Opened, State}
+use Rattle.exi_writing.specs.Trees.{Event as TreeEvent}
+use Rattle.exi_writing.specs.Meaning.{texts_in, AreTexts}
 use Rattle.exi_writing.proofs.Stays.{are_texts_behind, texts_behind}
 use Rattle.exi_events.specs.declared.reader.Phase.{Phase}
 use Rattle.exi_events.specs.declared.writer.EventWriter.{EventWriter}

@@ -6,13 +6,13 @@ use Rattle.std.specs.Str.{chars}
 use Rattle.std.proofs.lemmas.Bool.{false≢true}
 use Rattle.exi_bits.specs.Lent.{Span, items_of, text_at}
 use Rattle.exi_bits.specs.declared.span.SpanAt.{SpanAt}
-use Rattle.exi_strings.specs.Table.{global_of, local_of}
-use Rattle.exi_strings.specs.Texts.{IsAbsent}
-use Rattle.exi_documents.specs.Trees.{Value as TreeValue, Text}
-use Rattle.exi_documents.specs.Values.{Entries, most_entries}
-use Rattle.exi_values.specs.declared.Value.{Value}
-use Rattle.exi_values.specs.declared.Value.TheVariants as value
-use Rattle.exi_values.specs.Meaning.{value_of}
+use Rattle.exi_writing.specs.Table.{global_of, local_of}
+use Rattle.exi_writing.specs.Texts.{IsAbsent}
+use Rattle.exi_writing.specs.Trees.{Value as TreeValue, Text}
+use Rattle.exi_writing.specs.Values.{Entries, most_entries}
+use Rattle.exi_writing.specs.Value.{Value}
+use Rattle.exi_writing.specs.Value.TheVariants as value
+use Rattle.exi_writing.specs.Meaning.{value_of}
 use Rattle.exi_writing.specs.Entering.{HasEntryFor}
 use Rattle.exi_writing.proofs.Strings.{few_bytes}
 use Rattle.exi_writing.proofs.Values.{few_chars}

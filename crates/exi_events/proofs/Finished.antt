@@ -2,9 +2,9 @@
 use Rattle.std.proofs.Common.{◌≡◌, ℕ, List, subst}
 use Rattle.exi_bits.specs.Written.{HoldsBits}
 use Rattle.exi_schema.specs.Schemas.{PlainSchema}
-use Rattle.exi_documents.specs.Grammar.{Standing, Behind, stands, Reaches}
-use Rattle.exi_documents.specs.Trees.{Event as TreeEvent}
-use Rattle.exi_documents.specs.Values.{WritesValue}
+use Rattle.exi_writing.specs.Grammar.{Standing, Behind, stands, Reaches}
+use Rattle.exi_writing.specs.Trees.{Event as TreeEvent}
+use Rattle.exi_writing.specs.Values.{WritesValue}
 use Rattle.document_laws.proofs.Told.{tell_trees}
 use Rattle.exi_events.specs.Writer.{Draft, HasPut, IsWritten}
 

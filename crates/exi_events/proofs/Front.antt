@@ -5,10 +5,10 @@ use Rattle.exi_spec.specs.Items.{SpellsNumber}
 use Rattle.exi_spec.proofs.BitLaws.{length-number_bits, number_of-number_bits}
 use Rattle.exi_bits.specs.Reading.{Cursor, Takes, ahead}
 use Rattle.exi_schema.specs.Schemas.{PlainSchema}
-use Rattle.exi_documents.specs.declared.refusal.Refusal.{Refusal}
-use Rattle.exi_documents.specs.declared.refusal.RefusalCause.{RefusalCause}
-use Rattle.exi_documents.specs.declared.refusal.RefusalCause.TheVariants.{BadHeader}
-use Rattle.exi_documents.specs.Refusals.{RefusesHeader, RefusesNumber, RefusesFront}
+use Rattle.exi_writing.specs.Refusal.{Refusal}
+use Rattle.exi_writing.specs.RefusalCause.{RefusalCause}
+use Rattle.exi_writing.specs.RefusalCause.TheVariants.{BadHeader}
+use Rattle.exi_writing.specs.Refusals.{RefusesHeader, RefusesNumber, RefusesFront}
 use Rattle.exi_events.specs.declared.step.RootNumber.{RootNumber}
 use Rattle.exi_events.specs.Front.{SpellsHeader, SpellsFront}
 

@@ -10,15 +10,15 @@ use Rattle.exi_schema.specs.declared.tables.MemberStanding.{MemberStanding}
 use Rattle.exi_schema.specs.declared.tables.MemberStanding.TheVariants.{Taken, Abstract, OutOfProfile}
 use Rattle.exi_schema.specs.Offers.{IsPlace}
 use Rattle.exi_schema.specs.Steps.{IsStep}
-use Rattle.exi_documents.specs.declared.refusal.RefusalCause.{RefusalCause}
-use Rattle.exi_documents.specs.Documents.{SpellsStep}
-use Rattle.exi_documents.specs.Grammar.{Opened, around}
-use Rattle.exi_documents.specs.Refusals.{RefusesStep, RefusesFrom, step_cause}
-use Rattle.exi_documents.specs.Trees.{Value as TreeValue, Attribute, Content, Start}
-use Rattle.exi_documents.specs.Values.{Entries}
-use Rattle.exi_values.specs.declared.Event.TheVariants as event
-use Rattle.exi_values.specs.declared.Value.{Value}
-use Rattle.exi_values.specs.Meaning.{value_of, texts_in}
+use Rattle.exi_writing.specs.RefusalCause.{RefusalCause}
+use Rattle.exi_writing.specs.Documents.{SpellsStep}
+use Rattle.exi_writing.specs.Grammar.{Opened, around}
+use Rattle.exi_writing.specs.Refusals.{RefusesStep, RefusesFrom, step_cause}
+use Rattle.exi_writing.specs.Trees.{Value as TreeValue, Attribute, Content, Start}
+use Rattle.exi_writing.specs.Values.{Entries}
+use Rattle.exi_writing.specs.Event.TheVariants as event
+use Rattle.exi_writing.specs.Value.{Value}
+use Rattle.exi_writing.specs.Meaning.{value_of, texts_in}
 use Rattle.exi_bits.specs.declared.span.SpanAt.{SpanAt}
 use Rattle.exi_events.specs.declared.open.OpenElement.{OpenElement}
 use Rattle.exi_events.specs.Open.{opened_of}

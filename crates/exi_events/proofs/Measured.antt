@@ -7,24 +7,24 @@ use Rattle.exi_schema.specs.declared.places.Step.{Step}
 use Rattle.exi_schema.specs.declared.places.Step.TheVariants as step
 use Rattle.exi_schema.specs.Schemas.{PlainSchema}
 use Rattle.exi_schema.specs.Offers.{IsPlace, IsWidth, offers}
-use Rattle.exi_documents.specs.Grammar.{Opened, Before, AtRoot, Inside, Behind, State, stands}
-use Rattle.exi_documents.specs.Values.{Entries, WritesValue}
-use Rattle.exi_values.specs.declared.Event.{Event}
-use Rattle.exi_values.specs.declared.Event.TheVariants as event
-use Rattle.exi_values.specs.declared.Value.{Value}
-use Rattle.exi_values.specs.Meaning.{AreTexts, event_of, texts_in, value_of}
+use Rattle.exi_writing.specs.Grammar.{Opened, Before, AtRoot, Inside, Behind, State, stands}
+use Rattle.exi_writing.specs.Values.{Entries, WritesValue}
+use Rattle.exi_writing.specs.Event.{Event}
+use Rattle.exi_writing.specs.Event.TheVariants as event
+use Rattle.exi_writing.specs.Value.{Value}
+use Rattle.exi_writing.specs.Meaning.{AreTexts, event_of, texts_in, value_of}
 use Rattle.exi_writing.specs.Writing.{HasLength}
 use Rattle.exi_bits.specs.Pens.{written_bits}
 use Rattle.exi_bits.specs.declared.pen.BitPen.{BitPen}
 use Rattle.exi_bits.specs.declared.pen.Full.{Full}
 use Rattle.exi_bits.specs.declared.span.SpanAt.{SpanAt}
-use Rattle.exi_strings.specs.Table.{Table}
+use Rattle.exi_writing.specs.Table.{Table}
 use Rattle.exi_writing.specs.Writing.{WritesMore}
 use Rattle.exi_writing.proofs.Strings.{texts_kept}
 use Rattle.document_laws.specs.Laws.{IsStanding}
 use Rattle.document_laws.proofs.Written.{value_once}
 use Rattle.document_laws.proofs.Once.{moves_once}
-use Rattle.exi_documents.specs.Trees.{Event as TreeEvent}
+use Rattle.exi_writing.specs.Trees.{Event as TreeEvent}
 use Rattle.exi_events.specs.declared.open.OpenElement.{OpenElement}
 use Rattle.exi_events.specs.declared.reader.Phase.{Phase}
 use Rattle.exi_events.specs.declared.reader.Phase.TheVariants as phase

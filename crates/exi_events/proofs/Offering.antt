@@ -11,14 +11,14 @@ use Rattle.exi_schema.specs.Plain.{PlainKind}
 use Rattle.exi_schema.specs.declared.tables.MemberStanding.{MemberStanding}
 use Rattle.exi_schema.specs.declared.tables.MemberStanding.TheVariants.{Taken}
 use Rattle.exi_schema.specs.Offers.{IsPlace, IsWidth, offers, simple_step}
-use Rattle.exi_documents.specs.Documents.{SpellsStep, element, first}
-use Rattle.exi_documents.specs.Grammar.{Opened, opened, Inside, Behind, State, around, stands, MovesFrom, Moves}
-use Rattle.exi_documents.specs.Trees.{Value as TreeValue, Event as TreeEvent, Start, Attribute, Content, EndElement}
-use Rattle.exi_documents.specs.Values.{Entries, WritesValue}
-use Rattle.exi_values.specs.declared.Event.{Event}
-use Rattle.exi_values.specs.declared.Event.TheVariants as event
-use Rattle.exi_values.specs.declared.Value.{Value}
-use Rattle.exi_values.specs.Meaning.{event_of, value_of}
+use Rattle.exi_writing.specs.Documents.{SpellsStep, element, first}
+use Rattle.exi_writing.specs.Grammar.{Opened, opened, Inside, Behind, State, around, stands, MovesFrom, Moves}
+use Rattle.exi_writing.specs.Trees.{Value as TreeValue, Event as TreeEvent, Start, Attribute, Content, EndElement}
+use Rattle.exi_writing.specs.Values.{Entries, WritesValue}
+use Rattle.exi_writing.specs.Event.{Event}
+use Rattle.exi_writing.specs.Event.TheVariants as event
+use Rattle.exi_writing.specs.Value.{Value}
+use Rattle.exi_writing.specs.Meaning.{event_of, value_of}
 use Rattle.document_laws.proofs.IndexWidths.{code_width}
 use Rattle.document_laws.proofs.Names.{element_key, attribute_key, end_key, one_taken_by, ones_at}
 use Rattle.document_laws.proofs.Offered.{offers_simple, one_taken}

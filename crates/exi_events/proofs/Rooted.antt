@@ -13,7 +13,7 @@ use Rattle.exi_schema.specs.Schemas.{PlainSchema, are_kinds, are_roots, are_word
 use Rattle.exi_schema.specs.declared.tables.RootOf.{RootOf}
 use Rattle.exi_schema.specs.Steps.{IsRoot}
 use Rattle.exi_schema.proofs.Conditions.{and-l, and-r, all_get}
-use Rattle.exi_documents.specs.Documents.{header}
+use Rattle.exi_writing.specs.Documents.{header}
 use Rattle.exi_writing.specs.Writing.{Puts, Lacks}
 use Rattle.exi_writing.proofs.Pens.{writes_both, needs_more, needs_behind, had_room}
 use Rattle.document_laws.proofs.Fits.{root_coded}

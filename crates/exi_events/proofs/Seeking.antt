@@ -5,8 +5,8 @@ use Rattle.exi_schema.specs.declared.places.Step.TheVariants as step
 use Rattle.exi_schema.specs.declared.places.Offer.{Offer}
 use Rattle.exi_schema.specs.declared.places.Sought.{Sought}
 use Rattle.exi_schema.specs.Steps.{IsSought}
-use Rattle.exi_values.specs.declared.Event.{Event}
-use Rattle.exi_values.specs.declared.Event.TheVariants as event
+use Rattle.exi_writing.specs.Event.{Event}
+use Rattle.exi_writing.specs.Event.TheVariants as event
 use Rattle.exi_events.specs.Writer.{IsStepOf, sought_in}
 
 -- a step of an event is what the event is looked for as, if it is looked for

@@ -11,17 +11,17 @@ use Rattle.exi_schema.specs.Plain.{PlainKind}
 use Rattle.exi_schema.specs.Schemas.{PlainSchema}
 use Rattle.exi_schema.specs.Sequences.{IsSequence, TellsSequence}
 use Rattle.exi_schema.proofs.Conditions.{and-l, and-r}
-use Rattle.exi_documents.specs.Documents.{SpellsStep, element, first}
-use Rattle.exi_documents.specs.Grammar.{Opened, Inside, opened, around, stands}
-use Rattle.exi_documents.specs.Trees.{Event as TreeEvent, Value as TreeValue, Start, Content, EndElement}
-use Rattle.exi_documents.specs.Values.{Entries, SpellsValue}
-use Rattle.exi_values.specs.declared.Event.TheVariants as event
-use Rattle.exi_values.specs.declared.Value.{Value}
-use Rattle.exi_values.specs.declared.Value.TheVariants as value
+use Rattle.exi_writing.specs.Documents.{SpellsStep, element, first}
+use Rattle.exi_writing.specs.Grammar.{Opened, Inside, opened, around, stands}
+use Rattle.exi_writing.specs.Trees.{Event as TreeEvent, Value as TreeValue, Start, Content, EndElement}
+use Rattle.exi_writing.specs.Values.{Entries, SpellsValue}
+use Rattle.exi_writing.specs.Event.TheVariants as event
+use Rattle.exi_writing.specs.Value.{Value}
+use Rattle.exi_writing.specs.Value.TheVariants as value
 use Rattle.exi_writing.specs.Short.{tree_of}
 use Rattle.exi_writing.specs.ShortValue.{ShortValue}
 use Rattle.exi_writing.specs.ShortValue.TheVariants as short
-use Rattle.exi_values.specs.Meaning.{value_of, texts_in}
+use Rattle.exi_writing.specs.Meaning.{value_of, texts_in}
 use Rattle.exi_events.specs.declared.open.OpenElement.{OpenElement}
 use Rattle.exi_events.specs.declared.reader.Phase.{Phase}
 use Rattle.exi_events.specs.declared.reader.Phase.TheVariants as phase

@@ -9,10 +9,10 @@ use Rattle.exi_schema.specs.declared.tables.Datatype.{Datatype}
 use Rattle.exi_schema.specs.Plain.{PlainKind, valued, containing}
 use Rattle.exi_schema.specs.Offers.{offers, offers_of, simple_step, IsWidth}
 use Rattle.exi_schema.specs.Steps.{simple_at, datatype_of}
-use Rattle.exi_documents.specs.declared.refusal.RefusalCause.{RefusalCause}
-use Rattle.exi_documents.specs.Documents.{SpellsStep}
-use Rattle.exi_documents.specs.Refusals.{RefusesStep, code_cause}
-use Rattle.exi_documents.specs.Values.{RefusesItem}
+use Rattle.exi_writing.specs.RefusalCause.{RefusalCause}
+use Rattle.exi_writing.specs.Documents.{SpellsStep}
+use Rattle.exi_writing.specs.Refusals.{RefusesStep, code_cause}
+use Rattle.exi_writing.specs.Values.{RefusesItem}
 use Rattle.exi_events.proofs.Codes.{none_behind, code_refused as any_code_refused}
 
 offered_of : (here : Place) (o : Option PlainKind) (d : Datatype) → datatype_of o ≡ Some d → offers_of here o ≡ simple_step here ∷ []

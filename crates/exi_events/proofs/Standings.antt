@@ -10,11 +10,11 @@ use Rattle.exi_schema.specs.Offers.{IsPlace}
 use Rattle.exi_schema.specs.Plain.{PlainKind}
 use Rattle.exi_schema.specs.Schemas.{PlainSchema}
 use Rattle.exi_schema.specs.Steps.{IsRoot}
-use Rattle.exi_documents.specs.Documents.{header, first}
-use Rattle.exi_documents.specs.Grammar.{Opened, opened, AtRoot, Inside, State, around, stands}
-use Rattle.exi_values.specs.declared.Event.{Event}
-use Rattle.exi_values.specs.declared.Event.TheVariants as event
-use Rattle.exi_values.specs.Meaning.{texts_in}
+use Rattle.exi_writing.specs.Documents.{header, first}
+use Rattle.exi_writing.specs.Grammar.{Opened, opened, AtRoot, Inside, State, around, stands}
+use Rattle.exi_writing.specs.Event.{Event}
+use Rattle.exi_writing.specs.Event.TheVariants as event
+use Rattle.exi_writing.specs.Meaning.{texts_in}
 use Rattle.exi_events.specs.declared.offer.Found.{Found}
 use Rattle.exi_events.specs.declared.offer.Found.TheVariants as found
 use Rattle.exi_schema.specs.declared.places.Offer.{Offer}

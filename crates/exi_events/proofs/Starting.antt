@@ -7,12 +7,12 @@ use Rattle.exi_bits.specs.declared.span.SpanAt.{SpanAt}
 use Rattle.exi_schema.specs.declared.places.Root.TheVariants.{Kind}
 use Rattle.exi_schema.specs.Schemas.{PlainSchema}
 use Rattle.exi_schema.specs.Steps.{IsRoot, IsRootOf}
-use Rattle.exi_documents.specs.Grammar.{Opened, AtRoot, State, around, stands}
-use Rattle.exi_documents.specs.Values.{Entries}
-use Rattle.exi_strings.specs.Table.{Table}
-use Rattle.exi_values.specs.declared.Event.{Event}
-use Rattle.exi_values.specs.declared.Event.TheVariants as event
-use Rattle.exi_values.specs.Meaning.{texts_in, AreTexts, event_of}
+use Rattle.exi_writing.specs.Grammar.{Opened, AtRoot, State, around, stands}
+use Rattle.exi_writing.specs.Values.{Entries}
+use Rattle.exi_writing.specs.Table.{Table}
+use Rattle.exi_writing.specs.Event.{Event}
+use Rattle.exi_writing.specs.Event.TheVariants as event
+use Rattle.exi_writing.specs.Meaning.{texts_in, AreTexts, event_of}
 use Rattle.exi_writing.specs.Writing.{Puts, WritesMore}
 use Rattle.exi_writing.proofs.Pens.{writes_none, had_room}
 use Rattle.exi_writing.proofs.Strings.{texts_kept, are_kept}

@@ -4,16 +4,16 @@ use Rattle.exi_spec.specs.Bits.{bits_of}
 use Rattle.exi_bits.specs.Reading.{Cursor, Takes, ahead}
 use Rattle.exi_bits.specs.declared.span.SpanAt.{SpanAt}
 use Rattle.exi_schema.specs.Schemas.{PlainSchema}
-use Rattle.exi_documents.specs.declared.refusal.Refusal.{Refusal}
-use Rattle.exi_documents.specs.Grammar.{Opened, Standing, Behind, State, stands, Moves, Reaches}
-use Rattle.exi_documents.specs.Refusals.{IsRefused}
-use Rattle.exi_documents.specs.Values.{SpellsValue}
+use Rattle.exi_writing.specs.Refusal.{Refusal}
+use Rattle.exi_writing.specs.Grammar.{Opened, Standing, Behind, State, stands, Moves, Reaches}
+use Rattle.exi_writing.specs.Refusals.{IsRefused}
+use Rattle.exi_writing.specs.Values.{SpellsValue}
 use Rattle.document_laws.proofs.Payloads.{shrinks_at}
 use Rattle.document_laws.proofs.Told.{tell_trees}
-use Rattle.exi_documents.specs.Trees.{Event as TreeEvent}
-use Rattle.exi_values.specs.declared.Event.{Event}
-use Rattle.exi_values.specs.declared.Event.TheVariants as event
-use Rattle.exi_values.specs.Meaning.{texts_in, event_of}
+use Rattle.exi_writing.specs.Trees.{Event as TreeEvent}
+use Rattle.exi_writing.specs.Event.{Event}
+use Rattle.exi_writing.specs.Event.TheVariants as event
+use Rattle.exi_writing.specs.Meaning.{texts_in, event_of}
 use Rattle.exi_events.specs.declared.reader.Phase.{Phase}
 use Rattle.exi_events.specs.declared.reader.Phase.TheVariants as phase
 use Rattle.exi_events.specs.Inside.{SpellsInside}

@@ -4,16 +4,16 @@ use Rattle.exi_spec.specs.Bits.{bits_of}
 use Rattle.exi_bits.specs.Reading.{Cursor, Takes}
 use Rattle.exi_bits.specs.declared.span.SpanAt.{SpanAt}
 use Rattle.exi_schema.specs.Schemas.{PlainSchema}
-use Rattle.exi_documents.specs.declared.refusal.Refusal.{Refusal}
-use Rattle.exi_documents.specs.Grammar.{Opened, State, around, stands}
-use Rattle.exi_documents.specs.Refusals.{IsRefused}
-use Rattle.exi_documents.specs.Trees.{Event as TreeEvent, Content, EndElement}
-use Rattle.exi_documents.specs.Values.{Entries, most_entries}
-use Rattle.exi_strings.specs.Table.{Table}
-use Rattle.exi_values.specs.declared.Event.{Event}
-use Rattle.exi_values.specs.declared.Event.TheVariants as event
-use Rattle.exi_values.specs.declared.Value.{Value}
-use Rattle.exi_values.specs.Meaning.{AreTexts, texts_in, event_of, value_of}
+use Rattle.exi_writing.specs.Refusal.{Refusal}
+use Rattle.exi_writing.specs.Grammar.{Opened, State, around, stands}
+use Rattle.exi_writing.specs.Refusals.{IsRefused}
+use Rattle.exi_writing.specs.Trees.{Event as TreeEvent, Content, EndElement}
+use Rattle.exi_writing.specs.Values.{Entries, most_entries}
+use Rattle.exi_writing.specs.Table.{Table}
+use Rattle.exi_writing.specs.Event.{Event}
+use Rattle.exi_writing.specs.Event.TheVariants as event
+use Rattle.exi_writing.specs.Value.{Value}
+use Rattle.exi_writing.specs.Meaning.{AreTexts, texts_in, event_of, value_of}
 use Rattle.exi_events.specs.declared.reader.Phase.{Phase}
 use Rattle.exi_events.specs.declared.reader.Phase.TheVariants as phase
 use Rattle.exi_events.specs.Inside.{AreOpen, SpellsInside, TakesWhole, RefusesWhole}

@@ -9,15 +9,15 @@ use Rattle.exi_schema.specs.declared.tables.Datatype.{Datatype}
 use Rattle.exi_schema.specs.Schemas.{PlainSchema}
 use Rattle.exi_schema.specs.Offers.{simple_step}
 use Rattle.exi_schema.specs.Steps.{simple_at}
-use Rattle.exi_documents.specs.declared.refusal.Refusal.{Refusal}
-use Rattle.exi_documents.specs.Documents.{SpellsStep}
-use Rattle.exi_documents.specs.Grammar.{Opened, opened, around, stands}
-use Rattle.exi_documents.specs.Refusals.{RefusesStep}
-use Rattle.exi_documents.specs.Trees.{EndElement, Value as TreeValue}
-use Rattle.exi_documents.specs.Values.{Entries, SpellsValue, RefusesValue}
-use Rattle.exi_values.specs.declared.Event.TheVariants as event
-use Rattle.exi_values.specs.declared.Value.{Value}
-use Rattle.exi_values.specs.Meaning.{value_of, texts_in}
+use Rattle.exi_writing.specs.Refusal.{Refusal}
+use Rattle.exi_writing.specs.Documents.{SpellsStep}
+use Rattle.exi_writing.specs.Grammar.{Opened, opened, around, stands}
+use Rattle.exi_writing.specs.Refusals.{RefusesStep}
+use Rattle.exi_writing.specs.Trees.{EndElement, Value as TreeValue}
+use Rattle.exi_writing.specs.Values.{Entries, SpellsValue, RefusesValue}
+use Rattle.exi_writing.specs.Event.TheVariants as event
+use Rattle.exi_writing.specs.Value.{Value}
+use Rattle.exi_writing.specs.Meaning.{value_of, texts_in}
 use Rattle.exi_bits.specs.declared.span.SpanAt.{SpanAt}
 use Rattle.exi_events.specs.declared.open.OpenElement.{OpenElement}
 use Rattle.exi_events.specs.Open.{opened_of}

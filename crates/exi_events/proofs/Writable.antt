@@ -6,17 +6,17 @@ use Rattle.exi_spec.specs.Bits.{number_bits, bits_of}
 use Rattle.exi_spec.specs.Items.{shortest_unsigned, shortest_integer, shortest_chars}
 use Rattle.exi_schema.specs.declared.tables.Datatype.{Datatype}
 use Rattle.exi_schema.specs.declared.tables.Datatype.TheVariants.{Bool as BoolType, Named, Bounded, Unsigned, Signed, Binary, Text as TextType}
-use Rattle.exi_strings.specs.Table.{global_of, local_of}
-use Rattle.exi_strings.specs.Texts.{IsFirstAt, IsAbsent, WritesText, entered}
-use Rattle.exi_documents.specs.Trees.{Value, Truth, Ordinal, Number, Bytes, Text}
-use Rattle.exi_documents.specs.Values.{Entries, most_entries, IsValue, WritesValue}
+use Rattle.exi_writing.specs.Table.{global_of, local_of}
+use Rattle.exi_writing.specs.Texts.{IsFirstAt, IsAbsent, WritesText, entered}
+use Rattle.exi_writing.specs.Trees.{Value, Truth, Ordinal, Number, Bytes, Text}
+use Rattle.exi_writing.specs.Values.{Entries, most_entries, IsValue, WritesValue}
 use Rattle.exi_writing.specs.Entering.{HasEntryFor}
 use Rattle.exi_schema.specs.Plain.{PlainKind}
 use Rattle.exi_schema.specs.Steps.{simple_at}
-use Rattle.exi_values.specs.declared.Value.{Value as ShapedValue}
-use Rattle.exi_values.specs.Meaning.{value_of}
-use Rattle.exi_values.specs.declared.Event.{Event}
-use Rattle.exi_values.specs.declared.Event.TheVariants as event
+use Rattle.exi_writing.specs.Value.{Value as ShapedValue}
+use Rattle.exi_writing.specs.Meaning.{value_of}
+use Rattle.exi_writing.specs.Event.{Event}
+use Rattle.exi_writing.specs.Event.TheVariants as event
 use Rattle.exi_bits.specs.declared.pen.BitPen.{BitPen}
 use Rattle.exi_writing.specs.Writing.{Puts, Lacks}
 use Rattle.std.specs.Result.{OnOk}

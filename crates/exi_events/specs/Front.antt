@@ -2,7 +2,7 @@
 use Rattle.std.specs.Prelude.{◌≡◌, ℕ, Bool, List, ◌++◌}
 use Rattle.exi_spec.specs.Items.{SpellsNumber}
 use Rattle.exi_schema.specs.Schemas.{PlainSchema}
-use Rattle.exi_documents.specs.Documents.{header}
+use Rattle.exi_writing.specs.Documents.{header}
 
 -- the header byte
 abbrev pub SpellsHeader : List Bool → Type 0

@@ -8,17 +8,17 @@ use Rattle.exi_schema.specs.declared.tables.Datatype.{Datatype}
 use Rattle.exi_schema.specs.Plain.{PlainKind}
 use Rattle.exi_schema.specs.Offers.{IsPlace}
 use Rattle.exi_schema.specs.Steps.{simple_at}
-use Rattle.exi_documents.specs.declared.refusal.Refusal.{Refusal}
-use Rattle.exi_documents.specs.declared.refusal.RefusalCause.{RefusalCause}
-use Rattle.exi_documents.specs.Refusals.{RefusesFrom}
-use Rattle.exi_documents.specs.Grammar.{Opened, MovesFrom, around, stands}
-use Rattle.exi_documents.specs.Trees.{Event as TreeEvent, Value as TreeValue}
-use Rattle.exi_documents.specs.Values.{Entries, SpellsValue, RefusesValue, most_entries}
-use Rattle.exi_strings.specs.Table.{Table}
-use Rattle.exi_values.specs.declared.Event.{Event}
-use Rattle.exi_values.specs.declared.Event.TheVariants as event
-use Rattle.exi_values.specs.declared.Value.{Value}
-use Rattle.exi_values.specs.Meaning.{event_of, value_of, texts_in, AreTexts, IsLent}
+use Rattle.exi_writing.specs.Refusal.{Refusal}
+use Rattle.exi_writing.specs.RefusalCause.{RefusalCause}
+use Rattle.exi_writing.specs.Refusals.{RefusesFrom}
+use Rattle.exi_writing.specs.Grammar.{Opened, MovesFrom, around, stands}
+use Rattle.exi_writing.specs.Trees.{Event as TreeEvent, Value as TreeValue}
+use Rattle.exi_writing.specs.Values.{Entries, SpellsValue, RefusesValue, most_entries}
+use Rattle.exi_writing.specs.Table.{Table}
+use Rattle.exi_writing.specs.Event.{Event}
+use Rattle.exi_writing.specs.Event.TheVariants as event
+use Rattle.exi_writing.specs.Value.{Value}
+use Rattle.exi_writing.specs.Meaning.{event_of, value_of, texts_in, AreTexts, IsLent}
 use Rattle.exi_events.specs.declared.open.OpenElement.{OpenElement}
 use Rattle.exi_events.specs.Open.{opened_of}
 

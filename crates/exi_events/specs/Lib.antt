@@ -1,3 +1,12 @@
+pub use Rattle.exi_writing.specs.Meaning
+pub use Rattle.exi_writing.specs.Event
+pub use Rattle.exi_writing.specs.Value
+pub use Rattle.exi_writing.specs.Documents
+pub use Rattle.exi_writing.specs.Grammar
+pub use Rattle.exi_writing.specs.Refusals
+pub use Rattle.exi_writing.specs.Trees
+pub use Rattle.exi_writing.specs.Values
+pub use Rattle.exi_writing.specs.Refusal
 pub mod Open
 pub mod Front
 pub mod Inside

@@ -1,5 +1,5 @@
 -- Own: open elements as the grammar sees them.
-use Rattle.exi_documents.specs.Grammar.{Opened}
+use Rattle.exi_writing.specs.Grammar.{Opened}
 use Rattle.exi_events.specs.declared.open.OpenElement.{OpenElement}
 
 abbrev pub opened_of : OpenElement → Opened

@@ -4,15 +4,15 @@ use Rattle.exi_bits.specs.Reading.{Cursor, Takes, ahead}
 use Rattle.exi_bits.specs.declared.span.SpanAt.{SpanAt}
 use Rattle.exi_schema.specs.declared.places.Place.{Place}
 use Rattle.exi_schema.specs.Schemas.{PlainSchema, is_within}
-use Rattle.exi_documents.specs.declared.refusal.Refusal.{Refusal}
-use Rattle.exi_documents.specs.Trees.{Tree, Event as TreeEvent, Value as TreeValue, Content, EndElement, document_events}
-use Rattle.exi_documents.specs.Values.{SpellsValue, most_entries}
-use Rattle.exi_documents.specs.Documents.{IsDocument}
-use Rattle.exi_documents.specs.Grammar.{Opened, Standing, Before, AtRoot, Inside, Behind, State, around, stands, Moves, Reaches}
-use Rattle.exi_documents.specs.Refusals.{RefusesNext}
-use Rattle.exi_strings.specs.Table.{Table}
+use Rattle.exi_writing.specs.Refusal.{Refusal}
+use Rattle.exi_writing.specs.Trees.{Tree, Event as TreeEvent, Value as TreeValue, Content, EndElement, document_events}
+use Rattle.exi_writing.specs.Values.{SpellsValue, most_entries}
+use Rattle.exi_writing.specs.Documents.{IsDocument}
+use Rattle.exi_writing.specs.Grammar.{Opened, Standing, Before, AtRoot, Inside, Behind, State, around, stands, Moves, Reaches}
+use Rattle.exi_writing.specs.Refusals.{RefusesNext}
+use Rattle.exi_writing.specs.Table.{Table}
 use Rattle.document_laws.specs.Laws.{weight}
-use Rattle.exi_values.specs.Meaning.{texts_in, AreTexts}
+use Rattle.exi_writing.specs.Meaning.{texts_in, AreTexts}
 use Rattle.exi_events.specs.declared.reader.EventReader.{EventReader}
 use Rattle.exi_events.specs.declared.reader.Phase.{Phase}
 use Rattle.exi_events.specs.declared.reader.Phase.TheVariants as phase

@@ -9,10 +9,10 @@ use Rattle.exi_schema.specs.Offers.{offers}
 use Rattle.exi_schema.specs.Plain.{PlainKind}
 use Rattle.exi_schema.specs.Sequences.{TellsSequence}
 use Rattle.exi_schema.specs.Steps.{simple_at}
-use Rattle.exi_documents.specs.Documents.{element}
-use Rattle.exi_documents.specs.Grammar.{Opened, Inside, opened, around, stands}
-use Rattle.exi_documents.specs.Trees.{Event as TreeEvent, Value as TreeValue, Start, EndElement}
-use Rattle.exi_values.specs.Meaning.{texts_in}
+use Rattle.exi_writing.specs.Documents.{element}
+use Rattle.exi_writing.specs.Grammar.{Opened, Inside, opened, around, stands}
+use Rattle.exi_writing.specs.Trees.{Event as TreeEvent, Value as TreeValue, Start, EndElement}
+use Rattle.exi_writing.specs.Meaning.{texts_in}
 use Rattle.exi_writing.specs.Short.{tree_of}
 use Rattle.exi_events.specs.declared.sequence.ThreeValues.{ThreeValues}
 use Rattle.exi_events.specs.Reader.{Reading, reading, IsNext, HasTold, TakesValue}

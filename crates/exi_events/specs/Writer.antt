@@ -14,14 +14,14 @@ use Rattle.exi_schema.specs.Plain.{PlainKind}
 use Rattle.exi_schema.specs.declared.tables.MemberStanding.TheVariants.{Taken}
 use Rattle.exi_schema.specs.Offers.{IsWidth, offers}
 use Rattle.exi_schema.specs.Steps.{IsStep, simple_at}
-use Rattle.exi_documents.specs.Trees.{Tree, Value as TreeValue, Event as TreeEvent, document_events}
-use Rattle.exi_documents.specs.Values.{Entries, WritesValue}
-use Rattle.exi_documents.specs.Documents.{IsEncoding}
-use Rattle.exi_documents.specs.Grammar.{Standing, Inside, Behind, State, Moves, Reaches}
-use Rattle.exi_values.specs.declared.Event.{Event}
-use Rattle.exi_values.specs.declared.Event.TheVariants as event
-use Rattle.exi_values.specs.declared.Value.{Value}
-use Rattle.exi_values.specs.Meaning.{IsShaped, event_of}
+use Rattle.exi_writing.specs.Trees.{Tree, Value as TreeValue, Event as TreeEvent, document_events}
+use Rattle.exi_writing.specs.Values.{Entries, WritesValue}
+use Rattle.exi_writing.specs.Documents.{IsEncoding}
+use Rattle.exi_writing.specs.Grammar.{Standing, Inside, Behind, State, Moves, Reaches}
+use Rattle.exi_writing.specs.Event.{Event}
+use Rattle.exi_writing.specs.Event.TheVariants as event
+use Rattle.exi_writing.specs.Value.{Value}
+use Rattle.exi_writing.specs.Meaning.{IsShaped, event_of}
 use Rattle.exi_events.specs.declared.offer.Found.{Found}
 use Rattle.exi_events.specs.declared.offer.Found.TheVariants as found
 use Rattle.exi_schema.specs.declared.places.Offer.{Offer}

@@ -5,18 +5,18 @@ ghost use Rattle.exi_bits.specs.Reading.{Takes, ahead};
 ghost use Rattle.exi_schema.specs.Plain.{PlainKind};
 ghost use Rattle.exi_schema.specs.Schemas.{PlainSchema, is_datatype};
 ghost use Rattle.exi_schema.specs.Steps.{simple_at};
-ghost use Rattle.exi_documents.specs.Grammar.{around};
-ghost use Rattle.exi_documents.specs.Refusals.{RefusesFrom};
-ghost use Rattle.exi_documents.specs.Values.{most_entries};
-ghost use Rattle.exi_values.specs.Meaning.{texts_in, AreTexts, IsLent, IsLentEvent};
+ghost use Rattle.exi_writing.specs.Grammar.{around};
+ghost use Rattle.exi_writing.specs.Refusals.{RefusesFrom};
+ghost use Rattle.exi_writing.specs.Values.{most_entries};
+ghost use Rattle.exi_writing.specs.Meaning.{texts_in, AreTexts, IsLent, IsLentEvent};
 ghost use Rattle.exi_events.specs.Inside.{AreOpen, HasTop, SpellsInside, TakesValueOf, TakesWhole, RefusesWhole};
 
 use crate::open::{OpenElement, OpenElements};
 use crate::step::{take_only, take_step};
-use exi_documents::Refusal;
 use exi_schema::{Datatype, Place, Places, Step};
-use exi_values::{Event, Table, Value};
+use exi_writing::exi_documents::Refusal;
 use exi_writing::exi_reading::PayloadReader;
+use exi_writing::exi_values::{Event, Table, Value};
 
 /// Takes a value of a simple kind of the schema.
 #[inline(never)]

@@ -22,8 +22,9 @@ mod value;
 mod writer;
 
 pub use exi_bits::Full;
-pub use exi_documents::{Refusal, RefusalCause};
-pub use exi_values::{Event, Table, Value};
+pub use exi_writing::exi_documents;
+pub use exi_writing::exi_documents::{Refusal, RefusalCause};
+pub use exi_writing::exi_values::{Event, Table, Value};
 pub use reader::EventReader;
 pub use sequence::ThreeValues;
 pub use writer::{EventWriter, NotPut};

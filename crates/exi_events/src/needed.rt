@@ -4,9 +4,9 @@ ghost use Rattle.std.specs.Prelude.{◌≡◌, ◌<◌, ◌^◌, Some, IsSome};
 ghost use Rattle.exi_bits.specs.Pens.{written_bits};
 ghost use Rattle.exi_schema.specs.Offers.{IsPlace};
 ghost use Rattle.exi_schema.specs.Steps.{simple_at};
-ghost use Rattle.exi_documents.specs.Grammar.{Inside, stands};
-ghost use Rattle.exi_documents.specs.Values.{Entries, most_entries};
-ghost use Rattle.exi_values.specs.Meaning.{AreTexts, event_of, texts_in, value_of};
+ghost use Rattle.exi_writing.specs.Grammar.{Inside, stands};
+ghost use Rattle.exi_writing.specs.Values.{Entries, most_entries};
+ghost use Rattle.exi_writing.specs.Meaning.{AreTexts, event_of, texts_in, value_of};
 ghost use Rattle.exi_writing.specs.Writing.{HasLength};
 ghost use Rattle.exi_events.specs.Open.{opened_of};
 ghost use Rattle.exi_events.specs.Reader.{standing_of, state_of, IsReadyAt};
@@ -17,7 +17,7 @@ use crate::open::{OpenElement, OpenElements};
 use crate::reader::Phase;
 use exi_bits::BitPen;
 use exi_schema::{Offer, Places, Step};
-use exi_values::{Event, Table};
+use exi_writing::exi_values::{Event, Table};
 use exi_writing::value_bits;
 
 /// The bits of the value of an event, as one of a simple kind.

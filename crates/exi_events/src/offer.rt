@@ -6,16 +6,16 @@ ghost use Rattle.exi_schema.specs.declared.places.Root.TheVariants.{Kind};
 ghost use Rattle.exi_schema.specs.declared.places.Step.{Step as SchemaStep};
 ghost use Rattle.exi_schema.specs.Offers.{IsPlace, IsWidth, offers};
 ghost use Rattle.exi_schema.specs.Steps.{IsStep, IsRoot, simple_at};
-ghost use Rattle.exi_documents.specs.Grammar.{Inside, stands};
-ghost use Rattle.exi_documents.specs.Values.{most_entries};
-ghost use Rattle.exi_values.specs.Meaning.{AreTexts, texts_in, value_of};
+ghost use Rattle.exi_writing.specs.Grammar.{Inside, stands};
+ghost use Rattle.exi_writing.specs.Values.{most_entries};
+ghost use Rattle.exi_writing.specs.Meaning.{AreTexts, texts_in, value_of};
 ghost use Rattle.exi_events.specs.Open.{opened_of};
 ghost use Rattle.exi_events.specs.Writer.{IsOffered, IsShapedEvent, IsStepOf, IsFound, MayWrite, sought_in, value_in};
 
 use crate::open::OpenElement;
 use crate::value::{has_entry, is_value};
 use exi_schema::{Offer, Place, Places, Root, Sought, Step};
-use exi_values::{Event, Table, Value};
+use exi_writing::exi_values::{Event, Table, Value};
 
 /// Whether a document number names a root.
 pub(crate) fn names_root<P: Places>(places: &P, number: u32) -> bool

@@ -31,7 +31,7 @@ pub(crate) struct OpenElements {
 
 impl Model for OpenElements {
     ghost use Rattle.std.specs.Prelude.{List, map, reverse};
-    ghost use Rattle.exi_documents.specs.Grammar.{Opened};
+    ghost use Rattle.exi_writing.specs.Grammar.{Opened};
     ghost use Rattle.exi_events.specs.Open.{opened_of};
 
     ghost Value = { List Opened };

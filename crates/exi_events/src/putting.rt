@@ -4,9 +4,9 @@ ghost use Rattle.std.specs.Prelude.{◌≡◌, ℕ, ◌↔◌, length, Some, IfO
 ghost use Rattle.exi_bits.specs.Pens.{written_bits};
 ghost use Rattle.exi_schema.specs.declared.places.Root.TheVariants.{Kind};
 ghost use Rattle.exi_schema.specs.Steps.{IsRoot, IsRootOf, simple_at};
-ghost use Rattle.exi_documents.specs.Grammar.{around, stands};
-ghost use Rattle.exi_documents.specs.Values.{Entries, most_entries};
-ghost use Rattle.exi_values.specs.Meaning.{AreTexts, event_of, texts_in, value_of};
+ghost use Rattle.exi_writing.specs.Grammar.{around, stands};
+ghost use Rattle.exi_writing.specs.Values.{Entries, most_entries};
+ghost use Rattle.exi_writing.specs.Meaning.{AreTexts, event_of, texts_in, value_of};
 ghost use Rattle.exi_writing.specs.Writing.{Puts, Lacks, WritesMore, PassesRoom};
 ghost use Rattle.exi_events.specs.Front.{SpellsFront};
 ghost use Rattle.exi_events.specs.Inside.{AreOpen, HasTop};
@@ -20,7 +20,7 @@ use crate::reader::Phase;
 use crate::step::RootNumber;
 use exi_bits::{BitPen, Full};
 use exi_schema::{Offer, Place, Places, Root, Step};
-use exi_values::{Event, Table};
+use exi_writing::exi_values::{Event, Table};
 use exi_writing::put_value;
 
 /// Writes the header and a document number that names a root.

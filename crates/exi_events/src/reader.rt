@@ -1,19 +1,19 @@
 //! Events read from a payload.
 
 ghost use Rattle.std.specs.Prelude.{◌≡◌, ◌+◌, ◌%◌, ◌≤◌, ◌<◌, Bool, List, length, Some, IfOk, IfErr};
-ghost use Rattle.exi_values.specs.Meaning.{IsLent, IsLentEvent};
+ghost use Rattle.exi_writing.specs.Meaning.{IsLent, IsLentEvent};
 ghost use Rattle.exi_bits.specs.Reading.{ahead};
-ghost use Rattle.exi_documents.specs.declared.refusal.RefusalCause.TheVariants as cause;
-ghost use Rattle.exi_values.specs.declared.Event.TheVariants as event;
+ghost use Rattle.exi_writing.specs.RefusalCause.TheVariants as cause;
+ghost use Rattle.exi_writing.specs.Event.TheVariants as event;
 
 use crate::inside::{take_inside, take_whole};
 use crate::open::{OpenElement, OpenElements};
 use crate::sequence::{ThreeValues, take_three};
 use crate::step::take_front;
-use exi_documents::{Refusal, RefusalCause};
 use exi_schema::{Datatype, Place, Places, SequenceChild};
-use exi_values::{Event, Table, Value};
+use exi_writing::exi_documents::{Refusal, RefusalCause};
 use exi_writing::exi_reading::PayloadReader;
+use exi_writing::exi_values::{Event, Table, Value};
 
 /// How far a document is.
 #[derive(Clone, Copy)]
@@ -52,18 +52,18 @@ impl<'a, 'p, P: Places> EventReader<'a, 'p, P> {
     ghost use Rattle.std.specs.Prelude.{◌≡◌, ℕ, ◌≤◌, ◌<◌, ◌∷◌, [], List, length, Some, None, IfSome, IfOk, IfErr, Err};
     ghost use Rattle.exi_spec.specs.Bits.{bits_of};
     ghost use Rattle.exi_schema.specs.Offers.{IsPlace};
-    ghost use Rattle.exi_documents.specs.Documents.{first};
-    ghost use Rattle.exi_documents.specs.Grammar.{Opened, opened, Inside};
-    ghost use Rattle.exi_documents.specs.Refusals.{IsRefused};
+    ghost use Rattle.exi_writing.specs.Documents.{first};
+    ghost use Rattle.exi_writing.specs.Grammar.{Opened, opened, Inside};
+    ghost use Rattle.exi_writing.specs.Refusals.{IsRefused};
     ghost use Rattle.exi_schema.specs.declared.tables.Datatype.{Datatype};
     ghost use Rattle.exi_schema.specs.Steps.{simple_at};
     ghost use Rattle.exi_events.specs.Inside.{HasTop};
     ghost use Rattle.exi_events.specs.Sequence.{HoldsSequence, TakesSequence, values_of};
     ghost use Rattle.exi_events.specs.declared.reader.Phase.TheVariants as phase;
-    ghost use Rattle.exi_documents.specs.Trees.{Event as TreeEvent};
-    ghost use Rattle.exi_documents.specs.Values.{most_entries};
-    ghost use Rattle.exi_values.specs.Meaning.{IsLent, IsLentEvent, event_of, value_of};
-    ghost use Rattle.exi_values.specs.declared.Event.TheVariants as event;
+    ghost use Rattle.exi_writing.specs.Trees.{Event as TreeEvent};
+    ghost use Rattle.exi_writing.specs.Values.{most_entries};
+    ghost use Rattle.exi_writing.specs.Meaning.{IsLent, IsLentEvent, event_of, value_of};
+    ghost use Rattle.exi_writing.specs.Event.TheVariants as event;
     ghost use Rattle.exi_events.specs.Reader.{innermost_place, standing_of, reading_of, events_left, IsReady, IsNext, IsRefusedAt, HasTold, IsTold, TakesValue};
 
     /// A reader at the start of a payload of at most 65,536 bytes. The table is emptied; it has room for 8,192 entries.

@@ -9,8 +9,8 @@ ghost use Rattle.exi_schema.specs.Offers.{offers};
 ghost use Rattle.exi_schema.specs.Plain.{PlainKind};
 ghost use Rattle.exi_schema.specs.Schemas.{PlainSchema};
 ghost use Rattle.exi_schema.specs.Sequences.{TellsSequence};
-ghost use Rattle.exi_documents.specs.Documents.{SpellsStep};
-ghost use Rattle.exi_documents.specs.Grammar.{Opened};
+ghost use Rattle.exi_writing.specs.Documents.{SpellsStep};
+ghost use Rattle.exi_writing.specs.Grammar.{Opened};
 ghost use Rattle.exi_writing.specs.Short.{tree_of};
 ghost use Rattle.exi_events.specs.Sequence.{TakesChild, TakesSequence, OffersChild, values_of, inside_at, behind_all};
 

@@ -9,13 +9,13 @@ ghost use Rattle.exi_schema.specs.declared.places.Step.{Step as SchemaStep};
 ghost use Rattle.exi_schema.specs.Offers.{IsPlace, offers};
 ghost use Rattle.exi_schema.specs.Plain.{PlainKind};
 ghost use Rattle.exi_schema.specs.Steps.{IsStep, IsRoot, IsRootOf};
-ghost use Rattle.exi_documents.specs.Documents.{SpellsStep};
-ghost use Rattle.exi_documents.specs.Refusals.{RefusesStep, step_cause, RefusesFront, RefusesHeader, RefusesNumber};
-ghost use Rattle.exi_documents.specs.declared.refusal.RefusalCause.TheVariants as cause;
+ghost use Rattle.exi_writing.specs.Documents.{SpellsStep};
+ghost use Rattle.exi_writing.specs.Refusals.{RefusesStep, step_cause, RefusesFront, RefusesHeader, RefusesNumber};
+ghost use Rattle.exi_writing.specs.RefusalCause.TheVariants as cause;
 ghost use Rattle.exi_events.specs.Front.{SpellsHeader, SpellsFront};
 
-use exi_documents::{Refusal, RefusalCause};
 use exi_schema::{MemberStanding, Place, Places, Root, Step};
+use exi_writing::exi_documents::{Refusal, RefusalCause};
 use exi_writing::exi_reading::PayloadReader;
 
 /// Takes the event code at a place: what it means, where that may stand there.

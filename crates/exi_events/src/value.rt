@@ -3,17 +3,17 @@
 ghost use Rattle.std.specs.Prelude.{◌≡◌, ◌≤◌, ℕ, length, ◌↔◌, IsTrue, List, Some, MatchBool, slice_get};
 ghost use Rattle.exi_bits.specs.Lent.{items_of, text_at, IsSpan};
 ghost use Rattle.exi_spec.specs.Bits.{bits_of};
-ghost use Rattle.exi_documents.specs.Trees.{Text, Number};
-ghost use Rattle.exi_documents.specs.Values.{most_entries, IsValue};
-ghost use Rattle.exi_values.specs.Meaning.{AreTexts, IsShaped, texts_in, value_of};
-ghost use Rattle.exi_strings.specs.Table.{global_of};
-ghost use Rattle.exi_strings.specs.Texts.{IsAbsent};
+ghost use Rattle.exi_writing.specs.Trees.{Text, Number};
+ghost use Rattle.exi_writing.specs.Values.{most_entries, IsValue};
+ghost use Rattle.exi_writing.specs.Meaning.{AreTexts, IsShaped, texts_in, value_of};
+ghost use Rattle.exi_writing.specs.Table.{global_of};
+ghost use Rattle.exi_writing.specs.Texts.{IsAbsent};
 ghost use Rattle.exi_writing.specs.Entering.{HasEntryFor};
 
 use exi_bits::{BitSpan, SpanAt};
-use exi_documents::MOST_ENTRIES;
 use exi_schema::Datatype;
-use exi_values::{Table, Value};
+use exi_writing::exi_documents::MOST_ENTRIES;
+use exi_writing::exi_values::{Table, Value};
 
 /// Whether a value is one of a datatype.
 #[inline(always)]

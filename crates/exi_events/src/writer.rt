@@ -9,7 +9,7 @@ use crate::putting::put_event;
 use crate::reader::Phase;
 use exi_bits::{BitPen, Full, begun_bytes};
 use exi_schema::{Place, Places};
-use exi_values::{Event, Table};
+use exi_writing::exi_values::{Event, Table};
 
 /// Why an event is not put.
 #[derive(Clone, Copy, Debug, PartialEq, Eq)]
@@ -41,10 +41,10 @@ pub struct EventWriter<'b, 'p, P: Places> {
 impl<'b, 'p, P: Places> EventWriter<'b, 'p, P> {
     ghost use Rattle.std.specs.Prelude.{◌<◌, ◌∷◌, [], ◌↔◌, IsTrue, IsSome, List, take, Some, None, IfSome, IfErr, OnOk, OnErr, IsErr, Err};
     ghost use Rattle.exi_bits.specs.Written.{HoldsBits};
-    ghost use Rattle.exi_documents.specs.Trees.{Event as TreeEvent};
-    ghost use Rattle.exi_documents.specs.Values.{most_entries};
-    ghost use Rattle.exi_documents.specs.Grammar.{Behind};
-    ghost use Rattle.exi_values.specs.Meaning.{event_of};
+    ghost use Rattle.exi_writing.specs.Trees.{Event as TreeEvent};
+    ghost use Rattle.exi_writing.specs.Values.{most_entries};
+    ghost use Rattle.exi_writing.specs.Grammar.{Behind};
+    ghost use Rattle.exi_writing.specs.Meaning.{event_of};
     ghost use Rattle.exi_schema.specs.Offers.{IsPlace};
     ghost use Rattle.exi_events.specs.Reader.{innermost_place};
     ghost use Rattle.exi_events.specs.Writer.{draft_of, IsReadyToPut, KeepsLent, AddsSome, HasPut, IsOffered, IsFoundAt, IsShapedEvent, IsPut, HasNoRoom, IsNeeded, IsWritten};

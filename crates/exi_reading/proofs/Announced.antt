@@ -9,11 +9,11 @@ use Rattle.exi_bits.specs.Lent.{Span, items_of}
 use Rattle.exi_bits.specs.Reading.{Cursor, Takes, ahead}
 use Rattle.exi_bits.specs.declared.span.SpanAt.{SpanAt}
 use Rattle.exi_schema.specs.declared.tables.Datatype.TheVariants.{Text}
-use Rattle.exi_strings.specs.Table.{global_of, local_of}
-use Rattle.exi_strings.specs.Texts.{SpellsIndex, SpellsText, entered}
-use Rattle.exi_documents.specs.Values.{Entries, most_entries, cause_of, RefusesValue, RefusesIndex, RefusesAnnounced, Overfills}
-use Rattle.exi_documents.specs.declared.refusal.Refusal.{Refusal}
-use Rattle.exi_documents.specs.declared.refusal.RefusalCause.TheVariants.{TooLong, TableFull}
+use Rattle.exi_values.specs.Table.{global_of, local_of}
+use Rattle.exi_values.specs.Texts.{SpellsIndex, SpellsText, entered}
+use Rattle.exi_values.specs.Values.{Entries, most_entries, cause_of, RefusesValue, RefusesIndex, RefusesAnnounced, Overfills}
+use Rattle.exi_values.specs.Refusal.{Refusal}
+use Rattle.exi_values.specs.RefusalCause.TheVariants.{TooLong, TableFull}
 use Rattle.exi_values.specs.Meaning.{texts_in}
 use Rattle.exi_reading.specs.Refusing.{Refused}
 use Rattle.exi_reading.proofs.Parts.{announced}

@@ -8,11 +8,11 @@ use Rattle.exi_spec.specs.Items.{SpellsNumber, RefusesBits}
 use Rattle.exi_bits.specs.Lent.{Span, items_of, text_at}
 use Rattle.exi_bits.specs.Reading.{Cursor, Takes, ahead}
 use Rattle.exi_bits.specs.declared.span.SpanAt.{SpanAt}
-use Rattle.exi_strings.specs.Texts.{IsIndexWidth, SpellsIndex}
-use Rattle.exi_documents.specs.Values.{RefusesItem, RefusesIndex}
-use Rattle.exi_documents.specs.declared.refusal.Refusal.{Refusal}
-use Rattle.exi_documents.specs.declared.refusal.RefusalCause.{RefusalCause}
-use Rattle.exi_documents.specs.declared.refusal.RefusalCause.TheVariants.{TooLong, NoSuchIndex}
+use Rattle.exi_values.specs.Texts.{IsIndexWidth, SpellsIndex}
+use Rattle.exi_values.specs.Values.{RefusesItem, RefusesIndex}
+use Rattle.exi_values.specs.Refusal.{Refusal}
+use Rattle.exi_values.specs.RefusalCause.{RefusalCause}
+use Rattle.exi_values.specs.RefusalCause.TheVariants.{TooLong, NoSuchIndex}
 use Rattle.exi_reading.proofs.Places.{text_of}
 
 -- a partition of texts by the partition of their places

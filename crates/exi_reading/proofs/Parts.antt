@@ -5,11 +5,11 @@ use Rattle.std.specs.Result.{IfOk}
 use Rattle.exi_spec.specs.Items.{SpellsUnsigned, SpellsInteger, SpellsBytes, RefusesUnsigned}
 use Rattle.exi_bits.specs.Lent.{Span, items_of}
 use Rattle.exi_bits.specs.Reading.{Cursor, Takes, ahead}
-use Rattle.exi_strings.specs.Texts.{Announces}
+use Rattle.exi_values.specs.Texts.{Announces}
 use Rattle.exi_schema.specs.declared.tables.Datatype.TheVariants.{Binary, Signed}
-use Rattle.exi_documents.specs.Values.{RefusesValue, RefusesItem, Exceeds}
-use Rattle.exi_documents.specs.declared.refusal.Refusal.{Refusal}
-use Rattle.exi_documents.specs.declared.refusal.RefusalCause.TheVariants.{TooLong, OutOfRange}
+use Rattle.exi_values.specs.Values.{RefusesValue, RefusesItem, Exceeds}
+use Rattle.exi_values.specs.Refusal.{Refusal}
+use Rattle.exi_values.specs.RefusalCause.TheVariants.{TooLong, OutOfRange}
 use Rattle.exi_reading.specs.Refusing.{Refused}
 
 -- a number, and what it announces

@@ -4,7 +4,7 @@ use Rattle.std.specs.Prelude.{slice_get}
 use Rattle.std.specs.List.{AllByRecursion}
 use Rattle.exi_bits.specs.Lent.{Span, IsSpan, items_of, text_at}
 use Rattle.exi_bits.specs.declared.span.SpanAt.{SpanAt}
-use Rattle.exi_strings.specs.Table.{Table, global_of, local_of}
+use Rattle.exi_values.specs.Table.{Table, global_of, local_of}
 use Rattle.exi_values.specs.Meaning.{texts_in, AreTexts}
 
 -- the text at a place

@@ -6,9 +6,9 @@ use Rattle.exi_bits.specs.Reading.{Cursor, Takes}
 use Rattle.exi_bits.specs.declared.span.SpanAt.{SpanAt}
 use Rattle.exi_schema.specs.declared.tables.Datatype.{Datatype}
 use Rattle.exi_schema.specs.declared.tables.Datatype.TheVariants.{Unsigned, Signed, Bounded}
-use Rattle.exi_documents.specs.Trees.{Number}
-use Rattle.exi_documents.specs.Values.{Entries, SpellsBounded, SpellsValue, RefusesValue}
-use Rattle.exi_documents.specs.declared.refusal.Refusal.{Refusal}
+use Rattle.exi_values.specs.Trees.{Number}
+use Rattle.exi_values.specs.Values.{Entries, SpellsBounded, SpellsValue, RefusesValue}
+use Rattle.exi_values.specs.Refusal.{Refusal}
 use Rattle.exi_values.specs.Meaning.{texts_in, value_of}
 use Rattle.exi_values.specs.declared.Value.{Value}
 use Rattle.exi_reading.specs.Refusing.{Refused}

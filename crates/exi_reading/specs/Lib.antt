@@ -1,2 +1,14 @@
+pub use Rattle.exi_values.specs.Meaning
+pub use Rattle.exi_values.specs.declared.Value
+pub use Rattle.exi_values.specs.declared.Event
+pub use Rattle.exi_values.specs.Trees
+pub use Rattle.exi_values.specs.Values
+pub use Rattle.exi_values.specs.Documents
+pub use Rattle.exi_values.specs.Grammar
+pub use Rattle.exi_values.specs.Refusals
+pub use Rattle.exi_values.specs.Refusal
+pub use Rattle.exi_values.specs.RefusalCause
+pub use Rattle.exi_values.specs.Table
+pub use Rattle.exi_values.specs.Texts
 pub mod Refusing
 pub mod Short

@@ -1,5 +1,5 @@
 -- Own: what a value of few bits is.
-use Rattle.exi_documents.specs.Trees.{Value, Truth, Ordinal, Number}
+use Rattle.exi_values.specs.Trees.{Value, Truth, Ordinal, Number}
 use Rattle.exi_reading.specs.declared.short.ShortValue.{ShortValue}
 use Rattle.exi_reading.specs.declared.short.ShortValue.TheVariants as short
 

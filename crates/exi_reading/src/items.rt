@@ -6,12 +6,12 @@ ghost use Rattle.exi_spec.specs.declared.BitCause.{BitCause};
 ghost use Rattle.exi_bits.specs.Reading.{Takes, ahead};
 ghost use Rattle.exi_bits.specs.Lent.{items_of};
 ghost use Rattle.exi_schema.specs.declared.tables.Datatype.{Datatype};
-ghost use Rattle.exi_strings.specs.Texts.{IsIndexWidth, Announces};
-ghost use Rattle.exi_documents.specs.Values.{cause_of, SpellsCode, SpellsBounded, RefusesItem, RefusesCode, RefusesValue, Exceeds};
+ghost use Rattle.exi_values.specs.Texts.{IsIndexWidth, Announces};
+ghost use Rattle.exi_values.specs.Values.{cause_of, SpellsCode, SpellsBounded, RefusesItem, RefusesCode, RefusesValue, Exceeds};
 ghost use Rattle.exi_reading.specs.Refusing.{Refused};
 
 use exi_bits::{BitCursor, BitFault, BitSpan};
-use exi_documents::{Refusal, RefusalCause};
+use exi_values::exi_documents::{Refusal, RefusalCause};
 
 /// An item that can't be taken, as the refusal of the payload.
 pub(crate) fn refusal(fault: BitFault) -> Refusal

@@ -13,6 +13,7 @@ mod short;
 mod texts;
 
 pub use exi_bits::BitWindow;
+pub use exi_values;
 pub use items::index_width;
 pub use reader::PayloadReader;
 pub use short::{ShortValue, short_value};

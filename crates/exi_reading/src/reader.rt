@@ -4,13 +4,13 @@ ghost use Rattle.std.specs.Prelude.{◌≡◌, ℕ, ◌+◌, ◌≤◌, ◌<◌,
 ghost use Rattle.exi_spec.specs.Bits.{bits_of};
 ghost use Rattle.exi_spec.specs.Items.{SpellsNumber, RefusesBits};
 ghost use Rattle.exi_schema.specs.Schemas.{is_datatype};
-ghost use Rattle.exi_documents.specs.Values.{most_entries, SpellsValue, RefusesItem, RefusesValue};
+ghost use Rattle.exi_values.specs.Values.{most_entries, SpellsValue, RefusesItem, RefusesValue};
 ghost use Rattle.exi_values.specs.Meaning.{AreTexts, IsLent, texts_in, value_of};
 
 use crate::{items, texts};
 use exi_bits::{BitCursor, BitWindow};
-use exi_documents::{Refusal, RefusalCause};
 use exi_schema::Datatype;
+use exi_values::exi_documents::{Refusal, RefusalCause};
 use exi_values::{Table, Value};
 use std::marker::Model;
 

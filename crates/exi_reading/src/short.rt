@@ -2,7 +2,7 @@
 
 ghost use Rattle.std.specs.Prelude.{◌≡◌, ℕ, Bool, List, IfSome};
 ghost use Rattle.exi_bits.specs.Reading.{Takes};
-ghost use Rattle.exi_documents.specs.Values.{Entries, SpellsCode, SpellsValue};
+ghost use Rattle.exi_values.specs.Values.{Entries, SpellsCode, SpellsValue};
 ghost use Rattle.exi_reading.specs.Short.{tree_of};
 
 use crate::items::index_width;

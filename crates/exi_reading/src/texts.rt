@@ -7,16 +7,16 @@ ghost use Rattle.exi_spec.specs.declared.BitCause.{BitCause};
 ghost use Rattle.exi_bits.specs.Reading.{Takes, ahead};
 ghost use Rattle.exi_bits.specs.Lent.{items_of, text_at, IsSpan};
 ghost use Rattle.exi_schema.specs.declared.tables.Datatype.{Datatype};
-ghost use Rattle.exi_strings.specs.Table.{global_of, local_of};
-ghost use Rattle.exi_strings.specs.Texts.{SpellsText, SpellsIndex, entered};
-ghost use Rattle.exi_documents.specs.Values.{cause_of, most_entries, RefusesItem, RefusesIndex, RefusesValue};
+ghost use Rattle.exi_values.specs.Table.{global_of, local_of};
+ghost use Rattle.exi_values.specs.Texts.{SpellsText, SpellsIndex, entered};
+ghost use Rattle.exi_values.specs.Values.{cause_of, most_entries, RefusesItem, RefusesIndex, RefusesValue};
 ghost use Rattle.exi_values.specs.Meaning.{texts_in, AreTexts};
 ghost use Rattle.exi_reading.specs.Refusing.{Refused};
 
 use crate::items::{index_width, refusal, take_number};
 use exi_bits::{BitCursor, BitSpan, SpanAt};
-use exi_documents::{MOST_ENTRIES, Refusal, RefusalCause};
 use exi_values::Table;
+use exi_values::exi_documents::{MOST_ENTRIES, Refusal, RefusalCause};
 
 /// A text of at most `most` code points, of the element or attribute with this name.
 ///

@@ -103,7 +103,7 @@ pub struct SequenceChild {
 }
 
 /// What a document number names.
-#[derive(Clone, Copy, Debug, PartialEq, Eq)]
+#[derive(Clone, Copy, PartialEq, Eq)]
 pub enum Root {
     /// The element with the numbers of its name and kind.
     Kind { name: u16, kind: u16 },

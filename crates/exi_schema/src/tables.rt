@@ -1,7 +1,7 @@
 //! A schema as plain tables.
 
 /// The datatype of a simple kind (W3C EXI 1.0, Second Edition, 7.1).
-#[derive(Clone, Copy, Debug, PartialEq, Eq)]
+#[derive(Clone, Copy, PartialEq, Eq)]
 pub enum Datatype {
     /// 7.1.2 Boolean.
     Bool,

@@ -1,1 +1,10 @@
+pub use Rattle.exi_documents.specs.Trees
+pub use Rattle.exi_documents.specs.Values
+pub use Rattle.exi_documents.specs.declared.refusal.Refusal
+pub use Rattle.exi_documents.specs.declared.refusal.RefusalCause
+pub use Rattle.exi_documents.specs.Documents
+pub use Rattle.exi_documents.specs.Grammar
+pub use Rattle.exi_documents.specs.Refusals
+pub use Rattle.exi_documents.specs.Table
+pub use Rattle.exi_documents.specs.Texts
 pub mod Meaning

@@ -5,6 +5,7 @@
 #![tactic(auto)]
 
 use exi_bits::{BitSpan, SpanAt};
+pub use exi_documents;
 use exi_documents::exi_strings::Partitions;
 
 /// The value of an element or of an attribute.

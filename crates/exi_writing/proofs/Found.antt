@@ -8,7 +8,7 @@ use Rattle.std.proofs.lemmas.Option.{slice_get-map, slice_get_within}
 use Rattle.exi_bits.specs.Lent.{IsSpan, text_at}
 use Rattle.exi_bits.specs.declared.span.SpanAt.{SpanAt}
 use Rattle.exi_bits.proofs.Spans.{items_of-held}
-use Rattle.exi_strings.specs.Texts.{IsFirstAt, IsAbsent}
+use Rattle.exi_reading.specs.Texts.{IsFirstAt, IsAbsent}
 use Rattle.exi_reading.proofs.Places.{text_of}
 
 -- it is none of the first ones

@@ -6,18 +6,18 @@ use Rattle.exi_spec.specs.Items.{shortest_unsigned, shortest_chars}
 use Rattle.exi_spec.proofs.BitLaws.{length-number_bits, length-bits_of}
 use Rattle.exi_schema.specs.declared.tables.Datatype.{Datatype}
 use Rattle.exi_schema.specs.declared.tables.Datatype.TheVariants.{Named, Bounded}
-use Rattle.exi_strings.specs.Table.{Table, global_of, local_of}
-use Rattle.exi_strings.specs.Texts.{IsIndexWidth, IsFirstAt, IsAbsent, entered}
-use Rattle.exi_documents.specs.Trees.{Value, Truth, Ordinal, Number, Bytes, Text}
-use Rattle.exi_documents.specs.Values.{Entries, most_entries, IsValue, SpellsCode, WritesValue}
+use Rattle.exi_reading.specs.Table.{Table, global_of, local_of}
+use Rattle.exi_reading.specs.Texts.{IsIndexWidth, IsFirstAt, IsAbsent, entered}
+use Rattle.exi_reading.specs.Trees.{Value, Truth, Ordinal, Number, Bytes, Text}
+use Rattle.exi_reading.specs.Values.{Entries, most_entries, IsValue, SpellsCode, WritesValue}
 use Rattle.exi_bits.specs.Lent.{Span, items_of}
 use Rattle.exi_bits.specs.Pens.{written_bits}
 use Rattle.exi_bits.specs.declared.pen.BitPen.{BitPen}
 use Rattle.exi_bits.specs.declared.pen.Full.{Full}
 use Rattle.exi_bits.specs.declared.span.SpanAt.{SpanAt}
-use Rattle.exi_values.specs.Meaning.{AreTexts, texts_in, value_of}
-use Rattle.exi_values.specs.declared.Value.{Value as Given}
-use Rattle.exi_values.specs.declared.Value.TheVariants as value
+use Rattle.exi_reading.specs.Meaning.{AreTexts, texts_in, value_of}
+use Rattle.exi_reading.specs.Value.{Value as Given}
+use Rattle.exi_reading.specs.Value.TheVariants as value
 use Rattle.exi_writing.specs.Writing.{HasLength, Lacks, NeedsInAll, PassesRoom, WritesMore, WritesPlain}
 use Rattle.exi_writing.specs.Entering.{HasEntryFor, SpellsHitAt, WritesTextInto}
 use Rattle.exi_writing.proofs.Strings.{keeps_local, keeps_global, entered_few, spelled_out, length-texts_in, texts_kept}

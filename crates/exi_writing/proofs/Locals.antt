@@ -4,7 +4,7 @@ use Rattle.std.specs.Prelude.{slice_get}
 use Rattle.std.proofs.lemmas.Bool.{ne_eqb}
 use Rattle.std.proofs.Math.Seq.{drop-cons}
 use Rattle.exi_bits.specs.declared.span.SpanAt.{SpanAt}
-use Rattle.exi_strings.specs.Table.{local_of}
+use Rattle.exi_reading.specs.Table.{local_of}
 
 local_own : (name : ℕ) (entry : ℕ × SpanAt) (entries : List (ℕ × SpanAt)) → entry.0 ≡ name → local_of name (entry ∷ entries) ≡ entry.1 ∷ local_of name entries
 local_own name entry entries is = ap (λ (b : Bool). cond b (entry.1 ∷ local_of name entries) (local_of name entries)) (eq-eqb entry.0 name is)

@@ -5,8 +5,8 @@ use Rattle.exi_spec.specs.Bits.{number_bits, bits_of}
 use Rattle.exi_spec.proofs.BitLaws.{length-number_bits}
 use Rattle.exi_bits.specs.Pens.{Needs}
 use Rattle.exi_bits.specs.declared.pen.BitPen.{BitPen}
-use Rattle.exi_strings.specs.Texts.{IsIndexWidth}
-use Rattle.exi_documents.specs.Values.{SpellsCode}
+use Rattle.exi_reading.specs.Texts.{IsIndexWidth}
+use Rattle.exi_reading.specs.Values.{SpellsCode}
 use Rattle.exi_writing.specs.Writing.{Lacks}
 use Rattle.exi_writing.proofs.Pens.{on_err}
 

@@ -6,9 +6,9 @@ use Rattle.exi_spec.specs.Bits.{number_bits}
 use Rattle.exi_spec.specs.Items.{shortest_unsigned}
 use Rattle.exi_schema.specs.declared.tables.Datatype.{Datatype}
 use Rattle.exi_schema.specs.declared.tables.Datatype.TheVariants.{Bool as BoolType, Named, Bounded, Unsigned, Signed, Binary, Text as TextType}
-use Rattle.exi_strings.specs.Texts.{IsIndexWidth, IsFirstAt, IsAbsent, WritesHit, WritesText}
-use Rattle.exi_documents.specs.Trees.{Value, Truth, Ordinal, Number, Bytes, Text}
-use Rattle.exi_documents.specs.Values.{Entries, SpellsCode, SpellsBounded, WritesValue}
+use Rattle.exi_reading.specs.Texts.{IsIndexWidth, IsFirstAt, IsAbsent, WritesHit, WritesText}
+use Rattle.exi_reading.specs.Trees.{Value, Truth, Ordinal, Number, Bytes, Text}
+use Rattle.exi_reading.specs.Values.{Entries, SpellsCode, SpellsBounded, WritesValue}
 
 same_index_width : (n v w : ℕ) → IsIndexWidth n v → IsIndexWidth n w → v ≡ w
 same_index_width n v w a b = le_antisymm (a.least w b.enough) (b.least v a.enough)

@@ -6,7 +6,7 @@ use Rattle.exi_bits.specs.Lent.{Span, Holds, IsSpan, items_of, text_at}
 use Rattle.exi_bits.specs.Written.{HoldsBits}
 use Rattle.exi_bits.specs.declared.span.SpanAt.{SpanAt}
 use Rattle.exi_bits.proofs.Spans.{items_of-held}
-use Rattle.exi_values.specs.Meaning.{AreTexts, texts_in}
+use Rattle.exi_reading.specs.Meaning.{AreTexts, texts_in}
 
 held_behind : (bits more : List Bool) (at : SpanAt) (items : List ℕ) → Holds (text_at bits at) items → Holds (text_at (bits ++ more) at) items
 held_behind bits more at items h =

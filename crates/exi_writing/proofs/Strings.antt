@@ -14,11 +14,11 @@ use Rattle.exi_bits.specs.Pens.{written_bits, Writes, Needs}
 use Rattle.exi_bits.specs.declared.pen.BitPen.{BitPen}
 use Rattle.exi_bits.specs.declared.span.SpanAt.{SpanAt}
 use Rattle.exi_bits.proofs.Spans.{items_of-held}
-use Rattle.exi_strings.specs.Table.{global_of, local_of}
-use Rattle.exi_strings.specs.Texts.{IsIndexWidth, IsFirstAt, IsAbsent, WritesHit, entered}
-use Rattle.exi_documents.specs.Trees.{Text}
-use Rattle.exi_documents.specs.Values.{Entries, most_entries, SpellsCode}
-use Rattle.exi_values.specs.Meaning.{AreTexts, texts_in}
+use Rattle.exi_reading.specs.Table.{global_of, local_of}
+use Rattle.exi_reading.specs.Texts.{IsIndexWidth, IsFirstAt, IsAbsent, WritesHit, entered}
+use Rattle.exi_reading.specs.Trees.{Text}
+use Rattle.exi_reading.specs.Values.{Entries, most_entries, SpellsCode}
+use Rattle.exi_reading.specs.Meaning.{AreTexts, texts_in}
 use Rattle.exi_reading.proofs.Places.{AreTexts-push}
 use Rattle.exi_writing.specs.Writing.{Puts, Lacks, WritesMore}
 use Rattle.exi_writing.specs.Entering.{HasEntryFor, SpellsHitAt, WritesTextInto}

@@ -8,8 +8,8 @@ use Rattle.exi_spec.specs.Items.{SpellsChars}
 use Rattle.exi_bits.specs.Lent.{Span, IsSpan, SpellsItems, items_of}
 use Rattle.exi_bits.proofs.Spans.{items_of-held}
 use Rattle.exi_schema.specs.declared.tables.Datatype.TheVariants.{Text as TextType}
-use Rattle.exi_documents.specs.Trees.{Text}
-use Rattle.exi_documents.specs.Values.{IsValue}
+use Rattle.exi_reading.specs.Trees.{Text}
+use Rattle.exi_reading.specs.Values.{IsValue}
 
 both : (a b : Bool) → (a && b) ≡ true → (a ≡ true) × (b ≡ true)
 both true b h = (refl, h)

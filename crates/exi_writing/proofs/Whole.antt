@@ -9,10 +9,10 @@ use Rattle.exi_bits.specs.declared.pen.BitPen.{BitPen}
 use Rattle.exi_bits.specs.declared.span.SpanAt.{SpanAt}
 use Rattle.exi_schema.specs.declared.tables.Datatype.{Datatype}
 use Rattle.exi_schema.specs.declared.tables.Datatype.TheVariants.{Bool as BoolType, Named, Bounded, Unsigned, Signed, Binary, Text as TextType}
-use Rattle.exi_documents.specs.Trees.{Value as TreeValue, Truth, Ordinal, Number, Bytes, Text}
-use Rattle.exi_documents.specs.Values.{Entries, IsValue, SpellsBounded, WritesValue}
-use Rattle.exi_values.specs.Meaning.{AreTexts, texts_in, value_of}
-use Rattle.exi_values.specs.declared.Value.{Value}
+use Rattle.exi_reading.specs.Trees.{Value as TreeValue, Truth, Ordinal, Number, Bytes, Text}
+use Rattle.exi_reading.specs.Values.{Entries, IsValue, SpellsBounded, WritesValue}
+use Rattle.exi_reading.specs.Meaning.{AreTexts, texts_in, value_of}
+use Rattle.exi_reading.specs.Value.{Value}
 use Rattle.exi_writing.specs.Writing.{Puts, Lacks, WritesPlain}
 use Rattle.exi_writing.specs.Entering.{WritesTextInto}
 use Rattle.exi_writing.proofs.Pens.{had_room}

@@ -1,10 +1,10 @@
 -- W3C EXI 1.0 (Second Edition) 7.3.3: what the string table needs for a text, and what stands for one that it has.
 use Rattle.std.specs.Prelude.{◌≡◌, ℕ, ◌<◌, ◌≤◌, Bool, List, [], ◌∷◌, ◌++◌, length}
 use Rattle.exi_spec.specs.Items.{shortest_unsigned}
-use Rattle.exi_strings.specs.Table.{global_of, local_of}
-use Rattle.exi_strings.specs.Texts.{IsAbsent, WritesText}
-use Rattle.exi_documents.specs.Trees.{Value, Truth, Ordinal, Number, Bytes, Text}
-use Rattle.exi_documents.specs.Values.{Entries, most_entries, SpellsCode}
+use Rattle.exi_reading.specs.Table.{global_of, local_of}
+use Rattle.exi_reading.specs.Texts.{IsAbsent, WritesText}
+use Rattle.exi_reading.specs.Trees.{Value, Truth, Ordinal, Number, Bytes, Text}
+use Rattle.exi_reading.specs.Values.{Entries, most_entries, SpellsCode}
 
 -- a text that isn't empty and stands in neither partition is one more entry
 abbrev pub HasEntryFor : Entries → ℕ → Value → Type 0

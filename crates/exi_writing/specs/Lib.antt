@@ -1,3 +1,15 @@
+pub use Rattle.exi_reading.specs.Meaning
+pub use Rattle.exi_reading.specs.Event
+pub use Rattle.exi_reading.specs.Value
+pub use Rattle.exi_reading.specs.Documents
+pub use Rattle.exi_reading.specs.Grammar
+pub use Rattle.exi_reading.specs.Refusals
+pub use Rattle.exi_reading.specs.Trees
+pub use Rattle.exi_reading.specs.Values
+pub use Rattle.exi_reading.specs.Refusal
+pub use Rattle.exi_reading.specs.RefusalCause
+pub use Rattle.exi_reading.specs.Table
+pub use Rattle.exi_reading.specs.Texts
 pub mod Writing
 pub mod Source
 pub mod Entering

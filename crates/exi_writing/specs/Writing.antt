@@ -4,8 +4,8 @@ use Rattle.exi_bits.specs.Pens.{written_bits, Writes, Needs}
 use Rattle.exi_bits.specs.declared.pen.BitPen.{BitPen}
 use Rattle.exi_bits.specs.declared.pen.Full.{Full}
 use Rattle.exi_schema.specs.declared.tables.Datatype.{Datatype}
-use Rattle.exi_documents.specs.Trees.{Value}
-use Rattle.exi_documents.specs.Values.{WritesValue}
+use Rattle.exi_reading.specs.Trees.{Value}
+use Rattle.exi_reading.specs.Values.{WritesValue}
 
 -- the pen has written a spelling behind the others
 abbrev pub Puts : (List Bool → Type 0) → BitPen → BitPen → Type 0

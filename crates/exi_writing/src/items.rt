@@ -6,8 +6,8 @@ ghost use Rattle.exi_spec.specs.Bits.{bits_of};
 ghost use Rattle.exi_spec.specs.Items.{shortest_unsigned};
 ghost use Rattle.exi_bits.specs.Lent.{items_of};
 ghost use Rattle.exi_bits.specs.Pens.{Writes, Needs, SamePen};
-ghost use Rattle.exi_documents.specs.Trees.{Ordinal, Number};
-ghost use Rattle.exi_documents.specs.Values.{IsValue, SpellsCode, SpellsBounded};
+ghost use Rattle.exi_reading.specs.Trees.{Ordinal, Number};
+ghost use Rattle.exi_reading.specs.Values.{IsValue, SpellsCode, SpellsBounded};
 ghost use Rattle.exi_writing.specs.Writing.{Puts, Lacks, WritesMore, PassesRoom, WritesPlain};
 
 use exi_bits::{BitPen, BitSpan, Full};

@@ -14,5 +14,7 @@ mod texts;
 mod value;
 
 pub use exi_reading;
+pub use exi_reading::exi_values;
+pub use exi_reading::exi_values::exi_documents;
 pub use needed::value_bits;
 pub use value::put_value;

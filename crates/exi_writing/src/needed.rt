@@ -4,9 +4,9 @@ ghost use Rattle.std.specs.Prelude.{◌≡◌, ◌<◌, ◌^◌, length};
 ghost use Rattle.std.specs.List.{AllByRecursion};
 ghost use Rattle.std.specs.Char.{IsScalar};
 ghost use Rattle.exi_bits.specs.Pens.{written_bits};
-ghost use Rattle.exi_documents.specs.Trees.{Ordinal, Number, Text};
-ghost use Rattle.exi_documents.specs.Values.{Entries, most_entries, IsValue, WritesValue};
-ghost use Rattle.exi_values.specs.Meaning.{AreTexts, IsShaped, texts_in, value_of};
+ghost use Rattle.exi_reading.specs.Trees.{Ordinal, Number, Text};
+ghost use Rattle.exi_reading.specs.Values.{Entries, most_entries, IsValue, WritesValue};
+ghost use Rattle.exi_reading.specs.Meaning.{AreTexts, IsShaped, texts_in, value_of};
 ghost use Rattle.exi_writing.specs.Writing.{HasLength, WritesPlain};
 ghost use Rattle.exi_writing.specs.Source.{chars_of, IsText};
 ghost use Rattle.exi_writing.specs.Entering.{HasEntryFor, SpellsHitAt, WritesTextInto};
@@ -14,9 +14,9 @@ ghost use Rattle.exi_writing.specs.Entering.{HasEntryFor, SpellsHitAt, WritesTex
 use crate::source::TextSource;
 use crate::texts::{find_global, find_local};
 use exi_bits::{BitPen, integer_bits, unsigned_bits};
+use exi_reading::exi_values::{Table, Value};
 use exi_reading::index_width;
 use exi_schema::Datatype;
-use exi_values::{Table, Value};
 
 /// How many bits `put_value` writes for a value of a datatype, of the element or attribute with this name, behind what a pen has
 /// written.

@@ -6,19 +6,19 @@ ghost use Rattle.std.specs.Char.{IsScalar};
 ghost use Rattle.exi_spec.specs.Items.{shortest_unsigned, shortest_chars};
 ghost use Rattle.exi_bits.specs.Lent.{items_of, text_at, IsSpan};
 ghost use Rattle.exi_bits.specs.Pens.{written_bits, Writes, Needs};
-ghost use Rattle.exi_strings.specs.Table.{global_of, local_of};
-ghost use Rattle.exi_strings.specs.Texts.{IsFirstAt, IsAbsent};
-ghost use Rattle.exi_documents.specs.Trees.{Text};
-ghost use Rattle.exi_documents.specs.Values.{Entries, most_entries};
-ghost use Rattle.exi_values.specs.Meaning.{AreTexts, texts_in};
+ghost use Rattle.exi_reading.specs.Table.{global_of, local_of};
+ghost use Rattle.exi_reading.specs.Texts.{IsFirstAt, IsAbsent};
+ghost use Rattle.exi_reading.specs.Trees.{Text};
+ghost use Rattle.exi_reading.specs.Values.{Entries, most_entries};
+ghost use Rattle.exi_reading.specs.Meaning.{AreTexts, texts_in};
 ghost use Rattle.exi_writing.specs.Writing.{Puts, Lacks, WritesMore, PassesRoom};
 ghost use Rattle.exi_writing.specs.Source.{chars_of, IsText};
 ghost use Rattle.exi_writing.specs.Entering.{HasEntryFor, SpellsHitAt, WritesTextInto};
 
 use crate::source::TextSource;
 use exi_bits::{BitPen, BitSpan, Full, SpanAt};
+use exi_reading::exi_values::Table;
 use exi_reading::index_width;
-use exi_values::Table;
 
 /// A text of the element or attribute with this name: by its first place in the local partition, else by its first place in the
 /// global one, else spelled out and, unless it is empty, entered.

@@ -2,8 +2,8 @@
 
 ghost use Rattle.std.specs.Prelude.{◌≡◌, ◌↔◌, OnOk, OnErr, IfErr, IsErr};
 ghost use Rattle.exi_bits.specs.Pens.{written_bits};
-ghost use Rattle.exi_documents.specs.Values.{Entries, most_entries, IsValue, WritesValue};
-ghost use Rattle.exi_values.specs.Meaning.{AreTexts, IsShaped, texts_in, value_of};
+ghost use Rattle.exi_reading.specs.Values.{Entries, most_entries, IsValue, WritesValue};
+ghost use Rattle.exi_reading.specs.Meaning.{AreTexts, IsShaped, texts_in, value_of};
 ghost use Rattle.exi_writing.specs.Writing.{Puts, Lacks, NeedsInAll, WritesMore, PassesRoom};
 ghost use Rattle.exi_writing.specs.Entering.{HasEntryFor};
 
@@ -12,8 +12,8 @@ use crate::needed::value_bits;
 use crate::source::TextSource;
 use crate::texts::put_text;
 use exi_bits::{BitPen, Full};
+use exi_reading::exi_values::{Table, Value};
 use exi_schema::Datatype;
-use exi_values::{Table, Value};
 
 /// Writes a value of a datatype, of the element or attribute with this name: each number in its shortest spelling, and a text by
 /// its first place in the local partition, else by that in the global one, else spelled out.

@@ -12,14 +12,14 @@ use Rattle.exi_schema.specs.declared.tables.Datatype.{Datatype}
 use Rattle.exi_schema.specs.Offers.{offers, attribute_steps, through_required}
 use Rattle.exi_schema.specs.Schemas.{are_distinct}
 use Rattle.exi_schema.specs.Steps.{simple_at}
-use Rattle.exi_documents.specs.Documents.{SpellsStep, element}
-use Rattle.exi_documents.specs.Grammar.{Standing, Inside, Behind, State, opened, MovesFrom}
-use Rattle.exi_documents.specs.Trees.{Event, Document, Start, Attribute, Content, EndElement, Value}
-use Rattle.exi_documents.specs.Values.{SpellsValue, Entries}
-use Rattle.exi_values.specs.declared.Event.{Event as ReadEvent}
-use Rattle.exi_values.specs.declared.Event.TheVariants as read
-use Rattle.exi_values.specs.declared.Value.{Value as ReadValue}
-use Rattle.exi_values.specs.Meaning.{event_of, value_of}
+use Rattle.exi_events.specs.Documents.{SpellsStep, element}
+use Rattle.exi_events.specs.Grammar.{Standing, Inside, Behind, State, opened, MovesFrom}
+use Rattle.exi_events.specs.Trees.{Event, Document, Start, Attribute, Content, EndElement, Value}
+use Rattle.exi_events.specs.Values.{SpellsValue, Entries}
+use Rattle.exi_events.specs.Event.{Event as ReadEvent}
+use Rattle.exi_events.specs.Event.TheVariants as read
+use Rattle.exi_events.specs.Value.{Value as ReadValue}
+use Rattle.exi_events.specs.Meaning.{event_of, value_of}
 use Rattle.exi_schema.specs.Plain.{PlainKind, PlainParticle, containing}
 use Rattle.exi_schema.specs.Offers.{offers, offers_of, element_steps}
 use Rattle.exi_schema.specs.Steps.{simple_at}

@@ -2,7 +2,7 @@
 use Rattle.std.proofs.Common.{◌≡◌, ℕ, List, [], ◌∷◌, ◌++◌, Option, Some, None, Result, Ok, Err, IfOk, if◌then◌else◌, Bool, true, false, refl, sym, ap, ◌∙◌, subst}
 use Rattle.std.specs.Prelude.{◌==◌}
 use Rattle.std.specs.Result.{IsOkAnd, MatchResult}
-use Rattle.exi_documents.specs.Trees.{Event}
+use Rattle.exi_events.specs.Trees.{Event}
 use Rattle.exi_schema.specs.Plain.{PlainKind}
 use Rattle.message_parts.specs.Particles.{kind_among}
 use Rattle.message_parts.specs.Reading.{Frame, Seen, IsChosen}

@@ -4,8 +4,8 @@ use Rattle.std.proofs.lemmas.List.{drop_all}
 use Rattle.exi_schema.specs.declared.places.Place.{Place}
 use Rattle.exi_schema.specs.declared.places.Step.TheVariants as step
 use Rattle.exi_schema.specs.declared.tables.AttributeOf.{AttributeOf}
-use Rattle.exi_documents.specs.Documents.{element}
-use Rattle.exi_documents.specs.Trees.{Event, Trees}
+use Rattle.exi_events.specs.Documents.{element}
+use Rattle.exi_events.specs.Trees.{Event, Trees}
 use Rattle.exi_schema.specs.Plain.{PlainKind, PlainParticle}
 use Rattle.message_parts.specs.Contents.{Inside as Contents, Of, Holding, Given, given, perhaps_given, Part, one, perhaps, each, perhaps_one, attributes_of, trees_of, holding_with, perhaps_trees, each_trees, choice_trees, told_attributes, told_trees, told_given, told_parts, told_one, told_perhaps, told_each, told_choice, told_inside}
 use Rattle.message_parts.specs.Reading.{Frame, Seen, Leaves, Reads, IsChild}

@@ -13,14 +13,14 @@ use Rattle.exi_schema.specs.declared.tables.AttributeOf.{AttributeOf}
 use Rattle.exi_schema.specs.declared.tables.Member.{Member}
 use Rattle.exi_schema.specs.Offers.{offers, attribute_steps, through_required, simple_step}
 use Rattle.exi_schema.specs.Steps.{simple_at}
-use Rattle.exi_documents.specs.Documents.{SpellsStep, element, first}
-use Rattle.exi_documents.specs.Grammar.{Opened, Standing, Inside, Behind, State, opened, MovesFrom}
-use Rattle.exi_documents.specs.Trees.{Event, Document, Start, Attribute, Content, EndElement, Value, Truth, Ordinal, Number, Bytes, Text}
-use Rattle.exi_documents.specs.Values.{SpellsValue, Entries}
-use Rattle.exi_values.specs.declared.Event.{Event as ReadEvent}
-use Rattle.exi_values.specs.declared.Event.TheVariants as read
-use Rattle.exi_values.specs.declared.Value.{Value as ReadValue}
-use Rattle.exi_values.specs.Meaning.{event_of, value_of}
+use Rattle.exi_events.specs.Documents.{SpellsStep, element, first}
+use Rattle.exi_events.specs.Grammar.{Opened, Standing, Inside, Behind, State, opened, MovesFrom}
+use Rattle.exi_events.specs.Trees.{Event, Document, Start, Attribute, Content, EndElement, Value, Truth, Ordinal, Number, Bytes, Text}
+use Rattle.exi_events.specs.Values.{SpellsValue, Entries}
+use Rattle.exi_events.specs.Event.{Event as ReadEvent}
+use Rattle.exi_events.specs.Event.TheVariants as read
+use Rattle.exi_events.specs.Value.{Value as ReadValue}
+use Rattle.exi_events.specs.Meaning.{event_of, value_of}
 use Rattle.exi_schema.specs.declared.tables.Datatype.{Datatype}
 use Rattle.exi_schema.specs.declared.tables.Datatype.TheVariants as datatype
 use Rattle.message_parts.specs.Values.{IsRead}
@@ -30,8 +30,8 @@ use Rattle.exi_schema.specs.Offers.{offers, offers_of, element_step, element_ste
 use Rattle.exi_schema.specs.Steps.{simple_at, datatype_of}
 use Rattle.exi_events.proofs.Offered.{EachOf, each_of, each_of_both, each_of_some, one_taken, offers_simple}
 use Rattle.message_parts.specs.Contents.{started}
-use Rattle.exi_documents.specs.declared.refusal.Refusal.{Refusal}
-use Rattle.exi_documents.specs.Refusals.{IsRefused}
+use Rattle.exi_events.specs.Refusal.{Refusal}
+use Rattle.exi_events.specs.Refusals.{IsRefused}
 use Rattle.message_parts.specs.Reading.{IsRefusal, Frame, Seen, ToldUpTo, Goes, Enters, Leaves, IsBetween, ReadsFrom, IsChild, IsRefusalKept, at_particle}
 
 -- inside an element of a simple kind, behind its value

@@ -10,9 +10,9 @@ use Rattle.exi_schema.specs.declared.tables.AttributeOf.{AttributeOf}
 use Rattle.exi_schema.specs.declared.tables.Member.{Member}
 use Rattle.exi_schema.specs.declared.tables.MemberStanding.{MemberStanding}
 use Rattle.exi_schema.specs.declared.tables.MemberStanding.TheVariants.{Taken}
-use Rattle.exi_documents.specs.Documents.{element, first}
-use Rattle.exi_documents.specs.Grammar.{Inside, opened}
-use Rattle.exi_documents.specs.Trees.{Event, Start, EndElement}
+use Rattle.exi_events.specs.Documents.{element, first}
+use Rattle.exi_events.specs.Grammar.{Inside, opened}
+use Rattle.exi_events.specs.Trees.{Event, Start, EndElement}
 use Rattle.exi_schema.specs.Plain.{PlainKind, PlainParticle}
 use Rattle.exi_schema.specs.Offers.{element_step, element_steps}
 use Rattle.message_parts.specs.Particles.{alternatives, kind_among}

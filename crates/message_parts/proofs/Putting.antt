@@ -2,10 +2,10 @@
 use Rattle.std.proofs.Common.{slice_index_or, drop, zero, suc, add-one, ◌≡◌, ℕ, ◌+◌, ◌*◌, ◌<◌, ◌≤◌, Bool, List, [], ◌∷◌, ◌++◌, length, length-append, append_assoc, Option, Some, None, Result, Ok, Err, OnOk, inl, inr, refl, sym, ap, subst, ◌∙◌, arith}
 use Rattle.exi_bits.specs.declared.pen.Full.{Full}
 use Rattle.exi_schema.specs.Schemas.{PlainSchema}
-use Rattle.exi_documents.specs.Grammar.{State, Moves}
-use Rattle.exi_documents.specs.Trees.{Event, Attribute, Trees}
+use Rattle.exi_events.specs.Grammar.{State, Moves}
+use Rattle.exi_events.specs.Trees.{Event, Attribute, Trees}
 use Rattle.message_parts.specs.Contents.{Inside as Contents, Of, Holding, Given, given, perhaps_given, Part, one, perhaps, each, perhaps_one, attributes_of, trees_of, perhaps_trees, each_trees, choice_trees, attributes_onto, trees_onto, one_onto, perhaps_onto, each_onto, choice_onto, given_onto, parts_onto}
-use Rattle.exi_documents.specs.Values.{WritesValue}
+use Rattle.exi_events.specs.Values.{WritesValue}
 use Rattle.exi_events.specs.Writer.{Draft, IsPut, IsNeeded, IsOfferedAs}
 use Rattle.exi_events.specs.declared.writer.NotPut.{NotPut}
 use Rattle.exi_events.specs.declared.writer.NotPut.TheVariants.{NotOffered, Full as NoRoom}

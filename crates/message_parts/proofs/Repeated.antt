@@ -5,7 +5,7 @@ use Rattle.std.proofs.lemmas.Bool.Decides.{nat_tests}
 use Rattle.exi_schema.specs.Offers.{behind_copy, leaves_room}
 use Rattle.exi_schema.specs.declared.places.Place.{Place}
 use Rattle.exi_schema.specs.declared.tables.AttributeOf.{AttributeOf}
-use Rattle.exi_documents.specs.Trees.{Event, Start, EndElement}
+use Rattle.exi_events.specs.Trees.{Event, Start, EndElement}
 use Rattle.exi_schema.specs.Plain.{PlainKind, PlainParticle}
 use Rattle.message_parts.specs.Contents.{Inside as Contents, told_one, told_each}
 use Rattle.message_parts.specs.Particles.{alternatives, alternatives_of, alternatives_at, name_at, kind_at, kind_among, is_sole, accepts, has_room_for, is_repeated_at}

@@ -3,14 +3,14 @@ use Rattle.std.proofs.Common.{Result, Ok, Err, IfOk, ◌≡◌, ℕ, List, [], �
 use Rattle.std.specs.Prelude.{slice_get}
 use Rattle.exi_schema.specs.Schemas.{PlainSchema}
 use Rattle.exi_schema.specs.declared.tables.RootOf.{RootOf}
-use Rattle.exi_documents.specs.Documents.{first, IsDocument}
-use Rattle.exi_documents.specs.Grammar.{Standing, Before, AtRoot, Inside, Behind, State, opened, MovesFrom}
-use Rattle.exi_documents.specs.Trees.{Event, Document, Start, Attribute, Content, EndElement}
-use Rattle.exi_documents.specs.Values.{SpellsValue, Entries}
+use Rattle.exi_events.specs.Documents.{first, IsDocument}
+use Rattle.exi_events.specs.Grammar.{Standing, Before, AtRoot, Inside, Behind, State, opened, MovesFrom}
+use Rattle.exi_events.specs.Trees.{Event, Document, Start, Attribute, Content, EndElement}
+use Rattle.exi_events.specs.Values.{SpellsValue, Entries}
 use Rattle.exi_events.specs.Reader.{IsTold}
-use Rattle.exi_values.specs.declared.Event.{Event as ReadEvent}
-use Rattle.exi_values.specs.declared.Event.TheVariants as read
-use Rattle.exi_values.specs.Meaning.{event_of}
+use Rattle.exi_events.specs.Event.{Event as ReadEvent}
+use Rattle.exi_events.specs.Event.TheVariants as read
+use Rattle.exi_events.specs.Meaning.{event_of}
 use Rattle.exi_schema.specs.Plain.{PlainKind}
 use Rattle.message_parts.specs.Contents.{Inside as Contents, started, root_of, told_inside}
 use Rattle.message_parts.specs.Particles.{kind_among, is_kind, are_among}

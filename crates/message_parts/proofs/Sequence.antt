@@ -4,14 +4,14 @@ use Rattle.exi_schema.specs.declared.tables.AttributeOf.{AttributeOf}
 use Rattle.exi_schema.specs.declared.tables.Datatype.{Datatype}
 use Rattle.exi_schema.specs.Plain.{PlainKind, PlainParticle}
 use Rattle.exi_schema.specs.Steps.{simple_at}
-use Rattle.exi_documents.specs.Trees.{Event, Start, EndElement}
-use Rattle.exi_values.specs.declared.Event.TheVariants as read
-use Rattle.exi_values.specs.declared.Value.{Value as ReadValue}
-use Rattle.exi_values.specs.declared.Value.TheVariants as read_value
+use Rattle.exi_events.specs.Trees.{Event, Start, EndElement}
+use Rattle.exi_events.specs.Event.TheVariants as read
+use Rattle.exi_events.specs.Value.{Value as ReadValue}
+use Rattle.exi_events.specs.Value.TheVariants as read_value
 use Rattle.exi_events.specs.Short.{tree_of}
 use Rattle.exi_events.specs.ShortValue.{ShortValue}
 use Rattle.exi_events.specs.ShortValue.TheVariants as short
-use Rattle.exi_values.specs.Meaning.{value_of}
+use Rattle.exi_events.specs.Meaning.{value_of}
 use Rattle.exi_events.specs.Reader.{Reading, reading}
 use Rattle.exi_events.specs.Sequence.{TakesChild, TakesEnd, TakesSequence, values_of}
 use Rattle.exi_events.specs.declared.sequence.ThreeValues.{ThreeValues}

@@ -6,7 +6,7 @@ use Rattle.exi_schema.specs.Offers.{behind_copy, leaves_room}
 use Rattle.exi_schema.specs.declared.places.Place.{Place}
 use Rattle.exi_schema.specs.declared.tables.AttributeOf.{AttributeOf}
 use Rattle.exi_schema.specs.declared.tables.Datatype.{Datatype}
-use Rattle.exi_documents.specs.Trees.{Event, Start, EndElement}
+use Rattle.exi_events.specs.Trees.{Event, Start, EndElement}
 use Rattle.exi_schema.specs.Plain.{PlainKind, PlainParticle}
 use Rattle.message_parts.specs.Particles.{alternatives, alternatives_of, alternatives_at, kind_among, first_name, first_kind, name_at, kind_at, is_sole, is_required, is_single, is_once_at, is_optional_at, is_left_out, is_none, is_child_among, names_among, takes_of}
 use Rattle.message_parts.specs.Reading.{Frame, Seen, Enters, Leaves, IsBetween, Reads, IsChosen, at_particle}

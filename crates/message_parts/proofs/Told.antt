@@ -1,7 +1,7 @@
 -- The events of a tree, the newest first and those to come.
 use Rattle.std.proofs.Common.{◌≡◌, ℕ, List, [], ◌∷◌, ◌++◌, reverse, refl, sym, ap, ◌∙◌, append_assoc}
 use Rattle.std.proofs.lemmas.List.{reverse-append}
-use Rattle.exi_documents.specs.Trees.{Value, Trees, none, simple, complex, Tree, Event, Document, Start, Attribute, Content, EndElement, attribute_events, events_of, document_events}
+use Rattle.exi_events.specs.Trees.{Value, Trees, none, simple, complex, Tree, Event, Document, Start, Attribute, Content, EndElement, attribute_events, events_of, document_events}
 use Rattle.exi_events.proofs.Apart.{documents_apart}
 use Rattle.message_parts.specs.Contents.{Inside, Of, Holding, root_of, told_attributes, told_trees, told_inside, attributes_onto, trees_onto, one_onto}
 

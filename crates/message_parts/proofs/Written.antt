@@ -3,10 +3,10 @@ use Rattle.std.proofs.Common.{◌≡◌, ℕ, ◌*◌, ◌<◌, ◌≤◌, Bool,
 use Rattle.exi_bits.specs.declared.pen.Full.{Full}
 use Rattle.exi_bits.specs.Written.{HoldsBits}
 use Rattle.exi_schema.specs.Schemas.{PlainSchema}
-use Rattle.exi_documents.specs.Documents.{SpellsDocument, IsEncoding}
-use Rattle.exi_documents.specs.Grammar.{Behind, State, start, stands}
-use Rattle.exi_documents.specs.Trees.{Event, Document, Tree, document_events}
-use Rattle.exi_documents.specs.Values.{WritesValue}
+use Rattle.exi_events.specs.Documents.{SpellsDocument, IsEncoding}
+use Rattle.exi_events.specs.Grammar.{Behind, State, start, stands}
+use Rattle.exi_events.specs.Trees.{Event, Document, Tree, document_events}
+use Rattle.exi_events.specs.Values.{WritesValue}
 use Rattle.exi_events.specs.Writer.{Draft, IsPut}
 use Rattle.exi_events.proofs.Runs.{Runs, document_runs}
 use Rattle.message_parts.specs.Contents.{Inside, root_of, one_onto}

@@ -1,9 +1,9 @@
 -- Own: what is written of a document, as far as the schema says it.
 use Rattle.std.specs.Prelude.{◌≡◌, ℕ, ◌*◌, ◌<◌, ◌≤◌, Bool, List, length}
 use Rattle.exi_schema.specs.Schemas.{PlainSchema}
-use Rattle.exi_documents.specs.Documents.{SpellsDocument}
-use Rattle.exi_documents.specs.Trees.{Tree}
-use Rattle.exi_documents.specs.Values.{WritesValue}
+use Rattle.exi_events.specs.Documents.{SpellsDocument}
+use Rattle.exi_events.specs.Trees.{Tree}
+use Rattle.exi_events.specs.Values.{WritesValue}
 
 -- some bits are written for it
 abbrev pub IsWritable : PlainSchema → ℕ → Tree → Type 0

@@ -11,11 +11,11 @@ use Rattle.exi_schema.specs.declared.tables.Member.{Member}
 use Rattle.exi_schema.specs.Schemas.{are_distinct}
 use Rattle.exi_schema.specs.Steps.{IsRoot}
 use Rattle.exi_schema.specs.declared.places.Root.TheVariants.{Kind}
-use Rattle.exi_documents.specs.Documents.{element, first}
-use Rattle.exi_documents.specs.declared.refusal.Refusal.{Refusal}
-use Rattle.exi_documents.specs.Grammar.{Opened, Inside, Before, AtRoot, State, opened, around}
-use Rattle.exi_documents.specs.Refusals.{IsRefused}
-use Rattle.exi_documents.specs.Trees.{Event, Document, Start, EndElement}
+use Rattle.exi_events.specs.Documents.{element, first}
+use Rattle.exi_events.specs.Refusal.{Refusal}
+use Rattle.exi_events.specs.Grammar.{Opened, Inside, Before, AtRoot, State, opened, around}
+use Rattle.exi_events.specs.Refusals.{IsRefused}
+use Rattle.exi_events.specs.Trees.{Event, Document, Start, EndElement}
 use Rattle.exi_events.specs.Reader.{state_of, reading, IsReady, HasTold}
 use Rattle.exi_schema.specs.Plain.{PlainKind, PlainParticle, containing}
 use Rattle.exi_schema.specs.Offers.{element_steps}

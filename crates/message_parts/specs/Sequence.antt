@@ -3,8 +3,8 @@ use Rattle.std.specs.Prelude.{◌≡◌, List, [], Bool, true, Some, Result, IfO
 use Rattle.exi_schema.specs.declared.tables.Datatype.{Datatype}
 use Rattle.exi_schema.specs.Plain.{PlainKind, PlainParticle}
 use Rattle.exi_schema.specs.Steps.{simple_at}
-use Rattle.exi_documents.specs.Trees.{Event, Value}
-use Rattle.exi_documents.specs.declared.refusal.Refusal.{Refusal}
+use Rattle.exi_events.specs.Trees.{Event, Value}
+use Rattle.exi_events.specs.Refusal.{Refusal}
 use Rattle.exi_events.specs.Short.{tree_of}
 use Rattle.exi_events.specs.declared.sequence.ThreeValues.{ThreeValues}
 use Rattle.message_parts.specs.Contents.{Of, told_one}

@@ -2,7 +2,7 @@
 use Rattle.std.specs.Prelude.{ℕ, List}
 use Rattle.std.specs.Str.{chars}
 use Rattle.exi_bits.specs.Lent.{items_of}
-use Rattle.exi_documents.specs.Trees.{Value, Text as TreeText}
+use Rattle.exi_events.specs.Trees.{Value, Text as TreeText}
 use Rattle.message_parts.specs.declared.texts.Text.{Text}
 use Rattle.message_parts.specs.declared.texts.Text.TheVariants as text
 

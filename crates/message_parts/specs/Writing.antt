@@ -3,9 +3,9 @@ use Rattle.std.specs.Prelude.{◌≡◌, ℕ, ◌*◌, ◌<◌, ◌≤◌, Bool,
 use Rattle.exi_bits.specs.declared.pen.Full.{Full}
 use Rattle.exi_schema.specs.declared.places.Places.{Ghosts}
 use Rattle.exi_schema.specs.Schemas.{PlainSchema}
-use Rattle.exi_documents.specs.Grammar.{State, Moves}
-use Rattle.exi_documents.specs.Trees.{Event}
-use Rattle.exi_documents.specs.Values.{WritesValue}
+use Rattle.exi_events.specs.Grammar.{State, Moves}
+use Rattle.exi_events.specs.Trees.{Event}
+use Rattle.exi_events.specs.Values.{WritesValue}
 use Rattle.exi_events.specs.Writer.{draft_of}
 use Rattle.exi_events.specs.declared.writer.EventWriter.{EventWriter}
 

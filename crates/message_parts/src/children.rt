@@ -1,7 +1,7 @@
 //! The children of an element, one after the other.
 
 ghost use Rattle.std.specs.Prelude.{◌≡◌, ℕ, suc, [], ◌∷◌, List, true, Some, None, IfOk, IfErr, slice_get, map, length};
-ghost use Rattle.exi_documents.specs.Trees.{Event as TreeEvent, Attribute};
+ghost use Rattle.exi_events.specs.Trees.{Event as TreeEvent, Attribute};
 ghost use Rattle.exi_schema.specs.declared.tables.AttributeOf.{AttributeOf};
 ghost use Rattle.exi_schema.specs.declared.tables.Datatype.{Datatype};
 ghost use Rattle.exi_schema.specs.Plain.{PlainKind, PlainParticle, containing};
@@ -14,7 +14,7 @@ ghost use Rattle.message_parts.specs.Sequence.{HoldsValues, ReadsThree, told_thr
 use crate::descent::Descent;
 use crate::part::{Choice, Contents, Group, LargeGroup, LargeRecord, ReadRecord, Record, Simple};
 use arrayvec::ArrayVec;
-use exi_documents::Refusal;
+use exi_events::exi_documents::Refusal;
 use exi_schema::Places;
 
 /// The rest of an element that has started and has a value.

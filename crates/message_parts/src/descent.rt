@@ -3,10 +3,10 @@
 ghost use Rattle.std.specs.Prelude.{◌≡◌, ◌==◌, IfSome};
 ghost use Rattle.std.specs.List.{list_any};
 ghost use Rattle.message_parts.specs.Contents.{started, attribute_value};
-ghost use Rattle.exi_values.specs.Meaning.{IsLentEvent, IsLent};
-ghost use Rattle.exi_values.specs.declared.Event.TheVariants as event_is;
+ghost use Rattle.exi_events.specs.Meaning.{IsLentEvent, IsLent};
+ghost use Rattle.exi_events.specs.Event.TheVariants as event_is;
 
-use exi_documents::Refusal;
+use exi_events::exi_documents::Refusal;
 use exi_events::{Event, EventReader, Table, ThreeValues, Value};
 use exi_schema::Places;
 
@@ -58,10 +58,10 @@ fn attribute_if<'a>(event: Event<'a>) -> Option<Value<'a>>
 
 impl<'a, 'p, P: Places> Descent<'a, 'p, P> {
     ghost use Rattle.std.specs.Prelude.{◌≡◌, ℕ, ◌∷◌, [], List, true, false, length, Some, None, slice_get, IfOk, IfErr, IfSome, MatchOption, suc};
-    ghost use Rattle.exi_documents.specs.Trees.{Event as TreeEvent, Content, Attribute, EndElement};
+    ghost use Rattle.exi_events.specs.Trees.{Event as TreeEvent, Content, Attribute, EndElement};
     ghost use Rattle.message_parts.specs.Values.{IsRead};
     ghost use Rattle.exi_schema.specs.declared.tables.Datatype.{Datatype};
-    ghost use Rattle.exi_values.specs.Meaning.{value_of, IsLent};
+    ghost use Rattle.exi_events.specs.Meaning.{value_of, IsLent};
     ghost use Rattle.exi_schema.specs.declared.tables.AttributeOf.{AttributeOf};
     ghost use Rattle.exi_schema.specs.Plain.{PlainKind, PlainParticle};
     ghost use Rattle.exi_schema.specs.Steps.{simple_at};
@@ -70,7 +70,7 @@ impl<'a, 'p, P: Places> Descent<'a, 'p, P> {
     ghost use Rattle.std.specs.Prelude.{◌≤◌, Bool};
     ghost use Rattle.exi_spec.specs.Bits.{bits_of};
     ghost use Rattle.exi_schema.specs.Schemas.{PlainSchema};
-    ghost use Rattle.exi_documents.specs.Values.{most_entries};
+    ghost use Rattle.exi_events.specs.Values.{most_entries};
     ghost use Rattle.exi_events.specs.Reader.{IsTold};
     ghost use Rattle.message_parts.specs.Sequence.{HoldsThree, AreRead, told_values};
 

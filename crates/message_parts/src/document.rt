@@ -3,20 +3,20 @@
 ghost use Rattle.std.specs.Prelude.{◌≡◌, ℕ, Bool, None, OnOk, OnErr, ◌*◌, ◌<◌, ◌≤◌, ◌↔◌, [], List, true, length, take, IfOk, IfErr, IsErr};
 ghost use Rattle.exi_spec.specs.Bits.{bits_of};
 ghost use Rattle.exi_schema.specs.Schemas.{PlainSchema};
-ghost use Rattle.exi_documents.specs.Documents.{IsDocument, IsEncoding};
-ghost use Rattle.exi_documents.specs.Refusals.{IsRefused};
-ghost use Rattle.exi_documents.specs.Values.{most_entries, WritesValue};
+ghost use Rattle.exi_events.specs.Documents.{IsDocument, IsEncoding};
+ghost use Rattle.exi_events.specs.Refusals.{IsRefused};
+ghost use Rattle.exi_events.specs.Values.{most_entries, WritesValue};
 ghost use Rattle.message_parts.specs.Contents.{root_of};
 ghost use Rattle.message_parts.specs.Documents.{IsWritable, PassesBytes, TellsBits};
 ghost use Rattle.message_parts.specs.Particles.{are_among};
 ghost use Rattle.message_parts.specs.Reading.{seen_of, IsOpen, IsRefusal, Begins};
-ghost use Rattle.exi_documents.specs.Documents.{SpellsDocument};
+ghost use Rattle.exi_events.specs.Documents.{SpellsDocument};
 ghost use Rattle.exi_events.specs.Writer.{draft_of, HasPut, IsReadyToPut, KeepsLent};
 
 use crate::descent::Descent;
 use crate::part::{Choice, LargeChoice, Root};
 use crate::writer::{put_choice, put_event};
-use exi_documents::Refusal;
+use exi_events::exi_documents::Refusal;
 use exi_events::{Event, EventWriter, Full, Table};
 use exi_schema::Places;
 

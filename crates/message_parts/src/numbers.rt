@@ -1,7 +1,7 @@
 //! Numbers and truths as values.
 
 ghost use Rattle.std.specs.Prelude.{pos};
-ghost use Rattle.exi_documents.specs.Trees.{Number, Truth};
+ghost use Rattle.exi_events.specs.Trees.{Number, Truth};
 ghost use Rattle.message_parts.specs.Values.{is_bool, is_signed, is_unsigned};
 
 use crate::part::Simple;

@@ -1,11 +1,11 @@
 //! What an element contains.
 
 ghost use Rattle.std.specs.Prelude.{◌≡◌, ℕ, List, Bool, true, Some, IfOk, IfErr, length};
-ghost use Rattle.exi_documents.specs.Trees.{Event as TreeEvent, Value as TreeValue};
+ghost use Rattle.exi_events.specs.Trees.{Event as TreeEvent, Value as TreeValue};
 ghost use Rattle.message_parts.specs.Values.{IsRead};
 ghost use Rattle.exi_schema.specs.declared.tables.Datatype.{Datatype};
 ghost use Rattle.exi_schema.specs.Schemas.{are_distinct};
-ghost use Rattle.exi_values.specs.Meaning.{value_of, IsShaped, IsLent};
+ghost use Rattle.exi_events.specs.Meaning.{value_of, IsShaped, IsLent};
 ghost use Rattle.exi_schema.specs.Plain.{PlainKind, PlainParticle};
 ghost use Rattle.message_parts.specs.Contents.{Inside, Given, Part, told_parts, told_given, told_inside, given_onto, parts_onto, one_onto};
 ghost use Rattle.message_parts.specs.Particles.{names_among};
@@ -15,7 +15,7 @@ ghost use Rattle.exi_events.specs.Writer.{IsReadyToPut, KeepsLent};
 ghost use Rattle.exi_schema.specs.declared.tables.AttributeOf.{AttributeOf};
 
 use crate::descent::Descent;
-use exi_documents::Refusal;
+use exi_events::exi_documents::Refusal;
 use exi_events::{EventWriter, Value};
 use exi_schema::Places;
 

@@ -3,8 +3,8 @@
 ghost use Rattle.std.specs.Prelude.{◌≡◌, ◌↔◌, ◌≤◌, IsTrue, true, false, length};
 ghost use Rattle.std.specs.Str.{chars};
 ghost use Rattle.exi_bits.specs.Lent.{items_of};
-ghost use Rattle.exi_documents.specs.Trees.{Bytes as TreeBytes, Text as TreeText};
-ghost use Rattle.exi_values.specs.Meaning.{value_of, IsShaped};
+ghost use Rattle.exi_events.specs.Trees.{Bytes as TreeBytes, Text as TreeText};
+ghost use Rattle.exi_events.specs.Meaning.{value_of, IsShaped};
 ghost use Rattle.message_parts.specs.Values.{is_text, is_binary};
 ghost use Rattle.message_parts.specs.Texts.{text_value};
 

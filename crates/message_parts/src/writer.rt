@@ -1,9 +1,9 @@
 //! The elements of a message, put one after the other.
 
 ghost use Rattle.std.specs.Prelude.{◌≡◌, ◌∷◌, List, Some, map};
-ghost use Rattle.exi_documents.specs.Trees.{Event as TreeEvent, Attribute, Start, Content, EndElement};
+ghost use Rattle.exi_events.specs.Trees.{Event as TreeEvent, Attribute, Start, Content, EndElement};
 ghost use Rattle.exi_events.specs.Writer.{IsReadyToPut, KeepsLent, IsShapedEvent};
-ghost use Rattle.exi_values.specs.Meaning.{event_of};
+ghost use Rattle.exi_events.specs.Meaning.{event_of};
 ghost use Rattle.message_parts.specs.Contents.{Of, holding_with, one_onto, perhaps_onto, each_onto, maybe_onto, choice_onto, mapped};
 ghost use Rattle.message_parts.specs.Writing.{Target, Writes, put_of};
 

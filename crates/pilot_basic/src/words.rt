@@ -20,7 +20,7 @@ pub enum BasicEvent {
 }
 
 /// What is ordered.
-#[derive(Clone, Copy, Debug, Default, PartialEq, Eq)]
+#[derive(Clone, Copy, Default, PartialEq, Eq)]
 pub enum BasicOrder {
     /// Open the contactor.
     #[default]

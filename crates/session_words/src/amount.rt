@@ -9,7 +9,7 @@ ghost use Rattle.session_words.specs.Amounts.{above_zero, IsMultiplier, thousand
 use charge_world::Tenths;
 
 /// An amount of a message, in tenths of a volt or of an ampere or in watts.
-#[derive(Clone, Copy, Debug, Default, PartialEq, Eq)]
+#[derive(Clone, Copy, Default, PartialEq, Eq)]
 pub struct Amount {
     pub size: u32,
     /// Whether the message gave it in the unit that its place wants.

@@ -101,7 +101,7 @@ impl EndCause {
 }
 
 /// A deadline of a post that was reached.
-#[derive(Clone, Copy, Debug, PartialEq, Eq)]
+#[derive(Clone, Copy, PartialEq, Eq)]
 pub enum Timeout {
     /// SessionSetup wasn't accepted in time.
     Setup,

@@ -4,7 +4,7 @@ ghost use Rattle.std.specs.Prelude.{◌↔◌, IsTrue};
 ghost use Rattle.session_words.specs.Codes.{IsOkClass};
 
 /// The response codes of ISO 15118-2:2014 (responseCodeType) and of DIN SPEC 70121:2014, each once.
-#[derive(Clone, Copy, Debug, PartialEq, Eq)]
+#[derive(Clone, Copy, PartialEq, Eq)]
 pub enum Code {
     Ok,
     OkNewSessionEstablished,
@@ -54,7 +54,7 @@ impl Code {
 }
 
 /// What a DC post tells of itself (DC_EVSEStatusCodeType).
-#[derive(Clone, Copy, Debug, PartialEq, Eq)]
+#[derive(Clone, Copy, PartialEq, Eq)]
 pub enum StatusCode {
     EvseNotReady,
     EvseReady,
@@ -71,7 +71,7 @@ pub enum StatusCode {
 }
 
 /// What the post asks of the car (EVSENotificationType).
-#[derive(Clone, Copy, Debug, PartialEq, Eq)]
+#[derive(Clone, Copy, PartialEq, Eq)]
 pub enum Notify {
     None,
     StopCharging,
@@ -79,7 +79,7 @@ pub enum Notify {
 }
 
 /// Whether a step is done (EVSEProcessingType). `OngoingWaitingForCustomerInteraction` is ISO's alone.
-#[derive(Clone, Copy, Debug, PartialEq, Eq)]
+#[derive(Clone, Copy, PartialEq, Eq)]
 pub enum Processing {
     Finished,
     Ongoing,

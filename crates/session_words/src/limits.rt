@@ -30,7 +30,7 @@ fn starts_point(byte: u8) -> bool
 }
 
 /// A text of at most 37 code points, and so of at most 148 bytes. Contracts see its bytes.
-#[derive(Debug, Drop)]
+#[derive(Drop)]
 pub struct EvseText {
     text: ArrayString<148>,
 }
@@ -101,7 +101,7 @@ impl Eq for EvseText {
 }
 
 /// The EVSEID of a post: a text in ISO 15118-2, bytes in DIN SPEC 70121.
-#[derive(Debug, Drop, PartialEq, Eq)]
+#[derive(Drop, PartialEq, Eq)]
 pub enum EvseId {
     /// At most 37 code points.
     Text(EvseText),
@@ -142,7 +142,7 @@ pub enum CarLimits {
 }
 
 /// One schedule of power that a post offers (SAScheduleTuple).
-#[derive(Clone, Copy, Debug, Default, PartialEq, Eq)]
+#[derive(Clone, Copy, Default, PartialEq, Eq)]
 pub struct Tuple {
     pub id: i16,
     /// How many entries its schedule has.
@@ -152,7 +152,7 @@ pub struct Tuple {
 }
 
 /// The status of a DC post (DC_EVSEStatus).
-#[derive(Clone, Copy, Debug, PartialEq, Eq)]
+#[derive(Clone, Copy, PartialEq, Eq)]
 pub struct DcStatus {
     pub notify: Notify,
     pub isolation: Option<IsolationLevel>,
@@ -160,14 +160,14 @@ pub struct DcStatus {
 }
 
 /// The status of a post of either kind.
-#[derive(Clone, Copy, Debug, PartialEq, Eq)]
+#[derive(Clone, Copy, PartialEq, Eq)]
 pub enum PostStatus {
     Ac { notify: Notify },
     Dc(DcStatus),
 }
 
 /// What a post can give (EVSEChargeParameter). Currents are in tenths of an ampere.
-#[derive(Clone, Copy, Debug, PartialEq, Eq)]
+#[derive(Clone, Copy, PartialEq, Eq)]
 pub enum PostLimits {
     Ac {
         notify: Notify,

@@ -4,7 +4,7 @@ ghost use Rattle.std.specs.Prelude.{◌≡◌, ◌↔◌, IsTrue};
 ghost use Rattle.session_words.specs.Modes.{phases_of, IsAc, speaks_din, CanSpeakDin, offered_of};
 
 /// The energy transfer modes of ISO 15118-2:2014 (EnergyTransferModeType).
-#[derive(Clone, Copy, Debug, Default, PartialEq, Eq)]
+#[derive(Clone, Copy, Default, PartialEq, Eq)]
 pub enum Mode {
     AcSinglePhaseCore,
     AcThreePhaseCore,
@@ -17,7 +17,7 @@ pub enum Mode {
 
 /// The energy transfer modes that a post may offer: those of ISO 15118-2:2014 and of DIN SPEC 70121:2014
 /// (EVSESupportedEnergyTransferType), each once.
-#[derive(Clone, Copy, Debug, Default, PartialEq, Eq)]
+#[derive(Clone, Copy, Default, PartialEq, Eq)]
 pub enum OfferedMode {
     AcSinglePhaseCore,
     AcThreePhaseCore,

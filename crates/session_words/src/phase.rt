@@ -1,7 +1,7 @@
 //! Where a session and a contactor stand.
 
 /// How far a session of a post has come. A request is accepted or refused by it.
-#[derive(Clone, Copy, Debug, PartialEq, Eq)]
+#[derive(Clone, Copy, PartialEq, Eq)]
 pub enum Phase {
     /// The connection stands, and the negotiation of the dialect comes next.
     Connected,
@@ -25,7 +25,7 @@ pub enum Phase {
 }
 
 /// How a contactor stands, by its last order and the feedback since.
-#[derive(Clone, Copy, Debug, PartialEq, Eq)]
+#[derive(Clone, Copy, PartialEq, Eq)]
 pub enum Standing {
     /// It is open.
     Opened,

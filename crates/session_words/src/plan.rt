@@ -135,7 +135,7 @@ fn copied_dialects(dialects: &ArrayVec<Dialect, 2>) -> ArrayVec<Dialect, 2>
 }
 
 /// How a car ends its session (ChargingSession of ISO 15118-2:2014).
-#[derive(Clone, Copy, Debug, Default, PartialEq, Eq)]
+#[derive(Clone, Copy, Default, PartialEq, Eq)]
 pub enum Stop {
     #[default]
     Terminate,

@@ -169,7 +169,7 @@ impl Ask {
 }
 
 /// What a reply tells, beside its code.
-#[derive(Debug, Drop, PartialEq, Eq)]
+#[derive(Drop, PartialEq, Eq)]
 pub enum Tell {
     SessionSetup {
         evse: EvseId,

@@ -11,7 +11,7 @@ use Rattle.post_spec.specs.Steps.{Reading}
 use Rattle.station_spec.specs.States.{Session, State}
 use Rattle.station_spec.specs.Deciding.{decided}
 use Rattle.station_spec.specs.Judging.{Payload, wanted, shows, asked_behind, read, filled, IsShown, IsRead}
-use Rattle.secc_machine.specs.Views.{asks_in, IsShownFor}
+use Rattle.word_codec.specs.Views.{asks_in, IsShownFor}
 use Rattle.word_codec.specs.Judging.{ChoosesOffered, NegotiatesFirst, IsJudged}
 use Rattle.word_codec.specs.Replies.{IsPlan}
 use Rattle.site_posts.specs.declared.place.Place.{Place}

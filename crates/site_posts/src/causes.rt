@@ -5,7 +5,7 @@ ghost use Rattle.std.specs.Prelude.{◌≡◌, ◌<◌, ◌^◌, bit_or};
 use bitflags::{Flag, Flags, bitflag_items};
 
 /// A set of causes of a post: bit c is the cause of number c.
-#[derive(Clone, Copy, Debug, PartialEq, Eq)]
+#[derive(Clone, Copy)]
 pub struct CauseSet(u32);
 
 bitflag_items! {

@@ -4,7 +4,7 @@ ghost use Rattle.std.specs.Prelude.{◌≡◌, ◌≤◌, ◌<◌, length, Some}
 ghost use Rattle.std.specs.Option.{option_map};
 ghost use Rattle.post_spec.specs.Codecs.{codecs};
 ghost use Rattle.station_spec.specs.Judging.{wanted};
-ghost use Rattle.secc_machine.specs.Views.{judged_of, asks_in, IsShownFor};
+ghost use Rattle.word_codec.specs.Views.{judged_of, asks_in, IsShownFor};
 ghost use Rattle.word_codec.specs.Replies.{IsPlan};
 ghost use Rattle.site_posts.specs.Sound.{IsSound};
 ghost use Rattle.site_posts.specs.Places.{Shares};
@@ -12,8 +12,8 @@ ghost use Rattle.site_posts.specs.Filling.{at, decided_place, word_place, IsShor
 
 use crate::place::Place;
 use crate::sharing::share;
-use secc_machine::Judged;
 use word_codec::Codec;
+use word_codec::secc_machine::Judged;
 
 impl Place {
     /// Decides what is to be done without a word.

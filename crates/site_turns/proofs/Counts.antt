@@ -15,7 +15,7 @@ use Rattle.station_laws.specs.PostRuns.{ArePostsOf, RunsArePostRuns}
 use Rattle.site_posts.specs.declared.place.Place.{Place}
 use Rattle.site_posts.specs.Filling.{at}
 use Rattle.site_posts.specs.Places.{capped, place_of}
-use Rattle.site_acts.specs.Telling.{HasClosing, IsClosing}
+use Rattle.site_serving.specs.Telling.{HasClosing, IsClosing}
 use Rattle.site_turns.specs.declared.ending.Ended.{Ended}
 use Rattle.site_turns.specs.Ending.{Counts, AreCounts}
 use Rattle.site_turns.specs.Turns.{Stops}

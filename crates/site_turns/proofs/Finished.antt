@@ -19,9 +19,9 @@ use Rattle.station_laws.specs.PostRuns.{RunsArePostRuns}
 use Rattle.site_posts.specs.declared.place.Place.{Place}
 use Rattle.site_posts.specs.Filling.{no_place}
 use Rattle.site_posts.specs.Places.{place_of, RestsAt}
-use Rattle.site_acts.specs.Serving.{newest}
-use Rattle.site_acts.specs.Telling.{Carries, CarriesText, HasClosing, IsClosing, IsCutText, IsTraced}
-use Rattle.site_acts.proofs.Carry.{carries_then}
+use Rattle.site_serving.specs.SiteActsServing.{newest}
+use Rattle.site_serving.specs.Telling.{Carries, CarriesText, HasClosing, IsClosing, IsCutText, IsTraced}
+use Rattle.site_serving.proofs.Carry.{carries_then}
 use Rattle.site_turns.specs.declared.ending.Ended.{Ended}
 use Rattle.site_turns.specs.declared.ending.Ended.TheVariants as ended
 use Rattle.site_turns.specs.declared.ending.Last.{Last}

@@ -15,10 +15,10 @@ use Rattle.station_spec.specs.Runs.{unheard, IsCutRun}
 use Rattle.word_codec.specs.Replies.{IsPlan}
 use Rattle.site_posts.specs.declared.place.Place.{Place}
 use Rattle.site_posts.specs.Places.{RestsAt}
-use Rattle.site_acts.specs.Serving.{IsReady}
-use Rattle.site_acts.specs.Telling.{Carries, CarriesText, HasClosing, IsTraced}
-use Rattle.site_acts.proofs.Carry.{carries_from}
-use Rattle.site_acts.proofs.Frame.{begins}
+use Rattle.site_serving.specs.SiteActsServing.{IsReady}
+use Rattle.site_serving.specs.Telling.{Carries, CarriesText, HasClosing, IsTraced}
+use Rattle.site_serving.proofs.Carry.{carries_from}
+use Rattle.site_serving.proofs.Frame.{begins}
 use Rattle.site_turns.specs.declared.ending.Ended.{Ended}
 use Rattle.site_turns.specs.declared.ending.Ended.TheVariants as ended
 use Rattle.site_turns.specs.declared.hearing.SoFar.{SoFar}

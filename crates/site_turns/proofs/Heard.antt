@@ -23,10 +23,10 @@ use Rattle.site_posts.specs.declared.place.Place.{Place}
 use Rattle.site_posts.specs.Filling.{no_place}
 use Rattle.site_posts.specs.Places.{place_of, heard_place, HeardAll, due_at, RestsAt}
 use Rattle.site_posts.proofs.Sound.{IsEvent, fresh_sound, heard_sound}
-use Rattle.site_acts.specs.Serving.{IsReady, Known, InBlock}
-use Rattle.site_acts.specs.Telling.{Carries}
-use Rattle.site_acts.proofs.Carry.{carries_none}
-use Rattle.site_acts.proofs.Frame.{heard_one}
+use Rattle.site_serving.specs.SiteActsServing.{IsReady, Known, InBlock}
+use Rattle.site_serving.specs.Telling.{Carries}
+use Rattle.site_serving.proofs.Carry.{carries_none}
+use Rattle.site_serving.proofs.Frame.{heard_one}
 use Rattle.site_turns.specs.Hearing.{Hears, known_behind}
 
 -- quiet posts read all that came

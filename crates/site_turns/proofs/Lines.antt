@@ -7,8 +7,8 @@ use Rattle.charge_world.specs.declared.ports.Order.TheVariants as order
 use Rattle.charge_world.specs.Outside.{GrowsByOne, Appends, AppendsSome}
 use Rattle.trace_text.specs.TraceText.{numbered_line_of}
 use Rattle.trace_text.specs.Pasts.{is_hearing}
-use Rattle.site_acts.specs.Telling.{Carries, CarriesText, IsTraced, IsCutHere, IsWrittenSo}
-use Rattle.site_acts.proofs.Carry.{text_one}
+use Rattle.site_serving.specs.Telling.{Carries, CarriesText, IsTraced, IsCutHere, IsWrittenSo}
+use Rattle.site_serving.proofs.Carry.{text_one}
 use Rattle.site_turns.specs.declared.ending.Ended.TheVariants as ended
 use Rattle.site_turns.specs.declared.ending.Last.{Last}
 use Rattle.site_turns.specs.declared.ending.Last.TheVariants.{Over, Lost, Turns}

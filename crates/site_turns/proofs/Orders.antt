@@ -2,7 +2,7 @@
 use Rattle.std.proofs.Common.{◌≡◌, ℕ, List, [], ◌∷◌, ◌++◌, Option, Some, None, refl, sym, ap, subst, ◌∙◌, append_assoc}
 use Rattle.std.specs.List.{AllByRecursion}
 use Rattle.charge_world.specs.declared.entry.Entry.{Entry}
-use Rattle.site_acts.specs.Telling.{Carries, HasClosing, IsClosing}
+use Rattle.site_serving.specs.Telling.{Carries, HasClosing, IsClosing}
 
 all_closing : (xs ys : List Entry) → AllByRecursion IsClosing xs → AllByRecursion IsClosing ys → AllByRecursion IsClosing (xs ++ ys)
 all_closing [] ys h k = k

@@ -14,9 +14,9 @@ use Rattle.post_spec.specs.Codecs.{Codecs}
 use Rattle.station_spec.specs.Blocks.{is_over}
 use Rattle.site_posts.specs.declared.place.Place.{Place}
 use Rattle.site_posts.specs.Places.{due_at, RestsAt}
-use Rattle.site_acts.specs.Serving.{newest, Known, InBlock}
-use Rattle.site_acts.specs.Telling.{Carries}
-use Rattle.site_acts.proofs.Frame.{lost_one}
+use Rattle.site_serving.specs.SiteActsServing.{newest, Known, InBlock}
+use Rattle.site_serving.specs.Telling.{Carries}
+use Rattle.site_serving.proofs.Frame.{lost_one}
 use Rattle.site_turns.specs.declared.ending.Ended.{Ended}
 use Rattle.site_turns.specs.declared.ending.Ended.TheVariants as ended
 use Rattle.site_turns.specs.declared.ending.Last.{Last}

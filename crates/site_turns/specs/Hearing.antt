@@ -8,8 +8,8 @@ use Rattle.post_spec.specs.Codecs.{Codecs}
 use Rattle.station_spec.specs.Blocks.{is_over}
 use Rattle.trace_text.specs.Pasts.{trace_text, hearing_number}
 use Rattle.site_posts.specs.declared.place.Place.{Place}
-use Rattle.site_acts.specs.Serving.{Known, InBlock}
-use Rattle.site_acts.specs.Telling.{IsTraced}
+use Rattle.site_serving.specs.SiteActsServing.{Known, InBlock}
+use Rattle.site_serving.specs.Telling.{IsTraced}
 
 -- this was heard next
 pub record Hears (c : Codecs) (plan : SitePlan) (k : Known) (heard : Heard) (bytes : List ℕ) (places : List Place) (past : List Entry) : Type 0 where

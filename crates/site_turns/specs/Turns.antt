@@ -4,8 +4,8 @@ use Rattle.charge_world.specs.declared.entry.Entry.{Entry}
 use Rattle.session_words.specs.declared.plan.SitePlan.{SitePlan}
 use Rattle.post_spec.specs.Codecs.{Codecs}
 use Rattle.site_posts.specs.declared.place.Place.{Place}
-use Rattle.site_acts.specs.Serving.{Known, InBlock}
-use Rattle.site_acts.specs.Telling.{IsTraced, IsCutText}
+use Rattle.site_serving.specs.SiteActsServing.{Known, InBlock}
+use Rattle.site_serving.specs.Telling.{IsTraced, IsCutText}
 use Rattle.site_turns.specs.declared.ending.Ended.{Ended}
 use Rattle.site_turns.specs.declared.ending.Ended.TheVariants as ended
 use Rattle.site_turns.specs.declared.ending.Last.{Last}

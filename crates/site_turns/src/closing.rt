@@ -7,7 +7,7 @@ ghost use Rattle.station_spec.specs.Sharing.{Post};
 ghost use Rattle.station_spec.specs.Runs.{Closes};
 ghost use Rattle.site_posts.specs.Places.{place_of};
 ghost use Rattle.site_serving.specs.Serving.{ClosesTo};
-ghost use Rattle.site_acts.specs.Telling.{Carries, CarriesText, HasClosing, IsTraced, IsWrittenSo, IsClosedSo};
+ghost use Rattle.site_serving.specs.Telling.{Carries, CarriesText, HasClosing, IsTraced, IsWrittenSo, IsClosedSo};
 
 use charge_world::{Order, Sink, Wire};
 use site_posts::Place;

@@ -8,14 +8,14 @@ ghost use Rattle.session_words.specs.declared.plan.SitePlan.{SitePlan};
 ghost use Rattle.post_spec.specs.Codecs.{codecs};
 ghost use Rattle.station_spec.specs.Blocks.{IsHearing};
 ghost use Rattle.site_posts.specs.Places.{RestsAt, HeardAll, due_at};
-ghost use Rattle.site_acts.specs.Serving.{IsReady, InBlock, Known};
-ghost use Rattle.site_acts.specs.Telling.{Carries, CarriesText, IsWrittenSo};
+ghost use Rattle.site_serving.specs.SiteActsServing.{IsReady, InBlock, Known};
+ghost use Rattle.site_serving.specs.Telling.{Carries, CarriesText, IsWrittenSo};
 ghost use Rattle.site_turns.specs.Hearing.{Hears, known_behind, AwaitsLine};
 
 use charge_world::{Heard, Sink, Wire};
 use secc_machine::law_of_rest;
-use site_acts::Desk;
 use site_posts::{Place, hear_all};
+use site_serving::site_acts::Desk;
 use site_serving::{TraceFailed, answer_all, bound_heard, bytes_heard};
 use trace_text::Noted;
 use word_codec::Codec;

@@ -6,9 +6,9 @@ use Rattle.charge_world.specs.declared.entry.Entry.TheVariants as entry
 use Rattle.charge_world.specs.declared.heard.Heard.{Heard}
 use Rattle.session_words.specs.declared.plan.PostPlan.{PostPlan}
 use Rattle.session_words.specs.declared.plan.SitePlan.{SitePlan}
-use Rattle.post_spec.specs.Codecs.{Codecs}
-use Rattle.post_spec.specs.Steps.{Act, Give, Send, Answer, End, Seen, Did, Step, Hears, Does, Reading, moment, event_at, seen, seen_of}
-use Rattle.post_spec.specs.Steps as steps
+use Rattle.station_spec.specs.Codecs.{Codecs}
+use Rattle.station_spec.specs.Steps.{Act, Give, Send, Answer, End, Seen, Did, Step, Hears, Does, Reading, moment, event_at, seen, seen_of}
+use Rattle.station_spec.specs.Steps as steps
 use Rattle.station_spec.specs.States as states
 use Rattle.station_spec.specs.Next.{IsDone}
 use Rattle.station_spec.specs.Sharing.{Post}

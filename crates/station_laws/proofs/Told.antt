@@ -13,9 +13,9 @@ use Rattle.session_words.specs.declared.plan.SitePlan.{SitePlan}
 use Rattle.session_words.specs.declared.word.Request.{Request}
 use Rattle.session_rules.specs.Asks.{asks, shows_watts}
 use Rattle.session_rules.specs.Verdict.{verdict, is_accepted}
-use Rattle.post_spec.specs.Codecs.{Judged, Negotiated, Asked, WrongSide, Refused, Codecs}
-use Rattle.post_spec.specs.Sessions.{brought}
-use Rattle.post_spec.specs.Steps.{Event, Act, Give, Send, Answer, End, Hears, Does, Reading, moment, event_at}
+use Rattle.station_spec.specs.Codecs.{Judged, Negotiated, Asked, WrongSide, Refused, Codecs}
+use Rattle.station_spec.specs.Sessions.{brought}
+use Rattle.station_spec.specs.Steps.{Event, Act, Give, Send, Answer, End, Hears, Does, Reading, moment, event_at}
 use Rattle.station_spec.specs.States.{Session, State}
 use Rattle.station_spec.specs.Deciding.{decided}
 use Rattle.station_spec.specs.Judging.{Payload, wanted, judged, taken_in, read, filled, IsShown, IsRead, asked_behind}

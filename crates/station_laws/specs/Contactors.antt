@@ -1,8 +1,8 @@
 -- Own: what a post keeps of its contactor is what its past tells of it.
 use Rattle.std.specs.Prelude.{◌≡◌, List, map}
 use Rattle.session_words.specs.declared.plan.PostPlan.{PostPlan}
-use Rattle.post_spec.specs.Contactors.{standing, live}
-use Rattle.post_spec.specs.Steps.{Seen, Step, seen_of}
+use Rattle.station_spec.specs.Contactors.{standing, live}
+use Rattle.station_spec.specs.Steps.{Seen, Step, seen_of}
 use Rattle.station_spec.specs.States.{State}
 use Rattle.station_spec.specs.Acting.{state}
 

@@ -3,8 +3,8 @@ use Rattle.std.specs.Prelude.{◌≡◌, ℕ, suc, List, [], ◌∷◌, map}
 use Rattle.charge_world.specs.declared.entry.Entry.{Entry}
 use Rattle.session_words.specs.declared.plan.PostPlan.{PostPlan}
 use Rattle.session_words.specs.declared.plan.SitePlan.{SitePlan}
-use Rattle.post_spec.specs.Codecs.{Codecs}
-use Rattle.post_spec.specs.Steps.{Step, Hears, Does, seen, seen_of}
+use Rattle.station_spec.specs.Codecs.{Codecs}
+use Rattle.station_spec.specs.Steps.{Step, Hears, Does, seen, seen_of}
 use Rattle.station_spec.specs.Acting.{state}
 use Rattle.station_spec.specs.Next.{IsQuiet, Acts}
 use Rattle.station_spec.specs.Sharing.{Post, Shows}

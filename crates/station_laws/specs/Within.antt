@@ -2,7 +2,7 @@
 use Rattle.std.specs.Prelude.{◌≤◌, List}
 use Rattle.charge_world.specs.declared.entry.Entry.{Entry}
 use Rattle.session_words.specs.declared.plan.SitePlan.{SitePlan}
-use Rattle.post_spec.specs.Codecs.{Codecs}
+use Rattle.station_spec.specs.Codecs.{Codecs}
 use Rattle.station_spec.specs.Sharing.{Post, told_total}
 use Rattle.station_spec.specs.Runs.{IsRun}
 

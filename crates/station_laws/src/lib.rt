@@ -5,12 +5,12 @@
 //! `runs_of_posts` (what each post goes by in a run), `contactors_are_read` (standing and live are what the past tells).
 #![tactic(auto)]
 
-ghost use Rattle.post_spec.specs.Codecs.{codecs};
+ghost use Rattle.station_spec.specs.Codecs.{codecs};
 ghost use Rattle.station_laws.specs.Contactors.{ContactorsAreRead};
 ghost use Rattle.station_laws.specs.PostRuns.{RunsArePostRuns};
 ghost use Rattle.station_laws.specs.Within.{RunsTellWithin};
 
-use post_spec::Coded;
+use station_spec::post_spec::Coded;
 
 /// The watts that all posts were told together stay within the site's limit, after every entry.
 pub fn told_within_limit<C: Coded>()

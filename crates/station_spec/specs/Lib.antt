@@ -1,3 +1,7 @@
+pub use Rattle.post_spec.specs.Codecs
+pub use Rattle.post_spec.specs.Contactors
+pub use Rattle.post_spec.specs.Sessions
+pub use Rattle.post_spec.specs.Steps
 pub mod States
 pub mod Deciding
 pub mod Judging

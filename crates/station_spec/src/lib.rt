@@ -3,3 +3,5 @@
 //!
 //! Proved: definitions alone, of what a post keeps and does next, and of the runs of a station.
 #![tactic(auto)]
+
+pub use post_spec;

@@ -14,6 +14,7 @@ ghost use Rattle.word_codec.specs.Replies.{IsGiven};
 
 use charge_world::Dialect;
 use post_spec::Coded;
+pub use secc_machine;
 use secc_machine::Judged;
 use session_words::Reply;
 

@@ -1,6 +1,6 @@
 use Rattle.std.proofs.Common.{ℕ, ◌+◌, ap}
 use Rattle.exi_bits.specs.Pens.{written_bits}
-use Rattle.exi_values.specs.Meaning.{texts_in}
+use Rattle.exi_writing.specs.Meaning.{texts_in}
 use Rattle.exi_events.specs.Open.{opened_of}
 use Rattle.exi_events.proofs.Offering.{plain_is}
 use Rattle.exi_events.proofs.Measured.{attribute_asked, attribute_bits, characters_bits, plain_bits}

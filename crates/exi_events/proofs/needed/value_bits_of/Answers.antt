@@ -1,5 +1,5 @@
 use Rattle.exi_bits.specs.Pens.{written_bits}
-use Rattle.exi_values.specs.Meaning.{texts_in}
+use Rattle.exi_writing.specs.Meaning.{texts_in}
 use Rattle.exi_events.specs.Writer.{value_in}
 use Rattle.exi_events.proofs.Writable.{in_event, given_is, given_fits, writes_of}
 use Rattle.exi_events.proofs.needed.value_bits_of.Goals as goal

@@ -1,6 +1,6 @@
 use Rattle.std.proofs.Common.{arith}
 use Rattle.exi_spec.specs.Bits.{bits_of}
-use Rattle.exi_values.specs.Meaning.{texts_in}
+use Rattle.exi_writing.specs.Meaning.{texts_in}
 use Rattle.exi_writing.proofs.Strings.{length-texts_in}
 use Rattle.exi_events.specs.Writer.{value_in}
 use Rattle.exi_events.proofs.Writable.{value_decides, in_event}

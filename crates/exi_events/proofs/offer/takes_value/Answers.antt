@@ -1,5 +1,5 @@
 use Rattle.exi_spec.specs.Bits.{bits_of}
-use Rattle.exi_values.specs.Meaning.{texts_in}
+use Rattle.exi_writing.specs.Meaning.{texts_in}
 use Rattle.exi_events.specs.Open.{opened_of}
 use Rattle.exi_events.proofs.Offering.{attribute_decides, characters_decides, plain_decides, plain_is}
 use Rattle.exi_events.proofs.offer.takes_value.Goals as goal

@@ -1,10 +1,10 @@
 use Rattle.std.proofs.Common.{ℕ, ◌+◌, ◌∙◌, List, refl, sym, subst, ap}
 use Rattle.exi_bits.specs.Pens.{written_bits}
-use Rattle.exi_documents.specs.Grammar.{Opened, State}
+use Rattle.exi_writing.specs.Grammar.{Opened, State}
 use Rattle.exi_events.specs.declared.reader.Phase.{Phase}
 use Rattle.exi_events.specs.Reader.{standing_of, state_of}
 use Rattle.exi_events.specs.Writer.{drafted, IsFoundAt, IsOffered, HasBits}
-use Rattle.exi_values.specs.Meaning.{event_of}
+use Rattle.exi_writing.specs.Meaning.{event_of}
 use Rattle.exi_events.proofs.Measured.{state_stays, passes}
 use Rattle.exi_events.proofs.Standings.{sound_stands}
 use Rattle.exi_events.proofs.putting.put_event.Goals as goal

@@ -2,7 +2,7 @@ use Rattle.std.proofs.Common.{◌≡◌, true, false, length, refl, arith}
 use Rattle.std.proofs.lemmas.Bool.{false≢true}
 use Rattle.std.proofs.lemmas.Result.{err_from_is_err_and}
 use Rattle.exi_bits.specs.Pens.{written_bits}
-use Rattle.exi_values.specs.Meaning.{texts_in}
+use Rattle.exi_writing.specs.Meaning.{texts_in}
 use Rattle.exi_writing.proofs.Strings.{texts_kept, are_kept}
 use Rattle.exi_events.proofs.Limits.{few_code_bits}
 use Rattle.exi_events.proofs.Innermost.{goes_open, push_room, push_open, is_step}

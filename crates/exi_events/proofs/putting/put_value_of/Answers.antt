@@ -1,6 +1,6 @@
 use Rattle.std.specs.Result.{IsErr}
 use Rattle.exi_bits.specs.Pens.{written_bits}
-use Rattle.exi_values.specs.Meaning.{texts_in}
+use Rattle.exi_writing.specs.Meaning.{texts_in}
 use Rattle.exi_events.specs.Writer.{value_in}
 use Rattle.exi_events.proofs.Writable.{in_event, given_is, given_fits, value_put, value_full}
 use Rattle.exi_events.proofs.putting.put_value_of.Goals as goal

@@ -1,8 +1,8 @@
-use Rattle.exi_documents.specs.Documents.{first}
+use Rattle.exi_writing.specs.Documents.{first}
 use Rattle.exi_events.proofs.Sequences.{short_took}
 use Rattle.exi_events.proofs.Simple.{offered}
 use Rattle.exi_events.proofs.Whole.{behind_value}
-use Rattle.exi_values.specs.Meaning.{texts_in}
+use Rattle.exi_writing.specs.Meaning.{texts_in}
 use Rattle.exi_events.proofs.sequence.short_child.Goals as goal
 
 pub returns-clause-child : goal.returns-clause-child

@@ -1,7 +1,7 @@
 use Rattle.std.proofs.Common.{◌≡◌, length, ap, ◌∙◌, arith, rules, IsUtf8, chars}
 use Rattle.exi_bits.specs.Lent.{items_of}
 use Rattle.exi_spec.specs.Bits.{bits_of}
-use Rattle.exi_values.specs.Meaning.{texts_in, value_of}
+use Rattle.exi_writing.specs.Meaning.{texts_in, value_of}
 use Rattle.exi_writing.proofs.Strings.{length-texts_in}
 use Rattle.exi_events.proofs.Entries.{entered_decides, room_none, no_char, some_char}
 use Rattle.exi_events.proofs.value.has_entry.Goals as goal

@@ -1,8 +1,8 @@
 use Rattle.std.proofs.Common.{◌≡◌, ℕ, List}
 use Rattle.exi_spec.specs.Bits.{bits_of}
-use Rattle.exi_strings.specs.Table.{global_of}
-use Rattle.exi_documents.specs.Trees.{Text}
-use Rattle.exi_values.specs.Meaning.{texts_in, value_of}
+use Rattle.exi_writing.specs.Table.{global_of}
+use Rattle.exi_writing.specs.Trees.{Text}
+use Rattle.exi_writing.specs.Meaning.{texts_in, value_of}
 use Rattle.exi_writing.proofs.Found.{NotBefore}
 use Rattle.exi_events.proofs.value.is_entered.Given as goal
 

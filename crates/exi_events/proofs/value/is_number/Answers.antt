@@ -2,8 +2,8 @@ use Rattle.std.proofs.Common.{◌≡◌, ◌↔◌, IsTrue, ℤ, ◌+ℤ◌, to_
 use Rattle.std.specs.Int.{w64, w128}
 use Rattle.std.specs.Int.Signed.{lt_z}
 use Rattle.std.proofs.lemmas.Int.{ints, to_z-of_z}
-use Rattle.exi_documents.specs.Trees.{Number}
-use Rattle.exi_documents.specs.Values.{IsValue}
+use Rattle.exi_writing.specs.Trees.{Number}
+use Rattle.exi_writing.specs.Values.{IsValue}
 use Rattle.exi_events.proofs.Bounds.{bounded_decides}
 use Rattle.exi_events.proofs.value.is_number.Goals as goal
 

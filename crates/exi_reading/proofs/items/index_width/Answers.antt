@@ -1,6 +1,6 @@
 use Rattle.std.proofs.Common.{◌≡◌, ℕ, ◌-◌, subst, sym, arith}
 use Rattle.std.specs.Int.Count.{count_leading_zeros}
-use Rattle.exi_strings.specs.Texts.{IsIndexWidth}
+use Rattle.exi_values.specs.Texts.{IsIndexWidth}
 use Rattle.exi_reading.proofs.Widths.{told_width}
 use Rattle.exi_reading.proofs.items.index_width.Goals as goal
 

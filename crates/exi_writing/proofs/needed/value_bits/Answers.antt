@@ -3,7 +3,7 @@ use Rattle.std.proofs.lemmas.Int.{to_z-of_z}
 use Rattle.std.specs.Int.{w128}
 use Rattle.exi_spec.specs.Items.{shortest_unsigned}
 use Rattle.exi_bits.specs.Pens.{written_bits}
-use Rattle.exi_values.specs.Meaning.{texts_in}
+use Rattle.exi_reading.specs.Meaning.{texts_in}
 use Rattle.exi_writing.proofs.LengthLaws.{truth_bits, ordinal_bits, number_bits_of, bytes_bits, same_long}
 use Rattle.exi_writing.proofs.needed.value_bits.Goals as goal
 

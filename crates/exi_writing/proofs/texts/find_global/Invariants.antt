@@ -1,6 +1,6 @@
 use Rattle.exi_bits.specs.Pens.{written_bits}
-use Rattle.exi_strings.specs.Table.{global_of}
-use Rattle.exi_values.specs.Meaning.{texts_in}
+use Rattle.exi_reading.specs.Table.{global_of}
+use Rattle.exi_reading.specs.Meaning.{texts_in}
 use Rattle.exi_writing.specs.Source.{chars_of}
 use Rattle.exi_writing.proofs.Found.{NotBefore}
 use Rattle.exi_writing.proofs.texts.find_global.Given as goal

@@ -1,7 +1,7 @@
 use Rattle.std.proofs.Common.{length, ap, ◌∙◌, arith}
 use Rattle.std.proofs.lemmas.List.{length-map}
 use Rattle.exi_bits.specs.Pens.{written_bits}
-use Rattle.exi_strings.specs.Table.{local_of}
+use Rattle.exi_reading.specs.Table.{local_of}
 use Rattle.exi_reading.proofs.Places.{text_of, local_of-texts}
 use Rattle.exi_writing.proofs.Found.{first_there, not_there, all_passed}
 use Rattle.exi_writing.proofs.Locals.{next_local, behind_local, passes_other, passed_locals}

@@ -1,7 +1,7 @@
 use Rattle.std.proofs.Common.{◌≡◌, ◌≤◌, drop}
 use Rattle.exi_bits.specs.Pens.{written_bits}
-use Rattle.exi_strings.specs.Table.{local_of}
-use Rattle.exi_values.specs.Meaning.{texts_in}
+use Rattle.exi_reading.specs.Table.{local_of}
+use Rattle.exi_reading.specs.Meaning.{texts_in}
 use Rattle.exi_writing.specs.Source.{chars_of}
 use Rattle.exi_writing.proofs.Found.{NotBefore}
 use Rattle.exi_writing.proofs.texts.find_local.Given as goal

@@ -1,7 +1,7 @@
 use Rattle.std.proofs.Common.{arith}
 use Rattle.std.proofs.lemmas.Result.{on_ok_weaker, on_err_weaker}
 use Rattle.exi_bits.specs.Pens.{written_bits}
-use Rattle.exi_values.specs.Meaning.{texts_in}
+use Rattle.exi_reading.specs.Meaning.{texts_in}
 use Rattle.exi_reading.proofs.Places.{local_of-texts, global_of-texts}
 use Rattle.exi_writing.specs.Source.{chars_of}
 use Rattle.exi_writing.proofs.Found.{same_count, first_below}

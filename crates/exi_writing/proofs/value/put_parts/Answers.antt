@@ -7,11 +7,11 @@ use Rattle.exi_spec.specs.Bits.{bits_of}
 use Rattle.exi_spec.specs.Items.{shortest_unsigned}
 use Rattle.exi_bits.specs.Lent.{items_of}
 use Rattle.exi_bits.specs.Pens.{written_bits}
-use Rattle.exi_documents.specs.Trees.{Truth, Ordinal, Number, Bytes, Text}
-use Rattle.exi_documents.specs.Values.{IsValue, Entries}
-use Rattle.exi_values.specs.Meaning.{texts_in, value_of}
-use Rattle.exi_values.specs.declared.Value.{Value}
-use Rattle.exi_values.specs.declared.Value.TheVariants as value
+use Rattle.exi_reading.specs.Trees.{Truth, Ordinal, Number, Bytes, Text}
+use Rattle.exi_reading.specs.Values.{IsValue, Entries}
+use Rattle.exi_reading.specs.Meaning.{texts_in, value_of}
+use Rattle.exi_reading.specs.Value.{Value}
+use Rattle.exi_reading.specs.Value.TheVariants as value
 use Rattle.exi_writing.specs.Entering.{WritesTextInto}
 use Rattle.exi_writing.specs.Writing.{WritesPlain}
 use Rattle.exi_writing.proofs.Pens.{on_err, more_of}

@@ -1,5 +1,5 @@
 use Rattle.std.proofs.Common.{refl, suc, sym, subst, ◌∷◌}
-use Rattle.exi_documents.specs.Trees.{Attribute, Value}
+use Rattle.exi_events.specs.Trees.{Attribute, Value}
 use Rattle.message_parts.specs.Particles.{attribute_at}
 use Rattle.message_parts.specs.Reading.{StartsAt, seen_of}
 use Rattle.message_parts.proofs.Singles.{taken}

@@ -1,5 +1,5 @@
 use Rattle.std.proofs.Common.{suc, sym, subst, List, ◌∷◌, ℕ}
-use Rattle.exi_documents.specs.Trees.{Start}
+use Rattle.exi_events.specs.Trees.{Start}
 use Rattle.message_parts.specs.Contents.{told_one}
 use Rattle.message_parts.specs.Reading.{Reads, IsChosen, seen_of}
 use Rattle.message_parts.proofs.Singles.{it_is, is_chosen, child_frame, behind_choice}

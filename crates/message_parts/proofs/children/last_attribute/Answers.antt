@@ -1,7 +1,7 @@
 use Rattle.std.proofs.Common.{suc, sym, subst, refl, ◌∷◌, Option, MatchOption, IfSome, ℕ}
-use Rattle.exi_documents.specs.Trees.{Attribute, Value}
-use Rattle.exi_values.specs.declared.Value.{Value as ReadValue}
-use Rattle.exi_values.specs.Meaning.{IsLent, value_of}
+use Rattle.exi_events.specs.Trees.{Attribute, Value}
+use Rattle.exi_events.specs.Value.{Value as ReadValue}
+use Rattle.exi_events.specs.Meaning.{IsLent, value_of}
 use Rattle.message_parts.specs.Particles.{attribute_at}
 use Rattle.message_parts.specs.Reading.{StartsAt, Reads, seen_of}
 use Rattle.message_parts.specs.Values.{IsRead}

@@ -1,5 +1,5 @@
 use Rattle.std.proofs.Common.{rules, suc, sym, ap, subst, ◌∙◌, List, ◌∷◌, ℕ, ◌≡◌, true, false}
-use Rattle.exi_documents.specs.Trees.{Start}
+use Rattle.exi_events.specs.Trees.{Start}
 use Rattle.message_parts.specs.Contents.{told_one}
 use Rattle.message_parts.specs.Particles.{names_among, is_child_among}
 use Rattle.message_parts.specs.Reading.{Reads, IsChosen, seen_of}

@@ -1,5 +1,5 @@
 use Rattle.std.proofs.Common.{◌≡◌, ℕ, Some, List, length, map, slice_get, true}
-use Rattle.exi_documents.specs.Trees.{Event}
+use Rattle.exi_events.specs.Trees.{Event}
 use Rattle.exi_schema.specs.declared.tables.AttributeOf.{AttributeOf}
 use Rattle.exi_schema.specs.Plain.{PlainParticle, containing}
 use Rattle.message_parts.specs.Contents.{holding_with, told_each}

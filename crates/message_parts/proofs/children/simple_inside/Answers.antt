@@ -1,5 +1,5 @@
 use Rattle.std.proofs.Common.{refl, sym, subst, ◌∷◌}
-use Rattle.exi_documents.specs.Trees.{Content, Value}
+use Rattle.exi_events.specs.Trees.{Content, Value}
 use Rattle.message_parts.specs.Reading.{Leaves, seen_of}
 use Rattle.message_parts.proofs.children.simple_inside.Goals as goal
 

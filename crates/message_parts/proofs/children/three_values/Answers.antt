@@ -1,5 +1,5 @@
 use Rattle.std.proofs.Common.{refl, sym, subst, [], ◌∙◌}
-use Rattle.exi_documents.specs.Trees.{Value}
+use Rattle.exi_events.specs.Trees.{Value}
 use Rattle.exi_events.specs.Short.{tree_of}
 use Rattle.message_parts.specs.Reading.{Reads, StartsAt, seen_of}
 use Rattle.message_parts.specs.Sequence.{HoldsThree, told_three}

@@ -1,6 +1,6 @@
 use Rattle.std.proofs.Common.{rules, suc, List, Some, inl, inr, sym, ap, subst, ◌∙◌, ◌+◌, arith}
 use Rattle.std.proofs.lemmas.Bool.Decides.{nat_tests}
-use Rattle.exi_documents.specs.Trees.{Event}
+use Rattle.exi_events.specs.Trees.{Event}
 use Rattle.message_parts.specs.Contents.{Of}
 use Rattle.message_parts.specs.Particles.{name_at, kind_at}
 use Rattle.message_parts.specs.Reading.{seen_of, Reads, ReadsFrom}

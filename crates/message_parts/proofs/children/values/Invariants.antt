@@ -1,5 +1,5 @@
 use Rattle.std.proofs.Common.{◌≡◌, ℕ, List, length, map, true}
-use Rattle.exi_documents.specs.Trees.{Event}
+use Rattle.exi_events.specs.Trees.{Event}
 use Rattle.exi_schema.specs.declared.tables.AttributeOf.{AttributeOf}
 use Rattle.exi_schema.specs.Plain.{PlainKind, PlainParticle}
 use Rattle.message_parts.specs.Contents.{Of, told_each}

@@ -1,7 +1,7 @@
 use Rattle.std.proofs.Common.{◌≡◌, ◌∙◌, ap, arith, length, sym, subst, Bool, List, ℕ}
 use Rattle.exi_schema.specs.Schemas.{PlainSchema}
-use Rattle.exi_documents.specs.Documents.{SpellsDocument}
-use Rattle.exi_documents.specs.Values.{WritesValue}
+use Rattle.exi_events.specs.Documents.{SpellsDocument}
+use Rattle.exi_events.specs.Values.{WritesValue}
 use Rattle.exi_events.proofs.Drafts.{within_room}
 use Rattle.message_parts.specs.Contents.{root_of}
 use Rattle.message_parts.proofs.document.bits_needed.Goals as goal

@@ -1,5 +1,5 @@
 use Rattle.std.proofs.Common.{ap, refl, ◌∙◌, ◌≡◌, ◌*◌, ◌<◌, ◌≤◌, length, Some, None, ℕ, []}
-use Rattle.exi_documents.specs.Trees.{Document}
+use Rattle.exi_events.specs.Trees.{Document}
 use Rattle.exi_events.specs.Writer.{draft_of}
 use Rattle.message_parts.specs.Writing.{put_of}
 use Rattle.message_parts.proofs.Written.{begun, behind_all, finished, no_room, needs}

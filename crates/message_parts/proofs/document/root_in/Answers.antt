@@ -1,6 +1,6 @@
 use Rattle.std.proofs.Common.{refl, subst, sym, ℕ}
 use Rattle.exi_spec.specs.Bits.{bits_of}
-use Rattle.exi_documents.specs.Documents.{IsDocument}
+use Rattle.exi_events.specs.Documents.{IsDocument}
 use Rattle.message_parts.specs.Contents.{root_of}
 use Rattle.message_parts.proofs.Rooted.{root_chosen, is_document}
 use Rattle.message_parts.proofs.document.root_in.Goals as goal

@@ -1,8 +1,8 @@
 use Rattle.std.proofs.Common.{rules, ℕ, List, Bool, length, take, ap, sym, subst, arith}
 use Rattle.exi_bits.specs.Written.{HoldsBits}
 use Rattle.exi_schema.specs.Schemas.{PlainSchema}
-use Rattle.exi_documents.specs.Documents.{SpellsDocument, IsEncoding}
-use Rattle.exi_documents.specs.Values.{WritesValue}
+use Rattle.exi_events.specs.Documents.{SpellsDocument, IsEncoding}
+use Rattle.exi_events.specs.Values.{WritesValue}
 use Rattle.exi_events.proofs.Drafts.{within_room}
 use Rattle.message_parts.specs.Contents.{root_of}
 use Rattle.message_parts.proofs.Written.{encodes}

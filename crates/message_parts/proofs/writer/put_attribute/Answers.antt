@@ -1,5 +1,5 @@
 use Rattle.std.proofs.Common.{ap, Some}
-use Rattle.exi_documents.specs.Trees.{Attribute, Value}
+use Rattle.exi_events.specs.Trees.{Attribute, Value}
 use Rattle.message_parts.proofs.writer.put_attribute.Goals as goal
 
 pub returns-clause-write : goal.returns-clause-write

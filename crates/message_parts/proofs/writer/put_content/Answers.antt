@@ -1,5 +1,5 @@
 use Rattle.std.proofs.Common.{ap, Some}
-use Rattle.exi_documents.specs.Trees.{Content, Value}
+use Rattle.exi_events.specs.Trees.{Content, Value}
 use Rattle.message_parts.proofs.writer.put_content.Goals as goal
 
 pub returns-clause-write : goal.returns-clause-write

@@ -1,5 +1,5 @@
 use Rattle.std.proofs.Common.{subst, ap, Option, OnOk}
-use Rattle.exi_documents.specs.Trees.{Event}
+use Rattle.exi_events.specs.Trees.{Event}
 use Rattle.exi_events.specs.Writer.{draft_of, IsPut, IsNeeded, IsOfferedAs}
 use Rattle.exi_events.proofs.Standings.{sound_stands}
 use Rattle.message_parts.proofs.Putting.{Answers, put_any}

@@ -1,5 +1,5 @@
 use Rattle.std.proofs.Common.{subst, ap, ◌∙◌, ◌∷◌, List}
-use Rattle.exi_documents.specs.Trees.{Event, EndElement}
+use Rattle.exi_events.specs.Trees.{Event, EndElement}
 use Rattle.message_parts.specs.Contents.{given_onto, trees_of, trees_onto}
 use Rattle.message_parts.specs.Writing.{Writes, put_of}
 use Rattle.message_parts.proofs.Putting.{given_onto_is, parts_onto_is}

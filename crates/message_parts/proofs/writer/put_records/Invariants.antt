@@ -1,5 +1,5 @@
 use Rattle.std.proofs.Common.{List, map, drop}
-use Rattle.exi_documents.specs.Trees.{Event}
+use Rattle.exi_events.specs.Trees.{Event}
 use Rattle.exi_events.specs.Writer.{IsReadyToPut, KeepsLent}
 use Rattle.message_parts.specs.Contents.{holding_with, each_onto}
 use Rattle.message_parts.specs.Writing.{Target, Writes, put_of}

@@ -5,9 +5,9 @@ use Rattle.charge_world.specs.declared.ports.Order.TheVariants as order
 use Rattle.charge_world.specs.Outside.{GrowsByOne}
 use Rattle.post_spec.specs.Steps.{Give}
 use Rattle.site_serving.specs.Serving.{ClosesTo}
-use Rattle.site_acts.specs.Telling.{HasClosing, IsTraced, IsWrittenSo}
-use Rattle.site_acts.proofs.Carry.{carries_none, carries_one, text_none, text_one}
-use Rattle.site_acts.proofs.Frame.{outgoing}
+use Rattle.site_serving.specs.Telling.{HasClosing, IsTraced, IsWrittenSo}
+use Rattle.site_serving.proofs.Carry.{carries_none, carries_one, text_none, text_one}
+use Rattle.site_serving.proofs.Frame.{outgoing}
 use Rattle.site_serving.proofs.Shutting.{live_at, closes_live, closes_idle, among_places, one_closing}
 use Rattle.site_turns.proofs.closing.close_one.Goals as goal
 

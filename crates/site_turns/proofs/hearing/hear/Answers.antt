@@ -4,9 +4,9 @@ use Rattle.charge_world.specs.declared.entry.Entry.TheVariants as entry
 use Rattle.charge_world.specs.Outside.{Appends, AppendsSome, bytes_of}
 use Rattle.trace_text.specs.TraceText.{numbered_line_of}
 use Rattle.post_spec.specs.Codecs.{codecs}
-use Rattle.site_acts.specs.Serving.{InBlock}
-use Rattle.site_acts.specs.Telling.{IsTraced, IsWrittenSo}
-use Rattle.site_acts.proofs.Carry.{carries_then, text_then}
+use Rattle.site_serving.specs.SiteActsServing.{InBlock}
+use Rattle.site_serving.specs.Telling.{IsTraced, IsWrittenSo}
+use Rattle.site_serving.proofs.Carry.{carries_then, text_then}
 use Rattle.site_turns.specs.Hearing.{Hears, known_behind, AwaitsLine}
 use Rattle.site_turns.proofs.Heard.{heard_ready, heard_by}
 use Rattle.site_turns.proofs.Lines.{whole_line, cut_line}

@@ -1,7 +1,7 @@
 use Rattle.std.proofs.Common.{◌≡◌}
 use Rattle.station_spec.specs.Runs.{Closes}
 use Rattle.site_serving.specs.Serving.{ClosesTo}
-use Rattle.site_acts.proofs.Carry.{carries_from}
+use Rattle.site_serving.proofs.Carry.{carries_from}
 use Rattle.site_serving.proofs.Shutting.{closes_none, text_closing}
 use Rattle.site_turns.proofs.turning.finish.Goals as goal
 

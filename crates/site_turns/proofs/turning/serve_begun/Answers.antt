@@ -2,8 +2,8 @@ use Rattle.std.proofs.Common.{◌≡◌, ◌<◌, ◌≤◌, ℕ, List, [], leng
 use Rattle.charge_world.specs.declared.entry.Entry.{Entry}
 use Rattle.session_words.specs.declared.plan.SitePlan.{SitePlan}
 use Rattle.post_spec.specs.Codecs.{codecs}
-use Rattle.site_acts.specs.Telling.{Carries, IsTraced, IsWrittenSo}
-use Rattle.site_acts.proofs.Carry.{carries_from, carries_then, carries_to, text_then, text_to}
+use Rattle.site_serving.specs.Telling.{Carries, IsTraced, IsWrittenSo}
+use Rattle.site_serving.proofs.Carry.{carries_from, carries_then, carries_to, text_then, text_to}
 use Rattle.site_turns.specs.declared.hearing.SoFar.{SoFar}
 use Rattle.site_turns.specs.Ending.{AreMadeOf, EndedAs, RanAs, TracedAs, AreCounts}
 use Rattle.site_turns.specs.Lasts.{ended_so}

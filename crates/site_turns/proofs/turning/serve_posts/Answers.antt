@@ -1,8 +1,8 @@
 use Rattle.std.proofs.Common.{◌≡◌, ℕ, List, [], refl, sym, ◌∙◌}
 use Rattle.charge_world.specs.declared.entry.Entry.{Entry}
 use Rattle.post_spec.specs.Codecs.{codecs}
-use Rattle.site_acts.specs.Telling.{IsTraced}
-use Rattle.site_acts.proofs.Carry.{carries_none, text_then}
+use Rattle.site_serving.specs.Telling.{IsTraced}
+use Rattle.site_serving.proofs.Carry.{carries_none, text_then}
 use Rattle.site_turns.specs.declared.ending.Ended.TheVariants as ended
 use Rattle.site_turns.specs.Ending.{EndedAs, RanAs, TracedAs, AwaitedAs, AreCounts}
 use Rattle.site_turns.proofs.First.{begin_ok, begin_failed, none_run, none_untils, none_counts}

@@ -1,8 +1,8 @@
 use Rattle.std.proofs.Common.{◌≡◌, ◌+◌, ◌<◌, ℕ, ◌∙◌, arith}
 use Rattle.session_words.specs.declared.plan.SitePlan.{SitePlan}
 use Rattle.post_spec.specs.Codecs.{codecs}
-use Rattle.site_acts.specs.Telling.{IsTraced}
-use Rattle.site_acts.proofs.Carry.{carries_then, carries_to, text_then}
+use Rattle.site_serving.specs.Telling.{IsTraced}
+use Rattle.site_serving.proofs.Carry.{carries_then, carries_to, text_then}
 use Rattle.site_serving.proofs.Counts.{fault_ok}
 use Rattle.site_turns.specs.declared.ending.Ended.TheVariants as ended
 use Rattle.site_turns.specs.Lasts.{ended_by, ended_so}

@@ -3,8 +3,8 @@ use Rattle.charge_world.specs.declared.entry.Entry.{Entry}
 use Rattle.charge_world.specs.declared.entry.Entry.TheVariants as entry
 use Rattle.charge_world.specs.Outside.{bytes_of}
 use Rattle.post_spec.specs.Codecs.{codecs}
-use Rattle.site_acts.specs.Telling.{IsTraced, IsCutHere, IsWrittenSo}
-use Rattle.site_acts.proofs.Carry.{carries_to, text_then, text_to}
+use Rattle.site_serving.specs.Telling.{IsTraced, IsCutHere, IsWrittenSo}
+use Rattle.site_serving.proofs.Carry.{carries_to, text_then, text_to}
 use Rattle.site_serving.proofs.Counts.{text_told}
 use Rattle.trace_lines.specs.declared.TraceFailed.{TraceFailed}
 use Rattle.site_turns.specs.declared.ending.Ended.TheVariants as ended

@@ -1,6 +1,6 @@
 use Rattle.std.proofs.Common.{List, IsSome, ◌↔◌, subst}
-use Rattle.exi_documents.specs.Values.{Entries}
-use Rattle.exi_documents.specs.Grammar.{Opened, Inside, stands}
+use Rattle.exi_writing.specs.Values.{Entries}
+use Rattle.exi_writing.specs.Grammar.{Opened, Inside, stands}
 use Rattle.exi_events.specs.Open.{opened_of}
 use Rattle.exi_events.specs.Writer.{draft_of, IsOffered}
 use Rattle.exi_events.proofs.Drafts.{texts_held, same_texts}

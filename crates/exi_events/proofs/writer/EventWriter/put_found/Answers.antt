@@ -3,7 +3,7 @@ use Rattle.std.specs.Result.{IsErr}
 use Rattle.exi_bits.specs.Pens.{written_bits}
 use Rattle.exi_events.specs.Reader.{state_of, IsReadyAt}
 use Rattle.exi_events.specs.Writer.{Draft, drafted, draft_of, IsOffered, IsPut, HasNoRoom, IsNeeded}
-use Rattle.exi_values.specs.Meaning.{event_of}
+use Rattle.exi_writing.specs.Meaning.{event_of}
 use Rattle.exi_events.proofs.Drafts.{begun_in, left_in, told_more}
 use Rattle.exi_events.proofs.writer.EventWriter.put_found.Goals as goal
 

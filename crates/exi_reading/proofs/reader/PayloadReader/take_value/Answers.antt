@@ -3,7 +3,7 @@ use Rattle.std.proofs.lemmas.Result.{err_from_is_err_and}
 use Rattle.std.proofs.lemmas.Int.{to_z-of_z}
 use Rattle.std.specs.Int.{w64, w128}
 use Rattle.exi_bits.specs.declared.span.SpanAt.{SpanAt}
-use Rattle.exi_strings.specs.Table.{Table}
+use Rattle.exi_values.specs.Table.{Table}
 use Rattle.exi_reading.specs.declared.reader.PayloadReader.TheInside.{Inside}
 use Rattle.exi_schema.specs.declared.tables.Datatype.TheVariants.{Bool, Named, Bounded, Unsigned, Signed, Binary, Text}
 use Rattle.exi_values.specs.declared.Value.TheVariants as value

@@ -2,8 +2,8 @@ use Rattle.std.proofs.Common.{ap, subst, sym, ◌∙◌, ◌≡◌, ◌∷◌, L
 use Rattle.message_parts.proofs.Next.{stays_open}
 use Rattle.message_parts.specs.Reading.{ToldUpTo, seen_of}
 use Rattle.exi_schema.specs.Schemas.{PlainSchema}
-use Rattle.exi_documents.specs.Grammar.{Opened, around, Behind}
-use Rattle.exi_documents.specs.Trees.{EndElement}
+use Rattle.exi_events.specs.Grammar.{Opened, around, Behind}
+use Rattle.exi_events.specs.Trees.{EndElement}
 use Rattle.exi_events.specs.Reader.{IsTold}
 use Rattle.message_parts.proofs.Rooted.{ends}
 use Rattle.message_parts.proofs.descent.Descent.finish.Goals as goal

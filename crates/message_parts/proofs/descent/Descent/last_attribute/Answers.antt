@@ -1,5 +1,5 @@
 use Rattle.std.proofs.Common.{ap, subst, sym, MatchOption, Option}
-use Rattle.exi_values.specs.declared.Value.{Value}
+use Rattle.exi_events.specs.Value.{Value}
 use Rattle.message_parts.proofs.Next.{stays_open}
 use Rattle.message_parts.proofs.Attributes.{maybe_next, Given}
 use Rattle.message_parts.specs.Reading.{Reads, seen_of}
