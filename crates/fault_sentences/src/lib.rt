@@ -2,7 +2,7 @@
 //!
 //! They decide nothing. A file that is read again for them may have changed meanwhile.
 //!
-//! Proved: only that nothing goes wrong in making them.
+//! Proved: what words that are no command ask for (`Asked::by`); of the sentences only that nothing goes wrong in making them.
 #![tactic(auto)]
 
 mod input;

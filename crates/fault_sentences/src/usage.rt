@@ -1,5 +1,8 @@
 //! The commands, and what is wrong with words that are none.
 
+ghost use Rattle.std.specs.Prelude.{◌≡◌};
+ghost use Rattle.fault_sentences.specs.Asked.{asked_by, asked_of};
+
 use command_words::WordList;
 use std::{fmt, io};
 
@@ -68,12 +71,28 @@ pub enum Asked {
 
 impl Asked {
     /// What these words ask for, which are no command.
-    pub fn by(words: &WordList) -> Asked {
+    pub fn by(words: &WordList) -> Asked
+        ensures { result ≡ asked_by words.now }
+    {
         match words.get(0) {
-            Some("--help") | Some("-h") | Some("help") => Asked::Help,
-            Some("--version") | Some("-V") | Some("version") => Asked::Version,
-            _ => Asked::Mistaken,
+            Some(word) => asked_of(word),
+            None => Asked::Mistaken,
         }
+    }
+}
+
+/// What a first word asks for.
+fn asked_of(word: &str) -> Asked
+    ensures { result ≡ asked_of word.now }
+{
+    match word {
+        "--help" => Asked::Help,
+        "-h" => Asked::Help,
+        "help" => Asked::Help,
+        "--version" => Asked::Version,
+        "-V" => Asked::Version,
+        "version" => Asked::Version,
+        _ => Asked::Mistaken,
     }
 }
 
