@@ -5,22 +5,20 @@ use Rattle.site_acts.specs.Telling.{Carries, CarriesText}
 use Rattle.car_spec.specs.Codecs.{Codecs}
 use Rattle.car_spec.specs.Report.{Report}
 use Rattle.car_core.specs.Ended.{Ended}
-use Rattle.car_core.specs.Ending.{EndedAs, IsDriven, RanAs, TracedAs}
-use Rattle.car_core.specs.Lawful.{IsLawful}
+use Rattle.car_core.specs.Ending.{EndedAs, TracedAs}
+use Rattle.car_core.specs.Lawful.{IsDrivenLawfully}
 use Rattle.command_status.specs.declared.status.Status.{Status}
 use Rattle.station_command.specs.Served.{WireTold, SinkTold, IsUnstarted}
 use Rattle.car_command.specs.Lines.{Concludes}
 use Rattle.car_command.specs.Ports.{ports_of}
 
--- The car was driven. Where the wire tells its past, and was lent with an empty one, that is a run of the plan, which ended so, and it is
--- lawful; each `until` is that of the past before it, and the line reports the run's steps; the trace is its text, where it was empty.
+-- The car was driven. Where the wire tells its past, and was lent with an empty one, that is a run of the plan, which ended so; each `until` is
+-- that of the past before it, the line reports the run's steps, and by these very steps it is lawful; the trace is its text, where it was empty.
 pub record WasDriven (c : Codecs) (plan : CarPlan) (s : Status) (before after : WireTold) (trace_before trace : Option (List ℕ)) (out_before out : SinkTold) : Type 0 where
   pub how : Ended
   pub told : Report
-  pub run : Carries before.past after.past (λ past. past ≡ []) (RanAs c plan how)
-  pub lawful : Carries before.past after.past (λ past. past ≡ []) (IsLawful c plan)
   pub ended : Carries before.past after.past (λ past. past ≡ []) (EndedAs plan.turns how)
-  pub driven : Carries before.past after.past (λ past. past ≡ []) (IsDriven c plan how before.untils after.untils told)
+  pub driven : Carries before.past after.past (λ past. past ≡ []) (IsDrivenLawfully c plan how before.untils after.untils told)
   pub traced : CarriesText before.past after.past trace_before trace (λ past text. (past ≡ []) × (text ≡ [])) (TracedAs how)
   pub line : Concludes how told s out_before out
 

@@ -1,11 +1,13 @@
 -- A run of a car, whole or cut, is lawful.
-use Rattle.std.proofs.Common.{◌≡◌, Bool, true, false, not, ◌&&◌, List, [], ◌∷◌, ◌++◌, refl, sym, ap, subst, ◌∙◌}
+use Rattle.std.proofs.Common.{◌≡◌, ℕ, Bool, true, false, not, ◌&&◌, List, [], ◌∷◌, ◌++◌, refl, sym, ap, subst, ◌∙◌}
 use Rattle.charge_world.specs.declared.entry.Entry.{Entry}
 use Rattle.charge_world.specs.declared.ports.Order.TheVariants as order
 use Rattle.session_words.specs.declared.plan.CarPlan.{CarPlan}
 use Rattle.car_spec.specs.Acting.{state}
 use Rattle.car_spec.specs.Codecs.{Codecs}
-use Rattle.car_spec.specs.Runs.{IsRun, Closes, IsCarRun, IsCutRun}
+use Rattle.car_spec.specs.Next.{IsQuiet}
+use Rattle.car_spec.specs.Report.{Report}
+use Rattle.car_spec.specs.Runs.{IsRun, Closes, IsEnded}
 use Rattle.car_spec.specs.Steps.{Act, Seek, Dial, Give, Say, End, Step, Hears, Loses, Reads, Does, entry_of}
 use Rattle.car_laws.specs.Closing.{RunsCloseByWords}
 use Rattle.car_laws.specs.Contactor.{live, closed, failed_open, RunsKeepLive}
@@ -15,7 +17,7 @@ use Rattle.car_laws.specs.Silence.{RunsStopAtTheEnd}
 use Rattle.car_laws.proofs.Opening.{closed_live}
 use Rattle.car_turns.specs.declared.ending.Ended.{Ended}
 use Rattle.car_turns.specs.declared.ending.Ended.TheVariants as ended
-use Rattle.car_turns.specs.Ending.{RanAs}
+use Rattle.car_turns.specs.Ending.{ClosesAs, RestsAs, IsDriven}
 use Rattle.car_core.specs.Lawful.{has_ended, IsSilent, IsLawful}
 
 -- what holds of every run of a car
@@ -74,14 +76,9 @@ closing true blocks past (false, e) dead h = ap failed_open e
 
 -- ---- runs
 
-lawful : (c : Codecs) → AreLawful c → (plan : CarPlan) (blocks past : List Entry) (steps : List Step) (due : Bool) → IsRun c plan blocks steps → Closes due blocks past
-    → (closed past ≡ true → failed_open past ≡ true) → IsLawful c plan past
-lawful c laws plan blocks past steps due run closes opens = record {
-  blocks = blocks;
-  steps = steps;
-  due = due;
-  run = run;
-  closes = closes;
+lawful : (c : Codecs) → AreLawful c → (plan : CarPlan) (blocks past : List Entry) (steps : List Step) → IsRun c plan blocks steps
+    → (closed past ≡ true → failed_open past ≡ true) → IsLawful plan steps blocks past
+lawful c laws plan blocks past steps run opens = record {
   by_words = λ behind earlier taken e.
       (let r = earlier_run c plan blocks behind (Does (Give order.Close) taken ∷ earlier) (subst (IsRun c plan blocks) e run) in laws.by_words plan r.0 earlier taken r.1);
   live_is = laws.live plan blocks steps run;
@@ -91,20 +88,28 @@ lawful c laws plan blocks past steps due run closes opens = record {
   ends_open = opens;
 }
 
-whole : (c : Codecs) → AreLawful c → (plan : CarPlan) (past : List Entry) → IsCarRun c plan past → IsLawful c plan past
-whole c laws plan past r =
-    lawful c laws plan r.blocks past r.steps ((state plan r.steps).live && not (state plan r.steps).over) r.run r.closes (laws.ends_open plan past r)
+whole : (c : Codecs) → AreLawful c → (plan : CarPlan) (blocks past : List Entry) (steps : List Step) → IsRun c plan blocks steps
+    → IsQuiet plan (state plan steps) × IsEnded plan blocks (state plan steps)
+    → Closes ((state plan steps).live && not (state plan steps).over) blocks past → IsLawful plan steps blocks past
+whole c laws plan blocks past steps run rests closes = lawful c laws plan blocks past steps run
+    (laws.ends_open plan past (record { blocks = blocks; steps = steps; run = run; whole = rests.0; ended = rests.1; closes = closes }))
 
-cut : (c : Codecs) → AreLawful c → (plan : CarPlan) (past : List Entry) → IsCutRun c plan past → IsLawful c plan past
-cut c laws plan past r =
-    let kept : (state plan r.steps).live ≡ live r.blocks = laws.live plan r.blocks r.steps r.run in
-    lawful c laws plan r.blocks past r.steps (state plan r.steps).live r.run r.closes
-    (closing (state plan r.steps).live r.blocks past r.closes (λ dead h. let x : true ≡ false = sym (closed_live r.blocks h) ∙ sym kept ∙ dead in cc))
+cut : (c : Codecs) → AreLawful c → (plan : CarPlan) (blocks past : List Entry) (steps : List Step) → IsRun c plan blocks steps
+    → Closes (state plan steps).live blocks past → IsLawful plan steps blocks past
+cut c laws plan blocks past steps run closes =
+    let kept : (state plan steps).live ≡ live blocks = laws.live plan blocks steps run in
+    lawful c laws plan blocks past steps run
+    (closing (state plan steps).live blocks past closes (λ dead h. let x : true ≡ false = sym (closed_live blocks h) ∙ sym kept ∙ dead in cc))
+
+by_end : (c : Codecs) → AreLawful c → (plan : CarPlan) (how : Ended) (blocks past : List Entry) (steps : List Step) → IsRun c plan blocks steps
+    → RestsAs how plan blocks (state plan steps) → ClosesAs how (state plan steps) blocks past → IsLawful plan steps blocks past
+by_end c laws plan ended.Over blocks past steps run rests closes = whole c laws plan blocks past steps run rests closes
+by_end c laws plan ended.Lost blocks past steps run rests closes = whole c laws plan blocks past steps run rests closes
+by_end c laws plan ended.TraceFault blocks past steps run rests closes = cut c laws plan blocks past steps run closes
+by_end c laws plan ended.Turns blocks past steps run rests closes = whole c laws plan blocks past steps run rests closes
+by_end c laws plan ended.Finished blocks past steps run rests closes = whole c laws plan blocks past steps run rests closes
 
 -- however driving ended
-pub ran : (c : Codecs) → AreLawful c → (plan : CarPlan) (how : Ended) (past : List Entry) → RanAs c plan how past → IsLawful c plan past
-ran c laws plan ended.Over past r = whole c laws plan past r
-ran c laws plan ended.Lost past r = whole c laws plan past r
-ran c laws plan ended.TraceFault past r = cut c laws plan past r
-ran c laws plan ended.Turns past r = whole c laws plan past r
-ran c laws plan ended.Finished past r = whole c laws plan past r
+pub driven_lawful : (c : Codecs) → AreLawful c → (plan : CarPlan) (how : Ended) (before after : List ℕ) (told : Report) (past : List Entry)
+    → (driven : IsDriven c plan how before after told past) → IsLawful plan driven.steps driven.blocks past
+driven_lawful c laws plan how before after told past d = by_end c laws plan how d.blocks past d.steps d.run d.rests d.closes

@@ -1,11 +1,12 @@
 //! What holds of every run of a car.
 
-ghost use Rattle.std.specs.Prelude.{List};
+ghost use Rattle.std.specs.Prelude.{ℕ, List};
 ghost use Rattle.charge_world.specs.declared.entry.Entry.{Entry};
 ghost use Rattle.session_words.specs.declared.plan.CarPlan.{CarPlan};
 ghost use Rattle.car_spec.specs.Codecs.{codecs};
+ghost use Rattle.car_spec.specs.Report.{Report};
 ghost use Rattle.car_turns.specs.declared.ending.Ended.{Ended as HasEnded};
-ghost use Rattle.car_turns.specs.Ending.{RanAs};
+ghost use Rattle.car_turns.specs.Ending.{IsDriven};
 ghost use Rattle.car_core.specs.Lawful.{IsLawful};
 
 use car_laws::{
@@ -16,8 +17,8 @@ use car_spec::CarCoded;
 /// However driving a car ended, and whatever its codecs are, its run is lawful: each order to close is mandated by the words before it, a car
 /// that ended does nothing more, what it keeps is what its past and its steps tell, and at the end the contactor is ordered open.
 pub fn law_of_cars<C: CarCoded>()
-    ensures { (plan : CarPlan) (how : HasEnded) (past : List Entry) → RanAs (codecs C.offers C.responds C.reads C.encodes) plan how past
-        → IsLawful (codecs C.offers C.responds C.reads C.encodes) plan past }
+    ensures { (plan : CarPlan) (how : HasEnded) (before after : List ℕ) (told : Report) (past : List Entry)
+        → (driven : IsDriven (codecs C.offers C.responds C.reads C.encodes) plan how before after told past) → IsLawful plan driven.steps driven.blocks past }
 {
     closes_by_words::<C>();
     contactors_are_read::<C>();

@@ -3,7 +3,8 @@
 //!
 //! Proved: `drive_car`, of a car that `CarSite::make` made with all its memory: the same as `drive` of `car_turns`, and the past is lawful
 //! (`IsLawful`): each Close stands behind the words that mandate it, nothing follows its end, what it keeps of its contactor and its
-//! session is what its past and its steps tell, and it ends open; `law_of_cars`: every run of a car, whole or cut, is lawful.
+//! session is what its past and its steps tell, and it ends open; `law_of_cars`: every run by which a car was driven, whole or cut, is lawful, by the
+//! very steps of that run.
 #![tactic(auto)]
 
 mod driving;

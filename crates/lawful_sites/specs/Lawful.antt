@@ -6,18 +6,21 @@ use Rattle.post_spec.specs.Codecs.{Codecs}
 use Rattle.post_spec.specs.Steps.{seen}
 use Rattle.station_spec.specs.Sharing.{Post}
 use Rattle.station_spec.specs.Runs.{IsRun, IsSiteRun, Closes}
-use Rattle.spelled_watts.specs.Spelling.{SpellsWithin}
+use Rattle.blocks_of_runs.specs.CutRuns.{StopInBlocks}
+use Rattle.lawful_sites.specs.Limits.{StaysWithin}
 use Rattle.lawful_sites.specs.Posts.{IsLawfulPost}
 use Rattle.lawful_sites.specs.Whole.{IsLawfulWhole}
 
--- Each post is safe, silent without a session, and serves cars that conform; the watts that the last replies of all spell stay within
--- the limit; and where the run isn't cut, each post is served up to its end, and isolated
+-- The past is a list of blocks, a hearing and then what each post answers, part by part, up to where the run stops. Each post is safe, silent
+-- without a session, and serves cars that conform; at every moment the watts that the posts were told, and those that the last replies of all
+-- spell, stay within the limit; and where the run isn't cut, each post is served up to its end, and isolated
 pub record IsLawful (c : Codecs) (site : SitePlan) (past : List Entry) : Type 0 where
   pub blocks : List Entry
   pub posts : List Post
   pub run : IsRun c site blocks posts
+  pub in_blocks : StopInBlocks c site blocks posts
   pub closed : Closes 1 posts blocks past
-  pub within : SpellsWithin c site.limit past posts
+  pub within : StaysWithin c site blocks past posts
   pub each : (before : List Post) (post : Post) (behind : List Post) → posts ≡ before ++ post ∷ behind
       → IsLawfulPost c post.plan post.steps (seen (length before + 1) blocks) (seen (length before + 1) past)
   pub whole : (uncut : IsSiteRun c site past) (before : List Post) (post : Post) (behind : List Post) → uncut.posts ≡ before ++ post ∷ behind

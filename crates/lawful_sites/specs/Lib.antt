@@ -1,3 +1,5 @@
+pub mod Limits
+pub mod Reading
 pub mod Posts
 pub mod Whole
 pub mod Lawful

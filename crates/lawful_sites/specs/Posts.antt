@@ -14,6 +14,7 @@ use Rattle.opened_causes.specs.Causing.{OpenAtCauses}
 use Rattle.standing_causes.specs.Standing.{OpenAtFirst}
 use Rattle.conforming_runs.specs.Conforming.{Conforming}
 use Rattle.served_sessions.specs.Serving.{AreServed, IsRested}
+use Rattle.lawful_sites.specs.Reading.{ReadsOff}
 
 -- Of a post whose sessions conform: each request is answered once, with a code of the OK class; the contactor is ordered closed in the
 -- hearing of PowerDelivery Start, and its reply sent in the hearing of the feedback that confirms it; SessionStop alone ends a session. Where
@@ -25,7 +26,7 @@ pub record IsWellServed (c : Codecs) (plan : PostPlan) (steps : List Step) (bloc
 -- Of one post, whose entries behind the last hearing's answers are `blocks`, with the closing orders `past`:
 -- each Close is mandated, and the contactor is held closed only as mandated; a failed order is followed by an Open; at the end a live contactor
 -- is ordered open; while it is live no FAILED reply is sent; what ends a session opens it first, where it comes and wherever it stands
--- first; without a session nothing is sent; and where its sessions conform, it is served
+-- first; without a session nothing is sent; what it keeps is what its past tells; and where its sessions conform, it is served
 pub record IsLawfulPost (c : Codecs) (plan : PostPlan) (steps : List Step) (blocks past : List Seen) : Type 0 where
   pub closes : ClosesMandated c plan blocks
   pub holds : HoldsMandated c plan past
@@ -36,4 +37,5 @@ pub record IsLawfulPost (c : Codecs) (plan : PostPlan) (steps : List Step) (bloc
   pub causes : OpenAtCauses c plan steps
   pub stands : OpenAtFirst c plan steps
   pub silent : IsSilent blocks
+  pub reads_off : ReadsOff plan steps
   pub served : Conforming plan steps → IsWellServed c plan steps blocks

@@ -1,8 +1,9 @@
 //! A site whose codecs read back what they write is served lawfully: safe, within its limit, and silent without a session. It serves the
 //! cars that conform, and isolates its posts.
 //!
-//! Proved: `serve`, with codecs that are lawful: the past besides is lawful (`IsLawful`): safe, within the limit, silent without a session;
-//! it serves the cars that conform, and isolates the posts where the run is whole; `law_of_sites`: so is every run of a site, whole or cut.
+//! Proved: `serve`, with codecs that are lawful: the past besides is lawful (`IsLawful`): safe, within the limit
+//! at every moment, silent without a session, a list of blocks, and told by what each post keeps; it serves the cars that conform, and isolates
+//! the posts where the run is whole; `law_of_sites`: so is every run of a site, whole or cut.
 #![tactic(auto)]
 
 ghost use Rattle.std.specs.Prelude.{◌≡◌, ◌≤◌, ◌<◌, List, [], vec_len};
@@ -14,11 +15,14 @@ ghost use Rattle.site_acts.specs.Telling.{Carries, CarriesText};
 ghost use Rattle.site_core.specs.Ending.{AreMade, AreMadeOf, EndedAs, RanAs, TracedAs, AwaitedAs, AreCounts, AreFaults};
 ghost use Rattle.lawful_sites.specs.Lawful.{IsLawful};
 
+use blocks_of_runs::runs_are_blocks;
 use charge_world::{Sink, Wire};
 use failed_replies::no_failed_reply_while_live;
 use isolated_runs::posts_are_isolated;
 use mandated_runs::ends_as_mandated;
 use opened_causes::opens_at_causes;
+use read_agendas::agendas_are_read;
+use read_streams::streams_are_read;
 use safe_runs::{closes_as_mandated, ends_open, opens_again};
 use served_sessions::serves_conforming_sessions;
 use silent_runs::sends_in_sessions;
@@ -26,10 +30,11 @@ pub use site_core;
 use site_core::{Ended, Site};
 use spelled_watts::spelled_within_limit;
 use standing_causes::opens_where_causes_stand;
+use station_laws::{runs_of_posts, told_within_limit};
 use word_codec::LawfulCodec;
 
-/// Every run of a site, whole or cut, is lawful: safe, within its limit, and silent without a session. A post whose sessions conform is served, and a
-/// whole run isolates each post from the others.
+/// Every run of a site, whole or cut, is lawful: safe, within its limit at every moment, silent without a session, and a list of blocks. A post
+/// whose sessions conform is served, and a whole run isolates each post from the others.
 pub fn law_of_sites<C: LawfulCodec>()
     ensures { (plan : SitePlan) (past : List Entry) → IsCutRun (codecs C.negotiates C.reads C.encodes) plan past → IsLawful (codecs C.negotiates C.reads C.encodes) plan past }
 {
@@ -42,6 +47,11 @@ pub fn law_of_sites<C: LawfulCodec>()
     opens_where_causes_stand::<C>();
     sends_in_sessions::<C>();
     spelled_within_limit::<C>();
+    told_within_limit::<C>();
+    runs_are_blocks::<C>();
+    runs_of_posts::<C>();
+    agendas_are_read::<C>();
+    streams_are_read::<C>();
     serves_conforming_sessions::<C>();
     posts_are_isolated::<C>();
 }

@@ -1,3 +1,4 @@
+pub mod Fronts
 pub mod Links
 pub mod Once
 pub mod Places

@@ -1,5 +1,5 @@
 -- What the posts spell is what they may spell.
-use Rattle.std.proofs.Common.{◌≡◌, ◌≤◌, ℕ, suc, ◌+◌, List, [], ◌∷◌, map, Option, Some, None, refl, sym, subst, arith, Bool, true, false, ◌==◌, MatchBool}
+use Rattle.std.proofs.Common.{◌≡◌, ◌≤◌, ℕ, suc, ◌+◌, List, [], ◌∷◌, map, Option, Some, None, refl, sym, subst, arith, Bool, true, false, ◌==◌}
 use Rattle.std.specs.Prelude.{sum}
 use Rattle.std.proofs.lemmas.List.Sums.{sum_by-cons}
 use Rattle.charge_world.specs.declared.entry.Entry.{Entry}
@@ -15,10 +15,9 @@ use Rattle.station_spec.specs.States.{Spoken, Session}
 use Rattle.session_words.specs.declared.cause.EndCause.{EndCause}
 use Rattle.station_spec.specs.Acting.{state}
 use Rattle.station_spec.specs.Sharing.{Post, state_of}
-use Rattle.station_spec.specs.Runs.{Closes}
 use Rattle.station_laws.specs.PostRuns.{IsPostRun, ArePostsOf}
 use Rattle.station_laws.proofs.PostRuns.{run_posts}
-use Rattle.spelled_watts.specs.Spelling.{SpellsWithin, AreSpelled, NegotiatesFirst, RunsSpellWithin, ClosedRunsSpellWithin}
+use Rattle.spelled_watts.specs.Spelling.{SpellsWithin, AreSpelled, NegotiatesFirst, RunsSpellWithin}
 use Rattle.spelled_watts.proofs.Links.{Tie}
 use Rattle.spelled_watts.proofs.Shares.{said, pledged, pledged_total, pledged_within}
 use Rattle.spelled_watts.proofs.Tied.{steps_tied}
@@ -74,18 +73,5 @@ drove_all c past k n o taken [] watts a = a
 drove_all c past k n o taken (p ∷ posts) [] a = absurd a
 drove_all c past k n o taken (p ∷ posts) (w ∷ watts) a = (drove_spells (n == k) c p.plan past k n o taken w refl a.0, drove_all c past (suc k) n o taken posts watts a.1)
 
-drove_within : (c : Codecs) (limit : ℕ) (past : List Entry) (n : ℕ) (o : Order) (taken : Bool) (posts : List Post) → SpellsWithin c limit past posts → SpellsWithin c limit (entry.Drove n o taken ∷ past) posts
+pub drove_within : (c : Codecs) (limit : ℕ) (past : List Entry) (n : ℕ) (o : Order) (taken : Bool) (posts : List Post) → SpellsWithin c limit past posts → SpellsWithin c limit (entry.Drove n o taken ∷ past) posts
 drove_within c limit past n o taken posts s = record { watts = s.watts; are = drove_all c past 1 n o taken posts s.watts s.are; within = s.within }
-
-closed_one : (b : Bool) (c : Codecs) (limit k : ℕ) (rest posts : List Post) (blocks past : List Entry) → ((earlier : List Entry) → Closes (suc k) rest earlier past → SpellsWithin c limit earlier posts → SpellsWithin c limit past posts)
-    → MatchBool b ((taken : Bool) × Closes (suc k) rest (entry.Drove k order.Open taken ∷ blocks) past) (Closes (suc k) rest blocks past) → SpellsWithin c limit blocks posts → SpellsWithin c limit past posts
-closed_one true c limit k rest posts blocks past next (taken, h) s = next (entry.Drove k order.Open taken ∷ blocks) h (drove_within c limit blocks k order.Open taken posts s)
-closed_one false c limit k rest posts blocks past next h s = next blocks h s
-
-closed_within : (c : Codecs) (limit k : ℕ) (rest posts : List Post) (blocks past : List Entry) → Closes k rest blocks past → SpellsWithin c limit blocks posts → SpellsWithin c limit past posts
-closed_within c limit k [] posts blocks past h s = subst (λ (es : List Entry). SpellsWithin c limit es posts) (sym h) s
-closed_within c limit k (p ∷ rest) posts blocks past h s =
-    closed_one (state_of p).live c limit k rest posts blocks past (λ earlier g t. closed_within c limit (suc k) rest posts earlier past g t) h s
-
-pub closed_runs_spell_within : (c : Codecs) → ClosedRunsSpellWithin c
-closed_runs_spell_within c site past blocks posts back neg run closes = closed_within c site.limit 1 posts posts blocks past closes (runs_spell_within c site blocks posts back neg run)

@@ -1,5 +1,5 @@
 -- Own: the watts that the last replies of all posts spell, read off their bytes, stay within the limit of the site.
-use Rattle.std.specs.Prelude.{◌≡◌, ◌≤◌, ℕ, suc, List, [], ◌∷◌, sum}
+use Rattle.std.specs.Prelude.{◌≡◌, ◌≤◌, ℕ, suc, List, [], ◌∷◌, ◌++◌, sum}
 use Rattle.charge_world.specs.declared.entry.Entry.{Entry}
 use Rattle.charge_world.specs.declared.offer.Dialect.{Dialect}
 use Rattle.session_words.specs.declared.plan.SitePlan.{SitePlan}
@@ -31,10 +31,11 @@ abbrev pub RunsSpellWithin : Codecs → Type 0
 RunsSpellWithin c = (site : SitePlan) (past : List Entry) (posts : List Post) → ReadsBack c → NegotiatesFirst c → IsRun c site past posts
     → SpellsWithin c site.limit past posts
 
--- and behind the orders that close it
-abbrev pub ClosedRunsSpellWithin : Codecs → Type 0
-ClosedRunsSpellWithin c = (site : SitePlan) (past blocks : List Entry) (posts : List Post) → ReadsBack c → NegotiatesFirst c
-    → IsRun c site blocks posts → Closes 1 posts blocks past → SpellsWithin c site.limit past posts
+-- and behind each entry of a past, before the first, and behind each of the orders that close it
+abbrev pub FrontsSpellWithin : Codecs → Type 0
+FrontsSpellWithin c = (site : SitePlan) (past blocks : List Entry) (posts : List Post) → ReadsBack c → NegotiatesFirst c
+    → IsRun c site blocks posts → Closes 1 posts blocks past
+    → (newer front : List Entry) → past ≡ newer ++ front → SpellsWithin c site.limit front posts
 
 -- a past spells one list of watts
 abbrev pub AreSpelledOnce : Codecs → Type 0

@@ -5,9 +5,9 @@ use Rattle.site_acts.specs.Telling.{Carries}
 use Rattle.car_spec.specs.Codecs.{codecs}
 use Rattle.car_spec.specs.Report.{Report}
 use Rattle.car_acts.specs.Reporting.{reported}
-use Rattle.car_core.specs.Lawful.{IsLawful}
+use Rattle.car_core.specs.Lawful.{IsDrivenLawfully}
 use Rattle.car_core.specs.Made.{IsMadeOf}
-use Rattle.car_core.specs.Ending.{EndedAs, IsDriven, RanAs}
+use Rattle.car_core.specs.Ending.{EndedAs}
 use Rattle.station_command.proofs.Begun.{IsNew, started_run, started_text}
 use Rattle.station_command.specs.Served.{sink_told}
 use Rattle.car_command.specs.Lines.{Concludes}
@@ -29,20 +29,16 @@ returns-clause-driven g c =
     let taken = g.K.Sink.taken in
     let faults = g.K.Sink.faults in
     let is : c.args.site.now.driver.plan ≡ c.args.plan.now = c.requires.made.plan_is in
-    let ran = subst (λ (plan : CarPlan). Carries (past c.start.new.self) (past c.drive_car-ended.new.wire) IsNew (RanAs codecs plan how)) is s.run in
-    let lawful = subst (λ (plan : CarPlan). Carries (past c.start.new.self) (past c.drive_car-ended.new.wire) IsNew (IsLawful codecs plan)) is s.lawful in
     let ended = subst (λ (plan : CarPlan). Carries (past c.start.new.self) (past c.drive_car-ended.new.wire) IsNew (EndedAs plan.turns how)) is s.ended in
     let driven = subst (λ (plan : CarPlan). Carries (past c.start.new.self) (past c.drive_car-ended.new.wire) IsNew
-    (IsDriven codecs plan how (g.W.Wire.untils c.start.new.self) (g.W.Wire.untils c.drive_car-ended.new.wire) told)) is s.driven in
+    (IsDrivenLawfully codecs plan how (g.W.Wire.untils c.start.new.self) (g.W.Wire.untils c.drive_car-ended.new.wire) told)) is s.driven in
     record {
       ports = s.started ∙ start.started ∙ ap (λ (ports : Ports). Some ports) c.ports_of.ensures;
       driven = inr (record {
         how = how;
         told = told;
-        run = started_run _ _ _ _ start.past ran;
-        lawful = started_run _ _ _ _ start.past lawful;
         ended = started_run _ _ _ _ start.past ended;
-        driven = started_waits _ _ _ _ _ (λ waits. IsDriven codecs c.args.plan.now how waits (g.W.Wire.untils c.drive_car-ended.new.wire) told) start.past start.untils driven;
+        driven = started_waits _ _ _ _ _ (λ waits. IsDrivenLawfully codecs c.args.plan.now how waits (g.W.Wire.untils c.drive_car-ended.new.wire) told) start.past start.untils driven;
         traced = started_text _ _ _ _ _ _ start.past s.trace;
         line = subst (λ (report : Report). Concludes how report c.conclude.result (sink_told (taken c.args.out.now) (faults c.args.out.now))
             (sink_told (taken c.conclude.new.out) (faults c.conclude.new.out))) c.report.ensures c.conclude.ensures;

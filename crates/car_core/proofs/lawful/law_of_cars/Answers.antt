@@ -1,8 +1,8 @@
-use Rattle.car_core.proofs.Laws.{ran}
+use Rattle.car_core.proofs.Laws.{driven_lawful}
 use Rattle.car_core.proofs.lawful.law_of_cars.Goals as goal
 
 pub returns : goal.returns
-returns g c = ran _ (record {
+returns g c = driven_lawful _ (record {
   by_words = c.closes_by_words.ensures;
   live = c.contactors_are_read.ensures;
   stops = c.ended_cars_are_silent.ensures;
