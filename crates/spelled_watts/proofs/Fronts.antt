@@ -1,5 +1,6 @@
 -- What holds behind a run holds behind each of its entries, and behind each of the orders that close it.
-use Rattle.std.proofs.Common.{◌≡◌, ◌∙◌, ℕ, suc, List, [], ◌∷◌, ◌++◌, map, map-append, Bool, true, false, MatchBool, refl, sym, ap, subst}
+use Rattle.std.proofs.Common.{◌≡◌, ◌∙◌, ℕ, suc, List, [], ◌∷◌, ◌++◌, map, Bool, true, false, MatchBool, inl, inr, refl, sym, ap, subst}
+use Rattle.std.proofs.lemmas.List.{map-append}
 use Rattle.charge_world.specs.declared.entry.Entry.{Entry}
 use Rattle.charge_world.specs.declared.entry.Entry.TheVariants as entry
 use Rattle.charge_world.specs.declared.heard.Heard.{Heard}
@@ -16,7 +17,7 @@ use Rattle.spelled_watts.proofs.Within.{runs_spell_within, drove_within}
 
 -- ---- the plans of the posts stay
 
-plan_of : Post → PostPlan
+abbrev plan_of : Post → PostPlan
 plan_of post = post.plan
 
 unheard_plans : (plans : List PostPlan) → map plan_of (map unheard plans) ≡ plans
@@ -28,7 +29,7 @@ heard_plans k at heard bytes [] = refl
 heard_plans k at heard bytes (p ∷ posts) = ap (λ (more : List PostPlan). p.plan ∷ more) (heard_plans (suc k) at heard bytes posts)
 
 hearing_plans : (past : List Entry) (posts : List Post) (e : Entry) (later : List Post) → HeardBy past posts e later → map plan_of later ≡ map plan_of posts
-hearing_plans past posts (entry.Heard heard bytes) later h = ap (map plan_of) h.2.1 ∙ heard_plans 1 _ heard bytes posts
+hearing_plans past posts (entry.Heard heard bytes) later h = ap (map plan_of) h.2 ∙ heard_plans 1 _ heard bytes posts
 hearing_plans past posts entry.Lost later h = ap (map plan_of) h
 hearing_plans past posts (entry.Sent post bytes taken) later h = absurd h
 hearing_plans past posts (entry.Answered post bytes taken) later h = absurd h
@@ -43,7 +44,7 @@ follows_plans c site past posts e later (inr a) =
 
 run_plans : (c : Codecs) (site : SitePlan) (past : List Entry) (posts : List Post) → IsRun c site past posts → map plan_of posts ≡ site.post.items
 run_plans c site [] posts run = ap (map plan_of) run ∙ unheard_plans site.post.items
-run_plans c site (e ∷ past) later run = follows_plans c site past run.0 e later run.1.1 ∙ run_plans c site past run.0 run.1.0
+run_plans c site (e ∷ past) later run = follows_plans c site past run.0 e later run.2 ∙ run_plans c site past run.0 run.1
 
 -- the watts that posts spell are said of their plans alone
 same_spelled : (c : Codecs) (past : List Entry) (k : ℕ) (posts others : List Post) (watts : List ℕ) → map plan_of posts ≡ map plan_of others → AreSpelled c past k posts watts → AreSpelled c past k others watts
@@ -60,7 +61,7 @@ same_spelled c past k (p ∷ posts) (q ∷ others) (w ∷ watts) e a =
 
 pub front_run : (c : Codecs) (site : SitePlan) (newer front : List Entry) (posts : List Post) → IsRun c site (newer ++ front) posts → (then : List Post) × IsRun c site front then
 front_run c site [] front posts run = (posts, run)
-front_run c site (e ∷ newer) front posts run = front_run c site newer front run.0 run.1.0
+front_run c site (e ∷ newer) front posts run = front_run c site newer front run.0 run.1
 
 abbrev AtFronts : (List Entry → Type 0) → List Entry → Type 0
 AtFronts P past = (newer front : List Entry) → past ≡ newer ++ front → P front

@@ -5,7 +5,6 @@ use Rattle.std.proofs.lemmas.List.Sums.{sum_by-cons}
 use Rattle.charge_world.specs.declared.entry.Entry.{Entry}
 use Rattle.charge_world.specs.declared.entry.Entry.TheVariants as entry
 use Rattle.charge_world.specs.declared.ports.Order.{Order}
-use Rattle.charge_world.specs.declared.ports.Order.TheVariants as order
 use Rattle.session_words.specs.declared.plan.PostPlan.{PostPlan}
 use Rattle.post_spec.specs.Codecs.{Codecs}
 use Rattle.post_spec.specs.Sessions.{session}
@@ -14,7 +13,7 @@ use Rattle.post_spec.specs.Steps.{Seen, Step, seen, seen_of}
 use Rattle.station_spec.specs.States.{Spoken, Session}
 use Rattle.session_words.specs.declared.cause.EndCause.{EndCause}
 use Rattle.station_spec.specs.Acting.{state}
-use Rattle.station_spec.specs.Sharing.{Post, state_of}
+use Rattle.station_spec.specs.Sharing.{Post}
 use Rattle.station_laws.specs.PostRuns.{IsPostRun, ArePostsOf}
 use Rattle.station_laws.proofs.PostRuns.{run_posts}
 use Rattle.spelled_watts.specs.Spelling.{SpellsWithin, AreSpelled, NegotiatesFirst, RunsSpellWithin}
