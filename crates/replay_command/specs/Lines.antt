@@ -24,7 +24,7 @@ replay_line lines how = codes "lines " ++ decimal lines ++ codes " ended " ++ ho
 -- the line was printed, or it couldn't be, and then a front of it was
 abbrev pub Prints : List ℕ → Status → SinkTold → SinkTold → Type 0
 Prints line s before after =
-    ((s ≡ status.Done) × Appends before.taken after.taken line) ⊎ IsCutOff s before.taken after.taken before.faults after.faults line
+    ((s ≡ status.Done) × Appends before.taken after.taken line × (after.faults ≡ before.faults)) ⊎ IsCutOff s before.taken after.taken before.faults after.faults line
 
 -- the status of a way in which a replay ended, and what is printed then
 abbrev pub Concludes : Ended → ℕ → Status → SinkTold → SinkTold → Type 0

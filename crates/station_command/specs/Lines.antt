@@ -52,7 +52,7 @@ pub record IsCutOff (s : Status) (before after : Option (List ℕ)) (n m : ℕ) 
 -- the status of a way in which serving ended, and what is printed then
 abbrev pub Concludes : Ended → List PostReport → Status → Option (List ℕ) → Option (List ℕ) → ℕ → ℕ → Type 0
 Concludes ended.Over reports s before after n m =
-    ((s ≡ status.Done) × Appends before after (report_lines 1 reports)) ⊎ IsCutOff s before after n m (report_lines 1 reports)
+    ((s ≡ status.Done) × Appends before after (report_lines 1 reports) × (m ≡ n)) ⊎ IsCutOff s before after n m (report_lines 1 reports)
 Concludes ended.Turns reports s before after n m =
     ((s ≡ status.TurnsSpent) × TellsTurns before after n m (report_lines 1 reports)) ⊎ IsCutOff s before after n m (report_lines 1 reports)
 Concludes ended.Lost reports s before after n m = (s ≡ status.WireFault) × Tells before after n m wire_line
