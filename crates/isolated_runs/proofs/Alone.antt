@@ -1,5 +1,5 @@
 -- Two runs of a post that are alike are the same.
-use Rattle.std.proofs.Common.{◌≡◌, ℕ, ◌+◌, Bool, true, false, List, [], ◌∷◌, ◌++◌, length, map, Option, Some, None, refl, sym, ap, subst, ◌∙◌, MatchBool}
+use Rattle.std.proofs.Common.{◌≡◌, ℕ, ◌+◌, Bool, true, false, List, [], ◌∷◌, ◌++◌, length, reverse, map, Option, Some, None, refl, sym, ap, subst, ◌∙◌, MatchBool}
 use Rattle.charge_world.specs.declared.entry.Entry.{Entry}
 use Rattle.charge_world.specs.declared.offer.Dialect.{Dialect}
 use Rattle.charge_world.specs.declared.ports.Order.TheVariants as order
@@ -23,7 +23,7 @@ use Rattle.station_laws.specs.PostRuns.{IsPostRun, ArePostsOf}
 use Rattle.station_laws.proofs.PostRuns.{run_posts, post_at, quiet_at}
 use Rattle.safe_runs.specs.Opening.{EndsOpen}
 use Rattle.safe_runs.proofs.Openings.{runs_end_open}
-use Rattle.isolated_runs.specs.Isolated.{with_some, gather, hearing_in, outcome_in, shown_to, shown_in, AreAlike, RunsAreIsolated}
+use Rattle.isolated_runs.specs.Isolated.{with_some, gather, hearing_in, outcome_in, shown_to, shown_in, Agree, AreAlike, RunsAreIsolated}
 
 -- one word, one encoding, one act
 word_once : (c : Codecs) → AreDetermined c → (offers : List Dialect) (d : Option Dialect) (payload : List ℕ) (a b : Judged) → Judges c offers d payload a → Judges c offers d payload b → a ≡ b
@@ -83,8 +83,15 @@ append_none : {B : Type 0} (xs : List B) → xs ++ [] ≡ xs
 append_none [] = refl
 append_none (x ∷ xs) = ap (λ ys. x ∷ ys) (append_none xs)
 
+in_time : {B : Type 0} (xs : List B) → onto xs [] ≡ reverse xs
+in_time xs = refl
+
+-- lists that agree, under other names
+agree_as : {B : Type 0} (xs xs' ys ys' : List B) → xs ≡ xs' → ys ≡ ys' → Agree xs' ys' → Agree xs ys
+agree_as {B} xs xs' ys ys' e i a = subst (λ (us : List B). Agree us ys) (sym e) (subst (λ (us : List B). Agree xs' us) (sym i) a)
+
 -- What is read is one.
-read_same : (c : Codecs) → AreDetermined c → (plan : PostPlan) (S T : ℕ → ℕ → Type 0) (s : State) (w : Option Payload) (r r' : Option Reading) (rest rest' : List ℕ) → IsRead c plan S s w r → IsRead c plan T s w r' → with_some (shown_to r) rest ≡ with_some (shown_to r') rest' → (r ≡ r') × (rest ≡ rest')
+read_same : (c : Codecs) → AreDetermined c → (plan : PostPlan) (S T : ℕ → ℕ → Type 0) (s : State) (w : Option Payload) (r r' : Option Reading) (rest rest' : List ℕ) → IsRead c plan S s w r → IsRead c plan T s w r' → Agree (with_some (shown_to r) rest) (with_some (shown_to r') rest') → (r ≡ r') × Agree rest rest'
 read_same c one plan S T s None None None rest rest' i k e = (refl, e)
 read_same c one plan S T s None None (Some x) rest rest' i k e = absurd k
 read_same c one plan S T s None (Some x) r' rest rest' i k e = absurd i
@@ -92,9 +99,7 @@ read_same c one plan S T s (Some p) None r' rest rest' i k e = absurd i
 read_same c one plan S T s (Some p) (Some x) None rest rest' i k e = absurd k
 read_same c one plan S T s (Some p) (Some x) (Some y) rest rest' i k e =
     let w = word_once c one plan.dialects.items p.dialect p.bytes x.judged y.judged i.0 k.0 in
-    let h : x.shown ≡ y.shown = cc in
-    let t : rest ≡ rest' = cc in
-    (ap (λ (j : Judged). Some (record { judged = j; shown = x.shown })) w ∙ ap (λ (n : ℕ). Some (record { judged = y.judged; shown = n })) h, t)
+    (ap (λ (j : Judged). Some (record { judged = j; shown = x.shown })) w ∙ ap (λ (n : ℕ). Some (record { judged = y.judged; shown = n })) e.0, e.1)
 
 -- at rest nothing is done
 quiet_read : (c : Codecs) (plan : PostPlan) (S : ℕ → ℕ → Type 0) (s : State) (r : Option Reading) (todo : states.Todo) → IsQuiet plan s → IsRead c plan S (decided plan s) (wanted (decided plan s)) r → first (filled plan r s).agenda ≡ Some todo → ⊥
@@ -104,8 +109,8 @@ quiet_read c plan S s (Some x) todo q i f = subst (λ (w : Option Payload). IsRe
 quiet_acts : (c : Codecs) (plan : PostPlan) (s : State) (r : Option Reading) (a : Act) (t : Bool) → IsQuiet plan s → ActsFor c plan s r a t → ⊥
 quiet_acts c plan s r a t q (limit, before, behind, acts) = quiet_read c plan (Shows limit before behind) s r acts.todo q acts.read acts.acts
 
-pub same_runs : (c : Codecs) → AreDetermined c → (plan : PostPlan) (s : State) (xs ys : List Step) (o o' : List Bool) → RunFrom c plan s xs → RunFrom c plan s ys → of_steps hearing_in xs ≡ of_steps hearing_in ys → of_steps outcome_in xs ++ o ≡ of_steps outcome_in ys ++ o'
-    → gather shown_in xs ≡ gather shown_in ys → (xs ≡ ys) × (o ≡ o')
+pub same_runs : (c : Codecs) → AreDetermined c → (plan : PostPlan) (s : State) (xs ys : List Step) (o o' : List Bool) → RunFrom c plan s xs → RunFrom c plan s ys → of_steps hearing_in xs ≡ of_steps hearing_in ys → Agree (of_steps outcome_in xs ++ o) (of_steps outcome_in ys ++ o')
+    → Agree (gather shown_in xs) (gather shown_in ys) → (xs ≡ ys) × Agree o o'
 same_runs c one plan s [] [] o o' x y h k n = (refl, k)
 same_runs c one plan s [] (Hears at e ∷ ys) o o' x y h k n = absurd (cc)
 same_runs c one plan s [] (Does r a taken ∷ ys) o o' x (y, acts) h k n = absurd (quiet_acts c plan s r a taken x acts)
@@ -125,11 +130,10 @@ same_runs c one plan s (Does r a taken ∷ xs) (Does r' a' taken' ∷ ys) o o' (
     let z : Some acts.todo ≡ Some acts'.todo = sym acts.acts ∙ ap (λ (q : Option Reading). first (filled plan q s).agenda) i.0 ∙ acts'.acts in
     let w : acts.todo ≡ acts'.todo = cc in
     let j : a ≡ a' = done_once c one acts.todo a a' taken taken' acts.done (subst (λ (q : states.Todo). IsDone c q a' taken') (sym w) acts'.done) in
-    let m : taken ≡ taken' = cc in
-    let t : of_steps outcome_in xs ++ o ≡ of_steps outcome_in ys ++ o' = cc in
+    let m = k.0 in
     let e = i.0 in
     let next : acted a' taken' (filled plan r' s) ≡ acted a taken (filled plan r s) = rw (e, j, m) refl in
-    let rest = same_runs c one plan (acted a taken (filled plan r s)) xs ys o o' x (subst (λ (u : State). RunFrom c plan u ys) next y) h t i.1 in
+    let rest = same_runs c one plan (acted a taken (filled plan r s)) xs ys o o' x (subst (λ (u : State). RunFrom c plan u ys) next y) h k.1 i.1 in
     (rw (e, j, m, rest.0) refl, rest.1)
 
 onto_back : {A : Type 0} (xs ys : List A) → onto (onto xs ys) [] ≡ onto ys xs
@@ -138,14 +142,14 @@ onto_back (x ∷ xs) ys = onto_back xs (x ∷ ys)
 
 -- the same in the order of pasts
 pub alone : (c : Codecs) → AreDetermined c → (plan : PostPlan) (xs ys : List Step) (o o' : List Bool) → IsPostRun c plan xs → IsPostRun c plan ys → IsQuiet plan (state plan xs) → IsQuiet plan (state plan ys)
-    → of_steps hearing_in xs ≡ of_steps hearing_in ys → onto (of_steps outcome_in xs) o ≡ onto (of_steps outcome_in ys) o' → gather shown_in xs ≡ gather shown_in ys → (xs ≡ ys) × (o ≡ o')
+    → of_steps hearing_in xs ≡ of_steps hearing_in ys → Agree (onto (of_steps outcome_in xs) o) (onto (of_steps outcome_in ys) o') → Agree (onto (gather shown_in xs) []) (onto (gather shown_in ys) []) → (xs ≡ ys) × Agree o o'
 alone c one plan xs ys o o' x y q p h k n =
     let hs = λ (zs : List Step). sym (append_none (of_steps hearing_in (onto zs []))) ∙ gather_onto (λ z. hearing_in (seen_of z)) zs [] [] in
     let ns = λ (zs : List Step). sym (append_none (gather shown_in (onto zs []))) ∙ gather_onto shown_in zs [] [] in
     let same = same_runs c one plan fresh (onto xs []) (onto ys []) o o' (from_first c plan xs [] x q) (from_first c plan ys [] y p)
     (hs xs ∙ ap (λ l. onto l []) h ∙ sym (hs ys))
-    (gather_onto (λ z. outcome_in (seen_of z)) xs [] o ∙ k ∙ sym (gather_onto (λ z. outcome_in (seen_of z)) ys [] o'))
-    (ns xs ∙ ap (λ l. onto l []) n ∙ sym (ns ys)) in
+    (agree_as _ _ _ _ (gather_onto (λ z. outcome_in (seen_of z)) xs [] o) (gather_onto (λ z. outcome_in (seen_of z)) ys [] o') k)
+    (agree_as _ _ _ _ (ns xs) (ns ys) n) in
     (sym (onto_back xs []) ∙ ap (λ (l : List Step). onto l []) same.0 ∙ onto_back ys [], same.1)
 
 -- The closing order.
@@ -162,11 +166,11 @@ ends_outcomes true past blocks e = ap (λ (xs : List Seen). onto (gather outcome
 ends_outcomes false past blocks e = ap (λ (xs : List Seen). onto (gather outcome_in xs) []) e
 
 ends_same : (b b' : Bool) (past blocks past' blocks' : List Seen) (e : MatchBool b ((taken : Bool) × (past ≡ Did (Give order.Open) taken ∷ blocks)) (past ≡ blocks)) (e' : MatchBool b' ((taken : Bool) × (past' ≡ Did (Give order.Open) taken ∷ blocks')) (past' ≡ blocks'))
-    → blocks ≡ blocks' → closing_of b past blocks e ≡ closing_of b' past' blocks' e' → past ≡ past'
-ends_same true true past blocks past' blocks' e e' s o = let t : e.0 ≡ e'.0 = cc in e.1 ∙ ap (λ (xs : List Seen). Did (Give order.Open) e.0 ∷ xs) s ∙ ap (λ (t : Bool). Did (Give order.Open) t ∷ blocks') t ∙ sym e'.1
-ends_same true false past blocks past' blocks' e e' s o = absurd (cc)
-ends_same false true past blocks past' blocks' e e' s o = absurd (cc)
-ends_same false false past blocks past' blocks' e e' s o = e ∙ s ∙ sym e'
+    → b ≡ b' → blocks ≡ blocks' → Agree (closing_of b past blocks e) (closing_of b' past' blocks' e') → past ≡ past'
+ends_same true true past blocks past' blocks' e e' q s o = let t = o.0 in e.1 ∙ ap (λ (xs : List Seen). Did (Give order.Open) e.0 ∷ xs) s ∙ ap (λ (t : Bool). Did (Give order.Open) t ∷ blocks') t ∙ sym e'.1
+ends_same true false past blocks past' blocks' e e' q s o = absurd (cc)
+ends_same false true past blocks past' blocks' e e' q s o = absurd (cc)
+ends_same false false past blocks past' blocks' e e' q s o = e ∙ s ∙ sym e'
 
 -- a post of a whole run
 pub record Whole (c : Codecs) (post : Post) (past blocks : List Seen) : Type 0 where
@@ -199,8 +203,10 @@ both_same c one post post' past past' blocks blocks' w w' a =
     let same = alone c one post.plan post.steps post'.steps (closing_of (live blocks) past blocks w.ends) (closing_of (live blocks') past' blocks' w'.ends) w.run
     (subst (λ (p : PostPlan). IsPostRun c p post'.steps) (sym plan) w'.run) w.quiet (subst (λ (p : PostPlan). IsQuiet p (state p post'.steps)) (sym plan) w'.quiet)
     (sym (hearings_of c post past blocks w) ∙ a.hearings ∙ hearings_of c post' past' blocks' w')
-    (sym (outcomes_of c post past blocks w) ∙ ap (λ os. onto os []) a.outcomes ∙ outcomes_of c post' past' blocks' w') a.shown in
-    ends_same (live blocks) (live blocks') past blocks past' blocks' w.ends w'.ends (w.seen_is ∙ ap (map seen_of) same.0 ∙ sym w'.seen_is) same.1
+    (agree_as _ _ _ _ (sym (outcomes_of c post past blocks w) ∙ in_time (gather outcome_in past)) (sym (outcomes_of c post' past' blocks' w') ∙ in_time (gather outcome_in past')) a.outcomes)
+    (agree_as _ _ _ _ (in_time (gather shown_in post.steps)) (in_time (gather shown_in post'.steps)) a.shown) in
+    let blocks_are = w.seen_is ∙ ap (map seen_of) same.0 ∙ sym w'.seen_is in
+    ends_same (live blocks) (live blocks') past blocks past' blocks' w.ends w'.ends (ap live blocks_are) blocks_are same.1
 
 pub runs_are_isolated : (c : Codecs) → RunsAreIsolated c
 runs_are_isolated c site site' past past' run run' n before before' post post' behind behind' one is is' e e' a =

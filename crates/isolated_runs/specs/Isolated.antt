@@ -1,5 +1,5 @@
 -- Own: what a post does depends on its own hearings, on the moments, on its own outcomes and on the watts that it is shown.
-use Rattle.std.specs.Prelude.{◌≡◌, ℕ, ◌+◌, Bool, List, [], ◌∷◌, ◌++◌, length, Option, Some, None}
+use Rattle.std.specs.Prelude.{◌≡◌, ℕ, ◌+◌, Bool, List, [], ◌∷◌, ◌++◌, length, reverse, Option, Some, None}
 use Rattle.charge_world.specs.declared.entry.Entry.{Entry}
 use Rattle.session_words.specs.declared.plan.SitePlan.{SitePlan}
 use Rattle.post_spec.specs.Codecs.{Codecs}
@@ -34,12 +34,19 @@ abbrev pub shown_in : Step → Option ℕ
 shown_in (Hears at event) = None
 shown_in (Does reading act taken) = shown_to reading
 
--- two posts of one plan hear the same, with the same outcomes, and are shown the same
+-- two lists, the oldest first, that differ at no place that both have
+abbrev pub Agree : {A : Type 0} → List A → List A → Type 0
+Agree [] ys = Unit {0}
+Agree (x ∷ xs) [] = Unit {0}
+Agree (x ∷ xs) (y ∷ ys) = (x ≡ y) × Agree xs ys
+
+-- two posts of one plan hear the same; and as far as both act, their acts have the same outcomes, and as far as both are shown watts, the same
+-- watts. How often each acts, or is shown any, isn't asked
 pub record AreAlike (post post' : Post) (past past' : List Seen) : Type 0 where
   pub plan : post.plan ≡ post'.plan
   pub hearings : gather hearing_in past ≡ gather hearing_in past'
-  pub outcomes : gather outcome_in past ≡ gather outcome_in past'
-  pub shown : gather shown_in post.steps ≡ gather shown_in post'.steps
+  pub outcomes : Agree (reverse (gather outcome_in past)) (reverse (gather outcome_in past'))
+  pub shown : Agree (reverse (gather shown_in post.steps)) (reverse (gather shown_in post'.steps))
 
 -- then they do the same, in whole runs of any two sites
 abbrev pub RunsAreIsolated : Codecs → Type 0

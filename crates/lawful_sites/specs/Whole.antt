@@ -11,7 +11,7 @@ use Rattle.conforming_runs.specs.Conforming.{Conforming}
 use Rattle.served_sessions.specs.Serving.{AreServed, IsRested}
 
 -- what post n did, whose part of the past is `past`, it does in each whole run of any site, whatever the other posts are and do there: where it
--- has the same plan, hears the same at the same moments, has the same outcomes and is shown the same watts
+-- has the same plan, hears the same at the same moments, and its outcomes and shown watts are the same as far as both have some
 abbrev pub IsIsolated : Codecs → ℕ → Post → List Seen → Type 0
 IsIsolated c n post past = (site : SitePlan) (others : List Entry) (run : IsSiteRun c site others) (before : List Post) (alike : Post)
     (behind : List Post) → run.posts ≡ before ++ alike ∷ behind → n ≡ length before + 1
