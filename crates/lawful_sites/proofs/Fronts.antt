@@ -1,14 +1,14 @@
 -- What holds behind the steps of a run holds behind each of them.
-use Rattle.std.proofs.Common.{◌≡◌, ◌+◌, suc, ℕ, List, [], ◌∷◌, ◌++◌, length, arith, subst, refl, sym}
+use Rattle.std.proofs.Common.{suc, ℕ, List, [], ◌∷◌, ◌++◌, subst}
 use Rattle.charge_world.specs.declared.entry.Entry.{Entry}
 use Rattle.session_words.specs.declared.plan.PostPlan.{PostPlan}
 use Rattle.post_spec.specs.Codecs.{Codecs}
 use Rattle.post_spec.specs.Steps.{Step, Hears, Does}
 use Rattle.station_spec.specs.Sharing.{Post}
-use Rattle.station_laws.specs.PostRuns.{IsPostRun, IsPostOf, ArePostsOf}
+use Rattle.station_laws.specs.PostRuns.{IsPostRun, ArePostsOf}
 use Rattle.read_agendas.specs.Left.{AgendasAreRead}
 use Rattle.read_streams.specs.Streams.{StreamsAreRead}
-use Rattle.lawful_sites.specs.Reading.{IsReadOff, ReadsOff}
+use Rattle.lawful_sites.specs.Reading.{ReadsOff}
 
 front_steps : (c : Codecs) (plan : PostPlan) (newer front : List Step) → IsPostRun c plan (newer ++ front) → IsPostRun c plan front
 front_steps c plan [] front run = run

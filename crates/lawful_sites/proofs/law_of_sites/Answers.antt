@@ -1,5 +1,6 @@
-use Rattle.std.proofs.Common.{List, ◌++◌, ◌∷◌, refl, sym, subst}
+use Rattle.std.proofs.Common.{List, refl, sym, subst}
 use Rattle.charge_world.specs.declared.entry.Entry.{Entry}
+use Rattle.post_spec.specs.Codecs.{codecs}
 use Rattle.station_spec.specs.Sharing.{Post}
 use Rattle.station_laws.specs.PostRuns.{ArePostsOf}
 use Rattle.spelled_watts.proofs.Fronts.{front_run}
@@ -11,6 +12,7 @@ pub returns : goal.returns
 returns g c plan past r =
     let rb = g.met.C.LawfulCodec.reads_back in
     let det = g.met.C.LawfulCodec.determined in
+    let cs = codecs g.C.Coded.negotiates g.C.Coded.reads g.C.Coded.encodes in
     record {
       blocks = r.blocks;
       posts = r.posts;
@@ -19,7 +21,7 @@ returns g c plan past r =
       closed = r.closes;
       within = record {
         tells = λ newer front is.
-            let f = front_run _ plan newer front r.posts (subst (λ (es : List Entry). IsRun _ plan es r.posts) is r.run) in
+            let f = front_run cs plan newer front r.posts (subst (λ (es : List Entry). IsRun cs plan es r.posts) is r.run) in
             record { posts = f.0; run = f.1; within = λ told run. c.told_within_limit.ensures plan front told run };
         spells = c.spelled_within_limit.ensures.fronts plan past r.blocks r.posts rb g.met.C.Codec.negotiates_first r.run r.closes;
       };
@@ -35,8 +37,8 @@ returns g c plan past r =
             causes = (c.opens_at_causes.ensures plan r.blocks r.posts before post behind rb det r.run are).0;
             stands = (c.opens_where_causes_stand.ensures plan r.blocks r.posts before post behind rb det r.run are).0;
             silent = c.sends_in_sessions.ensures plan r.blocks r.posts before post behind r.run are;
-            reads_off = reads_off _ post.plan post.steps c.agendas_are_read.ensures c.streams_are_read.ensures
-                (run_of _ r.blocks 1 before behind post (subst (λ (posts : List Post). ArePostsOf _ r.blocks 1 posts) are (c.runs_of_posts.ensures plan r.blocks r.posts r.run)));
+            reads_off = reads_off cs post.plan post.steps c.agendas_are_read.ensures c.streams_are_read.ensures
+                (run_of cs r.blocks 1 before behind post (subst (λ (posts : List Post). ArePostsOf cs r.blocks 1 posts) are (c.runs_of_posts.ensures plan r.blocks r.posts r.run)));
             served = λ conforms.
                 let gets = c.serves_conforming_sessions.ensures.runs plan r.blocks r.posts before post behind rb r.run are conforms in
                 record { served = gets.0; up_to_date = gets.1 };
