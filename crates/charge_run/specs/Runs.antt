@@ -15,7 +15,7 @@ use Rattle.message_trees.specs.Texts.{IsPrinted, IsRefusedIn, IsScanned, IsUnsca
 use Rattle.command_status.specs.declared.status.Status.{Status}
 use Rattle.command_status.specs.declared.status.Status.TheVariants as status
 use Rattle.command_status.specs.FaultLines.{Tells, input_line}
-use Rattle.command_words.specs.Command.{IsCar, IsReplay, IsStation}
+use Rattle.command_words.specs.Command.{IsBasic, IsCar, IsReplay, IsStation}
 use Rattle.charge_run.specs.HexText.{hex_fault, IsHexOf}
 use Rattle.hex.specs.Hex.{encode_lower}
 use Rattle.charge_run.specs.declared.fault.InputFault.{InputFault}
@@ -38,13 +38,24 @@ IsSomeCar words = (plan : List ℕ) × IsCar words plan
 abbrev pub IsSomeReplay : List (List ℕ) → Type 0
 IsSomeReplay words = (plan : List ℕ) × (trace : List ℕ) × IsReplay words plan trace
 
+abbrev pub IsSomeBasic : List (List ℕ) → Type 0
+IsSomeBasic words = (script : List ℕ) × IsBasic words script
+
 -- the commands that use the wire
 abbrev pub UsesWire : List (List ℕ) → Type 0
 UsesWire words = IsSomeStation words ⊎ IsSomeCar words
 
--- the commands that read files, and write a trace
+-- the commands that read a plan
+abbrev pub ReadsPlan : List (List ℕ) → Type 0
+ReadsPlan words = UsesWire words ⊎ IsSomeReplay words
+
+-- the commands that write a trace
+abbrev pub WritesTrace : List (List ℕ) → Type 0
+WritesTrace words = UsesWire words ⊎ IsSomeReplay words
+
+-- the commands that read files
 abbrev pub ReadsFiles : List (List ℕ) → Type 0
-ReadsFiles words = UsesWire words ⊎ IsSomeReplay words
+ReadsFiles words = ReadsPlan words ⊎ IsSomeBasic words
 
 -- ---- a line or a fault
 

@@ -3,13 +3,14 @@
 ghost use Rattle.std.specs.Prelude.{◌≡◌, ◌<◌, ◌⊎◌, ℕ, List};
 ghost use Rattle.message_dialects.specs.declared.dialect.MessageDialect.{MessageDialect as OfDialect};
 ghost use Rattle.message_trees.specs.Texts.{IsUnscanned};
-ghost use Rattle.command_words.specs.Command.{IsNoCommand, IsStation, IsCar, IsReplay, IsDecode, IsEncode};
+ghost use Rattle.command_words.specs.Command.{IsNoCommand, IsStation, IsCar, IsReplay, IsDecode, IsEncode, IsBasic};
 ghost use Rattle.command_status.specs.FaultLines.{Tells, words_line};
 ghost use Rattle.replay_command.specs.Served.{wire_told, sink_told, IsUnbegun};
 ghost use Rattle.replay_command.specs.Files.{files_told, TellsAlways};
 ghost use Rattle.replay_command.specs.Replays.{ReplayLeaves};
 ghost use Rattle.charge_run.specs.Cars.{CarLeaves};
-ghost use Rattle.charge_run.specs.Runs.{charge_codecs, car_codecs, UsesWire, IsSomeReplay, ReadsFiles, Decodes, IsDecodeFault, Encodes};
+ghost use Rattle.basic_command.specs.Basics.{BasicLeaves, file_told as script_told, output_told};
+ghost use Rattle.charge_run.specs.Runs.{charge_codecs, car_codecs, UsesWire, IsSomeReplay, IsSomeBasic, ReadsFiles, ReadsPlan, WritesTrace, Decodes, IsDecodeFault, Encodes};
 ghost use Rattle.charge_run.specs.Stations.{file_told, StationLeaves};
 
 use crate::decode::decode;
@@ -17,6 +18,7 @@ use crate::driving::drive;
 use crate::encode::encode;
 use crate::replaying::replay_trace;
 use crate::serving::serve;
+use basic_command::basic;
 use charge_world::{Sink, Source, Wire};
 use command_status::{Status, tell_fault};
 use command_words::{Command, WordList, WordsFault, read_words};
@@ -35,18 +37,20 @@ use std::alloc::Global;
 /// - `decode DIALECT HEX` prints the tree text of the message that a payload spells. DIALECT is `app` for the negotiation, `iso` for
 ///   ISO 15118-2 or `din` for DIN SPEC 70121.
 /// - `encode DIALECT TEXT` prints the payload that is written for the message whose tree text this is, in hexadecimal digits.
+/// - `basic SCRIPT` prints a line for each order that a post in basic charging (IEC 61851-1) gives for the events of the script in a file, at
+///   the moment as it counts.
 ///
 /// `station`: where the wire tells its past, and was lent with an empty one, that is a run of the site by the plan of the file, and the
 /// status is the one that the past has: `Done` where Over was heard, `TurnsSpent` behind the plan's last turn, `WireFault` where a hearing
 /// was lost or the wire did not start. That past is lawful (`IsLawful` of `lawful_sites`): a contactor is closed only as mandated and opened
-/// by what ends its session, the watts stay within the limit, a car that conforms is served, and no post depends on another but by the watts that it
-/// is shown. The trace is the text of that past. Before the wire is started come `NoMemory`, `SourceFault` where the file can't be read, and `Plan`
+/// by what ends its session, the watts stay within the limit at every moment, a car that conforms is served, and no post depends on another but by the
+/// watts that it is shown. The trace is the text of that past. Before the wire is started come `NoMemory`, `SourceFault` where the file can't be read, and `Plan`
 /// where it is no plan.
 ///
 /// `car`: where the wire tells its past, and was lent with an empty one, that is a run of the car by the plan of the file, and the status is
 /// the one that the past has: `Done` where the car's session ended or Over was heard, `TurnsSpent` behind the plan's last turn, `WireFault`
-/// where a hearing was lost or the wire did not start. That past is lawful (`IsLawful` of `car_core`): the contactor is closed only behind
-/// the words that mandate it, a car that ended does nothing more, and at the end the contactor is ordered open. The trace is the text of that
+/// where a hearing was lost or the wire did not start. By the steps of that run it is lawful (`IsDrivenLawfully` of `car_core`): the contactor is
+/// closed only behind the words that mandate it, a car that ended does nothing more, and at the end the contactor is ordered open. The trace is the text of that
 /// past. What comes before the wire is started is that of `station`.
 ///
 /// `replay`: `Done` for each of the three ends, and the trace is the text of a run of the site. Before that come `NoMemory`, `SourceFault`
@@ -55,6 +59,10 @@ use std::alloc::Global;
 ///
 /// `decode`: `Input` where the text spells no bytes or the payload no message. `encode`: `Input` where no payload is written for the
 /// text. Neither uses a file, the trace or the wire.
+///
+/// `basic`: `Done` where the lines were written, which are those of a run of the machine over the script's events, whose contactor is closed
+/// for ready vehicles alone (`IsCharged` of `basic_command`). Before that come `NoMemory`, `SourceFault` where the file can't be read, and
+/// `Input` where it is no script. The trace and the wire stay as they were.
 ///
 /// `SinkFault` takes the place of `Done` and `TurnsSpent` where a line could not be written, and ends serving where a line of the trace
 /// could not. Each fault has its line, whose failure changes nothing.
@@ -90,8 +98,13 @@ pub fn run<F: Source, K: Sink, J: Sink, W: Wire>(
         (sink_told (J.taken trace.old) (J.faults trace.old)) (sink_told (J.taken trace.new) (J.faults trace.new))
         (sink_told (K.taken out.old) (K.faults out.old)) (sink_told (K.taken out.new) (K.faults out.new)) }
 
-    // Only these three read files.
-    ensures plan { result ≡ Status.Plan → ReadsFiles words.now }
+    // `basic`: the lines are those of the orders of a run over the script in the file, or its fault is told.
+    ensures basic { (name : List ℕ) → IsBasic words.now name
+        → BasicLeaves result (script_told (F.holds files.old name) (F.left files.new) (F.faults files.old) (F.faults files.new))
+        (output_told (K.taken out.old) (K.faults out.old)) (output_told (K.taken out.new) (K.faults out.new)) }
+
+    // Only the first three read a plan, and only they and `basic` read files.
+    ensures plan { result ≡ Status.Plan → ReadsPlan words.now }
     ensures source { result ≡ Status.SourceFault → ReadsFiles words.now }
 
     // `decode`: the line is the text of the message, or tells where the input is refused.
@@ -106,7 +119,8 @@ pub fn run<F: Source, K: Sink, J: Sink, W: Wire>(
     ensures input { result ≡ Status.Input
         → ((dialect : OfDialect) × (hex : List ℕ) × (place : ℕ) × IsDecode words.now dialect hex × IsDecodeFault dialect hex place)
         ⊎ ((dialect : OfDialect) × (text : List ℕ) × (place : ℕ) × IsEncode words.now dialect text × IsUnscanned dialect text place)
-        ⊎ IsSomeReplay words.now }
+        ⊎ IsSomeReplay words.now
+        ⊎ IsSomeBasic words.now }
     ensures refused { (dialect : OfDialect) (hex : List ℕ) (place : ℕ) → IsDecode words.now dialect hex → IsDecodeFault dialect hex place
         → (result ≡ Status.Input) ⊎ (result ≡ Status.NoMemory) }
     ensures encode_refused { (dialect : OfDialect) (text : List ℕ) (place : ℕ) → IsEncode words.now dialect text → IsUnscanned dialect text place
@@ -116,9 +130,10 @@ pub fn run<F: Source, K: Sink, J: Sink, W: Wire>(
     ensures unbegun { IsUnbegun result → (wire.new ≡ wire.old) × (trace.new ≡ trace.old) }
     ensures no_memory { result ≡ Status.NoMemory → (K.taken out.new ≡ K.taken out.old) × (K.faults out.new ≡ K.faults out.old) }
 
-    // Only `station` and `car` use the wire, and only they and `replay` use files and the trace; no file changes.
+    // Only `station` and `car` use the wire, only they and `replay` the trace, and only these and `basic` files; no file changes.
     ensures alone { (UsesWire words.now → ⊥) → wire.new ≡ wire.old }
-    ensures apart { (ReadsFiles words.now → ⊥) → (files.new ≡ files.old) × (trace.new ≡ trace.old) }
+    ensures untraced { (WritesTrace words.now → ⊥) → trace.new ≡ trace.old }
+    ensures apart { (ReadsFiles words.now → ⊥) → files.new ≡ files.old }
     ensures holds { (other : List ℕ) → F.holds files.new other ≡ F.holds files.old other }
 
     // A fault is told only where a call failed, and that of the trace exactly there.
@@ -137,6 +152,7 @@ pub fn run<F: Source, K: Sink, J: Sink, W: Wire>(
         ) => { replay_trace(alloc, plan, recorded, files, out, trace) }
         Ok(Command::Decode { dialect, hex }) => decode(alloc, dialect, hex, out),
         Ok(Command::Encode { dialect, text }) => encode(alloc, dialect, text, out),
+        Ok(Command::Basic { script }) => basic(alloc, script, files, out),
         Err(WordsFault::NoCommand) => {
             tell_fault(out, b"words\n");
             Status::Words

@@ -1,5 +1,6 @@
 -- What `clap` makes of the words behind a command's name, of which none begins with `-`.
-use Rattle.std.proofs.Common.{◌≡◌, ◌==◌, true, false, List, [], ◌∷◌, None, codes, refl}
+use Rattle.std.proofs.Common.{◌≡◌, ◌==◌, ℕ, ◌⊎◌, inl, inr, true, false, List, [], ◌∷◌, None, length, refl, sym, subst, arith}
+use Rattle.std.specs.List.{AllByRecursion}
 use Rattle.std.specs.Str.{bytes_eq}
 use Rattle.clap.specs.Lexer.{long_of, short_of}
 use Rattle.clap.specs.Walk.{Row, Text, nothing_held, rows_after}
@@ -10,7 +11,9 @@ use Rattle.clap.specs.declared.error.kind.ErrorKind.TheVariants.{MissingRequired
 use Rattle.clap.proofs.SimpleLemmas.{is_false}
 use Rattle.clap.proofs.OnLiterals.{clap_on_literals}
 use Rattle.command_words.specs.Command.{is_plain}
-use Rattle.command_words.specs.Grammar.{given, on_dialect, plan_shape, program, replay_shape}
+use Rattle.command_words.specs.Grammar.{count_of, given_rows, program_of, shape}
+use Rattle.command_words.specs.declared.forms.Values.{Values}
+use Rattle.command_words.specs.declared.forms.Values.TheVariants.{One, Two}
 
 -- a word that is read as no option
 pub record IsNoOption (word : Text) : Type 0 where
@@ -24,9 +27,17 @@ no_option (x ∷ xs) h =
     let e : (x == 45) ≡ false = is_false (x == 45) h in
     record { no_dashes = rw e refl; not_long = rw e refl; not_short = rw e refl }
 
+-- there is a fault
+abbrev pub IsFaulty : Kinds → Type 0
+IsFaulty [] = ⊥
+IsFaulty (k ∷ ks) = Unit {0}
+
+pub faulty : (kinds found : Kinds) → kinds ≡ found → IsFaulty found → IsFaulty kinds
+faulty kinds found e h = subst IsFaulty (sym e) h
+
 -- a command as the program builds it
 abbrev pub built_in : Shape → Shape
-built_in s = built_leaf (inherited (with_leaf_noted (marked_built program.top)) s)
+built_in s = built_leaf (inherited (with_leaf_noted (marked_built (program_of []).top)) s)
 
 abbrev pub fault_below : Shape → List Text → Kinds
 fault_below s words = level_fault (built_in s) [] nothing_held words false []
@@ -34,48 +45,83 @@ fault_below s words = level_fault (built_in s) [] nothing_held words false []
 abbrev pub rows_below : Shape → List Text → List Row
 rows_below s words = rows_after (built_in s).rules [] words
 
--- ---- a command with one value
+-- ---- one value
 
-pub record TakesOne (s : Shape) (id : Text) : Type 0 where
-  pub passes : (v : Text) → IsNoOption v → fault_below s (v ∷ []) ≡ []
-  pub rows : (v : Text) → IsNoOption v → rows_below s (v ∷ []) ≡ given id v ∷ []
-  pub none : fault_below s [] ≡ MissingRequiredArgument ∷ []
-  pub more : (v w : Text) (rest : List Text) → IsNoOption v → IsNoOption w → fault_below s (v ∷ w ∷ rest) ≡ UnknownArgument ∷ []
-
-pub takes_plan : (name : Text) → TakesOne (plan_shape name) (codes "PLAN")
+one_passes : (name v : Text) → IsNoOption v → fault_below (shape name One) (v ∷ []) ≡ []
 unfolding clap_on_literals
-takes_plan name = record {
-  passes = λ v h. rw (h.no_dashes, h.not_long, h.not_short) refl;
-  rows = λ v h. rw (h.no_dashes, h.not_long, h.not_short) refl;
-  none = refl;
-  more = λ v w rest h k. rw (h.no_dashes, h.not_long, h.not_short, k.no_dashes, k.not_long, k.not_short) refl;
-}
+one_passes name v h = rw (h.no_dashes, h.not_long, h.not_short) refl
 
--- ---- a command with two values
-
-pub record TakesTwo (s : Shape) (first second : Text) : Type 0 where
-  pub passes : (d v : Text) → IsNoOption d → IsNoOption v → fault_below s (d ∷ v ∷ []) ≡ []
-  pub rows : (d v : Text) → IsNoOption d → IsNoOption v → rows_below s (d ∷ v ∷ []) ≡ given first d ∷ given second v ∷ []
-  pub none : fault_below s [] ≡ MissingRequiredArgument ∷ []
-  pub one : (d : Text) → IsNoOption d → fault_below s (d ∷ []) ≡ MissingRequiredArgument ∷ []
-  pub more : (d v w : Text) (rest : List Text) → IsNoOption d → IsNoOption v → IsNoOption w → fault_below s (d ∷ v ∷ w ∷ rest) ≡ UnknownArgument ∷ []
-
-pub takes_files : TakesTwo replay_shape (codes "PLAN") (codes "TRACE")
+one_rows : (name v : Text) → IsNoOption v → rows_below (shape name One) (v ∷ []) ≡ given_rows (v ∷ [])
 unfolding clap_on_literals
-takes_files = record {
-  passes = λ d v h k. rw (h.no_dashes, h.not_long, h.not_short, k.no_dashes, k.not_long, k.not_short) refl;
-  rows = λ d v h k. rw (h.no_dashes, h.not_long, h.not_short, k.no_dashes, k.not_long, k.not_short) refl;
-  none = refl;
-  one = λ d h. rw (h.no_dashes, h.not_long, h.not_short) refl;
-  more = λ d v w rest h k l. rw (h.no_dashes, h.not_long, h.not_short, k.no_dashes, k.not_long, k.not_short, l.no_dashes, l.not_long, l.not_short) refl;
-}
+one_rows name v h = rw (h.no_dashes, h.not_long, h.not_short) refl
 
-pub takes_dialect : (name : Text) → TakesTwo (on_dialect name) (codes "DIALECT") (codes "VALUE")
+one_none : (name : Text) → fault_below (shape name One) [] ≡ MissingRequiredArgument ∷ []
 unfolding clap_on_literals
-takes_dialect name = record {
-  passes = λ d v h k. rw (h.no_dashes, h.not_long, h.not_short, k.no_dashes, k.not_long, k.not_short) refl;
-  rows = λ d v h k. rw (h.no_dashes, h.not_long, h.not_short, k.no_dashes, k.not_long, k.not_short) refl;
-  none = refl;
-  one = λ d h. rw (h.no_dashes, h.not_long, h.not_short) refl;
-  more = λ d v w rest h k l. rw (h.no_dashes, h.not_long, h.not_short, k.no_dashes, k.not_long, k.not_short, l.no_dashes, l.not_long, l.not_short) refl;
-}
+one_none name = refl
+
+one_more : (name v w : Text) (rest : List Text) → IsNoOption v → IsNoOption w → fault_below (shape name One) (v ∷ w ∷ rest) ≡ UnknownArgument ∷ []
+unfolding clap_on_literals
+one_more name v w rest h k = rw (h.no_dashes, h.not_long, h.not_short, k.no_dashes, k.not_long, k.not_short) refl
+
+-- ---- two values
+
+two_passes : (name d v : Text) → IsNoOption d → IsNoOption v → fault_below (shape name Two) (d ∷ v ∷ []) ≡ []
+unfolding clap_on_literals
+two_passes name d v h k = rw (h.no_dashes, h.not_long, h.not_short, k.no_dashes, k.not_long, k.not_short) refl
+
+two_rows : (name d v : Text) → IsNoOption d → IsNoOption v → rows_below (shape name Two) (d ∷ v ∷ []) ≡ given_rows (d ∷ v ∷ [])
+unfolding clap_on_literals
+two_rows name d v h k = rw (h.no_dashes, h.not_long, h.not_short, k.no_dashes, k.not_long, k.not_short) refl
+
+two_none : (name : Text) → fault_below (shape name Two) [] ≡ MissingRequiredArgument ∷ []
+unfolding clap_on_literals
+two_none name = refl
+
+two_one : (name d : Text) → IsNoOption d → fault_below (shape name Two) (d ∷ []) ≡ MissingRequiredArgument ∷ []
+unfolding clap_on_literals
+two_one name d h = rw (h.no_dashes, h.not_long, h.not_short) refl
+
+two_more : (name d v w : Text) (rest : List Text) → IsNoOption d → IsNoOption v → IsNoOption w → fault_below (shape name Two) (d ∷ v ∷ w ∷ rest) ≡ UnknownArgument ∷ []
+unfolding clap_on_literals
+two_more name d v w rest h k l = rw (h.no_dashes, h.not_long, h.not_short, k.no_dashes, k.not_long, k.not_short, l.no_dashes, l.not_long, l.not_short) refl
+
+-- ---- as many as it has
+
+-- they are as many, and found
+pub record IsPassed (name : Text) (v : Values) (values : List Text) : Type 0 where
+  pub many : length values ≡ count_of v
+  pub passes : fault_below (shape name v) values ≡ []
+  pub rows : rows_below (shape name v) values ≡ given_rows values
+
+-- they are more or fewer, and there is a fault
+pub record IsStopped (name : Text) (v : Values) (values : List Text) : Type 0 where
+  pub other : length values ≡ count_of v → ⊥
+  pub fault : IsFaulty (fault_below (shape name v) values)
+
+abbrev pub Judged : Text → Values → List Text → Type 0
+Judged name v values = IsPassed name v values ⊎ IsStopped name v values
+
+none_is_one : ◌≡◌ {A = ℕ} 0 1 → ⊥
+none_is_one e = omega (arith, e)
+
+more_is_one : (v w : Text) (rest : List Text) → length (v ∷ w ∷ rest) ≡ 1 → ⊥
+more_is_one v w rest e = omega (arith, e)
+
+none_is_two : ◌≡◌ {A = ℕ} 0 2 → ⊥
+none_is_two e = omega (arith, e)
+
+one_is_two : ◌≡◌ {A = ℕ} 1 2 → ⊥
+one_is_two e = omega (arith, e)
+
+more_is_two : (d v w : Text) (rest : List Text) → length (d ∷ v ∷ w ∷ rest) ≡ 2 → ⊥
+more_is_two d v w rest e = omega (arith, e)
+
+pub judged : (name : Text) (v : Values) (values : List Text) → AllByRecursion IsNoOption values → Judged name v values
+judged name One [] h = inr (record { other = none_is_one; fault = faulty _ _ (one_none name) tt })
+judged name One (v ∷ []) h = inl (record { many = refl; passes = one_passes name v h.0; rows = one_rows name v h.0 })
+judged name One (v ∷ w ∷ rest) h = inr (record { other = more_is_one v w rest; fault = faulty _ _ (one_more name v w rest h.0 h.1.0) tt })
+judged name Two [] h = inr (record { other = none_is_two; fault = faulty _ _ (two_none name) tt })
+judged name Two (d ∷ []) h = inr (record { other = one_is_two; fault = faulty _ _ (two_one name d h.0) tt })
+judged name Two (d ∷ v ∷ []) h = inl (record { many = refl; passes = two_passes name d v h.0 h.1.0; rows = two_rows name d v h.0 h.1.0 })
+judged name Two (d ∷ v ∷ w ∷ rest) h =
+    inr (record { other = more_is_two d v w rest; fault = faulty _ _ (two_more name d v w rest h.0 h.1.0 h.1.1.0) tt })

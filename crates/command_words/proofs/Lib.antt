@@ -1,3 +1,4 @@
 pub mod Leaves
 pub mod Entered
 pub mod Matched
+pub mod Told

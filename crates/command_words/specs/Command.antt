@@ -1,10 +1,11 @@
 -- Own: the words of the program's commands. A word that begins with `-` is in none.
 use Rattle.std.specs.Prelude.{◌≡◌, ◌==◌, ℕ, Bool, not, true, if◌then◌else◌, List, [], ◌∷◌, Option, Some, None, codes}
+use Rattle.std.specs.List.{list_all}
 use Rattle.std.specs.Str.{bytes_eq}
 use Rattle.message_dialects.specs.declared.dialect.MessageDialect.{MessageDialect}
 use Rattle.message_dialects.specs.declared.dialect.MessageDialect.TheVariants.{App, Iso, Din}
 use Rattle.command_words.specs.declared.reading.Command.{Command}
-use Rattle.command_words.specs.declared.reading.Command.TheVariants.{Station, Car, Replay, Decode, Encode}
+use Rattle.command_words.specs.declared.reading.Command.TheVariants.{Station, Car, Replay, Decode, Encode, Basic}
 use Rattle.command_words.specs.declared.reading.WordsFault.{WordsFault}
 use Rattle.command_words.specs.declared.reading.WordsFault.TheVariants.{NoCommand, Memory}
 
@@ -27,50 +28,67 @@ dialect_named word =
     else if bytes_eq word (dialect_word Din) then Some Din
     else None
 
--- `station PLAN`: serves the posts of the plan in a file
-pub record IsStation (words : List (List ℕ)) (plan : List ℕ) : Type 0 where
-  pub words_are : words ≡ codes "station" ∷ plan ∷ []
-  pub plain : is_plain plan ≡ true
+-- what may be asked for: to serve the posts of the plan in a file; to drive a car by the plan in a file; to run the posts of the plan in a file
+-- over the hearings of the trace in another; the tree text of a payload of a dialect; the payload of a tree text of a dialect; and the orders
+-- for the script in a file
+pub data Asked : Type 0 where
+  station : (plan : List ℕ) → Asked
+  car : (plan : List ℕ) → Asked
+  replay : (plan trace : List ℕ) → Asked
+  decode : (dialect : MessageDialect) (hex : List ℕ) → Asked
+  encode : (dialect : MessageDialect) (text : List ℕ) → Asked
+  basic : (script : List ℕ) → Asked
 
--- `car PLAN`: drives a car by the plan in a file
-pub record IsCar (words : List (List ℕ)) (plan : List ℕ) : Type 0 where
-  pub words_are : words ≡ codes "car" ∷ plan ∷ []
-  pub plain : is_plain plan ≡ true
+-- the words that ask for it
+abbrev pub words_of : Asked → List (List ℕ)
+words_of (station plan) = codes "station" ∷ plan ∷ []
+words_of (car plan) = codes "car" ∷ plan ∷ []
+words_of (replay plan trace) = codes "replay" ∷ plan ∷ trace ∷ []
+words_of (decode dialect hex) = codes "decode" ∷ dialect_word dialect ∷ hex ∷ []
+words_of (encode dialect text) = codes "encode" ∷ dialect_word dialect ∷ text ∷ []
+words_of (basic script) = codes "basic" ∷ script ∷ []
 
--- `replay PLAN TRACE`: runs the posts of the plan in a file over the hearings of the trace in another
-pub record IsReplay (words : List (List ℕ)) (plan trace : List ℕ) : Type 0 where
-  pub words_are : words ≡ codes "replay" ∷ plan ∷ trace ∷ []
-  pub plain_plan : is_plain plan ≡ true
-  pub plain_trace : is_plain trace ≡ true
+-- these words ask for it
+pub record Asks (words : List (List ℕ)) (asked : Asked) : Type 0 where
+  pub words_are : words ≡ words_of asked
+  pub plain : list_all is_plain words ≡ true
 
--- a command, the word of a dialect, and a value
-pub record IsApplied (command : List ℕ) (words : List (List ℕ)) (dialect : MessageDialect) (value : List ℕ) : Type 0 where
-  pub words_are : words ≡ command ∷ dialect_word dialect ∷ value ∷ []
-  pub plain : is_plain value ≡ true
+abbrev pub IsStation : List (List ℕ) → List ℕ → Type 0
+IsStation words plan = Asks words (station plan)
 
--- `decode DIALECT HEX`: prints the tree text of a payload of the dialect
+abbrev pub IsCar : List (List ℕ) → List ℕ → Type 0
+IsCar words plan = Asks words (car plan)
+
+abbrev pub IsReplay : List (List ℕ) → List ℕ → List ℕ → Type 0
+IsReplay words plan trace = Asks words (replay plan trace)
+
 abbrev pub IsDecode : List (List ℕ) → MessageDialect → List ℕ → Type 0
-IsDecode words dialect hex = IsApplied (codes "decode") words dialect hex
+IsDecode words dialect hex = Asks words (decode dialect hex)
 
--- `encode DIALECT TEXT`: prints the payload of a tree text of the dialect
 abbrev pub IsEncode : List (List ℕ) → MessageDialect → List ℕ → Type 0
-IsEncode words dialect text = IsApplied (codes "encode") words dialect text
+IsEncode words dialect text = Asks words (encode dialect text)
+
+abbrev pub IsBasic : List (List ℕ) → List ℕ → Type 0
+IsBasic words script = Asks words (basic script)
+
+-- ---- what is read
+
+-- what a command is asked for by
+abbrev pub asked_of : Command → Asked
+asked_of (Station plan) = station plan.now
+asked_of (Car plan) = car plan.now
+asked_of (Replay plan trace) = replay plan.now trace.now
+asked_of (Decode dialect hex) = decode dialect hex.now
+asked_of (Encode dialect text) = encode dialect text.now
+asked_of (Basic script) = basic script.now
 
 -- the words are this command
 abbrev pub IsCommand : List (List ℕ) → Command → Type 0
-IsCommand words (Station plan) = IsStation words plan.now
-IsCommand words (Car plan) = IsCar words plan.now
-IsCommand words (Replay plan trace) = IsReplay words plan.now trace.now
-IsCommand words (Decode dialect hex) = IsDecode words dialect hex.now
-IsCommand words (Encode dialect text) = IsEncode words dialect text.now
+IsCommand words command = Asks words (asked_of command)
 
 -- the words are none
-pub record IsNoCommand (words : List (List ℕ)) : Type 0 where
-  pub not_station : (plan : List ℕ) → IsStation words plan → ⊥
-  pub not_car : (plan : List ℕ) → IsCar words plan → ⊥
-  pub not_replay : (plan trace : List ℕ) → IsReplay words plan trace → ⊥
-  pub not_decode : (dialect : MessageDialect) (hex : List ℕ) → IsDecode words dialect hex → ⊥
-  pub not_encode : (dialect : MessageDialect) (text : List ℕ) → IsEncode words dialect text → ⊥
+abbrev pub IsNoCommand : List (List ℕ) → Type 0
+IsNoCommand words = (asked : Asked) → Asks words asked → ⊥
 
 -- the words are none. Want of memory comes freely
 abbrev pub HasWordsFault : List (List ℕ) → WordsFault → Type 0

@@ -1,41 +1,106 @@
 -- Own: the program's commands as `clap` reads them, and what it finds.
-use Rattle.std.specs.Prelude.{◌≡◌, ◌⊎◌, true, false, List, [], ◌∷◌, Option, Some, None, codes, if◌then◌else◌, option_and_then, option_map}
+use Rattle.std.specs.Prelude.{◌≡◌, ℕ, true, false, List, [], ◌∷◌, length, map, find, Option, Some, None, codes, option_and_then, option_map, IsSomeAnd}
 use Rattle.std.specs.Str.{bytes_eq}
 use Rattle.clap.specs.Walk.{Row, Rule, Text, first_of}
 use Rattle.clap.specs.Simple.{App, Shape, new_rule, new_shape}
 use Rattle.clap.specs.declared.builder.value_parser.Reading.TheVariants.{AsWritten}
 use Rattle.clap.specs.declared.parser.matches.ValueSource.TheVariants.{CommandLine}
 use Rattle.message_dialects.specs.declared.dialect.MessageDialect.{MessageDialect}
-use Rattle.command_words.specs.Command.{dialect_word, dialect_named}
-use Rattle.command_words.specs.declared.reading.Command.{Command}
-use Rattle.command_words.specs.declared.reading.Command.TheVariants.{Station, Car, Replay, Decode, Encode}
+use Rattle.command_words.specs.Command.{Asked, station, car, replay, decode, encode, basic, dialect_named}
+use Rattle.command_words.specs.declared.forms.Values.{Values}
+use Rattle.command_words.specs.declared.forms.Values.TheVariants.{One, Two}
+
+-- the ids of a command's values; the program shows none of them
+abbrev pub first_id : Text
+first_id = codes "FIRST"
+
+abbrev pub second_id : Text
+second_id = codes "SECOND"
+
+abbrev pub first : List Row → Option Text
+first rows = first_of first_id rows
+
+abbrev pub second : List Row → Option Text
+second rows = first_of second_id rows
+
+abbrev pub both : List Row → Option (Text × Text)
+both rows = option_and_then (λ one. option_map (λ other. (one, other)) (second rows)) (first rows)
+
+-- the dialect of the first, and the second
+abbrev pub dialect_and_value : List Row → Option (MessageDialect × Text)
+dialect_and_value rows =
+    option_and_then (λ dialect. option_map (λ value. (dialect, value)) (second rows)) (option_and_then dialect_named (first rows))
+
+-- ---- forms
+
+-- a command's name, how many values it has, and what is asked for by them
+pub record Form : Type 0 where
+  pub name : Text
+  pub values : Values
+  pub asks : List Row → Option Asked
+
+-- one value
+abbrev pub with_one : Text → (Text → Asked) → Form
+with_one name make = record { name = name; values = One; asks = λ rows. option_map make (first rows) }
+
+-- two values
+abbrev pub with_two : Text → (Text → Text → Asked) → Form
+with_two name make = record {
+  name = name;
+  values = Two;
+  asks = λ rows. option_map (λ pair. make pair.0 pair.1) (both rows);
+}
+
+-- the word of a dialect, and a value
+abbrev pub on_dialect : Text → (MessageDialect → Text → Asked) → Form
+on_dialect name make = record {
+  name = name;
+  values = Two;
+  asks = λ rows. option_map (λ pair. make pair.0 pair.1) (dialect_and_value rows);
+}
+
+-- the forms of all commands
+abbrev pub forms : List Form
+forms =
+    with_one (codes "station") (λ plan. station plan)
+    ∷ with_one (codes "car") (λ plan. car plan)
+    ∷ with_two (codes "replay") (λ plan trace. replay plan trace)
+    ∷ on_dialect (codes "decode") (λ dialect hex. decode dialect hex)
+    ∷ on_dialect (codes "encode") (λ dialect text. encode dialect text)
+    ∷ with_one (codes "basic") (λ script. basic script)
+    ∷ []
+
+-- the form of a name
+abbrev pub named : Text → List Form → Option Form
+named name forms = find (λ form. bytes_eq form.name name) forms
+
+abbrev pub count_of : Values → ℕ
+count_of One = 1
+count_of Two = 2
+
+-- a command of that name has so many values
+abbrev pub IsTaken : Text → List Text → Type 0
+IsTaken name values = IsSomeAnd (named name forms) (λ form. length values ≡ count_of form.values)
+
+-- ---- the program
 
 -- a value that a command needs
 abbrev pub needed : Text → Rule
 needed id = record (new_rule id) { required = true }
 
--- a command with one value
-abbrev pub with_one : Text → Text → Shape
-with_one name id = record (new_shape name) { rules = needed id ∷ [] }
+abbrev pub rules_of : Values → List Rule
+rules_of One = needed first_id ∷ []
+rules_of Two = needed first_id ∷ needed second_id ∷ []
 
--- a command with two values
-abbrev pub with_two : Text → Text → Text → Shape
-with_two name first second = record (new_shape name) { rules = needed first ∷ needed second ∷ [] }
+abbrev pub shape : Text → Values → Shape
+shape name values = record (new_shape name) { rules = rules_of values }
 
--- a command with a plan
-abbrev pub plan_shape : Text → Shape
-plan_shape name = with_one name (codes "PLAN")
-
-abbrev pub replay_shape : Shape
-replay_shape = with_two (codes "replay") (codes "PLAN") (codes "TRACE")
-
--- a command with a dialect and a value
-abbrev pub on_dialect : Text → Shape
-on_dialect name = with_two name (codes "DIALECT") (codes "VALUE")
+abbrev pub shape_of : Form → Shape
+shape_of form = shape form.name form.values
 
 -- the program, whose words are all its arguments, without options and without help
-abbrev pub program : App
-program = record {
+abbrev pub program_of : List Form → App
+program_of forms = record {
   top = record (new_shape (codes "v2g_charge")) {
     no_binary_name = true;
     disable_help_flag = true;
@@ -43,86 +108,38 @@ program = record {
     subcommand_required = true;
     is_leaf = false;
   };
-  subs = plan_shape (codes "station") ∷ plan_shape (codes "car") ∷ replay_shape ∷ on_dialect (codes "decode") ∷ on_dialect (codes "encode") ∷ [];
+  subs = map shape_of forms;
 }
+
+abbrev pub program : App
+program = program_of forms
+
+-- ---- what is found
 
 -- one value that was given
 abbrev pub given : Text → Text → Row
 given id value = record { id = id; values = value ∷ []; count = None; source = Some CommandLine; reading = AsWritten }
 
--- the words are a command and its value, and this is found
-pub record IsWithOne (name id : Text) (words : List Text) (met : Option (Text × List Row)) : Type 0 where
-  pub value : Text
-  pub words_are : words ≡ name ∷ value ∷ []
-  pub met_is : met ≡ Some (name, given id value ∷ [])
-
--- the words are a command and its two values, and these are found
-pub record IsWithTwo (name first second : Text) (words : List Text) (met : Option (Text × List Row)) : Type 0 where
-  pub one : Text
-  pub other : Text
-  pub words_are : words ≡ name ∷ one ∷ other ∷ []
-  pub met_is : met ≡ Some (name, given first one ∷ given second other ∷ [])
-
-abbrev pub IsWithPlan : Text → List Text → Option (Text × List Row) → Type 0
-IsWithPlan name words met = IsWithOne name (codes "PLAN") words met
-
-abbrev pub IsOnDialect : Text → List Text → Option (Text × List Row) → Type 0
-IsOnDialect name words met = IsWithTwo name (codes "DIALECT") (codes "VALUE") words met
+abbrev pub given_rows : List Text → List Row
+given_rows (one ∷ []) = given first_id one ∷ []
+given_rows (one ∷ other ∷ []) = given first_id one ∷ given second_id other ∷ []
+given_rows _ = []
 
 -- the words are a command and the values that it needs, and these are found
-abbrev pub IsMatched : List Text → Option (Text × List Row) → Type 0
-IsMatched words met =
-    IsWithPlan (codes "station") words met
-    ⊎ (IsWithPlan (codes "car") words met
-    ⊎ (IsWithTwo (codes "replay") (codes "PLAN") (codes "TRACE") words met
-    ⊎ (IsOnDialect (codes "decode") words met ⊎ IsOnDialect (codes "encode") words met)))
+pub record IsMatched (words : List Text) (met : Option (Text × List Row)) : Type 0 where
+  pub name : Text
+  pub values : List Text
+  pub words_are : words ≡ name ∷ values
+  pub taken : IsTaken name values
+  pub met_is : met ≡ Some (name, given_rows values)
 
 -- the words are no command with the values that it needs
-pub record IsUnmatched (words : List Text) : Type 0 where
-  pub not_station : (plan : Text) → words ≡ codes "station" ∷ plan ∷ [] → ⊥
-  pub not_car : (plan : Text) → words ≡ codes "car" ∷ plan ∷ [] → ⊥
-  pub not_replay : (plan trace : Text) → words ≡ codes "replay" ∷ plan ∷ trace ∷ [] → ⊥
-  pub not_decode : (dialect value : Text) → words ≡ codes "decode" ∷ dialect ∷ value ∷ [] → ⊥
-  pub not_encode : (dialect value : Text) → words ≡ codes "encode" ∷ dialect ∷ value ∷ [] → ⊥
+abbrev pub IsUnmatched : List Text → Type 0
+IsUnmatched words = (name : Text) (values : List Text) → words ≡ name ∷ values → IsTaken name values → ⊥
 
--- ---- the command that was found
+-- what a subcommand and its values ask for
+abbrev pub told_of : Text → List Row → Option Asked
+told_of name rows = option_and_then (λ form. form.asks rows) (named name forms)
 
--- the words of a command
-abbrev pub words_of : Command → List Text
-words_of (Station plan) = codes "station" ∷ plan.now ∷ []
-words_of (Car plan) = codes "car" ∷ plan.now ∷ []
-words_of (Replay plan trace) = codes "replay" ∷ plan.now ∷ trace.now ∷ []
-words_of (Decode dialect hex) = codes "decode" ∷ dialect_word dialect ∷ hex.now ∷ []
-words_of (Encode dialect text) = codes "encode" ∷ dialect_word dialect ∷ text.now ∷ []
-
--- the two files that were given
-abbrev pub files_of : List Row → Option (Text × Text)
-files_of rows =
-    option_and_then (λ plan. option_map (λ trace. (plan, trace)) (first_of (codes "TRACE") rows)) (first_of (codes "PLAN") rows)
-
--- the dialect and the value that were given
-abbrev pub given_of : List Row → Option (MessageDialect × Text)
-given_of rows =
-    option_and_then (λ dialect. option_map (λ value. (dialect, value)) (first_of (codes "VALUE") rows))
-    (option_and_then dialect_named (first_of (codes "DIALECT") rows))
-
--- the words of a command with a dialect and a value
-abbrev pub words_with : Text → MessageDialect × Text → List Text
-words_with name pair = name ∷ dialect_word pair.0 ∷ pair.1 ∷ []
-
--- the words of a command with a plan that was given
-abbrev pub words_by : Text → List Row → Option (List Text)
-words_by name rows = option_map (λ plan. name ∷ plan ∷ []) (first_of (codes "PLAN") rows)
-
--- the words of the command that a subcommand and its values are
-abbrev pub told_of : Text → List Row → Option (List Text)
-told_of name rows =
-    if bytes_eq name (codes "station") then words_by (codes "station") rows
-    else if bytes_eq name (codes "car") then words_by (codes "car") rows
-    else if bytes_eq name (codes "replay") then option_map (λ files. codes "replay" ∷ files.0 ∷ files.1 ∷ []) (files_of rows)
-    else if bytes_eq name (codes "decode") then option_map (words_with (codes "decode")) (given_of rows)
-    else if bytes_eq name (codes "encode") then option_map (words_with (codes "encode")) (given_of rows)
-    else None
-
-abbrev pub told : Option (Text × List Row) → Option (List Text)
+abbrev pub told : Option (Text × List Row) → Option Asked
 told met = option_and_then (λ found. told_of found.0 found.1) met

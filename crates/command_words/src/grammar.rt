@@ -1,13 +1,15 @@
 //! The commands, as `clap` reads them.
 
 ghost use Rattle.std.specs.Prelude.{◌≡◌, ◌≢◌, true, false, map, string_bytes, IfOk, IfErr};
-ghost use Rattle.std.specs.List.{list_all};
+ghost use Rattle.std.specs.List.{fold, list_all};
+ghost use Rattle.clap.specs.Simple.{with_subcommand};
 ghost use Rattle.clap.specs.Words.{app_of, kind_of, shape_of, subcommand_rows_of};
 ghost use Rattle.clap.specs.declared.builder.command.Command.TheViews.{out-Command};
 ghost use Rattle.clap.specs.declared.error.kind.ErrorKind.TheVariants.{OutOfMemory};
 ghost use Rattle.command_words.specs.Command.{is_plain};
-ghost use Rattle.command_words.specs.Grammar.{IsMatched, IsUnmatched, plan_shape, program, with_two};
+ghost use Rattle.command_words.specs.Grammar.{IsMatched, IsUnmatched, program, shape};
 
+use crate::forms::{FORMS, Form, Values};
 use clap::{Arg, ArgMatches, Command, Error};
 use std::alloc::{AllocError, Global};
 
@@ -26,43 +28,38 @@ pub(crate) fn matches_of<'a>(alloc: Global, words: &'a [String]) -> Result<ArgMa
 fn program<'a>(alloc: Global) -> Result<Command<'a>, AllocError>
     ensures { IfOk result (λ made. app_of made ≡ program) }
 {
-    let station = with_plan(alloc, "station")?;
-    let car = with_plan(alloc, "car")?;
-    let replay = with_two(alloc, "replay", "PLAN", "TRACE")?;
-    let decode = with_two(alloc, "decode", "DIALECT", "VALUE")?;
-    let encode = with_two(alloc, "encode", "DIALECT", "VALUE")?;
-    Command::new(alloc, "v2g_charge")
+    let program = Command::new(alloc, "v2g_charge")
         .no_binary_name(true)
         .disable_help_flag(true)
         .disable_help_subcommand(true)
-        .subcommand_required(true)
-        .subcommand(station)?
-        .subcommand(car)?
-        .subcommand(replay)?
-        .subcommand(decode)?
-        .subcommand(encode)
+        .subcommand_required(true);
+    with_commands(alloc, program, &FORMS)
 }
 
-/// A command with a plan.
-fn with_plan<'a>(alloc: Global, name: &'a str) -> Result<Command<'a>, AllocError>
-    ensures shape { IfOk result (λ made. shape_of made ≡ plan_shape name.entry.now) }
-    ensures local { IfOk result (λ made. (out-Command made).has_globals ≡ false) }
-{
-    let plan = Arg::new(alloc, "PLAN").required(true);
-    Command::new(alloc, name).arg(plan)
-}
-
-/// A command with two values.
-fn with_two<'a>(
+/// A program with a command for each form.
+fn with_commands<'a>(
     alloc: Global,
-    name: &'a str,
-    first: &'a str,
-    second: &'a str,
+    mut program: Command<'a>,
+    forms: &[Form],
 ) -> Result<Command<'a>, AllocError>
-    ensures shape { IfOk result (λ made. shape_of made ≡ with_two name.entry.now first.entry.now second.entry.now) }
+    ensures { IfOk result (λ made. app_of made ≡ fold (λ app form. with_subcommand app (shape form.name.now form.values)) (app_of program.entry) forms.now) }
+{
+    for form in forms {
+        let command = command_of(alloc, form)?;
+        program = program.subcommand(command)?;
+    }
+    Ok(program)
+}
+
+/// The command of a form.
+fn command_of<'a>(alloc: Global, form: &Form) -> Result<Command<'a>, AllocError>
+    ensures shape { IfOk result (λ made. shape_of made ≡ shape form.now.name.now form.now.values) }
     ensures local { IfOk result (λ made. (out-Command made).has_globals ≡ false) }
 {
-    let first = Arg::new(alloc, first).required(true);
-    let second = Arg::new(alloc, second).required(true);
-    Command::new(alloc, name).arg(first)?.arg(second)
+    let first = Arg::new(alloc, "FIRST").required(true);
+    let command = Command::new(alloc, form.name).arg(first)?;
+    match form.values {
+        Values::One => Ok(command),
+        Values::Two => command.arg(Arg::new(alloc, "SECOND").required(true)),
+    }
 }

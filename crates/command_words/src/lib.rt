@@ -4,6 +4,7 @@
 //! are read with `clap`, behind the test that none begins with `-`.
 #![tactic(auto)]
 
+mod forms;
 mod grammar;
 mod reading;
 mod word_list;

@@ -1,10 +1,9 @@
 //! A command, and how it is read.
 
-ghost use Rattle.std.specs.Prelude.{◌≡◌, ◌↔◌, IfOk, IfErr, codes, option_map};
-ghost use Rattle.clap.specs.Walk.{first_of};
+ghost use Rattle.std.specs.Prelude.{◌≡◌, ◌↔◌, IfOk, IfErr, option_map};
 ghost use Rattle.clap.specs.Words.{found_of, rows_of, subcommand_rows_of};
-ghost use Rattle.command_words.specs.Command.{HasWordsFault, IsCommand, dialect_named};
-ghost use Rattle.command_words.specs.Grammar.{files_of, given_of, told, words_of};
+ghost use Rattle.command_words.specs.Command.{HasWordsFault, IsCommand, asked_of, dialect_named};
+ghost use Rattle.command_words.specs.Grammar.{first, second, both, dialect_and_value, told, told_of};
 
 use crate::grammar::matches_of;
 use crate::word_list::WordList;
@@ -39,6 +38,10 @@ pub enum Command<'a> {
         dialect: MessageDialect,
         text: &'a str,
     },
+    /// Prints the orders for the script of basic charging in a file.
+    Basic {
+        script: &'a str,
+    },
 }
 
 /// Why no command was read.
@@ -68,41 +71,56 @@ pub fn read_words(alloc: Global, words: &WordList) -> Result<Command<'_>, WordsF
 
 /// The command that was found.
 fn command_of<'a>(matches: &ArgMatches<'a>) -> Option<Command<'a>>
-    ensures { option_map words_of result ≡ told (subcommand_rows_of matches.now) }
+    ensures { option_map asked_of result ≡ told (subcommand_rows_of matches.now) }
 {
     let (name, values) = matches.subcommand()?;
+    command_named(name, values)
+}
+
+/// The command of that name with these values.
+fn command_named<'a>(name: &str, values: &ArgMatches<'a>) -> Option<Command<'a>>
+    ensures { option_map asked_of result ≡ told_of name.now (rows_of (found_of values.now)) }
+{
     match name {
-        "station" => plan(values).map(|plan| Command::Station { plan }),
-        "car" => plan(values).map(|plan| Command::Car { plan }),
-        "replay" => files(values).map(|(plan, trace)| Command::Replay { plan, trace }),
-        "decode" => given(values).map(|(dialect, hex)| Command::Decode { dialect, hex }),
-        "encode" => given(values).map(|(dialect, text)| Command::Encode { dialect, text }),
+        "station" => first(values).map(|plan| Command::Station { plan }),
+        "car" => first(values).map(|plan| Command::Car { plan }),
+        "replay" => both(values).map(|(plan, trace)| Command::Replay { plan, trace }),
+        "decode" => on_dialect(values).map(|(dialect, hex)| Command::Decode { dialect, hex }),
+        "encode" => on_dialect(values).map(|(dialect, text)| Command::Encode { dialect, text }),
+        "basic" => first(values).map(|script| Command::Basic { script }),
         _ => None,
     }
 }
 
-/// The plan of a command.
-fn plan<'a>(values: &ArgMatches<'a>) -> Option<&'a str>
-    ensures { option_map (λ word. word.now) result ≡ first_of (codes "PLAN") (rows_of (found_of values.now)) }
+/// The first value of a command.
+fn first<'a>(values: &ArgMatches<'a>) -> Option<&'a str>
+    ensures { option_map (λ word. word.now) result ≡ first (rows_of (found_of values.now)) }
 {
-    values.get_str("PLAN")
+    values.get_str("FIRST")
 }
 
-/// The plan and the trace of a command.
-fn files<'a>(values: &ArgMatches<'a>) -> Option<(&'a str, &'a str)>
-    ensures { option_map (λ pair. (pair.0.now, pair.1.now)) result ≡ files_of (rows_of (found_of values.now)) }
+/// The second value of a command.
+fn second<'a>(values: &ArgMatches<'a>) -> Option<&'a str>
+    ensures { option_map (λ word. word.now) result ≡ second (rows_of (found_of values.now)) }
 {
-    let plan = values.get_str("PLAN")?;
-    let trace = values.get_str("TRACE")?;
-    Some((plan, trace))
+    values.get_str("SECOND")
+}
+
+/// Both values of a command.
+fn both<'a>(values: &ArgMatches<'a>) -> Option<(&'a str, &'a str)>
+    ensures { option_map (λ pair. (pair.0.now, pair.1.now)) result ≡ both (rows_of (found_of values.now)) }
+{
+    let one = first(values)?;
+    let other = second(values)?;
+    Some((one, other))
 }
 
 /// The dialect and the value of a command.
-fn given<'a>(values: &ArgMatches<'a>) -> Option<(MessageDialect, &'a str)>
-    ensures { option_map (λ pair. (pair.0, pair.1.now)) result ≡ given_of (rows_of (found_of values.now)) }
+fn on_dialect<'a>(values: &ArgMatches<'a>) -> Option<(MessageDialect, &'a str)>
+    ensures { option_map (λ pair. (pair.0, pair.1.now)) result ≡ dialect_and_value (rows_of (found_of values.now)) }
 {
-    let dialect = dialect_named(values.get_str("DIALECT")?)?;
-    let value = values.get_str("VALUE")?;
+    let dialect = dialect_named(first(values)?)?;
+    let value = second(values)?;
     Some((dialect, value))
 }
 

@@ -7,6 +7,7 @@
 
 mod input;
 mod plan;
+mod script;
 mod sockets;
 mod trace;
 mod usage;
@@ -14,6 +15,7 @@ mod value;
 
 pub use input::{DecodePlace, EncodePlace, place_in};
 pub use plan::say_plan;
+pub use script::say_script;
 pub use sockets::say_trouble;
 pub use trace::{Line, is_of_a_car, line_in};
 pub use usage::{Asked, say_help, say_misused, say_version, sentence_of};

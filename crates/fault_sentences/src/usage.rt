@@ -17,7 +17,7 @@ struct Usage {
 
 const DIALECT: &str = "DIALECT";
 
-const COMMANDS: [Usage; 5] = [
+const COMMANDS: [Usage; 6] = [
     Usage {
         name: "station",
         values: &["PLAN"],
@@ -47,6 +47,12 @@ const COMMANDS: [Usage; 5] = [
         values: &[DIALECT, "TEXT"],
         does: "prints the payload of the message that a text is; DIALECT is app, iso or din",
         example: "v2g_charge encode app 'supportedAppProtocolRes{ResponseCode=OK_SuccessfulNegotiation SchemaID=1}'",
+    },
+    Usage {
+        name: "basic",
+        values: &["SCRIPT"],
+        does: "prints the orders of a post in basic charging for the events of the script in the file SCRIPT",
+        example: "v2g_charge basic basic.script",
     },
 ];
 

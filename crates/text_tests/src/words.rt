@@ -9,6 +9,7 @@ enum Told {
     Replay(&'static str, &'static str),
     Decode(MessageDialect, &'static str),
     Encode(MessageDialect, &'static str),
+    Basic(&'static str),
     /// They are no command.
     Nothing,
 }
@@ -37,6 +38,7 @@ fn is_told(command: Command<'_>, told: &Told) -> bool {
         (Command::Encode { dialect, text }, Told::Encode(wanted, tree)) => {
             dialect == *wanted && text == *tree
         }
+        (Command::Basic { script }, Told::Basic(file)) => script == *file,
         _ => false,
     }
 }
@@ -54,7 +56,7 @@ impl Case for Words {
     }
 }
 
-const COMMANDS: [Words; 14] = [
+const COMMANDS: [Words; 15] = [
     Words(&["station", "plan.toml"], Told::Station("plan.toml")),
     Words(&["station", ""], Told::Station("")),
     Words(&["station", "station"], Told::Station("station")),
@@ -99,9 +101,10 @@ const COMMANDS: [Words; 14] = [
         &["encode", "din", "{-}"],
         Told::Encode(MessageDialect::Din, "{-}"),
     ),
+    Words(&["basic", "basic.script"], Told::Basic("basic.script")),
 ];
 
-const REFUSED: [Words; 44] = [
+const REFUSED: [Words; 46] = [
     // no word, and no command's name
     Words(&[], Told::Nothing),
     Words(&[""], Told::Nothing),
@@ -129,12 +132,14 @@ const REFUSED: [Words; 44] = [
     Words(&["decode", "app"], Told::Nothing),
     Words(&["encode"], Told::Nothing),
     Words(&["encode", "app"], Told::Nothing),
+    Words(&["basic"], Told::Nothing),
     // a word too many
     Words(&["station", "plan", ""], Told::Nothing),
     Words(&["station", "station", "station"], Told::Nothing),
     Words(&["replay", "plan", "trace", "trace"], Told::Nothing),
     Words(&["decode", "app", "80", ""], Told::Nothing),
     Words(&["encode", "app", "a", "b", "c"], Told::Nothing),
+    Words(&["basic", "script", "script"], Told::Nothing),
     // no dialect
     Words(&["decode", "", "80"], Told::Nothing),
     Words(&["decode", "APP", "80"], Told::Nothing),

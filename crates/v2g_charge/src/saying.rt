@@ -3,7 +3,7 @@
 use charge_run::{Status, WordList};
 use fault_sentences::{
     Asked, DecodePlace, EncodePlace, is_of_a_car, line_in, place_in, say_help, say_misused,
-    say_plan, say_trouble, say_version, sentence_of,
+    say_plan, say_script, say_trouble, say_version, sentence_of,
 };
 use net_wire::{FileSource, NetWire, StandardOutput, TraceFile};
 use std::io;
@@ -90,6 +90,7 @@ fn say_input(rt: &HostRuntime, words: &WordList, outside: Outside<'_, '_>) -> io
             place,
         }),
         "replay" => say_line(rt, second, place, outside),
+        "basic" => say_script(rt, outside.files, first, place),
         _ => eprintln!(rt; "The input is refused at place {place}, counted from 0."),
     }
 }

@@ -1,12 +1,12 @@
-use Rattle.std.proofs.Common.{inr}
+use Rattle.std.proofs.Common.{inl, inr}
 use Rattle.charge_run.proofs.Answered.{only_refused, only_unscanned, same_decoded, same_encoded}
-use Rattle.charge_run.proofs.WordLists.{one_value}
+use Rattle.charge_run.proofs.WordLists.{one_decode, one_encode}
 use Rattle.charge_run.proofs.top.run.Goals as goal
 
 pub returns-in-Ok-Decode-clause-decode : goal.returns-in-Ok-Decode-clause-decode
 returns-in-Ok-Decode-clause-decode g c dialect hex is =
     let told = (rw c.in-Ok-Decode.field-0-is at c.in-Ok-Decode.ensures.command) in
-    same_decoded _ dialect _ hex (one_value c.args.words.now _ c.in-Ok-Decode.dialect dialect c.in-Ok-Decode.hex.now hex told is) _ _ _ _ _
+    same_decoded _ dialect _ hex (one_decode c.args.words.now c.in-Ok-Decode.dialect dialect c.in-Ok-Decode.hex.now hex told is) _ _ _ _ _
     c.decode.ensures.leaves
 
 pub returns-in-Ok-Decode-clause-refused : goal.returns-in-Ok-Decode-clause-refused
@@ -16,7 +16,7 @@ returns-in-Ok-Decode-clause-refused g c dialect hex place is fault =
 pub returns-in-Ok-Encode-clause-encode : goal.returns-in-Ok-Encode-clause-encode
 returns-in-Ok-Encode-clause-encode g c dialect text is =
     let told = (rw c.in-Ok-Encode.field-0-is at c.in-Ok-Encode.ensures.command) in
-    same_encoded _ dialect _ text (one_value c.args.words.now _ c.in-Ok-Encode.dialect dialect c.in-Ok-Encode.text.now text told is) _ _ _ _ _
+    same_encoded _ dialect _ text (one_encode c.args.words.now c.in-Ok-Encode.dialect dialect c.in-Ok-Encode.text.now text told is) _ _ _ _ _
     c.encode.ensures.leaves
 
 pub returns-in-Ok-Encode-clause-encode_refused : goal.returns-in-Ok-Encode-clause-encode_refused
@@ -25,5 +25,10 @@ returns-in-Ok-Encode-clause-encode_refused g c dialect text place is fault =
 
 pub returns-in-Ok-Replay-clause-apart : goal.returns-in-Ok-Replay-clause-apart
 returns-in-Ok-Replay-clause-apart g c =
+    let told = (rw c.in-Ok-Replay.field-0-is at c.in-Ok-Replay.ensures.command) in
+    λ none. absurd (none (inl (inr (_, _, told))))
+
+pub returns-in-Ok-Replay-clause-untraced : goal.returns-in-Ok-Replay-clause-untraced
+returns-in-Ok-Replay-clause-untraced g c =
     let told = (rw c.in-Ok-Replay.field-0-is at c.in-Ok-Replay.ensures.command) in
     λ none. absurd (none (inr (_, _, told)))

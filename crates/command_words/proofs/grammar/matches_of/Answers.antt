@@ -6,8 +6,9 @@ use Rattle.clap.specs.declared.error.kind.ErrorKind.{ErrorKind}
 use Rattle.clap.specs.declared.error.kind.ErrorKind.TheVariants.{OutOfMemory}
 use Rattle.clap.specs.declared.parser.matches.ArgMatches.{ArgMatches}
 use Rattle.command_words.specs.Grammar.{IsMatched, IsUnmatched, program}
+use Rattle.command_words.proofs.Leaves.{IsFaulty}
 use Rattle.command_words.proofs.Entered.{simple, simple_and_free}
-use Rattle.command_words.proofs.Matched.{ArePlain, IsFaulty, faultless, reads, unmatched}
+use Rattle.command_words.proofs.Matched.{ArePlain, faultless, reads}
 use Rattle.command_words.proofs.grammar.matches_of.Goals as goal
 
 faulty_by : (k : ErrorKind) (kinds : Kinds) → IsAmong k kinds → IsFaulty kinds
@@ -17,12 +18,13 @@ faulty_by k (x ∷ xs) h = tt
 matched : (words : List (List ℕ)) (r : Result ArgMatches Error) → ArePlain words → FailsBy (fault_of program words) r → IfOk r (HasMatchesOf program words) → IfOk r (λ m. IsMatched words (subcommand_rows_of m))
 matched words (Err e) plain fails has = tt
 matched words (Ok m) plain fails has =
-    ⊎_elim (λ found. subst (IsMatched words) (sym (has simple).1) found) (λ fault. absurd (faultless _ fails fault)) (reads words plain)
+    ⊎_elim (λ read. subst (IsMatched words) (sym (has simple).1) read.matched) (λ refused. absurd (faultless _ fails refused.fault)) (reads words plain)
 
 fault : (words : List (List ℕ)) (r : Result ArgMatches Error) → ArePlain words → FailsBy (fault_of program words) r → IfErr r (λ e. kind_of e ≢ OutOfMemory → IsUnmatched words)
 fault words (Ok m) plain fails = tt
 fault words (Err e) plain fails =
-    λ other. ⊎_elim (λ memory. absurd (other memory)) (λ among. unmatched words plain (faulty_by (kind_of e) _ among)) fails
+    λ other. ⊎_elim (λ memory. absurd (other memory))
+    (λ among. ⊎_elim (λ read. absurd (faultless _ read.passes (faulty_by (kind_of e) _ among))) (λ refused. refused.unmatched) (reads words plain)) fails
 
 pub returns-clause-matched : goal.returns-clause-matched
 returns-clause-matched c =

@@ -1,0 +1,111 @@
+-- What is left, by the lines of the orders or the fault of the file.
+use Rattle.std.proofs.Common.{◌≡◌, ◌⊎◌, ◌↔◌, inl, inr, ℕ, ◌<◌, List, Option, Some, None, refl, sym, ap, ◌∙◌, subst, arith, true≢false}
+use Rattle.std.specs.Prelude.{IsSome, IsSomeAnd}
+use Rattle.plan_files.specs.FileTexts.{Told, CountsFault}
+use Rattle.pilot_basic.specs.Machine.{Step}
+use Rattle.basic_script.specs.Scripts.{printed_of, IsPrinted, IsRefusedAt}
+use Rattle.basic_script.proofs.Scripts.{one_output}
+use Rattle.command_status.specs.declared.status.Status.{Status}
+use Rattle.command_status.specs.declared.status.Status.TheVariants as status
+use Rattle.command_status.specs.FaultLines.{input_line}
+use Rattle.basic_command.specs.Charging.{IsCharged}
+use Rattle.basic_command.specs.Basics.{FileTold, OutputTold, IsScript, IsPrintedIn, HasFault, TellsLine, Prints, Refuses, LeavesBy, IsDecided, BasicLeaves}
+use Rattle.basic_command.specs.declared.orders.ScriptFault.{ScriptFault}
+use Rattle.basic_command.specs.declared.orders.ScriptFault.TheVariants.{Unread, Line, Memory}
+use Rattle.basic_command.proofs.OneLine.{one_line, not_refused}
+
+-- ---- texts
+
+-- what is told of a text, where the source tells it
+told_text : (left text : Option (List ℕ)) (P : List ℕ → Type 0) → Told left text P → IsSome left → IsSomeAnd text P
+told_text None text P h is = absurd (true≢false (sym is))
+told_text (Some rest) text P h is = h
+
+both_of : (text : Option (List ℕ)) (P Q : List ℕ → Type 0) (R : Type 0) → ((t : List ℕ) → P t → Q t → R) → IsSomeAnd text P → IsSomeAnd text Q → R
+both_of None P Q R f p q = absurd p
+both_of (Some t) P Q R f p q = f t p q
+
+-- the script of a past is printed as its orders
+printed_so : (past : List Step) (script : List ℕ) → IsScript past script → IsPrinted script (printed_of past)
+printed_so past script is = record { within = is.within; read = (past, is.read, refl) }
+
+same_output : (past : List Step) (script printed : List ℕ) → IsScript past script → IsPrinted script printed → printed_of past ≡ printed
+same_output past script printed is p = one_output script (printed_of past) printed (printed_so past script is).read p.read
+
+-- ---- the lines of orders
+
+-- a count of faults that didn't rise, and a status that isn't `SourceFault`
+abbrev IsOther : Status → Type 0
+IsOther status.SourceFault = ⊥
+IsOther _ = Unit {0}
+
+never : (n m : ℕ) → m ≡ n → n < m → ⊥
+never n m same less = omega (arith, same, less)
+
+read_status : (s : Status) (n m : ℕ) → IsOther s → (n < m → ⊥) → (s ≡ status.SourceFault) ↔ (n < m)
+read_status s n m is same = (λ unread. absurd (subst IsOther unread is), λ less. absurd (same less))
+
+other_printed : (lines : List ℕ) (s : Status) (before after : OutputTold) → Prints lines s before after → IsOther s
+other_printed lines s before after (inl h) = subst IsOther (sym h.0) tt
+other_printed lines s before after (inr h) = subst IsOther (sym h.0) tt
+
+printed_leaves : (lines : List ℕ) (s : Status) (file : FileTold) (before after : OutputTold) → IsPrintedIn file.left file.text lines → Prints lines s before after → LeavesBy s file before after
+printed_leaves lines s file before after is (inl h) = subst (λ (s : Status). LeavesBy s file before after) (sym h.0) (lines, is, h.1)
+printed_leaves lines s file before after is (inr h) = subst (λ (s : Status). LeavesBy s file before after) (sym h.0) (lines, is, h.1, h.2)
+
+printed_decides : (lines : List ℕ) (s : Status) (file : FileTold) (before after : OutputTold) → IsPrintedIn file.left file.text lines → Prints lines s before after → IsSome file.left
+    → IsDecided s file.text before after
+printed_decides lines s file before after is prints tells =
+    let script = told_text file.left file.text (IsScript is.past) is.script tells in
+    record {
+      printed = λ printed p.
+          let same = both_of file.text (IsScript is.past) (λ t. IsPrinted t printed) (printed_of is.past ≡ printed) (λ t a b. same_output is.past t printed a b) script p in
+          inl (subst (λ (ls : List ℕ). Prints ls s before after) (is.printed_is ∙ same) prints);
+      refused = λ number r.
+          absurd (both_of file.text (IsScript is.past) (λ t. IsRefusedAt t number) ⊥ (λ t a b. not_refused t (printed_of is.past) number (printed_so is.past t a) b) script r);
+    }
+
+pub prints : (lines : List ℕ) (s : Status) (file : FileTold) (before after : OutputTold) → IsPrintedIn file.left file.text lines → file.m ≡ file.n → Prints lines s before after
+    → BasicLeaves s file before after
+prints lines s file before after is same printed = record {
+  leaves = printed_leaves lines s file before after is printed;
+  unread = read_status s file.n file.m (other_printed lines s before after printed) (never file.n file.m same);
+  decided = λ tells read. printed_decides lines s file before after is printed tells;
+}
+
+-- ---- a fault of the file
+
+read_line : (number : ℕ) → Line number ≡ Unread → ⊥
+read_line number is = cc
+
+read_all : Memory ≡ Unread → ⊥
+read_all is = cc
+
+unread_risen : (n m : ℕ) → m ≡ n → n < m → (P : Type 0) → P
+unread_risen n m same less P = absurd (never n m same less)
+
+pub refuses : (fault : ScriptFault) (s : Status) (file : FileTold) (before after : OutputTold) → HasFault file.left file.text fault → CountsFault Unread file.n file.m fault
+    → Refuses fault s before after → BasicLeaves s file before after
+refuses Unread s file before after has counts h = record {
+  leaves = subst (λ (s : Status). LeavesBy s file before after) (sym h.0) h.1;
+  unread = (λ is. counts.risen.0 refl, λ less. h.0);
+  decided = λ tells same. unread_risen file.n file.m same (counts.risen.0 refl) (IsDecided s file.text before after);
+}
+refuses (Line number) s file before after has counts h = record {
+  leaves = subst (λ (s : Status). LeavesBy s file before after) (sym h.0) (number, has, h.1);
+  unread = read_status s file.n file.m (subst IsOther (sym h.0) tt) (λ less. read_line number (counts.risen.1 less));
+  decided = λ tells same.
+      let refused = told_text file.left file.text (λ t. IsRefusedAt t number) has tells in
+      record {
+        printed = λ printed p.
+            absurd (both_of file.text (λ t. IsPrinted t printed) (λ t. IsRefusedAt t number) ⊥ (λ t a b. not_refused t printed number a b) p refused);
+        refused = λ other r.
+            let same_number = both_of file.text (λ t. IsRefusedAt t number) (λ t. IsRefusedAt t other) (number ≡ other) (λ t a b. one_line t number other a b) refused r in
+            inl (h.0, subst (λ (n : ℕ). TellsLine (input_line n) before after) same_number h.1);
+      };
+}
+refuses Memory s file before after has counts h = record {
+  leaves = subst (λ (s : Status). LeavesBy s file before after) (sym h.0) h.1;
+  unread = read_status s file.n file.m (subst IsOther (sym h.0) tt) (λ less. read_all (counts.risen.1 less));
+  decided = λ tells same. record { printed = λ printed p. inr h.0; refused = λ number r. inr h.0 };
+}

@@ -1,0 +1,4 @@
+pub mod Charged
+pub mod OneLine
+pub mod Limits
+pub mod Leaving

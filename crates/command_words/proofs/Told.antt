@@ -1,0 +1,186 @@
+-- What is asked for by the words of a command.
+use Rattle.std.proofs.Common.{◌≡◌, ◌∙◌, Bool, cond, true, false, List, [], ◌∷◌, length, Option, Some, None, codes, refl, sym, ap, ap₂, subst, arith, Box, box_value}
+use Rattle.std.specs.List.{AllByRecursion, list_all}
+use Rattle.std.specs.Prelude.{IfOk, IfErr, IsSomeAnd, option_and_then, option_map}
+use Rattle.std.specs.Option.{ok_or}
+use Rattle.std.specs.Str.{bytes_eq}
+use Rattle.std.proofs.lemmas.Slice.Eq.{bytes_eq-Decides}
+use Rattle.clap.specs.Walk.{Row, Text}
+use Rattle.clap.specs.Words.{found_of, rows_of}
+use Rattle.clap.specs.Simple.{subcommand_rows}
+use Rattle.clap.specs.declared.parser.matches.SubCommand.{SubCommand}
+use Rattle.clap.specs.declared.parser.matches.ArgMatches.TheViews.{out-SubCommand}
+use Rattle.message_dialects.specs.declared.dialect.MessageDialect.{MessageDialect}
+use Rattle.message_dialects.specs.declared.dialect.MessageDialect.TheVariants.{App, Iso, Din}
+use Rattle.command_words.specs.Command.{Asked, Asks, HasWordsFault, IsCommand, IsNoCommand, asked_of, basic, car, decode, dialect_named, dialect_word, encode, is_plain, replay, station, words_of}
+use Rattle.command_words.specs.Grammar.{Form, IsMatched, IsTaken, IsUnmatched, count_of, forms, given_rows, named, on_dialect, told, told_of, with_one, with_two}
+use Rattle.command_words.specs.declared.reading.Command.{Command}
+use Rattle.command_words.specs.declared.reading.WordsFault.TheVariants.{NoCommand}
+
+-- ---- the words of what is asked for are read as that
+
+pub record IsRead (asked : Asked) : Type 0 where
+  pub name : Text
+  pub values : List Text
+  pub words_are : words_of asked ≡ name ∷ values
+  pub taken : IsTaken name values
+  pub told_is : told_of name (given_rows values) ≡ Some asked
+
+pub read : (asked : Asked) → IsRead asked
+read (station plan) = record { name = codes "station"; values = plan ∷ []; words_are = refl; taken = refl; told_is = refl }
+read (car plan) = record { name = codes "car"; values = plan ∷ []; words_are = refl; taken = refl; told_is = refl }
+read (replay plan trace) = record { name = codes "replay"; values = plan ∷ trace ∷ []; words_are = refl; taken = refl; told_is = refl }
+read (decode App hex) = record { name = codes "decode"; values = codes "app" ∷ hex ∷ []; words_are = refl; taken = refl; told_is = refl }
+read (decode Iso hex) = record { name = codes "decode"; values = codes "iso" ∷ hex ∷ []; words_are = refl; taken = refl; told_is = refl }
+read (decode Din hex) = record { name = codes "decode"; values = codes "din" ∷ hex ∷ []; words_are = refl; taken = refl; told_is = refl }
+read (encode App text) = record { name = codes "encode"; values = codes "app" ∷ text ∷ []; words_are = refl; taken = refl; told_is = refl }
+read (encode Iso text) = record { name = codes "encode"; values = codes "iso" ∷ text ∷ []; words_are = refl; taken = refl; told_is = refl }
+read (encode Din text) = record { name = codes "encode"; values = codes "din" ∷ text ∷ []; words_are = refl; taken = refl; told_is = refl }
+read (basic script) = record { name = codes "basic"; values = script ∷ []; words_are = refl; taken = refl; told_is = refl }
+
+same_some : {X : Type 0} (a b : X) → Some a ≡ Some b → a ≡ b
+same_some a b e = cc
+
+same_told : (asked other : Asked) → words_of asked ≡ words_of other → Some asked ≡ Some other
+same_told asked other e =
+    let one = read asked in
+    let two = read other in
+    let whole : one.name ∷ one.values ≡ two.name ∷ two.values = sym one.words_are ∙ e ∙ two.words_are in
+    let name : one.name ≡ two.name = cc in
+    let values : one.values ≡ two.values = cc in
+    sym one.told_is ∙ subst (λ (n : Text). told_of n (given_rows one.values) ≡ told_of two.name (given_rows two.values)) (sym name) (ap (λ (vs : List Text). told_of two.name (given_rows vs)) values) ∙ two.told_is
+
+-- words ask for one thing
+pub one_asked : (words : List Text) (asked other : Asked) → Asks words asked → Asks words other → asked ≡ other
+one_asked words asked other h k = same_some asked other (same_told asked other (sym h.words_are ∙ k.words_are))
+
+-- ---- what is told of words has these words
+
+abbrev MakesWords : Form → Type 0
+MakesWords form = (values : List Text) (asked : Asked) → length values ≡ count_of form.values → form.asks (given_rows values) ≡ Some asked → form.name ∷ values ≡ words_of asked
+
+makes_one : (name : Text) (make : Text → Asked) → ((a : Text) → words_of (make a) ≡ name ∷ a ∷ []) → MakesWords (with_one name make)
+makes_one name make is [] asked many told = absurd (omega (arith, many))
+makes_one name make is (a ∷ []) asked many told = sym (is a) ∙ ap words_of (same_some (make a) asked told)
+makes_one name make is (a ∷ b ∷ rest) asked many told = absurd (omega (arith, many))
+
+makes_two : (name : Text) (make : Text → Text → Asked) → ((a b : Text) → words_of (make a b) ≡ name ∷ a ∷ b ∷ []) → MakesWords (with_two name make)
+makes_two name make is [] asked many told = absurd (omega (arith, many))
+makes_two name make is (a ∷ []) asked many told = absurd (omega (arith, many))
+makes_two name make is (a ∷ b ∷ []) asked many told = sym (is a b) ∙ ap words_of (same_some (make a b) asked told)
+makes_two name make is (a ∷ b ∷ c ∷ rest) asked many told = absurd (omega (arith, many))
+
+named_word : (word : Text) (dialect : MessageDialect) → dialect_named word ≡ Some dialect → word ≡ dialect_word dialect
+named_word word dialect h = go (bytes_eq word (dialect_word App)) (bytes_eq word (dialect_word Iso)) (bytes_eq word (dialect_word Din)) refl refl refl h
+  where
+    go : (a i d : Bool) → bytes_eq word (dialect_word App) ≡ a → bytes_eq word (dialect_word Iso) ≡ i → bytes_eq word (dialect_word Din) ≡ d
+        → cond a (Some App) (cond i (Some Iso) (cond d (Some Din) None)) ≡ Some dialect → word ≡ dialect_word dialect
+    go true i d is is1 is2 e = (bytes_eq-Decides word _).0 is ∙ ap dialect_word (same_some App dialect e)
+    go false true d is is1 is2 e = (bytes_eq-Decides word _).0 is1 ∙ ap dialect_word (same_some Iso dialect e)
+    go false false true is is1 is2 e = (bytes_eq-Decides word _).0 is2 ∙ ap dialect_word (same_some Din dialect e)
+    go false false false is is1 is2 e = let bad : None ≡ Some dialect = e in absurd cc
+
+abbrev with_value : Text → Option MessageDialect → Option (MessageDialect × Text)
+with_value b d = option_and_then (λ dialect. option_map (λ value. (dialect, value)) (Some b)) d
+
+makes_dialect : (name : Text) (make : MessageDialect → Text → Asked) → ((d : MessageDialect) (b : Text) → words_of (make d b) ≡ name ∷ dialect_word d ∷ b ∷ []) → MakesWords (on_dialect name make)
+makes_dialect name make is [] asked many told = absurd (omega (arith, many))
+makes_dialect name make is (a ∷ []) asked many told = absurd (omega (arith, many))
+makes_dialect name make is (a ∷ b ∷ []) asked many told = go (dialect_named a) refl told
+  where
+    go : (d : Option MessageDialect) → dialect_named a ≡ d → option_map (λ pair. make pair.0 pair.1) (with_value b d) ≡ Some asked → name ∷ a ∷ b ∷ [] ≡ words_of asked
+    go None none e = let bad : None ≡ Some asked = e in absurd cc
+    go (Some d) found e =
+        let word : a ≡ dialect_word d = named_word a d found in
+        ap (λ (w : Text). name ∷ w ∷ b ∷ []) word ∙ sym (is d b) ∙ ap words_of (same_some (make d b) asked e)
+makes_dialect name make is (a ∷ b ∷ c ∷ rest) asked many told = absurd (omega (arith, many))
+
+all_make : AllByRecursion MakesWords forms
+all_make = (
+  makes_one _ _ (λ a. refl),
+  (
+    makes_one _ _ (λ a. refl),
+    (
+      makes_two _ _ (λ a b. refl),
+      (
+        makes_dialect _ _ (λ d b. refl),
+        (
+          makes_dialect _ _ (λ d b. refl),
+          (makes_one _ _ (λ a. refl), tt),
+        ),
+      ),
+    ),
+  ),
+)
+
+some_makes : (some : List Form) → AllByRecursion MakesWords some → (name : Text) (values : List Text) (asked : Asked)
+    → IsSomeAnd (named name some) (λ form. length values ≡ count_of form.values) → option_and_then (λ form. form.asks (given_rows values)) (named name some) ≡ Some asked
+    → name ∷ values ≡ words_of asked
+some_makes [] all name values asked taken told = absurd taken
+some_makes (form ∷ rest) all name values asked taken told = go (some_makes rest all.1 name values asked) (bytes_eq form.name name) refl taken told
+  where
+    go : (IsSomeAnd (named name rest) (λ form. length values ≡ count_of form.values) → option_and_then (λ form. form.asks (given_rows values)) (named name rest) ≡ Some asked
+        → name ∷ values ≡ words_of asked) → (b : Bool) → bytes_eq form.name name ≡ b → IsSomeAnd (cond b (Some form) (named name rest)) (λ form. length values ≡ count_of form.values)
+        → option_and_then (λ form. form.asks (given_rows values)) (cond b (Some form) (named name rest)) ≡ Some asked → name ∷ values ≡ words_of asked
+    go behind true is taken told =
+        subst (λ (n : Text). n ∷ values ≡ words_of asked) ((bytes_eq-Decides form.name name).0 is) (all.0 values asked taken told)
+    go behind false is taken told = behind taken told
+
+-- ---- the command that was read
+
+not_true : (b : Bool) → (b ≡ true → ⊥) → b ≡ false
+not_true true h = absurd (h refl)
+not_true false h = refl
+
+abbrev IsOther : Text → Form → Type 0
+IsOther name form = name ≡ form.name → ⊥
+
+unnamed : (name : Text) (some : List Form) → AllByRecursion (IsOther name) some → named name some ≡ None
+unnamed name [] h = refl
+unnamed name (form ∷ rest) h =
+    ap (λ (b : Bool). cond b (Some form) (named name rest)) (not_true (bytes_eq form.name name) (λ e. h.0 (sym ((bytes_eq-Decides form.name name).0 e))))
+    ∙ unnamed name rest h.1
+
+-- no command has another name
+pub untold : (name : Text) (rows : List Row) → AllByRecursion (IsOther name) forms → None ≡ told_of name rows
+untold name rows h = ap (option_and_then (λ form. form.asks rows)) (sym (unnamed name forms h))
+
+-- what is found is told of by its name and its rows
+pub told_by : {Z : Type 0} (found : Option (Box SubCommand Z)) (name : Text) (rows : List Row) → Some name ≡ option_map (λ b. (out-SubCommand (box_value b)).name.now) found
+    → Some rows ≡ option_map (λ pair. pair.1) (subcommand_rows found) → told_of name rows ≡ told (subcommand_rows found)
+told_by None name rows a b = let bad : Some name ≡ None = a in absurd cc
+told_by (Some sub) name rows a b =
+    ap₂ told_of (same_some name (out-SubCommand (box_value sub)).name.now a) (same_some rows (rows_of (found_of (out-SubCommand (box_value sub)).matches)) b)
+
+pub not_plain : (words : List Text) → list_all is_plain words ≡ false → IsNoCommand words
+not_plain words h asked asks = let bad : true ≡ false = sym asks.plain ∙ h in absurd cc
+
+pub not_matched : (words : List Text) → IsUnmatched words → IsNoCommand words
+not_matched words h asked asks =
+    let it = read asked in
+    h it.name it.values (asks.words_are ∙ it.words_are) it.taken
+
+pub commanded : (words : List Text) (met : Option (Text × List Row)) (command : Command) → list_all is_plain words ≡ true → IsMatched words met → Some (asked_of command) ≡ told met → IsCommand words command
+commanded words met command plain matched is = record {
+  words_are = matched.words_are
+      ∙ some_makes forms all_make matched.name matched.values (asked_of command) matched.taken (sym (is ∙ ap told matched.met_is));
+  plain = plain;
+}
+
+pub not_told : (words : List Text) (met : Option (Text × List Row)) → IsMatched words met → None ≡ told met → IsNoCommand words
+not_told words met matched none asked asks =
+    let it = read asked in
+    let whole : it.name ∷ it.values ≡ matched.name ∷ matched.values = sym it.words_are ∙ sym asks.words_are ∙ matched.words_are in
+    let name : it.name ≡ matched.name = cc in
+    let values : it.values ≡ matched.values = cc in
+    let found : told_of matched.name (given_rows matched.values) ≡ Some asked =
+    subst (λ (n : Text). told_of n (given_rows matched.values) ≡ Some asked) name
+    (subst (λ (vs : List Text). told_of it.name (given_rows vs) ≡ Some asked) values it.told_is) in
+    let bad : None ≡ Some asked = none ∙ ap told matched.met_is ∙ found in
+    absurd cc
+
+-- the answer, by what was read of the matches
+pub answered : (words : List Text) (met : Option (Text × List Row)) (found : Option Command) → list_all is_plain words ≡ true → IsMatched words met → option_map asked_of found ≡ told met
+    → IfOk (ok_or found NoCommand) (IsCommand words) × IfErr (ok_or found NoCommand) (HasWordsFault words)
+answered words met (Some command) plain matched is = (commanded words met command plain matched is, tt)
+answered words met None plain matched is = (tt, not_told words met matched is)

@@ -1,0 +1,45 @@
+//! The forms of the commands.
+
+/// How many values a command has behind its name.
+#[derive(Clone, Copy)]
+pub(crate) enum Values {
+    One,
+    Two,
+}
+
+/// A command's name, and how many values it has.
+#[derive(Clone, Copy)]
+pub(crate) struct Form {
+    pub(crate) name: &'static str,
+    pub(crate) values: Values,
+}
+
+/// A command with one value.
+macro_rules! with_one {
+    ($name:expr) => {
+        Form {
+            name: $name,
+            values: Values::One,
+        }
+    };
+}
+
+/// A command with two values.
+macro_rules! with_two {
+    ($name:expr) => {
+        Form {
+            name: $name,
+            values: Values::Two,
+        }
+    };
+}
+
+/// All commands.
+pub(crate) const FORMS: [Form; 6] = [
+    with_one!("station"),
+    with_one!("car"),
+    with_two!("replay"),
+    with_two!("decode"),
+    with_two!("encode"),
+    with_one!("basic"),
+];
