@@ -62,7 +62,7 @@ ReadsFiles words = ReadsPlan words ⊎ IsSomeBasic words
 -- what the output holds, whose count of faults went from n to m: a line of these, or a front of it where it was not written, or
 -- the line of a fault at one of these places
 abbrev pub Answers : (List ℕ → Type 0) → (ℕ → Type 0) → Status → Option (List ℕ) → Option (List ℕ) → ℕ → ℕ → Type 0
-Answers IsLine IsFaultAt status.Done before after n m = (line : List ℕ) × IsLine line × Appends before after line
+Answers IsLine IsFaultAt status.Done before after n m = (line : List ℕ) × IsLine line × Appends before after line × (m ≡ n)
 Answers IsLine IsFaultAt status.SinkFault before after n m = (line : List ℕ) × IsLine line × AppendsSome before after line
 Answers IsLine IsFaultAt status.Input before after n m = (place : ℕ) × IsFaultAt place × Tells before after n m (input_line place)
 Answers IsLine IsFaultAt status.NoMemory before after n m = after ≡ before
@@ -73,9 +73,9 @@ Answers IsLine IsFaultAt status.SourceFault before after n m = ⊥
 Answers IsLine IsFaultAt status.TurnsSpent before after n m = ⊥
 
 -- the line was printed, or a front of it where it was not written
-abbrev pub Prints : List ℕ → Status → Option (List ℕ) → Option (List ℕ) → Type 0
-Prints line s before after =
-    ((s ≡ status.Done) × Appends before after line) ⊎ ((s ≡ status.SinkFault) × AppendsSome before after line)
+abbrev pub Prints : List ℕ → Status → Option (List ℕ) → Option (List ℕ) → ℕ → ℕ → Type 0
+Prints line s before after n m =
+    ((s ≡ status.Done) × Appends before after line × (m ≡ n)) ⊎ ((s ≡ status.SinkFault) × AppendsSome before after line)
 
 -- the line of the fault was told; for want of memory there is none
 abbrev pub Refuses : InputFault → Status → Option (List ℕ) → Option (List ℕ) → ℕ → ℕ → Type 0

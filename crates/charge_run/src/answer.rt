@@ -9,7 +9,7 @@ use command_status::{Status, line_of_input, tell_fault};
 
 /// Prints a line.
 pub(crate) fn print_line<K: Sink>(out: &mut K, line: &str) -> Status
-    ensures prints { Prints line.now result (K.taken out.old) (K.taken out.new) }
+    ensures prints { Prints line.now result (K.taken out.old) (K.taken out.new) (K.faults out.old) (K.faults out.new) }
     ensures sink_fault { result ≡ Status.SinkFault → K.faults out.old < K.faults out.new }
 {
     match out.write(line.as_bytes()) {
