@@ -1,0 +1,5 @@
+pub mod Refusals
+pub mod Printed
+pub mod Readings
+pub mod Texts
+pub mod Decided
