@@ -1,4 +1,5 @@
 use Rattle.std.proofs.Common.{inl, inr}
+use Rattle.command_words.specs.Command.{replay, decode, encode, basic}
 use Rattle.charge_run.proofs.Answered.{only_refused, only_unscanned, same_decoded, same_encoded}
 use Rattle.charge_run.proofs.WordLists.{one_decode, one_encode}
 use Rattle.charge_run.proofs.top.run.Goals as goal
@@ -32,3 +33,40 @@ pub returns-in-Ok-Replay-clause-untraced : goal.returns-in-Ok-Replay-clause-untr
 returns-in-Ok-Replay-clause-untraced g c =
     let told = (rw c.in-Ok-Replay.field-0-is at c.in-Ok-Replay.ensures.command) in
     λ none. absurd (none (inr (_, _, told)))
+
+pub returns-in-Ok-Basic-clause-apart : goal.returns-in-Ok-Basic-clause-apart
+returns-in-Ok-Basic-clause-apart g c =
+    let told = (rw c.in-Ok-Basic.field-0-is at c.in-Ok-Basic.ensures.command) in
+    λ none. absurd (none (inr (_, told)))
+
+-- ---- no command
+
+pub returns-in-Err-NoCommand-clause-replay : goal.returns-in-Err-NoCommand-clause-replay
+returns-in-Err-NoCommand-clause-replay g c plan recorded is =
+    let none = (rw c.in-Err-NoCommand.field-0-is at c.in-Err-NoCommand.ensures.fault) in
+    absurd (none (replay plan recorded) is)
+
+pub returns-in-Err-NoCommand-clause-basic : goal.returns-in-Err-NoCommand-clause-basic
+returns-in-Err-NoCommand-clause-basic g c name is =
+    let none = (rw c.in-Err-NoCommand.field-0-is at c.in-Err-NoCommand.ensures.fault) in
+    absurd (none (basic name) is)
+
+pub returns-in-Err-NoCommand-clause-decode : goal.returns-in-Err-NoCommand-clause-decode
+returns-in-Err-NoCommand-clause-decode g c dialect hex is =
+    let none = (rw c.in-Err-NoCommand.field-0-is at c.in-Err-NoCommand.ensures.fault) in
+    none (decode dialect hex) is
+
+pub returns-in-Err-NoCommand-clause-encode : goal.returns-in-Err-NoCommand-clause-encode
+returns-in-Err-NoCommand-clause-encode g c dialect text is =
+    let none = (rw c.in-Err-NoCommand.field-0-is at c.in-Err-NoCommand.ensures.fault) in
+    none (encode dialect text) is
+
+pub returns-in-Err-NoCommand-clause-refused : goal.returns-in-Err-NoCommand-clause-refused
+returns-in-Err-NoCommand-clause-refused g c dialect hex place is fault =
+    let none = (rw c.in-Err-NoCommand.field-0-is at c.in-Err-NoCommand.ensures.fault) in
+    absurd (none (decode dialect hex) is)
+
+pub returns-in-Err-NoCommand-clause-encode_refused : goal.returns-in-Err-NoCommand-clause-encode_refused
+returns-in-Err-NoCommand-clause-encode_refused g c dialect text place is fault =
+    let none = (rw c.in-Err-NoCommand.field-0-is at c.in-Err-NoCommand.ensures.fault) in
+    absurd (none (encode dialect text) is)
