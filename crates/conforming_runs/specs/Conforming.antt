@@ -1,24 +1,36 @@
--- ISO 15118-2:2014, section 8.8: a post's sessions in which the car, the charger and the outside do as they should: each word is a
--- request in its row, each event goes well, nothing is late, nothing fails, and the connection stays until the session has ended.
-use Rattle.std.specs.Prelude.{◌≡◌, ◌<◌, ◌+◌, ℕ, true, List, [], ◌∷◌, length, map, Option, Some, None, IsSome, Ok}
+-- ISO 15118-2:2014, section 8.8: a session of a post in which the car, the charger and the outside do as they should, from its connection
+-- up to its end or the end of the past: each word is a request in its row, each event goes well, nothing is late, no order and no reply
+-- fails, and the connection stays until the session has ended. What was before it, and what became of other sessions, is not asked.
+use Rattle.std.specs.Prelude.{◌≡◌, ◌<◌, ◌+◌, ℕ, Bool, true, false, List, [], ◌∷◌, length, map, Option, Some, None, IsSome, Ok}
+use Rattle.session_words.specs.declared.phase.Standing.{Standing}
+use Rattle.session_words.specs.declared.phase.Standing.TheVariants as stood
 use Rattle.session_words.specs.declared.plan.PostPlan.{PostPlan}
 use Rattle.v2gtp_frames.specs.Frames.{Frames, IsRight}
 use Rattle.v2gtp_frames.specs.Reading.{whole_at, behind_frames}
 use Rattle.post_spec.specs.Causes.{due, watch}
 use Rattle.post_spec.specs.Codecs.{Judged, Negotiated, Asked, WrongSide, Refused}
 use Rattle.post_spec.specs.Course.{Talked, Course, course, facts_of}
-use Rattle.post_spec.specs.Contactors.{live}
-use Rattle.post_spec.specs.Sessions.{session, next_session, stream, replies, waits}
-use Rattle.post_spec.specs.Steps.{Event, Came, Bytes, Gone, Datagram, Plant, Clock, Over, Seen, Reading, Step, Hears, Does, seen_of}
+use Rattle.post_spec.specs.Contactors.{standing, live}
+use Rattle.post_spec.specs.Sessions.{arriving, session, next_session, stream, replies, waits}
+use Rattle.post_spec.specs.Steps.{Event, Came, Bytes, Gone, Datagram, Plant, Clock, Over, Act, Give, Send, Answer, End, Seen, Reading, Step, Hears, Does, seen_of}
+use Rattle.post_spec.specs.Talk.{Unless}
 use Rattle.conforming_runs.specs.Charger.{GoesWell}
 use Rattle.conforming_runs.specs.Requests.{IsConforming}
 
 -- Sessions are given with their entries, the newest first, and `before` is what the post went by up to the step that is spoken of.
 
+-- a hearing that finds an order to open owed begins with it: what was heard is judged behind it
+abbrev pub live_behind : Standing → Bool → Bool
+live_behind stood.MustOpen live = false
+live_behind stood.Opened live = live
+live_behind stood.Closing live = live
+live_behind stood.Closed live = live
+live_behind stood.Opening live = live
+
 -- the connection stays, and what the charger tells goes well
 abbrev pub StaysWell : PostPlan → ℕ → Event → List Step → Talked → Type 0
 StaysWell plan at (Plant event) before t =
-    GoesWell (watch plan t (map seen_of before) (live (map seen_of before)) at) event
+    GoesWell (watch plan t (map seen_of before) (live_behind (standing (map seen_of before)) (live (map seen_of before))) at) event
 StaysWell plan at (Came token) before t = ⊥
 StaysWell plan at Gone before t = ⊥
 StaysWell plan at Over before t = ⊥
@@ -49,12 +61,19 @@ OfSession None es P = Unit {0}
 OfSession (Some t) None P = Unit {0}
 OfSession (Some t) (Some es) P = P t es
 
+-- orders and replies are taken. An answer to a datagram may fail
+abbrev pub IsTaken : Act → Bool → Type 0
+IsTaken (Answer bytes) taken = Unit {0}
+IsTaken (Give order) taken = taken ≡ true
+IsTaken (Send bytes) taken = taken ≡ true
+IsTaken (End cause) taken = taken ≡ true
+
 -- a hearing goes well for the session that it finds, and an act that was taken for the word that it answers
 abbrev pub GoesOn : PostPlan → Step → List Step → Type 0
 GoesOn plan (Hears at event) before =
     OfSession (course plan (Hears at event ∷ before)).session (next_session (map seen_of before)) (HearsWell plan at event before)
-GoesOn plan (Does reading act taken) before = (taken
-    ≡ true) × IsRead plan before (course plan before) (course plan before).session reading
+GoesOn plan (Does reading act taken) before =
+    IsTaken act taken × IsRead plan before (course plan before) (course plan before).session reading
 
 -- the frames of a session's stream are right, and none is whole behind that of PowerDelivery Start while the reply to it waits
 pub record IsFramed (es : List Seen) : Type 0 where
@@ -70,7 +89,9 @@ pub record OneMore (plan : PostPlan) (step : Step) (before : List Step) (Earlier
   pub goes_on : GoesOn plan step before
   pub framed : AreFramed (session (map seen_of (step ∷ before)))
 
--- these steps of a post, the newest first, are conforming
+-- The session to which these steps of a post have come, the newest first, conforms: of all that came behind the block of its
+-- connection. In that block the session before it may still stand, and nothing is asked.
 abbrev pub Conforming : PostPlan → List Step → Type 0
 Conforming plan [] = Unit {0}
-Conforming plan (step ∷ before) = OneMore plan step before (Conforming plan before)
+Conforming plan (step ∷ before) =
+    Unless (arriving (map seen_of (step ∷ before))) (OneMore plan step before (Conforming plan before)) (Unit {0})

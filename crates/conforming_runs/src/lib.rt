@@ -1,4 +1,4 @@
-//! When a session conforms; its requests are accepted, and what its charger tells ends nothing.
+//! When one session of a post conforms; its requests are accepted, and what its charger tells ends nothing.
 //!
 //! Proved: `conforming_sessions_go_on`: a request that a conforming car makes is answered with a code of the OK class, and what the charger
 //! tells while all goes well ends nothing.

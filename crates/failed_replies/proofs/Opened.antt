@@ -10,8 +10,6 @@ use Rattle.session_words.specs.declared.phase.Standing.{Standing}
 use Rattle.session_words.specs.declared.phase.Standing.TheVariants as standing
 use Rattle.session_words.specs.declared.plan.PostPlan.{PostPlan}
 use Rattle.session_words.specs.declared.word.Request.{Request}
-use Rattle.session_words.specs.declared.word.Word.{Word}
-use Rattle.session_words.specs.declared.word.Word.TheVariants as word
 use Rattle.session_words.specs.Codes.{IsOkClass}
 use Rattle.v2gtp_frames.specs.declared.FrameFault.{FrameFault}
 use Rattle.v2gtp_frames.specs.Reading.{whole_at}
@@ -21,7 +19,7 @@ use Rattle.session_rules.specs.Orders.{order_of}
 use Rattle.session_rules.specs.Reply.{reply_to}
 use Rattle.session_rules.specs.Stages.{is_waiting}
 use Rattle.session_rules.specs.Verdict.{verdict, is_accepted}
-use Rattle.post_spec.specs.Codecs.{Judged, Negotiated, Asked, WrongSide, Refused, Codecs, Judges, judged_word}
+use Rattle.post_spec.specs.Codecs.{Judged, Negotiated, Asked, WrongSide, Refused, Codecs, Judges}
 use Rattle.post_spec.specs.Contactors.{live}
 use Rattle.post_spec.specs.Spelled.{read_back, ReadsBack}
 use Rattle.post_spec.specs.Steps.{Event, Came, Bytes, Gone, Datagram, Plant, Clock, Over, Act, Seen, Reading, Step, Hears, Does, seen_of}
@@ -37,11 +35,13 @@ use Rattle.station_laws.proofs.Contactors.{contactors_are_read, filled_live}
 use Rattle.station_laws.proofs.Decided.{decided_by}
 use Rattle.station_laws.proofs.PostRuns.{run_posts, post_at}
 use Rattle.safe_runs.proofs.Asked.{ok_class, found_failed}
-use Rattle.failed_replies.specs.Replies.{IsOkReply, IsResponse, RepliesOpened, AreOpened, RunsReplyOpened}
+use Rattle.read_runs.proofs.Agendas.{WantedIn, wanted_in}
+use Rattle.failed_replies.specs.Replies.{IsOkReply, RepliesOpened, AreOpened, RunsReplyOpened}
+use Rattle.failed_replies.proofs.Fresh.{OpensSoon, steps_open, negotiates_unlive}
 
 -- what may be said while the contactor is live
 abbrev IsOkSpoken : Codecs → PostPlan → Spoken → Type 0
-IsOkSpoken c plan (Response payload) = (heard : List ℕ) × (chosen : Option Dialect) × c.Negotiates plan.dialects.items heard (Negotiated chosen payload)
+IsOkSpoken c plan (Response payload) = ⊥
 IsOkSpoken c plan (Said dialect reply) = IsOkClass reply.code
 
 -- what is said is that, or Open is ordered before, or the contactor isn't live
@@ -115,15 +115,9 @@ decided_opened c plan s h = decided_by (OpenedIn c plan) plan s (λ d. record {
 }) h
 
 -- a word
-not_negotiated : (chosen : Option Dialect) (response : List ℕ) (w : Option Word) → Negotiated chosen response ≡ judged_word w → ⊥
-not_negotiated chosen response None e = cc
-not_negotiated chosen response (Some (word.Request q)) e = cc
-not_negotiated chosen response (Some (word.Reply reply)) e = cc
-not_negotiated chosen response (Some word.Nothing) e = cc
-
-negotiated_ok : (c : Codecs) (plan : PostPlan) (d : Option Dialect) (payload : List ℕ) (chosen : Option Dialect) (response : List ℕ) → Judges c plan.dialects.items d payload (Negotiated chosen response) → IsOkSpoken c plan (Response response)
-negotiated_ok c plan None payload chosen response j = (payload, chosen, j)
-negotiated_ok c plan (Some d) payload chosen response j = absurd (not_negotiated chosen response j.0 j.2)
+-- a negotiation is read while it isn't live
+abbrev UnliveAt : State → Judged → Type 0
+UnliveAt s w = (chosen : Option Dialect) (response : List ℕ) → w ≡ Negotiated chosen response → s.live ≡ false
 
 opening_by : (live : Bool) (o : Option Order) → o ≡ opening_if live → (o ≡ Some order.Open) ⊎ ((o ≡ None) × (live ≡ false))
 opening_by true o e = inl e
@@ -143,25 +137,36 @@ asked_either c plan s ss r shown false e =
     inr (opening_by s.live (order_by (cause_by ss.stage plan s r) s.live (order_of ss.stage s.facts plan r shown))
     (cause_opens (cause_by ss.stage plan s r) FailedReply s.live (order_of ss.stage s.facts plan r shown) (found_failed (verdict ss.stage s.facts plan r) r.ask e)))
 
-judged_opened : (c : Codecs) (plan : PostPlan) (s : State) (ss : Session) (d : Option Dialect) (payload : List ℕ) (w : Judged) (shown : ℕ) → Judges c plan.dialects.items d payload w → OpenedIn c plan (judged plan s ss w shown)
-judged_opened c plan s ss d payload (Negotiated chosen response) shown j = inl (negotiated_ok c plan d payload chosen response j)
-judged_opened c plan s ss d payload (Asked r) shown j =
+judged_opened : (c : Codecs) (plan : PostPlan) (s : State) (ss : Session) (d : Option Dialect) (payload : List ℕ) (w : Judged) (shown : ℕ) → Judges c plan.dialects.items d payload w → UnliveAt s w → OpenedIn c plan (judged plan s ss w shown)
+judged_opened c plan s ss d payload (Negotiated chosen response) shown j u = inr (inr (refl, u chosen response refl))
+judged_opened c plan s ss d payload (Asked r) shown j u =
     said_by c plan (is_waiting (stage_behind ss.stage s.facts plan r shown).row) (order_by (cause_by ss.stage plan s r) s.live (order_of ss.stage s.facts plan r shown))
     (Said ss.stage.dialect (reply_to ss.stage s.facts plan r shown)) s.live (asked_either c plan s ss r shown (is_accepted (verdict ss.stage s.facts plan r)) refl)
-judged_opened c plan s ss d payload WrongSide shown j = tt
-judged_opened c plan s ss d payload Refused shown j = tt
+judged_opened c plan s ss d payload WrongSide shown j u = tt
+judged_opened c plan s ss d payload Refused shown j u = tt
 
-taken_opened : (c : Codecs) (plan : PostPlan) (s : State) (kept : Option Session) (r : Reading) (p : Payload) → Judges c plan.dialects.items p.dialect p.bytes r.judged → OpenedIn c plan s → OpenedIn c plan (taken_in plan s kept r)
-taken_opened c plan s None r p j h = h
-taken_opened c plan s (Some ss) r p j h = judged_opened c plan s ss p.dialect p.bytes r.judged r.shown j
+taken_opened : (c : Codecs) (plan : PostPlan) (s : State) (kept : Option Session) (r : Reading) (p : Payload) → Judges c plan.dialects.items p.dialect p.bytes r.judged → UnliveAt s r.judged → OpenedIn c plan s → OpenedIn c plan (taken_in plan s kept r)
+taken_opened c plan s None r p j u h = h
+taken_opened c plan s (Some ss) r p j u h = judged_opened c plan s ss p.dialect p.bytes r.judged r.shown j u
 
-read_opened : (c : Codecs) (plan : PostPlan) (S : ℕ → ℕ → Type 0) (s : State) (w : Option Payload) (r : Option Reading) → IsRead c plan S s w r → OpenedIn c plan s → OpenedIn c plan (read plan s r)
-read_opened c plan S s w None i h = h
-read_opened c plan S s None (Some r) i h = absurd i
-read_opened c plan S s (Some p) (Some r) i h = taken_opened c plan s s.session r p i.0 h
+not_true : (b : Bool) → (b ≡ true → ⊥) → b ≡ false
+not_true true n = absurd (n refl)
+not_true false n = refl
 
-filled_opened : (c : Codecs) (plan : PostPlan) (S : ℕ → ℕ → Type 0) (s : State) (r : Option Reading) → IsRead c plan S (decided plan s) (wanted (decided plan s)) r → OpenedIn c plan s → OpenedIn c plan (filled plan r s)
-filled_opened c plan S s r i h = read_opened c plan S (decided plan s) (wanted (decided plan s)) r i (decided_opened c plan s h)
+unlive_at : (c : Codecs) (plan : PostPlan) (s : State) (kept : Option Session) (p : Payload) (w : Judged) → OpensSoon s → (decided plan s).session ≡ kept → WantedIn (decided plan s) kept p → Judges c plan.dialects.items p.dialect p.bytes w → UnliveAt (decided plan s) w
+unlive_at c plan s None p w o k i j chosen response e = absurd i
+unlive_at c plan s (Some ss) p w o k i j chosen response e =
+    not_true (decided plan s).live (λ l. negotiates_unlive c plan s ss i.0 p chosen response o k i.1 (subst (λ (x : Judged). Judges c plan.dialects.items p.dialect p.bytes x) e j) l)
+
+read_opened : (c : Codecs) (plan : PostPlan) (S : ℕ → ℕ → Type 0) (s : State) (w : Option Payload) (r : Option Reading) → wanted (decided plan s) ≡ w → IsRead c plan S (decided plan s) w r → OpensSoon s → OpenedIn c plan (decided plan s) → OpenedIn c plan (read plan (decided plan s) r)
+read_opened c plan S s w None e i o h = h
+read_opened c plan S s None (Some r) e i o h = absurd i
+read_opened c plan S s (Some p) (Some r) e i o h =
+    let t = decided plan s in
+    taken_opened c plan t t.session r p i.0 (unlive_at c plan s t.session p r.judged o refl (wanted_in t p e) i.0) h
+
+filled_opened : (c : Codecs) (plan : PostPlan) (S : ℕ → ℕ → Type 0) (s : State) (r : Option Reading) → IsRead c plan S (decided plan s) (wanted (decided plan s)) r → OpensSoon s → OpenedIn c plan s → OpenedIn c plan (filled plan r s)
+filled_opened c plan S s r i o h = read_opened c plan S s (wanted (decided plan s)) r refl i o (decided_opened c plan s h)
 
 -- an act
 fails : (c : Codecs) (plan : PostPlan) (e : Option EndCause) (kept : Option Session) (cause : EndCause) (live live' : Bool) → OpenedBy c plan (failing e kept cause live) live'
@@ -209,16 +214,16 @@ acted_opened c plan s (states.Give o) a taken f i h = subst (λ (x : Act). Opene
 acted_opened c plan s (states.Say spoken) a taken f i h = subst (λ (x : Act). OpenedIn c plan (acted x taken s)) (sym i.2) (spoken_opened c plan s taken)
 acted_opened c plan s (states.Finish cause) a taken f i h = subst (λ (x : Act). OpenedIn c plan (acted x taken s)) (sym i.0) tt
 
-steps_opened : (c : Codecs) (plan : PostPlan) (steps : List Step) → IsPostRun c plan steps → OpenedIn c plan (state plan steps)
-steps_opened c plan [] run = tt
-steps_opened c plan (Hears at e ∷ steps) run = tt
-steps_opened c plan (Does r a taken ∷ steps) (run, (limit, before, behind, acts)) =
-    acted_opened c plan (filled plan r (state plan steps)) acts.todo a taken acts.acts acts.done (filled_opened c plan (Shows limit before behind) (state plan steps) r acts.read (steps_opened c plan steps run))
+steps_opened : (c : Codecs) (plan : PostPlan) (steps : List Step) → ReadsBack c → IsPostRun c plan steps → OpenedIn c plan (state plan steps)
+steps_opened c plan [] back run = tt
+steps_opened c plan (Hears at e ∷ steps) back run = tt
+steps_opened c plan (Does r a taken ∷ steps) back (run, (limit, before, behind, acts)) =
+    acted_opened c plan (filled plan r (state plan steps)) acts.todo a taken acts.acts acts.done (filled_opened c plan (Shows limit before behind) (state plan steps) r acts.read (steps_open c plan steps back run) (steps_opened c plan steps back run))
 
 -- so what is sent while the contactor is live is of the OK class
-sent_ok : (c : Codecs) (plan : PostPlan) (spoken : Spoken) (bytes : List ℕ) → ReadsBack c → IsSpoken c spoken bytes → IsOkSpoken c plan spoken → IsOkReply c bytes ⊎ IsResponse c plan bytes
-sent_ok c plan (Response payload) bytes back i h = inr (record { heard = h.0; chosen = h.1; payload = payload; negotiates = h.2; bytes_are = i })
-sent_ok c plan (Said dialect reply) bytes back i h = inl (record { dialect = dialect; reply = read_back reply; payload = i.0; reads = back dialect reply i.0 i.1; ok = h; bytes_are = i.2 })
+sent_ok : (c : Codecs) (plan : PostPlan) (spoken : Spoken) (bytes : List ℕ) → ReadsBack c → IsSpoken c spoken bytes → IsOkSpoken c plan spoken → IsOkReply c bytes
+sent_ok c plan (Response payload) bytes back i h = absurd h
+sent_ok c plan (Said dialect reply) bytes back i h = record { dialect = dialect; reply = read_back reply; payload = i.0; reads = back dialect reply i.0 i.1; ok = h; bytes_are = i.2 }
 
 opened_ok : (c : Codecs) (plan : PostPlan) (o : Option Order) (reply : Option Spoken) (spoken : Spoken) (live : Bool) → reply ≡ Some spoken → o ≡ None → live ≡ true → Opened c plan o reply live → IsOkSpoken c plan spoken
 opened_ok c plan o None spoken live e n l h = cc
@@ -226,27 +231,27 @@ opened_ok c plan o (Some said) spoken live e n l (inl h) = let x : said ≡ spok
 opened_ok c plan o (Some said) spoken live e n l (inr (inl h)) = absurd (let x : None ≡ Some order.Open = sym n ∙ h in cc)
 opened_ok c plan o (Some said) spoken live e n l (inr (inr h)) = absurd (let x : true ≡ false = sym l ∙ h.1 in cc)
 
-act_opened : (c : Codecs) (plan : PostPlan) (past : List Seen) (s : State) (todo : states.Todo) (a : Act) (taken : Bool) → ReadsBack c → s.live ≡ live past → first s.agenda ≡ Some todo → IsDone c todo a taken → OpenedIn c plan s → RepliesOpened c plan a past
-act_opened c plan past s (states.Tell d) a taken back l f i h = subst (λ (x : Act). RepliesOpened c plan x past) (sym i) tt
-act_opened c plan past s (states.Give o) a taken back l f i h = subst (λ (x : Act). RepliesOpened c plan x past) (sym i) tt
+act_opened : (c : Codecs) (plan : PostPlan) (past : List Seen) (s : State) (todo : states.Todo) (a : Act) (taken : Bool) → ReadsBack c → s.live ≡ live past → first s.agenda ≡ Some todo → IsDone c todo a taken → OpenedIn c plan s → RepliesOpened c a past
+act_opened c plan past s (states.Tell d) a taken back l f i h = subst (λ (x : Act). RepliesOpened c x past) (sym i) tt
+act_opened c plan past s (states.Give o) a taken back l f i h = subst (λ (x : Act). RepliesOpened c x past) (sym i) tt
 act_opened c plan past s (states.Say spoken) a taken back l f i h =
-    subst (λ (x : Act). RepliesOpened c plan x past) (sym i.2) (λ on.
+    subst (λ (x : Act). RepliesOpened c x past) (sym i.2) (λ on.
     let e = say_is s.agenda.datagram s.agenda.order s.agenda.reply s.agenda.ending spoken f in
     sent_ok c plan spoken i.0 back i.1 (opened_ok c plan s.agenda.order s.agenda.reply spoken s.live e.0 e.1 (l ∙ on) h))
-act_opened c plan past s (states.Finish cause) a taken back l f i h = subst (λ (x : Act). RepliesOpened c plan x past) (sym i.0) tt
+act_opened c plan past s (states.Finish cause) a taken back l f i h = subst (λ (x : Act). RepliesOpened c x past) (sym i.0) tt
 
-steps_reply : (c : Codecs) (plan : PostPlan) (steps : List Step) → ReadsBack c → IsPostRun c plan steps → AreOpened c plan (map seen_of steps)
+steps_reply : (c : Codecs) (plan : PostPlan) (steps : List Step) → ReadsBack c → IsPostRun c plan steps → AreOpened c (map seen_of steps)
 steps_reply c plan [] back run = tt
 steps_reply c plan (Hears at e ∷ steps) back run = steps_reply c plan steps back run.0
 steps_reply c plan (Does r a taken ∷ steps) back (run, (limit, before, behind, acts)) =
     let s = state plan steps in (
       steps_reply c plan steps back run,
       act_opened c plan (map seen_of steps) (filled plan r s) acts.todo a taken back (filled_live plan r s ∙ (contactors_are_read plan steps).live_is) acts.acts acts.done
-          (filled_opened c plan (Shows limit before behind) s r acts.read (steps_opened c plan steps run)),
+          (filled_opened c plan (Shows limit before behind) s r acts.read (steps_open c plan steps back run) (steps_opened c plan steps back run)),
     )
 
 pub runs_reply_opened : (c : Codecs) → RunsReplyOpened c
 runs_reply_opened c site past posts before post behind back run is =
     let all = subst (ArePostsOf c past 1) is (run_posts c site past posts run) in
     let k = post_at c past (length before + 1) 1 before post behind refl all in
-    subst (AreOpened c post.plan) (sym k.seen_is) (steps_reply c post.plan post.steps back k.run)
+    subst (AreOpened c) (sym k.seen_is) (steps_reply c post.plan post.steps back k.run)

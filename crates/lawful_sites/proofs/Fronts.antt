@@ -1,11 +1,9 @@
 -- What holds behind the steps of a run holds behind each of them.
-use Rattle.std.proofs.Common.{suc, ℕ, List, [], ◌∷◌, ◌++◌, subst}
-use Rattle.charge_world.specs.declared.entry.Entry.{Entry}
+use Rattle.std.proofs.Common.{List, [], ◌∷◌, ◌++◌, subst}
 use Rattle.session_words.specs.declared.plan.PostPlan.{PostPlan}
 use Rattle.post_spec.specs.Codecs.{Codecs}
 use Rattle.post_spec.specs.Steps.{Step, Hears, Does}
-use Rattle.station_spec.specs.Sharing.{Post}
-use Rattle.station_laws.specs.PostRuns.{IsPostRun, ArePostsOf}
+use Rattle.station_laws.specs.PostRuns.{IsPostRun}
 use Rattle.read_agendas.specs.Left.{AgendasAreRead}
 use Rattle.read_streams.specs.Streams.{StreamsAreRead}
 use Rattle.lawful_sites.specs.Reading.{ReadsOff}
@@ -19,8 +17,3 @@ pub reads_off : (c : Codecs) (plan : PostPlan) (steps : List Step) → AgendasAr
 reads_off c plan steps agendas streams run newer front is =
     let r = front_steps c plan newer front (subst (λ (xs : List Step). IsPostRun c plan xs) is run) in
     record { left_is = agendas plan front r; stream_is = streams plan front r }
-
--- the run of a post that stands between others
-pub run_of : (c : Codecs) (past : List Entry) (k : ℕ) (before behind : List Post) (post : Post) → ArePostsOf c past k (before ++ post ∷ behind) → IsPostRun c post.plan post.steps
-run_of c past k [] behind post all = all.0.run
-run_of c past k (p ∷ before) behind post all = run_of c past (suc k) before behind post all.1

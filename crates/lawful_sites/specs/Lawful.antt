@@ -12,7 +12,7 @@ use Rattle.lawful_sites.specs.Posts.{IsLawfulPost}
 use Rattle.lawful_sites.specs.Whole.{IsLawfulWhole}
 
 -- The past is a list of blocks, a hearing and then what each post answers, part by part, up to where the run stops. Each post is safe, silent
--- without a session, and serves cars that conform; at every moment the watts that the posts were told, and those that the last replies of all
+-- without a session, and serves each session that conforms; at every moment the watts that the posts were told, and those that the last replies of all
 -- spell, stay within the limit; and where the run isn't cut, each post is served up to its end, and isolated
 pub record IsLawful (c : Codecs) (site : SitePlan) (past : List Entry) : Type 0 where
   pub blocks : List Entry

@@ -1,10 +1,8 @@
 -- What holds of every post of a site (IEC 61851-1, annex A; IEC 61851-23; ISO 15118-2:2014, sections 8.4, 8.7 and 8.8).
-use Rattle.std.specs.Prelude.{List}
+use Rattle.std.specs.Prelude.{◌≡◌, List, ◌++◌, map}
 use Rattle.session_words.specs.declared.plan.PostPlan.{PostPlan}
 use Rattle.post_spec.specs.Codecs.{Codecs}
-use Rattle.post_spec.specs.Steps.{Seen, Step}
-use Rattle.station_spec.specs.Acting.{state}
-use Rattle.station_spec.specs.Next.{IsQuiet}
+use Rattle.post_spec.specs.Steps.{Seen, Step, seen_of}
 use Rattle.silent_runs.specs.Silent.{IsSilent}
 use Rattle.safe_runs.specs.Closing.{ClosesMandated}
 use Rattle.safe_runs.specs.Opening.{OpensAgain, EndsOpen}
@@ -13,29 +11,26 @@ use Rattle.mandated_runs.specs.Holding.{HoldsMandated, IsHeldRightly}
 use Rattle.opened_causes.specs.Causing.{OpenAtCauses}
 use Rattle.standing_causes.specs.Standing.{OpenAtFirst}
 use Rattle.conforming_runs.specs.Conforming.{Conforming}
-use Rattle.served_sessions.specs.Serving.{AreServed, IsRested}
+use Rattle.served_sessions.specs.Serving.{IsWellServed}
 use Rattle.lawful_sites.specs.Reading.{ReadsOff}
-
--- Of a post whose sessions conform: each request is answered once, with a code of the OK class; the contactor is ordered closed in the
--- hearing of PowerDelivery Start, and its reply sent in the hearing of the feedback that confirms it; SessionStop alone ends a session. Where
--- the post has nothing left to do, no whole request is without its reply but the one whose reply waits for that feedback
-pub record IsWellServed (c : Codecs) (plan : PostPlan) (steps : List Step) (blocks : List Seen) : Type 0 where
-  pub served : AreServed c plan blocks
-  pub up_to_date : IsQuiet plan (state plan steps) → IsRested c plan blocks
 
 -- Of one post, whose entries behind the last hearing's answers are `blocks`, with the closing orders `past`:
 -- each Close is mandated, and the contactor is held closed only as mandated; a failed order is followed by an Open; at the end a live contactor
 -- is ordered open; while it is live no FAILED reply is sent; what ends a session opens it first, where it comes and wherever it stands
--- first; without a session nothing is sent; what it keeps is what its past tells; and where its sessions conform, it is served
+-- first; without a session nothing is sent; and what it keeps is what its past tells. Each session that conforms is served, whatever became
+-- of those before it: each request is answered once, with a code of the OK class; the contactor is ordered closed in the hearing of
+-- PowerDelivery Start, and its reply sent in the hearing of the feedback that confirms it; SessionStop alone ends the session. Where the post
+-- has nothing left to do, no whole request is without its reply but the one whose reply waits for that feedback
 pub record IsLawfulPost (c : Codecs) (plan : PostPlan) (steps : List Step) (blocks past : List Seen) : Type 0 where
+  pub seen_is : blocks ≡ map seen_of steps
   pub closes : ClosesMandated c plan blocks
   pub holds : HoldsMandated c plan past
   pub held : IsHeldRightly c plan past
   pub opens_again : OpensAgain blocks
   pub ends_open : EndsOpen past blocks
-  pub replies : AreOpened c plan blocks
+  pub replies : AreOpened c blocks
   pub causes : OpenAtCauses c plan steps
   pub stands : OpenAtFirst c plan steps
   pub silent : IsSilent blocks
   pub reads_off : ReadsOff plan steps
-  pub served : Conforming plan steps → IsWellServed c plan steps blocks
+  pub served : (newer front : List Step) → steps ≡ newer ++ front → Conforming plan front → IsWellServed c plan front

@@ -8,7 +8,7 @@ use Rattle.station_spec.specs.Sharing.{Post}
 use Rattle.station_spec.specs.Runs.{IsSiteRun}
 use Rattle.isolated_runs.specs.Isolated.{AreAlike}
 use Rattle.conforming_runs.specs.Conforming.{Conforming}
-use Rattle.served_sessions.specs.Serving.{AreServed, IsRested}
+use Rattle.served_sessions.specs.Serving.{AreServed, RestsIn}
 
 -- what post n did, whose part of the past is `past`, it does in each whole run of any site, whatever the other posts are and do there: where it
 -- has the same plan, hears the same at the same moments, and its outcomes and shown watts are the same as far as both have some
@@ -17,8 +17,8 @@ IsIsolated c n post past = (site : SitePlan) (others : List Entry) (run : IsSite
     (behind : List Post) → run.posts ≡ before ++ alike ∷ behind → n ≡ length before + 1
     → AreAlike post alike past (seen n others) → seen n others ≡ past
 
--- post n of a whole run, with the orders that close it: where its sessions conform, it is served up to the end; and it is isolated
+-- post n of a whole run, with the orders that close it: where its last session conforms, it is served up to the end; and it is isolated
 pub record IsLawfulWhole (c : Codecs) (n : ℕ) (post : Post) (past : List Seen) : Type 0 where
   pub served : Conforming post.plan post.steps → AreServed c post.plan past
-  pub up_to_date : Conforming post.plan post.steps → IsRested c post.plan past
+  pub up_to_date : Conforming post.plan post.steps → RestsIn c post.plan past
   pub isolated : IsIsolated c n post past

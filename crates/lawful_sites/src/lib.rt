@@ -1,9 +1,9 @@
 //! A site whose codecs read back what they write is served lawfully: safe, within its limit, and silent without a session. It serves the
 //! cars that conform, and isolates its posts.
 //!
-//! Proved: `serve`, with codecs that are lawful: the past besides is lawful (`IsLawful`): safe, within the limit
-//! at every moment, silent without a session, a list of blocks, and told by what each post keeps; it serves the cars that conform, and isolates
-//! the posts where the run is whole; `law_of_sites`: so is every run of a site, whole or cut.
+//! Proved: `serve`, with codecs that are lawful: the past besides is lawful (`IsLawful`): safe, within the limit at every moment, silent
+//! without a session, a list of blocks, and told by what each post keeps; it serves each session that conforms, and isolates the posts where
+//! the run is whole; `law_of_sites`: so is every run of a site, whole or cut.
 #![tactic(auto)]
 
 ghost use Rattle.std.specs.Prelude.{◌≡◌, ◌≤◌, ◌<◌, List, [], vec_len};
@@ -33,8 +33,8 @@ use standing_causes::opens_where_causes_stand;
 use station_laws::{runs_of_posts, told_within_limit};
 use word_codec::LawfulCodec;
 
-/// Every run of a site, whole or cut, is lawful: safe, within its limit at every moment, silent without a session, and a list of blocks. A post
-/// whose sessions conform is served, and a whole run isolates each post from the others.
+/// Every run of a site, whole or cut, is lawful: safe, within its limit at every moment, silent without a session, and a list of blocks. Each
+/// session that conforms is served, and a whole run isolates each post from the others.
 pub fn law_of_sites<C: LawfulCodec>()
     ensures { (plan : SitePlan) (past : List Entry) → IsCutRun (codecs C.negotiates C.reads C.encodes) plan past → IsLawful (codecs C.negotiates C.reads C.encodes) plan past }
 {

@@ -10,7 +10,7 @@ use Rattle.session_rules.specs.Finishing.{is_ac}
 use Rattle.session_rules.specs.Stages.{is_waiting}
 use Rattle.post_spec.specs.Codecs.{Codecs}
 use Rattle.post_spec.specs.Contactors.{live}
-use Rattle.post_spec.specs.Mandated.{before_close, Mandated}
+use Rattle.post_spec.specs.Mandated.{before_close, IsStarting}
 use Rattle.post_spec.specs.Checked.{IsChecked}
 use Rattle.post_spec.specs.Sessions.{session, waits}
 use Rattle.post_spec.specs.Spelled.{ReadsBack}
@@ -21,6 +21,7 @@ use Rattle.station_spec.specs.Next.{IsQuiet}
 use Rattle.station_spec.specs.Runs.{AreQuiet}
 use Rattle.station_laws.specs.PostRuns.{IsPostRun, ArePostsOf}
 use Rattle.station_laws.proofs.PostRuns.{run_posts, post_at, quiet_at}
+use Rattle.safe_runs.specs.Started.{MandatedByOwn}
 use Rattle.safe_runs.proofs.Links.{Delivers, Pending, Waits, Link, Tie}
 use Rattle.safe_runs.proofs.Openings.{runs_end_open}
 use Rattle.safe_runs.proofs.Rows.{PowerOf, is_charging}
@@ -46,45 +47,53 @@ judged_then false past e = cc
 
 -- the row says how far the session is
 mandated_by : (c : Codecs) (plan : PostPlan) (past es : List Seen) (stage : Stage) (unread : List ℕ) (b : Bool) → session past ≡ Some es → is_delivering stage.row ≡ true → is_waiting stage.row ≡ b → (b ≡ true → waits es ≡ true)
-    → (l : Link c plan past es stage unread None None (Unit {0})) → MatchBool b (Waits c plan past es l.xs l.taken stage None (Unit {0})) (Pending c plan past es l.xs l.taken stage None None (Unit {0})) → Mandated c plan past
-mandated_by c plan past es stage unread true here d w u l t = record {
-  es = es;
-  session_is = here;
-  xs = l.xs;
-  talks = l.talks;
-  ok = l.ok;
-  earlier = l.xs;
-  judged = before_close past;
-  starts = inl (record {
-    spoken = stage.dialect;
-    payload = t.asks.payload;
-    request = t.request;
-    dialect_is = t.asks.dialect_is;
-    next = t.asks.place;
-    request_is = t.asks.reads;
-    start = t.start;
-    earlier_is = refl;
-    judged_is = judged_then (waits es) past (u refl);
-  });
-  prepared = t.prepared;
-  checked = checks (IsChecked past l.xs) stage.row (is_ac plan.mode) d t.rowed.power (t.checked tt);
-  ready = t.ready (u refl);
-}
+    → (l : Link c plan past es stage unread None None (Unit {0})) → MatchBool b (Waits c plan past es l.xs l.taken stage None (Unit {0})) (Pending c plan past es l.xs l.taken stage None None (Unit {0})) → MandatedByOwn c plan past
+mandated_by c plan past es stage unread true here d w u l t =
+    let starting : IsStarting c past es l.xs l.xs (before_close past) = record {
+      spoken = stage.dialect;
+      payload = t.asks.payload;
+      request = t.request;
+      dialect_is = t.asks.dialect_is;
+      next = t.asks.place;
+      request_is = t.asks.reads;
+      start = t.start;
+      earlier_is = refl;
+      judged_is = judged_then (waits es) past (u refl);
+    } in
+    record {
+      mandated = record {
+        es = es;
+        session_is = here;
+        xs = l.xs;
+        talks = l.talks;
+        ok = l.ok;
+        earlier = l.xs;
+        judged = before_close past;
+        starts = inl starting;
+        prepared = t.prepared;
+        checked = checks (IsChecked past l.xs) stage.row (is_ac plan.mode) d t.rowed.power (t.checked tt);
+        ready = t.ready (u refl);
+      };
+      own = inl starting;
+    }
 mandated_by c plan past es stage unread false here d w u l t =
     let r = t.1 in
     let k = charged (Delivers plan past (needs_isolation stage.row) l.xs (Unit {0})) (is_charging stage.row) (delivering_charges stage.row d w) r.delivers in
     record {
-      es = es;
-      session_is = here;
-      xs = l.xs;
-      talks = l.talks;
-      ok = l.ok;
-      earlier = k.earlier;
-      judged = k.judged;
-      starts = inr k.started;
-      prepared = k.prepared;
-      checked = checks (IsChecked past k.earlier) stage.row (is_ac plan.mode) d r.power (k.checked tt);
-      ready = k.ready;
+      mandated = record {
+        es = es;
+        session_is = here;
+        xs = l.xs;
+        talks = l.talks;
+        ok = l.ok;
+        earlier = k.earlier;
+        judged = k.judged;
+        starts = inr k.started;
+        prepared = k.prepared;
+        checked = checks (IsChecked past k.earlier) stage.row (is_ac plan.mode) d r.power (k.checked tt);
+        ready = k.ready;
+      };
+      own = inr (record { started = k.started; closed = k.own });
     }
 
 tie_of : (c : Codecs) (plan : PostPlan) (past : List Seen) (es : Option (List Seen)) (kept : Option Session) (ss : Session) → kept ≡ Some ss → Tie c plan past None es kept None None (Unit {0})

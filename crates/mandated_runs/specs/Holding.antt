@@ -8,11 +8,11 @@ use Rattle.session_words.specs.declared.plan.PostPlan.{PostPlan}
 use Rattle.session_words.specs.declared.plan.SitePlan.{SitePlan}
 use Rattle.post_spec.specs.Codecs.{Codecs}
 use Rattle.post_spec.specs.Contactors.{closed}
-use Rattle.post_spec.specs.Mandated.{Mandated}
 use Rattle.post_spec.specs.Spelled.{ReadsBack}
 use Rattle.post_spec.specs.Steps.{Give, Seen, Heard, Did, seen}
 use Rattle.station_spec.specs.Sharing.{Post}
 use Rattle.station_spec.specs.Runs.{IsRun, AreQuiet, Closes}
+use Rattle.safe_runs.specs.Started.{MandatedByOwn}
 
 -- an order to open failed, behind which no Close was taken: it came after the last one
 pub record CouldNotOpen (past : List Seen) : Type 0 where
@@ -23,7 +23,7 @@ pub record CouldNotOpen (past : List Seen) : Type 0 where
 
 -- where the contactor is closed, the last order of the two that was taken being Close
 abbrev pub IsHeldRightly : Codecs → PostPlan → List Seen → Type 0
-IsHeldRightly c plan past = closed past ≡ true → Mandated c plan past ⊎ CouldNotOpen past
+IsHeldRightly c plan past = closed past ≡ true → MandatedByOwn c plan past ⊎ CouldNotOpen past
 
 -- behind each block: a hearing ends the one before it
 abbrev pub HoldsMandated : Codecs → PostPlan → List Seen → Type 0

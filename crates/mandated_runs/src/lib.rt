@@ -1,8 +1,8 @@
 //! Behind every block of a run a contactor that is closed is mandated to be, or couldn't be opened.
 //!
-//! Proved: `holds_as_mandated`: behind every block of every run, a contactor whose last taken order is Close is still mandated to be
-//! closed, or an order to open that came after that Close failed; `ends_as_mandated`: so at the end of a run, whole or cut, with its
-//! closing orders; where encoded replies read back.
+//! Proved: `holds_as_mandated`: behind every block of every run, a contactor whose last taken order is Close is still mandated to be closed, by
+//! a PowerDelivery Start that has its own Close, or an order to open that came after that Close failed; `ends_as_mandated`: so at the end of a
+//! run, whole or cut, with its closing orders; where encoded replies read back.
 #![tactic(auto)]
 
 ghost use Rattle.post_spec.specs.Codecs.{codecs};

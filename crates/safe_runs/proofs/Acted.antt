@@ -104,7 +104,7 @@ checked_more true past x xs s k = record {
 
 delivers_more : (plan : PostPlan) (past : List Seen) (x : Seen) (n : Bool) (xs : List Exchange) (V W : Type 0) → (W → V) → (W → StaysValid x) → Delivers plan past n xs V → Delivers plan (x ∷ past) n xs W
 delivers_more plan past x n xs V W f s k =
-    record { earlier = k.earlier; judged = k.judged; started = k.started; prepared = k.prepared; checked = λ w. checked_more n past x k.earlier (s w) (k.checked (f w)); ready = k.ready }
+    record { earlier = k.earlier; judged = k.judged; started = k.started; prepared = k.prepared; checked = λ w. checked_more n past x k.earlier (s w) (k.checked (f w)); ready = k.ready; own = k.own }
 
 pub delivers_in_more : (b : Bool) (plan : PostPlan) (past : List Seen) (x : Seen) (n : Bool) (xs : List Exchange) (V W : Type 0) → (W → V) → (W → StaysValid x) → MatchBool b (Delivers plan past n xs V) (Unit {0}) → MatchBool b (Delivers plan (x ∷ past) n xs W) (Unit {0})
 delivers_in_more true plan past x n xs V W f s k = delivers_more plan past x n xs V W f s k
@@ -325,19 +325,21 @@ delivers_by true plan past x n r reply xs V s h =
       prepared = k.prepared;
       checked = k.checked;
       ready = k.ready;
+      own = k.own;
     }
 
 -- the reply to PowerDelivery Start
-delivers_from : (c : Codecs) (plan : PostPlan) (past es : List Seen) (xs : List Exchange) (taken : ℕ) (stage : Stage) (reply : Option Spoken) (x : Seen) (told : Reply) (n b : Bool) (V : Type 0) → needs_isolation stage.row ≡ n → waits es ≡ true → StaysValid x
+delivers_from : (c : Codecs) (plan : PostPlan) (past es : List Seen) (xs : List Exchange) (taken : ℕ) (stage : Stage) (reply : Option Spoken) (x : Seen) (told : Reply) (n b : Bool) (V : Type 0) → needs_isolation stage.row ≡ n → session past ≡ Some es → waits es ≡ true → StaysValid x
     → (t : Waits c plan past es xs taken stage reply V) → MatchBool b (Delivers plan (x ∷ past) n (Answered t.request told past ∷ xs) V) (Unit {0})
-delivers_from c plan past es xs taken stage reply x told n false V e w s t = tt
-delivers_from c plan past es xs taken stage reply x told n true V e w s t = record {
+delivers_from c plan past es xs taken stage reply x told n false V e here w s t = tt
+delivers_from c plan past es xs taken stage reply x told n true V e here w s t = record {
   earlier = xs;
   judged = before_close past;
   started = record { behind = []; request = t.request; reply = told; before = past; xs_are = refl; start = t.start; goes_on = tt; judged_is = refl };
   prepared = t.prepared;
   checked = λ v. checked_more n past x xs s (subst (λ (m : Bool). MatchBool m (IsChecked past xs) (Unit {0})) e (t.checked v));
   ready = t.ready w;
+  own = record { es = es; session_is = here; waited = w };
 }
 
 -- what is said, and what the session is behind it
@@ -382,10 +384,10 @@ pending_said c plan past es xs bytes stage taken (Said d reply) V back w s (coun
       rowed = subst (λ (t : Stage). Rowed plan (Did (Send bytes) true ∷ past) t (x ∷ xs) V) (sym (stage_stays stage w)) rowed;
     }
 
-waiting_said : (c : Codecs) (plan : PostPlan) (past es : List Seen) (xs : List Exchange) (bytes : List ℕ) (stage : Stage) (taken : ℕ) (spoken : Spoken) (V : Type 0) → ReadsBack c → is_waiting stage.row ≡ true → waits es ≡ true → IsSpoken c spoken bytes
+waiting_said : (c : Codecs) (plan : PostPlan) (past es : List Seen) (xs : List Exchange) (bytes : List ℕ) (stage : Stage) (taken : ℕ) (spoken : Spoken) (V : Type 0) → ReadsBack c → is_waiting stage.row ≡ true → session past ≡ Some es → waits es ≡ true → IsSpoken c spoken bytes
     → Waits c plan past es xs taken stage (Some spoken) V → Saying c plan past es xs bytes stage taken V
-waiting_said c plan past es xs bytes stage taken (Response response) V back w u s t = absurd t.ok
-waiting_said c plan past es xs bytes stage taken (Said d reply) V back w u s t =
+waiting_said c plan past es xs bytes stage taken (Response response) V back w here u s t = absurd t.ok
+waiting_said c plan past es xs bytes stage taken (Said d reply) V back w here u s t =
     let r = t.request in
     let x : Exchange = Answered r (read_back reply) past in
     let f = start_asks r.ask (read_back reply).tell (pre_charge_off xs) t.start in
@@ -403,14 +405,14 @@ waiting_said c plan past es xs bytes stage taken (Said d reply) V back w u s t =
         dialect = t.rowed.dialect ∙ sym (k.talks stage.dialect);
         off = f.2 ∙ t.rowed.off;
         cabled = λ v. subst (λ (b : Bool). MatchBool b (Cabled (Did (Send bytes) true ∷ past) (x ∷ xs)) (Unit {0})) (sym k.needs) (cabled_over (needs_isolation stage.row) past (Did (Send bytes) true) x xs tt f.1 (t.rowed.cabled v));
-        delivers = delivers_from c plan past es xs taken stage (Some (Said d reply)) (Did (Send bytes) true) (read_back reply) (needs_isolation (confirmed_row stage.row)) (is_charging (confirmed_row stage.row)) V (sym k.needs) u tt t;
+        delivers = delivers_from c plan past es xs taken stage (Some (Said d reply)) (Did (Send bytes) true) (read_back reply) (needs_isolation (confirmed_row stage.row)) (is_charging (confirmed_row stage.row)) V (sym k.needs) here u tt t;
       };
     }
 
-either_said : (c : Codecs) (plan : PostPlan) (past es : List Seen) (xs : List Exchange) (bytes : List ℕ) (stage : Stage) (taken : ℕ) (spoken : Spoken) (V : Type 0) (b : Bool) → is_waiting stage.row ≡ b → (is_waiting stage.row ≡ true → waits es ≡ true) → ReadsBack c → IsSpoken c spoken bytes
+either_said : (c : Codecs) (plan : PostPlan) (past es : List Seen) (xs : List Exchange) (bytes : List ℕ) (stage : Stage) (taken : ℕ) (spoken : Spoken) (V : Type 0) (b : Bool) → is_waiting stage.row ≡ b → session past ≡ Some es → (is_waiting stage.row ≡ true → waits es ≡ true) → ReadsBack c → IsSpoken c spoken bytes
     → MatchBool b (Waits c plan past es xs taken stage (Some spoken) V) (Pending c plan past es xs taken stage (Some spoken) None V) → Saying c plan past es xs bytes stage taken V
-either_said c plan past es xs bytes stage taken spoken V true w u back s t = waiting_said c plan past es xs bytes stage taken spoken V back w (u w) s t
-either_said c plan past es xs bytes stage taken spoken V false w u back s t = pending_said c plan past es xs bytes stage taken spoken V back w s t
+either_said c plan past es xs bytes stage taken spoken V true w here u back s t = waiting_said c plan past es xs bytes stage taken spoken V back w here (u w) s t
+either_said c plan past es xs bytes stage taken spoken V false w here u back s t = pending_said c plan past es xs bytes stage taken spoken V back w s t
 
 talk_said : (c : Codecs) (plan : PostPlan) (past es : List Seen) (xs : List Exchange) (stage : Stage) (taken : ℕ) (V : Type 0) (b : Bool) → b ≡ false → taken ≡ length xs → Rowed plan past stage xs V
     → MatchBool b (Waits c plan past es xs taken stage None V) (Pending c plan past es xs taken stage None None V)
@@ -420,7 +422,7 @@ talk_said c plan past es xs stage taken V false w n r = (n, r)
 link_said : (c : Codecs) (plan : PostPlan) (past es : List Seen) (bytes : List ℕ) (stage : Stage) (unread : List ℕ) (spoken : Spoken) (V : Type 0) → ReadsBack c → (is_waiting stage.row ≡ true → waits es ≡ true) → session past ≡ Some es → IsSpoken c spoken bytes
     → Link c plan past es stage unread (Some spoken) None V → Link c plan (Did (Send bytes) true ∷ past) (Did (Send bytes) true ∷ es) (confirmed stage) unread None None V
 link_said c plan past es bytes stage unread spoken V back u here s l =
-    let y = either_said c plan past es l.xs bytes stage l.taken spoken V (is_waiting stage.row) refl u back s l.talk in
+    let y = either_said c plan past es l.xs bytes stage l.taken spoken V (is_waiting stage.row) refl here u back s l.talk in
     record {
       xs = y.x ∷ l.xs;
       talks = subst (λ (o : Option (List Seen)). InSession o (λ zs. OneMore c plan.dialects.items zs past bytes (Talks c plan.dialects.items past) (y.x ∷ l.xs)) (y.x ∷ l.xs ≡ [])) (sym here)

@@ -24,7 +24,7 @@ use Rattle.post_spec.specs.Facts.{told_by, isolation_in, pilot, isolation}
 use Rattle.post_spec.specs.Kinds.{is_of, any, says_finished, asks_cable_check, asks_start, asks_opening}
 use Rattle.post_spec.specs.Prepared.{HasNo, IsPrepared}
 use Rattle.post_spec.specs.Checked.{IsChecked, IsValidIfTold, StaysValid, pre_charge_off}
-use Rattle.post_spec.specs.Mandated.{IsStarted, before_close, Mandated}
+use Rattle.post_spec.specs.Mandated.{IsStarted, before_close}
 use Rattle.post_spec.specs.Sessions.{arriving, session, stream, waits}
 use Rattle.post_spec.specs.Spelled.{read_back}
 use Rattle.post_spec.specs.Steps.{Event, Seen}
@@ -32,6 +32,7 @@ use Rattle.post_spec.specs.Talk.{Exchange, Negotiation, Answered, dialect_of, Ta
 use Rattle.post_spec.specs.Words.{IsPayloadAt}
 use Rattle.station_spec.specs.States.{Spoken, Response, Said, Agenda, Part, Repeating, Timing, Eventing, Wording, Session, State, nothing}
 use Rattle.station_spec.specs.Judging.{speaks}
+use Rattle.safe_runs.specs.Started.{IsBehindClose, MandatedByOwn}
 use Rattle.safe_runs.proofs.Growth.{AreWhole}
 use Rattle.safe_runs.proofs.Rows.{RowHas, PowerOf, is_charging}
 
@@ -68,6 +69,7 @@ pub record Delivers (plan : PostPlan) (past : List Seen) (needs : Bool) (xs : Li
   pub prepared : IsPrepared (is_ac plan.mode) earlier
   pub checked : valid → MatchBool needs (IsChecked past earlier) (Unit {0})
   pub ready : is_ready (pilot judged) ≡ true
+  pub own : IsBehindClose started.before
 
 -- the exchanges of a session in its stage
 pub record Rowed (plan : PostPlan) (past : List Seen) (stage : Stage) (xs : List Exchange) (valid : Type 0) : Type 0 where
@@ -169,7 +171,7 @@ pub record LinkedAt (c : Codecs) (plan : PostPlan) (past : List Seen) (arrived :
   pub pilot_is : pilot past ≡ facts.pilot
   pub isolation_is : isolation past ≡ facts.isolation
   pub tie : Tie c plan past agenda.ending (session past) kept agenda.reply agenda.behind_reply valid
-  pub closing : agenda.order ≡ Some order.Close → (agenda.datagram ≡ None) × Mandated c plan past × IsWaitingIn kept × (is_ready (pilot past) ≡ true)
+  pub closing : agenda.order ≡ Some order.Close → (agenda.datagram ≡ None) × MandatedByOwn c plan past × IsWaitingIn kept × (is_ready (pilot past) ≡ true)
 
 abbrev pub Linked : Codecs → PostPlan → List Seen → State → Type 0
 Linked c plan past s = LinkedAt c plan past s.arrived s.facts s.session s.agenda (Premise s.part s.event)

@@ -35,7 +35,7 @@ cabled_as false V W C n e f g w = rw e tt
 
 delivers_as : (V W : Type 0) (plan : PostPlan) (past : List Seen) (b n : Bool) (xs : List Exchange) → (n ≡ true → W → V) → MatchBool b (Delivers plan past n xs V) (Unit {0}) → MatchBool b (Delivers plan past n xs W) (Unit {0})
 delivers_as V W plan past true n xs f k =
-    record { earlier = k.earlier; judged = k.judged; started = k.started; prepared = k.prepared; checked = cabled_as n V W (IsChecked past k.earlier) n refl f k.checked; ready = k.ready }
+    record { earlier = k.earlier; judged = k.judged; started = k.started; prepared = k.prepared; checked = cabled_as n V W (IsChecked past k.earlier) n refl f k.checked; ready = k.ready; own = k.own }
 delivers_as V W plan past false n xs f k = tt
 
 rowed_as : (plan : PostPlan) (V W : Type 0) (past : List Seen) (ss : Session) (xs : List Exchange) → (needs_isolation ss.stage.row ≡ true → W → V) → Rowed plan past ss.stage xs V → Rowed plan past ss.stage xs W

@@ -28,7 +28,7 @@ use Rattle.session_rules.specs.Stages.{is_waiting}
 use Rattle.session_rules.specs.Verdict.{verdict, is_accepted, is_misnamed, accepting_code}
 use Rattle.post_spec.specs.Codecs.{Negotiated, Codecs}
 use Rattle.post_spec.specs.Facts.{pilot, isolation}
-use Rattle.post_spec.specs.Mandated.{before_close, IsStarting, Mandated}
+use Rattle.post_spec.specs.Mandated.{before_close, IsStarting}
 use Rattle.post_spec.specs.Checked.{pre_charge_off, IsChecked}
 use Rattle.post_spec.specs.Sessions.{session, stream, waits}
 use Rattle.post_spec.specs.Spelled.{read_back}
@@ -38,6 +38,7 @@ use Rattle.post_spec.specs.Words.{IsPayloadAt}
 use Rattle.station_spec.specs.States.{Spoken, Response, Said}
 use Rattle.station_spec.specs.Judging.{speaks, speaks_in, chosen_stage, unmatched}
 use Rattle.std.specs.Prelude.{ℤ}
+use Rattle.safe_runs.specs.Started.{MandatedByOwn}
 use Rattle.safe_runs.proofs.Asked.{ok_class, row_takes, says, off_step, cable_valid}
 use Rattle.safe_runs.proofs.Links.{Cabled, Delivers, Rowed, CabledThen, DeliversThen, RowedThen, Asks, Pending, Waits, Link}
 use Rattle.safe_runs.proofs.Rows.{IsPlain, RowHas, is_charging, row_step, start_step}
@@ -136,7 +137,7 @@ plain_link c plan past es stage unread facts name a shown n d l f w reads sp iso
 
 -- PowerDelivery Start: it is mandated, and its reply waits
 pub record Started (c : Codecs) (plan : PostPlan) (past es : List Seen) (next stage : Stage) (unread : List ℕ) : Type 0 where
-  pub mandated : Mandated c plan past
+  pub mandated : MandatedByOwn c plan past
   pub waiting : is_waiting next.row ≡ true
   pub ready : is_ready (pilot past) ≡ true
   pub link : Link c plan past es next (behind_front unread) None None (Unit {0})
@@ -231,17 +232,20 @@ start_link c plan past es stage unread facts name tuple profile shown n d l f he
     } in
     record {
       mandated = record {
-        es = es;
-        session_is = here;
-        xs = l.xs;
-        talks = l.talks;
-        ok = l.ok;
-        earlier = l.xs;
-        judged = past;
-        starts = inl starts;
-        prepared = step.prepared;
-        checked = checks;
-        ready = ap is_ready pil ∙ met.0;
+        mandated = record {
+          es = es;
+          session_is = here;
+          xs = l.xs;
+          talks = l.talks;
+          ok = l.ok;
+          earlier = l.xs;
+          judged = past;
+          starts = inl starts;
+          prepared = step.prepared;
+          checked = checks;
+          ready = ap is_ready pil ∙ met.0;
+        };
+        own = inl starts;
       };
       waiting = step.waits;
       ready = ap is_ready pil ∙ met.0;

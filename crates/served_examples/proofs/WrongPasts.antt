@@ -19,9 +19,9 @@ use Rattle.post_spec.specs.Words.{IsPayloadAt}
 use Rattle.read_runs.proofs.Counting.{counted}
 use Rattle.station_examples.specs.Fixtures.{ac_post}
 use Rattle.post_spec.specs.Kinds.{asks_start}
-use Rattle.served_sessions.specs.Answered.{IsStart}
+use Rattle.served_sessions.specs.Answered.{IsStart, answers_start}
 use Rattle.served_sessions.specs.Serving.{IsUpToDate}
-use Rattle.served_examples.specs.WrongPasts.{answered, asked, closing, IsFailed, FailedReply, NoReply, TwoReplies, LateClose, CloseForAnother, EarlyReply, LateReply, EarlyEnd}
+use Rattle.served_examples.specs.WrongPasts.{answered, asked, closing, IsFailed, FailedReply, NoReply, TwoReplies, LateClose, CloseForAnother, NeverCloses, EarlyReply, LateReply, EarlyEnd}
 
 -- two whole frames
 two_frames : Frames (frame (0 ∷ []) ++ frame (1 ∷ [])) ((0 ∷ []) ∷ (1 ∷ []) ∷ []) []
@@ -61,7 +61,7 @@ pub late_close : (c : Codecs) → LateClose c
 late_close c response s = no_reply c response s.0
 
 -- there is no third word
-no_third : (n : ℕ) (payload : List ℕ) → n ≡ 2 → IsPayloadAt (frame (0 ∷ []) ++ frame (1 ∷ [])) n payload → ⊥
+pub no_third : (n : ℕ) (payload : List ℕ) → n ≡ 2 → IsPayloadAt (frame (0 ∷ []) ++ frame (1 ∷ [])) n payload → ⊥
 no_third n payload e p =
     let none : whole_at (behind_frames 2 (frame (0 ∷ []) ++ frame (1 ∷ []))) ≡ Ok None =
     ap whole_at (last_rest (frame (0 ∷ []) ++ frame (1 ∷ [])) ((0 ∷ []) ∷ (1 ∷ []) ∷ []) [] two_frames) ∙ starts_read [] refl in
@@ -97,7 +97,26 @@ start_not c response es xs e n f s =
     let k = second_is (length xs) s.payload n at in
     f s.spoken s.request (subst (λ (p : List ℕ). c.Reads s.spoken p (Some (word.Request s.request))) k s.request_is) s.start
 
-session_as : (a b : List Seen) → Some a ≡ Some b → a ≡ b
+-- the reply to the second word, of which each reading is PowerDelivery Start
+starts_by : (c : Codecs) (heard bytes : List ℕ) (past : List Seen) (newest : Exchange) (earlier : List Exchange) → heard ≡ frame (0 ∷ []) ++ frame (1 ∷ []) → length earlier ≡ 1
+    → ((dialect : Dialect) (request : Request) → c.Reads dialect (1 ∷ []) (Some (word.Request request)) → asks_start request.ask ≡ true) → IsExchange c ac_post.dialects.items heard earlier bytes past newest → answers_start (newest ∷ earlier) ≡ true
+starts_by c heard bytes past newest [] h n f is = absurd (let x : 0 ≡ 1 = n in omega (arith, x))
+starts_by c heard bytes past (Negotiation chosen) (x ∷ xs) h n f is = absurd is
+starts_by c heard bytes past (Answered request reply before) (x ∷ xs) h n f is =
+    let at : IsPayloadAt (frame (0 ∷ []) ++ frame (1 ∷ [])) (length (x ∷ xs)) is.0.payload = subst (λ (bs : List ℕ). IsPayloadAt bs (length (x ∷ xs)) is.0.payload) h is.0.asked in
+    let k = second_is (length (x ∷ xs)) is.0.payload n at in
+    f is.0.spoken request (subst (λ (p : List ℕ). c.Reads is.0.spoken p (Some (word.Request request))) k is.0.request_is)
+
+pub never_closes : (c : Codecs) → NeverCloses c
+never_closes c response bytes f s =
+    let t = s.1.answered.talks in
+    let n = counted c ac_post.dialects.items (Did (Send bytes) true ∷ asked response) (Did (Send bytes) true ∷ asked response) s.1.xs refl t in
+    let l : length s.1.xs ≡ suc (length t.earlier) = ap length t.xs_are in
+    let m : 2 ≡ length s.1.xs = n in
+    let k = starts_by c (stream (asked response)) bytes (asked response) t.newest t.earlier refl (omega (arith, l, m)) f t.is in
+    s.1.awaited tt (ap answers_start t.xs_are ∙ k)
+
+pub session_as : (a b : List Seen) → Some a ≡ Some b → a ≡ b
 session_as a b h = cc
 
 pub close_for_another : (c : Codecs) → CloseForAnother c
@@ -119,12 +138,12 @@ pub late_reply : (c : Codecs) → LateReply c
 late_reply c response s = s.1.confirmed refl
 
 -- the first exchange is no SessionStop
-first_not : (c : Codecs) (heard bytes : List ℕ) (past : List Seen) (newest : Exchange) (earlier : List Exchange) (request : Request) (reply : Reply) (before : List Seen) → newest ≡ Answered request reply before → length earlier ≡ 0
+pub first_not : (c : Codecs) (heard bytes : List ℕ) (past : List Seen) (newest : Exchange) (earlier : List Exchange) (request : Request) (reply : Reply) (before : List Seen) → newest ≡ Answered request reply before → length earlier ≡ 0
     → IsExchange c ac_post.dialects.items heard earlier bytes past newest → ⊥
 first_not c heard bytes past newest [] request reply before e n is = subst (λ (x : Exchange). IsExchange c ac_post.dialects.items heard [] bytes past x) e is
 first_not c heard bytes past newest (x ∷ xs) request reply before e n is = absurd (let l : length (x ∷ xs) ≡ suc (length xs) = refl in omega (arith, n, l))
 
-head_is : (a b : Exchange) (xs ys : List Exchange) → a ∷ xs ≡ b ∷ ys → b ≡ a
+pub head_is : (a b : Exchange) (xs ys : List Exchange) → a ∷ xs ≡ b ∷ ys → b ≡ a
 head_is a b xs ys h = cc
 
 pub early_end : (c : Codecs) → EarlyEnd c

@@ -1,1 +1,3 @@
 pub mod WrongPasts
+pub mod OldClose
+pub mod LiveResponse

@@ -52,6 +52,13 @@ CloseForAnother c = (response : List ℕ)
     → asks_start request.ask ≡ true → ⊥)
     → Refuses c (Did (Give order.Close) true ∷ asked response)
 
+-- PowerDelivery Start is answered, and the contactor is never ordered closed
+abbrev pub NeverCloses : Codecs → Type 0
+NeverCloses c = (response bytes : List ℕ)
+    → ((dialect : Dialect) (request : Request) → c.Reads dialect (1 ∷ []) (Some (word.Request request))
+    → asks_start request.ask ≡ true)
+    → Refuses c (Did (Send bytes) true ∷ asked response)
+
 -- the reply is sent before the feedback, or not in its hearing
 abbrev pub closing : List ℕ → List Seen
 closing response = Did (Give order.Close) true ∷ asked response

@@ -1,11 +1,13 @@
 -- A word of a conforming car gives its session a cause only where it is SessionStop.
-use Rattle.std.proofs.Common.{◌≡◌, ◌≤◌, ℕ, Bool, true, false, if◌then◌else◌, List, length, map, Option, Some, None, is_some, unwrap_or, Ok, refl, sym, ap, subst, ◌∙◌, arith, inl}
+use Rattle.std.proofs.Common.{◌≡◌, ◌≤◌, ℕ, ℤ, Bool, true, false, if◌then◌else◌, List, length, map, Option, Some, None, is_some, unwrap_or, Ok, refl, sym, ap, subst, ◌∙◌, arith, inl}
 use Rattle.charge_world.specs.declared.offer.Dialect.{Dialect}
 use Rattle.charge_world.specs.declared.ports.Order.{Order}
 use Rattle.charge_world.specs.declared.ports.Order.TheVariants as order
 use Rattle.session_words.specs.declared.cause.EndCause.{EndCause}
 use Rattle.session_words.specs.declared.cause.EndCause.TheVariants.{Stopped, Paused}
+use Rattle.session_words.specs.declared.amount.Amount.{Amount}
 use Rattle.session_words.specs.declared.code.Code.{Code}
+use Rattle.session_words.specs.declared.code.Progress.TheVariants as progress
 use Rattle.session_words.specs.declared.facts.Facts.{Facts}
 use Rattle.session_words.specs.declared.phase.Phase.{Phase}
 use Rattle.session_words.specs.declared.phase.Phase.TheVariants as row
@@ -20,6 +22,7 @@ use Rattle.session_words.specs.declared.word.Word.TheVariants as word
 use Rattle.v2gtp_frames.specs.Reading.{whole_at, payload_at}
 use Rattle.session_rules.specs.declared.stage.Stage.{Stage}
 use Rattle.session_rules.specs.Causes.{found_by, word_cause}
+use Rattle.session_rules.specs.Finishing.{is_ac, is_finished}
 use Rattle.session_rules.specs.Moves.{stage_behind}
 use Rattle.session_rules.specs.Orders.{order_of}
 use Rattle.session_rules.specs.Reply.{reply_to}
@@ -28,6 +31,7 @@ use Rattle.session_rules.specs.Stages.{is_waiting}
 use Rattle.session_rules.specs.Verdict.{verdict, is_accepted}
 use Rattle.post_spec.specs.Codecs.{Judged, Negotiated, Asked, WrongSide, Refused, Codecs, Judges, judged_word}
 use Rattle.post_spec.specs.Course.{Talked, Course, course, facts_of}
+use Rattle.post_spec.specs.Kinds.{asks_start}
 use Rattle.post_spec.specs.Sessions.{session, stream, replies}
 use Rattle.post_spec.specs.Steps.{Seen, Reading, Step, seen_of}
 use Rattle.post_spec.specs.Words.{IsPayloadAt}
@@ -44,7 +48,7 @@ use Rattle.read_runs.specs.Courses.{talked_of, talked_in, IsCourse}
 use Rattle.read_runs.proofs.Agendas.{done_empty, IsWanted, WantedIn, wanted_in, wanted_done}
 use Rattle.conforming_runs.specs.Conforming as conforming
 use Rattle.conforming_runs.proofs.Accepted.{requests_are_accepted}
-use Rattle.served_sessions.proofs.Ready.{Owes, Stops, words_before, EarlyIn, Ready}
+use Rattle.served_sessions.proofs.Ready.{Owes, Stops, Other, Others, words_before, EarlyIn, Ready}
 
 none_close : None ≡ Some order.Close → ⊥
 none_close h = cc
@@ -53,7 +57,7 @@ none_close h = cc
 abbrev pub Read : Option (List Seen) → Type 0
 Read lives = (es : List Seen) → lives ≡ Some es → words_before es ≤ length (replies es)
 
-read_now : (c : Codecs) (plan : PostPlan) (past : List Seen) (t : State) (ss : Session) (n : ℕ) (p : Payload) → Ready c plan past t → IsWanted t ss n p → t.session ≡ Some ss → Read (session past)
+read_now : {Owed : Type 0} (c : Codecs) (plan : PostPlan) (past : List Seen) (t : State) (ss : Session) (n : ℕ) (p : Payload) → Ready c plan Owed past t → IsWanted t ss n p → t.session ≡ Some ss → Read (session past)
 read_now c plan past t ss n p r i k es l = (r.early es ss l k).free i.goes (done_empty t.agenda i.done).reply
 
 early_read : (lives : Option (List Seen)) (kept : Option Session) (a : Agenda) → Read lives → EarlyIn lives kept a
@@ -147,6 +151,49 @@ stops_asked c plan past t ss n p name a shown k l i j ok =
     let e = found_accepted (verdict ss.stage t.facts plan (record { session = name; ask = a })) a (λ h. h) ok in
     subst (λ (x : Option EndCause). Stops c plan past x (asked_agenda ss plan t (record { session = name; ask = a }) shown).reply) (sym e) tt
 
+-- a request whose reply doesn't wait
+
+start_waits : (here : Phase) (tuple : Option ℤ) (profile : Option Amount) (finished ac : Bool) → is_some (leads here (ask.PowerDelivery progress.Start tuple profile) true true) ≡ true
+    → is_waiting (unwrap_or (leads here (ask.PowerDelivery progress.Start tuple profile) finished ac) here) ≡ true
+start_waits row.DcPreCharging tuple profile finished ac h = refl
+start_waits row.AcReady tuple profile finished ac h = refl
+start_waits here tuple profile finished ac h = cc
+
+true_not : true ≡ false → ⊥
+true_not h = cc
+
+other_ask : (stage : Stage) (facts : Facts) (plan : PostPlan) (name : SessionId) (a : Ask) (shown : ℕ) → is_accepted (verdict stage facts plan (record { session = name; ask = a })) ≡ true
+    → is_waiting (stage_behind stage facts plan (record { session = name; ask = a }) shown).row ≡ false → asks_start a ≡ false
+other_ask stage facts plan name (ask.PowerDelivery progress.Start tuple profile) shown ok w =
+    let r : Request = record { session = name; ask = ask.PowerDelivery progress.Start tuple profile } in
+    let s = start_waits stage.row tuple profile (is_finished facts plan r.ask shown) (is_ac plan.mode) (row_takes stage facts plan r ok) in
+    let m : is_waiting (stage_behind stage facts plan r shown).row ≡ true = rw ok s in
+    absurd (true_not (sym m ∙ w))
+other_ask stage facts plan name a shown ok w = refl
+
+other_asked : (c : Codecs) (plan : PostPlan) (past : List Seen) (t : State) (ss : Session) (n : ℕ) (p : Payload) (name : SessionId) (a : Ask) (shown : ℕ) → t.session ≡ Some ss → Clear c plan past t → IsWanted t ss n p
+    → Judges c plan.dialects.items p.dialect p.bytes (Asked (record { session = name; ask = a })) → is_accepted (verdict ss.stage t.facts plan (record { session = name; ask = a })) ≡ true
+    → is_waiting (stage_behind ss.stage t.facts plan (record { session = name; ask = a }) shown).row ≡ false → Other c plan past ss.stage.dialect (reply_to ss.stage t.facts plan (record { session = name; ask = a }) shown)
+other_asked c plan past t ss n p name a shown k l i j ok w =
+    let r : Request = record { session = name; ask = a } in
+    let m = link_in c plan past (session past) t.session ss k l.tie in
+    let f = free c plan past m.0 ss.stage ss.unread m.2 i.goes in
+    record {
+      es = m.0;
+      session_is = m.1;
+      xs = m.2.xs;
+      answered = record { talks = m.2.talks; ok = m.2.ok };
+      request = r;
+      asks = asks_next c plan past m.0 t ss n p r m.2 f i j ok;
+      ok = ok_class (verdict ss.stage t.facts plan r) ok;
+      other = other_ask ss.stage t.facts plan name a shown ok w;
+    }
+
+others_if : (c : Codecs) (plan : PostPlan) (past : List Seen) (kept : Option Session) (b : Bool) (d : Dialect) (reply : Reply) → ((ss : Session) → kept ≡ Some ss → is_waiting ss.stage.row ≡ false → Other c plan past d reply)
+    → Others c plan past kept (if b then None else Some (Said d reply))
+others_if c plan past kept true d reply f = tt
+others_if c plan past kept false d reply f = f
+
 opens_not : (live : Bool) → opening_if live ≡ Some order.Close → ⊥
 opens_not true h = cc
 opens_not false h = cc
@@ -163,8 +210,8 @@ row_of : (ss ts : Session) (b : Bool) → Some ss ≡ Some ts → is_waiting ts.
 row_of ss ts b k w = let x : ss ≡ ts = cc in subst (λ (q : Session). is_waiting q.stage.row ≡ b) (sym x) w
 
 -- a word that was judged
-word_ready : (c : Codecs) (plan : PostPlan) (steps : List Step) (far : Course) (t : State) (ss : Session) (n : ℕ) (p : Payload) (w : Judged) (shown : ℕ) → Ready c plan (map seen_of steps) t → Clear c plan (map seen_of steps) t → IsWanted t ss n p → t.session ≡ Some ss
-    → Judges c plan.dialects.items p.dialect p.bytes w → conforming.IsWord plan steps far (talked_of ss) w → t.facts ≡ facts_of (map seen_of steps) far → Ready c plan (map seen_of steps) (judged plan t ss w shown)
+word_ready : {Owed : Type 0} (c : Codecs) (plan : PostPlan) (steps : List Step) (far : Course) (t : State) (ss : Session) (n : ℕ) (p : Payload) (w : Judged) (shown : ℕ) → Ready c plan Owed (map seen_of steps) t → Clear c plan (map seen_of steps) t → IsWanted t ss n p → t.session ≡ Some ss
+    → Judges c plan.dialects.items p.dialect p.bytes w → conforming.IsWord plan steps far (talked_of ss) w → t.facts ≡ facts_of (map seen_of steps) far → Ready c plan Owed (map seen_of steps) (judged plan t ss w shown)
 word_ready c plan steps far t ss n p (Negotiated None response) shown r l i k j conf f = absurd (let x : false ≡ true = conf in cc)
 word_ready c plan steps far t ss n p (Negotiated (Some dialect) response) shown r l i k j conf f =
     let past = map seen_of steps in
@@ -175,6 +222,7 @@ word_ready c plan steps far t ss n p (Negotiated (Some dialect) response) shown 
       opens = λ h. refl;
       worded = inl refl;
       unsaid = λ ts m w. absurd (let x = row_of _ ts true m w in let y : false ≡ true = x in cc);
+      others = tt;
       early = early_read (session past) u.session u.agenda (read_now c plan past t ss n p r i k);
     }
 word_ready c plan steps far t ss n p (Asked r) shown ready l i k j conf f =
@@ -187,6 +235,8 @@ word_ready c plan steps far t ss n p (Asked r) shown ready l i k j conf f =
       opens = λ h. opens_by (cause_by ss.stage plan t r) t.live (order_of ss.stage t.facts plan r shown) h;
       worded = inl refl;
       unsaid = λ ts m w. inl (unsaid_if (is_waiting (stage_behind ss.stage t.facts plan r shown).row) (Some (Said ss.stage.dialect (reply_to ss.stage t.facts plan r shown))) (row_of (asked_session ss plan t r shown) ts true m w));
+      others = others_if c plan past u.session (is_waiting (stage_behind ss.stage t.facts plan r shown).row) ss.stage.dialect (reply_to ss.stage t.facts plan r shown)
+          (λ ts m w. other_asked c plan past t ss n p r.session r.ask shown k l i j ok (row_of (asked_session ss plan t r shown) ts false m w));
       early = early_read (session past) u.session u.agenda (read_now c plan past t ss n p ready i k);
     }
 word_ready c plan steps far t ss n p WrongSide shown r l i k j conf f = absurd conf
@@ -196,24 +246,24 @@ conforming_word : (plan : PostPlan) (steps : List Step) (far : Course) (talked :
 conforming_word plan steps far None ss reading e h = cc
 conforming_word plan steps far (Some t) ss reading e h = let x : talked_of ss ≡ t = cc in subst (λ (y : Talked). conforming.IsWord plan steps far y reading.judged) (sym x) h
 
-taken_ready : (c : Codecs) (plan : PostPlan) (steps : List Step) (far : Course) (t : State) (kept : Option Session) (p : Payload) (reading : Reading) → Ready c plan (map seen_of steps) t → Clear c plan (map seen_of steps) t → WantedIn t kept p → t.session ≡ kept
+taken_ready : {Owed : Type 0} (c : Codecs) (plan : PostPlan) (steps : List Step) (far : Course) (t : State) (kept : Option Session) (p : Payload) (reading : Reading) → Ready c plan Owed (map seen_of steps) t → Clear c plan (map seen_of steps) t → WantedIn t kept p → t.session ≡ kept
     → Judges c plan.dialects.items p.dialect p.bytes reading.judged → talked_in kept ≡ far.session → conforming.IsRead plan steps far far.session (Some reading) → t.facts ≡ facts_of (map seen_of steps) far
-    → Ready c plan (map seen_of steps) (taken_in plan t kept reading)
+    → Ready c plan Owed (map seen_of steps) (taken_in plan t kept reading)
 taken_ready c plan steps far t None p reading r l i k j e conf f = absurd i
 taken_ready c plan steps far t (Some ss) p reading r l i k j e conf f =
     word_ready c plan steps far t ss i.0 p reading.judged reading.shown r l i.1 k j (conforming_word plan steps far far.session ss reading e conf) f
 
-read_ready : (c : Codecs) (plan : PostPlan) (S : ℕ → ℕ → Type 0) (steps : List Step) (far : Course) (t : State) (w : Option Payload) (reading : Option Reading) → wanted t ≡ w → IsRead c plan S t w reading → Ready c plan (map seen_of steps) t → Planned c plan (map seen_of steps) t
-    → talked_in t.session ≡ far.session → conforming.IsRead plan steps far far.session reading → t.facts ≡ facts_of (map seen_of steps) far → Ready c plan (map seen_of steps) (read plan t reading)
+read_ready : {Owed : Type 0} (c : Codecs) (plan : PostPlan) (S : ℕ → ℕ → Type 0) (steps : List Step) (far : Course) (t : State) (w : Option Payload) (reading : Option Reading) → wanted t ≡ w → IsRead c plan S t w reading → Ready c plan Owed (map seen_of steps) t → Planned c plan (map seen_of steps) t
+    → talked_in t.session ≡ far.session → conforming.IsRead plan steps far far.session reading → t.facts ≡ facts_of (map seen_of steps) far → Ready c plan Owed (map seen_of steps) (read plan t reading)
 read_ready c plan S steps far t w None e i r l k conf f = r
 read_ready c plan S steps far t None (Some reading) e i r l k conf f = absurd i
 read_ready c plan S steps far t (Some p) (Some reading) e i r l k conf f =
     let x = wanted_in t p e in
     taken_ready c plan steps far t t.session p reading r (l.clear (wanted_done t t.session p x)) x refl i.0 k conf f
 
-pub filled_ready : (c : Codecs) (plan : PostPlan) (S : ℕ → ℕ → Type 0) (steps : List Step) (reading : Option Reading) → IsRead c plan S (decided plan (state plan steps)) (wanted (decided plan (state plan steps))) reading
-    → Ready c plan (map seen_of steps) (decided plan (state plan steps)) → Planned c plan (map seen_of steps) (decided plan (state plan steps)) → IsCourse plan steps (state plan steps)
-    → conforming.IsRead plan steps (course plan steps) (course plan steps).session reading → Ready c plan (map seen_of steps) (filled plan reading (state plan steps))
+pub filled_ready : {Owed : Type 0} (c : Codecs) (plan : PostPlan) (S : ℕ → ℕ → Type 0) (steps : List Step) (reading : Option Reading) → IsRead c plan S (decided plan (state plan steps)) (wanted (decided plan (state plan steps))) reading
+    → Ready c plan Owed (map seen_of steps) (decided plan (state plan steps)) → Planned c plan (map seen_of steps) (decided plan (state plan steps)) → IsCourse plan steps (state plan steps)
+    → conforming.IsRead plan steps (course plan steps) (course plan steps).session reading → Ready c plan Owed (map seen_of steps) (filled plan reading (state plan steps))
 filled_ready c plan S steps reading i r l k conf =
     let s = state plan steps in
     read_ready c plan S steps (course plan steps) (decided plan s) (wanted (decided plan s)) reading refl i r l (ap talked_in (same_session plan s) ∙ k.session_is) conf (same_facts plan s ∙ k.facts_are)

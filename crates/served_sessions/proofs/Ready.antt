@@ -1,4 +1,4 @@
--- What holds of a post all of whose sessions conform: nothing but SessionStop gives a session a cause.
+-- What holds of a post in a session that conforms: nothing but SessionStop gives it a cause.
 use Rattle.std.proofs.Common.{◌≡◌, ◌≤◌, ℕ, ◌+◌, Bool, true, false, if◌then◌else◌, List, [], ◌∷◌, length, Option, Some, None, ◌⊎◌}
 use Rattle.charge_world.specs.declared.offer.Dialect.{Dialect}
 use Rattle.charge_world.specs.declared.ports.Order.{Order}
@@ -6,6 +6,7 @@ use Rattle.charge_world.specs.declared.ports.Order.TheVariants as order
 use Rattle.session_words.specs.declared.cause.EndCause.{EndCause}
 use Rattle.session_words.specs.declared.cause.EndCause.TheVariants.{Stopped, Paused}
 use Rattle.session_words.specs.declared.phase.Phase.{Phase}
+use Rattle.session_words.specs.declared.phase.Standing.TheVariants as stood
 use Rattle.session_words.specs.declared.plan.PostPlan.{PostPlan}
 use Rattle.session_words.specs.declared.word.Ask.TheVariants as ask
 use Rattle.session_words.specs.declared.word.Reply.{Reply}
@@ -13,10 +14,12 @@ use Rattle.session_words.specs.declared.word.Request.{Request}
 use Rattle.session_words.specs.Codes.{IsOkClass}
 use Rattle.session_rules.specs.Stages.{is_waiting}
 use Rattle.post_spec.specs.Codecs.{Codecs}
+use Rattle.post_spec.specs.Kinds.{asks_start}
 use Rattle.post_spec.specs.Sessions.{session, stream, replies, waits}
 use Rattle.post_spec.specs.Steps.{Seen, Heard, Did, Step, Hears, Does}
 use Rattle.post_spec.specs.Talk.{Exchange, Answered}
-use Rattle.station_spec.specs.States.{Spoken, Response, Said, Agenda, Part, Wording, Session, State, is_done}
+use Rattle.station_spec.specs.States.{Spoken, Response, Said, Agenda, Part, Wording, Session, State, nothing, is_done}
+use Rattle.station_spec.specs.Acting.{state}
 use Rattle.safe_runs.proofs.Links.{Asks}
 use Rattle.read_sessions.specs.Sessions.{words_read}
 use Rattle.served_sessions.specs.Answered.{IsAnswered, AwaitsReply}
@@ -52,6 +55,22 @@ Stops c plan past (Some k) None = Ends c plan past k
 Stops c plan past (Some k) (Some (Response payload)) = ⊥
 Stops c plan past (Some k) (Some (Said dialect reply)) = Owes c plan past k dialect reply
 
+-- a reply that doesn't wait answers another request than PowerDelivery Start
+pub record Other (c : Codecs) (plan : PostPlan) (past : List Seen) (dialect : Dialect) (reply : Reply) : Type 0 where
+  pub es : List Seen
+  pub session_is : session past ≡ Some es
+  pub xs : List Exchange
+  pub answered : IsAnswered c plan past xs
+  pub request : Request
+  pub asks : Asks c (stream es) xs request dialect
+  pub ok : IsOkClass reply.code
+  pub other : asks_start request.ask ≡ false
+
+abbrev pub Others : Codecs → PostPlan → List Seen → Option Session → Option Spoken → Type 0
+Others c plan past kept None = Unit {0}
+Others c plan past kept (Some (Response payload)) = Unit {0}
+Others c plan past kept (Some (Said dialect reply)) = (ss : Session) → kept ≡ Some ss → is_waiting ss.stage.row ≡ false → Other c plan past dialect reply
+
 -- the words that were read before the newest hearing
 abbrev pub words_before : List Seen → ℕ
 words_before [] = 0
@@ -71,19 +90,32 @@ EarlyIn lives kept a = (es : List Seen) (ss : Session) → lives ≡ Some es →
 abbrev pub Unsaid : List Seen → Option Session → Agenda → Type 0
 Unsaid past kept a = (ss : Session) → kept ≡ Some ss → is_waiting ss.stage.row ≡ true → (a.reply ≡ None) ⊎ (AwaitsReply past × (a.datagram ≡ None) × (a.order ≡ None))
 
-pub record Ready (c : Codecs) (plan : PostPlan) (past : List Seen) (t : State) : Type 0 where
+-- an order to open is owed as the newest hearing comes, and is what is left to do
+abbrev pub IsOwed : PostPlan → List Step → Type 0
+IsOwed plan [] = ⊥
+IsOwed plan (Hears at event ∷ steps) = (state plan (Hears at event ∷ steps)).facts.contactor ≡ stood.MustOpen
+IsOwed plan (Does reading act taken ∷ steps) = ⊥
+
+abbrev pub opening : Agenda
+opening = record nothing { order = Some order.Open }
+
+abbrev pub Worded : Type 0 → State → Type 0
+Worded Owed t = (t.part ≡ Wording) ⊎ ((is_done t.agenda ≡ true) ⊎ (Owed × (t.agenda ≡ opening)))
+
+pub record Ready (c : Codecs) (plan : PostPlan) (Owed : Type 0) (past : List Seen) (t : State) : Type 0 where
   pub matched : t.agenda.behind_reply ≡ None
   pub stops : Stops c plan past t.agenda.ending t.agenda.reply
   pub opens : t.agenda.order ≡ Some order.Close → t.agenda.ending ≡ None
-  pub worded : (t.part ≡ Wording) ⊎ (is_done t.agenda ≡ true)
+  pub worded : Worded Owed t
   pub unsaid : Unsaid past t.session t.agenda
+  pub others : Others c plan past t.session t.agenda.reply
   pub early : EarlyIn (session past) t.session t.agenda
 
--- behind an act the words are next
-abbrev pub AtWords : List Step → Part → Type 0
-AtWords [] part = part ≡ Wording
-AtWords (Hears at event ∷ steps) part = Unit {0}
-AtWords (Does reading act taken ∷ steps) part = part ≡ Wording
+-- behind an act the words are next, but behind an order to open that was owed
+abbrev pub AtWords : PostPlan → List Step → Part → Type 0
+AtWords plan [] part = part ≡ Wording
+AtWords plan (Hears at event ∷ steps) part = Unit {0}
+AtWords plan (Does reading act taken ∷ steps) part = (part ≡ Wording) ⊎ IsOwed plan steps
 
 -- the reply that waited is all that is on an agenda
 pub record Confirms (a : Agenda) : Type 0 where
@@ -93,7 +125,7 @@ pub record Confirms (a : Agenda) : Type 0 where
   pub reply_is : a.reply ≡ Some spoken
 
 -- what is decided behind a past
-pub record Decides (c : Codecs) (plan : PostPlan) (past : List Seen) (s t : State) : Type 0 where
-  pub ready : Ready c plan past t
+pub record Decides (c : Codecs) (plan : PostPlan) (Owed : Type 0) (past : List Seen) (s t : State) : Type 0 where
+  pub ready : Ready c plan Owed past t
   pub outcome : (t ≡ s) ⊎ (is_done t.agenda ≡ false)
   pub at_once : AwaitsReply past → Confirms t.agenda

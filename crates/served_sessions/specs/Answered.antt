@@ -1,6 +1,6 @@
 -- ISO 15118-2:2014, section 8.4: what of a session is answered, and what it waits for, read off its past. Pasts have
 -- their newest entry first, and so have the words that were answered.
-use Rattle.std.specs.Prelude.{◌≡◌, ℕ, true, List, [], ◌∷◌, length, Option, Some, None}
+use Rattle.std.specs.Prelude.{◌≡◌, ℕ, Bool, true, false, List, [], ◌∷◌, length, Option, Some, None}
 use Rattle.std.specs.List.{AllByRecursion}
 use Rattle.charge_world.specs.declared.heard.PlantEvent.TheVariants as plant
 use Rattle.charge_world.specs.declared.offer.Dialect.{Dialect}
@@ -11,7 +11,7 @@ use Rattle.post_spec.specs.Codecs.{Codecs}
 use Rattle.post_spec.specs.Kinds.{asks_start}
 use Rattle.post_spec.specs.Sessions.{next_session, stream, waits}
 use Rattle.post_spec.specs.Steps.{Event, Plant, Seen, Heard, Did}
-use Rattle.post_spec.specs.Talk.{Exchange, dialect_of, Talks, IsOk}
+use Rattle.post_spec.specs.Talk.{Exchange, Negotiation, Answered, dialect_of, Talks, IsOk}
 use Rattle.post_spec.specs.Words.{IsPayloadAt}
 
 -- of the session that stands there, where one does
@@ -33,6 +33,12 @@ pub record IsStart (c : Codecs) (es : List Seen) (xs : List Exchange) : Type 0 w
   pub next : IsPayloadAt (stream es) (length xs) payload
   pub request_is : c.Reads spoken payload (Some (word.Request request))
   pub start : asks_start request.ask ≡ true
+
+-- the newest of them is PowerDelivery Start
+abbrev pub answers_start : List Exchange → Bool
+answers_start [] = false
+answers_start (Negotiation chosen ∷ earlier) = false
+answers_start (Answered request reply before ∷ earlier) = asks_start request.ask
 
 -- feedback of closed is all that came since, and the reply to PowerDelivery Start waits for it
 abbrev pub WaitsFor : Option (List Seen) → Type 0

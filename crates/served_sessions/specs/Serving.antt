@@ -1,5 +1,5 @@
--- ISO 15118-2:2014, sections 8.4 and 8.8: what a post does in sessions that conform, read off its past.
-use Rattle.std.specs.Prelude.{◌≡◌, ◌≤◌, ℕ, ◌+◌, Bool, true, if◌then◌else◌, List, [], ◌∷◌, length, Some}
+-- ISO 15118-2:2014, sections 8.4 and 8.8: what a post does in a session that conforms, read off its past.
+use Rattle.std.specs.Prelude.{◌≡◌, ◌≤◌, ℕ, ◌+◌, Bool, true, if◌then◌else◌, List, [], ◌∷◌, length, map, Some}
 use Rattle.charge_world.specs.declared.ports.Order.{Order}
 use Rattle.charge_world.specs.declared.ports.Order.TheVariants as order
 use Rattle.session_words.specs.declared.cause.EndCause.TheVariants.{Stopped, Paused}
@@ -10,11 +10,13 @@ use Rattle.session_words.specs.declared.word.Request.{Request}
 use Rattle.session_words.specs.Causes.{number_of}
 use Rattle.v2gtp_frames.specs.Frames.{Frames}
 use Rattle.post_spec.specs.Codecs.{Codecs}
-use Rattle.post_spec.specs.Sessions.{session, stream, waits}
-use Rattle.post_spec.specs.Steps.{Act, Give, Send, Answer, End, Seen, Heard, Did}
-use Rattle.post_spec.specs.Talk.{Exchange, Answered}
+use Rattle.post_spec.specs.Sessions.{arriving, session, stream, waits}
+use Rattle.post_spec.specs.Steps.{Act, Give, Send, Answer, End, Seen, Heard, Did, Step, seen_of}
+use Rattle.post_spec.specs.Talk.{Exchange, Answered, Unless}
+use Rattle.station_spec.specs.Acting.{state}
+use Rattle.station_spec.specs.Next.{IsQuiet}
 use Rattle.read_runs.specs.Facts.{before_hearing}
-use Rattle.served_sessions.specs.Answered.{OfSession, IsAnswered, IsStart, AwaitsReply}
+use Rattle.served_sessions.specs.Answered.{OfSession, IsAnswered, IsStart, answers_start, AwaitsReply}
 
 -- a contactor is ordered closed for PowerDelivery Start, in the hearing that made its frame whole: before it, each
 -- whole frame of the stream was one of a word that is answered
@@ -62,11 +64,13 @@ IsReply (Give order) = ⊥
 IsReply (Answer bytes) = ⊥
 IsReply (End cause) = ⊥
 
--- an act: all replies up to it are as they should be, and behind the feedback that was awaited it is the reply
+-- an act: all replies up to it are as they should be. One that answers PowerDelivery Start waited for its feedback, so that Close was
+-- ordered; and behind the feedback that was awaited it is the reply
 pub record IsServed (c : Codecs) (plan : PostPlan) (act : Act) (taken : Bool) (past : List Seen) : Type 0 where
   pub xs : List Exchange
   pub answered : IsAnswered c plan (Did act taken ∷ past) xs
   pub acts : Acts c plan act past
+  pub awaited : IsReply act → answers_start xs ≡ true → AwaitsReply past
   pub at_once : AwaitsReply past → IsReply act
 
 -- behind a whole block each whole frame of the stream is one of a word that is answered, but for PowerDelivery Start
@@ -82,8 +86,21 @@ pub record IsRested (c : Codecs) (plan : PostPlan) (past : List Seen) : Type 0 w
   pub up_to_date : OfSession (session past) (IsUpToDate c plan past)
   pub confirmed : AwaitsReply past → ⊥
 
--- a past in which all this holds, before each act and behind each block
+-- behind a whole block, but that of a connection: there another session may still have stood
+abbrev pub RestsIn : Codecs → PostPlan → List Seen → Type 0
+RestsIn c plan past = Unless (arriving past) (IsRested c plan past) (Unit {0})
+
+-- before an act, and behind the block that a hearing ends
+abbrev pub Serves : Codecs → PostPlan → Seen → List Seen → Type 0
+Serves c plan (Heard at event) past = RestsIn c plan past
+Serves c plan (Did act taken) past = IsServed c plan act taken past
+
+-- a past in which all this holds of the session to which it has come, behind the block of its connection
 abbrev pub AreServed : Codecs → PostPlan → List Seen → Type 0
 AreServed c plan [] = Unit {0}
-AreServed c plan (Heard at event ∷ past) = AreServed c plan past × IsRested c plan past
-AreServed c plan (Did act taken ∷ past) = AreServed c plan past × IsServed c plan act taken past
+AreServed c plan (x ∷ past) = Unless (arriving (x ∷ past)) (AreServed c plan past × Serves c plan x past) (Unit {0})
+
+-- what a session gets that has come so far, and where its post has nothing left to do
+pub record IsWellServed (c : Codecs) (plan : PostPlan) (steps : List Step) : Type 0 where
+  pub served : AreServed c plan (map seen_of steps)
+  pub up_to_date : IsQuiet plan (state plan steps) → RestsIn c plan (map seen_of steps)

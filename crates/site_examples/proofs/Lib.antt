@@ -1,2 +1,3 @@
 pub mod TwoPosts
 pub mod OneCharge
+pub mod LaterSession

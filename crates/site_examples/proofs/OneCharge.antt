@@ -30,13 +30,13 @@ use Rattle.site_examples.specs.OneCharge.{request, Spells, word_shown, negotiate
 use Rattle.site_examples.specs.Playing.{one_post, post_of, act_of, does, what_of, past_of}
 
 -- a stream that is whole frames has no fault
-no_fault : (payloads : List (List ℕ)) (bytes : List ℕ) → bytes ≡ flat_map frame payloads ++ [] → All IsPayload payloads → (ps : List (List ℕ)) (rest : List ℕ) → Frames bytes ps rest → IsRight rest
+pub no_fault : (payloads : List (List ℕ)) (bytes : List ℕ) → bytes ≡ flat_map frame payloads ++ [] → All IsPayload payloads → (ps : List (List ℕ)) (rest : List ℕ) → Frames bytes ps rest → IsRight rest
 no_fault payloads bytes w each ps rest f =
     let none = starts_read [] refl in
     let e : rest ≡ [] = (same ps payloads rest [] f.each each f.longest (none_rest [] none) (sym f.whole ∙ w)).1 in
     subst IsRight (sym e) (none_right [] none)
 
-all_small : (ns : List ℕ) → All IsPayload (map (λ n. n ∷ []) ns)
+pub all_small : (ns : List ℕ) → All IsPayload (map (λ n. n ∷ []) ns)
 all_small [] = All-nil IsPayload
 all_small (n ∷ ns) = All-cons IsPayload (n ∷ []) (map (λ n. n ∷ []) ns) (let x : 1 ≤ 65536 = omega arith in x) (all_small ns)
 
@@ -168,11 +168,7 @@ s26 response encode = does encode (None) (s25 response encode)
 
 c0 : (response : List ℕ) (encode : Reply → List ℕ) → Conforming ac_post (s0 response encode)
 unfolding reading.whole_at
-c0 response encode = record {
-  earlier = tt;
-  goes_on = tt;
-  framed = tt;
-}
+c0 response encode = tt
 
 c1 : (response : List ℕ) (encode : Reply → List ℕ) → Conforming ac_post (s1 response encode)
 unfolding reading.whole_at

@@ -1,3 +1,4 @@
 pub mod TwoPosts
 pub mod Playing
 pub mod OneCharge
+pub mod LaterSession

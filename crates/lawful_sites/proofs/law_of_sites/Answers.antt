@@ -1,11 +1,12 @@
-use Rattle.std.proofs.Common.{List, refl, sym, subst}
+use Rattle.std.proofs.Common.{◌+◌, List, length, refl, sym, subst}
 use Rattle.charge_world.specs.declared.entry.Entry.{Entry}
 use Rattle.post_spec.specs.Codecs.{codecs}
 use Rattle.station_spec.specs.Sharing.{Post}
 use Rattle.station_laws.specs.PostRuns.{ArePostsOf}
+use Rattle.station_laws.proofs.PostRuns.{post_at}
 use Rattle.spelled_watts.proofs.Fronts.{front_run}
 use Rattle.station_spec.specs.Runs.{IsRun}
-use Rattle.lawful_sites.proofs.Fronts.{reads_off, run_of}
+use Rattle.lawful_sites.proofs.Fronts.{reads_off}
 use Rattle.lawful_sites.proofs.law_of_sites.Goals as goal
 
 pub returns : goal.returns
@@ -27,7 +28,9 @@ returns g c plan past r =
       };
       each = λ before post behind are.
           let held = c.ends_as_mandated.ensures plan past r.blocks r.posts before post behind rb r.run r.closes are in
+          let own = post_at cs r.blocks (length before + 1) 1 before post behind refl (subst (λ (posts : List Post). ArePostsOf cs r.blocks 1 posts) are (c.runs_of_posts.ensures plan r.blocks r.posts r.run)) in
           record {
+            seen_is = own.seen_is;
             closes = c.closes_as_mandated.ensures plan r.blocks r.posts before post behind rb r.run are;
             holds = held.0;
             held = held.1;
@@ -37,11 +40,8 @@ returns g c plan past r =
             causes = (c.opens_at_causes.ensures plan r.blocks r.posts before post behind rb det r.run are).0;
             stands = (c.opens_where_causes_stand.ensures plan r.blocks r.posts before post behind rb det r.run are).0;
             silent = c.sends_in_sessions.ensures plan r.blocks r.posts before post behind r.run are;
-            reads_off = reads_off cs post.plan post.steps c.agendas_are_read.ensures c.streams_are_read.ensures
-                (run_of cs r.blocks 1 before behind post (subst (λ (posts : List Post). ArePostsOf cs r.blocks 1 posts) are (c.runs_of_posts.ensures plan r.blocks r.posts r.run)));
-            served = λ conforms.
-                let gets = c.serves_conforming_sessions.ensures.runs plan r.blocks r.posts before post behind rb r.run are conforms in
-                record { served = gets.0; up_to_date = gets.1 };
+            reads_off = reads_off cs post.plan post.steps c.agendas_are_read.ensures c.streams_are_read.ensures own.run;
+            served = c.serves_conforming_sessions.ensures.runs plan r.blocks r.posts before post behind rb r.run are;
           };
       whole = λ uncut before post behind are.
           record {

@@ -16,6 +16,9 @@ returns-clause-late_close g c = proofs.late_close _
 pub returns-clause-close_for_another : goal.returns-clause-close_for_another
 returns-clause-close_for_another g c = proofs.close_for_another _
 
+pub returns-clause-never_closes : goal.returns-clause-never_closes
+returns-clause-never_closes g c = proofs.never_closes _
+
 pub returns-clause-early_reply : goal.returns-clause-early_reply
 returns-clause-early_reply g c = proofs.early_reply _
 
