@@ -1,5 +1,5 @@
 -- What is left, by the lines of the orders or the fault of the file.
-use Rattle.std.proofs.Common.{◌≡◌, ◌⊎◌, ◌↔◌, inl, inr, ℕ, ◌<◌, List, Option, Some, None, refl, sym, ap, ◌∙◌, subst, arith, true≢false}
+use Rattle.std.proofs.Common.{◌≡◌, ◌↔◌, inl, inr, ℕ, ◌<◌, List, Option, Some, None, refl, sym, ◌∙◌, subst, arith, true≢false}
 use Rattle.std.specs.Prelude.{IsSome, IsSomeAnd}
 use Rattle.plan_files.specs.FileTexts.{Told, CountsFault}
 use Rattle.pilot_basic.specs.Machine.{Step}
@@ -8,8 +8,8 @@ use Rattle.basic_script.proofs.Scripts.{one_output}
 use Rattle.command_status.specs.declared.status.Status.{Status}
 use Rattle.command_status.specs.declared.status.Status.TheVariants as status
 use Rattle.command_status.specs.FaultLines.{input_line}
-use Rattle.basic_command.specs.Charging.{IsCharged}
-use Rattle.basic_command.specs.Basics.{FileTold, OutputTold, IsScript, IsPrintedIn, HasFault, TellsLine, Prints, Refuses, LeavesBy, IsDecided, BasicLeaves}
+use Rattle.command_status.specs.Told.{FileTold, SinkTold, TellsLine, Prints}
+use Rattle.basic_command.specs.Basics.{IsScript, IsPrintedIn, HasFault, Refuses, LeavesBy, IsDecided, BasicLeaves}
 use Rattle.basic_command.specs.declared.orders.ScriptFault.{ScriptFault}
 use Rattle.basic_command.specs.declared.orders.ScriptFault.TheVariants.{Unread, Line, Memory}
 use Rattle.basic_command.proofs.OneLine.{one_line, not_refused}
@@ -45,15 +45,15 @@ never n m same less = omega (arith, same, less)
 read_status : (s : Status) (n m : ℕ) → IsOther s → (n < m → ⊥) → (s ≡ status.SourceFault) ↔ (n < m)
 read_status s n m is same = (λ unread. absurd (subst IsOther unread is), λ less. absurd (same less))
 
-other_printed : (lines : List ℕ) (s : Status) (before after : OutputTold) → Prints lines s before after → IsOther s
+other_printed : (lines : List ℕ) (s : Status) (before after : SinkTold) → Prints lines s before after → IsOther s
 other_printed lines s before after (inl h) = subst IsOther (sym h.0) tt
 other_printed lines s before after (inr h) = subst IsOther (sym h.0) tt
 
-printed_leaves : (lines : List ℕ) (s : Status) (file : FileTold) (before after : OutputTold) → IsPrintedIn file.left file.text lines → Prints lines s before after → LeavesBy s file before after
+printed_leaves : (lines : List ℕ) (s : Status) (file : FileTold) (before after : SinkTold) → IsPrintedIn file.left file.text lines → Prints lines s before after → LeavesBy s file before after
 printed_leaves lines s file before after is (inl h) = subst (λ (s : Status). LeavesBy s file before after) (sym h.0) (lines, is, h.1)
-printed_leaves lines s file before after is (inr h) = subst (λ (s : Status). LeavesBy s file before after) (sym h.0) (lines, is, h.1, h.2)
+printed_leaves lines s file before after is (inr h) = subst (λ (s : Status). LeavesBy s file before after) (sym h.0) (lines, is, h.1)
 
-printed_decides : (lines : List ℕ) (s : Status) (file : FileTold) (before after : OutputTold) → IsPrintedIn file.left file.text lines → Prints lines s before after → IsSome file.left
+printed_decides : (lines : List ℕ) (s : Status) (file : FileTold) (before after : SinkTold) → IsPrintedIn file.left file.text lines → Prints lines s before after → IsSome file.left
     → IsDecided s file.text before after
 printed_decides lines s file before after is prints tells =
     let script = told_text file.left file.text (IsScript is.past) is.script tells in
@@ -65,7 +65,7 @@ printed_decides lines s file before after is prints tells =
           absurd (both_of file.text (IsScript is.past) (λ t. IsRefusedAt t number) ⊥ (λ t a b. not_refused t (printed_of is.past) number (printed_so is.past t a) b) script r);
     }
 
-pub prints : (lines : List ℕ) (s : Status) (file : FileTold) (before after : OutputTold) → IsPrintedIn file.left file.text lines → file.m ≡ file.n → Prints lines s before after
+pub prints : (lines : List ℕ) (s : Status) (file : FileTold) (before after : SinkTold) → IsPrintedIn file.left file.text lines → file.m ≡ file.n → Prints lines s before after
     → BasicLeaves s file before after
 prints lines s file before after is same printed = record {
   leaves = printed_leaves lines s file before after is printed;
@@ -84,7 +84,7 @@ read_all is = cc
 unread_risen : (n m : ℕ) → m ≡ n → n < m → (P : Type 0) → P
 unread_risen n m same less P = absurd (never n m same less)
 
-pub refuses : (fault : ScriptFault) (s : Status) (file : FileTold) (before after : OutputTold) → HasFault file.left file.text fault → CountsFault Unread file.n file.m fault
+pub refuses : (fault : ScriptFault) (s : Status) (file : FileTold) (before after : SinkTold) → HasFault file.left file.text fault → CountsFault Unread file.n file.m fault
     → Refuses fault s before after → BasicLeaves s file before after
 refuses Unread s file before after has counts h = record {
   leaves = subst (λ (s : Status). LeavesBy s file before after) (sym h.0) h.1;

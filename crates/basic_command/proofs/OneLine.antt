@@ -1,7 +1,7 @@
 -- A text is a script, or is refused at one line.
-use Rattle.std.proofs.Common.{◌≡◌, ◌≢◌, ℕ, ◌+◌, ◌<◌, List, [], ◌∷◌, ◌++◌, length, refl, sym, ap, ◌∙◌, inl, inr, arith, append_assoc}
+use Rattle.std.proofs.Common.{◌≡◌, ◌≢◌, ℕ, List, [], ◌∷◌, ◌++◌, length, refl, sym, ◌∙◌, inl, inr, arith, append_assoc}
 use Rattle.basic_script.specs.declared.lines.ScriptLine.{ScriptLine}
-use Rattle.basic_script.specs.Scripts.{line_of, script_of, IsLine, AreLines, IsPrinted, IsBadBehind, IsBadLine, IsRefusedAt}
+use Rattle.basic_script.specs.Scripts.{line_of, script_of, IsLine, AreLines, IsPrinted, IsBadLine, IsRefusedAt}
 use Rattle.basic_script.proofs.LineWords.{line_same}
 use Rattle.basic_script.proofs.Scripts.{not_bad}
 

@@ -1,33 +1,15 @@
 -- Own: what the command `basic` leaves.
 use Rattle.std.specs.Prelude.{◌≡◌, ◌⊎◌, ◌↔◌, ℕ, ◌<◌, ◌≤◌, List, length, Option, IsSome, IsSomeAnd}
-use Rattle.charge_world.specs.Outside.{Appends, AppendsSome}
 use Rattle.pilot_basic.specs.Machine.{Step}
 use Rattle.basic_script.specs.Scripts.{longest, printed_of, IsRead, IsPrinted, IsRefusedAt}
 use Rattle.plan_files.specs.FileTexts.{Told}
 use Rattle.command_status.specs.declared.status.Status.{Status}
 use Rattle.command_status.specs.declared.status.Status.TheVariants as status
-use Rattle.command_status.specs.FaultLines.{Tells, input_line, source_line}
+use Rattle.command_status.specs.FaultLines.{input_line, source_line}
+use Rattle.command_status.specs.Told.{FileTold, SinkTold, TellsLine, Writes, WritesFront, Prints}
 use Rattle.basic_command.specs.Charging.{IsCharged}
 use Rattle.basic_command.specs.declared.orders.ScriptFault.{ScriptFault}
 use Rattle.basic_command.specs.declared.orders.ScriptFault.TheVariants.{Unread, Line, Memory}
-
--- what a source tells of the file: its text, and what is left of it; its count of faults went from n to m
-pub record FileTold : Type 0 where
-  pub text : Option (List ℕ)
-  pub left : Option (List ℕ)
-  pub n : ℕ
-  pub m : ℕ
-
-abbrev pub file_told : Option (List ℕ) → Option (List ℕ) → ℕ → ℕ → FileTold
-file_told text left n m = record { text = text; left = left; n = n; m = m }
-
--- what the output holds, and its count of faults
-pub record OutputTold : Type 0 where
-  pub taken : Option (List ℕ)
-  pub faults : ℕ
-
-abbrev pub output_told : Option (List ℕ) → ℕ → OutputTold
-output_told taken faults = record { taken = taken; faults = faults }
 
 -- the script is the events of this past
 pub record IsScript (past : List Step) (script : List ℕ) : Type 0 where
@@ -49,26 +31,16 @@ HasFault left text Memory = Unit {0}
 
 -- ---- the output
 
-abbrev pub TellsLine : List ℕ → OutputTold → OutputTold → Type 0
-TellsLine line before after = Tells before.taken after.taken before.faults after.faults line
-
--- the lines were written, or a front of them, and then the count of faults rose
-abbrev pub Prints : List ℕ → Status → OutputTold → OutputTold → Type 0
-Prints lines s before after =
-    ((s ≡ status.Done) × Appends before.taken after.taken lines)
-    ⊎ ((s ≡ status.SinkFault) × (before.faults < after.faults) × AppendsSome before.taken after.taken lines)
-
-abbrev pub Refuses : ScriptFault → Status → OutputTold → OutputTold → Type 0
+abbrev pub Refuses : ScriptFault → Status → SinkTold → SinkTold → Type 0
 Refuses Unread s before after = (s ≡ status.SourceFault) × TellsLine source_line before after
 Refuses (Line number) s before after = (s ≡ status.Input) × TellsLine (input_line number) before after
 Refuses Memory s before after = (s ≡ status.NoMemory) × (after ≡ before)
 
 -- ---- the command
 
-abbrev pub LeavesBy : Status → FileTold → OutputTold → OutputTold → Type 0
-LeavesBy status.Done file before after = (printed : List ℕ) × IsPrintedIn file.left file.text printed × Appends before.taken after.taken printed
-LeavesBy status.SinkFault file before after =
-    (printed : List ℕ) × IsPrintedIn file.left file.text printed × (before.faults < after.faults) × AppendsSome before.taken after.taken printed
+abbrev pub LeavesBy : Status → FileTold → SinkTold → SinkTold → Type 0
+LeavesBy status.Done file before after = (printed : List ℕ) × IsPrintedIn file.left file.text printed × Writes printed before after
+LeavesBy status.SinkFault file before after = (printed : List ℕ) × IsPrintedIn file.left file.text printed × WritesFront printed before after
 LeavesBy status.Input file before after = (number : ℕ) × Told file.left file.text (λ t. IsRefusedAt t number) × TellsLine (input_line number) before after
 LeavesBy status.SourceFault file before after = TellsLine source_line before after
 LeavesBy status.NoMemory file before after = after ≡ before
@@ -76,13 +48,13 @@ LeavesBy _ file before after = ⊥
 
 -- by the text of the file, where the source tells it to the last call and it could be read: what is printed, or the line that is told; but
 -- for want of memory
-pub record IsDecided (s : Status) (text : Option (List ℕ)) (before after : OutputTold) : Type 0 where
+pub record IsDecided (s : Status) (text : Option (List ℕ)) (before after : SinkTold) : Type 0 where
   pub printed : (printed : List ℕ) → IsSomeAnd text (λ t. IsPrinted t printed) → Prints printed s before after ⊎ (s ≡ status.NoMemory)
   pub refused : (number : ℕ) → IsSomeAnd text (λ t. IsRefusedAt t number)
       → ((s ≡ status.Input) × TellsLine (input_line number) before after) ⊎ (s ≡ status.NoMemory)
 
 -- All is as the file says. It could not be read exactly where the source's count of faults rose, and else the file decides
-pub record BasicLeaves (s : Status) (file : FileTold) (before after : OutputTold) : Type 0 where
+pub record BasicLeaves (s : Status) (file : FileTold) (before after : SinkTold) : Type 0 where
   pub leaves : LeavesBy s file before after
   pub unread : (s ≡ status.SourceFault) ↔ (file.n < file.m)
   pub decided : IsSome file.left → file.m ≡ file.n → IsDecided s file.text before after

@@ -1,7 +1,8 @@
 //! The command.
 
 ghost use Rattle.std.specs.Prelude.{◌≡◌, ◌<◌, ℕ, List};
-ghost use Rattle.basic_command.specs.Basics.{file_told, output_told, Prints, Refuses, BasicLeaves};
+ghost use Rattle.command_status.specs.Told.{file_told, sink_told, Prints};
+ghost use Rattle.basic_command.specs.Basics.{Refuses, BasicLeaves};
 
 use crate::orders::{ScriptFault, orders_in};
 use charge_world::{Sink, Source};
@@ -10,7 +11,7 @@ use std::alloc::Global;
 
 /// Writes lines, all at once.
 fn print_lines<K: Sink>(out: &mut K, lines: &str) -> Status
-    ensures { Prints lines.now result (output_told (K.taken out.old) (K.faults out.old)) (output_told (K.taken out.new) (K.faults out.new)) }
+    ensures { Prints lines.now result (sink_told (K.taken out.old) (K.faults out.old)) (sink_told (K.taken out.new) (K.faults out.new)) }
 {
     match out.write(lines.as_bytes()) {
         Ok(()) => Status::Done,
@@ -20,7 +21,7 @@ fn print_lines<K: Sink>(out: &mut K, lines: &str) -> Status
 
 /// Tells why there are no orders. Want of memory has no line.
 fn refuse<K: Sink>(out: &mut K, fault: ScriptFault) -> Status
-    ensures refuses { Refuses fault result (output_told (K.taken out.old) (K.faults out.old)) (output_told (K.taken out.new) (K.faults out.new)) }
+    ensures refuses { Refuses fault result (sink_told (K.taken out.old) (K.faults out.old)) (sink_told (K.taken out.new) (K.faults out.new)) }
     ensures no_memory { result ≡ Status.NoMemory → out.new ≡ out.old }
 {
     match fault {
@@ -45,7 +46,7 @@ fn refuse<K: Sink>(out: &mut K, fault: ScriptFault) -> Status
 /// failure changes nothing.
 pub fn basic<F: Source, K: Sink>(alloc: Global, name: &str, files: &mut F, out: &mut K) -> Status
     ensures leaves { BasicLeaves result (file_told (F.holds files.old name.now) (F.left files.new) (F.faults files.old) (F.faults files.new))
-        (output_told (K.taken out.old) (K.faults out.old)) (output_told (K.taken out.new) (K.faults out.new)) }
+        (sink_told (K.taken out.old) (K.faults out.old)) (sink_told (K.taken out.new) (K.faults out.new)) }
     ensures no_memory { result ≡ Status.NoMemory → out.new ≡ out.old }
     ensures sink_fault { result ≡ Status.SinkFault → K.faults out.old < K.faults out.new }
     ensures holds { (other : List ℕ) → F.holds files.new other ≡ F.holds files.old other }

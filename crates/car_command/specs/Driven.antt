@@ -8,7 +8,8 @@ use Rattle.car_core.specs.Ended.{Ended}
 use Rattle.car_core.specs.Ending.{EndedAs, TracedAs}
 use Rattle.car_core.specs.Lawful.{IsDrivenLawfully}
 use Rattle.command_status.specs.declared.status.Status.{Status}
-use Rattle.station_command.specs.Served.{WireTold, SinkTold, IsUnstarted}
+use Rattle.command_status.specs.Told.{SinkTold}
+use Rattle.station_command.specs.Served.{WireTold, IsUnstarted}
 use Rattle.car_command.specs.Lines.{Concludes}
 use Rattle.car_command.specs.Ports.{ports_of}
 

@@ -10,7 +10,7 @@ use Rattle.car_core.specs.Ended.TheVariants as ended
 use Rattle.command_status.specs.declared.status.Status.{Status}
 use Rattle.command_status.specs.declared.status.Status.TheVariants as status
 use Rattle.command_status.specs.FaultLines.{Tells, wire_line}
-use Rattle.station_command.specs.Served.{SinkTold}
+use Rattle.command_status.specs.Told.{SinkTold}
 use Rattle.station_command.specs.Lines.{IsCutOff, TellsTurns}
 
 abbrev pub session_text : Option SessionId → List ℕ

@@ -4,8 +4,8 @@ use Rattle.plan_keys.specs.declared.fault.PlanFault.{PlanFault}
 use Rattle.site_plan.specs.Plans.{car_told}
 use Rattle.plan_files.specs.FileTexts.{Told}
 use Rattle.command_status.specs.FaultLines.{Tells, plan_line}
+use Rattle.command_status.specs.Told.{SinkTold}
 use Rattle.station_command.specs.Refused.{key_of}
-use Rattle.station_command.specs.Served.{SinkTold}
 
 -- the first fault of the file's text is told by its key
 pub record IsRefused (left text : Option (List ℕ)) (before after : SinkTold) : Type 0 where

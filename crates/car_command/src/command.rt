@@ -5,7 +5,8 @@ ghost use Rattle.session_words.specs.declared.plan.CarPlan.{CarPlan};
 ghost use Rattle.car_spec.specs.Codecs.{codecs};
 ghost use Rattle.plan_files.specs.Plans.{IsCarPlanIn};
 ghost use Rattle.command_status.specs.FaultLines.{Tells, source_line};
-ghost use Rattle.station_command.specs.Served.{wire_told, sink_told, IsBegun, IsUnbegun};
+ghost use Rattle.command_status.specs.Told.{sink_told};
+ghost use Rattle.station_command.specs.Served.{wire_told, IsBegun, IsUnbegun};
 ghost use Rattle.car_command.specs.Driven.{Drives};
 ghost use Rattle.car_command.specs.Refused.{IsRefused};
 

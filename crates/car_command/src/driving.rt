@@ -4,7 +4,8 @@ ghost use Rattle.std.specs.Prelude.{◌≡◌, ◌≢◌, ◌<◌, ◌⊎◌};
 ghost use Rattle.session_words.specs.Plans.{IsCarPlan};
 ghost use Rattle.car_spec.specs.Codecs.{codecs};
 ghost use Rattle.car_core.specs.Made.{IsMadeOf};
-ghost use Rattle.station_command.specs.Served.{wire_told, sink_told, IsBegun};
+ghost use Rattle.station_command.specs.Served.{wire_told, IsBegun};
+ghost use Rattle.command_status.specs.Told.{sink_told};
 ghost use Rattle.car_command.specs.Driven.{Drives};
 
 use crate::lines::conclude;

@@ -3,7 +3,7 @@
 ghost use Rattle.std.specs.Prelude.{◌≡◌, ◌+◌, ◌≤◌, ◌*◌, ◌++◌, length};
 ghost use Rattle.arrayvec.specs.ArrayVec.{array_vec_len};
 ghost use Rattle.hex.specs.Hex.{encode_lower};
-ghost use Rattle.station_command.specs.Served.{sink_told};
+ghost use Rattle.command_status.specs.Told.{sink_told};
 ghost use Rattle.car_command.specs.Lines.{session_text, report_line, Prints, Concludes};
 
 use car_core::{CarReport, Ended};

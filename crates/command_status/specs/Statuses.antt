@@ -13,3 +13,7 @@ number_of status.WireFault = 5
 number_of status.SinkFault = 6
 number_of status.SourceFault = 7
 number_of status.TurnsSpent = 8
+number_of status.AuditNo = 9
+number_of status.Unreached = 10
+number_of status.NoSchedule = 11
+number_of status.NoSet = 12

@@ -23,6 +23,14 @@ pub enum Status {
     SourceFault,
     /// The last turn was made, and Over wasn't heard in it.
     TurnsSpent,
+    /// A check of a trace fails.
+    AuditNo,
+    /// No charging profile reaches the energy that is needed.
+    Unreached,
+    /// A payload offers no schedule.
+    NoSchedule,
+    /// A payload offers no set of parameters as it is wanted.
+    NoSet,
 }
 
 impl Status {
@@ -42,6 +50,10 @@ impl Status {
             Status::SinkFault => 6,
             Status::SourceFault => 7,
             Status::TurnsSpent => 8,
+            Status::AuditNo => 9,
+            Status::Unreached => 10,
+            Status::NoSchedule => 11,
+            Status::NoSet => 12,
         }
     }
 }

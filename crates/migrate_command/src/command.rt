@@ -3,8 +3,9 @@
 ghost use Rattle.std.specs.Prelude.{◌≡◌, ◌≢◌, ◌<◌, ◌≤◌, ◌^◌, ◌⊎◌, ℕ, List, length, IfOk};
 ghost use Rattle.std.specs.List.{AllByRecursion};
 ghost use Rattle.trace_text.specs.TraceText.{IsWritable};
-ghost use Rattle.migrate_command.specs.Lines.{sink_told};
-ghost use Rattle.migrate_command.specs.Leaving.{TellsAlways, Wrote, MigrateLeaves, IsUnbegun};
+ghost use Rattle.command_status.specs.Told.{TellsAlways};
+ghost use Rattle.migrate_command.specs.Lines.{sink_change};
+ghost use Rattle.migrate_command.specs.Leaving.{Wrote, MigrateLeaves, IsUnbegun};
 
 use crate::lines::{print_lines, refuse};
 use crate::reading::entries_in;
@@ -30,8 +31,8 @@ fn write_and_print<K: Sink, J: Sink>(
     requires room { 131221 ≤ length room.old }
     requires writable { AllByRecursion IsWritable entries.now }
     requires few { length entries.now < 2 ^ 63 }
-    ensures wrote { Wrote entries.now result (sink_told (J.taken trace.old) (J.taken trace.new) (J.faults trace.old) (J.faults trace.new))
-        (sink_told (K.taken out.old) (K.taken out.new) (K.faults out.old) (K.faults out.new)) }
+    ensures wrote { Wrote entries.now result (sink_change (J.taken trace.old) (J.taken trace.new) (J.faults trace.old) (J.faults trace.new))
+        (sink_change (K.taken out.old) (K.taken out.new) (K.faults out.old) (K.faults out.new)) }
     ensures no_memory { result ≢ Status.NoMemory }
     ensures sink_fault { result ≡ Status.SinkFault → (K.faults out.old < K.faults out.new) ⊎ (J.faults trace.old < J.faults trace.new) }
     ensures trace_fault { J.faults trace.old < J.faults trace.new → result ≡ Status.SinkFault }
@@ -50,8 +51,8 @@ fn write_migrated<K: Sink, J: Sink>(
     trace: &mut J,
 ) -> Status
     requires { AllByRecursion IsWritable entries.items }
-    ensures wrote { Wrote entries.items result (sink_told (J.taken trace.old) (J.taken trace.new) (J.faults trace.old) (J.faults trace.new))
-        (sink_told (K.taken out.old) (K.taken out.new) (K.faults out.old) (K.faults out.new)) }
+    ensures wrote { Wrote entries.items result (sink_change (J.taken trace.old) (J.taken trace.new) (J.faults trace.old) (J.faults trace.new))
+        (sink_change (K.taken out.old) (K.taken out.new) (K.faults out.old) (K.faults out.new)) }
     ensures no_memory { result ≡ Status.NoMemory → (trace.new ≡ trace.old) × (out.new ≡ out.old) }
     ensures sink_fault { result ≡ Status.SinkFault → (K.faults out.old < K.faults out.new) ⊎ (J.faults trace.old < J.faults trace.new) }
     ensures trace_fault { J.faults trace.old < J.faults trace.new → result ≡ Status.SinkFault }
@@ -78,8 +79,8 @@ pub fn migrate<F: Source, K: Sink, J: Sink>(
     trace: &mut J,
 ) -> Status
     ensures leaves { MigrateLeaves (TellsAlways F.left) result (F.holds files.old trace_name.now) (F.faults files.old) (F.faults files.new)
-        (sink_told (J.taken trace.old) (J.taken trace.new) (J.faults trace.old) (J.faults trace.new))
-        (sink_told (K.taken out.old) (K.taken out.new) (K.faults out.old) (K.faults out.new)) }
+        (sink_change (J.taken trace.old) (J.taken trace.new) (J.faults trace.old) (J.faults trace.new))
+        (sink_change (K.taken out.old) (K.taken out.new) (K.faults out.old) (K.faults out.new)) }
     ensures unbegun { IsUnbegun result → trace.new ≡ trace.old }
     ensures no_memory { result ≡ Status.NoMemory → out.new ≡ out.old }
     ensures holds { (other : List ℕ) → F.holds files.new other ≡ F.holds files.old other }

@@ -1,7 +1,7 @@
 //! The lines that are printed.
 
 ghost use Rattle.std.specs.Prelude.{◌≡◌, ◌⊎◌};
-ghost use Rattle.migrate_command.specs.Lines.{sink_told, lines_line, IsWhole, IsCutOff};
+ghost use Rattle.migrate_command.specs.Lines.{sink_change, lines_line, IsWhole, IsCutOff};
 ghost use Rattle.migrate_command.specs.Leaving.{Refuses};
 
 use crate::reading::FileFault;
@@ -22,8 +22,8 @@ fn line_of(lines: u64) -> Line
 
 /// Prints how many lines the trace has, and says the status.
 pub(crate) fn print_lines<K: Sink>(out: &mut K, lines: u64) -> Status
-    ensures { ((result ≡ Status.Done) × IsWhole (sink_told (K.taken out.old) (K.taken out.new) (K.faults out.old) (K.faults out.new)) (lines_line lines))
-        ⊎ ((result ≡ Status.SinkFault) × IsCutOff (sink_told (K.taken out.old) (K.taken out.new) (K.faults out.old) (K.faults out.new)) (lines_line lines)) }
+    ensures { ((result ≡ Status.Done) × IsWhole (sink_change (K.taken out.old) (K.taken out.new) (K.faults out.old) (K.faults out.new)) (lines_line lines))
+        ⊎ ((result ≡ Status.SinkFault) × IsCutOff (sink_change (K.taken out.old) (K.taken out.new) (K.faults out.old) (K.faults out.new)) (lines_line lines)) }
 {
     match out.write(line_of(lines).as_slice()) {
         Ok(()) => Status::Done,
@@ -33,7 +33,7 @@ pub(crate) fn print_lines<K: Sink>(out: &mut K, lines: u64) -> Status
 
 /// Tells why there is nothing to write, and says the status. Want of memory has no line.
 pub(crate) fn refuse<K: Sink>(out: &mut K, fault: FileFault) -> Status
-    ensures refuses { Refuses fault result (sink_told (K.taken out.old) (K.taken out.new) (K.faults out.old) (K.faults out.new)) }
+    ensures refuses { Refuses fault result (sink_change (K.taken out.old) (K.taken out.new) (K.faults out.old) (K.faults out.new)) }
     ensures no_memory { result ≡ Status.NoMemory → out.new ≡ out.old }
 {
     match fault {

@@ -5,8 +5,9 @@ ghost use Rattle.std.specs.List.{AllByRecursion};
 ghost use Rattle.trace_text.specs.Pasts.{first_line_1};
 ghost use Rattle.trace_text.specs.TraceText.{IsWritable};
 ghost use Rattle.plan_files.specs.FileTexts.{IsBeginning, CountsFault};
+ghost use Rattle.command_status.specs.Told.{TellsAlways, OfText};
 ghost use Rattle.migrate_command.specs.Formats.{IsPlainTrace, IsRefusedAt};
-ghost use Rattle.migrate_command.specs.Leaving.{TellsAlways, OfText, HasFault};
+ghost use Rattle.migrate_command.specs.Leaving.{HasFault};
 
 use charge_world::{Entry, Source};
 use plan_files::{TextFault, text_in};

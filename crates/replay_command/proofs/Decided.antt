@@ -19,10 +19,10 @@ use Rattle.trace_files.proofs.OneLine.{one_line, not_refused}
 use Rattle.command_status.specs.declared.status.Status.{Status}
 use Rattle.command_status.specs.declared.status.Status.TheVariants as status
 use Rattle.command_status.specs.FaultLines.{input_line}
+use Rattle.command_status.specs.Told.{SinkTold, TellsLine}
 use Rattle.station_command.specs.Refused.{key_of}
-use Rattle.station_command.specs.Served.{SinkTold}
 use Rattle.replay_command.specs.Files.{FilesTold, IsTraceRefused}
-use Rattle.replay_command.specs.Lines.{Concludes, TellsLine}
+use Rattle.replay_command.specs.Lines.{Concludes}
 use Rattle.replay_command.specs.Decided.{ComesWith, TellsKey, AreTexts, IsDecided}
 use Rattle.replay_command.specs.Replays.{IsRun, LeavesBy, ReplayLeaves}
 
@@ -84,9 +84,7 @@ plan_told c tells status.Plan files trace_before trace out_before out t h read f
     inl (refl, (h.1.key, ap key_of (sym same) ∙ h.1.key_is, h.1.line))
 plan_told c tells status.SourceFault files trace_before trace out_before out t h read fault first = absurd (read refl)
 plan_told c tells status.NoMemory files trace_before trace out_before out t h read fault first = inr refl
-plan_told c tells status.Words files trace_before trace out_before out t h read fault first = absurd h
-plan_told c tells status.WireFault files trace_before trace out_before out t h read fault first = absurd h
-plan_told c tells status.TurnsSpent files trace_before trace out_before out t h read fault first = absurd h
+plan_told c tells _ files trace_before trace out_before out t h read fault first = absurd h
 
 input_told : (c : Codecs) (tells : Type 0) (s : Status) (files : FilesTold) (trace_before trace out_before out : SinkTold) → tells
     → LeavesBy c tells s files trace_before trace out_before out → (s ≡ status.SourceFault → ⊥)
@@ -107,9 +105,7 @@ input_told c tells status.Plan files trace_before trace out_before out t h read 
     absurd (both_of files.plan _ _ ⊥ (planned h.1.fault plan) texts.0 (h.1.first t))
 input_told c tells status.SourceFault files trace_before trace out_before out t h read plan number texts = absurd (read refl)
 input_told c tells status.NoMemory files trace_before trace out_before out t h read plan number texts = inr refl
-input_told c tells status.Words files trace_before trace out_before out t h read plan number texts = absurd h
-input_told c tells status.WireFault files trace_before trace out_before out t h read plan number texts = absurd h
-input_told c tells status.TurnsSpent files trace_before trace out_before out t h read plan number texts = absurd h
+input_told c tells _ files trace_before trace out_before out t h read plan number texts = absurd h
 
 -- a write failed where a replay ended by `SinkFault`
 no_done : status.Done ≡ status.SinkFault → ⊥
@@ -145,9 +141,7 @@ done c tells status.Plan files trace_before trace out_before out t h read plan r
     absurd (both_of files.plan _ _ ⊥ (planned h.1.fault plan) texts.0 (h.1.first t))
 done c tells status.SourceFault files trace_before trace out_before out t h read plan recorded texts traced printed = absurd (read refl)
 done c tells status.NoMemory files trace_before trace out_before out t h read plan recorded texts traced printed = inr refl
-done c tells status.Words files trace_before trace out_before out t h read plan recorded texts traced printed = absurd h
-done c tells status.WireFault files trace_before trace out_before out t h read plan recorded texts traced printed = absurd h
-done c tells status.TurnsSpent files trace_before trace out_before out t h read plan recorded texts traced printed = absurd h
+done c tells _ files trace_before trace out_before out t h read plan recorded texts traced printed = absurd h
 
 pub decided : (c : Codecs) (tells : Type 0) (s : Status) (files : FilesTold) (trace_before trace out_before out : SinkTold)
     → LeavesBy c tells s files trace_before trace out_before out → ((s ≡ status.SourceFault) ↔ (files.n < files.m))

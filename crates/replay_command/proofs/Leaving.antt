@@ -12,9 +12,9 @@ use Rattle.replay_wire.specs.Standing.{counted}
 use Rattle.site_replays.specs.Replayed.{IsReplayed}
 use Rattle.command_status.specs.declared.status.Status.{Status}
 use Rattle.command_status.specs.declared.status.Status.TheVariants as status
+use Rattle.command_status.specs.Told.{SinkTold}
 use Rattle.plan_files.specs.FileTexts.{CountsFault}
 use Rattle.station_command.specs.Refused.{key_of}
-use Rattle.station_command.specs.Served.{SinkTold}
 use Rattle.replay_command.specs.declared.recording.FilesFault.{FilesFault}
 use Rattle.replay_command.specs.declared.recording.FilesFault.TheVariants.{Unread, Plan, Line, Memory}
 use Rattle.replay_command.specs.Files.{FilesTold, AreFiles, HasFault}

@@ -8,11 +8,10 @@ use Rattle.site_plan.specs.Plans.{IsSitePlanOf, site_told}
 use Rattle.command_status.specs.declared.status.Status.{Status}
 use Rattle.command_status.specs.declared.status.Status.TheVariants as status
 use Rattle.command_status.specs.FaultLines.{plan_line, input_line}
+use Rattle.command_status.specs.Told.{SinkTold, TellsLine}
 use Rattle.trace_files.specs.Recordings.{IsRecorded, IsRefusedAt}
 use Rattle.station_command.specs.Refused.{key_of}
-use Rattle.station_command.specs.Served.{SinkTold}
 use Rattle.replay_command.specs.Files.{FilesTold}
-use Rattle.replay_command.specs.Lines.{TellsLine}
 
 -- this status, and so much more, or want of memory
 abbrev pub ComesWith : Status → Type 0 → Status → Type 0

@@ -1,11 +1,12 @@
 -- Own: the two files of a replay: the plan of a station, and a trace.
-use Rattle.std.specs.Prelude.{◌≡◌, ◌⊎◌, ℕ, List, length, Option, Some, IsSome, IsSomeAnd}
+use Rattle.std.specs.Prelude.{◌≡◌, ◌⊎◌, ℕ, List, length, Option, Some}
 use Rattle.charge_world.specs.declared.entry.Entry.{Entry}
 use Rattle.session_words.specs.declared.plan.SitePlan.{SitePlan}
 use Rattle.plan_keys.specs.declared.fault.PlanFault.{PlanFault}
 use Rattle.plan_keys.specs.declared.fault.PlanFault.TheVariants as plan_fault
 use Rattle.site_plan.specs.Plans.{IsSitePlanOf, site_told}
 use Rattle.trace_files.specs.Recordings.{IsRecorded, IsRefusedAt}
+use Rattle.command_status.specs.Told.{OfText}
 use Rattle.replay_command.specs.declared.recording.FilesFault.{FilesFault}
 use Rattle.replay_command.specs.declared.recording.FilesFault.TheVariants.{Unread, Plan, Line, Memory}
 
@@ -18,14 +19,6 @@ pub record FilesTold : Type 0 where
 
 abbrev pub files_told : Option (List ℕ) → Option (List ℕ) → ℕ → ℕ → FilesTold
 files_told plan trace n m = record { plan = plan; trace = trace; n = n; m = m }
-
--- a source that tells at each moment what is left of the file that it reads
-abbrev pub TellsAlways : {S : Type 0} → (S → Option (List ℕ)) → Type 0
-TellsAlways {S} left = (s : S) → IsSome (left s)
-
--- where that is so, the text of a file is told, and this holds of it
-abbrev pub OfText : Type 0 → Option (List ℕ) → (List ℕ → Type 0) → Type 0
-OfText tells text P = tells → IsSomeAnd text P
 
 -- the first file is this plan, and the second a trace of these entries at its posts, the oldest first
 pub record AreFiles (tells : Type 0) (files : FilesTold) (plan : SitePlan) (recorded : List Entry) : Type 0 where

@@ -8,9 +8,9 @@ use Rattle.site_turns.specs.declared.ending.Ended.TheVariants as ended
 use Rattle.command_status.specs.declared.status.Status.{Status}
 use Rattle.command_status.specs.declared.status.Status.TheVariants as status
 use Rattle.command_status.specs.FaultLines.{Tells, plan_line, input_line, source_line}
+use Rattle.command_status.specs.Told.{SinkTold, TellsLine}
 use Rattle.station_command.specs.Lines.{IsCutOff}
 use Rattle.station_command.specs.Refused.{key_of}
-use Rattle.station_command.specs.Served.{SinkTold}
 use Rattle.replay_command.specs.declared.recording.FilesFault.{FilesFault}
 use Rattle.replay_command.specs.declared.recording.FilesFault.TheVariants.{Unread, Plan, Line, Memory}
 
@@ -34,9 +34,6 @@ Concludes ended.Turns lines s before after = Prints (replay_line lines (codes "t
 Concludes ended.TraceFault lines s before after = (s ≡ status.SinkFault) × (after ≡ before)
 
 -- ---- faults
-
-abbrev pub TellsLine : List ℕ → SinkTold → SinkTold → Type 0
-TellsLine line before after = Tells before.taken after.taken before.faults after.faults line
 
 -- a plan is refused at a key, or memory ran out
 abbrev pub RefusesPlan : Option (List ℕ) → Status → SinkTold → SinkTold → Type 0

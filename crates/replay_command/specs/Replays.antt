@@ -11,10 +11,10 @@ use Rattle.site_replays.specs.Replayed.{IsReplayed}
 use Rattle.command_status.specs.declared.status.Status.{Status}
 use Rattle.command_status.specs.declared.status.Status.TheVariants as status
 use Rattle.command_status.specs.FaultLines.{plan_line, input_line, source_line}
+use Rattle.command_status.specs.Told.{SinkTold, TellsLine, OfText}
 use Rattle.station_command.specs.Refused.{key_of}
-use Rattle.station_command.specs.Served.{SinkTold}
-use Rattle.replay_command.specs.Files.{FilesTold, OfText, AreFiles, IsTraceRefused}
-use Rattle.replay_command.specs.Lines.{lines_of, Concludes, TellsLine}
+use Rattle.replay_command.specs.Files.{FilesTold, AreFiles, IsTraceRefused}
+use Rattle.replay_command.specs.Lines.{lines_of, Concludes}
 use Rattle.replay_command.specs.Decided.{IsDecided}
 
 -- A site of the plan ran off the recorded entries: it heard what is recorded, and its calls failed by the marks there. The text of its past
@@ -63,9 +63,7 @@ LeavesBy c tells status.Plan files trace_before trace out_before out = (trace �
 LeavesBy c tells status.Input files trace_before trace out_before out = (trace ≡ trace_before) × IsInputTold tells files out_before out
 LeavesBy c tells status.SourceFault files trace_before trace out_before out = (trace ≡ trace_before) × TellsLine source_line out_before out
 LeavesBy c tells status.NoMemory files trace_before trace out_before out = (trace ≡ trace_before) × (out ≡ out_before)
-LeavesBy c tells status.Words files trace_before trace out_before out = ⊥
-LeavesBy c tells status.WireFault files trace_before trace out_before out = ⊥
-LeavesBy c tells status.TurnsSpent files trace_before trace out_before out = ⊥
+LeavesBy c tells _ files trace_before trace out_before out = ⊥
 
 -- All is as the files say. A file could not be read exactly where the source's count of faults rose, and else the files decide
 pub record ReplayLeaves (c : Codecs) (tells : Type 0) (s : Status) (files : FilesTold) (trace_before trace out_before out : SinkTold) : Type 0 where

@@ -4,8 +4,9 @@ ghost use Rattle.std.specs.Prelude.{◌≡◌, ◌<◌, ◌⊎◌, ℕ, List, le
 ghost use Rattle.session_words.specs.Plans.{IsSitePlan};
 ghost use Rattle.post_spec.specs.Codecs.{codecs};
 ghost use Rattle.replay_wire.specs.Replays.{AllCanBeHeard};
-ghost use Rattle.station_command.specs.Served.{sink_told, IsUnbegun};
-ghost use Rattle.replay_command.specs.Files.{files_told, TellsAlways};
+ghost use Rattle.station_command.specs.Served.{IsUnbegun};
+ghost use Rattle.command_status.specs.Told.{sink_told, TellsAlways};
+ghost use Rattle.replay_command.specs.Files.{files_told};
 ghost use Rattle.replay_command.specs.Replays.{Ran, ReplayLeaves};
 
 use crate::lines::{conclude, refuse};

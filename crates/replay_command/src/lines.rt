@@ -1,7 +1,7 @@
 //! The lines that a replay prints.
 
 ghost use Rattle.std.specs.Prelude.{◌≡◌, ◌+◌, ◌≤◌, length, min};
-ghost use Rattle.station_command.specs.Served.{sink_told};
+ghost use Rattle.command_status.specs.Told.{sink_told};
 ghost use Rattle.replay_command.specs.Lines.{replay_line, Prints, Concludes, Refuses};
 
 use crate::recording::FilesFault;

@@ -5,7 +5,8 @@ ghost use Rattle.session_words.specs.Plans.{IsSitePlan};
 ghost use Rattle.replay_wire.specs.Replays.{AllCanBeHeard};
 ghost use Rattle.plan_files.specs.FileTexts.{CountsFault};
 ghost use Rattle.trace_files.specs.Recordings.{IsRecorded};
-ghost use Rattle.replay_command.specs.Files.{files_told, TellsAlways, OfText, AreFiles, HasFault, HasTraceFault, IsBehind};
+ghost use Rattle.command_status.specs.Told.{TellsAlways, OfText};
+ghost use Rattle.replay_command.specs.Files.{files_told, AreFiles, HasFault, HasTraceFault, IsBehind};
 
 use charge_world::{Entry, Source};
 use plan_files::{PlanFileFault, TextFault, site_plan_in, text_in};

@@ -5,7 +5,7 @@ use Rattle.plan_keys.specs.declared.fault.PlanFault.TheVariants.{NotToml, Missin
 use Rattle.site_plan.specs.Plans.{site_told}
 use Rattle.plan_files.specs.FileTexts.{Told}
 use Rattle.command_status.specs.FaultLines.{Tells, plan_line}
-use Rattle.station_command.specs.Served.{SinkTold}
+use Rattle.command_status.specs.Told.{SinkTold}
 
 -- the key of a fault, or `toml`; none for want of memory
 abbrev pub key_of : PlanFault → Option (List ℕ)

@@ -13,24 +13,18 @@ use Rattle.lawful_sites.specs.Lawful.{IsLawful}
 use Rattle.command_status.specs.declared.status.Status.{Status}
 use Rattle.command_status.specs.declared.status.Status.TheVariants as status
 use Rattle.command_status.specs.FaultLines.{Tells, wire_line}
+use Rattle.command_status.specs.Told.{SinkTold}
 use Rattle.station_command.specs.Ports.{ports_of}
 use Rattle.station_command.specs.Lines.{CountFrom, Concludes}
 
--- what a wire tells, and a sink
+-- what a wire tells
 pub record WireTold : Type 0 where
   pub past : Option (List Entry)
   pub untils : List ℕ
   pub started : Option Ports
 
-pub record SinkTold : Type 0 where
-  pub taken : Option (List ℕ)
-  pub faults : ℕ
-
 abbrev pub wire_told : Option (List Entry) → List ℕ → Option Ports → WireTold
 wire_told past untils started = record { past = past; untils = untils; started = started }
-
-abbrev pub sink_told : Option (List ℕ) → ℕ → SinkTold
-sink_told taken faults = record { taken = taken; faults = faults }
 
 -- the wire did not start: nothing was heard, and no trace written
 pub record IsUnstarted (s : Status) (before after : WireTold) (trace_before trace : Option (List ℕ)) (out_before out : SinkTold) : Type 0 where
@@ -65,20 +59,11 @@ IsBegun status.Done = Unit {0}
 IsBegun status.WireFault = Unit {0}
 IsBegun status.SinkFault = Unit {0}
 IsBegun status.TurnsSpent = Unit {0}
-IsBegun status.NoMemory = ⊥
-IsBegun status.Words = ⊥
-IsBegun status.Plan = ⊥
-IsBegun status.Input = ⊥
-IsBegun status.SourceFault = ⊥
+IsBegun _ = ⊥
 
 -- those before it
 abbrev pub IsUnbegun : Status → Type 0
 IsUnbegun status.NoMemory = Unit {0}
 IsUnbegun status.Plan = Unit {0}
 IsUnbegun status.SourceFault = Unit {0}
-IsUnbegun status.Done = ⊥
-IsUnbegun status.Words = ⊥
-IsUnbegun status.Input = ⊥
-IsUnbegun status.WireFault = ⊥
-IsUnbegun status.SinkFault = ⊥
-IsUnbegun status.TurnsSpent = ⊥
+IsUnbegun _ = ⊥

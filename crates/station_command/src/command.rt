@@ -5,7 +5,8 @@ ghost use Rattle.session_words.specs.declared.plan.SitePlan.{SitePlan};
 ghost use Rattle.post_spec.specs.Codecs.{codecs};
 ghost use Rattle.plan_files.specs.Plans.{IsSitePlanIn};
 ghost use Rattle.command_status.specs.FaultLines.{Tells, source_line};
-ghost use Rattle.station_command.specs.Served.{wire_told, sink_told, Serves, IsBegun, IsUnbegun};
+ghost use Rattle.command_status.specs.Told.{sink_told};
+ghost use Rattle.station_command.specs.Served.{wire_told, Serves, IsBegun, IsUnbegun};
 ghost use Rattle.station_command.specs.Refused.{key_of, IsRefused};
 
 use crate::serving::serve_plan;

@@ -1,12 +1,12 @@
 use Rattle.std.proofs.Common.{List, ℕ, string_bytes, subst}
-use Rattle.basic_command.specs.Basics.{Prints, OutputTold, output_told}
+use Rattle.command_status.specs.Told.{SinkTold, sink_told, Prints}
 use Rattle.basic_command.proofs.Leaving.{prints, refuses}
 use Rattle.basic_command.proofs.command.basic.Goals as goal
 
 pub returns-in-Ok-clause-leaves : goal.returns-in-Ok-clause-leaves
 returns-in-Ok-clause-leaves g c =
-    let before : OutputTold = output_told (g.K.Sink.taken c.args.out.now) (g.K.Sink.faults c.args.out.now) in
-    let after : OutputTold = output_told (g.K.Sink.taken c.print_lines.new.out) (g.K.Sink.faults c.print_lines.new.out) in
+    let before : SinkTold = sink_told (g.K.Sink.taken c.args.out.now) (g.K.Sink.faults c.args.out.now) in
+    let after : SinkTold = sink_told (g.K.Sink.taken c.print_lines.new.out) (g.K.Sink.faults c.print_lines.new.out) in
     let printed = subst (λ (lines : List ℕ). Prints lines c.print_lines.result before after) c.as_str.ensures.value c.print_lines.ensures in
     prints (string_bytes c.in-Ok.lines) c.print_lines.result _ before after c.in-Ok.ensures.printed c.in-Ok.ensures.faults printed
 

@@ -9,7 +9,7 @@ use Rattle.car_core.specs.Lawful.{IsDrivenLawfully}
 use Rattle.car_core.specs.Made.{IsMadeOf}
 use Rattle.car_core.specs.Ending.{EndedAs}
 use Rattle.station_command.proofs.Begun.{IsNew, started_run, started_text}
-use Rattle.station_command.specs.Served.{sink_told}
+use Rattle.command_status.specs.Told.{sink_told}
 use Rattle.car_command.specs.Lines.{Concludes}
 use Rattle.car_command.proofs.Begun.{started_waits}
 use Rattle.car_command.proofs.driving.drive_site.Goals as goal
