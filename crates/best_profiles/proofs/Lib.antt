@@ -1,0 +1,2 @@
+pub mod OneBest
+pub mod Bounded

@@ -1,0 +1,2 @@
+pub mod Requestable
+pub mod Payloads

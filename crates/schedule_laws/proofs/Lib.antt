@@ -1,0 +1,2 @@
+pub mod OneFate
+pub mod Following
