@@ -1,0 +1,6 @@
+use Rattle.std.proofs.Common.{◌↔◌, map, drop}
+use Rattle.service_spec.specs.Services.{said_of, Fits}
+use Rattle.service_spec.proofs.picking.are_met.Given as goal
+
+abbrev pub invariant-loop-pair : goal.invariant-loop-pair
+invariant-loop-pair l = Fits (map said_of l.want) (map said_of l.parameters) ↔ Fits (map said_of (drop l.pair-index l.want)) (map said_of l.parameters)

@@ -1,0 +1,4 @@
+pub mod Pieces
+pub mod Services
+pub mod Texts
+pub mod Wants
