@@ -6,6 +6,8 @@ use Rattle.message_trees.proofs.Decided.{apart, scanned_apart}
 use Rattle.charge_run.specs.Runs.{Answers, Decodes, IsDecodedLine, IsDecodeFault, Encodes, IsEncodedLine}
 use Rattle.command_status.specs.declared.status.Status.{Status}
 use Rattle.command_status.specs.declared.status.Status.TheVariants as status
+use Rattle.command_status.specs.Told.{SinkTold, file_told}
+use Rattle.offer_command.specs.Offering.{OfferLeaves}
 
 -- a text that is refused gives no line
 no_line : (dialect : MessageDialect) (hex line : List ℕ) (place : ℕ) → IsDecodedLine dialect hex line → IsDecodeFault dialect hex place → ⊥
@@ -48,3 +50,9 @@ pub same_encoded : (d e : MessageDialect) (a b : List ℕ) → (d ≡ e) × (a �
 same_encoded d e a b same s before after n m h =
     subst (λ (x : MessageDialect). Encodes x b s before after n m) same.0
     (subst (λ (x : List ℕ). Encodes d x s before after n m) same.1 h)
+
+pub same_offered : (holds : List ℕ → Option (List ℕ)) (m n : ℕ) (a b : List ℕ) → (a ≡ b) × (m ≡ n) → (s : Status) (left : Option (List ℕ)) (k l : ℕ) (before after : SinkTold) →
+    OfferLeaves m s (file_told (holds a) left k l) before after → OfferLeaves n s (file_told (holds b) left k l) before after
+same_offered holds m n a b same s left k l before after h =
+    subst (λ (x : ℕ). OfferLeaves x s (file_told (holds b) left k l) before after) same.1
+    (subst (λ (x : List ℕ). OfferLeaves m s (file_told (holds x) left k l) before after) same.0 h)

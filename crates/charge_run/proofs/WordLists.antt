@@ -1,7 +1,7 @@
 -- The words of a command.
 use Rattle.std.proofs.Common.{◌≡◌, ℕ, List}
 use Rattle.message_dialects.specs.declared.dialect.MessageDialect.{MessageDialect}
-use Rattle.command_words.specs.Command.{IsDecode, IsEncode, decode, encode}
+use Rattle.command_words.specs.Command.{IsDecode, IsEncode, IsOffer, decode, encode, offer}
 use Rattle.command_words.proofs.Told.{one_asked}
 
 same_decode : (d e : MessageDialect) (a b : List ℕ) → decode d a ≡ decode e b → (d ≡ e) × (a ≡ b)
@@ -10,9 +10,16 @@ same_decode d e a b h = (cc, cc)
 same_encode : (d e : MessageDialect) (a b : List ℕ) → encode d a ≡ encode e b → (d ≡ e) × (a ≡ b)
 same_encode d e a b h = (cc, cc)
 
+same_offer : (m n : ℕ) (a b : List ℕ) → offer a m ≡ offer b n → (a ≡ b) × (m ≡ n)
+same_offer m n a b h = (cc, cc)
+
 -- the words of a command have one dialect and one value
 pub one_decode : (words : List (List ℕ)) (d e : MessageDialect) (a b : List ℕ) → IsDecode words d a → IsDecode words e b → (d ≡ e) × (a ≡ b)
 one_decode words d e a b h k = same_decode d e a b (one_asked words (decode d a) (decode e b) h k)
 
 pub one_encode : (words : List (List ℕ)) (d e : MessageDialect) (a b : List ℕ) → IsEncode words d a → IsEncode words e b → (d ≡ e) × (a ≡ b)
 one_encode words d e a b h k = same_encode d e a b (one_asked words (encode d a) (encode e b) h k)
+
+-- and one file and one moment
+pub one_offer : (words : List (List ℕ)) (m n : ℕ) (a b : List ℕ) → IsOffer words a m → IsOffer words b n → (a ≡ b) × (m ≡ n)
+one_offer words m n a b h k = same_offer m n a b (one_asked words (offer a m) (offer b n) h k)

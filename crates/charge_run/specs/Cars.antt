@@ -6,10 +6,10 @@ use Rattle.plan_files.specs.Plans.{IsCarPlanIn}
 use Rattle.command_status.specs.declared.status.Status.{Status}
 use Rattle.command_status.specs.declared.status.Status.TheVariants as status
 use Rattle.command_status.specs.FaultLines.{Tells, source_line}
-use Rattle.replay_command.specs.Served.{WireTold, SinkTold, IsBegun}
+use Rattle.command_status.specs.Told.{FileTold, SinkTold}
+use Rattle.replay_command.specs.Served.{WireTold, IsBegun}
 use Rattle.car_command.specs.Driven.{Drives}
 use Rattle.car_command.specs.Refused.{IsRefused}
-use Rattle.charge_run.specs.Stations.{FileTold}
 
 -- Once the wire is started, all is as the plan in the file says. Where the file is no plan or can't be read, that is told.
 pub record CarLeaves (c : Codecs) (s : Status) (file : FileTold) (before after : WireTold) (trace_before trace : Option (List ℕ)) (out_before out : SinkTold) : Type 0 where

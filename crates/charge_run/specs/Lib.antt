@@ -1,6 +1,5 @@
 pub use Rattle.message_trees.specs.Texts
 pub use Rattle.replay_command.specs.Served
-pub mod HexText
 pub mod Runs
 pub mod Stations
 pub mod Cars

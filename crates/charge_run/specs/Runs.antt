@@ -15,8 +15,10 @@ use Rattle.message_trees.specs.Texts.{IsPrinted, IsRefusedIn, IsScanned, IsUnsca
 use Rattle.command_status.specs.declared.status.Status.{Status}
 use Rattle.command_status.specs.declared.status.Status.TheVariants as status
 use Rattle.command_status.specs.FaultLines.{Tells, input_line}
-use Rattle.command_words.specs.Command.{IsBasic, IsCar, IsReplay, IsStation}
-use Rattle.charge_run.specs.HexText.{hex_fault, IsHexOf}
+use Rattle.command_words.specs.Command.{IsBasic, IsCar, IsMigrate, IsOffer, IsReplay, IsSchedule, IsStation}
+use Rattle.hex_payloads.specs.HexText.{hex_fault, IsHexOf}
+use Rattle.hex_payloads.specs.declared.hex_text.HexFault.{HexFault}
+use Rattle.hex_payloads.specs.declared.hex_text.HexFault.TheVariants as hex
 use Rattle.hex.specs.Hex.{encode_lower}
 use Rattle.charge_run.specs.declared.fault.InputFault.{InputFault}
 use Rattle.charge_run.specs.declared.fault.InputFault.TheVariants.{Place, Memory}
@@ -41,21 +43,30 @@ IsSomeReplay words = (plan : List ℕ) × (trace : List ℕ) × IsReplay words p
 abbrev pub IsSomeBasic : List (List ℕ) → Type 0
 IsSomeBasic words = (script : List ℕ) × IsBasic words script
 
+abbrev pub IsSomeMigrate : List (List ℕ) → Type 0
+IsSomeMigrate words = (trace : List ℕ) × IsMigrate words trace
+
+abbrev pub IsSomeOffer : List (List ℕ) → Type 0
+IsSomeOffer words = (calendar : List ℕ) × (moment : ℕ) × IsOffer words calendar moment
+
+abbrev pub IsSomeSchedule : List (List ℕ) → Type 0
+IsSomeSchedule words = (need : List ℕ) × (payload : List ℕ) × IsSchedule words need payload
+
 -- the commands that use the wire
 abbrev pub UsesWire : List (List ℕ) → Type 0
 UsesWire words = IsSomeStation words ⊎ IsSomeCar words
 
--- the commands that read a plan
+-- the commands that read a plan, a calendar or a need
 abbrev pub ReadsPlan : List (List ℕ) → Type 0
-ReadsPlan words = UsesWire words ⊎ IsSomeReplay words
+ReadsPlan words = UsesWire words ⊎ IsSomeReplay words ⊎ IsSomeOffer words ⊎ IsSomeSchedule words
 
 -- the commands that write a trace
 abbrev pub WritesTrace : List (List ℕ) → Type 0
-WritesTrace words = UsesWire words ⊎ IsSomeReplay words
+WritesTrace words = UsesWire words ⊎ IsSomeReplay words ⊎ IsSomeMigrate words
 
 -- the commands that read files
 abbrev pub ReadsFiles : List (List ℕ) → Type 0
-ReadsFiles words = ReadsPlan words ⊎ IsSomeBasic words
+ReadsFiles words = ReadsPlan words ⊎ IsSomeBasic words ⊎ IsSomeMigrate words
 
 -- ---- a line or a fault
 
@@ -66,11 +77,7 @@ Answers IsLine IsFaultAt status.Done before after n m = (line : List ℕ) × IsL
 Answers IsLine IsFaultAt status.SinkFault before after n m = (line : List ℕ) × IsLine line × AppendsSome before after line
 Answers IsLine IsFaultAt status.Input before after n m = (place : ℕ) × IsFaultAt place × Tells before after n m (input_line place)
 Answers IsLine IsFaultAt status.NoMemory before after n m = after ≡ before
-Answers IsLine IsFaultAt status.Words before after n m = ⊥
-Answers IsLine IsFaultAt status.Plan before after n m = ⊥
-Answers IsLine IsFaultAt status.WireFault before after n m = ⊥
-Answers IsLine IsFaultAt status.SourceFault before after n m = ⊥
-Answers IsLine IsFaultAt status.TurnsSpent before after n m = ⊥
+Answers IsLine IsFaultAt _ before after n m = ⊥
 
 -- the line was printed, or a front of it where it was not written
 abbrev pub Prints : List ℕ → Status → Option (List ℕ) → Option (List ℕ) → ℕ → ℕ → Type 0
@@ -81,6 +88,11 @@ Prints line s before after n m =
 abbrev pub Refuses : InputFault → Status → Option (List ℕ) → Option (List ℕ) → ℕ → ℕ → Type 0
 Refuses (Place place) s before after n m = (s ≡ status.Input) × Tells before after n m (input_line place)
 Refuses Memory s before after n m = (s ≡ status.NoMemory) × (after ≡ before) × (m ≡ n)
+
+-- the fault of a hexadecimal text
+abbrev pub input_fault : HexFault → InputFault
+input_fault (hex.Place place) = Place place
+input_fault hex.Memory = Memory
 
 -- the fault is at one of these places. Want of memory comes freely
 abbrev pub HasFault : (ℕ → Type 0) → InputFault → Type 0

@@ -6,18 +6,9 @@ use Rattle.plan_files.specs.Plans.{IsSitePlanIn}
 use Rattle.command_status.specs.declared.status.Status.{Status}
 use Rattle.command_status.specs.declared.status.Status.TheVariants as status
 use Rattle.command_status.specs.FaultLines.{Tells, source_line}
-use Rattle.replay_command.specs.Served.{WireTold, SinkTold, Serves, IsBegun}
+use Rattle.command_status.specs.Told.{FileTold, SinkTold}
+use Rattle.replay_command.specs.Served.{WireTold, Serves, IsBegun}
 use Rattle.replay_command.specs.Refused.{IsRefused}
-
--- what a source tells of the file of a plan: its text, and what is left of it; its count of faults went from n to m
-pub record FileTold : Type 0 where
-  pub text : Option (List ℕ)
-  pub left : Option (List ℕ)
-  pub n : ℕ
-  pub m : ℕ
-
-abbrev pub file_told : Option (List ℕ) → Option (List ℕ) → ℕ → ℕ → FileTold
-file_told text left n m = record { text = text; left = left; n = n; m = m }
 
 -- Once the wire is started, all is as the plan in the file says. Where the file is no plan or can't be read, that is told.
 pub record StationLeaves (c : Codecs) (s : Status) (file : FileTold) (before after : WireTold) (trace_before trace : Option (List ℕ)) (out_before out : SinkTold) : Type 0 where

@@ -6,9 +6,9 @@ ghost use Rattle.charge_run.specs.Runs.{Decodes, IsDecodedLine, IsDecodeFault, H
 
 use crate::answer::{print_line, refuse};
 use crate::fault::InputFault;
-use crate::hex_text::bytes_of;
 use charge_world::Sink;
 use command_status::Status;
+use hex_payloads::bytes_of;
 use message_trees::{MessageDialect, PrintFault, print_payload};
 use std::alloc::Global;
 
@@ -32,7 +32,6 @@ pub(crate) fn decode<K: Sink>(
 }
 
 /// The line that is printed.
-#[tactic(auto, using(crate::proofs::HexLengths::length_hex))]
 fn line_of(alloc: Global, dialect: MessageDialect, hex: &str) -> Result<String, InputFault>
     ensures line { IfOk result (λ line. IsDecodedLine dialect hex.now (string_bytes line)) }
     ensures fault { IfErr result (HasFault (IsDecodeFault dialect hex.now)) }

@@ -1,9 +1,9 @@
 //! The command that drives a car.
 
 ghost use Rattle.std.specs.Prelude.{◌≡◌, ◌<◌, ◌⊎◌, ℕ, List};
-ghost use Rattle.replay_command.specs.Served.{wire_told, sink_told, IsBegun, IsUnbegun};
+ghost use Rattle.replay_command.specs.Served.{wire_told, IsBegun, IsUnbegun};
+ghost use Rattle.command_status.specs.Told.{file_told, sink_told};
 ghost use Rattle.charge_run.specs.Runs.{car_codecs};
-ghost use Rattle.charge_run.specs.Stations.{file_told};
 ghost use Rattle.charge_run.specs.Cars.{CarLeaves};
 
 use car_codecs::CarCodecs;

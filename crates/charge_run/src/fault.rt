@@ -3,6 +3,7 @@
 ghost use Rattle.std.specs.Prelude.{◌≡◌};
 
 use charge_world::NoMemory;
+use hex_payloads::HexFault;
 
 /// Why an input has no answer.
 #[derive(Clone, Copy)]
@@ -20,5 +21,18 @@ impl From<NoMemory> for InputFault {
 
     fn from(_none: NoMemory) -> InputFault {
         InputFault::Memory
+    }
+}
+
+impl From<HexFault> for InputFault {
+    ghost use Rattle.charge_run.specs.Runs.{input_fault};
+
+    ghost from_gives = { λ hex fault. fault ≡ input_fault hex };
+
+    fn from(fault: HexFault) -> InputFault {
+        match fault {
+            HexFault::Place(place) => InputFault::Place(place),
+            HexFault::Memory => InputFault::Memory,
+        }
     }
 }

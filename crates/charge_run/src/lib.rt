@@ -8,7 +8,6 @@ mod decode;
 mod driving;
 mod encode;
 mod fault;
-mod hex_text;
 mod replaying;
 mod serving;
 mod top;

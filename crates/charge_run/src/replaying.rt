@@ -1,9 +1,10 @@
 //! The command that replays a trace.
 
 ghost use Rattle.std.specs.Prelude.{◌≡◌, ◌<◌, ◌⊎◌, ℕ, List};
-ghost use Rattle.replay_command.specs.Served.{sink_told, IsUnbegun};
-ghost use Rattle.replay_command.specs.Files.{files_told, TellsAlways};
+ghost use Rattle.replay_command.specs.Served.{IsUnbegun};
+ghost use Rattle.replay_command.specs.Files.{files_told};
 ghost use Rattle.replay_command.specs.Replays.{ReplayLeaves};
+ghost use Rattle.command_status.specs.Told.{sink_told, TellsAlways};
 ghost use Rattle.charge_run.specs.Runs.{charge_codecs};
 
 use charge_codecs::ChargeCodecs;

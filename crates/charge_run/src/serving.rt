@@ -1,9 +1,10 @@
 //! The command that serves a station.
 
 ghost use Rattle.std.specs.Prelude.{◌≡◌, ◌<◌, ◌⊎◌, ℕ, List};
-ghost use Rattle.replay_command.specs.Served.{wire_told, sink_told, IsBegun, IsUnbegun};
+ghost use Rattle.replay_command.specs.Served.{wire_told, IsBegun, IsUnbegun};
+ghost use Rattle.command_status.specs.Told.{file_told, sink_told};
 ghost use Rattle.charge_run.specs.Runs.{charge_codecs};
-ghost use Rattle.charge_run.specs.Stations.{file_told, StationLeaves};
+ghost use Rattle.charge_run.specs.Stations.{StationLeaves};
 
 use charge_codecs::ChargeCodecs;
 use charge_world::{Sink, Source, Wire};

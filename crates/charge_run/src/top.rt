@@ -3,15 +3,20 @@
 ghost use Rattle.std.specs.Prelude.{◌≡◌, ◌<◌, ◌⊎◌, ℕ, List};
 ghost use Rattle.message_dialects.specs.declared.dialect.MessageDialect.{MessageDialect as OfDialect};
 ghost use Rattle.message_trees.specs.Texts.{IsUnscanned};
-ghost use Rattle.command_words.specs.Command.{IsNoCommand, IsStation, IsCar, IsReplay, IsDecode, IsEncode, IsBasic};
+ghost use Rattle.command_words.specs.Command.{IsNoCommand, IsStation, IsCar, IsReplay, IsDecode, IsEncode, IsBasic, IsMigrate, IsOffer, IsSchedule};
 ghost use Rattle.command_status.specs.FaultLines.{Tells, words_line};
-ghost use Rattle.replay_command.specs.Served.{wire_told, sink_told, IsUnbegun};
-ghost use Rattle.replay_command.specs.Files.{files_told, TellsAlways};
+ghost use Rattle.command_status.specs.Told.{file_told, sink_told, TellsAlways};
+ghost use Rattle.replay_command.specs.Served.{wire_told, IsUnbegun};
+ghost use Rattle.replay_command.specs.Files.{files_told};
 ghost use Rattle.replay_command.specs.Replays.{ReplayLeaves};
 ghost use Rattle.charge_run.specs.Cars.{CarLeaves};
-ghost use Rattle.basic_command.specs.Basics.{BasicLeaves, file_told as script_told, output_told};
-ghost use Rattle.charge_run.specs.Runs.{charge_codecs, car_codecs, UsesWire, IsSomeReplay, IsSomeBasic, ReadsFiles, ReadsPlan, WritesTrace, Decodes, IsDecodeFault, Encodes};
-ghost use Rattle.charge_run.specs.Stations.{file_told, StationLeaves};
+ghost use Rattle.basic_command.specs.Basics.{BasicLeaves};
+ghost use Rattle.migrate_command.specs.Leaving.{MigrateLeaves};
+ghost use Rattle.offer_command.specs.Offering.{OfferLeaves};
+ghost use Rattle.schedule_command.specs.Scheduling.{ScheduleLeaves};
+ghost use Rattle.migrate_command.specs.Lines.{sink_change};
+ghost use Rattle.charge_run.specs.Runs.{charge_codecs, car_codecs, UsesWire, IsSomeReplay, IsSomeBasic, IsSomeMigrate, IsSomeSchedule, ReadsFiles, ReadsPlan, WritesTrace, Decodes, IsDecodeFault, Encodes};
+ghost use Rattle.charge_run.specs.Stations.{StationLeaves};
 
 use crate::decode::decode;
 use crate::driving::drive;
@@ -22,6 +27,9 @@ use basic_command::basic;
 use charge_world::{Sink, Source, Wire};
 use command_status::{Status, tell_fault};
 use command_words::{Command, WordList, WordsFault, read_words};
+use migrate_command::migrate;
+use offer_command::offer;
+use schedule_command::schedule;
 use std::alloc::Global;
 
 /// Does all that the program does. The words are one command:
@@ -39,6 +47,11 @@ use std::alloc::Global;
 /// - `encode DIALECT TEXT` prints the payload that is written for the message whose tree text this is, in hexadecimal digits.
 /// - `basic SCRIPT` prints a line for each order that a post in basic charging (IEC 61851-1) gives for the events of the script in a file, at
 ///   the moment as it counts.
+/// - `migrate TRACE` writes the trace of format 1 in a file as one of format 2, and prints `lines N`, how many lines that has.
+/// - `offer CALENDAR MOMENT` prints what a station offers for the day from a second of it on by the calendar in a file: a line `START WATTS`
+///   for each step.
+/// - `schedule NEED HEX` prints the charging profile with which a car, by the need in a file, answers the schedules of a payload, and the
+///   payload of its PowerDeliveryReq (ISO 15118-2:2014, 8.4.3.9).
 ///
 /// `station`: where the wire tells its past, and was lent with an empty one, that is a run of the site by the plan of the file, and the
 /// status is the one that the past has: `Done` where Over was heard, `TurnsSpent` behind the plan's last turn, `WireFault` where a hearing
@@ -63,6 +76,15 @@ use std::alloc::Global;
 /// `basic`: `Done` where the lines were written, which are those of a run of the machine over the script's events, whose contactor is closed
 /// for ready vehicles alone (`IsCharged` of `basic_command`). Before that come `NoMemory`, `SourceFault` where the file can't be read, and
 /// `Input` where it is no script. The trace and the wire stay as they were.
+///
+/// `migrate`: `Done` where the text of the file's entries in format 2 was written as the trace, and the line. Before that come `NoMemory`,
+/// `SourceFault` where the file can't be read, and `Input` where it is no trace of format 1. The wire stays as it was.
+///
+/// `offer`: `Done` where the lines were written, which are those of the one offer of the file's calendar at that moment. `schedule`: `Done`
+/// where the lines were written, whose profile is within the first tuple that has one which reaches the energy, and the best of them;
+/// `Unreached` where no tuple has one, whatever its starts, `NoSchedule` where the message has no schedules that can be answered, and `Input`
+/// where the text spells no bytes or the payload no message. Of both: before that come `NoMemory`, `SourceFault` where the file can't be read,
+/// and `Plan` where it is no calendar or no need. The trace and the wire stay as they were.
 ///
 /// `SinkFault` takes the place of `Done` and `TurnsSpent` where a line could not be written, and ends serving where a line of the trace
 /// could not. Each fault has its line, whose failure changes nothing.
@@ -100,10 +122,26 @@ pub fn run<F: Source, K: Sink, J: Sink, W: Wire>(
 
     // `basic`: the lines are those of the orders of a run over the script in the file, or its fault is told.
     ensures basic { (name : List ℕ) → IsBasic words.now name
-        → BasicLeaves result (script_told (F.holds files.old name) (F.left files.new) (F.faults files.old) (F.faults files.new))
-        (output_told (K.taken out.old) (K.faults out.old)) (output_told (K.taken out.new) (K.faults out.new)) }
+        → BasicLeaves result (file_told (F.holds files.old name) (F.left files.new) (F.faults files.old) (F.faults files.new))
+        (sink_told (K.taken out.old) (K.faults out.old)) (sink_told (K.taken out.new) (K.faults out.new)) }
 
-    // Only the first three read a plan, and only they and `basic` read files.
+    // `migrate`: the trace is that of the file in the newer format, or its fault is told.
+    ensures migrate { (name : List ℕ) → IsMigrate words.now name
+        → MigrateLeaves (TellsAlways F.left) result (F.holds files.old name) (F.faults files.old) (F.faults files.new)
+        (sink_change (J.taken trace.old) (J.taken trace.new) (J.faults trace.old) (J.faults trace.new))
+        (sink_change (K.taken out.old) (K.taken out.new) (K.faults out.old) (K.faults out.new)) }
+
+    // `offer`: the lines are those of the offer of the calendar in the file, or its fault is told.
+    ensures offer { (name : List ℕ) (moment : ℕ) → IsOffer words.now name moment
+        → OfferLeaves moment result (file_told (F.holds files.old name) (F.left files.new) (F.faults files.old) (F.faults files.new))
+        (sink_told (K.taken out.old) (K.faults out.old)) (sink_told (K.taken out.new) (K.faults out.new)) }
+
+    // `schedule`: the lines are those of the best profile for the need in the file, or why there is none is told.
+    ensures schedule { (name : List ℕ) (payload : List ℕ) → IsSchedule words.now name payload
+        → ScheduleLeaves result payload (file_told (F.holds files.old name) (F.left files.new) (F.faults files.old) (F.faults files.new))
+        (sink_told (K.taken out.old) (K.faults out.old)) (sink_told (K.taken out.new) (K.faults out.new)) }
+
+    // Only the first three, `offer` and `schedule` read a plan or a file of keys, and only they, `basic` and `migrate` read files.
     ensures plan { result ≡ Status.Plan → ReadsPlan words.now }
     ensures source { result ≡ Status.SourceFault → ReadsFiles words.now }
 
@@ -120,7 +158,9 @@ pub fn run<F: Source, K: Sink, J: Sink, W: Wire>(
         → ((dialect : OfDialect) × (hex : List ℕ) × (place : ℕ) × IsDecode words.now dialect hex × IsDecodeFault dialect hex place)
         ⊎ ((dialect : OfDialect) × (text : List ℕ) × (place : ℕ) × IsEncode words.now dialect text × IsUnscanned dialect text place)
         ⊎ IsSomeReplay words.now
-        ⊎ IsSomeBasic words.now }
+        ⊎ IsSomeBasic words.now
+        ⊎ IsSomeMigrate words.now
+        ⊎ IsSomeSchedule words.now }
     ensures refused { (dialect : OfDialect) (hex : List ℕ) (place : ℕ) → IsDecode words.now dialect hex → IsDecodeFault dialect hex place
         → (result ≡ Status.Input) ⊎ (result ≡ Status.NoMemory) }
     ensures encode_refused { (dialect : OfDialect) (text : List ℕ) (place : ℕ) → IsEncode words.now dialect text → IsUnscanned dialect text place
@@ -130,7 +170,8 @@ pub fn run<F: Source, K: Sink, J: Sink, W: Wire>(
     ensures unbegun { IsUnbegun result → (wire.new ≡ wire.old) × (trace.new ≡ trace.old) }
     ensures no_memory { result ≡ Status.NoMemory → (K.taken out.new ≡ K.taken out.old) × (K.faults out.new ≡ K.faults out.old) }
 
-    // Only `station` and `car` use the wire, only they and `replay` the trace, and only these and `basic` files; no file changes.
+    // Only `station` and `car` use the wire, only they, `replay` and `migrate` the trace, and `decode` and
+    // `encode` alone read no file; no file changes.
     ensures alone { (UsesWire words.now → ⊥) → wire.new ≡ wire.old }
     ensures untraced { (WritesTrace words.now → ⊥) → trace.new ≡ trace.old }
     ensures apart { (ReadsFiles words.now → ⊥) → files.new ≡ files.old }
@@ -153,6 +194,9 @@ pub fn run<F: Source, K: Sink, J: Sink, W: Wire>(
         Ok(Command::Decode { dialect, hex }) => decode(alloc, dialect, hex, out),
         Ok(Command::Encode { dialect, text }) => encode(alloc, dialect, text, out),
         Ok(Command::Basic { script }) => basic(alloc, script, files, out),
+        Ok(Command::Migrate { trace: recorded }) => migrate(alloc, recorded, files, out, trace),
+        Ok(Command::Offer { calendar, moment }) => offer(alloc, calendar, moment, files, out),
+        Ok(Command::Schedule { need, hex }) => schedule(alloc, need, hex, files, out),
         Err(WordsFault::NoCommand) => {
             tell_fault(out, b"words\n");
             Status::Words

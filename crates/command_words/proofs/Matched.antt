@@ -10,7 +10,7 @@ use Rattle.clap.specs.Kinds.{Kinds}
 use Rattle.clap.specs.Faults.{fault_of}
 use Rattle.clap.proofs.WalkLemmas.{both}
 use Rattle.command_words.specs.Command.{is_plain}
-use Rattle.command_words.specs.Grammar.{Form, IsMatched, IsTaken, IsUnmatched, count_of, forms, given_rows, named, program}
+use Rattle.command_words.specs.Grammar.{Form, IsMatched, IsUnmatched, count_of, forms, given_rows, named, program}
 use Rattle.command_words.proofs.Leaves.{IsFaulty, IsNoOption, IsPassed, IsStopped, faulty, judged, no_option}
 use Rattle.command_words.proofs.Entered.{enters_fault, enters_rows, no_word, other_word}
 

@@ -1,10 +1,13 @@
 -- What is asked for by the words of a command.
-use Rattle.std.proofs.Common.{◌≡◌, ◌∙◌, Bool, cond, true, false, List, [], ◌∷◌, length, Option, Some, None, codes, refl, sym, ap, ap₂, subst, arith, Box, box_value}
+use Rattle.std.proofs.Common.{◌≡◌, ◌≢◌, ◌∙◌, ◌<◌, ◌≤◌, ◌^◌, ◌-◌, ◌&&◌, nat_lt, ℕ, Bool, cond, true, false, List, [], ◌∷◌, length, Option, Some, None, codes, decimal, refl, sym, ap, ap₂, subst, arith, Box, box_value}
 use Rattle.std.specs.List.{AllByRecursion, list_all}
 use Rattle.std.specs.Prelude.{IfOk, IfErr, IsSomeAnd, option_and_then, option_map}
 use Rattle.std.specs.Option.{ok_or}
+use Rattle.std.specs.Str.Parse.{digits_value}
 use Rattle.std.specs.Str.{bytes_eq}
+use Rattle.std.proofs.lemmas.Bool.Decides.{Decides-ltb}
 use Rattle.std.proofs.lemmas.Slice.Eq.{bytes_eq-Decides}
+use Rattle.std.proofs.lemmas.Fmt.{decimal_is_IsNumeral}
 use Rattle.clap.specs.Walk.{Row, Text}
 use Rattle.clap.specs.Words.{found_of, rows_of}
 use Rattle.clap.specs.Simple.{subcommand_rows}
@@ -12,10 +15,78 @@ use Rattle.clap.specs.declared.parser.matches.SubCommand.{SubCommand}
 use Rattle.clap.specs.declared.parser.matches.ArgMatches.TheViews.{out-SubCommand}
 use Rattle.message_dialects.specs.declared.dialect.MessageDialect.{MessageDialect}
 use Rattle.message_dialects.specs.declared.dialect.MessageDialect.TheVariants.{App, Iso, Din}
-use Rattle.command_words.specs.Command.{Asked, Asks, HasWordsFault, IsCommand, IsNoCommand, asked_of, basic, car, decode, dialect_named, dialect_word, encode, is_plain, replay, station, words_of}
-use Rattle.command_words.specs.Grammar.{Form, IsMatched, IsTaken, IsUnmatched, count_of, forms, given_rows, named, on_dialect, told, told_of, with_one, with_two}
+use Rattle.command_words.specs.Command.{Asked, Asks, HasWordsFault, IsCommand, IsNoCommand, asked_of, basic, car, decode, dialect_named, dialect_word, day, encode, is_plain, IsWithin, migrate, offer, replay, schedule, station, words_of}
+use Rattle.command_words.specs.Grammar.{Form, IsMatched, IsTaken, IsUnmatched, count_of, forms, given_rows, is_number, named, number_named, on_dialect, told, told_of, with_number, with_one, with_two}
 use Rattle.command_words.specs.declared.reading.Command.{Command}
 use Rattle.command_words.specs.declared.reading.WordsFault.TheVariants.{NoCommand}
+
+same_some : {X : Type 0} (a b : X) → Some a ≡ Some b → a ≡ b
+same_some a b e = cc
+
+-- ---- numbers
+
+cond_true : {X : Type 0} (b : Bool) (x y : X) → b ≡ true → cond b x y ≡ x
+cond_true true x y h = refl
+cond_true false x y h = let bad : false ≡ true = h in absurd cc
+
+cond_false : {X : Type 0} (b : Bool) (x y : X) → (b ≡ true → ⊥) → cond b x y ≡ y
+cond_false true x y h = absurd (h refl)
+cond_false false x y h = refl
+
+both_true : (a b : Bool) → a ≡ true → b ≡ true → (a && b) ≡ true
+both_true true b p q = q
+both_true false b p q = p
+
+both_parts : (a b : Bool) → (a && b) ≡ true → (a ≡ true) × (b ≡ true)
+both_parts true b h = (refl, h)
+both_parts false b h = (h, let bad : false ≡ true = h in absurd cc)
+
+abbrev pub Fits : ℕ → Type 0
+Fits bound = bound ≤ 2 ^ 64
+
+day_fits : Fits day
+day_fits = omega arith
+
+value_is : (bound n : ℕ) → Fits bound → n < bound → digits_value 10 (decimal n) ≡ n
+value_is bound n fits less = (decimal_is_IsNumeral n (omega (arith, fits, less))).1
+
+-- the text of a number below the bound is that number
+pub number_is : (bound n : ℕ) → Fits bound → n < bound → number_named bound (decimal n) ≡ Some n
+unfolding number_named
+number_is bound n fits less =
+    let value = value_is bound n fits less in
+    subst (λ (v : ℕ). cond (is_number bound (decimal n) v) (Some v) None ≡ Some n) (sym value)
+    (cond_true (is_number bound (decimal n) n) (Some n) None
+    (both_true _ _ ((bytes_eq-Decides (decimal n) (decimal n)).1 refl) ((Decides-ltb n bound).1 less)))
+
+-- another word is none
+pub number_none : (bound : ℕ) (word : Text) → ((n : ℕ) → n < bound → word ≢ decimal n) → number_named bound word ≡ None
+unfolding number_named
+number_none bound word none =
+    let n = digits_value 10 word in
+    cond_false (is_number bound word n) (Some n) None (λ is.
+    let parts = both_parts (bytes_eq (decimal n) word) (nat_lt n bound) is in
+    none n ((Decides-ltb n bound).0 parts.1) (sym ((bytes_eq-Decides (decimal n) word).0 parts.0)))
+
+-- a number that was read of the word, and none
+pub number_read : (bound n : ℕ) (word : Text) → 0 < bound → Fits bound → n ≤ bound - 1 → word ≡ decimal n → Some n ≡ number_named bound word
+number_read bound n word some fits most spelled = sym (ap (number_named bound) spelled ∙ number_is bound n fits (omega (arith, some, most)))
+
+pub number_unread : (bound : ℕ) (word : Text) → 0 < bound → ((n : ℕ) → (0 ≤ n) × (n ≤ bound - 1) → word ≢ decimal n) → None ≡ number_named bound word
+number_unread bound word some none = sym (number_none bound word (λ n less. none n (omega arith, omega (arith, some, less))))
+
+-- what is found is spelled so, and is below the bound
+pub number_of : (bound : ℕ) (word : Text) (n : ℕ) → number_named bound word ≡ Some n → (word ≡ decimal n) × (n < bound)
+unfolding number_named
+number_of bound word n = go (is_number bound word (digits_value 10 word)) refl
+  where
+    go : (b : Bool) → is_number bound word (digits_value 10 word) ≡ b → cond b (Some (digits_value 10 word)) None ≡ Some n → (word ≡ decimal n) × (n < bound)
+    go true is e =
+        let parts = both_parts (bytes_eq (decimal (digits_value 10 word)) word) (nat_lt (digits_value 10 word) bound) is in
+        let same : digits_value 10 word ≡ n = same_some (digits_value 10 word) n e in
+        let spelled : word ≡ decimal n = sym ((bytes_eq-Decides (decimal (digits_value 10 word)) word).0 parts.0) ∙ ap decimal same in
+        (spelled, subst (λ (v : ℕ). v < bound) same ((Decides-ltb (digits_value 10 word) bound).0 parts.1))
+    go false is e = let bad : None ≡ Some n = e in absurd cc
 
 -- ---- the words of what is asked for are read as that
 
@@ -26,25 +97,31 @@ pub record IsRead (asked : Asked) : Type 0 where
   pub taken : IsTaken name values
   pub told_is : told_of name (given_rows values) ≡ Some asked
 
-pub read : (asked : Asked) → IsRead asked
-read (station plan) = record { name = codes "station"; values = plan ∷ []; words_are = refl; taken = refl; told_is = refl }
-read (car plan) = record { name = codes "car"; values = plan ∷ []; words_are = refl; taken = refl; told_is = refl }
-read (replay plan trace) = record { name = codes "replay"; values = plan ∷ trace ∷ []; words_are = refl; taken = refl; told_is = refl }
-read (decode App hex) = record { name = codes "decode"; values = codes "app" ∷ hex ∷ []; words_are = refl; taken = refl; told_is = refl }
-read (decode Iso hex) = record { name = codes "decode"; values = codes "iso" ∷ hex ∷ []; words_are = refl; taken = refl; told_is = refl }
-read (decode Din hex) = record { name = codes "decode"; values = codes "din" ∷ hex ∷ []; words_are = refl; taken = refl; told_is = refl }
-read (encode App text) = record { name = codes "encode"; values = codes "app" ∷ text ∷ []; words_are = refl; taken = refl; told_is = refl }
-read (encode Iso text) = record { name = codes "encode"; values = codes "iso" ∷ text ∷ []; words_are = refl; taken = refl; told_is = refl }
-read (encode Din text) = record { name = codes "encode"; values = codes "din" ∷ text ∷ []; words_are = refl; taken = refl; told_is = refl }
-read (basic script) = record { name = codes "basic"; values = script ∷ []; words_are = refl; taken = refl; told_is = refl }
+pub read : (asked : Asked) → IsWithin asked → IsRead asked
+read (station plan) within = record { name = codes "station"; values = plan ∷ []; words_are = refl; taken = refl; told_is = refl }
+read (car plan) within = record { name = codes "car"; values = plan ∷ []; words_are = refl; taken = refl; told_is = refl }
+read (replay plan trace) within = record { name = codes "replay"; values = plan ∷ trace ∷ []; words_are = refl; taken = refl; told_is = refl }
+read (decode App hex) within = record { name = codes "decode"; values = codes "app" ∷ hex ∷ []; words_are = refl; taken = refl; told_is = refl }
+read (decode Iso hex) within = record { name = codes "decode"; values = codes "iso" ∷ hex ∷ []; words_are = refl; taken = refl; told_is = refl }
+read (decode Din hex) within = record { name = codes "decode"; values = codes "din" ∷ hex ∷ []; words_are = refl; taken = refl; told_is = refl }
+read (encode App text) within = record { name = codes "encode"; values = codes "app" ∷ text ∷ []; words_are = refl; taken = refl; told_is = refl }
+read (encode Iso text) within = record { name = codes "encode"; values = codes "iso" ∷ text ∷ []; words_are = refl; taken = refl; told_is = refl }
+read (encode Din text) within = record { name = codes "encode"; values = codes "din" ∷ text ∷ []; words_are = refl; taken = refl; told_is = refl }
+read (basic script) within = record { name = codes "basic"; values = script ∷ []; words_are = refl; taken = refl; told_is = refl }
+read (migrate trace) within = record { name = codes "migrate"; values = trace ∷ []; words_are = refl; taken = refl; told_is = refl }
+read (offer calendar moment) within = record {
+  name = codes "offer";
+  values = calendar ∷ decimal moment ∷ [];
+  words_are = refl;
+  taken = refl;
+  told_is = ap (λ (n : Option ℕ). option_map (λ (pair : Text × ℕ). offer pair.0 pair.1) (option_map (λ (number : ℕ). (calendar, number)) n)) (number_is day moment day_fits within);
+}
+read (schedule need hex) within = record { name = codes "schedule"; values = need ∷ hex ∷ []; words_are = refl; taken = refl; told_is = refl }
 
-same_some : {X : Type 0} (a b : X) → Some a ≡ Some b → a ≡ b
-same_some a b e = cc
-
-same_told : (asked other : Asked) → words_of asked ≡ words_of other → Some asked ≡ Some other
-same_told asked other e =
-    let one = read asked in
-    let two = read other in
+same_told : (asked other : Asked) → IsWithin asked → IsWithin other → words_of asked ≡ words_of other → Some asked ≡ Some other
+same_told asked other h k e =
+    let one = read asked h in
+    let two = read other k in
     let whole : one.name ∷ one.values ≡ two.name ∷ two.values = sym one.words_are ∙ e ∙ two.words_are in
     let name : one.name ≡ two.name = cc in
     let values : one.values ≡ two.values = cc in
@@ -52,23 +129,42 @@ same_told asked other e =
 
 -- words ask for one thing
 pub one_asked : (words : List Text) (asked other : Asked) → Asks words asked → Asks words other → asked ≡ other
-one_asked words asked other h k = same_some asked other (same_told asked other (sym h.words_are ∙ k.words_are))
+one_asked words asked other h k = same_some asked other (same_told asked other h.within k.within (sym h.words_are ∙ k.words_are))
 
 -- ---- what is told of words has these words
 
-abbrev MakesWords : Form → Type 0
-MakesWords form = (values : List Text) (asked : Asked) → length values ≡ count_of form.values → form.asks (given_rows values) ≡ Some asked → form.name ∷ values ≡ words_of asked
+-- the words of what is asked for, whose number is within its bounds
+abbrev Says : List Text → Asked → Type 0
+Says words asked = (words ≡ words_of asked) × IsWithin asked
 
-makes_one : (name : Text) (make : Text → Asked) → ((a : Text) → words_of (make a) ≡ name ∷ a ∷ []) → MakesWords (with_one name make)
+abbrev MakesWords : Form → Type 0
+MakesWords form = (values : List Text) (asked : Asked) → length values ≡ count_of form.values → form.asks (given_rows values) ≡ Some asked → Says (form.name ∷ values) asked
+
+said_by : (words : List Text) (made asked : Asked) → Some made ≡ Some asked → Says words made → Says words asked
+said_by words made asked e h = subst (Says words) (same_some made asked e) h
+
+makes_one : (name : Text) (make : Text → Asked) → ((a : Text) → Says (name ∷ a ∷ []) (make a)) → MakesWords (with_one name make)
 makes_one name make is [] asked many told = absurd (omega (arith, many))
-makes_one name make is (a ∷ []) asked many told = sym (is a) ∙ ap words_of (same_some (make a) asked told)
+makes_one name make is (a ∷ []) asked many told = said_by _ (make a) asked told (is a)
 makes_one name make is (a ∷ b ∷ rest) asked many told = absurd (omega (arith, many))
 
-makes_two : (name : Text) (make : Text → Text → Asked) → ((a b : Text) → words_of (make a b) ≡ name ∷ a ∷ b ∷ []) → MakesWords (with_two name make)
+makes_two : (name : Text) (make : Text → Text → Asked) → ((a b : Text) → Says (name ∷ a ∷ b ∷ []) (make a b)) → MakesWords (with_two name make)
 makes_two name make is [] asked many told = absurd (omega (arith, many))
 makes_two name make is (a ∷ []) asked many told = absurd (omega (arith, many))
-makes_two name make is (a ∷ b ∷ []) asked many told = sym (is a b) ∙ ap words_of (same_some (make a b) asked told)
+makes_two name make is (a ∷ b ∷ []) asked many told = said_by _ (make a b) asked told (is a b)
 makes_two name make is (a ∷ b ∷ c ∷ rest) asked many told = absurd (omega (arith, many))
+
+makes_number : (name : Text) (bound : ℕ) (make : Text → ℕ → Asked) → ((a : Text) (n : ℕ) → n < bound → Says (name ∷ a ∷ decimal n ∷ []) (make a n)) → MakesWords (with_number name bound make)
+makes_number name bound make is [] asked many says = absurd (omega (arith, many))
+makes_number name bound make is (a ∷ []) asked many says = absurd (omega (arith, many))
+makes_number name bound make is (a ∷ b ∷ []) asked many says = go (number_named bound b) refl says
+  where
+    go : (found : Option ℕ) → number_named bound b ≡ found → option_map (λ (pair : Text × ℕ). make pair.0 pair.1) (option_map (λ (number : ℕ). (a, number)) found) ≡ Some asked → Says (name ∷ a ∷ b ∷ []) asked
+    go None is_none e = let bad : None ≡ Some asked = e in absurd cc
+    go (Some n) found e =
+        let number = number_of bound b n found in
+        said_by _ (make a n) asked e (subst (λ (w : Text). Says (name ∷ a ∷ w ∷ []) (make a n)) (sym number.0) (is a n number.1))
+makes_number name bound make is (a ∷ b ∷ c ∷ rest) asked many says = absurd (omega (arith, many))
 
 named_word : (word : Text) (dialect : MessageDialect) → dialect_named word ≡ Some dialect → word ≡ dialect_word dialect
 named_word word dialect h = go (bytes_eq word (dialect_word App)) (bytes_eq word (dialect_word Iso)) (bytes_eq word (dialect_word Din)) refl refl refl h
@@ -83,30 +179,36 @@ named_word word dialect h = go (bytes_eq word (dialect_word App)) (bytes_eq word
 abbrev with_value : Text → Option MessageDialect → Option (MessageDialect × Text)
 with_value b d = option_and_then (λ dialect. option_map (λ value. (dialect, value)) (Some b)) d
 
-makes_dialect : (name : Text) (make : MessageDialect → Text → Asked) → ((d : MessageDialect) (b : Text) → words_of (make d b) ≡ name ∷ dialect_word d ∷ b ∷ []) → MakesWords (on_dialect name make)
+makes_dialect : (name : Text) (make : MessageDialect → Text → Asked) → ((d : MessageDialect) (b : Text) → Says (name ∷ dialect_word d ∷ b ∷ []) (make d b)) → MakesWords (on_dialect name make)
 makes_dialect name make is [] asked many told = absurd (omega (arith, many))
 makes_dialect name make is (a ∷ []) asked many told = absurd (omega (arith, many))
 makes_dialect name make is (a ∷ b ∷ []) asked many told = go (dialect_named a) refl told
   where
-    go : (d : Option MessageDialect) → dialect_named a ≡ d → option_map (λ pair. make pair.0 pair.1) (with_value b d) ≡ Some asked → name ∷ a ∷ b ∷ [] ≡ words_of asked
+    go : (d : Option MessageDialect) → dialect_named a ≡ d → option_map (λ pair. make pair.0 pair.1) (with_value b d) ≡ Some asked → Says (name ∷ a ∷ b ∷ []) asked
     go None none e = let bad : None ≡ Some asked = e in absurd cc
     go (Some d) found e =
         let word : a ≡ dialect_word d = named_word a d found in
-        ap (λ (w : Text). name ∷ w ∷ b ∷ []) word ∙ sym (is d b) ∙ ap words_of (same_some (make d b) asked e)
+        said_by _ (make d b) asked e (subst (λ (w : Text). Says (name ∷ w ∷ b ∷ []) (make d b)) (sym word) (is d b))
 makes_dialect name make is (a ∷ b ∷ c ∷ rest) asked many told = absurd (omega (arith, many))
 
 all_make : AllByRecursion MakesWords forms
 all_make = (
-  makes_one _ _ (λ a. refl),
+  makes_one _ _ (λ a. (refl, tt)),
   (
-    makes_one _ _ (λ a. refl),
+    makes_one _ _ (λ a. (refl, tt)),
     (
-      makes_two _ _ (λ a b. refl),
+      makes_two _ _ (λ a b. (refl, tt)),
       (
-        makes_dialect _ _ (λ d b. refl),
+        makes_dialect _ _ (λ d b. (refl, tt)),
         (
-          makes_dialect _ _ (λ d b. refl),
-          (makes_one _ _ (λ a. refl), tt),
+          makes_dialect _ _ (λ d b. (refl, tt)),
+          (
+            makes_one _ _ (λ a. (refl, tt)),
+            (
+              makes_one _ _ (λ a. (refl, tt)),
+              (makes_number _ _ _ (λ a n less. (refl, less)), (makes_two _ _ (λ a b. (refl, tt)), tt)),
+            ),
+          ),
         ),
       ),
     ),
@@ -115,15 +217,15 @@ all_make = (
 
 some_makes : (some : List Form) → AllByRecursion MakesWords some → (name : Text) (values : List Text) (asked : Asked)
     → IsSomeAnd (named name some) (λ form. length values ≡ count_of form.values) → option_and_then (λ form. form.asks (given_rows values)) (named name some) ≡ Some asked
-    → name ∷ values ≡ words_of asked
+    → Says (name ∷ values) asked
 some_makes [] all name values asked taken told = absurd taken
 some_makes (form ∷ rest) all name values asked taken told = go (some_makes rest all.1 name values asked) (bytes_eq form.name name) refl taken told
   where
     go : (IsSomeAnd (named name rest) (λ form. length values ≡ count_of form.values) → option_and_then (λ form. form.asks (given_rows values)) (named name rest) ≡ Some asked
-        → name ∷ values ≡ words_of asked) → (b : Bool) → bytes_eq form.name name ≡ b → IsSomeAnd (cond b (Some form) (named name rest)) (λ form. length values ≡ count_of form.values)
-        → option_and_then (λ form. form.asks (given_rows values)) (cond b (Some form) (named name rest)) ≡ Some asked → name ∷ values ≡ words_of asked
+        → Says (name ∷ values) asked) → (b : Bool) → bytes_eq form.name name ≡ b → IsSomeAnd (cond b (Some form) (named name rest)) (λ form. length values ≡ count_of form.values)
+        → option_and_then (λ form. form.asks (given_rows values)) (cond b (Some form) (named name rest)) ≡ Some asked → Says (name ∷ values) asked
     go behind true is taken told =
-        subst (λ (n : Text). n ∷ values ≡ words_of asked) ((bytes_eq-Decides form.name name).0 is) (all.0 values asked taken told)
+        subst (λ (n : Text). Says (n ∷ values) asked) ((bytes_eq-Decides form.name name).0 is) (all.0 values asked taken told)
     go behind false is taken told = behind taken told
 
 -- ---- the command that was read
@@ -157,19 +259,17 @@ not_plain words h asked asks = let bad : true ≡ false = sym asks.plain ∙ h i
 
 pub not_matched : (words : List Text) → IsUnmatched words → IsNoCommand words
 not_matched words h asked asks =
-    let it = read asked in
+    let it = read asked asks.within in
     h it.name it.values (asks.words_are ∙ it.words_are) it.taken
 
 pub commanded : (words : List Text) (met : Option (Text × List Row)) (command : Command) → list_all is_plain words ≡ true → IsMatched words met → Some (asked_of command) ≡ told met → IsCommand words command
-commanded words met command plain matched is = record {
-  words_are = matched.words_are
-      ∙ some_makes forms all_make matched.name matched.values (asked_of command) matched.taken (sym (is ∙ ap told matched.met_is));
-  plain = plain;
-}
+commanded words met command plain matched is =
+    let said = some_makes forms all_make matched.name matched.values (asked_of command) matched.taken (sym (is ∙ ap told matched.met_is)) in
+    record { words_are = matched.words_are ∙ said.0; within = said.1; plain = plain }
 
 pub not_told : (words : List Text) (met : Option (Text × List Row)) → IsMatched words met → None ≡ told met → IsNoCommand words
 not_told words met matched none asked asks =
-    let it = read asked in
+    let it = read asked asks.within in
     let whole : it.name ∷ it.values ≡ matched.name ∷ matched.values = sym it.words_are ∙ sym asks.words_are ∙ matched.words_are in
     let name : it.name ≡ matched.name = cc in
     let values : it.values ≡ matched.values = cc in

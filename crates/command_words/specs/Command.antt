@@ -1,11 +1,11 @@
 -- Own: the words of the program's commands. A word that begins with `-` is in none.
-use Rattle.std.specs.Prelude.{◌≡◌, ◌==◌, ℕ, Bool, not, true, if◌then◌else◌, List, [], ◌∷◌, Option, Some, None, codes}
+use Rattle.std.specs.Prelude.{◌≡◌, ◌==◌, ◌<◌, ℕ, Bool, not, true, if◌then◌else◌, List, [], ◌∷◌, Option, Some, None, codes, decimal}
 use Rattle.std.specs.List.{list_all}
 use Rattle.std.specs.Str.{bytes_eq}
 use Rattle.message_dialects.specs.declared.dialect.MessageDialect.{MessageDialect}
 use Rattle.message_dialects.specs.declared.dialect.MessageDialect.TheVariants.{App, Iso, Din}
 use Rattle.command_words.specs.declared.reading.Command.{Command}
-use Rattle.command_words.specs.declared.reading.Command.TheVariants.{Station, Car, Replay, Decode, Encode, Basic}
+use Rattle.command_words.specs.declared.reading.Command.TheVariants.{Station, Car, Replay, Decode, Encode, Basic, Migrate, Offer, Schedule}
 use Rattle.command_words.specs.declared.reading.WordsFault.{WordsFault}
 use Rattle.command_words.specs.declared.reading.WordsFault.TheVariants.{NoCommand, Memory}
 
@@ -29,8 +29,9 @@ dialect_named word =
     else None
 
 -- what may be asked for: to serve the posts of the plan in a file; to drive a car by the plan in a file; to run the posts of the plan in a file
--- over the hearings of the trace in another; the tree text of a payload of a dialect; the payload of a tree text of a dialect; and the orders
--- for the script in a file
+-- over the hearings of the trace in another; the tree text of a payload of a dialect; the payload of a tree text of a dialect; the orders
+-- for the script in a file; to carry the trace of an earlier format in a file over; what is offered for the day from a moment on by the calendar
+-- in a file; and the charging profile for the need in a file within the schedules of a payload
 pub data Asked : Type 0 where
   station : (plan : List ℕ) → Asked
   car : (plan : List ℕ) → Asked
@@ -38,6 +39,9 @@ pub data Asked : Type 0 where
   decode : (dialect : MessageDialect) (hex : List ℕ) → Asked
   encode : (dialect : MessageDialect) (text : List ℕ) → Asked
   basic : (script : List ℕ) → Asked
+  migrate : (trace : List ℕ) → Asked
+  offer : (calendar : List ℕ) (moment : ℕ) → Asked
+  schedule : (need hex : List ℕ) → Asked
 
 -- the words that ask for it
 abbrev pub words_of : Asked → List (List ℕ)
@@ -47,10 +51,23 @@ words_of (replay plan trace) = codes "replay" ∷ plan ∷ trace ∷ []
 words_of (decode dialect hex) = codes "decode" ∷ dialect_word dialect ∷ hex ∷ []
 words_of (encode dialect text) = codes "encode" ∷ dialect_word dialect ∷ text ∷ []
 words_of (basic script) = codes "basic" ∷ script ∷ []
+words_of (migrate trace) = codes "migrate" ∷ trace ∷ []
+words_of (offer calendar moment) = codes "offer" ∷ calendar ∷ decimal moment ∷ []
+words_of (schedule need hex) = codes "schedule" ∷ need ∷ hex ∷ []
+
+-- a day has so many seconds
+abbrev pub day : ℕ
+day = 86400
+
+-- a number is within its bounds: a moment is a second of a day
+abbrev pub IsWithin : Asked → Type 0
+IsWithin (offer calendar moment) = moment < day
+IsWithin _ = Unit {0}
 
 -- these words ask for it
 pub record Asks (words : List (List ℕ)) (asked : Asked) : Type 0 where
   pub words_are : words ≡ words_of asked
+  pub within : IsWithin asked
   pub plain : list_all is_plain words ≡ true
 
 abbrev pub IsStation : List (List ℕ) → List ℕ → Type 0
@@ -71,6 +88,15 @@ IsEncode words dialect text = Asks words (encode dialect text)
 abbrev pub IsBasic : List (List ℕ) → List ℕ → Type 0
 IsBasic words script = Asks words (basic script)
 
+abbrev pub IsMigrate : List (List ℕ) → List ℕ → Type 0
+IsMigrate words trace = Asks words (migrate trace)
+
+abbrev pub IsOffer : List (List ℕ) → List ℕ → ℕ → Type 0
+IsOffer words calendar moment = Asks words (offer calendar moment)
+
+abbrev pub IsSchedule : List (List ℕ) → List ℕ → List ℕ → Type 0
+IsSchedule words need hex = Asks words (schedule need hex)
+
 -- ---- what is read
 
 -- what a command is asked for by
@@ -81,6 +107,9 @@ asked_of (Replay plan trace) = replay plan.now trace.now
 asked_of (Decode dialect hex) = decode dialect hex.now
 asked_of (Encode dialect text) = encode dialect text.now
 asked_of (Basic script) = basic script.now
+asked_of (Migrate trace) = migrate trace.now
+asked_of (Offer calendar moment) = offer calendar.now moment
+asked_of (Schedule need hex) = schedule need.now hex.now
 
 -- the words are this command
 abbrev pub IsCommand : List (List ℕ) → Command → Type 0

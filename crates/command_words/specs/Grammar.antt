@@ -1,12 +1,13 @@
 -- Own: the program's commands as `clap` reads them, and what it finds.
-use Rattle.std.specs.Prelude.{◌≡◌, ℕ, true, false, List, [], ◌∷◌, length, map, find, Option, Some, None, codes, option_and_then, option_map, IsSomeAnd}
+use Rattle.std.specs.Prelude.{◌≡◌, ℕ, Bool, ◌&&◌, nat_lt, if◌then◌else◌, true, false, List, [], ◌∷◌, length, map, find, Option, Some, None, codes, decimal, option_and_then, option_map, IsSomeAnd}
 use Rattle.std.specs.Str.{bytes_eq}
+use Rattle.std.specs.Str.Parse.{digits_value}
 use Rattle.clap.specs.Walk.{Row, Rule, Text, first_of}
 use Rattle.clap.specs.Simple.{App, Shape, new_rule, new_shape}
 use Rattle.clap.specs.declared.builder.value_parser.Reading.TheVariants.{AsWritten}
 use Rattle.clap.specs.declared.parser.matches.ValueSource.TheVariants.{CommandLine}
 use Rattle.message_dialects.specs.declared.dialect.MessageDialect.{MessageDialect}
-use Rattle.command_words.specs.Command.{Asked, station, car, replay, decode, encode, basic, dialect_named}
+use Rattle.command_words.specs.Command.{Asked, station, car, replay, decode, encode, basic, migrate, offer, schedule, day, dialect_named}
 use Rattle.command_words.specs.declared.forms.Values.{Values}
 use Rattle.command_words.specs.declared.forms.Values.TheVariants.{One, Two}
 
@@ -30,6 +31,18 @@ both rows = option_and_then (λ one. option_map (λ other. (one, other)) (second
 abbrev pub dialect_and_value : List Row → Option (MessageDialect × Text)
 dialect_and_value rows =
     option_and_then (λ dialect. option_map (λ value. (dialect, value)) (second rows)) (option_and_then dialect_named (first rows))
+
+-- the number below a bound that a word is, in decimal digits without a leading zero
+abbrev pub is_number : ℕ → Text → ℕ → Bool
+is_number bound word n = bytes_eq (decimal n) word && nat_lt n bound
+
+unfoldable pub number_named : ℕ → Text → Option ℕ
+number_named bound word = if is_number bound word (digits_value 10 word) then Some (digits_value 10 word) else None
+
+-- the first, and the number below a bound that the second is
+abbrev pub value_and_number : ℕ → List Row → Option (Text × ℕ)
+value_and_number bound rows =
+    option_and_then (λ value. option_map (λ number. (value, number)) (option_and_then (number_named bound) (second rows))) (first rows)
 
 -- ---- forms
 
@@ -59,6 +72,14 @@ on_dialect name make = record {
   asks = λ rows. option_map (λ pair. make pair.0 pair.1) (dialect_and_value rows);
 }
 
+-- a value, and a number below a bound
+abbrev pub with_number : Text → ℕ → (Text → ℕ → Asked) → Form
+with_number name bound make = record {
+  name = name;
+  values = Two;
+  asks = λ rows. option_map (λ pair. make pair.0 pair.1) (value_and_number bound rows);
+}
+
 -- the forms of all commands
 abbrev pub forms : List Form
 forms =
@@ -68,6 +89,9 @@ forms =
     ∷ on_dialect (codes "decode") (λ dialect hex. decode dialect hex)
     ∷ on_dialect (codes "encode") (λ dialect text. encode dialect text)
     ∷ with_one (codes "basic") (λ script. basic script)
+    ∷ with_one (codes "migrate") (λ trace. migrate trace)
+    ∷ with_number (codes "offer") day (λ calendar moment. offer calendar moment)
+    ∷ with_two (codes "schedule") (λ need hex. schedule need hex)
     ∷ []
 
 -- the form of a name

@@ -35,11 +35,14 @@ macro_rules! with_two {
 }
 
 /// All commands.
-pub(crate) const FORMS: [Form; 6] = [
+pub(crate) const FORMS: [Form; 9] = [
     with_one!("station"),
     with_one!("car"),
     with_two!("replay"),
     with_two!("decode"),
     with_two!("encode"),
     with_one!("basic"),
+    with_one!("migrate"),
+    with_two!("offer"),
+    with_two!("schedule"),
 ];

@@ -1,9 +1,9 @@
 //! A command, and how it is read.
 
-ghost use Rattle.std.specs.Prelude.{◌≡◌, ◌↔◌, IfOk, IfErr, option_map};
+ghost use Rattle.std.specs.Prelude.{◌≡◌, ◌<◌, ◌↔◌, IfOk, IfErr, option_map};
 ghost use Rattle.clap.specs.Words.{found_of, rows_of, subcommand_rows_of};
 ghost use Rattle.command_words.specs.Command.{HasWordsFault, IsCommand, asked_of, dialect_named};
-ghost use Rattle.command_words.specs.Grammar.{first, second, both, dialect_and_value, told, told_of};
+ghost use Rattle.command_words.specs.Grammar.{first, second, both, dialect_and_value, number_named, value_and_number, told, told_of};
 
 use crate::grammar::matches_of;
 use crate::word_list::WordList;
@@ -11,6 +11,10 @@ use clap::ArgMatches;
 use clap::error::ErrorKind;
 use message_dialects::MessageDialect;
 use std::alloc::Global;
+use text_tokens::number;
+
+/// The seconds of a day.
+const DAY: u32 = 86_400;
 
 /// A command.
 #[derive(Clone, Copy)]
@@ -41,6 +45,20 @@ pub enum Command<'a> {
     /// Prints the orders for the script of basic charging in a file.
     Basic {
         script: &'a str,
+    },
+    /// Carries the trace of an earlier format in a file over.
+    Migrate {
+        trace: &'a str,
+    },
+    /// Prints what is offered for the day from a moment on, a second of the day, by the calendar in a file.
+    Offer {
+        calendar: &'a str,
+        moment: u32,
+    },
+    /// Prints the charging profile for the need in a file within the schedules of a payload.
+    Schedule {
+        need: &'a str,
+        hex: &'a str,
     },
 }
 
@@ -88,6 +106,11 @@ fn command_named<'a>(name: &str, values: &ArgMatches<'a>) -> Option<Command<'a>>
         "decode" => on_dialect(values).map(|(dialect, hex)| Command::Decode { dialect, hex }),
         "encode" => on_dialect(values).map(|(dialect, text)| Command::Encode { dialect, text }),
         "basic" => first(values).map(|script| Command::Basic { script }),
+        "migrate" => first(values).map(|trace| Command::Migrate { trace }),
+        "offer" => {
+            with_number(values, DAY).map(|(calendar, moment)| Command::Offer { calendar, moment })
+        }
+        "schedule" => both(values).map(|(need, hex)| Command::Schedule { need, hex }),
         _ => None,
     }
 }
@@ -113,6 +136,27 @@ fn both<'a>(values: &ArgMatches<'a>) -> Option<(&'a str, &'a str)>
     let one = first(values)?;
     let other = second(values)?;
     Some((one, other))
+}
+
+/// The first value of a command, and the number below a bound that the second is.
+fn with_number<'a>(values: &ArgMatches<'a>, bound: u32) -> Option<(&'a str, u32)>
+    requires { 0 < bound }
+    ensures { option_map (λ pair. (pair.0.now, pair.1)) result ≡ value_and_number bound (rows_of (found_of values.now)) }
+{
+    let value = first(values)?;
+    let number = number_named(second(values)?, bound)?;
+    Some((value, number))
+}
+
+/// The number below a bound that a word is.
+fn number_named(word: &str, bound: u32) -> Option<u32>
+    requires { 0 < bound }
+    ensures { result ≡ number_named bound word.now }
+{
+    match number(word.as_bytes(), 0, u64::from(bound - 1)) {
+        Ok(number) => Some(number as u32),
+        Err(_) => None,
+    }
 }
 
 /// The dialect and the value of a command.

@@ -18,4 +18,4 @@ pub use plan::say_plan;
 pub use script::say_script;
 pub use sockets::say_trouble;
 pub use trace::{Line, is_of_a_car, line_in};
-pub use usage::{Asked, say_help, say_misused, say_version, sentence_of};
+pub use usage::{Asked, say_help, say_misused, say_version};

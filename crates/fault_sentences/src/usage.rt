@@ -17,7 +17,9 @@ struct Usage {
 
 const DIALECT: &str = "DIALECT";
 
-const COMMANDS: [Usage; 6] = [
+const MOMENT: &str = "MOMENT";
+
+const COMMANDS: [Usage; 9] = [
     Usage {
         name: "station",
         values: &["PLAN"],
@@ -53,6 +55,24 @@ const COMMANDS: [Usage; 6] = [
         values: &["SCRIPT"],
         does: "prints the orders of a post in basic charging for the events of the script in the file SCRIPT",
         example: "v2g_charge basic basic.script",
+    },
+    Usage {
+        name: "migrate",
+        values: &["TRACE"],
+        does: "writes the trace of format 1 in the file TRACE as one of format 2, in the file v2g.trace",
+        example: "v2g_charge migrate old.trace",
+    },
+    Usage {
+        name: "offer",
+        values: &["CALENDAR", MOMENT],
+        does: "prints what is offered for the day from the second MOMENT of it on, by the calendar in the file CALENDAR",
+        example: "v2g_charge offer calendar.toml 75600",
+    },
+    Usage {
+        name: "schedule",
+        values: &["NEED", "HEX"],
+        does: "prints the charging profile for the need in the file NEED that answers the schedules of a ChargeParameterDiscoveryRes of ISO 15118-2",
+        example: "v2g_charge schedule need.toml 8098..",
     },
 ];
 
@@ -115,23 +135,6 @@ pub fn say_help<E: Eprint>(rt: &E) -> io::Result<()> {
     )
 }
 
-/// What a status means that needs no look at the input.
-pub fn sentence_of(status: u8) -> &'static str {
-    match status {
-        1 => "There is too little memory. Nothing was begun.",
-        8 =>
-            "The greatest number of hearings, `turns` of the plan, was spent before the end. Give it more.",
-        9 =>
-            "A check of the trace fails: the line on the output has the number of the trace's line and that of the check.",
-        10 =>
-            "No charging profile within the limits reaches the energy that is needed by then. Ask for less, or leave later.",
-        11 =>
-            "The payload offers no schedule: it is no ChargeParameterDiscoveryRes of the OK class with one, or its entries are out of order or not in W.",
-        12 => "The payload offers no set of parameters as it is wanted.",
-        _ => "The command could not be done.",
-    }
-}
-
 /// Says the program's name and version.
 pub fn say_version<E: Eprint>(rt: &E) -> io::Result<()> {
     rt.eprintln("v2g_charge 1.0 (ISO 15118-2:2014, DIN SPEC 70121:2014, traces of format 2)")
@@ -168,10 +171,13 @@ fn say_values<E: Eprint>(rt: &E, usage: Usage, words: &WordList) -> io::Result<(
             "`{word}` begins with a dash, and there are no options. A file of that name is `./{word}`."
         );
     }
-    match words.get(1) {
-        Some(dialect) if usage.values.first() == Some(&DIALECT) => {
+    match (words.get(1), words.get(2)) {
+        (Some(dialect), _) if usage.values.first() == Some(&DIALECT) => {
             eprintln!(rt; "`{dialect}` is no DIALECT: write app, iso or din.")
         }
+        (_, Some(moment)) if usage.values.last() == Some(&MOMENT) => eprintln!(rt;
+            "`{moment}` is no MOMENT: write the second of the day, 0 to 86399, in digits without a zero in front."
+        ),
         _ => rt.eprintln("The words are no command."),
     }
 }

@@ -3,7 +3,7 @@
 use charge_run::{Status, WordList};
 use fault_sentences::{
     Asked, DecodePlace, EncodePlace, is_of_a_car, line_in, place_in, say_help, say_misused,
-    say_plan, say_script, say_trouble, say_version, sentence_of,
+    say_plan, say_script, say_trouble, say_version,
 };
 use net_wire::{FileSource, NetWire, StandardOutput, TraceFile};
 use std::io;
@@ -41,7 +41,20 @@ pub(crate) fn say(
         },
         Status::SinkFault => say_sinks(rt, outside),
         Status::SourceFault => say_source(rt, outside.files),
-        _ => rt.eprintln(sentence_of(status.number())),
+        Status::NoMemory => rt.eprintln("There is too little memory. Nothing was begun."),
+        Status::TurnsSpent => rt.eprintln(
+            "The greatest number of hearings, `turns` of the plan, was spent before the end. Give it more.",
+        ),
+        Status::AuditNo => rt.eprintln(
+            "A check of the trace fails: the line on the output has the number of the trace's line and that of the check.",
+        ),
+        Status::Unreached => rt.eprintln(
+            "No charging profile within the limits reaches the energy by the departure. Ask for less, or leave later.",
+        ),
+        Status::NoSchedule => rt.eprintln(
+            "The payload offers no schedule: it is no ChargeParameterDiscoveryRes of the OK class with one, or its entries are out of order or not in W.",
+        ),
+        Status::NoSet => { rt.eprintln("The payload offers no set of parameters as it is wanted.") }
     }
 }
 
@@ -67,6 +80,8 @@ fn say_refused(rt: &HostRuntime, words: &WordList, outside: Outside<'_, '_>) -> 
     match word(words, 0) {
         "station" | "replay" => say_plan(rt, rt.alloc(), outside.files, false, name),
         "car" => say_plan(rt, rt.alloc(), outside.files, true, name),
+        "offer" => eprintln!(rt; "{name} is refused at that key. {CALENDAR}"),
+        "schedule" => eprintln!(rt; "{name} is refused at that key. {NEED}"),
         _ => eprintln!(rt; "{name} is refused at the key that the line on the output names."),
     }
 }
@@ -89,16 +104,43 @@ fn say_input(rt: &HostRuntime, words: &WordList, outside: Outside<'_, '_>) -> io
             text: second,
             place,
         }),
-        "replay" => say_line(rt, second, place, outside),
+        "replay" => say_line(rt, second, place, STATION_LINE, outside),
+        "migrate" => say_line(rt, first, place, PLAIN_LINE, outside),
+        "schedule" => rt.eprintln(DecodePlace {
+            dialect: "iso",
+            hex: second,
+            place,
+        }),
         "basic" => say_script(rt, outside.files, first, place),
         _ => eprintln!(rt; "The input is refused at place {place}, counted from 0."),
     }
 }
 
-/// Says which line of a trace is refused.
-fn say_line(rt: &HostRuntime, name: &str, number: u64, outside: Outside<'_, '_>) -> io::Result<()> {
+/// What a calendar is.
+const CALENDAR: &str =
+    "A calendar is a list `entry` of 1 to 24 tables, each with `start` (seconds of the day, 0 to 86399: 0 in the first, and rising) and `watts` (0 to 8000000), in at most 65536 bytes.";
+
+/// What a need is.
+const NEED: &str =
+    "A need has `energy` (watt-hours, 0 to 1000000), `departure` (seconds, 1 to 86400) and `max_watts` (1 to 1000000), in at most 65536 bytes.";
+
+/// What a line of a trace is that can be replayed.
+const STATION_LINE: &str = "a trace of a station with the plan's posts";
+
+/// What a line of a trace is that can be carried over.
+const PLAIN_LINE: &str =
+    "a trace of format 1, whose lines have no number before them and whose posts are 1 to 8";
+
+/// Says which line of a trace is refused, and what it should have been a line of.
+fn say_line(
+    rt: &HostRuntime,
+    name: &str,
+    number: u64,
+    of: &str,
+    outside: Outside<'_, '_>,
+) -> io::Result<()> {
     eprintln!(rt;
-        "Line {number} of {name} is refused: it is no line of a trace of a station with the plan's posts, can't stand there, or is cut off."
+        "Line {number} of {name} is refused: it is no line of {of}, can't stand there, or is cut off."
     )?;
     let Some(line) = line_in(outside.files, name, number) else {
         return rt.eprintln("The trace ends before that line does.");

@@ -1,7 +1,7 @@
 use Rattle.std.proofs.Common.{inl, inr}
-use Rattle.command_words.specs.Command.{replay, decode, encode, basic}
-use Rattle.charge_run.proofs.Answered.{only_refused, only_unscanned, same_decoded, same_encoded}
-use Rattle.charge_run.proofs.WordLists.{one_decode, one_encode}
+use Rattle.command_words.specs.Command.{replay, decode, encode, basic, migrate, offer, schedule}
+use Rattle.charge_run.proofs.Answered.{only_refused, only_unscanned, same_decoded, same_encoded, same_offered}
+use Rattle.charge_run.proofs.WordLists.{one_decode, one_encode, one_offer}
 use Rattle.charge_run.proofs.top.run.Goals as goal
 
 pub returns-in-Ok-Decode-clause-decode : goal.returns-in-Ok-Decode-clause-decode
@@ -27,17 +27,43 @@ returns-in-Ok-Encode-clause-encode_refused g c dialect text place is fault =
 pub returns-in-Ok-Replay-clause-apart : goal.returns-in-Ok-Replay-clause-apart
 returns-in-Ok-Replay-clause-apart g c =
     let told = (rw c.in-Ok-Replay.field-0-is at c.in-Ok-Replay.ensures.command) in
-    λ none. absurd (none (inl (inr (_, _, told))))
+    λ none. absurd (none (inl (inr (inl (_, _, told)))))
 
 pub returns-in-Ok-Replay-clause-untraced : goal.returns-in-Ok-Replay-clause-untraced
 returns-in-Ok-Replay-clause-untraced g c =
     let told = (rw c.in-Ok-Replay.field-0-is at c.in-Ok-Replay.ensures.command) in
-    λ none. absurd (none (inr (_, _, told)))
+    λ none. absurd (none (inr (inl (_, _, told))))
 
 pub returns-in-Ok-Basic-clause-apart : goal.returns-in-Ok-Basic-clause-apart
 returns-in-Ok-Basic-clause-apart g c =
     let told = (rw c.in-Ok-Basic.field-0-is at c.in-Ok-Basic.ensures.command) in
-    λ none. absurd (none (inr (_, told)))
+    λ none. absurd (none (inr (inl (_, told))))
+
+pub returns-in-Ok-Migrate-clause-apart : goal.returns-in-Ok-Migrate-clause-apart
+returns-in-Ok-Migrate-clause-apart g c =
+    let told = (rw c.in-Ok-Migrate.field-0-is at c.in-Ok-Migrate.ensures.command) in
+    λ none. absurd (none (inr (inr (_, told))))
+
+pub returns-in-Ok-Migrate-clause-untraced : goal.returns-in-Ok-Migrate-clause-untraced
+returns-in-Ok-Migrate-clause-untraced g c =
+    let told = (rw c.in-Ok-Migrate.field-0-is at c.in-Ok-Migrate.ensures.command) in
+    λ none. absurd (none (inr (inr (_, told))))
+
+pub returns-in-Ok-Offer-clause-offer : goal.returns-in-Ok-Offer-clause-offer
+returns-in-Ok-Offer-clause-offer g c name moment is =
+    let told = (rw c.in-Ok-Offer.field-0-is at c.in-Ok-Offer.ensures.command) in
+    same_offered (g.F.Source.holds c.args.files.now) c.in-Ok-Offer.moment moment c.in-Ok-Offer.calendar.now name
+    (one_offer c.args.words.now c.in-Ok-Offer.moment moment c.in-Ok-Offer.calendar.now name told is) _ _ _ _ _ _ c.offer.ensures.leaves
+
+pub returns-in-Ok-Offer-clause-apart : goal.returns-in-Ok-Offer-clause-apart
+returns-in-Ok-Offer-clause-apart g c =
+    let told = (rw c.in-Ok-Offer.field-0-is at c.in-Ok-Offer.ensures.command) in
+    λ none. absurd (none (inl (inr (inr (inl (_, _, told))))))
+
+pub returns-in-Ok-Schedule-clause-apart : goal.returns-in-Ok-Schedule-clause-apart
+returns-in-Ok-Schedule-clause-apart g c =
+    let told = (rw c.in-Ok-Schedule.field-0-is at c.in-Ok-Schedule.ensures.command) in
+    λ none. absurd (none (inl (inr (inr (inr (_, _, told))))))
 
 -- ---- no command
 
@@ -50,6 +76,21 @@ pub returns-in-Err-NoCommand-clause-basic : goal.returns-in-Err-NoCommand-clause
 returns-in-Err-NoCommand-clause-basic g c name is =
     let none = (rw c.in-Err-NoCommand.field-0-is at c.in-Err-NoCommand.ensures.fault) in
     absurd (none (basic name) is)
+
+pub returns-in-Err-NoCommand-clause-migrate : goal.returns-in-Err-NoCommand-clause-migrate
+returns-in-Err-NoCommand-clause-migrate g c name is =
+    let none = (rw c.in-Err-NoCommand.field-0-is at c.in-Err-NoCommand.ensures.fault) in
+    absurd (none (migrate name) is)
+
+pub returns-in-Err-NoCommand-clause-offer : goal.returns-in-Err-NoCommand-clause-offer
+returns-in-Err-NoCommand-clause-offer g c name moment is =
+    let none = (rw c.in-Err-NoCommand.field-0-is at c.in-Err-NoCommand.ensures.fault) in
+    absurd (none (offer name moment) is)
+
+pub returns-in-Err-NoCommand-clause-schedule : goal.returns-in-Err-NoCommand-clause-schedule
+returns-in-Err-NoCommand-clause-schedule g c name payload is =
+    let none = (rw c.in-Err-NoCommand.field-0-is at c.in-Err-NoCommand.ensures.fault) in
+    absurd (none (schedule name payload) is)
 
 pub returns-in-Err-NoCommand-clause-decode : goal.returns-in-Err-NoCommand-clause-decode
 returns-in-Err-NoCommand-clause-decode g c dialect hex is =

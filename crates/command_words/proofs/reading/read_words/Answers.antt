@@ -1,4 +1,4 @@
-use Rattle.std.proofs.Common.{◌≡◌, true, List, ℕ, Result, Ok, Err, rules, sym, subst}
+use Rattle.std.proofs.Common.{◌≡◌, true, List, ℕ, Result, rules, sym, subst}
 use Rattle.std.specs.Prelude.{IfOk, IfErr}
 use Rattle.std.specs.List.{list_all}
 use Rattle.clap.specs.Words.{subcommand_rows_of}
