@@ -46,7 +46,7 @@ def row(name, words, status, line, *said, files=(), **how):
             expect(name, text in err, f"standard error lacks {text!r}: {err!r}")
 
 
-COMMANDS = ["station PLAN", "car PLAN", "replay PLAN TRACE", "decode DIALECT HEX", "encode DIALECT TEXT"]
+COMMANDS = ["station PLAN", "car PLAN", "replay PLAN TRACE", "decode DIALECT HEX", "encode DIALECT TEXT", "basic SCRIPT", "migrate TRACE", "offer CALENDAR MOMENT", "schedule NEED HEX"]
 
 
 def misused_words():
@@ -58,12 +58,14 @@ def misused_words():
     row("no plan", ["station"], 2, "words\n", "`station` wants 1 word behind it, and 0 are there", "Usage: v2g_charge station PLAN")
     row("a word too many", ["car", "a", "b"], 2, "words\n", "`car` wants 1 word behind it, and 2 are there")
     row("no dialect", ["decode", "xml", "00"], 2, "words\n", "`xml` is no DIALECT: write app, iso or din")
+    row("no moment", ["offer", "c", "86400"], 2, "words\n", "`86400` is no MOMENT", "0 to 86399")
     row("an option", ["station", "-v"], 2, "words\n", "`-v` begins with a dash")
 
 
 def refused_plans():
     def plan(name, text, key, *said, command="station"):
-        row(name, [command, "plan.toml"], 3, f"plan {key}\n", *said, files={"plan.toml": text})
+        command, *more = [command] if isinstance(command, str) else command
+        row(name, [command, "plan.toml", *more], 3, f"plan {key}\n", *said, files={"plan.toml": text})
 
     plan("a number outside its bounds", "sessions = 0\n[[post]]\ntcp = 15120\n", "sessions", "sessions must be 1 to 1000000", "the number 0")
     plan("a key of the wrong kind", "[[post]]\ntcp = 'x'\n", "post.1.tcp", "post.1.tcp must be 1 to 65535", 'the text "x"')
@@ -76,6 +78,7 @@ def refused_plans():
     plan("nine posts", "[[post]]\ntcp = 15120\n" * 9, "post", "post must be 1 to 8 tables", "a list with 9 items")
     plan("a post that is no table", "post = [{tcp = 15120}, 3]\n", "post", "whose item 2 is no table")
     plan("a car's plan", "soc = 101\ntcp = 15120\n", "soc", "soc must be 0 to 100", "the number 101", command="car")
+    plan("a need without its energy", "", "energy", "A need has `energy`", command=["schedule", "80"])
     plan("a car without a port", "", "tcp", "tcp is missing, and must be 1 to 65535", command="car")
 
 
@@ -92,6 +95,7 @@ def refused_inputs():
     row("a text cut off", ["encode", "app", TREE[:-1]], 4, None, "ends before the message does")
     trace = "v2g-trace 2\n1 heard 5 tick\n2 hoard 6 tick\n"
     row("a wrong line", ["replay", "p", "t"], 4, "input 3\n", "Line 3 of t is refused", "It begins: 2 hoard 6 tick", files={"p": STATION, "t": trace})
+    row("a trace of the newer format", ["migrate", "t"], 4, "input 1\n", "Line 1 of t is refused: it is no line of a trace of format 1", files={"t": trace})
     car = "v2g-trace 2\n1 heard 5 1 came 0000000000000007\n1 sent 1 01fe8001000000228000dbab9371d3234b71d1b981899189d191818991d26b9b3a232b30020000040040\n2 heard 6 over\n"
     row("a car's trace", ["replay", "p", "t"], 0, None, "t is the trace of a car", files={"p": STATION, "t": car})
     row("no plan", ["station", "none.toml"], 7, "source\n", "none.toml can't be read: No such file")
