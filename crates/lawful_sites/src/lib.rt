@@ -1,5 +1,5 @@
 //! A site whose codecs read back what they write is served lawfully: safe, within its limit, and silent without a session. It serves the
-//! cars that conform, and isolates its posts.
+//! cars that conform, and isolates its posts; each session ends by its first cause.
 //!
 //! Proved: `serve`, with codecs that are lawful: the past besides is lawful (`IsLawful`): safe, within the limit at every moment, silent
 //! without a session, a list of blocks, and told by what each post keeps; it serves each session that conforms, and isolates the posts where
@@ -16,6 +16,7 @@ ghost use Rattle.site_core.specs.Ending.{AreMade, AreMadeOf, EndedAs, RanAs, Tra
 ghost use Rattle.lawful_sites.specs.Lawful.{IsLawful};
 
 use blocks_of_runs::runs_are_blocks;
+use caused_ends::{opens_at_first_causes, opens_for_a_reason, sessions_end_by_causes};
 use charge_world::{Sink, Wire};
 use failed_replies::no_failed_reply_while_live;
 use isolated_runs::posts_are_isolated;
@@ -45,6 +46,9 @@ pub fn law_of_sites<C: LawfulCodec>()
     ends_as_mandated::<C>();
     opens_at_causes::<C>();
     opens_where_causes_stand::<C>();
+    sessions_end_by_causes::<C>();
+    opens_at_first_causes::<C>();
+    opens_for_a_reason::<C>();
     sends_in_sessions::<C>();
     spelled_within_limit::<C>();
     told_within_limit::<C>();

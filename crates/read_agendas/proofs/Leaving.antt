@@ -27,7 +27,7 @@ use Rattle.read_agendas.specs.Rows.{again, late, told, asked}
 use Rattle.read_agendas.specs.Left.{Left, row, rows, looked_at, begun, in_hand, failed, replied, less, left, AgendasAreRead, SessionsAreReadBetween}
 use Rattle.read_agendas.proofs.Asking.{again_is, late_is, told_is, front_is, word_is}
 
-abbrev left_in : State → Left
+abbrev pub left_in : State → Left
 left_in s = record { part = s.part; agenda = s.agenda }
 
 -- The first row that asks for anything.
@@ -58,7 +58,7 @@ part_row plan Timing s = timing_row plan s
 part_row plan Eventing s = eventing_row plan s
 part_row plan Wording s = wording_row s
 
-same_rows : (c : Codecs) (plan : PostPlan) (steps : List Step) → IsPostRun c plan steps → is_done (state plan steps).agenda ≡ true → rows_of plan (state plan steps) ≡ rows plan steps
+pub same_rows : (c : Codecs) (plan : PostPlan) (steps : List Step) → IsPostRun c plan steps → is_done (state plan steps).agenda ≡ true → rows_of plan (state plan steps) ≡ rows plan steps
 same_rows c plan steps run d =
     let s : State = state plan steps in
     let past : List Seen = map seen_of steps in
@@ -73,7 +73,7 @@ same_rows c plan steps run d =
 
 -- What an act is done of.
 
-unread_if : (b : Bool) (plan : PostPlan) (s : State) (ls : List (Line Left)) → (b ≡ true → rows_of plan s ≡ ls) → left_in (if b then from_part plan s.part s else s) ≡ (if b then first_line (drop (looked_at s.part) ls) (left_in s) else left_in s)
+pub unread_if : (b : Bool) (plan : PostPlan) (s : State) (ls : List (Line Left)) → (b ≡ true → rows_of plan s ≡ ls) → left_in (if b then from_part plan s.part s else s) ≡ (if b then first_line (drop (looked_at s.part) ls) (left_in s) else left_in s)
 unread_if true plan s ls h = part_row plan s.part s ∙ ap (λ (x : List (Line Left)). first_line (drop (looked_at s.part) x) (left_in s)) (h refl)
 unread_if false plan s ls h = refl
 
@@ -114,7 +114,7 @@ word_left c plan S steps r (Some p) run e i =
     taken_left c plan steps (decided plan (state plan steps)) (decided plan (state plan steps)).session r p at k (sym (same_facts plan (state plan steps))) (sym (same_live plan (state plan steps))) run
     ∙ sym (if_true (is_done (state plan steps).agenda) (begun plan steps (Some r) (left_in (state plan steps))) (left_in (state plan steps)) done)
 
-filled_left : (c : Codecs) (plan : PostPlan) (S : ℕ → ℕ → Type 0) (steps : List Step) (r : Option Reading) → IsPostRun c plan steps → IsRead c plan S (decided plan (state plan steps)) (wanted (decided plan (state plan steps))) r
+pub filled_left : (c : Codecs) (plan : PostPlan) (S : ℕ → ℕ → Type 0) (steps : List Step) (r : Option Reading) → IsPostRun c plan steps → IsRead c plan S (decided plan (state plan steps)) (wanted (decided plan (state plan steps))) r
     → left_in (filled plan r (state plan steps)) ≡ in_hand plan steps r (left_in (state plan steps))
 filled_left c plan S steps None run i = unread_if (is_done (state plan steps).agenda) plan (state plan steps) (rows plan steps) (λ d. same_rows c plan steps run d)
 filled_left c plan S steps (Some r) run i = word_left c plan S steps r (wanted (decided plan (state plan steps))) run refl i
@@ -169,7 +169,7 @@ acted_left a taken lives on s k l =
 abbrev behind : Act → Bool → Bool → Bool → Left → Left
 behind a taken lives on h = record { part = h.part; agenda = less a taken lives on h.agenda }
 
-steps_left : (c : Codecs) (plan : PostPlan) (steps : List Step) → IsPostRun c plan steps → left_in (state plan steps) ≡ left plan steps
+pub steps_left : (c : Codecs) (plan : PostPlan) (steps : List Step) → IsPostRun c plan steps → left_in (state plan steps) ≡ left plan steps
 steps_left c plan [] run = refl
 steps_left c plan (Hears at e ∷ steps) run = refl
 steps_left c plan (Does r a taken ∷ steps) (run, (limit, before, later, acts)) =

@@ -28,6 +28,7 @@ returns g c plan past r =
       };
       each = λ before post behind are.
           let held = c.ends_as_mandated.ensures plan past r.blocks r.posts before post behind rb r.run r.closes are in
+          let caused = c.sessions_end_by_causes.ensures plan r.blocks r.posts before post behind det r.run are in
           let own = post_at cs r.blocks (length before + 1) 1 before post behind refl (subst (λ (posts : List Post). ArePostsOf cs r.blocks 1 posts) are (c.runs_of_posts.ensures plan r.blocks r.posts r.run)) in
           record {
             seen_is = own.seen_is;
@@ -39,6 +40,10 @@ returns g c plan past r =
             replies = c.no_failed_reply_while_live.ensures plan r.blocks r.posts before post behind rb r.run are;
             causes = (c.opens_at_causes.ensures plan r.blocks r.posts before post behind rb det r.run are).0;
             stands = (c.opens_where_causes_stand.ensures plan r.blocks r.posts before post behind rb det r.run are).0;
+            ends = caused.0;
+            ended = caused.1;
+            opens_first = c.opens_at_first_causes.ensures plan r.blocks r.posts before post behind det r.run are;
+            reasons = c.opens_for_a_reason.ensures plan r.blocks r.posts before post behind det r.run are;
             silent = c.sends_in_sessions.ensures plan r.blocks r.posts before post behind r.run are;
             reads_off = reads_off cs post.plan post.steps c.agendas_are_read.ensures c.streams_are_read.ensures own.run;
             served = c.serves_conforming_sessions.ensures.runs plan r.blocks r.posts before post behind rb r.run are;

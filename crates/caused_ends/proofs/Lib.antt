@@ -1,0 +1,5 @@
+pub mod Rows
+pub mod Hands
+pub mod Resting
+pub mod Causing
+pub mod WrongEnds

@@ -1,0 +1,4 @@
+pub mod Applying
+pub mod Ending
+pub mod Opening
+pub mod WrongEnds
