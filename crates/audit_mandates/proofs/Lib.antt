@@ -1,0 +1,6 @@
+pub mod Preparing
+pub mod Checking
+pub mod Starting
+pub mod Steps
+pub mod Mandated
+pub mod Telling

@@ -1,0 +1,10 @@
+use Rattle.std.proofs.Common.{ap, sym, subst, ◌∙◌}
+use Rattle.audit_mandates.specs.declared.values.MandateValues.{MandateValues}
+use Rattle.audit_mandates.specs.Values.{AreOf, replied_by, said_if}
+use Rattle.audit_mandates.proofs.Steps.{reply_told}
+use Rattle.audit_mandates.proofs.values.MandateValues.sent_reply.Goals as goal
+
+pub returns : goal.returns
+returns c steps reading bytes taken watts is h =
+    subst (AreOf _) (sym (c.replied.ensures ∙ ap (λ (v : MandateValues). said_if v.lives (replied_by c.args.request.now c.args.reply.now v) v) c.sent.ensures))
+    (reply_told reading bytes taken c.args.request.now c.args.reply.now watts c.args.judged steps c.args.self is h)

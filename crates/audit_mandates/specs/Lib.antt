@@ -1,0 +1,5 @@
+pub mod Preparing
+pub mod Checking
+pub mod Starting
+pub mod Values
+pub mod Laws
