@@ -5,8 +5,8 @@ usage: crate_tables.py            writes both tables
        crate_tables.py --check    exits 1 where one differs from what would be written
 
 What a crate promises is the first sentence of its head (`//!` in src/lib.rt or src/main.rt), and what is proved of it the paragraph of the
-head that begins with `Proved: `. What it stands on is in crates.txt, its layer in tools/layers.txt. A crate without a layer or a head, and a
-layer's crate that crates.txt lacks, are refused."""
+head that begins with `Proved: `. What it stands on and its layer, a heading `## LAYER`, are in crates.txt. A crate without a layer or a head, and one
+that names a crate that stands behind it, are refused."""
 import os
 import re
 import sys
@@ -19,10 +19,23 @@ def read(path):
         return it.read()
 
 
-def listed(path):
-    """(NAME, WORDS) of each line `NAME: WORD ..` that is no comment."""
-    lines = [it for it in read(path).splitlines() if it.strip() and not it.startswith("#")]
-    return [(name.split()[0] if path == "crates.txt" else name, words.split()) for name, _, words in (it.partition(":") for it in lines)]
+def listed():
+    """(LAYER, CRATE, WORDS) of each line `CRATE: WORD ..` of crates.txt, lowest first."""
+    found, layer = [], None
+    lines = read("crates.txt").splitlines()
+    every = [it.partition(":")[0].split()[0] for it in lines if it.strip() and not it.startswith("#")]
+    for line in lines:
+        if line.startswith("## "):
+            layer = line[3:].strip()
+        elif line.strip() and not line.startswith("#"):
+            name, words = line.partition(":")[0].split()[0], line.partition(":")[2].split()
+            if not layer:
+                sys.exit(f"crates.txt: {name} stands in no layer (`## LAYER`)")
+            behind = [it for it in words if it in every and it not in [crate for _, crate, _ in found]]
+            if behind:
+                sys.exit(f"crates.txt: {name} names {behind[0]}, which doesn't stand above it: a crate stands behind those that it names")
+            found.append((layer, name, words))
+    return found
 
 
 def next_below(crates):
@@ -68,22 +81,14 @@ def names(crates):
 
 
 def tables():
-    crates = dict(listed("crates.txt"))
-    layers = listed("tools/layers.txt")
-    placed = [crate for _, some in layers for crate in some]
-    for crate in crates:
-        if placed.count(crate) != 1:
-            sys.exit(f"tools/layers.txt: {crate} stands in {placed.count(crate)} layers")
-    for crate in placed:
-        if crate not in crates:
-            sys.exit(f"tools/layers.txt: {crate} is no crate of crates.txt")
+    rows = listed()
+    crates = {crate: words for _, crate, words in rows}
     below = next_below(crates)
     places, last = "| Layer | Crate | Stands on | What it promises |\n|---|---|---|---|\n", ""
-    for layer, some in layers:
-        for crate in some:
-            places += f"| {layer if layer != last else ''} | `{crate}` | {names(below[crate])} | {cell(promise(crate))} |\n"
-            last = layer
-    said = [(it, proved(it)) for it in placed]
+    for layer, crate, _ in rows:
+        places += f"| {layer if layer != last else ''} | `{crate}` | {names(below[crate])} | {cell(promise(crate))} |\n"
+        last = layer
+    said = [(it, proved(it)) for it in crates]
     theorems = "| Crate | Proved |\n|---|---|\n" + "".join(f"| `{it}` | {cell(text)} |\n" for it, text in said if text)
     rest = [it for it, text in said if not text]
     return {"docs/MAP.md": places, "docs/PROVED.md": f"{theorems}\nWithout a promise of their own, as programs, tests and benches: {names(rest)}.\n"}

@@ -46,7 +46,7 @@ def row(name, words, status, line, *said, files=(), **how):
             expect(name, text in err, f"standard error lacks {text!r}: {err!r}")
 
 
-COMMANDS = ["station PLAN", "car PLAN", "replay PLAN TRACE", "decode DIALECT HEX", "encode DIALECT TEXT", "basic SCRIPT", "migrate TRACE", "offer CALENDAR MOMENT", "schedule NEED HEX"]
+COMMANDS = ["station PLAN", "car PLAN", "replay PLAN TRACE", "decode DIALECT HEX", "encode DIALECT TEXT", "basic SCRIPT", "migrate TRACE", "offer CALENDAR MOMENT", "schedule NEED HEX", "services CATALOGUE ID", "pick WANT HEX"]
 
 
 def misused_words():
@@ -59,6 +59,8 @@ def misused_words():
     row("a word too many", ["car", "a", "b"], 2, "words\n", "`car` wants 1 word behind it, and 2 are there")
     row("no dialect", ["decode", "xml", "00"], 2, "words\n", "`xml` is no DIALECT: write app, iso or din")
     row("no moment", ["offer", "c", "86400"], 2, "words\n", "`86400` is no MOMENT", "0 to 86399")
+    row("no identifier", ["services", "c", "65536"], 2, "words\n", "`65536` is no ID", "0 to 65535")
+    row("no want", ["pick", "Port", "00"], 2, "words\n", "`Port` is no WANT", "NAME=VALUE")
     row("an option", ["station", "-v"], 2, "words\n", "`-v` begins with a dash")
 
 

@@ -8,6 +8,8 @@ use Rattle.command_status.specs.declared.status.Status.{Status}
 use Rattle.command_status.specs.declared.status.Status.TheVariants as status
 use Rattle.command_status.specs.Told.{SinkTold, file_told}
 use Rattle.offer_command.specs.Offering.{OfferLeaves}
+use Rattle.service_commands.specs.Detailing.{ServicesLeave}
+use Rattle.service_commands.specs.Picking.{PickLeaves, WantsNothing}
 
 -- a text that is refused gives no line
 no_line : (dialect : MessageDialect) (hex line : List ℕ) (place : ℕ) → IsDecodedLine dialect hex line → IsDecodeFault dialect hex place → ⊥
@@ -56,3 +58,16 @@ pub same_offered : (holds : List ℕ → Option (List ℕ)) (m n : ℕ) (a b : L
 same_offered holds m n a b same s left k l before after h =
     subst (λ (x : ℕ). OfferLeaves x s (file_told (holds b) left k l) before after) same.1
     (subst (λ (x : List ℕ). OfferLeaves m s (file_told (holds x) left k l) before after) same.0 h)
+
+pub same_served : (holds : List ℕ → Option (List ℕ)) (m n : ℕ) (a b : List ℕ) → (a ≡ b) × (m ≡ n) → (s : Status) (left : Option (List ℕ)) (k l : ℕ) (before after : SinkTold) →
+    ServicesLeave m s (file_told (holds a) left k l) before after → ServicesLeave n s (file_told (holds b) left k l) before after
+same_served holds m n a b same s left k l before after h =
+    subst (λ (x : ℕ). ServicesLeave x s (file_told (holds b) left k l) before after) same.1
+    (subst (λ (x : List ℕ). ServicesLeave m s (file_told (holds x) left k l) before after) same.0 h)
+
+pub same_picked : (a b p q : List ℕ) → (a ≡ b) × (p ≡ q) → (s : Status) (before after : SinkTold) → PickLeaves s a p before after → PickLeaves s b q before after
+same_picked a b p q same s before after h =
+    subst (λ (x : List ℕ). PickLeaves s b x before after) same.1 (subst (λ (x : List ℕ). PickLeaves s x p before after) same.0 h)
+
+pub wants_nothing : (s : Status) (want hex : List ℕ) (before after : SinkTold) → PickLeaves s want hex before after → s ≡ status.Words → WantsNothing want
+wants_nothing s want hex before after h is = (subst (λ (s : Status). PickLeaves s want hex before after) is h).0

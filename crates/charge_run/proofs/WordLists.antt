@@ -1,7 +1,7 @@
 -- The words of a command.
 use Rattle.std.proofs.Common.{◌≡◌, ℕ, List}
 use Rattle.message_dialects.specs.declared.dialect.MessageDialect.{MessageDialect}
-use Rattle.command_words.specs.Command.{IsDecode, IsEncode, IsOffer, decode, encode, offer}
+use Rattle.command_words.specs.Command.{IsDecode, IsEncode, IsOffer, IsPick, IsServices, decode, encode, offer, pick, services}
 use Rattle.command_words.proofs.Told.{one_asked}
 
 same_decode : (d e : MessageDialect) (a b : List ℕ) → decode d a ≡ decode e b → (d ≡ e) × (a ≡ b)
@@ -13,6 +13,12 @@ same_encode d e a b h = (cc, cc)
 same_offer : (m n : ℕ) (a b : List ℕ) → offer a m ≡ offer b n → (a ≡ b) × (m ≡ n)
 same_offer m n a b h = (cc, cc)
 
+same_services : (m n : ℕ) (a b : List ℕ) → services a m ≡ services b n → (a ≡ b) × (m ≡ n)
+same_services m n a b h = (cc, cc)
+
+same_pick : (a b p q : List ℕ) → pick a p ≡ pick b q → (a ≡ b) × (p ≡ q)
+same_pick a b p q h = (cc, cc)
+
 -- the words of a command have one dialect and one value
 pub one_decode : (words : List (List ℕ)) (d e : MessageDialect) (a b : List ℕ) → IsDecode words d a → IsDecode words e b → (d ≡ e) × (a ≡ b)
 one_decode words d e a b h k = same_decode d e a b (one_asked words (decode d a) (decode e b) h k)
@@ -23,3 +29,11 @@ one_encode words d e a b h k = same_encode d e a b (one_asked words (encode d a)
 -- and one file and one moment
 pub one_offer : (words : List (List ℕ)) (m n : ℕ) (a b : List ℕ) → IsOffer words a m → IsOffer words b n → (a ≡ b) × (m ≡ n)
 one_offer words m n a b h k = same_offer m n a b (one_asked words (offer a m) (offer b n) h k)
+
+-- and one file and one identifier
+pub one_services : (words : List (List ℕ)) (m n : ℕ) (a b : List ℕ) → IsServices words a m → IsServices words b n → (a ≡ b) × (m ≡ n)
+one_services words m n a b h k = same_services m n a b (one_asked words (services a m) (services b n) h k)
+
+-- and one want and one payload
+pub one_pick : (words : List (List ℕ)) (a b p q : List ℕ) → IsPick words a p → IsPick words b q → (a ≡ b) × (p ≡ q)
+one_pick words a b p q h k = same_pick a b p q (one_asked words (pick a p) (pick b q) h k)

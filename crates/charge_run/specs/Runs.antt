@@ -15,7 +15,8 @@ use Rattle.message_trees.specs.Texts.{IsPrinted, IsRefusedIn, IsScanned, IsUnsca
 use Rattle.command_status.specs.declared.status.Status.{Status}
 use Rattle.command_status.specs.declared.status.Status.TheVariants as status
 use Rattle.command_status.specs.FaultLines.{Tells, input_line}
-use Rattle.command_words.specs.Command.{IsBasic, IsCar, IsMigrate, IsOffer, IsReplay, IsSchedule, IsStation}
+use Rattle.command_words.specs.Command.{IsBasic, IsCar, IsMigrate, IsOffer, IsPick, IsReplay, IsSchedule, IsServices, IsStation}
+use Rattle.service_commands.specs.Picking.{WantsNothing as SpellsNothing}
 use Rattle.hex_payloads.specs.HexText.{hex_fault, IsHexOf}
 use Rattle.hex_payloads.specs.declared.hex_text.HexFault.{HexFault}
 use Rattle.hex_payloads.specs.declared.hex_text.HexFault.TheVariants as hex
@@ -52,13 +53,23 @@ IsSomeOffer words = (calendar : List ℕ) × (moment : ℕ) × IsOffer words cal
 abbrev pub IsSomeSchedule : List (List ℕ) → Type 0
 IsSomeSchedule words = (need : List ℕ) × (payload : List ℕ) × IsSchedule words need payload
 
+abbrev pub IsSomeServices : List (List ℕ) → Type 0
+IsSomeServices words = (catalogue : List ℕ) × (id : ℕ) × IsServices words catalogue id
+
+abbrev pub IsSomePick : List (List ℕ) → Type 0
+IsSomePick words = (want : List ℕ) × (payload : List ℕ) × IsPick words want payload
+
+-- the words want of `pick` what spells no pairs
+abbrev pub WantsNothing : List (List ℕ) → Type 0
+WantsNothing words = (want : List ℕ) × (payload : List ℕ) × IsPick words want payload × SpellsNothing want
+
 -- the commands that use the wire
 abbrev pub UsesWire : List (List ℕ) → Type 0
 UsesWire words = IsSomeStation words ⊎ IsSomeCar words
 
--- the commands that read a plan, a calendar or a need
+-- the commands that read a plan, a calendar, a need or a catalogue
 abbrev pub ReadsPlan : List (List ℕ) → Type 0
-ReadsPlan words = UsesWire words ⊎ IsSomeReplay words ⊎ IsSomeOffer words ⊎ IsSomeSchedule words
+ReadsPlan words = UsesWire words ⊎ IsSomeReplay words ⊎ IsSomeOffer words ⊎ IsSomeSchedule words ⊎ IsSomeServices words
 
 -- the commands that write a trace
 abbrev pub WritesTrace : List (List ℕ) → Type 0

@@ -3,7 +3,7 @@
 ghost use Rattle.std.specs.Prelude.{◌≡◌, ◌<◌, ◌⊎◌, ℕ, List};
 ghost use Rattle.message_dialects.specs.declared.dialect.MessageDialect.{MessageDialect as OfDialect};
 ghost use Rattle.message_trees.specs.Texts.{IsUnscanned};
-ghost use Rattle.command_words.specs.Command.{IsNoCommand, IsStation, IsCar, IsReplay, IsDecode, IsEncode, IsBasic, IsMigrate, IsOffer, IsSchedule};
+ghost use Rattle.command_words.specs.Command.{IsNoCommand, IsStation, IsCar, IsReplay, IsDecode, IsEncode, IsBasic, IsMigrate, IsOffer, IsSchedule, IsServices, IsPick};
 ghost use Rattle.command_status.specs.FaultLines.{Tells, words_line};
 ghost use Rattle.command_status.specs.Told.{file_told, sink_told, TellsAlways};
 ghost use Rattle.replay_command.specs.Served.{wire_told, IsUnbegun};
@@ -14,8 +14,10 @@ ghost use Rattle.basic_command.specs.Basics.{BasicLeaves};
 ghost use Rattle.migrate_command.specs.Leaving.{MigrateLeaves};
 ghost use Rattle.offer_command.specs.Offering.{OfferLeaves};
 ghost use Rattle.schedule_command.specs.Scheduling.{ScheduleLeaves};
+ghost use Rattle.service_commands.specs.Detailing.{ServicesLeave};
+ghost use Rattle.service_commands.specs.Picking.{PickLeaves};
 ghost use Rattle.migrate_command.specs.Lines.{sink_change};
-ghost use Rattle.charge_run.specs.Runs.{charge_codecs, car_codecs, UsesWire, IsSomeReplay, IsSomeBasic, IsSomeMigrate, IsSomeSchedule, ReadsFiles, ReadsPlan, WritesTrace, Decodes, IsDecodeFault, Encodes};
+ghost use Rattle.charge_run.specs.Runs.{charge_codecs, car_codecs, UsesWire, IsSomeReplay, IsSomeBasic, IsSomeMigrate, IsSomeSchedule, IsSomePick, WantsNothing, ReadsFiles, ReadsPlan, WritesTrace, Decodes, IsDecodeFault, Encodes};
 ghost use Rattle.charge_run.specs.Stations.{StationLeaves};
 
 use crate::decode::decode;
@@ -30,6 +32,7 @@ use command_words::{Command, WordList, WordsFault, read_words};
 use migrate_command::migrate;
 use offer_command::offer;
 use schedule_command::schedule;
+use service_commands::{pick, services};
 use std::alloc::Global;
 
 /// Does all that the program does. The words are one command:
@@ -52,6 +55,9 @@ use std::alloc::Global;
 ///   for each step.
 /// - `schedule NEED HEX` prints the charging profile with which a car, by the need in a file, answers the schedules of a payload, and the
 ///   payload of its PowerDeliveryReq (ISO 15118-2:2014, 8.4.3.9).
+/// - `services CATALOGUE ID` prints the payload of the ServiceDetailRes (ISO 15118-2:2014, 8.4.3.3.3) that tells of a service of the catalogue in a
+///   file, by its identifier.
+/// - `pick WANT HEX` prints `set N`, the first set of the ServiceDetailRes that a payload spells in which each pair `NAME=VALUE` of WANT is met.
 ///
 /// `station`: where the wire tells its past, and was lent with an empty one, that is a run of the site by the plan of the file, and the
 /// status is the one that the past has: `Done` where Over was heard, `TurnsSpent` behind the plan's last turn, `WireFault` where a hearing
@@ -86,6 +92,11 @@ use std::alloc::Global;
 /// where the text spells no bytes or the payload no message. Of both: before that come `NoMemory`, `SourceFault` where the file can't be read,
 /// and `Plan` where it is no calendar or no need. The trace and the wire stay as they were.
 ///
+/// `services`: `Done` where the line was written, which is the payload of the message of the catalogue's service; before that come `NoMemory`,
+/// `SourceFault` where the file can't be read, and `Plan` where it is no catalogue or the payload is too long. `pick`: `Done` where the line was written,
+/// `NoSet` where the message is no ServiceDetailRes of the OK class or has no such set, and `Input` where the text spells no bytes or the payload no
+/// message. The trace and the wire stay as they were, and for `pick` the files.
+///
 /// `SinkFault` takes the place of `Done` and `TurnsSpent` where a line could not be written, and ends serving where a line of the trace
 /// could not. Each fault has its line, whose failure changes nothing.
 pub fn run<F: Source, K: Sink, J: Sink, W: Wire>(
@@ -96,8 +107,8 @@ pub fn run<F: Source, K: Sink, J: Sink, W: Wire>(
     trace: &mut J,
     wire: &mut W,
 ) -> Status
-    // Exactly where the words are no command, but for want of memory.
-    ensures words { result ≡ Status.Words → IsNoCommand words.now }
+    // Exactly where the words are no command, or want of `pick` what spells no pairs (its clause), but for want of memory.
+    ensures words { result ≡ Status.Words → IsNoCommand words.now ⊎ WantsNothing words.now }
     ensures other_words { IsNoCommand words.now → (result ≡ Status.Words) ⊎ (result ≡ Status.NoMemory) }
     ensures words_line { result ≡ Status.Words → Tells (K.taken out.old) (K.taken out.new) (K.faults out.old) (K.faults out.new) words_line }
 
@@ -141,7 +152,16 @@ pub fn run<F: Source, K: Sink, J: Sink, W: Wire>(
         → ScheduleLeaves result payload (file_told (F.holds files.old name) (F.left files.new) (F.faults files.old) (F.faults files.new))
         (sink_told (K.taken out.old) (K.faults out.old)) (sink_told (K.taken out.new) (K.faults out.new)) }
 
-    // Only the first three, `offer` and `schedule` read a plan or a file of keys, and only they, `basic` and `migrate` read files.
+    // `services`: the line is the payload of the message for the service of the catalogue in the file, or its fault is told.
+    ensures services { (name : List ℕ) (id : ℕ) → IsServices words.now name id
+        → ServicesLeave id result (file_told (F.holds files.old name) (F.left files.new) (F.faults files.old) (F.faults files.new))
+        (sink_told (K.taken out.old) (K.faults out.old)) (sink_told (K.taken out.new) (K.faults out.new)) }
+
+    // `pick`: the line is the first set of the payload that meets each pair, or why there is none is told.
+    ensures pick { (want : List ℕ) (payload : List ℕ) → IsPick words.now want payload
+        → PickLeaves result want payload (sink_told (K.taken out.old) (K.faults out.old)) (sink_told (K.taken out.new) (K.faults out.new)) }
+
+    // Only the first three, `offer`, `schedule` and `services` read a plan or a file of keys, and only they, `basic` and `migrate` read files.
     ensures plan { result ≡ Status.Plan → ReadsPlan words.now }
     ensures source { result ≡ Status.SourceFault → ReadsFiles words.now }
 
@@ -160,7 +180,8 @@ pub fn run<F: Source, K: Sink, J: Sink, W: Wire>(
         ⊎ IsSomeReplay words.now
         ⊎ IsSomeBasic words.now
         ⊎ IsSomeMigrate words.now
-        ⊎ IsSomeSchedule words.now }
+        ⊎ IsSomeSchedule words.now
+        ⊎ IsSomePick words.now }
     ensures refused { (dialect : OfDialect) (hex : List ℕ) (place : ℕ) → IsDecode words.now dialect hex → IsDecodeFault dialect hex place
         → (result ≡ Status.Input) ⊎ (result ≡ Status.NoMemory) }
     ensures encode_refused { (dialect : OfDialect) (text : List ℕ) (place : ℕ) → IsEncode words.now dialect text → IsUnscanned dialect text place
@@ -170,8 +191,8 @@ pub fn run<F: Source, K: Sink, J: Sink, W: Wire>(
     ensures unbegun { IsUnbegun result → (wire.new ≡ wire.old) × (trace.new ≡ trace.old) }
     ensures no_memory { result ≡ Status.NoMemory → (K.taken out.new ≡ K.taken out.old) × (K.faults out.new ≡ K.faults out.old) }
 
-    // Only `station` and `car` use the wire, only they, `replay` and `migrate` the trace, and `decode` and
-    // `encode` alone read no file; no file changes.
+    // Only `station` and `car` use the wire, only they, `replay` and `migrate` the trace, and `decode`,
+    // `encode` and `pick` alone read no file; no file changes.
     ensures alone { (UsesWire words.now → ⊥) → wire.new ≡ wire.old }
     ensures untraced { (WritesTrace words.now → ⊥) → trace.new ≡ trace.old }
     ensures apart { (ReadsFiles words.now → ⊥) → files.new ≡ files.old }
@@ -197,6 +218,8 @@ pub fn run<F: Source, K: Sink, J: Sink, W: Wire>(
         Ok(Command::Migrate { trace: recorded }) => migrate(alloc, recorded, files, out, trace),
         Ok(Command::Offer { calendar, moment }) => offer(alloc, calendar, moment, files, out),
         Ok(Command::Schedule { need, hex }) => schedule(alloc, need, hex, files, out),
+        Ok(Command::Services { catalogue, id }) => services(alloc, catalogue, id, files, out),
+        Ok(Command::Pick { want, hex }) => pick(alloc, want, hex, out),
         Err(WordsFault::NoCommand) => {
             tell_fault(out, b"words\n");
             Status::Words

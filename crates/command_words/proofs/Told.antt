@@ -15,7 +15,7 @@ use Rattle.clap.specs.declared.parser.matches.SubCommand.{SubCommand}
 use Rattle.clap.specs.declared.parser.matches.ArgMatches.TheViews.{out-SubCommand}
 use Rattle.message_dialects.specs.declared.dialect.MessageDialect.{MessageDialect}
 use Rattle.message_dialects.specs.declared.dialect.MessageDialect.TheVariants.{App, Iso, Din}
-use Rattle.command_words.specs.Command.{Asked, Asks, HasWordsFault, IsCommand, IsNoCommand, asked_of, basic, car, decode, dialect_named, dialect_word, day, encode, is_plain, IsWithin, migrate, offer, replay, schedule, station, words_of}
+use Rattle.command_words.specs.Command.{Asked, Asks, HasWordsFault, IsCommand, IsNoCommand, asked_of, basic, car, decode, dialect_named, dialect_word, day, encode, is_plain, IsWithin, migrate, offer, pick, replay, schedule, services, shorts, station, words_of}
 use Rattle.command_words.specs.Grammar.{Form, IsMatched, IsTaken, IsUnmatched, count_of, forms, given_rows, is_number, named, number_named, on_dialect, told, told_of, with_number, with_one, with_two}
 use Rattle.command_words.specs.declared.reading.Command.{Command}
 use Rattle.command_words.specs.declared.reading.WordsFault.TheVariants.{NoCommand}
@@ -46,6 +46,9 @@ Fits bound = bound ≤ 2 ^ 64
 
 day_fits : Fits day
 day_fits = omega arith
+
+shorts_fit : Fits shorts
+shorts_fit = omega arith
 
 value_is : (bound n : ℕ) → Fits bound → n < bound → digits_value 10 (decimal n) ≡ n
 value_is bound n fits less = (decimal_is_IsNumeral n (omega (arith, fits, less))).1
@@ -117,6 +120,14 @@ read (offer calendar moment) within = record {
   told_is = ap (λ (n : Option ℕ). option_map (λ (pair : Text × ℕ). offer pair.0 pair.1) (option_map (λ (number : ℕ). (calendar, number)) n)) (number_is day moment day_fits within);
 }
 read (schedule need hex) within = record { name = codes "schedule"; values = need ∷ hex ∷ []; words_are = refl; taken = refl; told_is = refl }
+read (services catalogue id) within = record {
+  name = codes "services";
+  values = catalogue ∷ decimal id ∷ [];
+  words_are = refl;
+  taken = refl;
+  told_is = ap (λ (n : Option ℕ). option_map (λ (pair : Text × ℕ). services pair.0 pair.1) (option_map (λ (number : ℕ). (catalogue, number)) n)) (number_is shorts id shorts_fit within);
+}
+read (pick want hex) within = record { name = codes "pick"; values = want ∷ hex ∷ []; words_are = refl; taken = refl; told_is = refl }
 
 same_told : (asked other : Asked) → IsWithin asked → IsWithin other → words_of asked ≡ words_of other → Some asked ≡ Some other
 same_told asked other h k e =
@@ -206,7 +217,10 @@ all_make = (
             makes_one _ _ (λ a. (refl, tt)),
             (
               makes_one _ _ (λ a. (refl, tt)),
-              (makes_number _ _ _ (λ a n less. (refl, less)), (makes_two _ _ (λ a b. (refl, tt)), tt)),
+              (
+                makes_number _ _ _ (λ a n less. (refl, less)),
+                (makes_two _ _ (λ a b. (refl, tt)), (makes_number _ _ _ (λ a n less. (refl, less)), (makes_two _ _ (λ a b. (refl, tt)), tt))),
+              ),
             ),
           ),
         ),

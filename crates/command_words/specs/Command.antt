@@ -5,7 +5,7 @@ use Rattle.std.specs.Str.{bytes_eq}
 use Rattle.message_dialects.specs.declared.dialect.MessageDialect.{MessageDialect}
 use Rattle.message_dialects.specs.declared.dialect.MessageDialect.TheVariants.{App, Iso, Din}
 use Rattle.command_words.specs.declared.reading.Command.{Command}
-use Rattle.command_words.specs.declared.reading.Command.TheVariants.{Station, Car, Replay, Decode, Encode, Basic, Migrate, Offer, Schedule}
+use Rattle.command_words.specs.declared.reading.Command.TheVariants.{Station, Car, Replay, Decode, Encode, Basic, Migrate, Offer, Schedule, Services, Pick}
 use Rattle.command_words.specs.declared.reading.WordsFault.{WordsFault}
 use Rattle.command_words.specs.declared.reading.WordsFault.TheVariants.{NoCommand, Memory}
 
@@ -31,7 +31,8 @@ dialect_named word =
 -- what may be asked for: to serve the posts of the plan in a file; to drive a car by the plan in a file; to run the posts of the plan in a file
 -- over the hearings of the trace in another; the tree text of a payload of a dialect; the payload of a tree text of a dialect; the orders
 -- for the script in a file; to carry the trace of an earlier format in a file over; what is offered for the day from a moment on by the calendar
--- in a file; and the charging profile for the need in a file within the schedules of a payload
+-- in a file; the charging profile for the need in a file within the schedules of a payload; the payload of the reply for a service of the catalogue
+-- in a file; and which set of the parameters of a payload is picked by what is wanted
 pub data Asked : Type 0 where
   station : (plan : List ℕ) → Asked
   car : (plan : List ℕ) → Asked
@@ -42,6 +43,8 @@ pub data Asked : Type 0 where
   migrate : (trace : List ℕ) → Asked
   offer : (calendar : List ℕ) (moment : ℕ) → Asked
   schedule : (need hex : List ℕ) → Asked
+  services : (catalogue : List ℕ) (id : ℕ) → Asked
+  pick : (want hex : List ℕ) → Asked
 
 -- the words that ask for it
 abbrev pub words_of : Asked → List (List ℕ)
@@ -54,14 +57,21 @@ words_of (basic script) = codes "basic" ∷ script ∷ []
 words_of (migrate trace) = codes "migrate" ∷ trace ∷ []
 words_of (offer calendar moment) = codes "offer" ∷ calendar ∷ decimal moment ∷ []
 words_of (schedule need hex) = codes "schedule" ∷ need ∷ hex ∷ []
+words_of (services catalogue id) = codes "services" ∷ catalogue ∷ decimal id ∷ []
+words_of (pick want hex) = codes "pick" ∷ want ∷ hex ∷ []
 
 -- a day has so many seconds
 abbrev pub day : ℕ
 day = 86400
 
--- a number is within its bounds: a moment is a second of a day
+-- there are so many identifiers of services
+abbrev pub shorts : ℕ
+shorts = 65536
+
+-- a number is within its bounds: a moment is a second of a day, an identifier has 16 bits
 abbrev pub IsWithin : Asked → Type 0
 IsWithin (offer calendar moment) = moment < day
+IsWithin (services catalogue id) = id < shorts
 IsWithin _ = Unit {0}
 
 -- these words ask for it
@@ -97,6 +107,12 @@ IsOffer words calendar moment = Asks words (offer calendar moment)
 abbrev pub IsSchedule : List (List ℕ) → List ℕ → List ℕ → Type 0
 IsSchedule words need hex = Asks words (schedule need hex)
 
+abbrev pub IsServices : List (List ℕ) → List ℕ → ℕ → Type 0
+IsServices words catalogue id = Asks words (services catalogue id)
+
+abbrev pub IsPick : List (List ℕ) → List ℕ → List ℕ → Type 0
+IsPick words want hex = Asks words (pick want hex)
+
 -- ---- what is read
 
 -- what a command is asked for by
@@ -110,6 +126,8 @@ asked_of (Basic script) = basic script.now
 asked_of (Migrate trace) = migrate trace.now
 asked_of (Offer calendar moment) = offer calendar.now moment
 asked_of (Schedule need hex) = schedule need.now hex.now
+asked_of (Services catalogue id) = services catalogue.now id
+asked_of (Pick want hex) = pick want.now hex.now
 
 -- the words are this command
 abbrev pub IsCommand : List (List ℕ) → Command → Type 0

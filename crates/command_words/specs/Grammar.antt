@@ -7,7 +7,7 @@ use Rattle.clap.specs.Simple.{App, Shape, new_rule, new_shape}
 use Rattle.clap.specs.declared.builder.value_parser.Reading.TheVariants.{AsWritten}
 use Rattle.clap.specs.declared.parser.matches.ValueSource.TheVariants.{CommandLine}
 use Rattle.message_dialects.specs.declared.dialect.MessageDialect.{MessageDialect}
-use Rattle.command_words.specs.Command.{Asked, station, car, replay, decode, encode, basic, migrate, offer, schedule, day, dialect_named}
+use Rattle.command_words.specs.Command.{Asked, station, car, replay, decode, encode, basic, migrate, offer, schedule, services, pick, day, shorts, dialect_named}
 use Rattle.command_words.specs.declared.forms.Values.{Values}
 use Rattle.command_words.specs.declared.forms.Values.TheVariants.{One, Two}
 
@@ -92,6 +92,8 @@ forms =
     ∷ with_one (codes "migrate") (λ trace. migrate trace)
     ∷ with_number (codes "offer") day (λ calendar moment. offer calendar moment)
     ∷ with_two (codes "schedule") (λ need hex. schedule need hex)
+    ∷ with_number (codes "services") shorts (λ catalogue id. services catalogue id)
+    ∷ with_two (codes "pick") (λ want hex. pick want hex)
     ∷ []
 
 -- the form of a name

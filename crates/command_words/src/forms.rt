@@ -35,7 +35,7 @@ macro_rules! with_two {
 }
 
 /// All commands.
-pub(crate) const FORMS: [Form; 9] = [
+pub(crate) const FORMS: [Form; 11] = [
     with_one!("station"),
     with_one!("car"),
     with_two!("replay"),
@@ -45,4 +45,6 @@ pub(crate) const FORMS: [Form; 9] = [
     with_one!("migrate"),
     with_two!("offer"),
     with_two!("schedule"),
+    with_two!("services"),
+    with_two!("pick"),
 ];

@@ -16,6 +16,9 @@ use text_tokens::number;
 /// The seconds of a day.
 const DAY: u32 = 86_400;
 
+/// The numbers of 16 bits.
+const SHORTS: u32 = 65_536;
+
 /// A command.
 #[derive(Clone, Copy)]
 pub enum Command<'a> {
@@ -58,6 +61,16 @@ pub enum Command<'a> {
     /// Prints the charging profile for the need in a file within the schedules of a payload.
     Schedule {
         need: &'a str,
+        hex: &'a str,
+    },
+    /// Prints the payload of the reply for the service of this identifier of the catalogue in a file.
+    Services {
+        catalogue: &'a str,
+        id: u32,
+    },
+    /// Prints which set of the parameters of a payload is picked by what is wanted.
+    Pick {
+        want: &'a str,
         hex: &'a str,
     },
 }
@@ -111,6 +124,10 @@ fn command_named<'a>(name: &str, values: &ArgMatches<'a>) -> Option<Command<'a>>
             with_number(values, DAY).map(|(calendar, moment)| Command::Offer { calendar, moment })
         }
         "schedule" => both(values).map(|(need, hex)| Command::Schedule { need, hex }),
+        "services" => {
+            with_number(values, SHORTS).map(|(catalogue, id)| Command::Services { catalogue, id })
+        }
+        "pick" => both(values).map(|(want, hex)| Command::Pick { want, hex }),
         _ => None,
     }
 }

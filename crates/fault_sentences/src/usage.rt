@@ -6,83 +6,91 @@ ghost use Rattle.fault_sentences.specs.Asked.{asked_by, asked_of};
 use command_words::WordList;
 use std::{fmt, io};
 
-/// A command: its words, what it does, and an example.
-#[derive(Clone, Copy)]
+/// A command: its name, the words behind it, what it does, and an example.
 struct Usage {
     name: &'static str,
-    values: &'static [&'static str],
+    values: &'static str,
     does: &'static str,
     example: &'static str,
 }
 
-const DIALECT: &str = "DIALECT";
-
-const MOMENT: &str = "MOMENT";
-
-const COMMANDS: [Usage; 9] = [
+const COMMANDS: [Usage; 11] = [
     Usage {
         name: "station",
-        values: &["PLAN"],
+        values: "PLAN",
         does: "serves the posts of the plan in the file PLAN, and writes the file v2g.trace",
         example: "v2g_charge station station.toml",
     },
     Usage {
         name: "car",
-        values: &["PLAN"],
+        values: "PLAN",
         does: "charges one car by the plan in the file PLAN, and writes the file v2g.trace",
         example: "v2g_charge car car.toml",
     },
     Usage {
         name: "replay",
-        values: &["PLAN", "TRACE"],
+        values: "PLAN TRACE",
         does: "runs a station over what its trace in the file TRACE heard, and writes v2g.trace anew",
         example: "v2g_charge replay station.toml run.trace",
     },
     Usage {
         name: "decode",
-        values: &[DIALECT, "HEX"],
+        values: "DIALECT HEX",
         does: "prints the text of the message that a payload is; DIALECT is app, iso or din",
         example: "v2g_charge decode app 80400040",
     },
     Usage {
         name: "encode",
-        values: &[DIALECT, "TEXT"],
+        values: "DIALECT TEXT",
         does: "prints the payload of the message that a text is; DIALECT is app, iso or din",
         example: "v2g_charge encode app 'supportedAppProtocolRes{ResponseCode=OK_SuccessfulNegotiation SchemaID=1}'",
     },
     Usage {
         name: "basic",
-        values: &["SCRIPT"],
+        values: "SCRIPT",
         does: "prints the orders of a post in basic charging for the events of the script in the file SCRIPT",
         example: "v2g_charge basic basic.script",
     },
     Usage {
         name: "migrate",
-        values: &["TRACE"],
+        values: "TRACE",
         does: "writes the trace of format 1 in the file TRACE as one of format 2, in the file v2g.trace",
         example: "v2g_charge migrate old.trace",
     },
     Usage {
         name: "offer",
-        values: &["CALENDAR", MOMENT],
+        values: "CALENDAR MOMENT",
         does: "prints what is offered for the day from the second MOMENT of it on, by the calendar in the file CALENDAR",
         example: "v2g_charge offer calendar.toml 75600",
     },
     Usage {
         name: "schedule",
-        values: &["NEED", "HEX"],
+        values: "NEED HEX",
         does: "prints the charging profile for the need in the file NEED that answers the schedules of a ChargeParameterDiscoveryRes of ISO 15118-2",
         example: "v2g_charge schedule need.toml 8098..",
     },
+    Usage {
+        name: "services",
+        values: "CATALOGUE ID",
+        does: "prints the payload of the ServiceDetailRes of ISO 15118-2 for the service ID of the catalogue in the file CATALOGUE",
+        example: "v2g_charge services catalogue.toml 3",
+    },
+    Usage {
+        name: "pick",
+        values: "WANT HEX",
+        does: "prints which set of a ServiceDetailRes of ISO 15118-2 a car picks that wants the parameters WANT",
+        example: "v2g_charge pick 'Protocol=\"http\";Port=8080' 8098..",
+    },
 ];
+
+/// The commands.
+fn commands() -> &'static [Usage] {
+    &COMMANDS
+}
 
 impl fmt::Display for Usage {
     fn fmt<W: fmt::Write>(&self, f: &mut fmt::Formatter<W>) -> fmt::Result {
-        write!(f, "v2g_charge {}", self.name)?;
-        for value in self.values {
-            write!(f, " {value}")?;
-        }
-        Ok(())
+        write!(f, "v2g_charge {} {}", self.name, self.values)
     }
 }
 
@@ -127,7 +135,7 @@ pub fn say_help<E: Eprint>(rt: &E) -> io::Result<()> {
     rt.eprintln(
         "The talk between an electric car and its charging post, after ISO 15118-2 and DIN SPEC 70121.\n",
     )?;
-    for usage in COMMANDS {
+    for usage in commands() {
         eprintln!(rt; "  {usage}\n      {}\n      {}", usage.does, usage.example)?;
     }
     rt.eprintln(
@@ -155,8 +163,8 @@ pub fn say_misused<E: Eprint>(rt: &E, words: &WordList) -> io::Result<()> {
 }
 
 /// Says what is wrong with the values of a command.
-fn say_values<E: Eprint>(rt: &E, usage: Usage, words: &WordList) -> io::Result<()> {
-    let wanted = usage.values.len();
+fn say_values<E: Eprint>(rt: &E, usage: &Usage, words: &WordList) -> io::Result<()> {
+    let wanted = usage.values.split(' ').count();
     let given = words.len().saturating_sub(1);
     if given != wanted {
         return eprintln!(rt;
@@ -172,11 +180,17 @@ fn say_values<E: Eprint>(rt: &E, usage: Usage, words: &WordList) -> io::Result<(
         );
     }
     match (words.get(1), words.get(2)) {
-        (Some(dialect), _) if usage.values.first() == Some(&DIALECT) => {
+        (Some(dialect), _) if usage.values.starts_with("DIALECT") => {
             eprintln!(rt; "`{dialect}` is no DIALECT: write app, iso or din.")
         }
-        (_, Some(moment)) if usage.values.last() == Some(&MOMENT) => eprintln!(rt;
+        (_, Some(moment)) if usage.values.ends_with("MOMENT") => eprintln!(rt;
             "`{moment}` is no MOMENT: write the second of the day, 0 to 86399, in digits without a zero in front."
+        ),
+        (_, Some(id)) if usage.values.ends_with(" ID") => eprintln!(rt;
+            "`{id}` is no ID: write the service's identifier, 0 to 65535, in digits without a zero in front."
+        ),
+        (Some(want), _) if usage.values.starts_with("WANT") => eprintln!(rt;
+            "`{want}` is no WANT: write 1 to 16 pairs NAME=VALUE with `;` between them, a VALUE being true, false, a number of 32 bits, or at most 64 characters in double quotes."
         ),
         _ => rt.eprintln("The words are no command."),
     }
@@ -193,8 +207,8 @@ fn dashed(words: &WordList) -> Option<&str> {
     None
 }
 
-fn usage_of(name: &str) -> Option<Usage> {
-    for usage in COMMANDS {
+fn usage_of(name: &str) -> Option<&'static Usage> {
+    for usage in commands() {
         if usage.name == name {
             return Some(usage);
         }
@@ -204,7 +218,7 @@ fn usage_of(name: &str) -> Option<Usage> {
 
 fn say_usages<E: Eprint>(rt: &E) -> io::Result<()> {
     rt.eprintln("Usage:")?;
-    for usage in COMMANDS {
+    for usage in commands() {
         eprintln!(rt; "  {usage}")?;
     }
     rt.eprintln("`v2g_charge --help` shows an example of each.")

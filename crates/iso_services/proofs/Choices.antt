@@ -7,7 +7,7 @@ use Rattle.iso_message.specs.declared.message.IsoMessage.{IsoMessage}
 use Rattle.service_spec.specs.Services.{Said, SaidSet, IsPicked, PicksNone}
 use Rattle.iso_services.specs.Offers.{OffersIn, Offers, IsChoice, HasNoChoice}
 
-one_offered : (e : Option BodyElement) (a b : List SaidSet) → OffersIn e a → OffersIn e b → a ≡ b
+pub one_offered : (e : Option BodyElement) (a b : List SaidSet) → OffersIn e a → OffersIn e b → a ≡ b
 one_offered None a b h k = absurd h
 one_offered (Some (element.Brief x)) a b h k = absurd h
 one_offered (Some (element.ChargeParameterDiscoveryRes x)) a b h k = absurd h

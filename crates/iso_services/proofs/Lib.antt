@@ -1,3 +1,3 @@
 mod Blank
-mod Choices
+pub mod Choices
 mod OneOffer

@@ -3,10 +3,6 @@
 #![tactic(auto)]
 
 #[cfg(test)]
-mod calls;
-#[cfg(test)]
-mod car;
-#[cfg(test)]
 mod client;
 #[cfg(test)]
 mod files;
@@ -18,3 +14,5 @@ mod runs;
 mod scene;
 #[cfg(test)]
 mod visited;
+#[cfg(test)]
+mod wires;

@@ -3,27 +3,28 @@
 use crate::client::{Bytes, Clients, Deed};
 use crate::free::{free_port, loopback};
 use crate::visited::Visited;
-use charge_run::{WordList, run};
-use charge_world::{MemorySink, MemorySource, NamedFile, Piece};
 use net_wire::NetWire;
+use plain_run::{Left, left_by};
 use std::alloc::Global;
 use std::net::{Net, TcpStream};
 use std::random::RandomSource;
 use std::test::*;
 use std::time::Clock;
 
-/// How many connections have to end until a station with two posts is over, what clients do there, and what is left.
-#[derive(Clone, Copy)]
+/// A station with two posts, until so many connections have ended, at whose second port another program may listen; what clients do there, and
+/// what is left.
 struct Visit {
     name: &'static str,
+    is_taken: bool,
     sessions: u32,
     deeds: &'static [Deed],
     left: &'static str,
 }
 
-const VISITS: [Visit; 6] = [
+const VISITS: [Visit; 7] = [
     Visit {
         name: "the published request in one piece",
+        is_taken: false,
         sessions: 1,
         deeds: &[
             Deed::Connect(1),
@@ -36,6 +37,7 @@ post 1 sessions 1 closed 0 causes 00008000\npost 2 sessions 0 closed 0 causes 00
     },
     Visit {
         name: "the published request in 42 pieces",
+        is_taken: false,
         sessions: 1,
         deeds: &[
             Deed::Connect(1),
@@ -48,6 +50,7 @@ post 1 sessions 1 closed 0 causes 00008000\npost 2 sessions 0 closed 0 causes 00
     },
     Visit {
         name: "two clients at two posts, by turns",
+        is_taken: false,
         sessions: 2,
         deeds: &[
             Deed::Connect(1),
@@ -71,6 +74,7 @@ post 1 sessions 1 closed 0 causes 00008000\npost 2 sessions 1 closed 0 causes 00
     },
     Visit {
         name: "one that says nothing holds nobody back, at its post or at the other",
+        is_taken: false,
         sessions: 3,
         deeds: &[
             Deed::Connect(1),
@@ -90,6 +94,7 @@ post 1 sessions 2 closed 0 causes 00008000\npost 2 sessions 1 closed 0 causes 00
     },
     Visit {
         name: "half a frame, and a reset behind an answer that is not read, end their session alone",
+        is_taken: false,
         sessions: 3,
         deeds: &[
             Deed::Connect(2),
@@ -114,6 +119,7 @@ post 1 sessions 2 closed 0 causes 00008000\npost 2 sessions 1 closed 0 causes 00
     },
     Visit {
         name: "a frame of another version ends its session, and the post serves the next one",
+        is_taken: false,
         sessions: 2,
         deeds: &[
             Deed::Connect(1),
@@ -127,64 +133,71 @@ post 1 sessions 2 closed 0 causes 00008000\npost 2 sessions 1 closed 0 causes 00
         left: "0  ended\n12 01fe80010000000480400040\n\
 post 1 sessions 2 closed 0 causes 00008008\npost 2 sessions 0 closed 0 causes 00000000\nstatus 0\n",
     },
+    Visit {
+        name: "a port that is taken is status 5",
+        is_taken: true,
+        sessions: 1,
+        deeds: &[],
+        left: "wire\nstatus 5\n",
+    },
 ];
 
 #[test]
 fn clients_are_served(rt: HostRuntime) -> Result<(), Fail> {
-    for visit in VISITS {
-        let ports = [free_port(&rt)?, free_port(&rt)?];
-        let left = served(&rt, rt.alloc(), ports, visit.sessions, visit.deeds)?;
+    for visit in &VISITS {
+        let left = left_behind(&rt, rt.alloc(), visit)?;
         assert_eq!(rt; left.as_str(), visit.left, "{}", visit.name);
     }
     Ok(())
 }
 
-#[test]
-fn a_port_that_is_taken_is_status_5(rt: HostRuntime) -> Result<(), Fail> {
-    let port = free_port(&rt)?;
-    let _listener = rt.bind(loopback(port))?;
-    let left = served(&rt, rt.alloc(), [free_port(&rt)?, port], 1, &[])?;
-    assert_eq!(rt; left.as_str(), "wire\nstatus 5\n");
-    Ok(())
+/// What is left behind a visit.
+fn left_behind<R: Net<Stream = TcpStream> + Clock + RandomSource>(
+    rt: &R,
+    alloc: Global,
+    visit: &Visit,
+) -> Result<String, Fail> {
+    let ports = [free_port(rt)?, free_port(rt)?];
+    let _listener = if visit.is_taken {
+        Some(rt.bind(loopback(ports[1]))?)
+    } else {
+        None
+    };
+    let deeds = visit.deeds.to_vec(alloc)?;
+    let clients = Clients::new(alloc, ports, deeds);
+    let plan = plan_of(alloc, ports, visit.sessions)?;
+    served(rt, alloc, plan.as_str(), clients)
 }
 
-/// Serves two posts at these ports over sockets, until so many connections have ended, while clients do this: what they got, the output,
-/// and the status.
+/// Serves a plan over sockets with clients beside it: what they got, the output, and the status.
 fn served<R: Net<Stream = TcpStream> + Clock + RandomSource>(
     rt: &R,
     alloc: Global,
-    ports: [u16; 2],
-    sessions: u32,
-    deeds: &[Deed],
+    plan: &str,
+    clients: Clients,
 ) -> Result<String, Fail> {
-    let words = WordList::of(vec![in alloc; text(alloc, "station")?, text(alloc, "plan")?]?);
-    let mut files = plan_file(alloc, ports, sessions)?;
-    let mut out = MemorySink::make(alloc, Vec::new(alloc), 1024)?;
-    let mut trace = MemorySink::make(alloc, Vec::new(alloc), 0)?;
-    let clients = Clients::new(alloc, ports, deeds.to_vec(alloc)?);
     let mut wire = Visited::new(rt, NetWire::new(rt, alloc), clients);
-    let status = run(alloc, &words, &mut files, &mut out, &mut trace, &mut wire);
-    let mut left = wire.clients.report()?;
-    left.push_str(str::from_utf8(out.bytes())?)?;
-    let number = status.number();
-    let line = format!(in alloc; "status {number}\n")?;
-    left.push_str(line.as_str())?;
-    Ok(left)
-}
-
-fn text(alloc: Global, text: &str) -> Result<String, Fail> {
-    Ok(String::from_str(alloc, text)?)
-}
-
-/// The file of a plan of two posts at these ports.
-fn plan_file(alloc: Global, ports: [u16; 2], sessions: u32) -> Result<MemorySource, Fail> {
-    let [one, two] = ports;
-    let plan = format!(in alloc;
-        "sessions = {sessions}\n[[post]]\ntcp = {one}\n[[post]]\ntcp = {two}\n"
+    let files = [("plan", plan.as_bytes())];
+    let left = left_by(
+        alloc,
+        &["station", "plan"],
+        &files,
+        Vec::new(alloc),
+        &mut wire,
     )?;
-    let file = NamedFile {
-        name: Piece::of(b"plan".to_vec(alloc)?),
-        bytes: Piece::of(plan.into_bytes()),
-    };
-    Ok(MemorySource::of(vec![in alloc; file]?, Vec::new(alloc)))
+    told(alloc, &wire.clients, &left)
+}
+
+/// What clients got, the output and the status.
+fn told(alloc: Global, clients: &Clients, left: &Left) -> Result<String, Fail> {
+    let got = clients.report()?;
+    let out = str::from_utf8(left.out.bytes())?;
+    let number = left.status.number();
+    Ok(format!(in alloc; "{got}{out}status {number}\n")?)
+}
+
+/// The plan of two posts at these ports.
+fn plan_of(alloc: Global, ports: [u16; 2], sessions: u32) -> Result<String, Fail> {
+    let [one, two] = ports;
+    Ok(format!(in alloc; "sessions = {sessions}\n[[post]]\ntcp = {one}\n[[post]]\ntcp = {two}\n")?)
 }

@@ -1,6 +1,6 @@
 //! Tests of the public calls that a post is made of: frames and discovery, words, deadlines, contactor and pilot, the rules of a session,
-//! shares of power, a simulated charger, and the plain program of a post. They stand here so that the crates whose calls they are are proved
-//! once, as tables of cases, since a test is proved call by call.
+//! shares of power, and a simulated charger. They stand here so that the crates whose calls they are are proved once, as tables of cases,
+//! since a test is proved call by call.
 #![tactic(auto)]
 
 #[cfg(test)]
@@ -19,8 +19,6 @@ mod rules;
 mod shares;
 #[cfg(test)]
 mod simulator;
-#[cfg(test)]
-mod station;
 #[cfg(test)]
 mod timers;
 #[cfg(test)]

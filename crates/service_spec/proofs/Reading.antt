@@ -42,7 +42,7 @@ among (q ∷ front) piece rest [] are all = absurd are
 among [] piece rest (p ∷ pairs) are all = (p, all.0, are.0)
 among (q ∷ front) piece rest (p ∷ pairs) are all = among front piece rest pairs are.1 all.1
 
-wanted_cut : (word : List ℕ) (pairs : List Parameter) (is : IsWant word pairs) → pieces_of word ≡ is.pieces
+pub wanted_cut : (word : List ℕ) (pairs : List Parameter) (is : IsWant word pairs) → pieces_of word ≡ is.pieces
 wanted_cut word pairs is =
     ap pieces_of is.text
     ∙ joined_cut is.pieces (each_piece pairs is.pieces (recursion_from_All IsPair pairs is.each) is.spelled)

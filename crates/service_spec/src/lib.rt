@@ -4,15 +4,17 @@
 //! `specs/Services.antt` says which set is picked, and `specs/Wants.antt` how what is wanted is written. It takes no memory.
 //!
 //! Proved: `want_of` reads exactly the pairs that a word spells (`IsWant`), and is `BadWant` exactly where there are none; `pick` gives the first set in
-//! which each pair is met (`IsPicked`), or there is none (`PicksNone`).
+//! which each pair is met (`IsPicked`), or there is none (`PicksNone`); `one_want`, `one_choice`: a word spells one want, and one set is picked or none.
 #![tactic(auto)]
 
+mod laws;
 mod numbers;
 mod picking;
 mod values;
 mod wants;
 
 use arrayvec::ArrayVec;
+pub use laws::{one_choice, one_want};
 pub use picking::{meets, pick};
 pub use values::{has_name_form, has_text_form, is_name, is_text, length_of};
 pub use wants::want_of;

@@ -1,19 +1,20 @@
-//! Changes of a record.
+//! Changes of a trace, line by line.
+//!
+//! Nothing but the outcome of a call, and that of the same call, may stand in the place of a line of what the site did.
 
-ghost use Rattle.std.specs.Prelude.{◌≡◌, ◌<◌, IfOk};
+ghost use Rattle.std.specs.Prelude.{◌<◌};
 
-use charge_world::{Entry, Order, Piece, Tenths};
-use plain_codecs::NoMemory;
-use std::alloc::Global;
+use row_texts::add_line;
+use std::alloc::{AllocError, Global};
 
 /// A change of one line.
-#[derive(Clone, Copy, Debug, PartialEq, Eq)]
+#[derive(Clone, Copy, Debug)]
 pub(crate) enum Change {
     LeftOut,
     Doubled,
-    /// With another byte, another order, another amount or another cause.
+    /// With another digit, or another order.
     Altered,
-    /// Behind the line that follows it, or before the one before it where it is the last.
+    /// Behind the line that follows it; the last one before the one before it.
     Moved,
 }
 
@@ -26,166 +27,145 @@ impl Change {
     ];
 }
 
-/// The same bytes once more.
-fn copied_piece(alloc: Global, piece: &Piece) -> Result<Piece, NoMemory>
-    ensures { IfOk result (λ copy. copy ≡ piece.now) }
-{
-    Ok(Piece::of(Vec::from_slice(alloc, piece.bytes())?))
-}
-
-/// The same entry once more.
-fn copied(alloc: Global, entry: &Entry) -> Result<Entry, NoMemory>
-    ensures { IfOk result (λ copy. copy ≡ entry.now) }
-{
-    Ok(match entry {
-        Entry::Heard { heard, bytes } => Entry::Heard {
-            heard: *heard,
-            bytes: copied_piece(alloc, bytes)?,
-        },
-        Entry::Lost => Entry::Lost,
-        Entry::Sent { post, bytes, taken } => Entry::Sent {
-            post: *post,
-            bytes: copied_piece(alloc, bytes)?,
-            taken: *taken,
-        },
-        Entry::Answered { post, bytes, taken } => Entry::Answered {
-            post: *post,
-            bytes: copied_piece(alloc, bytes)?,
-            taken: *taken,
-        },
-        Entry::Drove { post, order, taken } => Entry::Drove {
-            post: *post,
-            order: *order,
-            taken: *taken,
-        },
-        Entry::Dialed { port, taken } => Entry::Dialed {
-            port: *port,
-            taken: *taken,
-        },
-        Entry::Ended { post, cause } => Entry::Ended {
-            post: *post,
-            cause: *cause,
-        },
-    })
-}
-
-/// The same entries once more.
-fn all_copied(alloc: Global, entries: &[Entry]) -> Result<Vec<Entry>, NoMemory>
-    ensures { IfOk result (λ copies. copies.items ≡ entries.now) }
-{
-    let mut copies = Vec::new(alloc);
-    for entry in entries {
-        copies.push(copied(alloc, entry)?)?;
-    }
-    Ok(copies)
-}
-
-/// The same bytes but for one of them, if there are any.
-fn other_bytes(alloc: Global, piece: &Piece, place: usize) -> Result<Piece, NoMemory> {
-    let mut bytes = Vec::from_slice(alloc, piece.bytes())?;
-    let len = bytes.len();
-    if len > 0 {
-        bytes[place % len] ^= 1;
-    }
-    Ok(Piece::of(bytes))
-}
-
-/// One tenth less, or one for none.
-fn other_tenths(tenths: Tenths) -> Tenths {
-    let n = tenths.get();
-    Tenths::exactly(if n > 0 { n - 1 } else { 1 })
-}
-
-/// Another order, or the same with another of its amounts.
-fn other_order(order: Order, place: usize) -> Order {
-    match order {
-        Order::Open => Order::Close,
-        Order::Close => Order::Open,
-        Order::Limits {
-            voltage,
-            current,
-            watts,
-        } => match place % 3 {
-            0 => Order::Limits {
-                voltage: other_tenths(voltage),
-                current,
-                watts,
-            },
-            1 => Order::Limits {
-                voltage,
-                current: other_tenths(current),
-                watts,
-            },
-            _ => Order::Limits {
-                voltage,
-                current,
-                watts: watts ^ 1,
-            },
-        },
+/// Whether a line tells what the site did. Each begins with the number of its hearing.
+fn is_done(line: &str) -> bool {
+    match line.split_once(' ') {
+        Some((_, rest)) => !rest.starts_with("heard ") && rest != "lost",
+        None => false,
     }
 }
 
-/// An entry that differs from what the site did; the same of what it heard.
-fn altered(alloc: Global, entry: &Entry, place: usize) -> Result<Entry, NoMemory> {
-    Ok(match entry {
-        Entry::Sent { post, bytes, taken } => Entry::Sent {
-            post: *post,
-            bytes: other_bytes(alloc, bytes, place)?,
-            taken: *taken,
-        },
-        Entry::Answered { post, bytes, taken } => Entry::Answered {
-            post: *post,
-            bytes: other_bytes(alloc, bytes, place)?,
-            taken: *taken,
-        },
-        Entry::Drove { post, order, taken } => Entry::Drove {
-            post: *post,
-            order: other_order(*order, place),
-            taken: *taken,
-        },
-        Entry::Dialed { port, taken } => Entry::Dialed {
-            port: *port ^ 1,
-            taken: *taken,
-        },
-        Entry::Ended { post, cause } => Entry::Ended {
-            post: *post,
-            cause: *cause ^ 1,
-        },
-        Entry::Heard { .. } | Entry::Lost => copied(alloc, entry)?,
-    })
-}
-
-/// The place that the entry at this one is moved to, among so many.
-fn moved_to(place: usize, len: usize) -> usize
-    requires { place < len }
-    ensures { result < len }
+/// The places of every so manieth line of what the site did, behind the first line. Which one is first depends on how many lines there are behind it.
+pub(crate) fn places_of(
+    alloc: Global,
+    lines: &[&str],
+    step: usize,
+) -> Result<Vec<usize>, AllocError>
+    requires { 0 < step }
 {
-    if place + 1 < len {
-        place + 1
-    } else {
-        place.saturating_sub(1)
-    }
+    lines
+        .iter()
+        .enumerate()
+        .skip(1)
+        .filter(|(_, line)| is_done(*line))
+        .map(|(place, _)| place)
+        .skip(lines.len().saturating_sub(1) % step)
+        .step_by(step)
+        .collect(alloc)
 }
 
-/// The entries with a change of the one at this place, if it is there.
+/// The trace of these lines with a change of the one at this place, if it is there.
 pub(crate) fn changed(
     alloc: Global,
-    entries: &[Entry],
+    lines: &[&str],
     place: usize,
     change: Change,
-) -> Result<Vec<Entry>, NoMemory> {
-    let mut later = all_copied(alloc, entries)?;
-    let len = later.len();
-    if place >= len {
-        return Ok(later);
-    }
-    match change {
-        Change::LeftOut => {
-            later.remove(place);
+) -> Result<String, AllocError> {
+    let mut text = String::new(alloc);
+    // the last line is moved with the one before it
+    let place = match change {
+        Change::Moved => place.min(lines.len().saturating_sub(2)),
+        _ => place,
+    };
+    for (at, line) in lines.iter().enumerate() {
+        if at == place {
+            put_changed(&mut text, line, place, change)?;
+        } else {
+            add_line(&mut text, line)?;
+            if at == place.saturating_add(1) && matches!(change, Change::Moved) {
+                put_behind(&mut text, line, lines[place])?;
+            }
         }
-        Change::Doubled => later.insert(place, copied(alloc, &entries[place])?)?,
-        Change::Altered => later[place] = altered(alloc, &entries[place], place)?,
-        Change::Moved => later.as_mut_slice().swap(place, moved_to(place, len)),
     }
-    Ok(later)
+    Ok(text)
+}
+
+/// Puts what stands at the place of a changed line.
+fn put_changed(
+    text: &mut String,
+    line: &str,
+    place: usize,
+    change: Change,
+) -> Result<(), AllocError> {
+    match change {
+        Change::LeftOut | Change::Moved => Ok(()),
+        Change::Doubled => {
+            add_line(text, line)?;
+            add_line(text, line)
+        }
+        Change::Altered => put_altered(text, line, place),
+    }
+}
+
+/// Puts a line behind another one, with the number of that one's hearing.
+fn put_behind(text: &mut String, other: &str, line: &str) -> Result<(), AllocError> {
+    let number = match other.split_once(' ') {
+        Some((number, _)) => number,
+        None => "",
+    };
+    let rest = match line.split_once(' ') {
+        Some((_, rest)) => rest,
+        None => "",
+    };
+    text.push_str(number)?;
+    text.push(' ')?;
+    add_line(text, rest)
+}
+
+/// Puts another order, or a line with another digit in one of its amounts or in its bytes, by the place.
+fn put_altered(text: &mut String, line: &str, place: usize) -> Result<(), AllocError> {
+    let (front, rest) = match line.split_once(" limits ") {
+        Some((front, amounts)) => (front, amounts),
+        None => line.rsplit_once(' ').unwrap_or((line, "")),
+    };
+    text.push_str(front)?;
+    match rest {
+        "open" => add_line(text, " close"),
+        "close" => add_line(text, " open"),
+        _ => {
+            text.push_str(if line.contains(" limits ") {
+                " limits "
+            } else {
+                " "
+            })?;
+            put_other_digit(text, rest, place % rest.len().max(1))?;
+            add_line(text, "")
+        }
+    }
+}
+
+/// Puts a text of digits and spaces in which the digit at this place, or behind it, is another one.
+fn put_other_digit(text: &mut String, digits: &str, place: usize) -> Result<(), AllocError> {
+    let mut is_altered = false;
+    for (at, digit) in digits.chars().enumerate() {
+        if at >= place && digit != ' ' && !is_altered {
+            text.push(other_digit(digit))?;
+            is_altered = true;
+        } else {
+            text.push(digit)?;
+        }
+    }
+    Ok(())
+}
+
+/// Another hexadecimal digit, and for a decimal one another decimal one that isn't 0.
+fn other_digit(digit: char) -> char {
+    match digit {
+        '0' => '1',
+        '1' => '2',
+        '2' => '3',
+        '3' => '4',
+        '4' => '5',
+        '5' => '6',
+        '6' => '7',
+        '7' => '8',
+        '8' => '9',
+        '9' => '8',
+        'a' => 'b',
+        'b' => 'c',
+        'c' => 'd',
+        'd' => 'e',
+        'e' => 'f',
+        _ => 'e',
+    }
 }

@@ -4,42 +4,34 @@
 
 use crate::recorded::Run;
 use anyhow::Result;
-use charge_run::{Status, WordList, run};
-use charge_world::{MemorySink, MemorySource, MemoryWire, NamedFile, Piece};
+use charge_world::MemoryWire;
+use plain_run::{Left, Status, left_by};
 use std::alloc::Global;
-
-/// Room for a trace that is written anew, in bytes.
-const ROOM: u32 = 1_000_000;
-
-/// What a replay left.
-#[derive(Drop)]
-struct Left {
-    status: Status,
-    out: MemorySink,
-    trace: MemorySink,
-}
 
 /// Whether a run comes out as it was recorded.
 pub(crate) fn is_as_recorded(alloc: Global, run: &Run) -> Result<bool> {
-    let left = replayed(alloc, run, Vec::new(alloc))?;
-    let cut = replayed(alloc, run, vec![in alloc; 2]?)?;
+    let (plan, trace) = (run.plan.as_str(), run.trace.as_str());
+    let left = replayed(alloc, plan, trace, Vec::new(alloc))?;
+    let cut = replayed(alloc, plan, trace, vec![in alloc; 2]?)?;
     let is_same = if run.wanted.is_empty() {
-        is_written_so(alloc, run, &left)?
+        is_told_so(alloc, trace, &left)? && left.trace.bytes() == trace.as_bytes()
     } else {
         is_wanted(alloc, run, &left)?
     };
     Ok(is_same && is_front(&left, &cut))
 }
 
-/// Whether the trace of a run was written anew as it was, and the line tells that it was.
-fn is_written_so(alloc: Global, run: &Run, left: &Left) -> Result<bool> {
-    let lines = run.trace.lines().count();
+/// Whether a trace is written anew as it is, which is so exactly where it is that of a run of the plan.
+pub(crate) fn is_run(alloc: Global, plan: &str, trace: &str) -> Result<bool> {
+    let left = replayed(alloc, plan, trace, Vec::new(alloc))?;
+    Ok(left.status == Status::Done && left.trace.bytes() == trace.as_bytes())
+}
+
+/// Whether the line tells that a trace was written anew.
+fn is_told_so(alloc: Global, trace: &str, left: &Left) -> Result<bool> {
+    let lines = trace.lines().count();
     let front = format!(in alloc; "lines {lines} ended ")?;
-    Ok(
-        left.status == Status::Done
-            && left.trace.bytes() == run.trace.as_bytes()
-            && left.out.bytes().starts_with(front.as_bytes()),
-    )
+    Ok(left.status == Status::Done && left.out.bytes().starts_with(front.as_bytes()))
 }
 
 /// Whether the status and the line are those that a run wants.
@@ -60,39 +52,10 @@ fn is_front(left: &Left, cut: &Left) -> bool {
     }
 }
 
-/// Replays the trace of a run under its plan. The writes of these numbers on the trace fail.
-fn replayed(alloc: Global, run_of: &Run, failing: Vec<u32>) -> Result<Left> {
-    let files = vec![in alloc;
-        named(alloc, "plan", run_of.plan.as_str())?,
-        named(alloc, "recorded", run_of.trace.as_str())?,
-    ]?;
-    let mut out = MemorySink::make(alloc, Vec::new(alloc), 128)?;
-    let mut trace = MemorySink::make(alloc, failing, ROOM)?;
+/// Replays a trace under a plan. The writes of these numbers on the new one fail.
+fn replayed(alloc: Global, plan: &str, recorded: &str, failing: Vec<u32>) -> Result<Left> {
+    let words = ["replay", "plan", "recorded"];
+    let files = [("plan", plan.as_bytes()), ("recorded", recorded.as_bytes())];
     let mut wire = MemoryWire::make(alloc, Vec::new(alloc), Vec::new(alloc), 0, 0)?;
-    let status = run(
-        alloc,
-        &words(alloc)?,
-        &mut MemorySource::of(files, Vec::new(alloc)),
-        &mut out,
-        &mut trace,
-        &mut wire,
-    );
-    Ok(Left { status, out, trace })
-}
-
-/// A file of that name.
-fn named(alloc: Global, name: &str, text: &str) -> Result<NamedFile> {
-    Ok(NamedFile {
-        name: Piece::of(name.as_bytes().to_vec(alloc)?),
-        bytes: Piece::of(text.as_bytes().to_vec(alloc)?),
-    })
-}
-
-/// The words of the command.
-fn words(alloc: Global) -> Result<WordList> {
-    Ok(WordList::of(vec![in alloc;
-        String::from_str(alloc, "replay")?,
-        String::from_str(alloc, "plan")?,
-        String::from_str(alloc, "recorded")?,
-    ]?))
+    Ok(left_by(alloc, &words, &files, failing, &mut wire)?)
 }

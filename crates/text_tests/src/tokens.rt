@@ -1,68 +1,67 @@
 //! The examples of the calls.
 
 use crate::cases::{Case, all_hold};
-use std::alloc::Global;
+use std::alloc::{AllocError, Global};
 use text_tokens::{
-    Full, Line, Refused, Word, Words, before_line_feed, hex_bytes, identifier, is_hex, number,
+    Full, Line, Word, Words, before_line_feed, hex_bytes, identifier, is_hex, number,
 };
 
-/// A word, and what it is read as.
-enum Token {
-    /// As a number between two bounds.
-    Number(&'static [u8], u64, u64, Result<u64, Refused>),
-    /// As bytes in hexadecimal, or as none.
-    Bytes(&'static [u8], &'static [u8]),
-    NoBytes(&'static [u8]),
-    Identifier(&'static [u8], Result<u64, Refused>),
+/// What a word is read as: a number, one of 1 to 8, bytes in hexadecimal, or an identifier.
+#[derive(Clone, Copy)]
+enum Reader {
+    Number,
+    OneToEight,
+    Bytes,
+    Identifier,
 }
 
-/// Whether a word is these bytes in hexadecimal.
-fn are_bytes(alloc: Global, word: &[u8], wanted: &[u8]) -> bool {
-    if !is_hex(word) {
-        return false;
-    }
-    match hex_bytes(alloc, word) {
-        Ok(bytes) => bytes.as_slice() == wanted,
-        Err(_) => false,
+/// A word, and what it is read as.
+struct Token(Reader, &'static [u8], &'static str);
+
+/// What a word is read as, and of bytes first whether it is hexadecimal.
+fn told(alloc: Global, reader: Reader, word: &[u8]) -> Result<String, AllocError> {
+    match reader {
+        Reader::Number => format!(in alloc; "{:?}", number(word, 0, u64::MAX)),
+        Reader::OneToEight => format!(in alloc; "{:?}", number(word, 1, 8)),
+        Reader::Bytes => format!(in alloc; "{} {:?}", is_hex(word), hex_bytes(alloc, word)),
+        Reader::Identifier => format!(in alloc; "{:?}", identifier(word)),
     }
 }
 
 impl Case for Token {
     fn holds(&self, alloc: Global) -> bool {
-        match self {
-            Token::Number(word, least, most, wanted) => number(word, *least, *most) == *wanted,
-            Token::Bytes(word, wanted) => are_bytes(alloc, word, wanted),
-            Token::NoBytes(word) => !is_hex(word),
-            Token::Identifier(word, wanted) => identifier(word) == *wanted,
-        }
+        matches!(told(alloc, self.0, self.1), Ok(told) if told.as_str() == self.2)
     }
 }
 
 const TOKENS: [Token; 19] = [
-    Token::Number(b"0", 0, u64::MAX, Ok(0)),
-    Token::Number(
+    Token(Reader::Number, b"0", "Ok(0)"),
+    Token(
+        Reader::Number,
         b"18446744073709551615",
-        0,
-        u64::MAX,
-        Ok(18446744073709551615),
+        "Ok(18446744073709551615)",
     ),
-    Token::Number(b"18446744073709551616", 0, u64::MAX, Err(Refused::Bad)),
-    Token::Number(b"00", 0, u64::MAX, Err(Refused::Bad)),
-    Token::Number(b"01", 0, u64::MAX, Err(Refused::Bad)),
-    Token::Number(b"+1", 0, u64::MAX, Err(Refused::Bad)),
-    Token::Number(b"-0", 0, u64::MAX, Err(Refused::Bad)),
-    Token::Number(b"", 0, u64::MAX, Err(Refused::Bad)),
-    Token::Number(b"1\xff", 0, u64::MAX, Err(Refused::Bad)),
-    Token::Number(b"9", 1, 8, Err(Refused::Bad)),
-    Token::Number(b"0", 1, 8, Err(Refused::Bad)),
-    Token::Bytes(b"", b""),
-    Token::Bytes(b"01feff", b"\x01\xfe\xff"),
-    Token::NoBytes(b"0A"),
-    Token::NoBytes(b"0"),
-    Token::NoBytes(b"0g"),
-    Token::NoBytes(b"-"),
-    Token::Identifier(b"0102030405060708", Ok(0x0102030405060708)),
-    Token::Identifier(b"01020304050607", Err(Refused::Bad)),
+    Token(Reader::Number, b"18446744073709551616", "Err(Bad)"),
+    Token(Reader::Number, b"00", "Err(Bad)"),
+    Token(Reader::Number, b"01", "Err(Bad)"),
+    Token(Reader::Number, b"+1", "Err(Bad)"),
+    Token(Reader::Number, b"-0", "Err(Bad)"),
+    Token(Reader::Number, b"", "Err(Bad)"),
+    Token(Reader::Number, b"1\xff", "Err(Bad)"),
+    Token(Reader::OneToEight, b"9", "Err(Bad)"),
+    Token(Reader::OneToEight, b"0", "Err(Bad)"),
+    Token(Reader::Bytes, b"", "true Ok([])"),
+    Token(Reader::Bytes, b"01feff", "true Ok([1, 254, 255])"),
+    Token(Reader::Bytes, b"0A", "false Err(Bad)"),
+    Token(Reader::Bytes, b"0", "false Err(Bad)"),
+    Token(Reader::Bytes, b"0g", "false Err(Bad)"),
+    Token(Reader::Bytes, b"-", "false Err(Bad)"),
+    Token(
+        Reader::Identifier,
+        b"0102030405060708",
+        "Ok(72623859790382856)",
+    ),
+    Token(Reader::Identifier, b"01020304050607", "Err(Bad)"),
 ];
 
 /// A line is its words with one space between, and needs its room.

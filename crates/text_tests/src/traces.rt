@@ -4,15 +4,8 @@ use crate::cases::{Case, all_hold};
 use std::alloc::{AllocError, Global};
 use trace_text::{Full, LineFault, read_line, read_numbered, write_line, write_numbered};
 
-/// A line, and what it is read as.
-enum LineCase {
-    /// As none: a line ends in its one line feed.
-    Bad(&'static [u8]),
-    /// A call with so many bytes behind it, all 0: how long its line is, and whether it is read.
-    Long(&'static [u8], usize, usize, bool),
-    /// As a numbered line with this number, which is written again, or as none.
-    Numbered(&'static [u8], Option<u64>),
-}
+/// A numbered line, and its number, with which it is written again; or it is none.
+struct Line(&'static [u8], Option<u64>);
 
 /// A call with so many bytes, all 0.
 fn long_line(alloc: Global, call: &[u8], bytes: usize) -> Result<Vec<u8>, AllocError> {
@@ -32,57 +25,55 @@ fn is_long(alloc: Global, call: &[u8], bytes: usize, length: usize, is_read: boo
     line.len() == length && read_line(alloc, line.as_slice(), 1).is_ok() == is_read
 }
 
-/// Whether a numbered line has this number and is written as it was read, or is refused.
-fn is_numbered(alloc: Global, line: &[u8], wanted: Option<u64>) -> bool {
-    match read_numbered(alloc, line, 2) {
-        Ok((hearing, entry)) => {
-            let mut room = [0u8; 60];
-            let Ok(bytes) = write_numbered(hearing, &entry, &mut room) else {
-                return false;
-            };
-            bytes as usize == line.len()
-                && &room[..line.len().min(60)] == line
-                && wanted == Some(hearing)
-        }
-        Err(fault) => fault == LineFault::BadLine(2) && wanted.is_none(),
-    }
+/// A line has at most 131,200 bytes.
+fn long_lines_are_read(alloc: Global) -> bool {
+    is_long(alloc, b"sent 1 ", 65596, 131200, true)
+        && is_long(alloc, b"failed sent 1 ", 65593, 131201, false)
 }
 
-impl Case for LineCase {
+impl Case for Line {
     fn holds(&self, alloc: Global) -> bool {
-        match self {
-            LineCase::Bad(line) => {
-                matches!(read_line(alloc, line, 7), Err(LineFault::BadLine(7)))
+        match read_numbered(alloc, self.0, 2) {
+            Ok((hearing, entry)) => {
+                let mut room = [0u8; 60];
+                let Ok(bytes) = write_numbered(hearing, &entry, &mut room) else {
+                    return false;
+                };
+                bytes as usize == self.0.len()
+                    && &room[..self.0.len().min(60)] == self.0
+                    && self.1 == Some(hearing)
             }
-            LineCase::Long(call, bytes, length, is_read) => {
-                is_long(alloc, call, *bytes, *length, *is_read)
-            }
-            LineCase::Numbered(line, wanted) => is_numbered(alloc, line, *wanted),
+            Err(fault) => fault == LineFault::BadLine(2) && self.1.is_none(),
         }
     }
 }
 
-const LINES: [LineCase; 15] = [
-    LineCase::Bad(b"lost"),
-    LineCase::Bad(b"lost\n\n"),
-    LineCase::Bad(b""),
-    LineCase::Bad(b"\n"),
-    LineCase::Bad(b"heard 5 1 plant renew\n"),
-    // at most 131,200 bytes
-    LineCase::Long(b"sent 1 ", 65596, 131200, true),
-    LineCase::Long(b"failed sent 1 ", 65593, 131201, false),
-    LineCase::Numbered(b"1 heard 0 1 came 0102030405060708\n", Some(1)),
-    LineCase::Numbered(b"3 ended 1 18\n", Some(3)),
-    LineCase::Numbered(b"0 dialed 15120\n", Some(0)),
-    LineCase::Numbered(
+const LINES: [Line; 8] = [
+    Line(b"1 heard 0 1 came 0102030405060708\n", Some(1)),
+    Line(b"3 ended 1 18\n", Some(3)),
+    Line(b"0 dialed 15120\n", Some(0)),
+    Line(
         b"18446744073709551615 heard 5 1 plant renew\n",
         Some(18446744073709551615),
     ),
-    LineCase::Numbered(b"01 lost\n", None),
-    LineCase::Numbered(b"1  lost\n", None),
-    LineCase::Numbered(b"lost\n", None),
-    LineCase::Numbered(b"18446744073709551616 lost\n", None),
+    Line(b"01 lost\n", None),
+    Line(b"1  lost\n", None),
+    Line(b"lost\n", None),
+    Line(b"18446744073709551616 lost\n", None),
 ];
+
+/// What is no line: a line ends in its one line feed.
+const BAD: [&'static [u8]; 5] = [b"lost", b"lost\n\n", b"", b"\n", b"heard 5 1 plant renew\n"];
+
+/// Whether none of these is a line.
+fn are_bad(alloc: Global, lines: &[&[u8]]) -> bool {
+    for line in lines {
+        if !matches!(read_line(alloc, line, 7), Err(LineFault::BadLine(7))) {
+            return false;
+        }
+    }
+    true
+}
 
 /// A room that is too small stays as it was.
 fn a_room_is_left(alloc: Global) -> bool {
@@ -100,5 +91,7 @@ fn a_room_is_left(alloc: Global) -> bool {
 #[test]
 fn lines_are_read_and_written(rt: HostRuntime) {
     all_hold(&rt, rt.alloc(), &LINES);
+    assert!(rt; are_bad(rt.alloc(), &BAD));
+    assert!(rt; long_lines_are_read(rt.alloc()));
     assert!(rt; a_room_is_left(rt.alloc()));
 }

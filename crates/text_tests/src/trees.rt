@@ -1,11 +1,15 @@
 //! Payloads and the texts of their trees, in a schema with each form of a value.
 
+ghost use Rattle.std.specs.Prelude.{◌≡◌, true};
+ghost use Rattle.exi_schema.specs.Told.{schema_of};
+ghost use Rattle.tree_text.specs.Consistent.{are_consistent};
+
 use crate::cases::{Case, all_hold};
 use exi_schema::{
     AttributeOf, Datatype, Declaration, Member, MemberStanding, Particle, RootOf, Schema,
 };
-use std::alloc::Global;
-use tree_text::{PrintFault, Refusal, RefusalCause, ScanFault, print_tree, scan_tree};
+use std::alloc::{AllocError, Global};
+use tree_text::{PrintFault, Refusal, ScanFault, print_tree, scan_tree};
 
 const NAMES: [&'static str; 8] = ["All", "Id", "Unit", "Flag", "Power", "Data", "Low", "Empty"];
 
@@ -122,35 +126,46 @@ const KINDS: [Declaration<'static>; 8] = [
     },
 ];
 
-/// A payload or a text, and what is made of it.
-enum Tree {
-    /// A payload in hexadecimal, and the text of its tree.
-    Printed(&'static str, &'static str),
-    /// A payload in hexadecimal, and why and at which bit it is refused.
-    Refused(&'static str, RefusalCause, u32),
-    /// A text, and its encoding in hexadecimal.
-    Encoded(&'static str, &'static str),
-    /// A text, and the place of its fault.
-    Fault(&'static str, u64),
+/// What is given: a payload in hexadecimal digits, or a text.
+#[derive(Clone, Copy)]
+enum Given {
+    Payload,
+    Text,
 }
 
+/// A payload or a text, and what is made of it: the text, or the payload in hexadecimal digits; or why and where it is refused.
+struct Tree(Given, &'static str, &'static str);
+
 /// What is printed of a payload in hexadecimal.
-fn printed(alloc: Global, payload: &str) -> Result<String, PrintFault> {
-    let schema = Schema {
-        kinds: &KINDS,
-        names: &NAMES,
-        values: &VALUES,
-        root_bits: 2,
-        roots: &ROOTS,
+fn printed(alloc: Global, schema: &Schema, payload: &str) -> Result<String, AllocError> {
+    let Ok(bytes) = hex::decode(alloc, payload) else {
+        return String::from_str(alloc, "no payload");
     };
-    match hex::decode(alloc, payload) {
-        Ok(bytes) if bytes.len() <= 65536 => print_tree(alloc, &schema, bytes.as_slice()),
-        _ => Err(PrintFault::Memory),
+    if bytes.len() > 65536 {
+        return String::from_str(alloc, "no payload");
+    }
+    match print_tree(alloc, schema, bytes.as_slice()) {
+        Ok(text) => Ok(text),
+        Err(PrintFault::Refused(Refusal { cause, bit })) => {
+            format!(in alloc; "{cause:?} at bit {bit}")
+        }
+        Err(PrintFault::Memory) => String::from_str(alloc, "memory"),
     }
 }
 
 /// The encoding of the tree of a text in hexadecimal.
-fn encoded(alloc: Global, text: &str) -> Result<String, ScanFault> {
+fn encoded(alloc: Global, schema: &Schema, text: &str) -> Result<String, AllocError>
+    requires { are_consistent (schema_of schema.now).kinds ≡ true }
+{
+    match scan_tree(alloc, schema, text) {
+        Ok(piece) => hex::encode(alloc, piece.bytes()),
+        Err(ScanFault::Place(place)) => format!(in alloc; "fault at {place}"),
+        Err(ScanFault::Memory) => String::from_str(alloc, "memory"),
+    }
+}
+
+/// What is made of this.
+fn made_of(alloc: Global, given: Given, text: &str) -> Result<String, AllocError> {
     let schema = Schema {
         kinds: &KINDS,
         names: &NAMES,
@@ -158,33 +173,15 @@ fn encoded(alloc: Global, text: &str) -> Result<String, ScanFault> {
         root_bits: 2,
         roots: &ROOTS,
     };
-    let piece = scan_tree(alloc, &schema, text)?;
-    match hex::encode(alloc, piece.bytes()) {
-        Ok(encoding) => Ok(encoding),
-        Err(_) => Err(ScanFault::Memory),
+    match given {
+        Given::Payload => printed(alloc, &schema, text),
+        Given::Text => encoded(alloc, &schema, text),
     }
 }
 
 impl Case for Tree {
     fn holds(&self, alloc: Global) -> bool {
-        match self {
-            Tree::Printed(payload, text) => {
-                matches!(printed(alloc, payload), Ok(made) if made.as_str() == *text)
-            }
-            Tree::Refused(payload, cause, bit) => {
-                let refusal = Refusal {
-                    cause: *cause,
-                    bit: *bit,
-                };
-                matches!(printed(alloc, payload), Err(PrintFault::Refused(found)) if found == refusal)
-            }
-            Tree::Encoded(text, payload) => {
-                matches!(encoded(alloc, text), Ok(made) if made.as_str() == *payload)
-            }
-            Tree::Fault(text, place) => {
-                matches!(encoded(alloc, text), Err(ScanFault::Place(found)) if found == *place)
-            }
-        }
+        matches!(made_of(alloc, self.0, self.1), Ok(made) if made.as_str() == self.2)
     }
 }
 
@@ -192,31 +189,45 @@ impl Case for Tree {
 const EACH_FORM: &'static str = "8000561220a24604080155860200";
 
 const TREES: [Tree; 13] = [
-    Tree::Printed(
+    Tree(
+        Given::Payload,
         EACH_FORM,
         r#"All{@Id="a\"\u{a}" @Unit=V Flag=true Power=-258 Data=ab0c Low=-1 Empty{}}"#,
     ),
-    Tree::Refused("", RefusalCause::ShortInput, 0),
-    Tree::Refused("0000561220a24604080155860200", RefusalCause::BadHeader, 0),
-    Tree::Refused("80c0561220a24604080155860200", RefusalCause::NoSuchCode, 8),
-    Tree::Refused(
+    Tree(Given::Payload, "", "ShortInput at bit 0"),
+    Tree(
+        Given::Payload,
+        "0000561220a24604080155860200",
+        "BadHeader at bit 0",
+    ),
+    Tree(
+        Given::Payload,
+        "80c0561220a24604080155860200",
+        "NoSuchCode at bit 8",
+    ),
+    Tree(
+        Given::Payload,
         "8000561220a2460408015586020000",
-        RefusalCause::Trailing,
-        112,
+        "Trailing at bit 112",
     ),
-    Tree::Encoded(
+    Tree(
+        Given::Text,
         r#"All{@Id="a\"\u{a}" @Unit=V Flag=true Power=-258 Data=ab0c Low=-1 Empty{}}"#,
         EACH_FORM,
     ),
-    Tree::Fault("x", 0),
-    Tree::Fault("", 0),
-    Tree::Fault("All{Flag=true", 13),
+    Tree(Given::Text, "x", "fault at 0"),
+    Tree(Given::Text, "", "fault at 0"),
+    Tree(Given::Text, "All{Flag=true", "fault at 13"),
     // Of the dialect: in another order, without what has to be there, and with a number outside its range.
-    Tree::Fault("All{Power=1 Flag=true}", 22),
-    Tree::Fault("All{}", 5),
-    Tree::Fault("All{Flag=true Power=1001 Data= Low=0}", 37),
+    Tree(Given::Text, "All{Power=1 Flag=true}", "fault at 22"),
+    Tree(Given::Text, "All{}", "fault at 5"),
+    Tree(
+        Given::Text,
+        "All{Flag=true Power=1001 Data= Low=0}",
+        "fault at 37",
+    ),
     // None of the dialect, behind what is no document.
-    Tree::Fault("All{Low=7 Flag=Bad}", 15),
+    Tree(Given::Text, "All{Low=7 Flag=Bad}", "fault at 15"),
 ];
 
 #[test]

@@ -1,46 +1,41 @@
+//! Words of a command line.
+
 use crate::cases::{Case, all_hold};
 use command_words::{Command, WordList, WordsFault, read_words};
 use message_dialects::MessageDialect;
 use std::alloc::{AllocError, Global};
 
-/// What words are read as.
-enum Told {
-    Station(&'static str),
-    Replay(&'static str, &'static str),
-    Decode(MessageDialect, &'static str),
-    Encode(MessageDialect, &'static str),
-    Basic(&'static str),
-    /// They are no command.
-    Nothing,
+/// The words of a command line, with `|` between, and whether they are a command: that of the first word, whose values are the others in
+/// their order.
+struct Words(&'static str, bool);
+
+fn list_of(alloc: Global, words: &str) -> Result<WordList, AllocError> {
+    let mut list = Vec::new(alloc);
+    for word in words.split('|') {
+        list.push(String::from_str(alloc, word)?)?;
+    }
+    Ok(WordList::of(list))
 }
 
-/// The words of a command line, and what they are read as.
-struct Words(&'static [&'static str], Told);
-
-fn list_of(alloc: Global, texts: &[&str]) -> Result<WordList, AllocError> {
-    let mut words = Vec::new(alloc);
-    for text in texts {
-        words.push(String::from_str(alloc, text)?)?;
+fn name_of(dialect: MessageDialect) -> &'static str {
+    match dialect {
+        MessageDialect::App => "app",
+        MessageDialect::Iso => "iso",
+        MessageDialect::Din => "din",
     }
-    Ok(WordList::of(words))
 }
 
-/// Whether a command is this one.
-fn is_told(command: Command<'_>, told: &Told) -> bool {
-    match (command, told) {
-        (Command::Station { plan }, Told::Station(file)) => plan == *file,
-        (Command::Replay { plan, trace }, Told::Replay(file, lines)) => {
-            plan == *file && trace == *lines
-        }
-        (Command::Decode { dialect, hex }, Told::Decode(wanted, payload)) => {
-            dialect == *wanted && hex == *payload
-        }
-        (Command::Encode { dialect, text }, Told::Encode(wanted, tree)) => {
-            dialect == *wanted && text == *tree
-        }
-        (Command::Basic { script }, Told::Basic(file)) => script == *file,
-        _ => false,
-    }
+/// Whether words are the name of a command, and its values in their order.
+fn are_of(words: &WordList, command: Command<'_>) -> bool {
+    let (name, first, second) = match command {
+        Command::Station { plan } => ("station", plan, None),
+        Command::Replay { plan, trace } => ("replay", plan, Some(trace)),
+        Command::Decode { dialect, hex } => ("decode", name_of(dialect), Some(hex)),
+        Command::Encode { dialect, text } => ("encode", name_of(dialect), Some(text)),
+        Command::Basic { script } => ("basic", script, None),
+        _ => return false,
+    };
+    words.get(0) == Some(name) && words.get(1) == Some(first) && words.get(2) == second
 }
 
 impl Case for Words {
@@ -49,132 +44,99 @@ impl Case for Words {
             return false;
         };
         match read_words(alloc, &words) {
-            Ok(command) => is_told(command, &self.1),
-            Err(WordsFault::NoCommand) => matches!(self.1, Told::Nothing),
+            Ok(command) => self.1 && are_of(&words, command),
+            Err(WordsFault::NoCommand) => !self.1,
             Err(WordsFault::Memory) => false,
         }
     }
 }
 
-const COMMANDS: [Words; 15] = [
-    Words(&["station", "plan.toml"], Told::Station("plan.toml")),
-    Words(&["station", ""], Told::Station("")),
-    Words(&["station", "station"], Told::Station("station")),
-    Words(&["station", "é"], Told::Station("é")),
-    Words(
-        &["replay", "plan.toml", "v2g.trace"],
-        Told::Replay("plan.toml", "v2g.trace"),
-    ),
-    Words(
-        &["decode", "app", "80400040"],
-        Told::Decode(MessageDialect::App, "80400040"),
-    ),
-    Words(
-        &["decode", "app", ""],
-        Told::Decode(MessageDialect::App, ""),
-    ),
-    Words(
-        &["decode", "iso", "app"],
-        Told::Decode(MessageDialect::Iso, "app"),
-    ),
-    Words(
-        &["decode", "iso", "decode"],
-        Told::Decode(MessageDialect::Iso, "decode"),
-    ),
-    Words(
-        &["decode", "din", "8-"],
-        Told::Decode(MessageDialect::Din, "8-"),
-    ),
-    Words(
-        &["decode", "din", "é"],
-        Told::Decode(MessageDialect::Din, "é"),
-    ),
-    Words(
-        &["encode", "app", "a{b=1 c=2}"],
-        Told::Encode(MessageDialect::App, "a{b=1 c=2}"),
-    ),
-    Words(
-        &["encode", "iso", ""],
-        Told::Encode(MessageDialect::Iso, ""),
-    ),
-    Words(
-        &["encode", "din", "{-}"],
-        Told::Encode(MessageDialect::Din, "{-}"),
-    ),
-    Words(&["basic", "basic.script"], Told::Basic("basic.script")),
-];
-
-const REFUSED: [Words; 46] = [
-    // no word, and no command's name
-    Words(&[], Told::Nothing),
-    Words(&[""], Told::Nothing),
-    Words(&["", "app", "80"], Told::Nothing),
-    Words(&["Station"], Told::Nothing),
-    Words(&["stations"], Told::Nothing),
-    Words(&["stat"], Told::Nothing),
-    Words(&[" station"], Told::Nothing),
-    Words(&["v2g_charge"], Told::Nothing),
-    Words(&["v2g_charge", "station"], Told::Nothing),
-    Words(&["v2g_charge", "station", "plan"], Told::Nothing),
-    Words(&["80", "app", "decode"], Told::Nothing),
+const WORDS: [Words; 60] = [
+    Words("station|plan.toml", true),
+    Words("station|", true),
+    Words("station|station", true),
+    Words("station|é", true),
+    Words("replay|plan.toml|v2g.trace", true),
+    Words("decode|app|80400040", true),
+    Words("decode|app|", true),
+    Words("decode|iso|app", true),
+    Words("decode|iso|decode", true),
+    Words("decode|din|8-", true),
+    Words("decode|din|é", true),
+    Words("encode|app|a{b=1 c=2}", true),
+    Words("encode|iso|", true),
+    Words("encode|din|{-}", true),
+    Words("basic|basic.script", true),
+    // no command's name
+    Words("", false),
+    Words("|app|80", false),
+    Words("Station", false),
+    Words("stations", false),
+    Words("stat", false),
+    Words(" station", false),
+    Words("v2g_charge", false),
+    Words("v2g_charge|station", false),
+    Words("v2g_charge|station|plan", false),
+    Words("80|app|decode", false),
     // there is no help
-    Words(&["help"], Told::Nothing),
-    Words(&["help", "decode"], Told::Nothing),
-    Words(&["station", "help", "plan"], Told::Nothing),
-    Words(&["-h"], Told::Nothing),
-    Words(&["--help"], Told::Nothing),
-    Words(&["--version"], Told::Nothing),
+    Words("help", false),
+    Words("help|decode", false),
+    Words("station|help|plan", false),
+    Words("-h", false),
+    Words("--help", false),
+    Words("--version", false),
     // a value is missing
-    Words(&["station"], Told::Nothing),
-    Words(&["replay"], Told::Nothing),
-    Words(&["replay", "plan"], Told::Nothing),
-    Words(&["decode"], Told::Nothing),
-    Words(&["decode", "app"], Told::Nothing),
-    Words(&["encode"], Told::Nothing),
-    Words(&["encode", "app"], Told::Nothing),
-    Words(&["basic"], Told::Nothing),
+    Words("station", false),
+    Words("replay", false),
+    Words("replay|plan", false),
+    Words("decode", false),
+    Words("decode|app", false),
+    Words("encode", false),
+    Words("encode|app", false),
+    Words("basic", false),
     // a word too many
-    Words(&["station", "plan", ""], Told::Nothing),
-    Words(&["station", "station", "station"], Told::Nothing),
-    Words(&["replay", "plan", "trace", "trace"], Told::Nothing),
-    Words(&["decode", "app", "80", ""], Told::Nothing),
-    Words(&["encode", "app", "a", "b", "c"], Told::Nothing),
-    Words(&["basic", "script", "script"], Told::Nothing),
+    Words("station|plan|", false),
+    Words("station|station|station", false),
+    Words("replay|plan|trace|trace", false),
+    Words("decode|app|80|", false),
+    Words("encode|app|a|b|c", false),
+    Words("basic|script|script", false),
     // no dialect
-    Words(&["decode", "", "80"], Told::Nothing),
-    Words(&["decode", "APP", "80"], Told::Nothing),
-    Words(&["encode", "appp", "a"], Told::Nothing),
-    Words(&["encode", "Iso", "a"], Told::Nothing),
-    Words(&["decode", "dim", "80"], Told::Nothing),
-    Words(&["decode", "iso din", "80"], Told::Nothing),
+    Words("decode||80", false),
+    Words("decode|APP|80", false),
+    Words("encode|appp|a", false),
+    Words("encode|Iso|a", false),
+    Words("decode|dim|80", false),
+    Words("decode|iso din|80", false),
     // `-` begins a word
-    Words(&["-", "app", "80"], Told::Nothing),
-    Words(&["--", "station", "plan"], Told::Nothing),
-    Words(&["station", "-x"], Told::Nothing),
-    Words(&["replay", "plan", "-"], Told::Nothing),
-    Words(&["replay", "-plan", "trace"], Told::Nothing),
-    Words(&["decode", "-app", "80"], Told::Nothing),
-    Words(&["decode", "--", "app", "80"], Told::Nothing),
-    Words(&["decode", "app", "-80"], Told::Nothing),
-    Words(&["encode", "app", "--"], Told::Nothing),
+    Words("-|app|80", false),
+    Words("--|station|plan", false),
+    Words("station|-x", false),
+    Words("replay|plan|-", false),
+    Words("replay|-plan|trace", false),
+    Words("decode|-app|80", false),
+    Words("decode|--|app|80", false),
+    Words("decode|app|-80", false),
+    Words("encode|app|--", false),
 ];
 
-/// Words stand in their order.
+/// Words stand in their order, and none are no command.
 fn words_are_listed(alloc: Global) -> bool {
-    let (Ok(words), Ok(none)) = (list_of(alloc, &["a", ""]), list_of(alloc, &[])) else {
+    let Ok(words) = list_of(alloc, "a|") else {
         return false;
     };
+    let none = WordList::of(Vec::new(alloc));
     words.len() == 2
         && !words.is_empty()
         && words.get(0) == Some("a")
         && words.get(1) == Some("")
         && words.get(2).is_none()
         && none.is_empty()
+        && matches!(read_words(alloc, &none), Err(WordsFault::NoCommand))
 }
 
 #[test]
 fn words_are_read_as_commands_or_refused(rt: HostRuntime) {
-    all_hold(&rt, rt.alloc(), &COMMANDS);
-    all_hold(&rt, rt.alloc(), &REFUSED);
+    all_hold(&rt, rt.alloc(), &WORDS);
     assert!(rt; words_are_listed(rt.alloc()));
 }

@@ -18,6 +18,29 @@ pub(crate) struct Outside<'a, 'r> {
     pub(crate) wire: &'a ToldWire<'r, HostRuntime, NetWire<'r, HostRuntime>>,
 }
 
+/// What is said of a status by itself; of the others the words and the outside tell more.
+fn sentence_of(status: Status) -> Option<&'static str> {
+    match status {
+        Status::NoMemory => Some("There is too little memory. Nothing was begun."),
+        Status::TurnsSpent => Some(
+            "The greatest number of hearings, `turns` of the plan, was spent before the end. Give it more.",
+        ),
+        Status::AuditNo => Some(
+            "A check of the trace fails: the line on the output has the number of the trace's line and that of the check.",
+        ),
+        Status::Unreached => Some(
+            "No charging profile within the limits reaches the energy by the departure. Ask for less, or leave later.",
+        ),
+        Status::NoSchedule => Some(
+            "The payload offers no schedule: it is no ChargeParameterDiscoveryRes of the OK class with one, or its entries are out of order or not in W.",
+        ),
+        Status::NoSet => Some(
+            "The payload offers no set of parameters as it is wanted: it is no ServiceDetailRes of the OK class, or no set has each parameter with that value.",
+        ),
+        _ => None,
+    }
+}
+
 /// Says why a run of these words has its status, and what to change.
 pub(crate) fn say(
     rt: &HostRuntime,
@@ -25,36 +48,35 @@ pub(crate) fn say(
     words: &WordList,
     outside: Outside<'_, '_>,
 ) -> io::Result<()> {
-    let plan = word(words, 1);
+    if let Some(sentence) = sentence_of(status) {
+        return rt.eprintln(sentence);
+    }
     match status {
         Status::Done => say_done(rt, words, outside),
-        Status::Words => match Asked::by(words) {
-            Asked::Help => say_help(rt),
-            Asked::Version => say_version(rt),
-            Asked::Mistaken => say_misused(rt, words),
-        },
+        Status::Words => say_words(rt, words),
         Status::Plan => say_refused(rt, words, outside),
         Status::Input => say_input(rt, words, outside),
-        Status::WireFault => match outside.wire.trouble() {
-            Some(trouble) => say_trouble(rt, rt.alloc(), outside.files, plan, trouble),
-            None => rt.eprintln("The network failed."),
-        },
+        Status::WireFault => say_network(rt, words, outside),
         Status::SinkFault => say_sinks(rt, outside),
         Status::SourceFault => say_source(rt, outside.files),
-        Status::NoMemory => rt.eprintln("There is too little memory. Nothing was begun."),
-        Status::TurnsSpent => rt.eprintln(
-            "The greatest number of hearings, `turns` of the plan, was spent before the end. Give it more.",
-        ),
-        Status::AuditNo => rt.eprintln(
-            "A check of the trace fails: the line on the output has the number of the trace's line and that of the check.",
-        ),
-        Status::Unreached => rt.eprintln(
-            "No charging profile within the limits reaches the energy by the departure. Ask for less, or leave later.",
-        ),
-        Status::NoSchedule => rt.eprintln(
-            "The payload offers no schedule: it is no ChargeParameterDiscoveryRes of the OK class with one, or its entries are out of order or not in W.",
-        ),
-        Status::NoSet => { rt.eprintln("The payload offers no set of parameters as it is wanted.") }
+        _ => Ok(()),
+    }
+}
+
+/// Says what words that are no command ask for, or what is wrong with them.
+fn say_words(rt: &HostRuntime, words: &WordList) -> io::Result<()> {
+    match Asked::by(words) {
+        Asked::Help => say_help(rt),
+        Asked::Version => say_version(rt),
+        Asked::Mistaken => say_misused(rt, words),
+    }
+}
+
+/// Says why the network failed.
+fn say_network(rt: &HostRuntime, words: &WordList, outside: Outside<'_, '_>) -> io::Result<()> {
+    match outside.wire.trouble() {
+        Some(trouble) => say_trouble(rt, rt.alloc(), outside.files, word(words, 1), trouble),
+        None => rt.eprintln("The network failed."),
     }
 }
 
@@ -80,10 +102,16 @@ fn say_refused(rt: &HostRuntime, words: &WordList, outside: Outside<'_, '_>) -> 
     match word(words, 0) {
         "station" | "replay" => say_plan(rt, rt.alloc(), outside.files, false, name),
         "car" => say_plan(rt, rt.alloc(), outside.files, true, name),
-        "offer" => eprintln!(rt; "{name} is refused at that key. {CALENDAR}"),
-        "schedule" => eprintln!(rt; "{name} is refused at that key. {NEED}"),
+        "offer" => say_form(rt, name, CALENDAR),
+        "schedule" => say_form(rt, name, NEED),
+        "services" => say_form(rt, name, CATALOGUE),
         _ => eprintln!(rt; "{name} is refused at the key that the line on the output names."),
     }
+}
+
+/// Says what a file of that name is to be.
+fn say_form(rt: &HostRuntime, name: &str, form: &str) -> io::Result<()> {
+    eprintln!(rt; "{name} is refused at that key. {form}")
 }
 
 /// Says where an input is refused.
@@ -106,7 +134,7 @@ fn say_input(rt: &HostRuntime, words: &WordList, outside: Outside<'_, '_>) -> io
         }),
         "replay" => say_line(rt, second, place, STATION_LINE, outside),
         "migrate" => say_line(rt, first, place, PLAIN_LINE, outside),
-        "schedule" => rt.eprintln(DecodePlace {
+        "schedule" | "pick" => rt.eprintln(DecodePlace {
             dialect: "iso",
             hex: second,
             place,
@@ -123,6 +151,10 @@ const CALENDAR: &str =
 /// What a need is.
 const NEED: &str =
     "A need has `energy` (watt-hours, 0 to 1000000), `departure` (seconds, 1 to 86400) and `max_watts` (1 to 1000000), in at most 65536 bytes.";
+
+/// What a catalogue is.
+const CATALOGUE: &str =
+    "A catalogue is a list `service` of 1 to 8 tables, each with `id` (0 to 65535) and a list `set` of at most 16, each with `id` (-32768 to 32767) and a list `param` of 1 to 16, each with `name` (1 to 64 letters, digits or _) and `value` (true or false, a number of 32 bits, or at most 64 characters without \" and ;), in at most 65536 bytes; `bytes` is also told where the payload has more.";
 
 /// What a line of a trace is that can be replayed.
 const STATION_LINE: &str = "a trace of a station with the plan's posts";

@@ -23,39 +23,42 @@ fn source(alloc: Global, failing: &[u32]) -> Result<MemorySource, Fail> {
     Ok(MemorySource::of(files, failing.to_vec(alloc)?))
 }
 
-#[test]
-fn a_file_is_read_room_by_room(rt: HostRuntime) -> Result<(), Fail> {
-    let mut files = source(rt.alloc(), &[])?;
+/// Whether a file is read room by room, and one that isn't there is empty.
+fn is_read_room_by_room(files: &mut MemorySource) -> bool {
     let mut room = [0u8; 3];
-    assert_eq!(rt; files.begin("plan"), Ok(()));
-    assert_eq!(rt; files.read(&mut room), Ok(3));
-    assert_eq!(rt; &room, b"a =");
-    assert_eq!(rt; files.read(&mut room), Ok(2));
-    assert_eq!(rt; &room[..2], b" 1".as_slice());
-    assert_eq!(rt; files.read(&mut room), Ok(0));
-    assert_eq!(rt; files.begin("none"), Ok(()));
-    assert_eq!(rt; files.read(&mut room), Ok(0));
-    Ok(())
+    files.begin("plan") == Ok(())
+        && files.read(&mut room) == Ok(3)
+        && &room == b"a ="
+        && files.read(&mut room) == Ok(2)
+        && &room[..2] == b" 1".as_slice()
+        && files.read(&mut room) == Ok(0)
+        && files.begin("none") == Ok(())
+        && files.read(&mut room) == Ok(0)
 }
 
-#[test]
-fn a_file_that_fails(rt: HostRuntime) -> Result<(), Fail> {
-    let mut files = source(rt.alloc(), &[1, 3])?;
+/// Whether the first and the third call fail, and the others don't.
+fn fails_twice(files: &mut MemorySource) -> bool {
     let mut room = [0u8; 8];
-    assert_eq!(rt; files.begin("plan"), Err(Failed));
-    assert_eq!(rt; files.begin("plan"), Ok(()));
-    assert_eq!(rt; files.read(&mut room), Err(Failed));
-    assert_eq!(rt; files.read(&mut room), Ok(5));
-    Ok(())
+    files.begin("plan") == Err(Failed)
+        && files.begin("plan") == Ok(())
+        && files.read(&mut room) == Err(Failed)
+        && files.read(&mut room) == Ok(5)
+}
+
+/// Whether a sink whose second write fails keeps the others.
+fn keeps_what_it_took(sink: &mut MemorySink) -> bool {
+    sink.write(b"one ") == Ok(())
+        && sink.write(b"two ") == Err(Failed)
+        && sink.write(b"3") == Ok(())
+        && sink.bytes() == b"one 3".as_slice()
 }
 
 #[test]
-fn a_sink_keeps_what_it_took(rt: HostRuntime) -> Result<(), Fail> {
-    let mut sink = MemorySink::make(rt.alloc(), vec![in rt.alloc(); 2]?, 8)?;
-    assert_eq!(rt; sink.write(b"one "), Ok(()));
-    assert_eq!(rt; sink.write(b"two "), Err(Failed));
-    assert_eq!(rt; sink.write(b"3"), Ok(()));
-    assert_eq!(rt; sink.bytes(), b"one 3".as_slice());
+fn files_and_sinks(rt: HostRuntime) -> Result<(), Fail> {
+    let alloc = rt.alloc();
+    assert!(rt; is_read_room_by_room(&mut source(alloc, &[])?));
+    assert!(rt; fails_twice(&mut source(alloc, &[1, 3])?));
+    assert!(rt; keeps_what_it_took(&mut MemorySink::make(alloc, vec![in alloc; 2]?, 8)?));
     Ok(())
 }
 
@@ -85,49 +88,70 @@ fn calls(wire: &mut MemoryWire) -> [bool; 6] {
     ]
 }
 
-#[test]
-fn each_call_of_a_wire(rt: HostRuntime) -> Result<(), Fail> {
-    let script = vec![in rt.alloc(); came(rt.alloc())]?;
-    let mut wire = memory_wire(rt.alloc(), script, &[])?;
-    assert_eq!(rt; calls(&mut wire), [true; 6]);
-    wire.end(1, 18);
-    assert_eq!(rt; wire.entries(rt.alloc())?.len(), 6);
-    assert_eq!(rt; wire.untils(), [5].as_slice());
+/// What a wire with a post that came does, where the call of this number fails, if any has it.
+fn called(alloc: Global, failing: &[u32]) -> Result<[bool; 6], Fail> {
+    let script = vec![in alloc; came(alloc)]?;
+    Ok(calls(&mut memory_wire(alloc, script, failing)?))
+}
+
+/// Whether each call fails alone.
+fn each_fails_alone(alloc: Global) -> Result<bool, Fail> {
     for k in 0..6 {
-        let script = vec![in rt.alloc(); came(rt.alloc())]?;
-        let mut wire = memory_wire(rt.alloc(), script, &[k as u32 + 1])?;
         let mut wanted = [true; 6];
         wanted[k] = false;
-        assert_eq!(rt; calls(&mut wire), wanted);
+        if called(alloc, &[k as u32 + 1])? != wanted {
+            return Ok(false);
+        }
     }
-    Ok(())
+    Ok(true)
+}
+
+/// Whether each call of a wire is done once, and what was done is kept.
+fn does_all(wire: &mut MemoryWire) -> bool {
+    let are_done = calls(wire) == [true; 6];
+    wire.end(1, 18);
+    are_done && wire.untils() == [5].as_slice()
+}
+
+/// Events that a wire leaves out, and a tick.
+fn unfit(alloc: Global) -> Result<Vec<Scripted>, Fail> {
+    Ok(vec![in alloc;
+        // of no post, and of a post that was not started
+        event(alloc, What::Gone { post: 0 }),
+        event(alloc, What::Gone { post: 2 }),
+        // two bytes of which none is there
+        event(alloc, What::Bytes { post: 1, n: 2 }),
+        event(alloc, What::Tick),
+    ]?)
+}
+
+/// Whether a wire hears a tick, and then that it is over.
+fn only_ticks(wire: &mut MemoryWire) -> bool {
+    let mut room = [0u8; 4096];
+    wire.start(&post_1()) == Ok(())
+        && matches!(
+            wire.next(0, &mut room),
+            Ok(Heard {
+                at: 0,
+                what: What::Tick
+            })
+        )
+        && matches!(
+            wire.next(0, &mut room),
+            Ok(Heard {
+                at: 0,
+                what: What::Over
+            })
+        )
 }
 
 #[test]
-fn a_wire_leaves_out_what_does_not_fit(rt: HostRuntime) -> Result<(), Fail> {
-    let mut script = Vec::new(rt.alloc());
-    // of no post, and of a post that was not started
-    script.push(event(rt.alloc(), What::Gone { post: 0 }))?;
-    script.push(event(rt.alloc(), What::Gone { post: 2 }))?;
-    // two bytes of which none is there
-    script.push(event(rt.alloc(), What::Bytes { post: 1, n: 2 }))?;
-    script.push(event(rt.alloc(), What::Tick))?;
-    let mut wire = memory_wire(rt.alloc(), script, &[])?;
-    assert_eq!(rt; wire.start(&post_1()), Ok(()));
-    let mut room = [0u8; 4096];
-    assert_eq!(rt;
-        wire.next(0, &mut room),
-        Ok(Heard {
-            at: 0,
-            what: What::Tick
-        })
-    );
-    assert_eq!(rt;
-        wire.next(0, &mut room),
-        Ok(Heard {
-            at: 0,
-            what: What::Over
-        })
-    );
+fn wires(rt: HostRuntime) -> Result<(), Fail> {
+    let alloc = rt.alloc();
+    let mut wire = memory_wire(alloc, vec![in alloc; came(alloc)]?, &[])?;
+    assert!(rt; does_all(&mut wire));
+    assert_eq!(rt; wire.entries(alloc)?.len(), 6);
+    assert!(rt; each_fails_alone(alloc)?);
+    assert!(rt; only_ticks(&mut memory_wire(alloc, unfit(alloc)?, &[])?));
     Ok(())
 }

@@ -1,8 +1,8 @@
 //! What the lines of a row give to a run.
 
 use anyhow::Result;
-use charge_run::WordList;
 use charge_world::{Entry, MemorySink, MemorySource, MemoryWire, NamedFile, Piece, Scripted};
+use plain_run::WordList;
 use row_texts::{lines_behind, numbers_behind};
 use std::alloc::Global;
 use trace_text::read_numbered;

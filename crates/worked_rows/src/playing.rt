@@ -3,8 +3,8 @@
 use crate::given::{files_in, sink_in, wire_in, words_in};
 use crate::left::Left;
 use anyhow::Result;
-use charge_run::{Status, WordList, run};
-use charge_world::{Entry, MemorySink, MemoryWire, Order, Sink, Source, Wire};
+use charge_world::{Entry, MemorySink, MemoryWire, Order};
+use plain_run::{Status, run};
 use row_texts::add_line;
 use std::alloc::Global;
 use std::fmt::Write;
@@ -16,20 +16,8 @@ pub(crate) fn left_by(alloc: Global, lines: &str) -> Result<Left> {
     let mut out = sink_in(alloc, lines, "fails out ")?;
     let mut trace = sink_in(alloc, lines, "fails trace ")?;
     let mut wire = wire_in(alloc, lines)?;
-    let status = status_of(alloc, &words, &mut files, &mut out, &mut trace, &mut wire);
+    let status = run(alloc, &words, &mut files, &mut out, &mut trace, &mut wire);
     left_in(alloc, status, &out, &trace, &wire)
-}
-
-/// Does all that the program does. That `run` has a large contract is felt here alone.
-fn status_of<F: Source, K: Sink, J: Sink, W: Wire>(
-    alloc: Global,
-    words: &WordList,
-    files: &mut F,
-    out: &mut K,
-    trace: &mut J,
-    wire: &mut W,
-) -> Status {
-    run(alloc, words, files, out, trace, wire)
 }
 
 /// What is left in these.

@@ -1,7 +1,7 @@
 use Rattle.std.proofs.Common.{inl, inr}
-use Rattle.command_words.specs.Command.{replay, decode, encode, basic, migrate, offer, schedule}
-use Rattle.charge_run.proofs.Answered.{only_refused, only_unscanned, same_decoded, same_encoded, same_offered}
-use Rattle.charge_run.proofs.WordLists.{one_decode, one_encode, one_offer}
+use Rattle.command_words.specs.Command.{replay, decode, encode, basic, migrate, offer, schedule, services, pick}
+use Rattle.charge_run.proofs.Answered.{only_refused, only_unscanned, same_decoded, same_encoded, same_offered, same_picked, same_served, wants_nothing}
+use Rattle.charge_run.proofs.WordLists.{one_decode, one_encode, one_offer, one_pick, one_services}
 use Rattle.charge_run.proofs.top.run.Goals as goal
 
 pub returns-in-Ok-Decode-clause-decode : goal.returns-in-Ok-Decode-clause-decode
@@ -63,7 +63,29 @@ returns-in-Ok-Offer-clause-apart g c =
 pub returns-in-Ok-Schedule-clause-apart : goal.returns-in-Ok-Schedule-clause-apart
 returns-in-Ok-Schedule-clause-apart g c =
     let told = (rw c.in-Ok-Schedule.field-0-is at c.in-Ok-Schedule.ensures.command) in
-    λ none. absurd (none (inl (inr (inr (inr (_, _, told))))))
+    λ none. absurd (none (inl (inr (inr (inr (inl (_, _, told)))))))
+
+pub returns-in-Ok-Services-clause-services : goal.returns-in-Ok-Services-clause-services
+returns-in-Ok-Services-clause-services g c name id is =
+    let told = (rw c.in-Ok-Services.field-0-is at c.in-Ok-Services.ensures.command) in
+    same_served (g.F.Source.holds c.args.files.now) c.in-Ok-Services.id id c.in-Ok-Services.catalogue.now name
+    (one_services c.args.words.now c.in-Ok-Services.id id c.in-Ok-Services.catalogue.now name told is) _ _ _ _ _ _ c.services.ensures.leaves
+
+pub returns-in-Ok-Services-clause-apart : goal.returns-in-Ok-Services-clause-apart
+returns-in-Ok-Services-clause-apart g c =
+    let told = (rw c.in-Ok-Services.field-0-is at c.in-Ok-Services.ensures.command) in
+    λ none. absurd (none (inl (inr (inr (inr (inr (_, _, told)))))))
+
+pub returns-in-Ok-Pick-clause-pick : goal.returns-in-Ok-Pick-clause-pick
+returns-in-Ok-Pick-clause-pick g c want payload is =
+    let told = (rw c.in-Ok-Pick.field-0-is at c.in-Ok-Pick.ensures.command) in
+    same_picked c.in-Ok-Pick.want.now want c.in-Ok-Pick.hex.now payload
+    (one_pick c.args.words.now c.in-Ok-Pick.want.now want c.in-Ok-Pick.hex.now payload told is) _ _ _ c.pick.ensures.leaves
+
+pub returns-in-Ok-Pick-clause-words : goal.returns-in-Ok-Pick-clause-words
+returns-in-Ok-Pick-clause-words g c is =
+    let told = (rw c.in-Ok-Pick.field-0-is at c.in-Ok-Pick.ensures.command) in
+    inr (_, _, told, wants_nothing c.pick.result c.in-Ok-Pick.want.now c.in-Ok-Pick.hex.now _ _ c.pick.ensures.leaves is)
 
 -- ---- no command
 
@@ -91,6 +113,16 @@ pub returns-in-Err-NoCommand-clause-schedule : goal.returns-in-Err-NoCommand-cla
 returns-in-Err-NoCommand-clause-schedule g c name payload is =
     let none = (rw c.in-Err-NoCommand.field-0-is at c.in-Err-NoCommand.ensures.fault) in
     absurd (none (schedule name payload) is)
+
+pub returns-in-Err-NoCommand-clause-services : goal.returns-in-Err-NoCommand-clause-services
+returns-in-Err-NoCommand-clause-services g c name id is =
+    let none = (rw c.in-Err-NoCommand.field-0-is at c.in-Err-NoCommand.ensures.fault) in
+    absurd (none (services name id) is)
+
+pub returns-in-Err-NoCommand-clause-pick : goal.returns-in-Err-NoCommand-clause-pick
+returns-in-Err-NoCommand-clause-pick g c want payload is =
+    let none = (rw c.in-Err-NoCommand.field-0-is at c.in-Err-NoCommand.ensures.fault) in
+    absurd (none (pick want payload) is)
 
 pub returns-in-Err-NoCommand-clause-decode : goal.returns-in-Err-NoCommand-clause-decode
 returns-in-Err-NoCommand-clause-decode g c dialect hex is =

@@ -1,2 +1,0 @@
-mod Payloads
-mod Refusals

@@ -1,0 +1,5 @@
+mod Chosen
+mod Detailed
+mod Following
+mod Leaving
+mod OneFate

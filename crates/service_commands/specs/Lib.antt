@@ -1,0 +1,3 @@
+pub mod Detailing
+pub mod Fates
+pub mod Picking

@@ -1,0 +1,4 @@
+mod Bytes
+mod Holding
+mod Lists
+mod Offering
