@@ -11,6 +11,8 @@ import os
 import re
 import sys
 
+from reached_paths import listed
+
 TOP = os.path.join(os.path.dirname(os.path.abspath(__file__)), "..")
 
 
@@ -19,23 +21,23 @@ def read(path):
         return it.read()
 
 
-def listed():
-    """(LAYER, CRATE, WORDS) of each line `CRATE: WORD ..` of crates.txt, lowest first."""
-    found, layer = [], None
-    lines = read("crates.txt").splitlines()
-    every = [it.partition(":")[0].split()[0] for it in lines if it.strip() and not it.startswith("#")]
-    for line in lines:
+def layered():
+    """(LAYER, CRATE, WORDS) of each crate of crates.txt, lowest first."""
+    named, found, layer = listed(), {}, None
+    for line in read("crates.txt").splitlines():
         if line.startswith("## "):
             layer = line[3:].strip()
-        elif line.strip() and not line.startswith("#"):
-            name, words = line.partition(":")[0].split()[0], line.partition(":")[2].split()
-            if not layer:
-                sys.exit(f"crates.txt: {name} stands in no layer (`## LAYER`)")
-            behind = [it for it in words if it in every and it not in [crate for _, crate, _ in found]]
-            if behind:
-                sys.exit(f"crates.txt: {name} names {behind[0]}, which doesn't stand above it: a crate stands behind those that it names")
-            found.append((layer, name, words))
-    return found
+            continue
+        name = line.partition("#")[0].partition(":")[0].strip()
+        if name not in named:
+            continue
+        if not layer:
+            sys.exit(f"crates.txt: {name} stands in no layer (`## LAYER`)")
+        for it in named[name]:
+            if it in named and it not in found:
+                sys.exit(f"crates.txt: {name} names {it}, which doesn't stand above it: a crate stands behind those that it names")
+        found[name] = layer
+    return [(layer, name, named[name]) for name, layer in found.items()]
 
 
 def next_below(crates):
@@ -81,7 +83,7 @@ def names(crates):
 
 
 def tables():
-    rows = listed()
+    rows = layered()
     crates = {crate: words for _, crate, words in rows}
     below = next_below(crates)
     places, last = "| Layer | Crate | Stands on | What it promises |\n|---|---|---|---|\n", ""
