@@ -30,22 +30,29 @@ def read_large_record(t, kind):
     low = t.declared(kind)
     lines = [f"    let at_first = c.in_ok-first_child.ensures.read kinds F [] {low} _ h in"]
     fields = t.fields(kind)
-    calls = numbered(it.read() if it.large else "self" for it in fields)
+    calls = numbered(it.read() if it.is_here() or it.form == "out" else "self" for it in fields)
     last = "at_first"
     for n, (it, call) in enumerate(zip(fields, calls)):
-        fact = f"c.in_ok-{call}.ensures.read F [] {low} {it.at} _ {last} refl refl"
+        owner, given = ("c." if it.form == "out" else "c.in_ok-"), ("kinds F" if it.simple or it.form == "out" else "F")
+        # that it is such a particle, its name where that is asked, and its kind
+        refls = " refl" * (1 if it.form == "out" else 3 if it.is_asked() else 2)
+        fact = f"{owner}{call}.ensures.read {given} [] {low} {it.at} _ {last}{refls}"
         last = f"at_{it.field}"
-        lines.append(f"    let {last} = {fact} in" if n < len(fields) - 1 else f"    {fact}")
+        read = f"search (rules, {fact})" if any(t.is_signed(of.kind) for of in fields) else fact
+        lines.append(f"    let {last} = {fact} in" if n < len(fields) - 1 else f"    {read}")
     return answer("clause-read", "told", lines)
 
 
-def put_only(t, kind):
+def only(t, kind):
     """A group of one element: the value has the one shape."""
     low, name, it = t.lower(kind), t.camel(kind), t.choices[kind][0]
-    inner = t.camel(it.kind)
-    text = f"\nonly : (o : {name}) → (x : {inner}) × (o ≡ {low}.{it.variant} x)\nonly ({low}.{it.variant} x) = (x, refl)\n"
+    return f"\nonly : (o : {name}) → (x : {t.camel(it.kind)}) × (o ≡ {low}.{it.variant} x)\nonly ({low}.{it.variant} x) = (x, refl)\n"
+
+
+def put_only(t, kind):
+    it = t.choices[kind][0]
     lines = ["    let e = (only c.args.self.now).1 in", f"    c.{it.put()}.ensures.write F rest (rw e (rw e at h))"]
-    return text + answer("clause-write", "rest", lines)
+    return only(t, kind) + answer("clause-write", "rest", lines)
 
 
 def put_choice(t, kind):
@@ -109,7 +116,8 @@ def read_large_choice(t, kind, n=0):
             last = k == len(members) - 1 and not behind
             at = k if last else k + 1
             arm = f"{'else' if last else 'then'}-is_at" + (f"-{at}" if at > 1 else "")
-            text += answer(f"{arm}-clause-read", "told", [f"    c.{it.word}.ensures.read F told h {fact}"])
+            goal = f"{arm}-clause-read" if behind or len(members) > 1 else "clause-read"
+            text += answer(goal, "told", [f"    c.{it.word}.ensures.read F told h {fact}"])
         else:
             call = next(calls)
             text += answer(f"in_ok-{call}-clause-read", "told", member_of(t, kind, f"c.in_ok-{call}", fact))
@@ -119,9 +127,23 @@ def read_large_choice(t, kind, n=0):
     return text
 
 
-def read_apart(t, kind, it):
-    lines = member_of(t, kind, f"c.in_ok-{it.read()}", "here")
-    return "\npub returns-clause-read : goal.returns-clause-read\nreturns-clause-read g c = λ F told h here.\n" + "\n".join(lines) + "\n"
+def read_apart(t, crate, file, kind, it):
+    """The answers of the functions that read a member which holds a list."""
+    said = lambda goal, lines: f"\npub returns-{goal} : goal.returns-{goal}\nreturns-{goal} g c = λ F told h here.\n" + "\n".join(lines) + "\n"
+    refl, read = "use Rattle.std.proofs.Common.{refl}\n", said("clause-read", member_of(t, kind, f"c.in_ok-{it.read()}", "here"))
+    if not it.large:
+        return [(f"{file}/{it.word}", refl, read)]
+    weaker = f"IfOk-weaker c.{it.read()}.result _ _ (λ _ it. (_, refl, it.0, it.1)) (c.{it.read()}.ensures.read F _ _ _ told h here refl refl)"
+    head, goal = "use Rattle.std.proofs.lemmas.Result.{IfOk-weaker}\n", f"in-Some-{it.variant}-clause-read"
+    if len(t.choices[kind]) > 1:
+        again = refl + head, said(goal, [f"    {weaker}"])
+    else:
+        again = only_head(t, crate, file, kind, head), only(t, kind) + said(goal, [f"    let e = (only c.in-Some-{it.variant}.field-0).1 in", f"    rw e ({weaker})"])
+    return [(f"{file}/{it.word}", *again), (f"{file}/{it.word}_anew", refl, read)]
+
+
+def read_entry():
+    return answer("clause-read", "told", ["    c.in_ok-self.ensures.read F told h"])
 
 
 def read_brief(file):
@@ -159,13 +181,19 @@ def with_uses(t, crate, place, head, body):
     return head + f"use Rattle.{crate}.proofs.{place.replace('/', '.')}.Goals as goal\n" + body
 
 
+def only_head(t, crate, file, kind, lemmas=""):
+    """What the one shape of a group of one element names, behind these lemmas."""
+    name, member = t.camel(kind), t.choices[kind][0]
+    inner = t.camel(member.kind)
+    of_inner, of_own = (f"Rattle.{it[0]}.specs.declared.{it[1]}" for it in (t.places[member.kind], (crate, file)))
+    head = f"use Rattle.std.proofs.Common.{{◌≡◌, refl}}\n{lemmas}use {of_inner}.{inner}.{{{inner}}}\n"
+    return head + f"use {of_own}.{name}.{{{name}}}\n" + variants_use(t, crate, file, kind)
+
+
 def put_choice_head(t, crate, file, kind):
-    name, low, members = t.camel(kind), t.lower(kind), t.choices[kind]
+    low, members = t.lower(kind), t.choices[kind]
     if len(members) == 1:
-        inner = t.camel(members[0].kind)
-        of_inner, of_own = (f"Rattle.{it[0]}.specs.declared.{it[1]}" for it in (t.places[members[0].kind], (crate, file)))
-        head = f"use Rattle.std.proofs.Common.{{◌≡◌, refl}}\nuse {of_inner}.{inner}.{{{inner}}}\n"
-        return head + f"use {of_own}.{name}.{{{name}}}\n" + variants_use(t, crate, file, kind)
+        return only_head(t, crate, file, kind)
     head = "use Rattle.std.proofs.Common.{subst}\nuse Rattle.message_parts.specs.Contents.{one_onto}\n"
     head += "use Rattle.message_parts.specs.Writing.{Writes, put_of}\n"
     return head + f"use Rattle.{crate}.specs.{file.capitalize()}.{{{low}_name, {low}_inside}}\n"
@@ -193,7 +221,8 @@ def read_choice_head(t, crate, file, kind, n=0):
 
 
 def read_large_record_head(t, kind):
-    head = "use Rattle.std.proofs.Common.{refl, []}\n"
+    rules = "rules, " if any(t.is_signed(it.kind) for it in t.fields(kind)) else ""
+    head = f"use Rattle.std.proofs.Common.{{{rules}refl, []}}\n"
     return head + f"use Rattle.{t.s.crate}.specs.Declarations.{{kinds}}\nuse Rattle.{t.s.crate}.specs.{t.section(kind)}.{{{t.declared(kind)}}}\n"
 
 
@@ -212,10 +241,12 @@ def proofs(t, crate, file, kind):
         found.append(("PutRecord/write", "", put_record(t, kind)))
         if kind in t.large:
             found.append(("LargeRecord/read_here", read_large_record_head(t, kind), read_large_record(t, kind)))
+        elif t.is_entry(kind):
+            found.append(("LargeRecord/read_here", "", read_entry()))
     places = [(f"{file}/{name}{place}", head, body) for place, head, body in found]
     if kind in t.large and kind in t.choices:
         apart = [it for it in t.own(kind) if t.holds_list(it.kind)]
-        places += [(f"{file}/{it.word}", "use Rattle.std.proofs.Common.{refl}\n", read_apart(t, kind, it)) for it in apart]
+        places += [found for it in apart for found in read_apart(t, crate, file, kind, it)]
         places += read_brief(file) if kind in t.brief else []
         places += [(f"{file}/{t.reader_of(kind, n)}", read_choice_head(t, crate, file, kind, n), read_large_choice(t, kind, n)) for n in range(1, len(t.parts(kind)))]
     return {place: with_uses(t, crate, place, head, body) for place, head, body in places}

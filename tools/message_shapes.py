@@ -1,7 +1,7 @@
 """The shapes of a dialect's types, read from the list of its declarations and from the list of its types."""
 import re
 
-from schema_lists import Schema, bounds, listed_types, type_bounds
+from schema_lists import Refused, Schema, bounds, listed_types, type_bounds
 
 
 class Element:
@@ -25,13 +25,22 @@ class Element:
             return "put_optional_value" if self.simple else "put_optional"
         return f"put_{what}s" if self.most else f"put_{what}"
 
+    def is_here(self):
+        """Whether it is read where it stands: a large type, or a list of records."""
+        return self.large or bool(self.most and not self.simple)
+
     def read(self):
         """The function that reads it as a member, or as a child of a large type."""
+        here = "_here" if self.is_here() else ""
         if self.form == "member":
-            return "member_value" if self.simple else "member"
+            return "member_value" if self.simple else f"member{here}"
         if self.form == "choice":
-            return "optional_choice_here"
-        return "required_here" if self.large else "required"
+            return f"{'optional_' if self.optional else ''}choice{here}"
+        if self.form == "out":
+            return "left_out"
+        if self.simple:
+            return "optional_value" if self.optional else "values" if self.most else "value"
+        return ("optional" if self.optional else "records" if self.most else "required") + here
 
     def single(self):
         """What it is among the children of which its type is made."""
@@ -89,6 +98,10 @@ class Types:
                     self.choices[self.choice_of(kind, it)] = self.members(self.choice_of(kind, it), it)
         self.choices.update({brief: [it for it in self.choices[group] if it.kind not in self.long] for group, brief in self.brief.items()})
         self.found.clear()
+        for kind in self.places:
+            inner = next((it.kind for it in self.inner(kind) if it.large), None)
+            if inner and kind not in self.large:
+                raise Refused(f"{types}: {kind} holds {inner}, which is too large to move, and so is too large itself")
         self.defaults = self.with_defaults()
 
     # ---- names
@@ -242,6 +255,10 @@ class Types:
         """Whether it is a sequence of three values, which are read at once."""
         fields = self.fields(kind)
         return len(fields) == 3 and kind not in self.large and all(it.form == "value" and it.simple and not it.is_asked() for it in fields)
+
+    def is_entry(self, kind):
+        """Whether it stands in a list of a large type, where it is stored as a whole."""
+        return kind not in self.large and any(it.most and it.kind == kind for of in self.large if of not in self.choices for it in self.fields(of))
 
     def with_defaults(self):
         """The types that stand in lists or are large, with what they hold: room for them has to be filled with some value."""

@@ -21,9 +21,10 @@ from written_files import settle, told
 
 WORDS = [
     "Binary", "Choice", "Descent", "Group", "LargeChoice", "LargeGroup", "LargeRecord", "PutChoice", "PutRecord", "ReadRecord",
-    "Record", "Text", "Three", "first_child", "member", "member_value", "optional_choice_here", "put_attribute", "put_choice",
-    "put_optional", "put_optional_attribute", "put_optional_choice", "put_optional_value", "put_record", "put_records", "put_value",
-    "put_values", "required", "required_here", "whole_record",
+    "Record", "Text", "Three", "ThreeChildren", "choice", "first_child", "left_out", "member", "member_here", "member_value",
+    "optional", "optional_choice", "optional_choice_here", "optional_here", "optional_value", "put_attribute", "put_choice",
+    "put_optional", "put_optional_attribute", "put_optional_choice", "put_optional_value", "put_record", "put_records",
+    "put_value", "put_values", "records_here", "required", "required_here", "three_children", "value", "values", "whole_record",
 ]
 CHILDREN = [
     "AtMostOneOf", "Elements", "Elements2", "Elements3", "Elements4", "LeftOut", "OneOf", "Optional", "OptionalValue", "Required", "RequiredValue",
@@ -85,7 +86,10 @@ def put(it):
 
 def read_here(it):
     """Reads a field of a large type where it stands."""
-    return f"{it.read()}(&mut self.{it.field}, descent)?;" if it.large else f"self.{it.field} = {it.read()}(descent)?;"
+    if it.form == "out":
+        return f"{it.read()}(descent);"
+    asked = f", names::{it.name}" if it.is_asked() else ""
+    return f"{it.read()}(&mut self.{it.field}, descent{asked})?;" if it.is_here() else f"self.{it.field} = {it.read()}(descent{asked})?;"
 
 
 def tuple_of(words):
@@ -146,7 +150,31 @@ impl<'a> ReadRecord<'a> for {name} {{
         whole_record(descent)
     }}
 }}
+{entry(name) if t.is_entry(kind) else ""}"""
+
+
+def entry(name):
+    """Reads a struct as a whole over the one that stands at its place in a list."""
+    return f"""
+impl<'a> LargeRecord<'a> for {name} {{
+    {READ_HERE} {{
+        *self = whole_record(descent)?;
+        Ok(())
+    }}
+}}
 """
+
+
+def three_values(t, kind):
+    """The children of a struct of three values, which are put at once."""
+    given = "".join(f"            names::{it.name},\n            &self.{it.field},\n" for it in t.fields(kind))
+    return f"""    #[inline(always)]
+    fn three_values(&self) -> Option<ThreeChildren> {{
+        three_children(
+{given}        )
+    }}
+
+""" if t.is_three(kind) else ""
 
 
 def large_record(t, kind, lent):
@@ -192,7 +220,7 @@ impl PutRecord for {name}{"<'_>" if lent else ""} {{
 
     ghost parts = {{ {f"{low}_parts" if kept else "λ v. []"} }};
 
-    fn write<P: Places>(&self, {writer}: &mut EventWriter<'_, '_, P>) {{
+{three_values(t, kind)}    fn write<P: Places>(&self, {writer}: &mut EventWriter<'_, '_, P>) {{
 {puts}    }}
 }}
 
@@ -225,6 +253,8 @@ def large_chain(t, kind, n=0):
     steps = [(it.name, f"{it.word}({place}, descent)" if t.holds_list(it.kind) else f"*{place} = {stored(t, kind, it)};\n            Ok(())") for it in t.parts(kind)[n]]
     behind = "brief" if kind in t.brief else t.reader_of(kind, n + 1)
     steps += [("", f"{behind}({place}, descent)")] if behind else []
+    if len(steps) == 1:
+        return f"        {steps[0][1]}\n"
     text = "        "
     for n, (name, step) in enumerate(steps):
         head = f"if descent.is_at(names::{name}) " if n < len(steps) - 1 else ""
@@ -235,7 +265,8 @@ def large_chain(t, kind, n=0):
 def into_place(t, kind, word, members, child, body):
     """A function that reads a member into a place."""
     name, low = t.camel(kind), t.lower(kind)
-    place, value = (f"{name}<'a>", "place.new") if t.is_brief(kind) else (f"Option<{name}<'a>>", "v")
+    type_name = name + lifetime(t.lent(kind))
+    place, value = (type_name, "place.new") if t.is_brief(kind) else (f"Option<{type_name}>", "v")
     found = "" if t.is_brief(kind) else f"(v : {name}) × (place.new ≡ Some v) × "
     return f"""fn {word}<'a, P: Places>(place: &mut {place}, descent: &mut Descent<'a, '_, P>) -> Result<(), Refusal>
     requires open {{ IsOpen P.schema descent.old }}
@@ -261,10 +292,25 @@ def part_function(t, kind, n):
 
 def apart(t, kind, it):
     """Reads a member that holds a list."""
-    body = f"    *place = {stored(t, kind, it)};\n    Ok(())\n"
-    return f"""/// {it.type.split("<")[0]}, which holds a list: apart from the others, so that they don't fill its room.
+    name = it.type.split("<")[0]
+    reader = lambda word, body: into_place(t, kind, word, t.from_part(kind, next(n for n, part in enumerate(t.parts(kind)) if it in part)), f" → descent.old.child ≡ Some {it.name}", body)
+    if not it.large:
+        body = f"    *place = {stored(t, kind, it)};\n    Ok(())\n"
+        return f"/// {name}, which holds a list: apart from the others, so that they don't fill its room.\n#[inline(never)]\n" + reader(it.word, body)
+    again = f"""    match place {{
+        Some({t.camel(kind)}::{it.variant}({it.word})) => {it.read()}({it.word}, descent),
+        _ => {it.word}_anew(place, descent),
+    }}
+"""
+    anew = f"""    let mut {it.word} = {name}::default();
+    {it.read()}(&mut {it.word}, descent)?;
+    *place = Some({t.camel(kind)}::{it.variant}({it.word}));
+    Ok(())
+"""
+    return f"""/// {name}, over one where such a one stands.
+{reader(it.word, again)}/// {name}, where another stands or none: this fills its room.
 #[inline(never)]
-""" + into_place(t, kind, it.word, t.from_part(kind, next(n for n, part in enumerate(t.parts(kind)) if it in part)), f" → descent.old.child ≡ Some {it.name}", body)
+{reader(it.word + "_anew", anew)}"""
 
 
 def brief_functions(t, kind):
@@ -333,8 +379,8 @@ impl<'a> Group<'a> for {name}{"<'a>" if lent else ""} {{
     if kind in t.large:
         functions = "".join(apart(t, kind, it) for it in t.own(kind) if t.holds_list(it.kind)) + (brief_functions(t, kind) if kind in t.brief else "")
         functions += "".join(part_function(t, kind, n) for n in range(1, len(t.parts(kind))))
-        taken = "&mut self" if t.is_brief(kind) else f"place: &mut Option<{name}<'a>>"
-        reading = functions + f"""impl<'a> Large{"Choice" if t.is_brief(kind) else "Group"}<'a> for {name}<'a> {{
+        taken = "&mut self" if t.is_brief(kind) else f"place: &mut Option<{name + lifetime(lent)}>"
+        reading = functions + f"""impl<'a> Large{"Choice" if t.is_brief(kind) else "Group"}<'a> for {name + lifetime(lent)} {{
 {"" if t.is_brief(kind) else uses + names + chr(10)}    fn read_member_{"here" if t.is_brief(kind) else "into"}<P: Places>({taken}, descent: &mut Descent<'a, '_, P>) -> Result<(), Refusal> {{
 {large_chain(t, kind)}    }}
 }}

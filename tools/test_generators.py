@@ -214,6 +214,17 @@ class Written(Case):
         self.assertIn("/// 0 to 100.\n    pub state_of_charge: u8,", text)
         self.assertIn("pub offset: ArrayVec<i16, 3>,", text)
 
+    def test_lists_of_large_types_are_read_where_they_stand(self):
+        large = TYPES.replace("Entry Start", "Entry Start*")
+        with self.assertRaisesRegex(Refused, "Body holds Start, which is too large to move"):
+            Types(self.file("small.schema", SCHEMA), "small_schema", self.file("small.types", large))
+        large = large.replace("Body V2G_Message", "Body* V2G_Message*")
+        t = Types(self.file("small.schema", SCHEMA), "small_schema", self.file("small.types", large))
+        text = message_types.code(t, "small_parts", "parts", ["Head", "EntryValue", "Entry", "Start"])
+        self.assertIn("records_here(&mut self.entry, descent, names::ENTRY)?;", text)
+        self.assertIn("self.offset = values(descent, names::OFFSET)?;", text)
+        self.assertEqual(text.count("*self = whole_record(descent)?;"), 1)
+
     def test_what_differs_is_named(self):
         files = {"crates/small/src/values.rt": "//! Values.\n\nfn one() -> u8 { 1 }\n"}
         head = os.path.join(self.folder, "crates/small/src/lib.rt")

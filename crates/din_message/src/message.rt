@@ -25,7 +25,7 @@ use exi_documents::Refusal;
 use exi_schema::Places;
 use message_parts::exi_events::EventWriter;
 use message_parts::{
-    Descent, LargeGroup, LargeRecord, PutChoice, PutRecord, first_child, member,
+    Descent, LargeGroup, LargeRecord, PutChoice, PutRecord, first_child, member, member_here,
     optional_choice_here, put_optional_choice, put_record, required, required_here,
 };
 
@@ -184,8 +184,7 @@ impl PutChoice for BodyElement<'_> {
     }
 }
 
-/// ChargeParameterDiscoveryRes, which holds a list: apart from the others, so that they don't fill its room.
-#[inline(never)]
+/// ChargeParameterDiscoveryRes, over one where such a one stands.
 fn charge_parameter_discovery_res<'a, P: Places>(
     place: &mut Option<BodyElement<'a>>,
     descent: &mut Descent<'a, '_, P>,
@@ -199,7 +198,31 @@ fn charge_parameter_discovery_res<'a, P: Places>(
     ensures read { (F : Frame) (told : List TreeEvent) → IsChosen kinds F body_element_members told (seen_of P.schema descent.old) → descent.old.child ≡ Some CHARGE_PARAMETER_DISCOVERY_RES
         → IfOk result (λ _. (v : BodyElement) × (place.new ≡ Some v) × (body_element_name v ≡ F.name) × Leaves kinds F (told_inside (body_element_inside v) told) (seen_of P.schema descent.new)) }
 {
-    *place = Some(BodyElement::ChargeParameterDiscoveryRes(member(descent)?));
+    match place {
+        Some(BodyElement::ChargeParameterDiscoveryRes(charge_parameter_discovery_res)) =>
+            member_here(charge_parameter_discovery_res, descent),
+        _ => charge_parameter_discovery_res_anew(place, descent),
+    }
+}
+
+/// ChargeParameterDiscoveryRes, where another stands or none: this fills its room.
+#[inline(never)]
+fn charge_parameter_discovery_res_anew<'a, P: Places>(
+    place: &mut Option<BodyElement<'a>>,
+    descent: &mut Descent<'a, '_, P>,
+) -> Result<(), Refusal>
+    requires open { IsOpen P.schema descent.old }
+    ensures open { IsOpen P.schema descent.new }
+    ensures table { descent.new.reader.table.ghost_name ≡ descent.old.reader.table.ghost_name }
+    ensures places { descent.new.reader.places.now ≡ descent.old.reader.places.now }
+    ensures payload { descent.new.reader.reader.bits ≡ descent.old.reader.reader.bits }
+    ensures refused { IfErr result (λ r. IsRefusal (seen_of P.schema descent.old) r) }
+    ensures read { (F : Frame) (told : List TreeEvent) → IsChosen kinds F body_element_members told (seen_of P.schema descent.old) → descent.old.child ≡ Some CHARGE_PARAMETER_DISCOVERY_RES
+        → IfOk result (λ _. (v : BodyElement) × (place.new ≡ Some v) × (body_element_name v ≡ F.name) × Leaves kinds F (told_inside (body_element_inside v) told) (seen_of P.schema descent.new)) }
+{
+    let mut charge_parameter_discovery_res = ChargeParameterDiscoveryRes::default();
+    member_here(&mut charge_parameter_discovery_res, descent)?;
+    *place = Some(BodyElement::ChargeParameterDiscoveryRes(charge_parameter_discovery_res));
     Ok(())
 }
 

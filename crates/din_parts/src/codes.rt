@@ -7,9 +7,10 @@ use message_fields::message_parts::Simple;
 use message_fields::message_parts::exi_events::Value;
 
 /// ResponseCode, its values in order from 0.
-#[derive(Clone, Copy)]
+#[derive(Clone, Copy, Default)]
 pub enum ResponseCode {
     /// OK.
+    #[default]
     Ok,
     /// OK_NewSessionEstablished.
     OkNewSessionEstablished,
@@ -304,9 +305,10 @@ impl<'a> Simple<'a> for SupportedEnergyTransferType {
 }
 
 /// EVSEProcessing, its values in order from 0.
-#[derive(Clone, Copy)]
+#[derive(Clone, Copy, Default)]
 pub enum EvseProcessing {
     /// Finished.
+    #[default]
     Finished,
     /// Ongoing.
     Ongoing,

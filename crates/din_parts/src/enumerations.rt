@@ -176,9 +176,10 @@ impl<'a> Simple<'a> for EvErrorCode {
 }
 
 /// EVSENotification, its values in order from 0.
-#[derive(Clone, Copy)]
+#[derive(Clone, Copy, Default)]
 pub enum EvseNotification {
     /// None.
+    #[default]
     None,
     /// StopCharging.
     StopCharging,
@@ -250,9 +251,10 @@ impl<'a> Simple<'a> for IsolationLevel {
 }
 
 /// EVSEStatusCode, its values in order from 0.
-#[derive(Clone, Copy)]
+#[derive(Clone, Copy, Default)]
 pub enum EvseStatusCode {
     /// EVSE_NotReady.
+    #[default]
     EvseNotReady,
     /// EVSE_Ready.
     EvseReady,

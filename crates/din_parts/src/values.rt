@@ -16,7 +16,7 @@ use message_fields::message_parts::{
 use message_fields::{Elements2, Elements3, Elements4, OptionalValue, RequiredValue};
 
 /// PhysicalValue.
-#[derive(Clone, Copy)]
+#[derive(Clone, Copy, Default)]
 pub struct PhysicalValue {
     /// -3 to 3.
     pub multiplier: i8,
@@ -162,7 +162,7 @@ impl<'a> ReadRecord<'a> for DcEvStatus {
 }
 
 /// DC_EVSEStatus.
-#[derive(Clone, Copy)]
+#[derive(Clone, Copy, Default)]
 pub struct DcEvseStatus {
     pub evse_isolation_status: Option<IsolationLevel>,
     pub evse_status_code: EvseStatusCode,

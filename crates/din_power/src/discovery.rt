@@ -4,15 +4,15 @@ ghost use Rattle.std.specs.Prelude.{[]};
 
 use crate::limits::{EvChargeParameter, EvseChargeParameter};
 use crate::schedules::SaSchedules;
-use din_parts::message_fields::{AtMostOneOf, Elements2, Elements4, OneOf, RequiredValue};
+use din_parts::message_fields::{Elements2, OneOf, RequiredValue};
 use din_parts::{EnergyTransferMode, EvseProcessing, ResponseCode};
 use din_schema::names;
 use exi_documents::Refusal;
 use exi_schema::Places;
 use message_parts::exi_events::EventWriter;
 use message_parts::{
-    Descent, PutRecord, ReadRecord, Record, put_choice, put_optional_choice, put_value,
-    whole_record,
+    Descent, LargeRecord, PutRecord, ReadRecord, Record, choice, first_child, optional_choice_here,
+    put_choice, put_optional_choice, put_value, value, whole_record,
 };
 
 /// ChargeParameterDiscoveryReq.
@@ -78,7 +78,7 @@ impl<'a> ReadRecord<'a> for ChargeParameterDiscoveryReq {
 }
 
 /// ChargeParameterDiscoveryRes.
-#[derive(Drop)]
+#[derive(Drop, Default)]
 pub struct ChargeParameterDiscoveryRes {
     pub response_code: ResponseCode,
     pub evse_processing: EvseProcessing,
@@ -112,38 +112,13 @@ impl PutRecord for ChargeParameterDiscoveryRes {
     }
 }
 
-impl<'a> Record<'a> for ChargeParameterDiscoveryRes {
-    ghost use Rattle.std.proofs.Common.{rules};
-
-    type Made = Elements4<
-        RequiredValue<ResponseCode>,
-        RequiredValue<EvseProcessing>,
-        AtMostOneOf<SaSchedules>,
-        OneOf<EvseChargeParameter>,
-    >;
-
-    fn of(made: Self::Made) -> ChargeParameterDiscoveryRes {
-        let Elements4(
-            RequiredValue(response_code),
-            RequiredValue(evse_processing),
-            AtMostOneOf(sa_schedules),
-            OneOf(evse_charge_parameter),
-        ) = made;
-        ChargeParameterDiscoveryRes {
-            response_code,
-            evse_processing,
-            sa_schedules,
-            evse_charge_parameter,
-        }
-    }
-
-    ghost declared = { Prim.search rules };
-}
-
-impl<'a> ReadRecord<'a> for ChargeParameterDiscoveryRes {
-    fn read<P: Places>(
-        descent: &mut Descent<'a, '_, P>,
-    ) -> Result<ChargeParameterDiscoveryRes, Refusal> {
-        whole_record(descent)
+impl<'a> LargeRecord<'a> for ChargeParameterDiscoveryRes {
+    fn read_here<P: Places>(&mut self, descent: &mut Descent<'a, '_, P>) -> Result<(), Refusal> {
+        first_child(descent)?;
+        self.response_code = value(descent)?;
+        self.evse_processing = value(descent)?;
+        optional_choice_here(&mut self.sa_schedules, descent)?;
+        self.evse_charge_parameter = choice(descent)?;
+        Ok(())
     }
 }

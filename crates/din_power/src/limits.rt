@@ -158,7 +158,7 @@ impl<'a> Choice<'a> for EvChargeParameter {
 }
 
 /// DC_EVSEChargeParameter.
-#[derive(Clone, Copy)]
+#[derive(Clone, Copy, Default)]
 pub struct DcEvseChargeParameter {
     pub dc_evse_status: DcEvseStatus,
     pub evse_maximum_current_limit: PhysicalValue,
@@ -299,6 +299,12 @@ impl<'a> ReadRecord<'a> for DcEvseChargeParameter {
 #[derive(Clone, Copy)]
 pub enum EvseChargeParameter {
     Dc(DcEvseChargeParameter),
+}
+
+impl Default for EvseChargeParameter {
+    fn default() -> EvseChargeParameter {
+        EvseChargeParameter::Dc(DcEvseChargeParameter::default())
+    }
 }
 
 impl PutChoice for EvseChargeParameter {

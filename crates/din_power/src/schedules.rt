@@ -1,18 +1,24 @@
 //! Types of elements of the messages of DIN SPEC 70121.
 
-ghost use Rattle.std.specs.Prelude.{[]};
+ghost use Rattle.std.specs.Prelude.{◌≡◌, [], List, Some, IfOk, IfErr};
+ghost use Rattle.exi_documents.specs.Trees.{Event as TreeEvent};
+ghost use Rattle.message_parts.specs.Contents.{told_inside};
+ghost use Rattle.message_parts.specs.Reading.{Frame, IsOpen, IsRefusal, IsChosen, Leaves, seen_of};
+ghost use Rattle.din_schema.specs.Declarations.{kinds};
+ghost use Rattle.din_schema.specs.declared.names.TheConstants.{SA_SCHEDULE_LIST};
+ghost use Rattle.din_power.specs.declared.schedules.SaSchedules.{SaSchedules};
+ghost use Rattle.din_power.specs.Schedules.{sa_schedules_members, sa_schedules_name, sa_schedules_inside};
 
 use arrayvec::ArrayVec;
-use din_parts::message_fields::{
-    Elements, Elements2, Elements3, LeftOut, OneOf, OptionalValue, Required, RequiredValue, Several,
-};
+use din_parts::message_fields::{Elements2, OneOf, OptionalValue, RequiredValue};
 use din_schema::names;
 use exi_documents::Refusal;
 use exi_schema::Places;
 use message_parts::exi_events::EventWriter;
 use message_parts::{
-    Choice, Descent, Group, PutChoice, PutRecord, ReadRecord, Record, member, put_choice,
-    put_optional_value, put_record, put_records, put_value, whole_record,
+    Choice, Descent, LargeGroup, LargeRecord, PutChoice, PutRecord, ReadRecord, Record,
+    first_child, left_out, member, member_here, put_choice, put_optional_value, put_record,
+    put_records, put_value, records_here, required_here, value, whole_record,
 };
 
 /// RelativeTimeInterval.
@@ -159,6 +165,13 @@ impl<'a> ReadRecord<'a> for PMaxScheduleEntry {
     }
 }
 
+impl<'a> LargeRecord<'a> for PMaxScheduleEntry {
+    fn read_here<P: Places>(&mut self, descent: &mut Descent<'a, '_, P>) -> Result<(), Refusal> {
+        *self = whole_record(descent)?;
+        Ok(())
+    }
+}
+
 /// PMaxSchedule.
 #[derive(Drop, Default)]
 pub struct PMaxSchedule {
@@ -195,28 +208,16 @@ impl PutRecord for PMaxSchedule {
     }
 }
 
-impl<'a> Record<'a> for PMaxSchedule {
-    ghost use Rattle.std.proofs.Common.{rules};
-
-    type Made = Elements2<
-        RequiredValue<i16>,
-        Several<PMaxScheduleEntry, 128, { names::P_MAX_SCHEDULE_ENTRY }>,
-    >;
-
-    fn of(made: Self::Made) -> PMaxSchedule {
-        let Elements2(RequiredValue(p_max_schedule_id), Several(p_max_schedule_entry)) = made;
-        PMaxSchedule {
-            p_max_schedule_id,
-            p_max_schedule_entry,
-        }
-    }
-
-    ghost declared = { Prim.search rules };
-}
-
-impl<'a> ReadRecord<'a> for PMaxSchedule {
-    fn read<P: Places>(descent: &mut Descent<'a, '_, P>) -> Result<PMaxSchedule, Refusal> {
-        whole_record(descent)
+impl<'a> LargeRecord<'a> for PMaxSchedule {
+    fn read_here<P: Places>(&mut self, descent: &mut Descent<'a, '_, P>) -> Result<(), Refusal> {
+        first_child(descent)?;
+        self.p_max_schedule_id = value(descent)?;
+        records_here(
+            &mut self.p_max_schedule_entry,
+            descent,
+            names::P_MAX_SCHEDULE_ENTRY,
+        )?;
+        Ok(())
     }
 }
 
@@ -255,31 +256,18 @@ impl PutRecord for SaScheduleTuple {
     }
 }
 
-impl<'a> Record<'a> for SaScheduleTuple {
-    ghost use Rattle.std.proofs.Common.{rules};
-
-    type Made = Elements3<RequiredValue<i16>, Required<PMaxSchedule>, LeftOut>;
-
-    fn of(made: Self::Made) -> SaScheduleTuple {
-        let Elements3(RequiredValue(sa_schedule_tuple_id), Required(p_max_schedule), LeftOut) =
-            made;
-        SaScheduleTuple {
-            sa_schedule_tuple_id,
-            p_max_schedule,
-        }
-    }
-
-    ghost declared = { Prim.search rules };
-}
-
-impl<'a> ReadRecord<'a> for SaScheduleTuple {
-    fn read<P: Places>(descent: &mut Descent<'a, '_, P>) -> Result<SaScheduleTuple, Refusal> {
-        whole_record(descent)
+impl<'a> LargeRecord<'a> for SaScheduleTuple {
+    fn read_here<P: Places>(&mut self, descent: &mut Descent<'a, '_, P>) -> Result<(), Refusal> {
+        first_child(descent)?;
+        self.sa_schedule_tuple_id = value(descent)?;
+        required_here(&mut self.p_max_schedule, descent)?;
+        left_out(descent);
+        Ok(())
     }
 }
 
 /// SAScheduleList.
-#[derive(Drop)]
+#[derive(Drop, Default)]
 pub struct SaScheduleList {
     /// 1 to 3.
     pub sa_schedule_tuple: ArrayVec<SaScheduleTuple, 3>,
@@ -308,22 +296,15 @@ impl PutRecord for SaScheduleList {
     }
 }
 
-impl<'a> Record<'a> for SaScheduleList {
-    ghost use Rattle.std.proofs.Common.{rules};
-
-    type Made = Elements<Several<SaScheduleTuple, 3, { names::SA_SCHEDULE_TUPLE }>>;
-
-    fn of(made: Self::Made) -> SaScheduleList {
-        let Elements(Several(sa_schedule_tuple)) = made;
-        SaScheduleList { sa_schedule_tuple }
-    }
-
-    ghost declared = { Prim.search rules };
-}
-
-impl<'a> ReadRecord<'a> for SaScheduleList {
-    fn read<P: Places>(descent: &mut Descent<'a, '_, P>) -> Result<SaScheduleList, Refusal> {
-        whole_record(descent)
+impl<'a> LargeRecord<'a> for SaScheduleList {
+    fn read_here<P: Places>(&mut self, descent: &mut Descent<'a, '_, P>) -> Result<(), Refusal> {
+        first_child(descent)?;
+        records_here(
+            &mut self.sa_schedule_tuple,
+            descent,
+            names::SA_SCHEDULE_TUPLE,
+        )?;
+        Ok(())
     }
 }
 
@@ -356,14 +337,59 @@ impl PutChoice for SaSchedules {
     }
 }
 
-impl<'a> Choice<'a> for SaSchedules {
-    fn read_member<P: Places>(descent: &mut Descent<'a, '_, P>) -> Result<SaSchedules, Refusal> {
-        member(descent).map(SaSchedules::SaScheduleList)
+/// SaScheduleList, over one where such a one stands.
+fn sa_schedule_list<'a, P: Places>(
+    place: &mut Option<SaSchedules>,
+    descent: &mut Descent<'a, '_, P>,
+) -> Result<(), Refusal>
+    requires open { IsOpen P.schema descent.old }
+    ensures open { IsOpen P.schema descent.new }
+    ensures table { descent.new.reader.table.ghost_name ≡ descent.old.reader.table.ghost_name }
+    ensures places { descent.new.reader.places.now ≡ descent.old.reader.places.now }
+    ensures payload { descent.new.reader.reader.bits ≡ descent.old.reader.reader.bits }
+    ensures refused { IfErr result (λ r. IsRefusal (seen_of P.schema descent.old) r) }
+    ensures read { (F : Frame) (told : List TreeEvent) → IsChosen kinds F sa_schedules_members told (seen_of P.schema descent.old) → descent.old.child ≡ Some SA_SCHEDULE_LIST
+        → IfOk result (λ _. (v : SaSchedules) × (place.new ≡ Some v) × (sa_schedules_name v ≡ F.name) × Leaves kinds F (told_inside (sa_schedules_inside v) told) (seen_of P.schema descent.new)) }
+{
+    match place {
+        Some(SaSchedules::SaScheduleList(sa_schedule_list)) => member_here(
+            sa_schedule_list,
+            descent,
+        ),
+        _ => sa_schedule_list_anew(place, descent),
     }
 }
 
-impl<'a> Group<'a> for SaSchedules {
+/// SaScheduleList, where another stands or none: this fills its room.
+#[inline(never)]
+fn sa_schedule_list_anew<'a, P: Places>(
+    place: &mut Option<SaSchedules>,
+    descent: &mut Descent<'a, '_, P>,
+) -> Result<(), Refusal>
+    requires open { IsOpen P.schema descent.old }
+    ensures open { IsOpen P.schema descent.new }
+    ensures table { descent.new.reader.table.ghost_name ≡ descent.old.reader.table.ghost_name }
+    ensures places { descent.new.reader.places.now ≡ descent.old.reader.places.now }
+    ensures payload { descent.new.reader.reader.bits ≡ descent.old.reader.reader.bits }
+    ensures refused { IfErr result (λ r. IsRefusal (seen_of P.schema descent.old) r) }
+    ensures read { (F : Frame) (told : List TreeEvent) → IsChosen kinds F sa_schedules_members told (seen_of P.schema descent.old) → descent.old.child ≡ Some SA_SCHEDULE_LIST
+        → IfOk result (λ _. (v : SaSchedules) × (place.new ≡ Some v) × (sa_schedules_name v ≡ F.name) × Leaves kinds F (told_inside (sa_schedules_inside v) told) (seen_of P.schema descent.new)) }
+{
+    let mut sa_schedule_list = SaScheduleList::default();
+    member_here(&mut sa_schedule_list, descent)?;
+    *place = Some(SaSchedules::SaScheduleList(sa_schedule_list));
+    Ok(())
+}
+
+impl<'a> LargeGroup<'a> for SaSchedules {
     fn names() -> &'static [u16] {
         &[names::SA_SCHEDULE_LIST]
+    }
+
+    fn read_member_into<P: Places>(
+        place: &mut Option<SaSchedules>,
+        descent: &mut Descent<'a, '_, P>,
+    ) -> Result<(), Refusal> {
+        sa_schedule_list(place, descent)
     }
 }

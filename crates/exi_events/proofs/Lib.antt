@@ -21,6 +21,8 @@ pub mod Valued
 pub mod Whole
 pub mod Writable
 pub mod Sequences
+pub mod Words
+pub mod Children
 pub use Rattle.document_laws.proofs.Written
 pub use Rattle.document_laws.proofs.Once
 pub use Rattle.document_laws.proofs.Runs

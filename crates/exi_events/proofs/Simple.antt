@@ -1,6 +1,7 @@
 -- The one step at a place of a simple kind.
 use Rattle.std.proofs.Common.{◌≡◌, ℕ, zero, suc, ◌≤◌, ◌^◌, Bool, List, [], ◌∷◌, Option, Some, None, refl, sym, ap, subst, ◌∙◌, inl, arith}
 use Rattle.std.specs.Prelude.{slice_get, length}
+use Rattle.exi_spec.specs.Bits.{number_bits}
 use Rattle.exi_spec.specs.Items.{SpellsNumber, RefusesBits}
 use Rattle.exi_bits.specs.Reading.{Cursor, Takes, ahead}
 use Rattle.exi_schema.specs.declared.places.Place.{Place}
@@ -47,6 +48,17 @@ step_taken kinds here step old new code is first took = (
   },
   took.2,
 )
+
+-- the code that is written
+pub one_code : (kinds : List PlainKind) (here : Place) (step : Step) → offers kinds here ≡ step ∷ [] → SpellsStep kinds here step (number_bits 1 0)
+one_code kinds here step is =
+    record {
+      code = 0;
+      width = 1;
+      is_width = width_of kinds here step is;
+      offered = ap (λ (steps : List Step). slice_get steps 0) is;
+      spelled = record { range = omega arith; spelled = refl };
+    }
 
 pub code_refused : (kinds : List PlainKind) (here : Place) (step : Step) (old new : Cursor) (code : ℕ) (why : RefusalCause) → offers kinds here ≡ step ∷ [] → 1 ≤ code →
     Takes (SpellsNumber 1 code) old new → code_cause 1 code None ≡ Some why → RefusesStep kinds here (ahead old) why

@@ -10,6 +10,7 @@
 //! and of it (`IsNeeded`), answered again; `finish` tells how many bytes of the lent room hold it.
 #![tactic(auto)]
 
+mod child;
 mod inside;
 mod needed;
 mod offer;
@@ -17,14 +18,18 @@ mod open;
 mod putting;
 mod reader;
 mod sequence;
+mod short;
 mod step;
 mod value;
+mod word;
 mod writer;
 
+pub use child::{NamedValue, ThreeChildren};
 pub use exi_bits::Full;
 pub use exi_writing::exi_documents;
 pub use exi_writing::exi_documents::{Refusal, RefusalCause};
 pub use exi_writing::exi_values::{Event, Table, Value};
 pub use reader::EventReader;
 pub use sequence::ThreeValues;
+pub use short::short_of;
 pub use writer::{EventWriter, NotPut};

@@ -3,13 +3,16 @@
 ghost use Rattle.std.specs.Prelude.{◌≡◌, ◌≤◌, ◌*◌, length};
 ghost use Rattle.exi_bits.specs.Written.{PadsZero};
 
+use crate::child::{ThreeChildren, child_at, child_word, code_word, three_word};
 use crate::offer::{Found, inside, names_root, offer_inside, outside};
-use crate::open::OpenElements;
+use crate::open::{OpenElement, OpenElements};
 use crate::putting::put_event;
 use crate::reader::Phase;
+use crate::short::short_of;
+use crate::word::{BitWord, WORD_BITS};
 use exi_bits::{BitPen, Full, begun_bytes};
-use exi_schema::{Place, Places};
-use exi_writing::exi_values::{Event, Table};
+use exi_schema::{Place, Places, Sought};
+use exi_writing::exi_values::{Event, Table, Value};
 
 /// Why an event is not put.
 #[derive(Clone, Copy, Debug, PartialEq, Eq)]
@@ -39,13 +42,18 @@ pub struct EventWriter<'b, 'p, P: Places> {
 }
 
 impl<'b, 'p, P: Places> EventWriter<'b, 'p, P> {
-    ghost use Rattle.std.specs.Prelude.{◌<◌, ◌∷◌, [], ◌↔◌, IsTrue, IsSome, List, take, Some, None, IfSome, IfErr, OnOk, OnErr, IsErr, Err};
+    ghost use Rattle.std.specs.Prelude.{◌<◌, ◌∷◌, [], ◌↔◌, IsTrue, IsSome, List, take, Some, None, IfSome, IfErr, OnOk, OnErr, IsErr, Err, OnSome, ◌++◌, ◌+◌};
     ghost use Rattle.exi_bits.specs.Written.{HoldsBits};
     ghost use Rattle.exi_writing.specs.Trees.{Event as TreeEvent};
     ghost use Rattle.exi_writing.specs.Values.{most_entries};
     ghost use Rattle.exi_writing.specs.Grammar.{Behind};
     ghost use Rattle.exi_writing.specs.Meaning.{event_of};
     ghost use Rattle.exi_schema.specs.Offers.{IsPlace};
+    ghost use Rattle.exi_events.specs.Child.{PutsChild, PutsThree};
+    ghost use Rattle.exi_writing.specs.Trees.{Start, EndElement};
+    ghost use Rattle.exi_events.specs.Inside.{HasTop, GoesTo};
+    ghost use Rattle.exi_events.specs.declared.reader.Phase.TheVariants as phase;
+    ghost use Rattle.exi_writing.specs.Meaning.{value_of};
     ghost use Rattle.exi_events.specs.Reader.{innermost_place};
     ghost use Rattle.exi_events.specs.Writer.{draft_of, IsReadyToPut, KeepsLent, AddsSome, HasPut, IsOffered, IsFoundAt, IsShapedEvent, IsPut, HasNoRoom, IsNeeded, IsWritten};
     ghost use Rattle.exi_events.specs.declared.writer.NotPut.TheVariants as not_put;
@@ -161,6 +169,117 @@ impl<'b, 'p, P: Places> EventWriter<'b, 'p, P> {
             },
             None => Err(NotPut::NotOffered),
         }
+    }
+
+    /// Puts an element with a value, its start, its value and its end, where its bits are few and all three may be put: what three calls
+    /// of `try_put` put. `None`, and nothing is put, anywhere else, and where fewer than 8 bytes are left.
+    #[inline(always)]
+    pub fn put_child(&mut self, name: u16, value: &Value) -> Option<()>
+        requires ready { IsReadyToPut self.old }
+        ensures ready { IsReadyToPut self.new }
+        ensures lent { KeepsLent self.old self.new }
+        ensures none { result ≡ None → self.new ≡ self.old }
+        ensures open_still { OnSome result ((self.old.full ≡ None) × (self.new.full ≡ None)) }
+        ensures put { OnSome result (PutsChild (P.schema self.old.places.now) (draft_of self.old) (draft_of self.new) name (value_of value.now)) }
+    {
+        let top = self.open_with_room()?;
+        let child = child_at(self.places, top.place, name)?;
+        let value = short_of(value)?;
+        let word = child_word(self.places, top.place, name, child, value)?;
+        self.put_word(&word, child.next);
+        Some(())
+    }
+
+    /// Puts an element of three values, its start, its children and its end, where it is a sequence of such children, their bits are few,
+    /// and all may be put: what eleven calls of `try_put` put. `None`, and nothing is put, anywhere else, and where fewer than 8 bytes are left.
+    #[inline(always)]
+    pub fn put_three(&mut self, name: u16, values: &ThreeChildren) -> Option<()>
+        requires ready { IsReadyToPut self.old }
+        ensures ready { IsReadyToPut self.new }
+        ensures lent { KeepsLent self.old self.new }
+        ensures none { result ≡ None → self.new ≡ self.old }
+        ensures open_still { OnSome result ((self.old.full ≡ None) × (self.new.full ≡ None)) }
+        ensures put { OnSome result (PutsThree (P.schema self.old.places.now) (draft_of self.old) (draft_of self.new) name values.now) }
+    {
+        let top = self.open_with_room()?;
+        let child = child_at(self.places, top.place, name)?;
+        let word = three_word(self.places, top.place, name, child, values)?;
+        self.put_word(&word, child.next);
+        Some(())
+    }
+
+    /// Puts the start of an element inside another one: what `try_put` puts. `None`, and nothing is put, anywhere else, where it is not offered,
+    /// and where fewer than 8 bytes are left.
+    #[inline(always)]
+    pub fn put_start(&mut self, name: u16) -> Option<()>
+        requires ready { IsReadyToPut self.old }
+        ensures ready { IsReadyToPut self.new }
+        ensures lent { KeepsLent self.old self.new }
+        ensures none { result ≡ None → self.new ≡ self.old }
+        ensures open_still { OnSome result ((self.old.full ≡ None) × (self.new.full ≡ None)) }
+        ensures put { OnSome result (IsPut (P.schema self.old.places.now) (draft_of self.old) (draft_of self.new) (Some (Start name))) }
+    {
+        let top = self.open_with_room()?;
+        let child = child_at(self.places, top.place, name)?;
+        let word = code_word(child.code, child.width)?;
+        self.put_word(&word, child.next);
+        self.elements.push(name, Place::first(child.kind));
+        Some(())
+    }
+
+    /// Puts the end of an element: what `try_put` puts. `None`, and nothing is put, where it is not offered, and where fewer than 8 bytes are
+    /// left.
+    #[inline(always)]
+    pub fn put_end(&mut self) -> Option<()>
+        requires ready { IsReadyToPut self.old }
+        ensures ready { IsReadyToPut self.new }
+        ensures lent { KeepsLent self.old self.new }
+        ensures none { result ≡ None → self.new ≡ self.old }
+        ensures open_still { OnSome result ((self.old.full ≡ None) × (self.new.full ≡ None)) }
+        ensures put { OnSome result (IsPut (P.schema self.old.places.now) (draft_of self.old) (draft_of self.new) (Some EndElement)) }
+    {
+        let top = self.open_with_room()?;
+        let offer = self.places.find(top.place, Sought::End)?;
+        let word = code_word(offer.code, offer.width)?;
+        self.put_word(&word, top.place);
+        self.elements.pop();
+        Some(())
+    }
+
+    /// The innermost element, where nothing lacked room and the bits of a word have room.
+    #[inline(always)]
+    fn open_with_room(&self) -> Option<OpenElement>
+        ensures open_still { IfSome result (λ _. self.now.full ≡ None) }
+        ensures inside { IfSome result (λ _. self.now.phase ≡ phase.Inside) }
+        ensures top { IfSome result (λ top. HasTop self.now.elements top) }
+        ensures room { IfSome result (λ _. self.now.bits + 64 ≤ 8 * length self.now.room.now) }
+    {
+        let Phase::Inside = self.phase else {
+            return None;
+        };
+        if self.full.is_some() || self.bits as usize + WORD_BITS as usize > 8 * self.room.len() {
+            return None;
+        }
+        self.elements.innermost()
+    }
+
+    /// Writes these bits, with which the innermost element reaches a place.
+    #[inline(always)]
+    fn put_word(&mut self, word: &BitWord, next: Place)
+        requires room { self.old.bits + 64 ≤ 8 * length self.old.room.now }
+        ensures lent { KeepsLent self.old self.new }
+        ensures written { (draft_of self.new).bits ≡ (draft_of self.old).bits ++ word.now }
+        ensures room { length self.new.room.now ≡ length self.old.room.now }
+        ensures table { self.new.table.now ≡ self.old.table.now }
+        ensures goes { GoesTo self.old.elements next self.new.elements }
+        ensures phase { self.new.phase ≡ self.old.phase }
+        ensures full { self.new.full ≡ self.old.full }
+    {
+        let room = &mut *self.room;
+        let mut pen = BitPen::behind(room, self.bits);
+        word.put(&mut pen);
+        self.bits = pen.into_place();
+        self.elements.goes_to(next);
     }
 
     /// Puts an event that is offered, behind those put before.

@@ -10,6 +10,7 @@ use Rattle.exi_schema.specs.Sequences.{TellsSequence}
 use Rattle.exi_schema.specs.Steps.{simple_at}
 use Rattle.exi_tables.specs.declared.filling.KindTable.{KindTable}
 use Rattle.exi_tables.specs.declared.filling.Row.{Row}
+use Rattle.exi_tables.specs.Followed.{KeepsSequence}
 use Rattle.exi_tables.specs.Counts.{attribute_places, particle_places, copy_places}
 
 -- the row of a place
@@ -37,11 +38,12 @@ abbrev pub HoldsAttributes : PlainSchema → PlainKind → Place → List (Vec (
 HoldsAttributes s declaration here tables =
     IsTable (attribute_places declaration) (λ attributes rows. HoldsParticles s declaration (record here { attributes = attributes }) rows.items) tables
 
--- the table of a kind: its datatype, if it is simple, its children, if it is a sequence of values that is kept, and the rows of its
+-- the table of a kind: its datatype, if it is simple, its children, if it is a sequence of at most eight values, and the rows of its
 -- places
 pub record IsKindTable (s : PlainSchema) (kind : ℕ) (table : KindTable) : Type 0 where
   pub datatype : table.datatype ≡ simple_at s.kinds kind
   pub sequence : TellsSequence s.kinds (record { kind = kind; particle = 0; copies = 0; attributes = 0 }) table.sequence.items
+  pub whole : KeepsSequence s.kinds (record { kind = kind; particle = 0; copies = 0; attributes = 0 }) table.sequence.items
   pub rows :
       (declaration : PlainKind) → slice_get s.kinds kind ≡ Some declaration →
       HoldsAttributes s declaration (record { kind = kind; particle = 0; copies = 0; attributes = 0 }) table.by_attributes.items

@@ -83,6 +83,10 @@ impl<D: Declared> Rows<D> {
 }
 
 impl<D: Declared> Places for Rows<D> {
+    ghost use Rattle.std.specs.Prelude.{◌<◌, length};
+    ghost use Rattle.exi_schema.specs.Sequences.{TellsSequence};
+    ghost use Rattle.exi_tables.specs.Followed.{KeepsSequence};
+
     ghost schema = { λ rows. D.schema };
 
     fn alternatives(&self, place: Place) -> u16 {
@@ -102,12 +106,12 @@ impl<D: Declared> Places for Rows<D> {
     fn find(&self, place: Place, sought: Sought) -> Option<Offer> {
         let row = self.row(place);
         for code in 0..row.steps.len() {
-            let step = row.steps[code];
-            if is_sought(&step, sought) {
+            let step = &row.steps[code];
+            if is_sought(step, sought) {
                 return Some(Offer {
                     code: code as u16,
                     width: row.width,
-                    step,
+                    step: *step,
                 });
             }
         }
@@ -129,7 +133,11 @@ impl<D: Declared> Places for Rows<D> {
     }
 
     #[inline(always)]
-    fn sequence(&self, kind: u16) -> &[SequenceChild] {
+    fn sequence(&self, kind: u16) -> &[SequenceChild]
+        requires { kind < length D.schema.kinds }
+        ensures tells { TellsSequence D.schema.kinds (record { kind = kind; particle = 0; copies = 0; attributes = 0 }) result.now }
+        ensures whole { KeepsSequence D.schema.kinds (record { kind = kind; particle = 0; copies = 0; attributes = 0 }) result.now }
+    {
         self.kinds[kind as usize].sequence.as_slice()
     }
 

@@ -20,7 +20,7 @@ pub(crate) struct Row {
     pub(crate) width: u32,
 }
 
-/// A kind: its datatype, if it is simple, its children, if it is a sequence of values that is kept, and its rows by the attributes passed,
+/// A kind: its datatype, if it is simple, its children, if it is a sequence of at most eight values, and its rows by the attributes passed,
 /// by the particles passed, and by the copies passed.
 #[derive(Drop)]
 pub(crate) struct KindTable {

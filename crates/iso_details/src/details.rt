@@ -5,13 +5,12 @@ ghost use Rattle.std.specs.Prelude.{[]};
 use arrayvec::ArrayVec;
 use exi_documents::Refusal;
 use exi_schema::Places;
-use iso_parts::message_fields::{
-    Elements, Elements2, Elements3, OneOf, Optional, RequiredValue, Several, WithAttribute,
-};
+use iso_parts::message_fields::{Elements, OneOf, RequiredValue, WithAttribute};
 use iso_parts::message_parts::exi_events::EventWriter;
 use iso_parts::message_parts::{
-    Choice, Descent, PutChoice, PutRecord, ReadRecord, Record, Text, member, member_value,
-    put_attribute, put_choice, put_optional, put_record, put_records, put_value, whole_record,
+    Choice, Descent, LargeRecord, PutChoice, PutRecord, ReadRecord, Record, Text, first_child,
+    member, member_value, optional_here, put_attribute, put_choice, put_optional, put_record,
+    put_records, put_value, records_here, value, whole_record,
 };
 use iso_parts::{PhysicalValue, ResponseCode};
 use iso_schema::names;
@@ -133,6 +132,13 @@ impl<'a> ReadRecord<'a> for Parameter<'a> {
     }
 }
 
+impl<'a> LargeRecord<'a> for Parameter<'a> {
+    fn read_here<P: Places>(&mut self, descent: &mut Descent<'a, '_, P>) -> Result<(), Refusal> {
+        *self = whole_record(descent)?;
+        Ok(())
+    }
+}
+
 /// ParameterSet.
 #[derive(Drop, Default)]
 pub struct ParameterSet<'a> {
@@ -165,30 +171,17 @@ impl PutRecord for ParameterSet<'_> {
     }
 }
 
-impl<'a> Record<'a> for ParameterSet<'a> {
-    ghost use Rattle.std.proofs.Common.{rules};
-
-    type Made = Elements2<RequiredValue<i16>, Several<Parameter<'a>, 16, { names::PARAMETER }>>;
-
-    fn of(made: Self::Made) -> ParameterSet<'a> {
-        let Elements2(RequiredValue(parameter_set_id), Several(parameter)) = made;
-        ParameterSet {
-            parameter_set_id,
-            parameter,
-        }
-    }
-
-    ghost declared = { Prim.search rules };
-}
-
-impl<'a> ReadRecord<'a> for ParameterSet<'a> {
-    fn read<P: Places>(descent: &mut Descent<'a, '_, P>) -> Result<ParameterSet<'a>, Refusal> {
-        whole_record(descent)
+impl<'a> LargeRecord<'a> for ParameterSet<'a> {
+    fn read_here<P: Places>(&mut self, descent: &mut Descent<'a, '_, P>) -> Result<(), Refusal> {
+        first_child(descent)?;
+        self.parameter_set_id = value(descent)?;
+        records_here(&mut self.parameter, descent, names::PARAMETER)?;
+        Ok(())
     }
 }
 
 /// ServiceParameterList.
-#[derive(Drop)]
+#[derive(Drop, Default)]
 pub struct ServiceParameterList<'a> {
     /// 1 to 16.
     pub parameter_set: ArrayVec<ParameterSet<'a>, 16>,
@@ -217,24 +210,11 @@ impl PutRecord for ServiceParameterList<'_> {
     }
 }
 
-impl<'a> Record<'a> for ServiceParameterList<'a> {
-    ghost use Rattle.std.proofs.Common.{rules};
-
-    type Made = Elements<Several<ParameterSet<'a>, 16, { names::PARAMETER_SET }>>;
-
-    fn of(made: Self::Made) -> ServiceParameterList<'a> {
-        let Elements(Several(parameter_set)) = made;
-        ServiceParameterList { parameter_set }
-    }
-
-    ghost declared = { Prim.search rules };
-}
-
-impl<'a> ReadRecord<'a> for ServiceParameterList<'a> {
-    fn read<P: Places>(
-        descent: &mut Descent<'a, '_, P>,
-    ) -> Result<ServiceParameterList<'a>, Refusal> {
-        whole_record(descent)
+impl<'a> LargeRecord<'a> for ServiceParameterList<'a> {
+    fn read_here<P: Places>(&mut self, descent: &mut Descent<'a, '_, P>) -> Result<(), Refusal> {
+        first_child(descent)?;
+        records_here(&mut self.parameter_set, descent, names::PARAMETER_SET)?;
+        Ok(())
     }
 }
 
@@ -287,7 +267,7 @@ impl<'a> ReadRecord<'a> for ServiceDetailReq {
 }
 
 /// ServiceDetailRes.
-#[derive(Drop)]
+#[derive(Drop, Default)]
 pub struct ServiceDetailRes<'a> {
     pub response_code: ResponseCode,
     pub service_id: u16,
@@ -323,33 +303,16 @@ impl PutRecord for ServiceDetailRes<'_> {
     }
 }
 
-impl<'a> Record<'a> for ServiceDetailRes<'a> {
-    ghost use Rattle.std.proofs.Common.{rules};
-
-    type Made = Elements3<
-        RequiredValue<ResponseCode>,
-        RequiredValue<u16>,
-        Optional<ServiceParameterList<'a>, { names::SERVICE_PARAMETER_LIST }>,
-    >;
-
-    fn of(made: Self::Made) -> ServiceDetailRes<'a> {
-        let Elements3(
-            RequiredValue(response_code),
-            RequiredValue(service_id),
-            Optional(service_parameter_list),
-        ) = made;
-        ServiceDetailRes {
-            response_code,
-            service_id,
-            service_parameter_list,
-        }
-    }
-
-    ghost declared = { Prim.search rules };
-}
-
-impl<'a> ReadRecord<'a> for ServiceDetailRes<'a> {
-    fn read<P: Places>(descent: &mut Descent<'a, '_, P>) -> Result<ServiceDetailRes<'a>, Refusal> {
-        whole_record(descent)
+impl<'a> LargeRecord<'a> for ServiceDetailRes<'a> {
+    fn read_here<P: Places>(&mut self, descent: &mut Descent<'a, '_, P>) -> Result<(), Refusal> {
+        first_child(descent)?;
+        self.response_code = value(descent)?;
+        self.service_id = value(descent)?;
+        optional_here(
+            &mut self.service_parameter_list,
+            descent,
+            names::SERVICE_PARAMETER_LIST,
+        )?;
+        Ok(())
     }
 }

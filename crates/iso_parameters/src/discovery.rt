@@ -6,15 +6,13 @@ use crate::limits::{EvChargeParameter, EvseChargeParameter};
 use exi_documents::Refusal;
 use exi_schema::Places;
 use iso_schedules::SaSchedules;
-use iso_schedules::iso_parts::message_fields::{
-    AtMostOneOf, Elements3, Elements4, OneOf, OptionalValue, RequiredValue,
-};
+use iso_schedules::iso_parts::message_fields::{Elements3, OneOf, OptionalValue, RequiredValue};
 use iso_schedules::iso_parts::{EnergyTransferMode, EvseProcessing, ResponseCode};
 use iso_schema::names;
 use message_parts::exi_events::EventWriter;
 use message_parts::{
-    Descent, PutRecord, ReadRecord, Record, put_choice, put_optional_choice, put_optional_value,
-    put_value, whole_record,
+    Descent, LargeRecord, PutRecord, ReadRecord, Record, choice, first_child, optional_choice_here,
+    put_choice, put_optional_choice, put_optional_value, put_value, value, whole_record,
 };
 
 /// ChargeParameterDiscoveryReq.
@@ -92,7 +90,7 @@ impl<'a> ReadRecord<'a> for ChargeParameterDiscoveryReq {
 }
 
 /// ChargeParameterDiscoveryRes.
-#[derive(Drop)]
+#[derive(Drop, Default)]
 pub struct ChargeParameterDiscoveryRes {
     pub response_code: ResponseCode,
     pub evse_processing: EvseProcessing,
@@ -126,38 +124,13 @@ impl PutRecord for ChargeParameterDiscoveryRes {
     }
 }
 
-impl<'a> Record<'a> for ChargeParameterDiscoveryRes {
-    ghost use Rattle.std.proofs.Common.{rules};
-
-    type Made = Elements4<
-        RequiredValue<ResponseCode>,
-        RequiredValue<EvseProcessing>,
-        AtMostOneOf<SaSchedules>,
-        OneOf<EvseChargeParameter>,
-    >;
-
-    fn of(made: Self::Made) -> ChargeParameterDiscoveryRes {
-        let Elements4(
-            RequiredValue(response_code),
-            RequiredValue(evse_processing),
-            AtMostOneOf(sa_schedules),
-            OneOf(evse_charge_parameter),
-        ) = made;
-        ChargeParameterDiscoveryRes {
-            response_code,
-            evse_processing,
-            sa_schedules,
-            evse_charge_parameter,
-        }
-    }
-
-    ghost declared = { Prim.search rules };
-}
-
-impl<'a> ReadRecord<'a> for ChargeParameterDiscoveryRes {
-    fn read<P: Places>(
-        descent: &mut Descent<'a, '_, P>,
-    ) -> Result<ChargeParameterDiscoveryRes, Refusal> {
-        whole_record(descent)
+impl<'a> LargeRecord<'a> for ChargeParameterDiscoveryRes {
+    fn read_here<P: Places>(&mut self, descent: &mut Descent<'a, '_, P>) -> Result<(), Refusal> {
+        first_child(descent)?;
+        self.response_code = value(descent)?;
+        self.evse_processing = value(descent)?;
+        optional_choice_here(&mut self.sa_schedules, descent)?;
+        self.evse_charge_parameter = choice(descent)?;
+        Ok(())
     }
 }

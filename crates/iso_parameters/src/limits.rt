@@ -243,7 +243,7 @@ impl<'a> Choice<'a> for EvChargeParameter {
 }
 
 /// AC_EVSEChargeParameter.
-#[derive(Clone, Copy)]
+#[derive(Clone, Copy, Default)]
 pub struct AcEvseChargeParameter {
     pub ac_evse_status: AcEvseStatus,
     pub evse_nominal_voltage: PhysicalValue,
@@ -449,6 +449,12 @@ impl<'a> ReadRecord<'a> for DcEvseChargeParameter {
 pub enum EvseChargeParameter {
     Ac(AcEvseChargeParameter),
     Dc(DcEvseChargeParameter),
+}
+
+impl Default for EvseChargeParameter {
+    fn default() -> EvseChargeParameter {
+        EvseChargeParameter::Ac(AcEvseChargeParameter::default())
+    }
 }
 
 impl PutChoice for EvseChargeParameter {

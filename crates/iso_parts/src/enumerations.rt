@@ -165,9 +165,10 @@ impl<'a> Simple<'a> for EvErrorCode {
 }
 
 /// EVSENotification, its values in order from 0.
-#[derive(Clone, Copy)]
+#[derive(Clone, Copy, Default)]
 pub enum EvseNotification {
     /// None.
+    #[default]
     None,
     /// StopCharging.
     StopCharging,

@@ -10,8 +10,8 @@ use exi_schema::Places;
 use iso_schema::names;
 use message_fields::message_parts::exi_events::EventWriter;
 use message_fields::message_parts::{
-    Binary, Choice, Descent, PutChoice, PutRecord, ReadRecord, Record, Text, Three, member,
-    put_optional_value, put_record, put_value, whole_record,
+    Binary, Choice, Descent, PutChoice, PutRecord, ReadRecord, Record, Text, Three, ThreeChildren,
+    member, put_optional_value, put_record, put_value, three_children, whole_record,
 };
 use message_fields::{Elements2, Elements4, OptionalValue, RequiredValue};
 
@@ -41,6 +41,18 @@ impl PutRecord for PhysicalValue {
     ghost given = { λ v. [] };
 
     ghost parts = { physical_value_parts };
+
+    #[inline(always)]
+    fn three_values(&self) -> Option<ThreeChildren> {
+        three_children(
+            names::MULTIPLIER,
+            &self.multiplier,
+            names::UNIT,
+            &self.unit,
+            names::VALUE,
+            &self.value,
+        )
+    }
 
     fn write<P: Places>(&self, writer: &mut EventWriter<'_, '_, P>) {
         put_value(writer, names::MULTIPLIER, &self.multiplier);
@@ -98,6 +110,18 @@ impl PutRecord for DcEvStatus {
 
     ghost parts = { dc_ev_status_parts };
 
+    #[inline(always)]
+    fn three_values(&self) -> Option<ThreeChildren> {
+        three_children(
+            names::EV_READY,
+            &self.ev_ready,
+            names::EV_ERROR_CODE,
+            &self.ev_error_code,
+            names::EVRESS_SOC,
+            &self.evress_soc,
+        )
+    }
+
     fn write<P: Places>(&self, writer: &mut EventWriter<'_, '_, P>) {
         put_value(writer, names::EV_READY, &self.ev_ready);
         put_value(writer, names::EV_ERROR_CODE, &self.ev_error_code);
@@ -128,7 +152,7 @@ impl<'a> ReadRecord<'a> for DcEvStatus {
 }
 
 /// AC_EVSEStatus.
-#[derive(Clone, Copy)]
+#[derive(Clone, Copy, Default)]
 pub struct AcEvseStatus {
     pub notification_max_delay: u16,
     pub evse_notification: EvseNotification,
@@ -152,6 +176,18 @@ impl PutRecord for AcEvseStatus {
     ghost given = { λ v. [] };
 
     ghost parts = { ac_evse_status_parts };
+
+    #[inline(always)]
+    fn three_values(&self) -> Option<ThreeChildren> {
+        three_children(
+            names::NOTIFICATION_MAX_DELAY,
+            &self.notification_max_delay,
+            names::EVSE_NOTIFICATION,
+            &self.evse_notification,
+            names::RCD,
+            &self.rcd,
+        )
+    }
 
     fn write<P: Places>(&self, writer: &mut EventWriter<'_, '_, P>) {
         put_value(

@@ -1,7 +1,7 @@
 -- ISO 15118-2:2014 8.5.2, schedules and charge parameters of a post: what elements of these types contain, part by part.
 use Rattle.std.specs.Prelude.{ℕ, pos, map, List, [], ◌∷◌}
 use Rattle.exi_documents.specs.Trees.{Number}
-use Rattle.iso_parts.specs.Contents.{Inside, Part, Of, one, perhaps, each, mapped, holding}
+use Rattle.message_parts.specs.Contents.{Inside, Part, Of, one, perhaps, each, mapped, holding}
 use Rattle.iso_schema.specs.declared.names.TheConstants.{SA_SCHEDULE_LIST, SA_SCHEDULE_TUPLE, SA_SCHEDULE_TUPLE_ID, P_MAX_SCHEDULE, P_MAX_SCHEDULE_ENTRY, RELATIVE_TIME_INTERVAL, P_MAX, START, DURATION}
 use Rattle.iso_schema.specs.declared.kinds.TheConstants.{SA_SCHEDULE_LIST_KIND, RELATIVE_TIME_INTERVAL_KIND}
 use Rattle.iso_parts.specs.Values.{physical_value_parts}

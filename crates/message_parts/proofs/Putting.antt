@@ -1,10 +1,14 @@
 -- An event that is put where it is the next one.
-use Rattle.std.proofs.Common.{slice_index_or, drop, zero, suc, add-one, ◌≡◌, ℕ, ◌+◌, ◌*◌, ◌<◌, ◌≤◌, Bool, List, [], ◌∷◌, ◌++◌, length, length-append, append_assoc, Option, Some, None, Result, Ok, Err, OnOk, inl, inr, refl, sym, ap, subst, ◌∙◌, arith}
+use Rattle.std.proofs.Common.{slice_index_or, drop, zero, suc, add-one, ◌≡◌, ℕ, ◌+◌, ◌*◌, ◌<◌, ◌≤◌, Bool, List, [], ◌∷◌, ◌++◌, length, length-append, append_assoc, Option, Some, None, OnSome, Result, Ok, Err, OnOk, inl, inr, refl, sym, ap, subst, ◌∙◌, arith}
 use Rattle.exi_bits.specs.declared.pen.Full.{Full}
 use Rattle.exi_schema.specs.Schemas.{PlainSchema}
 use Rattle.exi_events.specs.Grammar.{State, Moves}
-use Rattle.exi_events.specs.Trees.{Event, Attribute, Trees}
-use Rattle.message_parts.specs.Contents.{Inside as Contents, Of, Holding, Given, given, perhaps_given, Part, one, perhaps, each, perhaps_one, attributes_of, trees_of, perhaps_trees, each_trees, choice_trees, attributes_onto, trees_onto, one_onto, perhaps_onto, each_onto, choice_onto, given_onto, parts_onto}
+use Rattle.exi_events.specs.Trees.{Event, Start, Attribute, Content, EndElement, Trees, Value}
+use Rattle.exi_events.specs.Short.{tree_of}
+use Rattle.exi_events.specs.Child.{PutsChild, PutsThree}
+use Rattle.exi_events.specs.declared.child.ThreeChildren.{ThreeChildren}
+use Rattle.exi_events.specs.declared.child.NamedValue.{NamedValue}
+use Rattle.message_parts.specs.Contents.{Inside as Contents, Of, Holding, Given, given, perhaps_given, Part, one, perhaps, each, perhaps_one, attributes_of, trees_of, perhaps_trees, each_trees, choice_trees, attributes_onto, trees_onto, one_onto, perhaps_onto, each_onto, choice_onto, given_onto, parts_onto, holding_with, IsThree, IsNamedOf}
 use Rattle.exi_events.specs.Values.{WritesValue}
 use Rattle.exi_events.specs.Writer.{Draft, IsPut, IsNeeded, IsOfferedAs}
 use Rattle.exi_events.specs.declared.writer.NotPut.{NotPut}
@@ -12,6 +16,7 @@ use Rattle.exi_events.specs.declared.writer.NotPut.TheVariants.{NotOffered, Full
 use Rattle.exi_events.specs.Laws.{IsStanding}
 use Rattle.exi_events.proofs.Written.{value_once}
 use Rattle.exi_events.proofs.Once.{moves_once}
+use Rattle.document_laws.proofs.Standings.{standing_kept}
 use Rattle.message_parts.specs.Writing.{Target, Put, HasLeft, Writes, Leads, IsTooMuch}
 
 module _ (F : Target) (e : Event) (rest : List Event) (old new : Put) (room : List ℕ) (same : old.schema ≡ F.schema) (now : new.schema ≡ F.schema) (has : old.room ≡ F.room) (keeps : new.room ≡ F.room)
@@ -100,6 +105,94 @@ module _ (F : Target) (e : Event) (rest : List Event) (s t : PlainSchema) (d g :
 
   pub put_any : {T : Type 0} (r : Result T NotPut) → Answers r → ((f : Full) → before ≡ Some f → after ≡ before) → Writes F (e ∷ rest) (seen s d before) → Writes F rest (seen t g after)
   put_any {T} r a again w = by_full r before refl a again w
+
+-- ---- several events that are put at once
+
+module _ (F : Target) (s : PlainSchema) where
+  put_one : (e : Event) (rest : List Event) (d g : Draft) → IsStanding s d.state.standing → IsPut s d g (Some e) → Writes F (e ∷ rest) (seen s d None) → Writes F rest (seen s g None)
+  put_one e rest d g is put w = put_now F e rest s s d g None None refl put.2.room is refl refl put w
+
+  stands_behind : (e : Event) (d g : Draft) → IsStanding s d.state.standing → IsPut s d g (Some e) → IsStanding s g.state.standing
+  stands_behind e d g is put = standing_kept WritesValue s d.state g.state e put.0 is put.1
+
+  put_child : (name : ℕ) (value : Value) (rest : List Event) (d g : Draft) → IsStanding s d.state.standing → PutsChild s d g name value → Writes F (one_onto name (Of value) rest) (seen s d None) → Writes F rest (seen s g None)
+  put_child name value rest d g is put w =
+      let started = stands_behind (Start name) d put.started is put.start in
+      let valued = stands_behind (Content value) put.started put.valued started put.content in
+      let one = put_one (Start name) (Content value ∷ EndElement ∷ rest) d put.started is put.start w in
+      let two = put_one (Content value) (EndElement ∷ rest) put.started put.valued started put.content one in
+      put_one EndElement rest put.valued g valued put.end two
+
+  stands_behind_child : (name : ℕ) (value : Value) (d g : Draft) → IsStanding s d.state.standing → PutsChild s d g name value → IsStanding s g.state.standing
+  stands_behind_child name value d g is put =
+      let started = stands_behind (Start name) d put.started is put.start in
+      let valued = stands_behind (Content value) put.started put.valued started put.content in
+      stands_behind EndElement put.valued g valued put.end
+
+  -- the events of an element of three values
+  abbrev three_onto : ℕ → ThreeChildren → List Event → List Event
+  three_onto name three rest =
+      Start name
+      ∷ one_onto three.first.name (Of (tree_of three.first.value))
+      (one_onto three.second.name (Of (tree_of three.second.value)) (one_onto three.third.name (Of (tree_of three.third.value)) (EndElement ∷ rest)))
+
+  put_three : (name : ℕ) (three : ThreeChildren) (rest : List Event) (d g : Draft) → IsStanding s d.state.standing → PutsThree s d g name three → Writes F (three_onto name three rest) (seen s d None) → Writes F rest (seen s g None)
+  put_three name three rest d g is put w =
+      let third = one_onto three.third.name (Of (tree_of three.third.value)) (EndElement ∷ rest) in
+      let second = one_onto three.second.name (Of (tree_of three.second.value)) third in
+      let first = one_onto three.first.name (Of (tree_of three.first.value)) second in
+      let is0 = stands_behind (Start name) d put.started is put.start in
+      let is1 = stands_behind_child three.first.name (tree_of three.first.value) put.started put.one is0 put.first_put in
+      let is2 = stands_behind_child three.second.name (tree_of three.second.value) put.one put.two is1 put.second_put in
+      let is3 = stands_behind_child three.third.name (tree_of three.third.value) put.two put.three is2 put.third_put in
+      let w0 = put_one (Start name) first d put.started is put.start w in
+      let w1 = put_child three.first.name (tree_of three.first.value) second put.started put.one is0 put.first_put w0 in
+      let w2 = put_child three.second.name (tree_of three.second.value) third put.one put.two is1 put.second_put w1 in
+      let w3 = put_child three.third.name (tree_of three.third.value) (EndElement ∷ rest) put.two put.three is2 put.third_put w2 in
+      put_one EndElement rest put.three g is3 put.end w3
+
+-- a writer was open and is
+all_put : (F : Target) (events rest : List Event) (s t : PlainSchema) (d g : Draft) (before after : Option Full) → t ≡ s → before ≡ None → after ≡ None →
+    (Writes F events (seen s d None) → Writes F rest (seen s g None)) → Writes F events (seen s d before) → Writes F rest (seen t g after)
+all_put F events rest s t d g before after same was is puts w =
+    subst (λ (x : PlainSchema). Writes F rest (seen x g after)) (sym same)
+    (subst (λ (o : Option Full). Writes F rest (seen s g o)) (sym is)
+    (puts (subst (λ (o : Option Full). Writes F events (seen s d o)) was w)))
+
+module _ (F : Target) (rest : List Event) (s t : PlainSchema) (d g : Draft) (before after : Option Full) (same : t ≡ s) (is : IsStanding s d.state.standing) (was : before ≡ None) (now : after ≡ None) where
+  pub one_at_once : (e : Event) → IsPut s d g (Some e) → Writes F (e ∷ rest) (seen s d before) → Writes F rest (seen t g after)
+  one_at_once e put w = all_put F (e ∷ rest) rest s t d g before after same was now (put_one F s e rest d g is put) w
+
+  pub child_at_once : (name : ℕ) (value : Value) → PutsChild s d g name value → Writes F (one_onto name (Of value) rest) (seen s d before) → Writes F rest (seen t g after)
+  child_at_once name value put w = all_put F (one_onto name (Of value) rest) rest s t d g before after same was now (put_child F s name value rest d g is put) w
+
+  pub three_at_once : (name : ℕ) (three : ThreeChildren) (attributes : List Given) (parts : List Part) → IsThree three attributes parts → PutsThree s d g name three →
+      Writes F (one_onto name (holding_with attributes parts) rest) (seen s d before) → Writes F rest (seen t g after)
+  three_at_once name three attributes parts are put w =
+      let P : List Given → List Part → Type 0 = λ given_ones ps. Writes F (one_onto name (holding_with given_ones ps) rest) (seen s d before) in
+      all_put F (three_onto F s name three rest) rest s t d g before after same was now (put_three F s name three rest d g is put)
+      (subst (λ (ps : List Part). P [] ps) are.parts_are (subst (λ (given_ones : List Given). P given_ones parts) are.none_given w))
+
+pub three_put_by : (F : Target) (rest : List Event) (s t : PlainSchema) (d g : Draft) (before after : Option Full) → t ≡ s → IsStanding s d.state.standing → (name : ℕ) (three : ThreeChildren) (attributes : List Given) (parts : List Part) → IsThree three attributes parts →
+    {T : Type 0} (r : Option T) → OnSome r ((before ≡ None) × (after ≡ None)) → OnSome r (PutsThree s d g name three) →
+    Writes F (one_onto name (holding_with attributes parts) rest) (seen s d before) → OnSome r (Writes F rest (seen t g after))
+three_put_by F rest s t d g before after same is name three attributes parts are {T} None open_still put w = tt
+three_put_by F rest s t d g before after same is name three attributes parts are {T} (Some x) open_still put w =
+    three_at_once F rest s t d g before after same is open_still.0 open_still.1 name three attributes parts are put w
+
+pub three_named : (first second third : NamedValue) (first_name second_name third_name : ℕ) (a b c : Value) → IsNamedOf first first_name a → IsNamedOf second second_name b → IsNamedOf third third_name c →
+    IsThree (record { first = first; second = second; third = third }) [] (one first_name (Of a) ∷ one second_name (Of b) ∷ one third_name (Of c) ∷ [])
+three_named first second third first_name second_name third_name a b c is1 is2 is3 =
+    record {
+      none_given = refl;
+      parts_are =
+          ap (λ (p : Part). p ∷ one second_name (Of b) ∷ one third_name (Of c) ∷ []) (part_is first first_name a is1)
+          ∙ ap (λ (p : Part). one first.name (Of (tree_of first.value)) ∷ p ∷ one third_name (Of c) ∷ []) (part_is second second_name b is2)
+          ∙ ap (λ (p : Part). one first.name (Of (tree_of first.value)) ∷ one second.name (Of (tree_of second.value)) ∷ p ∷ []) (part_is third third_name c is3);
+    }
+  where
+    part_is : (it : NamedValue) (name : ℕ) (value : Value) → IsNamedOf it name value → one name (Of value) ≡ one it.name (Of (tree_of it.value))
+    part_is it name value is = sym (ap (λ (n : ℕ). one n (Of (tree_of it.value))) is.name_is ∙ ap (λ (v : Value). one name (Of v)) is.value_is)
 
 -- ---- trees and the parts that they are made of lie alike ahead
 

@@ -1,6 +1,6 @@
 //! The children of an element, one after the other.
 
-ghost use Rattle.std.specs.Prelude.{◌≡◌, ℕ, suc, [], ◌∷◌, List, true, Some, None, IfOk, IfErr, slice_get, map, length};
+ghost use Rattle.std.specs.Prelude.{◌≡◌, ℕ, suc, ◌+◌, ◌≤◌, ◌<◌, [], ◌∷◌, ◌++◌, List, true, Some, None, IfOk, IfErr, slice_get, take, map, length};
 ghost use Rattle.exi_events.specs.Trees.{Event as TreeEvent, Attribute};
 ghost use Rattle.exi_schema.specs.declared.tables.AttributeOf.{AttributeOf};
 ghost use Rattle.exi_schema.specs.declared.tables.Datatype.{Datatype};
@@ -439,6 +439,78 @@ fn record_here<'a, T: LargeRecord<'a>, P: Places>(
     place.read_here(descent)
 }
 
+/// The same over what stands in a place that may be empty, or anew where nothing stands there.
+fn record_into<'a, T: LargeRecord<'a> + Default, P: Places>(
+    place: &mut Option<T>,
+    descent: &mut Descent<'a, '_, P>,
+) -> Result<(), Refusal>
+    requires open { IsOpen P.schema descent.old }
+    ensures open { IsOpen P.schema descent.new }
+    ensures table { descent.new.reader.table.ghost_name ≡ descent.old.reader.table.ghost_name }
+    ensures places { descent.new.reader.places.now ≡ descent.old.reader.places.now }
+    ensures payload { descent.new.reader.reader.bits ≡ descent.old.reader.reader.bits }
+    ensures refused { IfErr result (λ r. IsRefusal (seen_of P.schema descent.old) r) }
+    ensures read { (F : Frame) (kind : ℕ) (told : List TreeEvent) → Enters T.kinds F kind told (seen_of P.schema descent.old)
+        → slice_get T.kinds kind ≡ Some (containing T.attributes T.particles)
+        → IfOk result (λ _. (v : T) × (place.new ≡ Some v) × Leaves T.kinds F (told_inside (holding_with (T.given v) (T.parts v)) told) (seen_of P.schema descent.new)) }
+{
+    match place {
+        Some(record) => record_here(record, descent),
+        None => record_anew(place, descent),
+    }
+}
+
+/// The same where nothing stands in the place: this fills its room.
+#[inline(never)]
+fn record_anew<'a, T: LargeRecord<'a> + Default, P: Places>(
+    place: &mut Option<T>,
+    descent: &mut Descent<'a, '_, P>,
+) -> Result<(), Refusal>
+    requires open { IsOpen P.schema descent.old }
+    ensures open { IsOpen P.schema descent.new }
+    ensures table { descent.new.reader.table.ghost_name ≡ descent.old.reader.table.ghost_name }
+    ensures places { descent.new.reader.places.now ≡ descent.old.reader.places.now }
+    ensures payload { descent.new.reader.reader.bits ≡ descent.old.reader.reader.bits }
+    ensures refused { IfErr result (λ r. IsRefusal (seen_of P.schema descent.old) r) }
+    ensures read { (F : Frame) (kind : ℕ) (told : List TreeEvent) → Enters T.kinds F kind told (seen_of P.schema descent.old)
+        → slice_get T.kinds kind ≡ Some (containing T.attributes T.particles)
+        → IfOk result (λ _. (v : T) × (place.new ≡ Some v) × Leaves T.kinds F (told_inside (holding_with (T.given v) (T.parts v)) told) (seen_of P.schema descent.new)) }
+{
+    let mut record = T::default();
+    record_here(&mut record, descent)?;
+    *place = Some(record);
+    Ok(())
+}
+
+/// The same at the nth place of a list that has so many: over what stands there, or in a place more.
+fn record_at<'a, T: LargeRecord<'a> + Default, P: Places, const N: usize>(
+    list: &mut ArrayVec<T, N>,
+    n: usize,
+    descent: &mut Descent<'a, '_, P>,
+) -> Result<(), Refusal>
+    requires open { IsOpen P.schema descent.old }
+    requires within { n ≤ length list.old.items }
+    requires room { n < N }
+    ensures open { IsOpen P.schema descent.new }
+    ensures table { descent.new.reader.table.ghost_name ≡ descent.old.reader.table.ghost_name }
+    ensures places { descent.new.reader.places.now ≡ descent.old.reader.places.now }
+    ensures payload { descent.new.reader.reader.bits ≡ descent.old.reader.reader.bits }
+    ensures refused { IfErr result (λ r. IsRefusal (seen_of P.schema descent.old) r) }
+    ensures within { n + 1 ≤ length list.new.items }
+    ensures read { (F : Frame) (kind : ℕ) (told : List TreeEvent) → Enters T.kinds F kind told (seen_of P.schema descent.old)
+        → slice_get T.kinds kind ≡ Some (containing T.attributes T.particles)
+        → IfOk result (λ _. (v : T) × (take (n + 1) list.new.items ≡ take n list.old.items ++ v ∷ [])
+        × Leaves T.kinds F (told_inside (holding_with (T.given v) (T.parts v)) told) (seen_of P.schema descent.new)) }
+{
+    if n == list.len() {
+        list.push(T::default());
+    }
+    match list.get_mut(n) {
+        Some(record) => record_here(record, descent),
+        None => unreachable!(),
+    }
+}
+
 /// An element with attributes and children that has to be there.
 pub fn required_here<'a, T: LargeRecord<'a>, P: Places>(
     place: &mut T,
@@ -463,7 +535,62 @@ pub fn required_here<'a, T: LargeRecord<'a>, P: Places>(
 fn clear<T: Drop>(place: &mut Option<T>)
     ensures { place.new ≡ None }
 {
-    *place = None;
+    if place.is_some() {
+        *place = None;
+    }
+}
+
+/// One that may be there.
+pub fn optional_here<'a, T: LargeRecord<'a> + Default, P: Places>(
+    place: &mut Option<T>,
+    descent: &mut Descent<'a, '_, P>,
+    name: u16,
+) -> Result<(), Refusal>
+    requires open { IsOpen P.schema descent.old }
+    ensures open { IsOpen P.schema descent.new }
+    ensures table { descent.new.reader.table.ghost_name ≡ descent.old.reader.table.ghost_name }
+    ensures places { descent.new.reader.places.now ≡ descent.old.reader.places.now }
+    ensures payload { descent.new.reader.reader.bits ≡ descent.old.reader.reader.bits }
+    ensures refused { IfErr result (λ r. IsRefusal (seen_of P.schema descent.old) r) }
+    ensures read { (F : Frame) (attributes : List AttributeOf) (declared : List PlainParticle) (at : ℕ) (told : List TreeEvent) → Reads T.kinds F attributes declared at told (seen_of P.schema descent.old)
+        → is_optional_at declared at ≡ true → name ≡ name_at declared at → slice_get T.kinds (kind_at declared at) ≡ Some (containing T.attributes T.particles)
+        → IfOk result (λ _. Reads T.kinds F attributes declared (suc at) (told_perhaps name (mapped (λ x. holding_with (T.given x) (T.parts x)) place.new) told) (seen_of P.schema descent.new)) }
+{
+    if !descent.is_at(name) {
+        clear(place);
+        return Ok(());
+    }
+    record_into(place, descent)?;
+    descent.next_child()
+}
+
+/// Those of one name, of which N are accepted: each over the one that stands at its place, and the list as long as they are many.
+pub fn records_here<'a, T: LargeRecord<'a> + Default, P: Places, const N: usize>(
+    list: &mut ArrayVec<T, N>,
+    descent: &mut Descent<'a, '_, P>,
+    name: u16,
+) -> Result<(), Refusal>
+    requires open { IsOpen P.schema descent.old }
+    ensures open { IsOpen P.schema descent.new }
+    ensures table { descent.new.reader.table.ghost_name ≡ descent.old.reader.table.ghost_name }
+    ensures places { descent.new.reader.places.now ≡ descent.old.reader.places.now }
+    ensures payload { descent.new.reader.reader.bits ≡ descent.old.reader.reader.bits }
+    ensures refused { IfErr result (λ r. IsRefusal (seen_of P.schema descent.old) r) }
+    ensures read { (F : Frame) (attributes : List AttributeOf) (declared : List PlainParticle) (at : ℕ) (told : List TreeEvent) → Reads T.kinds F attributes declared at told (seen_of P.schema descent.old)
+        → is_repeated_at declared at N ≡ true → name ≡ name_at declared at → slice_get T.kinds (kind_at declared at) ≡ Some (containing T.attributes T.particles)
+        → IfOk result (λ _. Reads T.kinds F attributes declared (suc at) (told_each name (map (λ x. holding_with (T.given x) (T.parts x)) list.new.items) told) (seen_of P.schema descent.new)) }
+{
+    let mut count = 0;
+    for _ in 0..N {
+        if !descent.is_at(name) {
+            break;
+        }
+        record_at(list, count, descent)?;
+        descent.next_child()?;
+        count += 1;
+    }
+    list.truncate(count);
+    Ok(())
 }
 
 /// One of several elements that may be there.

@@ -21,16 +21,17 @@ mod writer;
 
 pub use children::{
     Three, attribute, choice, first_child, last_attribute, left_out, member, member_here,
-    member_value, optional, optional_choice, optional_choice_here, optional_value, records,
-    required, required_here, value, values, whole_record,
+    member_value, optional, optional_choice, optional_choice_here, optional_here, optional_value,
+    records, records_here, required, required_here, value, values, whole_record,
 };
 pub use descent::Descent;
 pub use document::{read, read_here, write};
 pub use exi_events;
+pub use exi_events::ThreeChildren;
 pub use lent_text::LentText;
 pub use part::{
     Choice, Contents, Group, LargeChoice, LargeGroup, LargeRecord, PutChoice, PutRecord,
-    ReadRecord, Record, Root, Simple,
+    ReadRecord, Record, Root, Simple, three_children,
 };
 pub use texts::{Binary, Text};
 pub use writer::{

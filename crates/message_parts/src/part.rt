@@ -1,13 +1,13 @@
 //! What an element contains.
 
-ghost use Rattle.std.specs.Prelude.{◌≡◌, ℕ, List, Bool, true, Some, IfOk, IfErr, length};
+ghost use Rattle.std.specs.Prelude.{◌≡◌, ℕ, List, Bool, true, Some, IfOk, IfErr, IfSome, length, [], ◌∷◌};
 ghost use Rattle.exi_events.specs.Trees.{Event as TreeEvent, Value as TreeValue};
 ghost use Rattle.message_parts.specs.Values.{IsRead};
 ghost use Rattle.exi_schema.specs.declared.tables.Datatype.{Datatype};
 ghost use Rattle.exi_schema.specs.Schemas.{are_distinct};
 ghost use Rattle.exi_events.specs.Meaning.{value_of, IsShaped, IsLent};
 ghost use Rattle.exi_schema.specs.Plain.{PlainKind, PlainParticle};
-ghost use Rattle.message_parts.specs.Contents.{Inside, Given, Part, told_parts, told_given, told_inside, given_onto, parts_onto, one_onto};
+ghost use Rattle.message_parts.specs.Contents.{Inside, Given, Part, told_parts, told_given, told_inside, given_onto, parts_onto, one_onto, one, Of, IsThree, IsNamedOf};
 ghost use Rattle.message_parts.specs.Particles.{names_among};
 ghost use Rattle.message_parts.specs.Reading.{Frame, seen_of, IsOpen, Leaves, Reads, IsRefusal, IsChosen, StartsAt, names_in};
 ghost use Rattle.message_parts.specs.Writing.{Target, Writes, put_of};
@@ -16,7 +16,7 @@ ghost use Rattle.exi_schema.specs.declared.tables.AttributeOf.{AttributeOf};
 
 use crate::descent::Descent;
 use exi_events::exi_documents::Refusal;
-use exi_events::{EventWriter, Value};
+use exi_events::{EventWriter, NamedValue, ThreeChildren, Value, short_of};
 use exi_schema::Places;
 
 /// A value of a simple kind, how it is put and how it is read.
@@ -57,6 +57,14 @@ pub trait PutRecord: Drop {
 
     /// What stands at its particles.
     ghost parts: { Self → List Part };
+
+    /// Its children, for a type that is three values of few bits and nothing else, so that they are put at once; else `None`.
+    #[inline(always)]
+    fn three_values(&self) -> Option<ThreeChildren>
+        ensures { IfSome result (λ three. IsThree three (given self.now) (parts self.now)) }
+    {
+        None
+    }
 
     /// Puts the attributes and the elements.
     fn write<P: Places>(&self, writer: &mut EventWriter<'_, '_, P>)
@@ -219,4 +227,35 @@ pub trait Root: PutChoice {
     /// Its document number.
     fn number(&self) -> u32
         ensures { result ≡ number self.now };
+}
+
+/// A value with the number of its element's name, where it has few bits.
+#[inline(always)]
+fn named<'a, T: Simple<'a>>(name: u16, value: &T) -> Option<NamedValue>
+    ensures { IfSome result (λ it. IsNamedOf it name (T.value value.now)) }
+{
+    let value = short_of(&value.as_value())?;
+    Some(NamedValue { name, value })
+}
+
+/// The children of an element of three values, each with the number of its name, where they have few bits.
+#[inline(always)]
+pub fn three_children<'a, A: Simple<'a>, B: Simple<'a>, C: Simple<'a>>(
+    first_name: u16,
+    first: &A,
+    second_name: u16,
+    second: &B,
+    third_name: u16,
+    third: &C,
+) -> Option<ThreeChildren>
+    ensures { IfSome result (λ three. IsThree three [] (one first_name (Of (A.value first.now)) ∷ one second_name (Of (B.value second.now)) ∷ one third_name (Of (C.value third.now)) ∷ [])) }
+{
+    let first = named(first_name, first)?;
+    let second = named(second_name, second)?;
+    let third = named(third_name, third)?;
+    Some(ThreeChildren {
+        first,
+        second,
+        third,
+    })
 }

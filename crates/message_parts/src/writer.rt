@@ -1,6 +1,6 @@
 //! The elements of a message, put one after the other.
 
-ghost use Rattle.std.specs.Prelude.{◌≡◌, ◌∷◌, List, Some, map};
+ghost use Rattle.std.specs.Prelude.{◌≡◌, ◌∷◌, List, Some, None, OnSome, map};
 ghost use Rattle.exi_events.specs.Trees.{Event as TreeEvent, Attribute, Start, Content, EndElement};
 ghost use Rattle.exi_events.specs.Writer.{IsReadyToPut, KeepsLent, IsShapedEvent};
 ghost use Rattle.exi_events.specs.Meaning.{event_of};
@@ -25,6 +25,19 @@ pub fn put_event<P: Places>(writer: &mut EventWriter<'_, '_, P>, event: &Event<'
     let _put = writer.try_put(event);
 }
 
+/// Puts an event by itself, where it can't be put at once.
+#[inline(never)]
+fn put_alone<P: Places>(writer: &mut EventWriter<'_, '_, P>, event: &Event<'_>)
+    requires ready { IsReadyToPut writer.old }
+    requires shaped { IsShapedEvent event.now }
+    ensures ready { IsReadyToPut writer.new }
+    ensures lent { KeepsLent writer.old writer.new }
+    ensures write { (F : Target) (e : TreeEvent) (rest : List TreeEvent) → Writes F (e ∷ rest) (put_of writer.old) → event_of event.now ≡ Some e
+        → Writes F rest (put_of writer.new) }
+{
+    put_event(writer, event);
+}
+
 /// Puts the start of an element.
 #[inline(never)]
 fn put_start<P: Places>(writer: &mut EventWriter<'_, '_, P>, name: u16)
@@ -34,7 +47,10 @@ fn put_start<P: Places>(writer: &mut EventWriter<'_, '_, P>, name: u16)
     ensures write { (F : Target) (rest : List TreeEvent) → Writes F (Start name ∷ rest) (put_of writer.old)
         → Writes F rest (put_of writer.new) }
 {
-    put_event(writer, &Event::Start(name));
+    match writer.put_start(name) {
+        Some(()) => {}
+        None => put_alone(writer, &Event::Start(name)),
+    }
 }
 
 /// Puts the value of an element.
@@ -58,7 +74,10 @@ fn put_end<P: Places>(writer: &mut EventWriter<'_, '_, P>)
     ensures write { (F : Target) (rest : List TreeEvent) → Writes F (EndElement ∷ rest) (put_of writer.old)
         → Writes F rest (put_of writer.new) }
 {
-    put_event(writer, &Event::EndElement);
+    match writer.put_end() {
+        Some(()) => {}
+        None => put_alone(writer, &Event::EndElement),
+    }
 }
 
 /// Puts an attribute.
@@ -94,8 +113,9 @@ pub fn put_optional_attribute<'a, T: Simple<'a>, P: Places>(
     }
 }
 
-/// Puts a value.
-pub fn put_value<'a, T: Simple<'a>, P: Places>(
+/// Puts a value, event by event.
+#[inline(never)]
+fn put_value_events<'a, T: Simple<'a>, P: Places>(
     writer: &mut EventWriter<'_, '_, P>,
     name: u16,
     value: &T,
@@ -109,6 +129,24 @@ pub fn put_value<'a, T: Simple<'a>, P: Places>(
     put_start(writer, name);
     put_content(writer, value);
     put_end(writer);
+}
+
+/// Puts a value.
+pub fn put_value<'a, T: Simple<'a>, P: Places>(
+    writer: &mut EventWriter<'_, '_, P>,
+    name: u16,
+    value: &T,
+)
+    requires ready { IsReadyToPut writer.old }
+    ensures ready { IsReadyToPut writer.new }
+    ensures lent { KeepsLent writer.old writer.new }
+    ensures write { (F : Target) (rest : List TreeEvent) → Writes F (one_onto name (Of (T.value value.now)) rest) (put_of writer.old)
+        → Writes F rest (put_of writer.new) }
+{
+    match writer.put_child(name, &value.as_value()) {
+        Some(()) => {}
+        None => put_value_events(writer, name, value),
+    }
 }
 
 /// Puts a value, where it is there.
@@ -146,8 +184,26 @@ pub fn put_values<'a, T: Simple<'a>, P: Places, const N: usize>(
     }
 }
 
-/// Puts an element with attributes and children.
-pub fn put_record<T: PutRecord, P: Places>(
+/// Puts an element with attributes and children at once, where it is three values of few bits. `None`, and nothing is put, where it can't.
+#[inline(always)]
+fn put_three<T: PutRecord, P: Places>(
+    writer: &mut EventWriter<'_, '_, P>,
+    name: u16,
+    value: &T,
+) -> Option<()>
+    requires ready { IsReadyToPut writer.old }
+    ensures ready { IsReadyToPut writer.new }
+    ensures lent { KeepsLent writer.old writer.new }
+    ensures none { result ≡ None → writer.new ≡ writer.old }
+    ensures write { (F : Target) (rest : List TreeEvent) → Writes F (one_onto name (holding_with (T.given value.now) (T.parts value.now)) rest) (put_of writer.old)
+        → OnSome result (Writes F rest (put_of writer.new)) }
+{
+    let three = value.three_values()?;
+    writer.put_three(name, &three)
+}
+
+/// Puts an element with attributes and children, part by part.
+fn put_record_parts<T: PutRecord, P: Places>(
     writer: &mut EventWriter<'_, '_, P>,
     name: u16,
     value: &T,
@@ -161,6 +217,24 @@ pub fn put_record<T: PutRecord, P: Places>(
     put_start(writer, name);
     value.write(writer);
     put_end(writer);
+}
+
+/// Puts an element with attributes and children.
+pub fn put_record<T: PutRecord, P: Places>(
+    writer: &mut EventWriter<'_, '_, P>,
+    name: u16,
+    value: &T,
+)
+    requires ready { IsReadyToPut writer.old }
+    ensures ready { IsReadyToPut writer.new }
+    ensures lent { KeepsLent writer.old writer.new }
+    ensures write { (F : Target) (rest : List TreeEvent) → Writes F (one_onto name (holding_with (T.given value.now) (T.parts value.now)) rest) (put_of writer.old)
+        → Writes F rest (put_of writer.new) }
+{
+    match put_three(writer, name, value) {
+        Some(()) => {}
+        None => put_record_parts(writer, name, value),
+    }
 }
 
 /// Puts one where it is there.

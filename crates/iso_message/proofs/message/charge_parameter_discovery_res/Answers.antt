@@ -1,7 +1,7 @@
 use Rattle.std.proofs.Common.{refl}
+use Rattle.std.proofs.lemmas.Result.{IfOk-weaker}
 use Rattle.iso_message.proofs.message.charge_parameter_discovery_res.Goals as goal
 
-pub returns-clause-read : goal.returns-clause-read
-returns-clause-read g c = λ F told h here.
-    let it = c.in_ok-member.ensures.read F _ _ _ told h here refl refl in
-    (_, refl, it.0, it.1)
+pub returns-in-Some-ChargeParameterDiscoveryRes-clause-read : goal.returns-in-Some-ChargeParameterDiscoveryRes-clause-read
+returns-in-Some-ChargeParameterDiscoveryRes-clause-read g c = λ F told h here.
+    IfOk-weaker c.member_here.result _ _ (λ _ it. (_, refl, it.0, it.1)) (c.member_here.ensures.read F _ _ _ told h here refl refl)

@@ -1,5 +1,20 @@
-use Rattle.std.proofs.Common.{refl}
+use Rattle.std.proofs.Common.{ap, subst, sym, refl, ◌∷◌}
+use Rattle.exi_events.specs.Trees.{EndElement}
+use Rattle.exi_events.specs.Writer.{draft_of}
+use Rattle.exi_events.proofs.Standings.{sound_stands}
+use Rattle.message_parts.specs.Writing.{Writes, put_of}
+use Rattle.message_parts.proofs.Putting.{one_at_once}
 use Rattle.message_parts.proofs.writer.put_end.Goals as goal
 
-pub returns-clause-write : goal.returns-clause-write
-returns-clause-write g c = λ F rest h. c.put_event.ensures.write F _ _ h refl
+pub returns-in-Some-clause-write : goal.returns-in-Some-clause-write
+returns-in-Some-clause-write g c = λ F rest h.
+    let old = c.args.writer.now in
+    let new = c.put_end.new.self in
+    let s = g.P.Places.schema old.places.now in
+    let p = c.put_end.ensures in
+    let is = c.in-Some.ensures in
+    one_at_once F rest s (g.P.Places.schema new.places.now) (draft_of old) (draft_of new) old.full new.full (ap g.P.Places.schema p.lent.places) (sound_stands s old.phase old.elements c.requires.ready.sound) is.open_still.0 is.open_still.1 EndElement is.put h
+
+pub returns-in-None-clause-write : goal.returns-in-None-clause-write
+returns-in-None-clause-write g c = λ F rest h.
+    c.put_alone.ensures.write F EndElement rest (subst (λ w. Writes F (EndElement ∷ rest) (put_of w)) (sym (c.put_end.ensures.none c.in-None.is)) h) refl

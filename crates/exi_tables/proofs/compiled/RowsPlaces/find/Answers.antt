@@ -15,14 +15,14 @@ overflow_cast-result g c =
 pub returns-then-is_sought-clause-offered : goal.returns-then-is_sought-clause-offered
 returns-then-is_sought-clause-offered g c =
     let less : c.loop-code.code < length c.row-row.result.now.steps.items = grind arith in
-    sym (ap Some c.index.ensures ∙ sym (slice_get-get_or c.row-row.result.now.steps.items c.loop-code.code c.index.result.now less)
+    sym (ap Some c.index-step.ensures ∙ sym (slice_get-get_or c.row-row.result.now.steps.items c.loop-code.code c.index-step.result.now less)
     ∙ ap (λ steps. slice_get steps c.loop-code.code) c.row-row.ensures.steps)
 
 pub returns-then-is_sought-clause-of_schema : goal.returns-then-is_sought-clause-of_schema
 returns-then-is_sought-clause-of_schema g c =
     let less : c.loop-code.code < length c.row-row.result.now.steps.items = grind arith in
-    offer_fits g.D.Declared.schema c.args.place c.loop-code.code c.index.result.now c.requires
-    (ap Some c.index.ensures ∙ sym (slice_get-get_or c.row-row.result.now.steps.items c.loop-code.code c.index.result.now less)
+    offer_fits g.D.Declared.schema c.args.place c.loop-code.code c.index-step.result.now c.requires
+    (ap Some c.index-step.ensures ∙ sym (slice_get-get_or c.row-row.result.now.steps.items c.loop-code.code c.index-step.result.now less)
     ∙ ap (λ steps. slice_get steps c.loop-code.code) c.row-row.ensures.steps)
 
 pub returns-then-is_sought-clause-few : goal.returns-then-is_sought-clause-few
@@ -31,8 +31,8 @@ returns-then-is_sought-clause-few g c = omega (arith, few_offers g.D.Declared.sc
 pub loop-code-preserved : goal.loop-code-preserved
 loop-code-preserved g c =
     let less : c.loop-code.code < length c.row-row.result.now.steps.items = grind arith in
-    later_still (offers g.D.Declared.schema.kinds c.args.place) c.args.sought c.loop-code.code c.index.result.now c.loop-code.invariant
-    (ap Some c.index.ensures ∙ sym (slice_get-get_or c.row-row.result.now.steps.items c.loop-code.code c.index.result.now less)
+    later_still (offers g.D.Declared.schema.kinds c.args.place) c.args.sought c.loop-code.code c.index-step.result.now c.loop-code.invariant
+    (ap Some c.index-step.ensures ∙ sym (slice_get-get_or c.row-row.result.now.steps.items c.loop-code.code c.index-step.result.now less)
     ∙ ap (λ steps. slice_get steps c.loop-code.code) c.row-row.ensures.steps)
     (λ meant. let is : IsTrue c.is_sought.result = c.is_sought.ensures.1 meant in absurd (search (rules, is, c.if-is_sought.false)))
 

@@ -1,5 +1,5 @@
 use Rattle.std.proofs.Common.{refl, []}
-use Rattle.iso_parts.proofs.Chosen.{only_last, mapped}
+use Rattle.message_parts.proofs.Chosen.{only_last, mapped}
 use Rattle.iso_schedules.specs.declared.schedules.TimeInterval.TheVariants as time_interval
 use Rattle.iso_schema.specs.declared.names.TheConstants.{RELATIVE_TIME_INTERVAL}
 use Rattle.iso_schema.specs.declared.kinds.TheConstants.{RELATIVE_TIME_INTERVAL_KIND}

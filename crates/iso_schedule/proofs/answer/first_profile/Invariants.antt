@@ -1,7 +1,0 @@
-use Rattle.std.proofs.Common.{take}
-use Rattle.std.specs.Prelude.{All}
-use Rattle.iso_schedule.specs.Answers.{Misses}
-use Rattle.iso_schedule.proofs.answer.first_profile.Given as goal
-
-abbrev pub invariant-loop-tuple : goal.invariant-loop-tuple
-invariant-loop-tuple l = All (Misses l.need) (take l.tuple-index l.tuples)

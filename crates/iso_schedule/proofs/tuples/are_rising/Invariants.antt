@@ -1,6 +1,0 @@
-use Rattle.std.proofs.Common.{◌≡◌, drop}
-use Rattle.iso_schedule.specs.Usable.{rises}
-use Rattle.iso_schedule.proofs.tuples.are_rising.Given as goal
-
-abbrev pub invariant-loop-step : goal.invariant-loop-step
-invariant-loop-step l = rises l.least l.end (drop l.step-index l.steps) ≡ rises 0 l.end l.steps

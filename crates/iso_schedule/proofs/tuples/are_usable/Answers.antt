@@ -1,5 +1,0 @@
-use Rattle.iso_schedule.proofs.Usable.{usable_iff}
-use Rattle.iso_schedule.proofs.tuples.are_usable.Goals as goal
-
-pub returns : goal.returns
-returns c = usable_iff _ _ c.all_usable.ensures

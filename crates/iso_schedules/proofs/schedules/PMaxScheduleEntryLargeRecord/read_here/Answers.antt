@@ -1,0 +1,5 @@
+use Rattle.iso_schedules.proofs.schedules.PMaxScheduleEntryLargeRecord.read_here.Goals as goal
+
+pub returns-clause-read : goal.returns-clause-read
+returns-clause-read g c = λ F told h.
+    c.in_ok-self.ensures.read F told h

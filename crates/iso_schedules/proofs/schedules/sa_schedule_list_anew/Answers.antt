@@ -1,0 +1,7 @@
+use Rattle.std.proofs.Common.{refl}
+use Rattle.iso_schedules.proofs.schedules.sa_schedule_list_anew.Goals as goal
+
+pub returns-clause-read : goal.returns-clause-read
+returns-clause-read g c = λ F told h here.
+    let it = c.in_ok-member_here.ensures.read F _ _ _ told h here refl refl in
+    (_, refl, it.0, it.1)

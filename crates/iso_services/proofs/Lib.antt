@@ -1,3 +1,0 @@
-mod Blank
-pub mod Choices
-mod OneOffer

@@ -1,7 +1,0 @@
-use Rattle.std.proofs.Common.{◌↔◌, map, drop}
-use Rattle.service_spec.specs.Services.{said_of, Fits}
-use Rattle.iso_services.specs.Offers.{said_in}
-use Rattle.iso_services.proofs.picking.are_met.Given as goal
-
-abbrev pub invariant-loop-pair : goal.invariant-loop-pair
-invariant-loop-pair l = Fits (map said_of l.want) (map said_in l.parameters) ↔ Fits (map said_of (drop l.pair-index l.want)) (map said_in l.parameters)

@@ -1,4 +1,0 @@
-use Rattle.iso_services.proofs.picking.fits.Goals as goal
-
-pub returns : goal.returns
-returns c = rw c.as_slice.ensures.value at c.are_met.ensures
