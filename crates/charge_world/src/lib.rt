@@ -6,7 +6,8 @@
 //!
 //! Proved: `Tenths::of` takes exactly 0 to 30,000 tenths. The fakes in memory keep the promises of `Wire`, `Source` and `Sink` (`Outside`),
 //! fail exactly the calls that they are told to (`Counts`), say what each call leaves, and tell what they keep exactly as long as it has
-//! the room that they were made with (`Spends`, `NotesHearing`, `SpendsBytes`).
+//! the room that they were made with (`Spends`, `NotesHearing`, `SpendsBytes`). `SureWire`, `SureSource` and `SureSink` are the same with no
+//! call that fails: each is done, and their counts of faults are the constant 0.
 #![tactic(auto)]
 
 pub mod entry;
@@ -23,6 +24,9 @@ pub mod outside;
 pub mod piece;
 pub mod ports;
 mod reserved;
+pub mod sure_sink;
+pub mod sure_source;
+pub mod sure_wire;
 
 pub use entry::Entry;
 pub use failed::{Failed, NoMemory};
@@ -35,3 +39,6 @@ pub use offer::{Dialect, Offer};
 pub use outside::{Sink, Source, Wire};
 pub use piece::Piece;
 pub use ports::{Order, PortPair, Ports};
+pub use sure_sink::SureSink;
+pub use sure_source::SureSource;
+pub use sure_wire::SureWire;

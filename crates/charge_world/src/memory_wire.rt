@@ -283,6 +283,7 @@ impl Wire for MemoryWire {
         ensures started { self.new.started ≡ self.old.started }
         ensures posts { self.new.posts ≡ self.old.posts }
         ensures faults { self.new.outages.faults ≡ self.old.outages.faults }
+        ensures outages { self.new.outages ≡ self.old.outages }
         ensures room { Notes self.old self.new 0 }
     {
         self.log.note(Note::Ended { post, cause }, &[]);
