@@ -1,0 +1,5 @@
+pub mod Drawn
+pub mod Generated
+pub mod Lines
+pub use Rattle.pipe_spec.specs.Counts
+pub use Rattle.pipe_spec.specs.Numbers

@@ -1,0 +1,11 @@
+pub mod Messages
+pub mod Station
+pub mod Car
+pub mod Pairs
+pub mod Runs
+pub mod Once
+pub mod Sessions
+pub mod Losing
+pub mod Shown
+pub mod StationPasts
+pub mod CarPasts

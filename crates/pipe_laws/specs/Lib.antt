@@ -1,0 +1,4 @@
+pub mod OneMessage
+pub mod Determined
+pub mod Losing
+pub mod PipePasts
