@@ -2,12 +2,12 @@
 
 ghost use Rattle.std.specs.Prelude.{◌≡◌, ℕ, List, [], ◌∷◌, true, false};
 ghost use Rattle.charge_world.specs.declared.entry.Entry.{Entry};
-ghost use Rattle.contactor.specs.Calls.{standing_heard};
 ghost use Rattle.post_spec.specs.Contactors.{feedback_in};
 ghost use Rattle.audit_contactors.specs.Values.{AreOf};
 ghost use Rattle.audit_contactors.specs.Changes.{at_first, heard_by, driven, feedback_at, behind};
 
 use charge_world::{Entry, Order, PlantEvent, What};
+use contactor::standing_behind;
 use session_words::Standing;
 
 /// What is kept of the contactor of a post.
@@ -27,18 +27,6 @@ pub struct ContactorValues {
     pub acted: bool,
     /// Open was ordered behind the last thing that was heard or lost, and behind the end of the post's session.
     pub ends_opened: bool,
-}
-
-/// How a contactor stands behind feedback.
-fn standing_behind(standing: Standing, closed: bool) -> Standing
-    ensures { result ≡ standing_heard standing closed }
-{
-    match (standing, closed) {
-        (Standing::Closing, true) => Standing::Closed,
-        (Standing::Opening, false) => Standing::Opened,
-        (Standing::Opened, true) => Standing::Opening,
-        _ => standing,
-    }
 }
 
 /// What an event of a charger says of its contactor.

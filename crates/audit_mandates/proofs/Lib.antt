@@ -4,3 +4,4 @@ pub mod Starting
 pub mod Steps
 pub mod Mandated
 pub mod Telling
+mod Currents

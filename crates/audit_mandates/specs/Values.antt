@@ -53,6 +53,10 @@ AreOf steps v =
     StandsSo steps v.arrived v.lives v.judged v.pilot v.judged_pilot v.isolation
     × TalksSo steps v.ac v.good v.preparation v.isolated v.off v.started
 
+-- and those of a post that gives this kind of current
+abbrev pub StayOf : Bool → List ToldStep → MandateValues → Type 0
+StayOf ac steps v = AreOf steps v × (v.ac ≡ ac)
+
 abbrev pub at_first : Bool → MandateValues
 at_first ac = record {
   ac = ac;

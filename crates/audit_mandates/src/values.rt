@@ -243,7 +243,7 @@ impl MandateValues {
     /// Behind a hearing, for the post of this number.
     pub fn heard(self, post: u8, what: &What) -> MandateValues
         ensures { (steps : List ToldStep) (at : ℕ) (bytes : List ℕ) → values.AreOf steps self
-            → values.AreOf (Hears at (event_at post what.now bytes) ∷ steps) result }
+            → values.StayOf self.ac (Hears at (event_at post what.now bytes) ∷ steps) result }
     {
         self.then(post, what)
     }
@@ -269,6 +269,7 @@ impl MandateValues {
             → values.AreOf (Does reading (Give given) taken ∷ steps) result }
         ensures datagram { (steps : List ToldStep) (reading : Option Reading) (bytes : List ℕ) (taken : Bool) → judged ≡ is_some reading → values.AreOf steps self
             → values.AreOf (Does reading (Answer bytes) taken ∷ steps) result }
+        ensures current { result.ac ≡ self.ac }
     {
         self.judging(judged)
     }
@@ -369,7 +370,7 @@ impl MandateValues {
         positive: bool,
     ) -> MandateValues
         ensures { (steps : List ToldStep) (reading : Option Reading) (bytes : List ℕ) (taken : Bool) → judged ≡ is_some reading → values.AreOf steps self
-            → values.AreOf (Sends reading bytes taken (Response chosen positive) ∷ steps) result }
+            → values.StayOf self.ac (Sends reading bytes taken (Response chosen positive) ∷ steps) result }
     {
         self.sent(judged).responded(matched(chosen, positive))
     }
@@ -377,7 +378,7 @@ impl MandateValues {
     /// Behind a reply to a request.
     pub fn sent_reply(self, judged: bool, request: &Request, reply: &Reply) -> MandateValues
         ensures { (steps : List ToldStep) (reading : Option Reading) (bytes : List ℕ) (taken : Bool) (watts : SpelledWatts) → judged ≡ is_some reading
-            → values.AreOf steps self → values.AreOf (Sends reading bytes taken (Replied request.now reply.now watts) ∷ steps) result }
+            → values.AreOf steps self → values.StayOf self.ac (Sends reading bytes taken (Replied request.now reply.now watts) ∷ steps) result }
     {
         self.sent(judged).replied(request, reply)
     }
@@ -385,7 +386,7 @@ impl MandateValues {
     /// Behind something else that was sent in place of an answer.
     pub fn sent_other(self, judged: bool) -> MandateValues
         ensures { (steps : List ToldStep) (reading : Option Reading) (bytes : List ℕ) (taken : Bool) → judged ≡ is_some reading → values.AreOf steps self
-            → values.AreOf (Sends reading bytes taken Other ∷ steps) result }
+            → values.StayOf self.ac (Sends reading bytes taken Other ∷ steps) result }
     {
         self.sent(judged).responded(None)
     }
@@ -393,7 +394,7 @@ impl MandateValues {
     /// Behind something that was sent while no word was without an answer.
     pub fn sent_unasked(self, judged: bool) -> MandateValues
         ensures { (steps : List ToldStep) (reading : Option Reading) (bytes : List ℕ) (taken : Bool) → judged ≡ is_some reading → values.AreOf steps self
-            → values.AreOf (Sends reading bytes taken Unasked ∷ steps) result }
+            → values.StayOf self.ac (Sends reading bytes taken Unasked ∷ steps) result }
     {
         self.sent(judged).unasked()
     }

@@ -1,6 +1,9 @@
 //! What is judged of a request.
 
-ghost use Rattle.std.specs.Prelude.{◌≡◌, ◌≤◌, None, false};
+ghost use Rattle.std.specs.Prelude.{◌≡◌, ◌≤◌, None, true, false};
+ghost use Rattle.session_words.specs.declared.plan.PostPlan.{PostPlan};
+ghost use Rattle.session_words.specs.declared.word.Request.{Request};
+ghost use Rattle.audit_rows.specs.declared.judging.PostValues.{PostValues};
 ghost use Rattle.session_words.specs.declared.phase.Phase.{Phase};
 ghost use Rattle.session_rules.specs.Finishing as finishing;
 ghost use Rattle.session_rules.specs.Lines.{first_line};
@@ -9,6 +12,7 @@ ghost use Rattle.session_rules.specs.Stages as stages;
 ghost use Rattle.session_rules.specs.Verdict as rule;
 ghost use Rattle.session_words.specs.declared.phase.Phase.TheVariants as row;
 ghost use Rattle.audit_rows.specs.Rows.{number_of};
+ghost use Rattle.session_rules.specs.Moves.{next_row};
 ghost use Rattle.audit_rows.specs.Values.{stage_of, IsJudged};
 
 use crate::codes::{cable_code, delivery_code, parameters_code, pre_charge_code, selection_code};
@@ -159,8 +163,8 @@ fn code_of(values: &PostValues, row: Phase, taken: bool, plan: &PostPlan, reques
     }
 }
 
-/// The same in a row.
-fn judge_in(row: Phase, values: &PostValues, plan: &PostPlan, request: &Request) -> Judged
+/// The same in any row, whatever the values say of it.
+pub fn judge_in(row: Phase, values: &PostValues, plan: &PostPlan, request: &Request) -> Judged
     ensures { IsJudged row values.now plan.now request.now result }
 {
     let lead = lead_in(row, values.dialect, &request.ask, is_ac(plan.mode));
@@ -170,4 +174,18 @@ fn judge_in(row: Phase, values: &PostValues, plan: &PostPlan, request: &Request)
         _ => 0,
     };
     Judged { code, next }
+}
+
+impl Judged {
+    /// The row behind an accepted request that was judged in this one. Where the session ends, it stays.
+    pub fn row_behind(&self, row: Phase) -> Phase
+        ensures { (values : PostValues) (plan : PostPlan) (request : Request) → IsJudged row values plan request self.now → rule.is_accepted self.now.code ≡ true
+            → result ≡ next_row (stage_of row values) values.facts plan request.ask values.shown }
+    {
+        if self.next == 0 {
+            row
+        } else {
+            row_of(self.next)
+        }
+    }
 }

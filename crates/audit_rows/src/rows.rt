@@ -3,7 +3,7 @@
 ghost use Rattle.std.specs.Prelude.{◌≡◌, ◌≤◌, Bool, true, Some, IfSome, is_some, unwrap_or};
 ghost use Rattle.session_rules.specs.Rows.{leads};
 ghost use Rattle.session_rules.specs.Rows as rule;
-ghost use Rattle.audit_rows.specs.Rows.{number_of, number_behind, led};
+ghost use Rattle.audit_rows.specs.Rows.{number_of, number_behind, row_numbered, led};
 
 use charge_world::Dialect;
 use session_words::{Ask, Phase, Progress};
@@ -171,11 +171,10 @@ pub(crate) fn is_spoken(dialect: Dialect, ask: &Ask) -> bool
     }
 }
 
-/// The row of a number.
+/// The row of a number. One that no row has counts as the last.
 pub(crate) fn row_of(number: u8) -> Phase
-    requires some { 1 ≤ number }
-    requires most { number ≤ 16 }
-    ensures { number_of result ≡ number }
+    ensures value { result ≡ row_numbered number }
+    ensures number { 1 ≤ number → number ≤ 16 → number_of result ≡ number }
 {
     match number {
         1 => Phase::Connected,

@@ -1,0 +1,3 @@
+mod Telling
+mod Stepping
+pub mod Causing

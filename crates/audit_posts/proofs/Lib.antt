@@ -1,0 +1,2 @@
+mod Posts
+mod Behind
