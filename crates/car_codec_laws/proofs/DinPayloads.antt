@@ -9,7 +9,7 @@ use Rattle.session_words.specs.declared.word.Word.{Word}
 use Rattle.session_words.specs.declared.word.Word.TheVariants as word
 use Rattle.din_schema.specs.Declarations.{schema}
 use Rattle.din_message.specs.Documents.{din_tree}
-use Rattle.codec_laws.proofs.DinWords.{reads_as_written}
+use Rattle.site_codec_laws.proofs.DinWords.{reads_as_written}
 use Rattle.din_requests.proofs.Trees.{requests_have_one_tree}
 use Rattle.car_codec_rules.specs.CodecDin.{Reads}
 use Rattle.car_spec.specs.Spelled.{read_back}

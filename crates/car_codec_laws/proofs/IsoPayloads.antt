@@ -9,7 +9,7 @@ use Rattle.session_words.specs.declared.word.Word.{Word}
 use Rattle.session_words.specs.declared.word.Word.TheVariants as word
 use Rattle.iso_schema.specs.Declarations.{schema}
 use Rattle.iso_message.specs.Documents.{iso_tree}
-use Rattle.codec_laws.proofs.Words.{reads_as_written}
+use Rattle.site_codec_laws.proofs.Words.{reads_as_written}
 use Rattle.iso_requests.proofs.Trees.{requests_have_one_tree}
 use Rattle.car_codec_rules.specs.CodecIso.{Reads}
 use Rattle.car_spec.specs.Spelled.{read_back}

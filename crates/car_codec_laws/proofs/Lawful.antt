@@ -4,7 +4,7 @@ use Rattle.charge_world.specs.declared.offer.Dialect.{Dialect}
 use Rattle.charge_world.specs.declared.offer.Dialect.TheVariants as dialect
 use Rattle.session_words.specs.declared.word.Request.{Request}
 use Rattle.car_codec_rules.specs.CodecCodecs.{Reads}
-use Rattle.codec_laws.proofs.Lawful as station
+use Rattle.site_codec_laws.proofs.Lawful as station
 use Rattle.car_spec.specs.Codecs.{codecs}
 use Rattle.car_spec.specs.Spelled.{ReadsBack, AreDetermined}
 use Rattle.car_codec_rules.specs.Codecs.{Encodes}

@@ -5,7 +5,7 @@ use Rattle.app_documents.specs.Trees.{Offered, Request}
 use Rattle.app_protocol.specs.declared.message.AppCode.TheVariants.{Failed}
 use Rattle.app_protocol.specs.Documents.{IsApp}
 use Rattle.app_protocol.specs.Messages.{ordinal_of}
-use Rattle.codec_rules.specs.Negotiating.{IsResponse, IsNone}
+use Rattle.site_codec_rules.specs.Negotiating.{IsResponse, IsNone}
 use Rattle.car_spec.specs.Codecs.{Judged, Chosen, Told, WrongSide, Refused}
 
 -- the dialect whose entry has this SchemaID, where the first of them has the one of its place

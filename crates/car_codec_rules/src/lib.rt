@@ -13,4 +13,4 @@ pub fn asked_requests()
     ensures no_profile { AskedHaveNoProfile }
 {}
 
-pub use codec_rules;
+pub use site_codec_rules;

@@ -11,7 +11,7 @@ use crate::typed::law_of_types;
 use crate::{din, iso};
 use car_codec::{CarCodec, LawfulCarCodec, REQUEST_ROOM};
 use car_codec_laws::car_codec_rules::asked_requests;
-use car_codec_laws::car_codec_rules::codec_rules::read_word;
+use car_codec_laws::car_codec_rules::site_codec_rules::read_word;
 use car_spec::CarCoded;
 use charge_world::{Dialect, NoMemory};
 use din_codec::DinTables;

@@ -1,11 +1,12 @@
 //! The command.
 
-ghost use Rattle.std.specs.Prelude.{◌≡◌, ◌<◌, ◌⊎◌, ℕ, List};
+ghost use Rattle.std.specs.Prelude.{◌≡◌, ◌<◌, ◌⊎◌, ℕ, List, [], ◌∷◌};
 ghost use Rattle.session_words.specs.declared.plan.CarPlan.{CarPlan};
 ghost use Rattle.car_spec.specs.Codecs.{codecs};
 ghost use Rattle.plan_files.specs.Plans.{IsCarPlanIn};
 ghost use Rattle.command_status.specs.FaultLines.{Tells, source_line};
 ghost use Rattle.command_status.specs.Told.{sink_told};
+ghost use Rattle.command_status.specs.Completeness.{Completes};
 ghost use Rattle.station_command.specs.Served.{wire_told, IsBegun, IsUnbegun};
 ghost use Rattle.car_command.specs.Driven.{Drives};
 ghost use Rattle.car_command.specs.Refused.{IsRefused};
@@ -54,6 +55,9 @@ pub fn car<C: CarCodec + Drop, F: Source, K: Sink, J: Sink, W: Wire>(
     ensures wire_fault { result ≡ Status.WireFault → W.faults wire.old < W.faults wire.new }
     ensures sink_fault { result ≡ Status.SinkFault → (K.faults out.old < K.faults out.new) ⊎ (J.faults trace.old < J.faults trace.new) }
     ensures trace_fault { J.faults trace.old < J.faults trace.new → result ≡ Status.SinkFault }
+
+    // Where no call failed, the car was driven to its end or through its turns, or the plan is refused, but for want of memory.
+    ensures complete { Completes ((F.faults files.old, F.faults files.new) ∷ (K.faults out.old, K.faults out.new) ∷ (J.faults trace.old, J.faults trace.new) ∷ (W.faults wire.old, W.faults wire.new) ∷ []) (Status.TurnsSpent ∷ Status.Plan ∷ []) result }
 {
     match car_plan_in(alloc, files, name) {
         Ok(plan) => drive_plan(alloc, codec, &plan, out, trace, wire),

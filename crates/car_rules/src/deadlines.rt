@@ -121,7 +121,7 @@ fn step_due(stage: &Option<CarStage>, begun: u64) -> Option<CarDue>
 }
 
 /// The cause of a deadline that is reached, else the cause of those behind it.
-pub(crate) fn hit_by(due: Option<CarDue>, now: u64, later: Option<EndCause>) -> Option<EndCause>
+pub fn hit_by(due: Option<CarDue>, now: u64, later: Option<EndCause>) -> Option<EndCause>
     ensures { result ≡ rule.hit_by due now later }
 {
     match due {

@@ -14,7 +14,7 @@ pub mod requests;
 pub mod searching;
 pub mod stage;
 
-pub use deadlines::{CarDue, CarMoments, due_at, hit, is_reached, moment_of, next_due};
+pub use deadlines::{CarDue, CarMoments, due_at, hit, hit_by, is_reached, moment_of, next_due};
 pub use moves::{is_again, is_pre_charged, order_of, says_finished, stage_behind};
 pub use replies::{answers, plant_cause, reply_cause};
 pub use requests::{ask_of, pauses, request_of};

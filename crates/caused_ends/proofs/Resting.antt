@@ -28,7 +28,7 @@ use Rattle.station_spec.specs.Deciding.{opening_if}
 use Rattle.station_spec.specs.Judging.{order_by}
 use Rattle.read_runs.specs.Facts.{newest_event}
 use Rattle.read_sessions.proofs.Starts.{starts, closes_waiting}
-use Rattle.opened_causes.specs.Causing.{WasAsked}
+use Rattle.coming_causes_open.specs.Causing.{WasAsked}
 use Rattle.read_agendas.specs.Rows.{again, word_asks}
 use Rattle.read_agendas.specs.Left.{Left, row, left}
 use Rattle.caused_ends.specs.Applying.{unmatched_by, unmatched_in, done_cause, is_repeat, is_owed, judges_heard, lateness, telling, reads_on, IsWordsTurn, OfCall, OfDeadline, OfHearing, OfFrame, OfPayload}

@@ -11,7 +11,7 @@ use Rattle.post_spec.specs.Spelled.{AreDetermined}
 use Rattle.post_spec.specs.Steps.{Act, Give, Reading, Step, Hears, Does, seen_of}
 use Rattle.station_spec.specs.Sharing.{Post}
 use Rattle.station_spec.specs.Runs.{IsRun}
-use Rattle.opened_causes.specs.Causing.{WasAsked, IsOpening}
+use Rattle.coming_causes_open.specs.Causing.{WasAsked, IsOpening}
 use Rattle.caused_ends.specs.Applying.{is_owed, Applies}
 use Rattle.caused_ends.specs.Ending.{HasCome, FirstCause}
 

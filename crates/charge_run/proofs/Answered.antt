@@ -7,9 +7,9 @@ use Rattle.charge_run.specs.Runs.{Answers, Decodes, IsDecodedLine, IsDecodeFault
 use Rattle.command_status.specs.declared.status.Status.{Status}
 use Rattle.command_status.specs.declared.status.Status.TheVariants as status
 use Rattle.command_status.specs.Told.{SinkTold, file_told}
-use Rattle.offer_command.specs.Offering.{OfferLeaves}
-use Rattle.service_commands.specs.Detailing.{ServicesLeave}
-use Rattle.service_commands.specs.Picking.{PickLeaves, WantsNothing}
+use Rattle.file_commands.specs.Offering.{OfferLeaves}
+use Rattle.payload_commands.specs.Detailing.{ServicesLeave}
+use Rattle.payload_commands.specs.Picking.{PickLeaves, WantsNothing}
 
 -- a text that is refused gives no line
 no_line : (dialect : MessageDialect) (hex line : List ℕ) (place : ℕ) → IsDecodedLine dialect hex line → IsDecodeFault dialect hex place → ⊥

@@ -3,3 +3,4 @@ pub use Rattle.replay_command.specs.Served
 pub mod Runs
 pub mod Stations
 pub mod Cars
+pub mod Completing

@@ -3,8 +3,8 @@ use Rattle.std.specs.Prelude.{◌≡◌, ◌⊎◌, ℕ, List, ◌++◌, Option,
 use Rattle.std.specs.Str.{chars}
 use Rattle.charge_world.specs.Outside.{Appends, AppendsSome}
 use Rattle.exi_documents.specs.declared.refusal.RefusalCause.{RefusalCause}
-use Rattle.charge_codecs.specs.Negotiating.{Negotiates}
-use Rattle.charge_codecs.specs.Codecs as rules
+use Rattle.site_codecs.specs.Negotiating.{Negotiates}
+use Rattle.site_codecs.specs.Codecs as rules
 use Rattle.post_spec.specs.Codecs.{Codecs, codecs}
 use Rattle.car_codecs.specs.Codecs as car_rules
 use Rattle.car_codecs.specs.Offering.{Offers}
@@ -16,7 +16,7 @@ use Rattle.command_status.specs.declared.status.Status.{Status}
 use Rattle.command_status.specs.declared.status.Status.TheVariants as status
 use Rattle.command_status.specs.FaultLines.{Tells, input_line}
 use Rattle.command_words.specs.Command.{IsBasic, IsCar, IsMigrate, IsOffer, IsPick, IsReplay, IsSchedule, IsServices, IsStation}
-use Rattle.service_commands.specs.Picking.{WantsNothing as SpellsNothing}
+use Rattle.payload_commands.specs.Picking.{WantsNothing as SpellsNothing}
 use Rattle.hex_payloads.specs.HexText.{hex_fault, IsHexOf}
 use Rattle.hex_payloads.specs.declared.hex_text.HexFault.{HexFault}
 use Rattle.hex_payloads.specs.declared.hex_text.HexFault.TheVariants as hex
@@ -25,8 +25,8 @@ use Rattle.charge_run.specs.declared.fault.InputFault.{InputFault}
 use Rattle.charge_run.specs.declared.fault.InputFault.TheVariants.{Place, Memory}
 
 -- the codecs of the program's station
-abbrev pub charge_codecs : Codecs
-charge_codecs = codecs Negotiates rules.Reads rules.Encodes
+abbrev pub site_codecs : Codecs
+site_codecs = codecs Negotiates rules.Reads rules.Encodes
 
 -- those of its car
 abbrev pub car_codecs : cars.Codecs

@@ -1,6 +1,7 @@
 //! The command that prints the tree text of a payload.
 
-ghost use Rattle.std.specs.Prelude.{◌≡◌, ◌<◌, IfOk, IfErr};
+ghost use Rattle.std.specs.Prelude.{◌≡◌, ◌<◌, IfOk, IfErr, [], ◌∷◌};
+ghost use Rattle.command_status.specs.Completeness.{Completes};
 ghost use Rattle.std.specs.String.{string_bytes};
 ghost use Rattle.charge_run.specs.Runs.{Decodes, IsDecodedLine, IsDecodeFault, HasFault};
 
@@ -24,6 +25,7 @@ pub(crate) fn decode<K: Sink>(
     ensures leaves { Decodes dialect hex.now result (K.taken out.old) (K.taken out.new) (K.faults out.old) (K.faults out.new) }
     ensures no_memory { result ≡ Status.NoMemory → K.faults out.new ≡ K.faults out.old }
     ensures sink_fault { result ≡ Status.SinkFault → K.faults out.old < K.faults out.new }
+    ensures complete { Completes ((K.faults out.old, K.faults out.new) ∷ []) (Status.Input ∷ []) result }
 {
     match line_of(alloc, dialect, hex) {
         Ok(line) => print_line(out, line.as_str()),

@@ -1,6 +1,7 @@
 //! The command that drives a car.
 
-ghost use Rattle.std.specs.Prelude.{◌≡◌, ◌<◌, ◌⊎◌, ℕ, List};
+ghost use Rattle.std.specs.Prelude.{◌≡◌, ◌<◌, ◌⊎◌, ℕ, List, [], ◌∷◌};
+ghost use Rattle.command_status.specs.Completeness.{Completes};
 ghost use Rattle.replay_command.specs.Served.{wire_told, IsBegun, IsUnbegun};
 ghost use Rattle.command_status.specs.Told.{file_told, sink_told};
 ghost use Rattle.charge_run.specs.Runs.{car_codecs};
@@ -31,6 +32,7 @@ pub(crate) fn drive<F: Source, K: Sink, J: Sink, W: Wire>(
     ensures wire_fault { result ≡ Status.WireFault → W.faults wire.old < W.faults wire.new }
     ensures sink_fault { result ≡ Status.SinkFault → (K.faults out.old < K.faults out.new) ⊎ (J.faults trace.old < J.faults trace.new) }
     ensures trace_fault { J.faults trace.old < J.faults trace.new → result ≡ Status.SinkFault }
+    ensures complete { Completes ((F.faults files.old, F.faults files.new) ∷ (K.faults out.old, K.faults out.new) ∷ (J.faults trace.old, J.faults trace.new) ∷ (W.faults wire.old, W.faults wire.new) ∷ []) (Status.TurnsSpent ∷ Status.Plan ∷ []) result }
 {
     match CarCodecs::make(alloc) {
         Ok(codec) => car(alloc, codec, name, files, out, trace, wire),

@@ -1,6 +1,7 @@
 //! The command that prints the payload of a tree text.
 
-ghost use Rattle.std.specs.Prelude.{◌≡◌, ◌<◌, IfOk, IfErr};
+ghost use Rattle.std.specs.Prelude.{◌≡◌, ◌<◌, IfOk, IfErr, [], ◌∷◌};
+ghost use Rattle.command_status.specs.Completeness.{Completes};
 ghost use Rattle.std.specs.String.{string_bytes};
 ghost use Rattle.message_trees.specs.Texts.{IsUnscanned};
 ghost use Rattle.charge_run.specs.Runs.{Encodes, IsEncodedLine, HasFault};
@@ -26,6 +27,7 @@ pub(crate) fn encode<K: Sink>(
     ensures leaves { Encodes dialect text.now result (K.taken out.old) (K.taken out.new) (K.faults out.old) (K.faults out.new) }
     ensures no_memory { result ≡ Status.NoMemory → K.faults out.new ≡ K.faults out.old }
     ensures sink_fault { result ≡ Status.SinkFault → K.faults out.old < K.faults out.new }
+    ensures complete { Completes ((K.faults out.old, K.faults out.new) ∷ []) (Status.Input ∷ []) result }
 {
     match line_of(alloc, dialect, text) {
         Ok(line) => print_line(out, line.as_str()),

@@ -1,16 +1,17 @@
 //! The command that replays a trace.
 
-ghost use Rattle.std.specs.Prelude.{◌≡◌, ◌<◌, ◌⊎◌, ℕ, List};
+ghost use Rattle.std.specs.Prelude.{◌≡◌, ◌<◌, ◌⊎◌, ℕ, List, [], ◌∷◌};
+ghost use Rattle.command_status.specs.Completeness.{Completes};
 ghost use Rattle.replay_command.specs.Served.{IsUnbegun};
 ghost use Rattle.replay_command.specs.Files.{files_told};
 ghost use Rattle.replay_command.specs.Replays.{ReplayLeaves};
 ghost use Rattle.command_status.specs.Told.{sink_told, TellsAlways};
-ghost use Rattle.charge_run.specs.Runs.{charge_codecs};
+ghost use Rattle.charge_run.specs.Runs.{site_codecs};
 
-use charge_codecs::ChargeCodecs;
 use charge_world::{Sink, Source};
 use command_status::Status;
 use replay_command::replay;
+use site_codecs::ChargeCodecs;
 use std::alloc::Global;
 
 /// Replays the trace in the file of one name at a station by the plan in that of another, which talks with its cars in the negotiation,
@@ -23,7 +24,7 @@ pub(crate) fn replay_trace<F: Source, K: Sink, J: Sink>(
     out: &mut K,
     trace: &mut J,
 ) -> Status
-    ensures leaves { ReplayLeaves charge_codecs (TellsAlways F.left) result
+    ensures leaves { ReplayLeaves site_codecs (TellsAlways F.left) result
         (files_told (F.holds files.old plan.now) (F.holds files.old recorded.now) (F.faults files.old) (F.faults files.new))
         (sink_told (J.taken trace.old) (J.faults trace.old)) (sink_told (J.taken trace.new) (J.faults trace.new))
         (sink_told (K.taken out.old) (K.faults out.old)) (sink_told (K.taken out.new) (K.faults out.new)) }
@@ -32,6 +33,7 @@ pub(crate) fn replay_trace<F: Source, K: Sink, J: Sink>(
     ensures holds { (other : List ℕ) → F.holds files.new other ≡ F.holds files.old other }
     ensures sink_fault { result ≡ Status.SinkFault → (K.faults out.old < K.faults out.new) ⊎ (J.faults trace.old < J.faults trace.new) }
     ensures trace_fault { J.faults trace.old < J.faults trace.new → result ≡ Status.SinkFault }
+    ensures complete { Completes ((F.faults files.old, F.faults files.new) ∷ (K.faults out.old, K.faults out.new) ∷ (J.faults trace.old, J.faults trace.new) ∷ []) (Status.Plan ∷ Status.Input ∷ []) result }
 {
     match ChargeCodecs::make(alloc) {
         Ok(codec) => replay(alloc, codec, plan, recorded, files, out, trace),

@@ -1,15 +1,16 @@
 //! The command that serves a station.
 
-ghost use Rattle.std.specs.Prelude.{◌≡◌, ◌<◌, ◌⊎◌, ℕ, List};
+ghost use Rattle.std.specs.Prelude.{◌≡◌, ◌<◌, ◌⊎◌, ℕ, List, [], ◌∷◌};
+ghost use Rattle.command_status.specs.Completeness.{Completes};
 ghost use Rattle.replay_command.specs.Served.{wire_told, IsBegun, IsUnbegun};
 ghost use Rattle.command_status.specs.Told.{file_told, sink_told};
-ghost use Rattle.charge_run.specs.Runs.{charge_codecs};
+ghost use Rattle.charge_run.specs.Runs.{site_codecs};
 ghost use Rattle.charge_run.specs.Stations.{StationLeaves};
 
-use charge_codecs::ChargeCodecs;
 use charge_world::{Sink, Source, Wire};
 use command_status::Status;
 use replay_command::station_command::station;
+use site_codecs::ChargeCodecs;
 use std::alloc::Global;
 
 /// Serves a station by the plan in the file of that name, which talks with its cars in the negotiation, ISO 15118-2 and DIN SPEC 70121.
@@ -21,7 +22,7 @@ pub(crate) fn serve<F: Source, K: Sink, J: Sink, W: Wire>(
     trace: &mut J,
     wire: &mut W,
 ) -> Status
-    ensures leaves { StationLeaves charge_codecs result (file_told (F.holds files.old name.now) (F.left files.new) (F.faults files.old) (F.faults files.new))
+    ensures leaves { StationLeaves site_codecs result (file_told (F.holds files.old name.now) (F.left files.new) (F.faults files.old) (F.faults files.new))
         (wire_told (W.past wire.old) (W.untils wire.old) (W.started wire.old)) (wire_told (W.past wire.new) (W.untils wire.new) (W.started wire.new))
         (J.taken trace.old) (J.taken trace.new) (sink_told (K.taken out.old) (K.faults out.old)) (sink_told (K.taken out.new) (K.faults out.new)) }
     ensures status { IsBegun result ⊎ IsUnbegun result }
@@ -31,6 +32,7 @@ pub(crate) fn serve<F: Source, K: Sink, J: Sink, W: Wire>(
     ensures wire_fault { result ≡ Status.WireFault → W.faults wire.old < W.faults wire.new }
     ensures sink_fault { result ≡ Status.SinkFault → (K.faults out.old < K.faults out.new) ⊎ (J.faults trace.old < J.faults trace.new) }
     ensures trace_fault { J.faults trace.old < J.faults trace.new → result ≡ Status.SinkFault }
+    ensures complete { Completes ((F.faults files.old, F.faults files.new) ∷ (K.faults out.old, K.faults out.new) ∷ (J.faults trace.old, J.faults trace.new) ∷ (W.faults wire.old, W.faults wire.new) ∷ []) (Status.TurnsSpent ∷ Status.Plan ∷ []) result }
 {
     match ChargeCodecs::make(alloc) {
         Ok(codec) => station(alloc, codec, name, files, out, trace, wire),

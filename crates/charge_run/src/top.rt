@@ -1,38 +1,38 @@
 //! The top call.
 
-ghost use Rattle.std.specs.Prelude.{◌≡◌, ◌<◌, ◌⊎◌, ℕ, List};
+ghost use Rattle.std.specs.Prelude.{◌≡◌, ◌<◌, ◌⊎◌, ℕ, List, [], ◌∷◌};
 ghost use Rattle.message_dialects.specs.declared.dialect.MessageDialect.{MessageDialect as OfDialect};
 ghost use Rattle.message_trees.specs.Texts.{IsUnscanned};
 ghost use Rattle.command_words.specs.Command.{IsNoCommand, IsStation, IsCar, IsReplay, IsDecode, IsEncode, IsBasic, IsMigrate, IsOffer, IsSchedule, IsServices, IsPick};
+ghost use Rattle.command_status.specs.Completeness.{NoneRose};
 ghost use Rattle.command_status.specs.FaultLines.{Tells, words_line};
 ghost use Rattle.command_status.specs.Told.{file_told, sink_told, TellsAlways};
 ghost use Rattle.replay_command.specs.Served.{wire_told, IsUnbegun};
 ghost use Rattle.replay_command.specs.Files.{files_told};
 ghost use Rattle.replay_command.specs.Replays.{ReplayLeaves};
 ghost use Rattle.charge_run.specs.Cars.{CarLeaves};
-ghost use Rattle.basic_command.specs.Basics.{BasicLeaves};
+ghost use Rattle.file_commands.specs.Basics.{BasicLeaves};
 ghost use Rattle.migrate_command.specs.Leaving.{MigrateLeaves};
-ghost use Rattle.offer_command.specs.Offering.{OfferLeaves};
-ghost use Rattle.schedule_command.specs.Scheduling.{ScheduleLeaves};
-ghost use Rattle.service_commands.specs.Detailing.{ServicesLeave};
-ghost use Rattle.service_commands.specs.Picking.{PickLeaves};
+ghost use Rattle.file_commands.specs.Offering.{OfferLeaves};
+ghost use Rattle.payload_commands.specs.Scheduling.{ScheduleLeaves};
+ghost use Rattle.payload_commands.specs.Detailing.{ServicesLeave};
+ghost use Rattle.payload_commands.specs.Picking.{PickLeaves};
 ghost use Rattle.migrate_command.specs.Lines.{sink_change};
-ghost use Rattle.charge_run.specs.Runs.{charge_codecs, car_codecs, UsesWire, IsSomeReplay, IsSomeBasic, IsSomeMigrate, IsSomeSchedule, IsSomePick, WantsNothing, ReadsFiles, ReadsPlan, WritesTrace, Decodes, IsDecodeFault, Encodes};
+ghost use Rattle.charge_run.specs.Runs.{site_codecs, car_codecs, UsesWire, IsSomeReplay, IsSomeBasic, IsSomeMigrate, IsSomeSchedule, IsSomePick, WantsNothing, ReadsFiles, ReadsPlan, WritesTrace, Decodes, IsDecodeFault, Encodes};
 ghost use Rattle.charge_run.specs.Stations.{StationLeaves};
+ghost use Rattle.charge_run.specs.Completing.{IsUnfailed};
 
 use crate::decode::decode;
 use crate::driving::drive;
 use crate::encode::encode;
 use crate::replaying::replay_trace;
 use crate::serving::serve;
-use basic_command::basic;
 use charge_world::{Sink, Source, Wire};
 use command_status::{Status, tell_fault};
 use command_words::{Command, WordList, WordsFault, read_words};
+use file_commands::{basic, offer};
 use migrate_command::migrate;
-use offer_command::offer;
-use schedule_command::schedule;
-use service_commands::{pick, services};
+use payload_commands::{pick, schedule, services};
 use std::alloc::Global;
 
 /// Does all that the program does. The words are one command:
@@ -61,7 +61,7 @@ use std::alloc::Global;
 ///
 /// `station`: where the wire tells its past, and was lent with an empty one, that is a run of the site by the plan of the file, and the
 /// status is the one that the past has: `Done` where Over was heard, `TurnsSpent` behind the plan's last turn, `WireFault` where a hearing
-/// was lost or the wire did not start. That past is lawful (`IsLawful` of `lawful_sites`): a contactor is closed only as mandated and opened
+/// was lost or the wire did not start. That past is lawful (`IsLawful` of `site_laws`): a contactor is closed only as mandated and opened
 /// by what ends its session, the watts stay within the limit at every moment, a car that conforms is served, and no post depends on another but by the
 /// watts that it is shown. The trace is the text of that past. Before the wire is started come `NoMemory`, `SourceFault` where the file can't be read, and `Plan`
 /// where it is no plan.
@@ -80,7 +80,7 @@ use std::alloc::Global;
 /// text. Neither uses a file, the trace or the wire.
 ///
 /// `basic`: `Done` where the lines were written, which are those of a run of the machine over the script's events, whose contactor is closed
-/// for ready vehicles alone (`IsCharged` of `basic_command`). Before that come `NoMemory`, `SourceFault` where the file can't be read, and
+/// for ready vehicles alone (`IsCharged` of `file_commands`). Before that come `NoMemory`, `SourceFault` where the file can't be read, and
 /// `Input` where it is no script. The trace and the wire stay as they were.
 ///
 /// `migrate`: `Done` where the text of the file's entries in format 2 was written as the trace, and the line. Before that come `NoMemory`,
@@ -114,7 +114,7 @@ pub fn run<F: Source, K: Sink, J: Sink, W: Wire>(
 
     // `station`: the past, the trace, the ports and the lines are those of the plan in the file, or its fault is told.
     ensures station { (name : List ℕ) → IsStation words.now name
-        → StationLeaves charge_codecs result (file_told (F.holds files.old name) (F.left files.new) (F.faults files.old) (F.faults files.new))
+        → StationLeaves site_codecs result (file_told (F.holds files.old name) (F.left files.new) (F.faults files.old) (F.faults files.new))
         (wire_told (W.past wire.old) (W.untils wire.old) (W.started wire.old)) (wire_told (W.past wire.new) (W.untils wire.new) (W.started wire.new))
         (J.taken trace.old) (J.taken trace.new) (sink_told (K.taken out.old) (K.faults out.old)) (sink_told (K.taken out.new) (K.faults out.new)) }
 
@@ -126,7 +126,7 @@ pub fn run<F: Source, K: Sink, J: Sink, W: Wire>(
 
     // `replay`: the trace is written anew as the plan and the trace in the files say, or their fault is told.
     ensures replay { (plan : List ℕ) (recorded : List ℕ) → IsReplay words.now plan recorded
-        → ReplayLeaves charge_codecs (TellsAlways F.left) result
+        → ReplayLeaves site_codecs (TellsAlways F.left) result
         (files_told (F.holds files.old plan) (F.holds files.old recorded) (F.faults files.old) (F.faults files.new))
         (sink_told (J.taken trace.old) (J.faults trace.old)) (sink_told (J.taken trace.new) (J.faults trace.new))
         (sink_told (K.taken out.old) (K.faults out.old)) (sink_told (K.taken out.new) (K.faults out.new)) }
@@ -202,6 +202,14 @@ pub fn run<F: Source, K: Sink, J: Sink, W: Wire>(
     ensures wire_fault { result ≡ Status.WireFault → W.faults wire.old < W.faults wire.new }
     ensures sink_fault { result ≡ Status.SinkFault → (K.faults out.old < K.faults out.new) ⊎ (J.faults trace.old < J.faults trace.new) }
     ensures trace_fault { J.faults trace.old < J.faults trace.new → result ≡ Status.SinkFault }
+
+    // So where none failed, the job was done, or the words, the files and the input decide, but for want of memory; each of these statuses
+    // comes by its commands alone.
+    ensures complete { NoneRose ((F.faults files.old, F.faults files.new) ∷ (K.faults out.old, K.faults out.new) ∷ (J.faults trace.old, J.faults trace.new) ∷ (W.faults wire.old, W.faults wire.new) ∷ []) → IsUnfailed result }
+    ensures turns { result ≡ Status.TurnsSpent → UsesWire words.now }
+    ensures no_audit { result ≡ Status.AuditNo → ⊥ }
+    ensures no_profile { (result ≡ Status.Unreached) ⊎ (result ≡ Status.NoSchedule) → IsSomeSchedule words.now }
+    ensures no_set { result ≡ Status.NoSet → IsSomePick words.now }
 {
     match read_words(alloc, words) {
         Ok(Command::Station { plan }) => serve(alloc, plan, files, out, trace, wire),

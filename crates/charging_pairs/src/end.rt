@@ -4,7 +4,7 @@ use crate::bounded::Bounded;
 use anyhow::Result;
 use charge_world::Wire;
 use net_wire::NetWire;
-use plain_run::{Status, left_by};
+use plain_run::{Failing, Status, left_by};
 use std::alloc::Global;
 use std::net::{Net, TcpStream};
 use std::random::RandomSource;
@@ -59,7 +59,8 @@ fn printed_over<W: Wire + Drop>(
     plan: (&str, &[u8]),
     wire: &mut Bounded<W>,
 ) -> Result<String> {
-    let left = left_by(alloc, &[end.word(), "plan"], &[plan], Vec::new(alloc), wire)?;
+    let words = [end.word(), "plan"];
+    let left = left_by(alloc, &words, &[plan], Failing::none(alloc), wire)?;
     let time = if wire.is_cut() { "time up\n" } else { "" };
     let replayed = match end {
         End::Station => replayed(alloc, plan, left.trace.bytes(), wire)?,
@@ -80,7 +81,7 @@ fn replayed<W: Wire>(
         alloc,
         &words,
         &[plan, ("trace", trace)],
-        Vec::new(alloc),
+        Failing::none(alloc),
         wire,
     )?;
     Ok(if left.status == Status::Done && left.trace.bytes() == trace {

@@ -1,3 +1,4 @@
 pub mod Statuses
 pub mod FaultLines
 pub mod Told
+pub mod Completeness

@@ -1,6 +1,6 @@
 //! How a command ends: its status, and the lines that tell of faults (own).
 //!
-//! Proved: the statuses and their lines.
+//! Proved: the statuses and their lines. How a command ends where no call failed (`Completes`) is a definition here.
 #![tactic(auto)]
 
 mod fault;

@@ -23,8 +23,8 @@ fn is_against_order(standing: Standing, closed: bool) -> bool
     }
 }
 
-/// How a contactor stands after feedback.
-fn standing_then(standing: Standing, closed: bool) -> Standing
+/// How a contactor stands behind feedback that it is closed, or open.
+pub fn standing_behind(standing: Standing, closed: bool) -> Standing
     ensures { result ≡ standing_heard standing closed }
 {
     match (standing, closed) {
@@ -130,7 +130,7 @@ impl Contactor {
         ensures whole { (calls : List Call) → self.old ≡ kept_after calls → result ≡ is_against (standing_of (acts_of calls)) closed }
     {
         let against = is_against_order(self.standing, closed);
-        self.standing = standing_then(self.standing, closed);
+        self.standing = standing_behind(self.standing, closed);
         against
     }
 }

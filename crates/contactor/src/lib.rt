@@ -9,7 +9,7 @@ pub mod contactor;
 pub mod law;
 pub mod right;
 
-pub use contactor::Contactor;
+pub use contactor::{Contactor, standing_behind};
 pub use law::law_of_contactor;
 pub use right::{CloseRight, is_ready};
 pub use session_words::Standing;

@@ -4,7 +4,6 @@ ghost use Rattle.std.specs.Prelude.{◌≡◌, ◌≤◌, true, false, length};
 ghost use Rattle.car_spec.specs.Acting as acting;
 ghost use Rattle.car_spec.specs.Hearing as hearings;
 ghost use Rattle.car_spec.specs.Steps.{Act};
-ghost use Rattle.station_spec.specs.Acting as station;
 ghost use Rattle.evcc_machine.specs.Resting.{IsReadOut};
 ghost use Rattle.evcc_machine.specs.Views.{event_of, IsBy};
 ghost use Rattle.evcc_machine.specs.declared.event.Done.TheVariants.{Sought};
@@ -14,17 +13,7 @@ use crate::car::{Car, Part};
 use crate::event::{CarEvent, Done};
 use charge_world::Order;
 use session_words::EndCause;
-
-/// Whether the contactor is live behind an order.
-fn live_ordered(order: &Order, taken: bool, live: bool) -> bool
-    ensures { result ≡ station.live_ordered order.now taken live }
-{
-    match order {
-        Order::Open => live && !taken,
-        Order::Close => true,
-        Order::Limits { .. } => live,
-    }
-}
+use station_spec::live_behind;
 
 impl Car {
     /// A hearing at this moment, with its bytes, of which there are at most 4,096. What came before has to be read out: a car that
@@ -70,7 +59,7 @@ impl Car {
     fn gave(&mut self, order: &Order, taken: bool)
         ensures { self.new ≡ acting.giving order.now taken self.old }
     {
-        self.live = live_ordered(order, taken, self.live);
+        self.live = live_behind(order, taken, self.live);
         if taken {
             self.agenda.order = None;
         } else {

@@ -2,7 +2,6 @@
 
 ghost use Rattle.std.specs.Prelude.{◌≡◌, Some};
 ghost use Rattle.std.specs.Option.{option_map};
-ghost use Rattle.station_spec.specs.Deciding as station;
 ghost use Rattle.car_spec.specs.Deciding.{asking as spoken_in, ending_by};
 ghost use Rattle.car_spec.specs.States.{nothing, first, is_done};
 ghost use Rattle.evcc_machine.specs.Views.{spoken_of, todo_of};
@@ -10,6 +9,7 @@ ghost use Rattle.evcc_machine.specs.Views.{spoken_of, todo_of};
 use car_rules::{CarStage, request_of};
 use charge_world::{Dialect, Order};
 use session_words::{CarPlan, EndCause, Request};
+use station_spec::opening_if;
 use std::marker::Model;
 
 /// What a car says: it offers its dialects, or it asks in the dialect that was chosen.
@@ -171,13 +171,6 @@ impl Agenda {
             None => self.seeks.then_some(Todo::Inquire),
         }
     }
-}
-
-/// Open, where the contactor is live.
-fn opening_if(live: bool) -> Option<Order>
-    ensures { result ≡ station.opening_if live }
-{
-    if live { Some(Order::Open) } else { None }
 }
 
 /// The request of a stage.

@@ -1,7 +1,7 @@
 //! What a car decides without reading a word.
 
-ghost use Rattle.std.specs.Prelude.{◌≡◌, false, None};
-ghost use Rattle.car_rules.specs.Deadlines.{hit as first_hit, hit_by as by_hit};
+ghost use Rattle.std.specs.Prelude.{◌≡◌, false};
+ghost use Rattle.car_rules.specs.Deadlines.{hit as first_hit};
 ghost use Rattle.car_spec.specs.Deciding as deciding;
 ghost use Rattle.car_spec.specs.Due.{all_deadlines};
 
@@ -9,21 +9,9 @@ use crate::agenda::{Agenda, Spoken};
 use crate::car::{Car, Part};
 use crate::event::CarEvent;
 use crate::living::is_due;
-use car_rules::{
-    CarDue, Search, is_reached, is_searching, next_request, plant_cause, port_of, search_due,
-};
+use car_rules::{Search, hit_by, is_searching, next_request, plant_cause, port_of, search_due};
 use charge_world::PlantEvent;
 use session_words::{CarPlan, EndCause};
-
-/// The cause of a deadline, where it is reached.
-fn hit_by(due: Option<CarDue>, now: u64) -> Option<EndCause>
-    ensures { result ≡ by_hit due now None }
-{
-    match due {
-        Some(due) if is_reached(due.moment, now) => Some(due.cause),
-        _ => None,
-    }
-}
 
 /// The end of the car by a cause, where there is one.
 fn ending_if(cause: Option<EndCause>, live: bool) -> Agenda
@@ -54,7 +42,7 @@ impl Car {
     fn hit(&self, plan: &CarPlan) -> Option<EndCause>
         ensures { result ≡ first_hit (all_deadlines plan.now self.now) self.now.clock }
     {
-        let search = hit_by(search_due(plan, &self.search), self.clock);
+        let search = hit_by(search_due(plan, &self.search), self.clock, None);
         self.slot.hit(plan, self.clock).or(search)
     }
 

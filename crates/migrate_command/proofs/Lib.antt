@@ -3,3 +3,4 @@ pub mod Printed
 pub mod Readings
 pub mod Texts
 pub mod Decided
+pub mod Complete

@@ -1,9 +1,10 @@
 //! The command.
 
-ghost use Rattle.std.specs.Prelude.{◌≡◌, ◌≢◌, ◌<◌, ◌≤◌, ◌^◌, ◌⊎◌, ℕ, List, length, IfOk};
+ghost use Rattle.std.specs.Prelude.{◌≡◌, ◌≢◌, ◌<◌, ◌≤◌, ◌^◌, ◌⊎◌, ℕ, List, length, IfOk, [], ◌∷◌};
 ghost use Rattle.std.specs.List.{AllByRecursion};
 ghost use Rattle.trace_text.specs.TraceText.{IsWritable};
 ghost use Rattle.command_status.specs.Told.{TellsAlways};
+ghost use Rattle.command_status.specs.Completeness.{Completes};
 ghost use Rattle.migrate_command.specs.Lines.{sink_change};
 ghost use Rattle.migrate_command.specs.Leaving.{Wrote, MigrateLeaves, IsUnbegun};
 
@@ -88,6 +89,9 @@ pub fn migrate<F: Source, K: Sink, J: Sink>(
     // A sink's fault is told only where a call of it failed, and that of the trace exactly there.
     ensures sink_fault { result ≡ Status.SinkFault → (K.faults out.old < K.faults out.new) ⊎ (J.faults trace.old < J.faults trace.new) }
     ensures trace_fault { J.faults trace.old < J.faults trace.new → result ≡ Status.SinkFault }
+
+    // Where no call failed, the file decides, but for want of memory.
+    ensures complete { Completes ((F.faults files.old, F.faults files.new) ∷ (K.faults out.old, K.faults out.new) ∷ (J.faults trace.old, J.faults trace.new) ∷ []) (Status.Input ∷ []) result }
 {
     match entries_in(alloc, trace_name, files) {
         Ok(entries) => write_migrated(alloc, entries, out, trace),

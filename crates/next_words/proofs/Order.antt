@@ -32,8 +32,8 @@ use Rattle.safe_runs.proofs.Rows.{RowHas}
 use Rattle.safe_runs.proofs.Safety.{run_linked}
 use Rattle.read_runs.proofs.Agendas.{IsWanted, WantedIn, wanted_in, wanted_done}
 use Rattle.read_runs.proofs.Counting.{counted}
-use Rattle.opened_causes.proofs.Spoken.{Spoke, spoke, chosen_is, FaultAt, PayloadAt, DialectAt, word_at}
-use Rattle.opened_causes.proofs.Wording.{connected, none_yet, word_same}
+use Rattle.coming_causes_open.proofs.Spoken.{Spoke, spoke, chosen_is, FaultAt, PayloadAt, DialectAt, word_at}
+use Rattle.coming_causes_open.proofs.Wording.{connected, none_yet, word_same}
 use Rattle.served_sessions.proofs.Bytes.{AreOctets, AreHeard, fronts, run_heard, stream_octets}
 use Rattle.next_words.specs.Next.{IsNext, IsReadNext, AreReadInOrder, RunsReadInOrder}
 

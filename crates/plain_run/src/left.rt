@@ -6,12 +6,29 @@ use charge_world::{MemorySink, MemorySource, NamedFile, NoMemory, Piece, Wire};
 use std::alloc::Global;
 
 /// Bytes of an output.
-const OUTPUT: u32 = 1024;
+const OUTPUT: u32 = 100_000;
 
 /// Bytes of a trace.
 const TRACE: u32 = 1_000_000;
 
-/// What a run leaves: its status, the first 1,024 bytes of its output, and the first million of its trace.
+/// The writes that fail, by their numbers on the output and on the trace, counted from 1.
+#[derive(Drop)]
+pub struct Failing {
+    pub out: Vec<u32>,
+    pub trace: Vec<u32>,
+}
+
+impl Failing {
+    /// No write fails.
+    pub fn none(alloc: Global) -> Failing {
+        Failing {
+            out: Vec::new(alloc),
+            trace: Vec::new(alloc),
+        }
+    }
+}
+
+/// What a run leaves: its status, the first 100,000 bytes of its output, and the first million of its trace.
 #[derive(Drop)]
 pub struct Left {
     pub status: Status,
@@ -19,19 +36,18 @@ pub struct Left {
     pub trace: MemorySink,
 }
 
-/// What a run of these words leaves, over these files, each by its name and bytes, and this wire. The writes of these numbers on its
-/// trace fail, counted from 1.
+/// What a run of these words leaves, over these files, each by its name and bytes, and this wire.
 pub fn left_by<W: Wire>(
     alloc: Global,
     words: &[&str],
     files: &[(&str, &[u8])],
-    failing: Vec<u32>,
+    failing: Failing,
     wire: &mut W,
 ) -> Result<Left, NoMemory> {
     let words = list_of(alloc, words)?;
     let mut files = source_of(alloc, files)?;
-    let mut out = MemorySink::make(alloc, Vec::new(alloc), OUTPUT)?;
-    let mut trace = MemorySink::make(alloc, failing, TRACE)?;
+    let mut out = MemorySink::make(alloc, failing.out, OUTPUT)?;
+    let mut trace = MemorySink::make(alloc, failing.trace, TRACE)?;
     let status = run(alloc, &words, &mut files, &mut out, &mut trace, wire);
     Ok(Left { status, out, trace })
 }

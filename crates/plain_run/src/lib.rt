@@ -6,5 +6,5 @@ mod left;
 mod plain;
 
 pub use charge_run::{Status, WordList};
-pub use left::{Left, left_by};
+pub use left::{Failing, Left, left_by};
 pub use plain::run;

@@ -8,7 +8,7 @@ use Rattle.plan_files.specs.FileTexts.{IsBeginning, Told}
 too_long : (a b : List ℕ) → nat_lt 65536 (length a) ≡ true → nat_lt 65536 (length b) ≡ true → text_says a ≡ text_says b
 too_long a b h k = rw (h, k) refl
 
-said : (text bytes : List ℕ) (above : Bool) → nat_lt 65536 (length bytes) ≡ above → IsBeginning text bytes 65537 → text_says bytes ≡ text_says text
+pub said : (text bytes : List ℕ) (above : Bool) → nat_lt 65536 (length bytes) ≡ above → IsBeginning text bytes 65537 → text_says bytes ≡ text_says text
 said text bytes true is h =
     let long : 65536 < length text = omega (arith, ltb-true 65536 (length bytes) is, ap length h.split, length-append bytes h.rest) in
     too_long bytes text is (lt-ltb 65536 (length text) long)

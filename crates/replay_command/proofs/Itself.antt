@@ -16,7 +16,7 @@ use Rattle.trace_text.specs.Pasts.{trace_text}
 use Rattle.trace_reading.specs.declared.format.Format.TheVariants.{Numbered}
 use Rattle.trace_reading.proofs.Fronts.{one_past}
 use Rattle.replay_wire.specs.Replays.{IsReplayOf}
-use Rattle.replayed_runs.specs.Replayed.{ReplaysItself}
+use Rattle.site_replay_laws.specs.Replayed.{ReplaysItself}
 use Rattle.site_replays.specs.Replayed.{IsWritten}
 use Rattle.replay_command.specs.Itself.{WritesItself}
 

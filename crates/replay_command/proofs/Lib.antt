@@ -1,3 +1,4 @@
 pub mod Decided
 pub mod Itself
 pub mod Leaving
+pub mod Complete

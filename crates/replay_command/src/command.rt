@@ -1,11 +1,12 @@
 //! The command.
 
-ghost use Rattle.std.specs.Prelude.{◌≡◌, ◌<◌, ◌⊎◌, ℕ, List, length};
+ghost use Rattle.std.specs.Prelude.{◌≡◌, ◌<◌, ◌⊎◌, ℕ, List, length, [], ◌∷◌};
 ghost use Rattle.session_words.specs.Plans.{IsSitePlan};
 ghost use Rattle.post_spec.specs.Codecs.{codecs};
 ghost use Rattle.replay_wire.specs.Replays.{AllCanBeHeard};
 ghost use Rattle.station_command.specs.Served.{IsUnbegun};
 ghost use Rattle.command_status.specs.Told.{sink_told, TellsAlways};
+ghost use Rattle.command_status.specs.Completeness.{Completes};
 ghost use Rattle.replay_command.specs.Files.{files_told};
 ghost use Rattle.replay_command.specs.Replays.{Ran, ReplayLeaves};
 
@@ -13,10 +14,10 @@ use crate::lines::{conclude, refuse};
 use crate::recording::{Recording, recording_in};
 use charge_world::{Sink, Source};
 use command_status::Status;
+use site_codec::Codec;
 use site_replays::replay as replay_at;
 use site_replays::site_core::Site;
 use std::alloc::Global;
-use word_codec::Codec;
 
 /// Replays a trace at a site that it makes of a plan, with these codecs, and prints its line. Want of memory leaves all as it was.
 fn replay_recording<C: Codec + Drop, K: Sink, J: Sink>(
@@ -72,6 +73,9 @@ pub fn replay<C: Codec + Drop, F: Source, K: Sink, J: Sink>(
     // A sink's fault is told only where a call of it failed, and that of the trace exactly there.
     ensures sink_fault { result ≡ Status.SinkFault → (K.faults out.old < K.faults out.new) ⊎ (J.faults trace.old < J.faults trace.new) }
     ensures trace_fault { J.faults trace.old < J.faults trace.new → result ≡ Status.SinkFault }
+
+    // Where no call failed, the files decide, but for want of memory.
+    ensures complete { Completes ((F.faults files.old, F.faults files.new) ∷ (K.faults out.old, K.faults out.new) ∷ (J.faults trace.old, J.faults trace.new) ∷ []) (Status.Plan ∷ Status.Input ∷ []) result }
 {
     match recording_in(alloc, plan_name, trace_name, files) {
         Ok(recording) => replay_recording(alloc, codec, recording, out, trace),

@@ -7,14 +7,14 @@ use Rattle.session_words.specs.Amounts.{units_of}
 use Rattle.word_values.specs.declared.amounts.Written.{Written}
 use Rattle.word_values.specs.Amounts.{nearest, written}
 use Rattle.iso_schedules.specs.declared.schedules.SaScheduleTuple.{SaScheduleTuple}
-use Rattle.schedule_spec.specs.declared.Step.{Step}
-use Rattle.schedule_spec.specs.declared.Schedule.{Schedule}
-use Rattle.schedule_spec.specs.declared.Need.{Need}
-use Rattle.schedule_spec.specs.declared.Profile.{Profile}
-use Rattle.schedule_spec.specs.Profiles.{IsBest}
-use Rattle.best_profiles.specs.Bounds.{IsBounded, AreBounded}
-use Rattle.iso_schedule.specs.Schedules.{IsUsable, schedule_of, cap_of}
-use Rattle.profile_requests.specs.Requests.{CanWrite, CanRequest}
+use Rattle.schedules.specs.declared.power.Step.{Step}
+use Rattle.schedules.specs.declared.power.Schedule.{Schedule}
+use Rattle.schedules.specs.declared.power.Need.{Need}
+use Rattle.schedules.specs.declared.power.Profile.{Profile}
+use Rattle.schedules.specs.Profiles.{IsBest}
+use Rattle.schedules.specs.Bounds.{IsBounded, AreBounded}
+use Rattle.schedule_answers.specs.Schedules.{IsUsable, schedule_of, cap_of}
+use Rattle.schedule_answers.specs.Requests.{CanWrite, CanRequest}
 use Rattle.schedule_answers.specs.Answers.{IsAnswerIn}
 
 -- ---- the cap as it is written

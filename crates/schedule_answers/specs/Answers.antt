@@ -4,11 +4,11 @@ use Rattle.document_laws.specs.Laws.{AreBytes}
 use Rattle.exi_documents.specs.declared.refusal.RefusalCause.{RefusalCause}
 use Rattle.iso_message.specs.declared.message.IsoMessage.{IsoMessage}
 use Rattle.iso_message.specs.Documents.{IsIso, IsIsoRefused, IsIsoEncoding}
-use Rattle.schedule_spec.specs.declared.Need.{Need}
-use Rattle.schedule_spec.specs.declared.Profile.{Profile}
-use Rattle.iso_schedule.specs.Answers.{IsAnswer, IsFault}
-use Rattle.iso_schedule.specs.declared.answer.ScheduleFault.{ScheduleFault}
-use Rattle.profile_requests.specs.Requests.{IsRequestOf}
+use Rattle.schedules.specs.declared.power.Need.{Need}
+use Rattle.schedules.specs.declared.power.Profile.{Profile}
+use Rattle.schedule_answers.specs.Choosing.{IsAnswer, IsFault}
+use Rattle.schedule_answers.specs.declared.choosing.ScheduleFault.{ScheduleFault}
+use Rattle.schedule_answers.specs.Requests.{IsRequestOf}
 use Rattle.schedule_answers.specs.declared.answer.Answer.{Answer}
 use Rattle.schedule_answers.specs.declared.fault.AnswerFault.{AnswerFault}
 use Rattle.schedule_answers.specs.declared.fault.AnswerFault.TheVariants.{Refused, Unanswered, Memory}

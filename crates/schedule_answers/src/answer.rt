@@ -1,18 +1,13 @@
 //! The answer to a payload.
 
-ghost use Rattle.std.specs.Prelude.{◌≡◌, ◌<◌, ◌≤◌, length, IfOk, IfErr};
-ghost use Rattle.exi_documents.specs.Values.{most_entries};
+ghost use Rattle.std.specs.Prelude.{◌<◌, ◌≤◌, length, IfOk, IfErr};
 ghost use Rattle.schedule_answers.specs.Answers.{IsAnswered, IsUnanswered};
 
+use crate::codecs::codec;
 use crate::fault::AnswerFault;
+use crate::payload::payload_of;
 use crate::profile::profile_in;
-use crate::request::payload_of;
-use best_profiles::steps_are_bounded;
-use charge_world::NoMemory;
-use exi_documents::MOST_ENTRIES;
-use exi_events::Table;
-use iso_codec::IsoTables;
-use schedule_spec::{Need, Profile};
+use schedules::{Need, Profile, steps_are_bounded};
 use std::alloc::Global;
 
 /// What a car answers.
@@ -22,15 +17,6 @@ pub struct Answer {
     pub profile: Profile,
     /// The payload of the PowerDeliveryReq that asks for it.
     pub request: Vec<u8>,
-}
-
-/// The codec and its string table.
-fn codec(alloc: Global) -> Result<(IsoTables, Table), NoMemory>
-    ensures { IfOk result (λ codec. codec.1.cap ≡ most_entries) }
-{
-    let tables = IsoTables::make(alloc)?;
-    let table = Table::make(alloc, MOST_ENTRIES)?;
-    Ok((tables, table))
 }
 
 /// What a car that needs so much answers to the ChargeParameterDiscoveryRes which a payload of at most 65,536 bytes spells

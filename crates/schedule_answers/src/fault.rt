@@ -2,8 +2,8 @@
 
 ghost use Rattle.std.specs.Prelude.{◌≡◌};
 
+use crate::choosing::ScheduleFault;
 use charge_world::NoMemory;
-use iso_schedule::ScheduleFault;
 
 /// Why a payload has no answer.
 #[derive(Clone, Copy, Debug, PartialEq, Eq)]

@@ -4,11 +4,11 @@ ghost use Rattle.std.specs.Prelude.{◌≡◌, ◌<◌, ◌≤◌, length, IfOk,
 ghost use Rattle.exi_documents.specs.Values.{most_entries};
 ghost use Rattle.schedule_answers.specs.Answers.{IsAnswerIn, IsUnanswered};
 
+use crate::choosing::profile_of;
 use crate::fault::AnswerFault;
 use exi_events::Table;
 use iso_codec::{IsoMessage, IsoTables, read_iso};
-use iso_schedule::profile_of;
-use schedule_spec::{Need, Profile};
+use schedules::{Need, Profile};
 
 /// The profile that answers the message which a payload spells. The table is emptied.
 pub(crate) fn profile_in(

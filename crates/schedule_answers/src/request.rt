@@ -1,46 +1,93 @@
-//! The payload of a profile's request.
+//! The request of a profile.
 
-ghost use Rattle.std.specs.Prelude.{◌≡◌, ◌≤◌, IfOk, length, take};
-ghost use Rattle.exi_documents.specs.Values.{most_entries};
-ghost use Rattle.profile_requests.specs.Requests.{CanRequest};
-ghost use Rattle.schedule_answers.specs.Answers.{IsRequestIn};
+ghost use Rattle.std.specs.Prelude.{◌≡◌, ◌≤◌, All, map, length};
+ghost use Rattle.iso_message.specs.Documents.{IsWithin, PassesBytes};
+ghost use Rattle.schedule_answers.specs.Requests as rule;
+ghost use Rattle.schedule_answers.specs.Requests.{CanWrite, CanRequest, IsRequestOf};
 
-use charge_world::NoMemory;
-use exi_events::Table;
-use iso_codec::{IsoTables, write_iso};
-use profile_requests::request_of;
-use schedule_spec::Profile;
-use std::alloc::Global;
+use arrayvec::ArrayVec;
+use iso_delivery::{ChargingProfile, PowerDeliveryReq, ProfileEntry};
+use iso_message::{Body, BodyElement, BriefElement, IsoMessage};
+use iso_parts::{ChargeProgress, Header};
+use iso_values::physical::power_of;
+use message_parts::Binary;
+use schedules::{Profile, Step};
+use session_words::Amount;
 
-/// The bytes that each request has room in.
-const ROOM: usize = 2048;
-
-/// Writes the payload of a profile's request to the front of a room, and answers its number of bytes. The table is emptied.
-fn write_request(tables: &IsoTables, profile: &Profile, room: &mut [u8], table: &mut Table) -> u32
-    requires profile { CanRequest profile.now }
-    requires room { length room.old ≡ 2048 }
-    requires cap { table.old.cap ≡ most_entries }
-    ensures within { result ≤ length room.new }
-    ensures written { IsRequestIn profile.now (take result room.new) }
+/// A step as it is written.
+fn entry_of(step: Step) -> ProfileEntry
+    requires { CanWrite step }
+    ensures { result ≡ rule.entry_of step }
 {
-    iso_codec::laws::messages_are_written();
-    write_iso(tables, &request_of(profile), room, table).unwrap()
+    ProfileEntry {
+        charging_profile_entry_start: step.start,
+        charging_profile_entry_max_power: power_of(Amount {
+            size: step.watts,
+            right: true,
+        }),
+        charging_profile_entry_max_number_of_phases_in_use: None,
+    }
 }
 
-/// The payload of a profile's request. The table is emptied.
-pub(crate) fn payload_of(
-    alloc: Global,
-    tables: &IsoTables,
-    profile: &Profile,
-    table: &mut Table,
-) -> Result<Vec<u8>, NoMemory>
-    requires profile { CanRequest profile.now }
-    requires cap { table.old.cap ≡ most_entries }
-    ensures { IfOk result (λ payload. IsRequestIn profile.now payload.items) }
+/// The steps as they are written.
+fn entries_of(steps: &[Step]) -> ArrayVec<ProfileEntry, 24>
+    requires few { length steps.now ≤ 24 }
+    requires steps { All CanWrite steps.now }
+    ensures { result.items ≡ map rule.entry_of steps.now }
 {
-    let mut room = [0; ROOM];
-    let count = write_request(tables, profile, &mut room, table) as usize;
-    let mut payload = Vec::new(alloc);
-    payload.extend_from_slice(&room[..count])?;
-    Ok(payload)
+    let mut entries = ArrayVec::new();
+    for step in steps {
+        entries.push(entry_of(*step));
+    }
+    entries
+}
+
+/// The identifier of no session: 8 bytes of 0.
+pub fn no_session() -> &'static [u8]
+    ensures { result.now ≡ rule.no_session }
+{
+    &[0, 0, 0, 0, 0, 0, 0, 0]
+}
+
+/// The identifier of a profile's tuple, of 8 bits.
+fn tuple_of(profile: &Profile) -> u8
+    ensures value { result ≡ profile.now.tuple }
+    ensures bound { profile.now.tuple ≤ 255 }
+{
+    profile.tuple
+}
+
+/// The request of a profile.
+fn message_of(profile: &Profile) -> IsoMessage<'static>
+    requires { CanRequest profile.now }
+    ensures message { IsRequestOf profile.now result }
+    ensures tuple { profile.now.tuple ≤ 255 }
+{
+    IsoMessage {
+        header: Header {
+            session_id: Binary::of_bytes(no_session()),
+            notification: None,
+        },
+        body: Body {
+            element: Some(BodyElement::Brief(BriefElement::PowerDeliveryReq(PowerDeliveryReq {
+                charge_progress: ChargeProgress::Start,
+                sa_schedule_tuple_id: tuple_of(profile),
+                charging_profile: Some(ChargingProfile {
+                    profile_entry: entries_of(profile.steps.as_slice()),
+                }),
+                ev_power_delivery_parameter: None,
+            }))),
+        },
+    }
+}
+
+/// The PowerDeliveryReq Start of a profile (ISO 15118-2:2014, 8.4.3.9), under the identifier of no session, which has 8 bytes of 0: its
+/// tuple, from 1 on, and an entry for each of its 1 to 24 steps, which have less than 32,768,000 watts.
+pub fn request_of(profile: &Profile) -> IsoMessage<'static>
+    requires { CanRequest profile.now }
+    ensures message { IsRequestOf profile.now result }
+    ensures within { IsWithin result }
+    ensures small { PassesBytes result 2048 → ⊥ }
+{
+    message_of(profile)
 }

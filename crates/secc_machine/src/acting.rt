@@ -2,7 +2,6 @@
 
 ghost use Rattle.std.specs.Prelude.{◌≡◌, ◌≤◌, List, ℕ, Option, length};
 ghost use Rattle.std.specs.Option.{option_map};
-ghost use Rattle.contactor.specs.Calls.{standing_heard};
 ghost use Rattle.post_spec.specs.Steps.{Act};
 ghost use Rattle.station_spec.specs.States.{Session};
 ghost use Rattle.station_spec.specs.Acting as acting;
@@ -14,20 +13,10 @@ use crate::agenda::Agenda;
 use crate::event::{Done, PostEvent};
 use crate::post::{Part, Post};
 use charge_world::{Order, PlantEvent};
+use contactor::standing_behind;
 use session_rules::Stage;
 use session_words::{EndCause, Facts, SessionId, Standing};
-
-/// How a contactor stands behind feedback.
-fn standing_heard(standing: Standing, closed: bool) -> Standing
-    ensures { result ≡ standing_heard standing closed }
-{
-    match standing {
-        Standing::Closing if closed => Standing::Closed,
-        Standing::Opening if !closed => Standing::Opened,
-        Standing::Opened if closed => Standing::Opening,
-        _ => standing,
-    }
-}
+use station_spec::live_behind;
 
 /// The newest word of the charger is its fact.
 fn hear_charger(facts: &mut Facts, event: &PlantEvent)
@@ -41,7 +30,7 @@ fn hear_charger(facts: &mut Facts, event: &PlantEvent)
             facts.current = *current;
         }
         PlantEvent::Feedback { closed } => {
-            facts.contactor = standing_heard(facts.contactor, *closed);
+            facts.contactor = standing_behind(facts.contactor, *closed);
         }
         PlantEvent::Paid => facts.paid = true,
         PlantEvent::Emergency => {}
@@ -88,17 +77,6 @@ fn standing_ordered(order: &Order, taken: bool, now: Standing) -> Standing
         Order::Close if taken => Standing::Closing,
         Order::Open | Order::Close => Standing::MustOpen,
         Order::Limits { .. } => now,
-    }
-}
-
-/// Whether the contactor is live behind an order.
-fn live_ordered(order: &Order, taken: bool, live: bool) -> bool
-    ensures { result ≡ acting.live_ordered order.now taken live }
-{
-    match order {
-        Order::Open => live && !taken,
-        Order::Close => true,
-        Order::Limits { .. } => live,
     }
 }
 
@@ -164,7 +142,7 @@ impl Post {
     fn order(&mut self, order: &Order, taken: bool)
         ensures { self.new ≡ acting.ordered order.now taken self.old }
     {
-        self.live = live_ordered(order, taken, self.live);
+        self.live = live_behind(order, taken, self.live);
         self.facts.contactor = standing_ordered(order, taken, self.facts.contactor);
     }
 

@@ -3,12 +3,13 @@
 ghost use Rattle.std.specs.Prelude.{◌≡◌, Some};
 ghost use Rattle.std.specs.Option.{option_map};
 ghost use Rattle.station_spec.specs.States.{Response, nothing, first, is_done};
-ghost use Rattle.station_spec.specs.Deciding.{ending_by, opening_if, repeating};
+ghost use Rattle.station_spec.specs.Deciding.{ending_by, repeating};
 ghost use Rattle.secc_machine.specs.Views.{spoken_of, todo_of};
 
 use arrayvec::ArrayVec;
 use charge_world::{Dialect, Order};
 use session_words::{EndCause, Reply, Standing};
+use station_spec::opening_if;
 use std::marker::Model;
 
 /// What is sent: the response to a negotiation, as its payload, or a reply in the session's dialect.
@@ -185,11 +186,4 @@ impl Agenda {
             None => None,
         }
     }
-}
-
-/// Open, where the contactor is live.
-pub(crate) fn opening_if(live: bool) -> Option<Order>
-    ensures { result ≡ opening_if live }
-{
-    if live { Some(Order::Open) } else { None }
 }

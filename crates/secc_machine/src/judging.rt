@@ -12,7 +12,7 @@ ghost use Rattle.station_spec.specs.Judging as judging;
 ghost use Rattle.station_spec.specs.Sharing.{Post as SitePost, Shows};
 ghost use Rattle.secc_machine.specs.Views.{spoken_of, judged_of, asks_in, rejected, with_unread, IsShownFor};
 
-use crate::agenda::{Agenda, Spoken, opening_if};
+use crate::agenda::{Agenda, Spoken};
 use crate::event::Judged;
 use crate::post::{Part, Post, first_facts};
 use crate::slot::{Living, asked_if, shows_if};
@@ -22,6 +22,7 @@ use session_rules::{
     word_cause,
 };
 use session_words::{EndCause, Facts, Phase, PostPlan, Reply, Request};
+use station_spec::opening_if;
 use std::mem;
 
 /// The row behind a request.

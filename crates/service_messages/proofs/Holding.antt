@@ -38,10 +38,10 @@ use Rattle.iso_word_messages.specs.Spellable.{CanSession, IsByte}
 use Rattle.written_parts.proofs.Parts.{up_to_takes, at_least_one_takes}
 use Rattle.iso_replies.proofs.Simple.{truth, unsigned_short, response}
 use Rattle.iso_replies.proofs.Replies.{message_fits}
-use Rattle.profile_requests.specs.Requests.{no_session}
+use Rattle.schedule_answers.specs.Requests.{no_session}
 use Rattle.service_spec.specs.Texts.{is_a_name, is_word, has_name_length, is_a_text, is_plain, has_text_length}
 use Rattle.service_spec.specs.declared.ParameterSet.{ParameterSet as Offered}
-use Rattle.service_files.specs.Keys.{is_below}
+use Rattle.service_spec.specs.Services.{is_below}
 use Rattle.service_messages.specs.Messages.{number_of, set_of, list_of}
 use Rattle.service_messages.specs.Held.{IsHeldValue, IsHeldParameter, IsHeldSet, IsHeldList, IsHeldReply}
 

@@ -10,9 +10,8 @@ use Rattle.service_spec.specs.declared.Value.TheVariants as said
 use Rattle.service_spec.specs.declared.Parameter.{Parameter as Pair}
 use Rattle.service_spec.specs.declared.ParameterSet.{ParameterSet as Offered}
 use Rattle.service_spec.specs.declared.Service.{Service}
-use Rattle.service_spec.specs.Services.{Content, Number, Said, SaidSet, content_of, said_of, said_set_of, IsPicked, PicksNone}
-use Rattle.service_files.specs.Keys.{is_below}
-use Rattle.iso_services.specs.Offers.{content_in, said_in, said_set_in, sets_in, Offers, IsChoice, HasNoChoice}
+use Rattle.service_spec.specs.Services.{Content, Number, Said, SaidSet, content_of, said_of, said_set_of, is_below, IsPicked, PicksNone}
+use Rattle.service_messages.specs.Offers.{content_in, said_in, said_set_in, sets_in, Offers, IsChoice, HasNoChoice}
 use Rattle.service_messages.specs.Messages.{value_of, parameter_of, set_of, list_of, IsDetailOf}
 use Rattle.service_messages.specs.Payloads.{IsPayloadOf}
 

@@ -13,13 +13,13 @@ use Rattle.iso_details.specs.declared.details.ServiceDetailRes.{ServiceDetailRes
 use Rattle.iso_message.specs.declared.message.BodyElement.TheVariants as element
 use Rattle.iso_message.specs.declared.message.IsoMessage.{IsoMessage}
 use Rattle.iso_word_messages.specs.Messages.{message_with}
-use Rattle.profile_requests.specs.Requests.{no_session}
+use Rattle.schedule_answers.specs.Requests.{no_session}
 use Rattle.service_spec.specs.declared.Value.{Value as Said}
 use Rattle.service_spec.specs.declared.Value.TheVariants as said
 use Rattle.service_spec.specs.declared.Parameter.{Parameter as Pair}
 use Rattle.service_spec.specs.declared.ParameterSet.{ParameterSet as Offered}
 use Rattle.service_spec.specs.declared.Service.{Service}
-use Rattle.service_files.specs.Keys.{is_below}
+use Rattle.service_spec.specs.Services.{is_below}
 
 -- a number by the first of byteValue, shortValue and intValue that holds it
 abbrev pub number_of : ℤ → ParameterValue

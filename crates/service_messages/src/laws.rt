@@ -1,15 +1,21 @@
-//! What is offered by the payloads that are written for catalogues.
+//! What holds of the sets that messages and payloads offer. Each of these functions does nothing: its contract is the law.
 
-ghost use Rattle.std.specs.Prelude.{◌↔◌, ℕ, ℤ, List, Option, Some, None, map};
-ghost use Rattle.iso_message.specs.Documents.{IsIso};
+ghost use Rattle.std.specs.Prelude.{◌≡◌, ◌↔◌, ℕ, ℤ, List, Option, Some, None, map};
 ghost use Rattle.iso_message.specs.declared.message.IsoMessage.{IsoMessage};
+ghost use Rattle.iso_message.specs.Documents.{iso_tree, IsIso};
 ghost use Rattle.service_spec.specs.declared.Service.{Service as Offered};
 ghost use Rattle.service_spec.specs.Services.{Said, SaidSet, said_set_of, IsPicked, PicksNone};
-ghost use Rattle.iso_services.specs.Offers.{Offers, IsChoice, HasNoChoice};
+ghost use Rattle.service_messages.specs.Offers.{Offers, IsChoice, HasNoChoice};
 ghost use Rattle.service_messages.specs.Payloads.{IsPayloadOf};
 
 use iso_codec::laws::encodings_are_read;
-use iso_services::one_offer;
+
+/// Messages of one tree offer the same sets, wherever their texts lie, and so do all that one payload spells: what is picked of a payload is what
+/// is picked of the message that was written.
+pub fn one_offer()
+    ensures trees { (m n : IsoMessage) (sets : List SaidSet) → iso_tree m ≡ iso_tree n → Offers m sets → Offers n sets }
+    ensures payloads { (payload : List ℕ) (m n : IsoMessage) (sets : List SaidSet) → IsIso m payload → IsIso n payload → Offers m sets → Offers n sets }
+{}
 
 /// Each message that is read of the payload for a service offers the sets of the catalogue, and none where the catalogue has no such service: what is
 /// picked of the message is what is picked of the catalogue.

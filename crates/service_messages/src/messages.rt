@@ -2,9 +2,8 @@
 
 ghost use Rattle.std.specs.Prelude.{◌≡◌, ◌≤◌, All, IfSome, map, length};
 ghost use Rattle.iso_message.specs.Documents.{IsWithin};
-ghost use Rattle.profile_requests.specs.Requests.{no_session as nobody};
 ghost use Rattle.service_spec.specs.Wants.{IsPair};
-ghost use Rattle.service_files.specs.Sets.{IsOffered, IsService};
+ghost use Rattle.service_spec.specs.Sets.{IsOffered, IsService};
 ghost use Rattle.service_messages.specs.Messages as rule;
 ghost use Rattle.service_messages.specs.Messages.{IsDetailOf};
 ghost use Rattle.service_messages.specs.Held.{IsHeldParameter, IsHeldSet, IsHeldList, IsHeldReply};
@@ -15,6 +14,7 @@ use iso_details::{Parameter, ParameterSet, ServiceDetailRes, ServiceParameterLis
 use iso_message::{Body, BodyElement, IsoMessage};
 use iso_parts::{Header, ResponseCode};
 use message_parts::Binary;
+use schedule_answers::no_session;
 use service_spec::{Parameter as Pair, ParameterSet as Offered, Service};
 
 /// The parameters of a set as they are written.
@@ -90,13 +90,6 @@ fn reply_of<'a>(service: &Option<Service<'a>>, id: u16) -> ServiceDetailRes<'a>
             service_parameter_list: None,
         },
     }
-}
-
-/// The identifier of no session.
-fn no_session() -> &'static [u8]
-    ensures { result.now ≡ nobody }
-{
-    &[0, 0, 0, 0, 0, 0, 0, 0]
 }
 
 /// The ServiceDetailRes for the service of this identifier of a catalogue (ISO 15118-2:2014, 8.4.3.3.3), under the identifier of no session, which

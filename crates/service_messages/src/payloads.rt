@@ -2,15 +2,15 @@
 
 ghost use Rattle.std.specs.Prelude.{◌≡◌, length, take, IfOk, IfErr, IfSome, MatchOption};
 ghost use Rattle.exi_documents.specs.Values.{most_entries};
-ghost use Rattle.service_files.specs.Sets.{IsService};
+ghost use Rattle.service_spec.specs.Sets.{IsService};
 ghost use Rattle.service_messages.specs.Payloads.{IsPayloadOf, IsLong, HasDetailFault};
 
 use crate::messages::message_of;
 use charge_world::NoMemory;
-use exi_documents::MOST_ENTRIES;
 use exi_events::Table;
 use iso_codec::{IsoTables, write_iso};
-use service_files::Service;
+use schedule_answers::codec;
+use service_spec::Service;
 use std::alloc::Global;
 
 /// The most bytes of a payload.
@@ -33,15 +33,6 @@ impl From<NoMemory> for DetailFault {
     fn from(_none: NoMemory) -> DetailFault {
         DetailFault::Memory
     }
-}
-
-/// The codec and its string table.
-fn codec(alloc: Global) -> Result<(IsoTables, Table), NoMemory>
-    ensures { IfOk result (λ codec. codec.1.cap ≡ most_entries) }
-{
-    let tables = IsoTables::make(alloc)?;
-    let table = Table::make(alloc, MOST_ENTRIES)?;
-    Ok((tables, table))
 }
 
 /// Writes the message of a service to the front of a room, and answers its number of bytes; `None` exactly where it has more than the room. The table

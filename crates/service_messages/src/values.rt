@@ -2,7 +2,7 @@
 
 ghost use Rattle.std.specs.Prelude.{◌≡◌};
 ghost use Rattle.service_spec.specs.Wants.{IsValue, IsPair};
-ghost use Rattle.service_files.specs.Keys.{is_below};
+ghost use Rattle.service_spec.specs.Services.{is_below};
 ghost use Rattle.service_messages.specs.Messages as rule;
 ghost use Rattle.service_messages.specs.Held.{IsHeldValue, IsHeldParameter};
 

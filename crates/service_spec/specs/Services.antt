@@ -1,6 +1,6 @@
 -- ISO 15118-2:2014, 8.5.2.20 to 8.5.2.23 (ServiceParameterList, ParameterSet, Parameter): what sets of parameters say. Which one is picked is
 -- own.
-use Rattle.std.specs.Prelude.{◌≡◌, ℕ, ℤ, Bool, List, ◌∷◌, ◌++◌, map, Option, Some}
+use Rattle.std.specs.Prelude.{◌≡◌, ℕ, ℤ, pos, negsuc, nat_lt, Bool, List, ◌∷◌, ◌++◌, map, Option, Some}
 use Rattle.std.specs.List.{All, Any}
 use Rattle.std.specs.Str.{chars}
 use Rattle.service_spec.specs.declared.Value.{Value}
@@ -15,6 +15,11 @@ pub data Content : Type 0 where
   Truth : Bool → Content
   Number : ℤ → Content
   Text : List ℕ → Content
+
+-- a number of so many bits, of which half the values are below this
+abbrev pub is_below : ℕ → ℤ → Bool
+is_below bound (pos n) = nat_lt n bound
+is_below bound (negsuc n) = nat_lt n bound
 
 -- a parameter: the code points of its name, and its value, or none for a physical one
 pub record Said : Type 0 where

@@ -11,7 +11,7 @@ use Rattle.station_spec.specs.Sharing.{Post}
 use Rattle.station_spec.specs.Blocks.{is_last, hearings}
 use Rattle.station_spec.specs.Runs.{IsRun}
 use Rattle.station_spec.specs.Until.{AreUntils}
-use Rattle.word_codec.specs.Replies.{IsPlan}
+use Rattle.site_codec.specs.Replies.{IsPlan}
 use Rattle.site_posts.specs.declared.place.Place.{Place}
 use Rattle.site_posts.specs.Places.{place_of}
 use Rattle.site_posts.specs.Sound.{IsSound}

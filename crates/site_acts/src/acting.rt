@@ -18,10 +18,10 @@ use crate::deeds::{Deed, keep};
 use crate::desk::{Desk, prepare};
 use charge_world::{Sink, Wire};
 use secc_machine::{law_of_rest, law_of_words};
+use site_codec::Codec;
 use site_posts::{Place, fill};
 use trace_lines::{TraceFailed, TraceLines};
 use trace_text::Noted;
-use word_codec::Codec;
 
 /// How a call on the wire went, and the write of its line.
 #[derive(Drop)]

@@ -6,7 +6,7 @@ ghost use Rattle.post_spec.specs.Codecs.{codecs};
 ghost use Rattle.station_spec.specs.States.{first};
 ghost use Rattle.station_spec.specs.Next.{IsSpoken};
 ghost use Rattle.secc_machine.specs.Views.{spoken_of};
-ghost use Rattle.word_codec.specs.Replies.{IsGiven};
+ghost use Rattle.site_codec.specs.Replies.{IsGiven};
 ghost use Rattle.site_posts.specs.Sound.{CanSay};
 ghost use Rattle.site_acts.specs.Deeds.{Prepares};
 
@@ -14,9 +14,9 @@ use crate::deeds::Deed;
 use charge_world::Dialect;
 use secc_machine::{Post, Spoken, Todo};
 use session_words::Reply;
+use site_codec::Codec;
 use trace_lines::TraceLines;
 use v2gtp_frames::put_frame;
-use word_codec::Codec;
 
 /// The bytes of the longest frame that a site sends.
 pub const FRAME: usize = 1032;

@@ -6,10 +6,10 @@ ghost use Rattle.replay_wire.specs.Replays.{AllCanBeHeard};
 
 use crate::memory::heap_bytes;
 use anyhow::{Result, bail};
-use charge_codecs::ChargeCodecs;
 use charge_world::{Entry, MemorySink};
 use replay_wire::traces_can_be_heard;
 use session_words::SitePlan;
+use site_codecs::ChargeCodecs;
 use site_core::Site;
 use site_plan::site_plan_of;
 use site_replays::replay;

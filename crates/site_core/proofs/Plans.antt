@@ -6,7 +6,7 @@ use Rattle.std.specs.List.{All}
 use Rattle.std.proofs.lemmas.List.Elements.{All-append}
 use Rattle.session_words.specs.declared.plan.PostPlan.{PostPlan}
 use Rattle.station_spec.specs.Runs.{unheard}
-use Rattle.word_codec.specs.Replies.{IsPlan}
+use Rattle.site_codec.specs.Replies.{IsPlan}
 use Rattle.site_posts.specs.declared.place.Place.{Place}
 use Rattle.site_posts.specs.Places.{place_of}
 

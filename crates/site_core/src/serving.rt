@@ -8,8 +8,8 @@ ghost use Rattle.site_turns.specs.Ending.{AreMade, AreMadeOf, EndedAs, RanAs, Tr
 
 use crate::site::Site;
 use charge_world::{Sink, Wire};
+use site_codec::Codec;
 use site_turns::{Ended, serve_posts};
-use word_codec::Codec;
 
 /// Serves a site that was just made, on a wire that was started with its posts, until the wire says Over, a hearing fails, a line of the
 /// trace can't be written, or the last turn is made. At the end each post whose contactor is live is ordered open.
@@ -39,6 +39,7 @@ pub fn serve<C: Codec, W: Wire, J: Sink>(wire: &mut W, trace: &mut J, site: &mut
         site.places.as_mut_slice(),
         site.limit,
         site.turns,
+        &mut site.so_far,
         wire,
         trace,
     )

@@ -1,18 +1,23 @@
 //! A site in memory.
 
-ghost use Rattle.std.specs.Prelude.{◌≡◌, ◌≤◌, ◌-◌, IfOk, vec_len};
+ghost use Rattle.std.specs.Prelude.{◌≡◌, ◌≤◌, ◌-◌, [], IfOk, vec_len};
 ghost use Rattle.session_words.specs.Plans.{IsSitePlan, IsPostPlan};
+ghost use Rattle.post_spec.specs.Codecs.{codecs};
 ghost use Rattle.station_spec.specs.Runs.{unheard};
-ghost use Rattle.word_codec.specs.Replies.{IsPlan};
+ghost use Rattle.site_codec.specs.Replies.{IsPlan};
 ghost use Rattle.site_posts.specs.Filling.{at};
 ghost use Rattle.site_posts.specs.Places.{place_of};
 ghost use Rattle.site_turns.specs.Ending.{AreMadeOf};
+ghost use Rattle.site_turns.specs.SoFar.{IsSoFar};
+ghost use Rattle.site_core.specs.Hearing.{MayHear};
 
 use bitflags::Flags;
 use secc_machine::Post;
 use session_words::{PostPlan, SitePlan};
 use site_acts::{Desk, FRAME};
+use site_codec::Codec;
 use site_posts::{CauseSet, Place, PostReport};
+use site_turns::SoFar;
 use std::alloc::Global;
 use trace_lines::{NoMemory, TraceLines};
 
@@ -24,6 +29,7 @@ pub struct Site<C> {
     pub(crate) places: Vec<Place>,
     pub(crate) limit: u32,
     pub(crate) turns: u64,
+    pub(crate) so_far: SoFar,
 }
 
 /// The amounts of a plan are within their types. It does nothing: each is looked at for the prover, which so knows its bound.
@@ -77,11 +83,13 @@ fn desk_made<C: Drop>(alloc: Global, codec: C) -> Result<Desk<C>, NoMemory> {
     Ok(Desk { codec, room, lines })
 }
 
-impl<C: Drop> Site<C> {
+impl<C: Codec + Drop> Site<C> {
     /// A site of this plan that heard nothing yet. It takes all the memory that serving needs.
     pub fn make(alloc: Global, codec: C, plan: &SitePlan) -> Result<Site<C>, NoMemory>
         requires { IsSitePlan plan.now }
-        ensures { IfOk result (λ site. AreMadeOf plan.now site.places.items site.limit site.turns) }
+        ensures made { IfOk result (λ site. AreMadeOf plan.now site.places.items site.limit site.turns) }
+        ensures waits { IfOk result (λ site. MayHear C.reads site.places.items) }
+        ensures run { IfOk result (λ site. IsSoFar (codecs C.negotiates C.reads C.encodes) plan.now site.so_far site.places.items []) }
     {
         let desk = desk_made(alloc, codec)?;
         let places = places_made(alloc, plan)?;
@@ -90,6 +98,7 @@ impl<C: Drop> Site<C> {
             places,
             limit: plan.limit,
             turns: plan.turns,
+            so_far: SoFar::nothing(),
         })
     }
 }

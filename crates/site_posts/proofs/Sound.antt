@@ -39,8 +39,8 @@ use Rattle.station_spec.specs.Judging.{Payload, speaks, speaks_in, payload_by, p
 use Rattle.station_spec.specs.Hearing.{heard_facts, charger_facts, session_opened, with_bytes, hearing}
 use Rattle.station_spec.specs.Acting.{since_order, failing, live_ordered, giving, replied, agenda_said, saying, acted}
 use Rattle.station_laws.proofs.Decided.{Parts, decided_by}
-use Rattle.word_codec.specs.Judging.{ChoosesOffered, NegotiatesFirst}
-use Rattle.word_codec.specs.Replies.{IsPlan, AreFacts, IsAnswer, IsGiven}
+use Rattle.site_codec.specs.Judging.{ChoosesOffered, NegotiatesFirst}
+use Rattle.site_codec.specs.Replies.{IsPlan, AreFacts, IsAnswer, IsGiven}
 use Rattle.site_posts.specs.Sound.{IsOffered, IsSoundSession, IsSoundIn, CanSay, IsSound}
 
 -- what was heard of the charger is within its types

@@ -11,9 +11,9 @@ use Rattle.post_spec.specs.Steps.{Reading}
 use Rattle.station_spec.specs.States.{Session, State}
 use Rattle.station_spec.specs.Deciding.{decided}
 use Rattle.station_spec.specs.Judging.{Payload, wanted, shows, asked_behind, read, filled, IsShown, IsRead}
-use Rattle.word_codec.specs.Views.{asks_in, IsShownFor}
-use Rattle.word_codec.specs.Judging.{ChoosesOffered, NegotiatesFirst, IsJudged}
-use Rattle.word_codec.specs.Replies.{IsPlan}
+use Rattle.site_codec.specs.Views.{asks_in, IsShownFor}
+use Rattle.site_codec.specs.Judging.{ChoosesOffered, NegotiatesFirst, IsJudged}
+use Rattle.site_codec.specs.Replies.{IsPlan}
 use Rattle.site_posts.specs.declared.place.Place.{Place}
 use Rattle.site_posts.specs.Sound.{IsSound}
 use Rattle.site_posts.specs.Places.{Shares, filled_place, asked_at, told_at}

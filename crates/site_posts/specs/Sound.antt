@@ -6,7 +6,7 @@ use Rattle.session_words.specs.declared.plan.PostPlan.{PostPlan}
 use Rattle.session_words.specs.declared.word.Word.{Word}
 use Rattle.session_rules.specs.declared.stage.Stage.{Stage}
 use Rattle.station_spec.specs.States.{Spoken, Response, Said, Session, State}
-use Rattle.word_codec.specs.Replies.{AreFacts, IsGiven}
+use Rattle.site_codec.specs.Replies.{AreFacts, IsGiven}
 
 -- once a dialect was chosen, it is one of the plan's
 abbrev pub IsOffered : PostPlan → Stage → Type 0

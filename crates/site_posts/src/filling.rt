@@ -4,16 +4,16 @@ ghost use Rattle.std.specs.Prelude.{◌≡◌, ◌≤◌, ◌<◌, length, Some}
 ghost use Rattle.std.specs.Option.{option_map};
 ghost use Rattle.post_spec.specs.Codecs.{codecs};
 ghost use Rattle.station_spec.specs.Judging.{wanted};
-ghost use Rattle.word_codec.specs.Views.{judged_of, asks_in, IsShownFor};
-ghost use Rattle.word_codec.specs.Replies.{IsPlan};
+ghost use Rattle.site_codec.specs.Views.{judged_of, asks_in, IsShownFor};
+ghost use Rattle.site_codec.specs.Replies.{IsPlan};
 ghost use Rattle.site_posts.specs.Sound.{IsSound};
 ghost use Rattle.site_posts.specs.Places.{Shares};
 ghost use Rattle.site_posts.specs.Filling.{at, decided_place, word_place, IsShort, JudgesFor, Reads, Fills};
 
 use crate::place::Place;
 use crate::sharing::share;
-use word_codec::Codec;
-use word_codec::secc_machine::Judged;
+use site_codec::Codec;
+use site_codec::secc_machine::Judged;
 
 impl Place {
     /// Decides what is to be done without a word.

@@ -3,13 +3,13 @@
 ghost use Rattle.std.specs.Prelude.{◌≡◌, ◌≤◌, ℕ, List, length, All, min, fold, map};
 ghost use Rattle.session_timers.specs.Due.{never};
 ghost use Rattle.post_spec.specs.Steps.{event_at as event_for};
-ghost use Rattle.word_codec.specs.Resting.{IsReadOut};
-ghost use Rattle.word_codec.specs.Views.{event_of};
+ghost use Rattle.site_codec.specs.Resting.{IsReadOut};
+ghost use Rattle.site_codec.specs.Views.{event_of};
 ghost use Rattle.site_posts.specs.Places.{heard_place, HeardAll, due_at};
 
 use crate::place::Place;
 use charge_world::{Heard, What};
-use word_codec::secc_machine::PostEvent;
+use site_codec::secc_machine::PostEvent;
 
 /// What a hearing is for post k.
 fn event_at(k: u8, what: What) -> PostEvent

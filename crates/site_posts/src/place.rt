@@ -9,7 +9,7 @@ ghost use Rattle.site_posts.specs.Places.{capped, done_place};
 use crate::report::PostReport;
 use charge_world::Order;
 use session_words::{EndCause, PostPlan};
-use word_codec::secc_machine::{Done, Post};
+use site_codec::secc_machine::{Done, Post};
 
 /// A post of a site.
 #[derive(Drop)]

@@ -13,10 +13,10 @@ ghost use Rattle.site_replays.specs.Replayed.{IsReplayed};
 
 use charge_world::{Entry, Sink};
 use replay_wire::{Recorded, ReplayWire};
+use site_codec::Codec;
 pub use site_core;
 use site_core::{Ended, Site, serve};
 use std::marker::Brand;
-use word_codec::Codec;
 
 /// How a replay ended, and how many entries its past has; that count stands still at the end of its type.
 #[derive(Clone, Copy)]

@@ -9,11 +9,12 @@ ghost use Rattle.station_spec.specs.Blocks.{IsHearing, IsPlantEvent};
 ghost use Rattle.site_posts.specs.Places.{RestsAt};
 ghost use Rattle.site_acts.specs.Serving.{IsReady, InBlock, Known};
 ghost use Rattle.site_acts.specs.Telling.{Carries, CarriesText, IsTraced, IsWrittenSo};
+ghost use Rattle.site_serving.specs.Rooms.{FitsIn};
 
 use charge_world::{Heard, PlantEvent, Sink, What, Wire};
 use site_acts::{Desk, TraceFailed, act};
+use site_codec::Codec;
 use site_posts::Place;
-use word_codec::Codec;
 
 /// Does all that post i has to do.
 fn answer<C: Codec, W: Wire, J: Sink>(
@@ -74,7 +75,7 @@ pub fn answer_all<C: Codec, W: Wire, J: Sink>(
 
 /// The bytes that came with what was heard: the first of the room.
 pub fn bytes_heard(what: What, room: &[u8]) -> &[u8]
-    requires room { length room.now ≡ 4096 }
+    requires room { FitsIn what (length room.now) }
     requires count { HasCount what }
     ensures bytes { result.now ≡ bytes_of what room.now }
     ensures short { length result.now ≤ 4096 }
@@ -88,7 +89,7 @@ pub fn bytes_heard(what: What, room: &[u8]) -> &[u8]
 
 /// What was heard is within its types. It does nothing: each number is looked at for the prover, which so knows its bound.
 pub fn bound_heard(heard: &Heard, room: &[u8])
-    requires room { length room.now ≡ 4096 }
+    requires room { FitsIn heard.now.what (length room.now) }
     requires count { HasCount heard.now.what }
     ensures { IsHearing heard.now (bytes_of heard.now.what room.now) }
 {

@@ -1,9 +1,8 @@
 -- What the posts counted, over the closing orders too.
-use Rattle.std.proofs.Common.{◌≡◌, ◌<◌, ◌≤◌, ℕ, zero, suc, ◌+◌, Bool, true, false, ◌&&◌, ◌==◌, if◌then◌else◌, List, [], ◌∷◌, ◌++◌, length, map, get_or, Option, Some, None, refl, sym, ap, subst, ◌∙◌, arith}
+use Rattle.std.proofs.Common.{◌≡◌, ◌<◌, ℕ, zero, suc, ◌+◌, Bool, true, false, ◌==◌, if◌then◌else◌, List, [], ◌∷◌, ◌++◌, length, map, refl, sym, ap, subst, ◌∙◌, arith}
 use Rattle.std.specs.List.{AllByRecursion}
-use Rattle.std.proofs.lemmas.List.{length-map}
+use Rattle.std.proofs.lemmas.List.{append-nil, length-map}
 use Rattle.charge_world.specs.declared.entry.Entry.{Entry}
-use Rattle.charge_world.specs.declared.entry.Entry.TheVariants as entry
 use Rattle.charge_world.specs.declared.ports.Order.TheVariants as order
 use Rattle.session_words.specs.declared.plan.SitePlan.{SitePlan}
 use Rattle.post_spec.specs.Codecs.{Codecs}
@@ -15,8 +14,10 @@ use Rattle.station_laws.specs.PostRuns.{ArePostsOf, RunsArePostRuns}
 use Rattle.site_posts.specs.declared.place.Place.{Place}
 use Rattle.site_posts.specs.Filling.{at}
 use Rattle.site_posts.specs.Places.{capped, place_of}
+use Rattle.site_serving.specs.SiteActsServing.{Known, InBlock}
 use Rattle.site_serving.specs.Telling.{HasClosing, IsClosing}
 use Rattle.site_turns.specs.declared.ending.Ended.{Ended}
+use Rattle.site_turns.specs.declared.ending.Ended.TheVariants as ended
 use Rattle.site_turns.specs.Ending.{Counts, AreCounts}
 use Rattle.site_turns.specs.Turns.{Stops}
 
@@ -68,3 +69,7 @@ counts_first c plan places past law are e = λ i less.
     subst (λ (ps : List Place). Counts (i + 1) (at ps i).report past) (sym are)
     (counts_from c [] past 1 (map unheard plan.post.items) (law plan [] (map unheard plan.post.items) refl) (record { later = []; past_is = e; closing = tt }) i
     (subst (λ (n : ℕ). i < n) (ap length are ∙ length-map (map unheard plan.post.items) place_of) less))
+
+pub counts_so_far : (c : Codecs) (plan : SitePlan) (k : Known) (places : List Place) (past : List Entry) → RunsArePostRuns c → InBlock c plan k places past → AreCounts places past
+counts_so_far c plan k places past law block =
+    counts_stopped c plan ended.TraceFault k.untils [] places past past law (record { known = k; block = block; told_are = sym (append-nil k.untils); ended = tt }) (record { later = []; past_is = refl; closing = tt })

@@ -1,26 +1,24 @@
 -- Where the turns end, and the closing orders stand on them.
-use Rattle.std.proofs.Common.{◌≡◌, ◌<◌, ◌≤◌, ℕ, zero, suc, ◌+◌, Bool, true, false, List, [], ◌∷◌, ◌++◌, length, map, Option, Some, None, Result, Ok, Err, refl, sym, ap, subst, ◌∙◌, arith, inl, inr}
-use Rattle.std.specs.Prelude.{OnOk, OnErr, IsSome}
+use Rattle.std.proofs.Common.{◌≡◌, ℕ, suc, true, List, [], ◌∷◌, ◌++◌, map, Option, Some, None, Result, Ok, Err, refl, sym, ap, subst, ◌∙◌, arith, inl, inr}
+use Rattle.std.specs.Prelude.{OnOk, IsSome}
 use Rattle.std.specs.List.{All, AllByRecursion}
 use Rattle.std.proofs.lemmas.List.{append-nil}
 use Rattle.charge_world.specs.declared.entry.Entry.{Entry}
 use Rattle.charge_world.specs.declared.entry.Entry.TheVariants as entry
 use Rattle.charge_world.specs.declared.heard.Heard.{Heard}
-use Rattle.charge_world.specs.declared.ports.Order.TheVariants as order
 use Rattle.session_words.specs.declared.plan.PostPlan.{PostPlan}
 use Rattle.session_words.specs.declared.plan.SitePlan.{SitePlan}
-use Rattle.trace_text.specs.Pasts.{hearing_number, trace_text}
 use Rattle.post_spec.specs.Codecs.{Codecs}
 use Rattle.station_spec.specs.Blocks.{is_last, is_over, hearings}
 use Rattle.station_spec.specs.Sharing.{Post}
-use Rattle.station_spec.specs.Runs.{unheard, AreQuiet, Closes, IsSiteRun, IsCutRun}
+use Rattle.station_spec.specs.Runs.{unheard, AreQuiet, Closes, IsCutRun}
 use Rattle.station_spec.specs.Until.{AreUntils}
 use Rattle.station_laws.specs.PostRuns.{RunsArePostRuns}
 use Rattle.site_posts.specs.declared.place.Place.{Place}
 use Rattle.site_posts.specs.Filling.{no_place}
 use Rattle.site_posts.specs.Places.{place_of, RestsAt}
 use Rattle.site_serving.specs.SiteActsServing.{newest}
-use Rattle.site_serving.specs.Telling.{Carries, CarriesText, HasClosing, IsClosing, IsCutText, IsTraced}
+use Rattle.site_serving.specs.Telling.{Carries, HasClosing, IsClosing, IsTraced}
 use Rattle.site_serving.proofs.Carry.{carries_then}
 use Rattle.site_turns.specs.declared.ending.Ended.{Ended}
 use Rattle.site_turns.specs.declared.ending.Ended.TheVariants as ended

@@ -1,6 +1,5 @@
 -- Before anything was heard.
-use Rattle.std.proofs.Common.{◌≡◌, ◌<◌, ℕ, zero, suc, ◌+◌, false, List, [], ◌∷◌, ◌++◌, map, Option, Some, None, refl, sym, ap, subst, ◌∙◌, inl, inr}
-use Rattle.std.specs.Prelude.{IsSome}
+use Rattle.std.proofs.Common.{◌≡◌, ℕ, false, List, [], ◌++◌, map, Option, Some, None, refl, sym, ap, subst, ◌∙◌, inl}
 use Rattle.std.specs.List.{All}
 use Rattle.std.proofs.lemmas.List.{append-nil}
 use Rattle.charge_world.specs.declared.entry.Entry.{Entry}
@@ -12,17 +11,18 @@ use Rattle.trace_text.specs.Pasts.{first_line_2, hearing_number, trace_text}
 use Rattle.post_spec.specs.Codecs.{Codecs}
 use Rattle.station_laws.specs.PostRuns.{RunsArePostRuns}
 use Rattle.station_spec.specs.Runs.{unheard, IsCutRun}
-use Rattle.word_codec.specs.Replies.{IsPlan}
+use Rattle.site_codec.specs.Replies.{IsPlan}
 use Rattle.site_posts.specs.declared.place.Place.{Place}
 use Rattle.site_posts.specs.Places.{RestsAt}
 use Rattle.site_serving.specs.SiteActsServing.{IsReady}
-use Rattle.site_serving.specs.Telling.{Carries, CarriesText, HasClosing, IsTraced}
+use Rattle.site_serving.specs.Telling.{Carries, CarriesText, IsTraced}
 use Rattle.site_serving.proofs.Carry.{carries_from}
 use Rattle.site_serving.proofs.Frame.{begins}
 use Rattle.site_turns.specs.declared.ending.Ended.{Ended}
 use Rattle.site_turns.specs.declared.ending.Ended.TheVariants as ended
 use Rattle.site_turns.specs.declared.hearing.SoFar.{SoFar}
-use Rattle.site_turns.specs.Ending.{AreMade, AreMadeOf, RanAs, TracedAs, AwaitedAs, AreCounts}
+use Rattle.site_turns.specs.Ending.{AreMadeOf, RanAs, TracedAs, AwaitedAs, AreCounts}
+use Rattle.site_turns.specs.SoFar.{nothing_heard, IsSoFar}
 use Rattle.site_turns.specs.Turns.{Waits, Stops}
 use Rattle.site_turns.proofs.Counts.{counts_first}
 use Rattle.site_turns.proofs.Finished.{closes_unheard}
@@ -35,12 +35,18 @@ first_ready Reads plan places limit turns m = subst (All (IsReady Reads)) (sym m
 pub first_rest : (plan : SitePlan) (places : List Place) (limit turns : ℕ) → AreMadeOf plan places limit turns → All RestsAt places
 first_rest plan places limit turns m = subst (All RestsAt) (sym m.places_are) (made_rest plan.post.items)
 
-pub waits_first : (c : Codecs) (plan : SitePlan) (places : List Place) (limit turns : ℕ) (so_far : SoFar) (told : List ℕ) (past : List Entry) → so_far ≡ record { moment = 0; hearing = 0 } → AreMadeOf plan places limit turns → past ≡ [] → Waits c plan so_far told told places past
-waits_first c plan places limit turns so_far told past none m e = record {
+pub none_so_far : (c : Codecs) (plan : SitePlan) (places : List Place) (limit turns : ℕ) (so_far : SoFar) (past : List Entry) → so_far ≡ nothing_heard → AreMadeOf plan places limit turns → past ≡ [] → IsSoFar c plan so_far places past
+none_so_far c plan places limit turns so_far past none m e = record {
   known = record { newest_hearing = None; clock = 0; heard = 0; last = false; untils = [] };
   block = begins c plan places past m.places_are e;
   clock_is = ap (λ (s : SoFar). s.moment) (sym none);
   heard_is = ap (λ (s : SoFar). s.hearing) (sym none);
+}
+
+pub waits_first : (c : Codecs) (plan : SitePlan) (places : List Place) (limit turns : ℕ) (so_far : SoFar) (told : List ℕ) (past : List Entry) → so_far ≡ nothing_heard → AreMadeOf plan places limit turns → past ≡ [] → Waits c plan so_far told told places past
+unfolding none_so_far
+waits_first c plan places limit turns so_far told past none m e = record {
+  run = none_so_far c plan places limit turns so_far past none m e;
   goes_on = refl;
   told_are = refl;
 }
@@ -72,7 +78,7 @@ pub none_counts : (c : Codecs) (plan : SitePlan) (places : List Place) (limit tu
 none_counts c plan places limit turns past law m e = counts_first c plan places past law m.places_are e
 
 -- from nothing to where the turns end
-pub stops_first : (start mid : Option (List Entry)) (c : Codecs) (plan : SitePlan) (places new : List Place) (limit turns : ℕ) (so_far : SoFar) (how : Ended) (told earlier : List ℕ) → so_far ≡ record { moment = 0; hearing = 0 } → AreMadeOf plan places limit turns
+pub stops_first : (start mid : Option (List Entry)) (c : Codecs) (plan : SitePlan) (places new : List Place) (limit turns : ℕ) (so_far : SoFar) (how : Ended) (told earlier : List ℕ) → so_far ≡ nothing_heard → AreMadeOf plan places limit turns
     → Carries start mid (Waits c plan so_far earlier earlier places) (Stops c plan how told earlier new) → Carries start mid (λ past. past ≡ []) (Stops c plan how told earlier new)
 stops_first start mid c plan places new limit turns so_far how told earlier none m h =
     carries_from start mid (λ past. past ≡ []) (Waits c plan so_far earlier earlier places) (Stops c plan how told earlier new) (λ past e. waits_first c plan places limit turns so_far earlier past none m e) h

@@ -1,5 +1,5 @@
 -- What posts hear, and the line of a hearing.
-use Rattle.std.proofs.Common.{◌≡◌, ◌<◌, ℕ, zero, suc, ◌+◌, Bool, true, false, ◌==◌, if◌then◌else◌, List, [], ◌∷◌, ◌++◌, length, map, get_or, max, min, Option, Some, None, refl, sym, ap, subst, ◌∙◌, arith, inl, inr}
+use Rattle.std.proofs.Common.{◌≡◌, ◌<◌, ℕ, zero, suc, ◌+◌, Bool, true, false, ◌==◌, if◌then◌else◌, List, [], ◌∷◌, length, map, get_or, max, min, Option, refl, sym, subst, arith}
 use Rattle.std.specs.Prelude.{fold}
 use Rattle.std.specs.List.{All}
 use Rattle.charge_world.specs.declared.entry.Entry.{Entry}
@@ -18,9 +18,8 @@ use Rattle.post_spec.specs.Steps as steps
 use Rattle.station_spec.specs.Blocks.{IsHearing, Brings}
 use Rattle.station_spec.specs.Runs.{unheard}
 use Rattle.secc_machine.specs.Resting.{ReadsAll, IsReadOut}
-use Rattle.word_codec.specs.Replies.{IsPlan}
+use Rattle.site_codec.specs.Replies.{IsPlan}
 use Rattle.site_posts.specs.declared.place.Place.{Place}
-use Rattle.site_posts.specs.Filling.{no_place}
 use Rattle.site_posts.specs.Places.{place_of, heard_place, HeardAll, due_at, RestsAt}
 use Rattle.site_posts.proofs.Sound.{IsEvent, fresh_sound, heard_sound}
 use Rattle.site_serving.specs.SiteActsServing.{IsReady, Known, InBlock}

@@ -1,13 +1,11 @@
 -- A line that is written behind its entry, and counts of faults.
-use Rattle.std.proofs.Common.{◌≡◌, ◌<◌, ◌≤◌, ℕ, ◌+◌, Bool, true, false, if◌then◌else◌, List, [], ◌∷◌, ◌++◌, length, Option, Some, None, Result, Ok, Err, refl, sym, ap, subst, inl, inr}
-use Rattle.std.specs.Prelude.{OnOk, OnErr, IsErr, IsSome}
+use Rattle.std.proofs.Common.{◌≡◌, ℕ, ◌+◌, if◌then◌else◌, List, ◌∷◌, Option, Some, None, Result, Ok, Err, refl, sym, subst}
+use Rattle.std.specs.Prelude.{OnOk, OnErr, IsErr}
 use Rattle.charge_world.specs.declared.entry.Entry.{Entry}
-use Rattle.charge_world.specs.declared.entry.Entry.TheVariants as entry
-use Rattle.charge_world.specs.declared.ports.Order.TheVariants as order
 use Rattle.charge_world.specs.Outside.{GrowsByOne, Appends, AppendsSome}
 use Rattle.trace_text.specs.TraceText.{numbered_line_of}
 use Rattle.trace_text.specs.Pasts.{is_hearing}
-use Rattle.site_serving.specs.Telling.{Carries, CarriesText, IsTraced, IsCutHere, IsWrittenSo}
+use Rattle.site_serving.specs.Telling.{CarriesText, IsTraced, IsCutHere, IsWrittenSo}
 use Rattle.site_serving.proofs.Carry.{text_one}
 use Rattle.site_turns.specs.declared.ending.Ended.TheVariants as ended
 use Rattle.site_turns.specs.declared.ending.Last.{Last}

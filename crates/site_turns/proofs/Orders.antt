@@ -1,5 +1,5 @@
 -- Closing orders that stand on closing orders.
-use Rattle.std.proofs.Common.{◌≡◌, ℕ, List, [], ◌∷◌, ◌++◌, Option, Some, None, refl, sym, ap, subst, ◌∙◌, append_assoc}
+use Rattle.std.proofs.Common.{◌≡◌, List, [], ◌∷◌, ◌++◌, Option, Some, None, refl, sym, ap, ◌∙◌, append_assoc}
 use Rattle.std.specs.List.{AllByRecursion}
 use Rattle.charge_world.specs.declared.entry.Entry.{Entry}
 use Rattle.site_serving.specs.Telling.{Carries, HasClosing, IsClosing}

@@ -1,5 +1,5 @@
 -- One turn: something was heard, or nothing any more.
-use Rattle.std.proofs.Common.{◌≡◌, ◌<◌, ◌≤◌, ℕ, ◌+◌, Bool, true, false, List, [], ◌∷◌, ◌++◌, length, map, max, min, Option, Some, None, Result, Ok, Err, refl, sym, ap, subst, ◌∙◌, arith}
+use Rattle.std.proofs.Common.{◌≡◌, ◌<◌, ℕ, ◌+◌, ◌-◌, ◌^◌, true, false, List, [], ◌∷◌, ◌++◌, map, max, min, Option, Some, None, Result, Ok, Err, refl, sym, ap, subst, ◌∙◌, arith}
 use Rattle.std.specs.Prelude.{IsSome, IsErr, fold}
 use Rattle.std.specs.List.{All}
 use Rattle.charge_world.specs.declared.entry.Entry.{Entry}
@@ -13,7 +13,7 @@ use Rattle.session_timers.specs.Due.{never}
 use Rattle.post_spec.specs.Codecs.{Codecs}
 use Rattle.station_spec.specs.Blocks.{is_over}
 use Rattle.site_posts.specs.declared.place.Place.{Place}
-use Rattle.site_posts.specs.Places.{due_at, RestsAt}
+use Rattle.site_posts.specs.Places.{capped, due_at, RestsAt}
 use Rattle.site_serving.specs.SiteActsServing.{newest, Known, InBlock}
 use Rattle.site_serving.specs.Telling.{Carries}
 use Rattle.site_serving.proofs.Frame.{lost_one}
@@ -24,6 +24,7 @@ use Rattle.site_turns.specs.declared.hearing.SoFar.{SoFar}
 use Rattle.site_turns.specs.Ending.{EndedAs}
 use Rattle.site_turns.specs.Hearing.{Hears, known_behind}
 use Rattle.site_turns.specs.Lasts.{last_by, ended_so}
+use Rattle.site_turns.specs.SoFar.{IsSoFar, IsNext}
 use Rattle.site_turns.specs.Turns.{Waits, Stops, Turned}
 
 -- behind a hearing
@@ -36,39 +37,58 @@ pub record HeardSo (c : Codecs) (plan : SitePlan) (so_far : SoFar) (h : Heard) (
   pub last_is : known.last ≡ is_over h.what
   pub told_are : told ≡ known.untils ++ earlier
 
+-- one hearing more is counted
+pub counted : (n m : ℕ) → n < 2 ^ 64 - 1 → m ≡ capped (n + 1) → m ≡ n + 1
+counted n m few e = omega (arith, few, e)
+
 one_until : (told told_later untils earlier : List ℕ) (wait : ℕ) → told_later ≡ wait ∷ told → told ≡ untils ++ earlier → told_later ≡ (wait ∷ untils) ++ earlier
 one_until told told_later untils earlier wait more are = more ∙ ap (λ (t : List ℕ). wait ∷ t) are
 
 pub turn_heard : (a m b : Option (List Entry)) (c : Codecs) (plan : SitePlan) (so_far later : SoFar) (h : Heard) (bytes told told_later earlier : List ℕ) (wait : ℕ) (places new : List Place)
     → GrowsByOne a m (entry.Heard h bytes)
-    → ((k : Known) → k.last ≡ false → k.heard < plan.turns → max k.clock h.at ≡ later.moment → Carries m b (Hears c plan k h bytes places) (InBlock c plan (known_behind k h bytes wait) new))
+    → ((k : Known) → k.last ≡ false → k.heard < plan.turns → k.clock ≡ so_far.moment → Carries m b (Hears c plan k h bytes places) (InBlock c plan (known_behind k h bytes wait) new))
     → (IsSome b → told_later ≡ wait ∷ told) → later.moment ≡ max so_far.moment h.at → later.hearing ≡ so_far.hearing + 1 → so_far.hearing < plan.turns
     → Carries a b (Waits c plan so_far told earlier places) (HeardSo c plan later h bytes told_later earlier new)
 turn_heard a m None c plan so_far later h bytes told told_later earlier wait places new grows behind waited moment_is hearing_is left = tt
 turn_heard a None (Some past) c plan so_far later h bytes told told_later earlier wait places new grows behind waited moment_is hearing_is left =
-    absurd (behind (record { newest_hearing = None; clock = so_far.moment; heard = so_far.hearing; last = false; untils = [] }) refl left (sym moment_is))
+    absurd (behind (record { newest_hearing = None; clock = so_far.moment; heard = so_far.hearing; last = false; untils = [] }) refl left refl)
 turn_heard None (Some mid) (Some past) c plan so_far later h bytes told told_later earlier wait places new grows behind waited moment_is hearing_is left = absurd grows
 turn_heard (Some old) (Some mid) (Some past) c plan so_far later h bytes told told_later earlier wait places new grows behind waited moment_is hearing_is left = λ w.
-    let clock : max w.known.clock h.at ≡ later.moment = ap (λ (m : ℕ). max m h.at) w.clock_is ∙ sym moment_is in
+    let r = w.run in
     record {
-      known = known_behind w.known h bytes wait;
-      block = behind w.known w.goes_on (subst (λ (n : ℕ). n < plan.turns) (sym w.heard_is) left) clock (record { earlier = old; past_is = grows; block = w.block });
-      clock_is = clock;
-      heard_is = ap (λ (n : ℕ). n + 1) w.heard_is ∙ sym hearing_is;
+      known = known_behind r.known h bytes wait;
+      block = behind r.known w.goes_on (subst (λ (n : ℕ). n < plan.turns) (sym r.heard_is) left) r.clock_is (record { earlier = old; past_is = grows; block = r.block });
+      clock_is = ap (λ (m : ℕ). max m h.at) r.clock_is ∙ sym moment_is;
+      heard_is = ap (λ (n : ℕ). n + 1) r.heard_is ∙ sym hearing_is;
       newest_is = refl;
       last_is = refl;
-      told_are = one_until told told_later w.known.untils earlier wait (waited refl) w.told_are;
+      told_are = one_until told told_later r.known.untils earlier wait (waited refl) w.told_are;
+    }
+
+-- behind a hearing in a loop of its own
+pub next_heard : (a b : Option (List Entry)) (c : Codecs) (plan : SitePlan) (so_far later : SoFar) (h : Heard) (bytes : List ℕ) (wait : ℕ) (places new : List Place)
+    → ((k : Known) → k.last ≡ false → k.heard < plan.turns → k.clock ≡ so_far.moment → Carries a b (Hears c plan k h bytes places) (InBlock c plan (known_behind k h bytes wait) new))
+    → (IsSome b → IsSome a) → later.moment ≡ max so_far.moment h.at → later.hearing ≡ so_far.hearing + 1 → Carries a b (IsNext c plan so_far h bytes places) (IsSoFar c plan later new)
+next_heard a None c plan so_far later h bytes wait places new behind told moment_is hearing_is = tt
+next_heard None (Some past) c plan so_far later h bytes wait places new behind told moment_is hearing_is = let none = told refl in cc
+next_heard (Some old) (Some past) c plan so_far later h bytes wait places new behind told moment_is hearing_is = λ next.
+    let r = next.run in
+    record {
+      known = known_behind r.known h bytes wait;
+      block = behind r.known (sym r.block.last_is ∙ next.goes_on) (subst (λ (n : ℕ). n < plan.turns) r.block.heard_is next.left) r.clock_is (record { earlier = next.earlier; past_is = next.past_is; block = r.block });
+      clock_is = ap (λ (m : ℕ). max m h.at) r.clock_is ∙ sym moment_is;
+      heard_is = ap (λ (n : ℕ). n + 1) r.heard_is ∙ sym hearing_is;
     }
 
 -- so serving goes on, or ends
 turned_by : (E : Type 0) (c : Codecs) (plan : SitePlan) (so_far : SoFar) (h : Heard) (bytes told earlier : List ℕ) (places : List Place) (past : List Entry) (w : What) → h.what ≡ w → HeardSo c plan so_far h bytes told earlier places past
     → Turned {E = E} c plan (Ok (last_by w)) so_far told earlier places past
-turned_by E c plan so_far h bytes told earlier places past (what.Came post token) e s = record { known = s.known; block = s.block; clock_is = s.clock_is; heard_is = s.heard_is; goes_on = s.last_is ∙ ap is_over e; told_are = s.told_are }
-turned_by E c plan so_far h bytes told earlier places past (what.Bytes post n) e s = record { known = s.known; block = s.block; clock_is = s.clock_is; heard_is = s.heard_is; goes_on = s.last_is ∙ ap is_over e; told_are = s.told_are }
-turned_by E c plan so_far h bytes told earlier places past (what.Gone post) e s = record { known = s.known; block = s.block; clock_is = s.clock_is; heard_is = s.heard_is; goes_on = s.last_is ∙ ap is_over e; told_are = s.told_are }
-turned_by E c plan so_far h bytes told earlier places past (what.Datagram post n) e s = record { known = s.known; block = s.block; clock_is = s.clock_is; heard_is = s.heard_is; goes_on = s.last_is ∙ ap is_over e; told_are = s.told_are }
-turned_by E c plan so_far h bytes told earlier places past (what.Plant post event) e s = record { known = s.known; block = s.block; clock_is = s.clock_is; heard_is = s.heard_is; goes_on = s.last_is ∙ ap is_over e; told_are = s.told_are }
-turned_by E c plan so_far h bytes told earlier places past what.Tick e s = record { known = s.known; block = s.block; clock_is = s.clock_is; heard_is = s.heard_is; goes_on = s.last_is ∙ ap is_over e; told_are = s.told_are }
+turned_by E c plan so_far h bytes told earlier places past (what.Came post token) e s = record { run = record { known = s.known; block = s.block; clock_is = s.clock_is; heard_is = s.heard_is }; goes_on = s.last_is ∙ ap is_over e; told_are = s.told_are }
+turned_by E c plan so_far h bytes told earlier places past (what.Bytes post n) e s = record { run = record { known = s.known; block = s.block; clock_is = s.clock_is; heard_is = s.heard_is }; goes_on = s.last_is ∙ ap is_over e; told_are = s.told_are }
+turned_by E c plan so_far h bytes told earlier places past (what.Gone post) e s = record { run = record { known = s.known; block = s.block; clock_is = s.clock_is; heard_is = s.heard_is }; goes_on = s.last_is ∙ ap is_over e; told_are = s.told_are }
+turned_by E c plan so_far h bytes told earlier places past (what.Datagram post n) e s = record { run = record { known = s.known; block = s.block; clock_is = s.clock_is; heard_is = s.heard_is }; goes_on = s.last_is ∙ ap is_over e; told_are = s.told_are }
+turned_by E c plan so_far h bytes told earlier places past (what.Plant post event) e s = record { run = record { known = s.known; block = s.block; clock_is = s.clock_is; heard_is = s.heard_is }; goes_on = s.last_is ∙ ap is_over e; told_are = s.told_are }
+turned_by E c plan so_far h bytes told earlier places past what.Tick e s = record { run = record { known = s.known; block = s.block; clock_is = s.clock_is; heard_is = s.heard_is }; goes_on = s.last_is ∙ ap is_over e; told_are = s.told_are }
 turned_by E c plan so_far h bytes told earlier places past what.Over e s = record {
   known = s.known;
   block = s.block;
@@ -99,20 +119,21 @@ pub turn_lost : (a b : Option (List Entry)) (c : Codecs) (plan : SitePlan) (so_f
 turn_lost a None c plan so_far how told told_later earlier wait places grows waited waits left rest end = tt
 turn_lost None (Some past) c plan so_far how told told_later earlier wait places grows waited waits left rest end = absurd grows
 turn_lost (Some old) (Some past) c plan so_far how told told_later earlier wait places grows waited waits left rest end = λ w.
-    let block = lost_one c plan w.known places old wait w.goes_on (subst (λ (n : ℕ). n < plan.turns) (sym w.heard_is) left) rest waits w.block in
-    let known : Known = record { newest_hearing = Some entry.Lost; clock = w.known.clock; heard = w.known.heard + 1; last = true; untils = wait ∷ w.known.untils } in
+    let r = w.run in
+    let block = lost_one c plan r.known places old wait w.goes_on (subst (λ (n : ℕ). n < plan.turns) (sym r.heard_is) left) rest waits r.block in
+    let known : Known = record { newest_hearing = Some entry.Lost; clock = r.known.clock; heard = r.known.heard + 1; last = true; untils = wait ∷ r.known.untils } in
     record {
       known = known;
       block = subst (InBlock c plan known places) (sym grows) block;
-      told_are = one_until told told_later w.known.untils earlier wait (waited refl) w.told_are;
+      told_are = one_until told told_later r.known.untils earlier wait (waited refl) w.told_are;
       ended = subst (EndedAs plan.turns how) (sym grows) (end (entry.Lost ∷ old) refl);
     }
 
 -- the last turn was made
 pub stop_turns : (c : Codecs) (plan : SitePlan) (so_far : SoFar) (told earlier : List ℕ) (places : List Place) (past : List Entry) → so_far.hearing ≡ plan.turns → Waits c plan so_far told earlier places past → Stops c plan ended.Turns told earlier places past
 stop_turns c plan so_far told earlier places past all w = record {
-  known = w.known;
-  block = w.block;
+  known = w.run.known;
+  block = w.run.block;
   told_are = w.told_are;
-  ended = (w.block.heard_is ∙ w.heard_is ∙ all, w.block.last_is ∙ w.goes_on);
+  ended = (w.run.block.heard_is ∙ w.run.heard_is ∙ all, w.run.block.last_is ∙ w.goes_on);
 }

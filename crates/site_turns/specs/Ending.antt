@@ -12,7 +12,7 @@ use Rattle.station_spec.specs.Blocks.{is_last, is_over, hearings}
 use Rattle.station_spec.specs.Report.{sessions, closed, causes}
 use Rattle.station_spec.specs.Runs.{unheard, IsSiteRun, IsCutRun}
 use Rattle.station_spec.specs.Until.{AreUntils}
-use Rattle.word_codec.specs.Replies.{IsPlan}
+use Rattle.site_codec.specs.Replies.{IsPlan}
 use Rattle.site_posts.specs.declared.place.Place.{Place}
 use Rattle.site_posts.specs.declared.report.PostReport.{PostReport}
 use Rattle.site_posts.specs.Filling.{at}

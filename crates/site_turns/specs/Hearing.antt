@@ -6,7 +6,6 @@ use Rattle.charge_world.specs.declared.heard.Heard.{Heard}
 use Rattle.session_words.specs.declared.plan.SitePlan.{SitePlan}
 use Rattle.post_spec.specs.Codecs.{Codecs}
 use Rattle.station_spec.specs.Blocks.{is_over}
-use Rattle.trace_text.specs.Pasts.{trace_text, hearing_number}
 use Rattle.site_posts.specs.declared.place.Place.{Place}
 use Rattle.site_serving.specs.SiteActsServing.{Known, InBlock}
 use Rattle.site_serving.specs.Telling.{IsTraced}

@@ -12,15 +12,13 @@ use Rattle.site_turns.specs.declared.ending.Last.{Last}
 use Rattle.site_turns.specs.declared.hearing.SoFar.{SoFar}
 use Rattle.site_turns.specs.Ending.{EndedAs}
 use Rattle.site_turns.specs.Lasts.{ended_by, ended_so}
+use Rattle.site_turns.specs.SoFar.{IsSoFar}
 
 -- a next hearing may come. `told` are the moments that the wire waited for, of which `earlier` were there before serving
 pub record Waits (c : Codecs) (plan : SitePlan) (so_far : SoFar) (told earlier : List ℕ) (places : List Place) (past : List Entry) : Type 0 where
-  pub known : Known
-  pub block : InBlock c plan known places past
-  pub clock_is : known.clock ≡ so_far.moment
-  pub heard_is : known.heard ≡ so_far.hearing
-  pub goes_on : known.last ≡ false
-  pub told_are : told ≡ known.untils ++ earlier
+  pub run : IsSoFar c plan so_far places past
+  pub goes_on : run.known.last ≡ false
+  pub told_are : told ≡ run.known.untils ++ earlier
 
 -- the turns ended so
 pub record Stops (c : Codecs) (plan : SitePlan) (how : Ended) (told earlier : List ℕ) (places : List Place) (past : List Entry) : Type 0 where

@@ -1,38 +1,61 @@
 //! A hearing, and all that the posts do about it.
 
-ghost use Rattle.std.specs.Prelude.{◌≡◌, ◌≤◌, ◌<◌, ◌+◌, ℕ, length, map, max, min, fold, false, IsSome, OnOk, All};
+ghost use Rattle.std.specs.Prelude.{◌≡◌, ◌≤◌, ◌<◌, ◌+◌, ◌-◌, ◌^◌, ℕ, length, map, max, min, fold, false, IsSome, OnOk, All};
 ghost use Rattle.charge_world.specs.declared.entry.Entry.TheVariants as entry;
 ghost use Rattle.charge_world.specs.Outside.{IsFault, HasCount, IsOfPosts, bytes_of};
 ghost use Rattle.session_timers.specs.Due.{never};
 ghost use Rattle.session_words.specs.declared.plan.SitePlan.{SitePlan};
 ghost use Rattle.post_spec.specs.Codecs.{codecs};
 ghost use Rattle.station_spec.specs.Blocks.{IsHearing};
-ghost use Rattle.site_posts.specs.Places.{RestsAt, HeardAll, due_at};
+ghost use Rattle.site_posts.specs.Places.{RestsAt, HeardAll, due_at, capped};
+ghost use Rattle.site_serving.specs.Rooms.{FitsIn};
 ghost use Rattle.site_serving.specs.SiteActsServing.{IsReady, InBlock, Known};
 ghost use Rattle.site_serving.specs.Telling.{Carries, CarriesText, IsWrittenSo};
 ghost use Rattle.site_turns.specs.Hearing.{Hears, known_behind, AwaitsLine};
+ghost use Rattle.site_turns.specs.SoFar.{nothing_heard};
 
 use charge_world::{Heard, Sink, Wire};
 use secc_machine::law_of_rest;
+use site_codec::Codec;
 use site_posts::{Place, hear_all};
 use site_serving::site_acts::Desk;
 use site_serving::{TraceFailed, answer_all, bound_heard, bytes_heard};
 use trace_text::Noted;
-use word_codec::Codec;
 
 /// What a site heard so far.
 #[derive(Drop)]
 pub struct SoFar {
     /// The greatest moment, in milliseconds.
     pub moment: u64,
-    /// How many hearings there were, a lost one counted.
+    /// How many hearings there were, a lost one counted. It stands still at the end of its type.
     pub hearing: u64,
+}
+
+impl SoFar {
+    /// Nothing.
+    pub fn nothing() -> SoFar
+        ensures { result ≡ nothing_heard }
+    {
+        SoFar {
+            moment: 0,
+            hearing: 0,
+        }
+    }
+
+    /// Counts a hearing at this moment. A clock that goes back stands still.
+    fn count(&mut self, at: u64)
+        ensures moment { self.new.moment ≡ max self.old.moment at }
+        ensures hearing { self.new.hearing ≡ capped (self.old.hearing + 1) }
+    {
+        self.moment = self.moment.max(at);
+        self.hearing = self.hearing.saturating_add(1);
+    }
 }
 
 /// Each post hears this, at this moment.
 fn take_in(places: &mut [Place], now: u64, heard: &Heard, room: &[u8])
     requires few { length places.old ≤ 8 }
-    requires room { length room.now ≡ 4096 }
+    requires room { FitsIn heard.now.what (length room.now) }
     requires count { HasCount heard.now.what }
     requires quiet { All RestsAt places.old }
     ensures heard { HeardAll now heard.now.what (bytes_of heard.now.what room.now) places.old places.new }
@@ -43,8 +66,8 @@ fn take_in(places: &mut [Place], now: u64, heard: &Heard, room: &[u8])
     hear_all(places, now, heard, bytes_heard(heard.what, room));
 }
 
-/// Takes in what was heard, writes its line, and does all that the posts have to do about it.
-pub(crate) fn hear<C: Codec, W: Wire, J: Sink>(
+/// Takes in what was heard and is counted, writes its line, and does all that the posts have to do about it.
+fn hear_counted<C: Codec, W: Wire, J: Sink>(
     desk: &mut Desk<C>,
     places: &mut [Place],
     limit: u32,
@@ -55,7 +78,7 @@ pub(crate) fn hear<C: Codec, W: Wire, J: Sink>(
     trace: &mut J,
 ) -> Result<(), TraceFailed>
     requires few { length places.old ≤ 8 }
-    requires room { length room.now ≡ 4096 }
+    requires room { FitsIn heard.now.what (length room.now) }
     requires count { HasCount heard.now.what }
     requires post { IsOfPosts (length places.old) heard.now.what }
     requires ready { All (IsReady C.reads) places.old }
@@ -81,4 +104,44 @@ pub(crate) fn hear<C: Codec, W: Wire, J: Sink>(
     };
     desk.lines.write(so_far.hearing, &noted, trace)?;
     answer_all(desk, places, limit, so_far.hearing, wire, trace)
+}
+
+/// Hears this at a site whose posts have nothing left to do: counts it, writes its line, and does all that the posts have to do about it, each
+/// deed with its line right behind its call. The bytes of a piece or a datagram are the first of the room.
+///
+/// `TraceFailed` exactly where a line couldn't be written; nothing more is done then.
+pub fn hear<C: Codec, W: Wire, J: Sink>(
+    desk: &mut Desk<C>,
+    places: &mut [Place],
+    limit: u32,
+    so_far: &mut SoFar,
+    heard: &Heard,
+    room: &[u8],
+    wire: &mut W,
+    trace: &mut J,
+) -> Result<(), TraceFailed>
+    requires few { length places.old ≤ 8 }
+    requires room { FitsIn heard.now.what (length room.now) }
+    requires count { HasCount heard.now.what }
+    requires post { IsOfPosts (length places.old) heard.now.what }
+    requires ready { All (IsReady C.reads) places.old }
+    requires quiet { All RestsAt places.old }
+    ensures carried { (plan : SitePlan) (k : Known) (wait : ℕ) → plan.limit ≡ limit → k.last ≡ false → k.heard < plan.turns → k.clock ≡ so_far.old.moment
+        → wait ≡ fold min never (map due_at places.old) → Carries (W.past wire.old) (W.past wire.new)
+        (Hears (codecs C.negotiates C.reads C.encodes) plan k heard.now (bytes_of heard.now.what room.now) places.old)
+        (InBlock (codecs C.negotiates C.reads C.encodes) plan (known_behind k heard.now (bytes_of heard.now.what room.now) wait) places.new) }
+    ensures traced { so_far.old.hearing < 2 ^ 64 - 1 → CarriesText (W.past wire.old) (W.past wire.new) (J.taken trace.old) (J.taken trace.new)
+        (AwaitsLine so_far.old.hearing (entry.Heard heard.now (bytes_of heard.now.what room.now))) (IsWrittenSo so_far.new.hearing result) }
+    ensures moment { so_far.new.moment ≡ max so_far.old.moment heard.now.at }
+    ensures hearing { so_far.new.hearing ≡ capped (so_far.old.hearing + 1) }
+    ensures ready { All (IsReady C.reads) places.new }
+    ensures quiet { OnOk result (All RestsAt places.new) }
+    ensures writes { IsFault (J.faults trace.old) (J.faults trace.new) result }
+    ensures untils { IsSome (W.past wire.new) → W.untils wire.new ≡ W.untils wire.old }
+    ensures started { W.started wire.new ≡ W.started wire.old }
+    ensures posts { W.posts wire.new ≡ W.posts wire.old }
+    ensures faults { W.faults wire.old ≤ W.faults wire.new }
+{
+    so_far.count(heard.at);
+    hear_counted(desk, places, limit, so_far, heard, room, wire, trace)
 }

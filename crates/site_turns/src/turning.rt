@@ -18,13 +18,13 @@ use crate::closing::close_all;
 use crate::ending::{Ended, Last};
 use crate::hearing::{SoFar, hear};
 use charge_world::{Sink, Wire};
+use site_codec::Codec;
 use site_posts::{Place, until};
 use site_serving::site_acts::Desk;
 use site_serving::{TraceFailed, close_unwritten};
 use station_laws::runs_of_posts;
 use trace_lines::TraceLines;
 use trace_text::Noted;
-use word_codec::Codec;
 
 /// Hears once, and does all that the posts have to do about it; says how serving ended, where it did.
 fn turn<C: Codec, W: Wire, J: Sink>(
@@ -55,15 +55,13 @@ fn turn<C: Codec, W: Wire, J: Sink>(
     ensures faults { W.faults wire.old ≤ W.faults wire.new }
     ensures lost { result ≡ Ok (Some Last.Lost) → W.faults wire.old < W.faults wire.new }
 {
-    let next = wire.next(until(places), room);
-    so_far.hearing += 1;
-    match next {
+    match wire.next(until(places), room) {
         Err(_) => {
+            so_far.hearing += 1;
             desk.lines.write(so_far.hearing, &Noted::Lost, trace)?;
             Ok(Some(Last::Lost))
         }
         Ok(heard) => {
-            so_far.moment = so_far.moment.max(heard.at);
             hear(desk, places, limit, so_far, &heard, room, wire, trace)?;
             Ok(Last::heard(heard.what))
         }
@@ -145,6 +143,7 @@ fn serve_begun<C: Codec, W: Wire, J: Sink>(
     places: &mut [Place],
     limit: u32,
     turns: u64,
+    so_far: &mut SoFar,
     wire: &mut W,
     trace: &mut J,
 ) -> Ended
@@ -163,20 +162,18 @@ fn serve_begun<C: Codec, W: Wire, J: Sink>(
     ensures trace_fault { AreFaults (J.faults trace.old) (J.faults trace.new) result }
 {
     runs_of_posts::<C>();
-    let mut so_far = SoFar {
-        moment: 0,
-        hearing: 0,
-    };
-    let last = take_turns(desk, places, limit, turns, &mut so_far, wire, trace);
+    *so_far = SoFar::nothing();
+    let last = take_turns(desk, places, limit, turns, so_far, wire, trace);
     finish(last, places, so_far.hearing, &mut desk.lines, wire, trace)
 }
 
-/// Serves with posts that heard nothing yet, and ends by ordering each live contactor open.
+/// Serves with posts that heard nothing yet, and ends by ordering each live contactor open. What was heard so far begins anew.
 pub fn serve_posts<C: Codec, W: Wire, J: Sink>(
     desk: &mut Desk<C>,
     places: &mut [Place],
     limit: u32,
     turns: u64,
+    so_far: &mut SoFar,
     wire: &mut W,
     trace: &mut J,
 ) -> Ended
@@ -197,6 +194,6 @@ pub fn serve_posts<C: Codec, W: Wire, J: Sink>(
     runs_of_posts::<C>();
     match desk.lines.begin(trace) {
         Err(_) => Ended::TraceFault,
-        Ok(()) => serve_begun(desk, places, limit, turns, wire, trace),
+        Ok(()) => serve_begun(desk, places, limit, turns, so_far, wire, trace),
     }
 }

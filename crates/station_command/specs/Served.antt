@@ -9,7 +9,7 @@ use Rattle.site_acts.specs.Telling.{Carries, CarriesText}
 use Rattle.site_posts.specs.declared.report.PostReport.{PostReport}
 use Rattle.site_turns.specs.declared.ending.Ended.{Ended}
 use Rattle.site_turns.specs.Ending.{RanAs, EndedAs, AwaitedAs, TracedAs}
-use Rattle.lawful_sites.specs.Lawful.{IsLawful}
+use Rattle.site_laws.specs.Lawful.{IsLawful}
 use Rattle.command_status.specs.declared.status.Status.{Status}
 use Rattle.command_status.specs.declared.status.Status.TheVariants as status
 use Rattle.command_status.specs.FaultLines.{Tells, wire_line}

@@ -1,11 +1,12 @@
 //! The command.
 
-ghost use Rattle.std.specs.Prelude.{◌≡◌, ◌<◌, ◌⊎◌, ℕ, List, option_map};
+ghost use Rattle.std.specs.Prelude.{◌≡◌, ◌<◌, ◌⊎◌, ℕ, List, option_map, [], ◌∷◌};
 ghost use Rattle.session_words.specs.declared.plan.SitePlan.{SitePlan};
 ghost use Rattle.post_spec.specs.Codecs.{codecs};
 ghost use Rattle.plan_files.specs.Plans.{IsSitePlanIn};
 ghost use Rattle.command_status.specs.FaultLines.{Tells, source_line};
 ghost use Rattle.command_status.specs.Told.{sink_told};
+ghost use Rattle.command_status.specs.Completeness.{Completes};
 ghost use Rattle.station_command.specs.Served.{wire_told, Serves, IsBegun, IsUnbegun};
 ghost use Rattle.station_command.specs.Refused.{key_of, IsRefused};
 
@@ -13,9 +14,9 @@ use crate::serving::serve_plan;
 use charge_world::{Sink, Source, Wire};
 use command_status::{Status, tell_fault, tell_plan};
 use plan_files::{PlanFileFault, site_plan_in};
+use site_codec::LawfulCodec;
 use site_plan::PlanFault;
 use std::alloc::Global;
-use word_codec::LawfulCodec;
 
 /// Serves a station by the plan in the file of that name, with these codecs, and prints a line for each post.
 ///
@@ -52,6 +53,9 @@ pub fn station<C: LawfulCodec + Drop, F: Source, K: Sink, J: Sink, W: Wire>(
     ensures wire_fault { result ≡ Status.WireFault → W.faults wire.old < W.faults wire.new }
     ensures sink_fault { result ≡ Status.SinkFault → (K.faults out.old < K.faults out.new) ⊎ (J.faults trace.old < J.faults trace.new) }
     ensures trace_fault { J.faults trace.old < J.faults trace.new → result ≡ Status.SinkFault }
+
+    // Where no call failed, the site was served to Over or through its turns, or the plan is refused, but for want of memory.
+    ensures complete { Completes ((F.faults files.old, F.faults files.new) ∷ (K.faults out.old, K.faults out.new) ∷ (J.faults trace.old, J.faults trace.new) ∷ (W.faults wire.old, W.faults wire.new) ∷ []) (Status.TurnsSpent ∷ Status.Plan ∷ []) result }
 {
     match site_plan_in(alloc, files, name) {
         Ok(plan) => serve_plan(alloc, codec, &plan, out, trace, wire),

@@ -8,7 +8,7 @@ ghost use Rattle.station_command.specs.Lines.{hex8, report_line, report_lines, r
 use bitflags::Flags;
 use charge_world::{Failed, Sink};
 use command_status::{Line, Status, add, add_number, tell_fault};
-use lawful_sites::site_core::{CauseSet, Ended, PostReport, Site};
+use site_laws::site_core::{CauseSet, Ended, PostReport, Site};
 
 /// The line of a post.
 #[tactic(auto, unfolding(crate::specs::Lines::report_line))]

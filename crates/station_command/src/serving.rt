@@ -11,11 +11,11 @@ use crate::lines::conclude;
 use crate::ports::ports_of;
 use charge_world::{Sink, Wire};
 use command_status::{Status, tell_fault};
-use lawful_sites::serve;
-use lawful_sites::site_core::Site;
 use session_words::SitePlan;
+use site_codec::LawfulCodec;
+use site_laws::serve;
+use site_laws::site_core::Site;
 use std::alloc::Global;
-use word_codec::LawfulCodec;
 
 /// Serves a site that was just made of a plan, and prints its reports.
 fn serve_site<C: LawfulCodec + Drop, K: Sink, J: Sink, W: Wire>(

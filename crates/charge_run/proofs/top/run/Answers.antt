@@ -1,7 +1,9 @@
-use Rattle.std.proofs.Common.{inl, inr}
+use Rattle.std.proofs.Common.{inl, inr, [], ◌∷◌}
 use Rattle.command_words.specs.Command.{replay, decode, encode, basic, migrate, offer, schedule, services, pick}
 use Rattle.charge_run.proofs.Answered.{only_refused, only_unscanned, same_decoded, same_encoded, same_offered, same_picked, same_served, wants_nothing}
 use Rattle.charge_run.proofs.WordLists.{one_decode, one_encode, one_offer, one_pick, one_services}
+use Rattle.charge_run.proofs.Complete.{unfailed}
+use Rattle.command_status.specs.declared.status.Status.TheVariants as status
 use Rattle.charge_run.proofs.top.run.Goals as goal
 
 pub returns-in-Ok-Decode-clause-decode : goal.returns-in-Ok-Decode-clause-decode
@@ -143,3 +145,38 @@ pub returns-in-Err-NoCommand-clause-encode_refused : goal.returns-in-Err-NoComma
 returns-in-Err-NoCommand-clause-encode_refused g c dialect text place is fault =
     let none = (rw c.in-Err-NoCommand.field-0-is at c.in-Err-NoCommand.ensures.fault) in
     absurd (none (encode dialect text) is)
+
+-- ---- where no call failed
+
+pub returns-in-Ok-Station-clause-complete : goal.returns-in-Ok-Station-clause-complete
+returns-in-Ok-Station-clause-complete g c = λ none. unfailed (status.Done ∷ status.NoMemory ∷ status.TurnsSpent ∷ status.Plan ∷ []) c.serve.result (tt, (tt, (tt, (tt, tt)))) (c.serve.ensures.complete none)
+
+pub returns-in-Ok-Car-clause-complete : goal.returns-in-Ok-Car-clause-complete
+returns-in-Ok-Car-clause-complete g c = λ none. unfailed (status.Done ∷ status.NoMemory ∷ status.TurnsSpent ∷ status.Plan ∷ []) c.drive.result (tt, (tt, (tt, (tt, tt)))) (c.drive.ensures.complete none)
+
+pub returns-in-Ok-Replay-clause-complete : goal.returns-in-Ok-Replay-clause-complete
+returns-in-Ok-Replay-clause-complete g c = λ none. unfailed (status.Done ∷ status.NoMemory ∷ status.Plan ∷ status.Input ∷ []) c.replay_trace.result (tt, (tt, (tt, (tt, tt)))) (c.replay_trace.ensures.complete (none.0, (none.1.0, (none.1.1.0, tt))))
+
+pub returns-in-Ok-Decode-clause-complete : goal.returns-in-Ok-Decode-clause-complete
+returns-in-Ok-Decode-clause-complete g c = λ none. unfailed (status.Done ∷ status.NoMemory ∷ status.Input ∷ []) c.decode.result (tt, (tt, (tt, tt))) (c.decode.ensures.complete (none.1.0, tt))
+
+pub returns-in-Ok-Encode-clause-complete : goal.returns-in-Ok-Encode-clause-complete
+returns-in-Ok-Encode-clause-complete g c = λ none. unfailed (status.Done ∷ status.NoMemory ∷ status.Input ∷ []) c.encode.result (tt, (tt, (tt, tt))) (c.encode.ensures.complete (none.1.0, tt))
+
+pub returns-in-Ok-Basic-clause-complete : goal.returns-in-Ok-Basic-clause-complete
+returns-in-Ok-Basic-clause-complete g c = λ none. unfailed (status.Done ∷ status.NoMemory ∷ status.Input ∷ []) c.basic.result (tt, (tt, (tt, tt))) (c.basic.ensures.complete (none.0, (none.1.0, tt)))
+
+pub returns-in-Ok-Migrate-clause-complete : goal.returns-in-Ok-Migrate-clause-complete
+returns-in-Ok-Migrate-clause-complete g c = λ none. unfailed (status.Done ∷ status.NoMemory ∷ status.Input ∷ []) c.migrate.result (tt, (tt, (tt, tt))) (c.migrate.ensures.complete (none.0, (none.1.0, (none.1.1.0, tt))))
+
+pub returns-in-Ok-Offer-clause-complete : goal.returns-in-Ok-Offer-clause-complete
+returns-in-Ok-Offer-clause-complete g c = λ none. unfailed (status.Done ∷ status.NoMemory ∷ status.Plan ∷ []) c.offer.result (tt, (tt, (tt, tt))) (c.offer.ensures.complete (none.0, (none.1.0, tt)))
+
+pub returns-in-Ok-Schedule-clause-complete : goal.returns-in-Ok-Schedule-clause-complete
+returns-in-Ok-Schedule-clause-complete g c = λ none. unfailed (status.Done ∷ status.NoMemory ∷ status.Plan ∷ status.Input ∷ status.NoSchedule ∷ status.Unreached ∷ []) c.schedule.result (tt, (tt, (tt, (tt, (tt, (tt, tt)))))) (c.schedule.ensures.complete (none.0, (none.1.0, tt)))
+
+pub returns-in-Ok-Services-clause-complete : goal.returns-in-Ok-Services-clause-complete
+returns-in-Ok-Services-clause-complete g c = λ none. unfailed (status.Done ∷ status.NoMemory ∷ status.Plan ∷ []) c.services.result (tt, (tt, (tt, tt))) (c.services.ensures.complete (none.0, (none.1.0, tt)))
+
+pub returns-in-Ok-Pick-clause-complete : goal.returns-in-Ok-Pick-clause-complete
+returns-in-Ok-Pick-clause-complete g c = λ none. unfailed (status.Done ∷ status.NoMemory ∷ status.Words ∷ status.Input ∷ status.NoSet ∷ []) c.pick.result (tt, (tt, (tt, (tt, (tt, tt))))) (c.pick.ensures.complete (none.1.0, tt))

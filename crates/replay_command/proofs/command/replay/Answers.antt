@@ -1,5 +1,6 @@
 use Rattle.replay_command.proofs.Decided.{decided}
 use Rattle.replay_command.proofs.Leaving.{run_leaves, run_read, refused_leaves, refused_read}
+use Rattle.replay_command.proofs.Complete.{complete}
 use Rattle.replay_command.proofs.command.replay.Goals as goal
 
 pub returns-in-Ok-clause-leaves : goal.returns-in-Ok-clause-leaves
@@ -21,3 +22,6 @@ returns-in-Err-clause-leaves g c =
       unread = unread;
       decided = decided _ _ _ _ _ _ _ _ leaves unread;
     }
+
+pub returns-in-Ok-clause-complete : goal.returns-in-Ok-clause-complete
+returns-in-Ok-clause-complete g c = complete _ _ _ _ _ _ _ _ (returns-in-Ok-clause-leaves g c) c.replay_recording.ensures.sink_fault

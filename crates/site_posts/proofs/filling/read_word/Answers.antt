@@ -1,7 +1,7 @@
 use Rattle.std.proofs.Common.{◌≡◌, Some, None, set, refl, sym, ap, subst, ◌∙◌}
 use Rattle.post_spec.specs.Codecs.{codecs}
 use Rattle.station_spec.specs.Judging.{wanted}
-use Rattle.word_codec.specs.Views.{judged_of}
+use Rattle.site_codec.specs.Views.{judged_of}
 use Rattle.site_posts.specs.declared.place.Place.{Place}
 use Rattle.site_posts.specs.Filling.{word_place, JudgesFor}
 use Rattle.site_posts.proofs.Words.{index_at, reads_none, reads_some}

@@ -1,4 +1,4 @@
-use Rattle.std.proofs.Common.{◌≡◌, ◌≤◌, ℕ, List, map}
+use Rattle.std.proofs.Common.{◌≡◌, ◌≤◌, List, map}
 use Rattle.std.specs.Prelude.{IsSome}
 use Rattle.charge_world.specs.declared.entry.Entry.{Entry}
 use Rattle.station_spec.specs.Sharing.{Post}

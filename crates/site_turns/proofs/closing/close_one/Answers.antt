@@ -1,11 +1,11 @@
-use Rattle.std.proofs.Common.{◌≡◌, ◌+◌, ◌<◌, ℕ, Bool, true, false, List, length, map, is_ok, refl, sym, subst, ◌∙◌}
+use Rattle.std.proofs.Common.{◌+◌, ◌<◌, Bool, true, false, length, is_ok, sym, subst, ◌∙◌}
 use Rattle.charge_world.specs.declared.entry.Entry.{Entry}
 use Rattle.charge_world.specs.declared.entry.Entry.TheVariants as entry
 use Rattle.charge_world.specs.declared.ports.Order.TheVariants as order
 use Rattle.charge_world.specs.Outside.{GrowsByOne}
 use Rattle.post_spec.specs.Steps.{Give}
 use Rattle.site_serving.specs.Serving.{ClosesTo}
-use Rattle.site_serving.specs.Telling.{HasClosing, IsTraced, IsWrittenSo}
+use Rattle.site_serving.specs.Telling.{HasClosing, IsTraced}
 use Rattle.site_serving.proofs.Carry.{carries_none, carries_one, text_none, text_one}
 use Rattle.site_serving.proofs.Frame.{outgoing}
 use Rattle.site_serving.proofs.Shutting.{live_at, closes_live, closes_idle, among_places, one_closing}

@@ -1,5 +1,4 @@
-use Rattle.std.proofs.Common.{◌≡◌, ℕ, List, [], refl, sym, ◌∙◌}
-use Rattle.charge_world.specs.declared.entry.Entry.{Entry}
+use Rattle.std.proofs.Common.{◌≡◌, []}
 use Rattle.post_spec.specs.Codecs.{codecs}
 use Rattle.site_serving.specs.Telling.{IsTraced}
 use Rattle.site_serving.proofs.Carry.{carries_none, text_then}

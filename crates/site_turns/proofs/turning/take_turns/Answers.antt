@@ -1,5 +1,4 @@
-use Rattle.std.proofs.Common.{◌≡◌, ◌+◌, ◌<◌, ℕ, ◌∙◌, arith}
-use Rattle.session_words.specs.declared.plan.SitePlan.{SitePlan}
+use Rattle.std.proofs.Common.{◌≡◌, ◌<◌, ◌∙◌, arith}
 use Rattle.post_spec.specs.Codecs.{codecs}
 use Rattle.site_serving.specs.Telling.{IsTraced}
 use Rattle.site_serving.proofs.Carry.{carries_then, carries_to, text_then}

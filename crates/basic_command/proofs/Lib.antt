@@ -1,4 +1,0 @@
-pub mod Charged
-pub mod OneLine
-pub mod Limits
-pub mod Leaving

@@ -1,4 +1,0 @@
-pub mod LineWords
-pub mod Scripts
-pub mod Running
-pub mod OrderLines

@@ -1,2 +1,0 @@
-pub mod OneBest
-pub mod Bounded

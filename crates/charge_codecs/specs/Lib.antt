@@ -1,2 +1,0 @@
-pub use Rattle.codec_laws.specs.Negotiating
-pub use Rattle.codec_laws.specs.Codecs

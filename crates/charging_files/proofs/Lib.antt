@@ -1,0 +1,3 @@
+mod Lists
+pub mod Rising
+pub mod Told

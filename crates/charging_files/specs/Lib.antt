@@ -1,0 +1,5 @@
+pub mod CatalogueKeys
+pub mod Catalogues
+pub mod FileLines
+pub mod ScheduleFiles
+pub mod ScheduleKeys

@@ -1,7 +1,0 @@
-pub mod OneAnswer
-pub mod OneJudged
-pub mod IsoPayloads
-pub mod DinPayloads
-pub mod Lawful
-pub use Rattle.codec_rules.proofs.Words
-pub use Rattle.codec_rules.proofs.DinWords

@@ -1,8 +1,0 @@
-use Rattle.codec_laws.proofs.Lawful as laws
-use Rattle.codec_laws.proofs.codecs_are_lawful.Goals as goal
-
-pub returns-clause-reads_back : goal.returns-clause-reads_back
-returns-clause-reads_back c = laws.reads_back
-
-pub returns-clause-determined : goal.returns-clause-determined
-returns-clause-determined c = laws.are_determined

@@ -1,0 +1,12 @@
+pub mod BasicLeaving
+pub mod Calendars
+pub mod Charged
+pub mod Limits
+pub mod LineWords
+pub mod OfferLeaving
+pub mod OneLine
+pub mod OrderLines
+pub mod Running
+pub mod Scripts
+pub mod BasicComplete
+pub mod OfferComplete

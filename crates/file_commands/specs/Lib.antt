@@ -1,0 +1,4 @@
+pub mod Basics
+pub mod Charging
+pub mod Offering
+pub mod Scripts

@@ -1,5 +1,0 @@
-use Rattle.heard_words.proofs.Read.{runs_read_words}
-use Rattle.heard_words.proofs.words_come_by_bytes.Goals as goal
-
-pub returns : goal.returns
-returns g c = runs_read_words _

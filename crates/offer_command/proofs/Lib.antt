@@ -1,2 +1,0 @@
-pub mod Calendars
-pub mod Leaving

@@ -1,0 +1,12 @@
+pub mod Chosen
+pub mod Detailed
+pub mod HexTexts
+pub mod PickFate
+pub mod PickFollowing
+pub mod ScheduleFate
+pub mod ScheduleFollowing
+pub mod ScheduleLeaving
+pub mod ScheduleTexts
+pub mod ServiceLeaving
+pub mod ScheduleComplete
+pub mod ServiceComplete

@@ -1,5 +1,0 @@
-use Rattle.reasoned_openings.proofs.Reasons.{runs_open_for_reasons}
-use Rattle.reasoned_openings.proofs.opens_for_reasons.Goals as goal
-
-pub returns : goal.returns
-returns g c = runs_open_for_reasons _

@@ -1,2 +1,0 @@
-pub mod OneFate
-pub mod Following

@@ -1,9 +1,0 @@
-use Rattle.std.proofs.Common.{◌≡◌, ◌≤◌, take, length}
-use Rattle.schedule_offers.specs.Turning.{ahead}
-use Rattle.schedule_offers.proofs.offer.ahead_of.Given as goal
-
-abbrev pub invariant-loop-step : goal.invariant-loop-step
-invariant-loop-step l = record {
-  items : l.found.items ≡ ahead l.moment (take l.step-index l.calendar);
-  few : length l.found.items ≤ l.step-index;
-}

@@ -1,9 +1,0 @@
-pub mod Answering
-pub mod Areas
-pub mod Choosing
-pub mod Covering
-pub mod Energies
-pub mod Growing
-pub mod Kept
-pub mod Marked
-pub mod Moving

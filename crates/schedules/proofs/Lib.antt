@@ -1,0 +1,14 @@
+pub mod Answering
+pub mod Areas
+pub mod Bounded
+pub mod Choosing
+pub mod Covering
+pub mod Energies
+pub mod Growing
+pub mod Holding
+pub mod Kept
+pub mod Marked
+pub mod Moving
+pub mod OneBest
+pub mod OneOffer
+pub mod Turned

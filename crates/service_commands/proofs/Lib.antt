@@ -1,5 +1,0 @@
-mod Chosen
-mod Detailed
-mod Following
-mod Leaving
-mod OneFate

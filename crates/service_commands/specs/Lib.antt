@@ -1,3 +1,0 @@
-pub mod Detailing
-pub mod Fates
-pub mod Picking

@@ -1,6 +1,0 @@
-use Rattle.std.proofs.Common.{arith}
-use Rattle.std.proofs.lemmas.Grind.{common_steps}
-use Rattle.service_files.proofs.catalogue.known_services.Goals as goal
-
-pub loop-item-preserved : goal.loop-item-preserved
-loop-item-preserved c = record { number = omega arith; strange = grind (arith, common_steps) }

@@ -1,0 +1,41 @@
+-- A site in a loop of its embedder's own.
+use Rattle.std.proofs.Common.{◌≡◌, ℕ, List, [], map, length, Option, Some, None, refl, ap, ◌∙◌, arith}
+use Rattle.std.proofs.lemmas.List.{length-map}
+use Rattle.charge_world.specs.declared.entry.Entry.{Entry}
+use Rattle.charge_world.specs.declared.offer.Dialect.{Dialect}
+use Rattle.session_words.specs.declared.plan.SitePlan.{SitePlan}
+use Rattle.session_words.specs.declared.word.Word.{Word}
+use Rattle.post_spec.specs.Codecs.{Codecs}
+use Rattle.station_spec.specs.Sharing.{Post}
+use Rattle.station_spec.specs.Runs.{unheard, Closes, IsCutRun}
+use Rattle.station_laws.specs.PostRuns.{RunsArePostRuns}
+use Rattle.site_posts.specs.declared.place.Place.{Place}
+use Rattle.site_posts.specs.Places.{place_of}
+use Rattle.site_acts.specs.Telling.{Carries, HasClosing}
+use Rattle.site_serving.proofs.Carry.{carries_to}
+use Rattle.site_turns.specs.declared.hearing.SoFar.{SoFar}
+use Rattle.site_turns.specs.Ending.{AreCounts, AreMadeOf}
+use Rattle.site_turns.specs.SoFar.{IsSoFar}
+use Rattle.site_turns.proofs.Counts.{counts_so_far}
+use Rattle.site_turns.proofs.First.{first_ready, first_rest}
+use Rattle.site_core.specs.Hearing.{MayHear}
+
+-- the orders that close a run so far
+pub closed_run : (a b : Option (List Entry)) (c : Codecs) (plan : SitePlan) (so_far : SoFar) (places lent : List Place) → lent ≡ places
+    → ((posts : List Post) (blocks : List Entry) → lent ≡ map place_of posts → Carries a b (λ past. past ≡ blocks) (Closes 1 posts blocks))
+    → ((blocks : List Entry) → Carries a b (λ past. past ≡ blocks) (HasClosing blocks)) → Carries a b (IsSoFar c plan so_far places) (IsCutRun c plan)
+closed_run a None c plan so_far places lent same closed orders = tt
+closed_run None (Some new) c plan so_far places lent same closed orders = absurd (orders [])
+closed_run (Some old) (Some new) c plan so_far places lent same closed orders = λ r. record { blocks = old; posts = r.block.posts; run = r.block.run; closes = closed r.block.posts old (same ∙ r.block.are) refl }
+
+-- the reports count a run so far
+pub counts_of : (a b : Option (List Entry)) (c : Codecs) (plan : SitePlan) (so_far : SoFar) (places : List Place) (P : List Entry → Type 0) → RunsArePostRuns c → Carries a b P (IsSoFar c plan so_far places) → Carries a b P (AreCounts places)
+counts_of a b c plan so_far places P law run = carries_to a b P (IsSoFar c plan so_far places) (AreCounts places) (λ past r. counts_so_far c plan r.known places past law r.block) run
+
+-- a site that was made may hear
+pub made_hears : (Reads : Dialect → List ℕ → Option Word → Type 0) (plan : SitePlan) (places : List Place) (limit turns : ℕ) → AreMadeOf plan places limit turns → MayHear Reads places
+made_hears Reads plan places limit turns made = record {
+  few = omega (arith, made.rules.posts.1, ap length made.places_are, length-map (map unheard plan.post.items) place_of, length-map plan.post.items unheard);
+  ready = first_ready Reads plan places limit turns made;
+  quiet = first_rest plan places limit turns made;
+}

@@ -1,5 +1,0 @@
-use Rattle.standing_causes.proofs.Coming.{runs_have_come}
-use Rattle.standing_causes.proofs.causes_come.Goals as goal
-
-pub returns : goal.returns
-returns g c = runs_have_come _
