@@ -2,15 +2,13 @@
 -- up to its end or the end of the past: each word is a request in its row, each event goes well, nothing is late, no order and no reply
 -- fails, and the connection stays until the session has ended. What was before it, and what became of other sessions, is not asked.
 use Rattle.std.specs.Prelude.{◌≡◌, ◌<◌, ◌+◌, ℕ, Bool, true, false, List, [], ◌∷◌, length, map, Option, Some, None, IsSome, Ok}
-use Rattle.session_words.specs.declared.phase.Standing.{Standing}
-use Rattle.session_words.specs.declared.phase.Standing.TheVariants as stood
 use Rattle.session_words.specs.declared.plan.PostPlan.{PostPlan}
 use Rattle.v2gtp_frames.specs.Frames.{Frames, IsRight}
 use Rattle.v2gtp_frames.specs.Reading.{whole_at, behind_frames}
 use Rattle.post_spec.specs.Causes.{due, watch}
 use Rattle.post_spec.specs.Codecs.{Judged, Negotiated, Asked, WrongSide, Refused}
 use Rattle.post_spec.specs.Course.{Talked, Course, course, facts_of}
-use Rattle.post_spec.specs.Contactors.{standing, live}
+use Rattle.post_spec.specs.Contactors.{live_as_told}
 use Rattle.post_spec.specs.Sessions.{arriving, session, next_session, stream, replies, waits}
 use Rattle.post_spec.specs.Steps.{Event, Came, Bytes, Gone, Datagram, Plant, Clock, Over, Act, Give, Send, Answer, End, Seen, Reading, Step, Hears, Does, seen_of}
 use Rattle.post_spec.specs.Talk.{Unless}
@@ -19,18 +17,10 @@ use Rattle.conforming_runs.specs.Requests.{IsConforming}
 
 -- Sessions are given with their entries, the newest first, and `before` is what the post went by up to the step that is spoken of.
 
--- a hearing that finds an order to open owed begins with it: what was heard is judged behind it
-abbrev pub live_behind : Standing → Bool → Bool
-live_behind stood.MustOpen live = false
-live_behind stood.Opened live = live
-live_behind stood.Closing live = live
-live_behind stood.Closed live = live
-live_behind stood.Opening live = live
-
 -- the connection stays, and what the charger tells goes well
 abbrev pub StaysWell : PostPlan → ℕ → Event → List Step → Talked → Type 0
 StaysWell plan at (Plant event) before t =
-    GoesWell (watch plan t (map seen_of before) (live_behind (standing (map seen_of before)) (live (map seen_of before))) at) event
+    GoesWell (watch plan t (map seen_of before) (live_as_told (map seen_of before)) at) event
 StaysWell plan at (Came token) before t = ⊥
 StaysWell plan at Gone before t = ⊥
 StaysWell plan at Over before t = ⊥

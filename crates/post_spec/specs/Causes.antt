@@ -21,7 +21,7 @@ use Rattle.session_rules.specs.Verdict.{verdict}
 use Rattle.post_spec.specs.Codecs.{Judged, Negotiated, Asked, WrongSide, Refused, Codecs}
 use Rattle.post_spec.specs.Course.{Talked, Course, course, facts_of, allowed_in}
 use Rattle.post_spec.specs.Facts.{now}
-use Rattle.post_spec.specs.Contactors.{standing, live}
+use Rattle.post_spec.specs.Contactors.{standing, live_as_told}
 use Rattle.post_spec.specs.Sessions.{session, stream, waits, came_at, replied_at, closed_at}
 use Rattle.post_spec.specs.Steps.{Came, Gone, Plant, Over, Give, Send, Seen, Reading, Step, Hears, Does, seen_of}
 use Rattle.post_spec.specs.Talk.{Negotiation, Talks}
@@ -72,10 +72,10 @@ pub data IsCause (c : Codecs) (plan : PostPlan) : List Step → EndCause → Typ
   IsDue : (steps : List Step) (t : Talked) (es : List Seen) → (course plan steps).session ≡ Some t → session (map seen_of steps) ≡ Some es
       → due (Some t) es ≤ now (map seen_of steps) → due (Some t) es < never
       → IsCause c plan steps (cause_of (running (is_set_up t.stage.row) (waits es)))
-  -- the charger told something
+  -- the charger told something: behind the order to open, where one is owed
   IsTold : (at : ℕ) (event : PlantEvent) (steps : List Step) (t : Talked) (cause : EndCause)
       → (course plan (Hears at (Plant event) ∷ steps)).session ≡ Some t
-      → plant_cause (watch plan t (map seen_of steps) (live (map seen_of steps)) at) event ≡ Some cause
+      → plant_cause (watch plan t (map seen_of steps) (live_as_told (map seen_of steps)) at) event ≡ Some cause
       → IsCause c plan (Hears at (Plant event) ∷ steps) cause
   -- the connection ended, or another one came while it stood
   HasLeft : (at : ℕ) (steps : List Step) (es : List Seen) → session (map seen_of (Hears at Gone ∷ steps)) ≡ Some es

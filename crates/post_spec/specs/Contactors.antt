@@ -5,6 +5,7 @@ use Rattle.charge_world.specs.declared.heard.PlantEvent.TheVariants as plant
 use Rattle.charge_world.specs.declared.ports.Order.{Order}
 use Rattle.charge_world.specs.declared.ports.Order.TheVariants as order
 use Rattle.session_words.specs.declared.phase.Standing.{Standing}
+use Rattle.session_words.specs.declared.phase.Standing.TheVariants as stood
 use Rattle.session_rules.specs.Standing.{standing_of, is_live}
 use Rattle.session_rules.specs.Standing as contactor
 use Rattle.post_spec.specs.Steps.{Act, Give, Send, Answer, End, Seen, Heard, Did}
@@ -42,6 +43,17 @@ standing past = standing_of (contactor_acts past)
 -- a Close was ordered, taken or failed, and no Open was taken since
 abbrev pub live : List Seen → Bool
 live past = is_live (contactor_acts past)
+
+-- whether it is live as what a hearing tells is judged: an order to open that is owed goes before all that was heard, and opens it once it is taken
+abbrev pub live_behind : Standing → Bool → Bool
+live_behind stood.MustOpen live = false
+live_behind stood.Opened live = live
+live_behind stood.Closing live = live
+live_behind stood.Closed live = live
+live_behind stood.Opening live = live
+
+abbrev pub live_as_told : List Seen → Bool
+live_as_told past = live_behind (standing past) (live past)
 
 -- the last order of the two that the charger took was Close
 abbrev pub closes : List contactor.Act → Bool

@@ -23,7 +23,7 @@ use Rattle.session_rules.specs.Stages.{is_waiting}
 use Rattle.post_spec.specs.Causes as causes
 use Rattle.post_spec.specs.Codecs.{Codecs}
 use Rattle.post_spec.specs.Course.{Talked, course}
-use Rattle.post_spec.specs.Contactors.{standing, live}
+use Rattle.post_spec.specs.Contactors.{standing, live, live_behind, live_as_told}
 use Rattle.post_spec.specs.Sessions.{arriving, session_behind, session, next_session, with_seen, stream, brought, replies, waits}
 use Rattle.post_spec.specs.Steps.{Event, Came, Bytes, Gone, Datagram, Plant, Clock, Over, Act, Give, Seen, Heard, Did, Reading, Step, Hears, Does, seen_of}
 use Rattle.station_spec.specs.States.{Spoken, Response, Said, Agenda, Part, Repeating, Timing, Eventing, Wording, Session, State, nothing, first_session, first, first_of, is_none, is_done}
@@ -45,7 +45,7 @@ use Rattle.read_sessions.specs.Sessions.{IsSessionOf}
 use Rattle.read_sessions.proofs.Keeping.{Free, Waiting, Link, Tie}
 use Rattle.read_sessions.proofs.Streams.{waits_in, empty_tie, steps_tied, sessions_are_read}
 use Rattle.conforming_runs.specs.Charger.{GoesWell}
-use Rattle.conforming_runs.specs.Conforming.{live_behind, StaysWell, HearsWell, OfSession, IsFramed, AreFramed, IsTaken, Conforming}
+use Rattle.conforming_runs.specs.Conforming.{StaysWell, HearsWell, OfSession, IsFramed, AreFramed, IsTaken, Conforming}
 use Rattle.conforming_runs.proofs.Accepted.{events_end_nothing}
 use Rattle.served_sessions.specs.Answered.{WaitsFor, IsConfirming, AwaitsReply}
 use Rattle.served_sessions.proofs.Bytes.{AreOctets, AreHeard, no_fault, stream_octets}
@@ -277,7 +277,7 @@ bytes_finds bytes ss es f = record { due_is = f.due_is; waiting_is = f.waiting_i
 
 -- whether the contactor is live as an event is judged
 abbrev pub alive : List Step → Bool
-alive steps = live_behind (standing (map seen_of steps)) (live (map seen_of steps))
+alive steps = live_as_told (map seen_of steps)
 
 asked_some : (plan : PostPlan) (steps : List Step) (later : List Seen) (at : ℕ) (e : Event) (es : List Seen) (ss : Session) (s : State) → (AwaitsReply later → IsConfirming (map seen_of steps) e) → (IsConfirming (map seen_of steps) e → AwaitsReply later) → next_session (map seen_of steps) ≡ Some es → s.session ≡ Some ss → Finds ss es
     → Watched plan steps at ss s (alive steps) → StaysWell plan at e steps (talked_of ss) → Asked later (Some ss) (eventing plan e s)
