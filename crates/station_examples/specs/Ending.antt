@@ -1,15 +1,21 @@
 -- ISO 15118-2:2014, section 8.8; IEC 61851-1, annex A; IEC 61851-23: examples of what ends a session.
-use Rattle.std.specs.Prelude.{◌≡◌, Bool, true, false, List, [], ◌∷◌, None}
+use Rattle.std.specs.Prelude.{◌≡◌, Bool, true, false, List, [], ◌∷◌, Option, Some, None}
 use Rattle.charge_world.specs.declared.heard.IsolationLevel.TheVariants as isolation
 use Rattle.charge_world.specs.declared.heard.PilotState.TheVariants as pilot
 use Rattle.charge_world.specs.declared.heard.PlantEvent.TheVariants as plant
 use Rattle.charge_world.specs.declared.ports.Order.TheVariants as order
+use Rattle.session_words.specs.declared.cause.EndCause.{EndCause}
 use Rattle.session_words.specs.declared.cause.EndCause.TheVariants as cause
 use Rattle.session_words.specs.declared.code.Code.TheVariants as code
 use Rattle.session_words.specs.declared.phase.Phase.TheVariants as row
 use Rattle.session_words.specs.declared.word.Ask.TheVariants as ask
 use Rattle.session_words.specs.declared.word.Tell.TheVariants as tell
-use Rattle.post_spec.specs.Steps.{Came, Gone, Plant, Clock, Over}
+use Rattle.session_rules.specs.Causes.{plant_cause}
+use Rattle.post_spec.specs.Causes.{watch}
+use Rattle.post_spec.specs.Contactors.{live_as_told}
+use Rattle.post_spec.specs.Course.{Talked}
+use Rattle.post_spec.specs.Steps.{Came, Gone, Plant, Clock, Over, Seen, Heard, Did}
+use Rattle.post_spec.specs.Steps as steps
 use Rattle.station_spec.specs.States.{Give, Finish}
 use Rattle.station_examples.specs.Playing.{Play, hear}
 use Rattle.station_examples.specs.Fixtures.{dc_post, unnamed, asks_as, asks, replies, request, tells, tick}
@@ -66,6 +72,38 @@ PilotBWaits = (tells dc_post 10000 (plant.Pilot pilot.B) (open_in row.DcPreCharg
 
 abbrev pub PilotAEnds : Type 0
 PilotAEnds = (tells dc_post 10000 (plant.Pilot pilot.A) (open_in row.DcPreCharging)).did ≡ Finish cause.PilotLost ∷ []
+
+-- a session that begins while an order to open is owed: that goes first, and B ends the session neither then nor later
+abbrev pub arrives : Play
+arrives = hear dc_post 11200 (Came 7) [] [] again
+
+abbrev pub ArrivesBehindOpen : Type 0
+ArrivesBehindOpen = arrives.did ≡ Give order.Open ∷ []
+
+abbrev pub PilotBBehindOpenWaits : Type 0
+PilotBBehindOpenWaits = (tells dc_post 11300 (plant.Pilot pilot.B) arrives).did ≡ []
+
+-- and so it is no cause while an Open is owed, nor behind one that was taken; while the contactor is closed it is one
+abbrev pub closed : List Seen
+closed = Did (steps.Give order.Close) true ∷ []
+
+abbrev pub owed : List Seen
+owed = Did (steps.Give order.Open) false ∷ closed
+
+abbrev pub opened : List Seen
+opened = Did (steps.Give order.Open) true ∷ Heard 11200 (Plant (plant.Pilot pilot.B)) ∷ owed
+
+abbrev pub cause_by_pilot_b : List Seen → Talked → Option EndCause
+cause_by_pilot_b past t = plant_cause (watch dc_post t past (live_as_told past) 11300) (plant.Pilot pilot.B)
+
+abbrev pub PilotBWhileOwed : Type 0
+PilotBWhileOwed = (t : Talked) → cause_by_pilot_b owed t ≡ None
+
+abbrev pub PilotBBehindOpen : Type 0
+PilotBBehindOpen = (t : Talked) → cause_by_pilot_b opened t ≡ None
+
+abbrev pub PilotBWhileClosed : Type 0
+PilotBWhileClosed = (t : Talked) → cause_by_pilot_b closed t ≡ Some cause.PilotLost
 
 -- feedback against the order
 abbrev pub OpenedAgainstOrderEnds : Type 0

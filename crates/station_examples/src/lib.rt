@@ -90,6 +90,11 @@ pub fn sessions_end()
     ensures pilot_b_opens { ending.PilotBOpens }
     ensures pilot_b_waits { ending.PilotBWaits }
     ensures pilot_a_ends { ending.PilotAEnds }
+    ensures arrives_behind_open { ending.ArrivesBehindOpen }
+    ensures pilot_b_behind_open_waits { ending.PilotBBehindOpenWaits }
+    ensures pilot_b_while_owed { ending.PilotBWhileOwed }
+    ensures pilot_b_behind_open { ending.PilotBBehindOpen }
+    ensures pilot_b_while_closed { ending.PilotBWhileClosed }
     ensures opened_against_order_ends { ending.OpenedAgainstOrderEnds }
     ensures open_while_closing_waits { ending.OpenWhileClosingWaits }
     ensures closed_against_order_ends { ending.ClosedAgainstOrderEnds }

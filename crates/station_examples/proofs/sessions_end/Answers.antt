@@ -50,6 +50,23 @@ pub returns-clause-pilot_a_ends : goal.returns-clause-pilot_a_ends
 unfolding reading.whole_at
 returns-clause-pilot_a_ends c = refl
 
+pub returns-clause-arrives_behind_open : goal.returns-clause-arrives_behind_open
+unfolding reading.whole_at
+returns-clause-arrives_behind_open c = refl
+
+pub returns-clause-pilot_b_behind_open_waits : goal.returns-clause-pilot_b_behind_open_waits
+unfolding reading.whole_at
+returns-clause-pilot_b_behind_open_waits c = refl
+
+pub returns-clause-pilot_b_while_owed : goal.returns-clause-pilot_b_while_owed
+returns-clause-pilot_b_while_owed c = λ t. refl
+
+pub returns-clause-pilot_b_behind_open : goal.returns-clause-pilot_b_behind_open
+returns-clause-pilot_b_behind_open c = λ t. refl
+
+pub returns-clause-pilot_b_while_closed : goal.returns-clause-pilot_b_while_closed
+returns-clause-pilot_b_while_closed c = λ t. refl
+
 pub returns-clause-opened_against_order_ends : goal.returns-clause-opened_against_order_ends
 unfolding reading.whole_at
 returns-clause-opened_against_order_ends c = refl
