@@ -7,6 +7,7 @@ use Rattle.charge_world.specs.declared.ports.Order.TheVariants as order
 use Rattle.session_words.specs.declared.cause.EndCause.{EndCause}
 use Rattle.session_words.specs.declared.cause.EndCause.TheVariants.{SendFailed, OrderFailed}
 use Rattle.session_words.specs.declared.facts.Facts.{Facts}
+use Rattle.session_words.specs.declared.phase.Standing.TheVariants as stood
 use Rattle.session_words.specs.declared.plan.PostPlan.{PostPlan}
 use Rattle.session_words.specs.declared.word.Ask.{Ask}
 use Rattle.session_words.specs.declared.word.Ask.TheVariants as ask
@@ -30,7 +31,7 @@ use Rattle.read_runs.proofs.Counting.{counted}
 use Rattle.coming_causes_open.proofs.Spoken.{same_payload}
 use Rattle.post_spec.specs.Course.{Talked, course, facts_of}
 use Rattle.post_spec.specs.Facts.{now}
-use Rattle.post_spec.specs.Contactors.{standing, live}
+use Rattle.post_spec.specs.Contactors.{standing, live, live_as_told}
 use Rattle.post_spec.specs.Kinds.{asks_opening}
 use Rattle.post_spec.specs.Sessions.{session, with_seen, stream, waits}
 use Rattle.post_spec.specs.Steps.{Event, Came, Bytes, Gone, Plant, Over, Act, Give, Send, Seen, Did, Reading, Step, Hears, Does, seen, seen_of}
@@ -64,7 +65,7 @@ use Rattle.coming_causes_open.proofs.Shutting.{filled_shutting, steps_shutting}
 use Rattle.coming_causes_open.proofs.Ending.{Ends, steps_end, filled_ends, give_is, say_is}
 use Rattle.coming_causes_open.proofs.Wording.{Next, opens_it, AtWords, word_next}
 use Rattle.coming_causes_open.proofs.Worded.{Worded, filled_worded, steps_worded}
-use Rattle.coming_causes_open.proofs.Opens.{repeating_opens, timing_opens, OpensIn, Opens, not_wanted, undone_opens, ending_opens, in_opens, hearing_opens}
+use Rattle.coming_causes_open.proofs.Opens.{repeating_opens, timing_opens, OpensIn, Opens, not_wanted, undone_opens, ending_opens, in_opens, hearing_opens, as_told}
 
 -- A session that the past tells is kept.
 
@@ -92,9 +93,9 @@ watch_is plan ss s t before at e a b d = subst (λ (u : Talked). watch plan ss s
 charging_opens : (plan : PostPlan) (kept : Option Session) (ss : Session) (event : PlantEvent) (s : State) (cause : EndCause) → kept ≡ Some ss → plant_cause (watch plan ss s) event ≡ Some cause → s.live ≡ true → OpensIn (charging plan kept event s)
 charging_opens plan kept ss event s cause k h l = rw (k, h) (ending_opens cause s.live l)
 
-told_opens : (c : Codecs) (plan : PostPlan) (at : ℕ) (event : PlantEvent) (steps : List Step) (t : Talked) (cause : EndCause) → IsPostRun c plan (Hears at (Plant event) ∷ steps) → (course plan (Hears at (Plant event) ∷ steps)).session ≡ Some t
+live_opens : (c : Codecs) (plan : PostPlan) (at : ℕ) (event : PlantEvent) (steps : List Step) (t : Talked) (cause : EndCause) → IsPostRun c plan (Hears at (Plant event) ∷ steps) → (course plan (Hears at (Plant event) ∷ steps)).session ≡ Some t
     → plant_cause (causes.watch plan t (map seen_of steps) (live (map seen_of steps)) at) event ≡ Some cause → live (map seen_of (Hears at (Plant event) ∷ steps)) ≡ true → Opens plan (state plan (Hears at (Plant event) ∷ steps))
-told_opens c plan at event steps t cause run k h l =
+live_opens c plan at event steps t cause run k h l =
     let s = state plan steps in
     let u = hearing at (Plant event) s in
     let x = kept_by u.session t ((courses_are_read c plan (Hears at (Plant event) ∷ steps) run).session_is ∙ k) in
@@ -102,6 +103,17 @@ told_opens c plan at event steps t cause run k h l =
     let w = watch_is plan x.ss u t (map seen_of steps) at x.talked_is i.standing_is i.live_is refl in
     let on = is_live plan (Hears at (Plant event) ∷ steps) l in
     hearing_opens plan at (Plant event) s on (charging_opens plan u.session x.ss event u cause x.kept_is (ap (λ y. plant_cause y event) w ∙ h) on)
+
+-- an order to open that is owed goes first
+owed_opens : (plan : PostPlan) (at : ℕ) (event : PlantEvent) (steps : List Step) → standing (map seen_of steps) ≡ stood.MustOpen → Opens plan (state plan (Hears at (Plant event) ∷ steps))
+owed_opens plan at event steps h = ap (λ (t : State). first t.agenda) (opens_decided plan at (Plant event) (state plan steps) ((contactors_are_read plan steps).standing_is ∙ h))
+
+told_opens : (c : Codecs) (plan : PostPlan) (at : ℕ) (event : PlantEvent) (steps : List Step) (t : Talked) (cause : EndCause) → IsPostRun c plan (Hears at (Plant event) ∷ steps) → (course plan (Hears at (Plant event) ∷ steps)).session ≡ Some t
+    → plant_cause (causes.watch plan t (map seen_of steps) (live_as_told (map seen_of steps)) at) event ≡ Some cause → live (map seen_of (Hears at (Plant event) ∷ steps)) ≡ true → Opens plan (state plan (Hears at (Plant event) ∷ steps))
+told_opens c plan at event steps t cause run k h l = elim (as_told (standing (map seen_of steps)) (live (map seen_of steps))) [
+  | inl owed ↦ owed_opens plan at event steps owed
+  | inr same ↦ live_opens c plan at event steps t cause run k (subst (λ (on : Bool). plant_cause (causes.watch plan t (map seen_of steps) on at) event ≡ Some cause) same h) l
+]
 
 -- A call that failed, in a session that had no cause.
 

@@ -1,11 +1,12 @@
 -- Where Open is decided first, it is what a post does next.
-use Rattle.std.proofs.Common.{◌≡◌, ℕ, Bool, true, false, if◌then◌else◌, Option, Some, None, is_some, refl, sym, ap, subst, ◌∙◌}
+use Rattle.std.proofs.Common.{◌≡◌, ℕ, Bool, true, false, if◌then◌else◌, Option, Some, None, is_some, refl, sym, ap, subst, ◌∙◌, inl, inr, ◌⊎◌}
 use Rattle.charge_world.specs.declared.ports.Order.TheVariants as order
 use Rattle.session_words.specs.declared.cause.EndCause.{EndCause}
 use Rattle.session_words.specs.declared.phase.Standing.{Standing}
 use Rattle.session_words.specs.declared.phase.Standing.TheVariants as standing
 use Rattle.session_words.specs.declared.plan.PostPlan.{PostPlan}
 use Rattle.post_spec.specs.Codecs.{Codecs}
+use Rattle.post_spec.specs.Contactors.{live_behind}
 use Rattle.post_spec.specs.Steps.{Event, Act, Give, Reading}
 use Rattle.station_spec.specs.States.{Agenda, Part, Timing, Eventing, Wording, Session, State, nothing, first, is_none, is_done}
 use Rattle.station_spec.specs.States as states
@@ -81,3 +82,11 @@ hearing_opens plan at e s l h =
     decide_opens (repeating t.facts.contactor) Timing t (from_timing plan t) (is_done (repeating t.facts.contactor)) refl (repeating_opens t.facts.contactor)
     (decide_opens (timing t.session t.clock t.live) Eventing t (from_eventing plan t) (is_done (timing t.session t.clock t.live)) refl (timing_opens t.session t.clock t.live l)
     (decide_now (eventing plan e t) Wording t (from_wording t) (is_done (eventing plan e t)) refl h))
+
+-- What is told is judged by the contactor as it is, but where an order to open is owed.
+pub as_told : (st : Standing) (on : Bool) → (st ≡ standing.MustOpen) ⊎ (live_behind st on ≡ on)
+as_told standing.MustOpen on = inl refl
+as_told standing.Opened on = inr refl
+as_told standing.Closing on = inr refl
+as_told standing.Closed on = inr refl
+as_told standing.Opening on = inr refl
