@@ -27,7 +27,7 @@ use Rattle.post_spec.specs.Causes as causes
 use Rattle.post_spec.specs.Codecs.{Codecs}
 use Rattle.post_spec.specs.Contactors.{contactor_acts, live, with_feedback, feedback_in}
 use Rattle.post_spec.specs.Contactors as contactors
-use Rattle.post_spec.specs.Course.{course}
+use Rattle.post_spec.specs.Course.{Talked, course}
 use Rattle.post_spec.specs.Facts.{now, told_by}
 use Rattle.post_spec.specs.Sessions.{session, stream, waits}
 use Rattle.post_spec.specs.Spelled.{ReadsBack, AreDetermined}
@@ -48,6 +48,8 @@ use Rattle.read_sessions.proofs.Streams.{done_session}
 use Rattle.safe_runs.proofs.Links.{Premise, Link, Tie}
 use Rattle.safe_runs.proofs.Safety.{run_linked}
 use Rattle.safe_runs.specs.Opening.{HasFailed}
+use Rattle.coming_causes_open.specs.Causing.{Repeats}
+use Rattle.coming_causes_open.proofs.Opens.{as_told}
 use Rattle.coming_causes_open.proofs.Spoken.{FaultAt, PayloadAt, word_at}
 use Rattle.served_sessions.proofs.Bytes.{AreHeard, stream_octets}
 use Rattle.standing_causes_open.specs.Standing.{HasCome, CameBefore}
@@ -206,6 +208,26 @@ pub front_live : (kept : Option Session) (on : Bool) → (fronting kept on).orde
 front_live None on h = cc
 front_live (Some ss) on h = front_on (whole_at ss.unread) (is_waiting ss.stage.row) on h
 
+-- A contactor must open where its last order had failed.
+
+closing_not : (b : Bool) → cond b standing.Closed standing.Closing ≡ standing.MustOpen → ⊥
+closing_not true h = cc
+closing_not false h = cc
+
+must_by : (o : Option (Kind × Bool)) (heard : List Bool) → standing_by o heard ≡ standing.MustOpen → (kind : Kind) × (o ≡ Some (kind, false))
+must_by None [] h = cc
+must_by None (false ∷ heard) h = cc
+must_by None (true ∷ heard) h = cc
+must_by (Some (Close, true)) heard h = absurd (closing_not (contactor.confirms heard) h)
+must_by (Some (Open, true)) [] h = cc
+must_by (Some (Open, true)) (false ∷ heard) h = cc
+must_by (Some (Open, true)) (true ∷ heard) h = cc
+must_by (Some (Close, false)) heard h = (Close, refl)
+must_by (Some (Open, false)) heard h = (Open, refl)
+
+owed_failed : (past : List Seen) → contactors.standing past ≡ standing.MustOpen → HasFailed past
+owed_failed past h = must_by (last_order (contactor_acts past)) (feedback_since (contactor_acts past)) h
+
 -- What was heard.
 
 confirms_not : (plan : PostPlan) (ss : Session) (event : PlantEvent) (s : State) (b : Bool) → (is_waiting ss.stage.row && deciding.confirms event) ≡ b → (confirming plan ss event s).order ≡ Some order.Open → ⊥
@@ -236,8 +258,16 @@ event_needs plan (Plant event) s h = charging_needs plan s.session event s h
 event_needs plan Clock s h = cc
 event_needs plan Over s h = (in_order s.session _ s.live order.Open h).1
 
+-- where an order to open is owed, that is what is repeated
+told_as : (c : Codecs) (plan : PostPlan) (at : ℕ) (event : PlantEvent) (b : List Step) (t : Talked) (k : EndCause) → (course plan (Hears at (Plant event) ∷ b)).session ≡ Some t → plant_cause (causes.watch plan t (map seen_of b) (live (map seen_of b)) at) event ≡ Some k
+    → Repeats (Hears at (Plant event) ∷ b) ⊎ HasCome c plan (Hears at (Plant event) ∷ b)
+told_as c plan at event b t k led h = elim (as_told (contactors.standing (map seen_of b)) (live (map seen_of b))) [
+  | inl owed ↦ inl (owed_failed (map seen_of b) owed)
+  | inr same ↦ inr (record { cause = k; is = IsTold at event b t k led (subst (λ (on : Bool). plant_cause (causes.watch plan t (map seen_of b) on at) event ≡ Some k) (sym same) h); comes = tt })
+]
+
 told_in : (c : Codecs) (plan : PostPlan) (at : ℕ) (event : PlantEvent) (b : List Step) (kept : Option Session) → IsPostRun c plan (Hears at (Plant event) ∷ b) → (state plan (Hears at (Plant event) ∷ b)).session ≡ kept → (charging plan kept event (state plan (Hears at (Plant event) ∷ b))).order ≡ Some order.Open
-    → HasCome c plan (Hears at (Plant event) ∷ b)
+    → Repeats (Hears at (Plant event) ∷ b) ⊎ HasCome c plan (Hears at (Plant event) ∷ b)
 told_in c plan at event b None run k h = cc
 told_in c plan at event b (Some ss) run k h =
     let s = state plan (Hears at (Plant event) ∷ b) in
@@ -245,34 +275,18 @@ told_in c plan at event b (Some ss) run k h =
     let i = contactors_are_read plan b in
     let w = watch_is plan ss (state plan (Hears at (Plant event) ∷ b)) (map seen_of b) at i.standing_is i.live_is refl in
     let led : (course plan (Hears at (Plant event) ∷ b)).session ≡ Some (talked_of ss) = sym (courses_are_read c plan (Hears at (Plant event) ∷ b) run).session_is ∙ ap talked_in k in
-    record { cause = x.0; is = IsTold at event b (talked_of ss) x.0 led (sym (ap (λ (y : Watch). plant_cause y event) w) ∙ x.1); comes = tt }
+    told_as c plan at event b (talked_of ss) x.0 led (sym (ap (λ (y : Watch). plant_cause y event) w) ∙ x.1)
 
-pub heard_came : (c : Codecs) (plan : PostPlan) (at : ℕ) (e : Event) (b : List Step) → IsPostRun c plan (Hears at e ∷ b) → (eventing plan e (state plan (Hears at e ∷ b))).order ≡ Some order.Open → HasCome c plan (Hears at e ∷ b)
-heard_came c plan at (Arrives token) b run h = let l = lives_in plan (Hears at (Arrives token) ∷ b) (in_order (state plan (Hears at (Arrives token) ∷ b)).session _ _ order.Open h).1.1 in record { cause = _; is = HasArrived at token b l.0 l.1; comes = tt }
+pub heard_came : (c : Codecs) (plan : PostPlan) (at : ℕ) (e : Event) (b : List Step) → IsPostRun c plan (Hears at e ∷ b) → (eventing plan e (state plan (Hears at e ∷ b))).order ≡ Some order.Open → Repeats (Hears at e ∷ b) ⊎ HasCome c plan (Hears at e ∷ b)
+heard_came c plan at (Arrives token) b run h = let l = lives_in plan (Hears at (Arrives token) ∷ b) (in_order (state plan (Hears at (Arrives token) ∷ b)).session _ _ order.Open h).1.1 in inr (record { cause = _; is = HasArrived at token b l.0 l.1; comes = tt })
 heard_came c plan at (Bytes bytes) b run h = cc
-heard_came c plan at Gone b run h = let l = lives_in plan (Hears at Gone ∷ b) (in_order (state plan (Hears at Gone ∷ b)).session _ _ order.Open h).1.1 in record { cause = _; is = HasLeft at b l.0 l.1; comes = tt }
+heard_came c plan at Gone b run h = let l = lives_in plan (Hears at Gone ∷ b) (in_order (state plan (Hears at Gone ∷ b)).session _ _ order.Open h).1.1 in inr (record { cause = _; is = HasLeft at b l.0 l.1; comes = tt })
 heard_came c plan at (Datagram bytes) b run h = cc
 heard_came c plan at (Plant event) b run h = told_in c plan at event b (state plan (Hears at (Plant event) ∷ b)).session run refl h
 heard_came c plan at Clock b run h = cc
-heard_came c plan at Over b run h = let l = lives_in plan (Hears at Over ∷ b) (in_order (state plan (Hears at Over ∷ b)).session _ _ order.Open h).1.1 in record { cause = _; is = IsOver at b l.0 l.1; comes = tt }
+heard_came c plan at Over b run h = let l = lives_in plan (Hears at Over ∷ b) (in_order (state plan (Hears at Over ∷ b)).session _ _ order.Open h).1.1 in inr (record { cause = _; is = IsOver at b l.0 l.1; comes = tt })
 
--- A contactor must open where its last order had failed before the hearing.
-
-closing_not : (b : Bool) → cond b standing.Closed standing.Closing ≡ standing.MustOpen → ⊥
-closing_not true h = cc
-closing_not false h = cc
-
-must_by : (o : Option (Kind × Bool)) (heard : List Bool) → standing_by o heard ≡ standing.MustOpen → (kind : Kind) × (o ≡ Some (kind, false))
-must_by None [] h = cc
-must_by None (false ∷ heard) h = cc
-must_by None (true ∷ heard) h = cc
-must_by (Some (Close, true)) heard h = absurd (closing_not (contactor.confirms heard) h)
-must_by (Some (Open, true)) [] h = cc
-must_by (Some (Open, true)) (false ∷ heard) h = cc
-must_by (Some (Open, true)) (true ∷ heard) h = cc
-must_by (Some (Close, false)) heard h = (Close, refl)
-must_by (Some (Open, false)) heard h = (Open, refl)
-
+-- and so before the hearing
 same_last : (o : Option Bool) (acts : List contactor.Act) → last_order (with_feedback o acts) ≡ last_order acts
 same_last None acts = refl
 same_last (Some closed) acts = refl

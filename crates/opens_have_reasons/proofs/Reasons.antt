@@ -109,7 +109,10 @@ again_reason c plan (Does r a taken ∷ steps) all p h = absurd (does_moved c pl
 
 told_reason : (c : Codecs) (plan : PostPlan) (steps : List Step) → All c plan steps → ((state plan steps).part ≡ Wording → ⊥) → (eventing plan (state plan steps).event (state plan steps)).order ≡ Some order.Open → Repeats steps ⊎ Came c plan steps
 told_reason c plan [] all n h = absurd (n refl)
-told_reason c plan (Hears at e ∷ steps) all n h = inr (inl (heard_came c plan at e steps all.laws.run h))
+told_reason c plan (Hears at e ∷ steps) all n h = elim (heard_came c plan at e steps all.laws.run h) [
+  | inl x ↦ inl x
+  | inr x ↦ inr (inl x)
+]
 told_reason c plan (Does r a taken ∷ steps) all n h =
     let x = event_needs plan (state plan (Does r a taken ∷ steps)).event (state plan (Does r a taken ∷ steps)) h in
     elim (does_settled c plan r a taken steps all) [
