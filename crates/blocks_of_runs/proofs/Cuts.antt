@@ -5,7 +5,7 @@ use Rattle.charge_world.specs.declared.entry.Entry.TheVariants as entry
 use Rattle.session_words.specs.declared.plan.PostPlan.{PostPlan}
 use Rattle.session_words.specs.declared.plan.SitePlan.{SitePlan}
 use Rattle.post_spec.specs.Codecs.{Codecs}
-use Rattle.post_spec.specs.Steps.{Act, Step, Does, Reading}
+use Rattle.post_spec.specs.Steps.{Act, Step, Hears, Does, Reading}
 use Rattle.station_spec.specs.Acting.{state}
 use Rattle.station_spec.specs.Next.{IsQuiet, Acts}
 use Rattle.station_spec.specs.Blocks.{is_last, hearings}
@@ -15,7 +15,10 @@ use Rattle.blocks_of_runs.specs.Answers.{Move, behind}
 use Rattle.blocks_of_runs.specs.BlockRuns.{past_behind, with_moves}
 use Rattle.blocks_of_runs.proofs.Chains.{Acting}
 use Rattle.blocks_of_runs.specs.CutRuns.{AreMade, AreBegun, IsLastBlock, StopInBlocks, RunsAreBlocks}
-use Rattle.blocks_of_runs.proofs.Posts.{append_nil, one_more, quiet_more, busy_read, run_more, moves_run, HaveHeard, heard_to, heard_back, heard_by, fresh_quiet, InBlocks, runs_by, to_blocks}
+use Rattle.blocks_of_runs.specs.Stops.{Stops}
+use Rattle.blocks_of_runs.proofs.Parts.{hearing_fresh}
+use Rattle.blocks_of_runs.proofs.Stops.{to_stops}
+use Rattle.blocks_of_runs.proofs.Posts.{append_nil, one_more, quiet_more, busy_read, run_more, moves_run, HasHeard, HaveHeard, heard_to, heard_back, heard_by, fresh_quiet, InBlocks, runs_by, to_blocks}
 
 -- what posts have done in turn, whatever one of them does
 abbrev Begun : Codecs → ℕ → List Post → List Post → List Entry → List Post → List Entry → Type 0
@@ -94,18 +97,23 @@ begun_rests c limit before (y ∷ xs) past answered later q x =
     let e = begun_rests c limit (before ++ y ∷ []) xs past answered later q.1 (passed c limit before y xs past answered later q.0 x) in
     (e.0 ∙ one_more before y xs, e.1)
 
--- in three parts, but for the post that acts last
+-- in three parts, up to the one in which the post that acts last stops
+heard_stops : (c : Codecs) (plan : PostPlan) (S : ℕ → ℕ → Type 0) (steps : List Step) (moves : List Move) → HasHeard steps → AreMade c plan S steps moves → Stops c plan S steps moves
+heard_stops c plan S [] moves h x = absurd h
+heard_stops c plan S (Hears at event ∷ steps) moves h x = to_stops c plan S (Hears at event ∷ steps) moves (hearing_fresh plan at event steps) x
+heard_stops c plan S (Does reading act taken ∷ steps) moves h x = absurd h
+
 begun_answers : (c : Codecs) (limit : ℕ) (before xs : List Post) (past : List Entry) (answered : List Post) (later : List Entry) → HaveHeard xs → Begun c limit before xs past answered later → AreBegun c limit before xs past answered later
 begun_answers c limit before [] past answered later h x = x
 begun_answers c limit before (p ∷ xs) past answered later h (inl (moves, k, rest)) =
     inl (moves, heard_to c p.plan (Shows limit before xs) p.steps moves h.0 k, begun_answers c limit (before ++ with_moves moves p ∷ []) xs (past_behind (length before + 1) moves past) answered later h.1 rest)
-begun_answers c limit before (p ∷ xs) past answered later h (inr x) = inr x
+begun_answers c limit before (p ∷ xs) past answered later h (inr (moves, k, e, f)) = inr (moves, k, heard_stops c p.plan (Shows limit before xs) p.steps moves h.0 k, e, f)
 
 answers_begun : (c : Codecs) (limit : ℕ) (before xs : List Post) (past : List Entry) (answered : List Post) (later : List Entry) → HaveHeard xs → AreBegun c limit before xs past answered later → Begun c limit before xs past answered later
 answers_begun c limit before [] past answered later h x = x
 answers_begun c limit before (p ∷ xs) past answered later h (inl (moves, k, rest)) =
     inl (moves, heard_back c p.plan (Shows limit before xs) p.steps moves h.0 k, answers_begun c limit (before ++ with_moves moves p ∷ []) xs (past_behind (length before + 1) moves past) answered later h.1 rest)
-answers_begun c limit before (p ∷ xs) past answered later h (inr x) = inr x
+answers_begun c limit before (p ∷ xs) past answered later h (inr (moves, k, stops, e, f)) = inr (moves, k, e, f)
 
 cut_heard : (c : Codecs) (site : SitePlan) (past : List Entry) (before : List Post) (e : Entry) (posts answered : List Post) (later : List Entry) → InBlocks c site past before → is_last past ≡ false → hearings past < site.turns → AreQuiet before → HeardBy past before e posts
     → Begun c site.limit [] posts (e ∷ past) answered later → StopInBlocks c site later answered

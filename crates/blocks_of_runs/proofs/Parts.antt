@@ -18,7 +18,7 @@ pub record At (plan : PostPlan) (p : Part) (steps : List Step) : Type 0 where
   pub decides : decided plan (state plan steps) ≡ from_part plan p (state plan steps)
 
 -- a part that is looked at, and behind it the next
-abbrev Looks : PostPlan → Part → (State → Agenda) → (State → State) → List Step → Type 0
+abbrev pub Looks : PostPlan → Part → (State → Agenda) → (State → State) → List Step → Type 0
 Looks plan p asks rest steps = decided plan (state plan steps) ≡ decide (asks (state plan steps)) p (state plan steps) (rest (state plan steps))
 
 part_first : (c : Codecs) (plan : PostPlan) (p : Part) (asks : State → Agenda) (rest : State → State) (steps : List Step) (m : Move) (moves : List Move) → Looks plan p asks rest steps → IsPart c plan p asks steps (m ∷ moves)
@@ -39,7 +39,7 @@ part_ends c plan p asks rest steps m moves l (todo, f, i, n, a) =
     }
 
 -- behind a part
-part_next : (c : Codecs) (plan : PostPlan) (p : Part) (asks : State → Agenda) (steps : List Step) (moves : List Move) → is_done (state plan steps).agenda ≡ true → Looks plan p asks (from_part plan p) steps → IsPart c plan p asks steps moves → At plan p (behind moves steps)
+pub part_next : (c : Codecs) (plan : PostPlan) (p : Part) (asks : State → Agenda) (steps : List Step) (moves : List Move) → is_done (state plan steps).agenda ≡ true → Looks plan p asks (from_part plan p) steps → IsPart c plan p asks steps moves → At plan p (behind moves steps)
 part_next c plan p asks steps [] d l a = let s = state plan steps in record { idle = d; decides = l ∙ decide_done (asks s) p s (from_part plan p s) (first_done (asks s) a) }
 part_next c plan p asks steps (m ∷ moves) d l a = part_ends c plan p asks (from_part plan p) steps m moves l a
 
@@ -87,10 +87,10 @@ part_back c plan S p asks rest steps (m ∷ done) last l (todo, f, i, n, a) x =
     )
 
 -- the words
-abbrev InWords : PostPlan → List Step → Type 0
+abbrev pub InWords : PostPlan → List Step → Type 0
 InWords plan steps = At plan Wording steps
 
-front_done : (plan : PostPlan) (steps : List Step) → InWords plan steps → first (fronts (state plan steps)) ≡ None → decided plan (state plan steps) ≡ state plan steps
+pub front_done : (plan : PostPlan) (steps : List Step) → InWords plan steps → first (fronts (state plan steps)) ≡ None → decided plan (state plan steps) ≡ state plan steps
 front_done plan steps at f = let s = state plan steps in at.decides ∙ decide_done (fronts s) Wording s s (first_done (fronts s) f)
 
 -- a word that is read
@@ -112,7 +112,7 @@ pub record Reads (c : Codecs) (plan : PostPlan) (S : ℕ → ℕ → Type 0) (s 
   pub done : IsDone c todo m.act m.taken
   pub state_is : acted m.act m.taken (filled plan m.reading s) ≡ acted m.act m.taken (read plan s (Some r))
 
-reads_on : (c : Codecs) (plan : PostPlan) (S : ℕ → ℕ → Type 0) (s : State) (m : Move) (r : Reading) → m.reading ≡ Some r → is_done s.agenda ≡ true → decided plan s ≡ s → Acts c plan S s m.reading m.act m.taken → Reads c plan S s m r
+pub reads_on : (c : Codecs) (plan : PostPlan) (S : ℕ → ℕ → Type 0) (s : State) (m : Move) (r : Reading) → m.reading ≡ Some r → is_done s.agenda ≡ true → decided plan s ≡ s → Acts c plan S s m.reading m.act m.taken → Reads c plan S s m r
 reads_on c plan S s m r e idle d x =
     let i : IsRead c plan S s (wanted s) m.reading = subst (λ (t : State). IsRead c plan S t (wanted t) m.reading) d x.read in
     let j : IsRead c plan S s (payload_in s.session) m.reading = subst (λ (w : Option Payload). IsRead c plan S s w m.reading) (wanted_done s idle) i in
@@ -153,7 +153,7 @@ word_ends_by c plan S steps (Some r) m moves e at (f, i, (todo, g, k, n, a)) =
       decides = decided_done plan (state plan (behind (m ∷ moves) steps)) z.idle ∙ ap (λ (x : Part). from_part plan x (state plan (behind (m ∷ moves) steps))) part;
     }
 
-word_ends : (c : Codecs) (plan : PostPlan) (S : ℕ → ℕ → Type 0) (steps : List Step) (moves : List Move) → InWords plan steps → IsWord c plan S steps moves → InWords plan (behind moves steps)
+pub word_ends : (c : Codecs) (plan : PostPlan) (S : ℕ → ℕ → Type 0) (steps : List Step) (moves : List Move) → InWords plan steps → IsWord c plan S steps moves → InWords plan (behind moves steps)
 word_ends c plan S steps [] at w = absurd w
 word_ends c plan S steps (m ∷ moves) at w = word_ends_by c plan S steps m.reading m moves refl at w
 
@@ -195,16 +195,20 @@ pub record OneWord (c : Codecs) (plan : PostPlan) (S : ℕ → ℕ → Type 0) (
   pub is : IsWord c plan S steps (m ∷ done)
   pub acting : Acting c plan S (behind (m ∷ done) steps) last
 
-fronts_word : (c : Codecs) (plan : PostPlan) (S : ℕ → ℕ → Type 0) (steps : List Step) (m : Move) (done : List Move) (o : Option Reading) → m.reading ≡ o → o ≡ None → IsPart c plan Wording fronts steps (m ∷ done) → IsWordBy c plan S steps o m done
+pub fronts_word : (c : Codecs) (plan : PostPlan) (S : ℕ → ℕ → Type 0) (steps : List Step) (m : Move) (done : List Move) (o : Option Reading) → m.reading ≡ o → o ≡ None → IsPart c plan Wording fronts steps (m ∷ done) → IsWordBy c plan S steps o m done
 fronts_word c plan S steps m done None e n a = a
 fronts_word c plan S steps m done (Some r) e n a = cc
 
-read_word : (c : Codecs) (plan : PostPlan) (S : ℕ → ℕ → Type 0) (steps : List Step) (m : Move) (moves : List Move) (o : Option Reading) → m.reading ≡ o → InWords plan steps → first (fronts (state plan steps)) ≡ None → Acting c plan S steps (m ∷ moves) → OneWord c plan S steps m moves
-read_word c plan S steps m moves None e at f x =
+-- where nothing is left to do, a post does nothing without a word
+pub unread_not : {A : Type 0} (c : Codecs) (plan : PostPlan) (S : ℕ → ℕ → Type 0) (steps : List Step) (m : Move) → m.reading ≡ None → InWords plan steps → first (fronts (state plan steps)) ≡ None → Acts c plan S (state plan steps) m.reading m.act m.taken → A
+unread_not c plan S steps m e at f x =
     let s = state plan steps in
     let d = front_done plan steps at f in
-    let g = ap (λ (r : Option Reading). first (filled plan r s).agenda) (sym e) ∙ x.0.acts in
-    both (is_done s.agenda) at.idle (some_undone s.agenda x.0.todo (ap (λ (t : State). first t.agenda) (sym d) ∙ g))
+    let g = ap (λ (r : Option Reading). first (filled plan r s).agenda) (sym e) ∙ x.acts in
+    both (is_done s.agenda) at.idle (some_undone s.agenda x.todo (ap (λ (t : State). first t.agenda) (sym d) ∙ g))
+
+read_word : (c : Codecs) (plan : PostPlan) (S : ℕ → ℕ → Type 0) (steps : List Step) (m : Move) (moves : List Move) (o : Option Reading) → m.reading ≡ o → InWords plan steps → first (fronts (state plan steps)) ≡ None → Acting c plan S steps (m ∷ moves) → OneWord c plan S steps m moves
+read_word c plan S steps m moves None e at f x = unread_not c plan S steps m e at f x.0
 read_word c plan S steps m moves (Some r) e at f x =
     let s = state plan steps in
     let y = reads_on c plan S s m r e at.idle (front_done plan steps at f) x.0 in
@@ -245,7 +249,7 @@ words_out (suc n) c plan S steps (m ∷ moves) less at x =
     }
 
 -- all parts. A hearing stands at the first
-abbrev Fresh : PostPlan → List Step → Type 0
+abbrev pub Fresh : PostPlan → List Step → Type 0
 Fresh plan steps = At plan Repeating steps
 
 pub hearing_fresh : (plan : PostPlan) (at : ℕ) (e : Event) (steps : List Step) → Fresh plan (Hears at e ∷ steps)

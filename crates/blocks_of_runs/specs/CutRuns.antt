@@ -14,6 +14,7 @@ use Rattle.station_spec.specs.Sharing.{Post, Shows}
 use Rattle.station_spec.specs.Runs.{HeardBy, IsRun, Closes, IsSiteRun, IsCutRun}
 use Rattle.blocks_of_runs.specs.Answers.{Move, Answers}
 use Rattle.blocks_of_runs.specs.BlockRuns.{past_behind, with_moves, AreBlocks, AreSame, IsBlockRun}
+use Rattle.blocks_of_runs.specs.Stops.{Stops}
 
 -- moves that a post made one after another, whether more is left for it to do or not
 abbrev pub AreMade : Codecs → PostPlan → (ℕ → ℕ → Type 0) → List Step → List Move → Type 0
@@ -21,13 +22,15 @@ AreMade c plan Shows steps [] = Unit {0}
 AreMade c plan Shows steps (m ∷ moves) =
     Acts c plan Shows (state plan steps) m.reading m.act m.taken × AreMade c plan Shows (Does m.reading m.act m.taken ∷ steps) moves
 
--- the posts up to some one have answered, that one has made some moves, and those behind it have done nothing yet
+-- the posts up to some one have answered, that one has made some moves, in whole parts up to the one in which it stops, and those behind
+-- it have done nothing yet
 abbrev pub AreBegun : Codecs → ℕ → List Post → List Post → List Entry → List Post → List Entry → Type 0
 AreBegun c limit before [] past answered later = (answered ≡ before) × (later ≡ past)
 AreBegun c limit before (post ∷ posts) past answered later =
     ((moves : List Move) × Answers c post.plan (Shows limit before posts) post.steps moves
     × AreBegun c limit (before ++ with_moves moves post ∷ []) posts (past_behind (length before + 1) moves past) answered later)
     ⊎ ((moves : List Move) × AreMade c post.plan (Shows limit before posts) post.steps moves
+    × Stops c post.plan (Shows limit before posts) post.steps moves
     × (answered ≡ before ++ with_moves moves post ∷ posts) × (later ≡ past_behind (length before + 1) moves past))
 
 -- the last block of such a past, and the whole blocks before it

@@ -1,3 +1,4 @@
 pub mod Answers
 pub mod BlockRuns
 pub mod CutRuns
+pub mod Stops

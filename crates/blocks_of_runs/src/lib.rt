@@ -2,8 +2,8 @@
 //!
 //! Proved: for any codecs, `runs_are_blocks` (a past whose posts rest is a run exactly where it is a list of blocks: each a hearing and
 //! then, for every post in order of number, its whole answers in three parts, an Open repeated, the deadline, what the event asks for and
-//! the words; a lost hearing begins none; any other run is whole blocks and one in which the posts up to some one have answered; so whole
-//! runs and cut ones, with the orders that close them).
+//! the words; a lost hearing begins none; any other run is whole blocks and one in which the posts up to some one have answered, and that one
+//! has done whole parts in order and some of the next; so whole runs and cut ones, with the orders that close them).
 #![tactic(auto)]
 
 ghost use Rattle.post_spec.specs.Codecs.{codecs};
