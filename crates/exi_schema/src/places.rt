@@ -102,6 +102,17 @@ pub struct SequenceChild {
     pub datatype: Datatype,
 }
 
+/// The children of a sequence of three values, of which the second may be absent.
+#[derive(Clone, Copy)]
+pub struct OptionalSequence {
+    /// The first.
+    pub first: SequenceChild,
+    /// The one that may be absent.
+    pub second: SequenceChild,
+    /// The third.
+    pub third: SequenceChild,
+}
+
 /// What a document number names.
 #[derive(Clone, Copy, PartialEq, Eq)]
 pub enum Root {
@@ -119,7 +130,7 @@ pub trait Places {
     ghost use Rattle.exi_schema.specs.declared.places.Step.{Step as SchemaStep};
     ghost use Rattle.exi_schema.specs.Offers.{IsPlace, IsWidth, offers};
     ghost use Rattle.exi_schema.specs.Schemas.{PlainSchema};
-    ghost use Rattle.exi_schema.specs.Sequences.{TellsSequence};
+    ghost use Rattle.exi_schema.specs.Sequences.{TellsSequence, IsOptionalSequence};
     ghost use Rattle.exi_schema.specs.Steps.{IsStep, IsSought, IsRoot, IsRootOf, simple_at};
 
     /// The schema that the value tells.
@@ -170,6 +181,15 @@ pub trait Places {
         ensures { TellsSequence (schema self.now).kinds (record { kind = kind; particle = 0; copies = 0; attributes = 0 }) result.now }
     {
         &[]
+    }
+
+    /// The children of a kind of the schema that is a sequence of three values of which the second may be absent: it has no attributes, each child
+    /// is of a simple kind, and nothing else may stand there. `None` for any other kind, and where such sequences are not kept.
+    fn optional_sequence(&self, kind: u16) -> Option<&OptionalSequence>
+        requires { kind < length (schema self.now).kinds }
+        ensures { IfSome result (λ it. IsOptionalSequence (schema self.now).kinds (record { kind = kind; particle = 0; copies = 0; attributes = 0 }) it.now) }
+    {
+        None
     }
 
     /// How many bits a document number has.
