@@ -1,4 +1,5 @@
 pub mod Offered
+pub mod OptionalSequenced
 pub mod Tables
 pub mod Counted
 pub mod Reading

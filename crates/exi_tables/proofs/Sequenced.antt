@@ -18,7 +18,7 @@ use Rattle.exi_tables.specs.Followed.{IsFollowed, NoSequence, KeepsSequence}
 
 -- ---- what follows, where one step is offered
 
-only_one : (steps : List Step) (step : Step) → length steps ≡ 1 → Some step ≡ slice_get steps 0 → steps ≡ step ∷ []
+pub only_one : (steps : List Step) (step : Step) → length steps ≡ 1 → Some step ≡ slice_get steps 0 → steps ≡ step ∷ []
 only_one [] step one is = absurd (omega (arith, one))
 only_one (x ∷ []) step one is = let same : Some step ≡ Some x = is in let e : x ≡ step = cc in ap (λ y. y ∷ []) e
 only_one (x ∷ y ∷ steps) step one is = absurd (omega (arith, one))

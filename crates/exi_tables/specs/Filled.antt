@@ -1,12 +1,13 @@
 -- Own: what compiled rows hold: for each place of a schema its offers and the width of its codes (W3C EXI 1.0, Second Edition, 8.5.4
 -- and 6.2).
-use Rattle.std.specs.Prelude.{◌≡◌, ℕ, List, length, slice_get, Some, min, Vec}
+use Rattle.std.specs.Prelude.{◌≡◌, ℕ, List, length, slice_get, Some, IfSome, min, Vec}
 use Rattle.std.specs.declared.alloc.Global.{Global}
 use Rattle.exi_schema.specs.Plain.{PlainKind}
 use Rattle.exi_schema.specs.declared.places.Place.{Place}
 use Rattle.exi_schema.specs.Schemas.{PlainSchema}
 use Rattle.exi_schema.specs.Offers.{offers, IsWidth}
-use Rattle.exi_schema.specs.Sequences.{TellsSequence}
+use Rattle.exi_schema.specs.declared.places.OptionalSequence.{OptionalSequence}
+use Rattle.exi_schema.specs.Sequences.{TellsSequence, IsOptionalSequence}
 use Rattle.exi_schema.specs.Steps.{simple_at}
 use Rattle.exi_tables.specs.declared.filling.KindTable.{KindTable}
 use Rattle.exi_tables.specs.declared.filling.Row.{Row}
@@ -38,12 +39,16 @@ abbrev pub HoldsAttributes : PlainSchema → PlainKind → Place → List (Vec (
 HoldsAttributes s declaration here tables =
     IsTable (attribute_places declaration) (λ attributes rows. HoldsParticles s declaration (record here { attributes = attributes }) rows.items) tables
 
--- the table of a kind: its datatype, if it is simple, its children, if it is a sequence of at most eight values, and the rows of its
--- places
+-- the table of a kind: its datatype, if it is simple, its children, if it is a sequence of at most eight values or one of three of which
+-- the second may be absent, and the rows of its places
 pub record IsKindTable (s : PlainSchema) (kind : ℕ) (table : KindTable) : Type 0 where
   pub datatype : table.datatype ≡ simple_at s.kinds kind
   pub sequence : TellsSequence s.kinds (record { kind = kind; particle = 0; copies = 0; attributes = 0 }) table.sequence.items
   pub whole : KeepsSequence s.kinds (record { kind = kind; particle = 0; copies = 0; attributes = 0 }) table.sequence.items
+  pub optional : IfSome table.optional (IsOptionalSequence s.kinds (record { kind = kind; particle = 0; copies = 0; attributes = 0 }))
+  pub each_optional :
+      (all : OptionalSequence) → IsOptionalSequence s.kinds (record { kind = kind; particle = 0; copies = 0; attributes = 0 }) all →
+      table.optional ≡ Some all
   pub rows :
       (declaration : PlainKind) → slice_get s.kinds kind ≡ Some declaration →
       HoldsAttributes s declaration (record { kind = kind; particle = 0; copies = 0; attributes = 0 }) table.by_attributes.items

@@ -6,8 +6,8 @@ ghost use Rattle.exi_schema.specs.Told.{schema_of};
 use crate::filling::{KindTable, Row, table_of_kind};
 use charge_world::NoMemory;
 use exi_schema::{
-    Codes, Datatype, Offer, Place, Places, Root, RootOf, Schema, SequenceChild, Sought, Step,
-    is_sought, root_in,
+    Codes, Datatype, Offer, OptionalSequence, Place, Places, Root, RootOf, Schema, SequenceChild,
+    Sought, Step, is_sought, root_in,
 };
 use std::alloc::Global;
 use std::marker::{Model, PhantomData};
@@ -83,8 +83,9 @@ impl<D: Declared> Rows<D> {
 }
 
 impl<D: Declared> Places for Rows<D> {
-    ghost use Rattle.std.specs.Prelude.{◌<◌, length};
-    ghost use Rattle.exi_schema.specs.Sequences.{TellsSequence};
+    ghost use Rattle.std.specs.Prelude.{◌≡◌, ◌<◌, length, Some, IfSome, option_copied};
+    ghost use Rattle.exi_schema.specs.declared.places.OptionalSequence.{OptionalSequence as OptionalChildren};
+    ghost use Rattle.exi_schema.specs.Sequences.{TellsSequence, IsOptionalSequence};
     ghost use Rattle.exi_tables.specs.Followed.{KeepsSequence};
 
     ghost schema = { λ rows. D.schema };
@@ -139,6 +140,15 @@ impl<D: Declared> Places for Rows<D> {
         ensures whole { KeepsSequence D.schema.kinds (record { kind = kind; particle = 0; copies = 0; attributes = 0 }) result.now }
     {
         self.kinds[kind as usize].sequence.as_slice()
+    }
+
+    #[inline(always)]
+    fn optional_sequence(&self, kind: u16) -> Option<&OptionalSequence>
+        requires { kind < length D.schema.kinds }
+        ensures tells { IfSome result (λ it. IsOptionalSequence D.schema.kinds (record { kind = kind; particle = 0; copies = 0; attributes = 0 }) it.now) }
+        ensures whole { (all : OptionalChildren) → IsOptionalSequence D.schema.kinds (record { kind = kind; particle = 0; copies = 0; attributes = 0 }) all → option_copied result ≡ Some all }
+    {
+        self.kinds[kind as usize].optional.as_ref()
     }
 
     fn root_width(&self) -> u32 {

@@ -8,9 +8,12 @@ ghost use Rattle.exi_tables.specs.Counts.{attribute_places as places_by_attribut
 ghost use Rattle.exi_tables.specs.Filled.{IsRow, HoldsCopies, HoldsParticles, HoldsAttributes, IsKindTable};
 
 use crate::counts::{attribute_places, copy_places, particle_places};
+use crate::optional::optional_sequence_of_kind;
 use crate::sequences::sequence_of_kind;
 use charge_world::NoMemory;
-use exi_schema::{Datatype, Declaration, Place, Places, Schema, SequenceChild, Step};
+use exi_schema::{
+    Datatype, Declaration, OptionalSequence, Place, Places, Schema, SequenceChild, Step,
+};
 use std::alloc::Global;
 
 /// What is offered at a place: a step for each code, and how many bits a code has.
@@ -20,12 +23,13 @@ pub(crate) struct Row {
     pub(crate) width: u32,
 }
 
-/// A kind: its datatype, if it is simple, its children, if it is a sequence of at most eight values, and its rows by the attributes passed,
-/// by the particles passed, and by the copies passed.
+/// A kind: its datatype, if it is simple, its children, if it is a sequence of at most eight values or one of three of which the second may be
+/// absent, and its rows by the attributes passed, by the particles passed, and by the copies passed.
 #[derive(Drop)]
 pub(crate) struct KindTable {
     pub(crate) datatype: Option<Datatype>,
     pub(crate) sequence: Vec<SequenceChild>,
+    pub(crate) optional: Option<OptionalSequence>,
     pub(crate) by_attributes: Vec<Vec<Vec<Row>>>,
 }
 
@@ -125,9 +129,11 @@ pub(crate) fn table_of_kind(
     let by_attributes = rows_of_kind(alloc, schema, declaration, Place::first(kind))?;
     let datatype = schema.datatype(kind);
     let sequence = sequence_of_kind(alloc, schema, kind)?;
+    let optional = optional_sequence_of_kind(schema, kind);
     Ok(KindTable {
         datatype,
         sequence,
+        optional,
         by_attributes,
     })
 }

@@ -52,7 +52,7 @@ fn following_at(schema: &Schema, place: Place) -> Option<Following>
 }
 
 /// Whether a member may stand there.
-fn may_stand(standing: MemberStanding, past_limit: bool) -> bool
+pub(crate) fn may_stand(standing: MemberStanding, past_limit: bool) -> bool
     ensures here { result ≡ true → (standing ≡ Taken) × (past_limit ≡ false) }
     ensures other { result ≡ false → standing ≡ Taken → past_limit ≡ false → ⊥ }
 {
