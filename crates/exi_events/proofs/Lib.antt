@@ -21,6 +21,7 @@ pub mod Valued
 pub mod Whole
 pub mod Writable
 pub mod Sequences
+pub mod OptionalTaken
 pub mod Words
 pub mod Children
 pub use Rattle.document_laws.proofs.Written

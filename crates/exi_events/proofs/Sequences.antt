@@ -10,6 +10,7 @@ use Rattle.exi_schema.specs.Offers.{simple_step, offers}
 use Rattle.exi_schema.specs.Plain.{PlainKind}
 use Rattle.exi_schema.specs.Schemas.{PlainSchema}
 use Rattle.exi_schema.specs.Sequences.{IsSequence, TellsSequence}
+use Rattle.exi_schema.specs.Steps.{simple_at}
 use Rattle.exi_schema.proofs.Conditions.{and-l, and-r}
 use Rattle.exi_writing.specs.Documents.{SpellsStep, element, first}
 use Rattle.exi_writing.specs.Grammar.{Opened, Inside, opened, around, stands}
@@ -45,28 +46,28 @@ end_took s name here above entries old new took =
     (took.0, (took.1, refl), took.2) in
     record { end = next; told = λ events has. told_more s s _ _ _ _ event.EndElement refl next events has EndElement refl }
 
-module _ (s : PlainSchema) (name : ℕ) (here next : Place) (above : List Opened) (child : SequenceChild) (is : OffersChild s.kinds here next child) where
+module _ (s : PlainSchema) (name : ℕ) (here next : Place) (above : List Opened) (child : SequenceChild) (kind : ℕ) (simple : simple_at s.kinds kind ≡ Some child.datatype) where
   abbrev pub inner : List Opened
-  inner = opened child.name (first is.kind) ∷ opened name next ∷ above
+  inner = opened child.name (first kind) ∷ opened name next ∷ above
 
   abbrev pub top : OpenElement
-  top = record { name = child.name; place = first is.kind }
+  top = record { name = child.name; place = first kind }
 
   pub has_top : HasTop inner top
   has_top = (opened name next ∷ above, refl)
 
-  started : (entries : Entries) (old one : Cursor) → Takes (SpellsStep s.kinds here (element child.name is.kind next)) old one →
+  started : (entries : Entries) (old one : Cursor) → Takes (SpellsStep s.kinds here (element child.name kind next)) old one →
       IsNext (reading s (stands (Inside (opened name here) above) entries) old) (reading s (stands (around inner) entries) one) (Some (Start child.name))
-  started entries old one took = (took.0, record { kind = is.kind; next = next; starts = took.1; leads = refl }, took.2)
+  started entries old one took = (took.0, record { kind = kind; next = next; starts = took.1; leads = refl }, took.2)
 
-  told_started : (entries : Entries) (old one : Cursor) → Takes (SpellsStep s.kinds here (element child.name is.kind next)) old one → (events : List TreeEvent) →
+  told_started : (entries : Entries) (old one : Cursor) → Takes (SpellsStep s.kinds here (element child.name kind next)) old one → (events : List TreeEvent) →
       HasTold (reading s (stands (Inside (opened name here) above) entries) old) events → HasTold (reading s (stands (around inner) entries) one) (Start child.name ∷ events)
   told_started entries old one took events has = told_more s s _ _ _ _ (event.Start child.name) refl (started entries old one took) events has (Start child.name) refl
 
   pub child_took : (bits : List Bool) (before after : List (ℕ × SpanAt)) (v : Value) (old one two three new : Cursor) →
-      Takes (SpellsStep s.kinds here (element child.name is.kind next)) old one → Takes (SpellsStep s.kinds (first is.kind) (simple_step (first is.kind))) one two →
+      Takes (SpellsStep s.kinds here (element child.name kind next)) old one → Takes (SpellsStep s.kinds (first kind) (simple_step (first kind))) one two →
       Takes (λ b. SpellsValue child.datatype (texts_in bits before) child.name (value_of v) b (texts_in bits after)) two three →
-      Takes (SpellsStep s.kinds (behind_value is.kind) (simple_step (behind_value is.kind))) three new →
+      Takes (SpellsStep s.kinds (behind_value kind) (simple_step (behind_value kind))) three new →
       TakesChild (inside_at s name here above bits before old) (inside_at s name next above bits after new) child.name (value_of v)
   child_took bits before after v old one two three new start content value end =
       record {
@@ -77,15 +78,15 @@ module _ (s : PlainSchema) (name : ℕ) (here next : Place) (above : List Opened
         told = told_started (texts_in bits before) old one start;
         whole =
             whole_taken s v inner (opened name next ∷ above) (texts_in bits before) (texts_in bits after) one new
-            (whole_took s child.datatype inner top (texts_in bits before) has_top refl is.simple (texts_in bits after) (opened name next ∷ above) v one two three new
-            (simple_step (first is.kind)) (simple_step (behind_value is.kind)) (behind_value is.kind) refl content value refl refl end (λ t a same. ap rest_of same));
+            (whole_took s child.datatype inner top (texts_in bits before) has_top refl simple (texts_in bits after) (opened name next ∷ above) v one two three new
+            (simple_step (first kind)) (simple_step (behind_value kind)) (behind_value kind) refl content value refl refl end (λ t a same. ap rest_of same));
       }
 
   -- of a value of few bits
   pub short_took : (bits : List Bool) (entries : List (ℕ × SpanAt)) (v : ShortValue) (old one two three new : Cursor) →
-      Takes (SpellsStep s.kinds here (element child.name is.kind next)) old one → Takes (SpellsStep s.kinds (first is.kind) (simple_step (first is.kind))) one two →
+      Takes (SpellsStep s.kinds here (element child.name kind next)) old one → Takes (SpellsStep s.kinds (first kind) (simple_step (first kind))) one two →
       Takes (λ b. SpellsValue child.datatype (texts_in bits entries) child.name (tree_of v) b (texts_in bits entries)) two three →
-      Takes (SpellsStep s.kinds (behind_value is.kind) (simple_step (behind_value is.kind))) three new →
+      Takes (SpellsStep s.kinds (behind_value kind) (simple_step (behind_value kind))) three new →
       TakesChild (inside_at s name here above bits entries old) (inside_at s name next above bits entries new) child.name (tree_of v)
   short_took bits entries (short.Bool v) = child_took bits entries entries (value.Bool v)
   short_took bits entries (short.Ordinal v) = child_took bits entries entries (value.Ordinal v)
@@ -168,7 +169,7 @@ open_behind kinds elements above popped top is pops are =
 
 -- ---- where an element begins
 
-eqb_is : (a b : ℕ) → eqb a b ≡ true → a ≡ b
+pub eqb_is : (a b : ℕ) → eqb a b ≡ true → a ≡ b
 eqb_is a b t =
     elim (eqb_tells a b) [
       | inl h ↦ h.1

@@ -13,6 +13,7 @@ pub mod Inside
 pub mod Reader
 pub mod Writer
 pub mod Sequence
+pub mod Optional
 pub mod Child
 pub use Rattle.exi_writing.specs.Short
 pub use Rattle.exi_writing.specs.ShortValue

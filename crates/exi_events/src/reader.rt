@@ -8,9 +8,10 @@ ghost use Rattle.exi_writing.specs.Event.TheVariants as event;
 
 use crate::inside::{take_inside, take_whole};
 use crate::open::{OpenElement, OpenElements};
+use crate::optional::{OptionalValues, take_optional};
 use crate::sequence::{ThreeValues, take_three};
 use crate::step::take_front;
-use exi_schema::{Datatype, Place, Places, SequenceChild};
+use exi_schema::{Datatype, OptionalSequence, Place, Places, SequenceChild};
 use exi_writing::exi_documents::{Refusal, RefusalCause};
 use exi_writing::exi_reading::PayloadReader;
 use exi_writing::exi_values::{Event, Table, Value};
@@ -59,6 +60,7 @@ impl<'a, 'p, P: Places> EventReader<'a, 'p, P> {
     ghost use Rattle.exi_schema.specs.Steps.{simple_at};
     ghost use Rattle.exi_events.specs.Inside.{HasTop};
     ghost use Rattle.exi_events.specs.Sequence.{HoldsSequence, TakesSequence, values_of};
+    ghost use Rattle.exi_events.specs.Optional.{HoldsOptional, TakesOptional};
     ghost use Rattle.exi_events.specs.declared.reader.Phase.TheVariants as phase;
     ghost use Rattle.exi_writing.specs.Trees.{Event as TreeEvent};
     ghost use Rattle.exi_writing.specs.Values.{most_entries};
@@ -188,6 +190,30 @@ impl<'a, 'p, P: Places> EventReader<'a, 'p, P> {
         self.take_sequence(children)
     }
 
+    /// The values of the innermost element and its end, where that is a sequence of three values of few bits, of which the second, of this name,
+    /// may be absent, and nothing of it is taken: what ten calls of `next` tell, or seven. Anywhere else, and where one of them is refused,
+    /// nothing is taken, and `None` is answered.
+    #[inline(always)]
+    pub fn optional_values(&mut self, second: u16) -> Option<OptionalValues>
+        requires ready { IsReady P.schema self.old }
+        ensures ready { IsReady P.schema self.new }
+        ensures same_reference { self.new.table.ghost_name ≡ self.old.table.ghost_name }
+        ensures places { self.new.places.now ≡ self.old.places.now }
+        ensures payload { self.new.reader.bits ≡ self.old.reader.bits }
+        ensures refusals { self.new.refused ≡ self.old.refused }
+        ensures open_still { IfSome result (λ _. self.old.refused ≡ None) }
+        ensures none { result ≡ None → self.new ≡ self.old }
+        ensures values { IfSome result (TakesOptional (reading_of P.schema self.old) (reading_of P.schema self.new) second) }
+        ensures told { (events : List TreeEvent) → HasTold (reading_of P.schema self.old) events
+            → (more : List TreeEvent) × HasTold (reading_of P.schema self.new) more }
+    {
+        if self.refused.is_some() {
+            return None;
+        }
+        let children = self.optional_sequence(second)?;
+        self.take_optional_sequence(children, second)
+    }
+
     /// Ends the reading, wherever it stands, and gives the table back.
     pub fn end(self) -> &'p mut Table
         ensures same_reference { result.ghost_name ≡ self.entry.table.ghost_name }
@@ -285,6 +311,53 @@ impl<'a, 'p, P: Places> EventReader<'a, 'p, P> {
             → (more : List TreeEvent) × HasTold (reading_of P.schema self.new) more }
     {
         let values = take_three(&mut self.reader, children)?;
+        self.elements.pop();
+        Some(values)
+    }
+
+    /// The children of the innermost element, if that is a sequence of three values of which the second, of this name, may be absent, and
+    /// nothing of it is taken.
+    #[inline(always)]
+    fn optional_sequence(&self, second: u16) -> Option<&'p OptionalSequence>
+        requires ready { IsReady P.schema self.now }
+        ensures inside { IfSome result (λ _. self.now.phase ≡ phase.Inside) }
+        ensures sequence { IfSome result (λ children. HoldsOptional (P.schema self.now.places.now) self.now.elements second children.now) }
+    {
+        let Phase::Inside = self.phase else {
+            return None;
+        };
+        let top = self.elements.innermost()?;
+        if top.place != Place::first(top.place.kind) {
+            return None;
+        }
+        let children = self.places.optional_sequence(top.place.kind)?;
+        if children.second.name != second || children.third.name == second {
+            return None;
+        }
+        Some(children)
+    }
+
+    /// The values of the innermost element, which is a sequence of these children, and its end, where they have few bits and none is refused.
+    #[inline(always)]
+    fn take_optional_sequence(
+        &mut self,
+        children: &OptionalSequence,
+        second: u16,
+    ) -> Option<OptionalValues>
+        requires ready { IsReady P.schema self.old }
+        requires inside { self.old.phase ≡ phase.Inside }
+        requires sequence { HoldsOptional (P.schema self.old.places.now) self.old.elements second children.now }
+        ensures ready { IsReady P.schema self.new }
+        ensures same_reference { self.new.table.ghost_name ≡ self.old.table.ghost_name }
+        ensures places { self.new.places.now ≡ self.old.places.now }
+        ensures payload { self.new.reader.bits ≡ self.old.reader.bits }
+        ensures refusals { self.new.refused ≡ self.old.refused }
+        ensures none { result ≡ None → self.new ≡ self.old }
+        ensures values { IfSome result (TakesOptional (reading_of P.schema self.old) (reading_of P.schema self.new) second) }
+        ensures told { (events : List TreeEvent) → HasTold (reading_of P.schema self.old) events
+            → (more : List TreeEvent) × HasTold (reading_of P.schema self.new) more }
+    {
+        let values = take_optional(&mut self.reader, children)?;
         self.elements.pop();
         Some(values)
     }

@@ -30,7 +30,7 @@ pub struct ThreeValues {
 
 /// Takes the one event code at a place where one thing alone is offered, where the window holds it.
 #[inline(always)]
-fn short_only(window: &mut BitWindow) -> Option<()>
+pub(crate) fn short_only(window: &mut BitWindow) -> Option<()>
     ensures taken { (kinds : List PlainKind) (here : SchemaPlace) (step : SchemaStep) → offers kinds here ≡ step ∷ [] → OnSome result (Takes (SpellsStep kinds here step) window.old.cursor window.new.cursor) }
     ensures same { window.new.cursor.bits ≡ window.old.cursor.bits }
 {
@@ -41,7 +41,7 @@ fn short_only(window: &mut BitWindow) -> Option<()>
 /// Takes the next child, which is the one thing that is offered: its start, its value and its end, where the window holds them and none is
 /// refused.
 #[inline(always)]
-fn short_child(window: &mut BitWindow, child: SequenceChild) -> Option<ShortValue>
+pub(crate) fn short_child(window: &mut BitWindow, child: SequenceChild) -> Option<ShortValue>
     ensures child { (s : PlainSchema) (name : ℕ) (here next : SchemaPlace) (above : List Opened) (entries : List (ℕ × SpanAt)) → OffersChild s.kinds here next child
         → IfSome result (λ v. TakesChild (inside_at s name here above window.old.cursor.bits entries window.old.cursor) (inside_at s name next above window.old.cursor.bits entries window.new.cursor) child.name (tree_of v)) }
     ensures same { window.new.cursor.bits ≡ window.old.cursor.bits }

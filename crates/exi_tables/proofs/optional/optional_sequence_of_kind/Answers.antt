@@ -1,7 +1,5 @@
-use Rattle.std.proofs.Common.{rules, subst, sym}
-use Rattle.exi_schema.specs.declared.places.Place.{Place}
+use Rattle.std.proofs.Common.{rules}
 use Rattle.exi_schema.specs.Told.{schema_of}
-use Rattle.exi_tables.specs.Followed.{IsOnlyChild}
 use Rattle.exi_tables.proofs.OptionalSequenced.{is_optional, no_first, no_second, no_third}
 use Rattle.exi_tables.proofs.optional.optional_sequence_of_kind.Goals as goal
 

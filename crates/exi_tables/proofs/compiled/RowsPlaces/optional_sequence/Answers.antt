@@ -1,5 +1,4 @@
-use Rattle.std.proofs.Common.{arith, subst, sym, ◌∙◌, Option}
-use Rattle.exi_schema.specs.declared.places.OptionalSequence.{OptionalSequence}
+use Rattle.std.proofs.Common.{arith, ◌∙◌}
 use Rattle.exi_schema.specs.Sequences.{IsOptionalSequence}
 use Rattle.exi_tables.proofs.OptionalSequenced.{lent_is}
 use Rattle.exi_tables.proofs.Reading.{table_of}
