@@ -2,7 +2,6 @@
 use Rattle.std.specs.Prelude.{◌≡◌, ℕ, ◌≤◌, List, [], ◌∷◌, length, false, Some, slice_get}
 use Rattle.exi_schema.specs.declared.places.Place.{Place}
 use Rattle.exi_schema.specs.declared.places.SequenceChild.{SequenceChild}
-use Rattle.exi_schema.specs.declared.places.OptionalSequence.{OptionalSequence}
 use Rattle.exi_schema.specs.declared.places.Step.{Step}
 use Rattle.exi_schema.specs.declared.places.Step.TheVariants.{Element}
 use Rattle.exi_schema.specs.declared.tables.MemberStanding.TheVariants.{Taken}
