@@ -37,3 +37,16 @@ pub record Window : Type 0 where
 -- at least 57 bits are held, or all that are left
 abbrev pub HoldsNext : Window → Type 0
 HoldsNext window = (57 ≤ window.held) ⊎ (window.cursor.place + window.held ≡ length window.cursor.bits)
+
+-- the bits that are held begin with the spelling of an item, of at most so many bits
+pub record HoldsWhole (Spells : List Bool → Type 0) (most : ℕ) (window : Window) : Type 0 where
+  pub front : List Bool
+  pub rest : List Bool
+  pub spelled : Spells front
+  pub few : length front ≤ most
+  pub within : length front ≤ window.held
+  pub there : ahead window.cursor ≡ front ++ rest
+
+-- where what is held ends, it ends afterwards
+abbrev pub HoldsOn : Window → Window → Type 0
+HoldsOn old new = new.cursor.place + new.held ≡ old.cursor.place + old.held

@@ -1,6 +1,6 @@
 //! The next bits of a payload, held in a number.
 
-ghost use Rattle.std.specs.Prelude.{◌≡◌, ◌+◌, ◌*◌, ◌^◌, ◌<◌, ◌≤◌, length, take, drop, None, IfSome};
+ghost use Rattle.std.specs.Prelude.{◌≡◌, ℕ, ℤ, ◌+◌, ◌*◌, ◌^◌, ◌<◌, ◌≤◌, length, take, drop, None, IfSome};
 ghost use Rattle.exi_spec.specs.Bits.{bits_of, number_bits};
 ghost use Rattle.exi_spec.specs.Items.{SpellsBool, SpellsNumber, SpellsOctets, SpellsUnsigned, SpellsInteger};
 
@@ -54,7 +54,7 @@ impl<'a> Model for BitWindow<'a> {
 
 impl<'a> BitWindow<'a> {
     ghost use Rattle.std.specs.Prelude.{None, OnSome, ◌⊎◌};
-    ghost use Rattle.exi_bits.specs.Reading.{HoldsNext, Takes};
+    ghost use Rattle.exi_bits.specs.Reading.{HoldsNext, HoldsOn, HoldsWhole, Takes};
 
     /// The bits from a place of a payload on. `None` where the payload has less than eight bytes, or at its end.
     #[inline(always)]
@@ -94,6 +94,7 @@ impl<'a> BitWindow<'a> {
     pub fn take_bits(&mut self, n: u32) -> Option<u32>
         requires { n ≤ 32 }
         ensures held { OnSome result (self.new.held + n ≡ self.old.held) }
+        ensures end { HoldsOn self.old self.new }
         ensures none { result ≡ None → 0 < n → self.old.held < n }
         ensures taken { IfSome result (λ value. Takes (SpellsNumber n value) self.old.cursor self.new.cursor) }
         ensures same { self.new.cursor.bits ≡ self.old.cursor.bits }
@@ -112,6 +113,7 @@ impl<'a> BitWindow<'a> {
     #[inline(always)]
     pub fn take_bit(&mut self) -> Option<bool>
         ensures held { OnSome result (self.new.held + 1 ≡ self.old.held) }
+        ensures end { HoldsOn self.old self.new }
         ensures none { result ≡ None → self.old.held ≡ 0 }
         ensures taken { IfSome result (λ bit. Takes (SpellsBool bit) self.old.cursor self.new.cursor) }
         ensures same { self.new.cursor.bits ≡ self.old.cursor.bits }
@@ -120,10 +122,12 @@ impl<'a> BitWindow<'a> {
         Some(bit == 1)
     }
 
-    /// Takes an Unsigned Integer (7.1.6) of at most three octets.
+    /// Takes an Unsigned Integer (7.1.6) of at most three octets. `None` where none is held as a whole.
     #[inline(always)]
     pub fn take_unsigned(&mut self) -> Option<u64>
         ensures few { IfSome result (λ value. value < 2 ^ 21) }
+        ensures held { HoldsOn self.old self.new }
+        ensures none { result ≡ None → (value : ℕ) → ¬ HoldsWhole (SpellsUnsigned value) 24 self.old }
         ensures taken { IfSome result (λ value. Takes (SpellsUnsigned value) self.old.cursor self.new.cursor) }
         ensures same { self.new.cursor.bits ≡ self.old.cursor.bits }
     {
@@ -139,6 +143,8 @@ impl<'a> BitWindow<'a> {
     #[inline(always)]
     fn take_two_octets(&mut self) -> Option<u64>
         ensures few { IfSome result (λ value. value < 2 ^ 14) }
+        ensures held { HoldsOn self.old self.new }
+        ensures none { result ≡ None → (value : ℕ) → ¬ HoldsWhole (SpellsOctets 9 value) 16 self.old }
         ensures taken { IfSome result (λ value. Takes (SpellsOctets 9 value) self.old.cursor self.new.cursor) }
         ensures same { self.new.cursor.bits ≡ self.old.cursor.bits }
     {
@@ -153,9 +159,11 @@ impl<'a> BitWindow<'a> {
         Some(octets_value(first, u64::from(second)))
     }
 
-    /// Takes an Integer (7.1.5) whose magnitude has at most three octets.
+    /// Takes an Integer (7.1.5) whose magnitude has at most three octets. `None` where none is held as a whole.
     #[inline(always)]
     pub fn take_integer(&mut self) -> Option<i64>
+        ensures held { HoldsOn self.old self.new }
+        ensures none { result ≡ None → (value : ℤ) → ¬ HoldsWhole (SpellsInteger value) 25 self.old }
         ensures taken { IfSome result (λ value. Takes (SpellsInteger value) self.old.cursor self.new.cursor) }
         ensures same { self.new.cursor.bits ≡ self.old.cursor.bits }
     {
