@@ -4,3 +4,4 @@ pub mod Places
 pub mod Hits
 pub mod Announced
 pub mod Values
+pub mod Shortened

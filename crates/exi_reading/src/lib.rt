@@ -4,7 +4,7 @@
 //! No call takes memory. A refusal has the bit of the first item that can't be taken.
 //!
 //! Proved: `PayloadReader::take_value` takes exactly the values of a datatype (`SpellsValue`), with the string table, or answers the exact
-//! refusal (`RefusesValue`); `short_value` takes such a value out of a window, or none; that it takes one is not stated.
+//! refusal (`RefusesValue`); `short_value` takes such a value out of a window, and each of at most 25 bits that it holds as a whole.
 #![tactic(auto)]
 
 mod items;

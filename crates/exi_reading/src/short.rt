@@ -1,9 +1,10 @@
 //! Values of few bits, taken from a window.
 
-ghost use Rattle.std.specs.Prelude.{◌≡◌, ℕ, Bool, List, IfSome};
-ghost use Rattle.exi_bits.specs.Reading.{Takes};
+ghost use Rattle.std.specs.Prelude.{◌≡◌, ℕ, ◌≤◌, Bool, List, length, None, IfSome};
+ghost use Rattle.exi_bits.specs.Reading.{HoldsOn, HoldsWhole, Takes};
+ghost use Rattle.exi_values.specs.Trees.{Value as TreeValue};
 ghost use Rattle.exi_values.specs.Values.{Entries, SpellsCode, SpellsValue};
-ghost use Rattle.exi_reading.specs.Short.{tree_of};
+ghost use Rattle.exi_reading.specs.Short.{SpellsShort, most_bits, tree_of};
 
 use crate::items::index_width;
 use exi_bits::BitWindow;
@@ -38,9 +39,11 @@ impl ShortValue {
     }
 }
 
-/// One of `count` codes (7.1.9, 7.2). `None` where there is one, which has no bits.
+/// One of `count` codes (7.1.9, 7.2). `None` where none is held as a whole, and where there is one, which has no bits.
 #[inline(always)]
 fn short_code(window: &mut BitWindow, count: u32) -> Option<u32>
+    ensures held { HoldsOn window.old window.new }
+    ensures none { result ≡ None → (code most : ℕ) → ¬ HoldsWhole (λ bits. (1 ≤ length bits) × SpellsCode count code bits) most window.old }
     ensures taken { IfSome result (λ code. Takes (SpellsCode count code) window.old.cursor window.new.cursor) }
     ensures same { window.new.cursor.bits ≡ window.old.cursor.bits }
 {
@@ -50,10 +53,12 @@ fn short_code(window: &mut BitWindow, count: u32) -> Option<u32>
 
 /// A value of a datatype other than String and Binary, where the window holds it as a whole. No string table is asked.
 ///
-/// `None` where it doesn't, for any other datatype, where its one value has a code of no bits, and where the value is refused: `take_value`
-/// tells why.
+/// `None` where it doesn't, for any other datatype, where its one value has a code of no bits, where an integer has more than three octets or
+/// 64 bits, and where the value is refused: `take_value` tells why.
 #[inline(always)]
 pub fn short_value(window: &mut BitWindow, datatype: Datatype) -> Option<ShortValue>
+    ensures held { HoldsOn window.old window.new }
+    ensures none { result ≡ None → (value : TreeValue) → ¬ HoldsWhole (SpellsShort datatype value) most_bits window.old }
     ensures taken { (entries : Entries) (name : ℕ)
         → IfSome result (λ v. Takes (λ bits. SpellsValue datatype entries name (tree_of v) bits entries) window.old.cursor window.new.cursor) }
     ensures same { window.new.cursor.bits ≡ window.old.cursor.bits }
