@@ -29,3 +29,4 @@ pub use Rattle.document_laws.proofs.Once
 pub use Rattle.document_laws.proofs.Runs
 pub use Rattle.document_laws.proofs.Apart
 pub use Rattle.document_laws.proofs.Offered
+pub mod Taking

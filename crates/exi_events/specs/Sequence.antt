@@ -1,6 +1,7 @@
 -- Own: the values of a sequence, which are read at once.
-use Rattle.std.specs.Prelude.{◌≡◌, ℕ, Bool, List, [], ◌∷◌, Some}
-use Rattle.exi_bits.specs.Reading.{Cursor}
+use Rattle.std.specs.Prelude.{◌≡◌, ℕ, ◌+◌, ◌≤◌, Bool, List, [], ◌∷◌, ◌++◌, length, Some}
+use Rattle.exi_spec.specs.Bits.{number_bits}
+use Rattle.exi_bits.specs.Reading.{Cursor, Window, ahead}
 use Rattle.exi_bits.specs.declared.span.SpanAt.{SpanAt}
 use Rattle.exi_schema.specs.declared.places.Place.{Place}
 use Rattle.exi_schema.specs.declared.places.SequenceChild.{SequenceChild}
@@ -13,8 +14,9 @@ use Rattle.exi_writing.specs.Documents.{element}
 use Rattle.exi_writing.specs.Grammar.{Opened, Inside, opened, around, stands}
 use Rattle.exi_writing.specs.Trees.{Event as TreeEvent, Value as TreeValue, Start, EndElement}
 use Rattle.exi_writing.specs.Meaning.{texts_in}
-use Rattle.exi_writing.specs.Short.{tree_of}
+use Rattle.exi_writing.specs.Short.{SpellsShort, most_bits, tree_of}
 use Rattle.exi_events.specs.declared.sequence.ThreeValues.{ThreeValues}
+use Rattle.exi_events.specs.Child.{child_bits}
 use Rattle.exi_events.specs.Reader.{Reading, reading, IsNext, HasTold, TakesValue}
 
 -- a child with a value is taken: its start, its value and its end
@@ -62,3 +64,35 @@ pub record HoldsSequence (s : PlainSchema) (elements : List Opened) (children : 
   pub above : List Opened
   pub elements_are : elements ≡ top ∷ above
   pub tells : TellsSequence s.kinds top.place children
+
+-- ---- sequences that a window holds as a whole
+
+-- a window holds these bits, behind which come others
+pub record HoldsFront (front rest : List Bool) (window : Window) : Type 0 where
+  pub within : length front ≤ window.held
+  pub there : ahead window.cursor ≡ front ++ rest
+
+-- the start, the value and the end of a child that is the one thing at its place, where the value has few bits
+pub record SpellsChild (child : SequenceChild) (bits : List Bool) : Type 0 where
+  pub value : TreeValue
+  pub inside : List Bool
+  pub spelled : SpellsShort child.datatype value inside
+  pub few : length inside ≤ most_bits
+  pub bits_are : bits ≡ child_bits inside
+
+-- the bits that are left begin with those of three such children and of their element's end, in at most as many as each window holds
+pub record HoldsThree (children : List SequenceChild) (cursor : Cursor) : Type 0 where
+  pub one : SequenceChild
+  pub two : SequenceChild
+  pub three : SequenceChild
+  pub one_bits : List Bool
+  pub two_bits : List Bool
+  pub three_bits : List Bool
+  pub rest : List Bool
+  pub children_are : children ≡ one ∷ two ∷ three ∷ []
+  pub first_is : SpellsChild one one_bits
+  pub second_is : SpellsChild two two_bits
+  pub third_is : SpellsChild three three_bits
+  pub whole_word : 64 ≤ length cursor.bits
+  pub few : length one_bits + (length two_bits + (length three_bits + 1)) ≤ 57
+  pub there : ahead cursor ≡ (one_bits ++ (two_bits ++ (three_bits ++ number_bits 1 0))) ++ rest
