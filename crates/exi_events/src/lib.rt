@@ -4,7 +4,8 @@
 //! Proved: `EventReader` over any `Places`: each event is the grammar's next one (`Moves`), those up to `Finished` are those of the one
 //! tree that the payload spells, and a refusal is the payload's (`IsRefused`), answered again; a loop over them ends (`events_left`).
 //! `value` takes a value and the end of its element at once (`TakesValue`), `three_values` those of a sequence of three of few bits
-//! (`TakesSequence`), and `optional_values` those of one of which the second may be absent (`TakesOptional`), or nothing at all; that it takes a sequence where one stands is not stated, and is seen in what reading takes.
+//! (`TakesSequence`), and `optional_values` those of one of which the second may be absent (`TakesOptional`), or nothing at all; that the first
+//! takes a sequence where one stands is stated of `take_three` (`HoldsThree`), which it calls.
 //! `EventWriter`: `offers` tells exactly which event may come next, and `try_put` looks it up once and says so itself; the events put are
 //! written as the one encoding of their tree (`IsWritten`), `Full` exactly where the next has no room, with the bits of all that was put
 //! and of it (`IsNeeded`), answered again; `finish` tells how many bytes of the lent room hold it.
