@@ -15,6 +15,7 @@ ghost use Rattle.site_acts.specs.Telling.{Carries, CarriesText};
 ghost use Rattle.site_core.specs.Ending.{AreMade, AreMadeOf, EndedAs, RanAs, TracedAs, AwaitedAs, AreCounts, AreFaults};
 ghost use Rattle.site_laws.specs.Lawful.{IsLawful};
 
+use applied_causes::applied_causes_are_causes;
 use blocks_of_runs::runs_are_blocks;
 use caused_ends::{opens_at_first_causes, opens_for_a_reason, sessions_end_by_causes};
 use charge_world::{Sink, Wire};
@@ -47,6 +48,7 @@ pub fn law_of_sites<C: LawfulCodec>()
     opens_at_causes::<C>();
     opens_where_causes_stand::<C>();
     sessions_end_by_causes::<C>();
+    applied_causes_are_causes::<C>();
     opens_at_first_causes::<C>();
     opens_for_a_reason::<C>();
     sends_in_sessions::<C>();

@@ -42,6 +42,7 @@ returns g c plan past r =
             stands = (c.opens_where_causes_stand.ensures plan r.blocks r.posts before post behind rb det r.run are).0;
             ends = caused.0;
             ended = caused.1;
+            applied = c.applied_causes_are_causes.ensures plan r.blocks r.posts before post behind r.run are;
             opens_first = c.opens_at_first_causes.ensures plan r.blocks r.posts before post behind det r.run are;
             reasons = c.opens_for_a_reason.ensures plan r.blocks r.posts before post behind det r.run are;
             silent = c.sends_in_sessions.ensures plan r.blocks r.posts before post behind r.run are;
