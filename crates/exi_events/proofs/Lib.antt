@@ -30,3 +30,5 @@ pub use Rattle.document_laws.proofs.Runs
 pub use Rattle.document_laws.proofs.Apart
 pub use Rattle.document_laws.proofs.Offered
 pub mod Taking
+pub mod Lengths
+pub mod Giving

@@ -63,7 +63,7 @@ some_weaker {T} (Some x) P Q f h = f h
 
 -- ---- octets
 
-octets_high : (more v : ℕ) → 128 ≤ v → shortest_within (suc more) v ≡ octet true (v % 128) ++ shortest_within more (v / 128)
+pub octets_high : (more v : ℕ) → 128 ≤ v → shortest_within (suc more) v ≡ octet true (v % 128) ++ shortest_within more (v / 128)
 unfolding shortest_within
 octets_high more v h = let high : ltb v 128 ≡ false = le-ltb _ _ h in rw high refl
 
@@ -97,7 +97,7 @@ three_pushed old one two new v high low first second third =
 
 -- ---- a sign
 
-signed_is : (negative : Bool) (n : ℕ) → negative ∷ shortest_unsigned n ≡ shortest_integer (if negative then negsuc n else pos n)
+pub signed_is : (negative : Bool) (n : ℕ) → negative ∷ shortest_unsigned n ≡ shortest_integer (if negative then negsuc n else pos n)
 signed_is true n = refl
 signed_is false n = refl
 

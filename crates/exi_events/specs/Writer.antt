@@ -1,5 +1,5 @@
 -- Own: what an event writer has put, and what it may put next.
-use Rattle.std.specs.Prelude.{◌≡◌, ℕ, ◌+◌, ◌*◌, ◌^◌, ◌<◌, Bool, false, List, ◌++◌, length, take, reverse, Option, Some, None, slice_get}
+use Rattle.std.specs.Prelude.{◌≡◌, ℕ, ◌+◌, ◌*◌, ◌^◌, ◌<◌, ◌≤◌, Bool, false, List, ◌∷◌, ◌++◌, length, take, reverse, Option, Some, None, slice_get}
 use Rattle.exi_spec.specs.Bits.{bits_of}
 use Rattle.exi_bits.specs.Pens.{written_bits}
 use Rattle.exi_bits.specs.declared.pen.BitPen.{BitPen}
@@ -16,8 +16,8 @@ use Rattle.exi_schema.specs.Offers.{IsWidth, offers}
 use Rattle.exi_schema.specs.Steps.{IsStep, simple_at}
 use Rattle.exi_writing.specs.Trees.{Tree, Value as TreeValue, Event as TreeEvent, document_events}
 use Rattle.exi_writing.specs.Values.{Entries, WritesValue}
-use Rattle.exi_writing.specs.Documents.{IsEncoding}
-use Rattle.exi_writing.specs.Grammar.{Standing, Inside, Behind, State, Moves, Reaches}
+use Rattle.exi_writing.specs.Documents.{IsEncoding, element}
+use Rattle.exi_writing.specs.Grammar.{Opened, Standing, Inside, Behind, State, Moves, Reaches}
 use Rattle.exi_writing.specs.Event.{Event}
 use Rattle.exi_writing.specs.Event.TheVariants as event
 use Rattle.exi_writing.specs.Value.{Value}
@@ -28,6 +28,7 @@ use Rattle.exi_schema.specs.declared.places.Offer.{Offer}
 use Rattle.exi_schema.specs.declared.places.Sought.{Sought}
 use Rattle.exi_schema.specs.declared.places.Sought.TheVariants as sought
 use Rattle.exi_events.specs.declared.writer.EventWriter.{EventWriter}
+use Rattle.exi_events.specs.declared.reader.Phase.TheVariants as phase
 use Rattle.exi_events.specs.Reader.{state_of, IsReadyAt}
 
 -- a document as far as it is written: the bytes of its room, the bits written at their front, and how far the document is
@@ -173,3 +174,21 @@ WritesValueOf kinds kind entries name value after bits =
 -- some bits write it
 abbrev pub MayWrite : List PlainKind → ℕ → Entries → ℕ → TreeValue → Type 0
 MayWrite kinds kind entries name value = (bits : List Bool) × (after : Entries) × WritesValueOf kinds kind entries name value after bits
+
+-- ---- where an event is put at once
+
+-- this element is the innermost, nothing lacked room, and the bits of a word have room
+pub record HasWordRoom {P : Type 0} {p : Ghosts P} (w : EventWriter P p) (top : Opened) : Type 0 where
+  pub inside : w.phase ≡ phase.Inside
+  pub above : List Opened
+  pub elements_are : w.elements ≡ top ∷ above
+  pub open_still : w.full ≡ None
+  pub room : w.bits + 64 ≤ 8 * length w.room.now
+
+-- an element of this name may start at a place
+abbrev pub OffersStart : List PlainKind → Place → ℕ → Type 0
+OffersStart kinds here name = (code : ℕ) × (kind : ℕ) × (next : Place) × (slice_get (offers kinds here) code ≡ Some (element name kind next))
+
+-- an element may end at a place
+abbrev pub OffersEnd : List PlainKind → Place → Type 0
+OffersEnd kinds here = (code : ℕ) × (slice_get (offers kinds here) code ≡ Some step.End)

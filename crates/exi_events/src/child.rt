@@ -1,10 +1,11 @@
 //! The bits of a child with a value of few bits: of its start, its value and its end.
 
-ghost use Rattle.std.specs.Prelude.{◌≡◌, ◌++◌, ◌^◌, ◌<◌, ◌≤◌, List, Bool, IfSome, OnSome};
+ghost use Rattle.std.specs.Prelude.{◌≡◌, ◌++◌, ◌^◌, ◌<◌, ◌≤◌, List, Bool, None, IfSome, OnSome};
 ghost use Rattle.exi_spec.specs.Bits.{number_bits};
 ghost use Rattle.exi_schema.specs.Offers.{IsPlace};
 ghost use Rattle.exi_writing.specs.Short.{tree_of};
 ghost use Rattle.exi_writing.specs.Values.{Entries};
+ghost use Rattle.exi_events.specs.Writer.{OffersStart};
 ghost use Rattle.exi_events.specs.Child.{StartsChild, WritesInside, WritesThree, IsNamed, child_bits};
 
 use crate::short::push_value;
@@ -21,11 +22,12 @@ pub(crate) struct ChildCode {
     pub(crate) next: Place,
 }
 
-/// The child of this name, if it may stand at a place.
+/// The child of this name, if it may stand at a place. `None` exactly where it may not.
 #[inline(always)]
 pub(crate) fn child_at<P: Places>(places: &P, here: Place, name: u16) -> Option<ChildCode>
     requires { IsPlace (P.schema places.now).kinds here }
-    ensures { IfSome result (λ child. StartsChild (P.schema places.now) here name child) }
+    ensures child { IfSome result (λ child. StartsChild (P.schema places.now) here name child) }
+    ensures none { result ≡ None → ¬ OffersStart (P.schema places.now).kinds here name }
 {
     let offer = places.find(here, Sought::Element(name))?;
     match offer.step {
@@ -120,12 +122,13 @@ pub(crate) fn three_word<P: Places>(
     Some(word)
 }
 
-/// The bits of an event code.
+/// The bits of an event code, which a word always holds.
 #[inline(always)]
 pub(crate) fn code_word(code: u16, width: u32) -> Option<BitWord>
     requires few { width ≤ 32 }
     requires range { code < 2 ^ width }
-    ensures { IfSome result (λ word. word ≡ number_bits width code) }
+    ensures bits { IfSome result (λ word. word ≡ number_bits width code) }
+    ensures some { ¬ (result ≡ None) }
 {
     let mut word = BitWord::new();
     word.push(u32::from(code), width)?;

@@ -71,10 +71,12 @@ impl BitWord {
         Some(())
     }
 
-    /// An Unsigned Integer (7.1.6) of at most three octets behind the others, in its shortest spelling.
+    /// An Unsigned Integer (7.1.6) of at most three octets behind the others, in its shortest spelling. `None` only where it has more, or they
+    /// would be more than 64 bits.
     #[inline(always)]
     pub(crate) fn push_unsigned(&mut self, value: u64) -> Option<()>
         ensures pushed { OnSome result (self.new ≡ self.old ++ shortest_unsigned value) }
+        ensures none { result ≡ None → length (shortest_unsigned value) ≤ 24 → 64 < length self.old + length (shortest_unsigned value) }
     {
         if value < 128 {
             return self.push(value as u32, 8);
@@ -91,10 +93,12 @@ impl BitWord {
         None
     }
 
-    /// An Integer (7.1.5) whose magnitude has at most three octets behind the others, in its shortest spelling.
+    /// An Integer (7.1.5) whose magnitude has at most three octets behind the others, in its shortest spelling. `None` only where it has more, or
+    /// they would be more than 64 bits.
     #[inline(always)]
     pub(crate) fn push_integer(&mut self, value: i64) -> Option<()>
         ensures pushed { OnSome result (self.new ≡ self.old ++ shortest_integer value) }
+        ensures none { result ≡ None → length (shortest_integer value) ≤ 25 → 64 < length self.old + length (shortest_integer value) }
     {
         let (negative, magnitude) = sign_and_magnitude(value);
         self.push(u32::from(negative), 1)?;

@@ -46,7 +46,7 @@ impl<'b, 'p, P: Places> EventWriter<'b, 'p, P> {
     ghost use Rattle.exi_bits.specs.Written.{HoldsBits};
     ghost use Rattle.exi_writing.specs.Trees.{Event as TreeEvent};
     ghost use Rattle.exi_writing.specs.Values.{most_entries};
-    ghost use Rattle.exi_writing.specs.Grammar.{Behind};
+    ghost use Rattle.exi_writing.specs.Grammar.{Opened, Behind};
     ghost use Rattle.exi_writing.specs.Meaning.{event_of};
     ghost use Rattle.exi_schema.specs.Offers.{IsPlace};
     ghost use Rattle.exi_events.specs.Child.{PutsChild, PutsThree};
@@ -55,7 +55,7 @@ impl<'b, 'p, P: Places> EventWriter<'b, 'p, P> {
     ghost use Rattle.exi_events.specs.declared.reader.Phase.TheVariants as phase;
     ghost use Rattle.exi_writing.specs.Meaning.{value_of};
     ghost use Rattle.exi_events.specs.Reader.{innermost_place};
-    ghost use Rattle.exi_events.specs.Writer.{draft_of, IsReadyToPut, KeepsLent, AddsSome, HasPut, IsOffered, IsFoundAt, IsShapedEvent, IsPut, HasNoRoom, IsNeeded, IsWritten};
+    ghost use Rattle.exi_events.specs.Writer.{draft_of, IsReadyToPut, KeepsLent, AddsSome, HasPut, IsOffered, IsFoundAt, IsShapedEvent, IsPut, HasNoRoom, IsNeeded, IsWritten, HasWordRoom, OffersStart, OffersEnd};
     ghost use Rattle.exi_events.specs.declared.writer.NotPut.TheVariants as not_put;
 
     /// A writer at the start of a room of at most 65,536 bytes. The table is emptied; it has room for 8,192 entries.
@@ -218,6 +218,7 @@ impl<'b, 'p, P: Places> EventWriter<'b, 'p, P> {
         ensures none { result ≡ None → self.new ≡ self.old }
         ensures open_still { OnSome result ((self.old.full ≡ None) × (self.new.full ≡ None)) }
         ensures put { OnSome result (IsPut (P.schema self.old.places.now) (draft_of self.old) (draft_of self.new) (Some (Start name))) }
+        ensures whole { result ≡ None → (top : Opened) → HasWordRoom self.old top → ¬ OffersStart (P.schema self.old.places.now).kinds top.place name }
     {
         let top = self.open_with_room()?;
         let child = child_at(self.places, top.place, name)?;
@@ -237,6 +238,7 @@ impl<'b, 'p, P: Places> EventWriter<'b, 'p, P> {
         ensures none { result ≡ None → self.new ≡ self.old }
         ensures open_still { OnSome result ((self.old.full ≡ None) × (self.new.full ≡ None)) }
         ensures put { OnSome result (IsPut (P.schema self.old.places.now) (draft_of self.old) (draft_of self.new) (Some EndElement)) }
+        ensures whole { result ≡ None → (top : Opened) → HasWordRoom self.old top → ¬ OffersEnd (P.schema self.old.places.now).kinds top.place }
     {
         let top = self.open_with_room()?;
         let offer = self.places.find(top.place, Sought::End)?;
@@ -253,6 +255,7 @@ impl<'b, 'p, P: Places> EventWriter<'b, 'p, P> {
         ensures inside { IfSome result (λ _. self.now.phase ≡ phase.Inside) }
         ensures top { IfSome result (λ top. HasTop self.now.elements top) }
         ensures room { IfSome result (λ _. self.now.bits + 64 ≤ 8 * length self.now.room.now) }
+        ensures none { result ≡ None → (top : Opened) → ¬ HasWordRoom self.now top }
     {
         let Phase::Inside = self.phase else {
             return None;

@@ -1,13 +1,14 @@
 use Rattle.std.proofs.Common.{ap, arith, ◌∙◌, subst, sym, List, Bool, ◌++◌, ◌∷◌, refl}
-use Rattle.exi_writing.specs.Grammar.{Opened, opened}
+use Rattle.exi_schema.specs.declared.places.Step.TheVariants.{End}
+use Rattle.exi_writing.specs.Grammar.{Opened}
 use Rattle.exi_writing.specs.Meaning.{texts_in}
-use Rattle.exi_spec.specs.Bits.{number_bits}
 use Rattle.exi_events.specs.Inside.{AreOpen}
 use Rattle.exi_events.specs.Open.{opened_of}
 use Rattle.exi_events.specs.Writer.{draft_of}
 use Rattle.exi_events.proofs.Children.{end_put, ready_on, was_inside, is_around, goes_on, inside_open}
 use Rattle.exi_events.proofs.Coded.{code_range, top_place}
 use Rattle.exi_events.proofs.Limits.{few_code_bits}
+use Rattle.exi_events.proofs.Giving.{end_at}
 use Rattle.exi_events.proofs.writer.EventWriter.put_end.Goals as goal
 
 pub find-requires : goal.find-requires
@@ -49,5 +50,16 @@ returns-clause-put g c =
     end_put s old _ (opened_of top) has.0 (texts_in old.bits table.entries) offer.step offer.code offer.width
     (was_inside c.args.self.now.phase c.args.self.now.elements top old.bits table.entries is has)
     (is_around c.args.self.now.phase c.put_word.new.self.phase c.pop.new.self has.0 old.bits c.in_ok-word.word bits table c.put_word.new.self.table.now is e.phase e.written e.table c.requires.ready.texts left)
-    (record { written = e.written ∙ ap (λ (l : List Bool). old.bits ++ l) c.in_ok-word.ensures; room = e.room })
+    (record { written = e.written ∙ ap (λ (l : List Bool). old.bits ++ l) c.in_ok-word.ensures.bits; room = e.room })
     c.in_ok-offer.ensures.width c.in_ok-offer.ensures.offered c.in_ok-offer.ensures.meant
+
+pub returns-in_err-top-clause-whole : goal.returns-in_err-top-clause-whole
+returns-in_err-top-clause-whole g c none top room offers = c.in_err-top.ensures.none refl top room
+
+pub returns-in_err-offer-clause-whole : goal.returns-in_err-offer-clause-whole
+returns-in_err-offer-clause-whole g c none top room offers =
+    let here = end_at (g.P.Places.schema c.args.self.now.places.now).kinds top c.in_ok-top.top c.args.self.now.elements room.above room.elements_are c.in_ok-top.ensures.top offers in
+    c.in_err-offer.ensures.none refl here.0 End here.1 tt
+
+pub returns-in_err-word-clause-whole : goal.returns-in_err-word-clause-whole
+returns-in_err-word-clause-whole g c none top room offers = absurd (c.in_err-word.ensures.some refl)

@@ -14,7 +14,7 @@ returns-clause-ready g c =
     let is = c.in_ok-top.ensures.inside in
     ready_on s (g.P.Places.schema c.put_word.new.self.places.now) c.args.self.now.phase c.put_word.new.self.phase c.args.self.now.elements c.put_word.new.self.elements (draft_of c.args.self.now).bits c.in_ok-word.word (draft_of c.put_word.new.self).bits c.args.self.now.table.now c.put_word.new.self.table.now
     (ap g.P.Places.schema e.lent.places) is e.phase e.written e.table c.requires.ready
-    (child_open s c.args.self.now.phase c.args.self.now.elements c.put_word.new.self.elements c.in_ok-top.top c.args.name c.in_ok-child.child is c.requires.ready.sound c.in_ok-top.ensures.top e.goes c.in_ok-child.ensures)
+    (child_open s c.args.self.now.phase c.args.self.now.elements c.put_word.new.self.elements c.in_ok-top.top c.args.name c.in_ok-child.child is c.requires.ready.sound c.in_ok-top.ensures.top e.goes c.in_ok-child.ensures.child)
 
 pub returns-clause-put : goal.returns-clause-put
 returns-clause-put g c =
@@ -33,5 +33,5 @@ returns-clause-put g c =
     (is_around c.args.self.now.phase c.put_word.new.self.phase c.put_word.new.self.elements (opened top.name child.next ∷ has.0) old.bits c.in_ok-word.word new.bits table c.put_word.new.self.table.now is e.phase e.written e.table c.requires.ready.texts
     (goes_on c.args.self.now.elements c.put_word.new.self.elements top child.next has e.goes))
     (record { written = e.written ∙ ap (λ (l : List Bool). old.bits ++ l) w.1; room = e.room })
-    (child_code s top.place c.args.name child c.in_ok-child.ensures)
+    (child_code s top.place c.args.name child c.in_ok-child.ensures.child)
     w.2
