@@ -1,0 +1,11 @@
+pub mod Heard
+pub mod Streams
+pub mod Growth
+pub mod Exchanged
+pub mod Ties
+pub mod Fresh
+pub mod Agendas
+pub mod Words
+pub mod Acts
+pub mod Mandates
+pub mod Closes
