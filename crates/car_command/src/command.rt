@@ -12,7 +12,7 @@ ghost use Rattle.car_command.specs.Driven.{Drives};
 ghost use Rattle.car_command.specs.Refused.{IsRefused};
 
 use crate::driving::drive_plan;
-use car_codec::CarCodec;
+use car_codec::LawfulCarCodec;
 use charge_world::{Sink, Source, Wire};
 use command_status::{Status, tell_fault, tell_plan};
 use plan_files::{PlanFileFault, car_plan_in};
@@ -26,7 +26,7 @@ use std::alloc::Global;
 /// the wire did not start. `SinkFault` takes the place of these where the report's line couldn't be written, and stands where the trace's
 /// couldn't. Before the wire is started, `SourceFault` where the file can't be read, `Plan` where it is no plan, and `NoMemory`. Each fault
 /// but want of memory and those of sinks has its line, whose failure changes nothing.
-pub fn car<C: CarCodec + Drop, F: Source, K: Sink, J: Sink, W: Wire>(
+pub fn car<C: LawfulCarCodec + Drop, F: Source, K: Sink, J: Sink, W: Wire>(
     alloc: Global,
     codec: C,
     name: &str,

@@ -10,7 +10,7 @@ ghost use Rattle.car_command.specs.Driven.{Drives};
 
 use crate::lines::conclude;
 use crate::ports::ports_of;
-use car_codec::CarCodec;
+use car_codec::LawfulCarCodec;
 use car_core::{CarSite, drive_car};
 use charge_world::{Sink, Wire};
 use command_status::{Status, tell_fault};
@@ -18,7 +18,7 @@ use session_words::CarPlan;
 use std::alloc::Global;
 
 /// Drives a car that was just made of a plan, and prints its report.
-fn drive_site<C: CarCodec + Drop, K: Sink, J: Sink, W: Wire>(
+fn drive_site<C: LawfulCarCodec + Drop, K: Sink, J: Sink, W: Wire>(
     site: &mut CarSite<C>,
     plan: &CarPlan,
     out: &mut K,
@@ -43,7 +43,7 @@ fn drive_site<C: CarCodec + Drop, K: Sink, J: Sink, W: Wire>(
 }
 
 /// Makes a car of a plan, with these codecs, and drives it. Want of memory leaves all as it was.
-pub(crate) fn drive_plan<C: CarCodec + Drop, K: Sink, J: Sink, W: Wire>(
+pub(crate) fn drive_plan<C: LawfulCarCodec + Drop, K: Sink, J: Sink, W: Wire>(
     alloc: Global,
     codec: C,
     plan: &CarPlan,

@@ -7,6 +7,7 @@ use Rattle.session_words.specs.declared.plan.CarPlan.{CarPlan}
 use Rattle.car_spec.specs.Acting.{state}
 use Rattle.car_spec.specs.Answered.{exchanges, may_close}
 use Rattle.car_spec.specs.Codecs.{Codecs}
+use Rattle.car_spec.specs.Mandated.{ClosesMandated}
 use Rattle.car_spec.specs.Report.{Report}
 use Rattle.car_spec.specs.States.{Session}
 use Rattle.car_spec.specs.Steps.{Give, Step, Does}
@@ -36,10 +37,12 @@ IsSilent [] = Unit {0}
 IsSilent (newest ∷ past) = has_ended past ≡ false
 
 -- Of the blocks of a run by these steps, and the past that they are with the order that closes it, whole or cut: the contactor closes by words,
--- and is live as the orders tell; behind its end the car takes no step, and no entry follows; what it keeps of its session is what its steps
--- tell; and at the end the last order of Open and Close that was taken isn't Close, unless a later Open failed
-pub record IsLawful (plan : CarPlan) (steps : List Step) (blocks past : List Entry) : Type 0 where
+-- each order to close is mandated by the bytes of the session before it, and the contactor is live as the orders tell; behind its end the car takes
+-- no step, and no entry follows; what it keeps of its session is what its steps tell; and at the end the last order of Open and Close that was taken
+-- isn't Close, unless a later Open failed
+pub record IsLawful (c : Codecs) (plan : CarPlan) (steps : List Step) (blocks past : List Entry) : Type 0 where
   pub by_words : CloseByWords plan steps
+  pub mandated : ClosesMandated c plan past
   pub live_is : (state plan steps).live ≡ live blocks
   pub stops : StopAtTheEnd plan steps
   pub silent : IsSilent blocks
@@ -49,4 +52,4 @@ pub record IsLawful (plan : CarPlan) (steps : List Step) (blocks past : List Ent
 -- a car was driven so, and by the very steps of that run it is lawful
 pub record IsDrivenLawfully (c : Codecs) (plan : CarPlan) (how : Ended) (before after : List ℕ) (told : Report) (past : List Entry) : Type 0 where
   pub driven : IsDriven c plan how before after told past
-  pub lawful : IsLawful plan driven.steps driven.blocks past
+  pub lawful : IsLawful c plan driven.steps driven.blocks past

@@ -10,7 +10,7 @@ ghost use Rattle.car_core.specs.Made.{IsMadeOf};
 
 use crate::lawful::law_of_cars;
 use crate::site::CarSite;
-use car_codec::CarCodec;
+use car_codec::LawfulCarCodec;
 use car_turns::{Ended, drive};
 use charge_world::{Sink, Wire};
 
@@ -19,9 +19,10 @@ use charge_world::{Sink, Wire};
 ///
 /// Where the wire tells its past, that is a run of the car by its plan, cut where a line couldn't be written; each `until` is the least moment
 /// at which the car is due, and its report counts the run's steps; and by these steps it is lawful: its contactor closes by the words that
-/// mandate it, and is ordered open at the end (`driven`). It ended as the answer says (`ended`). Where the trace tells its bytes, they are the text of the past, or a front of it where a line couldn't be written (`trace`). `Lost` comes only where the
+/// mandate it, as the bytes of its session say them, and is ordered open at the end (`driven`). It ended as the answer says (`ended`). Where the
+/// trace tells its bytes, they are the text of the past, or a front of it where a line couldn't be written (`trace`). `Lost` comes only where the
 /// wire failed, and `TraceFault` exactly where the trace did. No call takes memory.
-pub fn drive_car<C: CarCodec, W: Wire, J: Sink>(
+pub fn drive_car<C: LawfulCarCodec, W: Wire, J: Sink>(
     wire: &mut W,
     trace: &mut J,
     car: &mut CarSite<C>,

@@ -1,10 +1,10 @@
 //! A car: it looks for its post, talks to it by its plan and orders its contactor (ISO 15118-2:2014, sections 7.10.1, 8.7 and 8.8; DIN SPEC
 //! 70121:2014).
 //!
-//! Proved: `drive_car`, of a car that `CarSite::make` made with all its memory: the same as `drive` of `car_turns`, and the past is lawful
-//! (`IsLawful`): each Close stands behind the words that mandate it, nothing follows its end, what it keeps of its contactor and its
-//! session is what its past and its steps tell, and it ends open; `law_of_cars`: every run by which a car was driven, whole or cut, is lawful, by the
-//! very steps of that run.
+//! Proved: with codecs that are lawful, `drive_car`, of a car that `CarSite::make` made with all its memory: the same as `drive` of `car_turns`,
+//! and the past is lawful (`IsLawful`): each Close stands behind the words that mandate it and is mandated by the bytes of the session before
+//! it, nothing follows its end, what it keeps of its contactor and its session is what its past and its steps tell, and it ends open;
+//! `law_of_cars`: every run by which a car was driven, whole or cut, is lawful, by the very steps of that run.
 #![tactic(auto)]
 
 mod driving;
