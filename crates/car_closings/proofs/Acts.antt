@@ -1,5 +1,5 @@
 -- An act and a hearing keep the tie.
-use Rattle.std.proofs.Common.{◌≡◌, ℕ, suc, ◌+◌, Bool, true, false, not, List, [], ◌∷◌, ◌++◌, Option, Some, None, is_some, refl, sym, ap, subst, ◌∙◌, ◌⊎◌, inl, inr, arith}
+use Rattle.std.proofs.Common.{◌≡◌, ℕ, suc, ◌+◌, Bool, true, false, List, [], ◌∷◌, Option, Some, None, is_some, refl, sym, subst, ◌∙◌, inr, arith}
 use Rattle.std.specs.Option.{option_map}
 use Rattle.charge_world.specs.declared.entry.Entry.{Entry}
 use Rattle.charge_world.specs.declared.entry.Entry.TheVariants as entry
@@ -20,16 +20,16 @@ use Rattle.car_spec.specs.Answered.{Exchange}
 use Rattle.car_spec.specs.Codecs.{Codecs}
 use Rattle.car_spec.specs.Hearing.{session_heard}
 use Rattle.car_spec.specs.Next.{IsSpoken, IsSaid, IsDone}
-use Rattle.car_spec.specs.Past.{came, stream, said, said_at, IsAsked}
-use Rattle.car_spec.specs.Spelled.{read_back, ReadsBack}
+use Rattle.car_spec.specs.Past.{came, stream, said}
+use Rattle.car_spec.specs.Spelled.{ReadsBack}
 use Rattle.car_spec.specs.States.{Agenda, Timing, Session, State, nothing, first_of, first, is_done}
 use Rattle.car_spec.specs.States as states
-use Rattle.car_spec.specs.Steps.{Spoken, Offer, Asked, Act, Seek, Dial, Give, Say, End, entry_of}
+use Rattle.car_spec.specs.Steps.{Spoken, Act, Seek, Dial, Give, Say, entry_of}
 use Rattle.safe_runs.proofs.Growth.{AreWhole}
 use Rattle.car_closings.proofs.Growth.{GoesOnTo, heard_more, said_more, said_here, unsaid, Unsaid}
 use Rattle.car_closings.proofs.Heard.{heard_as}
 use Rattle.car_closings.proofs.Streams.{IsStream, Streams}
-use Rattle.car_closings.proofs.Ties.{is_new, StageTie, SaidTie, Speaks, Stills, IsStill, Link, Unlinked, TieBy, Lessens, staged_stays, WholeIn, tie_stays, failing_ties}
+use Rattle.car_closings.proofs.Ties.{is_new, SaidTie, Speaks, Stills, Link, Unlinked, TieBy, Lessens, unoffered, staged_stays, said_stays, WholeIn, tie_stays, failing_ties}
 
 pub whole_in : (arrived : Bool) (bytes : List ℕ) (n : ℕ) (over : Bool) (o : Option Session) → Streams arrived bytes n over o → WholeIn n bytes o
 whole_in arrived bytes n over None k = tt
@@ -89,9 +89,6 @@ said_tied c plan past xs n at over a None (Some session) spoken payload back v s
     said_link c plan past xs n at session a spoken payload session.moments.sent refl back s f w k k.still k.said_is
 
 -- any other act
-lessened : (a : Agenda) → Lessens a a false
-lessened a = record { spoken_is = refl; stays_no_order = λ h. h; closes_alike = λ h. h; stays_done = λ f h. h }
-
 called : (a : Agenda) → Lessens a (record a { port = None }) false
 called a = record { spoken_is = refl; stays_no_order = λ h. h; closes_alike = λ h. h; stays_done = λ f h. (cc) }
 
@@ -156,16 +153,6 @@ still_heard : (again : Option ℕ) (a : Agenda) (sent : Option ℕ) → Stills a
 still_heard again a None k = tt
 still_heard again a (Some at) k = record { not_again = k.not_again; unspoken = refl; no_order = refl }
 
-said_kept : (c : Codecs) (plan : CarPlan) (old new : List Entry) (n : ℕ) (o : Option CarStage) (sent : Option ℕ) → GoesOnTo old new → said new ≡ said old → SaidTie c plan old n o sent → SaidTie c plan new n o sent
-said_kept c plan old new n stage None g s k = s ∙ k
-said_kept c plan old new n None (Some at) g s k = s ∙ k
-said_kept c plan old new n (Some stage) (Some at) g s k =
-    (s ∙ k.0, record { payload = k.1.payload; said_is = g.said_stays n _ k.1.said_is; request_is = k.1.request_is })
-
-unsaid_awaits : (a : Agenda) → a.spoken ≡ None → (a.spoken ≡ Some Offer) ⊎ (false ≡ true) → ⊥
-unsaid_awaits a u (inl h) = let x : None ≡ Some Offer = sym u ∙ h in cc
-unsaid_awaits a u (inr h) = cc
-
 heard_link : (c : Codecs) (plan : CarPlan) (at : ℕ) (w : What) (bytes : List ℕ) (past : List Entry) (xs : List Exchange) (n : ℕ) (e : Event) (session : Session) (a : Agenda) → IsOfPosts 1 w → a.spoken ≡ None
     → IsStream (came past) (stream past) n session.unread → Link c plan past xs n session a false
     → TieBy c plan (heard_as at w bytes ∷ past) xs n false nothing (is_new e true) None (session_heard e at (Some session))
@@ -173,10 +160,10 @@ heard_link c plan at w bytes past xs n e session a o u i k =
     let g : GoesOnTo past (heard_as at w bytes ∷ past) = heard_more at w bytes past o i.came_is in
     record {
       staged = staged_stays c plan past (heard_as at w bytes ∷ past) xs n session.stage g i.whole k.staged;
-      said_is = said_kept c plan past (heard_as at w bytes ∷ past) n session.stage session.moments.sent g refl k.said_is;
+      said_is = said_stays c plan past (heard_as at w bytes ∷ past) n session.stage session.moments.sent g refl k.said_is;
       speaks = tt;
       still = still_heard session.again a session.moments.sent k.still;
-      offers = λ f h. absurd (unsaid_awaits a u (k.offers f h));
+      offers = λ f h. absurd (unoffered session a u k.offers f h);
       new = λ h. (let x : false ≡ true = sym (new_stands e) ∙ h in cc);
     }
 

@@ -1,8 +1,7 @@
 -- What is decided keeps the tie, and settles the offer.
-use Rattle.std.proofs.Common.{◌≡◌, ℕ, Bool, true, false, not, ◌&&◌, if◌then◌else◌, List, [], Option, Some, None, Result, Ok, Err, refl, sym, ap, subst, ◌∙◌, ◌⊎◌, inl, inr}
+use Rattle.std.proofs.Common.{◌≡◌, ℕ, Bool, true, false, not, ◌&&◌, List, Option, Some, None, Result, Ok, Err, refl, sym, ap, subst, ◌∙◌, inl, inr}
 use Rattle.charge_world.specs.declared.entry.Entry.{Entry}
 use Rattle.charge_world.specs.declared.heard.PlantEvent.{PlantEvent}
-use Rattle.charge_world.specs.declared.ports.Order.TheVariants as order
 use Rattle.session_words.specs.declared.cause.EndCause.{EndCause}
 use Rattle.session_words.specs.declared.cause.EndCause.TheVariants.{Gone as ConnectionGone}
 use Rattle.session_words.specs.declared.plan.CarPlan.{CarPlan}
@@ -19,11 +18,11 @@ use Rattle.car_spec.specs.Codecs.{Codecs}
 use Rattle.car_spec.specs.Deciding.{ending_if, ending_in, greeting, calling, charging, eventing, fronting_by, fronting, asking, repeating, decided}
 use Rattle.car_spec.specs.Due.{all_deadlines, is_due}
 use Rattle.car_spec.specs.States.{Agenda, Part, Unheard, Timing, Eventing, Wording, Session, State, nothing, is_done}
-use Rattle.car_spec.specs.Steps.{Spoken, Offer, Step}
+use Rattle.car_spec.specs.Steps.{Offer, Step}
 use Rattle.car_laws.proofs.Decided.{IsEarly, decided_by}
 use Rattle.car_laws.proofs.Kept.{IsUnchosen, Keeps}
 use Rattle.car_closings.proofs.Fresh.{fresh_unchosen, offering, FreshlyDecided, freshly}
-use Rattle.car_closings.proofs.Ties.{is_early, is_new, is_fresh, Speaks, Stills, IsStill, Link, Unlinked, TieBy, Tied, Settled, IsEmpty, empty, opens_alone}
+use Rattle.car_closings.proofs.Ties.{is_early, is_new, is_fresh, Speaks, Stills, Link, Unlinked, TieBy, Tied, Settled, IsEmpty, empty, opens_alone, unoffered}
 
 bool_false : (b : Bool) → (b ≡ true → ⊥) → b ≡ false
 bool_false true f = absurd (f refl)
@@ -42,13 +41,6 @@ tie_unfresh c plan past xs n over a fresh (Some cause) o f k = k
 tie_unfresh c plan past xs n over a fresh None o f k = subst (λ (b : Bool). TieBy c plan past xs n over a b None o) (f refl) k
 
 -- an agenda that says nothing and orders nothing
-unoffered : (session : Session) (a : Agenda) → a.spoken ≡ None → (session.stage ≡ None → session.moments.sent ≡ None → (a.spoken ≡ Some Offer) ⊎ (false ≡ true))
-    → session.stage ≡ None → session.moments.sent ≡ None → ⊥
-unoffered session a u k e f = elim (k e f) [
-  | inl h ↦ (let x : None ≡ Some Offer = sym u ∙ h in cc)
-  | inr h ↦ (cc)
-]
-
 still_plain : (again : Option ℕ) (a b : Agenda) (sent : Option ℕ) → b.spoken ≡ None → b.order ≡ None → Stills again a sent → Stills again b sent
 still_plain again a b None u o k = tt
 still_plain again a b (Some at) u o k = record { not_again = k.not_again; unspoken = u; no_order = o }

@@ -1,16 +1,14 @@
 -- The exchanges of a session, each at its place of what was said and heard: what they say of a mandate by bytes.
-use Rattle.std.proofs.Common.{◌≡◌, ◌<◌, ◌≤◌, ℕ, suc, Bool, true, false, ◌&&◌, ◌||◌, if◌then◌else◌, List, [], ◌∷◌, length, drop, Option, Some, None, refl, sym, ap, subst, ◌∙◌, ◌⊎◌, inl, inr, eq-or-lt_of_le, le_refl, arith}
+use Rattle.std.proofs.Common.{◌≡◌, ◌<◌, ◌≤◌, ℕ, suc, Bool, true, false, ◌&&◌, ◌||◌, if◌then◌else◌, List, [], ◌∷◌, length, drop, Some, refl, sym, ap, subst, ◌∙◌, ◌⊎◌, inl, inr, eq-or-lt_of_le, le_refl, arith}
 use Rattle.charge_world.specs.declared.entry.Entry.{Entry}
 use Rattle.charge_world.specs.declared.offer.Dialect.{Dialect}
 use Rattle.session_words.specs.declared.limits.CarLimits.{CarLimits}
 use Rattle.session_words.specs.declared.mode.Mode.{Mode}
-use Rattle.session_words.specs.declared.plan.CarPlan.{CarPlan}
 use Rattle.session_words.specs.declared.word.Ask.{Ask}
 use Rattle.session_words.specs.declared.word.Ask.TheVariants as ask
 use Rattle.session_words.specs.declared.word.Reply.{Reply}
 use Rattle.session_words.specs.declared.word.Request.{Request}
 use Rattle.session_words.specs.declared.word.Tell.{Tell}
-use Rattle.session_words.specs.declared.word.Word.{Word}
 use Rattle.session_words.specs.declared.word.Word.TheVariants as word
 use Rattle.v2gtp_frames.specs.Frames.{frame}
 use Rattle.session_rules.specs.Verdict.{is_accepted}
@@ -18,7 +16,7 @@ use Rattle.post_spec.specs.Kinds.{says_finished, asks_cable_check, asks_start, a
 use Rattle.car_spec.specs.Answered.{Exchange, is_check, is_near_charge, is_start, has_check, has_charge, has_start}
 use Rattle.car_spec.specs.Codecs.{Codecs}
 use Rattle.car_spec.specs.Mandated.{IsAccepted, is_near_target, GoesOn, IsPreCharged, IsStarted}
-use Rattle.car_spec.specs.Past.{stream, said, said_at, IsAsked, IsTold}
+use Rattle.car_spec.specs.Past.{stream, said, IsAsked, IsTold}
 use Rattle.car_spec.specs.Spelled.{dropped_ask, read_back, AreDetermined}
 use Rattle.safe_runs.proofs.Asked.{ok_class}
 use Rattle.safe_runs.proofs.Growth.{AreWhole}

@@ -1,10 +1,10 @@
 -- In the hearing in which a connection opens the session, the offer of dialects is decided, or a cause.
-use Rattle.std.proofs.Common.{◌≡◌, ℕ, Bool, true, false, not, ◌&&◌, if◌then◌else◌, Option, Some, None, refl, sym, ap, subst, ◌∙◌, ◌⊎◌, inl, inr}
+use Rattle.std.proofs.Common.{◌≡◌, Bool, true, false, not, ◌&&◌, if◌then◌else◌, Option, Some, None, refl, sym, ap, subst, ◌⊎◌, inl, inr}
 use Rattle.session_words.specs.declared.cause.EndCause.{EndCause}
 use Rattle.session_words.specs.declared.plan.CarPlan.{CarPlan}
 use Rattle.car_rules.specs.Deadlines.{hit}
 use Rattle.post_spec.specs.Steps.{Event, Came, Bytes, Gone, Datagram, Plant, Clock, Over}
-use Rattle.car_spec.specs.Deciding.{ending_by, ending_if, timing, eventing, from_wording, from_eventing, from_timing, from_part, decide, decided}
+use Rattle.car_spec.specs.Deciding.{ending_by, ending_if, eventing, from_wording, from_eventing, from_timing, from_part, decide, decided}
 use Rattle.car_spec.specs.Due.{all_deadlines}
 use Rattle.car_spec.specs.States.{Agenda, Part, Unheard, Timing, Eventing, Wording, Session, State, nothing, is_done}
 use Rattle.car_spec.specs.Steps.{Offer}

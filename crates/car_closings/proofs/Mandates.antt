@@ -36,7 +36,7 @@ use Rattle.car_closings.proofs.Exchanged.{AreExchanged, started_by_bytes, charge
 use Rattle.car_closings.proofs.Growth.{same_past}
 use Rattle.car_closings.proofs.Heard.{heard_as}
 use Rattle.car_closings.proofs.Streams.{Streams, same_session, reads_front, run_streams, decided_run_streams}
-use Rattle.car_closings.proofs.Ties.{is_fresh, is_new, StageTie, SaidTie, Stills, Link, Unlinked, TieBy, Tied, Settled, IsEmpty, empty, Lessens, tie_stays, tie_as}
+use Rattle.car_closings.proofs.Ties.{is_fresh, is_new, StageTie, SaidTie, Stills, Unlinked, TieBy, Tied, Settled, IsEmpty, empty, Lessens, tie_stays, tie_as}
 use Rattle.car_closings.proofs.Words.{read_tied}
 
 -- what is decided is of the tie behind any steps

@@ -2,7 +2,6 @@
 use Rattle.std.proofs.Common.{◌≡◌, ℕ, suc, Bool, true, false, if◌then◌else◌, List, [], ◌∷◌, ◌++◌, Option, Some, None, Result, Ok, Err, refl, sym, ap, subst, ◌∙◌}
 use Rattle.std.specs.Option.{option_map}
 use Rattle.charge_world.specs.declared.entry.Entry.{Entry}
-use Rattle.charge_world.specs.declared.heard.Heard.{Heard}
 use Rattle.charge_world.specs.declared.heard.What.{What}
 use Rattle.charge_world.specs.declared.offer.Dialect.{Dialect}
 use Rattle.charge_world.specs.Outside.{IsOfPosts}
@@ -23,13 +22,13 @@ use Rattle.car_spec.specs.Deciding.{decided}
 use Rattle.car_spec.specs.Hearing.{session_heard}
 use Rattle.car_spec.specs.Judging.{dialect_of, payload_by, payload_in, wanted, chosen, moved, replied, replied_by, judged, judged_in, read, IsRead}
 use Rattle.car_spec.specs.Past.{came, stream}
-use Rattle.car_spec.specs.Runs.{IsRun, IsHeard, MayHear}
+use Rattle.car_spec.specs.Runs.{IsRun, IsHeard}
 use Rattle.car_spec.specs.States.{Session, State, is_done}
 use Rattle.car_spec.specs.Steps.{Act, Seek, Dial, Give, Say, End, Step, Hears, Loses, Reads, Does, entry_of}
 use Rattle.safe_runs.proofs.Growth.{AreWhole, grown}
 use Rattle.car_laws.proofs.Decided.{planned, same_over}
 use Rattle.car_laws.proofs.Silent.{before_step}
-use Rattle.car_closings.specs.Reading.{words_read, IsWordAt, RunsReadInOrder}
+use Rattle.car_closings.specs.Reading.{words_read, RunsReadInOrder}
 use Rattle.car_closings.proofs.Heard.{IsCame, heard_as, came_stays, stream_heard, StillNone, still_none, Arrived, arrives}
 
 -- of a session that lives, off what came for it: n words were read

@@ -1,5 +1,5 @@
 -- What ties a past to what its car keeps, as long as the car has no cause.
-use Rattle.std.proofs.Common.{◌≡◌, ℕ, suc, Bool, true, false, not, ◌&&◌, List, [], ◌∷◌, length, Option, Some, None, refl, sym, ap, subst, ◌∙◌, ◌⊎◌, inl, inr}
+use Rattle.std.proofs.Common.{◌≡◌, ℕ, suc, Bool, true, false, not, ◌&&◌, List, [], length, Option, Some, None, refl, sym, subst, ◌∙◌, ◌⊎◌, inl, inr}
 use Rattle.charge_world.specs.declared.entry.Entry.{Entry}
 use Rattle.charge_world.specs.declared.ports.Order.{Order}
 use Rattle.charge_world.specs.declared.ports.Order.TheVariants as order
@@ -14,8 +14,7 @@ use Rattle.car_spec.specs.Answered.{Exchange}
 use Rattle.car_spec.specs.Codecs.{Codecs}
 use Rattle.car_spec.specs.Past.{stream, said, IsChosen, IsAsked}
 use Rattle.car_spec.specs.Spelled.{read_back}
-use Rattle.car_spec.specs.States.{Agenda, Part, Unheard, Timing, Eventing, Wording, Session, State, first_of, first, is_none, is_done}
-use Rattle.car_spec.specs.States as states
+use Rattle.car_spec.specs.States.{Agenda, Part, Unheard, Timing, Eventing, Wording, Session, State, first_of, is_none, is_done}
 use Rattle.car_spec.specs.Steps.{Spoken, Offer, Asked}
 use Rattle.safe_runs.proofs.Growth.{AreWhole}
 use Rattle.car_closings.proofs.Growth.{GoesOnTo, asked_stays, chosen_stays}
@@ -121,6 +120,14 @@ pub opens_alone : (live : Bool) → opening_if live ≡ Some order.Close → ⊥
 opens_alone true h = cc
 opens_alone false h = cc
 
+-- where nothing is to be said, what was offered was said
+pub unoffered : (session : Session) (a : Agenda) → a.spoken ≡ None → (session.stage ≡ None → session.moments.sent ≡ None → (a.spoken ≡ Some Offer) ⊎ (false ≡ true))
+    → session.stage ≡ None → session.moments.sent ≡ None → ⊥
+unoffered session a u k e f = elim (k e f) [
+  | inl h ↦ (let x : None ≡ Some Offer = sym u ∙ h in cc)
+  | inr h ↦ (cc)
+]
+
 -- ---- what stays tied
 
 -- as the past goes on, and less is left of the agenda
@@ -136,7 +143,7 @@ staged_stays c plan old new xs n None g w k = k
 staged_stays c plan old new xs n (Some stage) g w k =
     (k.0, chosen_stays c plan.dialects.items old new stage.dialect g k.1, exchanged_stay c stage.dialect old new xs g (subst (λ (m : ℕ). AreWhole m (stream old)) k.0 w) k.2)
 
-said_stays : (c : Codecs) (plan : CarPlan) (old new : List Entry) (n : ℕ) (o : Option CarStage) (sent : Option ℕ) → GoesOnTo old new → said new ≡ said old
+pub said_stays : (c : Codecs) (plan : CarPlan) (old new : List Entry) (n : ℕ) (o : Option CarStage) (sent : Option ℕ) → GoesOnTo old new → said new ≡ said old
     → SaidTie c plan old n o sent → SaidTie c plan new n o sent
 said_stays c plan old new n stage None g s k = s ∙ k
 said_stays c plan old new n None (Some at) g s k = s ∙ k

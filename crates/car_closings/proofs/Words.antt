@@ -1,20 +1,17 @@
 -- A word that is read keeps the tie.
-use Rattle.std.proofs.Common.{◌≡◌, ℕ, suc, Bool, true, false, List, [], ◌∷◌, length, Option, Some, None, is_some, refl, sym, ap, subst, ◌∙◌, ◌⊎◌, inl, inr}
+use Rattle.std.proofs.Common.{◌≡◌, ℕ, suc, Bool, true, false, List, ◌∷◌, length, Option, Some, None, is_some, refl, sym, ap, subst, ◌∙◌}
 use Rattle.charge_world.specs.declared.entry.Entry.{Entry}
 use Rattle.charge_world.specs.declared.offer.Dialect.{Dialect}
-use Rattle.charge_world.specs.declared.ports.Order.{Order}
 use Rattle.session_words.specs.declared.cause.EndCause.{EndCause}
-use Rattle.session_words.specs.declared.cause.EndCause.TheVariants.{Refused as PayloadRefused, WrongSide as FromWrongSide}
 use Rattle.session_words.specs.declared.plan.CarPlan.{CarPlan}
 use Rattle.session_words.specs.declared.word.Reply.{Reply}
 use Rattle.session_words.specs.declared.word.Word.{Word}
 use Rattle.session_words.specs.declared.word.Word.TheVariants as word
-use Rattle.v2gtp_frames.specs.Reading.{whole_at, payload_at}
+use Rattle.v2gtp_frames.specs.Reading.{payload_at}
 use Rattle.car_rules.specs.declared.stage.CarStage.{CarStage}
 use Rattle.car_rules.specs.Moves.{is_again, stage_behind}
 use Rattle.car_rules.specs.Replies.{reply_cause}
 use Rattle.car_rules.specs.Requests.{request_of}
-use Rattle.car_rules.specs.Stages.{first_stage}
 use Rattle.post_spec.specs.Words.{IsPayloadAt}
 use Rattle.car_spec.specs.Answered.{Exchange, answered_by, exchanges}
 use Rattle.car_spec.specs.Asked.{Sent, last_request, awaited}
@@ -22,12 +19,12 @@ use Rattle.car_spec.specs.Codecs.{Judged, Chosen, Told, WrongSide, Refused, Code
 use Rattle.car_spec.specs.Judging.{dialect_of, chosen, moved, replied, replied_by, judged, read}
 use Rattle.car_spec.specs.Past.{stream, said, IsChosen, IsAsked, IsTold}
 use Rattle.car_spec.specs.Spelled.{read_back}
-use Rattle.car_spec.specs.States.{Agenda, Session, State, is_done}
-use Rattle.car_spec.specs.Steps.{Offer, Step, Reads}
+use Rattle.car_spec.specs.States.{Session, State}
+use Rattle.car_spec.specs.Steps.{Step, Reads}
 use Rattle.car_laws.proofs.Kept.{StageReads, SessionReads, Reads_by, Keeps}
 use Rattle.car_closings.proofs.Exchanged.{AreExchanged}
 use Rattle.car_closings.proofs.Streams.{IsStream, Streams, ReadsFront, session_judged, next_payload}
-use Rattle.car_closings.proofs.Ties.{StageTie, SaidTie, Link, TieBy, Tied, Settled, IsEmpty, empty, opens_alone}
+use Rattle.car_closings.proofs.Ties.{StageTie, SaidTie, Link, TieBy, Tied, Settled, IsEmpty, empty, opens_alone, unoffered}
 
 -- the reply that a payload is read as
 told_word : (w : Option Word) (r : Reply) → Told r ≡ judged_word w → w ≡ Some (word.Reply r)
@@ -133,13 +130,6 @@ judged_tied c plan past steps n t session payload WrongSide u g k s at j = opens
 judged_tied c plan past steps n t session payload Refused u g k s at j = opens_alone t.live
 
 -- where a word is read nothing is to be said
-awaits_then : (session : Session) (a : Agenda) → a.spoken ≡ None → (session.stage ≡ None → session.moments.sent ≡ None → (a.spoken ≡ Some Offer) ⊎ (false ≡ true))
-    → session.stage ≡ None → session.moments.sent ≡ None → ⊥
-awaits_then session a u k e f = elim (k e f) [
-  | inl h ↦ (let x : None ≡ Some Offer = sym u ∙ h in cc)
-  | inr h ↦ (cc)
-]
-
 pub read_tied : (c : Codecs) (plan : CarPlan) (past : List Entry) (steps : List Step) (n : ℕ) (t : State) (w : Judged) (arrived over : Bool) → ReadsFront c plan t w → Streams arrived (stream past) n over t.session
     → Keeps plan steps t → Settled c plan past (exchanges steps) n t → Tied c plan past (exchanges (Reads w ∷ steps)) (suc n) (read plan t w)
 read_tied c plan past steps n t w arrived over f i g k =
@@ -150,5 +140,5 @@ read_tied c plan past steps n t w arrived over f i g k =
     let r : SessionReads plan steps f.session = subst (λ (o : Option Session). Reads_by plan steps t.over o) f.session_is g.reads in
     let own : IsStream arrived (stream past) n f.session.unread = subst (λ (o : Option Session). Streams arrived (stream past) n over o) f.session_is i in
     subst (λ (s : State). Tied c plan past (exchanges (Reads w ∷ steps)) (suc n) s) (sym (session_judged plan t f.session w f.session_is))
-    (judged_tied c plan past steps n t f.session (payload_at f.count f.session.unread) w (awaits_then f.session t.agenda m.unspoken l.offers) r l.staged l.said_is
+    (judged_tied c plan past steps n t f.session (payload_at f.count f.session.unread) w (unoffered f.session t.agenda m.unspoken l.offers) r l.staged l.said_is
     (next_payload (stream past) f.session.unread n f.count own.unread_is f.whole) f.judged)

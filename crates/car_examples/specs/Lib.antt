@@ -8,3 +8,4 @@ pub mod Charging
 pub mod Timing
 pub mod Searching
 pub mod Ending
+pub mod ByBytes

@@ -1,7 +1,7 @@
 //! Worked examples of what a car does, computed from its definitions: each clause is one. Where the definitions that they speak of change,
 //! the example that shows it is refused.
 //!
-//! Proved: 85 worked examples that compute.
+//! Proved: 88 worked examples that compute.
 #![tactic(auto)]
 
 ghost use Rattle.car_examples.specs.Whole as whole;
@@ -11,6 +11,7 @@ ghost use Rattle.car_examples.specs.Charging as charging;
 ghost use Rattle.car_examples.specs.Timing as timing;
 ghost use Rattle.car_examples.specs.Searching as searching;
 ghost use Rattle.car_examples.specs.Ending as ending;
+ghost use Rattle.car_examples.specs.ByBytes as bytes;
 
 /// Whole sessions of a car (ISO 15118-2:2014, section 8.8.4).
 pub fn sessions_go_through()
@@ -66,6 +67,13 @@ pub fn contactors_close_and_open()
     ensures stops_for_the_post { charging.StopsForThePost }
     ensures stops_for_the_driver { charging.StopsForTheDriver }
     ensures renegotiates { charging.Renegotiates }
+{}
+
+/// Which bytes mandate a car to close its contactor (ISO 15118-2:2014, section 8.8.4; IEC 61851-23).
+pub fn closes_are_mandated()
+    ensures near { bytes.MandatedNear }
+    ensures far { bytes.UnmandatedFar }
+    ensures unheard { bytes.UnmandatedUnheard }
 {}
 
 /// A car's deadlines (ISO 15118-2:2014, section 8.7).
