@@ -68,8 +68,9 @@ use std::alloc::Global;
 ///
 /// `car`: where the wire tells its past, and was lent with an empty one, that is a run of the car by the plan of the file, and the status is
 /// the one that the past has: `Done` where the car's session ended or Over was heard, `TurnsSpent` behind the plan's last turn, `WireFault`
-/// where a hearing was lost or the wire did not start. By the steps of that run it is lawful (`IsDrivenLawfully` of `car_core`): the contactor is
-/// closed only behind the words that mandate it, a car that ended does nothing more, and at the end the contactor is ordered open. The trace is the text of that
+/// where a hearing was lost or the wire did not start. By the steps of that run it is lawful (`IsDrivenLawfully` of `car_core`): each order to
+/// close the contactor is mandated by the words that were read and by the bytes of the session before it (`ClosesMandated` of `car_spec`), a
+/// car that ended does nothing more, and at the end the contactor is ordered open. The trace is the text of that
 /// past. What comes before the wire is started is that of `station`.
 ///
 /// `replay`: `Done` for each of the three ends, and the trace is the text of a run of the site. Before that come `NoMemory`, `SourceFault`
