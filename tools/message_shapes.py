@@ -256,6 +256,11 @@ class Types:
         fields = self.fields(kind)
         return len(fields) == 3 and kind not in self.large and all(it.form == "value" and it.simple and not it.is_asked() for it in fields)
 
+    def is_optional_second(self, kind):
+        """Whether it is a sequence of three values of which the second may be absent, which are read at once."""
+        fields = self.fields(kind)
+        return len(fields) == 3 and kind not in self.large and all(it.form == "value" and it.simple and not it.most for it in fields) and [it.optional for it in fields] == [False, True, False]
+
     def is_entry(self, kind):
         """Whether it stands in a list of a large type, where it is stored as a whole."""
         return kind not in self.large and any(it.most and it.kind == kind for of in self.large if of not in self.choices for it in self.fields(of))

@@ -20,7 +20,7 @@ from schema_lists import Refused
 from written_files import settle, told
 
 WORDS = [
-    "Binary", "Choice", "Descent", "Group", "LargeChoice", "LargeGroup", "LargeRecord", "PutChoice", "PutRecord", "ReadRecord",
+    "Binary", "Choice", "Descent", "Group", "LargeChoice", "LargeGroup", "LargeRecord", "OptionalSecond", "PutChoice", "PutRecord", "ReadRecord",
     "Record", "Text", "Three", "ThreeChildren", "choice", "first_child", "left_out", "member", "member_here", "member_value",
     "optional", "optional_choice", "optional_choice_here", "optional_here", "optional_value", "put_attribute", "put_choice",
     "put_optional", "put_optional_attribute", "put_optional_choice", "put_optional_value", "put_record", "put_records",
@@ -120,6 +120,9 @@ def made_of(t, kind):
     if t.is_three(kind):
         parts = ", ".join(f"{it}: made.{word}" for it, word in zip(kept, ("first", "second", "third")))
         return f"Three<{', '.join(it.one for it in fields)}>", f"        {name} {{ {parts} }}\n"
+    if t.is_optional_second(kind):
+        parts = ", ".join(f"{it}: made.{word}" for it, word in zip(kept, ("first", "second", "third")))
+        return f"OptionalSecond<{', '.join(it.one for it in fields)}, {{ names::{fields[1].name} }}>", f"        {name} {{ {parts} }}\n"
     attributes, children = [it for it in fields if it.form == "attribute"], [it for it in fields if it.form != "attribute"]
     child = lambda it: "LeftOut" if it.form == "out" else f"{it.single()}({it.field})"
     types = [*(it.one for it in attributes), *held(attributes, [it.child() for it in children])]

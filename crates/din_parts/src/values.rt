@@ -10,10 +10,10 @@ use exi_documents::Refusal;
 use exi_schema::Places;
 use message_fields::message_parts::exi_events::EventWriter;
 use message_fields::message_parts::{
-    Choice, Descent, PutChoice, PutRecord, ReadRecord, Record, member, put_optional_value,
-    put_record, put_value, whole_record,
+    Choice, Descent, OptionalSecond, PutChoice, PutRecord, ReadRecord, Record, member,
+    put_optional_value, put_record, put_value, whole_record,
 };
-use message_fields::{Elements2, Elements3, Elements4, OptionalValue, RequiredValue};
+use message_fields::{Elements2, Elements4, OptionalValue, RequiredValue};
 
 /// PhysicalValue.
 #[derive(Clone, Copy, Default)]
@@ -52,18 +52,13 @@ impl PutRecord for PhysicalValue {
 impl<'a> Record<'a> for PhysicalValue {
     ghost use Rattle.std.proofs.Common.{rules};
 
-    type Made = Elements3<
-        RequiredValue<i8>,
-        OptionalValue<UnitSymbol, { names::UNIT }>,
-        RequiredValue<i16>,
-    >;
+    type Made = OptionalSecond<i8, UnitSymbol, i16, { names::UNIT }>;
 
     fn of(made: Self::Made) -> PhysicalValue {
-        let Elements3(RequiredValue(multiplier), OptionalValue(unit), RequiredValue(value)) = made;
         PhysicalValue {
-            multiplier,
-            unit,
-            value,
+            multiplier: made.first,
+            unit: made.second,
+            value: made.third,
         }
     }
 

@@ -5,6 +5,7 @@ pub mod Distinct
 pub mod Ended
 pub mod Next
 pub mod Particles
+pub mod Perhaps
 pub mod Putting
 pub mod Repeated
 pub mod Rooted

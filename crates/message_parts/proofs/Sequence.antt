@@ -29,7 +29,7 @@ abbrev pub reading_in : Seen → Reading
 reading_in d = reading d.schema d.state d.cursor
 
 -- where a descent stands between the events that are taken at once
-abbrev seen_at : Reading → Option ℕ → Seen
+abbrev pub seen_at : Reading → Option ℕ → Seen
 seen_at r child = record { schema = r.schema; state = r.state; cursor = r.cursor; refused = None; child = child }
 
 -- ---- a child with a value, and the end

@@ -1,6 +1,7 @@
 pub mod Contents
 pub mod Documents
 pub mod Particles
+pub mod Perhaps
 pub mod Reading
 pub mod Sequence
 pub mod Texts

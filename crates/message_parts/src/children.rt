@@ -10,10 +10,12 @@ ghost use Rattle.message_parts.specs.Contents.{Of, holding_with, mapped, told_on
 ghost use Rattle.message_parts.specs.Particles.{name_at, kind_at, alternatives_at, is_once_at, is_optional_at, is_repeated_at, is_required, is_single, is_left_out, is_must, is_last_may, attribute_at, takes_at, takes_attribute, kind_among};
 ghost use Rattle.message_parts.specs.Reading.{Frame, seen_of, IsOpen, Enters, Leaves, Reads, IsRefusal, IsChosen, StartsAt};
 ghost use Rattle.message_parts.specs.Sequence.{HoldsValues, ReadsThree, told_three};
+ghost use Rattle.message_parts.specs.Perhaps.{HoldsSecond, IsReadPerhaps, ReadsSecond, inside_perhaps, told_second};
 
 use crate::descent::Descent;
 use crate::part::{Choice, Contents, Group, LargeGroup, LargeRecord, ReadRecord, Record, Simple};
 use arrayvec::ArrayVec;
+use exi_events::OptionalValues;
 use exi_events::exi_documents::Refusal;
 use exi_schema::Places;
 
@@ -259,6 +261,90 @@ fn each_of_three<'a, A: Simple<'a>, B: Simple<'a>, C: Simple<'a>, P: Places>(
     let second = value(descent)?;
     let third = value(descent)?;
     Ok(Three {
+        first,
+        second,
+        third,
+    })
+}
+
+/// Three values, one behind the other, of which the second, of this name, may be absent.
+#[derive(Drop)]
+pub struct OptionalSecond<A, B, C, const NAME: u16> {
+    /// The first.
+    pub first: A,
+    /// The second, where it is there.
+    pub second: Option<B>,
+    /// The third.
+    pub third: C,
+}
+
+impl<'a, A: Simple<'a>, B: Simple<'a>, C: Simple<'a>, const NAME: u16> Contents<'a>
+    for OptionalSecond<A, B, C, NAME> {
+    ghost stand = { λ ks attributes declared. (attributes ≡ []) × HoldsSecond A.takes B.takes C.takes NAME ks declared };
+
+    ghost told = { λ attributes declared v before. told_second declared NAME (A.value v.first) (mapped (λ x. Of (B.value x)) v.second) (C.value v.third) before };
+
+    #[inline(always)]
+    fn read<P: Places>(
+        descent: &mut Descent<'a, '_, P>,
+    ) -> Result<OptionalSecond<A, B, C, NAME>, Refusal> {
+        optional_second(descent)
+    }
+}
+
+/// What is read as the second, if it is there.
+#[inline(always)]
+fn second_of<'a, T: Simple<'a>>(values: OptionalValues) -> Option<T>
+    ensures { (d : Datatype) → T.takes d ≡ true → IsReadPerhaps d values.second → inside_perhaps values.second ≡ mapped (λ x. Of (T.value x)) result }
+{
+    match values.second {
+        Some(second) => Some(T::of(second.as_value())),
+        None => None,
+    }
+}
+
+/// Three values of which the second may be absent, of an element that holds nothing else: up to where there is no more.
+fn optional_second<'a, A: Simple<'a>, B: Simple<'a>, C: Simple<'a>, P: Places, const NAME: u16>(
+    descent: &mut Descent<'a, '_, P>,
+) -> Result<OptionalSecond<A, B, C, NAME>, Refusal>
+    requires open { IsOpen P.schema descent.old }
+    ensures open { IsOpen P.schema descent.new }
+    ensures table { descent.new.reader.table.ghost_name ≡ descent.old.reader.table.ghost_name }
+    ensures places { descent.new.reader.places.now ≡ descent.old.reader.places.now }
+    ensures payload { descent.new.reader.reader.bits ≡ descent.old.reader.reader.bits }
+    ensures refused { IfErr result (λ r. IsRefusal (seen_of P.schema descent.old) r) }
+    ensures read { ReadsSecond A.takes B.takes C.takes NAME (λ v. A.value v.first) (λ v. mapped (λ x. Of (B.value x)) v.second) (λ v. C.value v.third)
+        (seen_of P.schema descent.old) (seen_of P.schema descent.new) result }
+{
+    match descent.optional_values(NAME) {
+        Some(values) => Ok(OptionalSecond {
+            first: A::of(values.first.as_value()),
+            second: second_of(values),
+            third: C::of(values.third.as_value()),
+        }),
+        None => each_of_optional(descent),
+    }
+}
+
+/// The same, one by one.
+#[inline(never)]
+fn each_of_optional<'a, A: Simple<'a>, B: Simple<'a>, C: Simple<'a>, P: Places, const NAME: u16>(
+    descent: &mut Descent<'a, '_, P>,
+) -> Result<OptionalSecond<A, B, C, NAME>, Refusal>
+    requires open { IsOpen P.schema descent.old }
+    ensures open { IsOpen P.schema descent.new }
+    ensures table { descent.new.reader.table.ghost_name ≡ descent.old.reader.table.ghost_name }
+    ensures places { descent.new.reader.places.now ≡ descent.old.reader.places.now }
+    ensures payload { descent.new.reader.reader.bits ≡ descent.old.reader.reader.bits }
+    ensures refused { IfErr result (λ r. IsRefusal (seen_of P.schema descent.old) r) }
+    ensures read { ReadsSecond A.takes B.takes C.takes NAME (λ v. A.value v.first) (λ v. mapped (λ x. Of (B.value x)) v.second) (λ v. C.value v.third)
+        (seen_of P.schema descent.old) (seen_of P.schema descent.new) result }
+{
+    first_child(descent)?;
+    let first = value(descent)?;
+    let second = optional_value(descent, NAME)?;
+    let third = value(descent)?;
+    Ok(OptionalSecond {
         first,
         second,
         third,

@@ -7,7 +7,7 @@ ghost use Rattle.exi_events.specs.Meaning.{IsLentEvent, IsLent};
 ghost use Rattle.exi_events.specs.Event.TheVariants as event_is;
 
 use exi_events::exi_documents::Refusal;
-use exi_events::{Event, EventReader, Table, ThreeValues, Value};
+use exi_events::{Event, EventReader, OptionalValues, Table, ThreeValues, Value};
 use exi_schema::Places;
 
 /// Reads the children of one element after the other.
@@ -72,7 +72,9 @@ impl<'a, 'p, P: Places> Descent<'a, 'p, P> {
     ghost use Rattle.exi_schema.specs.Schemas.{PlainSchema};
     ghost use Rattle.exi_events.specs.Values.{most_entries};
     ghost use Rattle.exi_events.specs.Reader.{IsTold};
+    ghost use Rattle.exi_events.specs.Short.{tree_of};
     ghost use Rattle.message_parts.specs.Sequence.{HoldsThree, AreRead, told_values};
+    ghost use Rattle.message_parts.specs.Perhaps.{HoldsPerhaps, AreReadPerhaps, told_second, inside_perhaps};
 
     /// A descent at the start of a payload of at most 65,536 bytes. The table is emptied; it has room for 8,192 entries.
     pub fn new(payload: &'a [u8], places: &'p P, table: &'p mut Table) -> Descent<'a, 'p, P>
@@ -215,6 +217,26 @@ impl<'a, 'p, P: Places> Descent<'a, 'p, P> {
             × Reads ks F [] declared 3 (told_values declared three told) (seen_of P.schema self.new)) }
     {
         let values = self.reader.three_values()?;
+        self.child = None;
+        Some(values)
+    }
+
+    /// The values of the element that has started, and its end, where it is a sequence of three values of few bits of which the second, of this
+    /// name, may be absent, and nothing else. Anywhere else nothing is taken, and `None` is answered.
+    #[inline(always)]
+    pub fn optional_values(&mut self, name: u16) -> Option<OptionalValues>
+        requires open { IsOpen P.schema self.old }
+        ensures open { IsOpen P.schema self.new }
+        ensures table { self.new.reader.table.ghost_name ≡ self.old.reader.table.ghost_name }
+        ensures places { self.new.reader.places.now ≡ self.old.reader.places.now }
+        ensures payload { self.new.reader.reader.bits ≡ self.old.reader.reader.bits }
+        ensures none { result ≡ None → self.new ≡ self.old }
+        ensures values { (ks : List PlainKind) (F : Frame) (declared : List PlainParticle) (told : List TreeEvent) (first second third : Datatype)
+            → StartsAt ks F [] declared 0 told (seen_of P.schema self.old) → HoldsPerhaps ks declared name first second third
+            → IfSome result (λ values. AreReadPerhaps first second third values
+            × Reads ks F [] declared 3 (told_second declared name (tree_of values.first) (inside_perhaps values.second) (tree_of values.third) told) (seen_of P.schema self.new)) }
+    {
+        let values = self.reader.optional_values(name)?;
         self.child = None;
         Some(values)
     }

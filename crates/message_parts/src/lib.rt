@@ -20,9 +20,9 @@ mod texts;
 mod writer;
 
 pub use children::{
-    Three, attribute, choice, first_child, last_attribute, left_out, member, member_here,
-    member_value, optional, optional_choice, optional_choice_here, optional_here, optional_value,
-    records, records_here, required, required_here, value, values, whole_record,
+    OptionalSecond, Three, attribute, choice, first_child, last_attribute, left_out, member,
+    member_here, member_value, optional, optional_choice, optional_choice_here, optional_here,
+    optional_value, records, records_here, required, required_here, value, values, whole_record,
 };
 pub use descent::Descent;
 pub use document::{read, read_here, write};
