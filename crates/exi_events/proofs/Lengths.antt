@@ -1,5 +1,6 @@
 -- How many bits the shortest spelling of an integer of few octets has, and that a word lacks room for them.
-use Rattle.std.proofs.Common.{◌≡◌, ℕ, suc, ◌+◌, ◌/◌, ◌%◌, ◌<◌, ◌≤◌, Bool, true, List, ◌++◌, length, sym, ap, ◌∙◌, arith, ℤ, pos, negsuc, if◌then◌else◌}
+use Rattle.std.proofs.Common.{◌≡◌, ℕ, suc, ◌+◌, ◌/◌, ◌%◌, ◌<◌, ◌≤◌, Bool, true, List, ◌++◌, length, sym, ap, ◌∙◌, arith, ℤ, pos, negsuc, if◌then◌else◌, inl, inr}
+use Rattle.std.proofs.lemmas.Bool.{cases_lt}
 use Rattle.std.proofs.lemmas.List.{length-append}
 use Rattle.exi_spec.specs.Bits.{number_bits}
 use Rattle.exi_spec.specs.Items.{octet, shortest_within, shortest_unsigned, shortest_integer}
@@ -27,6 +28,25 @@ three_long v high low =
 pub more_long : (v : ℕ) → 2097152 ≤ v → 32 ≤ length (shortest_unsigned v)
 more_long v high =
     omega (arith, high_long 8 v (omega (arith, high)), high_long 7 (v / 128) (omega (arith, high)), high_long 6 (v / 128 / 128) (omega (arith, high)), shortest_long 6 (v / 128 / 128 / 128))
+
+-- more than three octets have more than 25 bits
+pub octets_few : (v : ℕ) → length (shortest_unsigned v) ≤ 25 → length (shortest_unsigned v) ≤ 24
+octets_few v few =
+    elim (cases_lt v 128) [
+      | inl low ↦ omega (arith, one_long v low)
+      | inr high ↦ elim (cases_lt v 16384) [
+        | inl low ↦ omega (arith, two_long v high low)
+        | inr higher ↦ elim (cases_lt v 2097152) [
+          | inl low ↦ omega (arith, three_long v higher low)
+          | inr highest ↦ omega (arith, few, more_long v highest)
+        ]
+      ]
+    ]
+
+pub unsigned_full : (held bits : List Bool) (v : ℕ) → bits ≡ shortest_unsigned v → length bits ≤ 25 → (length (shortest_unsigned v) ≤ 24 → 64 < length held + length (shortest_unsigned v)) → 64 < length held + length bits
+unsigned_full held bits v is few full =
+    let long = ap length is in
+    omega (arith, long, full (octets_few v (omega (arith, long, few))))
 
 -- ---- an octet that finds no room
 

@@ -32,3 +32,4 @@ pub use Rattle.document_laws.proofs.Offered
 pub mod Taking
 pub mod Lengths
 pub mod Giving
+pub mod Shorts

@@ -1,7 +1,8 @@
 -- Own: a child with a value, whose start, value and end are put at once.
-use Rattle.std.specs.Prelude.{◌≡◌, ℕ, ◌^◌, ◌<◌, Bool, List, [], ◌∷◌, ◌++◌, length, Some, slice_get}
+use Rattle.std.specs.Prelude.{◌≡◌, ℕ, ◌+◌, ◌^◌, ◌<◌, ◌≤◌, Bool, List, [], ◌∷◌, ◌++◌, length, Some, slice_get}
 use Rattle.exi_spec.specs.Bits.{number_bits}
 use Rattle.exi_schema.specs.declared.places.Place.{Place}
+use Rattle.exi_schema.specs.declared.tables.Datatype.{Datatype}
 use Rattle.exi_schema.specs.Offers.{IsWidth, offers}
 use Rattle.exi_schema.specs.Plain.{PlainKind}
 use Rattle.exi_schema.specs.Schemas.{PlainSchema}
@@ -11,7 +12,7 @@ use Rattle.exi_schema.specs.Steps.{IsStep}
 use Rattle.exi_writing.specs.Documents.{SpellsSimple, element, first}
 use Rattle.exi_writing.specs.Trees.{Value, Start, Content, EndElement}
 use Rattle.exi_writing.specs.Values.{Entries, WritesValue}
-use Rattle.exi_writing.specs.Short.{tree_of}
+use Rattle.exi_writing.specs.Short.{most_bits, tree_of}
 use Rattle.exi_events.specs.declared.child.ChildCode.{ChildCode}
 use Rattle.exi_events.specs.declared.child.NamedValue.{NamedValue}
 use Rattle.exi_events.specs.declared.child.ThreeChildren.{ThreeChildren}
@@ -23,6 +24,15 @@ pub record StartsChild (s : PlainSchema) (here : Place) (name : ℕ) (child : Ch
   pub is_width : IsWidth (length (offers s.kinds here)) child.width
   pub of_schema : IsStep s.kinds (length s.names) here.kind (element name child.kind child.next)
   pub few : length (offers s.kinds here) < 2 ^ 16
+
+-- these bits, which are few, write a value whatever texts are entered
+pub record WritesShort (datatype : Datatype) (value : Value) (bits : List Bool) : Type 0 where
+  pub few : length bits ≤ most_bits
+  pub writes : (entries : Entries) (name : ℕ) → WritesValue datatype entries name value bits entries
+
+-- behind so many bits a word has no room for these
+abbrev pub IsFull : List Bool → List Bool → Type 0
+IsFull held bits = 64 < length held + length bits
 
 -- the bits of its value and its end, behind its start, where no text is entered
 abbrev pub WritesInside : List PlainKind → ℕ → Entries → ℕ → Value → List Bool → Type 0

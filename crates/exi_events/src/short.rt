@@ -1,9 +1,10 @@
 //! Values of few bits, written into a word.
 
-ghost use Rattle.std.specs.Prelude.{◌≡◌, ℕ, Bool, List, ◌++◌, IfSome, OnSome};
+ghost use Rattle.std.specs.Prelude.{◌≡◌, ℕ, Bool, List, ◌++◌, None, IfSome, OnSome};
 ghost use Rattle.exi_writing.specs.Short.{tree_of};
 ghost use Rattle.exi_writing.specs.Values.{Entries, SpellsCode, WritesValue};
 ghost use Rattle.exi_writing.specs.Meaning.{value_of};
+ghost use Rattle.exi_events.specs.Child.{WritesShort, IsFull};
 
 use crate::word::BitWord;
 use exi_schema::Datatype;
@@ -29,7 +30,8 @@ pub fn short_of(value: &Value) -> Option<ShortValue>
 /// One of `count` codes (7.1.9, 7.2) behind the bits of a word. `None` where there are fewer.
 #[inline(always)]
 fn push_code(word: &mut BitWord, count: u32, code: u32) -> Option<()>
-    ensures { OnSome result ((bits : List Bool) × SpellsCode count code bits × (word.new ≡ word.old ++ bits)) }
+    ensures pushed { OnSome result ((bits : List Bool) × SpellsCode count code bits × (word.new ≡ word.old ++ bits)) }
+    ensures none { result ≡ None → (bits : List Bool) → SpellsCode count code bits → IsFull word.old bits }
 {
     if code >= count {
         return None;
@@ -42,8 +44,9 @@ fn push_code(word: &mut BitWord, count: u32, code: u32) -> Option<()>
 /// `None` where it is no value of the datatype, has more than three octets, or finds no room in the word.
 #[inline(always)]
 pub(crate) fn push_value(word: &mut BitWord, datatype: Datatype, value: ShortValue) -> Option<()>
-    ensures { OnSome result ((bits : List Bool) × (word.new ≡ word.old ++ bits)
+    ensures pushed { OnSome result ((bits : List Bool) × (word.new ≡ word.old ++ bits)
         × ((entries : Entries) (name : ℕ) → WritesValue datatype entries name (tree_of value) bits entries)) }
+    ensures none { result ≡ None → (bits : List Bool) → WritesShort datatype (tree_of value) bits → IsFull word.old bits }
 {
     match (datatype, value) {
         (Datatype::Bool, ShortValue::Bool(truth)) => word.push(u32::from(truth), 1),
