@@ -29,6 +29,12 @@ pub more_long : (v : ℕ) → 2097152 ≤ v → 32 ≤ length (shortest_unsigned
 more_long v high =
     omega (arith, high_long 8 v (omega (arith, high)), high_long 7 (v / 128) (omega (arith, high)), high_long 6 (v / 128 / 128) (omega (arith, high)), shortest_long 6 (v / 128 / 128 / 128))
 
+pub joined_long : (old new bits : List Bool) → new ≡ old ++ bits → length new ≡ length old + length bits
+joined_long old new bits is = ap length is ∙ length-append old bits
+
+pub bits_long : (old new : List Bool) (n v : ℕ) → new ≡ old ++ number_bits n v → length new ≡ length old + n
+bits_long old new n v is = omega (arith, joined_long old new (number_bits n v) is, length-number_bits n v)
+
 -- more than three octets have more than 25 bits
 pub octets_few : (v : ℕ) → length (shortest_unsigned v) ≤ 25 → length (shortest_unsigned v) ≤ 24
 octets_few v few =

@@ -17,3 +17,6 @@ few_root_bits s =
 
 pub few_code_bits : (n width : ℕ) → IsWidth n width → n < 65536 → width ≤ 32
 few_code_bits n width is few = let low : width ≤ 16 = is.least 16 (omega (arith, few)) in omega (arith, low)
+
+pub code_width : (n width : ℕ) → IsWidth n width → n < 65536 → width ≤ 16
+code_width n width is few = is.least 16 (omega (arith, few))

@@ -1,17 +1,19 @@
 -- The bits of a value of few bits find no room in a word.
-use Rattle.std.proofs.Common.{◌≡◌, ℕ, ◌+◌, ◌<◌, ◌≤◌, ℤ, pos, negsuc, ◌+ℤ◌, ◌-ℤ◌, ◌^◌, FitsSigned, w64, Bool, List, [], ◌∷◌, length, subst, sym, ap, ◌∙◌, refl, arith, le_antisymm}
+use Rattle.std.proofs.Common.{◌≡◌, ℕ, ◌+◌, ◌<◌, ◌≤◌, ℤ, pos, negsuc, ◌+ℤ◌, ◌-ℤ◌, ◌^◌, FitsSigned, w64, Bool, List, [], ◌∷◌, length, Option, Some, None, subst, sym, ap, ◌∙◌, refl, arith, le_antisymm}
 use Rattle.std.proofs.lemmas.Int.{ints}
 use Rattle.exi_spec.specs.Items.{shortest_unsigned}
 use Rattle.exi_spec.proofs.BitLaws.{length-number_bits}
 use Rattle.exi_schema.specs.declared.tables.Datatype.{Datatype}
 use Rattle.exi_schema.specs.declared.tables.Datatype.TheVariants.{Bool as BoolType, Named, Bounded, Unsigned, Signed, Binary, Text as TextType}
+use Rattle.exi_schema.specs.Plain.{PlainKind}
+use Rattle.document_laws.proofs.Written.{value_once}
 use Rattle.exi_writing.specs.ShortValue.{ShortValue}
 use Rattle.exi_writing.specs.ShortValue.TheVariants as short
 use Rattle.exi_writing.specs.Short.{tree_of}
 use Rattle.exi_writing.specs.Texts.{IsIndexWidth}
 use Rattle.exi_writing.specs.Trees.{Value, Number}
-use Rattle.exi_writing.specs.Values.{SpellsCode, WritesValue}
-use Rattle.exi_events.specs.Child.{WritesShort, IsFull}
+use Rattle.exi_writing.specs.Values.{Entries, SpellsCode, WritesValue}
+use Rattle.exi_events.specs.Child.{WritesShort, MayWriteShort, IsFull}
 
 pub code_full : (count width code : ℕ) (held bits : List Bool) → IsIndexWidth count width → SpellsCode count code bits → 64 < length held + width → IsFull held bits
 code_full count width code held bits is s full =
@@ -87,3 +89,17 @@ short_type (Unsigned most) v bits w a b c e f = e most refl
 short_type (Signed least most) v bits w a b c e f = f least most refl
 short_type (Binary most) v bits w a b c e f = no_bytes most v bits w
 short_type (TextType most) v bits w a b c e f = no_chars most v bits w
+
+-- ---- the value of a child
+
+pub some_type : (o found : Option Datatype) (d e : Datatype) → found ≡ Some d → found ≡ o → o ≡ Some e → e ≡ d
+some_type o found d e is same other = let both : Some d ≡ Some e = sym is ∙ same ∙ other in cc
+
+pub no_type : (o found : Option Datatype) (e : Datatype) → found ≡ None → found ≡ o → o ≡ Some e → ⊥
+no_type o found e is same other = let both : None ≡ Some e = sym is ∙ same ∙ other in cc
+
+pub typed_short : (kinds : List PlainKind) (kind : ℕ) (value : Value) (may : MayWriteShort kinds kind value) (d : Datatype) → may.datatype ≡ d → WritesShort d value may.bits
+typed_short kinds kind value may d is = subst (λ (x : Datatype). WritesShort x value may.bits) is may.written
+
+pub same_long : (d : Datatype) (value : Value) (a b : List Bool) → ((entries : Entries) (name : ℕ) → WritesValue d entries name value a entries) → WritesShort d value b → length a ≡ length b
+same_long d value a b one other = ap length (value_once d [] 0 value a b [] [] (one [] 0) (other.writes [] 0)).0

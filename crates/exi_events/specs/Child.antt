@@ -8,11 +8,11 @@ use Rattle.exi_schema.specs.Plain.{PlainKind}
 use Rattle.exi_schema.specs.Schemas.{PlainSchema}
 use Rattle.exi_schema.specs.declared.places.SequenceChild.{SequenceChild}
 use Rattle.exi_schema.specs.Sequences.{IsSequence}
-use Rattle.exi_schema.specs.Steps.{IsStep}
+use Rattle.exi_schema.specs.Steps.{IsStep, simple_at}
 use Rattle.exi_writing.specs.Documents.{SpellsSimple, element, first}
 use Rattle.exi_writing.specs.Trees.{Value, Start, Content, EndElement}
 use Rattle.exi_writing.specs.Values.{Entries, WritesValue}
-use Rattle.exi_writing.specs.Short.{most_bits, tree_of}
+use Rattle.exi_writing.specs.Short.{IsShort, most_bits, tree_of}
 use Rattle.exi_events.specs.declared.child.ChildCode.{ChildCode}
 use Rattle.exi_events.specs.declared.child.NamedValue.{NamedValue}
 use Rattle.exi_events.specs.declared.child.ThreeChildren.{ThreeChildren}
@@ -29,6 +29,22 @@ pub record StartsChild (s : PlainSchema) (here : Place) (name : ℕ) (child : Ch
 pub record WritesShort (datatype : Datatype) (value : Value) (bits : List Bool) : Type 0 where
   pub few : length bits ≤ most_bits
   pub writes : (entries : Entries) (name : ℕ) → WritesValue datatype entries name value bits entries
+
+-- few bits write a value of a simple kind
+pub record MayWriteShort (kinds : List PlainKind) (kind : ℕ) (value : Value) : Type 0 where
+  pub datatype : Datatype
+  pub simple : simple_at kinds kind ≡ Some datatype
+  pub bits : List Bool
+  pub written : WritesShort datatype value bits
+
+-- an element of this name may start at a place, whose value is short, and few bits write it
+pub record OffersShort (kinds : List PlainKind) (here : Place) (name : ℕ) (value : Value) : Type 0 where
+  pub code : ℕ
+  pub kind : ℕ
+  pub next : Place
+  pub offered : slice_get (offers kinds here) code ≡ Some (element name kind next)
+  pub short : IsShort value
+  pub may : MayWriteShort kinds kind value
 
 -- behind so many bits a word has no room for these
 abbrev pub IsFull : List Bool → List Bool → Type 0

@@ -6,7 +6,7 @@ ghost use Rattle.exi_schema.specs.Offers.{IsPlace};
 ghost use Rattle.exi_writing.specs.Short.{tree_of};
 ghost use Rattle.exi_writing.specs.Values.{Entries};
 ghost use Rattle.exi_events.specs.Writer.{OffersStart};
-ghost use Rattle.exi_events.specs.Child.{StartsChild, WritesInside, WritesThree, IsNamed, child_bits};
+ghost use Rattle.exi_events.specs.Child.{StartsChild, MayWriteShort, WritesInside, WritesThree, IsNamed, child_bits};
 
 use crate::short::push_value;
 use crate::word::BitWord;
@@ -41,7 +41,7 @@ pub(crate) fn child_at<P: Places>(places: &P, here: Place, name: u16) -> Option<
     }
 }
 
-/// The bits of a child with a value, where it is of a simple kind and they are few.
+/// The bits of a child with a value. `None` only where it is of no simple kind, or no few bits write the value.
 #[inline(always)]
 pub(crate) fn child_word<P: Places>(
     places: &P,
@@ -51,8 +51,9 @@ pub(crate) fn child_word<P: Places>(
     value: ShortValue,
 ) -> Option<BitWord>
     requires child { StartsChild (P.schema places.now) here name child }
-    ensures { IfSome result (λ word. (inside : List Bool) × (word ≡ number_bits child.width child.code ++ inside)
+    ensures word { IfSome result (λ word. (inside : List Bool) × (word ≡ number_bits child.width child.code ++ inside)
         × ((entries : Entries) → WritesInside (P.schema places.now).kinds child.kind entries name (tree_of value) inside)) }
+    ensures none { result ≡ None → ¬ MayWriteShort (P.schema places.now).kinds child.kind (tree_of value) }
 {
     let datatype = places.datatype(child.kind)?;
     let mut word = BitWord::new();

@@ -1,7 +1,7 @@
 //! Values of few bits, written into a word.
 
 ghost use Rattle.std.specs.Prelude.{◌≡◌, ℕ, Bool, List, ◌++◌, None, IfSome, OnSome};
-ghost use Rattle.exi_writing.specs.Short.{tree_of};
+ghost use Rattle.exi_writing.specs.Short.{IsShort, tree_of};
 ghost use Rattle.exi_writing.specs.Values.{Entries, SpellsCode, WritesValue};
 ghost use Rattle.exi_writing.specs.Meaning.{value_of};
 ghost use Rattle.exi_events.specs.Child.{WritesShort, IsFull};
@@ -11,10 +11,11 @@ use exi_schema::Datatype;
 use exi_writing::exi_reading::{ShortValue, index_width};
 use exi_writing::exi_values::Value;
 
-/// A value as one of few bits, where it is no Binary, no text, and an integer of 64 bits.
+/// A value as one of few bits. `None` exactly where it is a Binary, a text, or an integer beyond 64 bits.
 #[inline(always)]
 pub fn short_of(value: &Value) -> Option<ShortValue>
-    ensures { IfSome result (λ v. tree_of v ≡ value_of value.now) }
+    ensures some { IfSome result (λ v. tree_of v ≡ value_of value.now) }
+    ensures none { result ≡ None → ¬ IsShort (value_of value.now) }
 {
     match value {
         Value::Bool(truth) => Some(ShortValue::Bool(*truth)),

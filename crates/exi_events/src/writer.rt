@@ -49,7 +49,7 @@ impl<'b, 'p, P: Places> EventWriter<'b, 'p, P> {
     ghost use Rattle.exi_writing.specs.Grammar.{Opened, Behind};
     ghost use Rattle.exi_writing.specs.Meaning.{event_of};
     ghost use Rattle.exi_schema.specs.Offers.{IsPlace};
-    ghost use Rattle.exi_events.specs.Child.{PutsChild, PutsThree};
+    ghost use Rattle.exi_events.specs.Child.{OffersShort, PutsChild, PutsThree};
     ghost use Rattle.exi_writing.specs.Trees.{Start, EndElement};
     ghost use Rattle.exi_events.specs.Inside.{HasTop, GoesTo};
     ghost use Rattle.exi_events.specs.declared.reader.Phase.TheVariants as phase;
@@ -172,7 +172,8 @@ impl<'b, 'p, P: Places> EventWriter<'b, 'p, P> {
     }
 
     /// Puts an element with a value, its start, its value and its end, where its bits are few and all three may be put: what three calls
-    /// of `try_put` put. `None`, and nothing is put, anywhere else, and where fewer than 8 bytes are left.
+    /// of `try_put` put. `None`, and nothing is put, only where fewer than 8 bytes are left, no such element is offered, or its value is none
+    /// that few bits write.
     #[inline(always)]
     pub fn put_child(&mut self, name: u16, value: &Value) -> Option<()>
         requires ready { IsReadyToPut self.old }
@@ -181,6 +182,7 @@ impl<'b, 'p, P: Places> EventWriter<'b, 'p, P> {
         ensures none { result ≡ None → self.new ≡ self.old }
         ensures open_still { OnSome result ((self.old.full ≡ None) × (self.new.full ≡ None)) }
         ensures put { OnSome result (PutsChild (P.schema self.old.places.now) (draft_of self.old) (draft_of self.new) name (value_of value.now)) }
+        ensures whole { result ≡ None → (top : Opened) → HasWordRoom self.old top → ¬ OffersShort (P.schema self.old.places.now).kinds top.place name (value_of value.now) }
     {
         let top = self.open_with_room()?;
         let child = child_at(self.places, top.place, name)?;
