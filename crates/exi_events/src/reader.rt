@@ -59,7 +59,7 @@ impl<'a, 'p, P: Places> EventReader<'a, 'p, P> {
     ghost use Rattle.exi_schema.specs.declared.tables.Datatype.{Datatype};
     ghost use Rattle.exi_schema.specs.Steps.{simple_at};
     ghost use Rattle.exi_events.specs.Inside.{HasTop};
-    ghost use Rattle.exi_events.specs.Sequence.{HoldsSequence, TakesSequence, values_of};
+    ghost use Rattle.exi_events.specs.Sequence.{HoldsSequence, HoldsThree, TakesSequence, values_of};
     ghost use Rattle.exi_events.specs.Optional.{HoldsOptional, TakesOptional};
     ghost use Rattle.exi_events.specs.declared.reader.Phase.TheVariants as phase;
     ghost use Rattle.exi_writing.specs.Trees.{Event as TreeEvent};
@@ -294,7 +294,8 @@ impl<'a, 'p, P: Places> EventReader<'a, 'p, P> {
         Some(self.places.sequence(top.place.kind))
     }
 
-    /// The values of the innermost element, which is a sequence of these children, and its end, where they have few bits and none is refused.
+    /// The values of the innermost element, which is a sequence of these children, and its end. `None` only where what is left doesn't begin with
+    /// three values of few bits and the end.
     #[inline(always)]
     fn take_sequence(&mut self, children: &[SequenceChild]) -> Option<ThreeValues>
         requires ready { IsReady P.schema self.old }
@@ -306,6 +307,7 @@ impl<'a, 'p, P: Places> EventReader<'a, 'p, P> {
         ensures payload { self.new.reader.bits ≡ self.old.reader.bits }
         ensures refusals { self.new.refused ≡ self.old.refused }
         ensures none { result ≡ None → self.new ≡ self.old }
+        ensures whole { result ≡ None → ¬ HoldsThree children.now self.old.reader }
         ensures values { IfSome result (λ three. TakesSequence (reading_of P.schema self.old) (reading_of P.schema self.new) (values_of three)) }
         ensures told { (events : List TreeEvent) → HasTold (reading_of P.schema self.old) events
             → (more : List TreeEvent) × HasTold (reading_of P.schema self.new) more }
