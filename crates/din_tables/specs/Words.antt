@@ -1,0 +1,120 @@
+-- DIN SPEC 70121:2014 9.4 (body): the messages, and by their tables the word of a tree and the tree of a word.
+use Rattle.std.specs.Prelude.{ℕ, ◌==◌, false, if◌then◌else◌, List, [], ◌∷◌, map, Option, Some, None}
+use Rattle.std.specs.Option.{option_map}
+use Rattle.exi_documents.specs.Trees.{Tree, Simple, Complex}
+use Rattle.message_parts.specs.Contents.{Inside, Holding, root_of}
+use Rattle.session_words.specs.declared.code.Code.{Code}
+use Rattle.session_words.specs.declared.limits.CarLimits.TheVariants as car
+use Rattle.session_words.specs.declared.limits.EvseId.TheVariants as evse
+use Rattle.session_words.specs.declared.limits.PostLimits.TheVariants as limits
+use Rattle.session_words.specs.declared.limits.PostStatus.TheVariants as post
+use Rattle.session_words.specs.declared.session.SessionId.{SessionId}
+use Rattle.session_words.specs.declared.word.Ask.{Ask}
+use Rattle.session_words.specs.declared.word.Ask.TheVariants as ask
+use Rattle.session_words.specs.declared.word.Tell.{Tell}
+use Rattle.session_words.specs.declared.word.Tell.TheVariants as tell
+use Rattle.session_words.specs.declared.word.Word.{Word}
+use Rattle.session_words.specs.declared.word.Word.TheVariants as word
+use Rattle.din_schema.specs.declared.names.TheConstants.{V2G_MESSAGE, BODY, SESSION_SETUP_REQ, SESSION_SETUP_RES, SERVICE_DISCOVERY_REQ, SERVICE_DISCOVERY_RES, SERVICE_PAYMENT_SELECTION_REQ, SERVICE_PAYMENT_SELECTION_RES, CONTRACT_AUTHENTICATION_REQ, CONTRACT_AUTHENTICATION_RES, CHARGE_PARAMETER_DISCOVERY_REQ, CHARGE_PARAMETER_DISCOVERY_RES, CABLE_CHECK_REQ, CABLE_CHECK_RES, PRE_CHARGE_REQ, PRE_CHARGE_RES, POWER_DELIVERY_REQ, POWER_DELIVERY_RES, CURRENT_DEMAND_REQ, CURRENT_DEMAND_RES, WELDING_DETECTION_REQ, WELDING_DETECTION_RES, SESSION_STOP_REQ, SESSION_STOP_RES}
+use Rattle.tree_words.specs.Named.{children, first_in}
+use Rattle.word_tables.specs.Tables.{Table, rows, nothing, written}
+use Rattle.din_tables.specs.Frame.{message, framed, Message, asks, tells}
+use Rattle.din_tables.specs.Setup.{code_alone, setup_req, setup_asked, setup_res, setup_told, discovery_res, discovery_told, first_mode, selection_req, selection_asked, authorization_res, authorization_told}
+use Rattle.din_tables.specs.Power.{car_alone, present_voltage, cable_check_asked, cable_check_res, cable_check_told, pre_charge_req, pre_charge_asked, pre_charge_told, delivery_req, is_start, delivery_asked, profile_if, delivery_res, delivery_told, demand_req, demand_asked, demand_res, demand_told, welding_asked, welding_told}
+use Rattle.din_tables.specs.Parameters.{parameters_req, parameters_asked, parameters_res, parameters_told}
+
+-- ---- the messages. SessionStop terminates
+
+abbrev pub messages : List Message
+messages =
+    asks SESSION_SETUP_REQ setup_req setup_asked
+    ∷ tells SESSION_SETUP_RES setup_res setup_told
+    ∷ asks SERVICE_DISCOVERY_REQ nothing (λ x. ask.ServiceDiscovery)
+    ∷ tells SERVICE_DISCOVERY_RES discovery_res discovery_told
+    ∷ asks SERVICE_PAYMENT_SELECTION_REQ selection_req selection_asked
+    ∷ tells SERVICE_PAYMENT_SELECTION_RES code_alone (λ x. tell.PaymentSelection)
+    ∷ asks CONTRACT_AUTHENTICATION_REQ nothing (λ x. ask.Authorization)
+    ∷ tells CONTRACT_AUTHENTICATION_RES authorization_res authorization_told
+    ∷ asks CHARGE_PARAMETER_DISCOVERY_REQ parameters_req parameters_asked
+    ∷ tells CHARGE_PARAMETER_DISCOVERY_RES parameters_res parameters_told
+    ∷ asks CABLE_CHECK_REQ car_alone cable_check_asked
+    ∷ tells CABLE_CHECK_RES cable_check_res cable_check_told
+    ∷ asks PRE_CHARGE_REQ pre_charge_req pre_charge_asked
+    ∷ tells PRE_CHARGE_RES present_voltage pre_charge_told
+    ∷ asks POWER_DELIVERY_REQ delivery_req delivery_asked
+    ∷ tells POWER_DELIVERY_RES delivery_res delivery_told
+    ∷ asks CURRENT_DEMAND_REQ demand_req demand_asked
+    ∷ tells CURRENT_DEMAND_RES demand_res demand_told
+    ∷ asks WELDING_DETECTION_REQ car_alone welding_asked
+    ∷ tells WELDING_DETECTION_RES present_voltage welding_told
+    ∷ asks SESSION_STOP_REQ nothing (λ x. ask.SessionStop false)
+    ∷ tells SESSION_STOP_RES code_alone (λ x. tell.SessionStop)
+    ∷ []
+
+-- ---- the word of a tree
+
+abbrev pub word_by : List Message → ℕ → Inside → Word
+word_by [] name own = word.Nothing
+word_by (m ∷ more) name own = if m.name == name then m.word_in own else word_by more name own
+
+abbrev pub word_named : Option (ℕ × Inside) → Inside → Word
+word_named None own = word.Nothing
+word_named (Some element) own = word_by messages element.0 own
+
+-- by the first element of the body
+abbrev pub word_in : Inside → Word
+word_in own = word_named (first_in (children own BODY)) own
+
+abbrev pub word_of_tree : Tree → Word
+word_of_tree (Simple name value) = word.Nothing
+word_of_tree (Complex name attributes trees) = word_in (Holding attributes trees)
+
+-- ---- the tree of a word, of those that have one
+
+abbrev pub in_message : {X : Type 0} → ℕ → Table rows X → SessionId → X → Option Inside
+in_message name table s x = Some (written (message name table) (framed s x))
+
+abbrev pub in_ask : SessionId → Ask → Option Inside
+in_ask s (ask.SessionSetup car) = in_message SESSION_SETUP_REQ setup_req s (car.items, tt)
+in_ask s ask.ServiceDiscovery = in_message SERVICE_DISCOVERY_REQ nothing s tt
+in_ask s (ask.PaymentSelection external services) = in_message SERVICE_PAYMENT_SELECTION_REQ selection_req s (external, (services.items, tt))
+in_ask s ask.Authorization = in_message CONTRACT_AUTHENTICATION_REQ nothing s tt
+in_ask s (ask.ChargeParameters mode (car.Dc ready soc current watts voltage)) =
+    in_message CHARGE_PARAMETER_DISCOVERY_REQ parameters_req s (mode, (((ready, (soc, tt)), (current, (watts, (voltage, tt)))), tt))
+in_ask s (ask.CableCheck ready soc) = in_message CABLE_CHECK_REQ car_alone s ((ready, (soc, tt)), tt)
+in_ask s (ask.PreCharge ready soc voltage current) =
+    in_message PRE_CHARGE_REQ pre_charge_req s ((ready, (soc, tt)), (voltage, (current, tt)))
+in_ask s (ask.PowerDelivery progress tuple profile) =
+    in_message POWER_DELIVERY_REQ delivery_req s (is_start progress, (profile_if tuple profile, tt))
+in_ask s (ask.CurrentDemand ready soc voltage current) =
+    in_message CURRENT_DEMAND_REQ demand_req s ((ready, (soc, tt)), (current, (voltage, tt)))
+in_ask s (ask.WeldingDetection ready soc) = in_message WELDING_DETECTION_REQ car_alone s ((ready, (soc, tt)), tt)
+in_ask s (ask.SessionStop pause) = in_message SESSION_STOP_REQ nothing s tt
+in_ask s other = None
+
+abbrev pub in_tell : SessionId → Code → Tell → Option Inside
+in_tell s c (tell.SessionSetup (evse.Bytes id)) = in_message SESSION_SETUP_RES setup_res s (c, (id.items, tt))
+in_tell s c (tell.ServiceDiscovery free modes) = in_message SERVICE_DISCOVERY_RES discovery_res s (c, ((free, (first_mode modes.items, tt)), tt))
+in_tell s c tell.PaymentSelection = in_message SERVICE_PAYMENT_SELECTION_RES code_alone s (c, tt)
+in_tell s c (tell.Authorization processing) = in_message CONTRACT_AUTHENTICATION_RES authorization_res s (c, (processing, tt))
+in_tell s c (tell.ChargeParameters processing schedule (limits.Dc status current watts voltage least_current least_voltage ripple)) =
+    in_message CHARGE_PARAMETER_DISCOVERY_RES parameters_res s (c, (processing, (option_map (λ tuples. tuples.items) schedule,
+    ((status, (current, (watts, (voltage, (least_current, (least_voltage, (ripple, tt))))))), tt))))
+in_tell s c (tell.CableCheck status processing) = in_message CABLE_CHECK_RES cable_check_res s (c, (status, (processing, tt)))
+in_tell s c (tell.PreCharge status voltage) = in_message PRE_CHARGE_RES present_voltage s (c, (status, (voltage, tt)))
+in_tell s c (tell.PowerDelivery (post.Dc status)) = in_message POWER_DELIVERY_RES delivery_res s (c, (status, tt))
+in_tell s c (tell.CurrentDemand status voltage current current_cut voltage_cut watts_cut most_voltage most_current most_watts id) =
+    in_message CURRENT_DEMAND_RES demand_res s
+    (c, (status, (voltage, (current, (current_cut, (voltage_cut, (watts_cut, (most_voltage, (most_current, (most_watts, tt))))))))))
+in_tell s c (tell.WeldingDetection status voltage) = in_message WELDING_DETECTION_RES present_voltage s (c, (status, (voltage, tt)))
+in_tell s c tell.SessionStop = in_message SESSION_STOP_RES code_alone s (c, tt)
+in_tell s c other = None
+
+abbrev pub in_word : Word → Option Inside
+in_word (word.Request r) = in_ask r.session r.ask
+in_word (word.Reply r) = in_tell r.session r.code r.tell
+in_word word.Nothing = None
+
+-- the tree with this inside
+abbrev pub root : Inside → Tree
+root own = root_of V2G_MESSAGE own
