@@ -98,8 +98,16 @@ in_tell s c (tell.ServiceDiscovery free modes) = in_message SERVICE_DISCOVERY_RE
 in_tell s c tell.PaymentSelection = in_message SERVICE_PAYMENT_SELECTION_RES code_alone s (c, tt)
 in_tell s c (tell.Authorization processing) = in_message CONTRACT_AUTHENTICATION_RES authorization_res s (c, (processing, tt))
 in_tell s c (tell.ChargeParameters processing schedule (limits.Dc status current watts voltage least_current least_voltage ripple)) =
-    in_message CHARGE_PARAMETER_DISCOVERY_RES parameters_res s (c, (processing, (option_map (λ tuples. tuples.items) schedule,
-    ((status, (current, (watts, (voltage, (least_current, (least_voltage, (ripple, tt))))))), tt))))
+    in_message CHARGE_PARAMETER_DISCOVERY_RES parameters_res s (
+      c,
+      (
+        processing,
+        (
+          option_map (λ tuples. tuples.items) schedule,
+          ((status, (current, (watts, (voltage, (least_current, (least_voltage, (ripple, tt))))))), tt),
+        ),
+      ),
+    )
 in_tell s c (tell.CableCheck status processing) = in_message CABLE_CHECK_RES cable_check_res s (c, (status, (processing, tt)))
 in_tell s c (tell.PreCharge status voltage) = in_message PRE_CHARGE_RES present_voltage s (c, (status, (voltage, tt)))
 in_tell s c (tell.PowerDelivery (post.Dc status)) = in_message POWER_DELIVERY_RES delivery_res s (c, (status, tt))

@@ -4,7 +4,7 @@
 //! declarations have there, and what has to be there has a row.
 #![tactic(auto)]
 
-ghost use Rattle.std.specs.Prelude.{◌≡◌, ◌≤◌, nat_le, true, length};
+ghost use Rattle.std.specs.Prelude.{◌≡◌, nat_le, true, length};
 ghost use Rattle.std.specs.List.{list_all};
 ghost use Rattle.din_tables.specs.Words.{messages};
 

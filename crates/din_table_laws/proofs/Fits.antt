@@ -1,0 +1,316 @@
+-- What is written for words fits what DIN SPEC 70121:2014 declares, and is short.
+use Rattle.std.proofs.Common.{◌≡◌, ℕ, zero, suc, ◌+◌, ◌*◌, ◌<◌, ◌≤◌, map, length, All, Bool, true, false, ℤ, pos, List, [], ◌∷◌, Option, Some, None, refl, arith, lit<, lit≤}
+use Rattle.std.specs.Prelude.{IfSome}
+use Rattle.std.specs.List.{AllByRecursion, range_with_len}
+use Rattle.std.specs.Option.{option_map}
+use Rattle.std.proofs.lemmas.Int.{ints}
+use Rattle.std.proofs.lemmas.List.FromFn.{length-map-range_with_len}
+use Rattle.arrayvec.specs.ArrayVec.{ArrayVec}
+use Rattle.exi_documents.specs.Trees.{Number}
+use Rattle.exi_documents.specs.Values.{IsValue}
+use Rattle.exi_schema.specs.declared.tables.Datatype.TheVariants.{Bounded}
+use Rattle.message_parts.specs.Contents.{Inside}
+use Rattle.charge_world.specs.declared.heard.IsolationLevel.{IsolationLevel}
+use Rattle.charge_world.specs.declared.heard.IsolationLevel.TheVariants as level
+use Rattle.session_words.specs.declared.amount.Amount.{Amount}
+use Rattle.session_words.specs.declared.code.Code.{Code}
+use Rattle.session_words.specs.declared.code.Code.TheVariants as code
+use Rattle.session_words.specs.declared.code.Notify.{Notify}
+use Rattle.session_words.specs.declared.code.Notify.TheVariants as notify
+use Rattle.session_words.specs.declared.code.Processing.{Processing}
+use Rattle.session_words.specs.declared.code.Processing.TheVariants as processing
+use Rattle.session_words.specs.declared.code.StatusCode.{StatusCode}
+use Rattle.session_words.specs.declared.code.StatusCode.TheVariants as status
+use Rattle.session_words.specs.declared.limits.CarLimits.TheVariants as car
+use Rattle.session_words.specs.declared.limits.DcStatus.{DcStatus}
+use Rattle.session_words.specs.declared.limits.EvseId.TheVariants as evse
+use Rattle.session_words.specs.declared.limits.PostLimits.TheVariants as limits
+use Rattle.session_words.specs.declared.limits.PostStatus.TheVariants as post
+use Rattle.session_words.specs.declared.limits.Tuple.{Tuple}
+use Rattle.session_words.specs.declared.mode.Mode.{Mode}
+use Rattle.session_words.specs.declared.mode.Mode.TheVariants as mode
+use Rattle.session_words.specs.declared.mode.OfferedMode.{OfferedMode}
+use Rattle.session_words.specs.declared.mode.OfferedMode.TheVariants as offered
+use Rattle.session_words.specs.declared.session.SessionId.{SessionId}
+use Rattle.session_words.specs.declared.word.Ask.{Ask}
+use Rattle.session_words.specs.declared.word.Ask.TheVariants as ask
+use Rattle.session_words.specs.declared.word.Tell.{Tell}
+use Rattle.session_words.specs.declared.word.Tell.TheVariants as tell
+use Rattle.session_words.specs.declared.word.Word.{Word}
+use Rattle.session_words.specs.declared.word.Word.TheVariants as word
+use Rattle.word_values.specs.declared.amounts.Written.{Written}
+use Rattle.word_values.specs.Amounts.{written_tenths, written_watts}
+use Rattle.written_parts.proofs.Items.{head, tail, bytes_fit}
+use Rattle.written_parts.proofs.Numbers.{IsPhysical, tenths_fit, watts_fit, value_few}
+use Rattle.din_schema.specs.Declarations.{kinds}
+use Rattle.din_schema.specs.declared.kinds.TheConstants.{V2G_MESSAGE_KIND}
+use Rattle.din_schema.specs.declared.names.TheConstants.{SESSION_SETUP_REQ, SESSION_SETUP_RES, SERVICE_DISCOVERY_REQ, SERVICE_DISCOVERY_RES, SERVICE_PAYMENT_SELECTION_REQ, SERVICE_PAYMENT_SELECTION_RES, CONTRACT_AUTHENTICATION_REQ, CONTRACT_AUTHENTICATION_RES, CHARGE_PARAMETER_DISCOVERY_REQ, CHARGE_PARAMETER_DISCOVERY_RES, CABLE_CHECK_REQ, CABLE_CHECK_RES, PRE_CHARGE_REQ, PRE_CHARGE_RES, POWER_DELIVERY_REQ, POWER_DELIVERY_RES, CURRENT_DEMAND_REQ, CURRENT_DEMAND_RES, WELDING_DETECTION_REQ, WELDING_DETECTION_RES, SESSION_STOP_REQ, SESSION_STOP_RES}
+use Rattle.fitting_parts.specs.Fitting.{HoldsTrees}
+use Rattle.document_sizes.specs.Sizes.{inside_weight}
+use Rattle.din_word_messages.specs.Spellable.{AreTenths, AreWatts, AreFewWatts, IsService, IsCharge, CanProfile, CanTuple, CanTuples, CanAsk, CanTell, CanSession, CanSpell}
+use Rattle.word_tables.specs.Tables.{Table, rows, nothing, written}
+use Rattle.word_tables.specs.Fitting.{CanWrite, fits, bits}
+use Rattle.word_tables.proofs.Fitting.{table_holds}
+use Rattle.word_tables.proofs.Sizes.{table_small}
+use Rattle.din_tables.specs.Codes.{isolation, level_number, notify_number, status_number, code_number, processing_number, mode_number, offered_number, payment_number}
+use Rattle.din_tables.specs.Values.{unit_if, spelled, physical, current, voltage, power, car_status, post_status}
+use Rattle.din_tables.specs.Frame.{message, framed}
+use Rattle.din_tables.specs.Setup.{code_alone, setup_req, setup_res, discovery_res, first_mode, selection_req, service, authorization_res}
+use Rattle.din_tables.specs.Power.{car_alone, present_voltage, cable_check_res, pre_charge_req, profile, delivery_req, is_start, profile_if, delivery_res, demand_req, demand_res}
+use Rattle.din_tables.specs.Parameters.{parameters_req, schedule_entry, entries_of, tuple, schedules, parameters_res}
+use Rattle.din_tables.specs.Words.{in_ask, in_tell, in_word}
+
+-- ---- amounts
+
+unit_fits : (right : Bool) → IfSome (unit_if right) (λ u. u < 10)
+unit_fits true = tt
+unit_fits false = lit< tt
+
+spelled_fits : (w : Written) (right : Bool) → IsPhysical w.multiplier w.value → CanWrite kinds physical (spelled w right)
+spelled_fits w right p = (p.multiplier_fits, (unit_fits right, (p.value_fits, tt)))
+
+current_fits : (a : Amount) → AreTenths a → CanWrite kinds current a
+current_fits a h = spelled_fits (written_tenths a.size) a.right (tenths_fit a.size h)
+
+voltage_fits : (a : Amount) → AreTenths a → CanWrite kinds voltage a
+voltage_fits a h = spelled_fits (written_tenths a.size) a.right (tenths_fit a.size h)
+
+power_fits : (a : Amount) → AreWatts a → CanWrite kinds power a
+power_fits a h = spelled_fits (written_watts a.size) a.right (watts_fit a.size h)
+
+if_fits : {X : Type 0} (P Q : X → Type 0) → ((x : X) → P x → Q x) → (o : Option X) → IfSome o P → IfSome o Q
+if_fits P Q gives None h = tt
+if_fits P Q gives (Some x) h = gives x h
+
+powers_fit : (o : Option Amount) → IfSome o AreWatts → IfSome o (λ a. CanWrite kinds power a)
+powers_fit o h = if_fits AreWatts (λ a. CanWrite kinds power a) power_fits o h
+
+-- ---- enumerations
+
+level_small : (l : IsolationLevel) → level_number l < 4
+level_small level.Invalid = lit< tt
+level_small other = lit< tt
+
+notify_small : (n : Notify) → notify_number n < 3
+notify_small notify.None = lit< tt
+notify_small other = lit< tt
+
+status_small : (c : StatusCode) → status_number c < 12
+status_small status.EvseReady = lit< tt
+status_small other = lit< tt
+
+code_small : (c : Code) → code_number c < 23
+code_small code.Ok = lit< tt
+code_small other = lit< tt
+
+step_small : (p : Processing) → processing_number p < 2
+step_small processing.Finished = lit< tt
+step_small other = lit< tt
+
+mode_small : (m : Mode) → mode_number m < 6
+mode_small mode.DcCore = lit< tt
+mode_small other = lit< tt
+
+offered_small : (m : OfferedMode) → offered_number m < 10
+offered_small offered.DcCore = lit< tt
+offered_small other = lit< tt
+
+payment_small : (external : Bool) → payment_number external < 2
+payment_small true = lit< tt
+payment_small false = lit< tt
+
+-- ---- statuses
+
+charge_fits : (soc : ℕ) → soc ≤ 100 → IsValue (Bounded (pos 0) 101) (Number (pos soc))
+charge_fits soc h = (soc, omega arith, omega (arith, ints))
+
+car_fits : (ready : Bool) (soc : ℕ) → IsCharge soc → CanWrite kinds car_status (ready, (soc, tt))
+car_fits ready soc h = (tt, (lit< tt, (charge_fits soc h, tt)))
+
+levels_fit : (o : Option IsolationLevel) → IfSome o (λ l. CanWrite kinds isolation l)
+levels_fit None = tt
+levels_fit (Some l) = level_small l
+
+status_fits : (s : DcStatus) → CanWrite kinds post_status s
+status_fits s = (levels_fit s.isolation, (status_small s.code, (lit≤ tt, (notify_small s.notify, tt))))
+
+-- ---- lists
+
+services_fit : (ns : List ℕ) → All IsService ns → AllByRecursion (λ n. CanWrite kinds service n) ns
+services_fit [] all = tt
+services_fit (n ∷ ns) all = ((head IsService n ns all, tt), services_fit ns (tail IsService n ns all))
+
+profile_fits : (id : Option ℤ) (a : Option Amount) → CanProfile id a → IfSome (profile_if id a) (λ p. CanWrite kinds profile p)
+profile_fits None None can = tt
+profile_fits (Some id) (Some a) can = (can.0, (lit≤ tt, lit≤ tt, ((lit≤ tt, (value_few a.size can.1.few, tt)), tt), tt))
+profile_fits (Some id) None can = absurd can
+profile_fits None (Some a) can = absurd can
+
+entries_fit : (a : Amount) → a.size ≤ 32767 → (start n : ℕ) → start + n ≤ 128
+    → AllByRecursion (λ e. CanWrite kinds schedule_entry e) (map (λ k. ((k, tt), (a, tt))) (range_with_len start n))
+entries_fit a few start zero h = tt
+entries_fit a few start (suc n) h = (((omega arith, (lit≤ tt, tt)), (value_few a.size few, tt)), entries_fit a few (start + 1) n (omega arith))
+
+tuple_fits : (t : Tuple) → CanTuple t → CanWrite kinds tuple t
+tuple_fits t can =
+    let count : length (entries_of t) ≡ t.entries = length-map-range_with_len (λ k. ((k, tt), (t.least, tt))) 0 t.entries in
+    let some : 1 ≤ t.entries = can.entries.0 in
+    let few : t.entries ≤ 128 = can.entries.1 in
+    (can.id, ((value_few 1 (lit≤ tt), (omega arith, omega arith, entries_fit t.least can.least.few 0 t.entries (omega arith), tt)), tt))
+
+tuples_fit : (ts : List Tuple) → All CanTuple ts → AllByRecursion (λ t. CanWrite kinds tuple t) ts
+tuples_fit [] all = tt
+tuples_fit (t ∷ ts) all = (tuple_fits t (head CanTuple t ts all), tuples_fit ts (tail CanTuple t ts all))
+
+schedules_fit : (o : Option (ArrayVec Tuple)) → IfSome o CanTuples → IfSome (option_map (λ v. v.items) o) (λ ts. CanWrite kinds schedules ts)
+schedules_fit None can = tt
+schedules_fit (Some v) can = (can.0.0, can.0.1, tuples_fit v.items can.1, tt)
+
+-- ---- messages
+
+frame_fits : {X : Type 0} (name : ℕ) (t : Table rows X) (s : SessionId) (x : X) → CanSession s → CanWrite kinds t x → CanWrite kinds (message name t) (framed s x)
+frame_fits name t s x named can = ((bytes_fit 8 s.bytes.items named.0 named.1, tt), ((can, tt), tt))
+
+-- it holds what is declared, and has so many bits at most
+pub record IsGood (most : ℕ) (own : Inside) : Type 0 where
+  pub holds : HoldsTrees kinds V2G_MESSAGE_KIND own
+  pub few : inside_weight 6 own ≤ most
+
+good : {X : Type 0} (most name : ℕ) (t : Table rows X) (s : SessionId) (x : X) → fits kinds (message name t) V2G_MESSAGE_KIND ≡ true
+    → bits 6 kinds (message name t) ≤ most → CanSession s → CanWrite kinds t x → IsGood most (written (message name t) (framed s x))
+good most name t s x fit few named can =
+    let whole = frame_fits name t s x named can in
+    let small = table_small 6 kinds (message name t) (framed s x) whole in
+    record { holds = table_holds kinds (message name t) V2G_MESSAGE_KIND (framed s x) fit whole; few = omega arith }
+
+abbrev pub AreGood : ℕ → Option Inside → Type 0
+AreGood most own = IfSome own (IsGood most)
+
+abbrev pub asked_bits : Ask → ℕ
+asked_bits (ask.PowerDelivery _ _ _) = 8000
+asked_bits _ = 2000
+
+abbrev pub told_bits : Tell → ℕ
+told_bits (tell.ChargeParameters _ _ _) = 160000
+told_bits _ = 2000
+
+abbrev pub most_bits : Word → ℕ
+most_bits (word.Request r) = asked_bits r.ask
+most_bits (word.Reply r) = told_bits r.tell
+most_bits word.Nothing = 0
+
+ask_good : (s : SessionId) (a : Ask) → CanSession s → CanAsk a → AreGood (asked_bits a) (in_ask s a)
+ask_good s (ask.SessionSetup car) named can =
+    good 2000 SESSION_SETUP_REQ setup_req s (car.items, tt) refl (lit≤ tt) named (bytes_fit 8 car.items can.0 can.1, tt)
+ask_good s ask.ServiceDiscovery named can = good 2000 SERVICE_DISCOVERY_REQ nothing s tt refl (lit≤ tt) named tt
+ask_good s (ask.ServiceDetail _) named can = tt
+ask_good s (ask.PaymentSelection external services) named can =
+    good 2000 SERVICE_PAYMENT_SELECTION_REQ selection_req s (external, (services.items, tt)) refl (lit≤ tt) named
+    (payment_small external, ((can.0.0, can.0.1, services_fit services.items can.1, tt), tt))
+ask_good s ask.Authorization named can = good 2000 CONTRACT_AUTHENTICATION_REQ nothing s tt refl (lit≤ tt) named tt
+ask_good s (ask.ChargeParameters mode (car.Ac _ _ _)) named can = tt
+ask_good s (ask.ChargeParameters mode (car.Dc ready soc a w v)) named can =
+    good 2000 CHARGE_PARAMETER_DISCOVERY_REQ parameters_req s (mode, (((ready, (soc, tt)), (a, (w, (v, tt)))), tt)) refl (lit≤ tt) named
+    (mode_small mode, ((car_fits ready soc can.0, (current_fits a can.1, (powers_fit w can.2, (voltage_fits v can.3, tt)))), tt))
+ask_good s (ask.CableCheck ready soc) named can =
+    good 2000 CABLE_CHECK_REQ car_alone s ((ready, (soc, tt)), tt) refl (lit≤ tt) named (car_fits ready soc can, tt)
+ask_good s (ask.PreCharge ready soc v a) named can =
+    good 2000 PRE_CHARGE_REQ pre_charge_req s ((ready, (soc, tt)), (v, (a, tt))) refl (lit≤ tt) named
+    (car_fits ready soc can.0, (voltage_fits v can.1, (current_fits a can.2, tt)))
+ask_good s (ask.PowerDelivery progress tuple watts) named can =
+    good 8000 POWER_DELIVERY_REQ delivery_req s (is_start progress, (profile_if tuple watts, tt)) refl (lit≤ tt) named
+    (tt, (profile_fits tuple watts can.1, tt))
+ask_good s (ask.CurrentDemand ready soc v a) named can =
+    good 2000 CURRENT_DEMAND_REQ demand_req s ((ready, (soc, tt)), (a, (v, tt))) refl (lit≤ tt) named
+    (car_fits ready soc can.0, (current_fits a can.2, (tt, (voltage_fits v can.1, tt))))
+ask_good s ask.ChargingStatus named can = tt
+ask_good s (ask.WeldingDetection ready soc) named can =
+    good 2000 WELDING_DETECTION_REQ car_alone s ((ready, (soc, tt)), tt) refl (lit≤ tt) named (car_fits ready soc can, tt)
+ask_good s (ask.SessionStop pause) named can = good 2000 SESSION_STOP_REQ nothing s tt refl (lit≤ tt) named tt
+
+tell_good : (s : SessionId) (c : Code) (t : Tell) → CanSession s → CanTell t → AreGood (told_bits t) (in_tell s c t)
+tell_good s c (tell.SessionSetup (evse.Bytes id)) named can =
+    good 2000 SESSION_SETUP_RES setup_res s (c, (id.items, tt)) refl (lit≤ tt) named (code_small c, (bytes_fit 32 id.items can.0 can.1, tt))
+tell_good s c (tell.SessionSetup (evse.Text id)) named can = tt
+tell_good s c (tell.ServiceDiscovery free modes) named can =
+    good 2000 SERVICE_DISCOVERY_RES discovery_res s (c, ((free, (first_mode modes.items, tt)), tt)) refl (lit≤ tt) named
+    (code_small c, ((lit< tt, tt), (((lit≤ tt, (lit< tt, tt)), (tt, (offered_small (first_mode modes.items), tt))), tt)))
+tell_good s c (tell.ServiceDetail _) named can = tt
+tell_good s c tell.PaymentSelection named can =
+    good 2000 SERVICE_PAYMENT_SELECTION_RES code_alone s (c, tt) refl (lit≤ tt) named (code_small c, tt)
+tell_good s c (tell.Authorization p) named can =
+    good 2000 CONTRACT_AUTHENTICATION_RES authorization_res s (c, (p, tt)) refl (lit≤ tt) named (code_small c, (step_small p, tt))
+tell_good s c (tell.ChargeParameters p schedule (limits.Ac _ _ _)) named can = tt
+tell_good s c (tell.ChargeParameters p schedule (limits.Dc status a w v la lv ripple)) named can =
+    good 160000 CHARGE_PARAMETER_DISCOVERY_RES parameters_res s
+    (c, (p, (option_map (λ tuples. tuples.items) schedule, ((status, (a, (w, (v, (la, (lv, (ripple, tt))))))), tt)))) refl (lit≤ tt) named (
+      code_small c,
+      (
+        step_small p,
+        (
+          schedules_fit schedule can.1,
+          (
+            (
+              status_fits status,
+              (
+                current_fits a can.2.1,
+                (
+                  powers_fit w can.2.2,
+                  (
+                    voltage_fits v can.2.3,
+                    (current_fits la can.2.4, (voltage_fits lv can.2.5, (current_fits ripple can.2.6, tt))),
+                  ),
+                ),
+              ),
+            ),
+            tt,
+          ),
+        ),
+      ),
+    )
+tell_good s c (tell.CableCheck status p) named can =
+    good 2000 CABLE_CHECK_RES cable_check_res s (c, (status, (p, tt))) refl (lit≤ tt) named (code_small c, (status_fits status, (step_small p, tt)))
+tell_good s c (tell.PreCharge status v) named can =
+    good 2000 PRE_CHARGE_RES present_voltage s (c, (status, (v, tt))) refl (lit≤ tt) named (code_small c, (status_fits status, (voltage_fits v can.1, tt)))
+tell_good s c (tell.PowerDelivery (post.Ac notify)) named can = tt
+tell_good s c (tell.PowerDelivery (post.Dc status)) named can =
+    good 2000 POWER_DELIVERY_RES delivery_res s (c, (status, tt)) refl (lit≤ tt) named (code_small c, (status_fits status, tt))
+tell_good s c (tell.CurrentDemand status v a a_cut v_cut w_cut most_v most_a most_w id) named can =
+    good 2000 CURRENT_DEMAND_RES demand_res s (c, (status, (v, (a, (a_cut, (v_cut, (w_cut, (most_v, (most_a, (most_w, tt)))))))))) refl (lit≤ tt) named (
+      code_small c,
+      (
+        status_fits status,
+        (
+          voltage_fits v can.1,
+          (
+            current_fits a can.2,
+            (
+              tt,
+              (
+                tt,
+                (
+                  tt,
+                  (
+                    if_fits AreTenths (λ x. CanWrite kinds voltage x) voltage_fits most_v can.3,
+                    (
+                      if_fits AreTenths (λ x. CanWrite kinds current x) current_fits most_a can.4,
+                      (powers_fit most_w can.5, tt),
+                    ),
+                  ),
+                ),
+              ),
+            ),
+          ),
+        ),
+      ),
+    )
+tell_good s c (tell.ChargingStatus _ _ _) named can = tt
+tell_good s c (tell.WeldingDetection status v) named can =
+    good 2000 WELDING_DETECTION_RES present_voltage s (c, (status, (v, tt))) refl (lit≤ tt) named
+    (code_small c, (status_fits status, (voltage_fits v can.1, tt)))
+tell_good s c tell.SessionStop named can = good 2000 SESSION_STOP_RES code_alone s (c, tt) refl (lit≤ tt) named (code_small c, tt)
+
+pub word_good : (w : Word) → CanSpell w → AreGood (most_bits w) (in_word w)
+word_good (word.Request r) can = ask_good r.session r.ask can.0 can.1
+word_good (word.Reply r) can = tell_good r.session r.code r.tell can.0 can.2
+word_good word.Nothing can = tt
