@@ -1,5 +1,5 @@
 -- What is read of what was written of values of DIN SPEC 70121:2014 is the value, but for watts that are dropped.
-use Rattle.std.proofs.Common.{◌≡◌, ℕ, zero, suc, ◌≤◌, min, max, fold, map, length, All, ℤ, Bool, true, false, IsTrue, List, [], ◌∷◌, Option, Some, None, refl, sym, ◌∙◌, ap, ap₂, arith}
+use Rattle.std.proofs.Common.{◌≡◌, ℕ, zero, suc, ◌≤◌, min, max, fold, map, length, All, Bool, true, false, IsTrue, List, [], ◌∷◌, Option, Some, None, refl, sym, ◌∙◌, ap, ap₂, arith}
 use Rattle.std.specs.Prelude.{IfSome}
 use Rattle.std.specs.List.{range_with_len}
 use Rattle.std.specs.Option.{option_map}
@@ -141,13 +141,15 @@ profile_back p h =
 
 -- ---- schedules
 
-sizes_same : (a : Amount) (starts : List ℕ) → fold min a.size (map (λ e. e.1.0.size) (map (λ y. back schedule_entry y) (map (λ k. ((k, tt), (a, tt))) starts))) ≡ a.size
+sizes_same : (a : Amount) (starts : List ℕ)
+    → fold min a.size (map (λ e. e.1.0.size) (map (λ y. back schedule_entry y) (map (λ k. ((k, tt), (a, tt))) starts))) ≡ a.size
 sizes_same a [] = refl
 sizes_same a (k ∷ ks) =
     let one : min a.size a.size ≡ a.size = omega arith in
     ap (λ x. fold min x (map (λ e. e.1.0.size) (map (λ y. back schedule_entry y) (map (λ k. ((k, tt), (a, tt))) ks)))) one ∙ sizes_same a ks
 
-least_back : (a : Amount) (n : ℕ) → 1 ≤ n → least_of (map (λ e. e.1.0.size) (map (λ y. back schedule_entry y) (map (λ k. ((k, tt), (a, tt))) (range_with_len 0 n)))) ≡ a.size
+least_back : (a : Amount) (n : ℕ) → 1 ≤ n
+    → least_of (map (λ e. e.1.0.size) (map (λ y. back schedule_entry y) (map (λ k. ((k, tt), (a, tt))) (range_with_len 0 n)))) ≡ a.size
 least_back a zero h = absurd (omega arith)
 least_back a (suc n) h = sizes_same a (range_with_len 1 n)
 

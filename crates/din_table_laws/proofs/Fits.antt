@@ -1,5 +1,5 @@
 -- What is written for words fits what DIN SPEC 70121:2014 declares, and is short.
-use Rattle.std.proofs.Common.{◌≡◌, ℕ, zero, suc, ◌+◌, ◌*◌, ◌<◌, ◌≤◌, map, length, All, Bool, true, false, ℤ, pos, List, [], ◌∷◌, Option, Some, None, refl, arith, lit<, lit≤}
+use Rattle.std.proofs.Common.{◌≡◌, ℕ, zero, suc, ◌+◌, ◌<◌, ◌≤◌, map, length, All, Bool, true, false, ℤ, pos, List, [], ◌∷◌, Option, Some, None, refl, arith, lit<, lit≤}
 use Rattle.std.specs.Prelude.{IfSome}
 use Rattle.std.specs.List.{AllByRecursion, range_with_len}
 use Rattle.std.specs.Option.{option_map}
@@ -47,7 +47,7 @@ use Rattle.din_schema.specs.declared.kinds.TheConstants.{V2G_MESSAGE_KIND}
 use Rattle.din_schema.specs.declared.names.TheConstants.{SESSION_SETUP_REQ, SESSION_SETUP_RES, SERVICE_DISCOVERY_REQ, SERVICE_DISCOVERY_RES, SERVICE_PAYMENT_SELECTION_REQ, SERVICE_PAYMENT_SELECTION_RES, CONTRACT_AUTHENTICATION_REQ, CONTRACT_AUTHENTICATION_RES, CHARGE_PARAMETER_DISCOVERY_REQ, CHARGE_PARAMETER_DISCOVERY_RES, CABLE_CHECK_REQ, CABLE_CHECK_RES, PRE_CHARGE_REQ, PRE_CHARGE_RES, POWER_DELIVERY_REQ, POWER_DELIVERY_RES, CURRENT_DEMAND_REQ, CURRENT_DEMAND_RES, WELDING_DETECTION_REQ, WELDING_DETECTION_RES, SESSION_STOP_REQ, SESSION_STOP_RES}
 use Rattle.fitting_parts.specs.Fitting.{HoldsTrees}
 use Rattle.document_sizes.specs.Sizes.{inside_weight}
-use Rattle.din_word_messages.specs.Spellable.{AreTenths, AreWatts, AreFewWatts, IsService, IsCharge, CanProfile, CanTuple, CanTuples, CanAsk, CanTell, CanSession, CanSpell}
+use Rattle.din_word_messages.specs.Spellable.{AreTenths, AreWatts, IsService, IsCharge, CanProfile, CanTuple, CanTuples, CanAsk, CanTell, CanSession, CanSpell}
 use Rattle.word_tables.specs.Tables.{Table, rows, nothing, written}
 use Rattle.word_tables.specs.Fitting.{CanWrite, fits, bits}
 use Rattle.word_tables.proofs.Fitting.{table_holds}

@@ -1,20 +1,15 @@
 -- The tree of a word of DIN SPEC 70121:2014 reads as that word, but for the watts that are dropped.
-use Rattle.std.proofs.Common.{◌≡◌, ℕ, Bool, true, false, List, ℤ, Option, Some, None, IsTrue, refl, ◌∙◌, ap, ap₂}
+use Rattle.std.proofs.Common.{◌≡◌, ℕ, true, false, ℤ, Option, Some, None, IsTrue, refl, ◌∙◌, ap, ap₂}
 use Rattle.std.specs.Option.{option_map}
-use Rattle.arrayvec.specs.ArrayVec.{ArrayVec}
 use Rattle.message_parts.specs.Contents.{Inside}
 use Rattle.post_spec.specs.Spelled.{dropped, dropped_tell}
 use Rattle.session_words.specs.declared.amount.Amount.{Amount}
 use Rattle.session_words.specs.declared.code.Code.{Code}
-use Rattle.session_words.specs.declared.code.Processing.{Processing}
 use Rattle.session_words.specs.declared.code.Progress.{Progress}
 use Rattle.session_words.specs.declared.limits.CarLimits.TheVariants as car
-use Rattle.session_words.specs.declared.limits.DcStatus.{DcStatus}
 use Rattle.session_words.specs.declared.limits.EvseId.TheVariants as evse
-use Rattle.session_words.specs.declared.limits.PostLimits.{PostLimits}
 use Rattle.session_words.specs.declared.limits.PostLimits.TheVariants as limits
 use Rattle.session_words.specs.declared.limits.PostStatus.TheVariants as post
-use Rattle.session_words.specs.declared.limits.Tuple.{Tuple}
 use Rattle.session_words.specs.declared.session.SessionId.{SessionId}
 use Rattle.session_words.specs.declared.word.Ask.{Ask}
 use Rattle.session_words.specs.declared.word.Ask.TheVariants as ask
@@ -30,10 +25,10 @@ use Rattle.din_word_messages.specs.Spellable.{AreTenths, IsDinProgress, CanProfi
 use Rattle.din_schema.specs.declared.names.TheConstants.{SESSION_SETUP_REQ, SESSION_SETUP_RES, SERVICE_DISCOVERY_REQ, SERVICE_DISCOVERY_RES, SERVICE_PAYMENT_SELECTION_REQ, SERVICE_PAYMENT_SELECTION_RES, CONTRACT_AUTHENTICATION_REQ, CONTRACT_AUTHENTICATION_RES, CHARGE_PARAMETER_DISCOVERY_REQ, CHARGE_PARAMETER_DISCOVERY_RES, CABLE_CHECK_REQ, CABLE_CHECK_RES, PRE_CHARGE_REQ, PRE_CHARGE_RES, POWER_DELIVERY_REQ, POWER_DELIVERY_RES, CURRENT_DEMAND_REQ, CURRENT_DEMAND_RES, WELDING_DETECTION_REQ, WELDING_DETECTION_RES, SESSION_STOP_REQ, SESSION_STOP_RES}
 use Rattle.word_tables.specs.Tables.{Table, rows, nothing, written, back, is_apart}
 use Rattle.word_tables.proofs.Reading.{inside_back}
-use Rattle.din_tables.specs.Values.{current, voltage, power}
+use Rattle.din_tables.specs.Values.{current, voltage}
 use Rattle.din_tables.specs.Frame.{message, framed, session_of, asked_in, told_in}
 use Rattle.din_tables.specs.Setup.{code_alone, setup_req, setup_asked, setup_res, setup_told, discovery_res, discovery_told, first_mode, selection_req, selection_asked, authorization_res, authorization_told}
-use Rattle.din_tables.specs.Power.{car_alone, present_voltage, cable_check_asked, cable_check_res, cable_check_told, pre_charge_req, pre_charge_asked, pre_charge_told, profile, delivery_req, progress_of, is_start, delivery_asked, profile_if, delivery_res, delivery_told, demand_req, demand_asked, demand_res, demand_told, welding_asked, welding_told}
+use Rattle.din_tables.specs.Power.{car_alone, present_voltage, cable_check_asked, cable_check_res, cable_check_told, pre_charge_req, pre_charge_asked, pre_charge_told, profile, delivery_req, is_start, delivery_asked, profile_if, delivery_res, delivery_told, demand_req, demand_asked, demand_res, demand_told, welding_asked, welding_told}
 use Rattle.din_tables.specs.Parameters.{parameters_req, parameters_asked, parameters_res, parameters_told}
 use Rattle.din_tables.specs.Words.{word_in, in_ask, in_tell, in_word}
 use Rattle.din_table_laws.proofs.Back.{current_back, voltage_back, powers_back, if_back, status_back, code_back, step_back, mode_back, modes_back, external_back, services_back, progress_back, profile_back, schedules_back, limits_back}

@@ -1,5 +1,5 @@
 -- Own: what payloads of DIN SPEC 70121:2014 mean as words, and the laws of it.
-use Rattle.std.specs.Prelude.{◌≡◌, ℕ, ◌+◌, ◌*◌, ◌≤◌, List, length, Some}
+use Rattle.std.specs.Prelude.{◌≡◌, ℕ, ◌≤◌, List, length, Some}
 use Rattle.exi_documents.specs.Documents.{IsDocument, IsEncoding}
 use Rattle.exi_documents.specs.Trees.{Tree}
 use Rattle.kind_laws.specs.Laws.{HasEncoding}

@@ -1,5 +1,5 @@
 -- DIN SPEC 70121:2014 9.4 (messages of charging): what stands where in them, and what it asks or tells.
-use Rattle.std.specs.Prelude.{ℕ, max, fold, map, ℤ, Bool, true, false, List, [], ◌∷◌, Option, Some, None}
+use Rattle.std.specs.Prelude.{max, fold, map, ℤ, Bool, true, false, List, [], ◌∷◌, Option, Some, None}
 use Rattle.std.specs.Option.{option_map}
 use Rattle.session_words.specs.declared.amount.Amount.{Amount}
 use Rattle.session_words.specs.declared.code.Code.{Code}

@@ -1,5 +1,5 @@
 -- DIN SPEC 70121:2014 9.4 (body): the messages, and by their tables the word of a tree and the tree of a word.
-use Rattle.std.specs.Prelude.{ℕ, ◌==◌, false, if◌then◌else◌, List, [], ◌∷◌, map, Option, Some, None}
+use Rattle.std.specs.Prelude.{ℕ, ◌==◌, false, if◌then◌else◌, List, [], ◌∷◌, Option, Some, None}
 use Rattle.std.specs.Option.{option_map}
 use Rattle.exi_documents.specs.Trees.{Tree, Simple, Complex}
 use Rattle.message_parts.specs.Contents.{Inside, Holding, root_of}

@@ -88,7 +88,8 @@ module _ (kinds : List PlainKind) where
 
   here : (name : ℕ) (copies : PlainParticle → Bool) (fit : ℕ → Bool) (other : List PlainParticle → Bool) (p : Part) (front : Trees → Trees) (rest : Trees)
       → ((parts : List Part) → trees_of (p ∷ parts) ≡ front (trees_of parts))
-      → ((particle : PlainParticle) (kind : ℕ) → kind_among (alternatives particle.members) name ≡ Some kind → copies particle ≡ true → fit kind ≡ true → FitsPart kinds particle p)
+      → ((particle : PlainParticle) (kind : ℕ) → kind_among (alternatives particle.members) name ≡ Some kind → copies particle ≡ true
+      → fit kind ≡ true → FitsPart kinds particle p)
       → ((particles : List PlainParticle) → other particles ≡ true → Holds rows rest particles)
       → (particle : PlainParticle) (particles : List PlainParticle) (later : Bool) → (later ≡ true → Holds rows (front rest) particles)
       → (o : Option ℕ) → kind_among (alternatives particle.members) name ≡ o
@@ -104,7 +105,8 @@ module _ (kinds : List PlainKind) where
 
   next : (name : ℕ) (copies : PlainParticle → Bool) (fit : ℕ → Bool) (other : List PlainParticle → Bool) (p : Part) (front : Trees → Trees) (rest : Trees)
       → ((parts : List Part) → trees_of (p ∷ parts) ≡ front (trees_of parts))
-      → ((particle : PlainParticle) (kind : ℕ) → kind_among (alternatives particle.members) name ≡ Some kind → copies particle ≡ true → fit kind ≡ true → FitsPart kinds particle p)
+      → ((particle : PlainParticle) (kind : ℕ) → kind_among (alternatives particle.members) name ≡ Some kind → copies particle ≡ true
+      → fit kind ≡ true → FitsPart kinds particle p)
       → ((particles : List PlainParticle) → other particles ≡ true → Holds rows rest particles)
       → (particles : List PlainParticle) → fits_next name copies fit other particles ≡ true → Holds rows (front rest) particles
   next name copies fit other p front rest told takes more [] h = absurd cc
@@ -151,15 +153,18 @@ module _ (kinds : List PlainKind) where
 
   -- ---- one of two
 
-  second_fits : {Y : Type 0} (u : Table inside Y) (particle : PlainParticle) (other : ℕ) (fit : ℕ → Bool) (o : Option ℕ) → kind_among (alternatives particle.members) other ≡ o
+  second_fits : {Y : Type 0} (u : Table inside Y) (particle : PlainParticle) (other : ℕ) (fit : ℕ → Bool) (o : Option ℕ)
+      → kind_among (alternatives particle.members) other ≡ o
       → fits_too o fit ≡ true → (y : Y) → ((kind : ℕ) → fit kind ≡ true → HoldsTrees kinds kind (written u y)) → FitsElement kinds particle other (written u y)
   second_fits u particle other fit None e h y own = absurd cc
   second_fits u particle other fit (Some kind) e h y own = (kind, e, own kind h)
 
   either_fits : {X Y : Type 0} (t : Table inside X) (u : Table inside Y) (particle : PlainParticle) (name other kind : ℕ) (fit : ℕ → Bool)
-      → kind_among (alternatives particle.members) name ≡ Some kind → (takes_copies particle 1 && fits_too (kind_among (alternatives particle.members) other) fit) ≡ true
+      → kind_among (alternatives particle.members) name ≡ Some kind
+      → (takes_copies particle 1 && fits_too (kind_among (alternatives particle.members) other) fit) ≡ true
       → (c : X ⊎ Y) → IfEither (λ y. CanWrite kinds t y) (λ y. CanWrite kinds u y) c
-      → ((x : X) → CanWrite kinds t x → HoldsTrees kinds kind (written t x)) → ((k : ℕ) (y : Y) → fit k ≡ true → CanWrite kinds u y → HoldsTrees kinds k (written u y))
+      → ((x : X) → CanWrite kinds t x → HoldsTrees kinds kind (written t x))
+      → ((k : ℕ) (y : Y) → fit k ≡ true → CanWrite kinds u y → HoldsTrees kinds k (written u y))
       → let own = picked name (λ y. written t y) other (λ y. written u y) c in FitsPart kinds particle (one own.0 own.1)
   either_fits t u particle name other kind fit e takes (inl x) can ts us =
       ((kind, e, ts x can), and-l (takes_copies particle 1) (fits_too (kind_among (alternatives particle.members) other) fit) takes)
@@ -171,7 +176,8 @@ module _ (kinds : List PlainKind) where
 
   -- ---- a table
 
-  holds : {s : Sort} {X : Type 0} (t : Table s X) (declared : Declared s) (x : X) → fits kinds t declared ≡ true → CanWrite kinds t x → Holds s (written t x) declared
+  holds : {s : Sort} {X : Type 0} (t : Table s X) (declared : Declared s) (x : X)
+      → fits kinds t declared ≡ true → CanWrite kinds t x → Holds s (written t x) declared
   holds (simple leaf own) kind x h can =
       subst (λ k. HasValue IsValue kinds k (value_of leaf x)) (number_is own kind h) (has_value own (value_of leaf x) (simple_at kinds own) refl can)
   holds (holding t) kind x h can =
@@ -197,7 +203,8 @@ module _ (kinds : List PlainKind) where
       (λ particle kind e takes fit. (
         all_fit t particle name kind e x.0 can.2 (λ y own. holds t kind y fit own),
         ap (takes_copies particle) (length-map x.0 (λ y. written t y))
-            ∙ between particle least most (length x.0) can.0 can.1 (and-l (takes_copies particle least) (takes_copies particle most) takes) (and-r (takes_copies particle least) (takes_copies particle most) takes),
+            ∙ between particle least most (length x.0) can.0 can.1 (and-l (takes_copies particle least) (takes_copies particle most) takes)
+            (and-r (takes_copies particle least) (takes_copies particle most) takes),
       ))
       (λ more fit. holds others more x.1 fit can.3) particles h
   holds (either name t other u others) particles x h can =

@@ -69,7 +69,8 @@ module _ (w : ℕ) (kinds : List PlainKind) where
 
   either_small : {X Y : Type 0} (name other : ℕ) (t : Table inside X) (u : Table inside Y) (c : X ⊎ Y) (more : Trees) (a b rest : ℕ)
       → IfEither (λ y. CanWrite kinds t y) (λ y. CanWrite kinds u y) c
-      → ((x : X) → CanWrite kinds t x → inside_weight w (written t x) ≤ a) → ((y : Y) → CanWrite kinds u y → inside_weight w (written u y) ≤ b) → trees_weight w more ≤ rest
+      → ((x : X) → CanWrite kinds t x → inside_weight w (written t x) ≤ a)
+      → ((y : Y) → CanWrite kinds u y → inside_weight w (written u y) ≤ b) → trees_weight w more ≤ rest
       → trees_weight w (placed (picked name (λ y. written t y) other (λ y. written u y) c) more) ≤ (w + max a b) + rest
   either_small name other t u (inl x) more a b rest can ts us others = let few = ts x can in one_small name (written t x) more (max a b) rest (omega arith) others
   either_small name other t u (inr y) more a b rest can ts us others = let few = us y can in one_small other (written u y) more (max a b) rest (omega arith) others
