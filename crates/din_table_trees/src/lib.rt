@@ -1,14 +1,26 @@
-//! The word of a tree by the tables of DIN SPEC 70121:2014 is that of `din_tree_words`. The function does nothing: its contract is the law.
+//! The word of a tree by the tables of DIN SPEC 70121:2014 is that of `din_tree_words`, so it is the word of the message that is read. Each of
+//! these functions does nothing: its contract is the law.
 //!
-//! Proved: `words_are_those_of_trees`: for any tree both say the same word.
+//! Proved: `words_are_those_of_trees`: for any tree both say the same word; `words_are_those_of_messages`: the word of a message that a
+//! payload is read as is that of the tree which it spells.
 #![tactic(auto)]
 
-ghost use Rattle.std.specs.Prelude.{◌≡◌};
+ghost use Rattle.std.specs.Prelude.{◌≡◌, ℕ, List};
+ghost use Rattle.exi_documents.specs.Documents.{IsDocument};
 ghost use Rattle.exi_documents.specs.Trees.{Tree};
+ghost use Rattle.din_schema.specs.Declarations.{schema};
+ghost use Rattle.din_message.specs.declared.message.DinMessage.{DinMessage};
+ghost use Rattle.din_message.specs.Documents.{IsDin};
+ghost use Rattle.din_words.specs.Words.{word_of};
 ghost use Rattle.din_tables.specs.Words.{word_of_tree};
 ghost use Rattle.din_tree_words.specs.Words.{tree_word};
 
 /// By the tables a tree has the word that it has in `din_tree_words`.
 pub fn words_are_those_of_trees()
     ensures { (tree : Tree) → word_of_tree tree ≡ tree_word tree }
+{}
+
+/// The word of a message that a payload is read as is that of the tree which it spells, by the tables.
+pub fn words_are_those_of_messages()
+    ensures { (payload : List ℕ) (tree : Tree) (m : DinMessage) → IsDocument schema tree payload → IsDin m payload → word_of m ≡ word_of_tree tree }
 {}
