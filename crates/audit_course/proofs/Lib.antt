@@ -1,3 +1,4 @@
 mod Telling
 mod Stepping
+pub mod Shares
 pub mod Causing

@@ -1,3 +1,4 @@
 pub mod Values
 pub mod Changes
 pub mod Coming
+pub mod Asking

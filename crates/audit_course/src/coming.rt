@@ -164,8 +164,8 @@ fn is_unmatched(saying: &Saying) -> bool
 }
 
 impl CourseValues {
-    /// Whether the session has reached its deadline.
-    fn is_due(&self, sessions: &SessionValues) -> bool
+    /// Whether the session has reached its deadline, off what is kept of it.
+    pub fn is_due(&self, sessions: &SessionValues) -> bool
         ensures { (past : List Seen) → AreSeen past sessions.now → (IsTrue result ↔ IsDueNow (course_of self.now).session past) }
     {
         let reached = sessions.reached(is_set_up_in(&self.session));

@@ -133,6 +133,16 @@ fn copied(kept: &Option<SessionId>) -> Option<SessionId>
     }
 }
 
+/// The same session once more, if there is one.
+fn session_copied(session: &Option<TalkValues>) -> Option<TalkValues>
+    ensures { result ≡ session.now }
+{
+    match session {
+        Some(talk) => Some(talk.copied()),
+        None => None,
+    }
+}
+
 /// The paused session that is kept behind the end of this one: one that ends paused (29) leaves its identifier.
 fn kept_by(session: Option<TalkValues>, cause: u8, kept: Option<SessionId>) -> Option<SessionId>
     ensures { result ≡ kept_by (option_map talked_of session) cause kept }
@@ -172,6 +182,22 @@ impl TalkValues {
             pre_charge: None,
             asked: 0,
             lowered: None,
+        }
+    }
+
+    /// The same values once more.
+    fn copied(&self) -> TalkValues
+        ensures { result ≡ self.now }
+    {
+        TalkValues {
+            row: self.row,
+            dialect: self.dialect,
+            session: self.session.copied(),
+            told: self.told,
+            schedule: self.schedule,
+            pre_charge: self.pre_charge,
+            asked: self.asked,
+            lowered: self.lowered,
         }
     }
 
@@ -290,6 +316,18 @@ impl CourseValues {
             kept: None,
             joined: false,
             renew: false,
+        }
+    }
+
+    /// The same values once more.
+    pub fn copied(&self) -> CourseValues
+        ensures { result ≡ self.now }
+    {
+        CourseValues {
+            session: session_copied(&self.session),
+            kept: copied(&self.kept),
+            joined: self.joined,
+            renew: self.renew,
         }
     }
 

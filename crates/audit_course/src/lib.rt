@@ -3,9 +3,11 @@
 //!
 //! Proved: behind each step of a post the values are those that `told_pasts` reads off all its steps (`CourseValues::heard`, `read`, `sent`,
 //! `ended`), where words are judged by the table of `audit_rows`; and off them whether a cause comes with a step (`comes_heard`, `comes_driven`,
-//! `comes_sent`), where it is told which word comes next.
+//! `comes_sent`), where it is told which word comes next, and whether the session has reached its deadline (`CourseValues::is_due`);
+//! and for how many watts a word is shown a share of what the site has (`CourseValues::asks`).
 #![tactic(auto)]
 
+mod asking;
 mod coming;
 mod course;
 mod judging;
