@@ -112,6 +112,20 @@ impl KeptPost {
         }
     }
 
+    /// The same once more.
+    pub fn copied(&self) -> KeptPost
+        ensures { result ≡ self.now }
+    {
+        KeptPost {
+            sessions: self.sessions,
+            contactor: self.contactor,
+            mandate: self.mandate,
+            causes: self.causes,
+            course: self.course.copied(),
+            spelled: self.spelled,
+        }
+    }
+
     /// Behind a hearing, for the post of this number, where this word comes `next`.
     pub fn heard<C: ToldCoded>(
         self,
