@@ -18,7 +18,7 @@ use audit_streams::{ToldReader, ToldStream, ToldWord};
 use session_words::PostPlan;
 
 /// A word as it is kept.
-fn word_told(word: &ToldWord) -> NextWord
+pub(crate) fn word_told(word: &ToldWord) -> NextWord
     ensures { result ≡ word_told word.now }
 {
     match word {
