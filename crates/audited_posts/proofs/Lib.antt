@@ -1,0 +1,4 @@
+pub mod Entries
+mod Streaming
+mod Reading
+mod Passing

@@ -1,0 +1,38 @@
+use Rattle.std.proofs.Common.{refl, List, subst, sym}
+use Rattle.post_spec.specs.Steps.{Seen}
+use Rattle.told_pasts.specs.Site.{Shows}
+use Rattle.faultless_pasts.specs.Faultless.{told_codecs}
+use Rattle.audit_posts.specs.Values as posts
+use Rattle.audit_posts.specs.declared.values.KeptPost.{KeptPost}
+use Rattle.audit_streams.specs.Streams as streams
+use Rattle.audited_posts.proofs.Passing.{Place, passes}
+use Rattle.audited_posts.proofs.posts.AuditedPost.behind.Goals as goal
+
+pub returns : goal.returns
+returns g c limit before behind past steps h even free shown =
+    let all = told_codecs g.R.Coded.negotiates g.R.Coded.reads g.R.Coded.encodes g.R.ToldCoded.responds g.R.ToldCoded.watts in
+    let p : Place = record {
+      c = all;
+      Share = Shows limit before behind;
+      plan = c.args.plan.now;
+      k = c.args.post;
+      past = past;
+      steps = steps;
+      about = record { judged = c.judged-judged.result; shown = c.args.shown; saying = c.answer-saying.result.saying; most = c.answer-saying.result.most; next = c.next_word-next.result };
+      told = c.told_behind-told.result;
+      answer = c.answer-saying.result;
+      stream = c.pass.new.stream;
+      kept = c.behind-self.result;
+      seen_is = h.kept_are.seen_is;
+      saying_is = refl;
+      most_is = refl;
+      next_is = λ later s. c.next_word-next.ensures later s;
+    } in
+    passes p c.args.entry.now (record {
+      judges = c.judged-judged.ensures c.args.plan.now past steps h;
+      shown = shown;
+      says = c.answer-saying.ensures past steps h even;
+      on = c.pass.ensures past (subst (λ (s : List Seen). streams.AreOf all.words c.args.plan.now.dialects.items s c.args.self.now.stream) h.kept_are.seen_is h.stream_are) even free;
+      kept_is = λ later step. c.behind-self.ensures past steps later
+          (subst (λ (v : KeptPost). posts.AreOf all c.args.plan.now c.args.post past steps v) (sym c.copied.ensures) h.kept_are) step;
+    })
