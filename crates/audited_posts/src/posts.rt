@@ -1,6 +1,6 @@
 //! One post.
 
-ghost use Rattle.std.specs.Prelude.{◌<◌, ℕ, List, [], ◌∷◌, IfOk};
+ghost use Rattle.std.specs.Prelude.{◌≡◌, ◌<◌, ◌↔◌, ℕ, List, [], ◌∷◌, IfOk, IsTrue};
 ghost use Rattle.charge_world.specs.declared.entry.Entry.{Entry};
 ghost use Rattle.post_spec.specs.Codecs.{codecs};
 ghost use Rattle.post_spec.specs.Steps.{seen};
@@ -8,11 +8,13 @@ ghost use Rattle.told_pasts.specs.Site.{ToldPost, Shows};
 ghost use Rattle.told_pasts.specs.Steps.{ToldStep, seen_in};
 ghost use Rattle.faultless_pasts.specs.Faultless.{told_codecs};
 ghost use Rattle.audit_course.specs.Asking.{IsShare};
+ghost use Rattle.audit_mandates.specs.Values.{Starts};
 ghost use Rattle.audit_streams.specs.Streams as streams;
 ghost use Rattle.audited_posts.specs.Posts.{AreOf, JudgesAt, ShownAt, SaysAt, IsShort, IsFree, StreamsOn, Passes};
 
 use audit_course::{CourseValues, NextWord, Saying};
 use audit_posts::{About, KeptPost};
+use audit_readings::starts;
 use audit_records::{Answer, answer_in, judged_at_order, judged_at_reply, next_word};
 use audit_streams::{NoMemory, ToldReader, ToldStream};
 use charge_world::Entry;
@@ -33,6 +35,8 @@ pub struct AuditedPost {
 pub struct Passed {
     /// What was kept of the post before.
     pub before: KeptPost,
+    /// PowerDelivery Start was the first word without a reply before.
+    pub starting: bool,
     /// What the entry was about.
     pub about: About,
 }
@@ -171,12 +175,16 @@ impl AuditedPost {
     ) -> Passed
         requires nominal { 0 < plan.now.nominal }
         requires short { IsShort entry.now }
-        ensures { (limit : ℕ) (before behind : List ToldPost) (past : List Entry) (steps : List ToldStep)
+        ensures before { result.before ≡ self.old.kept }
+        ensures starting { (past : List Entry) (steps : List ToldStep) → AreOf (told_codecs R.negotiates R.reads R.encodes R.responds R.watts) plan.now post past steps self.old
+            → (IsTrue result.starting ↔ Starts (told_codecs R.negotiates R.reads R.encodes R.responds R.watts) plan.now steps) }
+        ensures passes { (limit : ℕ) (before behind : List ToldPost) (past : List Entry) (steps : List ToldStep)
             → AreOf (told_codecs R.negotiates R.reads R.encodes R.responds R.watts) plan.now post past steps self.old → streams.IsEven self.old.stream
             → IsFree (told_codecs R.negotiates R.reads R.encodes R.responds R.watts) plan.now post past entry.now
             → ShownAt (told_codecs R.negotiates R.reads R.encodes R.responds R.watts) (Shows limit before behind) plan.now post steps entry.now shown
             → Passes (told_codecs R.negotiates R.reads R.encodes R.responds R.watts) (Shows limit before behind) plan.now post past steps entry.now result.about self.new }
     {
+        let starting = starts::<R>(&self.stream);
         let judged = self.judged::<R>(post, entry);
         let told = self.told_behind(self.asks::<R>(post, plan, entry), shown);
         let Answer { saying, most, .. } = self.answer(reader, post, plan, entry, told);
@@ -191,7 +199,11 @@ impl AuditedPost {
         };
         let before = self.kept.copied();
         self.kept = self.kept.copied().behind::<R>(post, plan, entry, &about);
-        Passed { before, about }
+        Passed {
+            before,
+            starting,
+            about,
+        }
     }
 }
 

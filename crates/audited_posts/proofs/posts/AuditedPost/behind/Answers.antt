@@ -8,8 +8,8 @@ use Rattle.audit_streams.specs.Streams as streams
 use Rattle.audited_posts.proofs.Passing.{Place, passes}
 use Rattle.audited_posts.proofs.posts.AuditedPost.behind.Goals as goal
 
-pub returns : goal.returns
-returns g c limit before behind past steps h even free shown =
+pub returns-clause-passes : goal.returns-clause-passes
+returns-clause-passes g c limit before behind past steps h even free shown =
     let all = told_codecs g.R.Coded.negotiates g.R.Coded.reads g.R.Coded.encodes g.R.ToldCoded.responds g.R.ToldCoded.watts in
     let p : Place = record {
       c = all;
@@ -36,3 +36,6 @@ returns g c limit before behind past steps h even free shown =
       kept_is = λ later step. c.behind-self.ensures past steps later
           (subst (λ (v : KeptPost). posts.AreOf all c.args.plan.now c.args.post past steps v) (sym c.copied.ensures) h.kept_are) step;
     })
+
+pub returns-clause-starting : goal.returns-clause-starting
+returns-clause-starting g c past steps h = c.starts-starting.ensures c.args.plan.now steps h.stream_are
