@@ -13,7 +13,7 @@ use Rattle.v2gtp_frames.proofs.Taking.{taking_shrinks}
 use Rattle.session_rules.specs.Stages.{is_waiting}
 use Rattle.post_spec.specs.Codecs.{Refused, Codecs, judged_word}
 use Rattle.post_spec.specs.Sessions.{session, stream, replies, waits}
-use Rattle.post_spec.specs.Spelled.{AreDetermined}
+use Rattle.post_spec.specs.Spelled.{AreDetermined, JudgesAll}
 use Rattle.post_spec.specs.Steps.{Seen}
 use Rattle.post_spec.specs.Talk.{Exchange, dialect_of}
 use Rattle.post_spec.specs.Words as words
@@ -27,7 +27,6 @@ use Rattle.read_runs.proofs.Counting.{counted}
 use Rattle.coming_causes_open.proofs.Spoken.{Spoke, spoke, chosen_is, DialectAt}
 use Rattle.served_sessions.proofs.Bytes.{AreOctets, fronts}
 use Rattle.next_words.proofs.Order.{in_payloads, read_long, word_there, dialect_here}
-use Rattle.opens_have_reasons.specs.Reasons.{JudgesAll}
 
 -- The words of a stream.
 

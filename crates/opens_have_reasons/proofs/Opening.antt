@@ -30,7 +30,7 @@ use Rattle.post_spec.specs.Contactors as contactors
 use Rattle.post_spec.specs.Course.{Talked, course}
 use Rattle.post_spec.specs.Facts.{now, told_by}
 use Rattle.post_spec.specs.Sessions.{session, stream, waits}
-use Rattle.post_spec.specs.Spelled.{ReadsBack, AreDetermined}
+use Rattle.post_spec.specs.Spelled.{ReadsBack, AreDetermined, JudgesAll}
 use Rattle.post_spec.specs.Steps.{Event, Came as Arrives, Bytes, Gone, Datagram, Plant, Clock, Over, Act, Seen, Reading, Step, Hears, Does, seen_of}
 use Rattle.post_spec.specs.Words.{HeardWord, Fault}
 use Rattle.station_spec.specs.States.{Agenda, Session, State, Spoken, nothing, is_done}
@@ -54,7 +54,6 @@ use Rattle.coming_causes_open.proofs.Spoken.{FaultAt, PayloadAt, word_at}
 use Rattle.served_sessions.proofs.Bytes.{AreHeard, stream_octets}
 use Rattle.standing_causes_open.specs.Standing.{HasCome, CameBefore}
 use Rattle.standing_causes_open.proofs.Coming.{Laws, acted_laws, heard_laws, late_came, cause_came}
-use Rattle.opens_have_reasons.specs.Reasons.{JudgesAll}
 use Rattle.opens_have_reasons.proofs.Judging.{Placed, placed, Following, following}
 
 abbrev pub Came : Codecs → PostPlan → List Step → Type 0

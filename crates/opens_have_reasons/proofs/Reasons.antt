@@ -9,7 +9,7 @@ use Rattle.session_words.specs.declared.plan.SitePlan.{SitePlan}
 use Rattle.post_spec.specs.Causes.{IsCause, IsDue, IsTold, HasLeft, HasCome as HasArrived, IsOver, HasNotSent, HasNotDriven, HasNoMatch, IsWord}
 use Rattle.post_spec.specs.Codecs.{Codecs}
 use Rattle.post_spec.specs.Course.{Talked}
-use Rattle.post_spec.specs.Spelled.{ReadsBack, AreDetermined}
+use Rattle.post_spec.specs.Spelled.{ReadsBack, AreDetermined, JudgesAll}
 use Rattle.post_spec.specs.Sessions.{session, with_seen}
 use Rattle.post_spec.specs.Steps.{Plant, Act, Give, Send, Answer, End, Seen, Did, Reading, Step, Hears, Does, seen_of}
 use Rattle.post_spec.specs.Talk.{Negotiation, OneMore, InSession, Talks}
@@ -32,7 +32,7 @@ use Rattle.standing_causes_open.specs.Standing.{CameBefore, StandsFirst, OpenAtF
 use Rattle.standing_causes_open.proofs.Again.{give_todo}
 use Rattle.standing_causes_open.proofs.Coming.{laws_of, came_on, causes_open}
 use Rattle.next_words.specs.Next.{IsReadNext}
-use Rattle.opens_have_reasons.specs.Reasons.{JudgesAll, IsReasoned, AreReasoned, RunsOpenForReasons, Stands, OpenWhereStanding, EveryCauseOpens}
+use Rattle.opens_have_reasons.specs.Reasons.{IsReasoned, AreReasoned, RunsOpenForReasons, Stands, OpenWhereStanding, EveryCauseOpens}
 use Rattle.opens_have_reasons.proofs.Opening.{Came, All, acted_all, heard_all, lives_in, timing_came, timing_open, done_order, front_came, front_live, event_needs, heard_came, repeats_failed}
 use Rattle.opens_have_reasons.proofs.Reading.{is_live, read_reason}
 use Rattle.opens_have_reasons.proofs.Settling.{acted_part, decides, does_settled, not_both, nothing_left, read_part, steps_order, todo_left}

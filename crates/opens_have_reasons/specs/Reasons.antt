@@ -1,26 +1,19 @@
 -- IEC 61851-1, annex A, and IEC 61851-23; ISO 15118-2:2014, section 8.8: why a contactor is ordered open, and that every cause opens it.
-use Rattle.std.specs.Prelude.{◌≡◌, ℕ, true, List, [], ◌∷◌, ◌++◌, map, Option, ◌⊎◌}
+use Rattle.std.specs.Prelude.{◌≡◌, true, List, [], ◌∷◌, ◌++◌, map, Option, ◌⊎◌}
 use Rattle.charge_world.specs.declared.entry.Entry.{Entry}
-use Rattle.charge_world.specs.declared.offer.Dialect.{Dialect}
 use Rattle.charge_world.specs.declared.ports.Order.TheVariants as order
 use Rattle.session_words.specs.declared.cause.EndCause.{EndCause}
 use Rattle.session_words.specs.declared.plan.PostPlan.{PostPlan}
 use Rattle.session_words.specs.declared.plan.SitePlan.{SitePlan}
-use Rattle.session_words.specs.declared.word.Word.{Word}
 use Rattle.post_spec.specs.Causes.{IsCause}
-use Rattle.post_spec.specs.Codecs.{Judged, Codecs}
+use Rattle.post_spec.specs.Codecs.{Codecs}
 use Rattle.post_spec.specs.Contactors.{live}
-use Rattle.post_spec.specs.Spelled.{ReadsBack, AreDetermined}
+use Rattle.post_spec.specs.Spelled.{ReadsBack, AreDetermined, JudgesAll}
 use Rattle.post_spec.specs.Steps.{Act, Give, Reading, Step, Hears, Does, seen_of}
 use Rattle.station_spec.specs.Sharing.{Post}
 use Rattle.station_spec.specs.Runs.{Rests, IsRun}
 use Rattle.coming_causes_open.specs.Causing.{Repeats, WasAsked, IsOpening}
 use Rattle.standing_causes_open.specs.Standing.{HasCome, CameBefore}
-
--- each payload is judged somehow
-pub record JudgesAll (c : Codecs) : Type 0 where
-  pub negotiates : (offers : List Dialect) (payload : List ℕ) → (judged : Judged) × c.Negotiates offers payload judged
-  pub reads : (dialect : Dialect) (payload : List ℕ) → (word : Option Word) × c.Reads dialect payload word
 
 -- an order to open behind these steps: it repeats one that failed, or the car asked for it, or what ends the session came, there or before in the block
 abbrev pub IsReasoned : Codecs → PostPlan → Option Reading → Act → List Step → Type 0

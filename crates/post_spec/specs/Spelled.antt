@@ -64,3 +64,8 @@ pub record AreDetermined (c : Codecs) : Type 0 where
   pub negotiates : (offers : List Dialect) (payload : List ℕ) (a b : Judged) → c.Negotiates offers payload a → c.Negotiates offers payload b → a ≡ b
   pub reads : (dialect : Dialect) (payload : List ℕ) (a b : Option Word) → c.Reads dialect payload a → c.Reads dialect payload b → a ≡ b
   pub encodes : (dialect : Dialect) (reply : Reply) (a b : List ℕ) → c.Encodes dialect reply a → c.Encodes dialect reply b → a ≡ b
+
+-- each payload is judged somehow
+pub record JudgesAll (c : Codecs) : Type 0 where
+  pub negotiates : (offers : List Dialect) (payload : List ℕ) → (judged : Judged) × c.Negotiates offers payload judged
+  pub reads : (dialect : Dialect) (payload : List ℕ) → (word : Option Word) × c.Reads dialect payload word

@@ -7,7 +7,7 @@
 
 ghost use Rattle.std.specs.Prelude.{◌≤◌, length, take};
 ghost use Rattle.post_spec.specs.Codecs.{codecs};
-ghost use Rattle.post_spec.specs.Spelled.{ReadsBack, AreDetermined};
+ghost use Rattle.post_spec.specs.Spelled.{ReadsBack, AreDetermined, JudgesAll};
 ghost use Rattle.secc_machine.specs.Views.{judged_of};
 ghost use Rattle.site_codec.specs.Judging.{IsJudged, NegotiatesFirst, ChoosesOffered};
 ghost use Rattle.site_codec.specs.Replies.{IsGiven};
@@ -58,4 +58,7 @@ pub trait LawfulCodec: Codec {
 
     /// A payload is judged one way, and a reply has one encoding.
     ghost determined: { AreDetermined (codecs Self.negotiates Self.reads Self.encodes) };
+
+    /// Each payload is judged somehow.
+    ghost judges: { JudgesAll (codecs Self.negotiates Self.reads Self.encodes) };
 }
