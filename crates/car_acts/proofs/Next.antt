@@ -12,10 +12,10 @@ use Rattle.car_spec.specs.States.{State, first_of, first}
 use Rattle.car_spec.specs.States as states
 use Rattle.car_spec.specs.Steps.{Spoken, Act}
 use Rattle.car_spec.specs.Steps as steps
-use Rattle.car_acts.specs.declared.acting.Next.TheVariants as next
+use Rattle.car_acts.specs.declared.choosing.Next.TheVariants as next
 use Rattle.car_acts.specs.declared.deeds.Deed.{Deed}
 use Rattle.car_acts.specs.declared.deeds.Deed.TheVariants.{Dial, Give, Say, Finish, Seek}
-use Rattle.car_acts.specs.Deeds.{act_of, spoken_in, MayTake, IsFrameOf, IsDeed, Prepares, DoesNext, Nexts}
+use Rattle.car_acts.specs.Deeds.{act_of, spoken_in, is_seek, MayTake, IsFrameOf, IsDeed, Prepares, DoesNext, Nexts}
 
 prepared_none : (c : Codecs) (plan : CarPlan) (t : Option states.Todo) (room : List ℕ) → Prepares c plan t room None → t ≡ None
 prepared_none c plan None room h = refl
@@ -38,27 +38,27 @@ deed_done c plan room (states.Call port) (Dial dialed) taken d m = ap steps.Dial
 deed_done c plan room (states.Call port) (Give given) taken d m = absurd d
 deed_done c plan room (states.Call port) (Say n) taken d m = absurd d
 deed_done c plan room (states.Call port) (Finish named) taken d m = absurd d
-deed_done c plan room (states.Call port) Seek taken d m = absurd d
+deed_done c plan room (states.Call port) (Seek datagram) taken d m = absurd d
 deed_done c plan room (states.Drive order) (Dial dialed) taken d m = absurd d
 deed_done c plan room (states.Drive order) (Give given) taken d m = ap steps.Give d
 deed_done c plan room (states.Drive order) (Say n) taken d m = absurd d
 deed_done c plan room (states.Drive order) (Finish named) taken d m = absurd d
-deed_done c plan room (states.Drive order) Seek taken d m = absurd d
+deed_done c plan room (states.Drive order) (Seek datagram) taken d m = absurd d
 deed_done c plan room (states.Speak spoken) (Dial dialed) taken d m = absurd d
 deed_done c plan room (states.Speak spoken) (Give given) taken d m = absurd d
 deed_done c plan room (states.Speak spoken) (Say n) taken d m = said_done c plan spoken (take n room) d
 deed_done c plan room (states.Speak spoken) (Finish named) taken d m = absurd d
-deed_done c plan room (states.Speak spoken) Seek taken d m = absurd d
+deed_done c plan room (states.Speak spoken) (Seek datagram) taken d m = absurd d
 deed_done c plan room (states.Finish cause) (Dial dialed) taken d m = absurd d
 deed_done c plan room (states.Finish cause) (Give given) taken d m = absurd d
 deed_done c plan room (states.Finish cause) (Say n) taken d m = absurd d
 deed_done c plan room (states.Finish cause) (Finish named) taken d m = (ap (λ (x : EndCause). steps.End (number_of x)) d, m)
-deed_done c plan room (states.Finish cause) Seek taken d m = absurd d
+deed_done c plan room (states.Finish cause) (Seek datagram) taken d m = absurd d
 deed_done c plan room states.Inquire (Dial dialed) taken d m = absurd d
 deed_done c plan room states.Inquire (Give given) taken d m = absurd d
 deed_done c plan room states.Inquire (Say n) taken d m = absurd d
 deed_done c plan room states.Inquire (Finish named) taken d m = absurd d
-deed_done c plan room states.Inquire Seek taken d m = refl
+deed_done c plan room states.Inquire (Seek datagram) taken d m = ap steps.Seek d
 
 -- a discovery request is sent where one is to be sent
 inquires : (port : Option ℕ) (order : Option Order) (spoken : Option Spoken) (ending : Option EndCause) (seeks : Bool) → first_of port order spoken ending seeks ≡ Some states.Inquire → seeks ≡ true
@@ -69,17 +69,20 @@ inquires None None None (Some cause) seeks e = cc
 inquires None None None None true e = refl
 inquires None None None None false e = cc
 
-seeks_todo : (c : Codecs) (plan : CarPlan) (room : List ℕ) (todo : states.Todo) → IsDeed c plan room todo Seek → todo ≡ states.Inquire
-seeks_todo c plan room (states.Call port) h = absurd h
-seeks_todo c plan room (states.Drive order) h = absurd h
-seeks_todo c plan room (states.Speak spoken) h = absurd h
-seeks_todo c plan room (states.Finish cause) h = absurd h
-seeks_todo c plan room states.Inquire h = refl
+seeks_todo : (c : Codecs) (plan : CarPlan) (room : List ℕ) (todo : states.Todo) (datagram : List ℕ) → IsDeed c plan room todo (Seek datagram) → todo ≡ states.Inquire
+seeks_todo c plan room (states.Call port) datagram h = absurd h
+seeks_todo c plan room (states.Drive order) datagram h = absurd h
+seeks_todo c plan room (states.Speak spoken) datagram h = absurd h
+seeks_todo c plan room (states.Finish cause) datagram h = absurd h
+seeks_todo c plan room states.Inquire datagram h = refl
 
-pub deed_seeks : (c : Codecs) (plan : CarPlan) (s : State) (room : List ℕ) (deed : Deed) → DoesNext c plan s room deed → deed ≡ Seek → s.agenda.seeks ≡ true
-deed_seeks c plan s room deed d e =
-    let todo = seeks_todo c plan room d.todo (subst (IsDeed c plan room d.todo) e d.done) in
-    inquires s.agenda.port s.agenda.order s.agenda.spoken s.agenda.ending s.agenda.seeks (d.first_is ∙ ap (λ (t : states.Todo). Some t) todo)
+pub deed_seeks : (c : Codecs) (plan : CarPlan) (s : State) (room : List ℕ) (deed : Deed) → DoesNext c plan s room deed → is_seek deed ≡ true → s.agenda.seeks ≡ true
+deed_seeks c plan s room (Dial port) d e = let f : false ≡ true = e in cc
+deed_seeks c plan s room (Give order) d e = let f : false ≡ true = e in cc
+deed_seeks c plan s room (Say n) d e = let f : false ≡ true = e in cc
+deed_seeks c plan s room (Finish cause) d e = let f : false ≡ true = e in cc
+deed_seeks c plan s room (Seek datagram) d e =
+    inquires s.agenda.port s.agenda.order s.agenda.spoken s.agenda.ending s.agenda.seeks (d.first_is ∙ ap (λ (t : states.Todo). Some t) (seeks_todo c plan room d.todo datagram d.done))
 
 -- the end is by the cause that was decided
 finishes : (port : Option ℕ) (order : Option Order) (spoken : Option Spoken) (ending : Option EndCause) (seeks : Bool) (cause : EndCause) → first_of port order spoken ending seeks ≡ Some (states.Finish cause) → ending ≡ Some cause

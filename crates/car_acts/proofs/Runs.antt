@@ -6,10 +6,9 @@ use Rattle.session_words.specs.declared.cause.EndCause.{EndCause}
 use Rattle.session_words.specs.declared.cause.EndCause.TheVariants as cause
 use Rattle.session_words.specs.declared.plan.CarPlan.{CarPlan}
 use Rattle.session_words.specs.declared.session.SessionId.{SessionId}
-use Rattle.post_spec.specs.Steps.{moment}
-use Rattle.station_spec.specs.Blocks.{is_last, hearings}
 use Rattle.trace_text.specs.Pasts.{is_hearing}
-use Rattle.site_acts.specs.Serving.{newest, Known}
+use Rattle.endpoint.specs.Knowing.{Known}
+use Rattle.endpoint.proofs.Knowing.{known_call}
 use Rattle.car_rules.specs.declared.stage.CarStage.{CarStage}
 use Rattle.car_spec.specs.Acting.{acted, state}
 use Rattle.car_spec.specs.Codecs.{Judged, Codecs}
@@ -42,42 +41,13 @@ use Rattle.car_acts.specs.Sound.{IsSound}
 use Rattle.car_acts.proofs.Next.{deed_ending, may_act}
 use Rattle.car_acts.proofs.Sound.{decided_sound, read_sound, acted_sound, busy_lives}
 
--- ---- an act is no hearing
-
-newest_acted : (a : Act) (taken : Bool) (past : List Entry) → newest (entry_of a taken ∷ past) ≡ newest past
-newest_acted (does.Seek datagram) taken past = refl
-newest_acted (does.Dial port) taken past = refl
-newest_acted (does.Give o) taken past = refl
-newest_acted (does.Say spoken bytes) taken past = refl
-newest_acted (does.End number) taken past = refl
-
-hearings_acted : (a : Act) (taken : Bool) (past : List Entry) → hearings (entry_of a taken ∷ past) ≡ hearings past
-hearings_acted (does.Seek datagram) taken past = refl
-hearings_acted (does.Dial port) taken past = refl
-hearings_acted (does.Give o) taken past = refl
-hearings_acted (does.Say spoken bytes) taken past = refl
-hearings_acted (does.End number) taken past = refl
-
-last_acted : (a : Act) (taken : Bool) (past : List Entry) → is_last (entry_of a taken ∷ past) ≡ is_last past
-last_acted (does.Seek datagram) taken past = refl
-last_acted (does.Dial port) taken past = refl
-last_acted (does.Give o) taken past = refl
-last_acted (does.Say spoken bytes) taken past = refl
-last_acted (does.End number) taken past = refl
-
-moment_acted : (a : Act) (taken : Bool) (past : List Entry) → moment (entry_of a taken ∷ past) ≡ moment past
-moment_acted (does.Seek datagram) taken past = refl
-moment_acted (does.Dial port) taken past = refl
-moment_acted (does.Give o) taken past = refl
-moment_acted (does.Say spoken bytes) taken past = refl
-moment_acted (does.End number) taken past = refl
-
-pub outgoing : (n : ℕ) (a : Act) (taken : Bool) → (if is_hearing (entry_of a taken) then 1 else 0) + n ≡ n
-outgoing n (does.Seek datagram) taken = omega arith
-outgoing n (does.Dial port) taken = omega arith
-outgoing n (does.Give o) taken = omega arith
-outgoing n (does.Say spoken bytes) taken = omega arith
-outgoing n (does.End number) taken = omega arith
+-- an act is no hearing
+acted_call : (a : Act) (taken : Bool) → is_hearing (entry_of a taken) ≡ false
+acted_call (does.Seek datagram) taken = refl
+acted_call (does.Dial port) taken = refl
+acted_call (does.Give o) taken = refl
+acted_call (does.Say spoken bytes) taken = refl
+acted_call (does.End number) taken = refl
 
 -- ---- the report
 
@@ -184,7 +154,7 @@ deed_reported c plan past steps room spoken (Give order) false told r lives f h 
 deed_reported c plan past steps room spoken (Say n) true told r lives f h = still_unreported _ told _ _ lives h
 deed_reported c plan past steps room spoken (Say n) false told r lives f h = still_unreported _ told _ _ lives h
 deed_reported c plan past steps room spoken (Finish x) taken told r lives f h = (ap (λ (y : Report). Some y) (end_reported c plan past steps x taken r lives (f x refl)), has_number x)
-deed_reported c plan past steps room spoken Seek taken told r lives f h = still_unreported _ told _ _ lives h
+deed_reported c plan past steps room spoken (Seek datagram) taken told r lives f h = still_unreported _ told _ _ lives h
 
 -- ---- the steps
 
@@ -208,10 +178,7 @@ does_run c plan k s told past room deed taken new d m e r =
           (subst (λ (t : State). Reports (acted a taken (decided plan (state plan r.steps))).over (noted_by deed t told) (Does a taken ∷ r.steps) (entry_of a taken ∷ past)) (sym same)
           (deed_reported c plan past r.steps room (spoken_in d.todo) deed taken told r.run goes_on
           (λ x is. deed_ending c plan (decided plan (state plan r.steps)) room x (subst (DoesNext c plan (decided plan (state plan r.steps)) room) is n)) none));
-      newest_is = newest_acted a taken past ∙ r.newest_is;
-      clock_is = moment_acted a taken past ∙ r.clock_is;
-      heard_is = hearings_acted a taken past ∙ r.heard_is;
-      last_is = last_acted a taken past ∙ r.last_is;
+      known_is = known_call k (entry_of a taken) past (acted_call a taken) r.known_is;
       untils_are = r.untils_are;
     }
 
@@ -233,10 +200,7 @@ reads_run c plan k s new told past n r =
       run = run;
       state_is = state_is;
       report_is = still_unreported new.over told (Reads n.word ∷ r.steps) past (ap (λ (t : State). t.over) state_is ∙ after) (unreported s.over told r.steps past (ap (λ (t : State). t.over) r.state_is ∙ before) r.report_is);
-      newest_is = r.newest_is;
-      clock_is = r.clock_is;
-      heard_is = r.heard_is;
-      last_is = r.last_is;
+      known_is = r.known_is;
       untils_are = r.untils_are;
     }
 

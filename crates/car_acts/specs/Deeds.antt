@@ -1,5 +1,5 @@
 -- Own: how a car's act is done: with bytes that stand at the front of a room.
-use Rattle.std.specs.Prelude.{◌≡◌, ◌≤◌, ℕ, Bool, true, List, take, Option, Some, None}
+use Rattle.std.specs.Prelude.{◌≡◌, ◌≤◌, ℕ, Bool, true, false, List, take, Option, Some, None}
 use Rattle.charge_world.specs.declared.offer.Dialect.{Dialect}
 use Rattle.session_words.specs.declared.plan.CarPlan.{CarPlan}
 use Rattle.session_words.specs.Causes.{number_of}
@@ -14,8 +14,8 @@ use Rattle.car_spec.specs.States.{State, first}
 use Rattle.car_spec.specs.States as states
 use Rattle.car_spec.specs.Steps.{Spoken, Offer, Act}
 use Rattle.car_spec.specs.Steps as steps
-use Rattle.car_acts.specs.declared.acting.Next.{Next}
-use Rattle.car_acts.specs.declared.acting.Next.TheVariants as next
+use Rattle.car_acts.specs.declared.choosing.Next.{Next}
+use Rattle.car_acts.specs.declared.choosing.Next.TheVariants as next
 use Rattle.car_acts.specs.declared.deeds.Deed.{Deed}
 use Rattle.car_acts.specs.declared.deeds.Deed.TheVariants.{Dial, Give, Say, Finish, Seek}
 use Rattle.car_acts.specs.Reporting.{report_by}
@@ -26,7 +26,14 @@ act_of room spoken (Dial port) = steps.Dial port
 act_of room spoken (Give order) = steps.Give order
 act_of room spoken (Say n) = steps.Say spoken (take n room)
 act_of room spoken (Finish cause) = steps.End (number_of cause)
-act_of room spoken Seek = steps.Seek search_datagram
+act_of room spoken (Seek datagram) = steps.Seek datagram
+
+abbrev pub is_seek : Deed → Bool
+is_seek (Dial port) = false
+is_seek (Give order) = false
+is_seek (Say n) = false
+is_seek (Finish cause) = false
+is_seek (Seek datagram) = true
 
 -- what is said, where something is
 abbrev pub spoken_in : states.Todo → Spoken
@@ -39,7 +46,7 @@ IsFramed (Dial port) = Unit {0}
 IsFramed (Give order) = Unit {0}
 IsFramed (Say n) = (8 ≤ n) × (n ≤ 1032)
 IsFramed (Finish cause) = Unit {0}
-IsFramed Seek = Unit {0}
+IsFramed (Seek datagram) = Unit {0}
 
 -- the end of a car can't fail
 abbrev pub MayTake : Deed → Bool → Type 0
@@ -47,7 +54,7 @@ MayTake (Dial port) taken = Unit {0}
 MayTake (Give order) taken = Unit {0}
 MayTake (Say n) taken = Unit {0}
 MayTake (Finish cause) taken = taken ≡ true
-MayTake Seek taken = Unit {0}
+MayTake (Seek datagram) taken = Unit {0}
 
 -- what is reported behind a deed
 abbrev pub noted_by : Deed → State → Option Report → Option Report
@@ -55,7 +62,7 @@ noted_by (Dial port) s told = told
 noted_by (Give order) s told = told
 noted_by (Say n) s told = told
 noted_by (Finish cause) s told = Some (report_by cause s)
-noted_by Seek s told = told
+noted_by (Seek datagram) s told = told
 
 -- these bytes are the frame of what is said
 pub record IsFrameOf (c : Codecs) (plan : CarPlan) (spoken : Spoken) (bytes : List ℕ) : Type 0 where
@@ -69,7 +76,7 @@ IsDeed c plan room (states.Call port) (Dial dialed) = dialed ≡ port
 IsDeed c plan room (states.Drive order) (Give given) = given ≡ order
 IsDeed c plan room (states.Speak spoken) (Say n) = IsFrameOf c plan spoken (take n room)
 IsDeed c plan room (states.Finish cause) (Finish named) = named ≡ cause
-IsDeed c plan room states.Inquire Seek = Unit {0}
+IsDeed c plan room states.Inquire (Seek datagram) = datagram ≡ search_datagram
 IsDeed c plan room todo deed = ⊥
 
 -- the deed, where there is something to do

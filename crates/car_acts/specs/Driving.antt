@@ -2,9 +2,7 @@
 use Rattle.std.specs.Prelude.{◌≡◌, List, Option}
 use Rattle.charge_world.specs.declared.entry.Entry.{Entry}
 use Rattle.session_words.specs.declared.plan.CarPlan.{CarPlan}
-use Rattle.post_spec.specs.Steps.{moment}
-use Rattle.station_spec.specs.Blocks.{is_last, hearings}
-use Rattle.site_acts.specs.Serving.{newest, Known}
+use Rattle.endpoint.specs.Knowing.{Known, IsKnown}
 use Rattle.car_spec.specs.Acting.{state}
 use Rattle.car_spec.specs.Codecs.{Codecs}
 use Rattle.car_spec.specs.Report.{Report}
@@ -20,8 +18,5 @@ pub record InRun (c : Codecs) (plan : CarPlan) (k : Known) (s : State) (told : O
   pub run : IsRun c plan past steps
   pub state_is : s ≡ state plan steps
   pub report_is : Reports s.over told steps past
-  pub newest_is : newest past ≡ k.newest_hearing
-  pub clock_is : moment past ≡ k.clock
-  pub heard_is : hearings past ≡ k.heard
-  pub last_is : is_last past ≡ k.last
+  pub known_is : IsKnown k past
   pub untils_are : untils plan steps ≡ k.untils

@@ -6,11 +6,11 @@
 #![tactic(auto)]
 
 mod acting;
+mod choosing;
 mod deeds;
-mod desk;
 mod driver;
+mod preparing;
 mod reading;
 
 pub use acting::step;
 pub use driver::{CarReport, Driver};
-pub use site_acts::{Desk, FRAME, TraceFailed};

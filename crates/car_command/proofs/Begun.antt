@@ -2,7 +2,7 @@
 use Rattle.std.proofs.Common.{◌≡◌, ℕ, List, [], Option, Some, None, IsSome, refl, ◌∙◌, subst}
 use Rattle.charge_world.specs.declared.entry.Entry.{Entry}
 use Rattle.charge_world.specs.Outside.{Grows}
-use Rattle.site_acts.specs.Telling.{Carries}
+use Rattle.endpoint.specs.Telling.{Carries}
 use Rattle.station_command.proofs.Begun.{IsNew}
 
 -- of what depends on the moments that the wire waited for

@@ -1,7 +1,7 @@
 -- Own: what the command `car` leaves on the wire, on the trace and on the output, once its plan was read.
 use Rattle.std.specs.Prelude.{◌≡◌, ◌⊎◌, ℕ, List, [], Option, Some}
 use Rattle.session_words.specs.declared.plan.CarPlan.{CarPlan}
-use Rattle.site_acts.specs.Telling.{Carries, CarriesText}
+use Rattle.endpoint.specs.Telling.{Carries, CarriesText}
 use Rattle.car_spec.specs.Codecs.{Codecs}
 use Rattle.car_spec.specs.Report.{Report}
 use Rattle.car_core.specs.Ended.{Ended}

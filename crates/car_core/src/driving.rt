@@ -1,7 +1,7 @@
 //! Driving a car.
 
 ghost use Rattle.std.specs.Prelude.{◌≡◌, ◌≤◌, ◌<◌, []};
-ghost use Rattle.site_acts.specs.Telling.{Carries, CarriesText};
+ghost use Rattle.endpoint.specs.Telling.{Carries, CarriesText};
 ghost use Rattle.car_spec.specs.Codecs.{codecs};
 ghost use Rattle.car_acts.specs.Reporting.{reported};
 ghost use Rattle.car_turns.specs.Ending.{EndedAs, TracedAs, AreFaults};

@@ -6,7 +6,8 @@ ghost use Rattle.car_codec.specs.Requests.{IsPlan};
 ghost use Rattle.car_acts.specs.Reporting.{reported};
 ghost use Rattle.car_core.specs.Made.{IsMadeOf};
 
-use car_acts::{CarReport, Desk, Driver, FRAME};
+use car_acts::{CarReport, Driver};
+use endpoint::{Desk, FRAME};
 use evcc_machine::Car;
 use session_words::CarPlan;
 use std::alloc::Global;

@@ -7,10 +7,11 @@ use Rattle.charge_world.specs.declared.ports.Order.TheVariants as order
 use Rattle.charge_world.specs.Outside.{IsFault, AppendsSome}
 use Rattle.session_words.specs.declared.plan.CarPlan.{CarPlan}
 use Rattle.trace_text.specs.Pasts.{first_line_2}
-use Rattle.site_acts.specs.Telling.{Carries, CarriesText, IsClosedSo, IsTraced, IsWrittenSo}
-use Rattle.site_serving.proofs.Counts.{fault_ok}
-use Rattle.site_serving.proofs.Shutting.{cut_behind, none_closing}
-use Rattle.site_turns.proofs.Finished.{last_heard, last_lost}
+use Rattle.endpoint.specs.Telling.{Carries, CarriesText, IsCutFirst, IsClosedSo, IsTraced}
+use Rattle.endpoint.proofs.Faults.{fault_ok}
+use Rattle.endpoint.proofs.Carry.{text_to}
+use Rattle.endpoint.proofs.Written.{begin_cut}
+use Rattle.endpoint.proofs.Knowing.{last_heard, last_lost}
 use Rattle.car_spec.specs.Acting.{state}
 use Rattle.car_spec.specs.Codecs.{Codecs}
 use Rattle.car_spec.specs.Next.{IsQuiet}
@@ -191,10 +192,7 @@ last_text Turns hearing past text t = t
 last_text Finished hearing past text t = t
 
 pub begin_failed : (a : Option (List Entry)) (s t : Option (List ℕ)) → AppendsSome s t first_line_2 → CarriesText a a s t (λ past text. (past ≡ []) × (text ≡ [])) (TracedAs ended.TraceFault)
-begin_failed None s t h = tt
-begin_failed (Some past) s None h = tt
-begin_failed (Some past) None (Some now) h = absurd h
-begin_failed (Some past) (Some start) (Some now) h = λ p. inl (record { front = h.0; rest = h.1; past_is = p.0; line_is = h.2; text_is = h.3 ∙ ap (λ (x : List ℕ). x ++ h.0) p.1 })
+begin_failed a s t h = text_to a a s t (λ past text. (past ≡ []) × (text ≡ [])) IsCutFirst (TracedAs ended.TraceFault) (λ past text c. inl c) (begin_cut a s t h)
 
 -- nothing is heard
 pub none_driven : (c : Codecs) (plan : CarPlan) (before : List ℕ) (s : State) (told : Option Report) (past : List Entry) → s ≡ fresh → told ≡ None → past ≡ [] → IsDriven c plan ended.TraceFault before before (reported told s) past
@@ -229,11 +227,6 @@ closed_faults start mid after why x (Err fault) how before f ok err = record {
 
 pub turn_faults : {T E : Type 0} (start after : ℕ) (fault : E) → IsFault {T = T} {E = E} start after (Err fault) → AreFaults start after ended.TraceFault
 turn_faults start after fault f = record { later = f.later; risen = (λ e. f.risen.0 refl, λ l. refl) }
-
--- the line of the closing order was written, or in part
-pub closed_so : {T E : Type 0} (hearing : ℕ) (r : Result T E) (past : List Entry) (text : List ℕ) → IsWrittenSo hearing r past text → IsClosedSo hearing r past text
-closed_so hearing (Ok done) past text h = h
-closed_so hearing (Err fault) past text h = cut_behind past past text (none_closing past past refl) h
 
 -- ---- how driving ends, by the write of the closing order's line
 

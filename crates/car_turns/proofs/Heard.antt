@@ -7,10 +7,10 @@ use Rattle.charge_world.specs.Outside.{IsOfPosts}
 use Rattle.session_words.specs.declared.plan.CarPlan.{CarPlan}
 use Rattle.post_spec.specs.Steps.{Event, moment, event_at}
 use Rattle.station_spec.specs.Blocks.{IsHearing}
-use Rattle.site_acts.specs.Serving.{Known}
-use Rattle.site_acts.specs.Telling.{Carries}
-use Rattle.site_acts.proofs.Carry.{carries_none}
-use Rattle.site_turns.specs.Hearing.{known_behind}
+use Rattle.endpoint.specs.Knowing.{Known, known_first, known_behind, known_lost}
+use Rattle.endpoint.proofs.Knowing.{known_none, known_heard, known_nothing}
+use Rattle.endpoint.specs.Telling.{Carries}
+use Rattle.endpoint.proofs.Carry.{carries_none}
 use Rattle.car_spec.specs.Acting.{state}
 use Rattle.car_spec.specs.Codecs.{Codecs}
 use Rattle.car_spec.specs.Hearing.{hearing}
@@ -32,8 +32,8 @@ hearable : (c : Codecs) (plan : CarPlan) (k : Known) (s : State) (told : Option 
 hearable c plan k s told past goes_on left lives quiet r = record {
   whole = subst (IsQuiet plan) r.state_is quiet;
   lives = sym (ap (λ (t : State). t.over) r.state_is) ∙ lives;
-  goes_on = r.last_is ∙ goes_on;
-  turns_left = subst (λ (n : ℕ). n < plan.turns) (sym r.heard_is) left;
+  goes_on = r.known_is.last_is ∙ goes_on;
+  turns_left = subst (λ (n : ℕ). n < plan.turns) (sym r.known_is.heard_is) left;
 }
 
 pub heard_run : (c : Codecs) (plan : CarPlan) (k : Known) (s : State) (told : Option Report) (past : List Entry) (h : Heard) (bytes : List ℕ) (wait : ℕ) → k.last ≡ false → k.heard < plan.turns → s.over ≡ false → IsQuiet plan s
@@ -59,25 +59,13 @@ heard_run c plan k s told past h bytes wait goes_on left lives quiet of is waits
           past_is = refl;
         },
       );
-      state_is = ap (λ (m : ℕ). hearing (max m h.at) event s) (sym r.clock_is) ∙ ap (hearing at event) r.state_is;
+      state_is = ap (λ (m : ℕ). hearing (max m h.at) event s) (sym r.known_is.clock_is) ∙ ap (hearing at event) r.state_is;
       report_is = still_unreported s.over told (Hears at event ∷ r.steps) (entry.Heard h bytes ∷ past) lives none;
-      newest_is = refl;
-      clock_is = ap (λ (m : ℕ). max m h.at) r.clock_is;
-      heard_is = ap (λ (n : ℕ). n + 1) r.heard_is;
-      last_is = refl;
+      known_is = known_heard k h bytes wait past r.known_is;
       untils_are = ap (λ (t : State). until plan t ∷ untils plan r.steps) (sym r.state_is) ∙ ap (λ (n : ℕ). n ∷ untils plan r.steps) (sym waits) ∙ ap (λ (us : List ℕ). wait ∷ us) r.untils_are;
     }
 
 -- behind a lost hearing
-abbrev pub known_lost : Known → ℕ → Known
-known_lost k wait = record {
-  newest_hearing = Some entry.Lost;
-  clock = k.clock;
-  heard = k.heard + 1;
-  last = true;
-  untils = wait ∷ k.untils;
-}
-
 pub lost_run : (c : Codecs) (plan : CarPlan) (k : Known) (s : State) (told : Option Report) (past : List Entry) (wait : ℕ) → k.last ≡ false → k.heard < plan.turns → s.over ≡ false → IsQuiet plan s → wait ≡ until plan s → InRun c plan k s told past
     → InRun c plan (known_lost k wait) s told (entry.Lost ∷ past)
 lost_run c plan k s told past wait goes_on left lives quiet waits r = record {
@@ -85,10 +73,7 @@ lost_run c plan k s told past wait goes_on left lives quiet waits r = record {
   run = (past, r.run, hearable c plan k s told past goes_on left lives quiet r, refl);
   state_is = r.state_is;
   report_is = still_unreported s.over told (Loses ∷ r.steps) (entry.Lost ∷ past) lives (unreported s.over told r.steps past lives r.report_is);
-  newest_is = refl;
-  clock_is = r.clock_is;
-  heard_is = ap (λ (n : ℕ). n + 1) r.heard_is;
-  last_is = refl;
+  known_is = known_nothing k wait past r.known_is;
   untils_are = ap (λ (t : State). until plan t ∷ untils plan r.steps) (sym r.state_is) ∙ ap (λ (n : ℕ). n ∷ untils plan r.steps) (sym waits) ∙ ap (λ (us : List ℕ). wait ∷ us) r.untils_are;
 }
 
@@ -106,18 +91,15 @@ hears_run a c plan k s new told later h bytes now wait goes_on left lives quiet 
 
 -- before anything was heard
 pub begins : (c : Codecs) (plan : CarPlan) (s : State) (told : Option Report) (past : List Entry) → s ≡ fresh → told ≡ None → past ≡ []
-    → InRun c plan (record { newest_hearing = None; clock = 0; heard = 0; last = false; untils = [] }) s told past
+    → InRun c plan known_first s told past
 begins c plan s told past fresh_is none e =
-    let k : Known = record { newest_hearing = None; clock = 0; heard = 0; last = false; untils = [] } in
+    let k = known_first in
     let first : InRun c plan k fresh None [] = record {
       steps = [];
       run = refl;
       state_is = refl;
       report_is = (refl, refl);
-      newest_is = refl;
-      clock_is = refl;
-      heard_is = refl;
-      last_is = refl;
+      known_is = known_none;
       untils_are = refl;
     } in
     subst (λ (p : List Entry). InRun c plan k s told p) (sym e) (subst (λ (o : Option Report). InRun c plan k s o []) (sym none) (subst (λ (t : State). InRun c plan k t None []) (sym fresh_is) first))

@@ -1,5 +1,5 @@
 -- One turn: something was heard, or nothing any more.
-use Rattle.std.proofs.Common.{◌≡◌, ◌<◌, ℕ, ◌+◌, Bool, true, false, List, [], ◌∷◌, ◌++◌, max, Option, Some, None, Result, Ok, Err, refl, sym, ap, subst, ◌∙◌}
+use Rattle.std.proofs.Common.{◌≡◌, ◌<◌, ℕ, ◌+◌, ◌-◌, ◌^◌, Bool, true, false, List, [], ◌∷◌, ◌++◌, max, Option, Some, None, Result, Ok, Err, refl, sym, ap, subst, ◌∙◌, arith}
 use Rattle.std.specs.Prelude.{IsSome, IsErr}
 use Rattle.charge_world.specs.declared.entry.Entry.{Entry}
 use Rattle.charge_world.specs.declared.entry.Entry.TheVariants as entry
@@ -9,9 +9,10 @@ use Rattle.charge_world.specs.declared.heard.What.TheVariants as what
 use Rattle.charge_world.specs.Outside.{GrowsByOne}
 use Rattle.session_words.specs.declared.plan.CarPlan.{CarPlan}
 use Rattle.station_spec.specs.Blocks.{is_over}
-use Rattle.site_acts.specs.Serving.{newest, Known}
-use Rattle.site_acts.specs.Telling.{Carries}
-use Rattle.site_turns.specs.Hearing.{known_behind}
+use Rattle.endpoint.specs.Knowing.{newest, Known, known_first, known_lost, nothing_heard}
+use Rattle.endpoint.specs.Telling.{Carries}
+use Rattle.endpoint.specs.Knowing.{known_behind}
+use Rattle.car_codec.specs.Requests.{IsPlan}
 use Rattle.car_spec.specs.Codecs.{Codecs}
 use Rattle.car_spec.specs.Next.{IsQuiet}
 use Rattle.car_spec.specs.Report.{Report, cause}
@@ -24,10 +25,10 @@ use Rattle.car_acts.proofs.Runs.{unreported}
 use Rattle.car_turns.specs.declared.ending.Ended.{Ended}
 use Rattle.car_turns.specs.declared.ending.Ended.TheVariants as ended
 use Rattle.car_turns.specs.declared.ending.Last.{Last}
-use Rattle.car_turns.specs.declared.hearing.SoFar.{SoFar}
+use Rattle.endpoint.specs.declared.hearing.SoFar.{SoFar}
 use Rattle.car_turns.specs.Lasts.{finished_if, last_by, ended_so}
 use Rattle.car_turns.specs.Turns.{Hears, Waits, Stops, Turned}
-use Rattle.car_turns.proofs.Heard.{known_lost, lost_run, begins}
+use Rattle.car_turns.proofs.Heard.{lost_run, begins}
 
 -- behind a hearing
 pub record HeardSo (c : Codecs) (plan : CarPlan) (so_far : SoFar) (h : Heard) (bytes waited before : List ℕ) (s : State) (told : Option Report) (past : List Entry) : Type 0 where
@@ -74,7 +75,7 @@ go_on E c plan so_far h bytes waited before s told past w true e goes over l r =
   known = r.known;
   run = r.run;
   waited_are = r.waited_are;
-  ended = (r.run.last_is ∙ r.last_is ∙ ap is_over e ∙ goes, ended_cause s.over told r.run.steps past over r.run.report_is);
+  ended = (r.run.known_is.last_is ∙ r.last_is ∙ ap is_over e ∙ goes, ended_cause s.over told r.run.steps past over r.run.report_is);
   over = over;
 })
 go_on E c plan so_far h bytes waited before s told past w false e goes over l r = rw l (record {
@@ -98,7 +99,7 @@ turned_by E c plan so_far h bytes waited before s told past what.Over e r = reco
   known = r.known;
   run = r.run;
   waited_are = r.waited_are;
-  ended = (h, bytes, r.run.newest_is ∙ r.newest_is, ap is_over e);
+  ended = (h, bytes, r.run.known_is.newest_is ∙ r.newest_is, ap is_over e);
   over = tt;
 }
 
@@ -162,7 +163,7 @@ stop_turns c plan so_far waited before s told past all lives w = record {
   known = w.known;
   run = w.run;
   waited_are = w.waited_are;
-  ended = (w.run.heard_is ∙ w.heard_is ∙ all, w.run.last_is ∙ w.goes_on, (unreported s.over told w.run.steps past lives w.run.report_is).1);
+  ended = (w.run.known_is.heard_is ∙ w.heard_is ∙ all, w.run.known_is.last_is ∙ w.goes_on, (unreported s.over told w.run.steps past lives w.run.report_is).1);
   over = tt;
 }
 
@@ -171,10 +172,10 @@ pub fresh_quiet : (plan : CarPlan) → IsQuiet plan fresh
 fresh_quiet plan = record { none = refl; no_word = refl }
 
 -- and the first hearing may come
-pub waits_first : (c : Codecs) (plan : CarPlan) (so_far : SoFar) (waited : List ℕ) (s : State) (told : Option Report) (past : List Entry) → so_far ≡ record { moment = 0; hearing = 0 } → s ≡ fresh → told ≡ None → past ≡ []
+pub waits_first : (c : Codecs) (plan : CarPlan) (so_far : SoFar) (waited : List ℕ) (s : State) (told : Option Report) (past : List Entry) → so_far ≡ nothing_heard → s ≡ fresh → told ≡ None → past ≡ []
     → Waits c plan so_far waited waited s told past
 waits_first c plan so_far waited s told past none fresh_is unreported_is e = record {
-  known = record { newest_hearing = None; clock = 0; heard = 0; last = false; untils = [] };
+  known = known_first;
   run = begins c plan s told past fresh_is unreported_is e;
   clock_is = ap (λ (x : SoFar). x.moment) (sym none);
   heard_is = ap (λ (x : SoFar). x.hearing) (sym none);
@@ -186,3 +187,7 @@ waits_first c plan so_far waited s told past none fresh_is unreported_is e = rec
 pub turn_by : (a b : Option (List Entry)) (c : Codecs) (p q : CarPlan) (so_far : SoFar) (waited before : List ℕ) (s : State) (told : Option Report) (Q : CarPlan → List Entry → Type 0) → p ≡ q
     → Carries a b (Waits c p so_far waited before s told) (Q p) → Carries a b (Waits c q so_far waited before s told) (Q q)
 turn_by a b c p q so_far waited before s told Q e h = subst (λ (x : CarPlan). Carries a b (Waits c x so_far waited before s told) (Q x)) e h
+
+-- a plan has few turns
+pub few_turns : (plan : CarPlan) (n : ℕ) → IsPlan plan → n < plan.turns → n < 2 ^ 64 - 1
+few_turns plan n p left = omega (arith, left, p.rules.turns.1)

@@ -6,8 +6,8 @@ use Rattle.charge_world.specs.declared.heard.Heard.{Heard}
 use Rattle.session_words.specs.declared.plan.CarPlan.{CarPlan}
 use Rattle.trace_text.specs.Pasts.{trace_text}
 use Rattle.station_spec.specs.Blocks.{is_last, is_over, hearings}
-use Rattle.site_acts.specs.Serving.{newest}
-use Rattle.site_acts.specs.Telling.{IsCutFirst, IsCutText}
+use Rattle.endpoint.specs.Knowing.{newest}
+use Rattle.endpoint.specs.Telling.{IsCutFirst, IsCutText}
 use Rattle.car_spec.specs.Acting.{state}
 use Rattle.car_spec.specs.Codecs.{Codecs}
 use Rattle.car_spec.specs.Next.{IsQuiet}

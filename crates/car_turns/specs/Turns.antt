@@ -4,8 +4,8 @@ use Rattle.charge_world.specs.declared.entry.Entry.{Entry}
 use Rattle.charge_world.specs.declared.entry.Entry.TheVariants as entry
 use Rattle.charge_world.specs.declared.heard.Heard.{Heard}
 use Rattle.session_words.specs.declared.plan.CarPlan.{CarPlan}
-use Rattle.site_acts.specs.Serving.{Known}
-use Rattle.site_acts.specs.Telling.{IsTraced, IsCutText}
+use Rattle.endpoint.specs.Knowing.{Known}
+use Rattle.endpoint.specs.Telling.{IsTraced, IsCutText}
 use Rattle.car_spec.specs.Codecs.{Codecs}
 use Rattle.car_spec.specs.Report.{Report}
 use Rattle.car_spec.specs.States.{State}
@@ -13,7 +13,7 @@ use Rattle.car_acts.specs.Driving.{InRun}
 use Rattle.car_turns.specs.declared.ending.Ended.{Ended}
 use Rattle.car_turns.specs.declared.ending.Ended.TheVariants as ended
 use Rattle.car_turns.specs.declared.ending.Last.{Last}
-use Rattle.car_turns.specs.declared.hearing.SoFar.{SoFar}
+use Rattle.endpoint.specs.declared.hearing.SoFar.{SoFar}
 use Rattle.car_turns.specs.Ending.{EndedAs}
 use Rattle.car_turns.specs.Lasts.{ended_by, ended_so}
 

@@ -4,12 +4,11 @@ ghost use Rattle.std.specs.Prelude.{◌≡◌, ◌≤◌, List, false, not, ◌&
 ghost use Rattle.charge_world.specs.declared.entry.Entry.{Entry};
 ghost use Rattle.charge_world.specs.Outside.{IsFault};
 ghost use Rattle.car_spec.specs.Runs.{Closes};
-ghost use Rattle.site_acts.specs.Telling.{Carries, CarriesText, HasClosing, IsTraced, IsClosedSo};
+ghost use Rattle.endpoint.specs.Telling.{Carries, CarriesText, HasClosing, IsTraced, IsClosedSo};
 
 use charge_world::{Order, Sink, Wire};
+use endpoint::{TraceFailed, TraceLines, open};
 use evcc_machine::Car;
-use trace_lines::{TraceFailed, TraceLines};
-use trace_text::Noted;
 
 /// Orders a live contactor open. No line is written.
 pub(crate) fn close_unwritten<W: Wire>(car: &Car, wire: &mut W)
@@ -51,13 +50,7 @@ pub(crate) fn close<W: Wire, J: Sink>(
     ensures faults { W.faults wire.old ≤ W.faults wire.new }
 {
     if must_open(car) {
-        let taken = wire.drive(1, Order::Open).is_ok();
-        let noted = Noted::Drove {
-            post: 1,
-            order: Order::Open,
-            taken,
-        };
-        lines.write(hearing, &noted, trace)
+        open(1, hearing, lines, wire, trace)
     } else {
         Ok(())
     }

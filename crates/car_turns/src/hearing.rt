@@ -5,9 +5,8 @@ ghost use Rattle.charge_world.specs.declared.entry.Entry.TheVariants as entry;
 ghost use Rattle.charge_world.specs.Outside.{IsFault, HasCount, IsOfPosts, bytes_of};
 ghost use Rattle.post_spec.specs.Steps.{event_at};
 ghost use Rattle.station_spec.specs.Blocks.{IsHearing};
-ghost use Rattle.site_acts.specs.Serving.{Known};
-ghost use Rattle.site_acts.specs.Telling.{Carries, CarriesText, IsTraced, IsWrittenSo};
-ghost use Rattle.site_turns.specs.Hearing.{known_behind, AwaitsLine};
+ghost use Rattle.endpoint.specs.Knowing.{Known, known_behind, AwaitsLine};
+ghost use Rattle.endpoint.specs.Telling.{Carries, CarriesText, IsTraced, IsWrittenSo};
 ghost use Rattle.car_codec.specs.Requests.{IsPlan};
 ghost use Rattle.car_spec.specs.Codecs.{codecs};
 ghost use Rattle.car_spec.specs.Hearing.{hearing};
@@ -17,22 +16,11 @@ ghost use Rattle.car_acts.specs.Driving.{InRun};
 ghost use Rattle.car_acts.specs.Sound.{IsSound};
 ghost use Rattle.car_turns.specs.Turns.{Hears};
 
-use car_acts::{Desk, Driver, step};
+use car_acts::{Driver, step};
 use car_codec::CarCodec;
 use charge_world::{Heard, Sink, Wire};
+use endpoint::{Desk, SoFar, TraceFailed, bound_heard, bytes_heard, write_heard};
 use evcc_machine::{CarEvent, law_of_rest};
-use site_serving::{bound_heard, bytes_heard};
-use trace_lines::TraceFailed;
-use trace_text::Noted;
-
-/// What a car heard so far.
-#[derive(Drop)]
-pub(crate) struct SoFar {
-    /// The greatest moment, in milliseconds.
-    pub(crate) moment: u64,
-    /// How many hearings there were, a lost one counted.
-    pub(crate) hearing: u64,
-}
 
 /// The car hears this, at this moment.
 fn take_in(driver: &mut Driver, now: u64, heard: &Heard, room: &[u8])
@@ -110,10 +98,6 @@ pub(crate) fn hear<C: CarCodec, W: Wire, J: Sink>(
     ensures faults { W.faults wire.old ≤ W.faults wire.new }
 {
     take_in(driver, so_far.moment, heard, room);
-    let noted = Noted::Heard {
-        heard: *heard,
-        bytes: bytes_heard(heard.what, room),
-    };
-    desk.lines.write(so_far.hearing, &noted, trace)?;
+    write_heard(&mut desk.lines, so_far.hearing, heard, room, trace)?;
     answer(desk, driver, so_far.hearing, wire, trace)
 }

@@ -3,7 +3,7 @@
 ghost use Rattle.std.specs.Prelude.{◌≡◌, ◌≤◌, ◌<◌, ◌+◌, ℕ, List, [], length, false, Some, None, Ok, OnOk, OnErr, IsSome};
 ghost use Rattle.charge_world.specs.declared.entry.Entry.{Entry};
 ghost use Rattle.charge_world.specs.Outside.{IsFault};
-ghost use Rattle.site_acts.specs.Telling.{Carries, CarriesText, HasClosing, IsTraced, IsWrittenSo};
+ghost use Rattle.endpoint.specs.Telling.{Carries, CarriesText, HasClosing, IsTraced, IsWrittenSo};
 ghost use Rattle.car_codec.specs.Requests.{IsPlan};
 ghost use Rattle.car_spec.specs.Codecs.{codecs};
 ghost use Rattle.car_spec.specs.Next.{IsQuiet};
@@ -16,13 +16,12 @@ ghost use Rattle.car_turns.specs.Turns.{Waits, Stops, Turned, IsFinished, Closed
 
 use crate::closing::{close, close_unwritten};
 use crate::ending::{Ended, Last};
-use crate::hearing::{SoFar, hear};
-use car_acts::{Desk, Driver};
+use crate::hearing::hear;
+use car_acts::Driver;
 use car_codec::CarCodec;
 use charge_world::{Sink, Wire};
+use endpoint::{Desk, SoFar, TraceFailed, TraceLines, write_lost};
 use evcc_machine::Car;
-use trace_lines::{TraceFailed, TraceLines};
-use trace_text::Noted;
 
 /// Hears once, and does and reads all that follows from it; says how driving ended, where it did.
 fn turn<C: CarCodec, W: Wire, J: Sink>(
@@ -55,15 +54,14 @@ fn turn<C: CarCodec, W: Wire, J: Sink>(
     ensures faults { W.faults wire.old ≤ W.faults wire.new }
     ensures lost { result ≡ Ok (Some Last.Lost) → W.faults wire.old < W.faults wire.new }
 {
-    let next = wire.next(driver.car.next_due(&driver.plan), room);
-    so_far.hearing += 1;
-    match next {
+    match wire.next(driver.car.next_due(&driver.plan), room) {
         Err(_) => {
-            desk.lines.write(so_far.hearing, &Noted::Lost, trace)?;
+            so_far.lose();
+            write_lost(&mut desk.lines, so_far.hearing, trace)?;
             Ok(Some(Last::Lost))
         }
         Ok(heard) => {
-            so_far.moment = so_far.moment.max(heard.at);
+            so_far.count(heard.at);
             hear(desk, driver, so_far, &heard, room, wire, trace)?;
             Ok(Last::heard(heard.what, driver.car.is_over()))
         }
@@ -167,10 +165,7 @@ fn drive_begun<C: CarCodec, W: Wire, J: Sink>(
     ensures lost { result ≡ Ended.Lost → W.faults wire.old < W.faults wire.new }
     ensures trace_fault { AreFaults (J.faults trace.old) (J.faults trace.new) result }
 {
-    let mut so_far = SoFar {
-        moment: 0,
-        hearing: 0,
-    };
+    let mut so_far = SoFar::nothing();
     let last = take_turns(desk, driver, &mut so_far, wire, trace);
     finish(
         last,

@@ -8,7 +8,7 @@ use Rattle.post_spec.specs.Codecs.{Codecs}
 use Rattle.post_spec.specs.Spelled.{AreDetermined}
 use Rattle.station_spec.specs.Blocks.{hearings}
 use Rattle.station_spec.specs.Runs.{IsSiteRun}
-use Rattle.site_acts.specs.Serving.{newest}
+use Rattle.endpoint.specs.Knowing.{newest}
 use Rattle.site_turns.specs.declared.ending.Ended.{Ended}
 use Rattle.site_turns.specs.declared.ending.Ended.TheVariants as ended
 use Rattle.site_turns.specs.Ending.{EndedAs, RanAs, TracedAs}

@@ -36,7 +36,9 @@ use Rattle.site_posts.specs.Filling.{no_place, at}
 use Rattle.site_posts.specs.Places.{capped, report_of, place_of, heard_report, heard_place, HeardAll, acted_report, done_place, filled_place, asked_at, told_at, Shares, due_at, RestsAt}
 use Rattle.site_posts.proofs.Levels.{set_behind, get_behind}
 use Rattle.site_posts.proofs.Words.{read_more}
-use Rattle.site_acts.specs.Serving.{newest, Known, InBlock}
+use Rattle.endpoint.specs.Knowing.{Known, known_first, known_behind, known_lost}
+use Rattle.endpoint.proofs.Knowing.{known_call, known_none, known_heard, known_nothing}
+use Rattle.site_acts.specs.Serving.{InBlock}
 
 -- ---- a post among the others
 
@@ -148,29 +150,11 @@ place_heard at k what bytes p = ap (λ (r : PostReport). record (place_of (with_
 
 -- ---- an act of the post at place i
 
-last_acted : (k : ℕ) (a : Act) (taken : Bool) (past : List Entry) → is_last (entry_of k a taken ∷ past) ≡ is_last past
-last_acted k (Give order) taken past = refl
-last_acted k (Send bytes) taken past = refl
-last_acted k (Answer bytes) taken past = refl
-last_acted k (End cause) taken past = refl
-
-hearings_acted : (k : ℕ) (a : Act) (taken : Bool) (past : List Entry) → hearings (entry_of k a taken ∷ past) ≡ hearings past
-hearings_acted k (Give order) taken past = refl
-hearings_acted k (Send bytes) taken past = refl
-hearings_acted k (Answer bytes) taken past = refl
-hearings_acted k (End cause) taken past = refl
-
-newest_acted : (k : ℕ) (a : Act) (taken : Bool) (past : List Entry) → newest (entry_of k a taken ∷ past) ≡ newest past
-newest_acted k (Give order) taken past = refl
-newest_acted k (Send bytes) taken past = refl
-newest_acted k (Answer bytes) taken past = refl
-newest_acted k (End cause) taken past = refl
-
-moment_acted : (k : ℕ) (a : Act) (taken : Bool) (past : List Entry) → moment (entry_of k a taken ∷ past) ≡ moment past
-moment_acted k (Give order) taken past = refl
-moment_acted k (Send bytes) taken past = refl
-moment_acted k (Answer bytes) taken past = refl
-moment_acted k (End cause) taken past = refl
+acted_call : (k : ℕ) (a : Act) (taken : Bool) → is_hearing (entry_of k a taken) ≡ false
+acted_call k (Give order) taken = refl
+acted_call k (Send bytes) taken = refl
+acted_call k (Answer bytes) taken = refl
+acted_call k (End cause) taken = refl
 
 untils_acted : (c : Codecs) (site : SitePlan) (k : ℕ) (a : Act) (taken : Bool) (past : List Entry) (posts : List Post) (us : List ℕ) → IsRun c site past posts → AreUntils c site past us → AreUntils c site (entry_of k a taken ∷ past) us
 untils_acted c site k (Give order) taken past posts us run h = (posts, us, run, h, refl)
@@ -216,10 +200,7 @@ acted_one c site k places past i reading todo a taken within quiet read first_is
       are = set_cut places i w.before w.post w.behind _ cut w.count
           ∙ ap (λ (p : Place). map place_of w.before ++ p ∷ map place_of w.behind) (ap (λ (p : Place). done_place a taken (filled_place reading p)) here ∙ sym (place_acted reading a taken w.post))
           ∙ sym (map-append place_of w.before (with_step (Does reading a taken) w.post ∷ w.behind));
-      newest_is = newest_acted (i + 1) a taken past ∙ b.newest_is;
-      clock_is = moment_acted (i + 1) a taken past ∙ b.clock_is;
-      heard_is = hearings_acted (i + 1) a taken past ∙ b.heard_is;
-      last_is = last_acted (i + 1) a taken past ∙ b.last_is;
+      known_is = known_call k (entry_of (i + 1) a taken) past (acted_call (i + 1) a taken) b.known_is;
       untils_are = untils_acted c site (i + 1) a taken past b.posts k.untils b.run b.untils_are;
     }
 
@@ -252,12 +233,12 @@ due_map (p ∷ posts) = ap (λ (t : List ℕ). due_of p ∷ t) (due_map posts)
 
 pub heard_one : (c : Codecs) (site : SitePlan) (k : Known) (places new : List Place) (past : List Entry) (h : Heard) (bytes : List ℕ) (wait : ℕ) → k.last ≡ false → k.heard < site.turns → All RestsAt places → IsOfPosts (length places) h.what → IsHearing h bytes
     → length new ≡ length places → HeardAll (max k.clock h.at) h.what bytes places new → wait ≡ fold min never (map due_at places) → InBlock c site k places past
-    → InBlock c site (record { newest_hearing = Some (entry.Heard h bytes); clock = max k.clock h.at; heard = k.heard + 1; last = is_over h.what; untils = wait ∷ k.untils }) new (entry.Heard h bytes ∷ past)
+    → InBlock c site (known_behind k h bytes wait) new (entry.Heard h bytes ∷ past)
 heard_one c site k places new past h bytes wait goes_on turn rest of is same all waits b =
     let at = max k.clock h.at in
     let later = heard_from 1 (max (moment past) h.at) h bytes b.posts in
     let count : length places ≡ length b.posts = ap length b.are ∙ length-map b.posts place_of in
-    let clock : max (moment past) h.at ≡ at = ap (λ (m : ℕ). max m h.at) b.clock_is in
+    let clock : max (moment past) h.at ≡ at = ap (λ (m : ℕ). max m h.at) b.known_is.clock_is in
     let due : until b.posts ≡ wait = ap (fold min never) (sym (due_map b.posts)) ∙ ap (λ (ps : List Place). fold min never (map due_at ps)) (sym b.are) ∙ sym waits in
     record {
       posts = later;
@@ -266,21 +247,18 @@ heard_one c site k places new past h bytes wait goes_on turn rest of is same all
         b.run,
         inl (record {
           whole = all_rest b.posts (subst (All RestsAt) b.are rest);
-          goes_on = b.last_is ∙ goes_on;
-          turns_left = subst (λ (n : ℕ). n < site.turns) (sym b.heard_is) turn;
+          goes_on = b.known_is.last_is ∙ goes_on;
+          turns_left = subst (λ (n : ℕ). n < site.turns) (sym b.known_is.heard_is) turn;
           heard = (subst (λ (n : ℕ). IsOfPosts n h.what) count of, is, refl);
         }),
       );
       are = hears_from 1 at h bytes places new b.posts b.are same all ∙ ap (λ (m : ℕ). map place_of (heard_from 1 m h bytes b.posts)) (sym clock);
-      newest_is = refl;
-      clock_is = clock;
-      heard_is = ap (λ (n : ℕ). n + 1) b.heard_is;
-      last_is = refl;
+      known_is = known_heard k h bytes wait past b.known_is;
       untils_are = (b.posts, k.untils, b.run, b.untils_are, ap (λ (n : ℕ). n ∷ k.untils) (sym due));
     }
 
 pub lost_one : (c : Codecs) (site : SitePlan) (k : Known) (places : List Place) (past : List Entry) (wait : ℕ) → k.last ≡ false → k.heard < site.turns → All RestsAt places → wait ≡ fold min never (map due_at places) → InBlock c site k places past
-    → InBlock c site (record { newest_hearing = Some entry.Lost; clock = k.clock; heard = k.heard + 1; last = true; untils = wait ∷ k.untils }) places (entry.Lost ∷ past)
+    → InBlock c site (known_lost k wait) places (entry.Lost ∷ past)
 lost_one c site k places past wait goes_on turn rest waits b =
     let due : until b.posts ≡ wait = ap (fold min never) (sym (due_map b.posts)) ∙ ap (λ (ps : List Place). fold min never (map due_at ps)) (sym b.are) ∙ sym waits in
     record {
@@ -290,27 +268,17 @@ lost_one c site k places past wait goes_on turn rest waits b =
         b.run,
         inl (record {
           whole = all_rest b.posts (subst (All RestsAt) b.are rest);
-          goes_on = b.last_is ∙ goes_on;
-          turns_left = subst (λ (n : ℕ). n < site.turns) (sym b.heard_is) turn;
+          goes_on = b.known_is.last_is ∙ goes_on;
+          turns_left = subst (λ (n : ℕ). n < site.turns) (sym b.known_is.heard_is) turn;
           heard = refl;
         }),
       );
       are = b.are;
-      newest_is = refl;
-      clock_is = b.clock_is;
-      heard_is = ap (λ (n : ℕ). n + 1) b.heard_is;
-      last_is = refl;
+      known_is = known_nothing k wait past b.known_is;
       untils_are = (b.posts, k.untils, b.run, b.untils_are, ap (λ (n : ℕ). n ∷ k.untils) (sym due));
     }
 
-pub begins : (c : Codecs) (site : SitePlan) (places : List Place) (past : List Entry) → places ≡ map place_of (map unheard site.post.items) → past ≡ [] → InBlock c site (record { newest_hearing = None; clock = 0; heard = 0; last = false; untils = [] }) places past
+pub begins : (c : Codecs) (site : SitePlan) (places : List Place) (past : List Entry) → places ≡ map place_of (map unheard site.post.items) → past ≡ [] → InBlock c site known_first places past
 begins c site places past made e =
-    subst (InBlock c site (record { newest_hearing = None; clock = 0; heard = 0; last = false; untils = [] }) places) (sym e)
-    (record { posts = map unheard site.post.items; run = refl; are = made; newest_is = refl; clock_is = refl; heard_is = refl; last_is = refl; untils_are = refl })
-
--- an act is no hearing
-pub outgoing : (k n : ℕ) (a : Act) (taken : Bool) → (if is_hearing (entry_of k a taken) then 1 else 0) + n ≡ n
-outgoing k n (Give order) taken = omega arith
-outgoing k n (Send bytes) taken = omega arith
-outgoing k n (Answer bytes) taken = omega arith
-outgoing k n (End cause) taken = omega arith
+    subst (InBlock c site known_first places) (sym e)
+    (record { posts = map unheard site.post.items; run = refl; are = made; known_is = known_none; untils_are = refl })

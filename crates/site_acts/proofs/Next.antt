@@ -29,8 +29,9 @@ use Rattle.site_posts.proofs.Work.{acted_work}
 use Rattle.site_posts.proofs.Sound.{acted_sound}
 use Rattle.site_acts.specs.declared.deeds.Deed.{Deed}
 use Rattle.site_acts.specs.declared.deeds.Deed.TheVariants.{Answer, Give, Send, Finish}
-use Rattle.site_acts.specs.Deeds.{act_of, IsFramed, MayTake, IsDeed, NextDeed, Nexts, Prepares, Done}
-use Rattle.site_acts.specs.Serving.{IsReady, Known, InBlock}
+use Rattle.site_acts.specs.Deeds.{act_of, IsFramed, MayTake, IsDeed, NextDeed, Nexts, Prepares}
+use Rattle.endpoint.specs.Knowing.{Known}
+use Rattle.site_acts.specs.Serving.{IsReady, InBlock}
 use Rattle.site_acts.proofs.Frame.{acted_one}
 use Rattle.charge_world.specs.declared.entry.Entry.{Entry}
 use Rattle.session_words.specs.declared.plan.SitePlan.{SitePlan}

@@ -11,7 +11,7 @@ use Rattle.station_spec.specs.Judging.{wanted, IsRead}
 use Rattle.station_spec.specs.Next.{IsSpoken}
 use Rattle.site_posts.specs.declared.place.Place.{Place}
 use Rattle.site_posts.specs.Filling.{at}
-use Rattle.site_posts.specs.Places.{Shares, filled_place, done_place, RestsAt}
+use Rattle.site_posts.specs.Places.{Shares, filled_place, RestsAt}
 use Rattle.site_posts.specs.Sound.{IsSound}
 use Rattle.site_acts.specs.declared.deeds.Deed.{Deed}
 use Rattle.site_acts.specs.declared.deeds.Deed.TheVariants.{Answer, Give, Send, Finish}
@@ -64,8 +64,3 @@ abbrev pub Prepares : Codecs → Option states.Todo → List ℕ → Option Deed
 Prepares c None room None = Unit {0}
 Prepares c (Some todo) room (Some deed) = IsDeed c room todo deed × IsFramed deed
 Prepares c todo room deed = ⊥
-
--- a deed was done, and taken or not
-pub record Done (places : List Place) (i : ℕ) (room : List ℕ) (deed : Deed) (taken : Bool) (new : List Place) : Type 0 where
-  pub may : MayTake deed taken
-  pub new_is : new ≡ slice_set places i (done_place (act_of room deed) taken (at places i))

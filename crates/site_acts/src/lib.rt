@@ -5,9 +5,8 @@
 #![tactic(auto)]
 
 mod acting;
+mod choosing;
 mod deeds;
-mod desk;
+mod preparing;
 
 pub use acting::act;
-pub use desk::{Desk, FRAME, put_header};
-pub use trace_lines::TraceFailed;

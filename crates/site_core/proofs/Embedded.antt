@@ -11,9 +11,9 @@ use Rattle.station_spec.specs.Runs.{unheard, Closes, IsCutRun}
 use Rattle.station_laws.specs.PostRuns.{RunsArePostRuns}
 use Rattle.site_posts.specs.declared.place.Place.{Place}
 use Rattle.site_posts.specs.Places.{place_of}
-use Rattle.site_acts.specs.Telling.{Carries, HasClosing}
-use Rattle.site_serving.proofs.Carry.{carries_to}
-use Rattle.site_turns.specs.declared.hearing.SoFar.{SoFar}
+use Rattle.endpoint.specs.Telling.{Carries, HasClosing}
+use Rattle.endpoint.proofs.Carry.{carries_to}
+use Rattle.endpoint.specs.declared.hearing.SoFar.{SoFar}
 use Rattle.site_turns.specs.Ending.{AreCounts, AreMadeOf}
 use Rattle.site_turns.specs.SoFar.{IsSoFar}
 use Rattle.site_turns.proofs.Counts.{counts_so_far}

@@ -9,10 +9,10 @@ ghost use Rattle.trace_text.specs.Pasts.{first_line_2};
 ghost use Rattle.post_spec.specs.Codecs.{codecs};
 ghost use Rattle.station_spec.specs.Runs.{IsCutRun};
 ghost use Rattle.site_posts.specs.Places.{due_at};
-ghost use Rattle.site_serving.specs.Rooms.{FitsIn};
-ghost use Rattle.site_acts.specs.Telling.{Carries, CarriesText, IsTraced, IsWrittenSo, IsClosedSo};
+ghost use Rattle.endpoint.specs.Rooms.{FitsIn};
+ghost use Rattle.endpoint.specs.Knowing.{AwaitsLine};
+ghost use Rattle.endpoint.specs.Telling.{Carries, CarriesText, IsTraced, IsWrittenSo, IsClosedSo};
 ghost use Rattle.site_turns.specs.Ending.{AreCounts};
-ghost use Rattle.site_turns.specs.Hearing.{AwaitsLine};
 ghost use Rattle.site_turns.specs.SoFar.{IsSoFar, IsNext};
 ghost use Rattle.site_core.specs.Hearing.{MayHear};
 

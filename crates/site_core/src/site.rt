@@ -12,12 +12,11 @@ ghost use Rattle.site_turns.specs.SoFar.{IsSoFar};
 ghost use Rattle.site_core.specs.Hearing.{MayHear};
 
 use bitflags::Flags;
+use endpoint::{Desk, FRAME, SoFar};
 use secc_machine::Post;
 use session_words::{PostPlan, SitePlan};
-use site_acts::{Desk, FRAME};
 use site_codec::Codec;
 use site_posts::{CauseSet, Place, PostReport};
-use site_turns::SoFar;
 use std::alloc::Global;
 use trace_lines::{NoMemory, TraceLines};
 

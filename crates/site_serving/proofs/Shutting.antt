@@ -1,5 +1,5 @@
 -- The orders by which a run is closed, post by post.
-use Rattle.std.proofs.Common.{◌≡◌, ◌<◌, ◌≤◌, ℕ, zero, suc, ◌+◌, Bool, true, false, List, [], ◌∷◌, ◌++◌, length, map, drop, get_or, Option, Some, None, Result, Ok, Err, refl, sym, ap, subst, ◌∙◌, arith}
+use Rattle.std.proofs.Common.{◌≡◌, ◌<◌, ◌≤◌, ℕ, zero, suc, ◌+◌, Bool, true, false, List, [], ◌∷◌, ◌++◌, length, map, drop, get_or, refl, sym, ap, subst, ◌∙◌, arith}
 use Rattle.std.specs.Prelude.{MatchBool}
 use Rattle.std.proofs.lemmas.List.{length-map, get_or_default}
 use Rattle.charge_world.specs.declared.entry.Entry.{Entry}
@@ -12,7 +12,6 @@ use Rattle.site_posts.specs.declared.place.Place.{Place}
 use Rattle.site_posts.specs.Filling.{no_place, at}
 use Rattle.site_posts.specs.Places.{place_of}
 use Rattle.site_serving.specs.Serving.{ClosesTo}
-use Rattle.site_acts.specs.Telling.{Carries, CarriesText, IsCutHere, IsCutText, HasClosing, IsClosing}
 use Rattle.site_acts.proofs.Frame.{Among, among, places_cut, at_cut, drop_cut}
 
 drop_zero : {A : Type 0} (before : List A) (x : A) (behind : List A) → drop (length before) (before ++ x ∷ behind) ≡ x ∷ behind
@@ -73,33 +72,3 @@ among_places places posts i are less = among posts i (subst (λ (n : ℕ). i < n
 
 pub all_places : (places : List Place) (posts : List Post) (i : ℕ) → places ≡ map place_of posts → i ≡ length places → i ≡ length posts
 all_places places posts i are e = e ∙ ap length are ∙ length-map posts place_of
-
--- orders that stand on entries
-pub none_closing : (blocks past : List Entry) → past ≡ blocks → HasClosing blocks past
-none_closing blocks past e = record { later = []; past_is = e; closing = tt }
-
-pub one_closing : (blocks past : List Entry) (k : ℕ) (taken : Bool) → HasClosing blocks past → HasClosing blocks (entry.Drove k order.Open taken ∷ past)
-one_closing blocks past k taken h = record {
-  later = entry.Drove k order.Open taken ∷ h.later;
-  past_is = ap (λ (p : List Entry). entry.Drove k order.Open taken ∷ p) h.past_is;
-  closing = ((k, taken, refl), h.closing);
-}
-
-pub cut_behind : (blocks past : List Entry) (text : List ℕ) → HasClosing blocks past → IsCutHere blocks text → IsCutText past text
-cut_behind blocks past text h c = record {
-  later = h.later;
-  e = c.e;
-  earlier = c.earlier;
-  front = c.front;
-  rest = c.rest;
-  past_is = h.past_is ∙ ap (λ (p : List Entry). h.later ++ p) c.past_is;
-  closing = h.closing;
-  line_is = c.line_is;
-  text_is = c.text_is;
-}
-
-pub text_closing : (a b : Option (List Entry)) (s : Option (List ℕ)) → ((blocks : List Entry) → Carries a b (λ past. past ≡ blocks) (HasClosing blocks)) → CarriesText a b s s IsCutHere IsCutText
-text_closing a None s f = tt
-text_closing None (Some new) s f = absurd (f [])
-text_closing (Some old) (Some new) None f = tt
-text_closing (Some old) (Some new) (Some text) f = λ c. cut_behind old new text (f old refl) c

@@ -6,7 +6,7 @@ ghost use Rattle.station_spec.specs.Sharing.{Post};
 ghost use Rattle.station_spec.specs.Runs.{Closes};
 ghost use Rattle.site_posts.specs.Places.{place_of};
 ghost use Rattle.site_serving.specs.Serving.{ClosesTo};
-ghost use Rattle.site_acts.specs.Telling.{Carries, HasClosing};
+ghost use Rattle.endpoint.specs.Telling.{Carries, HasClosing};
 
 use charge_world::{Order, Wire};
 use site_posts::Place;

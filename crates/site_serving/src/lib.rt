@@ -8,6 +8,4 @@ mod closing;
 mod turning;
 
 pub use closing::close_unwritten;
-pub use site_acts;
-pub use site_acts::TraceFailed;
-pub use turning::{answer_all, bound_heard, bytes_heard};
+pub use turning::answer_all;

@@ -1,18 +1,18 @@
-//! What was heard, and all that the posts do about it.
+//! All that the posts do about what was heard.
 
 ghost use Rattle.std.specs.Prelude.{◌≡◌, ◌≤◌, ◌<◌, ◌+◌, length, OnOk, IsSome, All};
 ghost use Rattle.std.specs.List.{AllWithin};
-ghost use Rattle.charge_world.specs.Outside.{IsFault, HasCount, bytes_of};
+ghost use Rattle.charge_world.specs.Outside.{IsFault};
 ghost use Rattle.session_words.specs.declared.plan.SitePlan.{SitePlan};
 ghost use Rattle.post_spec.specs.Codecs.{codecs};
-ghost use Rattle.station_spec.specs.Blocks.{IsHearing, IsPlantEvent};
+ghost use Rattle.endpoint.specs.Knowing.{Known};
+ghost use Rattle.endpoint.specs.Telling.{Carries, CarriesText, IsTraced, IsWrittenSo};
 ghost use Rattle.site_posts.specs.Places.{RestsAt};
-ghost use Rattle.site_acts.specs.Serving.{IsReady, InBlock, Known};
-ghost use Rattle.site_acts.specs.Telling.{Carries, CarriesText, IsTraced, IsWrittenSo};
-ghost use Rattle.site_serving.specs.Rooms.{FitsIn};
+ghost use Rattle.site_acts.specs.Serving.{IsReady, InBlock};
 
-use charge_world::{Heard, PlantEvent, Sink, What, Wire};
-use site_acts::{Desk, TraceFailed, act};
+use charge_world::{Sink, Wire};
+use endpoint::{Desk, TraceFailed};
+use site_acts::act;
 use site_codec::Codec;
 use site_posts::Place;
 
@@ -71,45 +71,4 @@ pub fn answer_all<C: Codec, W: Wire, J: Sink>(
         answer(desk, places, i, limit, hearing, wire, trace)?;
     }
     Ok(())
-}
-
-/// The bytes that came with what was heard: the first of the room.
-pub fn bytes_heard(what: What, room: &[u8]) -> &[u8]
-    requires room { FitsIn what (length room.now) }
-    requires count { HasCount what }
-    ensures bytes { result.now ≡ bytes_of what room.now }
-    ensures short { length result.now ≤ 4096 }
-{
-    match what {
-        What::Bytes { post: _, n } | What::Datagram { post: _, n } => &room[..n as usize],
-        What::Came { .. } | What::Gone { .. } | What::Plant { .. } | What::Tick | What::Over =>
-            &room[..0],
-    }
-}
-
-/// What was heard is within its types. It does nothing: each number is looked at for the prover, which so knows its bound.
-pub fn bound_heard(heard: &Heard, room: &[u8])
-    requires room { FitsIn heard.now.what (length room.now) }
-    requires count { HasCount heard.now.what }
-    ensures { IsHearing heard.now (bytes_of heard.now.what room.now) }
-{
-    let _at = heard.at;
-    match &heard.what {
-        What::Came { post: _, token } => {
-            let _token = *token;
-        }
-        What::Plant { post: _, event } => bound_event(event),
-        What::Bytes { .. } | What::Gone { .. } | What::Datagram { .. } | What::Tick | What::Over =>
-            {}
-    }
-}
-
-/// The amounts of an event of the charger are within their types. It does nothing, likewise.
-fn bound_event(event: &PlantEvent)
-    ensures { IsPlantEvent event.now }
-{
-    if let PlantEvent::Measured { voltage, current } = event {
-        let _voltage = voltage.get();
-        let _current = current.get();
-    }
 }

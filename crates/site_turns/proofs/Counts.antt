@@ -14,8 +14,9 @@ use Rattle.station_laws.specs.PostRuns.{ArePostsOf, RunsArePostRuns}
 use Rattle.site_posts.specs.declared.place.Place.{Place}
 use Rattle.site_posts.specs.Filling.{at}
 use Rattle.site_posts.specs.Places.{capped, place_of}
-use Rattle.site_serving.specs.SiteActsServing.{Known, InBlock}
-use Rattle.site_serving.specs.Telling.{HasClosing, IsClosing}
+use Rattle.endpoint.specs.Knowing.{Known}
+use Rattle.site_acts.specs.Serving.{InBlock}
+use Rattle.endpoint.specs.Telling.{HasClosing, IsClosing}
 use Rattle.site_turns.specs.declared.ending.Ended.{Ended}
 use Rattle.site_turns.specs.declared.ending.Ended.TheVariants as ended
 use Rattle.site_turns.specs.Ending.{Counts, AreCounts}

@@ -17,9 +17,10 @@ use Rattle.station_laws.specs.PostRuns.{RunsArePostRuns}
 use Rattle.site_posts.specs.declared.place.Place.{Place}
 use Rattle.site_posts.specs.Filling.{no_place}
 use Rattle.site_posts.specs.Places.{place_of, RestsAt}
-use Rattle.site_serving.specs.SiteActsServing.{newest}
-use Rattle.site_serving.specs.Telling.{Carries, HasClosing, IsClosing, IsTraced}
-use Rattle.site_serving.proofs.Carry.{carries_then}
+use Rattle.endpoint.specs.Knowing.{newest}
+use Rattle.endpoint.specs.Telling.{Carries, HasClosing, IsClosing, IsTraced}
+use Rattle.endpoint.proofs.Knowing.{last_heard, last_lost, newest_closing, hearings_closing, last_closing}
+use Rattle.endpoint.proofs.Carry.{carries_then}
 use Rattle.site_turns.specs.declared.ending.Ended.{Ended}
 use Rattle.site_turns.specs.declared.ending.Ended.TheVariants as ended
 use Rattle.site_turns.specs.declared.ending.Last.{Last}
@@ -31,50 +32,13 @@ use Rattle.site_turns.proofs.Counts.{counts_stopped}
 
 -- ---- orders to open that stand on entries
 
-newest_closing : (later blocks : List Entry) → AllByRecursion IsClosing later → newest (later ++ blocks) ≡ newest blocks
-newest_closing [] blocks h = refl
-newest_closing (x ∷ later) blocks h = ap (λ (e : Entry). newest (e ∷ (later ++ blocks))) h.0.2 ∙ newest_closing later blocks h.1
-
-hearings_closing : (later blocks : List Entry) → AllByRecursion IsClosing later → hearings (later ++ blocks) ≡ hearings blocks
-hearings_closing [] blocks h = refl
-hearings_closing (x ∷ later) blocks h = ap (λ (e : Entry). hearings (e ∷ (later ++ blocks))) h.0.2 ∙ hearings_closing later blocks h.1
-
-last_closing : (later blocks : List Entry) → AllByRecursion IsClosing later → is_last (later ++ blocks) ≡ is_last blocks
-last_closing [] blocks h = refl
-last_closing (x ∷ later) blocks h = ap (λ (e : Entry). is_last (e ∷ (later ++ blocks))) h.0.2 ∙ last_closing later blocks h.1
-
-ended_over : (turns : ℕ) (how : Ended) (later blocks : List Entry) → AllByRecursion IsClosing later → EndedAs turns how blocks → EndedAs turns how (later ++ blocks)
-ended_over turns ended.Over later blocks h e = (e.0, e.1, newest_closing later blocks h ∙ e.2, e.3)
-ended_over turns ended.Lost later blocks h e = newest_closing later blocks h ∙ e
-ended_over turns ended.TraceFault later blocks h e = tt
-ended_over turns ended.Turns later blocks h e = (hearings_closing later blocks h ∙ e.0, last_closing later blocks h ∙ e.1)
-
 ended_past : (turns : ℕ) (how : Ended) (blocks past : List Entry) → HasClosing blocks past → EndedAs turns how blocks → EndedAs turns how past
-ended_past turns how blocks past h e = subst (EndedAs turns how) (sym h.past_is) (ended_over turns how h.later blocks h.closing e)
+ended_past turns ended.Over blocks past h e = (e.0, e.1, newest_closing blocks past h ∙ e.2, e.3)
+ended_past turns ended.Lost blocks past h e = newest_closing blocks past h ∙ e
+ended_past turns ended.TraceFault blocks past h e = tt
+ended_past turns ended.Turns blocks past h e = (hearings_closing blocks past h ∙ e.0, last_closing blocks past h ∙ e.1)
 
 -- ---- how a run ends
-
-pub last_heard : (past : List Entry) (h : Heard) (bytes : List ℕ) → newest past ≡ Some (entry.Heard h bytes) → is_over h.what ≡ true → is_last past ≡ true
-last_heard [] h bytes e over = cc
-last_heard (entry.Heard heard bytes ∷ past) h b e over =
-    let same : heard ≡ h = cc in
-    ap (λ (x : Heard). is_over x.what) same ∙ over
-last_heard (entry.Lost ∷ past) h bytes e over = refl
-last_heard (entry.Sent post bytes taken ∷ past) h b e over = last_heard past h b e over
-last_heard (entry.Answered post bytes taken ∷ past) h b e over = last_heard past h b e over
-last_heard (entry.Drove post order taken ∷ past) h b e over = last_heard past h b e over
-last_heard (entry.Dialed port taken ∷ past) h b e over = last_heard past h b e over
-last_heard (entry.Ended post cause ∷ past) h b e over = last_heard past h b e over
-
-pub last_lost : (past : List Entry) → newest past ≡ Some entry.Lost → is_last past ≡ true
-last_lost [] e = cc
-last_lost (entry.Heard heard bytes ∷ past) e = cc
-last_lost (entry.Lost ∷ past) e = refl
-last_lost (entry.Sent post bytes taken ∷ past) e = last_lost past e
-last_lost (entry.Answered post bytes taken ∷ past) e = last_lost past e
-last_lost (entry.Drove post order taken ∷ past) e = last_lost past e
-last_lost (entry.Dialed port taken ∷ past) e = last_lost past e
-last_lost (entry.Ended post cause ∷ past) e = last_lost past e
 
 all_rest : (posts : List Post) → All RestsAt (map place_of posts) → AreQuiet posts
 all_rest [] h = tt

@@ -4,25 +4,27 @@ use Rattle.std.specs.List.{All}
 use Rattle.std.proofs.lemmas.List.{append-nil}
 use Rattle.charge_world.specs.declared.entry.Entry.{Entry}
 use Rattle.charge_world.specs.declared.offer.Dialect.{Dialect}
-use Rattle.charge_world.specs.Outside.{Appends, AppendsSome}
+use Rattle.charge_world.specs.Outside.{AppendsSome}
 use Rattle.session_words.specs.declared.plan.SitePlan.{SitePlan}
 use Rattle.session_words.specs.declared.word.Word.{Word}
-use Rattle.trace_text.specs.Pasts.{first_line_2, hearing_number, trace_text}
+use Rattle.trace_text.specs.Pasts.{first_line_2}
 use Rattle.post_spec.specs.Codecs.{Codecs}
 use Rattle.station_laws.specs.PostRuns.{RunsArePostRuns}
 use Rattle.station_spec.specs.Runs.{unheard, IsCutRun}
 use Rattle.site_codec.specs.Replies.{IsPlan}
 use Rattle.site_posts.specs.declared.place.Place.{Place}
 use Rattle.site_posts.specs.Places.{RestsAt}
-use Rattle.site_serving.specs.SiteActsServing.{IsReady}
-use Rattle.site_serving.specs.Telling.{Carries, CarriesText, IsTraced}
-use Rattle.site_serving.proofs.Carry.{carries_from}
-use Rattle.site_serving.proofs.Frame.{begins}
+use Rattle.site_acts.specs.Serving.{IsReady}
+use Rattle.endpoint.specs.Telling.{Carries, CarriesText, IsCutFirst}
+use Rattle.endpoint.proofs.Carry.{carries_from, text_to}
+use Rattle.endpoint.proofs.Written.{begin_cut}
+use Rattle.site_acts.proofs.Frame.{begins}
 use Rattle.site_turns.specs.declared.ending.Ended.{Ended}
 use Rattle.site_turns.specs.declared.ending.Ended.TheVariants as ended
-use Rattle.site_turns.specs.declared.hearing.SoFar.{SoFar}
+use Rattle.endpoint.specs.declared.hearing.SoFar.{SoFar}
 use Rattle.site_turns.specs.Ending.{AreMadeOf, RanAs, TracedAs, AwaitedAs, AreCounts}
-use Rattle.site_turns.specs.SoFar.{nothing_heard, IsSoFar}
+use Rattle.endpoint.specs.Knowing.{nothing_heard, known_first}
+use Rattle.site_turns.specs.SoFar.{IsSoFar}
 use Rattle.site_turns.specs.Turns.{Waits, Stops}
 use Rattle.site_turns.proofs.Counts.{counts_first}
 use Rattle.site_turns.proofs.Finished.{closes_unheard}
@@ -37,7 +39,7 @@ first_rest plan places limit turns m = subst (All RestsAt) (sym m.places_are) (m
 
 pub none_so_far : (c : Codecs) (plan : SitePlan) (places : List Place) (limit turns : ℕ) (so_far : SoFar) (past : List Entry) → so_far ≡ nothing_heard → AreMadeOf plan places limit turns → past ≡ [] → IsSoFar c plan so_far places past
 none_so_far c plan places limit turns so_far past none m e = record {
-  known = record { newest_hearing = None; clock = 0; heard = 0; last = false; untils = [] };
+  known = known_first;
   block = begins c plan places past m.places_are e;
   clock_is = ap (λ (s : SoFar). s.moment) (sym none);
   heard_is = ap (λ (s : SoFar). s.hearing) (sym none);
@@ -52,20 +54,8 @@ waits_first c plan places limit turns so_far told past none m e = record {
 }
 
 -- the first line
-pub begin_ok : (a : Option (List Entry)) (s t : Option (List ℕ)) → Appends s t first_line_2 → CarriesText a a s t (λ past text. (past ≡ []) × (text ≡ [])) (IsTraced 0)
-begin_ok None s t h = tt
-begin_ok (Some past) s None h = tt
-begin_ok (Some past) None (Some now) h = absurd h
-begin_ok (Some past) (Some start) (Some now) h = λ p. record {
-  text_is = h ∙ ap (λ (x : List ℕ). x ++ first_line_2) p.1 ∙ sym (append-nil first_line_2) ∙ ap trace_text (sym p.0);
-  hearing_is = ap hearing_number p.0;
-}
-
 pub begin_failed : (a : Option (List Entry)) (s t : Option (List ℕ)) → AppendsSome s t first_line_2 → CarriesText a a s t (λ past text. (past ≡ []) × (text ≡ [])) (TracedAs ended.TraceFault)
-begin_failed None s t h = tt
-begin_failed (Some past) s None h = tt
-begin_failed (Some past) None (Some now) h = absurd h
-begin_failed (Some past) (Some start) (Some now) h = λ p. inl (record { front = h.0; rest = h.1; past_is = p.0; line_is = h.2; text_is = h.3 ∙ ap (λ (x : List ℕ). x ++ h.0) p.1 })
+begin_failed a s t h = text_to a a s t (λ past text. (past ≡ []) × (text ≡ [])) IsCutFirst (TracedAs ended.TraceFault) (λ past text c. inl c) (begin_cut a s t h)
 
 -- nothing is heard
 pub none_run : (c : Codecs) (plan : SitePlan) (past : List Entry) → past ≡ [] → RanAs c plan ended.TraceFault past

@@ -22,11 +22,13 @@ use Rattle.site_codec.specs.Replies.{IsPlan}
 use Rattle.site_posts.specs.declared.place.Place.{Place}
 use Rattle.site_posts.specs.Places.{place_of, heard_place, HeardAll, due_at, RestsAt}
 use Rattle.site_posts.proofs.Sound.{IsEvent, fresh_sound, heard_sound}
-use Rattle.site_serving.specs.SiteActsServing.{IsReady, Known, InBlock}
-use Rattle.site_serving.specs.Telling.{Carries}
-use Rattle.site_serving.proofs.Carry.{carries_none}
-use Rattle.site_serving.proofs.Frame.{heard_one}
-use Rattle.site_turns.specs.Hearing.{Hears, known_behind}
+use Rattle.endpoint.specs.Knowing.{Known}
+use Rattle.site_acts.specs.Serving.{IsReady, InBlock}
+use Rattle.endpoint.specs.Telling.{Carries}
+use Rattle.endpoint.proofs.Carry.{carries_none}
+use Rattle.site_acts.proofs.Frame.{heard_one}
+use Rattle.endpoint.specs.Knowing.{known_behind}
+use Rattle.site_turns.specs.Hearing.{Hears}
 
 -- quiet posts read all that came
 pub read_out : (places : List Place) → ReadsAll → All RestsAt places → All (λ p. IsReadOut p.post.session) places

@@ -1,5 +1,3 @@
-pub mod Orders
-pub mod Lines
 pub mod Heard
 pub mod Turns
 pub mod Counts

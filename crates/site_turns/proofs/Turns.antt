@@ -14,15 +14,17 @@ use Rattle.post_spec.specs.Codecs.{Codecs}
 use Rattle.station_spec.specs.Blocks.{is_over}
 use Rattle.site_posts.specs.declared.place.Place.{Place}
 use Rattle.site_posts.specs.Places.{capped, due_at, RestsAt}
-use Rattle.site_serving.specs.SiteActsServing.{newest, Known, InBlock}
-use Rattle.site_serving.specs.Telling.{Carries}
-use Rattle.site_serving.proofs.Frame.{lost_one}
+use Rattle.endpoint.specs.Knowing.{newest, Known, known_lost}
+use Rattle.site_acts.specs.Serving.{InBlock}
+use Rattle.endpoint.specs.Telling.{Carries}
+use Rattle.site_acts.proofs.Frame.{lost_one}
 use Rattle.site_turns.specs.declared.ending.Ended.{Ended}
 use Rattle.site_turns.specs.declared.ending.Ended.TheVariants as ended
 use Rattle.site_turns.specs.declared.ending.Last.{Last}
-use Rattle.site_turns.specs.declared.hearing.SoFar.{SoFar}
+use Rattle.endpoint.specs.declared.hearing.SoFar.{SoFar}
 use Rattle.site_turns.specs.Ending.{EndedAs}
-use Rattle.site_turns.specs.Hearing.{Hears, known_behind}
+use Rattle.endpoint.specs.Knowing.{known_behind}
+use Rattle.site_turns.specs.Hearing.{Hears}
 use Rattle.site_turns.specs.Lasts.{last_by, ended_so}
 use Rattle.site_turns.specs.SoFar.{IsSoFar, IsNext}
 use Rattle.site_turns.specs.Turns.{Waits, Stops, Turned}
@@ -36,10 +38,6 @@ pub record HeardSo (c : Codecs) (plan : SitePlan) (so_far : SoFar) (h : Heard) (
   pub newest_is : known.newest_hearing ≡ Some (entry.Heard h bytes)
   pub last_is : known.last ≡ is_over h.what
   pub told_are : told ≡ known.untils ++ earlier
-
--- one hearing more is counted
-pub counted : (n m : ℕ) → n < 2 ^ 64 - 1 → m ≡ capped (n + 1) → m ≡ n + 1
-counted n m few e = omega (arith, few, e)
 
 one_until : (told told_later untils earlier : List ℕ) (wait : ℕ) → told_later ≡ wait ∷ told → told ≡ untils ++ earlier → told_later ≡ (wait ∷ untils) ++ earlier
 one_until told told_later untils earlier wait more are = more ∙ ap (λ (t : List ℕ). wait ∷ t) are
@@ -75,7 +73,7 @@ next_heard (Some old) (Some past) c plan so_far later h bytes wait places new be
     let r = next.run in
     record {
       known = known_behind r.known h bytes wait;
-      block = behind r.known (sym r.block.last_is ∙ next.goes_on) (subst (λ (n : ℕ). n < plan.turns) r.block.heard_is next.left) r.clock_is (record { earlier = next.earlier; past_is = next.past_is; block = r.block });
+      block = behind r.known (sym r.block.known_is.last_is ∙ next.goes_on) (subst (λ (n : ℕ). n < plan.turns) r.block.known_is.heard_is next.left) r.clock_is (record { earlier = next.earlier; past_is = next.past_is; block = r.block });
       clock_is = ap (λ (m : ℕ). max m h.at) r.clock_is ∙ sym moment_is;
       heard_is = ap (λ (n : ℕ). n + 1) r.heard_is ∙ sym hearing_is;
     }
@@ -93,7 +91,7 @@ turned_by E c plan so_far h bytes told earlier places past what.Over e s = recor
   known = s.known;
   block = s.block;
   told_are = s.told_are;
-  ended = (h, bytes, s.block.newest_is ∙ s.newest_is, ap is_over e);
+  ended = (h, bytes, s.block.known_is.newest_is ∙ s.newest_is, ap is_over e);
 }
 
 pub turned : (E : Type 0) (c : Codecs) (plan : SitePlan) (so_far : SoFar) (h : Heard) (bytes told earlier : List ℕ) (places : List Place) (past : List Entry) (last : Option Last) → last ≡ last_by h.what → HeardSo c plan so_far h bytes told earlier places past
@@ -121,7 +119,7 @@ turn_lost None (Some past) c plan so_far how told told_later earlier wait places
 turn_lost (Some old) (Some past) c plan so_far how told told_later earlier wait places grows waited waits left rest end = λ w.
     let r = w.run in
     let block = lost_one c plan r.known places old wait w.goes_on (subst (λ (n : ℕ). n < plan.turns) (sym r.heard_is) left) rest waits r.block in
-    let known : Known = record { newest_hearing = Some entry.Lost; clock = r.known.clock; heard = r.known.heard + 1; last = true; untils = wait ∷ r.known.untils } in
+    let known = known_lost r.known wait in
     record {
       known = known;
       block = subst (InBlock c plan known places) (sym grows) block;
@@ -135,5 +133,5 @@ stop_turns c plan so_far told earlier places past all w = record {
   known = w.run.known;
   block = w.run.block;
   told_are = w.told_are;
-  ended = (w.run.block.heard_is ∙ w.run.heard_is ∙ all, w.run.block.last_is ∙ w.goes_on);
+  ended = (w.run.block.known_is.heard_is ∙ w.run.heard_is ∙ all, w.run.block.known_is.last_is ∙ w.goes_on);
 }

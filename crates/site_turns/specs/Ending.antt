@@ -17,8 +17,8 @@ use Rattle.site_posts.specs.declared.place.Place.{Place}
 use Rattle.site_posts.specs.declared.report.PostReport.{PostReport}
 use Rattle.site_posts.specs.Filling.{at}
 use Rattle.site_posts.specs.Places.{capped, place_of}
-use Rattle.site_serving.specs.SiteActsServing.{newest}
-use Rattle.site_serving.specs.Telling.{HasClosing, IsCutFirst, IsCutText}
+use Rattle.endpoint.specs.Knowing.{newest}
+use Rattle.endpoint.specs.Telling.{HasClosing, IsCutFirst, IsCutText}
 use Rattle.site_turns.specs.declared.ending.Ended.{Ended}
 use Rattle.site_turns.specs.declared.ending.Ended.TheVariants as ended
 

@@ -7,11 +7,9 @@ use Rattle.session_words.specs.declared.plan.SitePlan.{SitePlan}
 use Rattle.post_spec.specs.Codecs.{Codecs}
 use Rattle.station_spec.specs.Blocks.{hearings, is_last}
 use Rattle.site_posts.specs.declared.place.Place.{Place}
-use Rattle.site_serving.specs.SiteActsServing.{Known, InBlock}
-use Rattle.site_turns.specs.declared.hearing.SoFar.{SoFar}
-
-abbrev pub nothing_heard : SoFar
-nothing_heard = record { moment = 0; hearing = 0 }
+use Rattle.endpoint.specs.declared.hearing.SoFar.{SoFar}
+use Rattle.endpoint.specs.Knowing.{Known}
+use Rattle.site_acts.specs.Serving.{InBlock}
 
 -- the past is a run of the plan so far: the posts keep what their steps in it tell, and these are its greatest moment and its hearings
 pub record IsSoFar (c : Codecs) (plan : SitePlan) (so_far : SoFar) (places : List Place) (past : List Entry) : Type 0 where

@@ -4,12 +4,13 @@ use Rattle.charge_world.specs.declared.entry.Entry.{Entry}
 use Rattle.session_words.specs.declared.plan.SitePlan.{SitePlan}
 use Rattle.post_spec.specs.Codecs.{Codecs}
 use Rattle.site_posts.specs.declared.place.Place.{Place}
-use Rattle.site_serving.specs.SiteActsServing.{Known, InBlock}
-use Rattle.site_serving.specs.Telling.{IsTraced, IsCutText}
+use Rattle.endpoint.specs.Knowing.{Known}
+use Rattle.site_acts.specs.Serving.{InBlock}
+use Rattle.endpoint.specs.Telling.{IsTraced, IsCutText}
 use Rattle.site_turns.specs.declared.ending.Ended.{Ended}
 use Rattle.site_turns.specs.declared.ending.Ended.TheVariants as ended
 use Rattle.site_turns.specs.declared.ending.Last.{Last}
-use Rattle.site_turns.specs.declared.hearing.SoFar.{SoFar}
+use Rattle.endpoint.specs.declared.hearing.SoFar.{SoFar}
 use Rattle.site_turns.specs.Ending.{EndedAs}
 use Rattle.site_turns.specs.Lasts.{ended_by, ended_so}
 use Rattle.site_turns.specs.SoFar.{IsSoFar}

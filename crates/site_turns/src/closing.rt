@@ -5,15 +5,14 @@ ghost use Rattle.charge_world.specs.declared.entry.Entry.{Entry};
 ghost use Rattle.charge_world.specs.Outside.{IsFault};
 ghost use Rattle.station_spec.specs.Sharing.{Post};
 ghost use Rattle.station_spec.specs.Runs.{Closes};
+ghost use Rattle.endpoint.specs.Telling.{Carries, CarriesText, HasClosing, IsTraced, IsWrittenSo, IsClosedSo};
 ghost use Rattle.site_posts.specs.Places.{place_of};
 ghost use Rattle.site_serving.specs.Serving.{ClosesTo};
-ghost use Rattle.site_serving.specs.Telling.{Carries, CarriesText, HasClosing, IsTraced, IsWrittenSo, IsClosedSo};
 
-use charge_world::{Order, Sink, Wire};
+use charge_world::{Sink, Wire};
+use endpoint::{TraceFailed, TraceLines, open};
 use site_posts::Place;
-use site_serving::{TraceFailed, close_unwritten};
-use trace_lines::TraceLines;
-use trace_text::Noted;
+use site_serving::close_unwritten;
 
 /// Orders the post at place i open where its contactor is live, and writes the order's line.
 fn close_one<W: Wire, J: Sink>(
@@ -37,14 +36,7 @@ fn close_one<W: Wire, J: Sink>(
 {
     let place = &places[i];
     if place.post.live() {
-        let k = i as u8 + 1;
-        let taken = wire.drive(k, Order::Open).is_ok();
-        let noted = Noted::Drove {
-            post: k,
-            order: Order::Open,
-            taken,
-        };
-        lines.write(hearing, &noted, trace)
+        open(i as u8 + 1, hearing, lines, wire, trace)
     } else {
         Ok(())
     }

@@ -7,50 +7,19 @@ ghost use Rattle.session_timers.specs.Due.{never};
 ghost use Rattle.session_words.specs.declared.plan.SitePlan.{SitePlan};
 ghost use Rattle.post_spec.specs.Codecs.{codecs};
 ghost use Rattle.station_spec.specs.Blocks.{IsHearing};
+ghost use Rattle.endpoint.specs.Knowing.{Known, known_behind, AwaitsLine};
+ghost use Rattle.endpoint.specs.Rooms.{FitsIn};
+ghost use Rattle.endpoint.specs.Telling.{Carries, CarriesText, IsWrittenSo};
 ghost use Rattle.site_posts.specs.Places.{RestsAt, HeardAll, due_at, capped};
-ghost use Rattle.site_serving.specs.Rooms.{FitsIn};
-ghost use Rattle.site_serving.specs.SiteActsServing.{IsReady, InBlock, Known};
-ghost use Rattle.site_serving.specs.Telling.{Carries, CarriesText, IsWrittenSo};
-ghost use Rattle.site_turns.specs.Hearing.{Hears, known_behind, AwaitsLine};
-ghost use Rattle.site_turns.specs.SoFar.{nothing_heard};
+ghost use Rattle.site_acts.specs.Serving.{IsReady, InBlock};
+ghost use Rattle.site_turns.specs.Hearing.{Hears};
 
 use charge_world::{Heard, Sink, Wire};
+use endpoint::{Desk, SoFar, TraceFailed, bound_heard, bytes_heard, write_heard};
 use secc_machine::law_of_rest;
 use site_codec::Codec;
 use site_posts::{Place, hear_all};
-use site_serving::site_acts::Desk;
-use site_serving::{TraceFailed, answer_all, bound_heard, bytes_heard};
-use trace_text::Noted;
-
-/// What a site heard so far.
-#[derive(Drop)]
-pub struct SoFar {
-    /// The greatest moment, in milliseconds.
-    pub moment: u64,
-    /// How many hearings there were, a lost one counted. It stands still at the end of its type.
-    pub hearing: u64,
-}
-
-impl SoFar {
-    /// Nothing.
-    pub fn nothing() -> SoFar
-        ensures { result ≡ nothing_heard }
-    {
-        SoFar {
-            moment: 0,
-            hearing: 0,
-        }
-    }
-
-    /// Counts a hearing at this moment. A clock that goes back stands still.
-    fn count(&mut self, at: u64)
-        ensures moment { self.new.moment ≡ max self.old.moment at }
-        ensures hearing { self.new.hearing ≡ capped (self.old.hearing + 1) }
-    {
-        self.moment = self.moment.max(at);
-        self.hearing = self.hearing.saturating_add(1);
-    }
-}
+use site_serving::answer_all;
 
 /// Each post hears this, at this moment.
 fn take_in(places: &mut [Place], now: u64, heard: &Heard, room: &[u8])
@@ -98,11 +67,7 @@ fn hear_counted<C: Codec, W: Wire, J: Sink>(
     ensures faults { W.faults wire.old ≤ W.faults wire.new }
 {
     take_in(places, so_far.moment, heard, room);
-    let noted = Noted::Heard {
-        heard: *heard,
-        bytes: bytes_heard(heard.what, room),
-    };
-    desk.lines.write(so_far.hearing, &noted, trace)?;
+    write_heard(&mut desk.lines, so_far.hearing, heard, room, trace)?;
     answer_all(desk, places, limit, so_far.hearing, wire, trace)
 }
 

@@ -12,5 +12,5 @@ mod turning;
 
 pub use closing::close_all;
 pub use ending::Ended;
-pub use hearing::{SoFar, hear};
+pub use hearing::hear;
 pub use turning::serve_posts;

@@ -8,23 +8,21 @@ ghost use Rattle.post_spec.specs.Codecs.{codecs};
 ghost use Rattle.station_spec.specs.Runs.{Closes};
 ghost use Rattle.station_spec.specs.Sharing.{Post};
 ghost use Rattle.site_posts.specs.Places.{RestsAt, place_of};
-ghost use Rattle.site_serving.specs.SiteActsServing.{IsReady};
-ghost use Rattle.site_serving.specs.Telling.{Carries, CarriesText, HasClosing, IsTraced, IsWrittenSo};
+ghost use Rattle.site_acts.specs.Serving.{IsReady};
+ghost use Rattle.endpoint.specs.Telling.{Carries, CarriesText, HasClosing, IsTraced, IsWrittenSo};
 ghost use Rattle.site_turns.specs.Ending.{AreMade, AreMadeOf, EndedAs, RanAs, TracedAs, AwaitedAs, AreCounts, AreFaults};
 ghost use Rattle.site_turns.specs.Lasts.{ended_so};
 ghost use Rattle.site_turns.specs.Turns.{Waits, Stops, Turned, IsFinished, ClosedText};
 
 use crate::closing::close_all;
 use crate::ending::{Ended, Last};
-use crate::hearing::{SoFar, hear};
+use crate::hearing::hear;
 use charge_world::{Sink, Wire};
+use endpoint::{Desk, SoFar, TraceFailed, TraceLines, write_lost};
 use site_codec::Codec;
 use site_posts::{Place, until};
-use site_serving::site_acts::Desk;
-use site_serving::{TraceFailed, close_unwritten};
+use site_serving::close_unwritten;
 use station_laws::runs_of_posts;
-use trace_lines::TraceLines;
-use trace_text::Noted;
 
 /// Hears once, and does all that the posts have to do about it; says how serving ended, where it did.
 fn turn<C: Codec, W: Wire, J: Sink>(
@@ -57,8 +55,8 @@ fn turn<C: Codec, W: Wire, J: Sink>(
 {
     match wire.next(until(places), room) {
         Err(_) => {
-            so_far.hearing += 1;
-            desk.lines.write(so_far.hearing, &Noted::Lost, trace)?;
+            so_far.lose();
+            write_lost(&mut desk.lines, so_far.hearing, trace)?;
             Ok(Some(Last::Lost))
         }
         Ok(heard) => {

@@ -5,7 +5,7 @@ use Rattle.charge_world.specs.declared.entry.Entry.{Entry}
 use Rattle.charge_world.specs.Outside.{Grows}
 use Rattle.session_words.specs.declared.plan.PostPlan.{PostPlan}
 use Rattle.station_spec.specs.Runs.{unheard}
-use Rattle.site_acts.specs.Telling.{Carries, CarriesText}
+use Rattle.endpoint.specs.Telling.{Carries, CarriesText}
 use Rattle.site_posts.specs.declared.place.Place.{Place}
 use Rattle.site_posts.specs.Places.{place_of}
 use Rattle.site_posts.specs.Filling.{at}

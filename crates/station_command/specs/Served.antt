@@ -5,7 +5,7 @@ use Rattle.charge_world.specs.declared.ports.Ports.{Ports}
 use Rattle.charge_world.specs.Outside.{Grows}
 use Rattle.session_words.specs.declared.plan.SitePlan.{SitePlan}
 use Rattle.post_spec.specs.Codecs.{Codecs}
-use Rattle.site_acts.specs.Telling.{Carries, CarriesText}
+use Rattle.endpoint.specs.Telling.{Carries, CarriesText}
 use Rattle.site_posts.specs.declared.report.PostReport.{PostReport}
 use Rattle.site_turns.specs.declared.ending.Ended.{Ended}
 use Rattle.site_turns.specs.Ending.{RanAs, EndedAs, AwaitedAs, TracedAs}

@@ -1,14 +1,15 @@
 use Rattle.std.proofs.Common.{◌≡◌, ℕ, true, List, length, sym, subst, ◌∙◌, arith}
-use Rattle.site_acts.specs.Telling.{IsTraced, IsWrittenSo}
-use Rattle.site_acts.proofs.Carry.{carries_none, carries_one, text_one, text_to, done_so}
+use Rattle.charge_world.specs.Outside.{GrowsByOne}
+use Rattle.endpoint.specs.Telling.{IsTraced, IsWrittenSo}
+use Rattle.endpoint.proofs.Carry.{carries_none, carries_one, text_to, done_so}
 use Rattle.car_spec.specs.Codecs.{codecs}
 use Rattle.car_spec.specs.Deciding.{decided}
 use Rattle.car_spec.specs.States.{State}
-use Rattle.car_spec.specs.Steps.{Offer, entry_of}
+use Rattle.car_spec.specs.Steps.{entry_of}
 use Rattle.car_acts.specs.Deeds.{act_of, spoken_in, DoesNext}
 use Rattle.car_acts.specs.Driving.{InRun}
 use Rattle.car_acts.proofs.Next.{deed_seeks, room_is}
-use Rattle.car_acts.proofs.Runs.{outgoing, rests_run, read_run, deed_run, rests_sound, read_sounds, deed_sound, rests_quiet, read_work, deed_work}
+use Rattle.car_acts.proofs.Runs.{rests_run, read_run, deed_run, rests_sound, read_sounds, deed_sound, rests_quiet, read_work, deed_work}
 use Rattle.car_acts.proofs.acting.step.Goals as goal
 
 pub returns-in-Rest-clause-carried : goal.returns-in-Rest-clause-carried
@@ -61,19 +62,16 @@ returns-in-Do-clause-carried g c k =
     let count : length c.choose.new.room ≡ c.args.desk.now.room.len = omega (arith, c.choose.auto.room, c.as_mut_slice.ensures.len) in
     let d = subst (λ (r : List ℕ). DoesNext cs old.plan (decided old.plan old.car) r deed) (sym (c.as_slice.ensures.value ∙ room_is c.choose.new.room _ _ count)) c.in-Do.ensures.next.0 in
     let e = entry_of (act_of room (spoken_in d.todo) deed) taken in
-    carries_one _ _ e (InRun cs old.plan k old.car old.report) (InRun cs old.plan k new.car new.report) (c.perform-outcome.ensures.grown (spoken_in d.todo))
-    (λ past r. deed_run cs old.plan k old.car mid.car new.car old.report mid.report new.report past room deed taken d c.perform-outcome.ensures.may c.in-Do.ensures.next.1 c.choose.ensures.report
+    let grown = subst (GrowsByOne (g.W.Wire.past c.args.wire.now) (g.W.Wire.past c.perform-outcome.new.wire)) (c.call-call.ensures.entry (spoken_in d.todo) taken) c.perform-outcome.ensures.grown in
+    carries_one _ _ e (InRun cs old.plan k old.car old.report) (InRun cs old.plan k new.car new.report) grown
+    (λ past r. deed_run cs old.plan k old.car mid.car new.car old.report mid.report new.report past room deed taken d (c.call-call.ensures.may taken c.perform-outcome.ensures.may) c.in-Do.ensures.next.1 c.choose.ensures.report
     (c.keep.ensures.car room (spoken_in d.todo)) c.keep.ensures.report r)
 
 pub returns-in-Do-clause-traced : goal.returns-in-Do-clause-traced
 returns-in-Do-clause-traced g c =
-    let room = c.as_slice.result.now in
-    let a = act_of room Offer c.in-Do.deed in
-    let taken = c.perform-outcome.result.taken in
     let written = c.perform-outcome.result.written in
     text_to _ _ _ _ (IsTraced c.args.hearing) (IsWrittenSo c.args.hearing written) (IsWrittenSo c.args.hearing c.done.result)
-    (λ past text h. done_so c.args.hearing written c.done.result past text c.done.ensures.ok c.done.ensures.failed h)
-    (text_one _ _ _ _ (entry_of a taken) c.args.hearing c.args.hearing written (outgoing c.args.hearing a taken) (c.perform-outcome.ensures.grown Offer) (c.perform-outcome.ensures.ok Offer) (c.perform-outcome.ensures.failed Offer))
+    (λ past text h. done_so c.args.hearing written c.done.result past text c.done.ensures.ok c.done.ensures.failed h) c.perform-outcome.ensures.traced
 
 pub returns-in-Do-clause-plan : goal.returns-in-Do-clause-plan
 returns-in-Do-clause-plan g c = c.keep.ensures.plan ∙ c.choose.ensures.plan
@@ -102,4 +100,4 @@ returns-in-Do-clause-work g c e =
     let taken = c.perform-outcome.result.taken in
     let count : length c.choose.new.room ≡ c.args.desk.now.room.len = omega (arith, c.choose.auto.room, c.as_mut_slice.ensures.len) in
     let d = subst (λ (r : List ℕ). DoesNext cs old.plan (decided old.plan old.car) r deed) (sym (c.as_slice.ensures.value ∙ room_is c.choose.new.room _ _ count)) c.in-Do.ensures.next.0 in
-    deed_work cs old.plan old.car mid.car new.car room deed taken d c.law_of_acts.ensures c.requires.plan c.requires.sound c.perform-outcome.ensures.may c.in-Do.ensures.next.1 (c.keep.ensures.car room (spoken_in d.todo))
+    deed_work cs old.plan old.car mid.car new.car room deed taken d c.law_of_acts.ensures c.requires.plan c.requires.sound (c.call-call.ensures.may taken c.perform-outcome.ensures.may) c.in-Do.ensures.next.1 (c.keep.ensures.car room (spoken_in d.todo))

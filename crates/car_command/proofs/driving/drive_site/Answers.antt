@@ -1,7 +1,7 @@
 use Rattle.std.proofs.Common.{◌≡◌, Some, inr, sym, ap, subst, ◌∙◌}
 use Rattle.charge_world.specs.declared.ports.Ports.{Ports}
 use Rattle.session_words.specs.declared.plan.CarPlan.{CarPlan}
-use Rattle.site_acts.specs.Telling.{Carries}
+use Rattle.endpoint.specs.Telling.{Carries}
 use Rattle.car_spec.specs.Codecs.{codecs}
 use Rattle.car_spec.specs.Report.{Report}
 use Rattle.car_acts.specs.Reporting.{reported}

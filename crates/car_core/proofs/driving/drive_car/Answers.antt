@@ -1,5 +1,5 @@
 use Rattle.std.proofs.Common.{◌≡◌, []}
-use Rattle.site_acts.proofs.Carry.{carries_to}
+use Rattle.endpoint.proofs.Carry.{carries_to}
 use Rattle.car_spec.specs.Codecs.{codecs}
 use Rattle.car_acts.specs.Reporting.{reported}
 use Rattle.car_turns.specs.Ending.{IsDriven}

@@ -1,9 +1,9 @@
 use Rattle.std.proofs.Common.{◌≡◌, sym, ◌∙◌, is_ok}
 use Rattle.charge_world.specs.declared.entry.Entry.TheVariants as entry
 use Rattle.charge_world.specs.declared.ports.Order.TheVariants as order
-use Rattle.site_acts.specs.Telling.{HasClosing}
-use Rattle.site_acts.proofs.Carry.{carries_none, carries_one}
-use Rattle.site_serving.proofs.Shutting.{none_closing, one_closing}
+use Rattle.endpoint.specs.Telling.{HasClosing}
+use Rattle.endpoint.proofs.Carry.{carries_none, carries_one}
+use Rattle.endpoint.proofs.Orders.{none_closing, one_closing}
 use Rattle.car_spec.specs.Runs.{Closes}
 use Rattle.car_turns.proofs.Finished.{opens_live, leaves_idle}
 use Rattle.car_turns.proofs.closing.close_unwritten.Goals as goal

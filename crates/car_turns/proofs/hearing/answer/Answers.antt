@@ -1,9 +1,9 @@
 use Rattle.std.proofs.Common.{◌<◌, Ok, sym, ap, subst, ◌∙◌, arith}
 use Rattle.session_words.specs.declared.plan.CarPlan.{CarPlan}
-use Rattle.site_acts.specs.Telling.{IsTraced, IsCutHere, IsWrittenSo}
-use Rattle.site_acts.proofs.Carry.{carries_then, text_then, text_to}
-use Rattle.site_serving.proofs.Counts.{fault_ok, text_told}
-use Rattle.site_turns.proofs.Lines.{err_written}
+use Rattle.endpoint.specs.Telling.{IsTraced, IsCutHere, IsWrittenSo}
+use Rattle.endpoint.proofs.Carry.{carries_then, text_then, text_to}
+use Rattle.endpoint.proofs.Faults.{fault_ok, text_told}
+use Rattle.endpoint.proofs.Written.{err_written}
 use Rattle.car_codec.specs.Requests.{IsPlan}
 use Rattle.car_spec.specs.Codecs.{codecs}
 use Rattle.evcc_machine.specs.Work.{work}

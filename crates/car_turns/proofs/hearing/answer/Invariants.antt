@@ -1,7 +1,7 @@
 use Rattle.std.proofs.Common.{◌≡◌, ◌≤◌}
 use Rattle.std.specs.Prelude.{IsSome}
-use Rattle.site_acts.specs.Serving.{Known}
-use Rattle.site_acts.specs.Telling.{Carries, CarriesText, IsTraced}
+use Rattle.endpoint.specs.Knowing.{Known}
+use Rattle.endpoint.specs.Telling.{Carries, CarriesText, IsTraced}
 use Rattle.car_codec.specs.Requests.{IsPlan}
 use Rattle.car_spec.specs.Codecs.{codecs}
 use Rattle.evcc_machine.specs.Work.{work}

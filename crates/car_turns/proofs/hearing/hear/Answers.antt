@@ -1,13 +1,13 @@
-use Rattle.std.proofs.Common.{ℕ, List, sym, subst, ◌∙◌, arith}
+use Rattle.std.proofs.Common.{sym, subst, ◌∙◌, arith}
 use Rattle.session_words.specs.declared.plan.CarPlan.{CarPlan}
 use Rattle.charge_world.specs.declared.entry.Entry.{Entry}
 use Rattle.charge_world.specs.declared.entry.Entry.TheVariants as entry
-use Rattle.charge_world.specs.Outside.{Appends, AppendsSome, bytes_of}
-use Rattle.trace_text.specs.TraceText.{numbered_line_of}
-use Rattle.site_acts.specs.Telling.{IsTraced, IsWrittenSo}
-use Rattle.site_acts.proofs.Carry.{carries_then, text_then}
-use Rattle.site_turns.specs.Hearing.{known_behind, AwaitsLine}
-use Rattle.site_turns.proofs.Lines.{whole_line, cut_line}
+use Rattle.charge_world.specs.Outside.{bytes_of}
+use Rattle.endpoint.specs.Telling.{IsTraced, IsCutHere, IsWrittenSo}
+use Rattle.endpoint.proofs.Bounds.{of_eight}
+use Rattle.endpoint.proofs.Carry.{carries_then, text_then, text_to}
+use Rattle.endpoint.specs.Knowing.{known_behind, AwaitsLine}
+use Rattle.endpoint.proofs.Written.{err_written}
 use Rattle.car_codec.specs.Requests.{IsPlan}
 use Rattle.car_spec.specs.Codecs.{codecs}
 use Rattle.car_acts.specs.Driving.{InRun}
@@ -24,31 +24,32 @@ answer-requires-clause-sound g c =
     subst (λ (p : CarPlan). IsSound p c.take_in.new.driver.car) (sym c.take_in.ensures.plan)
     (heard_so c.args.driver.now.plan c.args.driver.now.car c.take_in.new.driver.car c.args.so_far.now.moment _ c.requires.lives c.requires.sound c.take_in.ensures.car)
 
-pub returns-in_err-write-clause-sound : goal.returns-in_err-write-clause-sound
-returns-in_err-write-clause-sound g c = heard_so c.args.driver.now.plan c.args.driver.now.car c.take_in.new.driver.car c.args.so_far.now.moment _ c.requires.lives c.requires.sound c.take_in.ensures.car
+pub returns-in_err-write_heard-clause-sound : goal.returns-in_err-write_heard-clause-sound
+returns-in_err-write_heard-clause-sound g c = heard_so c.args.driver.now.plan c.args.driver.now.car c.take_in.new.driver.car c.args.so_far.now.moment _ c.requires.lives c.requires.sound c.take_in.ensures.car
 
-pub returns-in_err-write-clause-carried : goal.returns-in_err-write-clause-carried
-returns-in_err-write-clause-carried g c k wait goes_on left clock waits =
+pub returns-in_err-write_heard-clause-carried : goal.returns-in_err-write_heard-clause-carried
+returns-in_err-write_heard-clause-carried g c k wait goes_on left clock waits =
     let cs = codecs g.C.CarCoded.offers g.C.CarCoded.responds g.C.CarCoded.reads g.C.CarCoded.encodes in
     let first = c.args.driver.now in
     let mid = c.take_in.new.driver in
     hears_run _ cs first.plan k first.car mid.car first.report mid.report c.args.heard.now (bytes_of c.args.heard.now.what c.args.room.now) c.args.so_far.now.moment wait goes_on left c.requires.lives c.requires.quiet
     c.requires.post c.take_in.ensures.bounds waits clock c.take_in.ensures.car c.take_in.ensures.report
 
-pub returns-in_err-write-clause-traced : goal.returns-in_err-write-clause-traced
-returns-in_err-write-clause-traced g c n number =
-    let bytes = bytes_of c.args.heard.now.what c.args.room.now in
+pub write_heard-requires-clause-post : goal.write_heard-requires-clause-post
+write_heard-requires-clause-post g c = of_eight 1 c.args.heard.now.what (omega arith) c.requires.post
+
+pub returns-in_err-write_heard-clause-traced : goal.returns-in_err-write_heard-clause-traced
+returns-in_err-write_heard-clause-traced g c n number =
+    let e : Entry = entry.Heard c.args.heard.now (bytes_of c.args.heard.now.what c.args.room.now) in
     let m = c.args.so_far.now.hearing in
-    let failed = subst (λ (b : List ℕ). AppendsSome (g.J.Sink.taken c.args.trace.now) (g.J.Sink.taken c.write.new.trace) (numbered_line_of m (entry.Heard c.args.heard.now b))) c.bytes_heard.ensures.bytes c.in_err-write.ensures.failed in
-    cut_line _ _ _ (entry.Heard c.args.heard.now bytes) n m c.from_residual.result (omega (arith, number)) c.from_residual.ensures.0 failed
+    let r = c.from_residual.result in
+    text_to _ _ _ _ (AwaitsLine n e) IsCutHere (IsWrittenSo m r) (λ past text t. err_written m r past text c.from_residual.ensures.0 t) (c.in_err-write_heard.ensures.traced n _ number)
 
 pub returns-clause-traced : goal.returns-clause-traced
 returns-clause-traced g c n number =
-    let bytes = bytes_of c.args.heard.now.what c.args.room.now in
+    let e : Entry = entry.Heard c.args.heard.now (bytes_of c.args.heard.now.what c.args.room.now) in
     let m = c.args.so_far.now.hearing in
-    let e : Entry = entry.Heard c.args.heard.now bytes in
-    let ok = subst (λ (b : List ℕ). Appends (g.J.Sink.taken c.args.trace.now) (g.J.Sink.taken c.write.new.trace) (numbered_line_of m (entry.Heard c.args.heard.now b))) c.bytes_heard.ensures.bytes c.in_ok-write.ensures.ok in
-    text_then _ _ _ _ _ _ (AwaitsLine n e) (IsTraced m) (IsWrittenSo m c.answer.result) (whole_line _ _ _ e n m (omega (arith, number)) ok) c.answer.ensures.traced
+    text_then _ _ _ _ _ _ (AwaitsLine n e) (IsTraced m) (IsWrittenSo m c.answer.result) (c.in_ok-write_heard.ensures.traced n _ number) c.answer.ensures.traced
 
 pub returns-clause-carried : goal.returns-clause-carried
 returns-clause-carried g c k wait goes_on left clock waits =

@@ -1,8 +1,8 @@
 use Rattle.std.proofs.Common.{◌≡◌, []}
-use Rattle.site_acts.specs.Telling.{IsTraced}
-use Rattle.site_acts.proofs.Carry.{carries_none, carries_to, text_then}
-use Rattle.site_serving.proofs.Counts.{fault_ok}
-use Rattle.site_turns.proofs.First.{begin_ok}
+use Rattle.endpoint.specs.Telling.{IsTraced}
+use Rattle.endpoint.proofs.Carry.{carries_none, carries_to, text_then}
+use Rattle.endpoint.proofs.Faults.{fault_ok}
+use Rattle.endpoint.proofs.Written.{begin_ok}
 use Rattle.car_spec.specs.Codecs.{codecs}
 use Rattle.car_acts.specs.Reporting.{reported}
 use Rattle.car_turns.specs.declared.ending.Ended.TheVariants as ended

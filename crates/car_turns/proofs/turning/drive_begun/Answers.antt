@@ -1,12 +1,11 @@
 use Rattle.std.proofs.Common.{◌≡◌, [], refl, sym, ap, subst, arith}
-use Rattle.site_acts.specs.Telling.{IsTraced, IsWrittenSo}
-use Rattle.site_acts.proofs.Carry.{carries_from, text_then, text_to}
+use Rattle.endpoint.specs.Telling.{IsTraced, IsWrittenSo}
+use Rattle.endpoint.proofs.Carry.{carries_from, text_then, text_to}
 use Rattle.car_spec.specs.Codecs.{codecs}
 use Rattle.car_spec.specs.Next.{IsQuiet}
 use Rattle.car_spec.specs.States.{State}
 use Rattle.car_acts.specs.Sound.{IsSound}
 use Rattle.car_acts.proofs.Sound.{fresh_sound}
-use Rattle.car_turns.specs.declared.hearing.SoFar.{SoFar}
 use Rattle.car_turns.specs.Ending.{TracedAs}
 use Rattle.car_turns.specs.Lasts.{ended_so}
 use Rattle.car_turns.specs.Turns.{Waits, Stops, ClosedText}
@@ -33,10 +32,10 @@ returns-clause-driven g c =
     let first = c.args.driver.now in
     let new = c.take_turns-last.new.driver in
     let last = c.take_turns-last.result in
-    let so_far : SoFar = record { moment = 0; hearing = 0 } in
+    let so_far = c.nothing-so_far.result in
     driven_closed start mid (g.W.Wire.past c.finish.new.wire) cs first.plan last c.finish.result waited u (g.W.Wire.untils c.finish.new.wire) new.car new.report (λ past. past ≡ []) c.take_turns-last.ensures.quiet c.finish.ensures.how
     (carries_from start mid (λ past. past ≡ []) (Waits cs first.plan so_far u u first.car first.report) (Stops cs first.plan (ended_so last) waited u new.car new.report)
-    (λ past e. waits_first cs first.plan so_far u first.car first.report past refl c.requires.car c.requires.report e) (c.take_turns-last.ensures.carried u))
+    (λ past e. waits_first cs first.plan so_far u first.car first.report past c.nothing-so_far.ensures c.requires.car c.requires.report e) (c.take_turns-last.ensures.carried u))
     c.finish.ensures.closed c.finish.ensures.untils
 
 pub returns-clause-ended : goal.returns-clause-ended
@@ -49,16 +48,16 @@ returns-clause-ended g c =
     let first = c.args.driver.now in
     let new = c.take_turns-last.new.driver in
     let last = c.take_turns-last.result in
-    let so_far : SoFar = record { moment = 0; hearing = 0 } in
+    let so_far = c.nothing-so_far.result in
     ended_closed start mid (g.W.Wire.past c.finish.new.wire) cs first.plan last c.finish.result waited u new.car new.report (λ past. past ≡ []) c.finish.ensures.how
     (carries_from start mid (λ past. past ≡ []) (Waits cs first.plan so_far u u first.car first.report) (Stops cs first.plan (ended_so last) waited u new.car new.report)
-    (λ past e. waits_first cs first.plan so_far u first.car first.report past refl c.requires.car c.requires.report e) (c.take_turns-last.ensures.carried u))
+    (λ past e. waits_first cs first.plan so_far u first.car first.report past c.nothing-so_far.ensures c.requires.car c.requires.report e) (c.take_turns-last.ensures.carried u))
     c.finish.ensures.closed
 
 pub returns-clause-trace : goal.returns-clause-trace
 returns-clause-trace g c =
     text_to _ _ _ _ (IsTraced 0) (ClosedText c.finish.result c.take_turns-last.new.so_far.hearing) (TracedAs c.finish.result) (λ past text t. closed_text c.finish.result c.take_turns-last.new.so_far.hearing past text t)
-    (text_then _ _ _ _ _ _ (IsTraced 0) (IsWrittenSo c.take_turns-last.new.so_far.hearing c.take_turns-last.result) (ClosedText c.finish.result c.take_turns-last.new.so_far.hearing) c.take_turns-last.ensures.traced c.finish.ensures.traced)
+    (text_then _ _ _ _ _ _ (IsTraced 0) (IsWrittenSo c.take_turns-last.new.so_far.hearing c.take_turns-last.result) (ClosedText c.finish.result c.take_turns-last.new.so_far.hearing) (rw c.nothing-so_far.ensures at c.take_turns-last.ensures.traced) c.finish.ensures.traced)
 
 pub returns-clause-trace_fault : goal.returns-clause-trace_fault
 returns-clause-trace_fault g c = c.finish.ensures.writes (g.J.Sink.faults c.args.trace.now) c.take_turns-last.ensures.writes

@@ -1,7 +1,7 @@
 use Rattle.std.proofs.Common.{◌≡◌, not, ◌&&◌, refl, inl}
-use Rattle.site_acts.specs.Telling.{IsTraced, IsClosedSo}
-use Rattle.site_acts.proofs.Carry.{carries_to, text_to}
-use Rattle.site_serving.proofs.Shutting.{text_closing}
+use Rattle.endpoint.specs.Telling.{IsTraced, IsClosedSo}
+use Rattle.endpoint.proofs.Carry.{carries_to, text_to}
+use Rattle.endpoint.proofs.Orders.{text_closing}
 use Rattle.trace_lines.specs.declared.TraceFailed.{TraceFailed}
 use Rattle.car_spec.specs.Runs.{Closes}
 use Rattle.car_turns.specs.Ending.{ClosesAs}

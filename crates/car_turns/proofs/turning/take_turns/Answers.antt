@@ -1,8 +1,8 @@
 use Rattle.std.proofs.Common.{◌≡◌, Ok, sym, ap, subst, ◌∙◌, arith}
 use Rattle.session_words.specs.declared.plan.CarPlan.{CarPlan}
-use Rattle.site_acts.specs.Telling.{IsTraced}
-use Rattle.site_acts.proofs.Carry.{carries_then, carries_to, text_then}
-use Rattle.site_serving.proofs.Counts.{fault_ok}
+use Rattle.endpoint.specs.Telling.{IsTraced}
+use Rattle.endpoint.proofs.Carry.{carries_then, carries_to, text_then}
+use Rattle.endpoint.proofs.Faults.{fault_ok}
 use Rattle.car_codec.specs.Requests.{IsPlan}
 use Rattle.car_spec.specs.Codecs.{codecs}
 use Rattle.car_spec.specs.Next.{IsQuiet}

@@ -1,5 +1,5 @@
 use Rattle.std.proofs.Common.{◌≡◌, ◌≤◌, ℕ, List, false}
-use Rattle.site_acts.specs.Telling.{Carries, CarriesText, IsTraced}
+use Rattle.endpoint.specs.Telling.{Carries, CarriesText, IsTraced}
 use Rattle.car_codec.specs.Requests.{IsPlan}
 use Rattle.car_spec.specs.Codecs.{codecs}
 use Rattle.car_spec.specs.Next.{IsQuiet}

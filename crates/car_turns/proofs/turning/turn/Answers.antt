@@ -1,43 +1,53 @@
-use Rattle.std.proofs.Common.{◌≡◌, ◌+◌, None, Ok, refl, ap, ◌∙◌, arith}
+use Rattle.std.proofs.Common.{◌≡◌, ◌+◌, None, Ok, ap, ◌∙◌}
 use Rattle.charge_world.specs.declared.entry.Entry.{Entry}
 use Rattle.charge_world.specs.declared.entry.Entry.TheVariants as entry
 use Rattle.charge_world.specs.Outside.{bytes_of}
-use Rattle.site_acts.specs.Telling.{IsTraced, IsCutHere, IsWrittenSo}
-use Rattle.site_acts.proofs.Carry.{carries_to, text_then, text_to}
-use Rattle.site_serving.proofs.Counts.{text_told}
-use Rattle.site_turns.specs.Hearing.{AwaitsLine}
-use Rattle.site_turns.proofs.Lines.{text_next, cut_line, err_written}
+use Rattle.endpoint.specs.Telling.{IsTraced, IsCutHere, IsWrittenSo}
+use Rattle.endpoint.proofs.Carry.{carries_to, text_then, text_to}
+use Rattle.endpoint.proofs.Faults.{text_told}
+use Rattle.endpoint.specs.Knowing.{AwaitsLine}
+use Rattle.endpoint.proofs.Bounds.{counted}
+use Rattle.endpoint.proofs.Written.{text_next, err_written}
 use Rattle.trace_lines.specs.declared.TraceFailed.{TraceFailed}
 use Rattle.car_spec.specs.Codecs.{codecs}
 use Rattle.car_turns.specs.declared.ending.Ended.TheVariants as ended
-use Rattle.car_turns.specs.declared.hearing.SoFar.{SoFar}
 use Rattle.car_turns.specs.Lasts.{last_by}
 use Rattle.car_turns.specs.Turns.{Waits, Stops, Turned}
-use Rattle.car_turns.proofs.Turns.{HeardSo, turn_heard, turned, cut_turn, turned_cut, turn_lost, lost_cut, goes_on_if}
+use Rattle.car_turns.proofs.Turns.{HeardSo, turn_heard, turned, cut_turn, turned_cut, turn_lost, lost_cut, goes_on_if, few_turns}
 use Rattle.car_turns.proofs.turning.turn.Goals as goal
 
-pub returns-in_err-write-in-Err-clause-carried : goal.returns-in_err-write-in-Err-clause-carried
-returns-in_err-write-in-Err-clause-carried g c before =
+pub returns-in_err-write_lost-in-Err-clause-carried : goal.returns-in_err-write_lost-in-Err-clause-carried
+returns-in_err-write_lost-in-Err-clause-carried g c before =
     let cs = codecs g.C.CarCoded.offers g.C.CarCoded.responds g.C.CarCoded.reads g.C.CarCoded.encodes in
     let d = c.args.driver.now in
     let waited = g.W.Wire.untils c.args.wire.now in
-    let waited_later = g.W.Wire.untils c.next-next.new.self in
-    let later : SoFar = record { moment = c.args.so_far.now.moment; hearing = c.args.so_far.now.hearing + 1 } in
+    let waited_later = g.W.Wire.untils c.next.new.self in
+    let later = c.lose.new.self in
     carries_to _ _ (Waits cs d.plan c.args.so_far.now waited before d.car d.report) (Stops cs d.plan ended.Lost waited_later before d.car d.report) (Turned cs d.plan c.from_residual.result later waited_later before d.car d.report)
     (λ past s. turned_cut _ cs d.plan c.from_residual.result later waited_later before d.car d.report past c.from_residual.ensures.0 (lost_cut cs d.plan waited_later before d.car d.report past s))
-    (turn_lost _ _ cs d.plan c.args.so_far.now waited waited_later before c.next_due.result d.car d.report c.in-Err.ensures.lost c.next-next.ensures.untils c.next_due.ensures c.requires.left c.requires.lives c.requires.quiet)
+    (turn_lost _ _ cs d.plan c.args.so_far.now waited waited_later before c.next_due.result d.car d.report c.in-Err.ensures.lost c.next.ensures.untils c.next_due.ensures c.requires.left c.requires.lives c.requires.quiet)
 
-pub returns-in_err-write-in-Err-clause-traced : goal.returns-in_err-write-in-Err-clause-traced
-returns-in_err-write-in-Err-clause-traced g c =
+pub returns-in_err-write_lost-in-Err-clause-traced : goal.returns-in_err-write_lost-in-Err-clause-traced
+returns-in_err-write_lost-in-Err-clause-traced g c =
     let n = c.args.so_far.now.hearing in
-    text_then _ _ _ _ _ _ (IsTraced n) (AwaitsLine n entry.Lost) (IsWrittenSo (n + 1) c.from_residual.result) (text_next _ _ _ entry.Lost n c.in-Err.ensures.lost)
-    (cut_line _ _ _ entry.Lost n (n + 1) c.from_residual.result (omega arith) c.from_residual.ensures.0 c.in_err-write-in-Err.ensures.failed)
+    let m = c.lose.new.self.hearing in
+    let one : m ≡ n + 1 = counted n m (few_turns c.args.driver.now.plan n c.requires.plan c.requires.left) c.lose.ensures.hearing in
+    let r = c.from_residual.result in
+    text_then _ _ _ _ _ _ (IsTraced n) (AwaitsLine n entry.Lost) (IsWrittenSo m r) (text_next _ _ _ entry.Lost n c.in-Err.ensures.lost)
+    (text_to _ _ _ _ (AwaitsLine n entry.Lost) IsCutHere (IsWrittenSo m r) (λ past text t. err_written m r past text c.from_residual.ensures.0 t) (c.in_err-write_lost-in-Err.ensures.traced n _ one))
 
-pub returns-in_ok-write-in-Err-clause-carried : goal.returns-in_ok-write-in-Err-clause-carried
-returns-in_ok-write-in-Err-clause-carried g c before =
+pub returns-in_ok-write_lost-in-Err-clause-traced : goal.returns-in_ok-write_lost-in-Err-clause-traced
+returns-in_ok-write_lost-in-Err-clause-traced g c =
+    let n = c.args.so_far.now.hearing in
+    let m = c.lose.new.self.hearing in
+    let one : m ≡ n + 1 = counted n m (few_turns c.args.driver.now.plan n c.requires.plan c.requires.left) c.lose.ensures.hearing in
+    text_then _ _ _ _ _ _ (IsTraced n) (AwaitsLine n entry.Lost) (IsTraced m) (text_next _ _ _ entry.Lost n c.in-Err.ensures.lost) (c.in_ok-write_lost-in-Err.ensures.traced n _ one)
+
+pub returns-in_ok-write_lost-in-Err-clause-carried : goal.returns-in_ok-write_lost-in-Err-clause-carried
+returns-in_ok-write_lost-in-Err-clause-carried g c before =
     let cs = codecs g.C.CarCoded.offers g.C.CarCoded.responds g.C.CarCoded.reads g.C.CarCoded.encodes in
     let d = c.args.driver.now in
-    turn_lost _ _ cs d.plan c.args.so_far.now (g.W.Wire.untils c.args.wire.now) (g.W.Wire.untils c.next-next.new.self) before c.next_due.result d.car d.report c.in-Err.ensures.lost c.next-next.ensures.untils c.next_due.ensures
+    turn_lost _ _ cs d.plan c.args.so_far.now (g.W.Wire.untils c.args.wire.now) (g.W.Wire.untils c.next.new.self) before c.next_due.result d.car d.report c.in-Err.ensures.lost c.next.ensures.untils c.next_due.ensures
     c.requires.left c.requires.lives c.requires.quiet
 
 pub returns-in_err-hear-in-Ok-clause-carried : goal.returns-in_err-hear-in-Ok-clause-carried
@@ -46,18 +56,19 @@ returns-in_err-hear-in-Ok-clause-carried g c before =
     let d = c.args.driver.now in
     let new = c.hear.new.driver in
     let h = c.in-Ok.heard in
-    let bytes = bytes_of h.what c.next-next.new.room in
+    let bytes = bytes_of h.what c.next.new.room in
     let n = c.args.so_far.now.hearing in
-    let later : SoFar = record { moment = c.max-so_far.result; hearing = n + 1 } in
+    let later = c.count.new.self in
+    let one : later.hearing ≡ n + 1 = counted n later.hearing (few_turns c.args.driver.now.plan n c.requires.plan c.requires.left) c.count.ensures.hearing in
     let waited = g.W.Wire.untils c.args.wire.now in
     let waited_later = g.W.Wire.untils c.hear.new.wire in
     let start = g.W.Wire.past c.args.wire.now in
-    let mid = g.W.Wire.past c.next-next.new.self in
+    let mid = g.W.Wire.past c.next.new.self in
     let after = g.W.Wire.past c.hear.new.wire in
     let heard = turn_heard start mid after cs d.plan c.args.so_far.now later h bytes waited waited_later before c.next_due.result d.car new.car d.report new.report c.in-Ok.ensures.heard
     (λ k goes less clock. c.hear.ensures.carried k c.next_due.result goes less clock c.next_due.ensures)
-    (λ known. c.hear.ensures.untils known ∙ c.next-next.ensures.untils (text_told mid after _ _ (AwaitsLine n (entry.Heard h bytes)) (IsWrittenSo (n + 1) c.hear.result) (c.hear.ensures.traced n refl) known))
-    c.max-so_far.ensures refl c.requires.left in
+    (λ known. c.hear.ensures.untils known ∙ c.next.ensures.untils (text_told mid after _ _ (AwaitsLine n (entry.Heard h bytes)) (IsWrittenSo later.hearing c.hear.result) (c.hear.ensures.traced n one) known))
+    c.count.ensures.moment one c.requires.left in
     let r = c.from_residual-in_err-hear-in-Ok.result in
     carries_to start after (Waits cs d.plan c.args.so_far.now waited before d.car d.report) (HeardSo cs d.plan later h bytes waited_later before new.car new.report) (Turned cs d.plan r later waited_later before new.car new.report)
     (λ past s. turned_cut _ cs d.plan r later waited_later before new.car new.report past c.from_residual-in_err-hear-in-Ok.ensures.0 (cut_turn cs d.plan later h bytes waited_later before new.car new.report past s)) heard
@@ -65,12 +76,14 @@ returns-in_err-hear-in-Ok-clause-carried g c before =
 pub returns-in_err-hear-in-Ok-clause-traced : goal.returns-in_err-hear-in-Ok-clause-traced
 returns-in_err-hear-in-Ok-clause-traced g c =
     let h = c.in-Ok.heard in
-    let bytes = bytes_of h.what c.next-next.new.room in
+    let bytes = bytes_of h.what c.next.new.room in
     let n = c.args.so_far.now.hearing in
+    let m = c.count.new.self.hearing in
+    let one : m ≡ n + 1 = counted n m (few_turns c.args.driver.now.plan n c.requires.plan c.requires.left) c.count.ensures.hearing in
     let e : Entry = entry.Heard h bytes in
     let r = c.from_residual-in_err-hear-in-Ok.result in
-    text_then _ _ _ _ _ _ (IsTraced n) (AwaitsLine n e) (IsWrittenSo (n + 1) r) (text_next _ _ _ e n c.in-Ok.ensures.heard)
-    (text_to _ _ _ _ (AwaitsLine n e) IsCutHere (IsWrittenSo (n + 1) r) (λ past text t. err_written (n + 1) r past text c.from_residual-in_err-hear-in-Ok.ensures.0 t) (c.in_err-hear-in-Ok.ensures.traced n refl))
+    text_then _ _ _ _ _ _ (IsTraced n) (AwaitsLine n e) (IsWrittenSo m r) (text_next _ _ _ e n c.in-Ok.ensures.heard)
+    (text_to _ _ _ _ (AwaitsLine n e) IsCutHere (IsWrittenSo m r) (λ past text t. err_written m r past text c.from_residual-in_err-hear-in-Ok.ensures.0 t) (c.in_err-hear-in-Ok.ensures.traced n one))
 
 pub returns-in_ok-hear-in-Ok-clause-carried : goal.returns-in_ok-hear-in-Ok-clause-carried
 returns-in_ok-hear-in-Ok-clause-carried g c before =
@@ -78,18 +91,19 @@ returns-in_ok-hear-in-Ok-clause-carried g c before =
     let d = c.args.driver.now in
     let new = c.hear.new.driver in
     let h = c.in-Ok.heard in
-    let bytes = bytes_of h.what c.next-next.new.room in
+    let bytes = bytes_of h.what c.next.new.room in
     let n = c.args.so_far.now.hearing in
-    let later : SoFar = record { moment = c.max-so_far.result; hearing = n + 1 } in
+    let later = c.count.new.self in
+    let one : later.hearing ≡ n + 1 = counted n later.hearing (few_turns c.args.driver.now.plan n c.requires.plan c.requires.left) c.count.ensures.hearing in
     let waited = g.W.Wire.untils c.args.wire.now in
     let waited_later = g.W.Wire.untils c.hear.new.wire in
     let start = g.W.Wire.past c.args.wire.now in
-    let mid = g.W.Wire.past c.next-next.new.self in
+    let mid = g.W.Wire.past c.next.new.self in
     let after = g.W.Wire.past c.hear.new.wire in
     let heard = turn_heard start mid after cs d.plan c.args.so_far.now later h bytes waited waited_later before c.next_due.result d.car new.car d.report new.report c.in-Ok.ensures.heard
     (λ k goes less clock. c.hear.ensures.carried k c.next_due.result goes less clock c.next_due.ensures)
-    (λ known. c.hear.ensures.untils known ∙ c.next-next.ensures.untils (text_told mid after _ _ (AwaitsLine n (entry.Heard h bytes)) (IsWrittenSo (n + 1) c.hear.result) (c.hear.ensures.traced n refl) known))
-    c.max-so_far.ensures refl c.requires.left in
+    (λ known. c.hear.ensures.untils known ∙ c.next.ensures.untils (text_told mid after _ _ (AwaitsLine n (entry.Heard h bytes)) (IsWrittenSo later.hearing c.hear.result) (c.hear.ensures.traced n one) known))
+    c.count.ensures.moment one c.requires.left in
     carries_to start after (Waits cs d.plan c.args.so_far.now waited before d.car d.report) (HeardSo cs d.plan later h bytes waited_later before new.car new.report)
     (Turned {E = TraceFailed} cs d.plan (Ok c.heard.result) later waited_later before new.car new.report)
     (λ past s. turned TraceFailed cs d.plan later h bytes waited_later before new.car new.report past c.heard.result (c.heard.ensures ∙ ap (last_by h.what) c.is_over.ensures) s) heard
@@ -98,10 +112,24 @@ pub returns-in_ok-hear-in-Ok-clause-traced : goal.returns-in_ok-hear-in-Ok-claus
 returns-in_ok-hear-in-Ok-clause-traced g c =
     let h = c.in-Ok.heard in
     let n = c.args.so_far.now.hearing in
-    let e : Entry = entry.Heard h (bytes_of h.what c.next-next.new.room) in
-    text_then _ _ _ _ _ _ (IsTraced n) (AwaitsLine n e) (IsTraced (n + 1)) (text_next _ _ _ e n c.in-Ok.ensures.heard) (c.in_ok-hear-in-Ok.ensures.traced n refl)
+    let m = c.count.new.self.hearing in
+    let one : m ≡ n + 1 = counted n m (few_turns c.args.driver.now.plan n c.requires.plan c.requires.left) c.count.ensures.hearing in
+    let e : Entry = entry.Heard h (bytes_of h.what c.next.new.room) in
+    text_then _ _ _ _ _ _ (IsTraced n) (AwaitsLine n e) (IsTraced m) (text_next _ _ _ e n c.in-Ok.ensures.heard) (c.in_ok-hear-in-Ok.ensures.traced n one)
 
 pub returns-in_ok-hear-in-Ok-clause-lives : goal.returns-in_ok-hear-in-Ok-clause-lives
 returns-in_ok-hear-in-Ok-clause-lives g c e =
     let none : None ≡ c.heard.result = cc in
     goes_on_if c.in-Ok.heard.what c.hear.new.driver.car.over (none ∙ c.heard.ensures ∙ ap (last_by c.in-Ok.heard.what) c.is_over.ensures)
+
+pub returns-in_err-write_lost-in-Err-clause-hearing : goal.returns-in_err-write_lost-in-Err-clause-hearing
+returns-in_err-write_lost-in-Err-clause-hearing g c = counted c.args.so_far.now.hearing c.lose.new.self.hearing (few_turns c.args.driver.now.plan c.args.so_far.now.hearing c.requires.plan c.requires.left) c.lose.ensures.hearing
+
+pub returns-in_ok-write_lost-in-Err-clause-hearing : goal.returns-in_ok-write_lost-in-Err-clause-hearing
+returns-in_ok-write_lost-in-Err-clause-hearing g c = counted c.args.so_far.now.hearing c.lose.new.self.hearing (few_turns c.args.driver.now.plan c.args.so_far.now.hearing c.requires.plan c.requires.left) c.lose.ensures.hearing
+
+pub returns-in_err-hear-in-Ok-clause-hearing : goal.returns-in_err-hear-in-Ok-clause-hearing
+returns-in_err-hear-in-Ok-clause-hearing g c = counted c.args.so_far.now.hearing c.count.new.self.hearing (few_turns c.args.driver.now.plan c.args.so_far.now.hearing c.requires.plan c.requires.left) c.count.ensures.hearing
+
+pub returns-in_ok-hear-in-Ok-clause-hearing : goal.returns-in_ok-hear-in-Ok-clause-hearing
+returns-in_ok-hear-in-Ok-clause-hearing g c = counted c.args.so_far.now.hearing c.count.new.self.hearing (few_turns c.args.driver.now.plan c.args.so_far.now.hearing c.requires.plan c.requires.left) c.count.ensures.hearing

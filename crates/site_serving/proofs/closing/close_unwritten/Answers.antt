@@ -7,9 +7,10 @@ use Rattle.station_spec.specs.Sharing.{Post}
 use Rattle.station_spec.specs.Runs.{Closes}
 use Rattle.site_posts.specs.Places.{place_of}
 use Rattle.site_serving.specs.Serving.{ClosesTo}
-use Rattle.site_acts.specs.Telling.{HasClosing}
-use Rattle.site_acts.proofs.Carry.{carries_none, carries_one, carries_then, carries_to, grows_told}
-use Rattle.site_serving.proofs.Shutting.{live_at, closes_live, closes_idle, closes_all, among_places, all_places, none_closing, one_closing}
+use Rattle.endpoint.specs.Telling.{HasClosing}
+use Rattle.endpoint.proofs.Carry.{carries_none, carries_one, carries_then, carries_to, grows_told}
+use Rattle.endpoint.proofs.Orders.{none_closing, one_closing}
+use Rattle.site_serving.proofs.Shutting.{live_at, closes_live, closes_idle, closes_all, among_places, all_places}
 use Rattle.site_serving.proofs.closing.close_unwritten.Goals as goal
 use Rattle.site_serving.proofs.closing.close_unwritten.Goals.{then-live, else-live}
 

@@ -4,7 +4,7 @@ use Rattle.charge_world.specs.declared.entry.Entry.{Entry}
 use Rattle.station_spec.specs.Sharing.{Post}
 use Rattle.site_posts.specs.Places.{place_of}
 use Rattle.site_serving.specs.Serving.{ClosesTo}
-use Rattle.site_acts.specs.Telling.{Carries, HasClosing}
+use Rattle.endpoint.specs.Telling.{Carries, HasClosing}
 use Rattle.site_serving.proofs.closing.close_unwritten.Given as goal
 
 abbrev pub invariant-loop-i : goal.invariant-loop-i

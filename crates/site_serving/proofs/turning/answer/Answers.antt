@@ -2,9 +2,9 @@ use Rattle.std.proofs.Common.{◌≡◌, ◌∙◌, refl, arith}
 use Rattle.session_words.specs.declared.plan.SitePlan.{SitePlan}
 use Rattle.post_spec.specs.Codecs.{codecs}
 use Rattle.site_acts.specs.Serving.{InBlock}
-use Rattle.site_acts.specs.Telling.{IsTraced, IsWrittenSo}
-use Rattle.site_acts.proofs.Carry.{carries_then, text_then}
-use Rattle.site_serving.proofs.Counts.{fault_ok, text_told}
+use Rattle.endpoint.specs.Telling.{IsTraced, IsWrittenSo}
+use Rattle.endpoint.proofs.Carry.{carries_then, text_then}
+use Rattle.endpoint.proofs.Faults.{fault_ok, text_told}
 use Rattle.site_serving.proofs.turning.answer.Goals as goal
 
 pub returns-in_err-act-clause-carried : goal.returns-in_err-act-clause-carried

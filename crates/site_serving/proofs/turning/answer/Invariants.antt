@@ -6,8 +6,9 @@ use Rattle.post_spec.specs.Codecs.{codecs}
 use Rattle.site_posts.specs.Filling.{at}
 use Rattle.site_posts.specs.Places.{RestsAt}
 use Rattle.site_posts.specs.Work.{work}
-use Rattle.site_acts.specs.Serving.{IsReady, InBlock, Known}
-use Rattle.site_acts.specs.Telling.{Carries, CarriesText, IsTraced}
+use Rattle.site_acts.specs.Serving.{IsReady, InBlock}
+use Rattle.endpoint.specs.Knowing.{Known}
+use Rattle.endpoint.specs.Telling.{Carries, CarriesText, IsTraced}
 use Rattle.site_serving.proofs.turning.answer.Given as goal
 
 abbrev pub invariant-loop : goal.invariant-loop

@@ -4,8 +4,9 @@ use Rattle.std.specs.List.{All, AllWithin}
 use Rattle.session_words.specs.declared.plan.SitePlan.{SitePlan}
 use Rattle.post_spec.specs.Codecs.{codecs}
 use Rattle.site_posts.specs.Places.{RestsAt}
-use Rattle.site_acts.specs.Serving.{IsReady, InBlock, Known}
-use Rattle.site_acts.specs.Telling.{Carries, CarriesText, IsTraced}
+use Rattle.site_acts.specs.Serving.{IsReady, InBlock}
+use Rattle.endpoint.specs.Knowing.{Known}
+use Rattle.endpoint.specs.Telling.{Carries, CarriesText, IsTraced}
 use Rattle.site_serving.proofs.turning.answer_all.Given as goal
 
 abbrev pub invariant-loop-i : goal.invariant-loop-i

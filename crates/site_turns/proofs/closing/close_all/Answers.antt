@@ -1,11 +1,11 @@
 use Rattle.std.proofs.Common.{◌≡◌, ◌+◌, [], length, refl, ◌∙◌, arith}
 use Rattle.station_spec.specs.Runs.{Closes}
 use Rattle.site_serving.specs.Serving.{ClosesTo}
-use Rattle.site_serving.specs.Telling.{HasClosing, IsTraced, IsWrittenSo, IsCutHere, IsCutText}
-use Rattle.site_serving.proofs.Carry.{carries_none, carries_then, carries_to, carries_told, text_none, text_then}
-use Rattle.site_serving.proofs.Counts.{fault_ok, text_told}
-use Rattle.site_serving.proofs.Shutting.{closes_none, closes_all, all_places, none_closing, text_closing}
-use Rattle.site_turns.proofs.Orders.{closing_more}
+use Rattle.endpoint.specs.Telling.{HasClosing, IsTraced, IsWrittenSo, IsCutHere, IsCutText}
+use Rattle.endpoint.proofs.Carry.{carries_none, carries_then, carries_to, carries_told, text_none, text_then}
+use Rattle.endpoint.proofs.Faults.{fault_ok, text_told}
+use Rattle.site_serving.proofs.Shutting.{closes_none, closes_all, all_places}
+use Rattle.endpoint.proofs.Orders.{closing_more, none_closing, text_closing}
 use Rattle.site_turns.proofs.closing.close_all.Goals as goal
 
 pub loop-i-init : goal.loop-i-init

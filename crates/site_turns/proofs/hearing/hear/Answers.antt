@@ -1,5 +1,5 @@
 use Rattle.std.proofs.Common.{ℕ, max, ap, sym, ◌∙◌}
-use Rattle.site_turns.proofs.Turns.{counted}
+use Rattle.endpoint.proofs.Bounds.{counted}
 use Rattle.site_turns.proofs.hearing.hear.Goals as goal
 
 pub returns-clause-carried : goal.returns-clause-carried

@@ -1,8 +1,9 @@
 use Rattle.std.proofs.Common.{◌≡◌}
 use Rattle.station_spec.specs.Runs.{Closes}
 use Rattle.site_serving.specs.Serving.{ClosesTo}
-use Rattle.site_serving.proofs.Carry.{carries_from}
-use Rattle.site_serving.proofs.Shutting.{closes_none, text_closing}
+use Rattle.endpoint.proofs.Carry.{carries_from}
+use Rattle.endpoint.proofs.Orders.{text_closing}
+use Rattle.site_serving.proofs.Shutting.{closes_none}
 use Rattle.site_turns.proofs.turning.finish.Goals as goal
 
 pub returns-in-Err-clause-closed : goal.returns-in-Err-clause-closed

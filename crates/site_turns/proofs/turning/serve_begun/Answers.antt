@@ -1,7 +1,7 @@
 use Rattle.std.proofs.Common.{sym}
 use Rattle.post_spec.specs.Codecs.{codecs}
-use Rattle.site_serving.specs.Telling.{IsTraced, IsWrittenSo}
-use Rattle.site_serving.proofs.Carry.{text_then, text_to}
+use Rattle.endpoint.specs.Telling.{IsTraced, IsWrittenSo}
+use Rattle.endpoint.proofs.Carry.{text_then, text_to}
 use Rattle.site_turns.specs.Ending.{TracedAs}
 use Rattle.site_turns.specs.Lasts.{ended_so}
 use Rattle.site_turns.specs.Turns.{ClosedText}

@@ -1,10 +1,11 @@
 use Rattle.std.proofs.Common.{◌≡◌, []}
 use Rattle.post_spec.specs.Codecs.{codecs}
-use Rattle.site_serving.specs.Telling.{IsTraced}
-use Rattle.site_serving.proofs.Carry.{carries_none, text_then}
+use Rattle.endpoint.specs.Telling.{IsTraced}
+use Rattle.endpoint.proofs.Carry.{carries_none, text_then}
 use Rattle.site_turns.specs.declared.ending.Ended.TheVariants as ended
 use Rattle.site_turns.specs.Ending.{EndedAs, RanAs, TracedAs, AwaitedAs, AreCounts}
-use Rattle.site_turns.proofs.First.{begin_ok, begin_failed, none_run, none_untils, none_counts}
+use Rattle.endpoint.proofs.Written.{begin_ok}
+use Rattle.site_turns.proofs.First.{begin_failed, none_run, none_untils, none_counts}
 use Rattle.site_turns.proofs.turning.serve_posts.Goals as goal
 
 pub returns-in-Err-clause-run : goal.returns-in-Err-clause-run

@@ -1,8 +1,8 @@
 use Rattle.std.proofs.Common.{◌≡◌, ◌<◌, ◌∙◌, arith}
 use Rattle.post_spec.specs.Codecs.{codecs}
-use Rattle.site_serving.specs.Telling.{IsTraced}
-use Rattle.site_serving.proofs.Carry.{carries_then, carries_to, text_then}
-use Rattle.site_serving.proofs.Counts.{fault_ok}
+use Rattle.endpoint.specs.Telling.{IsTraced}
+use Rattle.endpoint.proofs.Carry.{carries_then, carries_to, text_then}
+use Rattle.endpoint.proofs.Faults.{fault_ok}
 use Rattle.site_turns.specs.declared.ending.Ended.TheVariants as ended
 use Rattle.site_turns.specs.Lasts.{ended_by, ended_so}
 use Rattle.site_turns.specs.Turns.{Waits, Stops}

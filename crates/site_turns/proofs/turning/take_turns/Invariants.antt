@@ -3,8 +3,8 @@ use Rattle.std.specs.List.{All}
 use Rattle.session_words.specs.declared.plan.SitePlan.{SitePlan}
 use Rattle.post_spec.specs.Codecs.{codecs}
 use Rattle.site_posts.specs.Places.{RestsAt}
-use Rattle.site_serving.specs.SiteActsServing.{IsReady}
-use Rattle.site_serving.specs.Telling.{Carries, CarriesText, IsTraced}
+use Rattle.site_acts.specs.Serving.{IsReady}
+use Rattle.endpoint.specs.Telling.{Carries, CarriesText, IsTraced}
 use Rattle.site_turns.specs.Turns.{Waits}
 use Rattle.site_turns.proofs.turning.take_turns.Given as goal
 

@@ -3,36 +3,46 @@ use Rattle.charge_world.specs.declared.entry.Entry.{Entry}
 use Rattle.charge_world.specs.declared.entry.Entry.TheVariants as entry
 use Rattle.charge_world.specs.Outside.{bytes_of}
 use Rattle.post_spec.specs.Codecs.{codecs}
-use Rattle.site_serving.specs.Telling.{IsTraced, IsCutHere, IsWrittenSo}
-use Rattle.site_serving.proofs.Carry.{carries_to, text_then, text_to}
-use Rattle.site_serving.proofs.Counts.{text_told}
+use Rattle.endpoint.specs.Telling.{IsTraced, IsCutHere, IsWrittenSo}
+use Rattle.endpoint.proofs.Bounds.{counted}
+use Rattle.endpoint.proofs.Carry.{carries_to, text_then, text_to}
+use Rattle.endpoint.proofs.Faults.{text_told}
 use Rattle.trace_lines.specs.declared.TraceFailed.{TraceFailed}
 use Rattle.site_turns.specs.declared.ending.Ended.TheVariants as ended
-use Rattle.site_turns.specs.declared.hearing.SoFar.{SoFar}
-use Rattle.site_turns.specs.Hearing.{AwaitsLine}
+use Rattle.endpoint.specs.Knowing.{AwaitsLine}
 use Rattle.site_turns.specs.Turns.{Waits, Stops, Turned}
-use Rattle.site_turns.proofs.Lines.{text_next, cut_line, err_written}
-use Rattle.site_turns.proofs.Turns.{counted, HeardSo, turn_heard, turned, cut_turn, turned_cut, turn_lost}
+use Rattle.endpoint.proofs.Written.{text_next, err_written}
+use Rattle.site_turns.proofs.Turns.{HeardSo, turn_heard, turned, cut_turn, turned_cut, turn_lost}
 use Rattle.site_turns.proofs.turning.turn.Goals as goal
 
-pub returns-in_err-write-in-Err-clause-carried : goal.returns-in_err-write-in-Err-clause-carried
-returns-in_err-write-in-Err-clause-carried g c plan earlier lim left =
+pub returns-in_err-write_lost-in-Err-clause-carried : goal.returns-in_err-write_lost-in-Err-clause-carried
+returns-in_err-write_lost-in-Err-clause-carried g c plan earlier lim left =
     let cs = codecs g.C.Coded.negotiates g.C.Coded.reads g.C.Coded.encodes in
     let told = g.W.Wire.untils c.args.wire.now in
     let told_later = g.W.Wire.untils c.next.new.self in
-    let later : SoFar = record { moment = c.args.so_far.now.moment; hearing = c.args.so_far.now.hearing + 1 } in
+    let later = c.lose.new.self in
     carries_to _ _ (Waits cs plan c.args.so_far.now told earlier c.args.places.now) (Stops cs plan ended.TraceFault told_later earlier c.args.places.now) (Turned cs plan c.from_residual.result later told_later earlier c.args.places.now)
     (λ past s. turned_cut _ cs plan c.from_residual.result later told_later earlier c.args.places.now past c.from_residual.ensures.0 s)
     (turn_lost _ _ cs plan c.args.so_far.now ended.TraceFault told told_later earlier c.until.result c.args.places.now c.in-Err.ensures.lost c.next.ensures.untils c.until.ensures left c.requires.quiet (λ past e. tt))
 
-pub returns-in_err-write-in-Err-clause-traced : goal.returns-in_err-write-in-Err-clause-traced
-returns-in_err-write-in-Err-clause-traced g c =
+pub returns-in_err-write_lost-in-Err-clause-traced : goal.returns-in_err-write_lost-in-Err-clause-traced
+returns-in_err-write_lost-in-Err-clause-traced g c =
     let n = c.args.so_far.now.hearing in
-    text_then _ _ _ _ _ _ (IsTraced n) (AwaitsLine n entry.Lost) (IsWrittenSo (n + 1) c.from_residual.result) (text_next _ _ _ entry.Lost n c.in-Err.ensures.lost)
-    (cut_line _ _ _ entry.Lost n (n + 1) c.from_residual.result (omega arith) c.from_residual.ensures.0 c.in_err-write-in-Err.ensures.failed)
+    let m = c.lose.new.self.hearing in
+    let one : m ≡ n + 1 = counted n m (omega (arith, c.requires.left)) c.lose.ensures.hearing in
+    let r = c.from_residual.result in
+    text_then _ _ _ _ _ _ (IsTraced n) (AwaitsLine n entry.Lost) (IsWrittenSo m r) (text_next _ _ _ entry.Lost n c.in-Err.ensures.lost)
+    (text_to _ _ _ _ (AwaitsLine n entry.Lost) IsCutHere (IsWrittenSo m r) (λ past text t. err_written m r past text c.from_residual.ensures.0 t) (c.in_err-write_lost-in-Err.ensures.traced n _ one))
 
-pub returns-in_ok-write-in-Err-clause-carried : goal.returns-in_ok-write-in-Err-clause-carried
-returns-in_ok-write-in-Err-clause-carried g c plan earlier lim left =
+pub returns-in_ok-write_lost-in-Err-clause-traced : goal.returns-in_ok-write_lost-in-Err-clause-traced
+returns-in_ok-write_lost-in-Err-clause-traced g c =
+    let n = c.args.so_far.now.hearing in
+    let m = c.lose.new.self.hearing in
+    let one : m ≡ n + 1 = counted n m (omega (arith, c.requires.left)) c.lose.ensures.hearing in
+    text_then _ _ _ _ _ _ (IsTraced n) (AwaitsLine n entry.Lost) (IsTraced m) (text_next _ _ _ entry.Lost n c.in-Err.ensures.lost) (c.in_ok-write_lost-in-Err.ensures.traced n _ one)
+
+pub returns-in_ok-write_lost-in-Err-clause-carried : goal.returns-in_ok-write_lost-in-Err-clause-carried
+returns-in_ok-write_lost-in-Err-clause-carried g c plan earlier lim left =
     let cs = codecs g.C.Coded.negotiates g.C.Coded.reads g.C.Coded.encodes in
     let told = g.W.Wire.untils c.args.wire.now in
     let told_later = g.W.Wire.untils c.next.new.self in

@@ -7,11 +7,12 @@ use Rattle.session_timers.specs.Due.{never}
 use Rattle.post_spec.specs.Codecs.{codecs}
 use Rattle.site_posts.specs.declared.place.Place.{Place}
 use Rattle.site_posts.specs.Places.{due_at}
-use Rattle.site_serving.proofs.Counts.{text_told}
-use Rattle.site_acts.specs.Telling.{Carries, IsWrittenSo}
-use Rattle.site_turns.specs.Hearing.{AwaitsLine}
+use Rattle.endpoint.proofs.Bounds.{counted}
+use Rattle.endpoint.proofs.Faults.{text_told}
+use Rattle.endpoint.specs.Telling.{Carries, IsWrittenSo}
+use Rattle.endpoint.specs.Knowing.{AwaitsLine}
 use Rattle.site_turns.specs.SoFar.{IsNext, IsSoFar}
-use Rattle.site_turns.proofs.Turns.{counted, next_heard}
+use Rattle.site_turns.proofs.Turns.{next_heard}
 use Rattle.site_core.proofs.Embedded.{counts_of}
 use Rattle.site_core.proofs.site.Site.hear.Goals as goal
 

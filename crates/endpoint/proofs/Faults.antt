@@ -1,10 +1,10 @@
 -- A count of faults rises exactly where a call fails.
-use Rattle.std.proofs.Common.{◌≡◌, ◌<◌, ◌≤◌, ℕ, true, false, List, Option, Some, None, Result, Ok, refl, sym, subst, arith, inl, inr}
+use Rattle.std.proofs.Common.{◌≡◌, ℕ, true, false, List, Option, Some, None, Result, Ok, refl, sym, subst, arith, inl, inr}
 use Rattle.std.proofs.Math.Nat.{eq-or-lt_of_le}
 use Rattle.std.specs.Prelude.{IsSome}
 use Rattle.charge_world.specs.declared.entry.Entry.{Entry}
 use Rattle.charge_world.specs.Outside.{IsFault}
-use Rattle.site_acts.specs.Telling.{CarriesText}
+use Rattle.endpoint.specs.Telling.{CarriesText}
 
 pub fault_ok : {T E : Type 0} (a b : ℕ) (x : T) → IsFault {T = T} {E = E} a b (Ok x) → b ≡ a
 fault_ok a b x f = elim (eq-or-lt_of_le f.later) [ inl e ↦ sym e | inr l ↦ absurd (let e : false ≡ true = f.risen.1 l in cc) ]

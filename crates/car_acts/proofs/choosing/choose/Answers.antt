@@ -4,7 +4,7 @@ use Rattle.car_spec.specs.States.{State}
 use Rattle.car_acts.specs.Sound.{CanSay}
 use Rattle.car_acts.proofs.Next.{next_deed}
 use Rattle.car_acts.proofs.Sound.{decided_sound}
-use Rattle.car_acts.proofs.acting.choose.Goals as goal
+use Rattle.car_acts.proofs.choosing.choose.Goals as goal
 
 pub prepare-requires-clause-can : goal.prepare-requires-clause-can
 prepare-requires-clause-can g c =

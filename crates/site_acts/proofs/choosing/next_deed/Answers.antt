@@ -5,7 +5,7 @@ use Rattle.site_posts.specs.declared.place.Place.{Place}
 use Rattle.site_posts.proofs.Words.{index_at}
 use Rattle.site_acts.specs.Deeds.{Prepares}
 use Rattle.site_acts.proofs.Next.{nexts_by}
-use Rattle.site_acts.proofs.acting.next_deed.Goals as goal
+use Rattle.site_acts.proofs.choosing.next_deed.Goals as goal
 
 pub returns : goal.returns
 returns g c =

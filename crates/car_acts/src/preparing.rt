@@ -13,9 +13,10 @@ ghost use Rattle.car_acts.specs.Sound.{CanSay};
 use crate::deeds::Deed;
 use car_codec::CarCodec;
 use charge_world::Dialect;
+use endpoint::put_header;
 use evcc_machine::{Car, Spoken, Todo};
+use sdp_discovery::{SdpRequest, write_request};
 use session_words::{CarPlan, Request};
-use site_acts::put_header;
 
 /// Writes the frame of an offer to the front of a room, and answers its number of bytes.
 fn frame_offer<C: CarCodec>(codec: &mut C, dialects: &[Dialect], room: &mut [u8]) -> usize
@@ -81,6 +82,6 @@ pub(crate) fn prepare<C: CarCodec>(
         Some(Todo::Drive(order)) => Some(Deed::Give(order)),
         Some(Todo::Speak(spoken)) => Some(Deed::Say(speak(codec, plan, spoken, room))),
         Some(Todo::Finish(cause)) => Some(Deed::Finish(cause)),
-        Some(Todo::Inquire) => Some(Deed::Seek),
+        Some(Todo::Inquire) => Some(Deed::Seek(write_request(&SdpRequest { tls: false }))),
     }
 }

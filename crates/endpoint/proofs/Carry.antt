@@ -1,11 +1,11 @@
 -- What holds of a past that is told, over one call and over several; and of the trace beside it.
-use Rattle.std.proofs.Common.{◌≡◌, ℕ, ◌+◌, Bool, true, false, if◌then◌else◌, List, ◌∷◌, ◌++◌, Option, Some, None, Result, Ok, Err, refl, sym, ap, subst, ◌∙◌, arith, append_assoc}
+use Rattle.std.proofs.Common.{◌≡◌, ℕ, ◌+◌, Bool, true, if◌then◌else◌, List, ◌∷◌, ◌++◌, Option, Some, None, Result, Ok, Err, refl, sym, ap, subst, ◌∙◌, append_assoc}
 use Rattle.std.specs.Prelude.{IsSome, OnOk, OnErr, IsErr}
 use Rattle.charge_world.specs.declared.entry.Entry.{Entry}
 use Rattle.charge_world.specs.Outside.{GrowsByOne, Appends, AppendsSome}
 use Rattle.trace_text.specs.TraceText.{numbered_line_of}
-use Rattle.trace_text.specs.Pasts.{is_hearing, hearing_number, numbered_after, trace_text, lines_by, first_line_2}
-use Rattle.site_acts.specs.Telling.{Carries, CarriesText, IsTraced, IsCutHere, IsWrittenSo}
+use Rattle.trace_text.specs.Pasts.{is_hearing, numbered_after, lines_by, first_line_2}
+use Rattle.endpoint.specs.Telling.{Carries, CarriesText, IsTraced, IsCutHere, IsWrittenSo}
 
 -- one entry more
 pub carries_one : (before after : Option (List Entry)) (e : Entry) (P Q : List Entry → Type 0) → GrowsByOne before after e → ((past : List Entry) → P past → Q (e ∷ past)) → Carries before after P Q

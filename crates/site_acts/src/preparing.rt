@@ -1,6 +1,6 @@
-//! The memory in which a site makes what it sends and writes.
+//! The frames of what a post says, made with the codecs of its site in a room.
 
-ghost use Rattle.std.specs.Prelude.{◌≡◌, ◌≤◌, ◌+◌, ℕ, List, length, take, drop, Some, vec_len};
+ghost use Rattle.std.specs.Prelude.{◌≡◌, ◌≤◌, ℕ, List, length, take, Some};
 ghost use Rattle.v2gtp_frames.specs.Frames.{frame};
 ghost use Rattle.post_spec.specs.Codecs.{codecs};
 ghost use Rattle.station_spec.specs.States.{first};
@@ -12,32 +12,10 @@ ghost use Rattle.site_acts.specs.Deeds.{Prepares};
 
 use crate::deeds::Deed;
 use charge_world::Dialect;
+use endpoint::put_header;
 use secc_machine::{Post, Spoken, Todo};
 use session_words::Reply;
 use site_codec::Codec;
-use trace_lines::TraceLines;
-use v2gtp_frames::put_frame;
-
-/// The bytes of the longest frame that a site sends.
-pub const FRAME: usize = 1032;
-
-/// The codecs of a site, the room in which a frame is made, and that in which lines of the trace are.
-#[derive(Drop)]
-pub struct Desk<C> {
-    pub codec: C,
-    pub room: Vec<u8>,
-    pub lines: TraceLines,
-    ghost wide: { vec_len room ≡ 1032 },
-}
-
-/// Writes the frame of a payload that stands behind the header's place.
-pub fn put_header(room: &mut [u8], n: usize)
-    requires within { 8 + n ≤ length room.old }
-    requires small { n ≤ 1024 }
-    ensures { take (8 + n) room.new ≡ frame (take n (drop 8 room.old)) }
-{
-    room[..8].copy_from_slice(&put_frame(0x8001, n as u32));
-}
 
 /// Writes the frame of a reply to the front of a room, and answers its number of bytes.
 fn frame_reply<C: Codec>(codec: &mut C, dialect: Dialect, reply: &Reply, room: &mut [u8]) -> usize

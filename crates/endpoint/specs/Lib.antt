@@ -1,0 +1,4 @@
+pub mod Telling
+pub mod Calls
+pub mod Rooms
+pub mod Knowing
