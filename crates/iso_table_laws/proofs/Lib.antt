@@ -1,0 +1,4 @@
+pub mod Back
+pub mod Words
+pub mod Fits
+pub mod Payloads

@@ -1,0 +1,15 @@
+-- ISO 15118-2:2014 8.3 (message, header and body): what its frame names.
+use Rattle.iso_schema.specs.Declarations.{kinds}
+use Rattle.iso_schema.specs.declared.names.TheConstants.{HEADER, BODY, SESSION_ID}
+use Rattle.iso_schema.specs.declared.kinds.TheConstants.{V2G_MESSAGE_KIND, BINARY8_KIND}
+use Rattle.message_tables.specs.Frame.{Frame}
+
+abbrev pub frame : Frame
+frame = record {
+  kinds = kinds;
+  message_kind = V2G_MESSAGE_KIND;
+  identifier_kind = BINARY8_KIND;
+  header = HEADER;
+  identifier = SESSION_ID;
+  body = BODY;
+}

@@ -1,0 +1,4 @@
+pub mod Numbers
+pub mod Read
+pub mod Frames
+pub mod Payloads
