@@ -3,7 +3,7 @@
 and their proofs, and how each type is read from a tree.
 
 usage: message_types.py LIST SCHEMA TYPES            writes crates/CRATE/{src,specs,proofs} for the files and kinds that TYPES lists, and what
-                                                     they are read as to crates/{iso,din}_trees
+                                                     those of ISO 15118-2 are read as to crates/iso_trees
        message_types.py --check LIST SCHEMA TYPES    exits 1 where a file differs from what would be written
 
 SCHEMA is the crate of the dialect's schema. The kinds of a file are all enumerations or none is. The head of tools/iso.schema says what
@@ -26,6 +26,8 @@ WORDS = [
     "put_optional", "put_optional_attribute", "put_optional_choice", "put_optional_value", "put_record", "put_records",
     "put_value", "put_values", "records_here", "required", "required_here", "three_children", "value", "values", "whole_record",
 ]
+# the schemas whose types are read from trees; of others tables say what a tree means
+READ_FROM_TREES = ["iso_schema"]
 CHILDREN = [
     "AtMostOneOf", "Elements", "Elements2", "Elements3", "Elements4", "LeftOut", "OneOf", "Optional", "OptionalValue", "Required", "RequiredValue",
     "Several", "SeveralValues", "WithAttribute", "WithOptionalAttribute",
@@ -474,7 +476,7 @@ def written(t):
         files[f"{crate}/specs/{file.capitalize()}.antt"] = definitions(t, crate, file, kinds)
         for kind in kinds:
             files.update({f"{crate}/proofs/{at}/Answers.antt": text for at, text in proofs(t, crate, file, kind).items()})
-    files.update(reader_files(t))
+    files.update(reader_files(t) if t.s.crate in READ_FROM_TREES else {})
     reached = Reached()
     try:
         return {f"crates/{at}": reached.text(at.split("/")[0], text, at.endswith(".rt")) for at, text in files.items()}

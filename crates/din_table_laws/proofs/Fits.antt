@@ -4,6 +4,7 @@ use Rattle.std.specs.Prelude.{IfSome}
 use Rattle.std.specs.List.{AllByRecursion, range_with_len}
 use Rattle.std.specs.Option.{option_map}
 use Rattle.std.proofs.lemmas.Int.{ints}
+use Rattle.std.proofs.lemmas.List.Elements.{All-weaker}
 use Rattle.std.proofs.lemmas.List.FromFn.{length-map-range_with_len}
 use Rattle.arrayvec.specs.ArrayVec.{ArrayVec}
 use Rattle.exi_documents.specs.Trees.{Number}
@@ -48,6 +49,7 @@ use Rattle.din_schema.specs.declared.names.TheConstants.{SESSION_SETUP_REQ, SESS
 use Rattle.fitting_parts.specs.Fitting.{HoldsTrees}
 use Rattle.document_sizes.specs.Sizes.{inside_weight}
 use Rattle.din_word_messages.specs.Spellable.{AreTenths, AreWatts, IsService, IsCharge, CanProfile, CanTuple, CanTuples, CanAsk, CanTell, CanSession, CanSpell}
+use Rattle.written_sizes.specs.Entries.{HasEntries}
 use Rattle.word_tables.specs.Tables.{Table, rows, nothing, written}
 use Rattle.word_tables.specs.Fitting.{CanWrite, fits, bits}
 use Rattle.word_tables.proofs.Fitting.{table_holds}
@@ -57,8 +59,9 @@ use Rattle.din_tables.specs.Values.{unit_if, spelled, physical, current, voltage
 use Rattle.din_tables.specs.Frame.{message, framed}
 use Rattle.din_tables.specs.Setup.{code_alone, setup_req, setup_res, discovery_res, first_mode, selection_req, service, authorization_res}
 use Rattle.din_tables.specs.Power.{car_alone, present_voltage, cable_check_res, pre_charge_req, profile, delivery_req, is_start, profile_if, delivery_res, demand_req, demand_res}
-use Rattle.din_tables.specs.Parameters.{parameters_req, schedule_entry, entries_of, tuple, schedules, parameters_res}
+use Rattle.din_tables.specs.Parameters.{parameters_req, schedule_entry, entries_of, tuple_up_to, schedules_up_to, parameters_res_up_to}
 use Rattle.din_tables.specs.Words.{in_ask, in_tell, in_word}
+use Rattle.din_table_laws.specs.Laws.{IsBrief}
 
 -- ---- amounts
 
@@ -151,20 +154,34 @@ entries_fit : (a : Amount) → a.size ≤ 32767 → (start n : ℕ) → start + 
 entries_fit a few start zero h = tt
 entries_fit a few start (suc n) h = (((omega arith, (lit≤ tt, tt)), (value_few a.size few, tt)), entries_fit a few (start + 1) n (omega arith))
 
-tuple_fits : (t : Tuple) → CanTuple t → CanWrite kinds tuple t
-tuple_fits t can =
+abbrev HasUpTo : ℕ → Tuple → Type 0
+HasUpTo most t = t.entries ≤ most
+
+tuple_fits : (most : ℕ) (t : Tuple) → CanTuple t → HasUpTo most t → CanWrite kinds (tuple_up_to most) t
+tuple_fits most t can few =
     let count : length (entries_of t) ≡ t.entries = length-map-range_with_len (λ k. ((k, tt), (t.least, tt))) 0 t.entries in
     let some : 1 ≤ t.entries = can.entries.0 in
-    let few : t.entries ≤ 128 = can.entries.1 in
+    let bound : t.entries ≤ 128 = can.entries.1 in
     (can.id, ((value_few 1 (lit≤ tt), (omega arith, omega arith, entries_fit t.least can.least.few 0 t.entries (omega arith), tt)), tt))
 
-tuples_fit : (ts : List Tuple) → All CanTuple ts → AllByRecursion (λ t. CanWrite kinds tuple t) ts
-tuples_fit [] all = tt
-tuples_fit (t ∷ ts) all = (tuple_fits t (head CanTuple t ts all), tuples_fit ts (tail CanTuple t ts all))
+tuples_fit : (most : ℕ) (ts : List Tuple) → All CanTuple ts → All (HasUpTo most) ts → AllByRecursion (λ t. CanWrite kinds (tuple_up_to most) t) ts
+tuples_fit most [] all few = tt
+tuples_fit most (t ∷ ts) all few = (
+  tuple_fits most t (head CanTuple t ts all) (head (HasUpTo most) t ts few),
+  tuples_fit most ts (tail CanTuple t ts all) (tail (HasUpTo most) t ts few),
+)
 
-schedules_fit : (o : Option (ArrayVec Tuple)) → IfSome o CanTuples → IfSome (option_map (λ v. v.items) o) (λ ts. CanWrite kinds schedules ts)
-schedules_fit None can = tt
-schedules_fit (Some v) can = (can.0.0, can.0.1, tuples_fit v.items can.1, tt)
+abbrev HaveUpTo : ℕ → Option (ArrayVec Tuple) → Type 0
+HaveUpTo most o = IfSome o (λ v. All (HasUpTo most) v.items)
+
+schedules_fit : (most : ℕ) (o : Option (ArrayVec Tuple)) → IfSome o CanTuples → HaveUpTo most o
+    → IfSome (option_map (λ v. v.items) o) (λ ts. CanWrite kinds (schedules_up_to most) ts)
+schedules_fit most None can few = tt
+schedules_fit most (Some v) can few = (can.0.0, can.0.1, tuples_fit most v.items can.1 few, tt)
+
+declared_few : (o : Option (ArrayVec Tuple)) → IfSome o CanTuples → HaveUpTo 128 o
+declared_few None can = tt
+declared_few (Some v) can = All-weaker CanTuple (HasUpTo 128) (λ t own. own.entries.1) v.items can.1
 
 -- ---- messages
 
@@ -228,27 +245,21 @@ ask_good s (ask.WeldingDetection ready soc) named can =
     good 2000 WELDING_DETECTION_REQ car_alone s ((ready, (soc, tt)), tt) refl (lit≤ tt) named (car_fits ready soc can, tt)
 ask_good s (ask.SessionStop pause) named can = good 2000 SESSION_STOP_REQ nothing s tt refl (lit≤ tt) named tt
 
-tell_good : (s : SessionId) (c : Code) (t : Tell) → CanSession s → CanTell t → AreGood (told_bits t) (in_tell s c t)
-tell_good s c (tell.SessionSetup (evse.Bytes id)) named can =
-    good 2000 SESSION_SETUP_RES setup_res s (c, (id.items, tt)) refl (lit≤ tt) named (code_small c, (bytes_fit 32 id.items can.0 can.1, tt))
-tell_good s c (tell.SessionSetup (evse.Text id)) named can = tt
-tell_good s c (tell.ServiceDiscovery free modes) named can =
-    good 2000 SERVICE_DISCOVERY_RES discovery_res s (c, ((free, (first_mode modes.items, tt)), tt)) refl (lit≤ tt) named
-    (code_small c, ((lit< tt, tt), (((lit≤ tt, (lit< tt, tt)), (tt, (offered_small (first_mode modes.items), tt))), tt)))
-tell_good s c (tell.ServiceDetail _) named can = tt
-tell_good s c tell.PaymentSelection named can =
-    good 2000 SERVICE_PAYMENT_SELECTION_RES code_alone s (c, tt) refl (lit≤ tt) named (code_small c, tt)
-tell_good s c (tell.Authorization p) named can =
-    good 2000 CONTRACT_AUTHENTICATION_RES authorization_res s (c, (p, tt)) refl (lit≤ tt) named (code_small c, (step_small p, tt))
-tell_good s c (tell.ChargeParameters p schedule (limits.Ac _ _ _)) named can = tt
-tell_good s c (tell.ChargeParameters p schedule (limits.Dc status a w v la lv ripple)) named can =
-    good 160000 CHARGE_PARAMETER_DISCOVERY_RES parameters_res s
-    (c, (p, (option_map (λ tuples. tuples.items) schedule, ((status, (a, (w, (v, (la, (lv, (ripple, tt))))))), tt)))) refl (lit≤ tt) named (
+-- with schedules of up to so many entries
+parameters_good : (bound most : ℕ) (s : SessionId) (c : Code) (p : Processing) (schedule : Option (ArrayVec Tuple)) (status : DcStatus)
+    (a : Amount) (w : Option Amount) (v la lv ripple : Amount)
+    → fits kinds (message CHARGE_PARAMETER_DISCOVERY_RES (parameters_res_up_to most)) V2G_MESSAGE_KIND ≡ true
+    → bits 6 kinds (message CHARGE_PARAMETER_DISCOVERY_RES (parameters_res_up_to most)) ≤ bound
+    → CanSession s → CanTell (tell.ChargeParameters p schedule (limits.Dc status a w v la lv ripple)) → HaveUpTo most schedule
+    → AreGood bound (in_tell s c (tell.ChargeParameters p schedule (limits.Dc status a w v la lv ripple)))
+parameters_good bound most s c p schedule status a w v la lv ripple fit small named can few =
+    good bound CHARGE_PARAMETER_DISCOVERY_RES (parameters_res_up_to most) s
+    (c, (p, (option_map (λ tuples. tuples.items) schedule, ((status, (a, (w, (v, (la, (lv, (ripple, tt))))))), tt)))) fit small named (
       code_small c,
       (
         step_small p,
         (
-          schedules_fit schedule can.1,
+          schedules_fit most schedule can.1 few,
           (
             (
               status_fits status,
@@ -268,6 +279,22 @@ tell_good s c (tell.ChargeParameters p schedule (limits.Dc status a w v la lv ri
         ),
       ),
     )
+
+tell_good : (s : SessionId) (c : Code) (t : Tell) → CanSession s → CanTell t → AreGood (told_bits t) (in_tell s c t)
+tell_good s c (tell.SessionSetup (evse.Bytes id)) named can =
+    good 2000 SESSION_SETUP_RES setup_res s (c, (id.items, tt)) refl (lit≤ tt) named (code_small c, (bytes_fit 32 id.items can.0 can.1, tt))
+tell_good s c (tell.SessionSetup (evse.Text id)) named can = tt
+tell_good s c (tell.ServiceDiscovery free modes) named can =
+    good 2000 SERVICE_DISCOVERY_RES discovery_res s (c, ((free, (first_mode modes.items, tt)), tt)) refl (lit≤ tt) named
+    (code_small c, ((lit< tt, tt), (((lit≤ tt, (lit< tt, tt)), (tt, (offered_small (first_mode modes.items), tt))), tt)))
+tell_good s c (tell.ServiceDetail _) named can = tt
+tell_good s c tell.PaymentSelection named can =
+    good 2000 SERVICE_PAYMENT_SELECTION_RES code_alone s (c, tt) refl (lit≤ tt) named (code_small c, tt)
+tell_good s c (tell.Authorization p) named can =
+    good 2000 CONTRACT_AUTHENTICATION_RES authorization_res s (c, (p, tt)) refl (lit≤ tt) named (code_small c, (step_small p, tt))
+tell_good s c (tell.ChargeParameters p schedule (limits.Ac _ _ _)) named can = tt
+tell_good s c (tell.ChargeParameters p schedule (limits.Dc status a w v la lv ripple)) named can =
+    parameters_good 160000 128 s c p schedule status a w v la lv ripple refl (lit≤ tt) named can (declared_few schedule can.1)
 tell_good s c (tell.CableCheck status p) named can =
     good 2000 CABLE_CHECK_RES cable_check_res s (c, (status, (p, tt))) refl (lit≤ tt) named (code_small c, (status_fits status, (step_small p, tt)))
 tell_good s c (tell.PreCharge status v) named can =
@@ -314,3 +341,29 @@ pub word_good : (w : Word) → CanSpell w → AreGood (most_bits w) (in_word w)
 word_good (word.Request r) can = ask_good r.session r.ask can.0 can.1
 word_good (word.Reply r) can = tell_good r.session r.code r.tell can.0 can.2
 word_good word.Nothing can = tt
+
+-- ---- with few entries
+
+abbrev pub few_bits : Option Inside → Type 0
+few_bits own = IfSome own (λ i. inside_weight 6 i ≤ 8000)
+
+fewer : (n : ℕ) (o : Option Inside) → n ≤ 8000 → AreGood n o → few_bits o
+fewer n None h g = tt
+fewer n (Some own) h g = let few : inside_weight 6 own ≤ n = g.few in omega arith
+
+brief_tell : (s : SessionId) (c : Code) (t : Tell) → CanSession s → CanTell t → HasEntries 1 t → few_bits (in_tell s c t)
+brief_tell s c (tell.ChargeParameters p schedule (limits.Ac x y z)) named can few = tt
+brief_tell s c (tell.ChargeParameters p schedule (limits.Dc status a w v la lv ripple)) named can few =
+    fewer 8000 (in_tell s c (tell.ChargeParameters p schedule (limits.Dc status a w v la lv ripple))) (lit≤ tt)
+    (parameters_good 8000 1 s c p schedule status a w v la lv ripple refl (lit≤ tt) named can few)
+brief_tell s c other named can few = fewer 2000 (in_tell s c other) (lit≤ tt) (tell_good s c other named can)
+
+brief_ask : (s : SessionId) (a : Ask) → CanSession s → CanAsk a → few_bits (in_ask s a)
+brief_ask s (ask.PowerDelivery p tuple watts) named can =
+    fewer 8000 (in_ask s (ask.PowerDelivery p tuple watts)) (lit≤ tt) (ask_good s (ask.PowerDelivery p tuple watts) named can)
+brief_ask s other named can = fewer 2000 (in_ask s other) (lit≤ tt) (ask_good s other named can)
+
+pub brief_bits : (w : Word) → CanSpell w → IsBrief w → few_bits (in_word w)
+brief_bits (word.Request r) can few = brief_ask r.session r.ask can.0 can.1
+brief_bits (word.Reply r) can few = brief_tell r.session r.code r.tell can.0 can.2 few
+brief_bits word.Nothing can few = tt

@@ -1,9 +1,9 @@
 -- The laws of payloads, by those of their tables.
-use Rattle.std.proofs.Common.{◌≡◌, ℕ, ◌+◌, ◌*◌, ◌≤◌, true, List, length, Some, refl, sym, ◌∙◌, ap, subst, arith}
+use Rattle.std.proofs.Common.{◌≡◌, ℕ, ◌+◌, ◌*◌, ◌≤◌, true, List, length, Option, Some, refl, sym, ◌∙◌, ap, subst, arith}
 use Rattle.std.specs.Prelude.{IfSome}
 use Rattle.document_laws.proofs.Encodings.{encoding_spelled}
 use Rattle.document_laws.proofs.Payloads.{payload_decided}
-use Rattle.document_sizes.proofs.Documents.{encoding_small}
+use Rattle.document_sizes.proofs.Documents.{encoding_small, document_fits}
 use Rattle.document_sizes.proofs.Parts.{root_sum}
 use Rattle.document_sizes.specs.Sizes.{has_narrow_codes, tree_weight, inside_weight}
 use Rattle.fitting_parts.proofs.Few.{few_texts}
@@ -12,6 +12,7 @@ use Rattle.kind_laws.specs.Kinds.{FitsSchema}
 use Rattle.kind_laws.specs.Laws.{HasEncoding}
 use Rattle.kind_laws.proofs.Encoded.{encoded}
 use Rattle.message_parts.specs.Contents.{Inside, Of, Holding}
+use Rattle.message_parts.specs.Documents.{PassesBytes}
 use Rattle.session_words.specs.declared.word.Ask.{Ask}
 use Rattle.session_words.specs.declared.word.Ask.TheVariants as ask
 use Rattle.session_words.specs.declared.word.Tell.{Tell}
@@ -24,14 +25,21 @@ use Rattle.din_schema.specs.declared.names.TheConstants.{V2G_MESSAGE}
 use Rattle.din_schema.specs.declared.kinds.TheConstants.{V2G_MESSAGE_KIND}
 use Rattle.din_word_messages.specs.Spellable.{CanSpell}
 use Rattle.din_tables.specs.Words.{word_in, word_of_tree, in_word, root}
-use Rattle.din_table_laws.specs.Laws.{asked_bytes, told_bytes, most_bytes, Reads, IsWrittenFor}
+use Rattle.din_table_laws.specs.Laws.{asked_bytes, told_bytes, most_bytes, IsBrief, Reads, IsWrittenFor}
 use Rattle.din_table_laws.proofs.Words.{ReadsAs, word_read_back}
-use Rattle.din_table_laws.proofs.Fits.{IsGood, asked_bits, told_bits, most_bits, word_good}
+use Rattle.din_table_laws.proofs.Fits.{IsGood, asked_bits, told_bits, most_bits, word_good, few_bits, brief_bits}
 
 pub one_word : (payload : List ℕ) (w v : Word) → Reads payload w → Reads payload v → w ≡ v
 one_word payload w v a b =
     let same = (payload_decided schema payload).one_tree a.tree b.tree a.document b.document in
     a.word_is ∙ ap word_of_tree same ∙ sym b.word_is
+
+some_of : {X : Type 0} (x y : X) → ◌≡◌ {A = Option X} (Some x) (Some y) → x ≡ y
+some_of x y same = cc
+
+-- what is written for a word is one
+pub one_inside : (w : Word) (own other : Inside) → in_word w ≡ Some own → in_word w ≡ Some other → own ≡ other
+one_inside w own other is also = some_of own other (sym is ∙ also)
 
 good_of : (w : Word) (own : Inside) → CanSpell w → in_word w ≡ Some own → IsGood (most_bits w) own
 good_of w own can is = subst (λ o. IfSome o (IsGood (most_bits w))) is (word_good w can)
@@ -76,3 +84,10 @@ short w payload can is =
     let sum : tree_weight 6 (root is.own) ≡ inside_weight 6 is.own = root_sum 6 V2G_MESSAGE is.own in
     let bytes : 8 * length payload ≤ 7 + (8 + (7 + tree_weight 6 (root is.own))) = encoding_small 6 schema (root is.own) payload narrow is.encoding in
     in_bytes w (length payload) is.own is.own_is (omega arith)
+
+pub fits_room : (w : Word) (own : Inside) (number : ℕ) → CanSpell w → IsBrief w → in_word w ≡ Some own → PassesBytes schema number (root own) 1024 → ⊥
+fits_room w own number can brief is passes =
+    let few : inside_weight 6 own ≤ 8000 = subst few_bits is (brief_bits w can brief) in
+    let sum : tree_weight 6 (root own) ≡ inside_weight 6 own = root_sum 6 V2G_MESSAGE own in
+    let light : 8 + (7 + tree_weight 6 (root own)) ≤ 8 * 1024 = omega arith in
+    document_fits 6 schema number (root own) 1024 narrow light passes

@@ -24,34 +24,25 @@ use Rattle.din_values.specs.Codes.{is_din_code}
 use Rattle.din_word_messages.specs.Spellable.{AreTenths, IsDinProgress, CanProfile, CanAsk, CanTell, CanSession, CanSpell}
 use Rattle.din_schema.specs.declared.names.TheConstants.{SESSION_SETUP_REQ, SESSION_SETUP_RES, SERVICE_DISCOVERY_REQ, SERVICE_DISCOVERY_RES, SERVICE_PAYMENT_SELECTION_REQ, SERVICE_PAYMENT_SELECTION_RES, CONTRACT_AUTHENTICATION_REQ, CONTRACT_AUTHENTICATION_RES, CHARGE_PARAMETER_DISCOVERY_REQ, CHARGE_PARAMETER_DISCOVERY_RES, CABLE_CHECK_REQ, CABLE_CHECK_RES, PRE_CHARGE_REQ, PRE_CHARGE_RES, POWER_DELIVERY_REQ, POWER_DELIVERY_RES, CURRENT_DEMAND_REQ, CURRENT_DEMAND_RES, WELDING_DETECTION_REQ, WELDING_DETECTION_RES, SESSION_STOP_REQ, SESSION_STOP_RES}
 use Rattle.word_tables.specs.Tables.{Table, rows, nothing, written, back, is_apart}
-use Rattle.word_tables.proofs.Reading.{inside_back}
+use Rattle.message_tables.proofs.Frames as frames
+use Rattle.message_tables.proofs.Frames.{request, reply}
 use Rattle.din_tables.specs.Values.{current, voltage}
-use Rattle.din_tables.specs.Frame.{message, framed, session_of, asked_in, told_in}
+use Rattle.din_tables.specs.Frame.{frame, message, framed, asked_in, told_in}
 use Rattle.din_tables.specs.Setup.{code_alone, setup_req, setup_asked, setup_res, setup_told, discovery_res, discovery_told, first_mode, selection_req, selection_asked, authorization_res, authorization_told}
 use Rattle.din_tables.specs.Power.{car_alone, present_voltage, cable_check_asked, cable_check_res, cable_check_told, pre_charge_req, pre_charge_asked, pre_charge_told, profile, delivery_req, is_start, delivery_asked, profile_if, delivery_res, delivery_told, demand_req, demand_asked, demand_res, demand_told, welding_asked, welding_told}
 use Rattle.din_tables.specs.Parameters.{parameters_req, parameters_asked, parameters_res, parameters_told}
 use Rattle.din_tables.specs.Words.{word_in, in_ask, in_tell, in_word}
 use Rattle.din_table_laws.proofs.Back.{current_back, voltage_back, powers_back, if_back, status_back, code_back, step_back, mode_back, modes_back, external_back, services_back, progress_back, profile_back, schedules_back, limits_back}
 
-abbrev request : SessionId → Ask → Word
-request session ask = word.Request (record { session = session; ask = ask })
-
-abbrev reply : SessionId → Code → Tell → Word
-reply session code tell = word.Reply (record { session = session; code = code; tell = tell })
-
 -- ---- a message in its frame
 
 asked_back : {X : Type 0} (name : ℕ) (t : Table rows X) (said : X → Ask) (s : SessionId) (x : X) → is_apart (message name t) ≡ true → CanSession s
     → asked_in name t said (written (message name t) (framed s x)) ≡ request s (said (back t x))
-asked_back name t said s x apart can =
-    ap (λ y. request (session_of y.0.0) (said y.1.0.0)) (inside_back (message name t) apart (framed s x))
-    ∙ ap (λ b. request (session_of b) (said (back t x))) (fitting_all 8 s.bytes.items can.0)
+asked_back name t said s x apart can = frames.asked_back frame name t said s x apart can.0
 
 told_back : {X : Type 0} (name : ℕ) (t : Table rows (Code × X)) (said : X → Tell) (s : SessionId) (x : Code × X) → is_apart (message name t) ≡ true → CanSession s
     → told_in name t said (written (message name t) (framed s x)) ≡ reply s (back t x).0 (said (back t x).1)
-told_back name t said s x apart can =
-    ap (λ y. reply (session_of y.0.0) y.1.0.0.0 (said y.1.0.0.1)) (inside_back (message name t) apart (framed s x))
-    ∙ ap (λ b. reply (session_of b) (back t x).0 (said (back t x).1)) (fitting_all 8 s.bytes.items can.0)
+told_back name t said s x apart can = frames.told_back frame name t said s x apart can.0
 
 -- ---- words
 

@@ -4,6 +4,7 @@ use Rattle.exi_documents.specs.Documents.{IsDocument, IsEncoding}
 use Rattle.exi_documents.specs.Trees.{Tree}
 use Rattle.kind_laws.specs.Laws.{HasEncoding}
 use Rattle.message_parts.specs.Contents.{Inside}
+use Rattle.message_parts.specs.Documents.{PassesBytes}
 use Rattle.session_words.specs.declared.word.Ask.{Ask}
 use Rattle.session_words.specs.declared.word.Ask.TheVariants as ask
 use Rattle.session_words.specs.declared.word.Tell.{Tell}
@@ -12,6 +13,7 @@ use Rattle.session_words.specs.declared.word.Word.{Word}
 use Rattle.session_words.specs.declared.word.Word.TheVariants as word
 use Rattle.din_word_messages.specs.Spellable.{CanSpell}
 use Rattle.written_words.specs.Back.{word_back}
+use Rattle.written_sizes.specs.Entries.{HasEntries}
 use Rattle.din_schema.specs.Declarations.{schema}
 use Rattle.din_tables.specs.Words.{word_of_tree, in_word, root}
 
@@ -41,6 +43,11 @@ most_bytes (word.Request r) = asked_bytes r.ask
 most_bytes (word.Reply r) = told_bytes r.tell
 most_bytes word.Nothing = 0
 
+-- no schedule has more than one entry
+abbrev pub IsBrief : Word → Type 0
+IsBrief (word.Reply r) = HasEntries 1 r.tell
+IsBrief other = Unit {0}
+
 abbrev pub ReadsAsOne : Type 0
 ReadsAsOne = (payload : List ℕ) (w v : Word) → Reads payload w → Reads payload v → w ≡ v
 
@@ -52,3 +59,6 @@ IsSpelled = (w : Word) (own : Inside) → CanSpell w → in_word w ≡ Some own 
 
 abbrev pub IsShort : Type 0
 IsShort = (w : Word) (payload : List ℕ) → CanSpell w → IsWrittenFor w payload → length payload ≤ most_bytes w
+
+abbrev pub FitsRoom : Type 0
+FitsRoom = (w : Word) (own : Inside) (number : ℕ) → CanSpell w → IsBrief w → in_word w ≡ Some own → PassesBytes schema number (root own) 1024 → ⊥

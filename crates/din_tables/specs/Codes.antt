@@ -1,25 +1,22 @@
--- DIN SPEC 70121:2014 9.5 (data types): enumerations in elements, as words have them. That an ordinal past its names is the first is own.
-use Rattle.std.specs.Prelude.{ℕ, Bool, true, false, List, [], ◌∷◌, get_or}
+-- DIN SPEC 70121:2014 9.5 (data types): enumerations in elements, as words have them. Those that ISO 15118-2 numbers alike are in
+-- `message_tables`.
+use Rattle.std.specs.Prelude.{ℕ, Bool, List, [], ◌∷◌}
 use Rattle.charge_world.specs.declared.heard.IsolationLevel.{IsolationLevel}
 use Rattle.charge_world.specs.declared.heard.IsolationLevel.TheVariants as level
 use Rattle.session_words.specs.declared.code.Code.{Code}
 use Rattle.session_words.specs.declared.code.Code.TheVariants as code
 use Rattle.session_words.specs.declared.code.Notify.{Notify}
-use Rattle.session_words.specs.declared.code.Notify.TheVariants as notify
 use Rattle.session_words.specs.declared.code.Processing.{Processing}
 use Rattle.session_words.specs.declared.code.Processing.TheVariants as processing
 use Rattle.session_words.specs.declared.code.StatusCode.{StatusCode}
-use Rattle.session_words.specs.declared.code.StatusCode.TheVariants as status
 use Rattle.session_words.specs.declared.mode.Mode.{Mode}
-use Rattle.session_words.specs.declared.mode.Mode.TheVariants as mode
 use Rattle.session_words.specs.declared.mode.OfferedMode.{OfferedMode}
 use Rattle.session_words.specs.declared.mode.OfferedMode.TheVariants as offered
 use Rattle.din_schema.specs.declared.kinds.TheConstants.{ISOLATION_LEVEL_KIND, EVSE_STATUS_CODE_KIND, EVSE_NOTIFICATION_KIND, RESPONSE_CODE_KIND, EVSE_PROCESSING_KIND, ENERGY_TRANSFER_MODE_KIND, SUPPORTED_ENERGY_TRANSFER_TYPE_KIND, PAYMENT_OPTION_KIND}
-use Rattle.word_tables.specs.Tables.{Table, inside, ordinal, simple, meaning}
-
--- one of these names, in order of their ordinals
-abbrev pub one_of_names : {E : Type 0} → List E → E → (E → ℕ) → ℕ → Table inside E
-one_of_names names first number kind = meaning (λ k. get_or names k first) number (simple ordinal kind)
+use Rattle.word_tables.specs.Tables.{Table, inside}
+pub use Rattle.message_tables.specs.Values.{one_of_names}
+pub use Rattle.message_tables.specs.Codes.{notify_number, status_number, mode_number, second_number as payment_number}
+use Rattle.message_tables.specs.Codes as alike
 
 -- ---- DC_EVSEStatus. A post without an isolation monitor is written as one whose isolation is invalid
 
@@ -33,36 +30,11 @@ level_number level.NoImd = 0
 abbrev pub isolation : Table inside IsolationLevel
 isolation = one_of_names (level.Invalid ∷ level.Valid ∷ level.Warning ∷ level.Fault ∷ []) level.Invalid level_number ISOLATION_LEVEL_KIND
 
-abbrev pub notify_number : Notify → ℕ
-notify_number notify.None = 0
-notify_number notify.StopCharging = 1
-notify_number notify.ReNegotiation = 2
-
 abbrev pub notification : Table inside Notify
-notification = one_of_names (notify.None ∷ notify.StopCharging ∷ notify.ReNegotiation ∷ []) notify.None notify_number EVSE_NOTIFICATION_KIND
-
-abbrev pub status_number : StatusCode → ℕ
-status_number status.EvseNotReady = 0
-status_number status.EvseReady = 1
-status_number status.EvseShutdown = 2
-status_number status.EvseUtilityInterruptEvent = 3
-status_number status.EvseIsolationMonitoringActive = 4
-status_number status.EvseEmergencyShutdown = 5
-status_number status.EvseMalfunction = 6
-status_number status.Reserved8 = 7
-status_number status.Reserved9 = 8
-status_number status.ReservedA = 9
-status_number status.ReservedB = 10
-status_number status.ReservedC = 11
-
-abbrev pub status_names : List StatusCode
-status_names =
-    status.EvseNotReady ∷ status.EvseReady ∷ status.EvseShutdown ∷ status.EvseUtilityInterruptEvent ∷ status.EvseIsolationMonitoringActive
-    ∷ status.EvseEmergencyShutdown ∷ status.EvseMalfunction ∷ status.Reserved8 ∷ status.Reserved9 ∷ status.ReservedA ∷ status.ReservedB
-    ∷ status.ReservedC ∷ []
+notification = alike.notification EVSE_NOTIFICATION_KIND
 
 abbrev pub status_code : Table inside StatusCode
-status_code = one_of_names status_names status.EvseNotReady status_number EVSE_STATUS_CODE_KIND
+status_code = alike.status_code EVSE_STATUS_CODE_KIND
 
 -- ---- ResponseCode: the codes of ISO alone are written as FAILED
 
@@ -114,19 +86,8 @@ step = one_of_names (processing.Finished ∷ processing.Ongoing ∷ []) processi
 
 -- ---- EVRequestedEnergyTransferType and EVSESupportedEnergyTransferType: the mode of ISO alone is written as DC_extended
 
-abbrev pub mode_number : Mode → ℕ
-mode_number mode.AcSinglePhaseCore = 0
-mode_number mode.AcThreePhaseCore = 1
-mode_number mode.DcCore = 2
-mode_number mode.DcExtended = 3
-mode_number mode.DcComboCore = 4
-mode_number mode.DcUnique = 5
-
-abbrev pub mode_names : List Mode
-mode_names = mode.AcSinglePhaseCore ∷ mode.AcThreePhaseCore ∷ mode.DcCore ∷ mode.DcExtended ∷ mode.DcComboCore ∷ mode.DcUnique ∷ []
-
 abbrev pub wanted_mode : Table inside Mode
-wanted_mode = one_of_names mode_names mode.AcSinglePhaseCore mode_number ENERGY_TRANSFER_MODE_KIND
+wanted_mode = alike.wanted_mode ENERGY_TRANSFER_MODE_KIND
 
 abbrev pub offered_number : OfferedMode → ℕ
 offered_number offered.AcSinglePhaseCore = 0
@@ -151,9 +112,5 @@ offered_mode = one_of_names offered_names offered.AcSinglePhaseCore offered_numb
 
 -- ---- PaymentOption: by contract, or elsewhere
 
-abbrev pub payment_number : Bool → ℕ
-payment_number false = 0
-payment_number true = 1
-
 abbrev pub external : Table inside Bool
-external = one_of_names (false ∷ true ∷ []) false payment_number PAYMENT_OPTION_KIND
+external = alike.is_second PAYMENT_OPTION_KIND

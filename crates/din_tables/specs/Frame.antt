@@ -1,65 +1,38 @@
--- DIN SPEC 70121:2014 9.2 and 9.3 (message, header): a whole message as a table, its identifier and what is in its body under the name of
--- the message.
-use Rattle.std.specs.Prelude.{ℕ, ◌&&◌, Bool, List}
+-- DIN SPEC 70121:2014 9.2 and 9.3 (message, header): what its frame names, and its messages in it.
+use Rattle.std.specs.Prelude.{ℕ}
 use Rattle.message_parts.specs.Contents.{Inside}
 use Rattle.session_words.specs.declared.code.Code.{Code}
-use Rattle.session_words.specs.declared.session.SessionId.{SessionId}
 use Rattle.session_words.specs.declared.word.Ask.{Ask}
 use Rattle.session_words.specs.declared.word.Tell.{Tell}
 use Rattle.session_words.specs.declared.word.Word.{Word}
-use Rattle.session_words.specs.declared.word.Word.TheVariants as word
 use Rattle.din_schema.specs.Declarations.{kinds}
 use Rattle.din_schema.specs.declared.names.TheConstants.{HEADER, BODY, SESSION_ID}
 use Rattle.din_schema.specs.declared.kinds.TheConstants.{V2G_MESSAGE_KIND, BINARY8_KIND}
-use Rattle.word_tables.specs.Tables.{Table, inside, rows, holding, nothing, once, read, is_apart, ◌▷◌}
-use Rattle.word_tables.specs.Fitting.{fits, bits}
-use Rattle.din_tables.specs.Values.{some_bytes}
+use Rattle.word_tables.specs.Tables.{Table, inside, rows}
+use Rattle.message_tables.specs.Frame as frames
+pub use Rattle.message_tables.specs.Frame.{Frame, Framed, framed, session_of, Message}
 
-abbrev pub Framed : Type 0 → Type 0
-Framed X = (List ℕ × Unit {0}) × ((X × Unit {0}) × Unit {0})
+abbrev pub frame : Frame
+frame = record {
+  kinds = kinds;
+  message_kind = V2G_MESSAGE_KIND;
+  identifier_kind = BINARY8_KIND;
+  header = HEADER;
+  identifier = SESSION_ID;
+  body = BODY;
+}
 
 abbrev pub message : {X : Type 0} → ℕ → Table rows X → Table inside (Framed X)
-message name table = holding (
-    once HEADER (holding (once SESSION_ID (some_bytes 8 BINARY8_KIND) ▷ nothing))
-    ▷ once BODY (holding (once name (holding table) ▷ nothing))
-    ▷ nothing)
-
-abbrev pub framed : {X : Type 0} → SessionId → X → Framed X
-framed session x = ((session.bytes.items, tt), ((x, tt), tt))
-
-abbrev pub session_of : List ℕ → SessionId
-session_of bytes = record { bytes = record { items = bytes } }
-
--- a message: its name, whether its table passes the tests, how many bits it has at most, and the word of what is inside of it
-pub record Message : Type 0 where
-  pub name : ℕ
-  pub passes : Bool
-  pub most_bits : ℕ
-  pub word_in : Inside → Word
-
-abbrev pub passes_tests : {X : Type 0} → ℕ → Table rows X → Bool
-passes_tests name table = is_apart (message name table) && fits kinds (message name table) V2G_MESSAGE_KIND
+message name table = frames.message frame name table
 
 abbrev pub asked_in : {X : Type 0} → ℕ → Table rows X → (X → Ask) → Inside → Word
-asked_in name table ask own =
-    let x = read (message name table) own in word.Request (record { session = session_of x.0.0; ask = ask x.1.0.0 })
+asked_in name table ask own = frames.asked_in frame name table ask own
 
 abbrev pub told_in : {X : Type 0} → ℕ → Table rows (Code × X) → (X → Tell) → Inside → Word
-told_in name table tell own =
-    let x = read (message name table) own in word.Reply (record { session = session_of x.0.0; code = x.1.0.0.0; tell = tell x.1.0.0.1 })
+told_in name table tell own = frames.told_in frame name table tell own
 
 abbrev pub asks : {X : Type 0} → ℕ → Table rows X → (X → Ask) → Message
-asks name table ask = record {
-  name = name;
-  passes = passes_tests name table;
-  most_bits = bits 6 kinds (message name table);
-  word_in = asked_in name table ask;
-}
+asks name table ask = frames.asks frame name table ask
 
 abbrev pub tells : {X : Type 0} → ℕ → Table rows (Code × X) → (X → Tell) → Message
-tells name table tell = record {
-  name = name;
-  passes = passes_tests name table;
-  most_bits = bits 6 kinds (message name table);
-  word_in = told_in name table tell;
-}
+tells name table tell = frames.tells frame name table tell

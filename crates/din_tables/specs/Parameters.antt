@@ -1,7 +1,6 @@
 -- DIN SPEC 70121:2014 9.4 (ChargeParameterDiscovery): what stands where in it, and what it asks or tells. Of a schedule a word has the count
 -- of its entries and the least power. They are written from one second to the next, each for a day.
-use Rattle.std.specs.Prelude.{ℕ, min, fold, map, length, ℤ, pos, true, List, [], ◌∷◌, Option}
-use Rattle.std.specs.List.{range_with_len}
+use Rattle.std.specs.Prelude.{ℕ, map, length, ℤ, pos, true, List, Option}
 use Rattle.std.specs.Option.{option_map}
 use Rattle.session_words.specs.declared.amount.Amount.{Amount}
 use Rattle.session_words.specs.declared.code.Code.{Code}
@@ -19,6 +18,7 @@ use Rattle.session_words.specs.declared.word.Tell.TheVariants as tell
 use Rattle.din_schema.specs.declared.names.TheConstants.{RESPONSE_CODE, EVSE_PROCESSING, EV_REQUESTED_ENERGY_TRANSFER_TYPE, DC_EV_CHARGE_PARAMETER, DC_EV_STATUS, EV_MAXIMUM_CURRENT_LIMIT, EV_MAXIMUM_POWER_LIMIT, EV_MAXIMUM_VOLTAGE_LIMIT, SA_SCHEDULE_LIST, SA_SCHEDULE_TUPLE, SA_SCHEDULE_TUPLE_ID, P_MAX_SCHEDULE, P_MAX_SCHEDULE_ID, P_MAX_SCHEDULE_ENTRY, RELATIVE_TIME_INTERVAL, START, DURATION, P_MAX, DC_EVSE_CHARGE_PARAMETER, DC_EVSE_STATUS, EVSE_MAXIMUM_CURRENT_LIMIT, EVSE_MAXIMUM_POWER_LIMIT, EVSE_MAXIMUM_VOLTAGE_LIMIT, EVSE_MINIMUM_CURRENT_LIMIT, EVSE_MINIMUM_VOLTAGE_LIMIT, EVSE_PEAK_CURRENT_RIPPLE}
 use Rattle.din_schema.specs.declared.kinds.TheConstants.{SHORT_KIND, UNSIGNED_INT_KIND}
 use Rattle.word_tables.specs.Tables.{Table, inside, rows, natural, integer, simple, holding, meaning, nothing, once, perhaps, each, always, ◌▷◌}
+pub use Rattle.message_tables.specs.Values.{Entry, entries_of, least_of}
 use Rattle.din_tables.specs.Codes.{response_code, step, wanted_mode}
 use Rattle.din_tables.specs.Values.{current, voltage, power, whole_watts, CarStatus, car_status, post_status, list_of}
 
@@ -50,9 +50,6 @@ parameters_asked (mode, (((ready, (soc, end)), (current, (watts, (voltage, more)
 
 -- ---- schedules
 
-abbrev pub Entry : Type 0
-Entry = ((ℕ × Unit {0}) × (Amount × Unit {0}))
-
 abbrev pub schedule_entry : Table inside Entry
 schedule_entry = holding (
     once RELATIVE_TIME_INTERVAL (holding (
@@ -62,14 +59,6 @@ schedule_entry = holding (
     ▷ once P_MAX whole_watts
     ▷ nothing)
 
--- the least number of a list, 0 of none
-abbrev pub least_of : List ℕ → ℕ
-least_of [] = 0
-least_of (n ∷ ns) = fold min n ns
-
-abbrev pub entries_of : Tuple → List Entry
-entries_of t = map (λ k. ((k, tt), (t.least, tt))) (range_with_len 0 t.entries)
-
 abbrev pub tuple_of : ℤ → List Entry → Tuple
 tuple_of id entries = record {
   id = id;
@@ -77,17 +66,24 @@ tuple_of id entries = record {
   least = record { size = least_of (map (λ e. e.1.0.size) entries); right = true };
 }
 
-abbrev pub tuple : Table inside Tuple
-tuple = meaning (λ x. tuple_of x.0 x.1.0.0) (λ t. (t.id, ((entries_of t, tt), tt))) (holding (
+-- of up to so many entries: the declarations allow 128
+abbrev pub tuple_up_to : ℕ → Table inside Tuple
+tuple_up_to most = meaning (λ x. tuple_of x.0 x.1.0.0) (λ t. (t.id, ((entries_of t, tt), tt))) (holding (
     once SA_SCHEDULE_TUPLE_ID (simple integer SHORT_KIND)
     ▷ once P_MAX_SCHEDULE (holding (
     always P_MAX_SCHEDULE_ID (simple integer SHORT_KIND) (pos 1)
-    ▷ each P_MAX_SCHEDULE_ENTRY 1 128 schedule_entry
+    ▷ each P_MAX_SCHEDULE_ENTRY 1 most schedule_entry
     ▷ nothing))
     ▷ nothing))
 
+abbrev pub tuple : Table inside Tuple
+tuple = tuple_up_to 128
+
+abbrev pub schedules_up_to : ℕ → Table inside (List Tuple)
+schedules_up_to most = list_of SA_SCHEDULE_TUPLE 1 3 (tuple_up_to most)
+
 abbrev pub schedules : Table inside (List Tuple)
-schedules = list_of SA_SCHEDULE_TUPLE 1 3 tuple
+schedules = schedules_up_to 128
 
 -- ---- of a post
 
@@ -108,13 +104,16 @@ post_parameters = holding (
 abbrev pub Parameters : Type 0
 Parameters = Processing × (Option (List Tuple) × (PostParameters × Unit {0}))
 
-abbrev pub parameters_res : Table rows (Code × Parameters)
-parameters_res =
+abbrev pub parameters_res_up_to : ℕ → Table rows (Code × Parameters)
+parameters_res_up_to most =
     once RESPONSE_CODE response_code
     ▷ once EVSE_PROCESSING step
-    ▷ perhaps SA_SCHEDULE_LIST schedules
+    ▷ perhaps SA_SCHEDULE_LIST (schedules_up_to most)
     ▷ once DC_EVSE_CHARGE_PARAMETER post_parameters
     ▷ nothing
+
+abbrev pub parameters_res : Table rows (Code × Parameters)
+parameters_res = parameters_res_up_to 128
 
 abbrev pub limits_of : PostParameters → PostLimits
 limits_of (status, (current, (watts, (voltage, (least_current, (least_voltage, (ripple, end))))))) =

@@ -1,5 +1,5 @@
 -- DIN SPEC 70121:2014 9.5 (data types): values of words in elements. That a unit is written only of an amount that isn't right is own.
-use Rattle.std.specs.Prelude.{ℕ, ◌==◌, Bool, true, false, ℤ, pos, List, Option, Some, None}
+use Rattle.std.specs.Prelude.{ℕ, ◌==◌, Bool, true, false, ℤ, pos, Option, Some, None}
 use Rattle.charge_world.specs.declared.heard.IsolationLevel.{IsolationLevel}
 use Rattle.session_words.specs.Amounts.{above_zero}
 use Rattle.session_words.specs.declared.amount.Amount.{Amount}
@@ -8,23 +8,11 @@ use Rattle.session_words.specs.declared.code.StatusCode.{StatusCode}
 use Rattle.session_words.specs.declared.limits.DcStatus.{DcStatus}
 use Rattle.word_values.specs.declared.amounts.Written.{Written}
 use Rattle.word_values.specs.Amounts.{in_tenths, in_watts, written_tenths, written_watts}
-use Rattle.word_values.specs.Items.{fitting}
 use Rattle.din_schema.specs.declared.names.TheConstants.{MULTIPLIER, UNIT, VALUE, EV_READY, EV_ERROR_CODE, EVRESS_SOC, EVSE_ISOLATION_STATUS, EVSE_STATUS_CODE, NOTIFICATION_MAX_DELAY, EVSE_NOTIFICATION}
 use Rattle.din_schema.specs.declared.kinds.TheConstants.{BOOLEAN_KIND, SHORT_KIND, UNSIGNED_INT_KIND, MULTIPLIER_KIND, PERCENT_KIND, UNIT_SYMBOL_KIND, EV_ERROR_CODE_KIND}
-use Rattle.word_tables.specs.Tables.{Table, inside, rows, flag, ordinal, natural, integer, bytes, simple, holding, meaning, nothing, once, perhaps, each, always, ◌▷◌}
+use Rattle.word_tables.specs.Tables.{Table, inside, rows, flag, ordinal, natural, integer, simple, holding, meaning, nothing, once, perhaps, always, ◌▷◌}
+pub use Rattle.message_tables.specs.Values.{some_bytes, only, list_of}
 use Rattle.din_tables.specs.Codes.{isolation, notification, status_code}
-
--- no more bytes than these
-abbrev pub some_bytes : ℕ → ℕ → Table inside (List ℕ)
-some_bytes most kind = meaning (fitting most) (λ xs. xs) (simple bytes kind)
-
--- an element that has one other alone
-abbrev pub only : {X : Type 0} → ℕ → Table inside X → Table inside X
-only name table = meaning (λ x. x.0) (λ x. (x, tt)) (holding (once name table ▷ nothing))
-
--- an element that has one other from so many to so many times
-abbrev pub list_of : {X : Type 0} → ℕ → ℕ → ℕ → Table inside X → Table inside (List X)
-list_of name least most table = meaning (λ x. x.0) (λ xs. (xs, tt)) (holding (each name least most table ▷ nothing))
 
 -- ---- PhysicalValue
 

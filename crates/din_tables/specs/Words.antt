@@ -1,8 +1,8 @@
 -- DIN SPEC 70121:2014 9.4 (body): the messages, and by their tables the word of a tree and the tree of a word.
-use Rattle.std.specs.Prelude.{ℕ, ◌==◌, false, if◌then◌else◌, List, [], ◌∷◌, Option, Some, None}
+use Rattle.std.specs.Prelude.{ℕ, false, List, [], ◌∷◌, Option, None}
 use Rattle.std.specs.Option.{option_map}
-use Rattle.exi_documents.specs.Trees.{Tree, Simple, Complex}
-use Rattle.message_parts.specs.Contents.{Inside, Holding, root_of}
+use Rattle.exi_documents.specs.Trees.{Tree}
+use Rattle.message_parts.specs.Contents.{Inside, root_of}
 use Rattle.session_words.specs.declared.code.Code.{Code}
 use Rattle.session_words.specs.declared.limits.CarLimits.TheVariants as car
 use Rattle.session_words.specs.declared.limits.EvseId.TheVariants as evse
@@ -15,10 +15,11 @@ use Rattle.session_words.specs.declared.word.Tell.{Tell}
 use Rattle.session_words.specs.declared.word.Tell.TheVariants as tell
 use Rattle.session_words.specs.declared.word.Word.{Word}
 use Rattle.session_words.specs.declared.word.Word.TheVariants as word
-use Rattle.din_schema.specs.declared.names.TheConstants.{V2G_MESSAGE, BODY, SESSION_SETUP_REQ, SESSION_SETUP_RES, SERVICE_DISCOVERY_REQ, SERVICE_DISCOVERY_RES, SERVICE_PAYMENT_SELECTION_REQ, SERVICE_PAYMENT_SELECTION_RES, CONTRACT_AUTHENTICATION_REQ, CONTRACT_AUTHENTICATION_RES, CHARGE_PARAMETER_DISCOVERY_REQ, CHARGE_PARAMETER_DISCOVERY_RES, CABLE_CHECK_REQ, CABLE_CHECK_RES, PRE_CHARGE_REQ, PRE_CHARGE_RES, POWER_DELIVERY_REQ, POWER_DELIVERY_RES, CURRENT_DEMAND_REQ, CURRENT_DEMAND_RES, WELDING_DETECTION_REQ, WELDING_DETECTION_RES, SESSION_STOP_REQ, SESSION_STOP_RES}
-use Rattle.tree_words.specs.Named.{children, first_in}
-use Rattle.word_tables.specs.Tables.{Table, rows, nothing, written}
-use Rattle.din_tables.specs.Frame.{message, framed, Message, asks, tells}
+use Rattle.din_schema.specs.declared.names.TheConstants.{V2G_MESSAGE, SESSION_SETUP_REQ, SESSION_SETUP_RES, SERVICE_DISCOVERY_REQ, SERVICE_DISCOVERY_RES, SERVICE_PAYMENT_SELECTION_REQ, SERVICE_PAYMENT_SELECTION_RES, CONTRACT_AUTHENTICATION_REQ, CONTRACT_AUTHENTICATION_RES, CHARGE_PARAMETER_DISCOVERY_REQ, CHARGE_PARAMETER_DISCOVERY_RES, CABLE_CHECK_REQ, CABLE_CHECK_RES, PRE_CHARGE_REQ, PRE_CHARGE_RES, POWER_DELIVERY_REQ, POWER_DELIVERY_RES, CURRENT_DEMAND_REQ, CURRENT_DEMAND_RES, WELDING_DETECTION_REQ, WELDING_DETECTION_RES, SESSION_STOP_REQ, SESSION_STOP_RES}
+use Rattle.word_tables.specs.Tables.{Table, rows, nothing}
+use Rattle.message_tables.specs.Frame as frames
+pub use Rattle.message_tables.specs.Frame.{word_by, word_inside, tree_word_by}
+use Rattle.din_tables.specs.Frame.{frame, Message, asks, tells}
 use Rattle.din_tables.specs.Setup.{code_alone, setup_req, setup_asked, setup_res, setup_told, discovery_res, discovery_told, first_mode, selection_req, selection_asked, authorization_res, authorization_told}
 use Rattle.din_tables.specs.Power.{car_alone, present_voltage, cable_check_asked, cable_check_res, cable_check_told, pre_charge_req, pre_charge_asked, pre_charge_told, delivery_req, is_start, delivery_asked, profile_if, delivery_res, delivery_told, demand_req, demand_asked, demand_res, demand_told, welding_asked, welding_told}
 use Rattle.din_tables.specs.Parameters.{parameters_req, parameters_asked, parameters_res, parameters_told}
@@ -53,26 +54,20 @@ messages =
 
 -- ---- the word of a tree
 
-abbrev pub word_by : List Message → ℕ → Inside → Word
-word_by [] name own = word.Nothing
-word_by (m ∷ more) name own = if m.name == name then m.word_in own else word_by more name own
-
-abbrev pub word_named : Option (ℕ × Inside) → Inside → Word
-word_named None own = word.Nothing
-word_named (Some element) own = word_by messages element.0 own
-
 -- by the first element of the body
+abbrev pub word_named : Option (ℕ × Inside) → Inside → Word
+word_named element own = frames.word_named messages element own
+
 abbrev pub word_in : Inside → Word
-word_in own = word_named (first_in (children own BODY)) own
+word_in own = word_inside frame messages own
 
 abbrev pub word_of_tree : Tree → Word
-word_of_tree (Simple name value) = word.Nothing
-word_of_tree (Complex name attributes trees) = word_in (Holding attributes trees)
+word_of_tree tree = tree_word_by frame messages tree
 
 -- ---- the tree of a word, of those that have one
 
 abbrev pub in_message : {X : Type 0} → ℕ → Table rows X → SessionId → X → Option Inside
-in_message name table s x = Some (written (message name table) (framed s x))
+in_message name table s x = frames.in_message frame name table s x
 
 abbrev pub in_ask : SessionId → Ask → Option Inside
 in_ask s (ask.SessionSetup car) = in_message SESSION_SETUP_REQ setup_req s (car.items, tt)

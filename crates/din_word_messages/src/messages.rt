@@ -1,43 +1,49 @@
 //! The message of a neutral word (DIN SPEC 70121:2014).
 
-ghost use Rattle.std.specs.Prelude.{◌≡◌};
+ghost use Rattle.std.specs.Prelude.{◌≡◌, IfSome};
+ghost use Rattle.exi_bits.specs.Lent.{items_of};
+ghost use Rattle.session_words.specs.declared.word.Ask.TheVariants as asks;
+ghost use Rattle.session_words.specs.declared.word.Tell.TheVariants as tells;
 ghost use Rattle.session_words.specs.declared.word.Word.TheVariants as words;
-ghost use Rattle.din_word_messages.specs.Messages.{LendsEvse, LendsSession, parameter_if, parameters_request as parameters_as, delivery_reply as delivery_as, IsRequestElement, IsReplyElement, IsMessageOf, message_with as message_as};
-ghost use Rattle.din_word_messages.specs.Spellable.{CanCarLimits, CanPostLimits, CanPostStatus, CanAsk, CanTell, CanSpell};
+ghost use Rattle.din_word_messages.specs.Messages.{IsAskOf, IsTellOf, IsMessageOf, IsMessageOfAny, message_with as message_as};
+ghost use Rattle.din_word_messages.specs.Spellable.{CanCarLimits, CanEvse, CanPostLimits, CanPostStatus, CanTuples, CanAsk, CanTell, CanSpell};
 
-use crate::parameter_messages::{ev_parameter, evse_parameter, parameters_req, parameters_res};
+use crate::parameter_messages::{parameters_req, parameters_res};
 use crate::power_messages::{
     cable_check_req, cable_check_res, delivery_req, delivery_res, demand_req, demand_res,
     pre_charge_req, pre_charge_res, welding_req, welding_res,
 };
 use crate::setup_messages::{
-    authorization_req, authorization_res, discovery_req, discovery_res, selection_req, setup_req,
-    setup_res,
+    authorization_req, authorization_res, discovery_req, discovery_res, selection_req,
+    selection_res, setup_req, setup_res, stop_res,
 };
+use arrayvec::ArrayVec;
 use din_message::{Body, BodyElement, DinMessage};
-use din_parts::{Header, ResponseCode};
-use din_power::EvseChargeParameter;
-use din_setup::{ServicePaymentSelectionRes, SessionStopReq, SessionStopRes};
-use din_values::codes::response_code;
+use din_parts::Header;
+use din_setup::SessionStopReq;
 use message_parts::Binary;
 use session_words::{
-    Ask, CarLimits, Code, EvseId, Mode, PostLimits, PostStatus, Reply, SessionId, Tell, Word,
+    Ask, CarLimits, Code, EvseId, Mode, PostLimits, PostStatus, Processing, Reply, Request,
+    SessionId, Tell, Tuple, Word,
 };
 
-/// The bytes of an EVSEID; none of that of ISO.
-fn evse_bytes(id: &EvseId) -> Binary<'_>
-    ensures { LendsEvse id.now result }
+/// The element of a SessionSetupRes.
+fn setup_reply<'a>(code: Code, id: &'a EvseId) -> BodyElement<'a>
+    requires { CanEvse id.now }
+    ensures { IsTellOf code (tells.SessionSetup id.now) result }
 {
     match id {
-        EvseId::Bytes(bytes) => Binary::of_bytes(bytes.as_slice()),
-        EvseId::Text(_) => Binary::of_bytes(&[]),
+        EvseId::Bytes(bytes) => {
+            BodyElement::SessionSetupRes(setup_res(code, Binary::of_bytes(bytes.as_slice())))
+        }
+        EvseId::Text(_) => unreachable!(),
     }
 }
 
 /// The element of a ChargeParameterDiscoveryReq.
 fn parameters_request<'a>(mode: Mode, limits: &CarLimits) -> BodyElement<'a>
     requires { CanCarLimits limits.now }
-    ensures { parameters_as mode limits.now ≡ Some result }
+    ensures { IsAskOf (asks.ChargeParameters mode limits.now) result }
 {
     match limits {
         CarLimits::Dc {
@@ -47,8 +53,7 @@ fn parameters_request<'a>(mode: Mode, limits: &CarLimits) -> BodyElement<'a>
             watts,
             voltage,
         } => BodyElement::ChargeParameterDiscoveryReq(parameters_req(
-            mode,
-            ev_parameter(*ready, *soc, *current, *watts, *voltage),
+            mode, *ready, *soc, *current, *watts, *voltage,
         )),
         CarLimits::Ac { .. } => unreachable!(),
     }
@@ -57,7 +62,7 @@ fn parameters_request<'a>(mode: Mode, limits: &CarLimits) -> BodyElement<'a>
 /// The element of a request.
 fn request_element<'a>(ask: &'a Ask) -> BodyElement<'a>
     requires { CanAsk ask.now }
-    ensures { IsRequestElement ask.now result }
+    ensures { IsAskOf ask.now result }
 {
     match ask {
         Ask::SessionSetup { car } => {
@@ -96,10 +101,16 @@ fn request_element<'a>(ask: &'a Ask) -> BodyElement<'a>
     }
 }
 
-/// What a post can give.
-fn post_parameter(limits: &PostLimits) -> EvseChargeParameter
-    requires { CanPostLimits limits.now }
-    ensures { parameter_if limits.now ≡ Some result }
+/// The element of a ChargeParameterDiscoveryRes.
+fn parameters_reply<'a>(
+    code: Code,
+    processing: Processing,
+    schedule: &Option<ArrayVec<Tuple, 3>>,
+    limits: &PostLimits,
+) -> BodyElement<'a>
+    requires schedule { IfSome schedule.now CanTuples }
+    requires limits { CanPostLimits limits.now }
+    ensures { IsTellOf code (tells.ChargeParameters processing schedule.now limits.now) result }
 {
     match limits {
         PostLimits::Dc {
@@ -110,7 +121,10 @@ fn post_parameter(limits: &PostLimits) -> EvseChargeParameter
             least_current,
             least_voltage,
             ripple,
-        } => evse_parameter(
+        } => BodyElement::ChargeParameterDiscoveryRes(parameters_res(
+            code,
+            processing,
+            schedule,
             *status,
             *current,
             *watts,
@@ -118,7 +132,7 @@ fn post_parameter(limits: &PostLimits) -> EvseChargeParameter
             *least_current,
             *least_voltage,
             *ripple,
-        ),
+        )),
         PostLimits::Ac { .. } => unreachable!(),
     }
 }
@@ -126,10 +140,10 @@ fn post_parameter(limits: &PostLimits) -> EvseChargeParameter
 /// The element of a PowerDeliveryRes.
 fn delivery_reply<'a>(code: Code, status: PostStatus) -> BodyElement<'a>
     requires { CanPostStatus status }
-    ensures { delivery_as code status ≡ Some result }
+    ensures { IsTellOf code (tells.PowerDelivery status) result }
 {
     match status {
-        PostStatus::Dc(dc) => BodyElement::PowerDeliveryRes(delivery_res(response_code(code), dc)),
+        PostStatus::Dc(dc) => BodyElement::PowerDeliveryRes(delivery_res(code, dc)),
         PostStatus::Ac { .. } => unreachable!(),
     }
 }
@@ -137,40 +151,28 @@ fn delivery_reply<'a>(code: Code, status: PostStatus) -> BodyElement<'a>
 /// The element of a reply.
 fn reply_element<'a>(code: Code, tell: &'a Tell) -> BodyElement<'a>
     requires { CanTell tell.now }
-    ensures { IsReplyElement code tell.now result }
+    ensures { IsTellOf code tell.now result }
 {
-    let response: ResponseCode = response_code(code);
     match tell {
-        Tell::SessionSetup { evse } => {
-            BodyElement::SessionSetupRes(setup_res(response, evse_bytes(evse)))
-        }
+        Tell::SessionSetup { evse } => setup_reply(code, evse),
         Tell::ServiceDiscovery { free, modes } => {
-            BodyElement::ServiceDiscoveryRes(discovery_res(response, *free, modes.as_slice()))
+            BodyElement::ServiceDiscoveryRes(discovery_res(code, *free, modes.as_slice()))
         }
         Tell::ServiceDetail { .. } => unreachable!(),
-        Tell::PaymentSelection => {
-            BodyElement::ServicePaymentSelectionRes(ServicePaymentSelectionRes {
-                response_code: response,
-            })
-        }
+        Tell::PaymentSelection => BodyElement::ServicePaymentSelectionRes(selection_res(code)),
         Tell::Authorization { processing } => {
-            BodyElement::ContractAuthenticationRes(authorization_res(response, *processing))
+            BodyElement::ContractAuthenticationRes(authorization_res(code, *processing))
         }
         Tell::ChargeParameters {
             processing,
             schedule,
             limits,
-        } => BodyElement::ChargeParameterDiscoveryRes(parameters_res(
-            response,
-            *processing,
-            schedule,
-            post_parameter(limits),
-        )),
+        } => parameters_reply(code, *processing, schedule, limits),
         Tell::CableCheck { status, processing } => {
-            BodyElement::CableCheckRes(cable_check_res(response, *status, *processing))
+            BodyElement::CableCheckRes(cable_check_res(code, *status, *processing))
         }
         Tell::PreCharge { status, voltage } => {
-            BodyElement::PreChargeRes(pre_charge_res(response, *status, *voltage))
+            BodyElement::PreChargeRes(pre_charge_res(code, *status, *voltage))
         }
         Tell::PowerDelivery { status } => delivery_reply(code, *status),
         Tell::CurrentDemand {
@@ -185,7 +187,7 @@ fn reply_element<'a>(code: Code, tell: &'a Tell) -> BodyElement<'a>
             most_watts,
             ..
         } => BodyElement::CurrentDemandRes(demand_res(
-            response,
+            code,
             *status,
             *voltage,
             *current,
@@ -198,18 +200,16 @@ fn reply_element<'a>(code: Code, tell: &'a Tell) -> BodyElement<'a>
         )),
         Tell::ChargingStatus { .. } => unreachable!(),
         Tell::WeldingDetection { status, voltage } => {
-            BodyElement::WeldingDetectionRes(welding_res(response, *status, *voltage))
+            BodyElement::WeldingDetectionRes(welding_res(code, *status, *voltage))
         }
-        Tell::SessionStop => BodyElement::SessionStopRes(SessionStopRes {
-            response_code: response,
-        }),
+        Tell::SessionStop => BodyElement::SessionStopRes(stop_res(code)),
     }
 }
 
 /// A message under this identifier, without a notification.
 fn message_with<'a>(session: &'a SessionId, element: BodyElement<'a>) -> DinMessage<'a>
-    ensures session { LendsSession session.now result.header.session_id }
-    ensures element { result ≡ message_as result.header.session_id (Some element.entry) }
+    ensures session { items_of result.header.session_id.span ≡ session.now.bytes.items }
+    ensures element { result ≡ message_as result.header.session_id element.entry }
 {
     DinMessage {
         header: Header {
@@ -222,7 +222,17 @@ fn message_with<'a>(session: &'a SessionId, element: BodyElement<'a>) -> DinMess
     }
 }
 
-/// The message of a reply that the declarations can spell, lent from it: as `of_word` gives that of a word.
+/// The message of a request that the declarations can spell, lent from it, with the elements that a word doesn't keep: those of a car's
+/// requests.
+pub fn of_request(request: &Request) -> DinMessage<'_>
+    requires { CanSpell (words.Request request.now) }
+    ensures { IsMessageOf (words.Request request.now) result }
+{
+    message_with(&request.session, request_element(&request.ask))
+}
+
+/// The message of a reply that the declarations can spell, lent from it, with the elements that a word doesn't keep: those of the replies
+/// of a post (`reply_to` of `session_rules`).
 pub fn of_reply(reply: &Reply) -> DinMessage<'_>
     requires { CanSpell (words.Reply reply.now) }
     ensures { IsMessageOf (words.Reply reply.now) result }
@@ -230,14 +240,14 @@ pub fn of_reply(reply: &Reply) -> DinMessage<'_>
     message_with(&reply.session, reply_element(reply.code, &reply.tell))
 }
 
-/// The message of a word that the declarations can spell, lent from the word, with the elements that a word doesn't keep: those of the
-/// replies of a post (`reply_to` of `session_rules`), and those of a car's requests.
+/// The message of a neutral word that the declarations can spell, lent from it, with the elements that a word doesn't keep. One that says nothing
+/// is a message with an empty body.
 pub fn of_word(word: &Word) -> DinMessage<'_>
     requires { CanSpell word.now }
-    ensures { IsMessageOf word.now result }
+    ensures { IsMessageOfAny word.now result }
 {
     match word {
-        Word::Request(request) => message_with(&request.session, request_element(&request.ask)),
+        Word::Request(request) => of_request(request),
         Word::Reply(reply) => of_reply(reply),
         Word::Nothing => DinMessage {
             header: Header {

@@ -1,24 +1,30 @@
 //! Messages of charging, as they are written of words (DIN SPEC 70121:2014).
 
-ghost use Rattle.std.specs.Prelude.{◌≡◌, IfSome};
-ghost use Rattle.din_word_messages.specs.PowerMessages as rule;
+ghost use Rattle.std.specs.Prelude.{◌≡◌, IfSome, pos};
+ghost use Rattle.std.specs.Option.{option_map};
+ghost use Rattle.message_parts.specs.Contents.{mapped, holding, trees_of};
+ghost use Rattle.din_power.specs.Charging.{cable_check_req_parts, cable_check_res_parts, pre_charge_req_parts, pre_charge_res_parts, current_demand_req_parts, current_demand_res_parts, welding_detection_req_parts, welding_detection_res_parts};
+ghost use Rattle.din_power.specs.Delivery.{charging_profile_parts, power_delivery_req_parts, power_delivery_res_parts};
+ghost use Rattle.word_tables.specs.Tables.{written};
+ghost use Rattle.din_tables.specs.Power as table;
 ghost use Rattle.din_word_messages.specs.Spellable.{AreFewWatts, AreTenths, AreWatts, CanProfile};
 
 use arrayvec::ArrayVec;
-use din_parts::{EvseStatus, ResponseCode};
+use din_parts::EvseStatus;
 use din_power::{
     CableCheckReq, CableCheckRes, ChargingProfile, CurrentDemandReq, CurrentDemandRes,
     PowerDeliveryReq, PowerDeliveryRes, PreChargeReq, PreChargeRes, ProfileEntry,
     WeldingDetectionReq, WeldingDetectionRes,
 };
+use din_values::codes::response_code;
 use din_values::physical::{power_if, tenths_if, tenths_of, watts_of};
 use din_values::states::evse_processing;
 use din_values::statuses::{dc_ev_status, dc_evse_status};
-use session_words::{Amount, DcStatus, Processing, Progress};
+use session_words::{Amount, Code, DcStatus, Processing, Progress};
 
 /// CableCheckReq.
 pub(crate) fn cable_check_req(ready: bool, soc: u8) -> CableCheckReq
-    ensures { result ≡ rule.cable_check_req ready soc }
+    ensures { trees_of (cable_check_req_parts result) ≡ written table.car_alone ((ready, (soc, tt)), tt) }
 {
     CableCheckReq {
         dc_ev_status: dc_ev_status(ready, soc),
@@ -26,25 +32,23 @@ pub(crate) fn cable_check_req(ready: bool, soc: u8) -> CableCheckReq
 }
 
 /// CableCheckRes.
-pub(crate) fn cable_check_res(
-    code: ResponseCode,
-    status: DcStatus,
-    processing: Processing,
-) -> CableCheckRes
-    ensures { result ≡ rule.cable_check_res code status processing }
+#[tactic(auto, using(crate::proofs::Values::code_written, crate::proofs::Values::levels_written, crate::proofs::Values::status_written, crate::proofs::Values::notify_written, crate::proofs::Values::step_written))]
+pub(crate) fn cable_check_res(code: Code, status: DcStatus, processing: Processing) -> CableCheckRes
+    ensures { trees_of (cable_check_res_parts result) ≡ written table.cable_check_res (code, (status, (processing, tt))) }
 {
     CableCheckRes {
-        response_code: code,
+        response_code: response_code(code),
         dc_evse_status: dc_evse_status(status),
         evse_processing: evse_processing(processing),
     }
 }
 
 /// PreChargeReq.
+#[tactic(auto, using(crate::proofs::Values::unit_written))]
 pub(crate) fn pre_charge_req(ready: bool, soc: u8, voltage: Amount, current: Amount) -> PreChargeReq
     requires voltage { AreTenths voltage }
     requires current { AreTenths current }
-    ensures { result ≡ rule.pre_charge_req ready soc voltage current }
+    ensures { trees_of (pre_charge_req_parts result) ≡ written table.pre_charge_req ((ready, (soc, tt)), (voltage, (current, tt))) }
 {
     PreChargeReq {
         dc_ev_status: dc_ev_status(ready, soc),
@@ -54,12 +58,13 @@ pub(crate) fn pre_charge_req(ready: bool, soc: u8, voltage: Amount, current: Amo
 }
 
 /// PreChargeRes.
-pub(crate) fn pre_charge_res(code: ResponseCode, status: DcStatus, voltage: Amount) -> PreChargeRes
+#[tactic(auto, using(crate::proofs::Values::code_written, crate::proofs::Values::levels_written, crate::proofs::Values::status_written, crate::proofs::Values::notify_written, crate::proofs::Values::unit_written))]
+pub(crate) fn pre_charge_res(code: Code, status: DcStatus, voltage: Amount) -> PreChargeRes
     requires { AreTenths voltage }
-    ensures { result ≡ rule.pre_charge_res code status voltage }
+    ensures { trees_of (pre_charge_res_parts result) ≡ written table.present_voltage (code, (status, (voltage, tt))) }
 {
     PreChargeRes {
-        response_code: code,
+        response_code: response_code(code),
         dc_evse_status: dc_evse_status(status),
         evse_present_voltage: tenths_of(voltage),
     }
@@ -68,7 +73,7 @@ pub(crate) fn pre_charge_res(code: ResponseCode, status: DcStatus, voltage: Amou
 /// This power from second 0 on.
 fn profile_entry(power: Amount) -> ProfileEntry
     requires { AreFewWatts power }
-    ensures { result ≡ rule.profile_entry power }
+    ensures { result ≡ record { charging_profile_entry_start = 0; charging_profile_entry_max_power = pos power.size } }
 {
     ProfileEntry {
         charging_profile_entry_start: 0,
@@ -79,7 +84,7 @@ fn profile_entry(power: Amount) -> ProfileEntry
 /// A profile of one entry, of this schedule tuple.
 fn profile_of(tuple: i16, power: Amount) -> ChargingProfile
     requires { AreFewWatts power }
-    ensures { result ≡ rule.profile_of tuple power }
+    ensures { holding (charging_profile_parts result) ≡ written table.profile (tuple, power) }
 {
     let mut entries = ArrayVec::new();
     entries.push(profile_entry(power));
@@ -92,7 +97,7 @@ fn profile_of(tuple: i16, power: Amount) -> ChargingProfile
 /// A profile, where there are its tuple and its power.
 fn profile_if(tuple: Option<i16>, power: Option<Amount>) -> Option<ChargingProfile>
     requires { CanProfile tuple power }
-    ensures { result ≡ rule.profile_if tuple power }
+    ensures { mapped (λ p. holding (charging_profile_parts p)) result ≡ option_map (λ p. written table.profile p) (table.profile_if tuple power) }
 {
     match (tuple, power) {
         (Some(tuple), Some(power)) => Some(profile_of(tuple, power)),
@@ -102,7 +107,7 @@ fn profile_if(tuple: Option<i16>, power: Option<Amount>) -> Option<ChargingProfi
 
 /// Whether PowerDelivery asks for the start of charging.
 fn is_start(progress: Progress) -> bool
-    ensures { result ≡ rule.is_start progress }
+    ensures { result ≡ table.is_start progress }
 {
     matches!(progress, Progress::Start)
 }
@@ -114,7 +119,7 @@ pub(crate) fn delivery_req(
     profile: Option<Amount>,
 ) -> PowerDeliveryReq
     requires { CanProfile tuple profile }
-    ensures { result ≡ rule.delivery_req progress tuple profile }
+    ensures { trees_of (power_delivery_req_parts result) ≡ written table.delivery_req (table.is_start progress, (table.profile_if tuple profile, tt)) }
 {
     PowerDeliveryReq {
         ready_to_charge_state: is_start(progress),
@@ -124,20 +129,22 @@ pub(crate) fn delivery_req(
 }
 
 /// PowerDeliveryRes.
-pub(crate) fn delivery_res(code: ResponseCode, status: DcStatus) -> PowerDeliveryRes
-    ensures { result ≡ rule.delivery_res code status }
+#[tactic(auto, using(crate::proofs::Values::code_written, crate::proofs::Values::levels_written, crate::proofs::Values::status_written, crate::proofs::Values::notify_written))]
+pub(crate) fn delivery_res(code: Code, status: DcStatus) -> PowerDeliveryRes
+    ensures { trees_of (power_delivery_res_parts result) ≡ written table.delivery_res (code, (status, tt)) }
 {
     PowerDeliveryRes {
-        response_code: code,
+        response_code: response_code(code),
         evse_status: EvseStatus::Dc(dc_evse_status(status)),
     }
 }
 
 /// CurrentDemandReq.
+#[tactic(auto, using(crate::proofs::Values::unit_written))]
 pub(crate) fn demand_req(ready: bool, soc: u8, voltage: Amount, current: Amount) -> CurrentDemandReq
     requires voltage { AreTenths voltage }
     requires current { AreTenths current }
-    ensures { result ≡ rule.demand_req ready soc voltage current }
+    ensures { trees_of (current_demand_req_parts result) ≡ written table.demand_req ((ready, (soc, tt)), (current, (voltage, tt))) }
 {
     CurrentDemandReq {
         dc_ev_status: dc_ev_status(ready, soc),
@@ -154,8 +161,9 @@ pub(crate) fn demand_req(ready: bool, soc: u8, voltage: Amount, current: Amount)
 }
 
 /// CurrentDemandRes.
+#[tactic(auto, using(crate::proofs::Values::code_written, crate::proofs::Values::levels_written, crate::proofs::Values::status_written, crate::proofs::Values::notify_written, crate::proofs::Values::unit_written, crate::proofs::Values::tenths_if_written, crate::proofs::Values::power_if_written))]
 pub(crate) fn demand_res(
-    code: ResponseCode,
+    code: Code,
     status: DcStatus,
     voltage: Amount,
     current: Amount,
@@ -171,10 +179,10 @@ pub(crate) fn demand_res(
     requires most_voltage { IfSome most_voltage AreTenths }
     requires most_current { IfSome most_current AreTenths }
     requires most_watts { IfSome most_watts AreWatts }
-    ensures { result ≡ rule.demand_res code status voltage current current_cut voltage_cut watts_cut most_voltage most_current most_watts }
+    ensures { trees_of (current_demand_res_parts result) ≡ written table.demand_res (code, (status, (voltage, (current, (current_cut, (voltage_cut, (watts_cut, (most_voltage, (most_current, (most_watts, tt)))))))))) }
 {
     CurrentDemandRes {
-        response_code: code,
+        response_code: response_code(code),
         dc_evse_status: dc_evse_status(status),
         evse_present_voltage: tenths_of(voltage),
         evse_present_current: tenths_of(current),
@@ -189,7 +197,7 @@ pub(crate) fn demand_res(
 
 /// WeldingDetectionReq.
 pub(crate) fn welding_req(ready: bool, soc: u8) -> WeldingDetectionReq
-    ensures { result ≡ rule.welding_req ready soc }
+    ensures { trees_of (welding_detection_req_parts result) ≡ written table.car_alone ((ready, (soc, tt)), tt) }
 {
     WeldingDetectionReq {
         dc_ev_status: dc_ev_status(ready, soc),
@@ -197,16 +205,13 @@ pub(crate) fn welding_req(ready: bool, soc: u8) -> WeldingDetectionReq
 }
 
 /// WeldingDetectionRes.
-pub(crate) fn welding_res(
-    code: ResponseCode,
-    status: DcStatus,
-    voltage: Amount,
-) -> WeldingDetectionRes
+#[tactic(auto, using(crate::proofs::Values::code_written, crate::proofs::Values::levels_written, crate::proofs::Values::status_written, crate::proofs::Values::notify_written, crate::proofs::Values::unit_written))]
+pub(crate) fn welding_res(code: Code, status: DcStatus, voltage: Amount) -> WeldingDetectionRes
     requires { AreTenths voltage }
-    ensures { result ≡ rule.welding_res code status voltage }
+    ensures { trees_of (welding_detection_res_parts result) ≡ written table.present_voltage (code, (status, (voltage, tt))) }
 {
     WeldingDetectionRes {
-        response_code: code,
+        response_code: response_code(code),
         dc_evse_status: dc_evse_status(status),
         evse_present_voltage: tenths_of(voltage),
     }

@@ -1,12 +1,22 @@
 //! ChargeParameterDiscovery, as words have it (DIN SPEC 70121:2014).
 
-ghost use Rattle.std.specs.Prelude.{◌≡◌, fold, map, min};
-ghost use Rattle.din_words.specs.ParameterWords as rule;
+ghost use Rattle.std.specs.Prelude.{◌≡◌, true, fold, map, min};
+ghost use Rattle.std.specs.Option.{option_map};
+ghost use Rattle.message_parts.specs.Contents.{holding};
+ghost use Rattle.session_words.specs.Amounts.{above_zero};
+ghost use Rattle.session_words.specs.declared.mode.Mode.{Mode};
+ghost use Rattle.session_words.specs.declared.word.Ask.TheVariants as ask;
+ghost use Rattle.tree_words.specs.Named.{children};
+ghost use Rattle.din_power.specs.Discovery.{charge_parameter_discovery_req_parts, charge_parameter_discovery_res_parts};
+ghost use Rattle.din_power.specs.Limits.{ev_charge_parameter_inside, evse_charge_parameter_inside};
+ghost use Rattle.din_power.specs.Schedules.{sa_schedule_list_parts, sa_schedule_tuple_parts, sa_schedules_inside};
+ghost use Rattle.word_tables.specs.Tables.{read};
+ghost use Rattle.din_tables.specs.Parameters.{car_parameters, parameters_req, parameters_asked, least_of, tuple as tuple_table, schedules as schedules_table, post_parameters, parameters_res, limits_of, parameters_told};
 
 use arrayvec::ArrayVec;
 use din_power::{
     ChargeParameterDiscoveryReq, ChargeParameterDiscoveryRes, EvChargeParameter,
-    EvseChargeParameter, PMaxScheduleEntry, SaScheduleTuple, SaSchedules,
+    EvseChargeParameter, PMaxScheduleEntry, SaScheduleList, SaScheduleTuple, SaSchedules,
 };
 use din_values::modes::mode_of;
 use din_values::physical::{current_in, power_in, voltage_in, watts_in};
@@ -15,8 +25,9 @@ use din_values::statuses::dc_status_of;
 use session_words::{Amount, Ask, CarLimits, PostLimits, Tell, Tuple};
 
 /// What a car can take.
+#[tactic(auto, using(crate::proofs::Parts::car_read, crate::proofs::Values::charge_read, crate::proofs::Values::current_read, crate::proofs::Values::voltage_read, crate::proofs::Values::powers_read))]
 fn car_limits(parameter: &EvChargeParameter) -> CarLimits
-    ensures { result ≡ rule.car_limits parameter.now }
+    ensures { (mode : Mode) → parameters_asked (mode, (read car_parameters (ev_charge_parameter_inside parameter.now), tt)) ≡ ask.ChargeParameters mode result }
 {
     match parameter {
         EvChargeParameter::Dc(dc) => CarLimits::Dc {
@@ -31,7 +42,7 @@ fn car_limits(parameter: &EvChargeParameter) -> CarLimits
 
 /// What ChargeParameterDiscoveryReq asks.
 pub(crate) fn parameters_ask(request: &ChargeParameterDiscoveryReq) -> Ask
-    ensures { result ≡ rule.parameters_ask request.now }
+    ensures { result ≡ parameters_asked (read parameters_req (children (holding (charge_parameter_discovery_req_parts request.now)))) }
 {
     Ask::ChargeParameters {
         mode: mode_of(request.ev_requested_energy_transfer_type),
@@ -40,8 +51,9 @@ pub(crate) fn parameters_ask(request: &ChargeParameterDiscoveryReq) -> Ask
 }
 
 /// What a post can give.
+#[tactic(auto, using(crate::proofs::Parts::post_read, crate::proofs::Values::status_read, crate::proofs::Values::current_read, crate::proofs::Values::voltage_read, crate::proofs::Values::powers_read))]
 fn post_limits(parameter: &EvseChargeParameter) -> PostLimits
-    ensures { result ≡ rule.post_limits parameter.now }
+    ensures { result ≡ limits_of (read post_parameters (evse_charge_parameter_inside parameter.now)) }
 {
     match parameter {
         EvseChargeParameter::Dc(dc) => PostLimits::Dc {
@@ -58,14 +70,14 @@ fn post_limits(parameter: &EvseChargeParameter) -> PostLimits
 
 /// The power of an entry.
 fn entry_power(entry: &PMaxScheduleEntry) -> Amount
-    ensures { result ≡ rule.entry_power entry.now }
+    ensures { result ≡ record { size = above_zero entry.now.p_max; right = true } }
 {
     watts_in(entry.p_max)
 }
 
 /// The least of this power and those of entries.
 fn least_with(first: u32, entries: &[PMaxScheduleEntry]) -> u32
-    ensures { result ≡ fold min first (map (λ e. (rule.entry_power e).size) entries.now) }
+    ensures { result ≡ fold min first (map (λ e. above_zero e.p_max) entries.now) }
 {
     let mut least = first;
     for entry in entries {
@@ -76,7 +88,7 @@ fn least_with(first: u32, entries: &[PMaxScheduleEntry]) -> u32
 
 /// The least power of a schedule, 0 of none.
 fn least_watts(entries: &[PMaxScheduleEntry]) -> u32
-    ensures { result ≡ rule.least_of (map (λ e. (rule.entry_power e).size) entries.now) }
+    ensures { result ≡ least_of (map (λ e. above_zero e.p_max) entries.now) }
 {
     match entries {
         [] => 0,
@@ -86,7 +98,7 @@ fn least_watts(entries: &[PMaxScheduleEntry]) -> u32
 
 /// The least power of a schedule, which has no unit.
 fn least_power(entries: &[PMaxScheduleEntry]) -> Amount
-    ensures { result ≡ rule.least_power entries.now }
+    ensures { result ≡ record { size = least_of (map (λ e. above_zero e.p_max) entries.now); right = true } }
 {
     Amount {
         size: least_watts(entries),
@@ -95,8 +107,9 @@ fn least_power(entries: &[PMaxScheduleEntry]) -> Amount
 }
 
 /// A schedule tuple.
+#[tactic(auto, using(crate::proofs::Parts::tuple_read))]
 fn tuple_in(tuple: &SaScheduleTuple) -> Tuple
-    ensures { result ≡ rule.tuple_in tuple.now }
+    ensures { result ≡ read tuple_table (holding (sa_schedule_tuple_parts tuple.now)) }
 {
     let entries = tuple.p_max_schedule.p_max_schedule_entry.as_slice();
     Tuple {
@@ -107,10 +120,9 @@ fn tuple_in(tuple: &SaScheduleTuple) -> Tuple
 }
 
 /// The schedules of a post.
-fn schedules_in(schedules: &SaSchedules) -> ArrayVec<Tuple, 3>
-    ensures { result ≡ rule.schedules_in schedules.now }
+fn schedules_in(list: &SaScheduleList) -> ArrayVec<Tuple, 3>
+    ensures { result.items ≡ read schedules_table (holding (sa_schedule_list_parts list.now)) }
 {
-    let SaSchedules::SaScheduleList(list) = schedules;
     let all = list.sa_schedule_tuple.as_slice();
     let mut tuples = ArrayVec::new();
     for tuple in all {
@@ -121,17 +133,18 @@ fn schedules_in(schedules: &SaSchedules) -> ArrayVec<Tuple, 3>
 
 /// The schedules of a post, where it tells them.
 fn schedules_if(schedules: &Option<SaSchedules>) -> Option<ArrayVec<Tuple, 3>>
-    ensures { result ≡ rule.schedules_if schedules.now }
+    ensures { result ≡ option_map (λ s. record { items = read schedules_table (sa_schedules_inside s) }) schedules.now }
 {
     match schedules {
-        Some(schedules) => Some(schedules_in(schedules)),
+        Some(SaSchedules::SaScheduleList(list)) => Some(schedules_in(list)),
         None => None,
     }
 }
 
 /// What ChargeParameterDiscoveryRes tells.
+#[tactic(auto, using(crate::proofs::Parts::parameters_res_read, crate::proofs::Values::step_read))]
 pub(crate) fn parameters_tell(reply: &ChargeParameterDiscoveryRes) -> Tell
-    ensures { result ≡ rule.parameters_tell reply.now }
+    ensures { result ≡ parameters_told (read parameters_res (children (holding (charge_parameter_discovery_res_parts reply.now)))).1 }
 {
     Tell::ChargeParameters {
         processing: processing_of(reply.evse_processing),

@@ -1,5 +1,0 @@
-use Rattle.din_replies.proofs.Replies as replies
-use Rattle.din_replies.proofs.replies_are_within.Goals as goal
-
-pub returns : goal.returns
-returns c = replies.replies_are_within

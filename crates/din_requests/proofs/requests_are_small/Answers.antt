@@ -1,5 +1,0 @@
-use Rattle.din_requests.proofs.Sizes as sizes
-use Rattle.din_requests.proofs.requests_are_small.Goals as goal
-
-pub returns : goal.returns
-returns c = sizes.requests_are_small

@@ -1,4 +1,0 @@
-pub mod SetupWords
-pub mod ParameterWords
-pub mod PowerWords
-pub mod Words
