@@ -11,6 +11,7 @@ use Rattle.iso_schema.specs.Declarations.{schema}
 use Rattle.iso_message.specs.Documents.{iso_tree}
 use Rattle.site_codec_laws.proofs.Words.{reads_as_written}
 use Rattle.iso_requests.proofs.Trees.{requests_have_one_tree}
+use Rattle.site_codec_laws.proofs.Spelled.{iso_spelled}
 use Rattle.car_codec_rules.specs.CodecIso.{Reads}
 use Rattle.car_spec.specs.Spelled.{read_back}
 use Rattle.car_codec_rules.specs.Iso.{Encodes}
@@ -26,8 +27,6 @@ abbrev asking : Request → Ask → Word
 asking request a = word.Request (record request { ask = a })
 
 pub encoded_read : (request : Request) (payload : List ℕ) → Encodes request payload → Reads payload (Some (word.Request (read_back request)))
-encoded_read request payload e = record {
-  message = e.message;
-  spelled = encodings.encoding_spelled schema (iso_tree e.message) payload e.encoded;
-  word_is = sym (reads_as_written (word.Request request) e.message e.can e.message_is ∙ ap (asking request) (same_ask request.ask e.no_profile));
-}
+encoded_read request payload e =
+    iso_spelled payload e.message (word.Request (read_back request)) (encodings.encoding_spelled schema (iso_tree e.message) payload e.encoded)
+    (sym (reads_as_written (word.Request request) e.message e.can e.message_is ∙ ap (asking request) (same_ask request.ask e.no_profile)))

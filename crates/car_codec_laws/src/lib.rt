@@ -21,5 +21,4 @@ pub fn car_codecs_are_lawful()
 {}
 
 pub use car_codec_rules;
-pub use din_requests;
 pub use iso_requests;

@@ -7,11 +7,10 @@ ghost use Rattle.din_word_messages.specs.Spellable.{CanSpell};
 ghost use Rattle.car_codec_laws.specs.Din.{Encodes};
 ghost use Rattle.car_codec_laws.specs.Profiles.{HasNoProfile};
 
-use crate::words::word_of;
 use din_codec::{DinTables, write_din};
-use din_word_messages::of_word;
+use din_word_messages::of_request;
 use exi_events::Table;
-use session_words::{Request, Word};
+use session_words::Request;
 
 /// Writes the encoding of a request to the front of a room, and answers its number of bytes. The table is emptied.
 pub(crate) fn write(
@@ -29,8 +28,7 @@ pub(crate) fn write(
     ensures encoded { Encodes request.now (take result room.new) }
 {
     din_codec::laws::messages_are_written();
-    car_codec_laws::din_requests::requests_are_within();
-    car_codec_laws::din_requests::requests_are_small();
-    let word = word_of(request);
-    write_din(tables, &of_word(&word), room, table).unwrap()
+    din_codec::laws::encodings_are_read();
+    din_table_laws::payloads_have_words();
+    write_din(tables, &of_request(request), room, table).unwrap()
 }

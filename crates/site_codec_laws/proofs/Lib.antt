@@ -1,7 +1,10 @@
 pub mod OneAnswer
 pub mod OneJudged
+pub mod EachAnswer
+pub mod EachJudged
 pub mod IsoPayloads
 pub mod DinPayloads
 pub mod Lawful
+pub use Rattle.site_codec_rules.proofs.Spelled
 pub use Rattle.site_codec_rules.proofs.Words
-pub use Rattle.site_codec_rules.proofs.DinWords
+pub use Rattle.site_codec_rules.proofs.DinPayloads as DinWords

@@ -7,7 +7,7 @@ use Rattle.app_protocol.specs.declared.message.AppRes.{AppRes}
 use Rattle.app_protocol.specs.Messages.{Protocol}
 use Rattle.app_protocol.specs.Negotiation.{namespace_of, Names, Matches, NoMatch, IsAbove, IsFrom, IsChosen, code_for, Negotiates}
 
-there : (before behind : List Protocol) (p : Protocol) → Contains (before ++ p ∷ behind) p
+pub there : (before behind : List Protocol) (p : Protocol) → Contains (before ++ p ∷ behind) p
 there before behind p = Contains-append_right before (p ∷ behind) p (0, omega arith, refl)
 
 -- the chosen one stands first, and another further back
@@ -48,7 +48,7 @@ one_namespace Din Iso same = let wrong : length (namespace_of Din) ≡ length (n
 one_dialect : (p q : Protocol) (d e : Dialect) → p ≡ q → Names p d → Names q e → d ≡ e
 one_dialect p q d e same np nq = one_namespace d e (sym np.namespace ∙ ap (λ (x : Protocol). x.namespace) same ∙ nq.namespace)
 
-abbrev response : Protocol → Dialect → AppRes
+abbrev pub response : Protocol → Dialect → AppRes
 response p d = record { code = code_for p.minor d; schema = Some p.schema }
 
 chosen_once : (offer : List Dialect) (request : List Protocol) (p q : Protocol) (d e : Dialect) → IsChosen offer request p d → IsChosen offer request q e → p ≡ q

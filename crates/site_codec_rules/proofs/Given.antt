@@ -67,7 +67,7 @@ din_bounds s facts plan shown offered p f told most = record {
 }
 
 spoken_by : (d : Dialect) (payload : List ℕ) (r : Request) → dialect.Din ≡ d → Reads d payload (Some (word.Request r)) → din_posts.IsSpoken r.ask
-spoken_by dialect.Din payload r is read = spoken_in _ read.message.body.element r read.word_is
+spoken_by dialect.Din payload r is read = spoken_in read.tree r read.word_is
 spoken_by dialect.Iso payload r is read = absurd (cc)
 
 abbrev InDin : Reply → Type 0

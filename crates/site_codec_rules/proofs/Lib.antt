@@ -1,4 +1,6 @@
 pub mod Spoken
 pub mod Given
+pub mod Spelled
+pub mod Read
+pub use Rattle.din_table_laws.proofs.Payloads as DinPayloads
 pub use Rattle.iso_word_laws.proofs.Words
-pub use Rattle.din_word_laws.proofs.Words as DinWords

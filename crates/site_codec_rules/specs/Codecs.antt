@@ -15,6 +15,10 @@ abbrev pub Reads : Dialect → List ℕ → Option Word → Type 0
 Reads dialect.Iso payload word = iso.Reads payload word
 Reads dialect.Din payload word = din.Reads payload word
 
+-- each payload reads as a word, or as none
+abbrev pub EachIsRead : Type 0
+EachIsRead = (dialect : Dialect) (payload : List ℕ) → (word : Option Word) × Reads dialect payload word
+
 -- the payload that a reply is sent as
 abbrev pub Encodes : Dialect → Reply → List ℕ → Type 0
 Encodes dialect.Iso reply payload = iso.Encodes reply payload

@@ -1,21 +1,25 @@
--- ISO 15118-2:2014, section 8.3 (message, header and body): the word that a payload spells, and the encoding of a reply.
+-- ISO 15118-2:2014, section 8.3 (message, header and body): the word that a payload spells, by the tree that it spells, and the encoding of
+-- a reply.
 use Rattle.std.specs.Prelude.{◌≡◌, ℕ, List, Option, Some, None}
 use Rattle.exi_documents.specs.declared.refusal.RefusalCause.{RefusalCause}
+use Rattle.exi_documents.specs.Documents.{IsDocument}
+use Rattle.exi_documents.specs.Trees.{Tree}
 use Rattle.document_laws.specs.Laws.{AreBytes}
 use Rattle.session_words.specs.declared.word.Reply.{Reply}
 use Rattle.session_words.specs.declared.word.Word.{Word}
 use Rattle.session_words.specs.declared.word.Word.TheVariants as word
+use Rattle.iso_schema.specs.Declarations.{schema}
 use Rattle.iso_codec.specs.IsoMessage.{IsoMessage}
-use Rattle.iso_codec.specs.Documents.{IsIso, IsIsoRefused, IsIsoEncoding}
+use Rattle.iso_codec.specs.Documents.{IsIsoRefused, IsIsoEncoding}
 use Rattle.iso_word_laws.specs.Messages.{IsMessageOf}
 use Rattle.iso_word_laws.specs.Spellable.{CanSpell}
-use Rattle.iso_word_laws.specs.Words.{word_of}
+use Rattle.iso_tree_words.specs.Words.{tree_word}
 
--- a payload spells a message, and this is its word
+-- a payload spells a tree, and this is its word
 pub record IsSpelled (payload : List ℕ) (word : Word) : Type 0 where
-  pub message : IsoMessage
-  pub spelled : IsIso message payload
-  pub word_is : word ≡ word_of message
+  pub tree : Tree
+  pub document : IsDocument schema tree payload
+  pub word_is : word ≡ tree_word tree
 
 -- no message
 pub record IsNone (payload : List ℕ) : Type 0 where

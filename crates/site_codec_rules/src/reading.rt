@@ -33,7 +33,7 @@ fn din_word(tables: &DinTables, payload: &[u8], table: &mut Table) -> Option<Wor
 {
     let mut message = DinMessage::default();
     match read_din(tables, payload, table, &mut message) {
-        Ok(()) => Some(din_word_laws::din_words::to_word(&message)),
+        Ok(()) => Some(din_words::to_word(&message)),
         Err(_) => None,
     }
 }

@@ -113,4 +113,6 @@ impl LawfulCodec for ChargeCodecs {
     ghost reads_back = { laws.reads_back };
 
     ghost determined = { laws.are_determined };
+
+    ghost judges = { laws.judges_all };
 }

@@ -23,7 +23,7 @@ pub(crate) fn write(tables: &DinTables, reply: &Reply, room: &mut [u8], table: &
     ensures encoded { Encodes reply.now (take result room.new) }
 {
     din_codec::laws::messages_are_written();
-    site_codec_laws::din_replies::replies_are_within();
-    din_reply_sizes::replies_are_small();
+    din_codec::laws::encodings_are_read();
+    din_table_laws::payloads_have_words();
     write_din(tables, &of_reply(reply), room, table).unwrap()
 }

@@ -6,3 +6,6 @@ returns-clause-reads_back c = laws.reads_back
 
 pub returns-clause-determined : goal.returns-clause-determined
 returns-clause-determined c = laws.are_determined
+
+pub returns-clause-judges : goal.returns-clause-judges
+returns-clause-judges c = laws.judges_all
