@@ -70,7 +70,7 @@ sent_cause c plan r bytes false steps cause l f d =
     let e : SendFailed ≡ cause = cc in
     subst (IsCause c plan (Does r (Send bytes) false ∷ steps)) e (HasNotSent r bytes steps at.0 at.1)
 
-failed_cause : (c : Codecs) (plan : PostPlan) (steps : List Step) (cause : EndCause) → is_some (session (map seen_of steps)) ≡ true → call_failed steps ≡ true → done_cause steps ≡ Some cause → IsCause c plan steps cause
+pub failed_cause : (c : Codecs) (plan : PostPlan) (steps : List Step) (cause : EndCause) → is_some (session (map seen_of steps)) ≡ true → call_failed steps ≡ true → done_cause steps ≡ Some cause → IsCause c plan steps cause
 failed_cause c plan [] cause l f d = cc
 failed_cause c plan (Hears at e ∷ steps) cause l f d = cc
 failed_cause c plan (Does r (Give o) taken ∷ steps) cause l f d = given_cause c plan r o taken steps cause l f d

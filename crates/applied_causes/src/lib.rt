@@ -1,11 +1,12 @@
 //! What ends a session where it applies is a cause of its past.
 //!
 //! Proved: `applied_causes_are_causes`: at each place of a past, a call that failed, a deadline that passed and what was heard, where they apply
-//! (`caused_ends`), are causes of that past (`post_spec`): at that place the first two, at its hearing the last.
+//! (`caused_ends`), are causes of that past (`post_spec`): at that place the first two, at its hearing the last; `applied_words_are_causes`:
+//! over codecs that judge each payload, so are a word that ends a session without a cause, and a negotiation that matched nothing.
 #![tactic(auto)]
 
 ghost use Rattle.post_spec.specs.Codecs.{codecs};
-ghost use Rattle.applied_causes.specs.Applied.{RunsApplyCauses};
+ghost use Rattle.applied_causes.specs.Applied.{RunsApplyCauses, RunsApplyWords};
 
 use post_spec::Coded;
 
@@ -14,4 +15,11 @@ use post_spec::Coded;
 /// 15118-2:2014, 8.7 and 8.8).
 pub fn applied_causes_are_causes<C: Coded>()
     ensures { RunsApplyCauses (codecs C.negotiates C.reads C.encodes) }
+{}
+
+/// In every run over codecs that judge each payload, the word that ends a session which has no cause yet is a cause of what was heard and done
+/// up to there, however the words behind it are judged; and so is a negotiation that matched nothing, behind its response (ISO 15118-2:2014,
+/// 8.2, 8.7 and 8.8).
+pub fn applied_words_are_causes<C: Coded>()
+    ensures { RunsApplyWords (codecs C.negotiates C.reads C.encodes) }
 {}

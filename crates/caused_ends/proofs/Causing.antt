@@ -57,7 +57,7 @@ one_cause o j k e f = sym e ∙ f
 abbrev Due : Codecs → PostPlan → List Step → EndCause → Type 0
 Due c plan steps k = ((hand plan steps None).agenda.ending ≡ Some k) ⊎ ((is_done (hand plan steps None).agenda ≡ true) × EndsByPayload c plan steps k)
 
-turn_call : (plan : PostPlan) (steps : List Step) (k : EndCause) → done_cause steps ≡ Some k → IsWordsTurn plan steps → ⊥
+pub turn_call : (plan : PostPlan) (steps : List Step) (k : EndCause) → done_cause steps ≡ Some k → IsWordsTurn plan steps → ⊥
 turn_call plan steps k d (inl u) = call_judges steps k d u.judged
 turn_call plan steps k d (inr on) = call_reads steps k d on
 
@@ -72,7 +72,7 @@ call_applies c plan steps j k d (OfPayload turn p) = absurd (turn_call plan step
 abbrev IsNoPlace : PostPlan → List Step → Type 0
 IsNoPlace plan steps = (done_cause steps ≡ None) × (judges_heard steps ≡ false) × (reads_on steps ≡ false)
 
-no_turn : (plan : PostPlan) (steps : List Step) → judges_heard steps ≡ false → reads_on steps ≡ false → IsWordsTurn plan steps → ⊥
+pub no_turn : (plan : PostPlan) (steps : List Step) → judges_heard steps ≡ false → reads_on steps ≡ false → IsWordsTurn plan steps → ⊥
 no_turn plan steps j o (inl u) = absurd_bool (judges_heard steps) u.judged j
 no_turn plan steps j o (inr on) = absurd_bool (reads_on steps) on o
 
@@ -183,7 +183,7 @@ first_due c plan steps k s i (inr (x, n)) = applies_due c plan steps k s i.rest 
 
 -- A word that is read is the one that ends the session.
 
-one_judged : (c : Codecs) (offers : List Dialect) (d : Option Dialect) (payload : List ℕ) (a b : Judged) → AreDetermined c → Judges c offers d payload a → Judges c offers d payload b → a ≡ b
+pub one_judged : (c : Codecs) (offers : List Dialect) (d : Option Dialect) (payload : List ℕ) (a b : Judged) → AreDetermined c → Judges c offers d payload a → Judges c offers d payload b → a ≡ b
 one_judged c offers None payload a b det x y = det.negotiates offers payload a b x y
 one_judged c offers (Some dialect) payload a b det x y = x.2 ∙ ap judged_word (det.reads dialect payload x.0 y.0 x.1 y.1) ∙ sym y.2
 
@@ -461,7 +461,7 @@ step_kept c plan r a taken steps d s = record {
   come = kept_come c plan steps r a taken s;
 }
 
-kept : (c : Codecs) (plan : PostPlan) (steps : List Step) → AreDetermined c → IsPostRun c plan steps → IsKept c plan steps
+pub kept : (c : Codecs) (plan : PostPlan) (steps : List Step) → AreDetermined c → IsPostRun c plan steps → IsKept c plan steps
 kept c plan [] det run = record { rest = Dead Wording tt refl refl; come = λ k h. absurd h }
 kept c plan (Hears at event ∷ steps) det run = record { rest = Hearing refl refl refl refl refl; come = λ k h. absurd h }
 kept c plan (Does r a taken ∷ steps) det (run, acts) =

@@ -1,8 +1,7 @@
 //! No contactor is ordered open without a reason, so every cause that stands opens it, over codecs that judge each payload.
 //!
 //! Proved: `opens_for_reasons`, `every_cause_opens`: over codecs that judge each payload, every order to open repeats a failed one, was
-//! asked for by the car, or has a cause that came in that block; so any cause opens, a failed order among them. That the program's codecs
-//! judge each payload is open.
+//! asked for by the car, or has a cause that came in that block; so any cause opens, a failed order among them.
 #![tactic(auto)]
 
 ghost use Rattle.post_spec.specs.Codecs.{codecs};

@@ -2,8 +2,9 @@
 //! cars that conform, and isolates its posts; each session ends by its first cause.
 //!
 //! Proved: `serve`, with codecs that are lawful: the past besides is lawful (`IsLawful`): safe, within the limit at every moment, silent
-//! without a session, a list of blocks, and told by what each post keeps; it serves each session that conforms, and isolates the posts where
-//! the run is whole; `law_of_sites`: so is every run of a site, whole or cut.
+//! without a session, a list of blocks, and told by what each post keeps; no contactor is ordered open without a reason, and every cause opens
+//! it; it serves each session that conforms, and isolates the posts where the run is whole; `law_of_sites`: so is every run of a site, whole or
+//! cut.
 #![tactic(auto)]
 
 ghost use Rattle.std.specs.Prelude.{◌≡◌, ◌≤◌, ◌<◌, List, [], vec_len};
@@ -11,11 +12,11 @@ ghost use Rattle.charge_world.specs.declared.entry.Entry.{Entry};
 ghost use Rattle.session_words.specs.declared.plan.SitePlan.{SitePlan};
 ghost use Rattle.post_spec.specs.Codecs.{codecs};
 ghost use Rattle.station_spec.specs.Runs.{IsCutRun};
-ghost use Rattle.site_acts.specs.Telling.{Carries, CarriesText};
+ghost use Rattle.endpoint.specs.Telling.{Carries, CarriesText};
 ghost use Rattle.site_core.specs.Ending.{AreMade, AreMadeOf, EndedAs, RanAs, TracedAs, AwaitedAs, AreCounts, AreFaults};
 ghost use Rattle.site_laws.specs.Lawful.{IsLawful};
 
-use applied_causes::applied_causes_are_causes;
+use applied_causes::{applied_causes_are_causes, applied_words_are_causes};
 use blocks_of_runs::runs_are_blocks;
 use caused_ends::{opens_at_first_causes, opens_for_a_reason, sessions_end_by_causes};
 use charge_world::{Sink, Wire};
@@ -23,6 +24,7 @@ use coming_causes_open::opens_at_causes;
 use failed_replies::no_failed_reply_while_live;
 use isolated_runs::posts_are_isolated;
 use mandated_runs::ends_as_mandated;
+use opens_have_reasons::{every_cause_opens, opens_for_reasons};
 use read_agendas::agendas_are_read;
 use read_streams::streams_are_read;
 use safe_runs::{closes_as_mandated, ends_open, opens_again};
@@ -32,7 +34,6 @@ use site_codec::LawfulCodec;
 pub use site_core;
 use site_core::{Ended, Site};
 use spelled_watts::spelled_within_limit;
-use standing_causes_open::opens_where_causes_stand;
 use station_laws::{runs_of_posts, told_within_limit};
 
 /// Every run of a site, whole or cut, is lawful: safe, within its limit at every moment, silent without a session, and a list of blocks. Each
@@ -46,9 +47,11 @@ pub fn law_of_sites<C: LawfulCodec>()
     no_failed_reply_while_live::<C>();
     ends_as_mandated::<C>();
     opens_at_causes::<C>();
-    opens_where_causes_stand::<C>();
+    every_cause_opens::<C>();
+    opens_for_reasons::<C>();
     sessions_end_by_causes::<C>();
     applied_causes_are_causes::<C>();
+    applied_words_are_causes::<C>();
     opens_at_first_causes::<C>();
     opens_for_a_reason::<C>();
     sends_in_sessions::<C>();

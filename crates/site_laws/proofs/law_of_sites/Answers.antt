@@ -13,6 +13,7 @@ pub returns : goal.returns
 returns g c plan past r =
     let rb = g.met.C.LawfulCodec.reads_back in
     let det = g.met.C.LawfulCodec.determined in
+    let judges = g.met.C.LawfulCodec.judges in
     let cs = codecs g.C.Coded.negotiates g.C.Coded.reads g.C.Coded.encodes in
     record {
       blocks = r.blocks;
@@ -28,7 +29,8 @@ returns g c plan past r =
       };
       each = λ before post behind are.
           let held = c.ends_as_mandated.ensures plan past r.blocks r.posts before post behind rb r.run r.closes are in
-          let caused = c.sessions_end_by_causes.ensures plan r.blocks r.posts before post behind det r.run are in
+          let ended = c.sessions_end_by_causes.ensures plan r.blocks r.posts before post behind det r.run are in
+          let opened = c.every_cause_opens.ensures plan r.blocks r.posts before post behind rb det judges r.run are in
           let own = post_at cs r.blocks (length before + 1) 1 before post behind refl (subst (λ (posts : List Post). ArePostsOf cs r.blocks 1 posts) are (c.runs_of_posts.ensures plan r.blocks r.posts r.run)) in
           record {
             seen_is = own.seen_is;
@@ -39,10 +41,13 @@ returns g c plan past r =
             ends_open = c.ends_open.ensures plan past r.blocks r.posts before post behind r.run r.closes are;
             replies = c.no_failed_reply_while_live.ensures plan r.blocks r.posts before post behind rb r.run are;
             causes = (c.opens_at_causes.ensures plan r.blocks r.posts before post behind rb det r.run are).0;
-            stands = (c.opens_where_causes_stand.ensures plan r.blocks r.posts before post behind rb det r.run are).0;
-            ends = caused.0;
-            ended = caused.1;
+            stands = opened.0;
+            stood = opened.1;
+            caused = c.opens_for_reasons.ensures plan r.blocks r.posts before post behind rb det judges r.run are;
+            ends = ended.0;
+            ended = ended.1;
             applied = c.applied_causes_are_causes.ensures plan r.blocks r.posts before post behind r.run are;
+            applied_words = c.applied_words_are_causes.ensures plan r.blocks r.posts before post behind rb det judges r.run are;
             opens_first = c.opens_at_first_causes.ensures plan r.blocks r.posts before post behind det r.run are;
             reasons = c.opens_for_a_reason.ensures plan r.blocks r.posts before post behind det r.run are;
             silent = c.sends_in_sessions.ensures plan r.blocks r.posts before post behind r.run are;

@@ -1,6 +1,6 @@
 use Rattle.std.proofs.Common.{◌≡◌, []}
 use Rattle.post_spec.specs.Codecs.{codecs}
-use Rattle.site_acts.proofs.Carry.{carries_to}
+use Rattle.endpoint.proofs.Carry.{carries_to}
 use Rattle.site_core.specs.Ending.{RanAs}
 use Rattle.site_laws.specs.Lawful.{IsLawful}
 use Rattle.site_laws.proofs.Cut.{ran_cut}
